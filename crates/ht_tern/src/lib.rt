@@ -1,0 +1,14 @@
+//! Three-valued logic: the values that a net can have, the kinds of gate, and what a gate makes of the values at its
+//! pins.
+//!
+//! `Tern` is a value, `Kind` a kind of gate, `eval` the value of a gate, and `refines` says where one value tells all
+//! that another tells. The tables are Kleene's strong logic; `specs/Gate.antt` has them once, for every domain of values.
+#![tactic(auto)]
+
+mod gate;
+mod laws;
+mod tern;
+
+pub use gate::{Kind, eval};
+pub use laws::{definite_arguments_give_the_two_valued_gate, refined_arguments_refine_the_value};
+pub use tern::{Tern, refines};
