@@ -1,28 +1,35 @@
--- A circuit as contracts see it.
-use Rattle.std.specs.Prelude.{◌≡◌, ◌≢◌, ℕ, List, [], ◌+◌, ◌<◌, ◌≤◌, ◌⊎◌, length, get_or}
-use Rattle.ht_tern.specs.declared.Kind.{Kind}
-use Rattle.ht_tern.specs.declared.Kind.TheVariants.{Buf}
-use Rattle.ht_net.specs.declared.NetId.{NetId}
+-- A circuit as contracts see it, and what makes it well formed.
+use Rattle.std.specs.Prelude.{◌≡◌, ◌≢◌, ℕ, List, [], ◌+◌, ◌-◌, ◌<◌, ◌≤◌, ◌⊎◌, length, get_or}
+use Rattle.std.specs.List.{sum_by}
+use Rattle.ht_tern.specs.declared.gate.Kind.{Kind}
+use Rattle.ht_tern.specs.declared.gate.Kind.TheVariants.{Buf}
+use Rattle.ht_tern.specs.Gate.{HasArity}
+use Rattle.ht_net.specs.declared.site.NetId.{NetId}
 
 pub record Gate : Type 0 where
   pub kind : Kind
   pub args : List NetId
 
--- The net_count are numbered: inputs, then flip-flops, then gates.
+-- The nets are numbered from 0: inputs, then flip-flop outputs, then gate outputs. So each net has exactly one driver.
 pub record Netlist : Type 0 where
   pub inputs : ℕ
   -- the net at the data pin of each flip-flop
   pub dffs : List NetId
   pub gates : List Gate
   pub outputs : List NetId
+  -- the name of each net
   pub names : List (List ℕ)
 
--- the number of the first gate's net
+-- the number of the net that the first gate drives
 abbrev pub first_gate_net : Netlist → ℕ
 first_gate_net c = c.inputs + length c.dffs
 
 abbrev pub net_count : Netlist → ℕ
 net_count c = first_gate_net c + length c.gates
+
+-- arguments of gates and data pins of flip-flops
+abbrev pub pin_count : Netlist → ℕ
+pin_count c = length c.dffs + sum_by (λ (g : Gate). length g.args) c.gates
 
 abbrev pub no_net : NetId
 no_net = record { 0 = 0 }
@@ -33,24 +40,40 @@ no_gate = record { kind = Buf; args = [] }
 abbrev pub gate_at : Netlist → ℕ → Gate
 gate_at c g = get_or c.gates g no_gate
 
--- What every circuit keeps: the net_count that are read are there, and a gate has 1 to 255 arguments.
+-- the net at pin i of gate g
+abbrev pub arg_at : Netlist → ℕ → ℕ → ℕ
+arg_at c g i = (get_or (gate_at c g).args i no_net).0
+
+-- a number for each gate that is greater than that of every gate that drives one of its arguments
+pub record IsRank (c : Netlist) (rank : ℕ → ℕ) : Type 0 where
+  pub falls : (g i : ℕ) → g < length c.gates → i < length (gate_at c g).args → first_gate_net c ≤ arg_at c g i
+      → rank (arg_at c g i - first_gate_net c) < rank g
+
+-- A well-formed circuit: what is read is there, names differ, no net is an output twice, the gates have a rank, and the
+-- limits are kept.
 pub record IsCircuit (c : Netlist) : Type 0 where
-  pub few : net_count c ≤ 65535
-  pub outputs_few : length c.outputs ≤ 65535
-  pub pins : (g : ℕ) → g < length c.gates → length (gate_at c g).args ≤ 255
-  pub some : (g : ℕ) → g < length c.gates → 1 ≤ length (gate_at c g).args
-  pub known : (g i : ℕ) → g < length c.gates → i < length (gate_at c g).args → (get_or (gate_at c g).args i no_net).0 < net_count c
+  pub few_nets : net_count c ≤ 65535
+  pub few_pins : pin_count c ≤ 262144
+  pub few_inputs : c.inputs ≤ 4096
+  pub few_dffs : length c.dffs ≤ 16384
+  pub arities : (g : ℕ) → g < length c.gates → HasArity (gate_at c g).kind (length (gate_at c g).args)
+  pub few_args : (g : ℕ) → g < length c.gates → length (gate_at c g).args ≤ 255
+  pub known : (g i : ℕ) → g < length c.gates → i < length (gate_at c g).args → arg_at c g i < net_count c
   pub data_known : (j : ℕ) → j < length c.dffs → (get_or c.dffs j no_net).0 < net_count c
   pub outputs_known : (o : ℕ) → o < length c.outputs → (get_or c.outputs o no_net).0 < net_count c
+  pub outputs_differ : (o p : ℕ) → o < p → p < length c.outputs → get_or c.outputs o no_net ≢ get_or c.outputs p no_net
+  pub named : length c.names ≡ net_count c
+  pub names_differ : (x y : ℕ) → x < y → y < length c.names → get_or c.names x [] ≢ get_or c.names y []
+  pub ranked : (rank : ℕ → ℕ) × IsRank c rank
 
--- a net that is ready before the gate at place k of an order
+-- a net that has its value before the gate at place k of an order is evaluated
 abbrev pub IsReady : Netlist → List ℕ → ℕ → ℕ → Type 0
-IsReady c order k a = (a < first_gate_net c) ⊎ ((j : ℕ) × (j < k) × (a ≡ first_gate_net c + get_or order j 0))
+IsReady c order k x = (x < first_gate_net c) ⊎ ((j : ℕ) × (j < k) × (x ≡ first_gate_net c + get_or order j 0))
 
--- Each gate stands in the order, after the gates that drive its arguments.
+-- Each gate stands in the order once, after the gates that drive its arguments.
 pub record IsOrder (c : Netlist) (order : List ℕ) : Type 0 where
   pub within : (k : ℕ) → k < length order → get_or order k 0 < length c.gates
   pub once : length order ≡ length c.gates
   pub distinct : (j k : ℕ) → j < k → k < length order → get_or order j 0 ≢ get_or order k 0
   pub covers : (g : ℕ) → g < length c.gates → (k : ℕ) × (k < length order) × (get_or order k 0 ≡ g)
-  pub earlier : (k i : ℕ) → k < length order → i < length (gate_at c (get_or order k 0)).args → IsReady c order k (get_or (gate_at c (get_or order k 0)).args i no_net).0
+  pub earlier : (k i : ℕ) → k < length order → i < length (gate_at c (get_or order k 0)).args → IsReady c order k (arg_at c (get_or order k 0) i)

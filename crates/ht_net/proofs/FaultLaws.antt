@@ -1,34 +1,35 @@
 -- What every machine keeps, with or without a stuck line: refinement, and bits that stand for three-valued runs.
 use Rattle.std.proofs.Common.{◌≡◌, ℕ, List, [], ◌∷◌, Bool, true, false, cond, Option, Some, None, inl, inr, refl, ◌⊎◌, map, length}
-use Rattle.ht_tern.specs.declared.Tern.{Tern}
-use Rattle.ht_tern.specs.declared.Tern.TheVariants.{Zero, One, Unk}
-use Rattle.ht_tern.specs.declared.Kind.{Kind}
-use Rattle.ht_tern.specs.Gate.{AllRelated, Refines, gate_value, bool_gate_value, tern_of}
-use Rattle.ht_tern.proofs.GateLaws.{gate_refines, gate_bits, StandsFor}
-use Rattle.ht_net.specs.declared.Fault.{Fault}
-use Rattle.ht_net.specs.declared.Site.{Site}
+use Rattle.ht_tern.specs.declared.tern.Tern.{Tern}
+use Rattle.ht_tern.specs.declared.tern.Tern.TheVariants.{Zero, One, Unk}
+use Rattle.ht_tern.specs.declared.gate.Kind.{Kind}
+use Rattle.ht_tern.specs.Gate.{AllRelated, Refines, StandsFor, gate_value, bool_gate_value, tern_of}
+use Rattle.ht_tern.proofs.GateLaws.{gate_refines, gate_bits}
+use Rattle.ht_net.specs.declared.site.Fault.{Fault}
+use Rattle.ht_net.specs.declared.site.Site.{Site}
 use Rattle.ht_net.specs.Netlist.{Netlist}
 use Rattle.ht_net.specs.Frame.{Rules, Preserves, net_value, run_outputs, frame_outputs, next_state}
-use Rattle.ht_net.specs.Stuck.{rules_of, forced, tern_rules, bool_rules, is_stem, is_pin, is_data_pin}
-use Rattle.ht_net.proofs.Related.{cond_related, frame_related, run_related}
+use Rattle.ht_net.specs.Faults.{rules_of, forced, tern_rules, bool_rules, is_stem, is_pin, is_data_pin}
+use Rattle.ht_net.proofs.RelationLaws.{cond_related, frame_related, run_related}
 
 pub forced_related : {V W : Type 0} → (R : V → W → Type 0) (stick : Bool → V → V) (stick' : Bool → W → W)
-  → ((b : Bool) (x : V) (y : W) → R x y → R (stick b x) (stick' b y))
-  → (fault : Option Fault) (here : Site → Bool) (x : V) (y : W) → R x y → R (forced stick fault here x) (forced stick' fault here y)
+    → ((b : Bool) (x : V) (y : W) → R x y → R (stick b x) (stick' b y))
+    → (fault : Option Fault) (here : Site → Bool) (x : V) (y : W) → R x y → R (forced stick fault here x) (forced stick' fault here y)
 unfolding forced
 forced_related R stick stick' l None here x y r = r
 forced_related R stick stick' l (Some fault) here x y r = cond_related R (here fault.site) _ _ _ _ (l fault.value x y r) r
 
 -- Machines over two domains with the same stuck line keep what their gates and their sticking keep.
 pub rules_keep : {V W : Type 0} → (R : V → W → Type 0) (d : V) (e : W) (gate : Kind → List V → V) (gate' : Kind → List W → W) (stick : Bool → V → V) (stick' : Bool → W → W)
-  → R d e → ((kind : Kind) (xs : List V) (ys : List W) → AllRelated R xs ys → R (gate kind xs) (gate' kind ys))
-  → ((b : Bool) (x : V) (y : W) → R x y → R (stick b x) (stick' b y))
-  → (fault : Option Fault) → Preserves R (rules_of d gate stick fault) (rules_of e gate' stick' fault)
+    → R d e → ((kind : Kind) (xs : List V) (ys : List W) → AllRelated R xs ys → R (gate kind xs) (gate' kind ys))
+    → ((b : Bool) (x : V) (y : W) → R x y → R (stick b x) (stick' b y))
+    → (fault : Option Fault) → Preserves R (rules_of d gate stick fault) (rules_of e gate' stick' fault)
 rules_keep R d e gate gate' stick stick' h k l fault = record {
-  blank = h; gate = k;
+  blank = h;
+  gate = k;
   stem = λ x v w r. forced_related R stick stick' l fault (λ site. is_stem site x) v w r;
   pin = λ g i v w r. forced_related R stick stick' l fault (λ site. is_pin site g i) v w r;
-  data_pin = λ j v w r. forced_related R stick stick' l fault (λ site. is_data_pin site j) v w r
+  data_pin = λ j v w r. forced_related R stick stick' l fault (λ site. is_data_pin site j) v w r;
 }
 
 pub machine_refines : (fault : Option Fault) → Preserves Refines (tern_rules fault) (tern_rules fault)
@@ -39,13 +40,13 @@ machine_bits fault = rules_keep StandsFor Unk false gate_value bool_gate_value (
 
 -- A net_value from values that say more gives values that say no less, in any circuit, with or without a rank.
 pub frame_refines : (c : Netlist) (fault : Option Fault) (vector vector' latches latches' : List Tern)
-  → AllRelated Refines vector vector' → AllRelated Refines latches latches' → (x : ℕ)
-  → Refines (net_value c (tern_rules fault) vector latches x) (net_value c (tern_rules fault) vector' latches' x)
+    → AllRelated Refines vector vector' → AllRelated Refines latches latches' → (x : ℕ)
+    → Refines (net_value c (tern_rules fault) vector latches x) (net_value c (tern_rules fault) vector' latches' x)
 frame_refines c fault vector vector' latches latches' h k x =
     frame_related Refines c (tern_rules fault) (tern_rules fault) (machine_refines fault) vector latches vector' latches' h k x
 
 -- Every two-valued run_outputs stands for the three-valued one.
 pub run_bits : (c : Netlist) (fault : Option Fault) (latches : List Tern) (state : List Bool) (vectors : List (List Tern)) (bits : List (List Bool))
-  → AllRelated StandsFor latches state → AllRelated (AllRelated StandsFor) vectors bits
-  → AllRelated (AllRelated StandsFor) (run_outputs c (tern_rules fault) latches vectors) (run_outputs c (bool_rules fault) state bits)
+    → AllRelated StandsFor latches state → AllRelated (AllRelated StandsFor) vectors bits
+    → AllRelated (AllRelated StandsFor) (run_outputs c (tern_rules fault) latches vectors) (run_outputs c (bool_rules fault) state bits)
 run_bits c fault = run_related StandsFor c (tern_rules fault) (bool_rules fault) (machine_bits fault)

@@ -1,7 +1,7 @@
 -- What outputs show and flip-flops take.
 use Rattle.std.proofs.Common.{◌≡◌, ◌<◌, ◌+◌, ℕ, suc, zero, List, [], ◌∷◌, ◌++◌, length, get_or, take, drop, set, replicate, refl, sym, ◌∙◌, ap, arith, append_assoc}
 use Rattle.std.proofs.lemmas.List.{take_more_set, drop_more, drop_all, append-nil, take_all}
-use Rattle.ht_net.specs.declared.NetId.{NetId}
+use Rattle.ht_net.specs.declared.site.NetId.{NetId}
 use Rattle.ht_net.specs.Netlist.{no_net}
 use Rattle.ht_net.specs.Frame.{Rules, values_at, data_values}
 
@@ -41,9 +41,9 @@ seen_all e v (x ∷ xs) h =
 
 -- one more flip-flop takes its value
 pub taken_step : {V : Type 0} → (r : Rules V) (e : ℕ → V) (dffs : List NetId) (latches : List V) (j : ℕ) (value : V) (all : List V)
-  → j < length dffs → j < length latches → value ≡ r.data_pin j (e (get_or dffs j no_net).0)
-  → take j latches ++ data_values r e j (drop j dffs) ≡ all
-  → take (j + 1) (set latches j value) ++ data_values r e (j + 1) (drop (j + 1) dffs) ≡ all
+    → j < length dffs → j < length latches → value ≡ r.data_pin j (e (get_or dffs j no_net).0)
+    → take j latches ++ data_values r e j (drop j dffs) ≡ all
+    → take (j + 1) (set latches j value) ++ data_values r e (j + 1) (drop (j + 1) dffs) ≡ all
 taken_step r e dffs latches j value all inside room is before =
     let a = take_more_set latches j value room in
     let b = drop_more dffs j no_net inside in
@@ -51,7 +51,7 @@ taken_step r e dffs latches j value all inside room is before =
     rw (a, append_assoc, is) c
 
 pub taken_done : {V : Type 0} → (r : Rules V) (e : ℕ → V) (dffs : List NetId) (latches : List V) (j : ℕ) (all : List V)
-  → j ≡ length dffs → length latches ≡ length dffs → take j latches ++ data_values r e j (drop j dffs) ≡ all → latches ≡ all
+    → j ≡ length dffs → length latches ≡ length dffs → take j latches ++ data_values r e j (drop j dffs) ≡ all → latches ≡ all
 taken_done r e dffs latches j all at long before =
     let b = drop_all j dffs (omega arith) in
     sym (take_all j latches (omega arith)) ∙ (sym (append-nil (take j latches)) ∙ (ap (λ (t : List NetId). take j latches ++ data_values r e j t) (sym b) ∙ before))

@@ -1,0 +1,45 @@
+-- Where a list of vectors detects a fault: one observation time, all flip-flops unknown at the start.
+use Rattle.std.specs.Prelude.{◌≡◌, ◌<◌, ◌⊎◌, ℕ, List, [], Bool, true, false, Option, Some, None, map, replicate, length, get_or, MatchOption}
+use Rattle.ht_tern.specs.declared.tern.Tern.{Tern}
+use Rattle.ht_tern.specs.declared.tern.Tern.TheVariants.{Zero, One, Unk}
+use Rattle.ht_tern.specs.Gate.{tern_of}
+use Rattle.ht_net.specs.declared.site.Fault.{Fault}
+use Rattle.ht_net.specs.declared.site.Place.{Place}
+use Rattle.ht_net.specs.Netlist.{Netlist}
+use Rattle.ht_net.specs.Frame.{run_outputs}
+use Rattle.ht_net.specs.Faults.{tern_rules}
+
+abbrev pub terns_of : List Bool → List Tern
+terns_of bits = map tern_of bits
+
+-- every latch unknown
+abbrev pub unknown_state : Netlist → List Tern
+unknown_state c = replicate (length c.dffs) Unk
+
+-- the outputs of each frame over a list of vectors, from all-unknown
+abbrev pub tern_outputs : Netlist → Option Fault → List (List Bool) → List (List Tern)
+tern_outputs c fault list = run_outputs c (tern_rules fault) (unknown_state c) (map terns_of list)
+
+-- what output o shows at vector t
+abbrev pub output_at : Netlist → Option Fault → List (List Bool) → ℕ → ℕ → Tern
+output_at c fault list t o = get_or (get_or (tern_outputs c fault list) t []) o Unk
+
+-- definite in both and opposite
+abbrev pub Opposite : Tern → Tern → Type 0
+Opposite Zero One = Unit {0}
+Opposite One Zero = Unit {0}
+Opposite good bad = ⊥
+
+-- The list detects the fault at output o of vector t: there the good and the faulty machine show opposite definite values.
+abbrev pub Detects : Netlist → Fault → List (List Bool) → ℕ → ℕ → Type 0
+Detects c fault list t o = Opposite (output_at c None list t o) (output_at c (Some fault) list t o)
+
+-- an earlier vector, or the same vector and a lower output
+abbrev pub IsBefore : ℕ → ℕ → Place → Type 0
+IsBefore t o place = (t < place.vector) ⊎ ((t ≡ place.vector) × (o < place.output))
+
+-- the first place where the list detects the fault, or none where it does so nowhere
+abbrev pub IsFirstDetection : Netlist → Fault → List (List Bool) → Option Place → Type 0
+IsFirstDetection c fault list place =
+    MatchOption place ((t o : ℕ) → ¬ Detects c fault list t o)
+    (λ p. Detects c fault list p.vector p.output × ((t o : ℕ) → IsBefore t o p → ¬ Detects c fault list t o))
