@@ -125,4 +125,4 @@ pub Reached-all : (kind : Kind) (s u : List Pair) (args items : List (List Pair)
 Reached-all kind s u args items i n e inv h r =
     chained (h r) (finished kind args (HasArity-positive kind (length args) n) s
     (λ p. let ended = last kind s p in
-        chained (ended.1, ended.0) (subst (λ (l : List (List Pair)). Reached kind s l p ↔ Folded kind args p) (drop_all i items e) (inv p))) r)
+    chained (ended.1, ended.0) (subst (λ (l : List (List Pair)). Reached kind s l p ↔ Folded kind args p) (drop_all i items e) (inv p))) r)

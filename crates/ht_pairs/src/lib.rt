@@ -13,6 +13,8 @@ mod laws;
 mod moves;
 mod operations;
 mod set;
+#[cfg(test)]
+mod tests;
 
 pub use gates::lift;
 pub use laws::{lifted_set_holds_what_arises, single_pairs_lift_to_a_single_pair};

@@ -8,8 +8,8 @@ use crate::moves::stuck;
 use ht_tern::Tern;
 use std::marker::Model;
 
-/// A nonempty set of pairs of a good and a faulty value.
-#[derive(Clone, Copy, PartialEq, Eq, Debug)]
+/// A nonempty set of pairs of a good and a faulty value, in two bytes.
+#[derive(Clone, Copy, Debug)]
 pub struct PairSet {
     /// A bit for each pair, the lowest for 00.
     pub(crate) bits: u16,
@@ -30,6 +30,31 @@ impl Model for PairSet {
     ghost inverse = { λ pairs. record { bits = bits_of pairs } };
 
     ghost inverse_ok = { λ s valid. ap (λ n. record { bits = n }) (bits_of-members_of s.bits valid.1) };
+}
+
+/// Two sets are equal exactly where they have the same members.
+impl PartialEq for PairSet {
+    ghost use Rattle.std.specs.Prelude.{◌≡◌, ◌==◌, ◌↔◌, IsTrue};
+    ghost use Rattle.std.specs.Cmp.{nat_eq_equiv, on_equiv, partial_equiv_from_equiv};
+    ghost use Rattle.ht_pairs.specs.Members.{bits_of};
+
+    ghost eq = { λ a b. bits_of a == bits_of b };
+
+    ghost laws = { partial_equiv_from_equiv (on_equiv bits_of nat_eq_equiv) };
+
+    fn eq(&self, other: &PairSet) -> bool
+        ensures same_members { IsTrue result ↔ (self.now ≡ other.now) }
+        ensures same_bits { result ≡ (bits_of self.now == bits_of other.now) }
+    {
+        self.bits == other.bits
+    }
+}
+
+impl Eq for PairSet {
+    ghost use Rattle.std.specs.Cmp.{nat_eq_equiv, on_equiv};
+    ghost use Rattle.ht_pairs.specs.Members.{bits_of};
+
+    ghost laws = { on_equiv bits_of nat_eq_equiv };
 }
 
 /// The pairs of two definite values that are opposite: 01 and 10.
@@ -132,12 +157,5 @@ impl PairSet {
         ensures some { IsTrue result → MayDiffer self }
     {
         self.bits | OPPOSITE == OPPOSITE
-    }
-
-    /// Whether two sets have the same members.
-    pub fn same(self, other: PairSet) -> bool
-        ensures { IsTrue result ↔ (self ≡ other) }
-    {
-        self.bits == other.bits
     }
 }
