@@ -8,7 +8,7 @@ use Rattle.ht_tern.specs.declared.gate.Kind.TheVariants.{And, Nand, Or, Nor, Xor
 use Rattle.ht_tern.specs.Gate.{operation_of, polarity_of, folded, gate_value_over, gate_value, tern_operations, AllRelated, PreservesOperations, HasArity}
 use Rattle.ht_tern.proofs.GateLaws.{gate_related}
 use Rattle.ht_tern.specs.Pairs.{Pair, pair, IsMember, IsChoice, pair_operations, gate_pair, Arises}
-use Rattle.ht_pairs.specs.Results.{ArisesFromOne, ArisesFromTwo}
+use Rattle.ht_pairs.specs.Results.{IsImage, IsImageOfTwo}
 
 -- r is the fold from a member of s along a choice from the sets
 abbrev pub Reached : Kind → List Pair → List (List Pair) → Pair → Type 0
@@ -19,16 +19,16 @@ abbrev pub Folded : Kind → List (List Pair) → Pair → Type 0
 Folded kind [] r = ⊥
 Folded kind (s ∷ sets) r = Reached kind s sets r
 
-step_back : (kind : Kind) (s t u : List Pair) → ((r : Pair) → IsMember r u ↔ ArisesFromTwo (operation_of pair_operations kind) s t r)
+step_back : (kind : Kind) (s t u : List Pair) → IsImageOfTwo (operation_of pair_operations kind) s t u
     → (rest : List (List Pair)) (r p : Pair) → IsMember p s → (xs : List Pair) → IsChoice xs (t ∷ rest) → r ≡ folded (operation_of pair_operations kind) p xs → Reached kind u rest r
 step_back kind s t u h rest r p i [] c e = absurd c
 step_back kind s t u h rest r p i (q ∷ xs) c e =
-    (operation_of pair_operations kind p q, xs, (h (operation_of pair_operations kind p q)).1 (p, q, i, c.0, refl), c.1, e)
+    (operation_of pair_operations kind p q, xs, (h.members (operation_of pair_operations kind p q)).1 (p, q, i, c.0, refl), c.1, e)
 
-step : (kind : Kind) (s t u : List Pair) → ((r : Pair) → IsMember r u ↔ ArisesFromTwo (operation_of pair_operations kind) s t r)
+step : (kind : Kind) (s t u : List Pair) → IsImageOfTwo (operation_of pair_operations kind) s t u
     → (rest : List (List Pair)) (r : Pair) → Reached kind u rest r ↔ Reached kind s (t ∷ rest) r
 step kind s t u h rest r = (
-  λ w. let e = (h w.0).0 w.2 in
+  λ w. let e = (h.members w.0).0 w.2 in
       (e.0, e.1 ∷ w.1, e.2, (e.3, w.3), w.4 ∙ ap (λ p. folded (operation_of pair_operations kind) p w.1) e.4),
   λ w. step_back kind s t u h rest r w.0 w.2 w.1 w.3 w.4,
 )
@@ -79,7 +79,7 @@ gate_value_over-pairs kind xs =
     ∙ ap (λ f. pair (gate_value kind (map (λ p. p.good) xs)) f) (gate_related FaultyIs pair_operations tern_operations faulty_preserved (pair Unk Unk) Unk refl kind xs (map (λ p. p.faulty) xs) (faulty_halves xs))
 
 made : (kind : Kind) (s : List Pair) (sets : List (List Pair)) (u : List Pair) → ((r : Pair) → IsMember r u ↔ Folded kind (s ∷ sets) r)
-    → (r : Pair) (xs : List Pair) → IsChoice xs (s ∷ sets) → r ≡ gate_pair kind xs → ArisesFromOne (polarity_of pair_operations kind) u r
+    → (r : Pair) (xs : List Pair) → IsChoice xs (s ∷ sets) → r ≡ gate_pair kind xs → (p : Pair) × IsMember p u × (r ≡ polarity_of pair_operations kind p)
 made kind s sets u h r [] c e = absurd c
 made kind s sets u h r (x ∷ xs) c e =
     let p = folded (operation_of pair_operations kind) x xs in
@@ -87,7 +87,7 @@ made kind s sets u h r (x ∷ xs) c e =
 
 -- what the polarity makes of the folds are the results of the gate
 finished : (kind : Kind) (sets : List (List Pair)) → 0 < length sets → (u : List Pair) → ((r : Pair) → IsMember r u ↔ Folded kind sets r)
-    → (r : Pair) → ArisesFromOne (polarity_of pair_operations kind) u r ↔ Arises kind sets r
+    → (r : Pair) → ((p : Pair) × IsMember p u × (r ≡ polarity_of pair_operations kind p)) ↔ Arises kind sets r
 finished kind [] n u h r = absurd (omega (arith, n))
 finished kind (s ∷ sets) n u h r = (
   λ w. let e = (h w.0).0 w.1 in
@@ -108,21 +108,22 @@ HasArity-positive Xnor n h = h
 HasArity-positive Not n h = omega (arith, h)
 HasArity-positive Buf n h = omega (arith, h)
 
+-- The members of a set lead to the same results along the sets that are left as the first argument does along all.
+pub record FoldsTo (kind : Kind) (set : List Pair) (rest args : List (List Pair)) : Type 0 where
+  pub results : (r : Pair) → Reached kind set rest r ↔ Folded kind args r
+
 -- the loop takes one more set
-pub Reached-more : (kind : Kind) (s u : List Pair) (args items : List (List Pair)) (i : ℕ) (item d : List Pair) → i < length items → item ≡ get_or items i d
-    → ((r : Pair) → IsMember r u ↔ ArisesFromTwo (operation_of pair_operations kind) s item r)
-    → ((r : Pair) → Reached kind s (drop i items) r ↔ Folded kind args r)
-    → (r : Pair) → Reached kind u (drop (i + 1) items) r ↔ Folded kind args r
-Reached-more kind s u args items i item d n e h inv r =
-    chained (step kind s item u h (drop (i + 1) items) r)
-    (subst (λ (l : List (List Pair)). Reached kind s l r ↔ Folded kind args r) (drop_more items i d n ∙ ap (λ (x : List Pair). x ∷ drop (i + 1) items) (sym e)) (inv r))
+pub folds_more : (kind : Kind) (s u : List Pair) (args items : List (List Pair)) (i : ℕ) (item d : List Pair) → i < length items → item ≡ get_or items i d
+    → IsImageOfTwo (operation_of pair_operations kind) s item u → FoldsTo kind s (drop i items) args → FoldsTo kind u (drop (i + 1) items) args
+folds_more kind s u args items i item d n e h inv = record {
+  results = λ r. chained (step kind s item u h (drop (i + 1) items) r)
+  (subst (λ (l : List (List Pair)). Reached kind s l r ↔ Folded kind args r) (drop_more items i d n ∙ ap (λ (x : List Pair). x ∷ drop (i + 1) items) (sym e)) (inv.results r));
+}
 
 -- the loop has taken all sets
-pub Reached-all : (kind : Kind) (s u : List Pair) (args items : List (List Pair)) (i : ℕ) → HasArity kind (length args) → length items ≤ i
-    → ((r : Pair) → Reached kind s (drop i items) r ↔ Folded kind args r)
-    → ((r : Pair) → IsMember r u ↔ ArisesFromOne (polarity_of pair_operations kind) s r)
-    → (r : Pair) → IsMember r u ↔ Arises kind args r
-Reached-all kind s u args items i n e inv h r =
-    chained (h r) (finished kind args (HasArity-positive kind (length args) n) s
+pub folded_all : (kind : Kind) (s u : List Pair) (args items : List (List Pair)) (i : ℕ) → HasArity kind (length args) → length items ≤ i
+    → FoldsTo kind s (drop i items) args → IsImage (polarity_of pair_operations kind) s u → (r : Pair) → IsMember r u ↔ Arises kind args r
+folded_all kind s u args items i n e inv h r =
+    chained (h.members r) (finished kind args (HasArity-positive kind (length args) n) s
     (λ p. let ended = last kind s p in
-    chained (ended.1, ended.0) (subst (λ (l : List (List Pair)). Reached kind s l p ↔ Folded kind args p) (drop_all i items e) (inv p))) r)
+        chained (ended.1, ended.0) (subst (λ (l : List (List Pair)). Reached kind s l p ↔ Folded kind args p) (drop_all i items e) (inv.results p))) r)

@@ -5,7 +5,7 @@ use Rattle.std.proofs.lemmas.Nat.{or_lt, and_le_l}
 use Rattle.ht_tern.specs.declared.tern.Tern.{Tern}
 use Rattle.ht_tern.specs.Pairs.{Pair, same_pair, pair_operations, IsMember}
 use Rattle.ht_pairs.specs.Members.{holds, members_of}
-use Rattle.ht_pairs.specs.Results.{ArisesFromOne, ArisesFromTwo}
+use Rattle.ht_pairs.specs.Results.{IsImage, IsImageOfTwo}
 use Rattle.ht_pairs.specs.declared.moves.Half.TheVariants.{Good, Faulty}
 use Rattle.ht_pairs.specs.Moves.{IsMoved, along, becomes, lowers, raises, blurs, complements, passes, inverts}
 use Rattle.ht_pairs.proofs.PairTests.{each, any, each_gives, any_gives, any_from, same_pair-true, same_pair-from, eq_bool, eq_bool-true}
@@ -93,10 +93,10 @@ table_at op leads h p q r =
     (each_gives (λ q. each (λ r. eq_bool (leads p q r) (same_pair r (op p q))))
     (each_gives (λ p. each (λ q. each (λ r. eq_bool (leads p q r) (same_pair r (op p q))))) h p) q) r)
 
--- What the bits of an operation's result are to be.
+-- The bits of an operation's results.
 pub record IsResultOfTwo (op : Pair → Pair → Pair) (s t n : ℕ) : Type 0 where
   pub valid : IsValid n
-  pub members : (r : Pair) → IsMember r (members_of n) ↔ ArisesFromTwo op (members_of s) (members_of t) r
+  pub image : IsImageOfTwo op (members_of s) (members_of t) (members_of n)
 
 by_table : (op : Pair → Pair → Pair) (leads : Pair → Pair → Pair → Bool) → table op leads ≡ true
     → (s t n : ℕ) → IsValid s → IsValid t → IsMet leads s t n → IsResultOfTwo op s t n
@@ -107,12 +107,14 @@ by_table op leads tabled s t n h k met =
     λ p q r a b e. (met.members r).1 (p, q, a, b, table_at op leads tabled p q r ∙ same_pair-from r (op p q) e) in
     record {
       valid = (member_some n (op p.0 q.0) (holds_result p.0 q.0 (op p.0 q.0) p.1 q.1 refl), met.small);
-      members = λ r. (
-        λ i.
-            let w = (met.members r).0 (member_holds n r i) in
-            (w.0, w.1, holds_member s w.0 w.2, holds_member t w.1 w.3, same_pair-true r (op w.0 w.1) (sym (table_at op leads tabled w.0 w.1 r) ∙ w.4)),
-        λ w. holds_member n r (holds_result w.0 w.1 r (member_holds s w.0 w.2) (member_holds t w.1 w.3) w.4),
-      );
+      image = record {
+        members = λ r. (
+          λ i.
+              let w = (met.members r).0 (member_holds n r i) in
+              (w.0, w.1, holds_member s w.0 w.2, holds_member t w.1 w.3, same_pair-true r (op w.0 w.1) (sym (table_at op leads tabled w.0 w.1 r) ∙ w.4)),
+          λ w. holds_member n r (holds_result w.0 w.1 r (member_holds s w.0 w.2) (member_holds t w.1 w.3) w.4),
+        );
+      };
     }
 
 -- Four terms: each half of a result comes from either member, and the other member's is moved to it.
@@ -172,17 +174,19 @@ parity_results valid_s valid_t p i b c pp bb ip cb pi bc ii complemented =
 -- The same for an operation on one set.
 pub record IsResultOfOne (op : Pair → Pair) (s n : ℕ) : Type 0 where
   pub valid : IsValid n
-  pub members : (r : Pair) → IsMember r (members_of n) ↔ ArisesFromOne op (members_of s) r
+  pub image : IsImage op (members_of s) (members_of n)
 
 pub by_move : (op : Pair → Pair) (s n : ℕ) → IsValid s → IsMoved (becomes op) s n → IsResultOfOne op s n
 by_move op s n h moved =
     let p = some_member s h.0 h.1 in
     record {
       valid = (member_some n (op p.0) ((moved.members (op p.0)).1 (p.0, p.1, same_pair-from _ _ refl)), moved.small);
-      members = λ r. (
-        λ i. let w = (moved.members r).0 (member_holds n r i) in (w.0, holds_member s w.0 w.1, sym (same_pair-true (op w.0) r w.2)),
-        λ w. holds_member n r ((moved.members r).1 (w.0, member_holds s w.0 w.1, same_pair-from _ _ (sym w.2))),
-      );
+      image = record {
+        members = λ r. (
+          λ i. let w = (moved.members r).0 (member_holds n r i) in (w.0, holds_member s w.0 w.1, sym (same_pair-true (op w.0) r w.2)),
+          λ w. holds_member n r ((moved.members r).1 (w.0, member_holds s w.0 w.1, same_pair-from _ _ (sym w.2))),
+        );
+      };
     }
 
 complement_table : each (λ p. each (λ r. eq_bool (followed (along Faulty complements) (along Good complements) p r) (becomes pair_operations.complement p r))) ≡ true
@@ -203,3 +207,12 @@ complement_results s m n h one two =
         λ w. (moved.members r).1 (w.0, w.1, complement_at w.0 r ∙ w.2),
       );
     })
+
+-- the first of two members, where the second set is not empty; and a member itself
+pub image_of_first : (s : List Pair) (t : List Pair) (n : ℕ) → members_of n ≡ t → IsValid n → IsImageOfTwo (λ p q. p) s t s
+image_of_first s t n is h =
+    let q = some_member n h.0 h.1 in
+    rw (← is) (record { members = λ r. (λ i. (r, q.0, i, holds_member n q.0 q.1, refl), λ w. rw w.4 w.2) })
+
+pub image_of_itself : (s : List Pair) → IsImage (λ p. p) s s
+image_of_itself s = record { members = λ r. (λ i. (r, i, refl), λ w. rw w.2 w.1) }

@@ -7,7 +7,7 @@ use Rattle.ht_tern.specs.declared.tern.Tern.TheVariants.{Zero, One, Unk}
 use Rattle.ht_tern.specs.declared.gate.Kind.{Kind}
 use Rattle.ht_tern.specs.Pairs.{Pair, pair, IsMember, IsChoice, gate_pair, Arises, is_member, set_of, choices, lifted_set, stuck_pair, stuck_set, all_pairs, same_pair}
 use Rattle.ht_pairs.specs.Members.{holds, members_of}
-use Rattle.ht_pairs.specs.Results.{ArisesFromOne}
+use Rattle.ht_pairs.specs.Results.{IsImage}
 use Rattle.ht_pairs.proofs.PairTests.{same_pair-true, same_pair-from, in_all}
 use Rattle.ht_pairs.proofs.MemberLaws.{member_holds, holds_member, filter_passes, filter_keeps}
 
@@ -99,11 +99,11 @@ members_of-lifted_set kind sets n h =
     members_of-set_of n (map (gate_pair kind) (choices sets))
     (λ r. (λ i. (arises_listed kind sets r).0 ((h r).0 i), λ i. (h r).1 ((arises_listed kind sets r).1 i)))
 
-pub members_of-stuck_set : (value : Bool) (s : List Pair) (n : ℕ) → ((r : Pair) → IsMember r (members_of n) ↔ ArisesFromOne (stuck_pair value) s r) → members_of n ≡ stuck_set value s
+pub members_of-stuck_set : (value : Bool) (s : List Pair) (n : ℕ) → IsImage (stuck_pair value) s (members_of n) → members_of n ≡ stuck_set value s
 unfolding stuck_set
 members_of-stuck_set value s n h =
     members_of-set_of n (map (stuck_pair value) s)
-    (λ r. (λ i. let w = (h r).0 i in rw w.2 (member_map (stuck_pair value) s w.0 w.1), λ i. (h r).1 (map_member (stuck_pair value) s r i)))
+    (λ r. (λ i. let w = (h.members r).0 i in rw w.2 (member_map (stuck_pair value) s w.0 w.1), λ i. (h.members r).1 (map_member (stuck_pair value) s r i)))
 
 pub lifted_set_holds : (kind : Kind) (sets : List (List Pair)) (r : Pair) → IsMember r (lifted_set kind sets) ↔ Arises kind sets r
 unfolding lifted_set

@@ -2,7 +2,7 @@
 ghost use Rattle.std.specs.Prelude.{◌≡◌, ◌↔◌, length};
 ghost use Rattle.ht_tern.specs.Gate.{HasArity, operation_of, polarity_of};
 ghost use Rattle.ht_tern.specs.Pairs.{Arises, IsMember, Pair, lifted_set, pair_operations};
-ghost use Rattle.ht_pairs.specs.Results.{ArisesFromOne, ArisesFromTwo};
+ghost use Rattle.ht_pairs.specs.Results.{IsImage, IsImageOfTwo};
 
 use crate::PairSet;
 use ht_tern::Kind;
@@ -10,6 +10,7 @@ use ht_tern::Kind;
 /// The set of a gate: its values for every choice of one member from each argument's set, in the order of the pins.
 ///
 /// Each argument varies by itself, also where two pins carry one net.
+#[tactic(auto, using(crate::proofs::FoldLaws::folds_more))]
 pub fn lift(kind: Kind, args: &[PairSet]) -> PairSet
     requires { HasArity kind (length args.now) }
     ensures exact { (r : Pair) → IsMember r result ↔ Arises kind args.now r }
@@ -26,7 +27,7 @@ pub fn lift(kind: Kind, args: &[PairSet]) -> PairSet
 
 /// The results of the operation that a kind folds over its arguments.
 fn combined(kind: Kind, set: PairSet, arg: PairSet) -> PairSet
-    ensures { (r : Pair) → IsMember r result ↔ ArisesFromTwo (operation_of pair_operations kind) set arg r }
+    ensures { IsImageOfTwo (operation_of pair_operations kind) set arg result }
 {
     match kind {
         Kind::And | Kind::Nand => set.conjunction(arg),
@@ -37,16 +38,18 @@ fn combined(kind: Kind, set: PairSet, arg: PairSet) -> PairSet
 }
 
 /// The set itself: a second one, which is not empty, makes no difference.
+#[tactic(auto, using(crate::proofs::OperationLaws::image_of_first))]
 fn beside(set: PairSet, arg: PairSet) -> PairSet
-    ensures { (r : Pair) → IsMember r result ↔ ArisesFromTwo (λ p q. p) set arg r }
+    ensures { IsImageOfTwo (λ p q. p) set arg result }
 {
     let _ = &arg.bits;
     set
 }
 
 /// The folded set, or its complement where the kind inverts.
+#[tactic(auto, using(crate::proofs::OperationLaws::image_of_itself))]
 fn with_polarity(kind: Kind, set: PairSet) -> PairSet
-    ensures { (r : Pair) → IsMember r result ↔ ArisesFromOne (polarity_of pair_operations kind) set r }
+    ensures { IsImage (polarity_of pair_operations kind) set result }
 {
     match kind {
         Kind::And | Kind::Or | Kind::Xor | Kind::Buf => set,

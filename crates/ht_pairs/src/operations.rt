@@ -1,9 +1,8 @@
 // The operations of gates over sets: the results for every choice of one member from each argument.
 //
 // A term `a & b` has the pairs to which a move leads from a member of `self`, and another from a member of `other`.
-ghost use Rattle.std.specs.Prelude.{◌↔◌};
-ghost use Rattle.ht_tern.specs.Pairs.{Pair, IsMember, pair_operations};
-ghost use Rattle.ht_pairs.specs.Results.{ArisesFromOne, ArisesFromTwo};
+ghost use Rattle.ht_tern.specs.Pairs.{pair_operations};
+ghost use Rattle.ht_pairs.specs.Results.{IsImage, IsImageOfTwo};
 
 use crate::moves::Half::{Faulty, Good};
 use crate::moves::{blurred, complemented, inverted, lowered, passed, raised};
@@ -14,7 +13,7 @@ impl PairSet {
     ///
     /// Each half of a result is that half of one of the two members, and the other member's may be lowered to it.
     pub(crate) fn conjunction(self, other: PairSet) -> PairSet
-        ensures { (r : Pair) → IsMember r result ↔ ArisesFromTwo pair_operations.conjunction self other r }
+        ensures { IsImageOfTwo pair_operations.conjunction self other result }
     {
         let (s, t) = (self.bits, other.bits);
         let s_faulty = lowered(s, Faulty);
@@ -31,7 +30,7 @@ impl PairSet {
     ///
     /// Each half of a result is that half of one of the two members, and the other member's may be raised to it.
     pub(crate) fn disjunction(self, other: PairSet) -> PairSet
-        ensures { (r : Pair) → IsMember r result ↔ ArisesFromTwo pair_operations.disjunction self other r }
+        ensures { IsImageOfTwo pair_operations.disjunction self other result }
     {
         let (s, t) = (self.bits, other.bits);
         let s_faulty = raised(s, Faulty);
@@ -49,7 +48,7 @@ impl PairSet {
     /// Where a half of the member of `self` is 0, the other member's passes; where it is 1, the other's complement does.
     /// An unknown value in either gives an unknown value.
     pub(crate) fn parity(self, other: PairSet) -> PairSet
-        ensures { (r : Pair) → IsMember r result ↔ ArisesFromTwo pair_operations.parity self other r }
+        ensures { IsImageOfTwo pair_operations.parity self other result }
     {
         let (s, t) = (self.bits, other.bits);
         let s_passed = passed(s, Faulty);
@@ -66,7 +65,7 @@ impl PairSet {
 
     /// The complements of the members.
     pub(crate) fn complement(self) -> PairSet
-        ensures { (r : Pair) → IsMember r result ↔ ArisesFromOne pair_operations.complement self r }
+        ensures { IsImage pair_operations.complement self result }
     {
         PairSet {
             bits: complemented(complemented(self.bits, Faulty), Good),

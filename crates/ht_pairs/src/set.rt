@@ -127,6 +127,7 @@ impl PairSet {
 
     /// Whether the set holds a pair.
 
+    #[tactic(auto, using(crate::proofs::QueryLaws::has_tells))]
     pub fn has(self, good: Tern, faulty: Tern) -> bool
         ensures { IsTrue result ↔ IsMember (pair good faulty) self }
     {
@@ -135,6 +136,7 @@ impl PairSet {
 
     /// Whether the set holds one pair alone.
 
+    #[tactic(auto, using(crate::proofs::QueryLaws::single_tells))]
     pub fn is_single(self) -> bool
         ensures single { IsTrue result ↔ (length self ≡ 1) }
         ensures nonempty { 0 < length self }
@@ -144,17 +146,19 @@ impl PairSet {
 
     /// Whether some member has opposite definite values.
 
+    #[tactic(auto, using(crate::proofs::QueryLaws::may_differ_tells))]
     pub fn may_differ(self) -> bool
         ensures { IsTrue result ↔ MayDiffer self }
     {
         self.bits & OPPOSITE != 0
     }
 
-    /// Whether each member has opposite definite values. Then some member has, since a set is not empty.
+    /// Whether each member has opposite definite values; then some member has, since the set is not empty.
 
+    #[tactic(auto, using(crate::proofs::QueryLaws::must_differ_tells))]
     pub fn must_differ(self) -> bool
-        ensures all { IsTrue result ↔ MustDiffer self }
-        ensures some { IsTrue result → MayDiffer self }
+        ensures each { IsTrue result ↔ MustDiffer self }
+        ensures nonempty { 0 < length self }
     {
         self.bits | OPPOSITE == OPPOSITE
     }

@@ -30,9 +30,9 @@ Differs p = (p ≡ pair Zero One) ⊎ (p ≡ pair One Zero)
 abbrev pub MayDiffer : List Pair → Type 0
 MayDiffer set = IsMember (pair Zero One) set ⊎ IsMember (pair One Zero) set
 
--- each member differs
-abbrev pub MustDiffer : List Pair → Type 0
-MustDiffer set = (p : Pair) → IsMember p set → Differs p
+-- Each member differs.
+pub record MustDiffer (set : List Pair) : Type 0 where
+  pub each : (p : Pair) → IsMember p set → Differs p
 
 -- the operations of three values, half by half
 abbrev pub pair_operations : Operations Pair

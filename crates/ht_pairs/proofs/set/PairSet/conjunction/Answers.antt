@@ -8,4 +8,4 @@ invariant_of-result c =
 pub returns : goal.returns
 returns c =
     rw (← c.self.view_is, ← c.other.view_is)
-    (conjunction_results c.self.invariant c.other.invariant c.lowered-s_faulty.ensures c.lowered-t_faulty.ensures c.lowered.ensures c.lowered-2.ensures c.lowered-3.ensures c.lowered-4.ensures).members
+    (conjunction_results c.self.invariant c.other.invariant c.lowered-s_faulty.ensures c.lowered-t_faulty.ensures c.lowered.ensures c.lowered-2.ensures c.lowered-3.ensures c.lowered-4.ensures).image

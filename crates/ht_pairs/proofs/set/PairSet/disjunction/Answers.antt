@@ -8,4 +8,4 @@ invariant_of-result c =
 pub returns : goal.returns
 returns c =
     rw (← c.self.view_is, ← c.other.view_is)
-    (disjunction_results c.self.invariant c.other.invariant c.raised-s_faulty.ensures c.raised-t_faulty.ensures c.raised.ensures c.raised-2.ensures c.raised-3.ensures c.raised-4.ensures).members
+    (disjunction_results c.self.invariant c.other.invariant c.raised-s_faulty.ensures c.raised-t_faulty.ensures c.raised.ensures c.raised-2.ensures c.raised-3.ensures c.raised-4.ensures).image

@@ -9,4 +9,4 @@ invariant_of-result c = (by_move (stuck_pair c.args.value) c.self.inside.bits c.
 pub returns : goal.returns
 returns c =
     rw (← c.self.view_is)
-    (members_of-stuck_set c.args.value _ c.stuck.result (by_move (stuck_pair c.args.value) c.self.inside.bits c.stuck.result c.self.invariant c.stuck.ensures).members)
+    (members_of-stuck_set c.args.value _ c.stuck.result (by_move (stuck_pair c.args.value) c.self.inside.bits c.stuck.result c.self.invariant c.stuck.ensures).image)
