@@ -117,7 +117,7 @@ pub folds_more : (kind : Kind) (s u : List Pair) (args items : List (List Pair))
     → IsImageOfTwo (operation_of pair_operations kind) s item u → FoldsTo kind s (drop i items) args → FoldsTo kind u (drop (i + 1) items) args
 folds_more kind s u args items i item d n e h inv = record {
   results = λ r. chained (step kind s item u h (drop (i + 1) items) r)
-  (subst (λ (l : List (List Pair)). Reached kind s l r ↔ Folded kind args r) (drop_more items i d n ∙ ap (λ (x : List Pair). x ∷ drop (i + 1) items) (sym e)) (inv.results r));
+      (subst (λ (l : List (List Pair)). Reached kind s l r ↔ Folded kind args r) (drop_more items i d n ∙ ap (λ (x : List Pair). x ∷ drop (i + 1) items) (sym e)) (inv.results r));
 }
 
 -- the loop has taken all sets
@@ -126,4 +126,4 @@ pub folded_all : (kind : Kind) (s u : List Pair) (args items : List (List Pair))
 folded_all kind s u args items i n e inv h r =
     chained (h.members r) (finished kind args (HasArity-positive kind (length args) n) s
     (λ p. let ended = last kind s p in
-        chained (ended.1, ended.0) (subst (λ (l : List (List Pair)). Reached kind s l p ↔ Folded kind args p) (drop_all i items e) (inv.results p))) r)
+    chained (ended.1, ended.0) (subst (λ (l : List (List Pair)). Reached kind s l p ↔ Folded kind args p) (drop_all i items e) (inv.results p))) r)

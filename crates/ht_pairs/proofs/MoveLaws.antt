@@ -1,15 +1,12 @@
 -- What each move does, tried at all 512 numbers; two moves in a row, and moves of two sets that meet.
-use Rattle.std.proofs.Common.{◌≡◌, ◌<◌, ◌*◌, ◌/◌, ◌%◌, ◌^◌, ◌↔◌, ℕ, Bool, true, false, refl, sym, ◌∙◌, ◌&&◌, ◌||◌, ltb, bit_or, bit_and, inl, inr, IsTrue, lt_of_le_of_lt}
-use Rattle.std.proofs.lemmas.Bool.{and_parts, and_from, or_cases, or_left, or_right, agree_below, agree_below_at, ltb-true}
-use Rattle.std.proofs.lemmas.Nat.{or_lt, and_le_l}
-use Rattle.ht_tern.specs.declared.tern.Tern.{Tern}
-use Rattle.ht_tern.specs.Pairs.{Pair, same_tern, same_pair, stuck_pair}
+use Rattle.std.proofs.Common.{◌≡◌, ◌<◌, ◌*◌, ◌/◌, ◌%◌, ◌^◌, ℕ, Bool, true, false, refl, sym, ◌∙◌, ◌&&◌, ltb, bit_or, bit_and}
+use Rattle.std.proofs.lemmas.Bool.{and_parts, and_from, agree_below, agree_below_at, ltb-true}
+use Rattle.ht_tern.specs.Pairs.{Pair, stuck_pair}
 use Rattle.ht_pairs.specs.Members.{holds}
 use Rattle.ht_pairs.specs.declared.moves.Half.{Half}
 use Rattle.ht_pairs.specs.declared.moves.Half.TheVariants.{Good, Faulty}
 use Rattle.ht_pairs.specs.Moves.{IsMoved, along, becomes, zeros_of, step_of, lowers, raises, blurs, complements, passes, inverts}
-use Rattle.ht_pairs.proofs.PairTests.{each, any, each_gives, any_gives, any_from, same_pair-true, same_pair-from, eq_bool, eq_bool-true}
-use Rattle.ht_pairs.proofs.MemberLaws.{holds-or, holds-and}
+use Rattle.ht_pairs.proofs.PairTests.{each, any, each_gives, any_gives, any_from, eq_bool, eq_bool-true}
 
 -- a move, tried at one set
 abbrev move_test : (ℕ → ℕ) → (Pair → Pair → Bool) → ℕ → Bool

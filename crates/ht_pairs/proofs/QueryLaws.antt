@@ -1,5 +1,5 @@
 -- What the questions on the bits tell of the members.
-use Rattle.std.proofs.Common.{◌≡◌, ◌⊎◌, ◌<◌, ◌↔◌, ◌-◌, ◌*◌, ◌/◌, ◌%◌, ◌^◌, ℕ, Bool, true, false, not, List, [], ◌∷◌, length, refl, sym, ◌∙◌, ap, inl, inr, ◌||◌, ◌&&◌, eqb, ltb, bit_and, bit_or, IsTrue, arith}
+use Rattle.std.proofs.Common.{◌≡◌, ◌<◌, ◌↔◌, ◌-◌, ◌*◌, ◌/◌, ◌%◌, ◌^◌, ℕ, Bool, true, false, not, List, [], ◌∷◌, length, refl, sym, ◌∙◌, ap, inl, inr, ◌||◌, ◌&&◌, eqb, ltb, bit_and, bit_or, IsTrue, arith}
 use Rattle.std.proofs.lemmas.Bool.{agree_below_at, and_parts, or_cases, or_left, or_right, eqb-true, eq-eqb, ltb-true}
 use Rattle.std.proofs.lemmas.Nat.Bits.{shr_and_one}
 use Rattle.ht_tern.specs.declared.tern.Tern.{Tern}

@@ -1,5 +1,5 @@
 -- Moves: how all members of a set change at once, along one half of the pairs.
-use Rattle.std.specs.Prelude.{◌≡◌, ◌<◌, ◌↔◌, ℕ, Bool, true, false, ◌&&◌, ◌||◌, IsTrue}
+use Rattle.std.specs.Prelude.{◌<◌, ◌↔◌, ℕ, Bool, true, false, ◌&&◌, ◌||◌, IsTrue}
 use Rattle.ht_tern.specs.declared.tern.Tern.{Tern}
 use Rattle.ht_tern.specs.declared.tern.Tern.TheVariants.{Zero, One, Unk}
 use Rattle.ht_tern.specs.Gate.{complement_of, and_of, or_of}
