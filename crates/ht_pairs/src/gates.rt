@@ -21,6 +21,7 @@ pub fn lift(kind: Kind, args: &[PairSet]) -> PairSet
         set = combined(kind, set, *arg);
     }
     let value = with_polarity(kind, set);
+    // The bits say in which order the members stand.
     let _ = &value.bits;
     value
 }
@@ -42,6 +43,7 @@ fn combined(kind: Kind, set: PairSet, arg: PairSet) -> PairSet
 fn beside(set: PairSet, arg: PairSet) -> PairSet
     ensures { IsImageOfTwo (λ p q. p) set arg result }
 {
+    // The bits say that `arg` has a member.
     let _ = &arg.bits;
     set
 }

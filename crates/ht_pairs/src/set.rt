@@ -9,9 +9,11 @@ use ht_tern::Tern;
 use std::marker::Model;
 
 /// A nonempty set of pairs of a good and a faulty value, in two bytes.
+// C's layout, so that `bench/lift` may time a gate over sets from outside.
+#[repr(C)]
 #[derive(Clone, Copy, Debug)]
 pub struct PairSet {
-    /// A bit for each pair, the lowest for 00.
+    /// A bit for each pair, in the order of the members, the lowest for 00.
     pub(crate) bits: u16,
 }
 
@@ -126,7 +128,6 @@ impl PairSet {
     }
 
     /// Whether the set holds a pair.
-
     #[tactic(auto, using(crate::proofs::QueryLaws::has_tells))]
     pub fn has(self, good: Tern, faulty: Tern) -> bool
         ensures { IsTrue result ↔ IsMember (pair good faulty) self }
@@ -134,8 +135,7 @@ impl PairSet {
         (self.bits >> place(good, faulty)) & 1 == 1
     }
 
-    /// Whether the set holds one pair alone.
-
+    /// Whether the set holds one pair alone. No set is empty, as the second clause tells.
     #[tactic(auto, using(crate::proofs::QueryLaws::single_tells))]
     pub fn is_single(self) -> bool
         ensures single { IsTrue result ↔ (length self ≡ 1) }
@@ -145,7 +145,6 @@ impl PairSet {
     }
 
     /// Whether some member has opposite definite values.
-
     #[tactic(auto, using(crate::proofs::QueryLaws::may_differ_tells))]
     pub fn may_differ(self) -> bool
         ensures { IsTrue result ↔ MayDiffer self }
@@ -154,7 +153,6 @@ impl PairSet {
     }
 
     /// Whether each member has opposite definite values; then some member has, since the set is not empty.
-
     #[tactic(auto, using(crate::proofs::QueryLaws::must_differ_tells))]
     pub fn must_differ(self) -> bool
         ensures each { IsTrue result ↔ MustDiffer self }
