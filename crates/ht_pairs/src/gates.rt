@@ -1,0 +1,60 @@
+// A gate over sets of pairs.
+ghost use Rattle.std.specs.Prelude.{◌≡◌, ◌↔◌, length};
+ghost use Rattle.ht_tern.specs.Gate.{HasArity, operation_of, polarity_of};
+ghost use Rattle.ht_tern.specs.Pairs.{Arises, IsMember, Pair, lifted_set, pair_operations};
+ghost use Rattle.ht_pairs.specs.Results.{IsImage, IsImageOfTwo};
+
+use crate::PairSet;
+use ht_tern::Kind;
+
+/// The set of a gate: its values for every choice of one member from each argument's set, in the order of the pins.
+///
+/// Each argument varies by itself, also where two pins carry one net.
+#[tactic(auto, using(crate::proofs::FoldLaws::folds_more))]
+pub fn lift(kind: Kind, args: &[PairSet]) -> PairSet
+    requires { HasArity kind (length args.now) }
+    ensures exact { (r : Pair) → IsMember r result ↔ Arises kind args.now r }
+    ensures value { result ≡ lifted_set kind args.now }
+{
+    let mut set = args[0];
+    for arg in &args[1..] {
+        set = combined(kind, set, *arg);
+    }
+    let value = with_polarity(kind, set);
+    // The bits say in which order the members stand.
+    let _ = &value.bits;
+    value
+}
+
+/// The results of the operation that a kind folds over its arguments.
+fn combined(kind: Kind, set: PairSet, arg: PairSet) -> PairSet
+    ensures { IsImageOfTwo (operation_of pair_operations kind) set arg result }
+{
+    match kind {
+        Kind::And | Kind::Nand => set.conjunction(arg),
+        Kind::Or | Kind::Nor => set.disjunction(arg),
+        Kind::Xor | Kind::Xnor => set.parity(arg),
+        Kind::Not | Kind::Buf => beside(set, arg),
+    }
+}
+
+/// The set itself: a second one, which is not empty, makes no difference.
+#[tactic(auto, using(crate::proofs::OperationLaws::image_of_first))]
+fn beside(set: PairSet, arg: PairSet) -> PairSet
+    ensures { IsImageOfTwo (λ p q. p) set arg result }
+{
+    // The bits say that `arg` has a member.
+    let _ = &arg.bits;
+    set
+}
+
+/// The folded set, or its complement where the kind inverts.
+#[tactic(auto, using(crate::proofs::OperationLaws::image_of_itself))]
+fn with_polarity(kind: Kind, set: PairSet) -> PairSet
+    ensures { IsImage (polarity_of pair_operations kind) set result }
+{
+    match kind {
+        Kind::And | Kind::Or | Kind::Xor | Kind::Buf => set,
+        Kind::Nand | Kind::Nor | Kind::Xnor | Kind::Not => set.complement(),
+    }
+}

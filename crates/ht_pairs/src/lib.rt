@@ -1,0 +1,21 @@
+//! Sets of pairs: what a net may carry in the good machine and in the faulty one, while the search has not yet decided.
+//!
+//! `PairSet` is a nonempty set of pairs (good, faulty) over the three values, in two bytes. `lift` is a gate over sets:
+//! it holds the gate's values for every choice of one member from each argument, no more and no fewer. `PairSet::stick`
+//! forces a stuck line's faulty half. No call takes memory.
+//!
+//! Contracts see a `PairSet` as the list of its members in the order 00, 01, 0X, 10, 11, 1X, X0, X1, XX.
+//! `specs/Pairs.antt` of `ht_tern` has pairs, choices and a gate's set, by enumeration; the code moves bits.
+#![tactic(auto)]
+
+mod gates;
+mod laws;
+mod moves;
+mod operations;
+mod set;
+#[cfg(test)]
+mod tests;
+
+pub use gates::lift;
+pub use laws::{lifted_set_holds_what_arises, single_pairs_lift_to_a_single_pair};
+pub use set::PairSet;

@@ -1,0 +1,163 @@
+// Sets of pairs: how one is made, what it may be asked, and the stuck line.
+ghost use Rattle.std.specs.Prelude.{◌≡◌, ◌+◌, ◌*◌, ◌<◌, ◌↔◌, IsTrue, [], ◌∷◌, length};
+ghost use Rattle.ht_tern.specs.declared.tern.Tern.TheVariants.{Zero, One, Unk};
+ghost use Rattle.ht_tern.specs.Pairs.{IsMember, MayDiffer, MustDiffer, pair, stuck_set};
+ghost use Rattle.ht_pairs.specs.Members.{place_of, tern_place};
+
+use crate::moves::stuck;
+use ht_tern::Tern;
+use std::marker::Model;
+
+/// A nonempty set of pairs of a good and a faulty value, in two bytes.
+// C's layout, so that `bench/lift` may time a gate over sets from outside.
+#[repr(C)]
+#[derive(Clone, Copy, Debug)]
+pub struct PairSet {
+    /// A bit for each pair, in the order of the members, the lowest for 00.
+    pub(crate) bits: u16,
+}
+
+impl Model for PairSet {
+    ghost use Rattle.std.specs.Prelude.{ℕ, ◌<◌, List};
+    ghost use Rattle.std.proofs.Common.{ap};
+    ghost use Rattle.ht_tern.specs.Pairs.{Pair};
+    ghost use Rattle.ht_pairs.specs.Members.{members_of, bits_of, bits_of-members_of};
+
+    ghost Value = { List Pair };
+
+    ghost view = { λ s. members_of s.bits };
+
+    ghost invariant = { λ s. (0 < s.bits) × (s.bits < 512) };
+
+    ghost inverse = { λ pairs. record { bits = bits_of pairs } };
+
+    ghost inverse_ok = { λ s valid. ap (λ n. record { bits = n }) (bits_of-members_of s.bits valid.1) };
+}
+
+/// Two sets are equal exactly where they have the same members.
+impl PartialEq for PairSet {
+    ghost use Rattle.std.specs.Prelude.{◌≡◌, ◌==◌, ◌↔◌, IsTrue};
+    ghost use Rattle.std.specs.Cmp.{nat_eq_equiv, on_equiv, partial_equiv_from_equiv};
+    ghost use Rattle.ht_pairs.specs.Members.{bits_of};
+
+    ghost eq = { λ a b. bits_of a == bits_of b };
+
+    ghost laws = { partial_equiv_from_equiv (on_equiv bits_of nat_eq_equiv) };
+
+    fn eq(&self, other: &PairSet) -> bool
+        ensures same_members { IsTrue result ↔ (self.now ≡ other.now) }
+        ensures same_bits { result ≡ (bits_of self.now == bits_of other.now) }
+    {
+        self.bits == other.bits
+    }
+}
+
+impl Eq for PairSet {
+    ghost use Rattle.std.specs.Cmp.{nat_eq_equiv, on_equiv};
+    ghost use Rattle.ht_pairs.specs.Members.{bits_of};
+
+    ghost laws = { on_equiv bits_of nat_eq_equiv };
+}
+
+/// The pairs of two definite values that are opposite: 01 and 10.
+const OPPOSITE: u16 = 0b000_001_010;
+
+/// The index of a value among the three.
+fn index(value: Tern) -> u32
+    ensures { result ≡ tern_place value }
+{
+    match value {
+        Tern::Zero => 0,
+        Tern::One => 1,
+        Tern::Unk => 2,
+    }
+}
+
+/// The index of a pair's bit, among the nine.
+fn place(good: Tern, faulty: Tern) -> u32
+    ensures place { result ≡ place_of (pair good faulty) }
+    ensures within { result < 9 }
+{
+    3 * index(good) + index(faulty)
+}
+
+impl PairSet {
+    /// The set of one pair.
+    pub fn single(good: Tern, faulty: Tern) -> PairSet
+        ensures { result ≡ pair good faulty ∷ [] }
+    {
+        PairSet {
+            bits: 1 << place(good, faulty),
+        }
+    }
+
+    /// A definite value that is the same in both machines: {00, 11}, an undecided input.
+    pub fn both_same() -> PairSet
+        ensures { result ≡ pair Zero Zero ∷ pair One One ∷ [] }
+    {
+        PairSet {
+            bits: 0b000_010_001,
+        }
+    }
+
+    /// A value that is the same in both machines: {00, 11, XX}, an undecided latch of the good machine.
+    pub fn same_or_unknown() -> PairSet
+        ensures { result ≡ pair Zero Zero ∷ pair One One ∷ pair Unk Unk ∷ [] }
+    {
+        PairSet {
+            bits: 0b100_010_001,
+        }
+    }
+
+    /// The four pairs of two definite values.
+    pub fn any_two_valued() -> PairSet
+        ensures { result ≡ pair Zero Zero ∷ pair Zero One ∷ pair One Zero ∷ pair One One ∷ [] }
+    {
+        PairSet {
+            bits: 0b000_011_011,
+        }
+    }
+
+    /// The set with the faulty half of each member stuck at a value.
+    pub fn stick(self, value: bool) -> PairSet
+        ensures { result ≡ stuck_set value self }
+    {
+        PairSet {
+            bits: stuck(self.bits, value),
+        }
+    }
+
+    /// Whether the set holds a pair.
+    #[tactic(auto, using(crate::proofs::QueryLaws::has_tells))]
+    pub fn has(self, good: Tern, faulty: Tern) -> bool
+        ensures { IsTrue result ↔ IsMember (pair good faulty) self }
+    {
+        (self.bits >> place(good, faulty)) & 1 == 1
+    }
+
+    /// Whether the set holds one pair alone. No set is empty, as the second clause tells.
+    #[tactic(auto, using(crate::proofs::QueryLaws::single_tells))]
+    pub fn is_single(self) -> bool
+        ensures single { IsTrue result ↔ (length self ≡ 1) }
+        ensures nonempty { 0 < length self }
+    {
+        self.bits & (self.bits - 1) == 0
+    }
+
+    /// Whether some member has opposite definite values.
+    #[tactic(auto, using(crate::proofs::QueryLaws::may_differ_tells))]
+    pub fn may_differ(self) -> bool
+        ensures { IsTrue result ↔ MayDiffer self }
+    {
+        self.bits & OPPOSITE != 0
+    }
+
+    /// Whether each member has opposite definite values; then some member has, since the set is not empty.
+    #[tactic(auto, using(crate::proofs::QueryLaws::must_differ_tells))]
+    pub fn must_differ(self) -> bool
+        ensures each { IsTrue result ↔ MustDiffer self }
+        ensures nonempty { 0 < length self }
+    {
+        self.bits | OPPOSITE == OPPOSITE
+    }
+}
