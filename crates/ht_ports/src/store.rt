@@ -1,14 +1,14 @@
-//! Files in memory: their bytes by their names.
+//! FileMap in memory: their bytes by their names.
 ghost use Rattle.std.specs.Prelude.{◌≡◌, ◌≢◌, ◌++◌, List, ℕ, OnOk, OnErr, IfOk, IfSome, Some};
 ghost use Rattle.ht_ports.specs.Memory.{file_of};
 
 use std::alloc::{AllocError, Global};
 use std::collections::BTreeMap;
 
-pub type Files = BTreeMap<String, Vec<u8>>;
+pub type FileMap = BTreeMap<String, Vec<u8>>;
 
 /// A copy of a file; `None` where there is none of this name, or no memory.
-pub fn copy_file(alloc: Global, files: &Files, name: &str) -> Option<Vec<u8>>
+pub fn copy_file(alloc: Global, files: &FileMap, name: &str) -> Option<Vec<u8>>
     ensures { IfSome result (λ v. file_of files.now name.now ≡ Some v.items) }
 {
     match files.get(name) {
@@ -20,7 +20,7 @@ pub fn copy_file(alloc: Global, files: &Files, name: &str) -> Option<Vec<u8>>
 /// Adds a file, or replaces the one of this name.
 pub fn put_file(
     alloc: Global,
-    files: &mut Files,
+    files: &mut FileMap,
     name: &str,
     bytes: &[u8],
 ) -> Result<(), AllocError>
