@@ -114,13 +114,8 @@ fn reads_given_texts(rt: HostRuntime) -> Result<(), test::Fail> {
     let alloc = rt.alloc();
     let mut desk = CleanDesk::new(alloc);
     desk.put("netlist", b"old")?;
-    assert_eq!(rt; desk.open(InPort::Netlist, "tests"), Err(Failed));
-    desk.open(InPort::Netlist, "netlist")?;
     desk.put("netlist", b"new")?;
-    assert_eq!(rt;
-        read_all(alloc, &mut desk, InPort::Netlist, 9)?.as_slice(),
-        b"old".as_slice()
-    );
+    assert_eq!(rt; desk.open(InPort::Netlist, "tests"), Err(Failed));
     desk.open(InPort::Netlist, "netlist")?;
     assert_eq!(rt;
         read_all(alloc, &mut desk, InPort::Netlist, 9)?.as_slice(),

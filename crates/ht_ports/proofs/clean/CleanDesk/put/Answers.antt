@@ -1,4 +1,4 @@
-use Rattle.std.proofs.Common.{◌≡◌, ◌++◌, List, [], ◌∷◌, ℕ, Some, drop, sym, ◌∙◌, ap, refl, rules}
+use Rattle.std.proofs.Common.{◌≡◌, ◌++◌, List, [], ◌∷◌, ℕ, Some, drop, ◌∙◌, ap, refl, rules}
 use Rattle.std.specs.Prelude.{string_bytes}
 use Rattle.ht_ports.specs.declared.clean.Text.{Text}
 use Rattle.ht_ports.specs.NamedTexts.{text_named, opened_in}
