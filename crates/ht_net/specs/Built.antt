@@ -1,5 +1,5 @@
 -- The circuit that a draft stands for: the net of a name is the place of the name among those that are driven.
-use Rattle.std.specs.Prelude.{◌≡◌, ℕ, List, [], ◌<◌, length, get_or, map, eqb}
+use Rattle.std.specs.Prelude.{List, [], ◌<◌, length, get_or, map, eqb}
 use Rattle.std.specs.List.{position_or_len}
 use Rattle.ht_net.specs.declared.names.NameId.{NameId}
 use Rattle.ht_net.specs.declared.site.NetId.{NetId}

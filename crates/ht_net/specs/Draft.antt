@@ -1,5 +1,5 @@
 -- A netlist in the making: names, and what drives them.
-use Rattle.std.specs.Prelude.{◌≡◌, ◌≢◌, ℕ, List, [], ◌++◌, ◌+◌, ◌<◌, ◌≤◌, length, map, get_or}
+use Rattle.std.specs.Prelude.{◌≢◌, ℕ, List, [], ◌++◌, ◌+◌, ◌<◌, ◌≤◌, length, map, get_or}
 use Rattle.std.specs.List.{Contains, sum_by}
 use Rattle.ht_tern.specs.declared.gate.Kind.{Kind}
 use Rattle.ht_tern.specs.declared.gate.Kind.TheVariants.{Buf}
