@@ -1,8 +1,10 @@
-// A circuit, kept in flat arrays.
+// A circuit, with the order and the counts that simulation reads.
 ghost use Rattle.std.specs.Prelude.{◌≡◌, ℕ, ◌<◌, ◌≤◌, ◌+◌, [], length, get_or};
 ghost use Rattle.ht_net.specs.Netlist.{first_gate_net, net_count, gate_at, no_net, IsCircuit, IsOrder};
+ghost use Rattle.ht_net.specs.Levels.{level_of, loads_of, IsLevelOrder};
 
 use crate::NetId;
+use crate::gates::Gates;
 use ht_tern::Kind;
 use std::marker::Model;
 
@@ -12,13 +14,14 @@ pub struct Circuit {
     inputs: u32,
     // the net at each flip-flop's data pin
     dffs: Vec<NetId>,
-    kinds: Vec<Kind>,
-    // where each gate's arguments start, and where the last one's end
-    starts: Vec<u32>,
-    args: Vec<NetId>,
+    gates: Gates,
     outputs: Vec<NetId>,
     names: Vec<Vec<u8>>,
+    // all gates by level
     order: Vec<u32>,
+    levels: Vec<u32>,
+    // one for each net
+    loads: Vec<u32>,
 }
 
 impl Model for Circuit {
@@ -26,11 +29,11 @@ impl Model for Circuit {
 
     ghost Value = { Netlist };
 
-    ghost use Rattle.ht_net.specs.Flat.{netlist_of, IsFlat};
+    ghost use Rattle.ht_net.specs.CircuitOf.{netlist_of, IsBuilt};
 
     ghost view = { netlist_of };
 
-    ghost invariant = { IsFlat };
+    ghost invariant = { IsBuilt };
 }
 
 impl Circuit {
@@ -49,11 +52,10 @@ impl Circuit {
     }
 
     /// How many gates there are.
-    #[tactic(auto, using(crate::proofs::FlatLaws::gates_count))]
     pub fn gates(&self) -> u32
         ensures { result ≡ length self.now.gates }
     {
-        self.kinds.len() as u32
+        self.gates.len() as u32
     }
 
     /// How many outputs there are.
@@ -64,12 +66,11 @@ impl Circuit {
     }
 
     /// How many nets there are.
-    #[tactic(auto, using(crate::proofs::FlatLaws::gates_count))]
     pub fn nets(&self) -> u32
         ensures count { result ≡ net_count self.now }
         ensures circuit { IsCircuit self.now }
     {
-        self.inputs + self.dffs.len() as u32 + self.kinds.len() as u32
+        self.inputs + self.dffs.len() as u32 + self.gates.len() as u32
     }
 
     /// The net of an output.
@@ -89,28 +90,24 @@ impl Circuit {
     }
 
     /// The kind of a gate.
-    #[tactic(auto, using(crate::proofs::FlatLaws::gates_count, crate::proofs::FlatLaws::gate_kind_at))]
     pub fn gate_kind(&self, g: u32) -> Kind
         requires { g < length self.now.gates }
         ensures { result ≡ (gate_at self.now g).kind }
     {
-        self.kinds[g as usize]
+        self.gates.kind(g as usize)
     }
 
     /// The nets at the pins of a gate, in the order of the pins: 1 to 255.
-    #[tactic(auto, using(crate::proofs::FlatLaws::gates_count, crate::proofs::FlatLaws::gate_args_at))]
     pub fn gate_args(&self, g: u32) -> &[NetId]
         requires { g < length self.now.gates }
         ensures args { result.now ≡ (gate_at self.now g).args }
         ensures circuit { IsCircuit self.now }
     {
-        let start = self.starts[g as usize] as usize;
-        let end = self.starts[g as usize + 1] as usize;
-        &self.args[start..end]
+        self.gates.args(g as usize)
     }
 
     /// The name of a net: the bytes as the netlist has them.
-    #[tactic(auto, using(crate::proofs::FlatLaws::gates_count, crate::proofs::FlatLaws::name_at))]
+    #[tactic(auto, using(crate::proofs::FlatLaws::name_at))]
     pub fn name(&self, net: NetId) -> &[u8]
         requires { net.0 < net_count self.now }
         ensures { result.now ≡ get_or self.now.names net.0 [] }
@@ -118,11 +115,29 @@ impl Circuit {
         &self.names[net.index()]
     }
 
-    /// All gates, each once, after those that drive its arguments.
+    /// All gates, each once, after those that drive its arguments. Their levels don't fall.
     pub fn order(&self) -> &[u32]
         ensures order { IsOrder self.now result.now }
+        ensures levels { IsLevelOrder self.now result.now }
         ensures circuit { IsCircuit self.now }
     {
         &self.order
+    }
+
+    /// The level of a gate: 1 more than the highest level of a gate among its arguments, or 1 where there is none.
+    pub fn level(&self, g: u32) -> u32
+        requires { g < length self.now.gates }
+        ensures { result ≡ level_of self.now g }
+    {
+        self.levels[g as usize]
+    }
+
+    /// The loads of a net: the pins of gates and the data pins of flip-flops that it drives, each once, and one more if it is
+    /// an output.
+    pub fn loads(&self, net: NetId) -> u32
+        requires { net.0 < net_count self.now }
+        ensures { result ≡ loads_of self.now net.0 }
+    {
+        self.loads[net.index()]
     }
 }
