@@ -79,12 +79,12 @@ agrees_push list made drivers name inside free some one h =
 same_name : (a b : NameId) → a.0 ≡ b.0 → a ≡ b
 same_name a b e = let f : ℕ → NameId = λ n. record { 0 = n } in ap f e
 
-from_driver : (list : List NameId) (made : ℕ → Driver) (drivers : List Driver) (name : NameId) (i : ℕ) → Agrees list made drivers → get_or drivers name.0 Free ≡ made i → Contains list name
+pub from_driver : (list : List NameId) (made : ℕ → Driver) (drivers : List Driver) (name : NameId) (i : ℕ) → Agrees list made drivers → get_or drivers name.0 Free ≡ made i → Contains list name
 from_driver list made drivers name i h e =
     let w = h.within name.0 i e in
     subst (λ (x : NameId). Contains list x) (same_name (get_or list i no_name) name (h.back name.0 i e)) (Contains-get_or list i no_name w)
 
-to_driver : (list : List NameId) (made : ℕ → Driver) (drivers : List Driver) (name : NameId) → Agrees list made drivers → Contains list name → (i : ℕ) × (get_or drivers name.0 Free ≡ made i)
+pub to_driver : (list : List NameId) (made : ℕ → Driver) (drivers : List Driver) (name : NameId) → Agrees list made drivers → Contains list name → (i : ℕ) × (get_or drivers name.0 Free ≡ made i)
 to_driver list made drivers name h c =
     let is : get_or list c.0 no_name ≡ name = get_or_default list c.0 no_name name c.1 ∙ c.2 in
     (c.0, ap (λ (x : NameId). get_or drivers x.0 Free) (sym is) ∙ h.forth c.0 c.1)

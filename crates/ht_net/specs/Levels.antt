@@ -26,5 +26,8 @@ abbrev pub times : ℕ → List NetId → ℕ
 times x nets = count_by (λ (n : NetId). eqb n.0 x) nets
 
 -- the pins of gates and the data pins that net x drives, and one more if it is an output
+abbrev pub loads_among : List Gate → List NetId → List NetId → ℕ → ℕ
+loads_among gates dffs outputs x = sum_by (λ (g : Gate). times x g.args) gates + (times x dffs + times x outputs)
+
 abbrev pub loads_of : Netlist → ℕ → ℕ
-loads_of c x = sum_by (λ (g : Gate). times x g.args) c.gates + (times x c.dffs + times x c.outputs)
+loads_of c x = loads_among c.gates c.dffs c.outputs x

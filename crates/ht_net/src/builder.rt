@@ -4,16 +4,14 @@ ghost use Rattle.std.specs.List.{Contains};
 ghost use Rattle.ht_tern.specs.Gate.{HasArity};
 ghost use Rattle.ht_net.specs.declared.names.NameId.{NameId};
 ghost use Rattle.ht_net.specs.Names.{IsNewName, IsNameAt};
-ghost use Rattle.ht_net.specs.Netlist.{IsCircuit};
-ghost use Rattle.ht_net.specs.Named.{named_of};
 ghost use Rattle.ht_net.specs.Draft.{IsDraft, IsDriven, IsName, no_name};
 ghost use Rattle.ht_net.specs.Refusals.{RefusesName, RefusesInput, AcceptsInput, RefusesOutput, RefusesDff, AcceptsDff, RefusesGate, AcceptsGate};
-ghost use Rattle.ht_net.specs.Built.{circuit_of, named_draft, AllDriven};
-ghost use Rattle.ht_net.specs.Finish.{RefusesFinish};
+
+mod finish;
 
 use crate::draft::{DffPart, DraftGate};
 use crate::names::Names;
-use crate::{Circuit, Limit, NameId, NetError};
+use crate::{Limit, NameId, NetError};
 use ht_tern::Kind;
 use indexmap::IndexSet;
 use std::alloc::{AllocFailed, Global};
@@ -218,18 +216,5 @@ impl Builder {
         self.drivers[out.0 as usize] = Driver::Gate(place as u32);
         self.pins = pins;
         Ok(())
-    }
-
-    /// The circuit.
-    ///
-    /// `Undriven` with the least name that nothing drives; `Loop` where all are driven and gates form a cycle.
-    pub fn finish(&self) -> Result<Circuit, NetError>
-        ensures circuit { IfOk result (λ c. c ≡ circuit_of self.now) }
-        ensures well_formed { IfOk result (λ c. IsCircuit c) }
-        ensures named { IfOk result (λ c. named_of c ≡ named_draft self.now) }
-        ensures driven { OnOk result (AllDriven self.now) }
-        ensures refusal { IfErr result (RefusesFinish self.now) }
-    {
-        Err(NetError::NoMemory)
     }
 }

@@ -1,11 +1,16 @@
 // A circuit, with the order and the counts that simulation reads.
-ghost use Rattle.std.specs.Prelude.{◌≡◌, ℕ, ◌<◌, ◌≤◌, ◌+◌, [], length, get_or};
+ghost use Rattle.std.specs.Prelude.{◌≡◌, ℕ, ◌<◌, ◌≤◌, ◌+◌, [], length, get_or, IfOk, IfErr};
 ghost use Rattle.ht_net.specs.Netlist.{first_gate_net, net_count, gate_at, no_net, IsCircuit, IsOrder};
 ghost use Rattle.ht_net.specs.Levels.{level_of, loads_of, IsLevelOrder};
+ghost use Rattle.ht_net.specs.CircuitOf.{netlist_by, IsUnranked};
+ghost use Rattle.ht_net.specs.WalkFault.{IsWalkFault};
 
 use crate::NetId;
 use crate::gates::Gates;
+use crate::levels::{WalkError, find_levels, level_order};
+use crate::loads::count_loads;
 use ht_tern::Kind;
+use std::alloc::Global;
 use std::marker::Model;
 
 /// A well-formed circuit (ISCAS-89): inputs, flip-flops, gates, outputs and the names of its nets. Indices count from 0.
@@ -37,6 +42,36 @@ impl Model for Circuit {
 }
 
 impl Circuit {
+    /// The circuit of these parts with its levels, or gates of it that form a cycle.
+    pub(crate) fn new(
+        alloc: Global,
+        inputs: u32,
+        dffs: Vec<NetId>,
+        gates: Gates,
+        outputs: Vec<NetId>,
+        names: Vec<Vec<u8>>,
+    ) -> Result<Circuit, WalkError>
+        requires { IsUnranked (netlist_by inputs dffs.items gates outputs.items names.items) }
+        ensures circuit { IfOk result (λ c. c ≡ netlist_by inputs dffs.items gates outputs.items names.items) }
+        ensures fault { IfErr result (IsWalkFault (inputs + length dffs.items) gates) }
+    {
+        let first = inputs + dffs.len() as u32;
+        let levels = find_levels(alloc, first, &gates)?;
+        let order = level_order(alloc, &levels)?;
+        let nets = first as usize + gates.len();
+        let loads = count_loads(alloc, nets, &gates, &dffs, &outputs)?;
+        Ok(Circuit {
+            inputs,
+            dffs,
+            gates,
+            outputs,
+            names,
+            order,
+            levels,
+            loads,
+        })
+    }
+
     /// How many inputs there are.
     pub fn inputs(&self) -> u32
         ensures { result ≡ self.now.inputs }

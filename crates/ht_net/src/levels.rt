@@ -1,7 +1,6 @@
 // The levels of gates, by a walk down their arguments.
 ghost use Rattle.std.specs.Prelude.{◌≡◌, ◌≢◌, ℕ, ◌<◌, ◌≤◌, ◌+◌, ◌-◌, ◌^◌, suc, length, get_or, EachIndex, IfOk};
 ghost use Rattle.ht_net.specs.Netlist.{no_net};
-
 ghost use Rattle.ht_net.specs.Next.{IsNext};
 ghost use Rattle.std.specs.Prelude.{OnOk, IfErr, true, false, []};
 ghost use Rattle.ht_net.specs.GateLevels.{AreKnown, IsLevelled};
@@ -20,6 +19,17 @@ pub enum WalkError {
     /// gates, each an argument of the next and the last an argument of the first
     Cycle(Vec<u32>),
     NoMemory,
+}
+
+impl From<AllocError> for WalkError {
+    ghost use Rattle.std.specs.Prelude.{◌≡◌};
+    ghost use Rattle.ht_net.specs.declared.levels.WalkError.TheVariants.{NoMemory};
+
+    ghost from_gives = { λ _ e. e ≡ NoMemory };
+
+    fn from(_: AllocError) -> WalkError {
+        WalkError::NoMemory
+    }
 }
 
 /// What a gate waits for.
