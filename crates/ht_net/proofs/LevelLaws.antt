@@ -1,9 +1,11 @@
 -- The levels that a walk finds are the levels of the gates.
-use Rattle.std.proofs.Common.{◌≡◌, ◌<◌, ◌+◌, ◌-◌, ℕ, suc, List, [], ◌∷◌, length, get_or, max, refl, sym, ◌∙◌, ap, arith, inl, inr}
+use Rattle.std.proofs.Common.{◌≡◌, ◌<◌, ◌+◌, ◌-◌, ℕ, suc, List, [], ◌∷◌, length, get_or, max, cond, Bool, true, false, refl, sym, ◌∙◌, ap, arith, inl, inr}
 use Rattle.ht_net.specs.declared.site.NetId.{NetId}
-use Rattle.ht_net.specs.Netlist.{Netlist, first_gate_net, IsCircuit, IsOrder}
-use Rattle.ht_net.specs.Frame.{pin_values, gate_output, driver_value, net_value_over, IsSettled}
-use Rattle.ht_net.specs.Levels.{highest, level_rules, level_of, IsLevelOrder}
+use Rattle.std.specs.Prelude.{ltb}
+use Rattle.std.proofs.lemmas.Bool.Decides.{nat_tests}
+use Rattle.ht_net.specs.Netlist.{Netlist, first_gate_net, gate_at, IsCircuit, IsOrder}
+use Rattle.ht_net.specs.Frame.{pin_values, gate_output, driver_value, net_value_over, net_value, IsSettled}
+use Rattle.ht_net.specs.Levels.{highest, level_rules, level_of, level_below, highest_below, IsLevelOrder}
 use Rattle.ht_net.specs.GateLevels.{args_of, net_level, highest_level, IsLevelled}
 use Rattle.ht_net.specs.CircuitOf.{IsUnranked}
 use Rattle.ht_net.specs.Sorted.{IsRising}
@@ -11,7 +13,7 @@ use Rattle.ht_net.proofs.RankLaws.{levels_rank}
 use Rattle.ht_net.proofs.WalkLaws.{level_gate, level_low}
 use Rattle.ht_net.proofs.FrameLaws.{driven_input, driven_latch, driven_gate, le_or_lt, settled_is_frame}
 use Rattle.ht_net.proofs.Depth.{depth_by}
-use Rattle.ht_net.proofs.OrderLaws.{order_ranks}
+use Rattle.ht_net.proofs.OrderLaws.{order_ranks, frame_input, frame_latch, frame_gate}
 
 -- the level of a net, by its number
 abbrev pub net_level_by : ℕ → List ℕ → ℕ → ℕ
@@ -61,3 +63,36 @@ level_order_by c levels order ordered exact rising = record {
 
 pub circuit_by : (c : Netlist) (levels : List ℕ) → IsUnranked c → IsLevelled (first_gate_net c) c.gates levels → IsCircuit c
 circuit_by c levels u h = u.circuit (λ g. get_or levels g 0) (record { falls = (levels_rank (first_gate_net c) c.gates levels h).falls })
+
+-- A gate's level is 1 more than the highest level of a gate among its arguments.
+net_is : (c : Netlist) (order : List ℕ) (circuit : IsCircuit c) (ordered : IsOrder c order) (a : NetId) → net_value c level_rules [] [] a.0 ≡ level_below c a
+net_is c order circuit ordered a = elim (le_or_lt (first_gate_net c) a.0) [
+  | inl at ↦
+      let test : ltb a.0 (first_gate_net c) ≡ false = grind (arith, nat_tests) in
+      let same : first_gate_net c + (a.0 - first_gate_net c) ≡ a.0 = omega arith in
+      ap (λ (x : ℕ). net_value c level_rules [] [] x) (sym same) ∙ sym (ap (λ (b : Bool). cond b 0 (level_of c (a.0 - first_gate_net c))) test)
+  | inr low ↦
+      let test : ltb a.0 (first_gate_net c) ≡ true = grind (arith, nat_tests) in
+      let none : net_value c level_rules [] [] a.0 ≡ 0 = elim (le_or_lt c.inputs a.0) [
+        | inl latch ↦ sym (frame_latch c order circuit ordered level_rules [] [] a.0 latch low)
+        | inr input ↦ sym (frame_input c order circuit ordered level_rules [] [] a.0 input)
+      ] in
+      none ∙ sym (ap (λ (b : Bool). cond b 0 (level_of c (a.0 - first_gate_net c))) test)
+]
+
+highest_of : (c : Netlist) (order : List ℕ) (circuit : IsCircuit c) (ordered : IsOrder c order) (g i : ℕ) (args : List NetId)
+    → highest (pin_values level_rules g (net_value c level_rules [] []) i args) ≡ highest_below c args
+highest_of c order circuit ordered g i [] = refl
+highest_of c order circuit ordered g i (a ∷ args) =
+    let here = net_is c order circuit ordered a in
+    let rest = highest_of c order circuit ordered g (i + 1) args in
+    ap (λ (n : ℕ). max n (highest (pin_values level_rules g (net_value c level_rules [] []) (i + 1) args))) here ∙ ap (λ (n : ℕ). max (level_below c a) n) rest
+
+output_is : (c : Netlist) (env : ℕ → ℕ) (g : ℕ) → gate_output c level_rules env g ≡ suc (highest (pin_values level_rules g env 0 (gate_at c g).args))
+unfolding gate_output
+output_is c env g = refl
+
+pub level_above : (c : Netlist) (order : List ℕ) → IsCircuit c → IsOrder c order → (g : ℕ) → g < length c.gates → level_of c g ≡ suc (highest_below c (gate_at c g).args)
+level_above c order circuit ordered g inside =
+    sym (frame_gate c order circuit ordered level_rules [] [] (net_value c level_rules [] []) g inside (λ j l. refl))
+    ∙ (output_is c (net_value c level_rules [] []) g ∙ ap suc (highest_of c order circuit ordered g 0 (gate_at c g).args))

@@ -1,5 +1,5 @@
 -- The levels of gates and the loads of nets.
-use Rattle.std.specs.Prelude.{◌≤◌, ◌<◌, ℕ, suc, List, [], ◌∷◌, ◌+◌, max, length, get_or, eqb}
+use Rattle.std.specs.Prelude.{◌≤◌, ◌<◌, ℕ, suc, List, [], ◌∷◌, ◌+◌, ◌-◌, max, cond, ltb, length, get_or, eqb}
 use Rattle.std.specs.List.{sum_by, count_by}
 use Rattle.ht_net.specs.declared.site.NetId.{NetId}
 use Rattle.ht_net.specs.Netlist.{Netlist, Gate, first_gate_net}
@@ -16,6 +16,14 @@ level_rules = record { blank = 0; gate = λ kind ns. suc (highest ns); stem = λ
 -- the level of gate g
 abbrev pub level_of : Netlist → ℕ → ℕ
 level_of c g = net_value c level_rules [] [] (first_gate_net c + g)
+
+-- the highest level of a gate among these nets, or 0
+abbrev pub level_below : Netlist → NetId → ℕ
+level_below c a = cond (ltb a.0 (first_gate_net c)) 0 (level_of c (a.0 - first_gate_net c))
+
+abbrev pub highest_below : Netlist → List NetId → ℕ
+highest_below c [] = 0
+highest_below c (a ∷ args) = max (level_below c a) (highest_below c args)
 
 -- an order in which levels don't fall
 pub record IsLevelOrder (c : Netlist) (order : List ℕ) : Type 0 where

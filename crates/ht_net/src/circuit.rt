@@ -1,7 +1,7 @@
 // A circuit, with the order and the counts that simulation reads.
-ghost use Rattle.std.specs.Prelude.{◌≡◌, ℕ, ◌<◌, ◌≤◌, ◌+◌, [], length, get_or, IfOk, IfErr};
+ghost use Rattle.std.specs.Prelude.{◌≡◌, ℕ, suc, ◌<◌, ◌≤◌, ◌+◌, [], length, get_or, IfOk, IfErr};
 ghost use Rattle.ht_net.specs.Netlist.{first_gate_net, net_count, gate_at, no_net, IsCircuit, IsOrder};
-ghost use Rattle.ht_net.specs.Levels.{level_of, loads_of, IsLevelOrder};
+ghost use Rattle.ht_net.specs.Levels.{level_of, highest_below, loads_of, IsLevelOrder};
 ghost use Rattle.ht_net.specs.CircuitOf.{netlist_by, IsUnranked};
 ghost use Rattle.ht_net.specs.WalkFault.{IsWalkFault};
 
@@ -162,7 +162,8 @@ impl Circuit {
     /// The level of a gate: 1 more than the highest level of a gate among its arguments, or 1 where there is none.
     pub fn level(&self, g: u32) -> u32
         requires { g < length self.now.gates }
-        ensures { result ≡ level_of self.now g }
+        ensures level { result ≡ level_of self.now g }
+        ensures above { result ≡ suc (highest_below self.now (gate_at self.now g).args) }
     {
         self.levels[g as usize]
     }
