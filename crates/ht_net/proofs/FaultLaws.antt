@@ -1,14 +1,14 @@
 -- What every machine keeps, with or without a stuck line: refinement, and bits that stand for three-valued runs.
-use Rattle.std.proofs.Common.{◌≡◌, ℕ, List, [], ◌∷◌, Bool, true, false, cond, Option, Some, None, inl, inr, refl, ◌⊎◌, map, length}
+use Rattle.std.proofs.Common.{ℕ, List, Bool, false, Option, Some, None, inl, inr, refl}
 use Rattle.ht_tern.specs.declared.tern.Tern.{Tern}
-use Rattle.ht_tern.specs.declared.tern.Tern.TheVariants.{Zero, One, Unk}
+use Rattle.ht_tern.specs.declared.tern.Tern.TheVariants.{Unk}
 use Rattle.ht_tern.specs.declared.gate.Kind.{Kind}
 use Rattle.ht_tern.specs.Gate.{AllRelated, Refines, StandsFor, gate_value, bool_gate_value, tern_of}
 use Rattle.ht_tern.proofs.GateLaws.{gate_refines, gate_bits}
 use Rattle.ht_net.specs.declared.site.Fault.{Fault}
 use Rattle.ht_net.specs.declared.site.Site.{Site}
 use Rattle.ht_net.specs.Netlist.{Netlist}
-use Rattle.ht_net.specs.Frame.{Rules, Preserves, net_value, run_outputs, frame_outputs, next_state}
+use Rattle.ht_net.specs.Frame.{Preserves, net_value, run_outputs}
 use Rattle.ht_net.specs.Faults.{rules_of, forced, tern_rules, bool_rules, is_stem, is_pin, is_data_pin}
 use Rattle.ht_net.proofs.RelationLaws.{cond_related, frame_related, run_related}
 

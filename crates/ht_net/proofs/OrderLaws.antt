@@ -1,9 +1,7 @@
 -- An order of the gates is a rank of the net_count.
-use Rattle.std.proofs.Common.{◌≡◌, ◌<◌, ◌≤◌, ◌+◌, ◌-◌, ◌⊎◌, ℕ, suc, zero, List, [], ◌∷◌, length, get_or, cond, refl, sym, ◌∙◌, ap, arith, inl, inr, subst}
-use Rattle.std.specs.Prelude.{ltb, eqb}
+use Rattle.std.proofs.Common.{◌≡◌, ◌<◌, ◌≤◌, ◌+◌, ◌-◌, ℕ, suc, zero, List, [], ◌∷◌, length, get_or, sym, ◌∙◌, ap, arith, inl, inr, subst}
 use Rattle.std.proofs.lemmas.Bool.Decides.{nat_tests, eqb_tells}
-use Rattle.ht_net.specs.declared.site.NetId.{NetId}
-use Rattle.ht_net.specs.Netlist.{Netlist, first_gate_net, net_count, gate_at, no_net, IsCircuit, IsOrder, IsReady}
+use Rattle.ht_net.specs.Netlist.{Netlist, first_gate_net, gate_at, no_net, IsCircuit, IsOrder, IsReady}
 use Rattle.ht_net.proofs.FrameLaws.{le_or_lt, frame_settled, driven_input, driven_latch, driven_gate, gate_same}
 use Rattle.ht_net.specs.Frame.{Rules, net_value, net_value_over, gate_output}
 use Rattle.ht_net.proofs.Depth.{IsDepth, place_of, depth_by}

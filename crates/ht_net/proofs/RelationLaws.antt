@@ -1,10 +1,10 @@
 -- A relation that the gates and lines of two machines keep holds of every net in a net_value, and over whole runs. It needs no rank.
-use Rattle.std.proofs.Common.{◌≡◌, ◌<◌, ◌≤◌, ◌+◌, ◌-◌, ℕ, suc, zero, List, [], ◌∷◌, length, get_or, cond, true, false, Bool, refl}
+use Rattle.std.proofs.Common.{◌+◌, ◌-◌, ℕ, suc, zero, List, [], ◌∷◌, length, get_or, cond, true, false, Bool}
 use Rattle.std.specs.Prelude.{ltb}
 use Rattle.ht_tern.specs.Gate.{AllRelated}
 use Rattle.ht_net.specs.declared.site.NetId.{NetId}
-use Rattle.ht_net.specs.Netlist.{Netlist, Gate, first_gate_net, net_count, gate_at, no_net}
-use Rattle.ht_net.specs.Frame.{Rules, pin_values, gate_output, driver_value, net_value_over, net_value_within, net_value, Preserves, values_at, data_values, frame_outputs, next_state, run_state, run_outputs}
+use Rattle.ht_net.specs.Netlist.{Netlist, first_gate_net, gate_at}
+use Rattle.ht_net.specs.Frame.{Rules, pin_values, gate_output, driver_value, net_value_over, net_value_within, net_value, Preserves, values_at, data_values, frame_outputs, next_state, run_outputs}
 
 pub cond_related : {V W : Type 0} → (R : V → W → Type 0) (b : Bool) (x u : V) (y v : W) → R x y → R u v → R (cond b x u) (cond b y v)
 cond_related R true x u y v h k = h

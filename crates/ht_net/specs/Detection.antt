@@ -1,5 +1,5 @@
 -- Where a list of vectors detects a fault: one observation time, all flip-flops unknown at the start.
-use Rattle.std.specs.Prelude.{◌≡◌, ◌<◌, ◌⊎◌, ℕ, List, [], Bool, true, false, Option, Some, None, map, replicate, length, get_or, MatchOption}
+use Rattle.std.specs.Prelude.{◌≡◌, ◌<◌, ◌⊎◌, ℕ, List, [], Bool, Option, Some, None, map, replicate, length, get_or, MatchOption}
 use Rattle.ht_tern.specs.declared.tern.Tern.{Tern}
 use Rattle.ht_tern.specs.declared.tern.Tern.TheVariants.{Zero, One, Unk}
 use Rattle.ht_tern.specs.Gate.{tern_of}

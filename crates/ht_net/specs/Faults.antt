@@ -1,5 +1,5 @@
 -- The good machine and a machine with one stuck line, over any domain of values.
-use Rattle.std.specs.Prelude.{◌≡◌, ℕ, List, [], ◌∷◌, Bool, true, false, ◌&&◌, cond, eqb, Option, Some, None}
+use Rattle.std.specs.Prelude.{ℕ, List, [], ◌∷◌, Bool, true, false, ◌&&◌, cond, eqb, Option, Some, None}
 use Rattle.std.specs.List.{flat_map, range_with_len}
 use Rattle.std.specs.Prelude.{map}
 use Rattle.ht_tern.specs.declared.tern.Tern.{Tern}

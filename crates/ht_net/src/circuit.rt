@@ -1,9 +1,16 @@
-// A circuit, kept in flat arrays.
-ghost use Rattle.std.specs.Prelude.{◌≡◌, ℕ, ◌<◌, ◌≤◌, ◌+◌, [], length, get_or};
+// A circuit, with the order and the counts that simulation reads.
+ghost use Rattle.std.specs.Prelude.{◌≡◌, ℕ, suc, ◌<◌, ◌≤◌, ◌+◌, [], length, get_or, IfOk, IfErr};
 ghost use Rattle.ht_net.specs.Netlist.{first_gate_net, net_count, gate_at, no_net, IsCircuit, IsOrder};
+ghost use Rattle.ht_net.specs.Levels.{level_of, highest_below, loads_of, IsLevelOrder};
+ghost use Rattle.ht_net.specs.CircuitOf.{netlist_by, IsUnranked};
+ghost use Rattle.ht_net.specs.WalkFault.{IsWalkFault};
 
 use crate::NetId;
+use crate::gates::Gates;
+use crate::levels::{WalkError, find_levels, level_order};
+use crate::loads::count_loads;
 use ht_tern::Kind;
+use std::alloc::Global;
 use std::marker::Model;
 
 /// A well-formed circuit (ISCAS-89): inputs, flip-flops, gates, outputs and the names of its nets. Indices count from 0.
@@ -12,13 +19,14 @@ pub struct Circuit {
     inputs: u32,
     // the net at each flip-flop's data pin
     dffs: Vec<NetId>,
-    kinds: Vec<Kind>,
-    // where each gate's arguments start, and where the last one's end
-    starts: Vec<u32>,
-    args: Vec<NetId>,
+    gates: Gates,
     outputs: Vec<NetId>,
     names: Vec<Vec<u8>>,
+    // all gates by level
     order: Vec<u32>,
+    levels: Vec<u32>,
+    // one for each net
+    loads: Vec<u32>,
 }
 
 impl Model for Circuit {
@@ -26,14 +34,44 @@ impl Model for Circuit {
 
     ghost Value = { Netlist };
 
-    ghost use Rattle.ht_net.specs.Flat.{netlist_of, IsFlat};
+    ghost use Rattle.ht_net.specs.CircuitOf.{netlist_of, IsBuilt};
 
     ghost view = { netlist_of };
 
-    ghost invariant = { IsFlat };
+    ghost invariant = { IsBuilt };
 }
 
 impl Circuit {
+    /// The circuit of these parts with its levels, or gates of it that form a cycle.
+    pub(crate) fn new(
+        alloc: Global,
+        inputs: u32,
+        dffs: Vec<NetId>,
+        gates: Gates,
+        outputs: Vec<NetId>,
+        names: Vec<Vec<u8>>,
+    ) -> Result<Circuit, WalkError>
+        requires { IsUnranked (netlist_by inputs dffs.items gates outputs.items names.items) }
+        ensures circuit { IfOk result (λ c. c ≡ netlist_by inputs dffs.items gates outputs.items names.items) }
+        ensures fault { IfErr result (IsWalkFault (inputs + length dffs.items) gates) }
+    {
+        let first = inputs + dffs.len() as u32;
+        let levels = find_levels(alloc, first, &gates)?;
+        let order = level_order(alloc, &levels)?;
+        let nets = first as usize + gates.len();
+        let loads = count_loads(alloc, nets, &gates, &dffs, &outputs)?;
+        Ok(Circuit {
+            inputs,
+            dffs,
+            gates,
+            outputs,
+            names,
+            order,
+            levels,
+            loads,
+        })
+    }
+
     /// How many inputs there are.
     pub fn inputs(&self) -> u32
         ensures { result ≡ self.now.inputs }
@@ -49,11 +87,10 @@ impl Circuit {
     }
 
     /// How many gates there are.
-    #[tactic(auto, using(crate::proofs::FlatLaws::gates_count))]
     pub fn gates(&self) -> u32
         ensures { result ≡ length self.now.gates }
     {
-        self.kinds.len() as u32
+        self.gates.len() as u32
     }
 
     /// How many outputs there are.
@@ -64,12 +101,11 @@ impl Circuit {
     }
 
     /// How many nets there are.
-    #[tactic(auto, using(crate::proofs::FlatLaws::gates_count))]
     pub fn nets(&self) -> u32
         ensures count { result ≡ net_count self.now }
         ensures circuit { IsCircuit self.now }
     {
-        self.inputs + self.dffs.len() as u32 + self.kinds.len() as u32
+        self.inputs + self.dffs.len() as u32 + self.gates.len() as u32
     }
 
     /// The net of an output.
@@ -89,28 +125,24 @@ impl Circuit {
     }
 
     /// The kind of a gate.
-    #[tactic(auto, using(crate::proofs::FlatLaws::gates_count, crate::proofs::FlatLaws::gate_kind_at))]
     pub fn gate_kind(&self, g: u32) -> Kind
         requires { g < length self.now.gates }
         ensures { result ≡ (gate_at self.now g).kind }
     {
-        self.kinds[g as usize]
+        self.gates.kind(g as usize)
     }
 
     /// The nets at the pins of a gate, in the order of the pins: 1 to 255.
-    #[tactic(auto, using(crate::proofs::FlatLaws::gates_count, crate::proofs::FlatLaws::gate_args_at))]
     pub fn gate_args(&self, g: u32) -> &[NetId]
         requires { g < length self.now.gates }
         ensures args { result.now ≡ (gate_at self.now g).args }
         ensures circuit { IsCircuit self.now }
     {
-        let start = self.starts[g as usize] as usize;
-        let end = self.starts[g as usize + 1] as usize;
-        &self.args[start..end]
+        self.gates.args(g as usize)
     }
 
     /// The name of a net: the bytes as the netlist has them.
-    #[tactic(auto, using(crate::proofs::FlatLaws::gates_count, crate::proofs::FlatLaws::name_at))]
+    #[tactic(auto, using(crate::proofs::FlatLaws::name_at))]
     pub fn name(&self, net: NetId) -> &[u8]
         requires { net.0 < net_count self.now }
         ensures { result.now ≡ get_or self.now.names net.0 [] }
@@ -118,11 +150,30 @@ impl Circuit {
         &self.names[net.index()]
     }
 
-    /// All gates, each once, after those that drive its arguments.
+    /// All gates, each once, after those that drive its arguments. Their levels don't fall.
     pub fn order(&self) -> &[u32]
         ensures order { IsOrder self.now result.now }
+        ensures levels { IsLevelOrder self.now result.now }
         ensures circuit { IsCircuit self.now }
     {
         &self.order
+    }
+
+    /// The level of a gate: 1 more than the highest level of a gate among its arguments, or 1 where there is none.
+    pub fn level(&self, g: u32) -> u32
+        requires { g < length self.now.gates }
+        ensures level { result ≡ level_of self.now g }
+        ensures above { result ≡ suc (highest_below self.now (gate_at self.now g).args) }
+    {
+        self.levels[g as usize]
+    }
+
+    /// The loads of a net: the pins of gates and the data pins of flip-flops that it drives, each once, and one more if it is
+    /// an output.
+    pub fn loads(&self, net: NetId) -> u32
+        requires { net.0 < net_count self.now }
+        ensures { result ≡ loads_of self.now net.0 }
+    {
+        self.loads[net.index()]
     }
 }

@@ -1,0 +1,41 @@
+-- The levels of gates and the loads of nets.
+use Rattle.std.specs.Prelude.{◌≤◌, ◌<◌, ℕ, suc, List, [], ◌∷◌, ◌+◌, ◌-◌, max, cond, ltb, length, get_or, eqb}
+use Rattle.std.specs.List.{sum_by, count_by}
+use Rattle.ht_net.specs.declared.site.NetId.{NetId}
+use Rattle.ht_net.specs.Netlist.{Netlist, Gate, first_gate_net}
+use Rattle.ht_net.specs.Frame.{Rules, net_value}
+
+abbrev pub highest : List ℕ → ℕ
+highest [] = 0
+highest (n ∷ ns) = max n (highest ns)
+
+-- Numbers as values: an input or a latch is 0, and a gate is 1 more than the highest of its arguments.
+abbrev pub level_rules : Rules ℕ
+level_rules = record { blank = 0; gate = λ kind ns. suc (highest ns); stem = λ x n. n; pin = λ g i n. n; data_pin = λ j n. n }
+
+-- the level of gate g
+abbrev pub level_of : Netlist → ℕ → ℕ
+level_of c g = net_value c level_rules [] [] (first_gate_net c + g)
+
+-- the highest level of a gate among these nets, or 0
+abbrev pub level_below : Netlist → NetId → ℕ
+level_below c a = cond (ltb a.0 (first_gate_net c)) 0 (level_of c (a.0 - first_gate_net c))
+
+abbrev pub highest_below : Netlist → List NetId → ℕ
+highest_below c [] = 0
+highest_below c (a ∷ args) = max (level_below c a) (highest_below c args)
+
+-- an order in which levels don't fall
+pub record IsLevelOrder (c : Netlist) (order : List ℕ) : Type 0 where
+  pub rises : (j k : ℕ) → j ≤ k → k < length order → level_of c (get_or order j 0) ≤ level_of c (get_or order k 0)
+
+-- how often a list has net x
+abbrev pub times : ℕ → List NetId → ℕ
+times x nets = count_by (λ (n : NetId). eqb n.0 x) nets
+
+-- the pins of gates and the data pins that net x drives, and one more if it is an output
+abbrev pub loads_among : List Gate → List NetId → List NetId → ℕ → ℕ
+loads_among gates dffs outputs x = sum_by (λ (g : Gate). times x g.args) gates + (times x dffs + times x outputs)
+
+abbrev pub loads_of : Netlist → ℕ → ℕ
+loads_of c x = loads_among c.gates c.dffs c.outputs x

@@ -1,0 +1,23 @@
+-- What a gate waits for.
+use Rattle.std.specs.Prelude.{◌≡◌, ℕ, List, ◌+◌, ◌<◌, suc, length, get_or}
+use Rattle.ht_net.specs.declared.site.NetId.{NetId}
+use Rattle.ht_net.specs.declared.levels.Next.{Next}
+use Rattle.ht_net.specs.declared.levels.Next.TheVariants.{Level, Gate}
+use Rattle.ht_net.specs.Netlist.{no_net}
+use Rattle.ht_net.specs.GateLevels.{highest_level}
+use Rattle.ht_net.specs.Walk.{AreReady}
+
+-- a gate among the arguments that has no level
+pub record IsWaiting (first : ℕ) (levels : List ℕ) (args : List NetId) (gate : ℕ) : Type 0 where
+  pub pin : ℕ
+  pub is_pin : pin < length args
+  pub reads : (get_or args pin no_net).0 ≡ first + gate
+  pub unlevelled : get_or levels gate 0 ≡ 0
+
+pub record HasLevel (first : ℕ) (levels : List ℕ) (args : List NetId) (level : ℕ) : Type 0 where
+  pub ready : AreReady first levels args
+  pub exact : level ≡ suc (highest_level first levels args)
+
+abbrev pub IsNext : ℕ → List ℕ → List NetId → Next → Type 0
+IsNext first levels args (Level level) = HasLevel first levels args level
+IsNext first levels args (Gate gate) = IsWaiting first levels args gate

@@ -1,0 +1,220 @@
+// A netlist in the making.
+ghost use Rattle.std.specs.Prelude.{◌≡◌, ◌≢◌, ℕ, ◌<◌, ◌≤◌, ◌+◌, ◌++◌, ◌∷◌, [], length, get_or, IfOk, IfErr, OnOk, OnErr, IsTrue, ◌↔◌};
+ghost use Rattle.std.specs.List.{Contains};
+ghost use Rattle.ht_tern.specs.Gate.{HasArity};
+ghost use Rattle.ht_net.specs.declared.names.NameId.{NameId};
+ghost use Rattle.ht_net.specs.Names.{IsNewName, IsNameAt};
+ghost use Rattle.ht_net.specs.Draft.{IsDraft, IsDriven, IsName, no_name};
+ghost use Rattle.ht_net.specs.Refusals.{RefusesName, RefusesInput, AcceptsInput, RefusesOutput, RefusesDff, AcceptsDff, RefusesGate, AcceptsGate};
+
+mod finish;
+
+use crate::draft::{DffPart, DraftGate};
+use crate::names::Names;
+use crate::{Limit, NameId, NetError};
+use ht_tern::Kind;
+use indexmap::IndexSet;
+use std::alloc::{AllocFailed, Global};
+use std::marker::Model;
+
+const MAX_NETS: usize = 65_535;
+
+const MAX_INPUTS: usize = 4_096;
+
+const MAX_DFFS: usize = 16_384;
+
+const MAX_PINS: usize = 262_144;
+
+/// What drives a name: nothing yet, or the input, flip-flop or gate of that number.
+#[derive(Clone, Copy)]
+pub enum Driver {
+    Free,
+    Input(u32),
+    Dff(u32),
+    Gate(u32),
+}
+
+/// Takes names, and inputs, flip-flops, gates and outputs by name, and makes a circuit of them. A call that is refused
+/// changes nothing.
+#[derive(Drop)]
+pub struct Builder {
+    alloc: Global,
+    names: Names,
+    // one for each name
+    drivers: Vec<Driver>,
+    inputs: Vec<NameId>,
+    dffs: Vec<DffPart>,
+    gates: Vec<DraftGate>,
+    outputs: IndexSet<NameId>,
+    // how many pins the gates and flip-flops have
+    pins: usize,
+}
+
+impl Model for Builder {
+    ghost use Rattle.ht_net.specs.Draft.{Draft};
+
+    ghost Value = { Draft };
+
+    ghost use Rattle.ht_net.specs.DraftOf.{draft_of, IsKept};
+
+    ghost view = { draft_of };
+
+    ghost invariant = { IsKept };
+}
+
+impl Builder {
+    /// A builder with no names.
+    pub fn new(alloc: Global) -> Builder
+        ensures { result ≡ record { names = []; inputs = []; dffs = []; gates = []; outputs = [] } }
+    {
+        Builder {
+            alloc,
+            names: Names::new(alloc),
+            drivers: Vec::new(alloc),
+            inputs: Vec::new(alloc),
+            dffs: Vec::new(alloc),
+            gates: Vec::new(alloc),
+            outputs: IndexSet::new(alloc),
+            pins: 0,
+        }
+    }
+
+    /// The number of a name; a new name gets the next number.
+    ///
+    /// `TooMany` of `Nets` where the name is new and there are 65,535.
+    pub fn net(&mut self, name: &[u8]) -> Result<NameId, NetError>
+        ensures named { IfOk result (λ id. IsNameAt self.new.names id.0 name.now) }
+        ensures known { OnOk result (¬ IsNewName self.old.names name.now → self.new ≡ self.old) }
+        ensures new { OnOk result (IsNewName self.old.names name.now → self.new ≡ record self.old { names = self.old.names ++ name.now ∷ [] }) }
+        ensures fits { OnOk result (IsNewName self.old.names name.now → length self.old.names < 65535) }
+        ensures err { OnErr result (self.new ≡ self.old) }
+        ensures refusal { IfErr result (RefusesName self.old name.now) }
+        ensures draft { IsDraft self.new }
+    {
+        if let Some(place) = self.names.find(name) {
+            return Ok(NameId(place as u32));
+        }
+        let place = self.names.len();
+        if place == MAX_NETS {
+            return Err(NetError::TooMany { what: Limit::Nets });
+        }
+        if self.drivers.push(Driver::Free).is_err() {
+            return Err(NetError::NoMemory);
+        }
+        if self.names.push(name).is_err() {
+            self.drivers.pop();
+            return Err(NetError::NoMemory);
+        }
+        Ok(NameId(place as u32))
+    }
+
+    /// Whether an input, a flip-flop or a gate drives a name.
+    pub fn driven(&self, name: NameId) -> bool
+        requires { IsName self.now name }
+        ensures { IsTrue result ↔ IsDriven self.now name }
+    {
+        !matches!(self.drivers[name.0 as usize], Driver::Free)
+    }
+
+    /// Adds an input.
+    ///
+    /// `Twice` where the name is driven; else `TooMany` of `Inputs` where there are 4,096.
+    pub fn input(&mut self, name: NameId) -> Result<(), NetError>
+        requires { IsName self.old name }
+        ensures ok { OnOk result (self.new ≡ record self.old { inputs = self.old.inputs ++ name ∷ [] }) }
+        ensures accepts { OnOk result (AcceptsInput self.old name) }
+        ensures err { OnErr result (self.new ≡ self.old) }
+        ensures refusal { IfErr result (RefusesInput self.old name) }
+    {
+        if self.driven(name) {
+            return Err(NetError::Twice { name });
+        }
+        let place = self.inputs.len();
+        if place == MAX_INPUTS {
+            return Err(NetError::TooMany {
+                what: Limit::Inputs,
+            });
+        }
+        if self.inputs.push(name).is_err() {
+            return Err(NetError::NoMemory);
+        }
+        self.drivers[name.0 as usize] = Driver::Input(place as u32);
+        Ok(())
+    }
+
+    /// Adds an output, or nothing if the name is one.
+    pub fn output(&mut self, name: NameId) -> Result<(), NetError>
+        requires { IsName self.old name }
+        ensures known { OnOk result (Contains self.old.outputs name → self.new ≡ self.old) }
+        ensures new { OnOk result (¬ Contains self.old.outputs name → self.new ≡ record self.old { outputs = self.old.outputs ++ name ∷ [] }) }
+        ensures err { OnErr result (self.new ≡ self.old) }
+        ensures refusal { IfErr result RefusesOutput }
+    {
+        match self.outputs.insert(name) {
+            Ok(_) => Ok(()),
+            Err(_) => Err(NetError::NoMemory),
+        }
+    }
+
+    /// Adds a flip-flop.
+    ///
+    /// `Twice` where its output is driven; else `TooMany` of `Pins` where there are 262,144 pins, and of `Dffs` where there
+    /// are 16,384 flip-flops.
+    pub fn dff(&mut self, out: NameId, pin: NameId) -> Result<(), NetError>
+        requires out { IsName self.old out }
+        requires pin { IsName self.old pin }
+        ensures ok { OnOk result (self.new ≡ record self.old { dffs = self.old.dffs ++ record { out = out; data_pin = pin } ∷ [] }) }
+        ensures accepts { OnOk result (AcceptsDff self.old out) }
+        ensures err { OnErr result (self.new ≡ self.old) }
+        ensures refusal { IfErr result (RefusesDff self.old out) }
+    {
+        if self.driven(out) {
+            return Err(NetError::Twice { name: out });
+        }
+        if self.pins == MAX_PINS {
+            return Err(NetError::TooMany { what: Limit::Pins });
+        }
+        let place = self.dffs.len();
+        if place == MAX_DFFS {
+            return Err(NetError::TooMany { what: Limit::Dffs });
+        }
+        if self.dffs.push(DffPart { out, data_pin: pin }).is_err() {
+            return Err(NetError::NoMemory);
+        }
+        self.drivers[out.0 as usize] = Driver::Dff(place as u32);
+        self.pins += 1;
+        Ok(())
+    }
+
+    /// Adds a gate with 1 to 255 arguments, one for NOT and BUFF.
+    ///
+    /// `Twice` where its output is driven; else `TooMany` of `Pins` where there would be more than 262,144 pins.
+    pub fn gate(&mut self, kind: Kind, out: NameId, args: &[NameId]) -> Result<(), NetError>
+        requires out { IsName self.old out }
+        requires args { (i : ℕ) → i < length args.now → IsName self.old (get_or args.now i no_name) }
+        requires arity { HasArity kind (length args.now) }
+        requires few { length args.now ≤ 255 }
+        ensures ok { OnOk result (self.new ≡ record self.old { gates = self.old.gates ++ record { kind = kind; out = out; args = args.now } ∷ [] }) }
+        ensures accepts { OnOk result (AcceptsGate self.old out (length args.now)) }
+        ensures err { OnErr result (self.new ≡ self.old) }
+        ensures refusal { IfErr result (RefusesGate self.old out (length args.now)) }
+    {
+        if self.driven(out) {
+            return Err(NetError::Twice { name: out });
+        }
+        let pins = self.pins + args.len();
+        if pins > MAX_PINS {
+            return Err(NetError::TooMany { what: Limit::Pins });
+        }
+        let Ok(args) = Vec::from_slice(self.alloc, args) else {
+            return Err(NetError::NoMemory);
+        };
+        let place = self.gates.len();
+        if self.gates.push(DraftGate { kind, out, args }).is_err() {
+            return Err(NetError::NoMemory);
+        }
+        self.drivers[out.0 as usize] = Driver::Gate(place as u32);
+        self.pins = pins;
+        Ok(())
+    }
+}

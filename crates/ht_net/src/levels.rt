@@ -1,0 +1,158 @@
+// The levels of gates, by a walk down their arguments.
+ghost use Rattle.std.specs.Prelude.{◌≡◌, ◌≢◌, ℕ, ◌<◌, ◌≤◌, ◌+◌, ◌-◌, ◌^◌, suc, length, get_or, EachIndex, IfOk};
+ghost use Rattle.ht_net.specs.Netlist.{no_net};
+ghost use Rattle.ht_net.specs.Next.{IsNext};
+ghost use Rattle.std.specs.Prelude.{OnOk, IfErr, true, false, []};
+ghost use Rattle.ht_net.specs.GateLevels.{AreKnown, IsLevelled};
+ghost use Rattle.ht_net.specs.Walk.{IsPartly, IsPath, StaySeen};
+ghost use Rattle.ht_net.specs.WalkFault.{IsWalkFault};
+ghost use Rattle.ht_net.specs.Tail.{IsOnPath, IsTail};
+ghost use Rattle.ht_net.specs.Sorted.{IsEach, IsRising};
+
+use crate::NetId;
+use crate::gates::Gates;
+use std::alloc::{AllocError, AllocFailed, Global};
+
+/// Why there are no levels.
+#[derive(Drop)]
+pub enum WalkError {
+    /// gates, each an argument of the next and the last an argument of the first
+    Cycle(Vec<u32>),
+    NoMemory,
+}
+
+impl From<AllocError> for WalkError {
+    ghost use Rattle.std.specs.Prelude.{◌≡◌};
+    ghost use Rattle.ht_net.specs.declared.levels.WalkError.TheVariants.{NoMemory};
+
+    ghost from_gives = { λ _ e. e ≡ NoMemory };
+
+    fn from(_: AllocError) -> WalkError {
+        WalkError::NoMemory
+    }
+}
+
+/// What a gate waits for.
+#[derive(Clone, Copy)]
+enum Next {
+    /// for nothing: its level
+    Level(u32),
+    /// for this gate's level
+    Gate(u32),
+}
+
+/// The first gate among a gate's arguments that has no level, or the level that these give.
+fn find_next(first: u32, levels: &[u32], args: &[NetId]) -> Next
+    requires known { (i : ℕ) → i < length args.now → (get_or args.now i no_net).0 < first + length levels.now }
+    requires small { (g : ℕ) → g < length levels.now → get_or levels.now g 0 < 2 ^ 32 - 1 }
+    ensures { IsNext first levels.now args.now result }
+{
+    let mut level = 1;
+    for arg in args {
+        if arg.0 >= first {
+            let gate = arg.0 - first;
+            let below = levels[gate as usize];
+            if below == 0 {
+                return Next::Gate(gate);
+            }
+            level = level.max(below + 1);
+        }
+    }
+    Next::Level(level)
+}
+
+/// The end of a path from one of its gates on, last gate first.
+fn tail_from(alloc: Global, path: &[u32], gate: u32) -> Result<Vec<u32>, AllocError>
+    requires { IsOnPath gate path.now }
+    ensures { IfOk result (λ tail. IsTail gate path.now tail.items) }
+{
+    let mut place = 0;
+    while path[place] != gate {
+        place += 1;
+    }
+    path[place..].iter().rev().copied().collect(alloc)
+}
+
+/// Gives levels to a gate and to all gates below it.
+fn visit(
+    alloc: Global,
+    first: u32,
+    gates: &Gates,
+    root: usize,
+    levels: &mut [u32],
+    seen: &mut [bool],
+) -> Result<(), WalkError>
+    requires known { AreKnown first gates.now }
+    requires few { first + length gates.now < 2 ^ 32 - 1 }
+    requires root { root < length gates.now }
+    requires new { get_or seen.old root false ≡ false }
+    requires partly { IsPartly first gates.now levels.old }
+    requires path { IsPath first gates.now levels.old seen.old [] }
+    ensures partly { OnOk result (IsPartly first gates.now levels.new) }
+    ensures path { OnOk result (IsPath first gates.now levels.new seen.new []) }
+    ensures stay { OnOk result (StaySeen seen.old seen.new) }
+    ensures root { OnOk result (get_or seen.new root false ≡ true) }
+    ensures fault { IfErr result (IsWalkFault first gates.now) }
+{
+    let mut path = Vec::new(alloc);
+    if path.push(root as u32).is_err() {
+        return Err(WalkError::NoMemory);
+    }
+    seen[root] = true;
+    while let Some(&gate) = path.last() {
+        match find_next(first, levels, gates.args(gate as usize)) {
+            Next::Level(level) => {
+                levels[gate as usize] = level;
+                path.pop();
+            }
+            Next::Gate(below) => {
+                if seen[below as usize] {
+                    return match tail_from(alloc, &path, below) {
+                        Ok(cycle) => Err(WalkError::Cycle(cycle)),
+                        Err(_) => Err(WalkError::NoMemory),
+                    };
+                }
+                if path.push(below).is_err() {
+                    return Err(WalkError::NoMemory);
+                }
+                seen[below as usize] = true;
+            }
+        }
+    }
+    Ok(())
+}
+
+/// The level of each gate.
+pub fn find_levels(alloc: Global, first: u32, gates: &Gates) -> Result<Vec<u32>, WalkError>
+    requires known { AreKnown first gates.now }
+    requires few { first + length gates.now < 2 ^ 32 - 1 }
+    ensures levels { IfOk result (λ levels. IsLevelled first gates.now levels.items) }
+    ensures fault { IfErr result (IsWalkFault first gates.now) }
+{
+    let Ok(mut levels) = vec![in alloc; 0; gates.len()] else {
+        return Err(WalkError::NoMemory);
+    };
+    let Ok(mut seen) = vec![in alloc; false; gates.len()] else {
+        return Err(WalkError::NoMemory);
+    };
+    for root in 0..gates.len() {
+        if !seen[root] {
+            visit(alloc, first, gates, root, &mut levels, &mut seen)?;
+        }
+    }
+    Ok(levels)
+}
+
+/// All gates, with levels that do not fall.
+pub fn level_order(alloc: Global, levels: &[u32]) -> Result<Vec<u32>, AllocError>
+    requires { length levels.now < 2 ^ 32 }
+    ensures each { IfOk result (λ order. IsEach (length levels.now) order.items) }
+    ensures rising { IfOk result (λ order. IsRising levels.now order.items) }
+{
+    let mut order: Vec<u32> = Vec::new(alloc);
+    for gate in 0..levels.len() as u32 {
+        order.push(gate)?;
+    }
+    order.sort_by_key(|gate| levels.get(*gate as usize).copied().unwrap_or(0))?;
+    Ok(order)
+}
