@@ -11,44 +11,29 @@ pub(crate) fn stem<V: Domain>(fault: Option<Fault>, net: u32, value: V) -> V
     ensures { result ≡ (rules_of V.blank V.gate V.stick fault).stem net value }
 {
     match fault {
-        Some(
-            Fault {
-                site: Site::Stem(stuck),
-                value: bit,
-            },
-        ) if stuck == NetId(net) => value.stick(bit),
+        Some(fault) if fault.site == Site::Stem(NetId(net)) => value.stick(fault.value),
         _ => value,
     }
 }
 
 /// What a pin of a gate makes of a value.
 #[tactic(auto, unfolding(ht_net::specs::Faults::forced))]
-pub(crate) fn gate_pin<V: Domain>(fault: Option<Fault>, g: u32, i: u8, value: V) -> V
-    ensures { result ≡ (rules_of V.blank V.gate V.stick fault).pin g i value }
+pub(crate) fn gate_pin<V: Domain>(fault: Option<Fault>, gate: u32, pin: u8, value: V) -> V
+    ensures { result ≡ (rules_of V.blank V.gate V.stick fault).pin gate pin value }
 {
     match fault {
-        Some(
-            Fault {
-                site: Site::GatePin { gate, pin },
-                value: bit,
-            },
-        ) if gate == g && pin == i => value.stick(bit),
+        Some(fault) if fault.site == Site::GatePin { gate, pin } => value.stick(fault.value),
         _ => value,
     }
 }
 
 /// What the data pin of a flip-flop makes of a value.
 #[tactic(auto, unfolding(ht_net::specs::Faults::forced))]
-pub(crate) fn data_pin<V: Domain>(fault: Option<Fault>, j: u32, value: V) -> V
-    ensures { result ≡ (rules_of V.blank V.gate V.stick fault).data_pin j value }
+pub(crate) fn data_pin<V: Domain>(fault: Option<Fault>, dff: u32, value: V) -> V
+    ensures { result ≡ (rules_of V.blank V.gate V.stick fault).data_pin dff value }
 {
     match fault {
-        Some(
-            Fault {
-                site: Site::DffPin { dff },
-                value: bit,
-            },
-        ) if dff == j => value.stick(bit),
+        Some(fault) if fault.site == (Site::DffPin { dff }) => value.stick(fault.value),
         _ => value,
     }
 }
