@@ -1,0 +1,12 @@
+// What a machine shows after a list of vectors. The law is the contract of a function that does nothing.
+ghost use Rattle.std.specs.Prelude.{◌≡◌, List, Bool, Option};
+ghost use Rattle.ht_net.specs.declared.site.Fault.{Fault};
+ghost use Rattle.ht_net.specs.Netlist.{Netlist};
+ghost use Rattle.ht_serial.specs.MachineState.{started, after, after_run};
+
+/// A machine that starts and then steps through a list of vectors shows the outputs of the run's last frame, and holds
+/// the state of the run.
+#[tactic(auto, using(crate::proofs::RunLaws::after_is_run))]
+pub fn machine_follows_run()
+    ensures { (c : Netlist) (fault : Option Fault) (list : List (List Bool)) → after (started c fault) list ≡ after_run c fault list }
+{}
