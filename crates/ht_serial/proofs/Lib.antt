@@ -1,2 +1,3 @@
 pub mod RunLaws
 pub mod StepLaws
+pub mod DetectionLaws

@@ -1,6 +1,6 @@
 -- What a machine shows, frame by frame, is what its run shows.
-use Rattle.std.proofs.Common.{◌≡◌, ◌<◌, ◌+◌, ◌-◌, ℕ, suc, zero, List, [], ◌∷◌, ◌++◌, Bool, Option, length, get_or, take, map, refl, sym, ◌∙◌, ap, arith, append_assoc, length-append}
-use Rattle.std.proofs.lemmas.List.{get_or-map, take-map, append-nil}
+use Rattle.std.proofs.Common.{◌≡◌, ◌<◌, ◌-◌, ℕ, suc, zero, List, [], ◌∷◌, ◌++◌, Bool, Option, length, get_or, take, map, refl, sym, ◌∙◌, ap, arith, append_assoc, length-append}
+use Rattle.std.proofs.lemmas.List.{append-nil}
 use Rattle.ht_tern.specs.declared.tern.Tern.{Tern}
 use Rattle.ht_net.specs.declared.site.Fault.{Fault}
 use Rattle.ht_net.specs.Netlist.{Netlist}
@@ -30,7 +30,7 @@ map_more : (list : List (List Bool)) (v : List Bool) → map terns_of (list ++ v
 map_more [] v = refl
 map_more (w ∷ list) v = ap (λ (l : List (List Tern)). terns_of w ∷ l) (map_more list v)
 
-map_length : (list : List (List Bool)) → length (map terns_of list) ≡ length list
+pub map_length : (list : List (List Bool)) → length (map terns_of list) ≡ length list
 map_length [] = refl
 map_length (w ∷ list) = ap suc (map_length list)
 
@@ -45,12 +45,12 @@ step_is_run c fault list v =
     let start = unknown_state c in
     let last : length (list ++ v ∷ []) - 1 ≡ length (map terns_of list) = omega (arith, map_length list, length-append list (v ∷ [])) in
     let outputs : get_or (tern_outputs c fault (list ++ v ∷ [])) (length (list ++ v ∷ []) - 1) (unknown_outputs c)
-          ≡ frame_outputs c r (terns_of v) (run_state c r start (map terns_of list)) =
-      ap (λ (n : ℕ). get_or (tern_outputs c fault (list ++ v ∷ [])) n (unknown_outputs c)) last
-      ∙ (ap (λ (l : List (List Tern)). get_or (run_outputs c r start l) (length (map terns_of list)) (unknown_outputs c)) (map_more list v)
-      ∙ run_outputs_more c r start (map terns_of list) (terns_of v) (unknown_outputs c)) in
+    ≡ frame_outputs c r (terns_of v) (run_state c r start (map terns_of list)) =
+    ap (λ (n : ℕ). get_or (tern_outputs c fault (list ++ v ∷ [])) n (unknown_outputs c)) last
+    ∙ (ap (λ (l : List (List Tern)). get_or (run_outputs c r start l) (length (map terns_of list)) (unknown_outputs c)) (map_more list v)
+    ∙ run_outputs_more c r start (map terns_of list) (terns_of v) (unknown_outputs c)) in
     let latches : run_state c r start (map terns_of (list ++ v ∷ [])) ≡ next_state c r (terns_of v) (run_state c r start (map terns_of list)) =
-      ap (λ (l : List (List Tern)). run_state c r start l) (map_more list v) ∙ run_state_more c r start (map terns_of list) (terns_of v) in
+    ap (λ (l : List (List Tern)). run_state c r start l) (map_more list v) ∙ run_state_more c r start (map terns_of list) (terns_of v) in
     sym (ap (λ (o : List Tern). with_parts c fault o (run_state c r start (map terns_of (list ++ v ∷ [])))) outputs
     ∙ ap (λ (l : List Tern). with_parts c fault (frame_outputs c r (terns_of v) (run_state c r start (map terns_of list))) l) latches)
 

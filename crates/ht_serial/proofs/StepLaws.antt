@@ -1,5 +1,5 @@
 -- What the fields of a machine make of it at the start and after a frame.
-use Rattle.std.proofs.Common.{◌≡◌, ◌<◌, ℕ, List, Bool, Option, length, replicate, get_or, ◌∙◌, ap}
+use Rattle.std.proofs.Common.{◌≡◌, ◌<◌, ℕ, List, Bool, Option, replicate, get_or, ◌∙◌, ap}
 use Rattle.std.proofs.lemmas.List.{get_or-replicate}
 use Rattle.ht_tern.specs.declared.tern.Tern.{Tern}
 use Rattle.ht_tern.specs.declared.tern.Tern.TheVariants.{Unk}
@@ -20,7 +20,7 @@ pub start_shows : (c : Netlist) (fault : Option Fault) (values latches : List Te
     → values ≡ replicate (net_count c) Unk → latches ≡ unknown_state c → shown_by c fault values latches ≡ started c fault
 start_shows c fault values latches circuit v l =
     let outputs : values_at (env_of Unk values) c.outputs ≡ unknown_outputs c = seen_all (env_of Unk values) Unk c.outputs
-      (λ o inside. ap (λ (t : List Tern). get_or t (get_or c.outputs o no_net).0 Unk) v ∙ get_or-replicate (net_count c) (get_or c.outputs o no_net).0 Unk Unk (circuit.outputs_known o inside)) in
+    (λ o inside. ap (λ (t : List Tern). get_or t (get_or c.outputs o no_net).0 Unk) v ∙ get_or-replicate (net_count c) (get_or c.outputs o no_net).0 Unk Unk (circuit.outputs_known o inside)) in
     ap (λ (t : List Tern). let m : MachineState = record { circuit = c; fault = fault; outputs = t; latches = latches } in m) outputs
     ∙ ap (λ (t : List Tern). let m : MachineState = record { circuit = c; fault = fault; outputs = unknown_outputs c; latches = t } in m) l
 
@@ -34,8 +34,8 @@ step_shows m values latches vector circuit settled taken =
     let r = tern_rules m.fault in
     let F : ℕ → Tern = net_value c r (terns_of vector) m.latches in
     let outputs : values_at (env_of Unk values) c.outputs ≡ values_at F c.outputs =
-      seen_same (env_of Unk values) F c.outputs (λ o inside. settled (get_or c.outputs o no_net).0 (circuit.outputs_known o inside)) in
+    seen_same (env_of Unk values) F c.outputs (λ o inside. settled (get_or c.outputs o no_net).0 (circuit.outputs_known o inside)) in
     let next : latches ≡ data_values r F 0 c.dffs =
-      taken ∙ taken_same r (env_of Unk values) F 0 c.dffs (λ j inside. settled (get_or c.dffs j no_net).0 (circuit.data_known j inside)) in
+    taken ∙ taken_same r (env_of Unk values) F 0 c.dffs (λ j inside. settled (get_or c.dffs j no_net).0 (circuit.data_known j inside)) in
     ap (λ (t : List Tern). let s : MachineState = record { circuit = c; fault = m.fault; outputs = t; latches = latches } in s) outputs
     ∙ ap (λ (t : List Tern). let s : MachineState = record { circuit = c; fault = m.fault; outputs = values_at F c.outputs; latches = t } in s) next

@@ -1,2 +1,4 @@
 pub mod MachineState
 pub mod Fields
+pub mod TestSession
+pub mod Recorded

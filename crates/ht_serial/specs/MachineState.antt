@@ -1,5 +1,5 @@
 -- A machine as contracts see it, and what frames make of it.
-use Rattle.std.specs.Prelude.{◌≡◌, ◌-◌, ℕ, List, [], ◌∷◌, Bool, Option, length, get_or, replicate, map}
+use Rattle.std.specs.Prelude.{◌-◌, ℕ, List, [], ◌∷◌, Bool, Option, length, get_or, replicate, map}
 use Rattle.ht_tern.specs.declared.tern.Tern.{Tern}
 use Rattle.ht_tern.specs.declared.tern.Tern.TheVariants.{Unk}
 use Rattle.ht_net.specs.declared.site.Fault.{Fault}
@@ -43,6 +43,6 @@ after_run c fault list = record {
   latches = run_state c (tern_rules fault) (unknown_state c) (map terns_of list);
 }
 
--- two machines show opposite definite values at an output
-abbrev pub IsOppositeAt : MachineState → MachineState → ℕ → Type 0
-IsOppositeAt good bad o = Opposite (get_or good.outputs o Unk) (get_or bad.outputs o Unk)
+-- outputs of the good and of a faulty machine show opposite definite values at output o
+abbrev pub IsOppositeAt : List Tern → List Tern → ℕ → Type 0
+IsOppositeAt good bad o = Opposite (get_or good o Unk) (get_or bad o Unk)

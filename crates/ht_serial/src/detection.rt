@@ -1,13 +1,14 @@
 // The first place where a list of vectors detects a fault.
 ghost use Rattle.std.specs.Prelude.{◌≡◌, ℕ, ◌<◌, ◌≤◌, ◌+◌, length, get_or, Option, IfOk, MatchOption, IsTrue, ◌↔◌};
+ghost use Rattle.ht_tern.specs.declared.tern.Tern.TheVariants.{Unk};
 ghost use Rattle.ht_net.specs.Detection.{Opposite, IsFirstDetection};
 ghost use Rattle.ht_serial.specs.MachineState.{IsOppositeAt};
 
-use std::alloc::{AllocError, Global};
-
+use crate::good_run::GoodRun;
 use crate::machine::Machine;
 use ht_net::{Circuit, Fault, Place, Vectors};
 use ht_tern::Tern;
+use std::alloc::{AllocError, Global};
 
 /// Whether both values are definite, and opposite.
 fn is_opposite(good: Tern, bad: Tern) -> bool
@@ -20,26 +21,41 @@ fn is_opposite(good: Tern, bad: Tern) -> bool
     }
 }
 
-/// The least output where two machines show opposite definite values.
-fn first_opposite(good: &Machine, bad: &Machine, outputs: u32) -> Option<u32>
-    requires good { outputs ≡ length good.now.outputs }
-    requires bad { outputs ≡ length bad.now.outputs }
-    ensures {
-        MatchOption result
-            ((o : ℕ) → o < outputs → ¬ IsOppositeAt good.now bad.now o)
-            (λ p. IsOppositeAt good.now bad.now p × ((o : ℕ) → o < p → ¬ IsOppositeAt good.now bad.now o))
-    }
+/// The least output where the good machine shows `good` and a machine shows the opposite definite value.
+fn first_opposite(good: &[Tern], bad: &Machine) -> Option<u32>
+    requires { length good.now ≡ length bad.now.outputs }
+    ensures { MatchOption result ((o : ℕ) → ¬ IsOppositeAt good.now bad.now.outputs o)
+        (λ p. IsOppositeAt good.now bad.now.outputs p × ((o : ℕ) → o < p → ¬ IsOppositeAt good.now bad.now.outputs o)) }
 {
-    for o in 0..outputs {
-        if is_opposite(good.output(o), bad.output(o)) {
+    for o in 0..bad.output_count() {
+        if is_opposite(good[o as usize], bad.output(o)) {
             return Some(o);
         }
     }
     None
 }
 
-/// The first place where the list detects the fault: the least vector, and there the least output, where the good
-/// machine and the faulty one show opposite definite values, both run from all-unknown. Errs where memory runs out.
+impl<'a> GoodRun<'a> {
+    /// The first place where the list detects the fault: the least vector, and there the least output, where the good
+    /// machine and the faulty one show opposite definite values, both run from all-unknown. Errs where memory runs out.
+    pub fn first_detection(&self, alloc: Global, fault: Fault) -> Result<Option<Place>, AllocError>
+        ensures { IfOk result (λ place. IsFirstDetection self.now.circuit fault self.now.list place) }
+    {
+        let mut bad = Machine::start(alloc, self.circuit, Some(fault))?;
+        for (t, good) in self.rows.iter().enumerate() {
+            bad.step(self.list.get(t as u64));
+            if let Some(output) = first_opposite(good, &bad) {
+                return Ok(Some(Place {
+                    vector: t as u64,
+                    output,
+                }));
+            }
+        }
+        Ok(None)
+    }
+}
+
+/// The same for one fault alone: the good machine runs, and then the faulty one.
 pub fn first_detection(
     alloc: Global,
     circuit: &Circuit,
@@ -49,15 +65,5 @@ pub fn first_detection(
     requires { list.now.width ≡ circuit.now.inputs }
     ensures { IfOk result (λ place. IsFirstDetection circuit.now fault list.now.list place) }
 {
-    let mut good = Machine::start(alloc, circuit, None)?;
-    let mut bad = Machine::start(alloc, circuit, Some(fault))?;
-    for t in 0..list.len() {
-        let vector = list.get(t);
-        good.step(vector);
-        bad.step(vector);
-        if let Some(output) = first_opposite(&good, &bad, circuit.outputs()) {
-            return Ok(Some(Place { vector: t, output }));
-        }
-    }
-    Ok(None)
+    GoodRun::record(alloc, circuit, list)?.first_detection(alloc, fault)
 }

@@ -5,12 +5,11 @@ ghost use Rattle.ht_net.specs.Netlist.{net_count, no_net};
 ghost use Rattle.ht_net.specs.Detection.{terns_of};
 ghost use Rattle.ht_serial.specs.MachineState.{MachineState, started, stepped};
 
-use std::alloc::{AllocError, Global};
-use std::marker::Model;
-
 use ht_frame::{MOST_PINS, capture, settle};
 use ht_net::{Circuit, Fault};
 use ht_tern::Tern;
+use std::alloc::{AllocError, Global};
+use std::marker::Model;
 
 /// A circuit with at most one stuck line, and where it stands in its run.
 #[derive(Drop)]
@@ -69,7 +68,14 @@ impl<'c> Machine<'c> {
         let values = unknowns(alloc, circuit.nets() as usize)?;
         let vector = unknowns(alloc, circuit.inputs() as usize)?;
         let pins = unknowns(alloc, MOST_PINS)?;
-        Ok(Machine { circuit, fault, latches, values, vector, pins })
+        Ok(Machine {
+            circuit,
+            fault,
+            latches,
+            values,
+            vector,
+            pins,
+        })
     }
 
     /// Runs one frame. It allocates nothing.
@@ -78,8 +84,22 @@ impl<'c> Machine<'c> {
         ensures { self.new ≡ stepped self.old vector.now }
     {
         fill(&mut self.vector, vector);
-        settle(self.circuit, self.fault, &self.vector, &self.latches, &mut self.values, &mut self.pins);
+        settle(
+            self.circuit,
+            self.fault,
+            &self.vector,
+            &self.latches,
+            &mut self.values,
+            &mut self.pins,
+        );
         capture(self.circuit, self.fault, &self.values, &mut self.latches);
+    }
+
+    /// How many outputs the circuit has.
+    pub fn output_count(&self) -> u32
+        ensures { result ≡ length self.now.outputs }
+    {
+        self.circuit.outputs()
     }
 
     /// An output in the last frame, from 0; unknown before the first frame.
@@ -88,6 +108,17 @@ impl<'c> Machine<'c> {
         ensures { result ≡ get_or self.now.outputs o Tern.Unk }
     {
         self.values[self.circuit.output(o).index()]
+    }
+
+    /// All outputs in the last frame. Errs where memory runs out.
+    pub fn outputs(&self, alloc: Global) -> Result<Vec<Tern>, AllocError>
+        ensures { IfOk result (λ row. row.items ≡ self.now.outputs) }
+    {
+        let mut row = Vec::new(alloc);
+        for o in 0..self.output_count() {
+            row.push(self.output(o))?;
+        }
+        Ok(row)
     }
 
     /// What a flip-flop holds now, from 0.

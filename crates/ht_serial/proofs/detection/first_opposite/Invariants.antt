@@ -3,4 +3,4 @@ use Rattle.ht_serial.specs.MachineState.{IsOppositeAt}
 use Rattle.ht_serial.proofs.detection.first_opposite.Given as goal
 
 abbrev pub invariant-loop-o : goal.invariant-loop-o
-invariant-loop-o l = (o : ℕ) → o < l.o → ¬ IsOppositeAt l.good l.bad o
+invariant-loop-o l = (o : ℕ) → o < l.o → ¬ IsOppositeAt l.good l.bad.outputs o

@@ -22,10 +22,10 @@ returns c =
     let latches = with_items_is c.self.inside.latches c.capture.new.latches (omega arith) in
     let vector = c.deref.ensures.value ∙ (with_items_is c.self.inside.vector c.fill.new.values (omega arith) ∙ c.fill.ensures) in
     let settled : (x : ℕ) → x < net_count n → env_of Unk c.settle.new.values x ≡ net_value n r (terns_of c.args.vector.now) c.self.inside.latches.items x =
-      λ x inside. c.settle.ensures x inside ∙ (ap (λ (t : List Tern). net_value n r t c.deref-2.result.now x) vector
-        ∙ ap (λ (t : List Tern). net_value n r (terns_of c.args.vector.now) t x) c.deref-2.ensures.value) in
+    λ x inside. c.settle.ensures x inside ∙ (ap (λ (t : List Tern). net_value n r t c.deref-2.result.now x) vector
+    ∙ ap (λ (t : List Tern). net_value n r (terns_of c.args.vector.now) t x) c.deref-2.ensures.value) in
     let taken : c.capture.new.latches ≡ data_values r (env_of Unk c.settle.new.values) 0 n.dffs =
-      c.capture.ensures ∙ ap (λ (t : List Tern). data_values r (env_of Unk t) 0 n.dffs) (c.deref-3.ensures.value ∙ values) in
+    c.capture.ensures ∙ ap (λ (t : List Tern). data_values r (env_of Unk t) 0 n.dffs) (c.deref-3.ensures.value ∙ values) in
     ap (λ (t : List Tern). shown_by n fault t (with_items c.self.inside.latches c.capture.new.latches).items) values
     ∙ (ap (λ (t : List Tern). shown_by n fault c.settle.new.values t) latches
     ∙ (step_shows (state_of c.self.inside) c.settle.new.values c.capture.new.latches c.args.vector.now c.self.invariant.circuit settled taken
