@@ -13,5 +13,5 @@ mod machine;
 
 pub use detection::first_detection;
 pub use good_run::GoodRun;
-pub use laws::machine_follows_run;
+pub use laws::{detected_faults_are_apart, machine_follows_run};
 pub use machine::Machine;
