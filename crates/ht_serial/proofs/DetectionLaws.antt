@@ -13,7 +13,9 @@ use Rattle.ht_net.specs.Faults.{tern_rules}
 use Rattle.ht_net.specs.Detection.{terns_of, unknown_state, tern_outputs, Opposite, Detects, IsBefore}
 use Rattle.ht_net.proofs.FrameLaws.{le_or_lt}
 use Rattle.ht_net.proofs.ValueLaws.{seen_length}
-use Rattle.ht_serial.specs.MachineState.{MachineState, stepped, after_run, IsOppositeAt}
+use Rattle.ht_serial.specs.MachineState.{MachineState, stepped, after_run}
+use Rattle.ht_serial.specs.Opposites.{IsOppositeAt}
+use Rattle.ht_serial.specs.Places.{IsWithin}
 use Rattle.ht_serial.specs.Recorded.{rows_of}
 use Rattle.ht_serial.proofs.RunLaws.{run_output_at, step_is_run, map_length}
 
@@ -117,6 +119,13 @@ frame_width c fault list t inside =
     let state = run_state c r (unknown_state c) (take t vectors) in
     ap (λ (row : List Tern). length row) (run_output_at c r (unknown_state c) vectors t [] there)
     ∙ seen_length (net_value c r (get_or vectors t []) state) c.outputs
+
+-- What is opposite at a vector of the list stands at an output of the circuit.
+pub place_within : (c : Netlist) (list : List (List Bool)) (p : Place) (good bad : List Tern) → p.vector < length list
+    → good ≡ get_or (tern_outputs c None list) p.vector [] → IsOppositeAt good bad p.output → IsWithin c list p
+place_within c list p good bad inside g h =
+    let width : length good ≡ length c.outputs = ap (λ (l : List Tern). length l) g ∙ frame_width c None list p.vector inside in
+    record { vector = inside; output = omega (arith, width, opposite_inside good bad p.output h) }
 
 -- The rows of a recorded run.
 pub rows_count : (c : Netlist) (list : List (List Bool)) (rows : List (Vec Tern Global)) → rows_of rows ≡ tern_outputs c None list → length rows ≡ length list

@@ -1,12 +1,12 @@
 -- A machine as contracts see it, and what frames make of it.
-use Rattle.std.specs.Prelude.{◌-◌, ℕ, List, [], ◌∷◌, Bool, Option, length, get_or, replicate, map}
+use Rattle.std.specs.Prelude.{◌-◌, List, [], ◌∷◌, Bool, Option, length, get_or, replicate, map}
 use Rattle.ht_tern.specs.declared.tern.Tern.{Tern}
 use Rattle.ht_tern.specs.declared.tern.Tern.TheVariants.{Unk}
 use Rattle.ht_net.specs.declared.site.Fault.{Fault}
 use Rattle.ht_net.specs.Netlist.{Netlist}
 use Rattle.ht_net.specs.Frame.{frame_outputs, next_state, run_state}
 use Rattle.ht_net.specs.Faults.{tern_rules}
-use Rattle.ht_net.specs.Detection.{terns_of, unknown_state, tern_outputs, Opposite}
+use Rattle.ht_net.specs.Detection.{terns_of, unknown_state, tern_outputs}
 
 pub record MachineState : Type 0 where
   pub circuit : Netlist
@@ -42,7 +42,3 @@ after_run c fault list = record {
   outputs = get_or (tern_outputs c fault list) (length list - 1) (unknown_outputs c);
   latches = run_state c (tern_rules fault) (unknown_state c) (map terns_of list);
 }
-
--- outputs of the good and of a faulty machine show opposite definite values at output o
-abbrev pub IsOppositeAt : List Tern → List Tern → ℕ → Type 0
-IsOppositeAt good bad o = Opposite (get_or good o Unk) (get_or bad o Unk)

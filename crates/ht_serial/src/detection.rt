@@ -2,7 +2,9 @@
 ghost use Rattle.std.specs.Prelude.{◌≡◌, ℕ, ◌<◌, ◌≤◌, ◌+◌, length, get_or, Option, IfOk, MatchOption, IsTrue, ◌↔◌};
 ghost use Rattle.ht_tern.specs.declared.tern.Tern.TheVariants.{Unk};
 ghost use Rattle.ht_net.specs.Detection.{Opposite, IsFirstDetection};
-ghost use Rattle.ht_serial.specs.MachineState.{IsOppositeAt};
+ghost use Rattle.std.specs.Option.{ForSome};
+ghost use Rattle.ht_serial.specs.Opposites.{IsOppositeAt};
+ghost use Rattle.ht_serial.specs.Places.{IsWithin};
 
 use crate::good_run::GoodRun;
 use crate::machine::Machine;
@@ -39,7 +41,8 @@ impl<'a> GoodRun<'a> {
     /// The first place where the list detects the fault: the least vector, and there the least output, where the good
     /// machine and the faulty one show opposite definite values, both run from all-unknown. Errs where memory runs out.
     pub fn first_detection(&self, alloc: Global, fault: Fault) -> Result<Option<Place>, AllocError>
-        ensures { IfOk result (λ place. IsFirstDetection self.now.circuit fault self.now.list place) }
+        ensures first { IfOk result (λ place. IsFirstDetection self.now.circuit fault self.now.list place) }
+        ensures within { IfOk result (λ place. ForSome place (IsWithin self.now.circuit self.now.list)) }
     {
         let mut bad = Machine::start(alloc, self.circuit, Some(fault))?;
         for (t, good) in self.rows.iter().enumerate() {
@@ -55,7 +58,7 @@ impl<'a> GoodRun<'a> {
     }
 }
 
-/// The same for one fault alone: the good machine runs, and then the faulty one.
+/// The same for one fault alone. Where there are more, record the good machine's run once (`GoodRun::record`).
 pub fn first_detection(
     alloc: Global,
     circuit: &Circuit,
@@ -63,7 +66,8 @@ pub fn first_detection(
     list: &Vectors,
 ) -> Result<Option<Place>, AllocError>
     requires { list.now.width ≡ circuit.now.inputs }
-    ensures { IfOk result (λ place. IsFirstDetection circuit.now fault list.now.list place) }
+    ensures first { IfOk result (λ place. IsFirstDetection circuit.now fault list.now.list place) }
+    ensures within { IfOk result (λ place. ForSome place (IsWithin circuit.now list.now.list)) }
 {
     GoodRun::record(alloc, circuit, list)?.first_detection(alloc, fault)
 }

@@ -1,5 +1,5 @@
 use Rattle.std.proofs.Common.{◌<◌, ℕ}
-use Rattle.ht_serial.specs.MachineState.{IsOppositeAt}
+use Rattle.ht_serial.specs.Opposites.{IsOppositeAt}
 use Rattle.ht_serial.proofs.detection.first_opposite.Given as goal
 
 abbrev pub invariant-loop-o : goal.invariant-loop-o
