@@ -10,6 +10,8 @@ mod detection;
 mod good_run;
 mod laws;
 mod machine;
+#[cfg(test)]
+mod tests;
 
 pub use detection::first_detection;
 pub use good_run::GoodRun;
