@@ -1,0 +1,39 @@
+// What stems and pins make of the values that they carry.
+ghost use Rattle.std.specs.Prelude.{◌≡◌, Option};
+ghost use Rattle.ht_net.specs.Faults.{rules_of};
+
+use crate::domain::Domain;
+use ht_net::{Fault, NetId, Site};
+
+/// What the stem of a net makes of a value.
+#[tactic(auto, unfolding(ht_net::specs::Faults::forced))]
+pub(crate) fn stem<V: Domain>(fault: Option<Fault>, net: u32, value: V) -> V
+    ensures { result ≡ (rules_of V.blank V.gate V.stick fault).stem net value }
+{
+    match fault {
+        Some(fault) if fault.site == Site::Stem(NetId(net)) => value.stick(fault.value),
+        _ => value,
+    }
+}
+
+/// What a pin of a gate makes of a value.
+#[tactic(auto, unfolding(ht_net::specs::Faults::forced))]
+pub(crate) fn gate_pin<V: Domain>(fault: Option<Fault>, gate: u32, pin: u8, value: V) -> V
+    ensures { result ≡ (rules_of V.blank V.gate V.stick fault).pin gate pin value }
+{
+    match fault {
+        Some(fault) if fault.site == Site::GatePin { gate, pin } => value.stick(fault.value),
+        _ => value,
+    }
+}
+
+/// What the data pin of a flip-flop makes of a value.
+#[tactic(auto, unfolding(ht_net::specs::Faults::forced))]
+pub(crate) fn data_pin<V: Domain>(fault: Option<Fault>, dff: u32, value: V) -> V
+    ensures { result ≡ (rules_of V.blank V.gate V.stick fault).data_pin dff value }
+{
+    match fault {
+        Some(fault) if fault.site == (Site::DffPin { dff }) => value.stick(fault.value),
+        _ => value,
+    }
+}

@@ -1,0 +1,4 @@
+pub mod RunLaws
+pub mod StepLaws
+pub mod DetectionLaws
+pub mod ApartLaws

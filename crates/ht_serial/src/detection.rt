@@ -1,0 +1,73 @@
+// The first place where a list of vectors detects a fault.
+ghost use Rattle.std.specs.Prelude.{◌≡◌, ℕ, ◌<◌, ◌≤◌, ◌+◌, length, get_or, Option, IfOk, MatchOption, IsTrue, ◌↔◌};
+ghost use Rattle.ht_tern.specs.declared.tern.Tern.TheVariants.{Unk};
+ghost use Rattle.ht_net.specs.Detection.{Opposite, IsFirstDetection};
+ghost use Rattle.std.specs.Option.{ForSome};
+ghost use Rattle.ht_serial.specs.Opposites.{IsOppositeAt};
+ghost use Rattle.ht_serial.specs.Places.{IsWithin};
+
+use crate::good_run::GoodRun;
+use crate::machine::Machine;
+use ht_net::{Circuit, Fault, Place, Vectors};
+use ht_tern::Tern;
+use std::alloc::{AllocError, Global};
+
+/// Whether both values are definite, and opposite.
+fn is_opposite(good: Tern, bad: Tern) -> bool
+    ensures { IsTrue result ↔ Opposite good bad }
+{
+    match good {
+        Tern::Zero => bad == Tern::One,
+        Tern::One => bad == Tern::Zero,
+        Tern::Unk => false,
+    }
+}
+
+/// The least output where the good machine shows `good` and a machine shows the opposite definite value.
+fn first_opposite(good: &[Tern], bad: &Machine) -> Option<u32>
+    requires { length good.now ≡ length bad.now.outputs }
+    ensures { MatchOption result ((o : ℕ) → ¬ IsOppositeAt good.now bad.now.outputs o)
+        (λ p. IsOppositeAt good.now bad.now.outputs p × ((o : ℕ) → o < p → ¬ IsOppositeAt good.now bad.now.outputs o)) }
+{
+    for o in 0..bad.output_count() {
+        if is_opposite(good[o as usize], bad.output(o)) {
+            return Some(o);
+        }
+    }
+    None
+}
+
+impl<'a> GoodRun<'a> {
+    /// The first place where the list detects the fault: the least vector, and there the least output, where the good
+    /// machine and the faulty one show opposite definite values, both run from all-unknown. Errs where memory runs out.
+    pub fn first_detection(&self, alloc: Global, fault: Fault) -> Result<Option<Place>, AllocError>
+        ensures first { IfOk result (λ place. IsFirstDetection self.now.circuit fault self.now.list place) }
+        ensures within { IfOk result (λ place. ForSome place (IsWithin self.now.circuit self.now.list)) }
+    {
+        let mut bad = Machine::start(alloc, self.circuit, Some(fault))?;
+        for (t, good) in self.rows.iter().enumerate() {
+            bad.step(self.list.get(t as u64));
+            if let Some(output) = first_opposite(good, &bad) {
+                return Ok(Some(Place {
+                    vector: t as u64,
+                    output,
+                }));
+            }
+        }
+        Ok(None)
+    }
+}
+
+/// The same for one fault alone. Where there are more, record the good machine's run once (`GoodRun::record`).
+pub fn first_detection(
+    alloc: Global,
+    circuit: &Circuit,
+    fault: Fault,
+    list: &Vectors,
+) -> Result<Option<Place>, AllocError>
+    requires { list.now.width ≡ circuit.now.inputs }
+    ensures first { IfOk result (λ place. IsFirstDetection circuit.now fault list.now.list place) }
+    ensures within { IfOk result (λ place. ForSome place (IsWithin circuit.now list.now.list)) }
+{
+    GoodRun::record(alloc, circuit, list)?.first_detection(alloc, fault)
+}
