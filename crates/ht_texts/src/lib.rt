@@ -1,0 +1,10 @@
+//! The texts of vectors and of reports: what they are, as definitions over bytes, and the calls that write and read them.
+//!
+//! `specs/Tests` says which bytes are a list of vectors, and at which line a text that is none goes wrong; `specs/Sites`
+//! names the lines of a circuit; `specs/Reports` has the report of a fault simulation, line for line.
+#![tactic(auto)]
+
+mod number;
+mod vector;
+
+pub use vector::{read_vector, write_vector};
