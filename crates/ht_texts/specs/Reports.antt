@@ -16,12 +16,18 @@ fault_count c = length (stem_faults_of c)
 abbrev pub class_count : Netlist → ℕ
 class_count c = fault_count c
 
--- the sizes of the circuit and of its fault list
-abbrev pub head_line : Netlist → List ℕ
-head_line c =
+-- the sizes of the circuit
+abbrev pub circuit_sizes : Netlist → List ℕ
+circuit_sizes c =
     codes "circuit inputs " ++ decimal c.inputs ++ codes " outputs " ++ decimal (length c.outputs)
     ++ codes " flip-flops " ++ decimal (length c.dffs) ++ codes " gates " ++ decimal (length c.gates)
-    ++ codes " faults " ++ decimal (fault_count c) ++ codes " classes " ++ decimal (class_count c) ++ codes "\n"
+
+-- the sizes of its fault list
+abbrev pub fault_sizes : Netlist → List ℕ
+fault_sizes c = codes " faults " ++ decimal (fault_count c) ++ codes " classes " ++ decimal (class_count c)
+
+abbrev pub head_line : Netlist → List ℕ
+head_line c = circuit_sizes c ++ fault_sizes c ++ codes "\n"
 
 -- an output of the circuit, at a vector whose number from 1 fits 64 bits
 pub record IsPlace (c : Netlist) (place : Place) : Type 0 where

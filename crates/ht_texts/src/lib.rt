@@ -5,6 +5,9 @@
 #![tactic(auto)]
 
 mod number;
+mod report;
+mod site;
 mod vector;
 
+pub use report::{Sums, push_fault, write_fault, write_head, write_total};
 pub use vector::{read_vector, write_vector};

@@ -1,0 +1,110 @@
+// The lines of a report.
+ghost use Rattle.std.specs.Prelude.{◌≡◌, ◌+◌, ◌++◌, [], IfOk, OnOk};
+ghost use Rattle.std.specs.Option.{ForSome};
+ghost use Rattle.ht_texts.specs.Sites.{IsSite};
+ghost use Rattle.ht_texts.specs.Reports.{IsPlace, fault_count, circuit_sizes, fault_sizes, head_line, fault_line, total_line, verdict_text};
+
+use crate::number::{push_counted, push_number};
+use crate::site::{push_output, push_site};
+use crate::vector::character_of;
+use ht_net::{Circuit, Fault, Place};
+use std::alloc::{AllocError, Global};
+
+/// The sums of a report: how many classes of faults there are, and how many of them are detected.
+#[derive(Clone, Copy, PartialEq, Eq, Debug)]
+pub struct Sums {
+    pub classes: u32,
+    pub detected: u32,
+}
+
+/// The first line of a report, with its LF: the sizes of the circuit and of its fault list.
+pub fn write_head(alloc: Global, circuit: &Circuit) -> Result<Vec<u8>, AllocError>
+    ensures { IfOk result (λ line. line.items ≡ head_line circuit.now) }
+{
+    let mut line = Vec::new(alloc);
+    push_circuit_sizes(&mut line, circuit)?;
+    push_fault_sizes(&mut line, circuit)?;
+    line.extend_from_slice(b"\n")?;
+    Ok(line)
+}
+
+// Appends the sizes of the circuit.
+fn push_circuit_sizes(text: &mut Vec<u8>, circuit: &Circuit) -> Result<(), AllocError>
+    ensures { OnOk result (text.new.items ≡ text.old.items ++ circuit_sizes circuit.now) }
+{
+    push_counted(text, b"circuit inputs ", circuit.inputs())?;
+    push_counted(text, b" outputs ", circuit.outputs())?;
+    push_counted(text, b" flip-flops ", circuit.dffs())?;
+    push_counted(text, b" gates ", circuit.gates())?;
+    Ok(())
+}
+
+// Appends the sizes of the circuit's fault list.
+fn push_fault_sizes(text: &mut Vec<u8>, circuit: &Circuit) -> Result<(), AllocError>
+    ensures { OnOk result (text.new.items ≡ text.old.items ++ fault_sizes circuit.now) }
+{
+    let faults = count_faults(circuit);
+    let classes = faults;
+    push_counted(text, b" faults ", faults)?;
+    push_counted(text, b" classes ", classes)
+}
+
+// How many faults a report lists: two for the stem of each net.
+#[tactic(auto, using(crate::proofs::ReportLaws::fault_count_is))]
+fn count_faults(circuit: &Circuit) -> u32
+    ensures { result ≡ fault_count circuit.now }
+{
+    2 * circuit.nets()
+}
+
+/// The line, with its LF, of the fault at an index of the fault list, from 0, which is first detected at this place, or
+/// nowhere. The line has the fault's number from 1.
+pub fn write_fault(alloc: Global, circuit: &Circuit, index: u32, fault: Fault, place: Option<Place>) -> Result<Vec<u8>, AllocError>
+    requires site { IsSite circuit.now fault.site }
+    requires place { ForSome place (IsPlace circuit.now) }
+    ensures { IfOk result (λ line. line.items ≡ fault_line circuit.now (index + 1) fault place) }
+{
+    let mut line = Vec::new(alloc);
+    push_fault(&mut line, circuit, index, fault, place)?;
+    Ok(line)
+}
+
+/// Appends the line that `write_fault` gives. After an error the text may hold a part of the line.
+pub fn push_fault(text: &mut Vec<u8>, circuit: &Circuit, index: u32, fault: Fault, place: Option<Place>) -> Result<(), AllocError>
+    requires site { IsSite circuit.now fault.site }
+    requires place { ForSome place (IsPlace circuit.now) }
+    ensures { OnOk result (text.new.items ≡ text.old.items ++ fault_line circuit.now (index + 1) fault place) }
+{
+    push_number(text, u64::from(index) + 1)?;
+    text.extend_from_slice(b" ")?;
+    push_site(text, circuit, fault.site)?;
+    text.extend_from_slice(b" s-a-")?;
+    text.extend_from_slice(&[character_of(fault.value), b' '])?;
+    push_verdict(text, circuit, place)?;
+    text.extend_from_slice(b"\n")
+}
+
+// Appends what a report says of a fault.
+fn push_verdict(text: &mut Vec<u8>, circuit: &Circuit, place: Option<Place>) -> Result<(), AllocError>
+    requires { ForSome place (IsPlace circuit.now) }
+    ensures { OnOk result (text.new.items ≡ text.old.items ++ verdict_text circuit.now place) }
+{
+    let Some(Place { vector, output }) = place else {
+        return text.extend_from_slice(b"undetected");
+    };
+    text.extend_from_slice(b"detected ")?;
+    push_number(text, vector + 1)?;
+    text.extend_from_slice(b" ")?;
+    push_output(text, circuit, output)
+}
+
+/// The last line of a report, with its LF.
+pub fn write_total(alloc: Global, sums: Sums) -> Result<Vec<u8>, AllocError>
+    ensures { IfOk result (λ line. line.items ≡ total_line sums.classes sums.detected) }
+{
+    let mut line = Vec::new(alloc);
+    push_counted(&mut line, b"total ", sums.classes)?;
+    push_counted(&mut line, b" detected ", sums.detected)?;
+    line.extend_from_slice(b"\n")?;
+    Ok(line)
+}
