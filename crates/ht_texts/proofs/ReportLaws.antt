@@ -1,8 +1,7 @@
 -- How long a fault list is, and a report that grows by one line.
-use Rattle.std.proofs.Common.{◌≡◌, ℕ, zero, suc, ◌+◌, ◌*◌, ◌<◌, ◌≤◌, List, [], ◌∷◌, ◌++◌, length, get_or, take, Option, Some, None, append_assoc, refl, ap, sym, ◌∙◌, arith}
+use Rattle.std.proofs.Common.{◌≡◌, ℕ, ◌+◌, ◌*◌, List, [], ◌∷◌, ◌++◌, length, Option, append_assoc, refl, ap, ◌∙◌, arith}
 use Rattle.std.specs.Fmt.{decimal}
-use Rattle.std.specs.List.{flat_map, enumerate_from, zip, range_with_len}
-use Rattle.std.proofs.lemmas.Grind.{common_steps}
+use Rattle.std.specs.List.{flat_map, enumerate_from, zip}
 use Rattle.std.proofs.lemmas.List.FromFn.{length-map-range_with_len}
 use Rattle.std.proofs.lemmas.List.{append-nil}
 use Rattle.std.proofs.lemmas.List.Concat.{flat_map-append}
@@ -11,7 +10,7 @@ use Rattle.ht_net.specs.declared.site.Place.{Place}
 use Rattle.ht_net.specs.declared.site.Site.{Site}
 use Rattle.ht_net.specs.declared.site.Site.TheVariants.{Stem}
 use Rattle.ht_net.specs.Netlist.{Netlist, net_count}
-use Rattle.ht_net.specs.Faults.{site_faults, stems_of, stem_faults_of}
+use Rattle.ht_net.specs.Faults.{site_faults, stems_of}
 use Rattle.ht_texts.specs.Reports.{fault_count, fault_line, fault_lines}
 
 length-site_faults : (sites : List Site) → length (flat_map site_faults sites) ≡ 2 * length sites

@@ -6,7 +6,7 @@ use Rattle.std.proofs.lemmas.List.{length-map, get_or-map}
 use Rattle.std.proofs.lemmas.List.Elements.{All-nil, All-cons}
 use Rattle.ht_net.specs.Netlist.{Netlist}
 use Rattle.ht_ports.specs.Cutting.{lines_of}
-use Rattle.ht_texts.specs.Tests.{bit_code, vector_text, line_at, line_of_byte, IsTextOf, IsTestText, IsNoVector, IsTooLong, IsWrongLine, IsMalformedTest}
+use Rattle.ht_texts.specs.Tests.{bit_code, vector_text, line_of_byte, IsTextOf, IsTestText, IsNoVector, IsMalformedTest}
 use Rattle.ht_texts.proofs.VectorLaws.{no_vector_has, no_vector_fits, length-vector_text}
 
 -- ---- a line is the text of one vector or of none
@@ -77,18 +77,24 @@ vectors_or_stop width [] = inl ([], record { texts = refl; widths = All-nil (λ 
 vectors_or_stop width (line ∷ lines) = elim (vector_or_none width line) [
   | inr none ↦ inr (0, record { within = omega arith; none = none; before = λ j below. absurd (omega arith) })
   | inl here ↦ elim (vectors_or_stop width lines) [
-    | inl rest ↦ inl (here.0 ∷ rest.0, record {
+    | inl rest ↦ inl (
+      here.0 ∷ rest.0,
+      record {
         texts = let e = here.1.characters in let f = rest.1.texts in cc;
         widths = All-cons (λ (vector : List Bool). length vector ≡ width) here.0 rest.0 here.1.bits rest.1.widths;
-      })
-    | inr stop ↦ inr (suc stop.0, record {
+      },
+    )
+    | inr stop ↦ inr (
+      suc stop.0,
+      record {
         within = omega (arith, stop.1.within);
         none = stop.1.none;
         before = λ j. elim j as (λ i. i < suc stop.0 → (vector : List Bool) × IsTextOf width (get_or (line ∷ lines) i []) vector) [
           | zero ↦ λ _. here
           | suc i ↦ λ below. stop.1.before i (omega arith)
         ];
-      })
+      },
+    )
   ]
 ]
 
@@ -98,11 +104,13 @@ vectors_or_stop width (line ∷ lines) = elim (vector_or_none width line) [
 vector_at : (width : ℕ) (lines : List (List ℕ)) (list : List (List Bool)) → AreVectors width lines list → (k : ℕ) → k < length lines
     → (vector : List Bool) × IsTextOf width (get_or lines k []) vector
 vector_at width lines list are k below =
-    let inside : k < length list = omega (arith, ap length are.texts ∙ length-map list vector_text) in
-    (get_or list k [], record {
-      characters = ap (λ l. get_or l k []) are.texts ∙ get_or-map vector_text list k [] [] inside;
-      bits = are.widths k [] inside;
-    })
+    let inside : k < length list = omega (arith, ap length are.texts ∙ length-map list vector_text) in (
+      get_or list k [],
+      record {
+        characters = ap (λ l. get_or l k []) are.texts ∙ get_or-map vector_text list k [] [] inside;
+        bits = are.widths k [] inside;
+      },
+    )
 
 no_wrong_line : (c : Netlist) (text : List ℕ) (list : List (List Bool)) → AreVectors c.inputs (lines_of text) list → (n : ℕ) → ¬ IsNoVector c text n
 no_wrong_line c text list are n bad =
@@ -145,23 +153,35 @@ by_length : (c : Netlist) (text : List ℕ) → ((list : List (List Bool)) × Ar
     → (2 ^ 62 < length text) ⊎ (length text ≤ 2 ^ 62)
     → ((list : List (List Bool)) × IsTestText c text list) ⊎ ((n : ℕ) × IsMalformedTest c text n)
 by_length c text (inl (list, are)) (inr short) = inl (list, record { lines = are.texts; widths = are.widths; short = short })
-by_length c text (inl (list, are)) (inl long) = inr (line_of_byte text (2 ^ 62), record {
-  wrong = inr (record { long = long; line = refl });
-  first = λ m below wrong. elim wrong [ inl bad ↦ no_wrong_line c text list are m bad | inr other ↦ omega (arith, below, other.line) ];
-})
-by_length c text (inr (k, stop)) (inr short) = inr (k + 1, record {
-  wrong = inl (wrong_at c text k stop);
-  first = λ m below wrong. elim wrong [ inl bad ↦ no_wrong_before c text k m stop (omega arith) bad | inr other ↦ omega (arith, short, other.long) ];
-})
+by_length c text (inl (list, are)) (inl long) = inr (
+  line_of_byte text (2 ^ 62),
+  record {
+    wrong = inr (record { long = long; line = refl });
+    first = λ m below wrong. elim wrong [ inl bad ↦ no_wrong_line c text list are m bad | inr other ↦ omega (arith, below, other.line) ];
+  },
+)
+by_length c text (inr (k, stop)) (inr short) = inr (
+  k + 1,
+  record {
+    wrong = inl (wrong_at c text k stop);
+    first = λ m below wrong. elim wrong [ inl bad ↦ no_wrong_before c text k m stop (omega arith) bad | inr other ↦ omega (arith, short, other.long) ];
+  },
+)
 by_length c text (inr (k, stop)) (inl long) = elim (cases_lt (line_of_byte text (2 ^ 62)) (k + 1)) [
-  | inl sooner ↦ inr (line_of_byte text (2 ^ 62), record {
+  | inl sooner ↦ inr (
+    line_of_byte text (2 ^ 62),
+    record {
       wrong = inr (record { long = long; line = refl });
       first = λ m below wrong. elim wrong [ inl bad ↦ no_wrong_before c text k m stop (omega arith) bad | inr other ↦ omega (arith, below, other.line) ];
-    })
-  | inr later ↦ inr (k + 1, record {
+    },
+  )
+  | inr later ↦ inr (
+    k + 1,
+    record {
       wrong = inl (wrong_at c text k stop);
       first = λ m below wrong. elim wrong [ inl bad ↦ no_wrong_before c text k m stop (omega arith) bad | inr other ↦ omega (arith, later, below, other.line) ];
-    })
+    },
+  )
 ]
 
 pub list_or_line : (c : Netlist) (text : List ℕ) → ((list : List (List Bool)) × IsTestText c text list) ⊎ ((n : ℕ) × IsMalformedTest c text n)

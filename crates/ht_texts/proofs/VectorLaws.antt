@@ -1,6 +1,5 @@
 -- Which lines are the text of a vector.
-use Rattle.std.proofs.Common.{◌≡◌, ◌≢◌, ◌⊎◌, inl, inr, ℕ, zero, suc, ◌+◌, ◌<◌, List, [], ◌∷◌, Bool, true, false, length, get_or, refl, ap, sym, ◌∙◌, arith}
-use Rattle.std.proofs.lemmas.Grind.{common_steps}
+use Rattle.std.proofs.Common.{◌≡◌, ◌≢◌, ℕ, zero, suc, ◌<◌, List, [], ◌∷◌, Bool, length, get_or, refl, ap, ◌∙◌, arith}
 use Rattle.ht_texts.specs.Tests.{bit_code, vector_text, IsTextOf}
 
 pub length-vector_text : (vector : List Bool) → length (vector_text vector) ≡ length vector

@@ -34,9 +34,13 @@ pub record IsNoVector (c : Netlist) (text : List ℕ) (n : ℕ) : Type 0 where
   pub counted : (0 < n) × (n ≤ length (lines_of text))
   pub none : (vector : List Bool) → ¬ IsTextOf c.inputs (line_at text n) vector
 
+-- how many LFs there are
+abbrev pub lf_count : List ℕ → ℕ
+lf_count bytes = count_by (λ byte. byte == 10) bytes
+
 -- the number, from 1, of the line of the byte at an index: one more than the LFs in front of that byte
 abbrev pub line_of_byte : List ℕ → ℕ → ℕ
-line_of_byte text index = count_by (λ byte. byte == 10) (take index text) + 1
+line_of_byte text index = lf_count (take index text) + 1
 
 -- the text is longer than a text may be, and the first byte too many is in line n
 pub record IsTooLong (text : List ℕ) (n : ℕ) : Type 0 where

@@ -7,6 +7,8 @@
 mod number;
 mod report;
 mod site;
+#[cfg(test)]
+mod tests;
 mod vector;
 
 pub use report::{Sums, push_fault, write_fault, write_head, write_total};

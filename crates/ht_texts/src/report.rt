@@ -59,7 +59,13 @@ fn count_faults(circuit: &Circuit) -> u32
 
 /// The line, with its LF, of the fault at an index of the fault list, from 0, which is first detected at this place, or
 /// nowhere. The line has the fault's number from 1.
-pub fn write_fault(alloc: Global, circuit: &Circuit, index: u32, fault: Fault, place: Option<Place>) -> Result<Vec<u8>, AllocError>
+pub fn write_fault(
+    alloc: Global,
+    circuit: &Circuit,
+    index: u32,
+    fault: Fault,
+    place: Option<Place>,
+) -> Result<Vec<u8>, AllocError>
     requires site { IsSite circuit.now fault.site }
     requires place { ForSome place (IsPlace circuit.now) }
     ensures { IfOk result (λ line. line.items ≡ fault_line circuit.now (index + 1) fault place) }
@@ -70,7 +76,13 @@ pub fn write_fault(alloc: Global, circuit: &Circuit, index: u32, fault: Fault, p
 }
 
 /// Appends the line that `write_fault` gives. After an error the text may hold a part of the line.
-pub fn push_fault(text: &mut Vec<u8>, circuit: &Circuit, index: u32, fault: Fault, place: Option<Place>) -> Result<(), AllocError>
+pub fn push_fault(
+    text: &mut Vec<u8>,
+    circuit: &Circuit,
+    index: u32,
+    fault: Fault,
+    place: Option<Place>,
+) -> Result<(), AllocError>
     requires site { IsSite circuit.now fault.site }
     requires place { ForSome place (IsPlace circuit.now) }
     ensures { OnOk result (text.new.items ≡ text.old.items ++ fault_line circuit.now (index + 1) fault place) }
@@ -85,7 +97,11 @@ pub fn push_fault(text: &mut Vec<u8>, circuit: &Circuit, index: u32, fault: Faul
 }
 
 // Appends what a report says of a fault.
-fn push_verdict(text: &mut Vec<u8>, circuit: &Circuit, place: Option<Place>) -> Result<(), AllocError>
+fn push_verdict(
+    text: &mut Vec<u8>,
+    circuit: &Circuit,
+    place: Option<Place>,
+) -> Result<(), AllocError>
     requires { ForSome place (IsPlace circuit.now) }
     ensures { OnOk result (text.new.items ≡ text.old.items ++ verdict_text circuit.now place) }
 {

@@ -17,13 +17,23 @@ pub fn push_site(text: &mut Vec<u8>, circuit: &Circuit, site: Site) -> Result<()
         Site::Stem(net) => text.extend_from_slice(circuit.name(net)),
         Site::DffPin { dff } => push_pin(text, circuit, NetId(circuit.inputs() + dff), 1),
         Site::GatePin { gate, pin } => {
-            push_pin(text, circuit, NetId(first_gate_net + gate), u64::from(pin) + 1)
+            push_pin(
+                text,
+                circuit,
+                NetId(first_gate_net + gate),
+                u64::from(pin) + 1,
+            )
         }
     }
 }
 
 // Appends the text of a pin, by the net that its flip-flop or gate drives and its number from 1.
-fn push_pin(text: &mut Vec<u8>, circuit: &Circuit, net: NetId, number: u64) -> Result<(), AllocError>
+fn push_pin(
+    text: &mut Vec<u8>,
+    circuit: &Circuit,
+    net: NetId,
+    number: u64,
+) -> Result<(), AllocError>
     requires { net.0 < net_count circuit.now }
     ensures { OnOk result (text.new.items ≡ text.old.items ++ pin_text circuit.now net.0 number) }
 {
