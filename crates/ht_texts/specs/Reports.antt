@@ -47,7 +47,7 @@ fault_line c number fault place =
 
 -- the lines of faults that are first detected at these places, numbered from 1
 abbrev pub fault_lines : Netlist → List Fault → List (Option Place) → List ℕ
-fault_lines c faults places = flat_map (λ line. fault_line c line.0 line.1.0 line.1.1) (enumerate_from 1 (zip faults places))
+fault_lines c faults places = flat_map (λ (number, (fault, place)). fault_line c number fault place) (enumerate_from 1 (zip faults places))
 
 abbrev pub total_line : ℕ → ℕ → List ℕ
 total_line classes detected = codes "total " ++ decimal classes ++ codes " detected " ++ decimal detected ++ codes "\n"

@@ -4,12 +4,16 @@
 //! names the lines of a circuit; `specs/Reports` has the report of a fault simulation, line for line.
 #![tactic(auto)]
 
+mod fault_line;
+mod head;
 mod number;
-mod report;
 mod site;
 #[cfg(test)]
 mod tests;
+mod total;
 mod vector;
 
-pub use report::{Sums, push_fault, write_fault, write_head, write_total};
+pub use fault_line::{push_fault, write_fault};
+pub use head::write_head;
+pub use total::{Sums, write_total};
 pub use vector::{read_vector, write_vector};

@@ -1,5 +1,5 @@
 use Rattle.ht_texts.proofs.ReportLaws.{four_counts}
-use Rattle.ht_texts.proofs.report.push_circuit_sizes.Goals as goal
+use Rattle.ht_texts.proofs.head.push_circuit_sizes.Goals as goal
 
 pub returns : goal.returns
 returns c =
