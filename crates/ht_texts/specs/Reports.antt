@@ -26,6 +26,7 @@ circuit_sizes c =
 abbrev pub fault_sizes : Netlist → List ℕ
 fault_sizes c = codes " faults " ++ decimal (fault_count c) ++ codes " classes " ++ decimal (class_count c)
 
+-- the first line of the report
 abbrev pub head_line : Netlist → List ℕ
 head_line c = circuit_sizes c ++ fault_sizes c ++ codes "\n"
 
@@ -49,6 +50,7 @@ fault_line c number fault place =
 abbrev pub fault_lines : Netlist → List Fault → List (Option Place) → List ℕ
 fault_lines c faults places = flat_map (λ (number, (fault, place)). fault_line c number fault place) (enumerate_from 1 (zip faults places))
 
+-- the last line of the report: how many classes there are, and how many of them are detected
 abbrev pub total_line : ℕ → ℕ → List ℕ
 total_line classes detected = codes "total " ++ decimal classes ++ codes " detected " ++ decimal detected ++ codes "\n"
 

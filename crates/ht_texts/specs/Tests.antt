@@ -47,6 +47,7 @@ pub record IsTooLong (text : List ℕ) (n : ℕ) : Type 0 where
   pub long : 2 ^ 62 < length text
   pub line : n ≡ line_of_byte text (2 ^ 62)
 
+-- line n is no vector's, or the text gets too long in it
 abbrev pub IsWrongLine : Netlist → List ℕ → ℕ → Type 0
 IsWrongLine c text n = IsNoVector c text n ⊎ IsTooLong text n
 
