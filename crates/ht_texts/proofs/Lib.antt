@@ -1,0 +1,4 @@
+pub mod ReadLaws
+pub mod ReportLaws
+pub mod TestLaws
+pub mod VectorLaws

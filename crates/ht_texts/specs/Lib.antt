@@ -1,0 +1,3 @@
+pub mod Tests
+pub mod Sites
+pub mod Reports

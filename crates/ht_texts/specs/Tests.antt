@@ -1,0 +1,57 @@
+-- The text of a list of vectors: one line for each vector, with one character for each input.
+use Rattle.std.specs.Prelude.{◌≡◌, ◌==◌, ◌⊎◌, ◌<◌, ◌≤◌, ◌+◌, ◌-◌, ◌^◌, ℕ, List, [], Bool, true, false, length, take, map, get_or}
+use Rattle.std.specs.List.{All, count_by}
+use Rattle.ht_net.specs.Netlist.{Netlist}
+use Rattle.ht_ports.specs.Cutting.{lines_of}
+
+-- the character of a bit, `0` or `1`
+abbrev pub bit_code : Bool → ℕ
+bit_code false = 48
+bit_code true = 49
+
+-- the characters of a vector, in input order
+abbrev pub vector_text : List Bool → List ℕ
+vector_text vector = map bit_code vector
+
+-- the line is the text of this vector, which has one bit for each of so many inputs
+pub record IsTextOf (width : ℕ) (line : List ℕ) (vector : List Bool) : Type 0 where
+  pub characters : line ≡ vector_text vector
+  pub bits : length vector ≡ width
+
+-- The lines of the text are those of this list, each vector has one bit for each input of the circuit, and the text is
+-- no longer than a text may be.
+pub record IsTestText (c : Netlist) (text : List ℕ) (list : List (List Bool)) : Type 0 where
+  pub lines : lines_of text ≡ map vector_text list
+  pub widths : All (λ (vector : List Bool). length vector ≡ c.inputs) list
+  pub short : length text ≤ 2 ^ 62
+
+-- line n of a text, from 1
+abbrev pub line_at : List ℕ → ℕ → List ℕ
+line_at text n = get_or (lines_of text) (n - 1) []
+
+-- line n is there, and no vector of the circuit has it as its text
+pub record IsNoVector (c : Netlist) (text : List ℕ) (n : ℕ) : Type 0 where
+  pub counted : (0 < n) × (n ≤ length (lines_of text))
+  pub none : (vector : List Bool) → ¬ IsTextOf c.inputs (line_at text n) vector
+
+-- how many LFs there are
+abbrev pub lf_count : List ℕ → ℕ
+lf_count bytes = count_by (λ byte. byte == 10) bytes
+
+-- the number, from 1, of the line of the byte at an index: one more than the LFs in front of that byte
+abbrev pub line_of_byte : List ℕ → ℕ → ℕ
+line_of_byte text index = lf_count (take index text) + 1
+
+-- the text is longer than a text may be, and the first byte too many is in line n
+pub record IsTooLong (text : List ℕ) (n : ℕ) : Type 0 where
+  pub long : 2 ^ 62 < length text
+  pub line : n ≡ line_of_byte text (2 ^ 62)
+
+-- line n is no vector's, or the text gets too long in it
+abbrev pub IsWrongLine : Netlist → List ℕ → ℕ → Type 0
+IsWrongLine c text n = IsNoVector c text n ⊎ IsTooLong text n
+
+-- The text is no test text of the circuit, and line n, from 1, is the first that shows it.
+pub record IsMalformedTest (c : Netlist) (text : List ℕ) (n : ℕ) : Type 0 where
+  pub wrong : IsWrongLine c text n
+  pub first : (m : ℕ) → m < n → ¬ IsWrongLine c text m
