@@ -1,5 +1,5 @@
 // Lines byte for byte.
-use crate::{Sums, read_vector, write_fault, write_head, write_total, write_vector};
+use crate::{Sums, push_fault, read_vector, write_fault, write_head, write_total, write_vector};
 use ht_net::{Builder, Circuit, Fault, NetError, NetId, Place, Site};
 use std::alloc::Global;
 use std::test::Fail;
@@ -26,41 +26,42 @@ fn vectors(rt: HostRuntime) -> Result<(), Fail> {
     Ok(())
 }
 
-// The report of vectors 1, 0, 0 at a shift register of two flip-flops, and the text of a flip-flop's pin.
+const REPORT: &[u8] = b"circuit inputs 1 outputs 1 flip-flops 2 gates 0 faults 6 classes 6
+1 a s-a-0 detected 3 r
+2 a s-a-1 undetected
+3 q s-a-0 detected 3 r
+4 q s-a-1 undetected
+5 r s-a-0 detected 3 r
+6 r s-a-1 undetected
+total 6 detected 3
+";
+
+// Under the vectors 1, 0, 0 each line that is stuck at 0 shows at the third, and none that is stuck at 1 does.
 #[test]
 fn report(rt: HostRuntime) -> Result<(), Fail> {
     let circuit = shift_register(rt.alloc())?;
-    let detected = Some(Place {
-        vector: 2,
-        output: 0,
-    });
-    let (a, q, r) = (
-        Site::Stem(NetId(0)),
-        Site::Stem(NetId(1)),
-        Site::Stem(NetId(2)),
-    );
-    let table: [(Site, bool, Option<Place>, &[u8]); 7] = [
-        (a, false, detected, b"1 a s-a-0 detected 3 r\n"),
-        (a, true, None, b"2 a s-a-1 undetected\n"),
-        (q, false, detected, b"3 q s-a-0 detected 3 r\n"),
-        (q, true, None, b"4 q s-a-1 undetected\n"),
-        (r, false, detected, b"5 r s-a-0 detected 3 r\n"),
-        (r, true, None, b"6 r s-a-1 undetected\n"),
-        (
-            Site::DffPin { dff: 1 },
-            true,
+    assert!(rt; circuit.nets() == 3 && circuit.outputs() == 1 && circuit.dffs() == 2);
+    let mut text = write_head(rt.alloc(), &circuit)?;
+    for net in 0..3 {
+        let site = Site::Stem(NetId(net));
+        let place = Place {
+            vector: 2,
+            output: 0,
+        };
+        push_fault(
+            &mut text,
+            &circuit,
+            2 * net,
+            Fault { site, value: false },
+            Some(place),
+        )?;
+        push_fault(
+            &mut text,
+            &circuit,
+            2 * net + 1,
+            Fault { site, value: true },
             None,
-            b"7 r(1) s-a-1 undetected\n",
-        ),
-    ];
-    let head = write_head(rt.alloc(), &circuit)?;
-    assert_eq!(rt;
-        head.as_slice(),
-        b"circuit inputs 1 outputs 1 flip-flops 2 gates 0 faults 6 classes 6\n".as_slice()
-    );
-    for (index, (site, value, place, want)) in (0..).zip(table) {
-        let line = write_fault(rt.alloc(), &circuit, index, Fault { site, value }, place)?;
-        assert_eq!(rt; line.as_slice(), want);
+        )?;
     }
     let total = write_total(
         rt.alloc(),
@@ -69,7 +70,14 @@ fn report(rt: HostRuntime) -> Result<(), Fail> {
             detected: 3,
         },
     )?;
-    assert_eq!(rt; total.as_slice(), b"total 6 detected 3\n".as_slice());
+    text.extend_from_slice(&total)?;
+    assert_eq!(rt; text.as_slice(), REPORT);
+    let fault = Fault {
+        site: Site::DffPin { dff: 1 },
+        value: true,
+    };
+    let pin = write_fault(rt.alloc(), &circuit, 6, fault, None)?;
+    assert_eq!(rt; pin.as_slice(), b"7 r(1) s-a-1 undetected\n".as_slice());
     Ok(())
 }
 
@@ -77,11 +85,16 @@ fn report(rt: HostRuntime) -> Result<(), Fail> {
 fn shift_register(alloc: Global) -> Result<Circuit, NetError> {
     let mut builder = Builder::new(alloc);
     let a = builder.net(b"a")?;
-    let q = builder.net(b"q")?;
-    let r = builder.net(b"r")?;
     builder.input(a)?;
-    builder.dff(q, a)?;
-    builder.dff(r, q)?;
+    let r = builder.net(b"r")?;
     builder.output(r)?;
+    add_dff(&mut builder, b"q", b"a")?;
+    add_dff(&mut builder, b"r", b"q")?;
     builder.finish()
+}
+
+fn add_dff(builder: &mut Builder, out: &[u8], data_pin: &[u8]) -> Result<(), NetError> {
+    let out = builder.net(out)?;
+    let data_pin = builder.net(data_pin)?;
+    builder.dff(out, data_pin)
 }

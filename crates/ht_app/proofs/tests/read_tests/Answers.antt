@@ -1,0 +1,136 @@
+use Rattle.std.proofs.Common.{◌≡◌, ◌<◌, ◌≤◌, ◌+◌, ◌^◌, ◌++◌, ◌∷◌, ℕ, List, [], Bool, length, Some, None, Option, true, false, IsTrue, ap, subst, sym, ◌∙◌, refl, rules, arith}
+use Rattle.std.specs.Prelude.{is_ok}
+use Rattle.std.proofs.lemmas.List.{length-append}
+use Rattle.std.specs.Io.KnownBytes.{prepend_known, IsAtEnd}
+use Rattle.ht_ports.specs.Desk.{InCall, Reads, DeskView}
+use Rattle.ht_ports.specs.Lines.{rest_of, LinesView, Next, Gives}
+use Rattle.ht_ports.specs.Cutting.{NextLine, IsTooLongLine}
+use Rattle.ht_ports.specs.declared.ports.InPort.{InPort}
+use Rattle.ht_ports.specs.declared.ports.InPort.TheVariants.{Tests}
+use Rattle.ht_ports.proofs.NextLemmas.{next_some, next_none}
+use Rattle.ht_ports.proofs.Calls.{in_call_trans}
+use Rattle.ht_net.specs.Netlist.{Netlist}
+use Rattle.ht_texts.specs.Tests.{IsTextOf, IsTestText, IsMalformedTest}
+use Rattle.ht_app.specs.Run.{IsInput}
+use Rattle.ht_app.proofs.TestLines.{SoFar, so_far_start, so_far_next, so_far_end, bad_line, too_long}
+use Rattle.ht_app.proofs.tests.read_tests.Goals as goal
+
+pub lines-init : goal.lines-init
+lines-init g c =
+    let lines = c.in-Ok.lines in
+    let made = c.in-Ok.ensures in
+    let desk = g.D.Desk.view c.open.new.self in
+    let rest : (text : List ℕ) → desk.left Tests ≡ Some text → rest_of lines desk ≡ Some text = λ text is. ap (λ l. rest_of l desk) made ∙ ap (prepend_known []) is in
+    let none : c.new-list.result.list ≡ [] = ap (λ v. v.list) c.new-list.ensures in
+    let start : (text : List ℕ) → SoFar c.args.circuit.now text lines.passed c.new-list.result.list text =
+    λ text. subst (λ (n : ℕ). SoFar c.args.circuit.now text n c.new-list.result.list text) (sym (ap (λ l. l.passed) made))
+        (subst (λ (d : List (List Bool)). SoFar c.args.circuit.now text 0 d text) (sym none) (so_far_start c.args.circuit.now text)) in
+    record {
+      port = ap (λ l. l.port) made;
+      most = ap (λ l. l.most) made;
+      live = search rules;
+      open_now = c.in_default.ensures.opened.is_open;
+      frame = c.in_default.ensures.frame;
+      fits = search rules;
+      counted = ap length none ∙ sym (ap (λ l. l.given) made);
+      below = search rules;
+      width = search rules;
+      so_far = λ text is. (text, rest text (c.in_default.ensures.opened.bytes text is.file is.told), start text);
+    }
+
+pub overflow_add-result : goal.overflow_add-result
+overflow_add-result g c =
+    let before = c.lines.invariant in
+    let same : c.push_line.new.list.list ≡ c.lines.list.list = search rules in
+    omega (arith, c.len.ensures, ap length same, before.counted, before.below, before.fits)
+
+-- a read is a call on the port
+read_call : (port : InPort) (a b c : DeskView) → port ≡ Tests → InCall Tests a b → Reads port b c → InCall Tests a c
+read_call port a b c same p q = in_call_trans Tests a b c p (subst (λ (o : InPort). Reads o b c) same q).call
+
+-- the list so far, one line later
+more : (c : Netlist) (name line : List ℕ) (list : List (List Bool)) (vector : List Bool) (first a b : DeskView) (old new : LinesView)
+    → ((text : List ℕ) → IsInput Tests name text first → (rest : List ℕ) × (rest_of old a ≡ Some rest) × SoFar c text old.passed list rest)
+    → Gives line old new a b → IsTextOf c.inputs line vector → (text : List ℕ) → IsInput Tests name text first
+    → (rest : List ℕ) × (rest_of new b ≡ Some rest) × SoFar c text new.passed (list ++ vector ∷ []) rest
+more c name line list vector first a b old new so gives of text is =
+    let before = so text is in
+    let after = so_far_next c text old.passed list before.0 line gives.count (rest_of new b) vector before.2 (subst (λ (r : Option (List ℕ)). NextLine line gives.count r (rest_of new b)) before.1 gives.next) of in
+    (after.0, after.1, subst (λ (n : ℕ). SoFar c text n (list ++ vector ∷ []) after.0) (sym gives.passed) after.2)
+
+pub lines-preserved : goal.lines-preserved
+lines-preserved g c =
+    let before = c.lines.invariant in
+    let after = c.next.follows.lender-at-none in
+    let a = g.D.Desk.view c.lines.desk in
+    let b = g.D.Desk.view c.next.new.desk in
+    let next : Next c.lines.lines after a b c.next.result = c.next.follows.holds-at-none in
+    let gives = next_some c.lines.lines after a b c.next.result _ c.in-Ok-Some.line next c.in-Ok-Some.is c.in-Ok-Some.field-0-is in
+    let port : after.port ≡ Tests = next.port ∙ before.port in
+    let reads = c.in-Ok-Some.ensures.frame in
+    let lives : after.live ≡ true = next.live ∙ ap is_ok c.in-Ok-Some.is in
+    let live : IsTrue after.live = search rules in
+    let open_now : IsTrue (b.is_open Tests) = subst (λ (f : InPort → Bool). IsTrue (f Tests)) (sym reads.is_open) before.open_now in
+    let taken : (vector : List Bool) × IsTextOf c.lines.list.width c.in-Ok-Some.line.now vector × (c.push_line.new.list.list ≡ c.lines.list.list ++ vector ∷ []) = search rules in
+    record {
+      port = port;
+      most = next.most ∙ before.most;
+      live = live;
+      open_now = open_now;
+      frame = read_call c.lines.lines.port _ a b before.port before.frame reads;
+      fits = gives.fits;
+      counted = omega (arith, ap length taken.2, length-append c.lines.list.list (taken.0 ∷ []), before.counted, gives.given);
+      below = omega (arith, gives.given, gives.passed, gives.some, before.below);
+      width = search (rules, before.width);
+      so_far = λ text is.
+          let of : IsTextOf c.args.circuit.now.inputs c.in-Ok-Some.line.now taken.0 = subst (λ (w : ℕ). IsTextOf w c.in-Ok-Some.line.now taken.0) before.width taken.1 in
+          let all = more c.args.circuit.now c.args.name.now c.in-Ok-Some.line.now c.lines.list.list taken.0 (g.D.Desk.view c.args.desk.now) a b c.lines.lines after before.so_far gives of text is in
+          (all.0, all.1, subst (λ (l : List (List Bool)). SoFar c.args.circuit.now text after.passed l all.0) (sym taken.2) all.2);
+    }
+
+pub returns-then-not-branch-clause-cause : goal.returns-then-not-branch-clause-cause
+returns-then-not-branch-clause-cause g c =
+    let before = c.lines.invariant in
+    let after = c.next.follows.lender-at-none in
+    let a = g.D.Desk.view c.lines.desk in
+    let b = g.D.Desk.view c.next.new.desk in
+    let next : Next c.lines.lines after a b c.next.result = c.next.follows.holds-at-none in
+    let gives = next_some c.lines.lines after a b c.next.result _ c.in-Ok-Some.line next c.in-Ok-Some.is c.in-Ok-Some.field-0-is in
+    let refused : (c.push_line.new.list ≡ c.lines.list) × ((vector : List Bool) → ¬ IsTextOf c.lines.list.width c.in-Ok-Some.line.now vector) = search rules in
+    let at : c.len.result ≡ length c.lines.list.list = c.len.ensures ∙ ap (λ v. length v.list) refused.0 in
+    λ text is.
+    let so = before.so_far text is in
+    let step = subst (λ (r : Option (List ℕ)). NextLine c.in-Ok-Some.line.now gives.count r (rest_of after b)) so.1 gives.next in
+    let none : (vector : List Bool) → ¬ IsTextOf c.args.circuit.now.inputs c.in-Ok-Some.line.now vector =
+        subst (λ (w : ℕ). (vector : List Bool) → ¬ IsTextOf w c.in-Ok-Some.line.now vector) before.width refused.1 in
+    subst (λ (n : ℕ). IsMalformedTest c.args.circuit.now text (n + 1)) (sym at)
+      (bad_line c.args.circuit.now text c.lines.lines.passed c.lines.list.list so.0 c.in-Ok-Some.line.now gives.count (rest_of after b) so.2 before.fits gives.some step none)
+
+pub returns-in-Ok-None-clause-list : goal.returns-in-Ok-None-clause-list
+returns-in-Ok-None-clause-list g c =
+    let before = c.lines.invariant in
+    let after = c.next.follows.lender-at-none in
+    let a = g.D.Desk.view c.lines.desk in
+    let b = g.D.Desk.view c.next.new.desk in
+    let next : Next c.lines.lines after a b c.next.result = c.next.follows.holds-at-none in
+    let none = next_none c.lines.lines after a b c.next.result _ next c.in-Ok-None.is c.in-Ok-None.field-0-is in
+    λ text is.
+    let so = before.so_far text is in
+    let end : so.0 ≡ [] = subst IsAtEnd (none.rest ∙ so.1) none.at_end in
+    so_far_end c.args.circuit.now text c.lines.lines.passed c.lines.list.list so.0 so.2 end before.fits
+
+pub returns-in-Err-TooLong-clause-cause : goal.returns-in-Err-TooLong-clause-cause
+returns-in-Err-TooLong-clause-cause g c =
+    let before = c.lines.invariant in
+    let cause = rw c.in-Err-TooLong.field-0-is at c.in-Err-TooLong.ensures.cause in
+    let few : c.args.circuit.now.inputs ≤ 4096 = c.requires.few_inputs in
+    λ text is.
+    let so = before.so_far text is in
+    let long : IsTooLongLine 4096 c.lines.lines.passed so.0 = subst (λ (m : ℕ). IsTooLongLine m c.lines.lines.passed so.0) before.most (cause.1 so.0 so.1) in
+    subst (λ (n : ℕ). IsMalformedTest c.args.circuit.now text n) (omega (arith, cause.0, before.counted))
+      (too_long c.args.circuit.now text c.lines.lines.passed c.lines.list.list so.0 so.2 before.fits few long)
+
+pub returns-in-Ok-None-clause-few : goal.returns-in-Ok-None-clause-few
+returns-in-Ok-None-clause-few g c =
+    let before = c.lines.invariant in
+    omega (arith, before.counted, before.below, before.fits)

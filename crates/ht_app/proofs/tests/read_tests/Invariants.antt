@@ -1,0 +1,24 @@
+use Rattle.std.proofs.Common.{◌≡◌, ◌+◌, ◌-◌, ◌^◌, ◌≤◌, ℕ, List, length, IsTrue, Some}
+use Rattle.ht_ports.specs.Desk.{InCall}
+use Rattle.ht_ports.specs.Lines.{rest_of}
+use Rattle.ht_ports.specs.declared.ports.InPort.TheVariants.{Tests}
+use Rattle.ht_app.specs.Run.{IsInput}
+use Rattle.ht_app.proofs.TestLines.{SoFar}
+use Rattle.ht_app.proofs.tests.read_tests.Given as goal
+
+abbrev pub invariant-lines : goal.invariant-lines
+invariant-lines g l = record {
+  port : l.lines.port ≡ Tests;
+  most : l.lines.most ≡ 4096;
+  live : IsTrue l.lines.live;
+  open_now : IsTrue ((g.D.Desk.view l.desk).is_open Tests);
+  frame : InCall Tests (g.D.Desk.view l.fn.desk) (g.D.Desk.view l.desk);
+  fits : l.lines.passed ≤ 2 ^ 62;
+  counted : length l.list.list ≡ l.lines.given;
+  below : l.lines.given ≤ l.lines.passed;
+  width : l.list.width ≡ l.circuit.inputs;
+  so_far : (text : List ℕ) → IsInput Tests l.name text (g.D.Desk.view l.fn.desk) → (rest : List ℕ) × (rest_of l.lines (g.D.Desk.view l.desk) ≡ Some rest) × SoFar l.circuit text l.lines.passed l.list.list rest;
+}
+
+abbrev pub decreases-lines : goal.decreases-lines
+decreases-lines g l = 2 ^ 62 + 1 - l.lines.passed

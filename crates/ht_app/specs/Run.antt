@@ -1,0 +1,152 @@
+-- What a run answers, and what stands behind each answer.
+use Rattle.std.specs.Prelude.{◌≡◌, ◌≢◌, ◌⊎◌, ℕ, ◌+◌, ◌^◌, ◌<◌, ◌≤◌, List, [], ◌∷◌, ◌++◌, Bool, length, take, Some, None, IsSome, IsTrue, is_some, String, codes, Option, nat_lt}
+use Rattle.std.specs.Fmt.{decimal}
+use Rattle.std.specs.declared.alloc.Global.{Global}
+use Rattle.std.specs.Option.{option_map}
+use Rattle.std.specs.Io.KnownBytes.{append_known}
+use Rattle.ht_tern.specs.Gate.{AllRelated}
+use Rattle.ht_ports.specs.Causes.{Rose}
+use Rattle.ht_ports.specs.Desk.{DeskView, Holds}
+use Rattle.ht_ports.specs.declared.ports.InPort.{InPort}
+use Rattle.ht_ports.specs.declared.ports.InPort.TheVariants.{Netlist, Tests}
+use Rattle.ht_ports.specs.declared.ports.OutPort.{OutPort}
+use Rattle.ht_ports.specs.declared.ports.OutPort.TheVariants.{Report, Out, Err}
+use Rattle.ht_net.specs.declared.site.Place.{Place}
+use Rattle.ht_net.specs.Netlist as net
+use Rattle.ht_net.specs.Faults.{stem_faults_of}
+use Rattle.ht_net.specs.Detection.{IsFirstDetection}
+use Rattle.ht_bench.specs.declared.fault.PlainFault.TheVariants as plain
+use Rattle.ht_bench.specs.Plain.{StandsForPlain, StandsForNone, RefusesPlain}
+use Rattle.ht_texts.specs.Tests.{IsTestText, IsMalformedTest}
+use Rattle.ht_texts.specs.Reports.{report_text, total_line, class_count, detected_count}
+use Rattle.ht_app.specs.declared.trouble.Trouble.{Trouble}
+use Rattle.ht_app.specs.declared.trouble.Trouble.TheVariants.{Usage, TooLong, BadLine, ReadFault, WriteFault, NoMemory, BadTests}
+use Rattle.ht_app.specs.Words.{AskForSim, netlist_name, tests_name, report_name}
+
+-- ---- the texts that go in
+
+-- the greatest number of bytes of a netlist
+abbrev pub most_bytes : ℕ
+most_bytes = 16777216
+
+-- the desk tells that the file of this name holds this text, and tells what is left of the port
+pub record IsInput (port : InPort) (name text : List ℕ) (desk : DeskView) : Type 0 where
+  pub file : desk.file name ≡ Some (Some text)
+  pub told : IsSome (desk.left port)
+
+-- the text is a netlist of this circuit, and no longer than a netlist may be
+pub record IsAccepted (text : List ℕ) (c : net.Netlist) : Type 0 where
+  pub stands : StandsForPlain text c
+  pub short : length text ≤ most_bytes
+
+-- the netlist that the words name is accepted
+abbrev pub AcceptsNetlist : List (String Global) → DeskView → Type 0
+AcceptsNetlist words old = (text : List ℕ) → IsInput Netlist (netlist_name words) text old → (c : net.Netlist) × IsAccepted text c
+
+-- and the tests are vectors of its circuit
+abbrev pub AcceptsInputs : List (String Global) → DeskView → Type 0
+AcceptsInputs words old = (netlist tests : List ℕ) → IsInput Netlist (netlist_name words) netlist old → IsInput Tests (tests_name words) tests old
+    → (c : net.Netlist) × IsAccepted netlist c × ((list : List (List Bool)) × IsTestText c tests list)
+
+-- ---- the work of `sim`
+
+-- the first place of detection of each fault, in the order of the fault list
+abbrev pub AreFirstDetections : net.Netlist → List (List Bool) → List (Option Place) → Type 0
+AreFirstDetections c list places = AllRelated (λ fault place. IsFirstDetection c fault list place) (stem_faults_of c) places
+
+-- The report and the total line of a circuit over the vectors of a tests text.
+pub record IsSimulated (netlist tests report total : List ℕ) : Type 0 where
+  pub circuit : net.Netlist
+  pub list : List (List Bool)
+  pub places : List (Option Place)
+  pub accepted : IsAccepted netlist circuit
+  pub vectors : IsTestText circuit tests list
+  pub detections : AreFirstDetections circuit list places
+  pub report_is : report ≡ report_text circuit places
+  pub total_is : total ≡ total_line (class_count circuit) (detected_count places)
+
+-- The report stands under its name, the total line was added to Out, and Err is as it was.
+pub record SimDone (words : List (String Global)) (old new : DeskView) : Type 0 where
+  pub is_created : IsTrue (new.is_created Report)
+  pub named : new.named Report ≡ option_map (λ _. report_name words) (old.named Report)
+  pub quiet : new.written Err ≡ old.written Err
+  pub netlist : AcceptsNetlist words old
+  pub texts : (netlist tests : List ℕ) → IsInput Netlist (netlist_name words) netlist old → IsInput Tests (tests_name words) tests old
+      → (report total : List ℕ) × IsSimulated netlist tests report total
+        × (new.written Report ≡ option_map (λ _. report) (old.written Report)) × (new.written Out ≡ append_known (old.written Out) total)
+
+-- ---- why a run ends without its work
+
+-- the status of each trouble
+abbrev pub status_of : Trouble → ℕ
+status_of Usage = 2
+status_of TooLong = 3
+status_of (BadLine line) = 3
+status_of ReadFault = 4
+status_of WriteFault = 5
+status_of NoMemory = 6
+status_of (BadTests line) = 7
+
+-- and its line on Err
+abbrev pub line_of : Trouble → List ℕ
+line_of Usage = codes "usage: sim NETLIST TESTS REPORT\n"
+line_of TooLong = codes "netlist: too long\n"
+line_of (BadLine line) = codes "netlist: line " ++ (decimal line ++ codes ": bad line\n")
+line_of ReadFault = codes "read fault\n"
+line_of WriteFault = codes "write fault\n"
+line_of NoMemory = codes "no memory\n"
+line_of (BadTests line) = codes "tests: line " ++ (decimal line ++ codes "\n")
+
+-- no port was opened, and nothing was read
+pub record NothingIn (old new : DeskView) : Type 0 where
+  pub left : new.left ≡ old.left
+  pub is_open : new.is_open ≡ old.is_open
+
+-- What holds where a run ends by a trouble. Want of memory is the one free answer.
+abbrev pub HasCause : List (String Global) → DeskView → DeskView → Trouble → Type 0
+HasCause words old new Usage = (¬ AskForSim words) × NothingIn old new
+HasCause words old new TooLong = (text : List ℕ) → IsInput Netlist (netlist_name words) text old → most_bytes < length text
+HasCause words old new (BadLine line) = (text : List ℕ) → IsInput Netlist (netlist_name words) text old
+    → (length text ≤ most_bytes) × RefusesPlain text (plain.BadLine line) × StandsForNone text (plain.BadLine line)
+HasCause words old new ReadFault = Rose old.in_faults new.in_faults
+    × (IsTrue old.steady → Holds old (netlist_name words) → ¬ Holds old (tests_name words))
+HasCause words old new WriteFault = Rose old.out_faults new.out_faults × (¬ IsTrue old.steady) × AcceptsNetlist words old × AcceptsInputs words old
+HasCause words old new NoMemory = Unit {0}
+HasCause words old new (BadTests line) = AcceptsNetlist words old × ((netlist tests : List ℕ) → IsInput Netlist (netlist_name words) netlist old → IsInput Tests (tests_name words) tests old
+    → (c : net.Netlist) × IsAccepted netlist c × IsMalformedTest c tests line)
+
+-- Err gets this line, or a part of its front where the write failed
+pub record SaysOnErr (line : List ℕ) (old new : DeskView) : Type 0 where
+  pub count : ℕ
+  pub added : new.written Err ≡ append_known (old.written Err) (take count line)
+  pub whole : (count ≡ length line) ⊎ Rose old.out_faults new.out_faults
+
+-- The run ended by a trouble that has its cause, and says so.
+pub record EndsBy (words : List (String Global)) (status : ℕ) (old new : DeskView) : Type 0 where
+  pub trouble : Trouble
+  pub is : status ≡ status_of trouble
+  pub cause : HasCause words old new trouble
+  pub says : SaysOnErr (line_of trouble) old new
+
+-- ---- what stands afterwards
+
+-- nothing is created, and nothing comes out but on Err
+pub record OnlyErr (old new : DeskView) : Type 0 where
+  pub written : (p : OutPort) → p ≢ Err → new.written p ≡ old.written p
+  pub named : new.named ≡ old.named
+  pub is_created : new.is_created ≡ old.is_created
+  pub file : new.file ≡ old.file
+
+-- Nothing is created but Report, under its name; nothing comes out but on Report, Out and Err; no file changes but that
+-- of the report's name.
+pub record OnlyReport (name : List ℕ) (old new : DeskView) : Type 0 where
+  pub written : (p : OutPort) → p ≢ Report → p ≢ Out → p ≢ Err → new.written p ≡ old.written p
+  pub named : (p : OutPort) → p ≢ Report → new.named p ≡ old.named p
+  pub is_created : (p : OutPort) → p ≢ Report → new.is_created p ≡ old.is_created p
+  pub report : (new.named Report ≡ old.named Report) ⊎ (new.named Report ≡ option_map (λ _. name) (old.named Report))
+  pub file : IsSome (old.named Report) → (n : List ℕ) → n ≢ name → new.file n ≡ old.file n
+
+-- neither count of faults rose
+pub record Faultless (old new : DeskView) : Type 0 where
+  pub reads : ¬ Rose old.in_faults new.in_faults
+  pub writes : ¬ Rose old.out_faults new.out_faults

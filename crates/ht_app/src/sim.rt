@@ -1,0 +1,65 @@
+// The command `sim`.
+ghost use Rattle.std.specs.Prelude.{◌≡◌, ◌≢◌, ◌≤◌, ◌^◌, length, IfOk, IfErr, OnOk};
+ghost use Rattle.ht_app.specs.Words.{AskForSim, report_name};
+ghost use Rattle.ht_app.specs.Run.{SimDone, HasCause, AcceptsNetlist};
+ghost use Rattle.ht_app.specs.Simulation.{IsReportOf};
+ghost use Rattle.ht_app.specs.Causes.{NothingOut, OnlyWork, SimulateCause, AreTexts};
+ghost use Rattle.ht_app.specs.declared.trouble.Trouble.TheVariants as trouble;
+
+use crate::netlist::read_netlist;
+use crate::report::write_report;
+use crate::simulation::{body_of, detections, total_of};
+use crate::tests::read_tests;
+use crate::trouble::Trouble;
+use crate::words::word;
+use ht_net::{Circuit, Vectors};
+use ht_ports::Desk;
+use std::alloc::{AllocError, Global};
+
+/// The report without its last line, and that line.
+#[derive(Drop)]
+struct Texts {
+    body: Vec<u8>,
+    total: Vec<u8>,
+}
+
+// Simulates each fault over the vectors.
+fn texts_of(alloc: Global, circuit: &Circuit, list: &Vectors) -> Result<Texts, AllocError>
+    requires width { list.now.width ≡ circuit.now.inputs }
+    requires few { length list.now.list ≤ 2 ^ 62 }
+    ensures { IfOk result (λ texts. IsReportOf circuit.now list.now.list texts.body.items texts.total.items) }
+{
+    let places = detections(alloc, circuit, list)?;
+    let body = body_of(alloc, circuit, &places)?;
+    let total = total_of(alloc, circuit, &places)?;
+    Ok(Texts { body, total })
+}
+
+// Reads the netlist and the tests, and simulates.
+fn simulate<D: Desk>(alloc: Global, words: &[String], desk: &mut D) -> Result<Texts, Trouble>
+    requires { AskForSim words.now }
+    ensures frame { NothingOut (D.view desk.old) (D.view desk.new) }
+    ensures netlist { OnOk result (AcceptsNetlist words.now (D.view desk.old)) }
+    ensures texts { IfOk result (λ texts. AreTexts words.now (D.view desk.old) texts.body.items texts.total.items) }
+    ensures cause { IfErr result (SimulateCause words.now (D.view desk.old) (D.view desk.new)) }
+{
+    let circuit = read_netlist(alloc, desk, word(words, 1))?;
+    let list = read_tests(alloc, desk, word(words, 2), &circuit)?;
+    let Ok(texts) = texts_of(alloc, &circuit, &list) else {
+        return Err(Trouble::NoMemory);
+    };
+    Ok(texts)
+}
+
+/// Runs `sim`: reads, simulates, and writes the report.
+pub fn sim<D: Desk>(alloc: Global, words: &[String], desk: &mut D) -> Result<(), Trouble>
+    requires { AskForSim words.now }
+    ensures frame { OnlyWork (report_name words.now) (D.view desk.old) (D.view desk.new) }
+    ensures done { OnOk result (SimDone words.now (D.view desk.old) (D.view desk.new)) }
+    ensures cause { IfErr result (HasCause words.now (D.view desk.old) (D.view desk.new)) }
+    ensures nothing { IfErr result (λ e. e ≢ trouble.WriteFault → NothingOut (D.view desk.old) (D.view desk.new)) }
+{
+    let texts = simulate(alloc, words, desk)?;
+    write_report(desk, word(words, 3), &texts.body, &texts.total)?;
+    Ok(())
+}

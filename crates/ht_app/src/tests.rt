@@ -1,0 +1,69 @@
+// The tests: a list of vectors.
+ghost use Rattle.std.specs.Prelude.{◌≡◌, ◌≤◌, ◌^◌, ◌++◌, ◌∷◌, [], length, List, Bool, ℕ, IfOk, IfErr, MatchBool};
+ghost use Rattle.ht_ports.specs.Desk.{InCall};
+ghost use Rattle.ht_ports.specs.declared.ports.InPort.TheVariants as in_port;
+ghost use Rattle.ht_net.specs.Netlist.{IsCircuit};
+ghost use Rattle.ht_texts.specs.Tests.{IsTestText, IsTextOf};
+ghost use Rattle.ht_app.specs.Run.{IsInput};
+ghost use Rattle.ht_app.specs.Causes.{TestsCause};
+
+use crate::trouble::Trouble;
+use ht_net::{Circuit, Vectors};
+use ht_ports::{Desk, Failed, InPort, LineFault, Lines};
+use ht_texts::read_vector;
+use std::alloc::{AllocError, Global};
+
+/// More bytes than a vector of any circuit has: a longer line is malformed.
+const MOST_BYTES: u32 = 4_096;
+
+// Adds the vector whose text the line is; false where no vector has it.
+fn push_line(alloc: Global, list: &mut Vectors, width: u32, line: &[u8]) -> Result<bool, AllocError>
+    requires { list.old.width ≡ width }
+    ensures width { list.new.width ≡ list.old.width }
+    ensures added { IfOk result (λ is_vector. MatchBool is_vector
+        ((vector : List Bool) × IsTextOf list.old.width line.now vector × (list.new.list ≡ list.old.list ++ vector ∷ []))
+        ((list.new ≡ list.old) × ((vector : List Bool) → ¬ IsTextOf list.old.width line.now vector))) }
+{
+    let Some(vector) = read_vector(alloc, line, width)? else {
+        return Ok(false);
+    };
+    list.push(&vector)?;
+    Ok(true)
+}
+
+/// Opens the tests and reads their vectors, up to the first line that is none.
+pub fn read_tests<D: Desk>(
+    alloc: Global,
+    desk: &mut D,
+    name: &str,
+    circuit: &Circuit,
+) -> Result<Vectors, Trouble>
+    requires { IsCircuit circuit.now }
+    ensures frame { InCall in_port.Tests (D.view desk.old) (D.view desk.new) }
+    ensures width { IfOk result (λ list. list.width ≡ circuit.now.inputs) }
+    ensures few { IfOk result (λ list. length list.list ≤ 2 ^ 62) }
+    ensures list { IfOk result (λ list. (text : List ℕ) → IsInput in_port.Tests name.now text (D.view desk.old) → IsTestText circuit.now text list.list) }
+    ensures cause { IfErr result (TestsCause circuit.now name.now (D.view desk.old) (D.view desk.new)) }
+{
+    if let Err(Failed) = desk.open(InPort::Tests, name) {
+        return Err(Trouble::ReadFault);
+    }
+    let Ok(mut lines) = Lines::new(alloc, InPort::Tests, MOST_BYTES) else {
+        return Err(Trouble::NoMemory);
+    };
+    let mut list = Vectors::new(alloc, circuit.inputs());
+    'lines: loop {
+        match lines.next(desk) {
+            Ok(Some(line)) => {
+                if !push_line(alloc, &mut list, circuit.inputs(), line)? {
+                    return Err(Trouble::BadTests {
+                        line: list.len() + 1,
+                    });
+                }
+            }
+            Ok(None) => return Ok(list),
+            Err(LineFault::Failed) => return Err(Trouble::ReadFault),
+            Err(LineFault::TooLong { line }) => return Err(Trouble::BadTests { line }),
+        }
+    }
+}

@@ -1,0 +1,11 @@
+pub mod CutLaws
+pub mod ArgumentLaws
+pub mod StatementLaws
+pub mod ListLaws
+pub mod DifferentLaws
+pub mod NumberLaws
+pub mod AddLaws
+pub mod AcceptLaws
+pub mod DriverLaws
+pub mod ReadLaws
+pub mod UniqueLaws

@@ -1,0 +1,105 @@
+-- Numbers of names in a draft, and what one more name changes.
+use Rattle.std.proofs.Common.{◌≡◌, ◌≢◌, ◌⊎◌, inl, inr, ⊎_elim, ℕ, ◌<◌, ◌+◌, List, [], ◌∷◌, ◌++◌, length, get_or, refl, sym, ◌∙◌, ap, subst, arith}
+use Rattle.std.specs.List.{All, AllZip, Contains}
+use Rattle.std.proofs.lemmas.Bool.{cases_lt}
+use Rattle.std.proofs.lemmas.List.{length-append, get_or_append_left}
+use Rattle.ht_net.specs.declared.names.NameId.{NameId}
+use Rattle.ht_net.specs.declared.draft.DffPart.{DffPart}
+use Rattle.ht_net.specs.Names.{IsNewName, IsNameAt}
+use Rattle.ht_net.specs.Named.{Name, NamedDff, NamedGate}
+use Rattle.ht_net.specs.Draft.{Draft, GatePart, IsDraft, IsDriven}
+use Rattle.ht_bench.specs.Name.{different}
+use Rattle.ht_bench.specs.Statement.{Statement}
+use Rattle.ht_bench.specs.Stated.{driven_by}
+use Rattle.ht_bench.specs.Drafted.{IsNumberOf, IsDffOf, IsGateOf, IsDraftWith, Mentions}
+use Rattle.ht_bench.proofs.ListLaws.{AllZip-weaker}
+use Rattle.ht_bench.proofs.DifferentLaws.{AddsName, different-push, new_or_contained, contains_not_new}
+
+-- a longer list of names keeps the numbers
+pub number_stays : (names more : List Name) (id : NameId) (name : Name) → IsNumberOf names id name → IsNumberOf (names ++ more) id name
+number_stays names more id name at = (omega (arith, at.0, length-append names more), get_or_append_left names more [] id.0 at.0 ∙ at.1)
+
+abbrev pub KeepsNumbers : List Name → List Name → Type 0
+KeepsNumbers names new_names = (id : NameId) (name : Name) → IsNumberOf names id name → IsNumberOf new_names id name
+
+dff_stays : (names new_names : List Name) → KeepsNumbers names new_names → (part : DffPart) (dff : NamedDff) → IsDffOf names part dff → IsDffOf new_names part dff
+dff_stays names new_names keeps part dff is = record { out = keeps part.out dff.out is.out; data_pin = keeps part.data_pin dff.data_pin is.data_pin }
+
+gate_stays : (names new_names : List Name) → KeepsNumbers names new_names → (part : GatePart) (gate : NamedGate) → IsGateOf names part gate → IsGateOf new_names part gate
+gate_stays names new_names keeps part gate is = record {
+  kind = is.kind;
+  out = keeps part.out gate.out is.out;
+  args = AllZip-weaker (IsNumberOf names) (IsNumberOf new_names) keeps part.args gate.args is.args;
+}
+
+-- a draft with other names that keep the numbers
+pub with_other_names : (mentioned more : List Name) (statements : List Statement) (d : Draft) (names : List Name)
+    → IsDraftWith mentioned statements d → names ≡ different more → KeepsNumbers d.names names → IsDraftWith more statements (record d { names = names })
+with_other_names mentioned more statements d names is e keeps = record {
+  names = e;
+  inputs = AllZip-weaker (IsNumberOf d.names) (IsNumberOf names) keeps d.inputs _ is.inputs;
+  outputs = AllZip-weaker (IsNumberOf d.names) (IsNumberOf names) keeps d.outputs _ is.outputs;
+  dffs = AllZip-weaker (IsDffOf d.names) (IsDffOf names) (dff_stays d.names names keeps) d.dffs _ is.dffs;
+  gates = AllZip-weaker (IsGateOf d.names) (IsGateOf names) (gate_stays d.names names keeps) d.gates _ is.gates;
+  driven = λ name c. let r = is.driven name c in (r.0, r.1, keeps r.0 name r.2);
+  drives = λ id driven. let r = is.drives id driven in (r.0, keeps id r.0 r.1, r.2);
+}
+
+-- what a builder's `net` does to a draft
+module _ (d new : Draft) (name : Name)
+    (known : ¬ IsNewName d.names name → new ≡ d)
+    (added : IsNewName d.names name → new ≡ record d { names = d.names ++ name ∷ [] }) where
+  net_cases : (new ≡ d) ⊎ (new ≡ record d { names = d.names ++ name ∷ [] })
+  net_cases =
+      ⊎_elim (λ (is_new : IsNewName d.names name). inr (added is_new))
+      (λ (old : Contains d.names name). inl (known (contains_not_new d.names name old))) (new_or_contained d.names name)
+
+  net_keeps : new ≡ record d { names = new.names }
+  net_keeps =
+      ⊎_elim (λ (e : new ≡ d). e ∙ ap (λ (x : Draft). record d { names = x.names }) (sym e))
+      (λ (e : new ≡ record d { names = d.names ++ name ∷ [] }). e ∙ ap (λ (x : Draft). record d { names = x.names }) (sym e)) net_cases
+
+  net_grows : KeepsNumbers d.names new.names
+  net_grows id other at =
+      ⊎_elim (λ (e : new ≡ d). subst (λ (x : Draft). IsNumberOf x.names id other) (sym e) at)
+      (λ (e : new ≡ record d { names = d.names ++ name ∷ [] }). subst (λ (x : Draft). IsNumberOf x.names id other) (sym e) (number_stays d.names (name ∷ []) id other at)) net_cases
+
+  net_with_name : (mentioned : List Name) (statements : List Statement) → IsDraftWith mentioned statements d → IsDraftWith (mentioned ++ name ∷ []) statements new
+  net_with_name mentioned statements is =
+      ⊎_elim
+      (λ (old : Contains (different mentioned) name × (different (mentioned ++ name ∷ []) ≡ different mentioned)).
+      let e : new ≡ d = known (contains_not_new d.names name (subst (λ l. Contains l name) (sym is.names) old.0)) in
+      subst (IsDraftWith (mentioned ++ name ∷ []) statements) (sym e)
+      (with_other_names mentioned (mentioned ++ name ∷ []) statements d d.names is (is.names ∙ sym old.1) (λ id other at. at)))
+      (λ (fresh : IsNewName (different mentioned) name × (different (mentioned ++ name ∷ []) ≡ different mentioned ++ name ∷ [])).
+      let e : new ≡ record d { names = d.names ++ name ∷ [] } = added (subst (λ l. IsNewName l name) (sym is.names) fresh.0) in
+      subst (IsDraftWith (mentioned ++ name ∷ []) statements) (sym e)
+      (with_other_names mentioned (mentioned ++ name ∷ []) statements d (d.names ++ name ∷ []) is (ap (λ l. l ++ name ∷ []) is.names ∙ sym fresh.1) (number_stays d.names (name ∷ []))))
+      (different-push mentioned name)
+
+  pub net_mentions : IsDraft new → Mentions d (name ∷ []) new
+  net_mentions is_draft = record { with_names = net_with_name; keeps = net_keeps; grows = net_grows; is_draft = is_draft }
+
+-- the names of a draft differ, so a name has one number
+pub one_number : (d : Draft) (a b : NameId) (name : Name) → IsDraft d → IsNumberOf d.names a name → IsNumberOf d.names b name → a ≡ b
+one_number d a b name is at_a at_b =
+    ⊎_elim
+    (λ (lt : a.0 < b.0). absurd (is.names_differ a.0 b.0 lt at_b.0 (at_a.1 ∙ sym at_b.1)))
+    (λ ge.
+    ⊎_elim
+    (λ (lt : b.0 < a.0). absurd (is.names_differ b.0 a.0 lt at_a.0 (at_b.1 ∙ sym at_a.1)))
+    (λ le. let number : ℕ → NameId = λ n. record { 0 = n } in let e : a.0 ≡ b.0 = omega arith in ap number e) (cases_lt b.0 a.0))
+    (cases_lt a.0 b.0)
+
+pub driven_is : (mentioned : List Name) (statements : List Statement) (d : Draft) (id : NameId) (name : Name)
+    → IsDraft d → IsDraftWith mentioned statements d → IsNumberOf d.names id name → IsDriven d id → Contains (driven_by statements) name
+driven_is mentioned statements d id name is_draft is at driven =
+    let r = is.drives id driven in
+    let same : r.0 ≡ name = sym r.1.1 ∙ at.1 in
+    subst (Contains (driven_by statements)) same r.2
+
+pub is_driven : (mentioned : List Name) (statements : List Statement) (d : Draft) (id : NameId) (name : Name)
+    → IsDraft d → IsDraftWith mentioned statements d → IsNumberOf d.names id name → Contains (driven_by statements) name → IsDriven d id
+is_driven mentioned statements d id name is_draft is at contains =
+    let r = is.driven name contains in
+    subst (IsDriven d) (one_number d r.0 id name is_draft r.2 at) r.1

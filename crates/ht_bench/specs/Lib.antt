@@ -1,0 +1,11 @@
+pub mod Cut
+pub mod Arguments
+pub mod Name
+pub mod Statement
+pub mod Line
+pub mod StatementOf
+pub mod Stated
+pub mod Rules
+pub mod Drafted
+pub mod Reading
+pub mod Plain

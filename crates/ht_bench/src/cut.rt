@@ -1,0 +1,38 @@
+// Cutting bytes at a mark.
+ghost use Rattle.std.specs.Prelude.{◌≡◌, ◌≢◌, ℕ, List, [], ◌∷◌, ◌++◌, IfSome, IfNone};
+ghost use Rattle.ht_bench.specs.Cut.{Lacks, IsCut};
+
+/// The bytes before the first `mark` and the bytes behind it, or `None` where there is no `mark`.
+pub(crate) fn cut(text: &[u8], mark: u8) -> Option<(&[u8], &[u8])>
+    ensures found { IfSome result (λ parts. IsCut text.now mark parts.0.now parts.1.now) }
+    ensures none { IfNone result (Lacks text.now mark) }
+{
+    for (place, byte) in text.iter().enumerate() {
+        if *byte == mark {
+            return Some((&text[..place], &text[place + 1..]));
+        }
+    }
+    None
+}
+
+/// The bytes behind a first byte that is the mark, or `None` where the text doesn't begin with it.
+pub(crate) fn behind_first(text: &[u8], mark: u8) -> Option<&[u8]>
+    ensures found { IfSome result (λ rest. text.now ≡ mark ∷ rest.now) }
+    ensures none { IfNone result ((rest : List ℕ) → text.now ≢ mark ∷ rest) }
+{
+    match text {
+        [first, rest @ ..] if *first == mark => Some(rest),
+        _ => None,
+    }
+}
+
+/// The bytes before a last byte that is the mark, or `None` where the text doesn't end with it.
+pub(crate) fn before_last(text: &[u8], mark: u8) -> Option<&[u8]>
+    ensures found { IfSome result (λ front. text.now ≡ front.now ++ mark ∷ []) }
+    ensures none { IfNone result ((front : List ℕ) → text.now ≢ front ++ mark ∷ []) }
+{
+    match text {
+        [front @ .., last] if *last == mark => Some(front),
+        _ => None,
+    }
+}
