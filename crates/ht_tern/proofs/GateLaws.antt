@@ -1,5 +1,5 @@
 -- Relations that the operations keep are kept by every gate.
-use Rattle.std.proofs.Common.{◌≡◌, inl, inr, List, [], ◌∷◌, Bool, true, false, refl, not, ◌&&◌, ◌||◌}
+use Rattle.std.proofs.Common.{ap, sym, ◌∙◌, ◌<◌, length, map, arith, ◌≡◌, inl, inr, List, [], ◌∷◌, Bool, true, false, refl, not, ◌&&◌, ◌||◌}
 use Rattle.ht_tern.specs.declared.tern.Tern.{Tern}
 use Rattle.ht_tern.specs.declared.tern.Tern.TheVariants.{Zero, One, Unk}
 use Rattle.ht_tern.specs.declared.gate.Kind.{Kind}
@@ -163,3 +163,26 @@ gate_refines = gate_related Refines tern_operations tern_operations refinement_p
 
 pub gate_bits : (kind : Kind) (xs : List Tern) (ys : List Bool) → AllRelated StandsFor xs ys → StandsFor (gate_value kind xs) (bool_gate_value kind ys)
 gate_bits = gate_related StandsFor tern_operations bool_operations bits_preserved Unk false (inl refl)
+
+-- a value is this bit
+abbrev pub IsBit : Tern → Bool → Type 0
+IsBit x bit = x ≡ tern_of bit
+
+is_bit_preserved : PreservesOperations IsBit tern_operations bool_operations
+is_bit_preserved = record {
+  complement = λ x y h. ap complement_of h ∙ sym (not_bits y);
+  conjunction = λ x u y v h k. (λ i. and_of (h i) (k i)) ∙ sym (and_bits y v);
+  disjunction = λ x u y v h k. (λ i. or_of (h i) (k i)) ∙ sym (or_bits y v);
+  parity = λ x u y v h k. (λ i. xor_of (h i) (k i)) ∙ sym (xor_bits y v);
+}
+
+are_bits : (bits : List Bool) → AllRelated IsBit (map tern_of bits) bits
+are_bits [] = tt
+are_bits (bit ∷ bits) = (refl, are_bits bits)
+
+pub gate_definite : (kind : Kind) (bits : List Bool) → 0 < length bits → gate_value kind (map tern_of bits) ≡ tern_of (bool_gate_value kind bits)
+gate_definite kind [] some = absurd (omega arith)
+gate_definite kind (bit ∷ bits) some =
+    polarity_related IsBit tern_operations bool_operations is_bit_preserved kind _ _
+    (folded_related IsBit (operation_of tern_operations kind) (operation_of bool_operations kind) (operation_related IsBit tern_operations bool_operations is_bit_preserved kind)
+    (tern_of bit) bit (map tern_of bits) bits refl (are_bits bits))

@@ -10,5 +10,8 @@ mod laws;
 mod tern;
 
 pub use gate::{Kind, eval};
-pub use laws::{definite_arguments_give_the_two_valued_gate, refined_arguments_refine_the_value};
+pub use laws::{
+    definite_arguments_give_the_two_valued_gate, refined_arguments_refine_the_value,
+    two_valued_gates_stand_for_three_valued_ones,
+};
 pub use tern::{Tern, refines};
