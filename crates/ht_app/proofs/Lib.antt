@@ -2,7 +2,6 @@ pub mod Pieces
 pub mod TestLines
 pub mod FaultAt
 pub mod Places
-pub mod Frames
 pub mod OneReading
 pub mod CauseLaws
 pub mod StatusLaws

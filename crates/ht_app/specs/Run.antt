@@ -39,14 +39,26 @@ pub record IsAccepted (text : List ℕ) (c : net.Netlist) : Type 0 where
   pub stands : StandsForPlain text c
   pub short : length text ≤ most_bytes
 
--- the netlist that the words name is accepted
-abbrev pub AcceptsNetlist : List (String Global) → DeskView → Type 0
-AcceptsNetlist words old = (text : List ℕ) → IsInput Netlist (netlist_name words) text old → (c : net.Netlist) × IsAccepted text c
+-- the desk doesn't tell that there is no file of this name
+abbrev pub MayHold : DeskView → List ℕ → Type 0
+MayHold desk name = desk.file name ≢ Some None
 
--- and the tests are vectors of its circuit
-abbrev pub AcceptsInputs : List (String Global) → DeskView → Type 0
-AcceptsInputs words old = (netlist tests : List ℕ) → IsInput Netlist (netlist_name words) netlist old → IsInput Tests (tests_name words) tests old
-    → (c : net.Netlist) × IsAccepted netlist c × ((list : List (List Bool)) × IsTestText c tests list)
+-- the two files that the words of `sim` name hold these texts
+pub record AreInputs (words : List (String Global)) (netlist tests : List ℕ) (desk : DeskView) : Type 0 where
+  pub netlist : IsInput Netlist (netlist_name words) netlist desk
+  pub tests : IsInput Tests (tests_name words) tests desk
+
+-- The netlist that the words name is there, and is accepted.
+pub record AcceptsNetlist (words : List (String Global)) (old : DeskView) : Type 0 where
+  pub there : MayHold old (netlist_name words)
+  pub accepted : (text : List ℕ) → IsInput Netlist (netlist_name words) text old → (c : net.Netlist) × IsAccepted text c
+
+-- And the tests are there, and are vectors of its circuit.
+pub record AcceptsInputs (words : List (String Global)) (old : DeskView) : Type 0 where
+  pub netlist : AcceptsNetlist words old
+  pub there : MayHold old (tests_name words)
+  pub accepted : (netlist tests : List ℕ) → AreInputs words netlist tests old
+      → (c : net.Netlist) × IsAccepted netlist c × ((list : List (List Bool)) × IsTestText c tests list)
 
 -- ---- the work of `sim`
 
@@ -70,8 +82,8 @@ pub record SimDone (words : List (String Global)) (old new : DeskView) : Type 0 
   pub is_created : IsTrue (new.is_created Report)
   pub named : new.named Report ≡ option_map (λ _. report_name words) (old.named Report)
   pub quiet : new.written Err ≡ old.written Err
-  pub netlist : AcceptsNetlist words old
-  pub texts : (netlist tests : List ℕ) → IsInput Netlist (netlist_name words) netlist old → IsInput Tests (tests_name words) tests old
+  pub inputs : AcceptsInputs words old
+  pub texts : (netlist tests : List ℕ) → AreInputs words netlist tests old
       → (report total : List ℕ) × IsSimulated netlist tests report total
         × (new.written Report ≡ option_map (λ _. report) (old.written Report)) × (new.written Out ≡ append_known (old.written Out) total)
 
@@ -97,36 +109,60 @@ line_of WriteFault = codes "write fault\n"
 line_of NoMemory = codes "no memory\n"
 line_of (BadTests line) = codes "tests: line " ++ (decimal line ++ codes "\n")
 
--- no port was opened, and nothing was read
-pub record NothingIn (old new : DeskView) : Type 0 where
-  pub left : new.left ≡ old.left
-  pub is_open : new.is_open ≡ old.is_open
+-- The netlist is there, and its text is refused for this cause.
+pub record RefusesNetlist (words : List (String Global)) (old : DeskView) (IsCause : List ℕ → Type 0) : Type 0 where
+  pub there : MayHold old (netlist_name words)
+  pub cause : (text : List ℕ) → IsInput Netlist (netlist_name words) text old → IsCause text
 
--- What holds where a run ends by a trouble. Want of memory is the one free answer.
+-- A line of the netlist is refused, and so it is a netlist of no circuit.
+pub record IsBadLine (line : ℕ) (text : List ℕ) : Type 0 where
+  pub short : length text ≤ most_bytes
+  pub refused : RefusesPlain text (plain.BadLine line)
+  pub none : StandsForNone text (plain.BadLine line)
+
+-- The netlist is accepted, the tests are there, and this line of them is refused.
+pub record RefusesTests (words : List (String Global)) (old : DeskView) (line : ℕ) : Type 0 where
+  pub netlist : AcceptsNetlist words old
+  pub there : MayHold old (tests_name words)
+  pub cause : (netlist tests : List ℕ) → AreInputs words netlist tests old → (c : net.Netlist) × IsAccepted netlist c × IsMalformedTest c tests line
+
+-- A fault of reading was counted; a steady desk makes one only where it doesn't hold one of the inputs.
+pub record FailsToRead (words : List (String Global)) (old new : DeskView) : Type 0 where
+  pub rose : Rose old.in_faults new.in_faults
+  pub steady : IsTrue old.steady → Holds old (netlist_name words) → ¬ Holds old (tests_name words)
+
+-- A fault of writing was counted, on a desk that isn't steady, after the inputs were accepted.
+pub record FailsToWrite (words : List (String Global)) (old new : DeskView) : Type 0 where
+  pub rose : Rose old.out_faults new.out_faults
+  pub unsteady : ¬ IsTrue old.steady
+  pub inputs : AcceptsInputs words old
+
+-- What holds where the work ends by a trouble, before anything is said. Want of memory is the one free answer. Where the
+-- words have no form, the desk isn't touched.
 abbrev pub HasCause : List (String Global) → DeskView → DeskView → Trouble → Type 0
-HasCause words old new Usage = (¬ AskForSim words) × NothingIn old new
-HasCause words old new TooLong = (text : List ℕ) → IsInput Netlist (netlist_name words) text old → most_bytes < length text
-HasCause words old new (BadLine line) = (text : List ℕ) → IsInput Netlist (netlist_name words) text old
-    → (length text ≤ most_bytes) × RefusesPlain text (plain.BadLine line) × StandsForNone text (plain.BadLine line)
-HasCause words old new ReadFault = Rose old.in_faults new.in_faults
-    × (IsTrue old.steady → Holds old (netlist_name words) → ¬ Holds old (tests_name words))
-HasCause words old new WriteFault = Rose old.out_faults new.out_faults × (¬ IsTrue old.steady) × AcceptsNetlist words old × AcceptsInputs words old
+HasCause words old new Usage = (¬ AskForSim words) × (new ≡ old)
+HasCause words old new TooLong = RefusesNetlist words old (λ text. most_bytes < length text)
+HasCause words old new (BadLine line) = RefusesNetlist words old (IsBadLine line)
+HasCause words old new ReadFault = FailsToRead words old new
+HasCause words old new WriteFault = FailsToWrite words old new
 HasCause words old new NoMemory = Unit {0}
-HasCause words old new (BadTests line) = AcceptsNetlist words old × ((netlist tests : List ℕ) → IsInput Netlist (netlist_name words) netlist old → IsInput Tests (tests_name words) tests old
-    → (c : net.Netlist) × IsAccepted netlist c × IsMalformedTest c tests line)
+HasCause words old new (BadTests line) = RefusesTests words old line
 
--- Err gets this line, or a part of its front where the write failed
-pub record SaysOnErr (line : List ℕ) (old new : DeskView) : Type 0 where
+-- Err, on which the work said nothing, gets this line, or a part of its front where the write failed.
+pub record SaysOnErr (line : List ℕ) (old worked new : DeskView) : Type 0 where
+  pub quiet : worked.written Err ≡ old.written Err
   pub count : ℕ
   pub added : new.written Err ≡ append_known (old.written Err) (take count line)
-  pub whole : (count ≡ length line) ⊎ Rose old.out_faults new.out_faults
+  pub whole : (count ≡ length line) ⊎ Rose worked.out_faults new.out_faults
 
--- The run ended by a trouble that has its cause, and says so.
+-- The work ended by a trouble that has its cause, and only then the run said so.
 pub record EndsBy (words : List (String Global)) (status : ℕ) (old new : DeskView) : Type 0 where
   pub trouble : Trouble
   pub is : status ≡ status_of trouble
-  pub cause : HasCause words old new trouble
-  pub says : SaysOnErr (line_of trouble) old new
+  -- the desk as the work left it
+  pub worked : DeskView
+  pub cause : HasCause words old worked trouble
+  pub says : SaysOnErr (line_of trouble) old worked new
 
 -- ---- what stands afterwards
 
@@ -137,13 +173,24 @@ pub record OnlyErr (old new : DeskView) : Type 0 where
   pub is_created : new.is_created ≡ old.is_created
   pub file : new.file ≡ old.file
 
+-- no other port than those of the inputs was opened or read
+pub record OnlyInputs (old new : DeskView) : Type 0 where
+  pub left : (p : InPort) → p ≢ Netlist → p ≢ Tests → new.left p ≡ old.left p
+  pub is_open : (p : InPort) → p ≢ Netlist → p ≢ Tests → new.is_open p ≡ old.is_open p
+
+-- Report is as it was, or is created under this name.
+abbrev pub ReportIsNamed : List ℕ → DeskView → DeskView → Type 0
+ReportIsNamed name old new =
+    ((new.named Report ≡ old.named Report) × (new.is_created Report ≡ old.is_created Report)) ⊎ (new.named Report ≡ option_map (λ _. name) (old.named Report))
+
 -- Nothing is created but Report, under its name; nothing comes out but on Report, Out and Err; no file changes but that
 -- of the report's name.
 pub record OnlyReport (name : List ℕ) (old new : DeskView) : Type 0 where
+  pub inputs : OnlyInputs old new
   pub written : (p : OutPort) → p ≢ Report → p ≢ Out → p ≢ Err → new.written p ≡ old.written p
   pub named : (p : OutPort) → p ≢ Report → new.named p ≡ old.named p
   pub is_created : (p : OutPort) → p ≢ Report → new.is_created p ≡ old.is_created p
-  pub report : (new.named Report ≡ old.named Report) ⊎ (new.named Report ≡ option_map (λ _. name) (old.named Report))
+  pub report : ReportIsNamed name old new
   pub file : IsSome (old.named Report) → (n : List ℕ) → n ≢ name → new.file n ≡ old.file n
 
 -- neither count of faults rose

@@ -1,11 +1,11 @@
 // The top call.
-ghost use Rattle.std.specs.Prelude.{◌≡◌, ◌≢◌, ◌↔◌, ◌⊎◌, ℕ, List, Bool, IfErr, OnOk, IsTrue};
+ghost use Rattle.std.specs.Prelude.{◌≡◌, ◌≢◌, ◌⊎◌, ℕ, List, Bool, IfErr, OnOk, IsTrue};
 ghost use Rattle.ht_ports.specs.Desk.{Holds};
 ghost use Rattle.ht_ports.specs.declared.ports.InPort.TheVariants as in_port;
 ghost use Rattle.ht_net.specs.Netlist.{Netlist};
 ghost use Rattle.ht_texts.specs.Tests.{IsTestText, IsMalformedTest};
 ghost use Rattle.ht_app.specs.Words.{AskForSim, netlist_name, tests_name, report_name};
-ghost use Rattle.ht_app.specs.Run.{IsInput, IsAccepted, SimDone, EndsBy, HasCause, OnlyErr, OnlyReport, Faultless};
+ghost use Rattle.ht_app.specs.Run.{IsInput, AreInputs, IsAccepted, SimDone, EndsBy, HasCause, OnlyErr, OnlyReport, Faultless};
 ghost use Rattle.ht_app.specs.Causes.{NothingOut, OnlyWork};
 ghost use Rattle.ht_app.specs.declared.trouble.Trouble.TheVariants as trouble;
 
@@ -22,7 +22,7 @@ fn work<D: Desk>(alloc: Global, words: &[String], desk: &mut D) -> Result<(), Tr
     ensures asked { OnOk result (AskForSim words.now) }
     ensures done { OnOk result (SimDone words.now (D.view desk.old) (D.view desk.new)) }
     ensures cause { IfErr result (HasCause words.now (D.view desk.old) (D.view desk.new)) }
-    ensures usage { IfErr result (λ e. ¬ AskForSim words.now → e ≡ trouble.Usage) }
+    ensures usage { IfErr result (λ e. e ≢ trouble.Usage → AskForSim words.now) }
     ensures nothing { IfErr result (λ e. e ≢ trouble.WriteFault → NothingOut (D.view desk.old) (D.view desk.new)) }
 {
     if !ask_for_sim(words) {
@@ -52,22 +52,24 @@ pub fn run<D: Desk>(alloc: Global, words: &[String], desk: &mut D) -> u8
     ensures trouble { result ≢ 0 → EndsBy words.now result (D.view desk.old) (D.view desk.new) }
 
     // The causes of the refusals are exact.
-    ensures usage { (result ≡ 2) ↔ (¬ AskForSim words.now) }
+    ensures usage { result ≡ 2 → ¬ AskForSim words.now }
+    ensures asked { result ≢ 2 → AskForSim words.now }
     ensures refused { AskForSim words.now → (text : List ℕ) → IsInput in_port.Netlist (netlist_name words.now) text (D.view desk.old)
         → ((c : Netlist) → ¬ IsAccepted text c) → (result ≡ 3) ⊎ (result ≡ 4) ⊎ (result ≡ 6) }
     ensures malformed { AskForSim words.now → (netlist tests : List ℕ) (c : Netlist) (line : ℕ)
-        → IsInput in_port.Netlist (netlist_name words.now) netlist (D.view desk.old) → IsInput in_port.Tests (tests_name words.now) tests (D.view desk.old)
+        → AreInputs words.now netlist tests (D.view desk.old)
         → IsAccepted netlist c → IsMalformedTest c tests line → (result ≡ 7) ⊎ (result ≡ 4) ⊎ (result ≡ 6) }
 
     // Where no fault was counted, good inputs give the report, or memory was wanting.
     ensures complete { AskForSim words.now → (netlist tests : List ℕ) (c : Netlist) (list : List (List Bool))
-        → IsInput in_port.Netlist (netlist_name words.now) netlist (D.view desk.old) → IsInput in_port.Tests (tests_name words.now) tests (D.view desk.old)
-        → IsAccepted netlist c → IsTestText c tests list → Faultless (D.view desk.old) (D.view desk.new) → (result ≡ 0) ⊎ (result ≡ 6) }
-    ensures steady { AskForSim words.now → IsTrue (D.view desk.old).steady → Holds (D.view desk.old) (netlist_name words.now) → Holds (D.view desk.old) (tests_name words.now)
+        → AreInputs words.now netlist tests (D.view desk.old) → IsAccepted netlist c → IsTestText c tests list
+        → Faultless (D.view desk.old) (D.view desk.new) → (result ≡ 0) ⊎ (result ≡ 6) }
+    ensures steady { AskForSim words.now → IsTrue (D.view desk.old).steady
+        → Holds (D.view desk.old) (netlist_name words.now) → Holds (D.view desk.old) (tests_name words.now)
         → (result ≢ 4) × (result ≢ 5) }
 
     // What stands afterwards.
-    ensures nothing { (result ≡ 2) ⊎ (result ≡ 3) ⊎ (result ≡ 4) ⊎ (result ≡ 7) → OnlyErr (D.view desk.old) (D.view desk.new) }
+    ensures nothing { result ≢ 0 → result ≢ 5 → OnlyErr (D.view desk.old) (D.view desk.new) }
     ensures files { OnlyReport (report_name words.now) (D.view desk.old) (D.view desk.new) }
 {
     match work(alloc, words, desk) {

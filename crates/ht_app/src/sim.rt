@@ -1,9 +1,9 @@
 // The command `sim`.
 ghost use Rattle.std.specs.Prelude.{◌≡◌, ◌≢◌, ◌≤◌, ◌^◌, length, IfOk, IfErr, OnOk};
 ghost use Rattle.ht_app.specs.Words.{AskForSim, report_name};
-ghost use Rattle.ht_app.specs.Run.{SimDone, HasCause, AcceptsNetlist};
+ghost use Rattle.ht_app.specs.Run.{SimDone, HasCause, AcceptsInputs};
 ghost use Rattle.ht_app.specs.Simulation.{IsReportOf};
-ghost use Rattle.ht_app.specs.Causes.{NothingOut, OnlyWork, SimulateCause, AreTexts};
+ghost use Rattle.ht_app.specs.Causes.{NothingOut, OnlyWork, SimulateCause, AreWorkedInto};
 ghost use Rattle.ht_app.specs.declared.trouble.Trouble.TheVariants as trouble;
 
 use crate::netlist::read_netlist;
@@ -39,8 +39,8 @@ fn texts_of(alloc: Global, circuit: &Circuit, list: &Vectors) -> Result<Texts, A
 fn simulate<D: Desk>(alloc: Global, words: &[String], desk: &mut D) -> Result<Texts, Trouble>
     requires { AskForSim words.now }
     ensures frame { NothingOut (D.view desk.old) (D.view desk.new) }
-    ensures netlist { OnOk result (AcceptsNetlist words.now (D.view desk.old)) }
-    ensures texts { IfOk result (λ texts. AreTexts words.now (D.view desk.old) texts.body.items texts.total.items) }
+    ensures inputs { OnOk result (AcceptsInputs words.now (D.view desk.old)) }
+    ensures texts { IfOk result (λ texts. AreWorkedInto words.now (D.view desk.old) texts.body.items texts.total.items) }
     ensures cause { IfErr result (SimulateCause words.now (D.view desk.old) (D.view desk.new)) }
 {
     let circuit = read_netlist(alloc, desk, word(words, 1))?;

@@ -89,9 +89,9 @@ sequence_dff d dff h = record {
       elim (Contains-append_cases d.inputs (latch_names d ++ take g (gate_names d)) _ (h.earlier g i l m)) [
         | inl a ↦ Contains-append_left d.inputs ((latch_names d ++ dff.out ∷ []) ++ take g (gate_names d)) _ a
         | inr b ↦ Contains-append_right d.inputs ((latch_names d ++ dff.out ∷ []) ++ take g (gate_names d)) _ (elim (Contains-append_cases (latch_names d) (take g (gate_names d)) _ b) [
-            | inl x ↦ Contains-append_left (latch_names d ++ dff.out ∷ []) (take g (gate_names d)) _ (Contains-append_left (latch_names d) (dff.out ∷ []) _ x)
-            | inr y ↦ Contains-append_right (latch_names d ++ dff.out ∷ []) (take g (gate_names d)) _ y
-          ])
+          | inl x ↦ Contains-append_left (latch_names d ++ dff.out ∷ []) (take g (gate_names d)) _ (Contains-append_left (latch_names d) (dff.out ∷ []) _ x)
+          | inr y ↦ Contains-append_right (latch_names d ++ dff.out ∷ []) (take g (gate_names d)) _ y
+        ])
       ] in
       subst (λ (o : List NameId). Contains (d.inputs ++ (o ++ take g (gate_names d))) (get_or (part_at d g).args i no_name)) (sym outs) more;
 }

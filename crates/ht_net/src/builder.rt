@@ -87,6 +87,7 @@ impl Builder {
         ensures known { OnOk result (¬ IsNewName self.old.names name.now → self.new ≡ self.old) }
         ensures new { OnOk result (IsNewName self.old.names name.now → self.new ≡ record self.old { names = self.old.names ++ name.now ∷ [] }) }
         ensures fits { OnOk result (IsNewName self.old.names name.now → length self.old.names < 65535) }
+        ensures keeps { (id : NameId) → IsName self.old id → IsName self.new id }
         ensures err { OnErr result (self.new ≡ self.old) }
         ensures refusal { IfErr result (RefusesName self.old name.now) }
         ensures draft { IsDraft self.new }

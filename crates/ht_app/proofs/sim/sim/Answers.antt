@@ -12,7 +12,7 @@ returns-in_err-write_report-clause-cause g c =
     let a = g.D.Desk.view c.args.desk.now in
     let m = g.D.Desk.view c.simulate.new.desk in
     let b = g.D.Desk.view c.write_report.new.desk in
-    let cause = write_cause c.args.words.now c.in_ok-texts.texts.body.items c.in_ok-texts.texts.total.items a m b texts.frame c.in_err-write_report.ensures.cause texts.netlist texts.texts in
+    let cause = write_cause c.args.words.now a m b texts.frame c.in_err-write_report.ensures.cause texts.inputs in
     let whole : HasCause c.args.words.now a b c.in_err-write_report.field-0.0 = subst (λ (t : Trouble). HasCause c.args.words.now a b t) (sym c.in_err-write_report.ensures.error) cause in
     search (rules, whole)
 
@@ -24,4 +24,4 @@ returns-clause-done g c =
     let report : IsReported c.word.result.now c.in_ok-texts.texts.body.items c.in_ok-texts.texts.total.items m b =
         subst (λ (l : List ℕ). IsReported c.word.result.now c.in_ok-texts.texts.body.items l m b) c.deref-2.ensures.value
           (subst (λ (l : List ℕ). IsReported c.word.result.now l c.deref-2.result.now m b) c.deref.ensures.value c.in_ok-write_report.ensures.report) in
-    done c.args.words.now c.word.result.now c.in_ok-texts.texts.body.items c.in_ok-texts.texts.total.items (g.D.Desk.view c.args.desk.now) m b c.word.ensures texts.frame c.in_ok-write_report.ensures.frame report texts.netlist texts.texts
+    done c.args.words.now c.word.result.now c.in_ok-texts.texts.body.items c.in_ok-texts.texts.total.items (g.D.Desk.view c.args.desk.now) m b c.word.ensures texts.frame c.in_ok-write_report.ensures.frame report texts.inputs texts.texts

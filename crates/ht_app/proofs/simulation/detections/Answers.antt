@@ -18,7 +18,7 @@ loop-index-preserved c =
     let fault = c.stem_fault.result in
     let place = c.in_ok-place.place in
     let R : Fault → Option Place → Type 0 = λ f p. IsFirstDetection circuit f list p in
-    let moved : R fault place = subst (λ (s : TestSession). IsFirstDetection s.circuit fault s.list place) c.in_ok-good.ensures c.in_ok-place.ensures in
+    let moved : R fault place = subst (λ (s : TestSession). IsFirstDetection s.circuit fault s.list place) c.in_ok-good.ensures c.in_ok-place.ensures.first in
     let one = subst (λ (f : Fault). R f place) (sym (c.stem_fault.ensures.fault.is fault)) moved in
     let all = related_more R (stem_faults_of circuit) c.loop-index.places.items i fault place c.stem_fault.ensures.fault.within c.loop-index.invariant one in
     subst (λ (l : List (Option Place)). AllRelated R (take (i + 1) (stem_faults_of circuit)) l) (sym c.in_ok-push.ensures.items) all

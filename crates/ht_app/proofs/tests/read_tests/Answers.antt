@@ -31,6 +31,7 @@ lines-init g c =
       live = search rules;
       open_now = c.in_default.ensures.opened.is_open;
       frame = c.in_default.ensures.frame;
+      there = c.in_default.ensures.opened.there;
       fits = search rules;
       counted = ap length none ∙ sym (ap (λ l. l.given) made);
       below = search rules;
@@ -78,6 +79,7 @@ lines-preserved g c =
       live = live;
       open_now = open_now;
       frame = read_call c.lines.lines.port _ a b before.port before.frame reads;
+      there = before.there;
       fits = gives.fits;
       counted = omega (arith, ap length taken.2, length-append c.lines.list.list (taken.0 ∷ []), before.counted, gives.given);
       below = omega (arith, gives.given, gives.passed, gives.some, before.below);
@@ -98,13 +100,13 @@ returns-then-not-branch-clause-cause g c =
     let gives = next_some c.lines.lines after a b c.next.result _ c.in-Ok-Some.line next c.in-Ok-Some.is c.in-Ok-Some.field-0-is in
     let refused : (c.push_line.new.list ≡ c.lines.list) × ((vector : List Bool) → ¬ IsTextOf c.lines.list.width c.in-Ok-Some.line.now vector) = search rules in
     let at : c.len.result ≡ length c.lines.list.list = c.len.ensures ∙ ap (λ v. length v.list) refused.0 in
-    λ text is.
+    record { there = before.there; cause = λ text is.
     let so = before.so_far text is in
     let step = subst (λ (r : Option (List ℕ)). NextLine c.in-Ok-Some.line.now gives.count r (rest_of after b)) so.1 gives.next in
     let none : (vector : List Bool) → ¬ IsTextOf c.args.circuit.now.inputs c.in-Ok-Some.line.now vector =
         subst (λ (w : ℕ). (vector : List Bool) → ¬ IsTextOf w c.in-Ok-Some.line.now vector) before.width refused.1 in
     subst (λ (n : ℕ). IsMalformedTest c.args.circuit.now text (n + 1)) (sym at)
-      (bad_line c.args.circuit.now text c.lines.lines.passed c.lines.list.list so.0 c.in-Ok-Some.line.now gives.count (rest_of after b) so.2 before.fits gives.some step none)
+      (bad_line c.args.circuit.now text c.lines.lines.passed c.lines.list.list so.0 c.in-Ok-Some.line.now gives.count (rest_of after b) so.2 before.fits gives.some step none) }
 
 pub returns-in-Ok-None-clause-list : goal.returns-in-Ok-None-clause-list
 returns-in-Ok-None-clause-list g c =
@@ -124,11 +126,11 @@ returns-in-Err-TooLong-clause-cause g c =
     let before = c.lines.invariant in
     let cause = rw c.in-Err-TooLong.field-0-is at c.in-Err-TooLong.ensures.cause in
     let few : c.args.circuit.now.inputs ≤ 4096 = c.requires.few_inputs in
-    λ text is.
+    record { there = before.there; cause = λ text is.
     let so = before.so_far text is in
     let long : IsTooLongLine 4096 c.lines.lines.passed so.0 = subst (λ (m : ℕ). IsTooLongLine m c.lines.lines.passed so.0) before.most (cause.1 so.0 so.1) in
     subst (λ (n : ℕ). IsMalformedTest c.args.circuit.now text n) (omega (arith, cause.0, before.counted))
-      (too_long c.args.circuit.now text c.lines.lines.passed c.lines.list.list so.0 so.2 before.fits few long)
+      (too_long c.args.circuit.now text c.lines.lines.passed c.lines.list.list so.0 so.2 before.fits few long) }
 
 pub returns-in-Ok-None-clause-few : goal.returns-in-Ok-None-clause-few
 returns-in-Ok-None-clause-few g c =

@@ -2,7 +2,7 @@ use Rattle.std.proofs.Common.{◌≡◌, ◌+◌, ◌-◌, ◌^◌, ◌≤◌, �
 use Rattle.ht_ports.specs.Desk.{InCall}
 use Rattle.ht_ports.specs.Lines.{rest_of}
 use Rattle.ht_ports.specs.declared.ports.InPort.TheVariants.{Tests}
-use Rattle.ht_app.specs.Run.{IsInput}
+use Rattle.ht_app.specs.Run.{IsInput, MayHold}
 use Rattle.ht_app.proofs.TestLines.{SoFar}
 use Rattle.ht_app.proofs.tests.read_tests.Given as goal
 
@@ -13,6 +13,7 @@ invariant-lines g l = record {
   live : IsTrue l.lines.live;
   open_now : IsTrue ((g.D.Desk.view l.desk).is_open Tests);
   frame : InCall Tests (g.D.Desk.view l.fn.desk) (g.D.Desk.view l.desk);
+  there : MayHold (g.D.Desk.view l.fn.desk) l.name;
   fits : l.lines.passed ≤ 2 ^ 62;
   counted : length l.list.list ≡ l.lines.given;
   below : l.lines.given ≤ l.lines.passed;
