@@ -23,7 +23,7 @@ use Rattle.ht_bench.specs.Drafted.{IsNumberOf, IsDraftWith, IsDraftOf, Mentions,
 use Rattle.ht_bench.specs.declared.fault.LineFault.{LineFault}
 use Rattle.ht_bench.specs.declared.fault.LineFault.TheVariants.{Broken, NoMemory as LineNoMemory}
 use Rattle.ht_bench.proofs.ListLaws.{contains_none, contains_head, contains_tail, contains_cases, flat_map-push, flat_map-push_none, AllZip-length}
-use Rattle.ht_bench.proofs.NumberLaws.{driven_is, is_driven}
+use Rattle.ht_bench.proofs.NumberLaws.{driven_is, is_driven, drivers_contained}
 use Rattle.ht_bench.proofs.AddLaws.{with_input, with_output, with_dff, with_gate, limits_of_draft, too_many_nets, inputs_same, dffs_same, pins_same}
 
 -- the mentions of one more statement
@@ -45,7 +45,7 @@ contains_id (x ∷ ids) id =
     (λ (absent : ¬ Contains ids id). inr (λ c. ⊎_elim (λ (e : x ≡ id). other (ap (λ (n : NameId). n.0) e)) absent (contains_cases x ids id c))) (contains_id ids id))
     (cases_eq x.0 id.0)
 
-only_outputs : (d new : Draft) (id : NameId) → (Contains d.outputs id → new ≡ d) → (¬ Contains d.outputs id → new ≡ record d { outputs = d.outputs ++ id ∷ [] })
+pub only_outputs : (d new : Draft) (id : NameId) → (Contains d.outputs id → new ≡ d) → (¬ Contains d.outputs id → new ≡ record d { outputs = d.outputs ++ id ∷ [] })
     → new ≡ record d { outputs = new.outputs }
 only_outputs d new id known added =
     ⊎_elim
@@ -84,7 +84,7 @@ module _ (old d new : Draft) (id : NameId) (name : Name) (mentions : Mentions ol
       let draft = mentions.is_draft in
       let made : IsDraftOf (before ++ s ∷ []) new = subst (IsDraftOf (before ++ s ∷ [])) (sym e) (draft_with_mentions before s (record d { inputs = d.inputs ++ id ∷ [] }) (with_input (mentions_of before ++ name ∷ []) before d id name with_name at)) in (
         record {
-          new_driver = new_driver_of before s name refl (λ c. free (is_driven (mentions_of before ++ name ∷ []) before d id name draft with_name at c));
+          new_driver = new_driver_of before s name refl (λ c. free (is_driven (mentions_of before ++ name ∷ []) before d id name with_name at c));
           arguments_driven = All-nil (Contains (driven_by before));
           arguments = tt;
           limits = limits_of_draft (before ++ s ∷ []) new made
@@ -99,7 +99,7 @@ module _ (old d new : Draft) (id : NameId) (name : Name) (mentions : Mentions ol
   pub input_refused : (error : NetError) → RefusesInput d id error → Refuses old (Input name) (line_fault_of error)
   input_refused (Twice other) (same, driven) = λ before is.
       let with_name = mentions.with_names (mentions_of before) before is in
-      twice before (Input name) name refl (driven_is (mentions_of before ++ name ∷ []) before d id name mentions.is_draft with_name at driven)
+      twice before (Input name) name refl (driven_is (mentions_of before ++ name ∷ []) before d id name with_name at driven)
   input_refused (TooMany Inputs) (free, full) = λ before is accepted.
       let with_name = mentions.with_names (mentions_of before) before is in
       omega (arith, full, inputs_same (mentions_of before ++ name ∷ []) before d with_name, accepted.limits.inputs, ap length (flat_map-push inputs_in before (Input name)), length-append (inputs_of before) (name ∷ []))
@@ -118,7 +118,7 @@ module _ (old d new : Draft) (id : NameId) (name : Name) (mentions : Mentions ol
       let e = only_outputs d new id known added in
       let with_name = mentions.with_names (mentions_of before) before is in
       let draft = mentions.is_draft in
-      let made : IsDraftOf (before ++ s ∷ []) new = draft_with_mentions before s new (with_output (mentions_of before ++ name ∷ []) before d id name draft with_name at new known added) in (
+      let made : IsDraftOf (before ++ s ∷ []) new = draft_with_mentions before s new (with_output (mentions_of before ++ name ∷ []) before d id name with_name at new known added) in (
         record {
           new_driver = All-nil (λ n. ¬ Contains (driven_by before) n);
           arguments_driven = All-nil (Contains (driven_by before));
@@ -154,7 +154,7 @@ module _ (old first d : Draft) (out pin : NameId) (name data_pin : Name)
       (draft_with_mentions before s (record d { dffs = d.dffs ++ record { out = out; data_pin = pin } ∷ [] }) (with_dff (mentions_of before ++ name ∷ data_pin ∷ []) before d out pin name data_pin both dff_at pin_at)) in
       let one_more = length-append d.dffs (record { out = out; data_pin = pin } ∷ []) in (
         record {
-          new_driver = new_driver_of before s name refl (λ c. free (is_driven (mentions_of before ++ name ∷ data_pin ∷ []) before d out name draft both dff_at c));
+          new_driver = new_driver_of before s name refl (λ c. free (is_driven (mentions_of before ++ name ∷ data_pin ∷ []) before d out name both dff_at c));
           arguments_driven = All-nil (Contains (driven_by before));
           arguments = tt;
           limits = limits_of_draft (before ++ s ∷ []) new made
@@ -174,7 +174,7 @@ module _ (old first d : Draft) (out pin : NameId) (name data_pin : Name)
 
   pub dff_refused : (error : NetError) → RefusesDff d out error → Refuses old (Dff name data_pin) (line_fault_of error)
   dff_refused (Twice other) (same, driven) = λ before is.
-      twice before (Dff name data_pin) name refl (driven_is (mentions_of before ++ name ∷ data_pin ∷ []) before d out name mentions.is_draft (with_both before is) dff_at driven)
+      twice before (Dff name data_pin) name refl (driven_is (mentions_of before ++ name ∷ data_pin ∷ []) before d out name (with_both before is) dff_at driven)
   dff_refused (TooMany Pins) (free, full) = λ before is accepted.
       omega (arith, full, pins_same (mentions_of before ++ name ∷ data_pin ∷ []) before d (with_both before is), accepted.limits.pins, dffs_more before, ap (sum_by (λ (g : NamedGate). length g.args)) (gates_same before))
   dff_refused (TooMany Dffs) (free, few, full) = λ before is accepted.
@@ -195,16 +195,6 @@ data_pin_refused old first name data_pin Broken mentions refused = λ before is.
 data_pin_refused old first name data_pin LineNoMemory mentions refused = tt
 
 -- ---- gates
-
-drivers_contained : (mentioned : List Name) (before : List Statement) (d : Draft) → IsDraft d → IsDraftWith mentioned before d
-    → (ids : List NameId) (names : List Name) → AllZip (IsNumberOf d.names) ids names → All (IsDriven d) ids → All (Contains (driven_by before)) names
-drivers_contained mentioned before d draft is [] [] h driven = All-nil (Contains (driven_by before))
-drivers_contained mentioned before d draft is [] (y ∷ ys) h driven = absurd h
-drivers_contained mentioned before d draft is (x ∷ xs) [] h driven = absurd h
-drivers_contained mentioned before d draft is (x ∷ xs) (y ∷ ys) h driven =
-    All-cons (Contains (driven_by before)) y ys
-    (driven_is mentioned before d x y draft is h.0 (All-head (IsDriven d) x xs driven))
-    (drivers_contained mentioned before d draft is xs ys h.1 (All-tail (IsDriven d) x xs driven))
 
 module _ (old first d : Draft) (kind : Kind) (out : NameId) (name : Name) (ids : List NameId) (args : List Name)
     (first_mentions : Mentions old (name ∷ []) first) (first_at : IsNumberOf first.names out name)
@@ -228,10 +218,10 @@ module _ (old first d : Draft) (kind : Kind) (out : NameId) (name : Name) (ids :
       let draft = mentions.is_draft in
       let part : GatePart = record { kind = kind; out = out; args = ids } in
       let made : IsDraftOf (before ++ s ∷ []) new = subst (IsDraftOf (before ++ s ∷ [])) (sym e)
-      (draft_with_mentions before s (record d { gates = d.gates ++ part ∷ [] }) (with_gate (mentions_of before ++ name ∷ args) before d kind out ids name args all gate_at are_driven.numbers)) in (
+      (draft_with_mentions before s (record d { gates = d.gates ++ part ∷ [] }) (with_gate (mentions_of before ++ name ∷ args) before d kind out ids name args all gate_at are_driven.numbers are_driven.driven)) in (
         record {
-          new_driver = new_driver_of before s name refl (λ c. free (is_driven (mentions_of before ++ name ∷ args) before d out name draft all gate_at c));
-          arguments_driven = drivers_contained (mentions_of before ++ name ∷ args) before d draft all ids args are_driven.numbers are_driven.driven;
+          new_driver = new_driver_of before s name refl (λ c. free (is_driven (mentions_of before ++ name ∷ args) before d out name all gate_at c));
+          arguments_driven = drivers_contained (mentions_of before ++ name ∷ args) before d all ids args are_driven.numbers are_driven.driven;
           arguments = has;
           limits = limits_of_draft (before ++ s ∷ []) new made
               (omega (arith, draft.few_names, ap (λ (x : Draft). length x.names) e))
@@ -244,7 +234,7 @@ module _ (old first d : Draft) (kind : Kind) (out : NameId) (name : Name) (ids :
 
   pub gate_refused : (error : NetError) → RefusesGate d out (length ids) error → Refuses old (Gate name kind args) (line_fault_of error)
   gate_refused (Twice other) (same, driven) = λ before is.
-      twice before (Gate name kind args) name refl (driven_is (mentions_of before ++ name ∷ args) before d out name mentions.is_draft (with_all before is) gate_at driven)
+      twice before (Gate name kind args) name refl (driven_is (mentions_of before ++ name ∷ args) before d out name (with_all before is) gate_at driven)
   gate_refused (TooMany Pins) (free, many) = λ before is accepted.
       let s = Gate name kind args in
       let gate : NamedGate = record { kind = kind; out = name; args = args } in

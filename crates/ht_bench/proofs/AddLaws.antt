@@ -1,14 +1,16 @@
 -- What adding a statement to a draft keeps.
-use Rattle.std.proofs.Common.{◌≡◌, ◌≢◌, ◌⊎◌, inl, inr, ⊎_elim, ℕ, ◌<◌, ◌≤◌, ◌+◌, List, [], ◌∷◌, ◌++◌, length, map, refl, sym, ◌∙◌, ap, subst, append_assoc, arith}
+use Rattle.std.proofs.Common.{◌≡◌, ◌≢◌, ◌⊎◌, inl, inr, ⊎_elim, ℕ, ◌<◌, ◌≤◌, ◌+◌, List, [], ◌∷◌, ◌++◌, length, get_or, take, map, refl, sym, ◌∙◌, ap, subst, append_assoc, arith}
 use Rattle.std.specs.List.{All, AllZip, Contains, fold, sum_by, flat_map}
-use Rattle.std.proofs.lemmas.List.{length-append, map_push}
+use Rattle.std.proofs.lemmas.Bool.{cases_lt}
+use Rattle.std.proofs.lemmas.List.{length-append, length-map, map_push, take-append-le, take_all, get_or_append_left, get_or_push}
 use Rattle.std.proofs.lemmas.List.Elements.{Contains-append_left, Contains-append_right, Contains-append_cases, Contains-push, Contains-push_cases}
 use Rattle.ht_net.specs.declared.names.NameId.{NameId}
 use Rattle.ht_net.specs.declared.draft.DffPart.{DffPart}
 use Rattle.ht_tern.specs.declared.gate.Kind.{Kind}
 use Rattle.ht_net.specs.Names.{IsNewName}
 use Rattle.ht_net.specs.Named.{Name, NamedDff, NamedGate}
-use Rattle.ht_net.specs.Draft.{Draft, GatePart, IsDraft, IsDriven, driven_names, latch_names, gate_names, draft_pins}
+use Rattle.ht_net.specs.Draft.{Draft, GatePart, IsDraft, IsDriven, driven_names, latch_names, gate_names, draft_pins, part_at, no_name, no_part}
+use Rattle.ht_net.specs.Sequence.{IsInSequence}
 use Rattle.ht_bench.specs.Name.{different}
 use Rattle.ht_bench.specs.Statement.{Statement, Input, Output, Dff, Gate, names_in}
 use Rattle.ht_bench.specs.Stated.{inputs_in, outputs_in, dffs_in, gates_in, driven_in, inputs_of, outputs_of, dffs_of, gates_of, driven_by, mentions_of, nets_of}
@@ -87,6 +89,63 @@ module _ (mentioned : List Name) (statements : List Statement) (d : Draft) (is :
         (λ (e : id ≡ x). (name, subst (λ y. IsNumberOf d.names y name) e at, subst (λ l. Contains l name) (sym driven_now) (Contains-push (driven_by statements) name)))
         (adds.only x c)
 
+-- ---- gates stay behind those that drive their arguments
+
+input_in_sequence : (d : Draft) (id : NameId) → IsInSequence d → IsInSequence (record d { inputs = d.inputs ++ id ∷ [] })
+input_in_sequence d id is = record {
+  earlier = λ g i l m.
+      (adds_left d.inputs (d.inputs ++ id ∷ []) (latch_names d ++ take g (gate_names d)) id (adds_push d.inputs id)).stays
+      (get_or (part_at d g).args i no_name) (is.earlier g i l m);
+}
+
+dff_in_sequence : (d : Draft) (part : DffPart) → IsInSequence d → IsInSequence (record d { dffs = d.dffs ++ part ∷ [] })
+dff_in_sequence d part is = record {
+  earlier = λ g i l m.
+      let before = take g (gate_names d) in
+      subst (λ l. Contains (d.inputs ++ (l ++ before)) (get_or (part_at d g).args i no_name)) (sym (map_push (λ (f : DffPart). f.out) d.dffs part))
+      ((adds_right d.inputs (latch_names d ++ before) ((latch_names d ++ part.out ∷ []) ++ before) part.out (adds_left (latch_names d) (latch_names d ++ part.out ∷ []) before part.out (adds_push (latch_names d) part.out))).stays
+        (get_or (part_at d g).args i no_name) (is.earlier g i l m));
+}
+
+module _ (d : Draft) (part : GatePart) where
+  gates_before : (g : ℕ) → g ≤ length d.gates → take g (map (λ (p : GatePart). p.out) (d.gates ++ part ∷ [])) ≡ take g (gate_names d)
+  gates_before g le =
+      let few : g ≤ length (gate_names d) = omega (arith, le, length-map d.gates (λ (p : GatePart). p.out)) in
+      ap (take g) (map_push (λ (p : GatePart). p.out) d.gates part) ∙ take-append-le g (gate_names d) (part.out ∷ []) few
+
+  -- the name at pin i of gate g comes before it
+  IsBefore : ℕ → ℕ → Type 0
+  IsBefore g i = Contains (d.inputs ++ (latch_names d ++ take g (map (λ (p : GatePart). p.out) (d.gates ++ part ∷ [])))) (get_or (get_or (d.gates ++ part ∷ []) g no_part).args i no_name)
+
+  old_gate : IsInSequence d → (g i : ℕ) → g < length d.gates → i < length (get_or (d.gates ++ part ∷ []) g no_part).args → IsBefore g i
+  unfolding IsBefore
+  old_gate is g i lt pin =
+      let same = get_or_append_left d.gates (part ∷ []) no_part g lt in
+      let pin_lt : i < length (part_at d g).args = omega (arith, pin, ap (λ (p : GatePart). length p.args) same) in
+      subst (λ l. Contains (d.inputs ++ (latch_names d ++ l)) (get_or (get_or (d.gates ++ part ∷ []) g no_part).args i no_name)) (sym (gates_before g (omega arith)))
+      (subst (λ (p : GatePart). Contains (d.inputs ++ (latch_names d ++ take g (gate_names d))) (get_or p.args i no_name)) (sym same) (is.earlier g i lt pin_lt))
+
+  new_gate : All (IsDriven d) part.args → (i : ℕ) → i < length (get_or (d.gates ++ part ∷ []) (length d.gates) no_part).args → IsBefore (length d.gates) i
+  unfolding IsBefore
+  new_gate driven i pin =
+      let same = get_or_push d.gates part no_part (length d.gates) refl in
+      let pin_lt : i < length part.args = omega (arith, pin, ap (λ (p : GatePart). length p.args) same) in
+      let all : take (length d.gates) (gate_names d) ≡ gate_names d = take_all (length d.gates) (gate_names d) (omega (arith, length-map d.gates (λ (p : GatePart). p.out))) in
+      subst (λ l. Contains (d.inputs ++ (latch_names d ++ l)) (get_or (get_or (d.gates ++ part ∷ []) (length d.gates) no_part).args i no_name)) (sym (gates_before (length d.gates) (omega arith) ∙ all))
+      (subst (λ (p : GatePart). IsDriven d (get_or p.args i no_name)) (sym same) (driven i no_name pin_lt))
+
+  gate_in_sequence : IsInSequence d → All (IsDriven d) part.args → IsInSequence (record d { gates = d.gates ++ part ∷ [] })
+  unfolding IsBefore
+  gate_in_sequence is driven = record {
+    earlier = λ g i lt pin.
+        ⊎_elim
+        (λ (old : g < length d.gates). old_gate is g i old pin)
+        (λ (ge : length d.gates ≤ g).
+          let last : length d.gates ≡ g = omega (arith, lt, ge, length-append d.gates (part ∷ [])) in
+          subst (λ n. IsBefore n i) last (new_gate driven i (subst (λ n. i < length (get_or (d.gates ++ part ∷ []) n no_part).args) (sym last) pin)))
+        (cases_lt g (length d.gates));
+  }
+
 -- ---- one more statement
 
 pub with_input : (mentioned : List Name) (statements : List Statement) (d : Draft) (id : NameId) (name : Name)
@@ -98,6 +157,8 @@ with_input mentioned statements d id name is at =
     let new = (d.inputs ++ id ∷ []) ++ (latch_names d ++ gate_names d) in
     record {
       names = is.names;
+      names_differ = is.names_differ;
+      in_sequence = input_in_sequence d id is.in_sequence;
       inputs = subst (AllZip (IsNumberOf d.names) (d.inputs ++ id ∷ [])) (sym (flat_map-push inputs_in statements s)) (AllZip-add (IsNumberOf d.names) d.inputs (inputs_of statements) id name is.inputs at);
       outputs = outputs_stay mentioned statements d is s refl;
       dffs = dffs_stay mentioned statements d is s refl;
@@ -120,6 +181,8 @@ with_dff mentioned statements d out pin name data_pin is at pin_at =
     let dff : NamedDff = record { out = name; data_pin = data_pin } in
     record {
       names = is.names;
+      names_differ = is.names_differ;
+      in_sequence = dff_in_sequence d part is.in_sequence;
       inputs = inputs_stay mentioned statements d is s refl;
       outputs = outputs_stay mentioned statements d is s refl;
       dffs = subst (AllZip (IsDffOf d.names) (d.dffs ++ part ∷ [])) (sym (flat_map-push dffs_in statements s)) (AllZip-add (IsDffOf d.names) d.dffs (dffs_of statements) part dff is.dffs (record { out = at; data_pin = pin_at }));
@@ -129,9 +192,9 @@ with_dff mentioned statements d out pin name data_pin is at pin_at =
     }
 
 pub with_gate : (mentioned : List Name) (statements : List Statement) (d : Draft) (kind : Kind) (out : NameId) (ids : List NameId) (name : Name) (args : List Name)
-    → IsDraftWith mentioned statements d → IsNumberOf d.names out name → AllZip (IsNumberOf d.names) ids args
+    → IsDraftWith mentioned statements d → IsNumberOf d.names out name → AllZip (IsNumberOf d.names) ids args → All (IsDriven d) ids
     → IsDraftWith mentioned (statements ++ Gate name kind args ∷ []) (record d { gates = d.gates ++ record { kind = kind; out = out; args = ids } ∷ [] })
-with_gate mentioned statements d kind out ids name args is at args_at =
+with_gate mentioned statements d kind out ids name args is at args_at driven =
     let s = Gate name kind args in
     let part : GatePart = record { kind = kind; out = out; args = ids } in
     let gates_are : map (λ (g : GatePart). g.out) (d.gates ++ part ∷ []) ≡ gate_names d ++ out ∷ [] = map_push (λ (g : GatePart). g.out) d.gates part in
@@ -142,6 +205,8 @@ with_gate mentioned statements d kind out ids name args is at args_at =
     let gate : NamedGate = record { kind = kind; out = name; args = args } in
     record {
       names = is.names;
+      names_differ = is.names_differ;
+      in_sequence = gate_in_sequence d part is.in_sequence driven;
       inputs = inputs_stay mentioned statements d is s refl;
       outputs = outputs_stay mentioned statements d is s refl;
       dffs = dffs_stay mentioned statements d is s refl;
@@ -151,7 +216,7 @@ with_gate mentioned statements d kind out ids name args is at args_at =
     }
 
 module _ (mentioned : List Name) (statements : List Statement) (d : Draft) (id : NameId) (name : Name)
-    (is_draft : IsDraft d) (is : IsDraftWith mentioned statements d) (at : IsNumberOf d.names id name) where
+    (is : IsDraftWith mentioned statements d) (at : IsNumberOf d.names id name) where
   with_outputs : (outputs : List NameId) → AllZip (IsNumberOf d.names) outputs (outputs_of (statements ++ Output name ∷ []))
       → IsDraftWith mentioned (statements ++ Output name ∷ []) (record d { outputs = outputs })
   with_outputs outputs are =
@@ -159,6 +224,8 @@ module _ (mentioned : List Name) (statements : List Statement) (d : Draft) (id :
       let same = flat_map-push_none driven_in statements s refl in
       record {
         names = is.names;
+        names_differ = is.names_differ;
+        in_sequence = record { earlier = is.in_sequence.earlier };
         inputs = inputs_stay mentioned statements d is s refl;
         outputs = are;
         dffs = dffs_stay mentioned statements d is s refl;
@@ -175,7 +242,7 @@ module _ (mentioned : List Name) (statements : List Statement) (d : Draft) (id :
       ⊎_elim
       (λ (old : Contains (outputs_of statements) name × (outputs_of (statements ++ s ∷ []) ≡ outputs_of statements)).
       let r = AllZip-left (IsNumberOf d.names) d.outputs (outputs_of statements) name is.outputs old.0 in
-      let same : r.0 ≡ id = one_number d r.0 id name is_draft r.1 at in
+      let same : r.0 ≡ id = one_number d.names r.0 id name is.names_differ r.1 at in
       subst (IsDraftWith mentioned (statements ++ s ∷ [])) (sym (known (subst (Contains d.outputs) same r.2)))
       (with_outputs d.outputs (subst (AllZip (IsNumberOf d.names) d.outputs) (sym old.1) is.outputs)))
       (λ (fresh : IsNewName (outputs_of statements) name × (outputs_of (statements ++ s ∷ []) ≡ outputs_of statements ++ name ∷ [])).

@@ -111,6 +111,18 @@ different-append_grows names (name ∷ more) =
     let there : length (different ((names ++ name ∷ []) ++ more)) ≡ length (different (names ++ name ∷ more)) = ap (λ l. length (different l)) (append_assoc names (name ∷ []) more) in
     omega (arith, different-push_grows names name, different-append_grows (names ++ name ∷ []) more, there)
 
+-- the different names of a longer list go on from those of the list
+pub different-append : (names more : List Name) → (rest : List Name) × (different (names ++ more) ≡ different names ++ rest)
+different-append names [] = ([], ap different (append-nil names) ∙ sym (append-nil (different names)))
+different-append names (name ∷ more) =
+    let on = different-append (names ++ name ∷ []) more in
+    let all : different (names ++ name ∷ more) ≡ different (names ++ name ∷ []) ++ on.0 = sym (ap different (append_assoc names (name ∷ []) more)) ∙ on.1 in
+    ⊎_elim
+    (λ (old : Contains (different names) name × (different (names ++ name ∷ []) ≡ different names)). (on.0, all ∙ ap (λ l. l ++ on.0) old.1))
+    (λ (new : IsNewName (different names) name × (different (names ++ name ∷ []) ≡ different names ++ name ∷ [])).
+      (name ∷ on.0, all ∙ ap (λ l. l ++ on.0) new.1 ∙ append_assoc (different names) (name ∷ []) on.0))
+    (different-push names name)
+
 pub contains_different : (names : List Name) (name : Name) → Contains names name → Contains (different names) name
 contains_different [] name c = absurd (contains_none name c)
 contains_different (x ∷ names) name c =
@@ -122,3 +134,20 @@ contains_different (x ∷ names) name c =
     contains_tail x (filter (is_not x) (different names)) name (contains_filter (is_not x) (different names) name (ap not other.0) (contains_different names name rest)))
     (contains_cases x names name c))
     (name_cases name x)
+
+contained_by_filter : (p : Name → Bool) (xs : List Name) (y : Name) → Contains (filter p xs) y → Contains xs y
+contained_by_filter p [] y c = c
+contained_by_filter p (x ∷ xs) y c =
+    ⊎_elim
+    (λ (yes : p x ≡ true).
+      ⊎_elim (λ (e : x ≡ y). subst (Contains (x ∷ xs)) e (contains_head x xs)) (λ (rest : Contains (filter p xs) y). contains_tail x xs y (contained_by_filter p xs y rest))
+      (contains_cases x (filter p xs) y (subst (λ l. Contains l y) (filter_yes p x xs yes) c)))
+    (λ (no : p x ≡ false). contains_tail x xs y (contained_by_filter p xs y (subst (λ l. Contains l y) (filter_no p x xs no) c)))
+    (bool_cases (p x))
+
+pub contains_in_different : (names : List Name) (name : Name) → Contains (different names) name → Contains names name
+contains_in_different [] name c = c
+contains_in_different (x ∷ names) name c =
+    ⊎_elim (λ (e : x ≡ name). subst (Contains (x ∷ names)) e (contains_head x names))
+    (λ (rest : Contains (filter (is_not x) (different names)) name). contains_tail x names name (contains_in_different names name (contained_by_filter (is_not x) (different names) name rest)))
+    (contains_cases x (filter (is_not x) (different names)) name c)

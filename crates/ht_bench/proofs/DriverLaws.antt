@@ -24,7 +24,7 @@ mention_refuses_argument old name NoMemory refused = tt
 
 pub undriven_argument : (old d : Draft) (id : NameId) (name : Name) → Mentions old (name ∷ []) d → IsNumberOf d.names id name → ¬ IsDriven d id → RefusesArguments old (name ∷ []) Broken
 undriven_argument old d id name mentions at undriven mentioned statements is all =
-    undriven (is_driven (mentioned ++ name ∷ []) statements d id name mentions.is_draft (mentions.with_names mentioned statements is) at (All-head (Contains (driven_by statements)) name [] all))
+    undriven (is_driven (mentioned ++ name ∷ []) statements d id name (mentions.with_names mentioned statements is) at (All-head (Contains (driven_by statements)) name [] all))
 
 pub mentions_none : (d : Draft) → IsDraft d → Mentions d [] d
 mentions_none d is = record {

@@ -9,3 +9,4 @@ pub mod AcceptLaws
 pub mod DriverLaws
 pub mod ReadLaws
 pub mod UniqueLaws
+pub mod WholeLaws

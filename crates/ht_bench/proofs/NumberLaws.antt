@@ -2,6 +2,7 @@
 use Rattle.std.proofs.Common.{◌≡◌, ◌≢◌, ◌⊎◌, inl, inr, ⊎_elim, ℕ, ◌<◌, ◌+◌, List, [], ◌∷◌, ◌++◌, length, get_or, refl, sym, ◌∙◌, ap, subst, arith}
 use Rattle.std.specs.List.{All, AllZip, Contains}
 use Rattle.std.proofs.lemmas.Bool.{cases_lt}
+use Rattle.std.proofs.lemmas.List.Elements.{All-nil, All-cons, All-head, All-tail}
 use Rattle.std.proofs.lemmas.List.{length-append, get_or_append_left}
 use Rattle.ht_net.specs.declared.names.NameId.{NameId}
 use Rattle.ht_net.specs.declared.draft.DffPart.{DffPart}
@@ -11,7 +12,7 @@ use Rattle.ht_net.specs.Draft.{Draft, GatePart, IsDraft, IsDriven}
 use Rattle.ht_bench.specs.Name.{different}
 use Rattle.ht_bench.specs.Statement.{Statement}
 use Rattle.ht_bench.specs.Stated.{driven_by}
-use Rattle.ht_bench.specs.Drafted.{IsNumberOf, IsDffOf, IsGateOf, IsDraftWith, Mentions}
+use Rattle.ht_bench.specs.Drafted.{NamesDiffer, IsNumberOf, IsDffOf, IsGateOf, IsDraftWith, Mentions}
 use Rattle.ht_bench.proofs.ListLaws.{AllZip-weaker}
 use Rattle.ht_bench.proofs.DifferentLaws.{AddsName, different-push, new_or_contained, contains_not_new}
 
@@ -34,9 +35,11 @@ gate_stays names new_names keeps part gate is = record {
 
 -- a draft with other names that keep the numbers
 pub with_other_names : (mentioned more : List Name) (statements : List Statement) (d : Draft) (names : List Name)
-    → IsDraftWith mentioned statements d → names ≡ different more → KeepsNumbers d.names names → IsDraftWith more statements (record d { names = names })
-with_other_names mentioned more statements d names is e keeps = record {
+    → IsDraftWith mentioned statements d → names ≡ different more → NamesDiffer names → KeepsNumbers d.names names → IsDraftWith more statements (record d { names = names })
+with_other_names mentioned more statements d names is e differ keeps = record {
   names = e;
+  names_differ = differ;
+  in_sequence = record { earlier = is.in_sequence.earlier };
   inputs = AllZip-weaker (IsNumberOf d.names) (IsNumberOf names) keeps d.inputs _ is.inputs;
   outputs = AllZip-weaker (IsNumberOf d.names) (IsNumberOf names) keeps d.outputs _ is.outputs;
   dffs = AllZip-weaker (IsDffOf d.names) (IsDffOf names) (dff_stays d.names names keeps) d.dffs _ is.dffs;
@@ -64,42 +67,63 @@ module _ (d new : Draft) (name : Name)
       ⊎_elim (λ (e : new ≡ d). subst (λ (x : Draft). IsNumberOf x.names id other) (sym e) at)
       (λ (e : new ≡ record d { names = d.names ++ name ∷ [] }). subst (λ (x : Draft). IsNumberOf x.names id other) (sym e) (number_stays d.names (name ∷ []) id other at)) net_cases
 
-  net_with_name : (mentioned : List Name) (statements : List Statement) → IsDraftWith mentioned statements d → IsDraftWith (mentioned ++ name ∷ []) statements new
-  net_with_name mentioned statements is =
+  net_with_name : IsDraft new → (mentioned : List Name) (statements : List Statement) → IsDraftWith mentioned statements d → IsDraftWith (mentioned ++ name ∷ []) statements new
+  net_with_name is_draft mentioned statements is =
       ⊎_elim
       (λ (old : Contains (different mentioned) name × (different (mentioned ++ name ∷ []) ≡ different mentioned)).
       let e : new ≡ d = known (contains_not_new d.names name (subst (λ l. Contains l name) (sym is.names) old.0)) in
       subst (IsDraftWith (mentioned ++ name ∷ []) statements) (sym e)
-      (with_other_names mentioned (mentioned ++ name ∷ []) statements d d.names is (is.names ∙ sym old.1) (λ id other at. at)))
+      (with_other_names mentioned (mentioned ++ name ∷ []) statements d d.names is (is.names ∙ sym old.1) is.names_differ (λ id other at. at)))
       (λ (fresh : IsNewName (different mentioned) name × (different (mentioned ++ name ∷ []) ≡ different mentioned ++ name ∷ [])).
       let e : new ≡ record d { names = d.names ++ name ∷ [] } = added (subst (λ l. IsNewName l name) (sym is.names) fresh.0) in
       subst (IsDraftWith (mentioned ++ name ∷ []) statements) (sym e)
-      (with_other_names mentioned (mentioned ++ name ∷ []) statements d (d.names ++ name ∷ []) is (ap (λ l. l ++ name ∷ []) is.names ∙ sym fresh.1) (number_stays d.names (name ∷ []))))
+      (with_other_names mentioned (mentioned ++ name ∷ []) statements d (d.names ++ name ∷ []) is (ap (λ l. l ++ name ∷ []) is.names ∙ sym fresh.1) (subst (λ (x : Draft). NamesDiffer x.names) e is_draft.names_differ) (number_stays d.names (name ∷ []))))
       (different-push mentioned name)
 
   pub net_mentions : IsDraft new → Mentions d (name ∷ []) new
-  net_mentions is_draft = record { with_names = net_with_name; keeps = net_keeps; grows = net_grows; is_draft = is_draft }
+  net_mentions is_draft = record { with_names = net_with_name is_draft; keeps = net_keeps; grows = net_grows; is_draft = is_draft }
 
--- the names of a draft differ, so a name has one number
-pub one_number : (d : Draft) (a b : NameId) (name : Name) → IsDraft d → IsNumberOf d.names a name → IsNumberOf d.names b name → a ≡ b
-one_number d a b name is at_a at_b =
+-- names that differ have one number each
+pub one_number : (names : List Name) (a b : NameId) (name : Name) → NamesDiffer names → IsNumberOf names a name → IsNumberOf names b name → a ≡ b
+one_number names a b name differ at_a at_b =
     ⊎_elim
-    (λ (lt : a.0 < b.0). absurd (is.names_differ a.0 b.0 lt at_b.0 (at_a.1 ∙ sym at_b.1)))
+    (λ (lt : a.0 < b.0). absurd (differ a.0 b.0 lt at_b.0 (at_a.1 ∙ sym at_b.1)))
     (λ ge.
-    ⊎_elim
-    (λ (lt : b.0 < a.0). absurd (is.names_differ b.0 a.0 lt at_a.0 (at_b.1 ∙ sym at_a.1)))
-    (λ le. let number : ℕ → NameId = λ n. record { 0 = n } in let e : a.0 ≡ b.0 = omega arith in ap number e) (cases_lt b.0 a.0))
+      ⊎_elim
+      (λ (lt : b.0 < a.0). absurd (differ b.0 a.0 lt at_a.0 (at_b.1 ∙ sym at_a.1)))
+      (λ le. let number : ℕ → NameId = λ n. record { 0 = n } in let e : a.0 ≡ b.0 = omega arith in ap number e) (cases_lt b.0 a.0))
     (cases_lt a.0 b.0)
 
 pub driven_is : (mentioned : List Name) (statements : List Statement) (d : Draft) (id : NameId) (name : Name)
-    → IsDraft d → IsDraftWith mentioned statements d → IsNumberOf d.names id name → IsDriven d id → Contains (driven_by statements) name
-driven_is mentioned statements d id name is_draft is at driven =
+    → IsDraftWith mentioned statements d → IsNumberOf d.names id name → IsDriven d id → Contains (driven_by statements) name
+driven_is mentioned statements d id name is at driven =
     let r = is.drives id driven in
     let same : r.0 ≡ name = sym r.1.1 ∙ at.1 in
     subst (Contains (driven_by statements)) same r.2
 
 pub is_driven : (mentioned : List Name) (statements : List Statement) (d : Draft) (id : NameId) (name : Name)
-    → IsDraft d → IsDraftWith mentioned statements d → IsNumberOf d.names id name → Contains (driven_by statements) name → IsDriven d id
-is_driven mentioned statements d id name is_draft is at contains =
+    → IsDraftWith mentioned statements d → IsNumberOf d.names id name → Contains (driven_by statements) name → IsDriven d id
+is_driven mentioned statements d id name is at contains =
     let r = is.driven name contains in
-    subst (IsDriven d) (one_number d r.0 id name is_draft r.2 at) r.1
+    subst (IsDriven d) (one_number d.names r.0 id name is.names_differ r.2 at) r.1
+
+-- the same of lists of names
+pub drivers_contained : (mentioned : List Name) (statements : List Statement) (d : Draft) → IsDraftWith mentioned statements d
+    → (ids : List NameId) (names : List Name) → AllZip (IsNumberOf d.names) ids names → All (IsDriven d) ids → All (Contains (driven_by statements)) names
+drivers_contained mentioned statements d is [] [] h driven = All-nil (Contains (driven_by statements))
+drivers_contained mentioned statements d is [] (y ∷ ys) h driven = absurd h
+drivers_contained mentioned statements d is (x ∷ xs) [] h driven = absurd h
+drivers_contained mentioned statements d is (x ∷ xs) (y ∷ ys) h driven =
+    All-cons (Contains (driven_by statements)) y ys
+    (driven_is mentioned statements d x y is h.0 (All-head (IsDriven d) x xs driven))
+    (drivers_contained mentioned statements d is xs ys h.1 (All-tail (IsDriven d) x xs driven))
+
+pub contained_drivers : (mentioned : List Name) (statements : List Statement) (d : Draft) → IsDraftWith mentioned statements d
+    → (ids : List NameId) (names : List Name) → AllZip (IsNumberOf d.names) ids names → All (Contains (driven_by statements)) names → All (IsDriven d) ids
+contained_drivers mentioned statements d is [] [] h contained = All-nil (IsDriven d)
+contained_drivers mentioned statements d is [] (y ∷ ys) h contained = absurd h
+contained_drivers mentioned statements d is (x ∷ xs) [] h contained = absurd h
+contained_drivers mentioned statements d is (x ∷ xs) (y ∷ ys) h contained =
+    All-cons (IsDriven d) x xs
+    (is_driven mentioned statements d x y is h.0 (All-head (Contains (driven_by statements)) y ys contained))
+    (contained_drivers mentioned statements d is xs ys h.1 (All-tail (Contains (driven_by statements)) y ys contained))

@@ -1,5 +1,5 @@
 -- Reading a text line by line.
-use Rattle.std.proofs.Common.{◌≡◌, ◌≢◌, ◌⊎◌, inl, inr, ⊎_elim, ℕ, ◌<◌, ◌≤◌, ◌+◌, List, [], ◌∷◌, ◌++◌, length, map, refl, sym, ◌∙◌, ap, subst, append_assoc, append-nil, arith}
+use Rattle.std.proofs.Common.{◌≡◌, ◌≢◌, ◌⊎◌, inl, inr, ⊎_elim, ℕ, ◌<◌, ◌≤◌, ◌+◌, List, [], ◌∷◌, ◌++◌, length, map, Option, option_to_list, refl, sym, ◌∙◌, ap, subst, append_assoc, append-nil, arith}
 use Rattle.std.specs.List.{All, AllZip, Contains, flat_map}
 use Rattle.std.proofs.lemmas.List.{length-append, map_push}
 use Rattle.std.proofs.lemmas.List.Elements.{All-push, All-nil, All-cons, All-head, All-tail, Contains-append_left, Contains-append_right}
@@ -19,13 +19,14 @@ use Rattle.ht_bench.specs.Line.{States, StatesNothing}
 use Rattle.ht_bench.specs.Stated.{read_in, driven_by, mentions_of, named_of_statements, inputs_of, outputs_of, dffs_of, gates_of}
 use Rattle.ht_bench.specs.Rules.{IsAccepted, AreAccepted, ReadsDriven}
 use Rattle.ht_bench.specs.Plain.{Reads, StandsForPlain, IsFirstBroken}
-use Rattle.ht_bench.specs.Drafted.{IsNumberOf, IsDffOf, IsGateOf, IsDraftWith, IsDraftOf, Accepts, Breaks, Refuses}
+use Rattle.ht_bench.specs.Drafted.{IsNumberOf, IsDffOf, IsGateOf, IsReadOf, IsDraftWith, IsDraftOf, Accepts, Breaks, Refuses}
 use Rattle.ht_bench.specs.declared.fault.LineFault.{LineFault}
 use Rattle.ht_bench.specs.declared.fault.LineFault.TheVariants.{Broken, NoMemory}
 use Rattle.ht_bench.proofs.UniqueLaws.{states_one}
-use Rattle.ht_bench.specs.Reading.{IsReading, AddsLine, BreaksLine, RefusesLine}
-use Rattle.ht_bench.proofs.ListLaws.{contains_head, contains_tail, contains_cases, contains_none, AllZip-map}
-use Rattle.ht_bench.proofs.DifferentLaws.{contains_different, name_at_contained}
+use Rattle.ht_bench.specs.Reading.{IsReading, IsRead, AddsLine, BreaksLine, RefusesLine}
+use Rattle.ht_bench.proofs.ListLaws.{contains_none, flat_map-push, AllZip-add, AllZip-length, AllZip-weaker, AllZip-map}
+use Rattle.ht_bench.proofs.NumberLaws.{KeepsNumbers, number_stays}
+use Rattle.ht_bench.proofs.DifferentLaws.{different-append}
 
 -- ---- lines
 
@@ -66,29 +67,45 @@ accepted_push statements s are is before after x e =
 
 -- ---- the text so far
 
-pub reading_none : (text : List ℕ) (d : Draft) → d ≡ record { names = []; inputs = []; dffs = []; gates = []; outputs = [] } → IsReading text text 0 d
-reading_none text d e = record {
+pub nothing_drafted : (d : Draft) → d ≡ record { names = []; inputs = []; dffs = []; gates = []; outputs = [] } → IsDraftOf [] d
+nothing_drafted d e = subst (IsDraftOf []) (sym e) (record {
+  names = refl;
+  names_differ = λ x y lt within. absurd (omega arith);
+  in_sequence = record { earlier = λ g i lt pin. absurd (omega arith) };
+  inputs = tt;
+  outputs = tt;
+  dffs = tt;
+  gates = tt;
+  driven = λ name c. absurd (contains_none name c);
+  drives = λ id c. absurd (contains_none id c);
+})
+
+pub reading_none : (text : List ℕ) (reads : List (Option NameId)) (d : Draft) → reads ≡ [] → IsDraftOf [] d → IsReading text text reads d
+reading_none text reads d none draft = record {
   before = [];
   written = All-nil IsWritten;
   accepted = accepted_none;
   lines = refl;
-  is_number = refl;
-  short = omega arith;
-  draft = subst (IsDraftOf []) (sym e) (record {
-    names = refl;
-    inputs = tt;
-    outputs = tt;
-    dffs = tt;
-    gates = tt;
-    driven = λ name c. absurd (contains_none name c);
-    drives = λ id c. absurd (contains_none id c);
-  });
+  short = omega (arith, ap length none);
+  draft = draft;
+  are_reads = subst (λ l. AllZip (IsReadOf d.names) l []) (sym none) tt;
 }
 
-module _ (text rest line more : List ℕ) (number : ℕ) (old : Draft) (is : IsReading text rest number old)
+-- the names of a draft with one more statement go on from those before
+names_go_on : (before : List Statement) (s : Statement) (d new : Draft) → IsDraftOf before d → IsDraftOf (before ++ s ∷ []) new → (id : NameId) (name : Name) → IsNumberOf d.names id name → IsNumberOf new.names id name
+names_go_on before s d new is made id name at =
+    let on = different-append (mentions_of before) (names_in s) in
+    let e : new.names ≡ d.names ++ on.0 =
+      made.names ∙ ap different (flat_map-push names_in before s) ∙ on.1 ∙ ap (λ l. l ++ on.0) (sym is.names) in
+    subst (λ l. IsNumberOf l id name) (sym e) (number_stays d.names on.0 id name at)
+
+read_stays : (names new_names : List Name) → KeepsNumbers names new_names → (read : Option NameId) (s : Statement) → IsReadOf names read s → IsReadOf new_names read s
+read_stays names new_names keeps read s is = AllZip-weaker (IsNumberOf names) (IsNumberOf new_names) keeps (option_to_list read) (read_in s) is
+
+module _ (text rest line more : List ℕ) (reads : List (Option NameId)) (old : Draft) (is : IsReading text rest reads old)
     (first : lines_of rest ≡ line ∷ lines_of more) (shorter : length more < length rest) where
-  pub reading_more : (new : Draft) → AddsLine old line new → IsReading text more (number + 1) new
-  reading_more new adds =
+  pub reading_more : (read : Option NameId) (all : List (Option NameId)) (new : Draft) → all ≡ reads ++ read ∷ [] → AddsLine old line read new → IsReading text more all new
+  reading_more read all new e adds =
       let s = adds.statement in
       let r = adds.accepts is.before is.draft in
       record {
@@ -99,24 +116,36 @@ module _ (text rest line more : List ℕ) (number : ℕ) (old : Draft) (is : IsR
             is.lines
             ∙ ap (λ l. map statement_text is.before ++ l) (first ∙ ap (λ t. t ∷ lines_of more) adds.states.is_text)
             ∙ sym (ap (λ l. l ++ lines_of more) (map_push statement_text is.before s) ∙ append_assoc (map statement_text is.before) (statement_text s ∷ []) (lines_of more));
-        is_number = omega (arith, is.is_number, length-append is.before (s ∷ []));
-        short = omega (arith, is.short, shorter);
+        short = omega (arith, is.short, shorter, ap length e, length-append reads (read ∷ []));
         draft = r.1;
+        are_reads = subst (λ l. AllZip (IsReadOf new.names) l (is.before ++ s ∷ [])) (sym e)
+          (AllZip-add (IsReadOf new.names) reads is.before read s
+            (AllZip-weaker (IsReadOf old.names) (IsReadOf new.names) (read_stays old.names new.names (names_go_on is.before s old new is.draft r.1)) reads is.before is.are_reads) adds.is_read);
       }
 
-  pub reading_broken : BreaksLine old line → IsFirstBroken (lines_of text) (number + 1)
+  pub reading_broken : BreaksLine old line → IsFirstBroken (lines_of text) (length reads + 1)
   reading_broken breaks = record {
     before = is.before;
     line = line;
     after = lines_of more;
     cut = is.lines ∙ ap (λ l. map statement_text is.before ++ l) first;
-    is_number = omega (arith, is.is_number);
+    is_number = omega (arith, AllZip-length (IsReadOf old.names) reads is.before is.are_reads);
     written = is.written;
     accepted = is.accepted;
     broken = λ s written e. breaks s (record { written = written; is_text = e }) is.before is.draft;
   }
 
 -- ---- the whole text
+
+pub reading_done : (text rest : List ℕ) (reads : List (Option NameId)) (d : Draft) → IsReading text rest reads d → rest ≡ [] → IsRead text reads d
+reading_done text rest reads d is none = record {
+  statements = is.before;
+  lines = record { written = is.written; texts = is.lines ∙ ap (λ t. map statement_text is.before ++ lines_of t) none ∙ append-nil (map statement_text is.before) };
+  accepted = is.accepted;
+  short = omega (arith, is.short);
+  draft = is.draft;
+  are_reads = is.are_reads;
+}
 
 abbrev named_dff : Draft → DffPart → NamedDff
 named_dff d f = record { out = draft_name d f.out; data_pin = draft_name d f.data_pin }
@@ -149,46 +178,6 @@ named_draft_is mentioned statements d is =
     let dffs : map (named_dff d) d.dffs ≡ dffs_of statements = AllZip-map (IsDffOf d.names) (named_dff d) (dff_named d) d.dffs (dffs_of statements) is.dffs in
     let gates : map (named_gate d) d.gates ≡ gates_of statements = AllZip-map (IsGateOf d.names) (named_gate d) (gate_named d) d.gates (gates_of statements) is.gates in
     cc
-
-contains_flat_map : {A B : Type 0} (f : A → List B) (xs : List A) (x : A) (y : B) → Contains xs x → Contains (f x) y → Contains (flat_map f xs) y
-contains_flat_map f [] x y c h = absurd (contains_none x c)
-contains_flat_map f (w ∷ xs) x y c h =
-    ⊎_elim
-    (λ (e : w ≡ x). Contains-append_left (f w) (flat_map f xs) y (subst (λ z. Contains (f z) y) (sym e) h))
-    (λ (rest : Contains xs x). Contains-append_right (f w) (flat_map f xs) y (contains_flat_map f xs x y rest h)) (contains_cases w xs x c)
-
--- where every name of the draft is driven, each that is mentioned is
-mentioned_driven : (statements : List Statement) (d : Draft) → IsDraftOf statements d → AllDriven d → (name : Name) → Contains (mentions_of statements) name → Contains (driven_by statements) name
-mentioned_driven statements d is all name c =
-    let at = name_at_contained d.names name (subst (λ l. Contains l name) (sym is.names) (contains_different (mentions_of statements) name c)) in
-    let id : NameId = record { 0 = at.0 } in
-    let r = is.drives id (all id at.1.0) in
-    let same : r.0 ≡ name = sym r.1.1 ∙ at.1.1 in
-    subst (Contains (driven_by statements)) same r.2
-
-reads_of_mentions : (s : Statement) (driven : List Name) → ((name : Name) → Contains (names_in s) name → Contains driven name) → All (Contains driven) (read_in s)
-reads_of_mentions (Input name) driven h = All-nil (Contains driven)
-reads_of_mentions (Output name) driven h = All-cons (Contains driven) name [] (h name (contains_head name [])) (All-nil (Contains driven))
-reads_of_mentions (Dff out pin) driven h = All-cons (Contains driven) pin [] (h pin (contains_tail out (pin ∷ []) pin (contains_head pin []))) (All-nil (Contains driven))
-reads_of_mentions (Gate out kind args) driven h = All-nil (Contains driven)
-
-all_reads_driven : (statements : List Statement) (d : Draft) → IsDraftOf statements d → AllDriven d → (some : List Statement) → ((s : Statement) → Contains some s → Contains statements s) → All (ReadsDriven statements) some
-all_reads_driven statements d is all [] within = All-nil (ReadsDriven statements)
-all_reads_driven statements d is all (s ∷ some) within =
-    All-cons (ReadsDriven statements) s some
-    (reads_of_mentions s (driven_by statements) (λ name c. mentioned_driven statements d is all name (contains_flat_map names_in statements s name (within s (contains_head s some)) c)))
-    (all_reads_driven statements d is all some (λ x c. within x (contains_tail s some x c)))
-
-pub reading_done : (text rest : List ℕ) (number : ℕ) (d : Draft) (circuit : Netlist) → IsReading text rest number d → rest ≡ [] → AllDriven d → IsCircuit circuit → named_of circuit ≡ named_draft d
-    → StandsForPlain text circuit
-reading_done text rest number d circuit is none all is_circuit named = record {
-  statements = is.before;
-  lines = record { written = is.written; texts = is.lines ∙ ap (λ t. map statement_text is.before ++ lines_of t) none ∙ append-nil (map statement_text is.before) };
-  accepted = is.accepted;
-  driven = all_reads_driven is.before d is.draft all is.before (λ s c. c);
-  is_circuit = is_circuit;
-  named = named ∙ named_draft_is (mentions_of is.before) is.before d is.draft;
-}
 
 -- a line whose statement is refused is broken
 pub line_refused : (old : Draft) (line : List ℕ) (s : Statement) (fault : LineFault) → States line s → Refuses old s fault → RefusesLine old line fault

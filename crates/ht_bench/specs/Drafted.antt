@@ -1,5 +1,5 @@
 -- How a builder's draft stands for the statements that were added to it.
-use Rattle.std.specs.Prelude.{◌≡◌, ℕ, ◌≤◌, ◌<◌, List, [], ◌∷◌, ◌++◌, length, All, Contains}
+use Rattle.std.specs.Prelude.{◌≡◌, ◌≢◌, ℕ, ◌<◌, List, [], ◌∷◌, ◌++◌, length, get_or, All, Contains, Option, option_to_list}
 use Rattle.std.specs.List.{AllZip}
 use Rattle.ht_net.specs.declared.names.NameId.{NameId}
 use Rattle.ht_net.specs.declared.draft.DffPart.{DffPart}
@@ -8,9 +8,10 @@ use Rattle.ht_net.specs.declared.error.NetError.TheVariants.{NoMemory as NetNoMe
 use Rattle.ht_net.specs.Names.{IsNewName, IsNameAt}
 use Rattle.ht_net.specs.Named.{Name, NamedDff, NamedGate}
 use Rattle.ht_net.specs.Draft.{Draft, GatePart, IsDraft, IsDriven}
+use Rattle.ht_net.specs.Sequence.{IsInSequence}
 use Rattle.ht_bench.specs.Name.{different}
 use Rattle.ht_bench.specs.Statement.{Statement}
-use Rattle.ht_bench.specs.Stated.{inputs_of, outputs_of, dffs_of, gates_of, driven_by, mentions_of}
+use Rattle.ht_bench.specs.Stated.{inputs_of, outputs_of, dffs_of, gates_of, driven_by, mentions_of, read_in}
 use Rattle.ht_bench.specs.Rules.{IsAccepted}
 use Rattle.ht_bench.specs.declared.fault.LineFault.{LineFault}
 use Rattle.ht_bench.specs.declared.fault.LineFault.TheVariants.{Broken, NoMemory}
@@ -28,9 +29,14 @@ pub record IsGateOf (names : List Name) (part : GatePart) (gate : NamedGate) : T
   pub out : IsNumberOf names part.out gate.out
   pub args : AllZip (IsNumberOf names) part.args gate.args
 
+abbrev pub NamesDiffer : List Name → Type 0
+NamesDiffer names = (x y : ℕ) → x < y → y < length names → get_or names x [] ≢ get_or names y []
+
 -- a draft of these statements, in which these names are mentioned
 pub record IsDraftWith (mentioned : List Name) (statements : List Statement) (d : Draft) : Type 0 where
   pub names : d.names ≡ different mentioned
+  pub names_differ : NamesDiffer d.names
+  pub in_sequence : IsInSequence d
   pub inputs : AllZip (IsNumberOf d.names) d.inputs (inputs_of statements)
   pub outputs : AllZip (IsNumberOf d.names) d.outputs (outputs_of statements)
   pub dffs : AllZip (IsDffOf d.names) d.dffs (dffs_of statements)
@@ -40,6 +46,10 @@ pub record IsDraftWith (mentioned : List Name) (statements : List Statement) (d 
 
 abbrev pub IsDraftOf : List Statement → Draft → Type 0
 IsDraftOf statements d = IsDraftWith (mentions_of statements) statements d
+
+-- the net that a line reads, if it reads one
+abbrev pub IsReadOf : List Name → Option NameId → Statement → Type 0
+IsReadOf names read statement = AllZip (IsNumberOf names) (option_to_list read) (read_in statement)
 
 -- a draft in which more names are mentioned, and nothing else is new
 pub record Mentions (old : Draft) (names : List Name) (new : Draft) : Type 0 where

@@ -31,25 +31,27 @@ pub(crate) fn add_input(builder: &mut Builder, name: &[u8]) -> Result<(), LineFa
     Ok(())
 }
 
-/// Adds an output, or nothing if the net is one.
-pub(crate) fn add_output(builder: &mut Builder, name: &[u8]) -> Result<(), LineFault>
+/// Adds an output, or nothing if the net is one, and gives its net.
+pub(crate) fn add_output(builder: &mut Builder, name: &[u8]) -> Result<NameId, LineFault>
+    ensures net { IfOk result (λ id. IsNumberOf builder.new.names id name.now) }
     ensures accepts { OnOk result (Accepts builder.old (Output name.now) builder.new) }
     ensures refusal { IfErr result (Refuses builder.old (Output name.now)) }
 {
     let id = mention(builder, name)?;
     builder.output(id)?;
-    Ok(())
+    Ok(id)
 }
 
-/// Adds a flip-flop.
-pub(crate) fn add_dff(builder: &mut Builder, out: &[u8], data_pin: &[u8]) -> Result<(), LineFault>
+/// Adds a flip-flop, and gives the net at its data pin.
+pub(crate) fn add_dff(builder: &mut Builder, out: &[u8], data_pin: &[u8]) -> Result<NameId, LineFault>
+    ensures net { IfOk result (λ id. IsNumberOf builder.new.names id data_pin.now) }
     ensures accepts { OnOk result (Accepts builder.old (Dff out.now data_pin.now) builder.new) }
     ensures refusal { IfErr result (Refuses builder.old (Dff out.now data_pin.now)) }
 {
     let out_id = mention(builder, out)?;
     let pin_id = mention(builder, data_pin)?;
     builder.dff(out_id, pin_id)?;
-    Ok(())
+    Ok(pin_id)
 }
 
 /// Whether a gate of this kind may have so many arguments: one for NOT and BUFF, else 1 to 255.

@@ -25,6 +25,16 @@ impl From<AllocError> for PlainFault {
     }
 }
 
+impl<T: Drop> From<AllocFailed<T>> for PlainFault {
+    ghost use Rattle.ht_bench.specs.declared.fault.PlainFault.TheVariants.{NoMemory};
+
+    ghost from_gives = { λ _ fault. fault ≡ NoMemory };
+
+    fn from(_error: AllocFailed<T>) -> PlainFault {
+        PlainFault::NoMemory
+    }
+}
+
 /// Why a line can't be added: it breaks a rule, or memory ran out.
 #[derive(Debug, PartialEq, Eq, Drop)]
 pub(crate) enum LineFault {

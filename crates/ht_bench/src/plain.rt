@@ -1,8 +1,12 @@
 // The reader of plain netlists.
-ghost use Rattle.std.specs.Prelude.{◌≡◌, ℕ, ◌≤◌, length, IfOk, OnOk, IfErr};
-ghost use Rattle.ht_bench.specs.Drafted.{Accepts, Refuses};
+ghost use Rattle.std.specs.Prelude.{◌≡◌, ℕ, ◌≤◌, ◌<◌, [], length, option_to_list, IfOk, OnOk, IfErr, IfSome, IfNone};
+ghost use Rattle.ht_net.specs.Built.{AllDriven, circuit_of, named_draft};
+ghost use Rattle.ht_net.specs.Named.{named_of};
+ghost use Rattle.ht_net.specs.Netlist.{IsCircuit};
+ghost use Rattle.ht_net.specs.Sequence.{IsInSequence};
+ghost use Rattle.ht_bench.specs.Drafted.{IsDraftOf, IsReadOf, Accepts, Refuses};
 ghost use Rattle.ht_bench.specs.StatementOf.{statement_of};
-ghost use Rattle.ht_bench.specs.Reading.{AddsLine, RefusesLine};
+ghost use Rattle.ht_bench.specs.Reading.{IsRead, AddsLine, RefusesLine, AreKnown, LineReadsDriven, IsFirstUndrivenRead};
 ghost use Rattle.ht_bench.specs.Plain.{StandsForPlain, RefusesPlain, StandsForNone};
 
 use crate::PlainFault;
@@ -10,30 +14,94 @@ use crate::add::{add_dff, add_gate, add_input, add_output};
 use crate::fault::LineFault;
 use crate::lines::next_line;
 use crate::statement::{Statement, parse};
-use ht_net::{Builder, Circuit};
-use std::alloc::Global;
+use ht_net::{Builder, Circuit, NameId, NetError};
+use std::alloc::{AllocError, Global};
 
-/// Adds what a line states.
-fn add(alloc: Global, builder: &mut Builder, statement: &Statement<'_>) -> Result<(), LineFault>
+/// Adds what a line states, and gives the net that it reads: an output's, or the one at a data pin.
+fn add(alloc: Global, builder: &mut Builder, statement: &Statement<'_>) -> Result<Option<NameId>, LineFault>
     ensures accepts { OnOk result (Accepts builder.old (statement_of statement.now) builder.new) }
+    ensures read { IfOk result (λ read. IsReadOf builder.new.names read (statement_of statement.now)) }
     ensures refusal { IfErr result (Refuses builder.old (statement_of statement.now)) }
 {
     match statement {
-        Statement::Input(name) => add_input(builder, name),
-        Statement::Output(name) => add_output(builder, name),
-        Statement::Dff { out, data_pin } => add_dff(builder, out, data_pin),
-        Statement::Gate { out, kind, args } => add_gate(alloc, builder, out, *kind, args),
+        Statement::Input(name) => {
+            add_input(builder, name)?;
+            Ok(None)
+        }
+        Statement::Output(name) => Ok(Some(add_output(builder, name)?)),
+        Statement::Dff { out, data_pin } => Ok(Some(add_dff(builder, out, data_pin)?)),
+        Statement::Gate { out, kind, args } => {
+            add_gate(alloc, builder, out, *kind, args)?;
+            Ok(None)
+        }
     }
 }
 
-/// Reads one line.
-fn read_line(alloc: Global, builder: &mut Builder, line: &[u8]) -> Result<(), LineFault>
-    ensures adds { OnOk result (AddsLine builder.old line.now builder.new) }
+/// Reads one line, and gives the net that it reads.
+fn read_line(alloc: Global, builder: &mut Builder, line: &[u8]) -> Result<Option<NameId>, LineFault>
+    ensures adds { IfOk result (λ read. AddsLine builder.old line.now read builder.new) }
     ensures refusal { IfErr result (RefusesLine builder.old line.now) }
 {
     match parse(alloc, line)? {
         Some(statement) => add(alloc, builder, &statement),
         None => Err(LineFault::Broken),
+    }
+}
+
+/// Reads all lines, and gives the net that each reads, if it reads one.
+fn read_lines(alloc: Global, builder: &mut Builder, text: &[u8]) -> Result<Vec<Option<NameId>>, PlainFault>
+    requires short { length text.now ≤ 16777216 }
+    requires new { IsDraftOf [] builder.old }
+    ensures read { IfOk result (λ reads. IsRead text.now reads.items builder.new) }
+    ensures refusal { IfErr result (RefusesPlain text.now) }
+{
+    let mut reads = Vec::new(alloc);
+    let mut rest = text;
+    while let Some((line, more)) = next_line(rest) {
+        match read_line(alloc, builder, line) {
+            Ok(read) => reads.push(read)?,
+            Err(LineFault::Broken) => {
+                return Err(PlainFault::BadLine {
+                    line: reads.len() as u32 + 1,
+                });
+            }
+            Err(LineFault::NoMemory) => return Err(PlainFault::NoMemory),
+        }
+        rest = more;
+    }
+    Ok(reads)
+}
+
+/// The first line, from 1, that reads a net that nothing drives.
+fn first_undriven(builder: &Builder, reads: &[Option<NameId>]) -> Option<u32>
+    requires few { length reads.now ≤ 16777216 }
+    requires known { AreKnown builder.now reads.now }
+    ensures found { IfSome result (IsFirstUndrivenRead builder.now reads.now) }
+    ensures none { IfNone result ((k : ℕ) → k < length reads.now → LineReadsDriven builder.now reads.now k) }
+{
+    for (place, read) in reads.iter().enumerate() {
+        if let Some(net) = read {
+            if !builder.driven(*net) {
+                return Some(place as u32 + 1);
+            }
+        }
+    }
+    None
+}
+
+/// The circuit of a draft in which each name is driven and each gate comes after those that drive its arguments.
+fn finished(builder: &Builder) -> Result<Circuit, AllocError>
+    requires driven { AllDriven builder.now }
+    requires in_sequence { IsInSequence builder.now }
+    ensures circuit { IfOk result (λ c. IsCircuit c) }
+    ensures named { IfOk result (λ c. named_of c ≡ named_draft builder.now) }
+{
+    match builder.finish() {
+        Ok(circuit) => Ok(circuit),
+        Err(error) => match error {
+            NetError::NoMemory => Err(AllocError),
+            _ => unreachable!(),
+        },
     }
 }
 
@@ -46,21 +114,13 @@ pub fn read_plain(alloc: Global, text: &[u8]) -> Result<Circuit, PlainFault>
     requires { length text.now ≤ 16777216 }
     ensures circuit { IfOk result (λ c. StandsForPlain text.now c) }
     ensures refusal { IfErr result (RefusesPlain text.now) }
+    ensures excludes { IfErr result (StandsForNone text.now) }
 {
     let mut builder = Builder::new(alloc);
-    let mut number = 0;
-    let mut rest = text;
-    while let Some((line, more)) = next_line(rest) {
-        number += 1;
-        match read_line(alloc, &mut builder, line) {
-            Ok(()) => {}
-            Err(LineFault::Broken) => return Err(PlainFault::BadLine { line: number }),
-            Err(LineFault::NoMemory) => return Err(PlainFault::NoMemory),
-        }
-        rest = more;
+    let reads = read_lines(alloc, &mut builder, text)?;
+    if let Some(line) = first_undriven(&builder, &reads) {
+        return Err(PlainFault::BadLine { line });
     }
-    match builder.finish() {
-        Ok(circuit) => Ok(circuit),
-        Err(_) => Err(PlainFault::NoMemory),
-    }
+    let circuit = finished(&builder)?;
+    Ok(circuit)
 }
