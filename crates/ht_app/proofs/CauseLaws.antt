@@ -66,7 +66,7 @@ tests_cause words name c a m b NoMemory is p accepted netlist h = tt
 tests_cause words name c a m b (BadTests line) is p accepted netlist h = record {
   netlist = netlist;
   there = may_hold_before (tests_name words) a m p (subst (MayHold m) is h.there);
-  cause = λ n t inputs. (c, accepted n inputs.netlist, h.cause t (subst (λ (x : List ℕ). IsInput Tests x t m) (sym is) (input_later (tests_name words) t a m p inputs.tests)))
+  cause = λ n t inputs. (c, accepted n inputs.netlist_is, h.cause t (subst (λ (x : List ℕ). IsInput Tests x t m) (sym is) (input_later (tests_name words) t a m p inputs.tests_is)))
 }
 
 pub tests_there : (words : List (String Global)) (name : List ℕ) (a m : DeskView) → name ≡ tests_name words → InCall Netlist a m → MayHold m name → MayHold a (tests_name words)

@@ -50,8 +50,8 @@ pub malformed_status : (words : List (String Global)) (a b : DeskView) (t : Trou
     → AreInputs words netlist tests a → IsAccepted netlist c → IsMalformedTest c tests line
     → (status_of t ≡ 7) ⊎ (status_of t ≡ 4) ⊎ (status_of t ≡ 6)
 malformed_status words a b Usage h asked netlist tests c line is accepted bad = absurd (h.0 asked)
-malformed_status words a b TooLong h asked netlist tests c line is accepted bad = absurd (omega (arith, h.cause netlist is.netlist, accepted.short))
-malformed_status words a b (BadLine n) h asked netlist tests c line is accepted bad = absurd ((h.cause netlist is.netlist).none c accepted.stands)
+malformed_status words a b TooLong h asked netlist tests c line is accepted bad = absurd (omega (arith, h.cause netlist is.netlist_is, accepted.short))
+malformed_status words a b (BadLine n) h asked netlist tests c line is accepted bad = absurd ((h.cause netlist is.netlist_is).none c accepted.stands)
 malformed_status words a b ReadFault h asked netlist tests c line is accepted bad = inr (inl refl)
 malformed_status words a b WriteFault h asked netlist tests c line is accepted bad =
     let good = h.inputs.accepted netlist tests is in absurd (not_malformed netlist tests good.0 c good.2.0 line good.1 accepted good.2.1 bad)
@@ -62,8 +62,8 @@ pub good_status : (words : List (String Global)) (a b : DeskView) (t : Trouble) 
     → AreInputs words netlist tests a → IsAccepted netlist c → IsTestText c tests list → Faultless a b
     → (status_of t ≡ 0) ⊎ (status_of t ≡ 6)
 good_status words a b Usage h asked netlist tests c list is accepted good faultless = absurd (h.0 asked)
-good_status words a b TooLong h asked netlist tests c list is accepted good faultless = absurd (omega (arith, h.cause netlist is.netlist, accepted.short))
-good_status words a b (BadLine n) h asked netlist tests c list is accepted good faultless = absurd ((h.cause netlist is.netlist).none c accepted.stands)
+good_status words a b TooLong h asked netlist tests c list is accepted good faultless = absurd (omega (arith, h.cause netlist is.netlist_is, accepted.short))
+good_status words a b (BadLine n) h asked netlist tests c list is accepted good faultless = absurd ((h.cause netlist is.netlist_is).none c accepted.stands)
 good_status words a b ReadFault h asked netlist tests c list is accepted good faultless = absurd (faultless.reads h.rose)
 good_status words a b WriteFault h asked netlist tests c list is accepted good faultless = absurd (faultless.writes h.rose)
 good_status words a b NoMemory h asked netlist tests c list is accepted good faultless = inr refl

@@ -6,7 +6,7 @@ use Rattle.std.specs.Option.{option_map}
 use Rattle.std.specs.Io.KnownBytes.{append_known}
 use Rattle.ht_tern.specs.Gate.{AllRelated}
 use Rattle.ht_ports.specs.Causes.{Rose}
-use Rattle.ht_ports.specs.Desk.{DeskView, Holds}
+use Rattle.ht_ports.specs.Desk.{DeskView, Holds, Writes}
 use Rattle.ht_ports.specs.declared.ports.InPort.{InPort}
 use Rattle.ht_ports.specs.declared.ports.InPort.TheVariants.{Netlist, Tests}
 use Rattle.ht_ports.specs.declared.ports.OutPort.{OutPort}
@@ -45,8 +45,8 @@ MayHold desk name = desk.file name ≢ Some None
 
 -- the two files that the words of `sim` name hold these texts
 pub record AreInputs (words : List (String Global)) (netlist tests : List ℕ) (desk : DeskView) : Type 0 where
-  pub netlist : IsInput Netlist (netlist_name words) netlist desk
-  pub tests : IsInput Tests (tests_name words) tests desk
+  pub netlist_is : IsInput Netlist (netlist_name words) netlist desk
+  pub tests_is : IsInput Tests (tests_name words) tests desk
 
 -- The netlist that the words name is there, and is accepted.
 pub record AcceptsNetlist (words : List (String Global)) (old : DeskView) : Type 0 where
@@ -159,8 +159,11 @@ pub record SaysOnErr (line : List ℕ) (old worked new : DeskView) : Type 0 wher
 pub record EndsBy (words : List (String Global)) (status : ℕ) (old new : DeskView) : Type 0 where
   pub trouble : Trouble
   pub is : status ≡ status_of trouble
-  -- the desk as the work left it
+  -- the desk as the work left it, and then nothing but the line
   pub worked : DeskView
+  pub in_later : old.in_faults ≤ worked.in_faults
+  pub out_later : old.out_faults ≤ worked.out_faults
+  pub line : Writes Err worked new
   pub cause : HasCause words old worked trouble
   pub says : SaysOnErr (line_of trouble) old worked new
 

@@ -1,4 +1,3 @@
-pub mod ReadLaws
 pub mod ReportLaws
 pub mod TestLaws
 pub mod VectorLaws

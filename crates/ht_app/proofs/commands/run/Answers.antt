@@ -23,6 +23,9 @@ returns-in-Err-clause-trouble g c = λ ne.
       trouble = t;
       is = c.status.ensures;
       worked = m;
+      in_later = c.in-Err.ensures.frame.in_later;
+      out_later = c.in-Err.ensures.frame.out_later;
+      line = c.write_line.ensures.frame;
       cause = c.in-Err.ensures.cause;
       says = says (line_of t) (report_name c.args.words.now) c.write_line.result a m b c.in-Err.ensures.frame c.write_line.ensures.added c.write_line.ensures.failed;
     }

@@ -36,8 +36,8 @@ returns-clause-inputs g c =
     record {
       netlist = accepts_netlist words c.word.result.now c.in_ok-circuit.circuit a c.word.ensures read.there read.circuit;
       there = tests_there words c.word-2.result.now a m c.word-2.ensures read.frame c.in_ok-list.ensures.there;
-      accepted = λ n t both. (c.in_ok-circuit.circuit, read.circuit n (subst (λ (x : List ℕ). IsInput Netlist x n a) (sym c.word.ensures) both.netlist),
-          (c.in_ok-list.list.list, c.in_ok-list.ensures.list t (subst (λ (x : List ℕ). IsInput Tests x t m) (sym c.word-2.ensures) (input_later _ t a m read.frame both.tests))));
+      accepted = λ n t both. (c.in_ok-circuit.circuit, read.circuit n (subst (λ (x : List ℕ). IsInput Netlist x n a) (sym c.word.ensures) both.netlist_is),
+          (c.in_ok-list.list.list, c.in_ok-list.ensures.list t (subst (λ (x : List ℕ). IsInput Tests x t m) (sym c.word-2.ensures) (input_later _ t a m read.frame both.tests_is))));
     }
 
 pub returns-clause-texts : goal.returns-clause-texts
@@ -50,8 +50,8 @@ returns-clause-texts g c =
       circuit = c.in_ok-circuit.circuit;
       list = c.in_ok-list.list.list;
       places = made.places;
-      accepted = read.circuit n (subst (λ (x : List ℕ). IsInput Netlist x n a) (sym c.word.ensures) both.netlist);
-      vectors = c.in_ok-list.ensures.list t (subst (λ (x : List ℕ). IsInput Tests x t m) (sym c.word-2.ensures) (input_later _ t a m read.frame both.tests));
+      accepted = read.circuit n (subst (λ (x : List ℕ). IsInput Netlist x n a) (sym c.word.ensures) both.netlist_is);
+      vectors = c.in_ok-list.ensures.list t (subst (λ (x : List ℕ). IsInput Tests x t m) (sym c.word-2.ensures) (input_later _ t a m read.frame both.tests_is));
       detections = made.detections;
       report_is = λ i. made.body_is i ++ made.total_is i;
       total_is = made.total_is;
