@@ -108,7 +108,7 @@ struct Gate {
     args: Vec<usize>,
 }
 
-/// The nets are numbered as in the program: inputs, flip-flops, gates, each in the order of their lines. Each gate comes
+/// The nets are numbered as in the program: inputs, flip-flops, gates, each in the order of its lines. Each gate comes
 /// after those that drive its arguments.
 struct Circuit {
     names: Vec<String>,
