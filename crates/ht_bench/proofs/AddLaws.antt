@@ -104,7 +104,7 @@ dff_in_sequence d part is = record {
       let before = take g (gate_names d) in
       subst (λ l. Contains (d.inputs ++ (l ++ before)) (get_or (part_at d g).args i no_name)) (sym (map_push (λ (f : DffPart). f.out) d.dffs part))
       ((adds_right d.inputs (latch_names d ++ before) ((latch_names d ++ part.out ∷ []) ++ before) part.out (adds_left (latch_names d) (latch_names d ++ part.out ∷ []) before part.out (adds_push (latch_names d) part.out))).stays
-        (get_or (part_at d g).args i no_name) (is.earlier g i l m));
+      (get_or (part_at d g).args i no_name) (is.earlier g i l m));
 }
 
 module _ (d : Draft) (part : GatePart) where
@@ -141,8 +141,8 @@ module _ (d : Draft) (part : GatePart) where
         ⊎_elim
         (λ (old : g < length d.gates). old_gate is g i old pin)
         (λ (ge : length d.gates ≤ g).
-          let last : length d.gates ≡ g = omega (arith, lt, ge, length-append d.gates (part ∷ [])) in
-          subst (λ n. IsBefore n i) last (new_gate driven i (subst (λ n. i < length (get_or (d.gates ++ part ∷ []) n no_part).args) (sym last) pin)))
+        let last : length d.gates ≡ g = omega (arith, lt, ge, length-append d.gates (part ∷ [])) in
+        subst (λ n. IsBefore n i) last (new_gate driven i (subst (λ n. i < length (get_or (d.gates ++ part ∷ []) n no_part).args) (sym last) pin)))
         (cases_lt g (length d.gates));
   }
 

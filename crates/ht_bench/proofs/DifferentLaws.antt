@@ -120,7 +120,7 @@ different-append names (name ∷ more) =
     ⊎_elim
     (λ (old : Contains (different names) name × (different (names ++ name ∷ []) ≡ different names)). (on.0, all ∙ ap (λ l. l ++ on.0) old.1))
     (λ (new : IsNewName (different names) name × (different (names ++ name ∷ []) ≡ different names ++ name ∷ [])).
-      (name ∷ on.0, all ∙ ap (λ l. l ++ on.0) new.1 ∙ append_assoc (different names) (name ∷ []) on.0))
+    (name ∷ on.0, all ∙ ap (λ l. l ++ on.0) new.1 ∙ append_assoc (different names) (name ∷ []) on.0))
     (different-push names name)
 
 pub contains_different : (names : List Name) (name : Name) → Contains names name → Contains (different names) name
@@ -140,8 +140,8 @@ contained_by_filter p [] y c = c
 contained_by_filter p (x ∷ xs) y c =
     ⊎_elim
     (λ (yes : p x ≡ true).
-      ⊎_elim (λ (e : x ≡ y). subst (Contains (x ∷ xs)) e (contains_head x xs)) (λ (rest : Contains (filter p xs) y). contains_tail x xs y (contained_by_filter p xs y rest))
-      (contains_cases x (filter p xs) y (subst (λ l. Contains l y) (filter_yes p x xs yes) c)))
+    ⊎_elim (λ (e : x ≡ y). subst (Contains (x ∷ xs)) e (contains_head x xs)) (λ (rest : Contains (filter p xs) y). contains_tail x xs y (contained_by_filter p xs y rest))
+    (contains_cases x (filter p xs) y (subst (λ l. Contains l y) (filter_yes p x xs yes) c)))
     (λ (no : p x ≡ false). contains_tail x xs y (contained_by_filter p xs y (subst (λ l. Contains l y) (filter_no p x xs no) c)))
     (bool_cases (p x))
 

@@ -89,9 +89,9 @@ one_number names a b name differ at_a at_b =
     ⊎_elim
     (λ (lt : a.0 < b.0). absurd (differ a.0 b.0 lt at_b.0 (at_a.1 ∙ sym at_b.1)))
     (λ ge.
-      ⊎_elim
-      (λ (lt : b.0 < a.0). absurd (differ b.0 a.0 lt at_a.0 (at_b.1 ∙ sym at_a.1)))
-      (λ le. let number : ℕ → NameId = λ n. record { 0 = n } in let e : a.0 ≡ b.0 = omega arith in ap number e) (cases_lt b.0 a.0))
+    ⊎_elim
+    (λ (lt : b.0 < a.0). absurd (differ b.0 a.0 lt at_a.0 (at_b.1 ∙ sym at_a.1)))
+    (λ le. let number : ℕ → NameId = λ n. record { 0 = n } in let e : a.0 ≡ b.0 = omega arith in ap number e) (cases_lt b.0 a.0))
     (cases_lt a.0 b.0)
 
 pub driven_is : (mentioned : List Name) (statements : List Statement) (d : Draft) (id : NameId) (name : Name)

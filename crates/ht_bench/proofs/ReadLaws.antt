@@ -96,7 +96,7 @@ names_go_on : (before : List Statement) (s : Statement) (d new : Draft) → IsDr
 names_go_on before s d new is made id name at =
     let on = different-append (mentions_of before) (names_in s) in
     let e : new.names ≡ d.names ++ on.0 =
-      made.names ∙ ap different (flat_map-push names_in before s) ∙ on.1 ∙ ap (λ l. l ++ on.0) (sym is.names) in
+    made.names ∙ ap different (flat_map-push names_in before s) ∙ on.1 ∙ ap (λ l. l ++ on.0) (sym is.names) in
     subst (λ l. IsNumberOf l id name) (sym e) (number_stays d.names on.0 id name at)
 
 read_stays : (names new_names : List Name) → KeepsNumbers names new_names → (read : Option NameId) (s : Statement) → IsReadOf names read s → IsReadOf new_names read s
@@ -119,7 +119,7 @@ module _ (text rest line more : List ℕ) (reads : List (Option NameId)) (old : 
         short = omega (arith, is.short, shorter, ap length e, length-append reads (read ∷ []));
         draft = r.1;
         are_reads = subst (λ l. AllZip (IsReadOf new.names) l (is.before ++ s ∷ [])) (sym e)
-          (AllZip-add (IsReadOf new.names) reads is.before read s
+            (AllZip-add (IsReadOf new.names) reads is.before read s
             (AllZip-weaker (IsReadOf old.names) (IsReadOf new.names) (read_stays old.names new.names (names_go_on is.before s old new is.draft r.1)) reads is.before is.are_reads) adds.is_read);
       }
 

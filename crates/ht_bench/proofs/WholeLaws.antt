@@ -116,14 +116,14 @@ module _ (text : List ℕ) (reads : List (Option NameId)) (d : Draft) (is : IsRe
         ⊎_elim
         (λ (drives : Contains (driven_in s) name). contains_in driven_in is.statements s name there drives)
         (⊎_elim
-          (λ (reads_it : Contains (read_in s) name).
-            All-contains (Contains (driven_by is.statements)) (read_in s) name (All-contains (ReadsDriven is.statements) is.statements s all_reads_driven there) reads_it)
-          (λ (argument : Contains (arguments_in s) name).
-            let k = there.0 in
-            let cut = cut_at is.statements k s there.1 ∙ ap (λ x. take k is.statements ++ x ∷ drop (k + 1) is.statements) there.2 in
-            let accepted = is.accepted (take k is.statements) (drop (k + 1) is.statements) s cut in
-            let before = All-contains (Contains (driven_by (take k is.statements))) (arguments_in s) name accepted.arguments_driven argument in
-            subst (λ l. Contains (driven_by l) name) (sym cut) (contains_in_first driven_in (take k is.statements) (s ∷ drop (k + 1) is.statements) name before)))
+        (λ (reads_it : Contains (read_in s) name).
+        All-contains (Contains (driven_by is.statements)) (read_in s) name (All-contains (ReadsDriven is.statements) is.statements s all_reads_driven there) reads_it)
+        (λ (argument : Contains (arguments_in s) name).
+        let k = there.0 in
+        let cut = cut_at is.statements k s there.1 ∙ ap (λ x. take k is.statements ++ x ∷ drop (k + 1) is.statements) there.2 in
+        let accepted = is.accepted (take k is.statements) (drop (k + 1) is.statements) s cut in
+        let before = All-contains (Contains (driven_by (take k is.statements))) (arguments_in s) name accepted.arguments_driven argument in
+        subst (λ l. Contains (driven_by l) name) (sym cut) (contains_in_first driven_in (take k is.statements) (s ∷ drop (k + 1) is.statements) name before)))
         (place_of s name c)
       where
         place_of : (s : Statement) (name : Name) → Contains (names_in s) name → Contains (driven_in s) name ⊎ (Contains (read_in s) name ⊎ Contains (arguments_in s) name)
@@ -136,7 +136,7 @@ module _ (text : List ℕ) (reads : List (Option NameId)) (d : Draft) (is : IsRe
     all_names_driven id known =
         let name = get_or d.names id.0 [] in
         let mentioned : Contains (mentions_of is.statements) name =
-          contains_in_different (mentions_of is.statements) name (subst (λ l. Contains l name) is.draft.names (contained_name_at d.names id.0 name (known, refl))) in
+        contains_in_different (mentions_of is.statements) name (subst (λ l. Contains l name) is.draft.names (contained_name_at d.names id.0 name (known, refl))) in
         let r = contained_in names_in is.statements name mentioned in
         is_driven (mentions_of is.statements) is.statements d id name is.draft (known, refl) (statement_driven r.0 r.1 name r.2)
 
@@ -187,8 +187,8 @@ begins (b ∷ before) line after (s ∷ statements) written_before written e =
     let heads : statement_text b ≡ statement_text s = cc in
     let tails : map statement_text before ++ line ∷ after ≡ map statement_text statements = cc in
     let same : b ≡ s = states_one (statement_text b) b s
-      (record { written = All-head IsWritten b before written_before; is_text = refl })
-      (record { written = All-head IsWritten s statements written; is_text = heads }) in
+    (record { written = All-head IsWritten b before written_before; is_text = refl })
+    (record { written = All-head IsWritten s statements written; is_text = heads }) in
     let r = begins before line after statements (All-tail IsWritten b before written_before) (All-tail IsWritten s statements written) tails in
     let is : statements ≡ before ++ r.0 ∷ r.1 = r.2 in
     (r.0, r.1, (cc), r.3, r.4)
@@ -201,8 +201,8 @@ same_statements (b ∷ some) (s ∷ others) w v e =
     let heads : statement_text b ≡ statement_text s = cc in
     let tails : map statement_text some ≡ map statement_text others = cc in
     let same : b ≡ s = states_one (statement_text b) b s
-      (record { written = All-head IsWritten b some w; is_text = refl })
-      (record { written = All-head IsWritten s others v; is_text = heads }) in
+    (record { written = All-head IsWritten b some w; is_text = refl })
+    (record { written = All-head IsWritten s others v; is_text = heads }) in
     let rest : some ≡ others = same_statements some others (All-tail IsWritten b some w) (All-tail IsWritten s others v) tails in
     cc
 

@@ -43,7 +43,11 @@ pub(crate) fn add_output(builder: &mut Builder, name: &[u8]) -> Result<NameId, L
 }
 
 /// Adds a flip-flop, and gives the net at its data pin.
-pub(crate) fn add_dff(builder: &mut Builder, out: &[u8], data_pin: &[u8]) -> Result<NameId, LineFault>
+pub(crate) fn add_dff(
+    builder: &mut Builder,
+    out: &[u8],
+    data_pin: &[u8],
+) -> Result<NameId, LineFault>
     ensures net { IfOk result (λ id. IsNumberOf builder.new.names id data_pin.now) }
     ensures accepts { OnOk result (Accepts builder.old (Dff out.now data_pin.now) builder.new) }
     ensures refusal { IfErr result (Refuses builder.old (Dff out.now data_pin.now)) }

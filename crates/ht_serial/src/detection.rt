@@ -59,7 +59,7 @@ impl<'a> GoodRun<'a> {
 }
 
 /// The same for one fault alone. Where there are more, record the good machine's run once (`GoodRun::record`).
-pub fn first_detection(
+pub fn first(
     alloc: Global,
     circuit: &Circuit,
     fault: Fault,

@@ -13,7 +13,7 @@ mod machine;
 #[cfg(test)]
 mod tests;
 
-pub use detection::first_detection;
+pub use detection::first;
 pub use good_run::GoodRun;
 pub use laws::{detected_faults_are_apart, machine_follows_run};
 pub use machine::Machine;

@@ -97,14 +97,15 @@ impl<'c> Machine<'c> {
 
     /// How many outputs the circuit has.
     pub fn output_count(&self) -> u32
-        ensures { result ≡ length self.now.outputs }
+        ensures circuit { result ≡ length self.now.circuit.outputs }
+        ensures shown { result ≡ length self.now.outputs }
     {
         self.circuit.outputs()
     }
 
     /// An output in the last frame, from 0; unknown before the first frame.
     pub fn output(&self, o: u32) -> Tern
-        requires { o < length self.now.outputs }
+        requires { o < length self.now.circuit.outputs }
         ensures { result ≡ get_or self.now.outputs o Tern.Unk }
     {
         self.values[self.circuit.output(o).index()]
@@ -123,7 +124,7 @@ impl<'c> Machine<'c> {
 
     /// What a flip-flop holds now, from 0.
     pub fn state(&self, j: u32) -> Tern
-        requires { j < length self.now.latches }
+        requires { j < length self.now.circuit.dffs }
         ensures { result ≡ get_or self.now.latches j Tern.Unk }
     {
         self.latches[j as usize]

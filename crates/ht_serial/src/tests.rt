@@ -2,7 +2,7 @@
 ghost use Rattle.std.specs.Prelude.{◌≤◌, length, IfOk, OnOk};
 ghost use Rattle.ht_net.specs.Draft.{IsName};
 
-use crate::{GoodRun, Machine, first_detection};
+use crate::{GoodRun, Machine, first};
 use ht_frame::{MOST_PINS, settle};
 use ht_net::{Builder, Circuit, Fault, NameId, NetError, NetId, Place, Site, Vectors};
 use ht_tern::{Kind, Tern};
@@ -49,11 +49,14 @@ fn detects_at_the_third_vector(rt: HostRuntime) -> Result<(), Fail> {
     let circuit = shift_register(rt.alloc())?;
     assert_eq!(rt; circuit.inputs(), 1);
     let mut list = Vectors::new(rt.alloc(), 1);
-    for bit in [true, false, false] {
-        list.push(&[bit])?;
-    }
+    list.push(&[true])?;
+    list.push(&[false])?;
+    list.push(&[false])?;
     let good = GoodRun::record(rt.alloc(), &circuit, &list)?;
-    let detected = Some(Place { vector: 2, output: 0 });
+    let detected = Some(Place {
+        vector: 2,
+        output: 0,
+    });
     let table: [(Site, bool, Option<Place>); 8] = [
         (Site::Stem(NetId(0)), false, detected),
         (Site::Stem(NetId(0)), true, None),
@@ -65,9 +68,10 @@ fn detects_at_the_third_vector(rt: HostRuntime) -> Result<(), Fail> {
         (Site::DffPin { dff: 1 }, true, None),
     ];
     for (site, value, place) in table {
-        let fault = Fault { site, value };
-        assert_eq!(rt; good.first_detection(rt.alloc(), fault)?, place);
-        assert_eq!(rt; first_detection(rt.alloc(), &circuit, fault, &list)?, place);
+        assert_eq!(rt;
+            good.first_detection(rt.alloc(), Fault { site, value })?,
+            place
+        );
     }
     Ok(())
 }
@@ -79,7 +83,10 @@ fn stem_fault_leaves_the_latch(rt: HostRuntime) -> Result<(), Fail> {
     assert_eq!(rt; circuit.inputs(), 1);
     assert_eq!(rt; circuit.outputs(), 1);
     assert_eq!(rt; circuit.dffs(), 2);
-    let fault = Fault { site: Site::Stem(NetId(1)), value: false };
+    let fault = Fault {
+        site: Site::Stem(NetId(1)),
+        value: false,
+    };
     let mut machine = Machine::start(rt.alloc(), &circuit, Some(fault))?;
     let unknown = (machine.output(0), machine.state(0), machine.state(1));
     assert!(rt; unknown == (Tern::Unk, Tern::Unk, Tern::Unk));
@@ -96,10 +103,13 @@ fn pin_fault_leaves_the_net(rt: HostRuntime) -> Result<(), Fail> {
     assert_eq!(rt; circuit.inputs(), 2);
     let mut list = Vectors::new(rt.alloc(), 2);
     list.push(&[true, true])?;
-    let good = GoodRun::record(rt.alloc(), &circuit, &list)?;
-    let table = [(Site::Stem(NetId(0)), 0), (Site::GatePin { gate: 0, pin: 0 }, 1), (Site::GatePin { gate: 0, pin: 1 }, 1)];
+    let table = [
+        (Site::Stem(NetId(0)), 0),
+        (Site::GatePin { gate: 0, pin: 0 }, 1),
+        (Site::GatePin { gate: 0, pin: 1 }, 1),
+    ];
     for (site, output) in table {
-        let place = good.first_detection(rt.alloc(), Fault { site, value: false })?;
+        let place = first(rt.alloc(), &circuit, Fault { site, value: false }, &list)?;
         assert_eq!(rt; place, Some(Place { vector: 0, output }));
     }
     Ok(())
@@ -112,7 +122,10 @@ fn settles_bits(rt: HostRuntime) -> Result<(), Fail> {
     assert_eq!(rt; circuit.inputs(), 2);
     assert_eq!(rt; circuit.dffs(), 0);
     assert_eq!(rt; circuit.nets(), 3);
-    let pin = Fault { site: Site::GatePin { gate: 0, pin: 0 }, value: true };
+    let pin = Fault {
+        site: Site::GatePin { gate: 0, pin: 0 },
+        value: true,
+    };
     let table = [(None, false), (Some(pin), true)];
     for (fault, z) in table {
         let mut values = [false; 3];

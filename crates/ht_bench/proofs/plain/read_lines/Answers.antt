@@ -8,8 +8,8 @@ pub returns-in-Err-Broken-clause-refusal : goal.returns-in-Err-Broken-clause-ref
 returns-in-Err-Broken-clause-refusal c =
     let count : length c.loop-line.reads.items ≡ c.len.result = search rules in
     inl (subst (λ n. IsFirstBroken (lines_of c.args.text.now) (n + 1)) count
-      (reading_broken c.args.text.now c.loop-line.rest.now c.in-Some.line.now c.in-Some.more.now c.loop-line.reads.items c.loop-line.builder c.loop-line.invariant c.in-Some.ensures.first c.in-Some.ensures.shorter
-        (rw c.in-Err-Broken.field-0-is at c.in-Err-Broken.ensures.refusal)))
+    (reading_broken c.args.text.now c.loop-line.rest.now c.in-Some.line.now c.in-Some.more.now c.loop-line.reads.items c.loop-line.builder c.loop-line.invariant c.in-Some.ensures.first c.in-Some.ensures.shorter
+    (rw c.in-Err-Broken.field-0-is at c.in-Err-Broken.ensures.refusal)))
 
 pub loop-line-preserved : goal.loop-line-preserved
 loop-line-preserved c =

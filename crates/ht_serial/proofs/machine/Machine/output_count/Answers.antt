@@ -6,6 +6,8 @@ use Rattle.ht_serial.specs.MachineState.{MachineState}
 use Rattle.ht_serial.proofs.machine.Machine.output_count.Goals as goal
 
 pub returns : goal.returns
-returns c =
-    c.outputs.ensures ∙ (sym (seen_length (env_of Unk c.self.inside.values.items) c.self.inside.circuit.now.outputs)
-    ∙ ap (λ (m : MachineState). length m.outputs) c.self.view_is)
+returns c = record {
+  circuit = c.outputs.ensures ∙ ap (λ (m : MachineState). length m.circuit.outputs) c.self.view_is;
+  shown = c.outputs.ensures ∙ (sym (seen_length (env_of Unk c.self.inside.values.items) c.self.inside.circuit.now.outputs)
+      ∙ ap (λ (m : MachineState). length m.outputs) c.self.view_is);
+}
