@@ -1,26 +1,24 @@
 -- Causes, carried from the step that finds them to the run.
-use Rattle.std.proofs.Common.{◌≡◌, ◌≢◌, ◌⊎◌, inl, inr, ◌+◌, ◌<◌, ◌≤◌, ℕ, List, ◌++◌, length, take, Some, None, Option, Ok, Err, Result, OnOk, OnErr, IsTrue, refl, sym, ◌∙◌, ap, subst, arith, take_all, le_refl}
+use Rattle.std.proofs.Common.{◌≡◌, inl, inr, ◌<◌, ℕ, List, ◌++◌, length, take, Ok, Err, Result, OnOk, OnErr, IsTrue, refl, sym, ◌∙◌, ap, subst, arith, take_all, le_refl}
 use Rattle.std.specs.Prelude.{IsSome, String}
 use Rattle.std.specs.declared.alloc.Global.{Global}
 use Rattle.std.specs.Option.{option_map}
 use Rattle.std.specs.Io.KnownBytes.{append_known}
-use Rattle.ht_ports.specs.Causes.{Rose}
 use Rattle.ht_ports.specs.Desk.{DeskView, InCall, Writes, Added, AddedPart, Holds}
 use Rattle.ht_ports.specs.declared.ports.Failed.{Failed}
 use Rattle.ht_ports.specs.declared.ports.InPort.TheVariants.{Netlist, Tests}
-use Rattle.ht_ports.specs.declared.ports.OutPort.{OutPort}
 use Rattle.ht_ports.specs.declared.ports.OutPort.TheVariants.{Report, Out, Err as err}
 use Rattle.ht_net.specs.Netlist as net
 use Rattle.ht_app.specs.declared.trouble.Trouble.{Trouble}
 use Rattle.ht_app.specs.declared.trouble.Trouble.TheVariants.{Usage, TooLong, BadLine, ReadFault, WriteFault, NoMemory, BadTests}
-use Rattle.ht_app.specs.Words.{AskForSim, netlist_name, tests_name, report_name}
-use Rattle.ht_app.specs.Run.{IsInput, AreInputs, MayHold, IsAccepted, IsBadLine, SimDone, AcceptsNetlist, AcceptsInputs, RefusesNetlist, HasCause, SaysOnErr, EndsBy, OnlyErr, OnlyReport, OnlyInputs, status_of, line_of, most_bytes}
+use Rattle.ht_app.specs.Words.{netlist_name, tests_name, report_name}
+use Rattle.ht_app.specs.Run.{IsInput, MayHold, IsAccepted, IsBadLine, SimDone, AcceptsNetlist, AcceptsInputs, RefusesNetlist, HasCause, SaysOnErr, OnlyErr, OnlyReport, OnlyInputs, most_bytes}
 use Rattle.ht_app.specs.Causes.{NetlistCause, TestsCause, RefusesText, SimulateCause, AreWorkedInto, NothingOut, OnlyWork, IsReported, WriteFailed}
 
 refuses_named : (words : List (String Global)) (name : List ℕ) (a : DeskView) (IsCause : List ℕ → Type 0) → name ≡ netlist_name words → RefusesText name a IsCause → RefusesNetlist words a IsCause
 refuses_named words name a IsCause is h = record {
   there = subst (MayHold a) is h.there;
-  cause = λ text input. h.cause text (subst (λ (n : List ℕ). IsInput Netlist n text a) (sym is) input)
+  cause = λ text input. h.cause text (subst (λ (n : List ℕ). IsInput Netlist n text a) (sym is) input);
 }
 
 pub netlist_cause : (words : List (String Global)) (name : List ℕ) (a b : DeskView) (t : Trouble) → name ≡ netlist_name words → NetlistCause name a b t → SimulateCause words a b t
@@ -36,7 +34,7 @@ netlist_cause words name a b (BadTests line) is h = absurd h
 pub input_later : (name text : List ℕ) (a m : DeskView) → InCall Netlist a m → IsInput Tests name text a → IsInput Tests name text m
 input_later name text a m p is = record {
   file = ap (λ f. f name) p.file ∙ is.file;
-  told = subst IsSome (sym (p.others_left Tests (λ e. cc))) is.told
+  told = subst IsSome (sym (p.others_left Tests (λ e. cc))) is.told;
 }
 
 may_hold_before : (name : List ℕ) (a m : DeskView) → InCall Netlist a m → MayHold m name → MayHold a name
@@ -49,7 +47,7 @@ pub accepts_netlist : (words : List (String Global)) (name : List ℕ) (c : net.
     → ((text : List ℕ) → IsInput Netlist name text a → IsAccepted text c) → AcceptsNetlist words a
 accepts_netlist words name c a is there accepted = record {
   there = subst (MayHold a) is there;
-  accepted = λ text input. (c, accepted text (subst (λ (n : List ℕ). IsInput Netlist n text a) (sym is) input))
+  accepted = λ text input. (c, accepted text (subst (λ (n : List ℕ). IsInput Netlist n text a) (sym is) input));
 }
 
 pub tests_cause : (words : List (String Global)) (name : List ℕ) (c : net.Netlist) (a m b : DeskView) (t : Trouble) → name ≡ tests_name words → InCall Netlist a m
@@ -59,14 +57,14 @@ tests_cause words name c a m b TooLong is p accepted netlist h = absurd h
 tests_cause words name c a m b (BadLine line) is p accepted netlist h = absurd h
 tests_cause words name c a m b ReadFault is p accepted netlist h = record {
   rose = omega (arith, p.in_later, h.0);
-  steady = λ steady n t. h.1 (subst IsTrue (sym p.steady) steady) (subst (Holds m) (sym is) (holds_later (tests_name words) a m p t))
+  steady = λ steady n t. h.1 (subst IsTrue (sym p.steady) steady) (subst (Holds m) (sym is) (holds_later (tests_name words) a m p t));
 }
 tests_cause words name c a m b WriteFault is p accepted netlist h = absurd h
 tests_cause words name c a m b NoMemory is p accepted netlist h = tt
 tests_cause words name c a m b (BadTests line) is p accepted netlist h = record {
   netlist = netlist;
   there = may_hold_before (tests_name words) a m p (subst (MayHold m) is h.there);
-  cause = λ n t inputs. (c, accepted n inputs.netlist_is, h.cause t (subst (λ (x : List ℕ). IsInput Tests x t m) (sym is) (input_later (tests_name words) t a m p inputs.tests_is)))
+  cause = λ n t inputs. (c, accepted n inputs.netlist_is, h.cause t (subst (λ (x : List ℕ). IsInput Tests x t m) (sym is) (input_later (tests_name words) t a m p inputs.tests_is)));
 }
 
 pub tests_there : (words : List (String Global)) (name : List ℕ) (a m : DeskView) → name ≡ tests_name words → InCall Netlist a m → MayHold m name → MayHold a (tests_name words)
@@ -77,7 +75,7 @@ pub write_cause : (words : List (String Global)) (a m b : DeskView) → NothingO
 write_cause words a m b p failed inputs = record {
   rose = omega (arith, p.out_later, failed.rose);
   unsteady = λ steady. failed.unsteady (subst IsTrue (sym p.steady) steady);
-  inputs = inputs
+  inputs = inputs;
 }
 
 pub done : (words : List (String Global)) (name body total : List ℕ) (a m b : DeskView) → name ≡ report_name words → NothingOut a m → OnlyWork name m b → IsReported name body total m b
@@ -87,9 +85,13 @@ done words name body total a m b is p work reported inputs texts = record {
   named = reported.named ∙ (λ i. option_map (λ _. is i) (p.named i Report));
   quiet = work.written err (λ e. cc) (λ e. cc) ∙ ap (λ f. f err) p.written;
   inputs = inputs;
-  texts = λ n t both. (body ++ total, total, texts.simulated n t both,
-      reported.written ∙ ap (λ f. option_map (λ _. body ++ total) (f Report)) p.written,
-      reported.total_line ∙ ap (λ f. append_known (f Out) total) p.written);
+  texts = λ n t both. (
+    body ++ total,
+    total,
+    texts.simulated n t both,
+    reported.written ∙ ap (λ f. option_map (λ _. body ++ total) (f Report)) p.written,
+    reported.total_line ∙ ap (λ f. append_known (f Out) total) p.written,
+  );
 }
 
 -- ---- the line on Err behind the work
@@ -107,7 +109,7 @@ says line name (Err e) a m b work added failed =
 only_inputs_later : (a m b : DeskView) → OnlyInputs a m → Writes err m b → OnlyInputs a b
 only_inputs_later a m b p q = record {
   left = λ o n t. ap (λ f. f o) q.call.left ∙ p.left o n t;
-  is_open = λ o n t. ap (λ f. f o) q.call.is_open ∙ p.is_open o n t
+  is_open = λ o n t. ap (λ f. f o) q.call.is_open ∙ p.is_open o n t;
 }
 
 -- the work and a line on Err
@@ -119,7 +121,8 @@ only_report name a m b work p = record {
   is_created = λ o r. ap (λ f. f o) p.is_created ∙ work.is_created o r;
   report = elim work.report [
     | inl same ↦ inl (ap (λ f. f Report) p.named ∙ same.0, ap (λ f. f Report) p.is_created ∙ same.1)
-    | inr is ↦ inr (ap (λ f. f Report) p.named ∙ is) ];
+    | inr is ↦ inr (ap (λ f. f Report) p.named ∙ is)
+  ];
   file = λ told n ne. p.call.other_files n (λ file. absurd file) ∙ work.file told n ne;
 }
 

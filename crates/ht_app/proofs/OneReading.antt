@@ -1,10 +1,9 @@
 -- A text is read in one way: all circuits that it stands for have the same inputs.
-use Rattle.std.proofs.Common.{◌≡◌, ◌+◌, ◌<◌, ◌≤◌, ℕ, zero, suc, List, [], ◌∷◌, length, map, take, get_or, refl, sym, ◌∙◌, ap, arith}
+use Rattle.std.proofs.Common.{◌≡◌, ℕ, suc, List, [], ◌∷◌, length, map, refl, sym, ◌∙◌, ap, arith}
 use Rattle.std.specs.Prelude.{All}
 use Rattle.std.proofs.lemmas.List.{length-take-le}
-use Rattle.ht_net.specs.Netlist.{Netlist, IsCircuit, net_count}
+use Rattle.ht_net.specs.Netlist.{Netlist, IsCircuit}
 use Rattle.ht_net.specs.Named.{NamedNetlist, named_of}
-use Rattle.ht_bench.specs.Line.{States}
 use Rattle.ht_bench.specs.Statement.{Statement, statement_text, IsWritten}
 use Rattle.ht_bench.specs.Stated.{named_of_statements}
 use Rattle.ht_bench.specs.Plain.{StandsForPlain}

@@ -1,5 +1,5 @@
 -- A text that is written in pieces, of which a later one failed.
-use Rattle.std.proofs.Common.{◌≡◌, ◌<◌, ◌≤◌, ◌+◌, ℕ, List, ◌++◌, length, take, IsTrue, refl, sym, ◌∙◌, ap, subst, arith, append_assoc}
+use Rattle.std.proofs.Common.{◌+◌, ℕ, List, ◌++◌, length, take, IsTrue, sym, ◌∙◌, ap, subst, arith}
 use Rattle.std.proofs.lemmas.List.{take-append-le, length-append}
 use Rattle.std.proofs.Math.Seq.{take-append-add}
 use Rattle.std.specs.Io.KnownBytes.{append_known}
@@ -14,7 +14,7 @@ part_before port xs ys a b p = record {
   proper = omega (arith, p.proper, length-append xs ys);
   part = record { written = p.part.written ∙ ap (λ (l : List ℕ). append_known (a.written port) l) (sym (take-append-le p.count xs ys (omega (arith, p.proper)))) };
   cause = p.cause;
-  steady = p.steady
+  steady = p.steady;
 }
 
 -- the pieces before were added
@@ -22,10 +22,12 @@ pub part_after : (port : OutPort) (xs ys : List ℕ) (a b c : DeskView) → Writ
 part_after port xs ys a b c before added p = record {
   count = length xs + p.count;
   proper = omega (arith, p.proper, length-append xs ys);
-  part = record { written = p.part.written
-      ∙ (ap (λ known. append_known known (take p.count ys)) added.written
-      ∙ (append_known_more (a.written port) xs (take p.count ys)
-      ∙ ap (λ (l : List ℕ). append_known (a.written port) l) (sym (take-append-add xs ys p.count)))) };
+  part = record {
+    written = p.part.written
+        ∙ (ap (λ known. append_known known (take p.count ys)) added.written
+        ∙ (append_known_more (a.written port) xs (take p.count ys)
+        ∙ ap (λ (l : List ℕ). append_known (a.written port) l) (sym (take-append-add xs ys p.count))));
+  };
   cause = omega (arith, before.call.out_later, p.cause);
-  steady = λ s. p.steady (subst IsTrue (sym before.call.steady) s)
+  steady = λ s. p.steady (subst IsTrue (sym before.call.steady) s);
 }

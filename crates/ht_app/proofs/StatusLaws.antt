@@ -1,8 +1,7 @@
 -- What a status tells, whatever the trouble.
-use Rattle.std.proofs.Common.{◌≡◌, ◌≢◌, ◌⊎◌, inl, inr, ◌+◌, ◌<◌, ◌≤◌, ℕ, List, Bool, length, refl, sym, ◌∙◌, ap, subst, arith}
-use Rattle.std.specs.Prelude.{All, String}
+use Rattle.std.proofs.Common.{◌≡◌, ◌≢◌, ◌⊎◌, inl, inr, ◌≤◌, ℕ, List, Bool, refl, ◌∙◌, ap, arith}
+use Rattle.std.specs.Prelude.{String}
 use Rattle.std.specs.declared.alloc.Global.{Global}
-use Rattle.ht_ports.specs.Causes.{Rose}
 use Rattle.ht_ports.specs.Desk.{DeskView}
 use Rattle.ht_ports.specs.declared.ports.InPort.TheVariants.{Netlist}
 use Rattle.ht_net.specs.Netlist as net

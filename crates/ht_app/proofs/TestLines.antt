@@ -1,18 +1,18 @@
 -- A tests text is read line by line.
-use Rattle.std.proofs.Common.{◌≡◌, ◌≢◌, ◌⊎◌, inl, inr, ℕ, zero, suc, ◌+◌, ◌-◌, ◌<◌, ◌≤◌, ◌^◌, List, [], ◌∷◌, ◌++◌, Bool, length, take, get_or, cond, Some, None, Option, map, append_assoc, append-nil, refl, sym, ◌∙◌, ap, subst, arith, rules}
+use Rattle.std.proofs.Common.{◌≡◌, ◌≢◌, ◌⊎◌, inl, inr, ℕ, zero, suc, ◌+◌, ◌-◌, ◌<◌, ◌≤◌, ◌^◌, List, [], ◌∷◌, ◌++◌, Bool, length, take, get_or, cond, Some, None, Option, map, append_assoc, append-nil, refl, sym, ◌∙◌, ap, subst, arith}
 use Rattle.std.specs.Prelude.{All, count_by, ◌==◌}
-use Rattle.std.proofs.lemmas.List.{length-append, length-map, map-append, take-append-le, get_or-map}
+use Rattle.std.proofs.lemmas.List.{length-append, length-map, map-append, get_or-map}
 use Rattle.std.proofs.lemmas.List.Elements.{All-append}
 use Rattle.std.proofs.lemmas.List.Sums.{sum_by-append, sum_by-cons}
 use Rattle.std.proofs.Math.Seq.{take-append-add, get_or-append_seam}
 use Rattle.std.proofs.Math.ListN.{get_or-append}
 use Rattle.std.proofs.lemmas.Bool.{cases_eq}
 use Rattle.std.proofs.lemmas.Bool.Decides.{nat_tests}
-use Rattle.std.specs.Io.KnownBytes.{prepend_known, IsAtEnd}
-use Rattle.ht_ports.specs.Cutting.{NextPiece, NextLine, HasNoLf, IsTooLongLine, lines_of, without_cr, first_piece, first_through}
+use Rattle.std.specs.Io.KnownBytes.{IsAtEnd}
+use Rattle.ht_ports.specs.Cutting.{NextLine, HasNoLf, IsTooLongLine, lines_of, without_cr, first_piece, first_through}
 use Rattle.ht_ports.proofs.Texts.{next_cuts, first_line, length-first_through}
 use Rattle.ht_net.specs.Netlist.{Netlist}
-use Rattle.ht_texts.specs.Tests.{bit_code, vector_text, IsTextOf, IsTestText, IsMalformedTest, IsNoVector, IsTooLong, IsWrongLine, line_at, line_of_byte}
+use Rattle.ht_texts.specs.Tests.{bit_code, vector_text, IsTextOf, IsTestText, IsMalformedTest, IsWrongLine, line_at, line_of_byte}
 
 abbrev pub lf_count : List ℕ → ℕ
 lf_count bytes = count_by (λ byte. byte == 10) bytes
@@ -79,19 +79,22 @@ so_far_next c text passed list rest line count (Some after) vector so next is =
     let cut = next_cuts line count rest (Some after) next in
     let same : cut.0 ≡ after = let e = cut.1 in cc in
     let taken = line_taken line count rest after next in
-    let now : lines_of rest ≡ line ∷ lines_of after = cut.2.lines ∙ ap (λ l. line ∷ lines_of l) same in
-    (after, refl, record {
-      front = so.front ++ taken.0;
-      whole = so.whole ∙ ap (λ l. so.front ++ l) taken.1 ∙ sym (append_assoc so.front taken.0 after);
-      size = length-append so.front taken.0 ∙ omega (arith, so.size, taken.2);
-      lfs = λ more.
-          let before = so.lfs (let l = ap length taken.1 ∙ length-append taken.0 after in omega (arith, l, more)) in
-          lf_count-append so.front taken.0 ∙ omega (arith, before, taken.3 more, length-append list (vector ∷ []));
-      lines = so.lines ∙ ap (λ l. map vector_text list ++ l) (now ∙ ap (λ l. l ∷ lines_of after) is.characters)
-          ∙ sym (append_assoc (map vector_text list) (vector_text vector ∷ []) (lines_of after))
-          ∙ ap (λ l. l ++ lines_of after) (sym (map-append vector_text list (vector ∷ [])));
-      widths = All-append (λ (v : List Bool). length v ≡ c.inputs) list (vector ∷ []) so.widths (λ k d lt. one_width k d lt);
-    })
+    let now : lines_of rest ≡ line ∷ lines_of after = cut.2.lines ∙ ap (λ l. line ∷ lines_of l) same in (
+      after,
+      refl,
+      record {
+        front = so.front ++ taken.0;
+        whole = so.whole ∙ ap (λ l. so.front ++ l) taken.1 ∙ sym (append_assoc so.front taken.0 after);
+        size = length-append so.front taken.0 ∙ omega (arith, so.size, taken.2);
+        lfs = λ more.
+            let before = so.lfs (let l = ap length taken.1 ∙ length-append taken.0 after in omega (arith, l, more)) in
+            lf_count-append so.front taken.0 ∙ omega (arith, before, taken.3 more, length-append list (vector ∷ []));
+        lines = so.lines ∙ ap (λ l. map vector_text list ++ l) (now ∙ ap (λ l. l ∷ lines_of after) is.characters)
+            ∙ sym (append_assoc (map vector_text list) (vector_text vector ∷ []) (lines_of after))
+            ∙ ap (λ l. l ++ lines_of after) (sym (map-append vector_text list (vector ∷ [])));
+        widths = All-append (λ (v : List Bool). length v ≡ c.inputs) list (vector ∷ []) so.widths (λ k d lt. one_width k d lt);
+      },
+    )
   where
     one_width : (k : ℕ) (d : List Bool) → k < 1 → length (get_or (vector ∷ []) k d) ≡ c.inputs
     one_width zero d lt = is.bits
@@ -111,7 +114,7 @@ byte_line : (c : Netlist) (text : List ℕ) (passed : ℕ) (list : List (List Bo
 byte_line c text passed list rest so some fits =
     let split : length so.front + (2 ^ 62 - passed) ≡ 2 ^ 62 = omega (arith, so.size, fits) in
     let cut : take (2 ^ 62) text ≡ so.front ++ take (2 ^ 62 - passed) rest =
-        ap (λ n. take n text) (sym split) ∙ ap (λ t. take (length so.front + (2 ^ 62 - passed)) t) so.whole ∙ take-append-add so.front rest (2 ^ 62 - passed) in
+    ap (λ n. take n text) (sym split) ∙ ap (λ t. take (length so.front + (2 ^ 62 - passed)) t) so.whole ∙ take-append-add so.front rest (2 ^ 62 - passed) in
     ap (λ l. lf_count l + 1) cut ∙ ap (λ n. n + 1) (lf_count-append so.front (take (2 ^ 62 - passed) rest)) ∙ ap (λ n. n + lf_count (take (2 ^ 62 - passed) rest) + 1) (so.lfs some)
 
 -- no line so far is wrong
@@ -120,9 +123,9 @@ none_before : (c : Netlist) (text : List ℕ) (passed : ℕ) (list : List (List 
 none_before c text passed list rest so some fits m lt (inl none) =
     let inside : m - 1 < length list = omega (arith, lt, none.counted.0) in
     let at : line_at text m ≡ vector_text (get_or list (m - 1) []) =
-        ap (λ l. get_or l (m - 1) []) so.lines
-        ∙ get_or-append (map vector_text list) (lines_of rest) [] (m - 1) (omega (arith, inside, length-map list vector_text))
-        ∙ get_or-map vector_text list (m - 1) [] [] inside in
+    ap (λ l. get_or l (m - 1) []) so.lines
+    ∙ get_or-append (map vector_text list) (lines_of rest) [] (m - 1) (omega (arith, inside, length-map list vector_text))
+    ∙ get_or-map vector_text list (m - 1) [] [] inside in
     none.none (get_or list (m - 1) []) (record { characters = at; bits = so.widths (m - 1) [] inside })
 none_before c text passed list rest so some fits m lt (inr long) =
     absurd (omega (arith, lt, long.line, byte_line c text passed list rest so some fits))
@@ -132,9 +135,10 @@ next_line_at : (c : Netlist) (text : List ℕ) (passed : ℕ) (list : List (List
     → (line : List ℕ) (more : List (List ℕ)) → lines_of rest ≡ line ∷ more → (line_at text (length list + 1) ≡ line) × (length list + 1 ≤ length (lines_of text))
 next_line_at c text passed list rest so line more is =
     let whole : lines_of text ≡ map vector_text list ++ line ∷ more = so.lines ∙ ap (λ l. map vector_text list ++ l) is in
-    let place : length list + 1 - 1 ≡ length (map vector_text list) = omega (arith, length-map list vector_text) in
-    (ap (λ l. get_or l (length list + 1 - 1) []) whole ∙ ap (λ n. get_or (map vector_text list ++ line ∷ more) n []) place ∙ get_or-append_seam (map vector_text list) line more [],
-     omega (arith, ap length whole, length-append (map vector_text list) (line ∷ more), length-map list vector_text))
+    let place : length list + 1 - 1 ≡ length (map vector_text list) = omega (arith, length-map list vector_text) in (
+      ap (λ l. get_or l (length list + 1 - 1) []) whole ∙ ap (λ n. get_or (map vector_text list ++ line ∷ more) n []) place ∙ get_or-append_seam (map vector_text list) line more [],
+      omega (arith, ap length whole, length-append (map vector_text list) (line ∷ more), length-map list vector_text),
+    )
 
 -- a next line that no vector has as its text
 no_vector : (c : Netlist) (text : List ℕ) (passed : ℕ) (list : List (List Bool)) (rest : List ℕ) → SoFar c text passed list rest → 0 < length rest → passed ≤ 2 ^ 62
@@ -160,7 +164,7 @@ too_long c text passed list [] so fits few (inr late) = absurd (omega (arith, fi
 too_long c text passed list (x ∷ rest) so fits few (inl long) =
     let first = first_line x rest in
     no_vector c text passed list (x ∷ rest) so (omega arith) fits (without_cr (first_piece (x ∷ rest))) first.0 first.1
-      (λ vector of. absurd (omega (arith, long, few, of.bits, ap length of.characters, length-map vector bit_code)))
+    (λ vector of. absurd (omega (arith, long, few, of.bits, ap length of.characters, length-map vector bit_code)))
 too_long c text passed list (x ∷ rest) so fits few (inr late) =
     let line = byte_line c text passed list (x ∷ rest) so (omega arith) fits in
     let none = lf_count-take (x ∷ rest) (2 ^ 62 - passed) (omega (arith, late, fits)) in

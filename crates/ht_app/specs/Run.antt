@@ -1,5 +1,5 @@
 -- What a run answers, and what stands behind each answer.
-use Rattle.std.specs.Prelude.{◌≡◌, ◌≢◌, ◌⊎◌, ℕ, ◌+◌, ◌^◌, ◌<◌, ◌≤◌, List, [], ◌∷◌, ◌++◌, Bool, length, take, Some, None, IsSome, IsTrue, is_some, String, codes, Option, nat_lt}
+use Rattle.std.specs.Prelude.{◌≡◌, ◌≢◌, ◌⊎◌, ℕ, ◌<◌, ◌≤◌, List, ◌++◌, Bool, length, take, Some, None, IsSome, IsTrue, String, codes, Option}
 use Rattle.std.specs.Fmt.{decimal}
 use Rattle.std.specs.declared.alloc.Global.{Global}
 use Rattle.std.specs.Option.{option_map}
@@ -85,7 +85,7 @@ pub record SimDone (words : List (String Global)) (old new : DeskView) : Type 0 
   pub inputs : AcceptsInputs words old
   pub texts : (netlist tests : List ℕ) → AreInputs words netlist tests old
       → (report total : List ℕ) × IsSimulated netlist tests report total
-        × (new.written Report ≡ option_map (λ _. report) (old.written Report)) × (new.written Out ≡ append_known (old.written Out) total)
+      × (new.written Report ≡ option_map (λ _. report) (old.written Report)) × (new.written Out ≡ append_known (old.written Out) total)
 
 -- ---- why a run ends without its work
 

@@ -1,5 +1,5 @@
 -- The fault list by its indices, and places of detection.
-use Rattle.std.specs.Prelude.{◌≡◌, ◌<◌, ℕ, List, [], ◌∷◌, ◌++◌, Option, Bool, length}
+use Rattle.std.specs.Prelude.{◌≡◌, ◌<◌, ℕ, List, Option, Bool, length}
 use Rattle.std.specs.Option.{ForSome}
 use Rattle.ht_net.specs.declared.site.Fault.{Fault}
 use Rattle.ht_net.specs.declared.site.Place.{Place}

@@ -1,5 +1,5 @@
 -- Which words a run takes.
-use Rattle.std.specs.Prelude.{◌≡◌, ◌≢◌, ℕ, zero, suc, ◌<◌, ◌≤◌, List, [], ◌∷◌, length, slice_index, String, string_bytes, codes}
+use Rattle.std.specs.Prelude.{◌≡◌, ℕ, zero, suc, List, [], ◌∷◌, length, slice_index, String, string_bytes, codes}
 use Rattle.std.specs.declared.alloc.Global.{Global}
 
 -- the word at an index

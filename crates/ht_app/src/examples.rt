@@ -9,7 +9,8 @@ use std::test::Fail;
 /// The shift register: two flip-flops between an input and an output.
 const SHIFT_REGISTER: &[u8] = b"INPUT(a)\nOUTPUT(r)\nq = DFF(a)\nr = DFF(q)\n";
 
-const SHIFT_REGISTER_REPORT: &[u8] = b"circuit inputs 1 outputs 1 flip-flops 2 gates 0 faults 6 classes 6
+const SHIFT_REGISTER_REPORT: &[u8] =
+    b"circuit inputs 1 outputs 1 flip-flops 2 gates 0 faults 6 classes 6
 1 a s-a-0 detected 3 r
 2 a s-a-1 undetected
 3 q s-a-0 detected 3 r
@@ -39,7 +40,13 @@ fn desk_of(alloc: Global, netlist: &[u8], tests: &[u8]) -> Result<MemoryDesk, Fa
 }
 
 /// Runs `sim n t r`, and asserts its status, what it says on Err, and that there is no report.
-fn refuse(rt: &impl Abort, alloc: Global, desk: &mut MemoryDesk, status: u8, line: &[u8]) -> Result<(), Fail> {
+fn refuse(
+    rt: &impl Abort,
+    alloc: Global,
+    desk: &mut MemoryDesk,
+    status: u8,
+    line: &[u8],
+) -> Result<(), Fail> {
     let words = words_of(alloc, &["sim", "n", "t", "r"])?;
     assert_eq!(rt; run(alloc, &words, desk), status);
     assert_eq!(rt; desk.err(), line);
@@ -49,7 +56,13 @@ fn refuse(rt: &impl Abort, alloc: Global, desk: &mut MemoryDesk, status: u8, lin
 }
 
 /// Runs `sim n t r`, and asserts that it finishes with this report and total.
-fn finish(rt: &impl Abort, alloc: Global, desk: &mut MemoryDesk, report: &[u8], total: &[u8]) -> Result<(), Fail> {
+fn finish(
+    rt: &impl Abort,
+    alloc: Global,
+    desk: &mut MemoryDesk,
+    report: &[u8],
+    total: &[u8],
+) -> Result<(), Fail> {
     let words = words_of(alloc, &["sim", "n", "t", "r"])?;
     assert_eq!(rt; run(alloc, &words, desk), 0);
     assert_eq!(rt; desk.file("r").ok_or("no report")?, report);
@@ -61,12 +74,31 @@ fn finish(rt: &impl Abort, alloc: Global, desk: &mut MemoryDesk, report: &[u8], 
 #[test]
 fn good_inputs_give_the_report(rt: HostRuntime) -> Result<(), Fail> {
     let alloc = rt.alloc();
-    let empty = b"circuit inputs 0 outputs 0 flip-flops 0 gates 0 faults 0 classes 0\ntotal 0 detected 0\n".as_slice();
+    let empty =
+        b"circuit inputs 0 outputs 0 flip-flops 0 gates 0 faults 0 classes 0\ntotal 0 detected 0\n".as_slice();
     let crlf = b"INPUT(a)\r\nOUTPUT(r)\r\nq = DFF(a)\r\nr = DFF(q)".as_slice();
     let three = b"total 6 detected 3\n".as_slice();
-    finish(&rt, alloc, &mut desk_of(alloc, SHIFT_REGISTER, b"1\n0\n0\n")?, SHIFT_REGISTER_REPORT, three)?;
-    finish(&rt, alloc, &mut desk_of(alloc, crlf, b"1\r\n0\r\n0")?, SHIFT_REGISTER_REPORT, three)?;
-    finish(&rt, alloc, &mut desk_of(alloc, b"", b"")?, empty, b"total 0 detected 0\n")?;
+    finish(
+        &rt,
+        alloc,
+        &mut desk_of(alloc, SHIFT_REGISTER, b"1\n0\n0\n")?,
+        SHIFT_REGISTER_REPORT,
+        three,
+    )?;
+    finish(
+        &rt,
+        alloc,
+        &mut desk_of(alloc, crlf, b"1\r\n0\r\n0")?,
+        SHIFT_REGISTER_REPORT,
+        three,
+    )?;
+    finish(
+        &rt,
+        alloc,
+        &mut desk_of(alloc, b"", b"")?,
+        empty,
+        b"total 0 detected 0\n",
+    )?;
     Ok(())
 }
 
@@ -101,7 +133,10 @@ fn refused_inputs_name_their_first_line(rt: HostRuntime) -> Result<(), Fail> {
         (b"INPUT(a)\n\nOUTPUT(a)\n", b"netlist: line 2: bad line\n"),
         (b"INPUT(a)\nz = BUF(a)\n", b"netlist: line 2: bad line\n"),
         (b"INPUT(a)\nz = AND(a,a)\n", b"netlist: line 2: bad line\n"),
-        (b"INPUT(a)\nOUTPUT(g)\ng = AND(a,", b"netlist: line 3: bad line\n"),
+        (
+            b"INPUT(a)\nOUTPUT(g)\ng = AND(a,",
+            b"netlist: line 3: bad line\n",
+        ),
         // one driver
         (b"INPUT(a)\nINPUT(a)\n", b"netlist: line 2: bad line\n"),
         // arguments driven earlier
@@ -110,10 +145,19 @@ fn refused_inputs_name_their_first_line(rt: HostRuntime) -> Result<(), Fail> {
         // counts of arguments
         (b"INPUT(a)\nz = NOT(a, a)\n", b"netlist: line 2: bad line\n"),
         // nets that are read and driven by no line
-        (b"INPUT(a)\nOUTPUT(b)\nq = DFF(c)\n", b"netlist: line 2: bad line\n"),
-        (b"INPUT(a)\nq = DFF(c)\nOUTPUT(b)\n", b"netlist: line 2: bad line\n"),
+        (
+            b"INPUT(a)\nOUTPUT(b)\nq = DFF(c)\n",
+            b"netlist: line 2: bad line\n",
+        ),
+        (
+            b"INPUT(a)\nq = DFF(c)\nOUTPUT(b)\n",
+            b"netlist: line 2: bad line\n",
+        ),
         // two rules broken
-        (b"OUTPUT(b)\nINPUT(a)\nINPUT(a)\nz = MUX(a)\n", b"netlist: line 3: bad line\n"),
+        (
+            b"OUTPUT(b)\nINPUT(a)\nINPUT(a)\nz = MUX(a)\n",
+            b"netlist: line 3: bad line\n",
+        ),
     ];
     for (netlist, line) in netlists {
         refuse(&rt, alloc, &mut desk_of(alloc, netlist, b"1\n")?, 3, line)?;
@@ -124,7 +168,13 @@ fn refused_inputs_name_their_first_line(rt: HostRuntime) -> Result<(), Fail> {
         (b"1\n\n", b"tests: line 2\n"),
     ];
     for (vectors, line) in tests {
-        refuse(&rt, alloc, &mut desk_of(alloc, SHIFT_REGISTER, vectors)?, 7, line)?;
+        refuse(
+            &rt,
+            alloc,
+            &mut desk_of(alloc, SHIFT_REGISTER, vectors)?,
+            7,
+            line,
+        )?;
     }
     Ok(())
 }
@@ -133,7 +183,13 @@ fn refused_inputs_name_their_first_line(rt: HostRuntime) -> Result<(), Fail> {
 fn a_netlist_of_one_byte_too_many_is_too_long(rt: HostRuntime) -> Result<(), Fail> {
     let alloc = rt.alloc();
     let netlist = vec![in alloc; b'a'; 16_777_217]?;
-    refuse(&rt, alloc, &mut desk_of(alloc, &netlist, b"")?, 3, b"netlist: too long\n")?;
+    refuse(
+        &rt,
+        alloc,
+        &mut desk_of(alloc, &netlist, b"")?,
+        3,
+        b"netlist: too long\n",
+    )?;
     Ok(())
 }
 

@@ -9,7 +9,6 @@ mod commands;
 mod err_line;
 mod netlist;
 mod report;
-
 mod sim;
 mod simulation;
 mod tests;

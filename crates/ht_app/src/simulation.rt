@@ -53,7 +53,13 @@ pub fn body_of(
 {
     let mut body = write_head(alloc, circuit)?;
     for index in 0..2 * circuit.nets() {
-        push_fault(&mut body, circuit, index, stem_fault(circuit, index), places[index as usize])?;
+        push_fault(
+            &mut body,
+            circuit,
+            index,
+            stem_fault(circuit, index),
+            places[index as usize],
+        )?;
     }
     Ok(body)
 }

@@ -1,25 +1,23 @@
 -- Which statements are accepted after those of a draft, by what the builder answers.
-use Rattle.std.proofs.Common.{◌≡◌, ◌≢◌, ◌⊎◌, inl, inr, ⊎_elim, ℕ, ◌<◌, ◌≤◌, ◌+◌, List, [], ◌∷◌, ◌++◌, length, refl, sym, ◌∙◌, ap, subst, append_assoc, arith}
-use Rattle.std.specs.List.{All, AllZip, Contains, sum_by, flat_map}
+use Rattle.std.proofs.Common.{◌≡◌, ◌≢◌, ◌⊎◌, inl, inr, ⊎_elim, ℕ, ◌<◌, ◌+◌, List, [], ◌∷◌, ◌++◌, length, refl, sym, ◌∙◌, ap, subst, append_assoc, arith}
+use Rattle.std.specs.List.{All, Contains, sum_by}
 use Rattle.std.proofs.lemmas.Bool.{cases_eq}
 use Rattle.std.proofs.lemmas.List.{length-append}
 use Rattle.std.proofs.lemmas.List.Sums.{sum_by-append}
-use Rattle.std.proofs.lemmas.List.Elements.{All-nil, All-cons, All-head, All-tail}
+use Rattle.std.proofs.lemmas.List.Elements.{All-nil, All-cons, All-head}
 use Rattle.ht_tern.specs.declared.gate.Kind.{Kind}
-use Rattle.ht_tern.specs.Gate.{HasArity}
 use Rattle.ht_net.specs.declared.names.NameId.{NameId}
 use Rattle.ht_net.specs.declared.error.NetError.{NetError}
 use Rattle.ht_net.specs.declared.error.NetError.TheVariants.{Twice, TooMany, Undriven, Loop, NoMemory}
 use Rattle.ht_net.specs.declared.error.Limit.TheVariants.{Nets, Pins, Inputs, Dffs}
-use Rattle.ht_net.specs.Names.{IsNewName}
 use Rattle.ht_net.specs.Named.{Name, NamedGate}
-use Rattle.ht_net.specs.Draft.{Draft, GatePart, IsDraft, IsDriven, draft_pins}
+use Rattle.ht_net.specs.Draft.{Draft, GatePart, draft_pins}
 use Rattle.ht_net.specs.Refusals.{RefusesInput, AcceptsInput, RefusesDff, AcceptsDff, RefusesGate, AcceptsGate}
 use Rattle.ht_bench.specs.Name.{different}
 use Rattle.ht_bench.specs.Statement.{Statement, Input, Output, Dff, Gate, names_in}
-use Rattle.ht_bench.specs.Stated.{inputs_in, dffs_in, gates_in, driven_in, arguments_in, inputs_of, dffs_of, gates_of, driven_by, mentions_of, nets_of}
-use Rattle.ht_bench.specs.Rules.{IsAccepted, IsWithinLimits, HasArguments, pins_of}
-use Rattle.ht_bench.specs.Drafted.{IsNumberOf, IsDraftWith, IsDraftOf, Mentions, Accepts, Breaks, Refuses, RefusesMention, AreDriven, RefusesArguments, line_fault_of}
+use Rattle.ht_bench.specs.Stated.{inputs_in, dffs_in, gates_in, driven_in, inputs_of, dffs_of, gates_of, driven_by, mentions_of}
+use Rattle.ht_bench.specs.Rules.{IsAccepted, HasArguments}
+use Rattle.ht_bench.specs.Drafted.{IsNumberOf, IsDraftWith, IsDraftOf, Mentions, Accepts, Refuses, RefusesMention, AreDriven, RefusesArguments, line_fault_of}
 use Rattle.ht_bench.specs.declared.fault.LineFault.{LineFault}
 use Rattle.ht_bench.specs.declared.fault.LineFault.TheVariants.{Broken, NoMemory as LineNoMemory}
 use Rattle.ht_bench.proofs.ListLaws.{contains_none, contains_head, contains_tail, contains_cases, flat_map-push, flat_map-push_none, AllZip-length}

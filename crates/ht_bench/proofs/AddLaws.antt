@@ -1,6 +1,6 @@
 -- What adding a statement to a draft keeps.
-use Rattle.std.proofs.Common.{◌≡◌, ◌≢◌, ◌⊎◌, inl, inr, ⊎_elim, ℕ, ◌<◌, ◌≤◌, ◌+◌, List, [], ◌∷◌, ◌++◌, length, get_or, take, map, refl, sym, ◌∙◌, ap, subst, append_assoc, arith}
-use Rattle.std.specs.List.{All, AllZip, Contains, fold, sum_by, flat_map}
+use Rattle.std.proofs.Common.{◌≡◌, ◌⊎◌, inl, inr, ⊎_elim, ℕ, ◌<◌, ◌≤◌, ◌+◌, List, [], ◌∷◌, ◌++◌, length, get_or, take, map, refl, sym, ◌∙◌, ap, subst, append_assoc, arith}
+use Rattle.std.specs.List.{All, AllZip, Contains, fold, flat_map}
 use Rattle.std.proofs.lemmas.Bool.{cases_lt}
 use Rattle.std.proofs.lemmas.List.{length-append, length-map, map_push, take-append-le, take_all, get_or_append_left, get_or_push}
 use Rattle.std.proofs.lemmas.List.Elements.{Contains-append_left, Contains-append_right, Contains-append_cases, Contains-push, Contains-push_cases}
@@ -9,15 +9,15 @@ use Rattle.ht_net.specs.declared.draft.DffPart.{DffPart}
 use Rattle.ht_tern.specs.declared.gate.Kind.{Kind}
 use Rattle.ht_net.specs.Names.{IsNewName}
 use Rattle.ht_net.specs.Named.{Name, NamedDff, NamedGate}
-use Rattle.ht_net.specs.Draft.{Draft, GatePart, IsDraft, IsDriven, driven_names, latch_names, gate_names, draft_pins, part_at, no_name, no_part}
+use Rattle.ht_net.specs.Draft.{Draft, GatePart, IsDriven, driven_names, latch_names, gate_names, draft_pins, part_at, no_name, no_part}
 use Rattle.ht_net.specs.Sequence.{IsInSequence}
 use Rattle.ht_bench.specs.Name.{different}
-use Rattle.ht_bench.specs.Statement.{Statement, Input, Output, Dff, Gate, names_in}
-use Rattle.ht_bench.specs.Stated.{inputs_in, outputs_in, dffs_in, gates_in, driven_in, inputs_of, outputs_of, dffs_of, gates_of, driven_by, mentions_of, nets_of}
+use Rattle.ht_bench.specs.Statement.{Statement, Input, Output, Dff, Gate}
+use Rattle.ht_bench.specs.Stated.{inputs_in, outputs_in, dffs_in, gates_in, driven_in, inputs_of, outputs_of, dffs_of, gates_of, driven_by, mentions_of}
 use Rattle.ht_bench.specs.Rules.{IsWithinLimits, pins_of}
 use Rattle.ht_bench.specs.Drafted.{IsNumberOf, IsDffOf, IsGateOf, IsDraftWith, IsDraftOf}
 use Rattle.ht_bench.proofs.ListLaws.{AllZip-add, AllZip-length, AllZip-left, AllZip-right, flat_map-push, flat_map-push_none}
-use Rattle.ht_bench.proofs.DifferentLaws.{AddsName, different-push, new_from_All, contained_name_at, different-append_grows, contains_not_new}
+use Rattle.ht_bench.proofs.DifferentLaws.{different-push, different-append_grows, contains_not_new}
 use Rattle.ht_bench.proofs.NumberLaws.{one_number}
 
 -- ---- one more driver

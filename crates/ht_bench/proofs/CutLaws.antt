@@ -1,6 +1,6 @@
 -- A text has one cut at a mark.
-use Rattle.std.proofs.Common.{◌≡◌, ◌≢◌, ℕ, suc, ◌<◌, List, [], ◌∷◌, ◌++◌, length, get_or, refl, sym, ap, arith}
-use Rattle.ht_bench.specs.Cut.{Lacks, IsCut}
+use Rattle.std.proofs.Common.{◌≡◌, ◌≢◌, ℕ, suc, List, [], ◌∷◌, ◌++◌, get_or, refl, arith}
+use Rattle.ht_bench.specs.Cut.{Lacks}
 use Rattle.ht_bench.specs.Name.{IsName, IsNameByte}
 
 pub Lacks-head : (mark x : ℕ) (xs : List ℕ) → Lacks (x ∷ xs) mark → x ≢ mark

@@ -1,6 +1,6 @@
 -- The arguments of a gate, which must be driven.
-use Rattle.std.proofs.Common.{◌≡◌, ◌≢◌, ℕ, zero, suc, ◌<◌, ◌≤◌, ◌+◌, List, [], ◌∷◌, ◌++◌, length, get_or, take, refl, sym, ◌∙◌, ap, subst, append_assoc, append-nil, arith}
-use Rattle.std.specs.List.{All, AllZip, Contains}
+use Rattle.std.proofs.Common.{◌≡◌, ℕ, zero, suc, ◌<◌, ◌+◌, List, [], ◌∷◌, ◌++◌, length, get_or, take, refl, sym, ◌∙◌, ap, subst, append_assoc, append-nil, arith}
+use Rattle.std.specs.List.{AllZip, Contains}
 use Rattle.std.specs.Borrow.{Bor}
 use Rattle.std.proofs.lemmas.List.{get_or-map, take_more, length-map, get_or_default}
 use Rattle.ht_bench.specs.Arguments.{texts_of}
@@ -8,7 +8,6 @@ use Rattle.std.proofs.lemmas.List.Elements.{All-head, All-push, All-weaker, All-
 use Rattle.ht_net.specs.declared.names.NameId.{NameId}
 use Rattle.ht_net.specs.Named.{Name}
 use Rattle.ht_net.specs.Draft.{Draft, IsDraft, IsDriven, IsName, no_name}
-use Rattle.ht_bench.specs.Statement.{Statement}
 use Rattle.ht_bench.specs.Stated.{driven_by}
 use Rattle.ht_bench.specs.Drafted.{IsNumberOf, IsDraftWith, Mentions, RefusesMention, AreDriven, RefusesArguments}
 use Rattle.ht_bench.specs.declared.fault.LineFault.{LineFault}

@@ -1,12 +1,12 @@
 -- Numbers of names in a draft, and what one more name changes.
-use Rattle.std.proofs.Common.{◌≡◌, ◌≢◌, ◌⊎◌, inl, inr, ⊎_elim, ℕ, ◌<◌, ◌+◌, List, [], ◌∷◌, ◌++◌, length, get_or, refl, sym, ◌∙◌, ap, subst, arith}
+use Rattle.std.proofs.Common.{◌≡◌, ◌⊎◌, inl, inr, ⊎_elim, ℕ, ◌<◌, List, [], ◌∷◌, ◌++◌, sym, ◌∙◌, ap, subst, arith}
 use Rattle.std.specs.List.{All, AllZip, Contains}
 use Rattle.std.proofs.lemmas.Bool.{cases_lt}
 use Rattle.std.proofs.lemmas.List.Elements.{All-nil, All-cons, All-head, All-tail}
 use Rattle.std.proofs.lemmas.List.{length-append, get_or_append_left}
 use Rattle.ht_net.specs.declared.names.NameId.{NameId}
 use Rattle.ht_net.specs.declared.draft.DffPart.{DffPart}
-use Rattle.ht_net.specs.Names.{IsNewName, IsNameAt}
+use Rattle.ht_net.specs.Names.{IsNewName}
 use Rattle.ht_net.specs.Named.{Name, NamedDff, NamedGate}
 use Rattle.ht_net.specs.Draft.{Draft, GatePart, IsDraft, IsDriven}
 use Rattle.ht_bench.specs.Name.{different}
@@ -14,7 +14,7 @@ use Rattle.ht_bench.specs.Statement.{Statement}
 use Rattle.ht_bench.specs.Stated.{driven_by}
 use Rattle.ht_bench.specs.Drafted.{NamesDiffer, IsNumberOf, IsDffOf, IsGateOf, IsDraftWith, Mentions}
 use Rattle.ht_bench.proofs.ListLaws.{AllZip-weaker}
-use Rattle.ht_bench.proofs.DifferentLaws.{AddsName, different-push, new_or_contained, contains_not_new}
+use Rattle.ht_bench.proofs.DifferentLaws.{different-push, new_or_contained, contains_not_new}
 
 -- a longer list of names keeps the numbers
 pub number_stays : (names more : List Name) (id : NameId) (name : Name) → IsNumberOf names id name → IsNumberOf (names ++ more) id name

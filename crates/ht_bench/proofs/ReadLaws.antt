@@ -1,25 +1,24 @@
 -- Reading a text line by line.
-use Rattle.std.proofs.Common.{◌≡◌, ◌≢◌, ◌⊎◌, inl, inr, ⊎_elim, ℕ, ◌<◌, ◌≤◌, ◌+◌, List, [], ◌∷◌, ◌++◌, length, map, Option, option_to_list, refl, sym, ◌∙◌, ap, subst, append_assoc, append-nil, arith}
-use Rattle.std.specs.List.{All, AllZip, Contains, flat_map}
+use Rattle.std.proofs.Common.{◌≡◌, ◌⊎◌, inl, inr, ⊎_elim, ℕ, ◌<◌, ◌+◌, List, [], ◌∷◌, ◌++◌, length, map, Option, option_to_list, refl, sym, ◌∙◌, ap, subst, append_assoc, append-nil, arith}
+use Rattle.std.specs.List.{AllZip}
 use Rattle.std.proofs.lemmas.List.{length-append, map_push}
-use Rattle.std.proofs.lemmas.List.Elements.{All-push, All-nil, All-cons, All-head, All-tail, Contains-append_left, Contains-append_right}
+use Rattle.std.proofs.lemmas.List.Elements.{All-push, All-nil}
 use Rattle.ht_ports.specs.Cutting.{lines_of, without_cr}
 use Rattle.ht_ports.proofs.Cuts.{pieces-lf, pieces-last}
-use Rattle.ht_net.specs.Netlist.{Netlist, IsCircuit}
-use Rattle.ht_net.specs.Named.{Name, NamedDff, NamedGate, named_of}
-use Rattle.ht_net.specs.Draft.{Draft, GatePart, IsDriven}
+use Rattle.ht_net.specs.Named.{Name, NamedDff, NamedGate}
+use Rattle.ht_net.specs.Draft.{Draft, GatePart}
 use Rattle.ht_tern.specs.declared.gate.Kind.{Kind}
 use Rattle.ht_net.specs.declared.names.NameId.{NameId}
 use Rattle.ht_net.specs.declared.draft.DffPart.{DffPart}
-use Rattle.ht_net.specs.Built.{draft_name, named_draft, AllDriven}
+use Rattle.ht_net.specs.Built.{draft_name, named_draft}
 use Rattle.ht_bench.specs.Name.{different}
 use Rattle.ht_bench.specs.Cut.{Lacks, IsCut}
-use Rattle.ht_bench.specs.Statement.{Statement, Input, Output, Dff, Gate, names_in, statement_text, IsWritten}
-use Rattle.ht_bench.specs.Line.{States, StatesNothing}
-use Rattle.ht_bench.specs.Stated.{read_in, driven_by, mentions_of, named_of_statements, inputs_of, outputs_of, dffs_of, gates_of}
-use Rattle.ht_bench.specs.Rules.{IsAccepted, AreAccepted, ReadsDriven}
-use Rattle.ht_bench.specs.Plain.{Reads, StandsForPlain, IsFirstBroken}
-use Rattle.ht_bench.specs.Drafted.{IsNumberOf, IsDffOf, IsGateOf, IsReadOf, IsDraftWith, IsDraftOf, Accepts, Breaks, Refuses}
+use Rattle.ht_bench.specs.Statement.{Statement, names_in, statement_text, IsWritten}
+use Rattle.ht_bench.specs.Line.{States}
+use Rattle.ht_bench.specs.Stated.{read_in, mentions_of, named_of_statements, inputs_of, outputs_of, dffs_of, gates_of}
+use Rattle.ht_bench.specs.Rules.{IsAccepted, AreAccepted}
+use Rattle.ht_bench.specs.Plain.{IsFirstBroken}
+use Rattle.ht_bench.specs.Drafted.{IsNumberOf, IsDffOf, IsGateOf, IsReadOf, IsDraftWith, IsDraftOf, Breaks, Refuses}
 use Rattle.ht_bench.specs.declared.fault.LineFault.{LineFault}
 use Rattle.ht_bench.specs.declared.fault.LineFault.TheVariants.{Broken, NoMemory}
 use Rattle.ht_bench.proofs.UniqueLaws.{states_one}

@@ -1,19 +1,17 @@
 -- A line states one thing.
-use Rattle.std.proofs.Common.{◌≡◌, ◌≢◌, ℕ, Bool, true, false, cond, List, [], ◌∷◌, ◌++◌, refl, sym, ◌∙◌, ap, subst, arith, codes}
-use Rattle.std.specs.List.{All}
+use Rattle.std.proofs.Common.{◌≡◌, ℕ, cond, List, [], ◌∷◌, ◌++◌, refl, sym, ◌∙◌, ap, codes}
 use Rattle.std.specs.Str.{bytes_eq}
 use Rattle.std.proofs.lemmas.List.{append_cancel_right}
 use Rattle.std.proofs.lemmas.List.Elements.{All-head}
 use Rattle.ht_tern.specs.declared.gate.Kind.{Kind}
 use Rattle.ht_tern.specs.declared.gate.Kind.TheVariants.{And, Nand, Or, Nor, Xor, Xnor, Not, Buf}
 use Rattle.ht_net.specs.Named.{Name}
-use Rattle.ht_bench.specs.Cut.{Lacks, IsCut}
 use Rattle.ht_bench.specs.Name.{IsName}
-use Rattle.ht_bench.specs.Statement.{Statement, Input, Output, Dff, Gate, kind_text, arguments_text, statement_text, IsWritten}
+use Rattle.ht_bench.specs.Statement.{Statement, Input, Output, Dff, Gate, kind_text, arguments_text}
 use Rattle.ht_bench.specs.Line.{States, head_text, names_behind, IsHeadOf}
 use Rattle.ht_bench.proofs.CutLaws.{cut_is, name_lacks_blank}
 use Rattle.ht_bench.proofs.ArgumentLaws.{arguments_text_is}
-use Rattle.ht_bench.proofs.StatementLaws.{statement_text_is, line_of, line_cut, cut_statement, names_behind_are_names, texts_differ, dff_is_no_kind, no_blank_in_literal}
+use Rattle.ht_bench.proofs.StatementLaws.{line_cut, cut_statement, names_behind_are_names, texts_differ, dff_is_no_kind, no_blank_in_literal}
 
 -- the kind that a word names
 abbrev kind_by : List ℕ → Kind

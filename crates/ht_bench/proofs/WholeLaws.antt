@@ -1,10 +1,9 @@
 -- A text whose lines are all read.
-use Rattle.std.proofs.Common.{◌≡◌, ◌≢◌, ◌⊎◌, inl, inr, ⊎_elim, ℕ, zero, suc, ◌<◌, ◌≤◌, ◌+◌, List, [], ◌∷◌, ◌++◌, length, map, get_or, take, drop, Option, Some, None, option_to_list, refl, sym, ◌∙◌, ap, subst, take-append-drop, arith}
+use Rattle.std.proofs.Common.{◌≡◌, ◌≢◌, ◌⊎◌, inl, inr, ⊎_elim, ℕ, zero, suc, ◌<◌, ◌+◌, List, [], ◌∷◌, ◌++◌, length, map, get_or, take, drop, Option, Some, None, option_to_list, refl, sym, ◌∙◌, ap, subst, take-append-drop, arith}
 use Rattle.std.specs.List.{All, AllZip, Contains, flat_map}
-use Rattle.std.proofs.lemmas.List.{length-take-le, drop_more, get_or-take, get_or_default}
-use Rattle.std.proofs.lemmas.List.Elements.{All-contains, All-head, All-tail, All-nil, All-cons, All-get_or, All-weaker, Contains-append_left, Contains-append_right, Contains-append_cases, Contains-get_or}
+use Rattle.std.proofs.lemmas.List.{length-take-le, drop_more, get_or-take}
+use Rattle.std.proofs.lemmas.List.Elements.{All-contains, All-head, All-tail, All-nil, All-cons, Contains-append_left, Contains-append_right, Contains-append_cases}
 use Rattle.ht_ports.specs.Cutting.{lines_of}
-use Rattle.ht_tern.specs.declared.gate.Kind.{Kind}
 use Rattle.ht_net.specs.Netlist.{Netlist, IsCircuit}
 use Rattle.ht_net.specs.Named.{Name, named_of}
 use Rattle.ht_net.specs.Draft.{Draft, IsDriven, IsName}
@@ -15,15 +14,13 @@ use Rattle.ht_net.specs.declared.names.NameId.{NameId}
 use Rattle.ht_net.specs.declared.error.NetError.{NetError}
 use Rattle.ht_net.specs.declared.error.NetError.TheVariants.{Twice, TooMany, Undriven, Loop, NoMemory}
 use Rattle.ht_net.proofs.SequenceLaws.{sequence_no_loop}
-use Rattle.ht_bench.specs.Name.{different}
 use Rattle.ht_bench.specs.Statement.{Statement, Input, Output, Dff, Gate, names_in, statement_text, IsWritten}
-use Rattle.ht_bench.specs.Line.{States}
-use Rattle.ht_bench.specs.Stated.{driven_in, arguments_in, read_in, driven_by, mentions_of, named_of_statements}
-use Rattle.ht_bench.specs.Rules.{IsAccepted, AreAccepted, ReadsDriven}
+use Rattle.ht_bench.specs.Stated.{driven_in, arguments_in, read_in, driven_by, mentions_of}
+use Rattle.ht_bench.specs.Rules.{AreAccepted, ReadsDriven}
 use Rattle.ht_bench.specs.Plain.{Reads, StandsForPlain, StandsForNone, IsFirstBroken, IsFirstUndriven, RefusesPlain}
 use Rattle.ht_bench.specs.declared.fault.PlainFault.{PlainFault}
 use Rattle.ht_bench.specs.declared.fault.PlainFault.TheVariants.{BadLine, NoMemory as PlainNoMemory}
-use Rattle.ht_bench.specs.Drafted.{IsNumberOf, IsReadOf, IsDraftOf}
+use Rattle.ht_bench.specs.Drafted.{IsNumberOf, IsReadOf}
 use Rattle.ht_bench.specs.Reading.{IsRead, AreKnown, LineReadsDriven, IsFirstUndrivenRead}
 use Rattle.ht_bench.proofs.ListLaws.{contains_head, contains_tail, contains_cases, contains_none, AllZip-length}
 use Rattle.ht_bench.proofs.DifferentLaws.{contained_name_at, contains_in_different}

@@ -1,8 +1,8 @@
 -- When a statement is accepted after those before it.
 use Rattle.std.specs.Prelude.{◌≡◌, ℕ, ◌+◌, ◌≤◌, List, [], ◌∷◌, ◌++◌, length, All, Contains, sum_by}
 use Rattle.ht_tern.specs.Gate.{HasArity}
-use Rattle.ht_net.specs.Named.{Name, NamedGate}
-use Rattle.ht_bench.specs.Statement.{Statement, Input, Output, Dff, Gate}
+use Rattle.ht_net.specs.Named.{NamedGate}
+use Rattle.ht_bench.specs.Statement.{Statement, Gate}
 use Rattle.ht_bench.specs.Stated.{driven_in, arguments_in, read_in, driven_by, inputs_of, dffs_of, gates_of, nets_of}
 
 -- one argument for NOT and BUFF, 1 to 255 for the other gates

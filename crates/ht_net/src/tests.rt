@@ -38,6 +38,23 @@ fn nand(builder: &mut Builder, out: &[u8], a: &[u8], b: &[u8]) -> Result<(), Net
     builder.gate(Kind::Nand, out, &[a, b])
 }
 
+/// Adds `out = AND(arg, .. arg)` with 255 arguments.
+fn widest(builder: &mut Builder, out: &[u8], arg: &[u8]) -> Result<(), NetError> {
+    let out = builder.net(out)?;
+    let arg = builder.net(arg)?;
+    builder.gate(Kind::And, out, &[arg; 255])
+}
+
+#[test]
+fn adds_vectors(rt: HostRuntime) -> Result<(), Fail> {
+    let mut vectors = Vectors::new(rt.alloc(), 2);
+    vectors.push(&[true, false])?;
+    vectors.push(&[false, false])?;
+    assert!(rt; vectors.len() == 2);
+    assert_eq!(rt; vectors.get(0), [true, false].as_slice());
+    Ok(())
+}
+
 /// The level of each gate.
 fn levels(alloc: Global, circuit: &Circuit) -> Result<Vec<u32>, AllocError> {
     let mut levels = Vec::new(alloc);
@@ -66,11 +83,24 @@ fn names(alloc: Global, circuit: &Circuit) -> Result<Vec<u8>, AllocError> {
     Ok(names)
 }
 
-#[test]
-fn numbers_nets_and_counts_loads(rt: HostRuntime) -> Result<(), Fail> {
-    let alloc = rt.alloc();
+/// The nets that outputs show, then those that flip-flops read, then those at the pins of the gates.
+fn readers(alloc: Global, circuit: &Circuit) -> Result<Vec<NetId>, AllocError> {
+    let mut nets = Vec::new(alloc);
+    for o in 0..circuit.outputs() {
+        nets.push(circuit.output(o))?;
+    }
+    for j in 0..circuit.dffs() {
+        nets.push(circuit.dff_data(j))?;
+    }
+    for g in 0..circuit.gates() {
+        nets.extend_from_slice(circuit.gate_args(g))?;
+    }
+    Ok(nets)
+}
+
+/// z = NAND(t, t), t = NAND(a, q) and q = DFF(z), where a and z are outputs and z is one by two lines.
+fn fed_back(alloc: Global) -> Result<Circuit, NetError> {
     let mut builder = Builder::new(alloc);
-    // z = NAND(t, t), t = NAND(a, q), q = DFF(z); a and z are outputs, z twice
     nand(&mut builder, b"z", b"t", b"t")?;
     output(&mut builder, b"z")?;
     nand(&mut builder, b"t", b"a", b"q")?;
@@ -78,18 +108,20 @@ fn numbers_nets_and_counts_loads(rt: HostRuntime) -> Result<(), Fail> {
     dff(&mut builder, b"q", b"z")?;
     input(&mut builder, b"a")?;
     output(&mut builder, b"z")?;
-    let circuit = builder.finish()?;
-    assert!(rt; circuit.inputs() == 1 && circuit.dffs() == 1);
-    assert!(rt; circuit.gates() == 2 && circuit.outputs() == 2);
+    builder.finish()
+}
+
+#[test]
+fn numbers_nets_and_counts_loads(rt: HostRuntime) -> Result<(), Fail> {
+    let alloc = rt.alloc();
+    let circuit = fed_back(alloc)?;
+    assert_eq!(rt; circuit.inputs(), 1);
     assert_eq!(rt; names(alloc, &circuit)?.as_slice(), b"a q z t ".as_slice());
     assert_eq!(rt; levels(alloc, &circuit)?.as_slice(), [2, 1].as_slice());
     assert_eq!(rt; loads(alloc, &circuit)?.as_slice(), [2, 1, 2, 2].as_slice());
+    let nets = [2, 0, 2, 3, 3, 0, 1].map(NetId);
+    assert_eq!(rt; readers(alloc, &circuit)?.as_slice(), nets.as_slice());
     assert_eq!(rt; circuit.order(), [1, 0].as_slice());
-    assert_eq!(rt; circuit.output(0), NetId(2));
-    assert_eq!(rt; circuit.output(1), NetId(0));
-    assert_eq!(rt; circuit.dff_data(0), NetId(2));
-    assert_eq!(rt; circuit.gate_kind(0), Kind::Nand);
-    assert_eq!(rt; circuit.gate_args(1), [NetId(0), NetId(1)].as_slice());
     Ok(())
 }
 
@@ -104,7 +136,7 @@ fn cycle_of(answer: Result<Circuit, NetError>) -> Option<Vec<NameId>> {
     }
 }
 
-/// The name that an answer names.
+/// The name that a refusal names, not of a cycle.
 fn name_of<T: Drop>(answer: Result<T, NetError>) -> Option<NameId> {
     match answer {
         Ok(_value) => None,
@@ -115,7 +147,7 @@ fn name_of<T: Drop>(answer: Result<T, NetError>) -> Option<NameId> {
     }
 }
 
-/// The limit that an answer names.
+/// The limit that a refusal names.
 fn limit_of<T: Drop>(answer: Result<T, NetError>) -> Option<Limit> {
     match answer {
         Ok(_value) => None,
@@ -126,27 +158,39 @@ fn limit_of<T: Drop>(answer: Result<T, NetError>) -> Option<Limit> {
     }
 }
 
+/// a = BUFF(b), b = BUFF(a).
+fn two_gates(alloc: Global) -> Result<Builder, NetError> {
+    let mut builder = Builder::new(alloc);
+    buff(&mut builder, b"a", b"b")?;
+    buff(&mut builder, b"b", b"a")?;
+    Ok(builder)
+}
+
+/// x = BUFF(y), y = BUFF(z), z = NAND(a, x) for an input a, which is the first name.
+fn three_gates(alloc: Global) -> Result<Builder, NetError> {
+    let mut builder = Builder::new(alloc);
+    input(&mut builder, b"a")?;
+    buff(&mut builder, b"x", b"y")?;
+    buff(&mut builder, b"y", b"z")?;
+    nand(&mut builder, b"z", b"a", b"x")?;
+    Ok(builder)
+}
+
+/// q = DFF(q).
+fn one_latch(alloc: Global) -> Result<Builder, NetError> {
+    let mut builder = Builder::new(alloc);
+    dff(&mut builder, b"q", b"q")?;
+    Ok(builder)
+}
+
 #[test]
-fn names_a_cycle(rt: HostRuntime) -> Result<(), Fail> {
-    let mut two = Builder::new(rt.alloc());
-    buff(&mut two, b"a", b"b")?;
-    buff(&mut two, b"b", b"a")?;
-    let cycle = cycle_of(two.finish()).ok_or("no cycle")?;
-    assert_eq!(rt; cycle.as_slice(), [NameId(0), NameId(1)].as_slice());
+fn names_a_cycle_from_its_least_name(rt: HostRuntime) -> Result<(), Fail> {
+    let two = cycle_of(two_gates(rt.alloc())?.finish()).ok_or("no cycle")?;
+    assert_eq!(rt; two.as_slice(), [0, 1].map(NameId).as_slice());
     // x is an argument of the gate of z, z of that of y, y of that of x
-    let mut three = Builder::new(rt.alloc());
-    input(&mut three, b"a")?;
-    buff(&mut three, b"x", b"y")?;
-    buff(&mut three, b"y", b"z")?;
-    nand(&mut three, b"z", b"a", b"x")?;
-    let cycle = cycle_of(three.finish()).ok_or("no cycle")?;
-    assert_eq!(rt;
-        cycle.as_slice(),
-        [NameId(1), NameId(3), NameId(2)].as_slice()
-    );
-    let mut latch = Builder::new(rt.alloc());
-    dff(&mut latch, b"q", b"q")?;
-    assert!(rt; latch.finish()?.dffs() == 1);
+    let three = cycle_of(three_gates(rt.alloc())?.finish()).ok_or("no cycle")?;
+    assert_eq!(rt; three.as_slice(), [1, 3, 2].map(NameId).as_slice());
+    assert!(rt; one_latch(rt.alloc())?.finish().is_ok());
     Ok(())
 }
 
@@ -172,9 +216,9 @@ fn chain(alloc: Global, gates: u32, from_start: bool) -> Result<Builder, Fail> {
     Ok(builder)
 }
 
-/// Whether each level is by 1 above or below the one before it.
-fn are_steps(levels: &[u32], rising: bool) -> bool {
-    levels.windows(2).all(|w| {
+/// Whether each number is by 1 above or below the one before it.
+fn are_steps(numbers: &[u32], rising: bool) -> bool {
+    numbers.windows(2).all(|w| {
         let (low, high) = if rising { (w[0], w[1]) } else { (w[1], w[0]) };
         high as u64 == low as u64 + 1
     })
@@ -188,7 +232,8 @@ fn levels_the_longest_chain_from_either_end(rt: HostRuntime) -> Result<(), Fail>
         let circuit = builder.finish()?;
         assert!(rt; circuit.nets() == 65_535);
         let levels = levels(alloc, &circuit)?;
-        assert!(rt; are_steps(&levels, from_start) && levels.iter().max() == Some(&65_534));
+        assert!(rt; are_steps(&levels, from_start));
+        assert_eq!(rt; levels.iter().max(), Some(&65_534));
         assert!(rt; are_steps(circuit.order(), from_start));
         assert_eq!(rt; limit_of(builder.net(b"x")), Some(Limit::Nets));
         assert!(rt; builder.net(b"n0").is_ok());
@@ -196,58 +241,50 @@ fn levels_the_longest_chain_from_either_end(rt: HostRuntime) -> Result<(), Fail>
     Ok(())
 }
 
-/// Adds `out = AND(arg, .. arg)` with 255 arguments.
-fn widest(builder: &mut Builder, out: &[u8], arg: &[u8]) -> Result<(), NetError> {
-    let out = builder.net(out)?;
-    let arg = builder.net(arg)?;
-    builder.gate(Kind::And, out, &[arg; 255])
+/// So many inputs i0, i1 ..
+fn inputs(alloc: Global, count: u32) -> Result<Builder, Fail> {
+    let mut builder = Builder::new(alloc);
+    for k in 0..count {
+        input(&mut builder, format!(in alloc; "i{k}")?.as_bytes())?;
+    }
+    Ok(builder)
+}
+
+/// So many flip-flops q0, q1 .. that read q0.
+fn latches(alloc: Global, count: u32) -> Result<Builder, Fail> {
+    let mut builder = Builder::new(alloc);
+    for k in 0..count {
+        dff(&mut builder, format!(in alloc; "q{k}")?.as_bytes(), b"q0")?;
+    }
+    Ok(builder)
+}
+
+/// So many gates g0, g1 .. of 255 pins that read the input a.
+fn widest_gates(alloc: Global, count: u32) -> Result<Builder, Fail> {
+    let mut builder = Builder::new(alloc);
+    input(&mut builder, b"a")?;
+    for k in 0..count {
+        widest(&mut builder, format!(in alloc; "g{k}")?.as_bytes(), b"a")?;
+    }
+    Ok(builder)
 }
 
 #[test]
 fn keeps_the_limits(rt: HostRuntime) -> Result<(), Fail> {
-    let alloc = rt.alloc();
-    let mut inputs = Builder::new(alloc);
-    for k in 0..4_096u32 {
-        input(&mut inputs, format!(in alloc; "i{k}")?.as_bytes())?;
-    }
-    assert_eq!(rt; limit_of(input(&mut inputs, b"x")), Some(Limit::Inputs));
-    assert_eq!(rt; name_of(input(&mut inputs, b"i1")), Some(NameId(1)));
-    let mut dffs = Builder::new(alloc);
-    for k in 0..16_384u32 {
-        dff(&mut dffs, format!(in alloc; "q{k}")?.as_bytes(), b"q0")?;
-    }
-    let circuit = dffs.finish()?;
-    assert_eq!(rt; loads(alloc, &circuit)?.first(), Some(&16_384));
-    assert_eq!(rt; limit_of(dff(&mut dffs, b"x", b"q0")), Some(Limit::Dffs));
-    Ok(())
-}
-
-#[test]
-fn keeps_the_limit_of_pins(rt: HostRuntime) -> Result<(), Fail> {
-    let alloc = rt.alloc();
-    let mut builder = Builder::new(alloc);
-    input(&mut builder, b"a")?;
-    for k in 0..1_028u32 {
-        widest(&mut builder, format!(in alloc; "g{k}")?.as_bytes(), b"a")?;
-    }
-    dff(&mut builder, b"q", b"a")?;
-    nand(&mut builder, b"n", b"a", b"a")?;
+    let mut most = inputs(rt.alloc(), 4_096)?;
+    assert_eq!(rt; limit_of(input(&mut most, b"x")), Some(Limit::Inputs));
+    assert_eq!(rt; name_of(input(&mut most, b"i1")), Some(NameId(1)));
+    let mut most = latches(rt.alloc(), 16_384)?;
+    assert_eq!(rt; limit_of(dff(&mut most, b"x", b"q0")), Some(Limit::Dffs));
+    // 262,140 pins, then 262,143, then 262,144
+    let mut most = widest_gates(rt.alloc(), 1_028)?;
+    dff(&mut most, b"q", b"a")?;
+    nand(&mut most, b"n", b"a", b"a")?;
     assert_eq!(rt;
-        limit_of(nand(&mut builder, b"m", b"a", b"a")),
+        limit_of(nand(&mut most, b"m", b"a", b"a")),
         Some(Limit::Pins)
     );
-    buff(&mut builder, b"m", b"a")?;
-    assert_eq!(rt; limit_of(buff(&mut builder, b"l", b"a")), Some(Limit::Pins));
-    assert_eq!(rt; limit_of(dff(&mut builder, b"r", b"a")), Some(Limit::Pins));
-    Ok(())
-}
-
-#[test]
-fn adds_vectors(rt: HostRuntime) -> Result<(), Fail> {
-    let mut vectors = Vectors::new(rt.alloc(), 2);
-    vectors.push(&[true, false])?;
-    vectors.push(&[false, false])?;
-    assert!(rt; vectors.len() == 2);
-    assert_eq!(rt; vectors.get(0), [true, false].as_slice());
+    buff(&mut most, b"m", b"a")?;
+    assert_eq!(rt; limit_of(dff(&mut most, b"r", b"a")), Some(Limit::Pins));
     Ok(())
 }

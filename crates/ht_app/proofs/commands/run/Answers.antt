@@ -1,4 +1,4 @@
-use Rattle.std.proofs.Common.{◌≡◌, ◌⊎◌, ◌≢◌, ℕ, List, Bool, sym, ◌∙◌, subst, rules}
+use Rattle.std.proofs.Common.{◌≡◌, ◌⊎◌, ◌≢◌, ℕ, sym, ◌∙◌, subst}
 use Rattle.ht_app.specs.Words.{report_name}
 use Rattle.ht_app.specs.Run.{status_of, line_of}
 use Rattle.ht_app.proofs.CauseLaws.{says, only_err, only_report}
@@ -35,14 +35,14 @@ returns-in-Err-clause-refused g c = λ asked text is none.
     let a = g.D.Desk.view c.args.desk.now in
     let m = g.D.Desk.view c.work.new.desk in
     subst (λ (s : ℕ). (s ≡ 3) ⊎ (s ≡ 4) ⊎ (s ≡ 6)) (sym c.status.ensures)
-      (refused_status c.args.words.now a m c.in-Err.trouble c.in-Err.ensures.cause asked text is none)
+    (refused_status c.args.words.now a m c.in-Err.trouble c.in-Err.ensures.cause asked text is none)
 
 pub returns-in-Err-clause-malformed : goal.returns-in-Err-clause-malformed
 returns-in-Err-clause-malformed g c = λ asked netlist tests d line is accepted bad.
     let a = g.D.Desk.view c.args.desk.now in
     let m = g.D.Desk.view c.work.new.desk in
     subst (λ (s : ℕ). (s ≡ 7) ⊎ (s ≡ 4) ⊎ (s ≡ 6)) (sym c.status.ensures)
-      (malformed_status c.args.words.now a m c.in-Err.trouble c.in-Err.ensures.cause asked netlist tests d line is accepted bad)
+    (malformed_status c.args.words.now a m c.in-Err.trouble c.in-Err.ensures.cause asked netlist tests d line is accepted bad)
 
 pub returns-in-Err-clause-complete : goal.returns-in-Err-clause-complete
 returns-in-Err-clause-complete g c = λ asked netlist tests d list is accepted good none.
@@ -51,7 +51,7 @@ returns-in-Err-clause-complete g c = λ asked netlist tests d list is accepted g
     let b = g.D.Desk.view c.write_line.new.desk in
     let frame = c.write_line.ensures.frame.call in
     subst (λ (s : ℕ). (s ≡ 0) ⊎ (s ≡ 6)) (sym c.status.ensures)
-      (good_status c.args.words.now a m c.in-Err.trouble c.in-Err.ensures.cause asked netlist tests d list is accepted good (faultless_before a m b frame.in_later frame.out_later none))
+    (good_status c.args.words.now a m c.in-Err.trouble c.in-Err.ensures.cause asked netlist tests d list is accepted good (faultless_before a m b frame.in_later frame.out_later none))
 
 pub returns-in-Err-clause-nothing : goal.returns-in-Err-clause-nothing
 returns-in-Err-clause-nothing g c = λ some other.

@@ -1,5 +1,4 @@
-use Rattle.std.proofs.Common.{OnErr, rules, ◌++◌}
-use Rattle.ht_ports.proofs.Calls.{writes_trans, added_more}
+use Rattle.std.proofs.Common.{rules, ◌++◌}
 use Rattle.ht_ports.specs.declared.ports.OutPort.TheVariants.{Err}
 use Rattle.ht_app.proofs.Pieces.{part_before, part_after}
 use Rattle.ht_app.proofs.err_line.write_pieces.Goals as goal
@@ -8,7 +7,7 @@ pub returns-in_err-write_all-2-clause-failed : goal.returns-in_err-write_all-2-c
 returns-in_err-write_all-2-clause-failed g c =
     let first = c.in_ok-write_all.ensures in
     let part = part_after Err c.args.front.now (c.args.middle.now ++ c.args.back.now) _ _ _ first.frame first.added
-        (part_before Err c.args.middle.now c.args.back.now _ _ c.in_err-write_all-2.ensures.failed) in
+    (part_before Err c.args.middle.now c.args.back.now _ _ c.in_err-write_all-2.ensures.failed) in
     search (rules, part)
 
 pub returns-in_err-write_all-3-clause-failed : goal.returns-in_err-write_all-3-clause-failed
@@ -16,5 +15,5 @@ returns-in_err-write_all-3-clause-failed g c =
     let first = c.in_ok-write_all.ensures in
     let second = c.in_ok-write_all-2.ensures in
     let part = part_after Err c.args.front.now (c.args.middle.now ++ c.args.back.now) _ _ _ first.frame first.added
-        (part_after Err c.args.middle.now c.args.back.now _ _ _ second.frame second.added c.in_err-write_all-3.ensures.failed) in
+    (part_after Err c.args.middle.now c.args.back.now _ _ _ second.frame second.added c.in_err-write_all-3.ensures.failed) in
     search (rules, part)

@@ -1,7 +1,7 @@
-use Rattle.std.proofs.Common.{◌≤◌, List, ℕ, length, sym, ◌∙◌, subst, rules}
+use Rattle.std.proofs.Common.{List, ℕ, subst, rules}
 use Rattle.ht_bench.specs.Plain.{RefusesPlain, StandsForNone}
 use Rattle.ht_bench.specs.declared.fault.PlainFault.TheVariants.{BadLine}
-use Rattle.ht_app.specs.Run.{IsBadLine, most_bytes}
+use Rattle.ht_app.specs.Run.{IsBadLine}
 use Rattle.ht_app.proofs.netlist.read_netlist.Goals as goal
 
 pub returns-in-Err-BadLine-clause-cause : goal.returns-in-Err-BadLine-clause-cause

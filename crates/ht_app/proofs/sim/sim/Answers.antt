@@ -1,7 +1,6 @@
-use Rattle.std.proofs.Common.{◌≡◌, List, ℕ, sym, subst, rules}
+use Rattle.std.proofs.Common.{List, ℕ, sym, subst, rules}
 use Rattle.ht_app.specs.Run.{HasCause}
 use Rattle.ht_app.specs.declared.trouble.Trouble.{Trouble}
-use Rattle.ht_app.specs.declared.trouble.Trouble.TheVariants.{WriteFault}
 use Rattle.ht_app.specs.Causes.{IsReported}
 use Rattle.ht_app.proofs.CauseLaws.{write_cause, done}
 use Rattle.ht_app.proofs.sim.sim.Goals as goal
@@ -22,6 +21,6 @@ returns-clause-done g c =
     let m = g.D.Desk.view c.simulate.new.desk in
     let b = g.D.Desk.view c.write_report.new.desk in
     let report : IsReported c.word.result.now c.in_ok-texts.texts.body.items c.in_ok-texts.texts.total.items m b =
-        subst (λ (l : List ℕ). IsReported c.word.result.now c.in_ok-texts.texts.body.items l m b) c.deref-2.ensures.value
-          (subst (λ (l : List ℕ). IsReported c.word.result.now l c.deref-2.result.now m b) c.deref.ensures.value c.in_ok-write_report.ensures.report) in
+    subst (λ (l : List ℕ). IsReported c.word.result.now c.in_ok-texts.texts.body.items l m b) c.deref-2.ensures.value
+    (subst (λ (l : List ℕ). IsReported c.word.result.now l c.deref-2.result.now m b) c.deref.ensures.value c.in_ok-write_report.ensures.report) in
     done c.args.words.now c.word.result.now c.in_ok-texts.texts.body.items c.in_ok-texts.texts.total.items (g.D.Desk.view c.args.desk.now) m b c.word.ensures texts.frame c.in_ok-write_report.ensures.frame report texts.inputs texts.texts

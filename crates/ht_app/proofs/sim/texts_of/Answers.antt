@@ -1,8 +1,6 @@
-use Rattle.std.proofs.Common.{List, ◌≡◌, sym, ◌∙◌, ap, subst, arith, Option, Bool, false}
-use Rattle.ht_net.specs.declared.site.Place.{Place}
+use Rattle.std.proofs.Common.{sym, subst, arith, false}
 use Rattle.ht_net.specs.declared.site.Fault.{Fault}
 use Rattle.ht_net.specs.declared.site.Site.TheVariants.{Stem}
-use Rattle.ht_texts.specs.Reports.{report_body, total_line, class_count, detected_count}
 use Rattle.ht_app.specs.Simulation.{ArePlaces}
 use Rattle.ht_app.proofs.Places.{are_places}
 use Rattle.ht_app.proofs.sim.texts_of.Goals as goal

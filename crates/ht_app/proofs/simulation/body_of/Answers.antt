@@ -1,4 +1,4 @@
-use Rattle.std.proofs.Common.{◌≡◌, ◌≤◌, ◌*◌, ◌++◌, ◌+◌, None, List, ℕ, length, take, get_or, append_assoc, refl, sym, ◌∙◌, ap, arith}
+use Rattle.std.proofs.Common.{◌≤◌, ◌++◌, ◌+◌, None, List, ℕ, length, get_or, append_assoc, refl, sym, ◌∙◌, ap, arith}
 use Rattle.std.proofs.lemmas.List.{take_all}
 use Rattle.ht_net.specs.Faults.{stem_faults_of}
 use Rattle.ht_texts.specs.Reports.{head_line, fault_line, fault_lines}

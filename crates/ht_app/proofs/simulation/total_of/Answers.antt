@@ -18,4 +18,4 @@ pub returns : goal.returns
 returns c =
     let classes = ap (λ n. 2 * n) c.nets-classes.ensures.count ∙ sym (fault_count_is c.args.circuit.now) in
     subst (λ (n : ℕ). IfOk c.write_total.result (λ line. line.items ≡ total_line n (detected_count c.args.places.now))) classes
-      (subst (λ (n : ℕ). IfOk c.write_total.result (λ line. line.items ≡ total_line (2 * c.nets-classes.result) n)) c.count_detected-detected.ensures c.write_total.ensures)
+    (subst (λ (n : ℕ). IfOk c.write_total.result (λ line. line.items ≡ total_line (2 * c.nets-classes.result) n)) c.count_detected-detected.ensures c.write_total.ensures)

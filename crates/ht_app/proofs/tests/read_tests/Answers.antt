@@ -1,4 +1,4 @@
-use Rattle.std.proofs.Common.{◌≡◌, ◌<◌, ◌≤◌, ◌+◌, ◌^◌, ◌++◌, ◌∷◌, ℕ, List, [], Bool, length, Some, None, Option, true, false, IsTrue, ap, subst, sym, ◌∙◌, refl, rules, arith}
+use Rattle.std.proofs.Common.{◌≡◌, ◌≤◌, ◌+◌, ◌++◌, ◌∷◌, ℕ, List, [], Bool, length, Some, Option, true, IsTrue, ap, subst, sym, ◌∙◌, rules, arith}
 use Rattle.std.specs.Prelude.{is_ok}
 use Rattle.std.proofs.lemmas.List.{length-append}
 use Rattle.std.specs.Io.KnownBytes.{prepend_known, IsAtEnd}
@@ -10,7 +10,7 @@ use Rattle.ht_ports.specs.declared.ports.InPort.TheVariants.{Tests}
 use Rattle.ht_ports.proofs.NextLemmas.{next_some, next_none}
 use Rattle.ht_ports.proofs.Calls.{in_call_trans}
 use Rattle.ht_net.specs.Netlist.{Netlist}
-use Rattle.ht_texts.specs.Tests.{IsTextOf, IsTestText, IsMalformedTest}
+use Rattle.ht_texts.specs.Tests.{IsTextOf, IsMalformedTest}
 use Rattle.ht_app.specs.Run.{IsInput}
 use Rattle.ht_app.proofs.TestLines.{SoFar, so_far_start, so_far_next, so_far_end, bad_line, too_long}
 use Rattle.ht_app.proofs.tests.read_tests.Goals as goal
@@ -24,7 +24,7 @@ lines-init g c =
     let none : c.new-list.result.list ≡ [] = ap (λ v. v.list) c.new-list.ensures in
     let start : (text : List ℕ) → SoFar c.args.circuit.now text lines.passed c.new-list.result.list text =
     λ text. subst (λ (n : ℕ). SoFar c.args.circuit.now text n c.new-list.result.list text) (sym (ap (λ l. l.passed) made))
-        (subst (λ (d : List (List Bool)). SoFar c.args.circuit.now text 0 d text) (sym none) (so_far_start c.args.circuit.now text)) in
+    (subst (λ (d : List (List Bool)). SoFar c.args.circuit.now text 0 d text) (sym none) (so_far_start c.args.circuit.now text)) in
     record {
       port = ap (λ l. l.port) made;
       most = ap (λ l. l.most) made;
@@ -100,13 +100,16 @@ returns-then-not-branch-clause-cause g c =
     let gives = next_some c.lines.lines after a b c.next.result _ c.in-Ok-Some.line next c.in-Ok-Some.is c.in-Ok-Some.field-0-is in
     let refused : (c.push_line.new.list ≡ c.lines.list) × ((vector : List Bool) → ¬ IsTextOf c.lines.list.width c.in-Ok-Some.line.now vector) = search rules in
     let at : c.len.result ≡ length c.lines.list.list = c.len.ensures ∙ ap (λ v. length v.list) refused.0 in
-    record { there = before.there; cause = λ text is.
-    let so = before.so_far text is in
-    let step = subst (λ (r : Option (List ℕ)). NextLine c.in-Ok-Some.line.now gives.count r (rest_of after b)) so.1 gives.next in
-    let none : (vector : List Bool) → ¬ IsTextOf c.args.circuit.now.inputs c.in-Ok-Some.line.now vector =
-        subst (λ (w : ℕ). (vector : List Bool) → ¬ IsTextOf w c.in-Ok-Some.line.now vector) before.width refused.1 in
-    subst (λ (n : ℕ). IsMalformedTest c.args.circuit.now text (n + 1)) (sym at)
-      (bad_line c.args.circuit.now text c.lines.lines.passed c.lines.list.list so.0 c.in-Ok-Some.line.now gives.count (rest_of after b) so.2 before.fits gives.some step none) }
+    record {
+      there = before.there;
+      cause = λ text is.
+          let so = before.so_far text is in
+          let step = subst (λ (r : Option (List ℕ)). NextLine c.in-Ok-Some.line.now gives.count r (rest_of after b)) so.1 gives.next in
+          let none : (vector : List Bool) → ¬ IsTextOf c.args.circuit.now.inputs c.in-Ok-Some.line.now vector =
+          subst (λ (w : ℕ). (vector : List Bool) → ¬ IsTextOf w c.in-Ok-Some.line.now vector) before.width refused.1 in
+          subst (λ (n : ℕ). IsMalformedTest c.args.circuit.now text (n + 1)) (sym at)
+          (bad_line c.args.circuit.now text c.lines.lines.passed c.lines.list.list so.0 c.in-Ok-Some.line.now gives.count (rest_of after b) so.2 before.fits gives.some step none);
+    }
 
 pub returns-in-Ok-None-clause-list : goal.returns-in-Ok-None-clause-list
 returns-in-Ok-None-clause-list g c =
@@ -126,11 +129,14 @@ returns-in-Err-TooLong-clause-cause g c =
     let before = c.lines.invariant in
     let cause = rw c.in-Err-TooLong.field-0-is at c.in-Err-TooLong.ensures.cause in
     let few : c.args.circuit.now.inputs ≤ 4096 = c.requires.few_inputs in
-    record { there = before.there; cause = λ text is.
-    let so = before.so_far text is in
-    let long : IsTooLongLine 4096 c.lines.lines.passed so.0 = subst (λ (m : ℕ). IsTooLongLine m c.lines.lines.passed so.0) before.most (cause.1 so.0 so.1) in
-    subst (λ (n : ℕ). IsMalformedTest c.args.circuit.now text n) (omega (arith, cause.0, before.counted))
-      (too_long c.args.circuit.now text c.lines.lines.passed c.lines.list.list so.0 so.2 before.fits few long) }
+    record {
+      there = before.there;
+      cause = λ text is.
+          let so = before.so_far text is in
+          let long : IsTooLongLine 4096 c.lines.lines.passed so.0 = subst (λ (m : ℕ). IsTooLongLine m c.lines.lines.passed so.0) before.most (cause.1 so.0 so.1) in
+          subst (λ (n : ℕ). IsMalformedTest c.args.circuit.now text n) (omega (arith, cause.0, before.counted))
+          (too_long c.args.circuit.now text c.lines.lines.passed c.lines.list.list so.0 so.2 before.fits few long);
+    }
 
 pub returns-in-Ok-None-clause-few : goal.returns-in-Ok-None-clause-few
 returns-in-Ok-None-clause-few g c =

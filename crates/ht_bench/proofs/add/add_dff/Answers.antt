@@ -1,4 +1,4 @@
-use Rattle.std.proofs.Common.{[], ◌∷◌, refl, arith}
+use Rattle.std.proofs.Common.{[], ◌∷◌, refl}
 use Rattle.std.proofs.lemmas.Result.{err_from_is_err_and}
 use Rattle.ht_bench.specs.Statement.{Dff}
 use Rattle.ht_bench.proofs.AcceptLaws.{first_name_refused, data_pin_refused, dff_accepted, dff_refused}

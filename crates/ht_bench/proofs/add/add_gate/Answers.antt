@@ -1,4 +1,4 @@
-use Rattle.std.proofs.Common.{[], ◌∷◌, ◌≡◌, length, ◌≤◌, refl, sym, subst, arith}
+use Rattle.std.proofs.Common.{length, ◌≤◌, refl, sym, subst, arith}
 use Rattle.std.proofs.lemmas.Result.{err_from_is_err_and}
 use Rattle.ht_bench.specs.Arguments.{texts_of}
 use Rattle.ht_bench.specs.Statement.{Gate}

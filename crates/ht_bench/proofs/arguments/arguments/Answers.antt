@@ -1,5 +1,5 @@
-use Rattle.std.proofs.Common.{rules, arith, sym, ◌∙◌, ap, subst, ◌∷◌, ◌++◌, [], ℕ, List, ◌≡◌, ◌<◌, length, Bor}
-use Rattle.ht_bench.specs.Arguments.{texts_of, AreArguments, IsNoArguments}
+use Rattle.std.proofs.Common.{rules, sym, ◌∙◌, ap, subst, ◌∷◌, ◌++◌, [], ◌≡◌}
+use Rattle.ht_bench.specs.Arguments.{texts_of, AreArguments}
 use Rattle.ht_bench.proofs.ArgumentLaws.{IsPartRead, no_blank, no_name, no_last_name, texts_of-push, part_more, all_read}
 use Rattle.ht_bench.proofs.arguments.arguments.Goals as goal
 

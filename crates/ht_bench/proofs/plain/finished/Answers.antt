@@ -1,4 +1,3 @@
-use Rattle.std.proofs.Common.{rules}
 use Rattle.ht_bench.proofs.WholeLaws.{only_memory}
 use Rattle.ht_bench.proofs.plain.finished.Goals as goal
 

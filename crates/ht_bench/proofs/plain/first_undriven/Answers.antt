@@ -1,4 +1,4 @@
-use Rattle.std.proofs.Common.{rules, ◌<◌, ◌≡◌, length, get_or, None, Some, arith}
+use Rattle.std.proofs.Common.{rules, ◌<◌, length, arith}
 use Rattle.ht_bench.proofs.WholeLaws.{known_net, undriven_read}
 use Rattle.ht_bench.proofs.plain.first_undriven.Goals as goal
 

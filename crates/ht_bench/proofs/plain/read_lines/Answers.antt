@@ -1,4 +1,4 @@
-use Rattle.std.proofs.Common.{rules, ◌≡◌, ◌+◌, length, subst, sym, inl, arith}
+use Rattle.std.proofs.Common.{rules, ◌≡◌, ◌+◌, length, subst, inl}
 use Rattle.ht_ports.specs.Cutting.{lines_of}
 use Rattle.ht_bench.specs.Plain.{IsFirstBroken}
 use Rattle.ht_bench.proofs.ReadLaws.{reading_more, reading_broken}

@@ -1,4 +1,4 @@
-use Rattle.std.proofs.Common.{rules, inr, sym, subst, List, Option, ◌≤◌, length, ap, arith}
+use Rattle.std.proofs.Common.{inr, sym, subst, List, Option, length, ap, arith}
 use Rattle.std.proofs.lemmas.Result.{err_from_is_err_and}
 use Rattle.ht_net.specs.declared.names.NameId.{NameId}
 use Rattle.ht_bench.specs.declared.fault.PlainFault.TheVariants.{BadLine}

@@ -1,4 +1,4 @@
-use Rattle.std.proofs.Common.{rules, arith, ◌≡◌, ◌≢◌, codes}
+use Rattle.std.proofs.Common.{rules, ◌≡◌, ◌≢◌, codes}
 use Rattle.ht_bench.specs.Arguments.{texts_of}
 use Rattle.ht_bench.proofs.StatementLaws.{no_blank_in_head, no_equals, no_second_blank, no_name_before, no_only_pin, no_kind}
 use Rattle.ht_bench.proofs.statement.definition.Goals as goal

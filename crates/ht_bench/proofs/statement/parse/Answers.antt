@@ -1,4 +1,3 @@
-use Rattle.std.proofs.Common.{rules}
 use Rattle.ht_bench.specs.Arguments.{texts_of}
 use Rattle.ht_bench.proofs.StatementLaws.{no_parenthesis, no_close, no_arguments, read_from}
 use Rattle.ht_bench.proofs.statement.parse.Goals as goal
