@@ -115,6 +115,9 @@ only_inputs_later a m b p q = record {
 -- the work and a line on Err
 pub only_report : (name : List ℕ) (a m b : DeskView) → OnlyWork name a m → Writes err m b → OnlyReport name a b
 only_report name a m b work p = record {
+  in_later = omega (arith, work.in_later, p.call.in_later);
+  out_later = omega (arith, work.out_later, p.call.out_later);
+  steady = p.call.steady ∙ work.steady;
   inputs = only_inputs_later a m b work.inputs p;
   written = λ o r u e. p.call.others_written o e ∙ work.written o r u;
   named = λ o r. ap (λ f. f o) p.named ∙ work.named o r;
@@ -129,6 +132,9 @@ only_report name a m b work p = record {
 -- the work alone
 pub only_work : (name : List ℕ) (a b : DeskView) → OnlyWork name a b → OnlyReport name a b
 only_work name a b work = record {
+  in_later = work.in_later;
+  out_later = work.out_later;
+  steady = work.steady;
   inputs = work.inputs;
   written = λ o r u e. work.written o r u;
   named = work.named;

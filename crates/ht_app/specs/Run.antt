@@ -187,8 +187,11 @@ ReportIsNamed name old new =
     ((new.named Report ≡ old.named Report) × (new.is_created Report ≡ old.is_created Report)) ⊎ (new.named Report ≡ option_map (λ _. name) (old.named Report))
 
 -- Nothing is created but Report, under its name; nothing comes out but on Report, Out and Err; no file changes but that
--- of the report's name.
+-- of the report's name; the counts don't fall, and the desk stays steady or not.
 pub record OnlyReport (name : List ℕ) (old new : DeskView) : Type 0 where
+  pub in_later : old.in_faults ≤ new.in_faults
+  pub out_later : old.out_faults ≤ new.out_faults
+  pub steady : new.steady ≡ old.steady
   pub inputs : OnlyInputs old new
   pub written : (p : OutPort) → p ≢ Report → p ≢ Out → p ≢ Err → new.written p ≡ old.written p
   pub named : (p : OutPort) → p ≢ Report → new.named p ≡ old.named p
