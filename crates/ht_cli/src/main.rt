@@ -5,6 +5,7 @@ use ht_app::run;
 use ht_ports::RealDesk;
 use std::alloc::{AllocError, Global};
 use std::env;
+use std::io::ErrorKind;
 use std::process::ExitCode;
 
 /// The system doesn't give the program its words.
@@ -14,15 +15,23 @@ const NO_WORDS: u8 = 11;
 const NO_MEMORY: u8 = 6;
 
 fn main(rt: HostRuntime) -> ExitCode {
+    let mut desk = RealDesk::new(&rt);
     let mut words = Vec::new(rt.alloc());
-    let Ok(args) = env::args(&rt) else {
-        return ExitCode::from(NO_WORDS);
+    let args = match env::args(&rt) {
+        Ok(args) => args,
+        Err(error) => {
+            return match error.kind() {
+                ErrorKind::OutOfMemory => ExitCode::from(NO_MEMORY),
+                // A word isn't UTF-8, and so no command has it.
+                ErrorKind::InvalidData => ExitCode::from(run(rt.alloc(), &[], &mut desk)),
+                _ => ExitCode::from(NO_WORDS),
+            };
+        }
     };
     for word in args.skip(1) {
         if words.push(word).is_err() {
             return ExitCode::from(NO_MEMORY);
         }
     }
-    let mut desk = RealDesk::new(&rt);
     ExitCode::from(run(rt.alloc(), &words, &mut desk))
 }
