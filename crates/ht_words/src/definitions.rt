@@ -1,0 +1,43 @@
+// One `clap` command for each command of the program.
+ghost use Rattle.std.specs.Prelude.{◌≡◌, IfOk, false};
+ghost use Rattle.clap.specs.Words.{app_of, rule_of};
+ghost use Rattle.ht_words_laws.specs.Definitions.{app_named, norm_app, sim_app, wanted};
+
+use clap::{Arg, Command};
+use std::alloc::{AllocError, Global};
+
+// A command that takes no request for help or for a version.
+fn plain_command<'a>(alloc: Global, name: &'a str) -> Command<'a>
+    ensures { app_of result ≡ app_named name.entry.now }
+{
+    Command::new(alloc, name)
+        .disable_help_flag(true)
+        .disable_version_flag(true)
+}
+
+// A positional argument that has to be there.
+fn positional<'a>(alloc: Global, id: &'a str) -> Arg<'a>
+    ensures rule { rule_of result ≡ wanted id.entry.now }
+    ensures local { result.global ≡ false }
+{
+    Arg::new(alloc, id).required(true)
+}
+
+/// `sim NETLIST TESTS REPORT`.
+pub fn sim<'a>(alloc: Global) -> Result<Command<'a>, AllocError>
+    ensures { IfOk result (λ c. app_of c ≡ sim_app) }
+{
+    plain_command(alloc, "sim")
+        .arg(positional(alloc, "netlist"))?
+        .arg(positional(alloc, "tests"))?
+        .arg(positional(alloc, "report"))
+}
+
+/// `norm NETLIST OUT`.
+pub fn norm<'a>(alloc: Global) -> Result<Command<'a>, AllocError>
+    ensures { IfOk result (λ c. app_of c ≡ norm_app) }
+{
+    plain_command(alloc, "norm")
+        .arg(positional(alloc, "netlist"))?
+        .arg(positional(alloc, "out"))
+}

@@ -1,0 +1,46 @@
+// What words ask for.
+ghost use Rattle.std.specs.Prelude.{◌≡◌};
+ghost use Rattle.ht_words.specs.declared.job.WordsFault.TheVariants as fault;
+
+use std::alloc::AllocError;
+use thiserror::Error;
+
+/// A command with the names of its files.
+#[derive(Debug, Drop)]
+pub enum Job {
+    /// Runs the tests on the netlist, and reports each fault.
+    Sim {
+        /// The netlist to read.
+        netlist: String,
+        /// The tests to read.
+        tests: String,
+        /// The report to write.
+        report: String,
+    },
+    /// Writes the netlist in its normal form.
+    Norm {
+        /// The netlist to read.
+        netlist: String,
+        /// The normal netlist to write.
+        out: String,
+    },
+}
+
+/// Why words are no job.
+#[derive(Clone, Copy, Debug, PartialEq, Eq, Error)]
+pub enum WordsFault {
+    /// The words have no command's form.
+    #[error("the words have no command's form")]
+    Usage,
+    /// Want of memory.
+    #[error("no memory")]
+    NoMemory,
+}
+
+impl From<AllocError> for WordsFault {
+    ghost from_gives = { λ _ e. e ≡ fault.NoMemory };
+
+    fn from(_: AllocError) -> WordsFault {
+        WordsFault::NoMemory
+    }
+}

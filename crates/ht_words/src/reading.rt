@@ -1,0 +1,85 @@
+// From words to a job.
+ghost use Rattle.std.specs.Prelude.{◌≡◌, IfOk, None, Some, false, string_bytes, true};
+ghost use Rattle.clap.specs.Words.{app_of, first_of, found_of, is_simple_and_free, matches_of, rows_of};
+ghost use Rattle.ht_words_laws.specs.Asked.{asked, texts_of};
+ghost use Rattle.ht_words_laws.specs.ByClap.{asked_by_clap, is_taken, norm_by_clap, sim_by_clap};
+ghost use Rattle.ht_words.specs.Jobs.{asked_by};
+ghost use Rattle.ht_words.specs.declared.job.WordsFault.TheVariants as fault;
+
+use crate::command_name::CommandName;
+use crate::definitions;
+use crate::job::{Job, WordsFault};
+use clap::error::ErrorKind;
+use clap::{ArgMatches, Command};
+use std::alloc::Global;
+
+/// The job that the words ask for: the words behind the program's name, of which the first names the command, in lower
+/// case.
+///
+/// # Errors
+/// `Usage` only where the words have no command's form, and `NoMemory` for want of memory.
+pub fn command(alloc: Global, words: &[String]) -> Result<Job, WordsFault>
+    ensures usage { result ≡ Err fault.Usage → asked (texts_of words.now) ≡ None }
+    ensures ok { IfOk result (λ job. asked (texts_of words.now) ≡ Some (asked_by job)) }
+    // `clap` takes the words by its definitions of the commands exactly where they ask for a job in plain steps.
+    ensures by_clap { asked (texts_of words.now) ≡ asked_by_clap (texts_of words.now) }
+{
+    let Some(first) = words.first() else {
+        return Err(WordsFault::Usage);
+    };
+    match CommandName::from_word(first.as_str()) {
+        Some(CommandName::Sim) => sim(alloc, words),
+        Some(CommandName::Norm) => norm(alloc, words),
+        None => Err(WordsFault::Usage),
+    }
+}
+
+// The words of `sim`, with its name.
+fn sim(alloc: Global, words: &[String]) -> Result<Job, WordsFault>
+    ensures usage { result ≡ Err fault.Usage → sim_by_clap (texts_of words.now) ≡ None }
+    ensures ok { IfOk result (λ job. sim_by_clap (texts_of words.now) ≡ Some (asked_by job)) }
+{
+    let matches = matches_for(definitions::sim(alloc)?, words)?;
+    Ok(Job::Sim {
+        netlist: value(alloc, &matches, "netlist")?,
+        tests: value(alloc, &matches, "tests")?,
+        report: value(alloc, &matches, "report")?,
+    })
+}
+
+// The words of `norm`, with its name.
+fn norm(alloc: Global, words: &[String]) -> Result<Job, WordsFault>
+    ensures usage { result ≡ Err fault.Usage → norm_by_clap (texts_of words.now) ≡ None }
+    ensures ok { IfOk result (λ job. norm_by_clap (texts_of words.now) ≡ Some (asked_by job)) }
+{
+    let matches = matches_for(definitions::norm(alloc)?, words)?;
+    Ok(Job::Norm {
+        netlist: value(alloc, &matches, "netlist")?,
+        out: value(alloc, &matches, "out")?,
+    })
+}
+
+// What `clap` makes of the words.
+fn matches_for<'a>(command: Command<'a>, words: &'a [String]) -> Result<ArgMatches<'a>, WordsFault>
+    requires { is_simple_and_free (app_of command) ≡ true }
+    ensures usage { result ≡ Err fault.Usage → is_taken (app_of command.entry) (texts_of words.entry.now) ≡ false }
+    ensures taken { IfOk result (λ m. is_taken (app_of command.entry) (texts_of words.entry.now) ≡ true) }
+    ensures rows { IfOk result (λ m. rows_of (found_of m) ≡ matches_of (app_of command.entry) (texts_of words.entry.now)) }
+{
+    match command.try_get_matches_from(words) {
+        Ok(matches) => Ok(matches),
+        Err(error) if error.kind() == ErrorKind::OutOfMemory => Err(WordsFault::NoMemory),
+        Err(_) => Err(WordsFault::Usage),
+    }
+}
+
+// The value of an argument.
+fn value(alloc: Global, matches: &ArgMatches<'_>, id: &str) -> Result<String, WordsFault>
+    ensures usage { result ≡ Err fault.Usage → first_of id.now (rows_of (found_of matches.now)) ≡ None }
+    ensures ok { IfOk result (λ s. first_of id.now (rows_of (found_of matches.now)) ≡ Some (string_bytes s)) }
+{
+    match matches.get_str(id) {
+        Some(text) => Ok(String::from_str(alloc, text)?),
+        None => Err(WordsFault::Usage),
+    }
+}

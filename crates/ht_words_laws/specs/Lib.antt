@@ -1,0 +1,4 @@
+pub mod Uses
+pub mod Definitions
+pub mod Asked
+pub mod ByClap
