@@ -1,8 +1,9 @@
 // Serial fault simulation in plain Rust, to be timed beside the program `ht_cli` on the same files.
 //
-// It reads a plain netlist and its tests, runs the good machine once over the vectors, and for each stem fault a faulty
-// machine from all-unknown up to its first detection. It writes the report and the total line that `sim` writes, and on
-// standard error how many gates it evaluated. The files have to be ones that `sim` accepts: they aren't judged here.
+// It reads a netlist in normal text and its tests, runs the good machine once over the vectors, and for the representative
+// of each class of faults a faulty machine from all-unknown up to its first detection. It writes the report and the total
+// line that `sim` writes, and on standard error how many gates it evaluated. The files have to be ones that `sim` accepts:
+// they aren't judged here.
 use std::collections::HashMap;
 use std::error::Error;
 use std::fmt::{self, Display, Formatter};
@@ -86,6 +87,19 @@ impl Kind {
             "BUFF" => Kind::Buff,
             _ => return None,
         })
+    }
+
+    /// What the output is stuck at where an input that is stuck at a bit is equivalent to it.
+    fn equivalent_output(self, pins: usize, bit: bool) -> Option<bool> {
+        match (self, pins, bit) {
+            (Kind::And | Kind::Or | Kind::Xor | Kind::Buff, 1, _) => Some(bit),
+            (_, 1, _) => Some(!bit),
+            (Kind::And, _, false) => Some(false),
+            (Kind::Nand, _, false) => Some(true),
+            (Kind::Or, _, true) => Some(true),
+            (Kind::Nor, _, true) => Some(false),
+            _ => None,
+        }
     }
 
     fn value(self, mut args: impl Iterator<Item = Value>) -> Value {
@@ -177,11 +191,81 @@ impl Circuit {
     }
 }
 
-/// The stem of a net, stuck at a bit.
-#[derive(Clone, Copy)]
+/// A line of the circuit: the stem of a net, the data pin of a flip-flop, or a pin of a gate.
+#[derive(Clone, Copy, PartialEq, Eq, Hash)]
+enum Site {
+    Stem(usize),
+    DataPin(usize),
+    GatePin { gate: usize, pin: usize },
+}
+
+/// A line that is stuck at a bit.
+#[derive(Clone, Copy, PartialEq, Eq, Hash)]
 struct Fault {
-    net: usize,
+    site: Site,
     bit: bool,
+}
+
+impl Circuit {
+    fn first_gate_net(&self) -> usize {
+        self.inputs + self.data_pins.len()
+    }
+
+    /// The pins that each net drives, and one more if it is an output.
+    fn loads(&self) -> Vec<usize> {
+        let mut loads = vec![0; self.names.len()];
+        let args = self.gates.iter().flat_map(|gate| &gate.args);
+        for net in args.chain(&self.data_pins).chain(&self.outputs) {
+            loads[*net] += 1;
+        }
+        loads
+    }
+
+    /// The fault list: stems, data pins, gate pins; a pin counts where its net has two or more loads.
+    fn faults(&self) -> Vec<Fault> {
+        let loads = self.loads();
+        let is_fanout = |net: usize| loads[net] > 1;
+        let stems = (0..self.names.len()).map(Site::Stem);
+        let data_pins = (0..self.data_pins.len())
+            .filter(|j| is_fanout(self.data_pins[*j]))
+            .map(Site::DataPin);
+        let gate_pins = self.gates.iter().enumerate().flat_map(|(gate, g)| {
+            let pins = g.args.iter().enumerate().filter(|(_, net)| is_fanout(**net));
+            pins.map(move |(pin, _)| Site::GatePin { gate, pin })
+        });
+        let sites = stems.chain(data_pins).chain(gate_pins);
+        sites.flat_map(|site| [false, true].map(|bit| Fault { site, bit })).collect()
+    }
+
+    /// For each fault of the list, the least number in its class.
+    fn representatives(&self, faults: &[Fault]) -> Vec<usize> {
+        let numbers: HashMap<Fault, usize> = faults.iter().enumerate().map(|(i, fault)| (*fault, i)).collect();
+        let mut parents: Vec<usize> = (0..faults.len()).collect();
+        for (gate, g) in self.gates.iter().enumerate() {
+            let output = Site::Stem(self.first_gate_net() + gate);
+            for (pin, net) in g.args.iter().enumerate() {
+                for bit in [false, true] {
+                    let Some(stuck) = g.kind.equivalent_output(g.args.len(), bit) else {
+                        continue;
+                    };
+                    let at_pin = numbers.get(&Fault { site: Site::GatePin { gate, pin }, bit });
+                    let at_stem = numbers[&Fault { site: Site::Stem(*net), bit }];
+                    let input = root_of(&parents, *at_pin.unwrap_or(&at_stem));
+                    let output = root_of(&parents, numbers[&Fault { site: output, bit: stuck }]);
+                    parents[input.max(output)] = input.min(output);
+                }
+            }
+        }
+        (0..faults.len()).map(|i| root_of(&parents, i)).collect()
+    }
+}
+
+/// The end of a chain of parents, which is the least number of its class.
+fn root_of(parents: &[usize], mut i: usize) -> usize {
+    while parents[i] != i {
+        i = parents[i];
+    }
+    i
 }
 
 struct Machine<'c> {
@@ -201,11 +285,16 @@ impl<'c> Machine<'c> {
         }
     }
 
-    fn drive(&mut self, net: usize, value: Value) {
-        self.values[net] = match self.fault {
-            Some(fault) if fault.net == net => Value::of(fault.bit),
+    /// What a line shows that carries a value.
+    fn shown(&self, site: Site, value: Value) -> Value {
+        match self.fault {
+            Some(fault) if fault.site == site => Value::of(fault.bit),
             _ => value,
-        };
+        }
+    }
+
+    fn drive(&mut self, net: usize, value: Value) {
+        self.values[net] = self.shown(Site::Stem(net), value);
     }
 
     /// Runs one frame: every net gets its value, and then each flip-flop takes the value at its data pin.
@@ -217,13 +306,14 @@ impl<'c> Machine<'c> {
         for j in 0..self.latches.len() {
             self.drive(circuit.inputs + j, self.latches[j]);
         }
-        let first_gate_net = circuit.inputs + self.latches.len();
-        for (g, gate) in circuit.gates.iter().enumerate() {
-            let value = gate.kind.value(gate.args.iter().map(|net| self.values[*net]));
-            self.drive(first_gate_net + g, value);
+        for (gate, g) in circuit.gates.iter().enumerate() {
+            let args = g.args.iter().enumerate();
+            let pins = args.map(|(pin, net)| self.shown(Site::GatePin { gate, pin }, self.values[*net]));
+            let value = g.kind.value(pins);
+            self.drive(circuit.first_gate_net() + gate, value);
         }
-        for (latch, net) in self.latches.iter_mut().zip(&circuit.data_pins) {
-            *latch = self.values[*net];
+        for (j, net) in circuit.data_pins.iter().enumerate() {
+            self.latches[j] = self.shown(Site::DataPin(j), self.values[*net]);
         }
     }
 
@@ -285,7 +375,7 @@ impl<'c> Simulation<'c> {
     }
 }
 
-/// What the report says of a fault.
+/// What the report says of a representative.
 struct Verdict<'c>(&'c Circuit, Option<Place>);
 
 impl Display for Verdict<'_> {
@@ -302,29 +392,49 @@ impl Display for Verdict<'_> {
     }
 }
 
+/// How a report names a site: a stem by its net, a pin by the net that its gate or flip-flop drives and its number.
+struct SiteText<'c>(&'c Circuit, Site);
+
+impl Display for SiteText<'_> {
+    fn fmt(&self, f: &mut Formatter<'_>) -> fmt::Result {
+        let SiteText(circuit, site) = self;
+        match *site {
+            Site::Stem(net) => f.write_str(&circuit.names[net]),
+            Site::DataPin(j) => write!(f, "{}(1)", circuit.names[circuit.inputs + j]),
+            Site::GatePin { gate, pin } => {
+                write!(f, "{}({})", circuit.names[circuit.first_gate_net() + gate], pin + 1)
+            }
+        }
+    }
+}
+
 fn write_report(circuit: &Circuit, simulation: &mut Simulation, report: impl Write) -> Result<(), Box<dyn Error>> {
     let mut report = BufWriter::new(report);
-    let faults = 2 * circuit.names.len();
+    let faults = circuit.faults();
+    let representatives = circuit.representatives(&faults);
+    let classes = representatives.iter().enumerate().filter(|(i, r)| i == *r).count();
     writeln!(
         report,
-        "circuit inputs {} outputs {} flip-flops {} gates {} faults {faults} classes {faults}",
+        "circuit inputs {} outputs {} flip-flops {} gates {} faults {} classes {classes}",
         circuit.inputs,
         circuit.outputs.len(),
         circuit.data_pins.len(),
         circuit.gates.len(),
+        faults.len(),
     )?;
     let mut detected = 0;
-    for index in 0..faults {
-        let fault = Fault {
-            net: index / 2,
-            bit: index % 2 == 1,
-        };
-        let place = simulation.first_detection(fault);
+    for (i, fault) in faults.iter().enumerate() {
+        let bit = u8::from(fault.bit);
+        write!(report, "{} {} s-a-{bit} ", i + 1, SiteText(circuit, fault.site))?;
+        if representatives[i] != i {
+            writeln!(report, "as {}", representatives[i] + 1)?;
+            continue;
+        }
+        let place = simulation.first_detection(*fault);
         detected += usize::from(place.is_some());
-        let (name, bit) = (&circuit.names[fault.net], u8::from(fault.bit));
-        writeln!(report, "{} {name} s-a-{bit} {}", index + 1, Verdict(circuit, place))?;
+        writeln!(report, "{}", Verdict(circuit, place))?;
     }
-    let total = format!("total {faults} detected {detected}");
+    let total = format!("total {classes} detected {detected}");
     writeln!(report, "{total}")?;
     report.flush()?;
     println!("{total}");
@@ -347,11 +457,11 @@ fn run(netlist: &str, tests: &str, report: &str) -> Result<(), Box<dyn Error>> {
 fn main() {
     let words: Vec<String> = env::args().skip(1).collect();
     let [netlist, tests, report] = words.as_slice() else {
-        eprintln!("usage: serial NETLIST TESTS REPORT");
+        eprintln!("usage: sim NETLIST TESTS REPORT");
         process::exit(2);
     };
     if let Err(error) = run(netlist, tests, report) {
-        eprintln!("serial: {error}");
+        eprintln!("sim: {error}");
         process::exit(1);
     }
 }
