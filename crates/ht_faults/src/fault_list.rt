@@ -3,6 +3,7 @@ ghost use Rattle.std.specs.Prelude.{◌≡◌, ◌<◌, length, get_or, IfOk};
 ghost use Rattle.ht_faults.specs.Sites.{faults_of};
 ghost use Rattle.ht_faults.specs.FaultList.{no_fault};
 
+use crate::sites::find_sites;
 use ht_net::{Circuit, Fault, Site};
 use std::alloc::{AllocError, Global};
 use std::marker::Model;
@@ -33,7 +34,8 @@ impl Model for FaultList {
 pub fn list(alloc: Global, circuit: &Circuit) -> Result<FaultList, AllocError>
     ensures { IfOk result (λ faults. faults ≡ faults_of circuit.now) }
 {
-    Err(AllocError)
+    let sites = find_sites(alloc, circuit)?;
+    Ok(FaultList { sites })
 }
 
 impl FaultList {

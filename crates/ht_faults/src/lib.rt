@@ -7,5 +7,6 @@
 #![tactic(auto)]
 
 mod fault_list;
+mod sites;
 
 pub use fault_list::{FaultList, list};
