@@ -1,7 +1,7 @@
 -- Which lines are listed.
-use Rattle.std.proofs.Common.{◌≡◌, ◌<◌, ◌≤◌, ◌+◌, ◌*◌, ◌/◌, ℕ, suc, zero, List, [], ◌∷◌, ◌++◌, Bool, true, false, cond, length, get_or, map, refl, sym, ◌∙◌, ap, arith, inl, inr, ◌⊎◌, subst}
-use Rattle.std.specs.Prelude.{ltb, ◌↔◌}
-use Rattle.std.specs.List.{Contains, All, filter, flat_map, range_with_len}
+use Rattle.std.proofs.Common.{◌≡◌, ◌<◌, ◌≤◌, ◌+◌, ◌/◌, ◌%◌, ℕ, suc, zero, List, [], ◌∷◌, ◌++◌, Bool, true, false, cond, length, get_or, map, refl, sym, ◌∙◌, ap, arith, inl, inr, subst}
+use Rattle.std.specs.Prelude.{◌↔◌}
+use Rattle.std.specs.List.{Contains, filter, flat_map, range_with_len}
 use Rattle.std.proofs.lemmas.Bool.{lt-ltb, ltb-true}
 use Rattle.std.proofs.lemmas.Bool.Decides.{eqb_tells}
 use Rattle.std.proofs.lemmas.List.Elements.{All-filter, filter_passes, All-contains, All-contains_itself, Contains-append_left, Contains-append_right, Contains-append_cases, Contains-get_or}
@@ -10,10 +10,10 @@ use Rattle.ht_net.specs.declared.site.Site.{Site}
 use Rattle.ht_net.specs.declared.site.Site.TheVariants.{Stem, DffPin, GatePin}
 use Rattle.ht_net.specs.declared.site.Fault.{Fault}
 use Rattle.ht_net.specs.Netlist.{Netlist, net_count, gate_at, no_net}
-use Rattle.ht_net.specs.Faults.{stems_of, site_faults}
-use Rattle.ht_faults.specs.Sites.{data_pins_of, pins_of_gate, gate_pins_of, lines_of, is_fanout, is_site, IsSite, sites_of, faults_of}
+use Rattle.ht_net.specs.Faults.{stems_of}
+use Rattle.ht_faults.specs.Sites.{data_pins_of, pins_of_gate, gate_pins_of, lines_of, is_fanout, is_site, IsFaultSite, sites_of, faults_of}
 use Rattle.ht_faults.specs.FaultList.{no_fault}
-use Rattle.ht_faults.proofs.ListLaws.{faults_count, fault_at}
+use Rattle.ht_faults.proofs.ListLaws.{faults_count, fault_at, fault_stands}
 
 -- a line of the circuit, a site or not
 abbrev IsLine : Netlist → Site → Type 0
@@ -88,37 +88,38 @@ kept_if p (x ∷ xs) s t (zero, inside, is) =
     subst (λ (b : Bool). Contains (cond b (x ∷ filter p xs) (filter p xs)) s) (sym here) (0, omega arith, is)
 kept_if p (x ∷ xs) s t (suc k, inside, is) = later (p x) x (filter p xs) s (kept_if p xs s t (k, omega arith, is))
 
-site_test : (c : Netlist) (s : Site) → IsLine c s → is_site c s ≡ true → IsSite c s
+site_test : (c : Netlist) (s : Site) → IsLine c s → is_site c s ≡ true → IsFaultSite c s
 unfolding is_fanout
 site_test c (Stem x) line t = line
 site_test c (DffPin j) line t = (line, ltb-true _ _ t)
 site_test c (GatePin g i) line t = (line.0, line.1, ltb-true _ _ t)
 
-site_passes : (c : Netlist) (s : Site) → IsSite c s → is_site c s ≡ true
+site_passes : (c : Netlist) (s : Site) → IsFaultSite c s → is_site c s ≡ true
 unfolding is_fanout
 site_passes c (Stem x) site = refl
 site_passes c (DffPin j) site = lt-ltb _ _ site.1
 site_passes c (GatePin g i) site = lt-ltb _ _ site.2
 
-site_line : (c : Netlist) (s : Site) → IsSite c s → IsLine c s
+site_line : (c : Netlist) (s : Site) → IsFaultSite c s → IsLine c s
 site_line c (Stem x) site = site
 site_line c (DffPin j) site = site.0
 site_line c (GatePin g i) site = (site.0, site.1)
 
-listed_site : (c : Netlist) (s : Site) → Contains (sites_of c) s → IsSite c s
+listed_site : (c : Netlist) (s : Site) → Contains (sites_of c) s → IsFaultSite c s
 listed_site c s has =
     site_test c s
     (is_line c s (All-contains (Contains (lines_of c)) (sites_of c) s (All-filter (is_site c) (Contains (lines_of c)) (lines_of c) (All-contains_itself (lines_of c))) has))
     (All-contains (λ (t : Site). is_site c t ≡ true) (sites_of c) s (filter_passes (is_site c) (lines_of c)) has)
 
 -- Exactly the sites are listed.
-pub sites_listed : (c : Netlist) (s : Site) → Contains (sites_of c) s ↔ IsSite c s
+pub sites_listed : (c : Netlist) (s : Site) → Contains (sites_of c) s ↔ IsFaultSite c s
 sites_listed c s = (listed_site c s, λ site. kept_if (is_site c) (lines_of c) s (site_passes c s site) (line_is c s (site_line c s site)))
 
 -- Each fault of the list stands on a site.
-pub fault_site : (c : Netlist) (i : ℕ) → i < length (faults_of c) → IsSite c (get_or (faults_of c) i no_fault).site
+pub fault_site : (c : Netlist) (i : ℕ) → i < length (faults_of c) → IsFaultSite c (get_or (faults_of c) i no_fault).site
 fault_site c i inside =
     let sites = sites_of c in
     let count = faults_count sites in
-    let is = ap (λ (f : Fault). f.site) (fault_at sites i (Stem no_net) no_fault (omega (arith, count))) in
-    subst (IsSite c) (sym is) (listed_site c (get_or sites (i / 2) (Stem no_net)) (Contains-get_or sites (i / 2) (Stem no_net) (omega (arith, count))))
+    let at = get_or sites (i / 2) (Stem no_net) in
+    let is = ap (λ (f : Fault). f.site) (fault_at sites i (Stem no_net) no_fault (omega (arith, count))) ∙ fault_stands at (i % 2) no_fault (omega arith) in
+    subst (IsFaultSite c) (sym is) (listed_site c (get_or sites (i / 2) (Stem no_net)) (Contains-get_or sites (i / 2) (Stem no_net) (omega (arith, count))))

@@ -1,5 +1,5 @@
 // The fault list of s27 (ISCAS-89), by hand.
-ghost use Rattle.std.specs.Prelude.{◌<◌, ◌+◌, length};
+ghost use Rattle.std.specs.Prelude.{◌≡◌, ◌<◌, length};
 ghost use Rattle.ht_tern.specs.Gate.{HasArity};
 
 use crate::{FaultList, list};
@@ -83,7 +83,8 @@ fn s27(alloc: Global) -> Result<Circuit, NetError> {
 
 /// Whether the list has both faults of a site from place i on, stuck-at-0 first.
 fn has_site(faults: &FaultList, i: u32, site: Site) -> bool
-    requires { i + 1 < length faults.now }
+    requires count { length faults.now ≡ 52 }
+    requires place { i < 51 }
 {
     let stuck_at_0 = Fault { site, value: false };
     let stuck_at_1 = Fault { site, value: true };
