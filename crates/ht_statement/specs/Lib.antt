@@ -1,4 +1,6 @@
 pub mod Token
+pub mod TokenOf
+pub mod Word
 pub mod Form
 pub mod Name
 pub mod Element

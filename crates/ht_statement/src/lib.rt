@@ -7,6 +7,7 @@
 mod fault;
 mod reading;
 mod statement;
+mod token;
 
 pub use fault::{LineFault, LineRefusal};
 pub use reading::read_line;
