@@ -2,6 +2,8 @@ pub mod Token
 pub mod TokenOf
 pub mod Word
 pub mod Form
+pub mod FormOf
+pub mod Next
 pub mod Name
 pub mod Element
 pub mod Statement

@@ -5,6 +5,7 @@
 #![tactic(auto)]
 
 mod fault;
+mod form;
 mod reading;
 mod statement;
 mod token;
