@@ -6,6 +6,7 @@ pub mod FormOf
 pub mod Next
 pub mod Name
 pub mod Element
+pub mod ElementOf
 pub mod Statement
 pub mod Reading
 pub mod StatementOf

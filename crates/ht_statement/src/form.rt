@@ -84,7 +84,7 @@ fn arguments<'a>(alloc: Global, text: &'a [u8]) -> Result<Option<Vec<&'a [u8]>>,
 }
 
 /// Whether two words are the same but for the case of their letters.
-fn is_word(word: &[u8], capitals: &[u8]) -> bool
+pub(crate) fn is_word(word: &[u8], capitals: &[u8]) -> bool
     ensures { result ≡ str_eq_ignore_ascii_case word.now capitals.now }
 {
     word.eq_ignore_ascii_case(capitals)

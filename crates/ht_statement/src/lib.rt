@@ -4,8 +4,10 @@
 //! `specs/Reading.antt` has the whole rule. What lines state together is another crate's.
 #![tactic(auto)]
 
+mod element;
 mod fault;
 mod form;
+mod name;
 mod reading;
 mod statement;
 mod token;
