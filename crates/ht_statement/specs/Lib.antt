@@ -10,3 +10,4 @@ pub mod ElementOf
 pub mod Statement
 pub mod Reading
 pub mod StatementOf
+pub mod Normal

@@ -8,10 +8,12 @@ mod element;
 mod fault;
 mod form;
 mod name;
+mod normal;
 mod reading;
 mod statement;
 mod token;
 
 pub use fault::{LineFault, LineRefusal};
+pub use normal::normal_text_is_read;
 pub use reading::read_line;
 pub use statement::Statement;
