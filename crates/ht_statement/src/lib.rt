@@ -14,6 +14,6 @@ mod statement;
 mod token;
 
 pub use fault::{LineFault, LineRefusal};
-pub use normal::normal_text_is_read;
+pub use normal::{normal_text_is_read, stated_is_sound};
 pub use reading::read_line;
 pub use statement::Statement;
