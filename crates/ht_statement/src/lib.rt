@@ -4,10 +4,13 @@
 //! `specs/Reading.antt` has the whole rule. What lines state together is another crate's.
 #![tactic(auto)]
 
+mod arguments;
 mod element;
 mod fault;
 mod form;
+mod keyword;
 mod name;
+mod next;
 mod normal;
 mod reading;
 mod statement;

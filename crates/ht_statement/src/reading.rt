@@ -1,7 +1,6 @@
 // The reading of a line.
 ghost use Rattle.std.specs.Prelude.{◌≡◌, option_map, IfOk, IfErr};
 ghost use Rattle.std.specs.List.{list_all};
-ghost use Rattle.ht_statement.specs.Form.{arguments_of};
 ghost use Rattle.ht_statement.specs.FormOf.{form_meant};
 ghost use Rattle.ht_statement.specs.Name.{is_name};
 ghost use Rattle.ht_statement.specs.Element.{element_named};
