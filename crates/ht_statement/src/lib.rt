@@ -14,6 +14,8 @@ mod next;
 mod normal;
 mod reading;
 mod statement;
+#[cfg(test)]
+mod tests;
 mod token;
 
 pub use fault::{LineFault, LineRefusal};
