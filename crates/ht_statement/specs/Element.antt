@@ -1,0 +1,28 @@
+-- What a definition's kind names (ISCAS-89 format).
+use Rattle.std.specs.Prelude.{ℕ, List, [], ◌∷◌, Bool, ◌&&◌, eqb, leb, Option, codes}
+use Rattle.std.specs.Map.{lookup}
+use Rattle.std.specs.Str.{str_eq_ignore_ascii_case}
+use Rattle.ht_tern.specs.declared.gate.Kind.{Kind}
+use Rattle.ht_tern.specs.declared.gate.Kind.TheVariants.{And, Nand, Or, Nor, Xor, Xnor, Not, Buf}
+
+-- a flip-flop, or a gate of a kind
+pub data Element : Type 0 where
+  FlipFlop : Element
+  GateOf : Kind → Element
+
+-- the words of kinds, in capitals
+abbrev pub kind_words : List (List ℕ × Element)
+kind_words = (codes "AND", GateOf And) ∷ (codes "NAND", GateOf Nand) ∷ (codes "OR", GateOf Or) ∷ (codes "NOR", GateOf Nor)
+    ∷ (codes "XOR", GateOf Xor) ∷ (codes "XNOR", GateOf Xnor) ∷ (codes "NOT", GateOf Not)
+    ∷ (codes "BUFF", GateOf Buf) ∷ (codes "BUF", GateOf Buf) ∷ (codes "DFF", FlipFlop) ∷ []
+
+-- what a word names, in any letter case
+abbrev pub element_named : List ℕ → Option Element
+element_named word = lookup (λ known. str_eq_ignore_ascii_case word known) kind_words
+
+-- whether it may have so many arguments: one for DFF, NOT and BUFF, else 1 to 255
+abbrev pub has_count : Element → ℕ → Bool
+has_count FlipFlop count = eqb count 1
+has_count (GateOf Not) count = eqb count 1
+has_count (GateOf Buf) count = eqb count 1
+has_count (GateOf kind) count = leb 1 count && leb count 255

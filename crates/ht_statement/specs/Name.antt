@@ -1,0 +1,16 @@
+-- Names of nets (ISCAS-89 format).
+use Rattle.std.specs.Prelude.{ℕ, List, Bool, ◌&&◌, ◌||◌, not, eqb, leb, length}
+use Rattle.std.specs.List.{list_all}
+use Rattle.ht_net.specs.Named.{Name}
+
+-- one of `#`, `(`, `)`, `,` and `=`
+abbrev pub is_mark : ℕ → Bool
+is_mark byte = eqb byte 35 || (eqb byte 40 || (eqb byte 41 || (eqb byte 44 || eqb byte 61)))
+
+-- a printable byte that is no blank and no mark of the format
+abbrev pub is_name_byte : ℕ → Bool
+is_name_byte byte = leb 33 byte && leb byte 126 && not (is_mark byte)
+
+-- 1 to 255 such bytes
+abbrev pub is_name : Name → Bool
+is_name name = leb 1 (length name) && leb (length name) 255 && list_all is_name_byte name

@@ -1,0 +1,38 @@
+-- The tokens of a line (ISCAS-89 format).
+use Rattle.std.specs.Prelude.{ℕ, List, [], ◌∷◌, ◌++◌, Bool, ◌||◌, cond, eqb, not, Option, Some, None}
+use Rattle.std.specs.List.{take_while}
+use Rattle.std.specs.Option.{option_map_or}
+
+-- a word, or one of the four marks `(`, `)`, `,` and `=`
+pub data Token : Type 0 where
+  Word : List ℕ → Token
+  Open : Token
+  Close : Token
+  Comma : Token
+  Equals : Token
+
+-- a space or a tab
+abbrev pub is_blank : ℕ → Bool
+is_blank byte = eqb byte 32 || eqb byte 9
+
+abbrev pub mark_of : ℕ → Option Token
+mark_of byte = cond (eqb byte 40) (Some Open) (cond (eqb byte 41) (Some Close) (cond (eqb byte 44) (Some Comma) (cond (eqb byte 61) (Some Equals) None)))
+
+-- from the first `#` on, a line is a comment
+abbrev pub without_comment : List ℕ → List ℕ
+without_comment line = take_while (λ byte. not (eqb byte 35)) line
+
+-- a word that has ended, if it has any byte
+abbrev pub ended : List ℕ → List Token
+ended [] = []
+ended (byte ∷ word) = Word (byte ∷ word) ∷ []
+
+-- The tokens of a text in front of which a word has begun: a blank ends the word, a mark ends it and is a token, any
+-- other byte belongs to it.
+abbrev pub tokens_behind : List ℕ → List ℕ → List Token
+tokens_behind word [] = ended word
+tokens_behind word (byte ∷ text) = cond (is_blank byte) (ended word ++ tokens_behind [] text)
+    (option_map_or (λ mark. ended word ++ mark ∷ tokens_behind [] text) (mark_of byte) (tokens_behind (word ++ byte ∷ []) text))
+
+abbrev pub tokens_of : List ℕ → List Token
+tokens_of line = tokens_behind [] (without_comment line)

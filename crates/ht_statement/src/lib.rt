@@ -1,0 +1,24 @@
+//! One line of a netlist (ISCAS-89 format): its tokens, its form, and what it states.
+//!
+//! `read_line` gives what a line states, or the first cause why it is refused: bad line, bad name, bad kind, bad count.
+//! `specs/Reading.antt` has the whole rule. What lines state together is another crate's.
+#![tactic(auto)]
+
+mod arguments;
+mod element;
+mod fault;
+mod form;
+mod keyword;
+mod name;
+mod next;
+mod normal;
+mod reading;
+mod statement;
+#[cfg(test)]
+mod tests;
+mod token;
+
+pub use fault::{LineFault, LineRefusal};
+pub use normal::{normal_text_is_read, stated_is_sound};
+pub use reading::read_line;
+pub use statement::Statement;
