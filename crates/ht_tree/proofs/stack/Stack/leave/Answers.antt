@@ -1,6 +1,5 @@
 use Rattle.std.proofs.Common.{◌≡◌, ◌<◌, ◌+◌, ap, ◌∙◌, sym, length, get_or, arith}
 use Rattle.std.proofs.lemmas.List.{take_more_set, length_push, get_or_push}
-
 use Rattle.ht_tree.proofs.StackLaws.{popped, popped_next, marked_last}
 use Rattle.ht_tree.proofs.stack.Stack.leave.Goals as goal
 
