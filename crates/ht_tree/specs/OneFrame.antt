@@ -38,16 +38,26 @@ abbrev pub values_left : Option Tern → List Tern
 values_left None = Zero ∷ One ∷ []
 values_left (Some value) = value ∷ []
 
+-- a value that is the same in both machines, and one that each machine has by itself
+abbrev pub same_pairs : Option Tern → List Pair
+same_pairs value = map (λ v. pair v v) (values_left value)
+
+abbrev pub each_pair : Option Tern → Option Tern → List Pair
+each_pair good faulty = flat_map (λ g. map (λ f. pair g f) (values_left faulty)) (values_left good)
+
 -- Variable i decides input i; then variable n + j decides flip-flop j, or its good half where j is in z; and n + m + j
 -- decides the faulty half.
+abbrev pub variable_count : Window → ℕ
+variable_count w = first_gate_net w.circuit + length w.circuit.dffs
+
 abbrev pub input_set : List Assign3 → ℕ → List Pair
-input_set path i = map (λ v. pair v v) (values_left (decided_value path i))
+input_set path i = same_pairs (decided_value path i)
 
 abbrev pub latch_set : Window → List Assign3 → ℕ → List Pair
 latch_set w path j =
     cond (is_in w.z j)
-    (flat_map (λ g. map (λ f. pair g f) (values_left (decided_value path (first_gate_net w.circuit + j)))) (values_left (decided_value path (w.circuit.inputs + j))))
-    (input_set path (w.circuit.inputs + j))
+    (each_pair (decided_value path (w.circuit.inputs + j)) (decided_value path (first_gate_net w.circuit + j)))
+    (same_pairs (decided_value path (w.circuit.inputs + j)))
 
 -- the sets of the inputs and of the latches
 abbrev pub input_sets : Window → List Assign3 → List (List Pair)
@@ -95,7 +105,7 @@ status_of sets = status_by (list_any (list_all differs) sets) (list_any (list_an
 abbrev pub is_legal : Window → ℕ → Bool
 is_legal w var =
     ltb var (first_gate_net w.circuit)
-    || (ltb var (first_gate_net w.circuit + length w.circuit.dffs) && is_in w.z (var - first_gate_net w.circuit))
+    || (ltb var (variable_count w) && is_in w.z (var - first_gate_net w.circuit))
 
 abbrev pub one_frame : Window → Judge
 one_frame w = record {
