@@ -1,0 +1,19 @@
+-- What places show: whether one must differ, and whether one may.
+use Rattle.std.specs.Prelude.{List, [], ◌∷◌, Bool, true, false, ◌||◌}
+use Rattle.std.specs.List.{list_any, list_all}
+use Rattle.ht_tern.specs.Pairs.{Pair}
+use Rattle.ht_tree.specs.OneFrame.{differs}
+use Rattle.ht_check.specs.declared.places.Shown.{Shown}
+
+abbrev pub shown_by : List (List Pair) → Shown
+shown_by sets = record { must = list_any (list_all differs) sets; may = list_any (list_any differs) sets }
+
+abbrev pub either : Shown → Shown → Shown
+either a b = record { must = a.must || b.must; may = a.may || b.may }
+
+-- what is not marked
+abbrev pub outside_marks : {V : Type 0} → List Bool → List V → List V
+outside_marks [] xs = xs
+outside_marks (mark ∷ marks) [] = []
+outside_marks (true ∷ marks) (x ∷ xs) = outside_marks marks xs
+outside_marks (false ∷ marks) (x ∷ xs) = x ∷ outside_marks marks xs

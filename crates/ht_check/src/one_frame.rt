@@ -1,0 +1,138 @@
+// The one-frame window, evaluated afresh at each path.
+ghost use Rattle.std.specs.Prelude.{◌≡◌, ◌<◌, ◌+◌, ℕ, length, get_or, false, IfOk};
+ghost use Rattle.ht_tree.specs.OneFrame.{is_in, is_legal, places, status_of, variable_count};
+ghost use Rattle.ht_check.specs.Paths.{IsPlain};
+
+use crate::decisions::{write_decisions, write_inputs, write_latches};
+use crate::places::{next_states, outputs};
+use ht_frame::{MOST_PINS, capture, settle};
+use ht_net::{Circuit, Fault};
+use ht_pairs::PairSet;
+use ht_tern::Tern;
+use ht_tree::{Assign3, Status3};
+use std::alloc::{AllocError, Global};
+use std::marker::Model;
+
+/// One frame of the good and of the faulty machine, over sets of pairs, from states that may differ at the flip-flops of
+/// z alone. All room is taken once, when it is made.
+#[derive(Drop)]
+pub struct OneFrame<'c> {
+    circuit: &'c Circuit,
+    fault: Fault,
+    z: &'c [u32],
+    // which flip-flops are in z
+    in_z: Vec<bool>,
+    // what the path has decided for each variable
+    decisions: Vec<Option<Tern>>,
+    // the sets of the inputs, of the latches, of the nets, and of what the flip-flops take
+    vector: Vec<PairSet>,
+    latches: Vec<PairSet>,
+    values: Vec<PairSet>,
+    next: Vec<PairSet>,
+    // room for the pins of one gate
+    pins: Vec<PairSet>,
+}
+
+impl<'c> Model for OneFrame<'c> {
+    ghost use Rattle.ht_tree.specs.OneFrame.{Window};
+
+    ghost Value = { Window };
+
+    ghost use Rattle.ht_check.specs.Fields.{window_of, IsSized};
+
+    ghost view = { window_of };
+
+    ghost invariant = { IsSized };
+}
+
+/// A mark for each flip-flop that is in z, of so many flip-flops.
+fn marks_of(alloc: Global, z: &[u32], count: usize) -> Result<Vec<bool>, AllocError>
+    requires { (i : ℕ) → i < length z.now → get_or z.now i 0 < count }
+    ensures count { IfOk result (λ marks. length marks.items ≡ count) }
+    ensures marks { IfOk result (λ marks. (j : ℕ) → get_or marks.items j false ≡ is_in z.now j) }
+{
+    let mut marks = vec![in alloc; false; count]?;
+    for j in z {
+        marks[*j as usize] = true;
+    }
+    Ok(marks)
+}
+
+/// Room for so many sets.
+fn sets(alloc: Global, count: usize) -> Result<Vec<PairSet>, AllocError>
+    ensures { IfOk result (λ sets. length sets.items ≡ count) }
+{
+    vec![in alloc; PairSet::both_same(); count]
+}
+
+impl<'c> OneFrame<'c> {
+    /// The window of a fault and a set of flip-flops. Errs where memory runs out.
+    pub fn new(
+        alloc: Global,
+        circuit: &'c Circuit,
+        fault: Fault,
+        z: &'c [u32],
+    ) -> Result<OneFrame<'c>, AllocError>
+        requires { (i : ℕ) → i < length z.now → get_or z.now i 0 < length circuit.now.dffs }
+        ensures { IfOk result (λ window. window ≡ record { circuit = circuit.now; fault = fault; z = z.now }) }
+    {
+        let nets = circuit.nets() as usize;
+        let inputs = circuit.inputs() as usize;
+        let dffs = circuit.dffs() as usize;
+        let in_z = marks_of(alloc, z, dffs)?;
+        let decisions = vec![in alloc; None; inputs + dffs + dffs]?;
+        let vector = sets(alloc, inputs)?;
+        let latches = sets(alloc, dffs)?;
+        let values = sets(alloc, nets)?;
+        let next = sets(alloc, dffs)?;
+        let pins = sets(alloc, MOST_PINS)?;
+        Ok(OneFrame {
+            circuit,
+            fault,
+            z,
+            in_z,
+            decisions,
+            vector,
+            latches,
+            values,
+            next,
+            pins,
+        })
+    }
+
+    /// Whether the window has a variable.
+    pub fn is_legal(&self, var: u32) -> bool
+        ensures { result ≡ is_legal self.now var }
+    {
+        let dffs = self.circuit.dffs();
+        let halves = self.circuit.inputs() + dffs;
+        if var < halves {
+            return true;
+        }
+        var - halves < dffs && self.in_z[(var - halves) as usize]
+    }
+
+    /// The status at a path, by one evaluation of the frame. It allocates nothing.
+    pub fn status(&mut self, path: &[Assign3]) -> Status3
+        requires { IsPlain (variable_count self.old) path.now }
+        ensures status { result ≡ status_of (places self.old path.now) }
+        ensures same { self.new ≡ self.old }
+    {
+        let fault = Some(self.fault);
+        let inputs = self.circuit.inputs() as usize;
+        write_decisions(&mut self.decisions, path);
+        write_inputs(&self.decisions, &mut self.vector);
+        write_latches(&self.decisions, inputs, &self.in_z, &mut self.latches);
+        settle(
+            self.circuit,
+            fault,
+            &self.vector,
+            &self.latches,
+            &mut self.values,
+            &mut self.pins,
+        );
+        capture(self.circuit, fault, &self.values, &mut self.next);
+        let shown = outputs(self.circuit, &self.values);
+        shown.and(next_states(&self.in_z, &self.next)).status()
+    }
+}

@@ -1,0 +1,43 @@
+// Walks of the one-frame window.
+ghost use Rattle.std.specs.Prelude.{◌≡◌, true, ◌↔◌, IfOk, IsTrue};
+ghost use Rattle.ht_tree.specs.Walks.{IsComplete, next_stack, top_path};
+ghost use Rattle.ht_tree.specs.OneFrame.{one_frame, variable_count};
+ghost use Rattle.ht_check.specs.Paths.{AreAllPlain, FitsOnTop};
+
+use crate::one_frame::OneFrame;
+use ht_tree::{Status3, Token, Walk};
+use std::alloc::{AllocError, Global};
+
+/// Whether tokens are a complete walk of the window. It keeps the longest path, and judges each token once.
+pub fn is_complete(
+    alloc: Global,
+    window: &mut OneFrame,
+    tokens: &[Token],
+) -> Result<bool, AllocError>
+    ensures { IfOk result (λ complete. IsTrue complete ↔ IsComplete (one_frame window.old) tokens.now) }
+{
+    let mut walk = Walk::new(alloc, 1);
+    for token in tokens {
+        if !take(window, &mut walk, *token)? {
+            return Ok(false);
+        }
+    }
+    Ok(walk.finished())
+}
+
+/// Follows a token where it fits.
+fn take(window: &mut OneFrame, walk: &mut Walk, token: Token) -> Result<bool, AllocError>
+    requires { AreAllPlain (variable_count window.old) walk.old.stack }
+    ensures window { window.new ≡ window.old }
+    ensures fits { IfOk result (λ taken. IsTrue taken ↔ FitsOnTop (one_frame window.old) walk.old.stack token) }
+    ensures stack { IfOk result (λ taken. taken ≡ true → walk.new.stack ≡ next_stack walk.old.stack token) }
+    ensures plain { IfOk result (λ taken. taken ≡ true → AreAllPlain (variable_count window.old) walk.new.stack) }
+{
+    let status = window.status(walk.pending());
+    let fits = match token {
+        Token::Two { var, first: _ } => status == Status3::Open && window.is_legal(var),
+        Token::Dead => status == Status3::Dead,
+        Token::Three { var: _ } | Token::Before => false,
+    };
+    if fits { walk.feed(token) } else { Ok(false) }
+}

@@ -1,0 +1,5 @@
+pub mod Walks
+pub mod StackOf
+pub mod WalkOf
+pub mod OneFrame
+pub mod Refutations
