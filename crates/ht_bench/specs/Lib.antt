@@ -9,3 +9,4 @@ pub mod Rules
 pub mod Drafted
 pub mod Reading
 pub mod Plain
+pub mod Normal

@@ -10,8 +10,10 @@ mod cut;
 mod fault;
 mod lines;
 mod name;
+mod normal;
 mod plain;
 mod statement;
 
 pub use fault::PlainFault;
+pub use normal::write;
 pub use plain::read_plain;
