@@ -10,3 +10,4 @@ pub mod DriverLaws
 pub mod ReadLaws
 pub mod UniqueLaws
 pub mod WholeLaws
+pub mod NormalLaws

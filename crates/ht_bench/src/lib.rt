@@ -12,6 +12,7 @@ mod lines;
 mod name;
 mod normal;
 mod plain;
+mod spell;
 mod statement;
 
 pub use fault::PlainFault;
