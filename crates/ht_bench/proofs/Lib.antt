@@ -11,3 +11,6 @@ pub mod ReadLaws
 pub mod UniqueLaws
 pub mod WholeLaws
 pub mod NormalLaws
+pub mod NormalLineLaws
+pub mod NormalListLaws
+pub mod NormalContentLaws

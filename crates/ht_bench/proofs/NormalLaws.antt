@@ -27,7 +27,7 @@ arguments_text-push first (next ∷ names) name =
     ap (λ text. first ++ (codes ", " ++ text)) (arguments_text-push next names name)
     ∙ regroup first (codes ", ") (arguments_text (next ∷ names)) (codes ", ") name
 
-take_more : {A : Type 0} (xs : List A) (k : ℕ) (d : A) → k < length xs → take (k + 1) xs ≡ take k xs ++ get_or xs k d ∷ []
+pub take_more : {A : Type 0} (xs : List A) (k : ℕ) (d : A) → k < length xs → take (k + 1) xs ≡ take k xs ++ get_or xs k d ∷ []
 take_more xs k d below = ap (λ n. take n xs) (add-one k) ∙ take-suc xs k d below
 
 map_take_more : {A B : Type 0} (f : A → B) (xs : List A) (k : ℕ) (d : A) → k < length xs → map f (take (k + 1) xs) ≡ map f (take k xs) ++ f (get_or xs k d) ∷ []

@@ -1,8 +1,9 @@
 -- The normal text of a circuit (ISCAS-89 format).
-use Rattle.std.specs.Prelude.{ℕ, List, [], ◌∷◌, ◌++◌, map, codes}
+use Rattle.std.specs.Prelude.{◌≡◌, ℕ, true, All, List, [], ◌∷◌, ◌++◌, map, codes}
 use Rattle.std.specs.List.{flat_map}
 use Rattle.ht_net.specs.Netlist.{Netlist}
 use Rattle.ht_net.specs.Named.{NamedDff, NamedGate, NamedNetlist, named_of}
+use Rattle.ht_statement.specs.Name.{is_name}
 use Rattle.ht_statement.specs.Statement.{Statement, Nothing, Input, Output, Dff, Gate}
 use Rattle.ht_bench.specs.Statement.{kind_text, arguments_text}
 
@@ -37,3 +38,7 @@ statements_of c = named_statements (named_of c)
 -- one line for each statement, and nothing else
 abbrev pub normal_text : Netlist → List ℕ
 normal_text c = statement_lines (statements_of c)
+
+-- each net has a name of the format
+abbrev pub HasFormatNames : Netlist → Type 0
+HasFormatNames c = All (λ name. is_name name ≡ true) c.names

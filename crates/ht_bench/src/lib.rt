@@ -12,6 +12,7 @@ mod arguments;
 mod cut;
 mod error;
 mod fault;
+mod laws;
 mod lines;
 mod name;
 mod normal;
@@ -22,6 +23,7 @@ mod statement;
 
 pub use error::BenchError;
 pub use fault::PlainFault;
+pub use laws::normal_text_is_a_netlist_of_its_circuit;
 pub use normal::write;
 pub use plain::read_plain;
 pub use reader::read;
