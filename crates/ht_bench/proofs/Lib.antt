@@ -14,3 +14,4 @@ pub mod NormalLaws
 pub mod NormalLineLaws
 pub mod NormalListLaws
 pub mod NormalContentLaws
+pub mod NormalRoundLaws

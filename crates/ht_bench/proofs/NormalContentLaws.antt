@@ -4,6 +4,7 @@ use Rattle.std.specs.List.{All, Contains, flat_map}
 use Rattle.std.proofs.lemmas.List.{length-map, take_all, get_or-map}
 use Rattle.std.proofs.lemmas.List.Concat.{flat_map-append, flat_map_single}
 use Rattle.std.proofs.lemmas.List.Folds.{flat_map-map}
+use Rattle.std.proofs.lemmas.List.Sums.{sum_by-cons}
 use Rattle.std.proofs.lemmas.List.Elements.{All-nil, All-cons, All-append, All-map, All-take, All-weaker, All-contains_itself, All-from_get_or, Contains-get_or}
 use Rattle.ht_tern.specs.Gate.{HasArity}
 use Rattle.ht_net.specs.declared.site.NetId.{NetId}
@@ -18,7 +19,7 @@ use Rattle.ht_bench.proofs.NormalListLaws.{AllDiffer, differ_by_place, different
 
 -- ---- parts of statements
 
-flat_none : {A B : Type 0} (xs : List A) → flat_map (λ (x : A). [] {A = B}) xs ≡ []
+flat_none : {A B : Type 0} (xs : List A) → flat_map {X = A} {A = B} (λ x. []) xs ≡ []
 flat_none [] = refl
 flat_none (x ∷ xs) = flat_none xs
 
@@ -90,7 +91,11 @@ names_of_gates c x (g ∷ gates) fits =
 sum_of_args : (c : Netlist) (x : ℕ) (gates : List Gate)
     → sum_by (λ (g : NamedGate). length g.args) (named_gates c x gates) ≡ sum_by (λ (g : Gate). length g.args) gates
 sum_of_args c x [] = refl
-sum_of_args c x (g ∷ gates) = let rest = sum_of_args c (x + 1) gates in omega (arith, length-map g.args (name_of c))
+sum_of_args c x (g ∷ gates) =
+    let named = sum_by-cons (λ (y : NamedGate). length y.args) (gate_named c x g) (named_gates c (x + 1) gates) in
+    let plain = sum_by-cons (λ (y : Gate). length y.args) g gates in
+    let rest = sum_of_args c (x + 1) gates in
+    omega (arith, length-map g.args (name_of c))
 
 cases_by_order : (a b : ℕ) → (a < b) ⊎ ((b < a) ⊎ (a ≡ b))
 cases_by_order zero zero = inr (inr refl)
@@ -104,7 +109,7 @@ abbrev netlist_by : List Name → List Name → List NamedDff → List NamedGate
 netlist_by i o d g = record { inputs = i; outputs = o; dffs = d; gates = g }
 
 same_parts : (i i' o o' : List Name) (d d' : List NamedDff) (g g' : List NamedGate) → i ≡ i' → o ≡ o' → d ≡ d' → g ≡ g'
-    → netlist_by i o d g ≡ netlist_by i' o' d' g' 
+    → netlist_by i o d g ≡ netlist_by i' o' d' g'
 same_parts i i' o o' d d' g g' p q r s = cc
 
 module _ (c : Netlist) (is : IsCircuit c) where

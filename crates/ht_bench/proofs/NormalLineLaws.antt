@@ -12,8 +12,9 @@ use Rattle.ht_ports.proofs.Texts.{lines-lf}
 use Rattle.ht_net.specs.Named.{Name}
 use Rattle.ht_statement.specs.Name.{is_name_byte, is_name}
 use Rattle.ht_statement.specs.Statement.{Statement, Nothing, Input, Output, Dff, Gate, names_in}
-use Rattle.ht_bench.specs.Statement.{kind_text, arguments_text}
-use Rattle.ht_bench.specs.Normal.{statement_text, statement_lines}
+use Rattle.ht_statement.specs.Normal.{kind_text, arguments_text}
+use Rattle.ht_statement.specs.Normal.{statement_text}
+use Rattle.ht_bench.specs.Normal.{statement_lines}
 
 -- ---- bytes from the blank on, so neither LF nor CR
 

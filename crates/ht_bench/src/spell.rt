@@ -4,7 +4,7 @@ ghost use Rattle.ht_net.specs.declared.site.NetId.{NetId};
 ghost use Rattle.ht_net.specs.Netlist.{net_count};
 ghost use Rattle.ht_net.specs.Named.{name_of};
 ghost use Rattle.ht_statement.specs.Statement.{Input, Output, Dff, Gate};
-ghost use Rattle.ht_bench.specs.Statement.{kind_text, arguments_text};
+ghost use Rattle.ht_statement.specs.Normal.{kind_text, arguments_text};
 ghost use Rattle.ht_bench.specs.Normal.{statement_line};
 
 use ht_net::{Circuit, NetId};
