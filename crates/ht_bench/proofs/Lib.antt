@@ -15,3 +15,4 @@ pub mod NormalLineLaws
 pub mod NormalListLaws
 pub mod NormalContentLaws
 pub mod NormalRoundLaws
+pub mod NormalOneLaws
