@@ -13,7 +13,7 @@ use Rattle.ht_net.specs.declared.error.Limit.TheVariants.{Nets, Pins, Inputs, Df
 use Rattle.ht_net.specs.Named.{Name, NamedGate}
 use Rattle.ht_net.specs.Draft.{Draft, GatePart, draft_pins}
 use Rattle.ht_net.specs.Refusals.{RefusesInput, AcceptsInput, RefusesDff, AcceptsDff, RefusesGate, AcceptsGate}
-use Rattle.ht_bench.specs.Name.{different}
+use Rattle.ht_bench.specs.Different.{different}
 use Rattle.ht_bench.specs.Statement.{Statement, Input, Output, Dff, Gate, names_in}
 use Rattle.ht_bench.specs.Stated.{inputs_in, dffs_in, gates_in, driven_in, inputs_of, dffs_of, gates_of, driven_by, mentions_of}
 use Rattle.ht_bench.specs.Rules.{IsAccepted, HasArguments}

@@ -11,7 +11,7 @@ use Rattle.ht_net.specs.Names.{IsNewName}
 use Rattle.ht_net.specs.Named.{Name, NamedDff, NamedGate}
 use Rattle.ht_net.specs.Draft.{Draft, GatePart, IsDriven, driven_names, latch_names, gate_names, draft_pins, part_at, no_name, no_part}
 use Rattle.ht_net.specs.Sequence.{IsInSequence}
-use Rattle.ht_bench.specs.Name.{different}
+use Rattle.ht_bench.specs.Different.{different}
 use Rattle.ht_bench.specs.Statement.{Statement, Input, Output, Dff, Gate}
 use Rattle.ht_bench.specs.Stated.{inputs_in, outputs_in, dffs_in, gates_in, driven_in, inputs_of, outputs_of, dffs_of, gates_of, driven_by, mentions_of}
 use Rattle.ht_bench.specs.Rules.{IsWithinLimits, pins_of}

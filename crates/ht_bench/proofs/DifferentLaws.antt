@@ -8,7 +8,7 @@ use Rattle.std.proofs.lemmas.List.{length-append, get_or_default}
 use Rattle.std.proofs.lemmas.List.Elements.{All-cons, All-filter, All-contains, filter-append}
 use Rattle.ht_net.specs.Names.{IsNewName, IsNameAt}
 use Rattle.ht_net.specs.Named.{Name}
-use Rattle.ht_bench.specs.Name.{different}
+use Rattle.ht_bench.specs.Different.{different}
 use Rattle.ht_bench.proofs.ListLaws.{contains_head, contains_tail, contains_cases, contains_none, filter_yes, filter_no, bool_cases, contains_filter}
 
 name_cases : (a b : Name) → ((bytes_eq a b ≡ true) × (a ≡ b)) ⊎ ((bytes_eq a b ≡ false) × (a ≢ b))

@@ -9,7 +9,7 @@ use Rattle.ht_net.specs.declared.draft.DffPart.{DffPart}
 use Rattle.ht_net.specs.Names.{IsNewName}
 use Rattle.ht_net.specs.Named.{Name, NamedDff, NamedGate}
 use Rattle.ht_net.specs.Draft.{Draft, GatePart, IsDraft, IsDriven}
-use Rattle.ht_bench.specs.Name.{different}
+use Rattle.ht_bench.specs.Different.{different}
 use Rattle.ht_bench.specs.Statement.{Statement}
 use Rattle.ht_bench.specs.Stated.{driven_by}
 use Rattle.ht_bench.specs.Drafted.{NamesDiffer, IsNumberOf, IsDffOf, IsGateOf, IsDraftWith, Mentions}

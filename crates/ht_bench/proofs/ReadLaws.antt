@@ -11,7 +11,7 @@ use Rattle.ht_tern.specs.declared.gate.Kind.{Kind}
 use Rattle.ht_net.specs.declared.names.NameId.{NameId}
 use Rattle.ht_net.specs.declared.draft.DffPart.{DffPart}
 use Rattle.ht_net.specs.Built.{draft_name, named_draft}
-use Rattle.ht_bench.specs.Name.{different}
+use Rattle.ht_bench.specs.Different.{different}
 use Rattle.ht_bench.specs.Cut.{Lacks, IsCut}
 use Rattle.ht_bench.specs.Statement.{Statement, names_in, statement_text, IsWritten}
 use Rattle.ht_bench.specs.Line.{States}

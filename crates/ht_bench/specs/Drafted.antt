@@ -9,7 +9,7 @@ use Rattle.ht_net.specs.Names.{IsNewName, IsNameAt}
 use Rattle.ht_net.specs.Named.{Name, NamedDff, NamedGate}
 use Rattle.ht_net.specs.Draft.{Draft, GatePart, IsDraft, IsDriven}
 use Rattle.ht_net.specs.Sequence.{IsInSequence}
-use Rattle.ht_bench.specs.Name.{different}
+use Rattle.ht_bench.specs.Different.{different}
 use Rattle.ht_bench.specs.Statement.{Statement}
 use Rattle.ht_bench.specs.Stated.{inputs_of, outputs_of, dffs_of, gates_of, driven_by, mentions_of, read_in}
 use Rattle.ht_bench.specs.Rules.{IsAccepted}

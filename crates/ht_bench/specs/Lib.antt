@@ -1,6 +1,7 @@
 pub mod Cut
 pub mod Arguments
 pub mod Name
+pub mod Different
 pub mod Statement
 pub mod Line
 pub mod StatementOf
@@ -9,3 +10,8 @@ pub mod Rules
 pub mod Drafted
 pub mod Reading
 pub mod Plain
+pub mod Contents
+pub mod Accepted
+pub mod Ends
+pub mod Text
+pub mod Normal

@@ -1,6 +1,5 @@
--- Names of nets, and lists of them.
-use Rattle.std.specs.Prelude.{◌≢◌, ℕ, ◌≤◌, List, [], ◌∷◌, length, All, filter, not}
-use Rattle.std.specs.Str.{bytes_eq}
+-- Names of nets.
+use Rattle.std.specs.Prelude.{◌≢◌, ℕ, ◌≤◌, length, All}
 use Rattle.ht_net.specs.Named.{Name}
 
 -- a printable byte that is no mark of the format: not `#`, `(`, `)`, `,` or `=`, and no blank
@@ -18,8 +17,3 @@ pub record IsName (name : Name) : Type 0 where
   pub some : 1 ≤ length name
   pub few : length name ≤ 255
   pub bytes : All IsNameByte name
-
--- the different names of a list, each where it comes first
-abbrev pub different : List Name → List Name
-different [] = []
-different (name ∷ names) = name ∷ filter (λ other. not (bytes_eq other name)) (different names)

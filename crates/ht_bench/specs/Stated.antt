@@ -1,7 +1,7 @@
 -- What a list of statements states: inputs, outputs, flip-flops and gates, and which nets are driven and must be.
 use Rattle.std.specs.Prelude.{List, [], ◌∷◌, flat_map}
 use Rattle.ht_net.specs.Named.{Name, NamedDff, NamedGate, NamedNetlist}
-use Rattle.ht_bench.specs.Name.{different}
+use Rattle.ht_bench.specs.Different.{different}
 use Rattle.ht_bench.specs.Statement.{Statement, Input, Output, Dff, Gate, names_in}
 
 abbrev pub inputs_in : Statement → List Name

@@ -1,5 +1,8 @@
 //! Readers of netlists (ISCAS-89 bench format).
 //!
+//! `read` gives the circuit of a netlist, or the one refusal of a text that is none. `specs/Text.antt` says which texts
+//! are netlists of which circuits, and how every other text is refused.
+//!
 //! `read_plain` reads plain netlists: each line is one statement in its normal text. `specs/Plain.antt` says which texts
 //! these are, which circuit a text stands for, and which line is refused.
 #![tactic(auto)]
@@ -7,11 +10,20 @@
 mod add;
 mod arguments;
 mod cut;
+mod error;
 mod fault;
 mod lines;
 mod name;
+mod normal;
 mod plain;
+mod reader;
+mod round_trip;
+mod spell;
 mod statement;
 
+pub use error::BenchError;
 pub use fault::PlainFault;
+pub use normal::write;
 pub use plain::read_plain;
+pub use reader::read;
+pub use round_trip::{a_netlist_is_of_one_circuit, normal_text_is_a_netlist_of_its_circuit};

@@ -1,0 +1,71 @@
+-- What the statements of a netlist say together (ISCAS-89 format): inputs, outputs, flip-flops, gates, and which nets are
+-- driven and mentioned.
+use Rattle.std.specs.Prelude.{ℕ, ◌+◌, List, [], ◌∷◌, length, flat_map, sum_by}
+use Rattle.std.specs.List.{position_or_len}
+use Rattle.std.specs.Str.{bytes_eq}
+use Rattle.ht_net.specs.Named.{Name, NamedDff, NamedGate, NamedNetlist}
+use Rattle.ht_statement.specs.Statement.{Statement, Input, Output, Dff, Gate, names_in}
+use Rattle.ht_bench.specs.Different.{different}
+
+abbrev pub inputs_in : Statement → List Name
+inputs_in (Input name) = name ∷ []
+inputs_in _ = []
+
+abbrev pub outputs_in : Statement → List Name
+outputs_in (Output name) = name ∷ []
+outputs_in _ = []
+
+abbrev pub dffs_in : Statement → List NamedDff
+dffs_in (Dff out data_pin) = record { out = out; data_pin = data_pin } ∷ []
+dffs_in _ = []
+
+abbrev pub gates_in : Statement → List NamedGate
+gates_in (Gate out kind args) = record { kind = kind; out = out; args = args } ∷ []
+gates_in _ = []
+
+-- the net that a statement drives, if it drives one: an input's, or that of a definition
+abbrev pub driven_in : Statement → List Name
+driven_in (Input name) = name ∷ []
+driven_in (Dff out data_pin) = out ∷ []
+driven_in (Gate out kind args) = out ∷ []
+driven_in _ = []
+
+-- the same of all statements, in their order
+abbrev pub inputs_of : List Statement → List Name
+inputs_of statements = flat_map inputs_in statements
+
+-- a repeated OUTPUT line adds nothing
+abbrev pub outputs_of : List Statement → List Name
+outputs_of statements = different (flat_map outputs_in statements)
+
+abbrev pub dffs_of : List Statement → List NamedDff
+dffs_of statements = flat_map dffs_in statements
+
+abbrev pub gates_of : List Statement → List NamedGate
+gates_of statements = flat_map gates_in statements
+
+abbrev pub driven_by : List Statement → List Name
+driven_by statements = flat_map driven_in statements
+
+abbrev pub mentions_of : List Statement → List Name
+mentions_of statements = flat_map names_in statements
+
+-- the nets: the different names that are mentioned, in the order of first mention
+abbrev pub nets_of : List Statement → List Name
+nets_of statements = different (mentions_of statements)
+
+-- the place of a net in the order of first mention
+abbrev pub place_of : List Statement → Name → ℕ
+place_of statements name = position_or_len (λ other. bytes_eq other name) (nets_of statements)
+
+-- pins are the data pins of flip-flops and the arguments of gates
+abbrev pub pins_of : List Statement → ℕ
+pins_of statements = length (dffs_of statements) + sum_by (λ (g : NamedGate). length g.args) (gates_of statements)
+
+abbrev pub named_of_statements : List Statement → NamedNetlist
+named_of_statements statements = record {
+  inputs = inputs_of statements;
+  outputs = outputs_of statements;
+  dffs = dffs_of statements;
+  gates = gates_of statements;
+}
