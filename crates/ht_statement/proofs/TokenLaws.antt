@@ -1,9 +1,9 @@
 -- The tokens of a text, token by token.
-use Rattle.std.proofs.Common.{◌≡◌, ℕ, suc, ◌<◌, ◌≤◌, Bool, true, false, cond, not, eqb, ◌||◌, List, [], ◌∷◌, ◌++◌, length, get_or, Option, Some, None, refl, sym, ◌∙◌, ap, subst, append_assoc, append-nil, arith}
+use Rattle.std.proofs.Common.{◌≡◌, ℕ, suc, ◌<◌, ◌≤◌, Bool, true, false, cond, not, eqb, List, [], ◌∷◌, ◌++◌, length, get_or, Option, Some, None, refl, sym, ◌∙◌, ap, append_assoc, append-nil, arith}
 use Rattle.std.specs.Option.{option_map_or, option_map}
 use Rattle.std.proofs.lemmas.Bool.Decides.{nat_tests}
 use Rattle.std.proofs.lemmas.List.Sums.{take_while-cons}
-use Rattle.ht_statement.specs.Token.{Token, Word, Open, Close, Comma, Equals, is_blank, mark_of, without_comment, ended, tokens_behind, tokens_of}
+use Rattle.ht_statement.specs.Token.{Token, Word, is_blank, mark_of, without_comment, ended, tokens_behind, tokens_of}
 use Rattle.ht_statement.specs.Word.{is_word_byte, BeginsNoBlank, BeginsNoWord, IsWordCut}
 use Rattle.ht_statement.specs.declared.token.Token.{Token as Borrowed}
 use Rattle.ht_statement.specs.TokenOf.{token_of}

@@ -1,5 +1,5 @@
 -- Words cut out of a text.
-use Rattle.std.specs.Prelude.{◌≡◌, ◌≢◌, ℕ, ◌<◌, List, [], ◌∷◌, ◌++◌, Bool, true, false, ◌||◌, not, length, slice_index}
+use Rattle.std.specs.Prelude.{◌≡◌, ℕ, ◌<◌, List, [], ◌∷◌, ◌++◌, Bool, true, false, ◌||◌, not, length, slice_index}
 use Rattle.ht_statement.specs.Token.{is_blank}
 use Rattle.ht_statement.specs.Name.{is_mark}
 

@@ -1,4 +1,4 @@
-use Rattle.std.proofs.Common.{rules, eqb, false, get_or, ◌≡◌, ◌∷◌, ◌∙◌, sym}
+use Rattle.std.proofs.Common.{rules, eqb, false, get_or, ◌≡◌, ◌∙◌, sym}
 use Rattle.ht_statement.proofs.TokenLaws.{first_word, no_mark}
 use Rattle.ht_statement.proofs.token.next_token.Goals as goal
 
