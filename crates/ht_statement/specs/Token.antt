@@ -18,9 +18,13 @@ is_blank byte = eqb byte 32 || eqb byte 9
 abbrev pub mark_of : ℕ → Option Token
 mark_of byte = cond (eqb byte 40) (Some Open) (cond (eqb byte 41) (Some Close) (cond (eqb byte 44) (Some Comma) (cond (eqb byte 61) (Some Equals) None)))
 
+-- `#`
+abbrev pub begins_comment : ℕ → Bool
+begins_comment byte = eqb byte 35
+
 -- from the first `#` on, a line is a comment
 abbrev pub without_comment : List ℕ → List ℕ
-without_comment line = take_while (λ byte. not (eqb byte 35)) line
+without_comment line = take_while (λ byte. not (begins_comment byte)) line
 
 -- a word that has ended, if it has any byte
 abbrev pub ended : List ℕ → List Token
