@@ -9,7 +9,8 @@ use Rattle.ht_net.specs.Levels.{loads_of}
 use Rattle.ht_faults.proofs.MemberLaws.{fault_site}
 use Rattle.ht_collapse.specs.Classes.{EquivalentPair, SameClass, itself, paired, turned, joined, fault_at, output_line}
 use Rattle.ht_collapse.specs.Ends.{stem_number, output_value, output_number, StayInClass, GateJoins, end_after, end_by, AreEnds}
-use Rattle.ht_collapse.proofs.LeadLaws.{number_below, many_loads}
+use Rattle.ht_collapse.proofs.LoadLaws.{many_loads}
+use Rattle.ht_collapse.proofs.LeadLaws.{number_below}
 use Rattle.ht_collapse.proofs.FaultListLaws.{listed_once, stem_listed, stems_listed}
 
 -- the end of a fault, which is `i` where it is alone in its class
@@ -115,5 +116,5 @@ module _ (c : Netlist) (circuit : IsCircuit c) (stems : List ℕ) (stay : StayIn
     where
       same_end : (ends : List ℕ) → ((i : ℕ) → i < length (faults_of c) → get_or ends i 0 ≡ end_by c stems i (fault_at c i).site (fault_at c i).value)
           → (i j : ℕ) → i < length (faults_of c) → j < length (faults_of c) → Meets (fault_at c i) (fault_at c j) → get_or ends i 0 ≡ get_or ends j 0
-      same_end ends is i j a b (inl e) = ap (λ (n : ℕ). get_or ends n 0) (listed_once c circuit i j a b e)
+      same_end ends is i j a b (inl e) = ap (λ (n : ℕ). get_or ends n 0) (listed_once c i j a b e)
       same_end ends is i j a b (inr h) = is i a ∙ (h i j ∙ sym (is j b))

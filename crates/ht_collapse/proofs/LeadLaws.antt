@@ -1,13 +1,11 @@
 -- One more pair of faults that gets one end, and what that leaves.
-use Rattle.std.proofs.Common.{◌≡◌, ◌≢◌, ◌<◌, ◌≤◌, ◌+◌, ◌*◌, ℕ, List, Bool, true, false, cond, Option, Some, None, length, get_or, set, refl, sym, ◌∙◌, ap, arith, inl, inr, subst, get_or-set_other, get_or-set_same}
+use Rattle.std.proofs.Common.{◌≡◌, ◌≢◌, ◌<◌, ◌+◌, ◌*◌, ℕ, List, Bool, true, false, cond, Option, Some, None, length, get_or, set, refl, sym, ◌∙◌, ap, arith, inl, inr, subst, get_or-set_other, get_or-set_same}
 use Rattle.std.proofs.lemmas.Bool.{cases_eq}
-use Rattle.std.proofs.lemmas.Bool.Decides.{nat_tests}
 use Rattle.std.proofs.lemmas.List.{length-set}
 use Rattle.ht_net.specs.declared.site.Site.{Site}
 use Rattle.ht_net.specs.declared.site.Site.TheVariants.{Stem, GatePin}
 use Rattle.ht_net.specs.declared.site.Fault.{Fault}
 use Rattle.ht_net.specs.Netlist.{Netlist, first_gate_net, net_count, gate_at, arg_at, IsCircuit}
-use Rattle.ht_net.specs.Levels.{loads_of}
 use Rattle.ht_faults.specs.Sites.{is_fanout}
 use Rattle.ht_collapse.specs.Classes.{EquivalentPair, SameClass, paired, joined, fault_at}
 use Rattle.ht_collapse.specs.Ends.{stem_number, output_value, output_number, led, StayInClass, PinJoins, OthersStay}
@@ -23,14 +21,6 @@ number_same x y true false e = absurd (omega arith)
 pub number_below : (x n : ℕ) (v : Bool) → x < n → stem_number x v < 2 * n
 number_below x n false h = omega arith
 number_below x n true h = omega arith
-
-pub single_load : (c : Netlist) (x : ℕ) → loads_of c x ≤ 1 → is_fanout c x ≡ false
-unfolding is_fanout
-single_load c x h = grind (arith, nat_tests)
-
-pub many_loads : (c : Netlist) (x : ℕ) → 1 < loads_of c x → is_fanout c x ≡ true
-unfolding is_fanout
-many_loads c x h = grind (arith, nat_tests)
 
 same_some : (x w : Bool) → Some x ≡ Some w → x ≡ w
 same_some x w h = cc
