@@ -1,13 +1,11 @@
 -- One more pair of faults that gets one end, and what that leaves.
-use Rattle.std.proofs.Common.{◌≡◌, ◌≢◌, ◌<◌, ◌≤◌, ◌+◌, ◌*◌, ℕ, List, Bool, true, false, cond, Option, Some, None, length, get_or, set, refl, sym, ◌∙◌, ap, arith, inl, inr, subst, get_or-set_other, get_or-set_same}
+use Rattle.std.proofs.Common.{◌≡◌, ◌≢◌, ◌<◌, ◌+◌, ◌*◌, ℕ, List, Bool, true, false, cond, Option, Some, None, length, get_or, set, refl, sym, ◌∙◌, ap, arith, inl, inr, subst, get_or-set_other, get_or-set_same}
 use Rattle.std.proofs.lemmas.Bool.{cases_eq}
-use Rattle.std.proofs.lemmas.Bool.Decides.{nat_tests}
 use Rattle.std.proofs.lemmas.List.{length-set}
 use Rattle.ht_net.specs.declared.site.Site.{Site}
 use Rattle.ht_net.specs.declared.site.Site.TheVariants.{Stem, GatePin}
 use Rattle.ht_net.specs.declared.site.Fault.{Fault}
 use Rattle.ht_net.specs.Netlist.{Netlist, first_gate_net, net_count, gate_at, arg_at, IsCircuit}
-use Rattle.ht_net.specs.Levels.{loads_of}
 use Rattle.ht_faults.specs.Sites.{is_fanout}
 use Rattle.ht_collapse.specs.Classes.{EquivalentPair, SameClass, paired, joined, fault_at}
 use Rattle.ht_collapse.specs.Ends.{stem_number, output_value, output_number, led, StayInClass, PinJoins, OthersStay}
@@ -24,16 +22,18 @@ pub number_below : (x n : ℕ) (v : Bool) → x < n → stem_number x v < 2 * n
 number_below x n false h = omega arith
 number_below x n true h = omega arith
 
-pub single_load : (c : Netlist) (x : ℕ) → loads_of c x ≤ 1 → is_fanout c x ≡ false
-unfolding is_fanout
-single_load c x h = grind (arith, nat_tests)
-
-pub many_loads : (c : Netlist) (x : ℕ) → 1 < loads_of c x → is_fanout c x ≡ true
-unfolding is_fanout
-many_loads c x h = grind (arith, nat_tests)
-
 same_some : (x w : Bool) → Some x ≡ Some w → x ≡ w
 same_some x w h = cc
+
+-- What holds of each place of a list and its number holds after a write, if it holds of what is written.
+set_keeps : (P : ℕ → ℕ → Type 0) (numbers : List ℕ) (i value : ℕ) → P i value → ((j : ℕ) → j < length numbers → P j (get_or numbers j 0))
+    → (j : ℕ) → j < length numbers → P j (get_or (set numbers i value) j 0)
+set_keeps P numbers i value here others j inside = elim (cases_eq j i) [
+  | inl e ↦
+      let room : i < length numbers = omega arith in
+      subst (λ (n : ℕ). P n (get_or (set numbers i value) n 0)) (sym e) (subst (P i) (sym (get_or-set_same numbers i value 0 room)) here)
+  | inr ne ↦ subst (P j) (sym (get_or-set_other numbers i j value 0 ne)) (others j inside)
+]
 
 -- pin i of gate g, whose net has one load
 module _ (c : Netlist) (circuit : IsCircuit c) (g i : ℕ) (inside : g < length c.gates) (pin : i < length (gate_at c g).args) (single : is_fanout c (arg_at c g i) ≡ false) where
@@ -64,7 +64,7 @@ module _ (c : Netlist) (circuit : IsCircuit c) (g i : ℕ) (inside : g < length 
   abbrev leads : Bool → List ℕ → List ℕ
   leads v ends = led c g (stem_number (arg_at c g i) v) (output_value c g v) ends
 
-  pub leads_others : (v : Bool) (ends : List ℕ) (k : ℕ) → k ≢ stem_number (arg_at c g i) v → get_or (leads v ends) k 0 ≡ get_or ends k 0
+  leads_others : (v : Bool) (ends : List ℕ) (k : ℕ) → k ≢ stem_number (arg_at c g i) v → get_or (leads v ends) k 0 ≡ get_or ends k 0
   leads_others v ends k ne = go (output_value c g v)
     where
       go : (o : Option Bool) → get_or (led c g (stem_number (arg_at c g i) v) o ends) k 0 ≡ get_or ends k 0
@@ -74,43 +74,25 @@ module _ (c : Netlist) (circuit : IsCircuit c) (g i : ℕ) (inside : g < length 
   outputs_stay : (v : Bool) (ends : List ℕ) (w : Bool) → get_or (leads v ends) (output_number c g w) 0 ≡ get_or ends (output_number c g w) 0
   outputs_stay v ends w = leads_others v ends (output_number c g w) (λ e. not_output (number_same (first_gate_net c + g) (arg_at c g i) w v e).0)
 
-  pub leads_stay : (v : Bool) (ends : List ℕ) → StayInClass c ends → StayInClass c (leads v ends)
+  leads_stay : (v : Bool) (ends : List ℕ) → StayInClass c ends → StayInClass c (leads v ends)
   leads_stay v ends h = go (output_value c g v) refl
     where
-      k : ℕ
-      k = stem_number (arg_at c g i) v
-
-      at_set : (w : Bool) → output_value c g v ≡ Some w → (P : ℕ → ℕ → Type 0) → P (stem_number (arg_at c g i) v) (get_or ends (output_number c g w) 0)
-          → ((j : ℕ) → j < length ends → P j (get_or ends j 0)) → (j : ℕ) → j < length ends
-          → P j (get_or (set ends (stem_number (arg_at c g i) v) (get_or ends (output_number c g w) 0)) j 0)
-      at_set w values P here others j l =
-          let k : ℕ = stem_number (arg_at c g i) v in
-          let value : ℕ = get_or ends (output_number c g w) 0 in
-          elim (cases_eq j (stem_number (arg_at c g i) v)) [
-            | inl e ↦
-                let room : stem_number (arg_at c g i) v < length ends = let z : j ≡ stem_number (arg_at c g i) v = e in omega arith in
-                let put = get_or-set_same ends (stem_number (arg_at c g i) v) (get_or ends (output_number c g w) 0) 0 room in
-                subst (λ (n : ℕ). P n (get_or (set ends (stem_number (arg_at c g i) v) (get_or ends (output_number c g w) 0)) n 0)) (sym e)
-                (subst (P (stem_number (arg_at c g i) v)) (sym put) here)
-            | inr ne ↦
-                subst (P j) (sym (get_or-set_other ends (stem_number (arg_at c g i) v) j (get_or ends (output_number c g w) 0) 0 ne)) (others j l)
-          ]
-
       go : (o : Option Bool) → output_value c g v ≡ o → StayInClass c (led c g (stem_number (arg_at c g i) v) o ends)
       go None values = h
       go (Some w) values =
+          let input : ℕ = stem_number (arg_at c g i) v in
+          let end : ℕ = get_or ends (output_number c g w) 0 in
           let long = length-set ends (stem_number (arg_at c g i) v) (get_or ends (output_number c g w) 0) in
           let out : output_number c g w < length ends = let b = number_below (first_gate_net c + g) (net_count c) w (omega arith) in let e = h.every in omega arith in
           record {
             every = long ∙ h.every;
             known = λ j l.
-                let l' : j < length ends = omega arith in
-                let low = at_set w values (λ n m. m < length ends) (h.known (output_number c g w) out) (λ n b. h.known n b) j l' in
+                let inside : j < length ends = omega arith in
+                let low = set_keeps (λ n m. m < length ends) ends input end (h.known (output_number c g w) out) h.known j inside in
                 omega (arith, low, long);
             member = λ j l.
-                let l' : j < length ends = omega arith in
-                at_set w values (λ n m. SameClass c (fault_at c n) (fault_at c m))
-                (joined _ _ _ (stem_paired v w values) (h.member (output_number c g w) out)) (λ n b. h.member n b) j l';
+                set_keeps (λ n m. SameClass c (fault_at c n) (fault_at c m)) ends input end
+                (joined _ _ _ (stem_paired v w values) (h.member (output_number c g w) out)) h.member j (omega arith);
           }
 
   -- the pair of one value has one end

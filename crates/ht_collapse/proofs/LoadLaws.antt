@@ -47,6 +47,10 @@ loads_few : (c : Netlist) (a : ℕ) → is_fanout c a ≡ false → loads_of c a
 unfolding is_fanout
 loads_few c a h = grind (arith, nat_tests)
 
+pub many_loads : (c : Netlist) (x : ℕ) → 1 < loads_of c x → is_fanout c x ≡ true
+unfolding is_fanout
+many_loads c x h = grind (arith, nat_tests)
+
 pub read_by : (c : Netlist) (a g i : ℕ) → is_fanout c a ≡ false → g < length c.gates → i < length (gate_at c g).args → arg_at c g i ≡ a → IsReadBy c a g
 read_by c a g i single inside pin is =
     let few = loads_few c a single in

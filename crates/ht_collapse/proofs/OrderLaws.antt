@@ -35,8 +35,6 @@ module _ (c : Netlist) (order : List ℕ) (circuit : IsCircuit c) (ordered : IsO
       → GateJoins c before (get_or order j 0) → GateJoins c after (get_or order j 0)
   later_stays before after k j less inside others old = λ i pin. record {
     joins = λ v w single values.
-        let g = get_or order k 0 in
-        let h = get_or order j 0 in
         let alone = read_by c (arg_at c (get_or order j 0) i) (get_or order j 0) i single (ordered.within j inside) pin refl in
         let input = others.stay (stem_number (arg_at c (get_or order j 0) i) v) (λ p u there same.
         let is = number_same (arg_at c (get_or order j 0) i) (arg_at c (get_or order k 0) p) v u same in

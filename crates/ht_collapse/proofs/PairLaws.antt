@@ -128,7 +128,6 @@ module _ {V : Type 0} (blank : V) (gate : Kind → List V → V) (at : Bool → 
         stem_settled =
             let settled = frame_settled c depth deep by_stem vector latches in
             let is_stuck : e a ≡ at v = settled.settled a known ∙ stem_stuck blank gate at c a v vector latches e a refl in
-            let args = (gate_at c g).args in
             let shown : get_or (pin_values by_stem g e 0 (gate_at c g).args) i blank ≡ at v = pin_read is_stuck in
             record {
               settled = λ y h. elim (eqb_tells y a) [

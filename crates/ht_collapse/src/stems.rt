@@ -1,6 +1,7 @@
 // Where the faults of stems lead, from the outputs back.
 ghost use Rattle.std.specs.Prelude.{◌≡◌, ◌<◌, ◌+◌, ◌*◌, ℕ, true, length, get_or, IfOk};
 ghost use Rattle.ht_net.specs.Netlist.{first_gate_net, net_count, gate_at, arg_at, IsCircuit};
+ghost use Rattle.ht_faults.specs.Sites.{is_fanout};
 ghost use Rattle.ht_collapse.specs.Ends.{stem_number, output_value, led, StayInClass, PinJoins, GateJoins, OthersStay};
 
 use crate::table::output_of;
@@ -28,6 +29,15 @@ pub(crate) fn output_net(circuit: &Circuit, g: u32) -> NetId
     NetId(circuit.inputs() + circuit.dffs() + g)
 }
 
+/// Whether a net has two or more loads, so that its pins have faults of their own.
+#[tactic(auto, unfolding(ht_faults::specs::Sites::is_fanout))]
+fn has_fanout(circuit: &Circuit, net: NetId) -> bool
+    requires { net.0 < net_count circuit.now }
+    ensures { result ≡ is_fanout circuit.now net.0 }
+{
+    circuit.loads(net) > 1
+}
+
 /// Leads the fault of a stem that gate `g` alone reads to where the equivalent output fault leads, if there is one.
 fn lead_on(circuit: &Circuit, g: u32, input: NetId, value: bool, ends: &mut [u32])
     requires gate { g < length circuit.now.gates }
@@ -52,7 +62,7 @@ fn join_pin(circuit: &Circuit, g: u32, i: u32, ends: &mut [u32])
     ensures others { OthersStay circuit.now ends.old ends.new g }
 {
     let input = circuit.gate_args(g)[i as usize];
-    if circuit.loads(input) > 1 {
+    if has_fanout(circuit, input) {
         return;
     }
     lead_on(circuit, g, input, false, ends);
