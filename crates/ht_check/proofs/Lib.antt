@@ -1,0 +1,5 @@
+pub mod DecisionLaws
+pub mod ShownLaws
+pub mod StatusLaws
+pub mod TakeLaws
+pub mod UntestableLaws

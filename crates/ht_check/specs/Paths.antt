@@ -1,9 +1,15 @@
 -- The paths that a one-frame window can judge, and a token that fits at the top of a stack.
-use Rattle.std.specs.Prelude.{◌≢◌, ◌<◌, ℕ, List, [], ◌∷◌}
+use Rattle.std.specs.Prelude.{◌≡◌, ◌≢◌, ◌<◌, ◌+◌, ℕ, List, [], ◌∷◌, Bool, true, false, IsTrue, Option, None, length, get_or}
+use Rattle.ht_tern.specs.declared.tern.Tern.{Tern}
 use Rattle.ht_tern.specs.declared.tern.Tern.TheVariants.{Unk}
+use Rattle.ht_tern.specs.Pairs.{Pair}
 use Rattle.ht_tree.specs.declared.token.Assign3.{Assign3}
 use Rattle.ht_tree.specs.declared.token.Token.{Token}
+use Rattle.ht_tree.specs.declared.token.Token.TheVariants as token
+use Rattle.ht_tree.specs.declared.token.Status3.{Status3}
+use Rattle.ht_tree.specs.declared.token.Status3.TheVariants as status
 use Rattle.ht_tree.specs.Walks.{Node, Judge, Fits}
+use Rattle.ht_tree.specs.OneFrame.{latch_pairs}
 
 -- each decision is of one of so many variables, and definite
 abbrev pub IsPlain : ℕ → List Assign3 → Type 0
@@ -18,3 +24,14 @@ AreAllPlain count (n ∷ rest) = IsPlain count n.decisions × AreAllPlain count 
 abbrev pub FitsOnTop : Judge → List Node → Token → Type 0
 FitsOnTop j [] t = ⊥
 FitsOnTop j (n ∷ rest) t = Fits j n t
+
+-- the token fits where the status is this and these variables are legal, if its variable is not decided yet
+abbrev pub FitsAt : (ℕ → Bool) → Status3 → Token → Type 0
+FitsAt legal s (token.Two var first) = (s ≡ status.Open) × IsTrue (legal var)
+FitsAt legal s (token.Three var) = ⊥
+FitsAt legal s token.Dead = s ≡ status.Dead
+FitsAt legal s token.Before = ⊥
+
+-- the set of latch j: variable first + j decides it, and variable first + m + j its faulty half
+abbrev pub latch_by : List (Option Tern) → ℕ → List Bool → ℕ → List Pair
+latch_by decisions first halves j = latch_pairs (get_or halves j false) (get_or decisions (first + j) None) (get_or decisions (first + length halves + j) None)

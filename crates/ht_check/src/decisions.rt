@@ -1,8 +1,8 @@
 // The sets of inputs and latches, from what a path has decided.
-ghost use Rattle.std.specs.Prelude.{◌≡◌, ◌≢◌, ◌<◌, ◌+◌, ℕ, [], length, get_or, cond, Some, None, false};
+ghost use Rattle.std.specs.Prelude.{◌≡◌, ◌≢◌, ◌<◌, ◌≤◌, ◌+◌, ℕ, [], length, get_or, Some, None};
 ghost use Rattle.ht_tern.specs.declared.tern.Tern.TheVariants.{Unk};
-ghost use Rattle.ht_tree.specs.OneFrame.{decided_value, each_pair, same_pairs};
-ghost use Rattle.ht_check.specs.Paths.{IsPlain};
+ghost use Rattle.ht_tree.specs.OneFrame.{decided_value, each_pair, latch_pairs, same_pairs};
+ghost use Rattle.ht_check.specs.Paths.{IsPlain, latch_by};
 
 use ht_pairs::{PairSet, lift};
 use ht_tern::{Kind, Tern};
@@ -13,18 +13,9 @@ pub fn write_decisions(decisions: &mut [Option<Tern>], path: &[Assign3])
     requires { IsPlain (length decisions.old) path.now }
     ensures { (var : ℕ) → var < length decisions.old → get_or decisions.new var None ≡ decided_value path.now var }
 {
-    clear(decisions);
+    decisions.fill(None);
     for decision in path {
         decisions[decision.var as usize] = Some(decision.value);
-    }
-}
-
-/// Forgets all decisions.
-fn clear(decisions: &mut [Option<Tern>])
-    ensures { (var : ℕ) → get_or decisions.new var None ≡ None }
-{
-    for decision in decisions {
-        *decision = None;
     }
 }
 
@@ -38,16 +29,19 @@ pub fn same(value: Option<Tern>) -> PairSet
     }
 }
 
-/// The set of a value that each machine has by itself.
-pub fn each(good: Option<Tern>, faulty: Option<Tern>) -> PairSet
+/// The set of a latch: a value that each machine has by itself, or the good machine's in both.
+pub fn latch(halves: bool, good: Option<Tern>, faulty: Option<Tern>) -> PairSet
     requires good { good ≢ Some Unk }
     requires faulty { faulty ≢ Some Unk }
-    ensures { result ≡ each_pair good faulty }
+    ensures { result ≡ latch_pairs halves good faulty }
 {
+    if !halves {
+        return same(good);
+    }
     match (good, faulty) {
         (Some(good), Some(faulty)) => PairSet::single(good, faulty),
         (Some(good), None) => with_good(good),
-        (None, Some(faulty)) => PairSet::any_two_valued().stick(faulty == Tern::One),
+        (None, Some(faulty)) => with_faulty(faulty),
         (None, None) => PairSet::any_two_valued(),
     }
 }
@@ -78,9 +72,22 @@ fn with_good(good: Tern) -> PairSet
     }
 }
 
+/// The set of a decided faulty half, and a good half that is open.
+#[tactic(auto, unfolding(ht_tern::specs::Pairs::stuck_set, ht_tern::specs::Pairs::set_of))]
+fn with_faulty(faulty: Tern) -> PairSet
+    requires { faulty ≢ Unk }
+    ensures { result ≡ each_pair None (Some faulty) }
+{
+    if faulty == Tern::One {
+        PairSet::any_two_valued().stick(true)
+    } else {
+        PairSet::any_two_valued().stick(false)
+    }
+}
+
 /// Gives each input its set.
 pub fn write_inputs(decisions: &[Option<Tern>], vector: &mut [PairSet])
-    requires { length vector.old < length decisions.now + 1 }
+    requires { length vector.old ≤ length decisions.now }
     ensures { (i : ℕ) → i < length vector.old → get_or vector.new i [] ≡ same_pairs (get_or decisions.now i None) }
 {
     for i in 0..vector.len() {
@@ -98,16 +105,11 @@ pub fn write_latches(
 )
     requires halves { length halves.now ≡ length latches.old }
     requires room { length decisions.now ≡ first + length latches.old + length latches.old }
-    requires fits { length decisions.now < 2 ^ 32 }
     requires definite { (var : ℕ) → get_or decisions.now var None ≢ Some Unk }
-    ensures { (j : ℕ) → j < length latches.old → get_or latches.new j [] ≡ cond (get_or halves.now j false) (each_pair (get_or decisions.now (first + j) None) (get_or decisions.now (first + length latches.old + j) None)) (same_pairs (get_or decisions.now (first + j) None)) }
+    ensures { (j : ℕ) → j < length latches.old → get_or latches.new j [] ≡ latch_by decisions.now first halves.now j }
 {
     let faulty = first + latches.len();
     for j in 0..latches.len() {
-        latches[j] = if halves[j] {
-            each(decisions[first + j], decisions[faulty + j])
-        } else {
-            same(decisions[first + j])
-        };
+        latches[j] = latch(halves[j], decisions[first + j], decisions[faulty + j]);
     }
 }

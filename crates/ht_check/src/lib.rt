@@ -6,12 +6,12 @@
 #![tactic(auto)]
 
 mod decisions;
-mod entry;
 mod one_frame;
+mod passes;
 mod places;
 mod walks;
 
-pub use entry::entry;
+pub use passes::entry;
 
 #[cfg(test)]
 mod tests;

@@ -1,8 +1,8 @@
 // Walks of the one-frame window.
 ghost use Rattle.std.specs.Prelude.{◌≡◌, true, ◌↔◌, IfOk, IsTrue};
 ghost use Rattle.ht_tree.specs.Walks.{IsComplete, next_stack, top_path};
-ghost use Rattle.ht_tree.specs.OneFrame.{one_frame, variable_count};
-ghost use Rattle.ht_check.specs.Paths.{AreAllPlain, FitsOnTop};
+ghost use Rattle.ht_tree.specs.OneFrame.{is_legal, one_frame, variable_count};
+ghost use Rattle.ht_check.specs.Paths.{AreAllPlain, FitsAt, FitsOnTop};
 
 use crate::one_frame::OneFrame;
 use ht_tree::{Status3, Token, Walk};
@@ -34,10 +34,19 @@ fn take(window: &mut OneFrame, walk: &mut Walk, token: Token) -> Result<bool, Al
     ensures plain { IfOk result (λ taken. taken ≡ true → AreAllPlain (variable_count window.old) walk.new.stack) }
 {
     let status = window.status(walk.pending());
-    let fits = match token {
+    if !fits(window, status, token) {
+        return Ok(false);
+    }
+    walk.feed(token)
+}
+
+/// Whether a token fits where the status is this, if it decides no variable again.
+fn fits(window: &OneFrame, status: Status3, token: Token) -> bool
+    ensures { IsTrue result ↔ FitsAt (is_legal window.now) status token }
+{
+    match token {
         Token::Two { var, first: _ } => status == Status3::Open && window.is_legal(var),
         Token::Dead => status == Status3::Dead,
         Token::Three { var: _ } | Token::Before => false,
-    };
-    if fits { walk.feed(token) } else { Ok(false) }
+    }
 }

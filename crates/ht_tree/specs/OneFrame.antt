@@ -45,6 +45,11 @@ same_pairs value = map (λ v. pair v v) (values_left value)
 abbrev pub each_pair : Option Tern → Option Tern → List Pair
 each_pair good faulty = flat_map (λ g. map (λ f. pair g f) (values_left faulty)) (values_left good)
 
+-- a latch: each half by itself, or the same in both machines
+abbrev pub latch_pairs : Bool → Option Tern → Option Tern → List Pair
+latch_pairs true good faulty = each_pair good faulty
+latch_pairs false good faulty = same_pairs good
+
 -- Variable i decides input i; then variable n + j decides flip-flop j, or its good half where j is in z; and n + m + j
 -- decides the faulty half.
 abbrev pub variable_count : Window → ℕ
@@ -54,10 +59,7 @@ abbrev pub input_set : List Assign3 → ℕ → List Pair
 input_set path i = same_pairs (decided_value path i)
 
 abbrev pub latch_set : Window → List Assign3 → ℕ → List Pair
-latch_set w path j =
-    cond (is_in w.z j)
-    (each_pair (decided_value path (w.circuit.inputs + j)) (decided_value path (first_gate_net w.circuit + j)))
-    (same_pairs (decided_value path (w.circuit.inputs + j)))
+latch_set w path j = latch_pairs (is_in w.z j) (decided_value path (w.circuit.inputs + j)) (decided_value path (first_gate_net w.circuit + j))
 
 -- the sets of the inputs and of the latches
 abbrev pub input_sets : Window → List Assign3 → List (List Pair)

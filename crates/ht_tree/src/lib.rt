@@ -21,3 +21,6 @@ pub use laws::{complete_walk_seals, sealed_is_silent};
 pub use lists::{FlipFlops, Tokens};
 pub use token::{Assign3, Status3, Token};
 pub use walk::Walk;
+
+#[cfg(test)]
+mod tests;

@@ -1,0 +1,36 @@
+-- What a refutation means: no list of vectors shows a difference.
+use Rattle.std.proofs.Common.{◌≡◌, ℕ, List, [], Bool, true, false, not, Option, Some, None, length, get_or, replicate, sym, ◌∙◌, ap}
+use Rattle.std.proofs.lemmas.List.{length-replicate}
+use Rattle.ht_net.specs.declared.site.Fault.{Fault}
+use Rattle.ht_net.specs.Netlist.{Netlist, IsCircuit, IsOrder}
+use Rattle.ht_net.specs.Faults.{bool_rules}
+use Rattle.ht_net.specs.Silence.{IsState, Sealed, Silent, bit_at}
+use Rattle.ht_net.specs.Detection.{Detects}
+use Rattle.ht_net.proofs.Depth.{depth_by}
+use Rattle.ht_net.proofs.OrderLaws.{order_ranks}
+use Rattle.ht_serial.proofs.ApartLaws.{detected_apart}
+use Rattle.ht_tree.specs.declared.token.Token.{Token}
+use Rattle.ht_tree.specs.Walks.{IsComplete}
+use Rattle.ht_tree.specs.OneFrame.{Window, is_in, one_frame}
+use Rattle.ht_tree.specs.Refutations.{IsUntestable}
+use Rattle.ht_tree.proofs.SealLaws.{walk_seals, sealed_silent}
+
+not_itself : (b : Bool) → b ≡ not b → ⊥
+not_itself true e = cc
+not_itself false e = cc
+
+-- what is detected is opposite from all states, and a silent state shows no difference
+silent_undetected : (c : Netlist) (fault : Fault) (state : List Bool) → IsState c state → Silent c fault state → (list : List (List Bool)) (t o : ℕ) → ¬ Detects c fault list t o
+silent_undetected c fault state is silent list t o detects =
+    let apart = detected_apart c fault list t o detects state state is is in
+    let same : bit_at c None state list t o ≡ bit_at c (Some fault) state list t o = ap (λ (rows : List (List Bool)). get_or (get_or rows t []) o false) (silent list) in
+    not_itself (bit_at c None state list t o) (same ∙ apart)
+
+pub untestable : (w : Window) (order : List ℕ) (tokens : List Token) → IsCircuit w.circuit → IsOrder w.circuit order → IsComplete (one_frame w) tokens → IsUntestable w.circuit w.fault w.z
+untestable w order tokens circuit ordered complete =
+    let c = w.circuit in
+    let seal = walk_seals w (depth_by c order) circuit (order_ranks c order circuit ordered) tokens complete in
+    let silent = sealed_silent c w.fault (is_in w.z) seal in
+    let zeros : List Bool = replicate (length c.dffs) false in
+    let is : IsState c zeros = length-replicate (length c.dffs) false in
+    record { sealed = seal; silent = silent; undetected = silent_undetected c w.fault zeros is (silent zeros is) }

@@ -1,0 +1,6 @@
+use Rattle.std.proofs.Common.{◌≡◌, ◌<◌, ℕ, get_or, [], None}
+use Rattle.ht_tree.specs.OneFrame.{same_pairs}
+use Rattle.ht_check.proofs.decisions.write_inputs.Given as goal
+
+abbrev pub invariant-loop-i : goal.invariant-loop-i
+invariant-loop-i l = (k : ℕ) → k < l.i → get_or l.vector k [] ≡ same_pairs (get_or l.decisions k None)

@@ -1,0 +1,68 @@
+use Rattle.std.proofs.Common.{◌≡◌, ◌<◌, ◌≤◌, ◌∷◌, [], ◌≢◌, subst, ℕ, List, Option, None, Some, Bool, length, get_or, ap, sym, ◌∙◌, arith, refl}
+use Rattle.std.proofs.lemmas.List.{with_items_is}
+use Rattle.ht_tern.specs.declared.tern.Tern.{Tern}
+use Rattle.ht_tern.specs.declared.tern.Tern.TheVariants.{Unk}
+use Rattle.ht_tern.specs.Pairs.{Pair, pair}
+use Rattle.ht_net.specs.Netlist.{net_count}
+use Rattle.ht_net.specs.Frame.{net_value, values_at, data_values}
+use Rattle.ht_frame.specs.Values.{env_of}
+use Rattle.ht_tree.specs.OneFrame.{Window, is_in, decided_value, same_pairs, input_sets, latch_sets, set_rules, places, status_of, variable_count}
+use Rattle.ht_check.specs.declared.places.Shown.{Shown}
+use Rattle.ht_check.specs.Shown.{shown_by, either, outside_marks}
+use Rattle.ht_check.specs.Fields.{window_of}
+use Rattle.ht_check.specs.Paths.{IsPlain, latch_by}
+use Rattle.ht_check.proofs.DecisionLaws.{written_definite}
+use Rattle.ht_check.proofs.StatusLaws.{inputs_are, latches_are, status_is}
+use Rattle.ht_check.proofs.one_frame.OneFrame.status.Goals as goal
+
+pub write_latches-requires-clause-definite : goal.write_latches-requires-clause-definite
+write_latches-requires-clause-definite c =
+    let a = c.self.inside in
+    let D = c.write_decisions.new.decisions in
+    let d2 : c.deref-2.result.now ≡ D = c.deref-2.ensures.value ∙ with_items_is a.decisions D (omega arith) in
+    let same : variable_count c.args.self.now ≡ variable_count (window_of a) = ap variable_count (sym c.self.view_is) in
+    let room : variable_count c.args.self.now ≡ length D = let s = c.self.invariant.decisions in omega arith in
+    let plain : IsPlain (length D) c.args.path.now = subst (λ (n : ℕ). IsPlain n c.args.path.now) room c.requires in
+    subst (λ (t : List (Option Tern)). (var : ℕ) → get_or t var None ≢ Some Unk) (sym d2)
+    (written_definite D c.args.path.now plain (λ var below. c.write_decisions.ensures var (omega arith)))
+
+pub returns-clause-status : goal.returns-clause-status
+returns-clause-status c =
+    let a = c.self.inside in
+    let i = c.self.invariant in
+    let w = window_of a in
+    let path = c.args.path.now in
+    let blank : List Pair = pair Unk Unk ∷ [] in
+    let D = c.write_decisions.new.decisions in
+    let V : List (List Pair) = c.write_inputs.new.vector in
+    let L : List (List Pair) = c.write_latches.new.latches in
+    let S : List (List Pair) = c.settle.new.values in
+    let N : List (List Pair) = c.capture.new.latches in
+    let d1 : c.deref.result.now ≡ D = c.deref.ensures.value ∙ with_items_is a.decisions D (omega arith) in
+    let d2 : c.deref-2.result.now ≡ D = c.deref-2.ensures.value ∙ with_items_is a.decisions D (omega arith) in
+    let v : c.deref-4.result.now ≡ V = c.deref-4.ensures.value ∙ with_items_is a.vector V (omega arith) in
+    let l : c.deref-5.result.now ≡ L = c.deref-5.ensures.value ∙ with_items_is a.latches L (omega arith) in
+    let s6 : c.deref-6.result.now ≡ S = c.deref-6.ensures.value ∙ with_items_is a.values S (omega arith) in
+    let s7 : c.deref-7.result.now ≡ S = c.deref-7.ensures.value ∙ with_items_is a.values S (omega arith) in
+    let n : c.deref-9.result.now ≡ N = c.deref-9.ensures.value ∙ with_items_is a.next N (omega arith) in
+    let room : length D ≡ variable_count w = let s = i.decisions in omega arith in
+    let wide : length V ≡ w.circuit.inputs = let s = i.vector in omega arith in
+    let held : length L ≡ length w.circuit.dffs = let s = i.latches in omega arith in
+    let written : (var : ℕ) → var < length D → get_or D var None ≡ decided_value path var = λ var below. c.write_decisions.ensures var (omega arith) in
+    let inputs : V ≡ input_sets w path = inputs_are w path D room written V wide
+    (λ k below. c.write_inputs.ensures k (omega arith) ∙ ap (λ (t : List (Option Tern)). same_pairs (get_or t k None)) d1) in
+    let latches : L ≡ latch_sets w path = latches_are w path D room written a.in_z.items L i.mark_count i.marks held
+    (λ j below. c.write_latches.ensures j (omega arith) ∙ (ap (λ (t : List (Option Tern)). latch_by t c.inputs-inputs.result c.deref-3.result.now j) d2
+    ∙ (ap (λ (m : List Bool). latch_by D c.inputs-inputs.result m j) c.deref-3.ensures.value ∙ ap (λ (k : ℕ). latch_by D k a.in_z.items j) c.inputs-inputs.ensures))) in
+    let settled : (x : ℕ) → x < net_count w.circuit → env_of blank S x ≡ net_value w.circuit (set_rules w.fault) V L x = λ x inside.
+    c.settle.ensures x inside ∙ (ap (λ (t : List (List Pair)). net_value w.circuit (set_rules w.fault) t c.deref-5.result.now x) v
+    ∙ ap (λ (t : List (List Pair)). net_value w.circuit (set_rules w.fault) V t x) l) in
+    let taken : N ≡ data_values (set_rules w.fault) (env_of blank S) 0 w.circuit.dffs =
+    c.capture.ensures ∙ ap (λ (t : List (List Pair)). data_values (set_rules w.fault) (env_of blank t) 0 w.circuit.dffs) s6 in
+    let shown : c.and.result ≡ either (shown_by (values_at (env_of blank S) w.circuit.outputs)) (shown_by (outside_marks a.in_z.items N)) =
+    c.and.ensures ∙ (ap (λ (t : Shown). either t c.next_states.result) (c.outputs-shown.ensures ∙ ap (λ (t : List (List Pair)). shown_by (values_at (env_of blank t) w.circuit.outputs)) s7)
+    ∙ ap (λ (t : Shown). either (shown_by (values_at (env_of blank S) w.circuit.outputs)) t)
+    (c.next_states.ensures ∙ (ap (λ (m : List Bool). shown_by (outside_marks m c.deref-9.result.now)) c.deref-8.ensures.value
+    ∙ ap (λ (t : List (List Pair)). shown_by (outside_marks a.in_z.items t)) n))) in
+    c.status.ensures ∙ (status_is w path a.in_z.items V L S N i.circuit i.mark_count i.marks inputs latches settled taken c.and.result shown
+    ∙ ap (λ (w : Window). status_of (places w path)) c.self.view_is)

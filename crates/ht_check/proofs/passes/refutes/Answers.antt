@@ -1,0 +1,17 @@
+use Rattle.std.proofs.Common.{◌≡◌, Bool, Result, Ok, Err, IfOk, subst}
+use Rattle.ht_tree.specs.Walks.{IsComplete}
+use Rattle.ht_tree.specs.OneFrame.{Window, one_frame}
+use Rattle.ht_check.proofs.UntestableLaws.{untestable}
+use Rattle.ht_check.proofs.passes.refutes.Goals as goal
+
+ok_then : {E : Type 0} → (r : Result Bool E) (P Q : Bool → Type 0) → ((b : Bool) → P b → Q b) → IfOk r P → IfOk r Q
+ok_then (Ok b) P Q f h = f b h
+ok_then (Err e) P Q f h = tt
+
+pub returns-clause-sound : goal.returns-clause-sound
+returns-clause-sound c =
+    let w : Window = record { circuit = c.args.circuit.now; fault = c.args.fault; z = c.args.z.now } in
+    let made : c.in_ok-window.window ≡ w = c.in_ok-window.ensures in
+    ok_then c.is_complete.result _ _ (λ b h t.
+    untestable w c.order.result.now c.args.tokens.now c.order.ensures.circuit c.order.ensures.order
+    (subst (λ (w : Window). IsComplete (one_frame w) c.args.tokens.now) made (h.0 t))) c.is_complete.ensures

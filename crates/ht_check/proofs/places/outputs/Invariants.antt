@@ -1,0 +1,11 @@
+use Rattle.std.proofs.Common.{◌≡◌, drop, [], ◌∷◌}
+use Rattle.ht_tern.specs.declared.tern.Tern.TheVariants.{Unk}
+use Rattle.ht_tern.specs.Pairs.{pair}
+use Rattle.ht_net.specs.Frame.{values_at}
+use Rattle.ht_frame.specs.Values.{env_of}
+use Rattle.ht_check.specs.Shown.{either, shown_by}
+use Rattle.ht_check.proofs.places.outputs.Given as goal
+
+abbrev pub invariant-loop-o : goal.invariant-loop-o
+invariant-loop-o l =
+    either l.shown (shown_by (values_at (env_of (pair Unk Unk ∷ []) l.values) (drop l.o l.circuit.outputs))) ≡ shown_by (values_at (env_of (pair Unk Unk ∷ []) l.values) l.circuit.outputs)
