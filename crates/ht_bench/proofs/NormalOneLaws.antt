@@ -1,12 +1,12 @@
 -- A circuit is determined by what it says by names, so a text is the netlist of one circuit at most.
-use Rattle.std.proofs.Common.{◌≡◌, ◌≢◌, ◌⊎◌, inl, inr, ⊎_elim, ℕ, suc, ◌+◌, ◌<◌, ◌≤◌, List, [], ◌∷◌, ◌++◌, length, get_or, map, take, refl, sym, ap, subst, ◌∙◌, arith}
+use Rattle.std.proofs.Common.{◌≡◌, ◌≢◌, inl, inr, ℕ, ◌+◌, ◌<◌, List, [], ◌∷◌, ◌++◌, length, get_or, map, refl, sym, ap, subst, ◌∙◌, arith}
 use Rattle.std.specs.List.{All}
 use Rattle.std.proofs.lemmas.List.{length-take}
 use Rattle.std.proofs.lemmas.List.Elements.{All-head, All-tail, All-from_get_or}
 use Rattle.ht_tern.specs.declared.gate.Kind.{Kind}
 use Rattle.ht_net.specs.declared.site.NetId.{NetId}
-use Rattle.ht_net.specs.Netlist.{Netlist, Gate, IsCircuit, first_gate_net, net_count, gate_at, no_net, no_gate}
-use Rattle.ht_net.specs.Named.{Name, NamedDff, NamedGate, NamedNetlist, name_of, named_dffs, named_gates, named_of}
+use Rattle.ht_net.specs.Netlist.{Netlist, Gate, IsCircuit, first_gate_net, gate_at, no_net, no_gate}
+use Rattle.ht_net.specs.Named.{Name, NamedDff, NamedGate, NamedNetlist, named_dffs, named_gates, named_of}
 use Rattle.ht_statement.specs.Statement.{Statement}
 use Rattle.ht_statement.specs.Reading.{States}
 use Rattle.ht_bench.specs.Text.{IsNetlistOf}
