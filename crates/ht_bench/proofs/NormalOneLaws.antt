@@ -92,11 +92,11 @@ named_inners c x [] = refl
 named_inners c x (g ∷ gates) = ap (λ l. inner_of c.names g ∷ l) (named_inners c (x + 1) gates)
 
 -- the names of all nets, the data pins and the gates, from what a circuit says
-abbrev all_names : NamedNetlist → List Name
+abbrev pub all_names : NamedNetlist → List Name
 all_names n = (n.inputs ++ map (λ (d : NamedDff). d.out) n.dffs) ++ map (λ (g : NamedGate). g.out) n.gates
 
 module _ (c : Netlist) (is : IsCircuit c) where
-  names_are : all_names (named_of c) ≡ c.names
+  pub names_are : all_names (named_of c) ≡ c.names
   names_are = sym (driven_are (named_of c)) ∙ driven_are_names c is
 
   inputs_count : length (named_of c).inputs ≡ c.inputs

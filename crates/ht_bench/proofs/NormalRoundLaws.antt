@@ -31,7 +31,7 @@ use Rattle.ht_bench.proofs.NormalContentLaws.{inputs_are, dffs_are, driven_are_n
 
 -- ---- each line is read
 
-test_from_all : {A : Type 0} (p : A → Bool) (xs : List A) → All (λ x. p x ≡ true) xs → list_all p xs ≡ true
+pub test_from_all : {A : Type 0} (p : A → Bool) (xs : List A) → All (λ x. p x ≡ true) xs → list_all p xs ≡ true
 test_from_all p [] all = refl
 test_from_all p (x ∷ xs) all =
     and_from (p x) (list_all p xs) (All-head (λ y. p y ≡ true) x xs all) (test_from_all p xs (All-tail (λ y. p y ≡ true) x xs all))
