@@ -16,3 +16,4 @@ pub mod NormalListLaws
 pub mod NormalContentLaws
 pub mod NormalRoundLaws
 pub mod NormalOneLaws
+pub mod NormalBackLaws

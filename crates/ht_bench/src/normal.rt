@@ -50,6 +50,7 @@ fn push_outputs(text: &mut Vec<u8>, circuit: &Circuit) -> Result<(), AllocError>
 }
 
 // Appends the lines of the flip-flops.
+#[tactic(auto, using(crate::proofs::NormalLaws::named_dffs_count, crate::proofs::NormalLaws::added_lines))]
 fn push_dffs(text: &mut Vec<u8>, circuit: &Circuit) -> Result<(), AllocError>
     ensures { OnOk result (text.new.items ≡ text.old.items ++ statement_lines (map dff_statement (named_of circuit.now).dffs)) }
 {
@@ -65,6 +66,7 @@ fn push_dffs(text: &mut Vec<u8>, circuit: &Circuit) -> Result<(), AllocError>
 }
 
 // Appends the lines of the gates.
+#[tactic(auto, using(crate::proofs::NormalLaws::named_gates_count, crate::proofs::NormalLaws::added_lines))]
 fn push_gates(text: &mut Vec<u8>, circuit: &Circuit) -> Result<(), AllocError>
     ensures { OnOk result (text.new.items ≡ text.old.items ++ statement_lines (map gate_statement (named_of circuit.now).gates)) }
 {
@@ -83,4 +85,73 @@ fn push_gates(text: &mut Vec<u8>, circuit: &Circuit) -> Result<(), AllocError>
         )?;
     }
     Ok(())
+}
+
+#[cfg(test)]
+mod tests {
+    use super::*;
+    use ht_net::{Builder, NetError};
+    use ht_tern::Kind;
+    use std::test::Fail;
+
+    /// Adds `out = NAND(a, b)`.
+    fn nand(builder: &mut Builder, out: &[u8], a: &[u8], b: &[u8]) -> Result<(), NetError> {
+        let out = builder.net(out)?;
+        let a = builder.net(a)?;
+        let b = builder.net(b)?;
+        builder.gate(Kind::Nand, out, &[a, b])
+    }
+
+    /// Adds `out = BUFF(arg)` and makes it an output.
+    fn buff_output(builder: &mut Builder, out: &[u8], arg: &[u8]) -> Result<(), NetError> {
+        let out = builder.net(out)?;
+        let arg = builder.net(arg)?;
+        builder.gate(Kind::Buf, out, &[arg])?;
+        builder.output(out)
+    }
+
+    /// Adds an input and a flip-flop `out = DFF(pin)`.
+    fn input_and_dff(
+        builder: &mut Builder,
+        input: &[u8],
+        out: &[u8],
+        pin: &[u8],
+    ) -> Result<(), NetError> {
+        let input = builder.net(input)?;
+        let out = builder.net(out)?;
+        let pin = builder.net(pin)?;
+        builder.dff(out, pin)?;
+        builder.input(input)
+    }
+
+    fn toggle(alloc: Global) -> Result<Circuit, NetError> {
+        let mut builder = Builder::new(alloc);
+        nand(&mut builder, b"t", b"en", b"q")?;
+        buff_output(&mut builder, b"z", b"t")?;
+        input_and_dff(&mut builder, b"en", b"q", b"t")?;
+        builder.finish()
+    }
+
+    const TOGGLE: &[u8] = b"INPUT(en)
+OUTPUT(z)
+q = DFF(t)
+t = NAND(en, q)
+z = BUFF(t)
+";
+
+    #[test]
+    fn each_line_is_spelt(rt: HostRuntime) -> Result<(), Fail> {
+        let circuit = toggle(rt.alloc())?;
+        let text = write(rt.alloc(), &circuit)?;
+        assert_eq!(rt; text.as_slice(), TOGGLE);
+        Ok(())
+    }
+
+    #[test]
+    fn no_net_gives_no_line(rt: HostRuntime) -> Result<(), Fail> {
+        let circuit = Builder::new(rt.alloc()).finish()?;
+        let text = write(rt.alloc(), &circuit)?;
+        assert_eq!(rt; text.len(), 0);
+        Ok(())
+    }
 }
