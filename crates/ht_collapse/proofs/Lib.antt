@@ -4,3 +4,8 @@ pub mod LoadLaws
 pub mod LineLaws
 pub mod PairLaws
 pub mod RunLaws
+pub mod FaultListLaws
+pub mod LeadLaws
+pub mod OrderLaws
+pub mod EndLaws
+pub mod ClassLaws

@@ -1,7 +1,6 @@
 -- The faults of a list of sites, by number.
-use Rattle.std.proofs.Common.{◌≡◌, ◌<◌, ◌+◌, ◌*◌, ◌/◌, ◌%◌, ℕ, List, [], ◌∷◌, nat_eq, length, get_or, take, refl, sym, ◌∙◌, ap, arith, inl, inr}
+use Rattle.std.proofs.Common.{◌≡◌, ◌<◌, ◌+◌, ◌*◌, ◌/◌, ◌%◌, ℕ, zero, suc, List, [], ◌∷◌, length, get_or, take, refl, sym, ◌∙◌, ap, arith}
 use Rattle.std.specs.List.{flat_map}
-use Rattle.std.proofs.lemmas.Bool.Decides.{eqb_tells}
 use Rattle.std.proofs.lemmas.List.{length-take-le}
 use Rattle.std.proofs.lemmas.List.Concat.{get_or-flat_map}
 use Rattle.ht_net.specs.declared.site.Site.{Site}
@@ -21,17 +20,15 @@ at_site sites k j s d inside two =
     ap (λ (n : ℕ). get_or (flat_map site_faults sites) (n + j) d) (sym before)
     ∙ get_or-flat_map site_faults sites k j s d inside two
 
--- An even place is stuck-at-0, and an odd one stuck-at-1.
+-- The fault at a place stands on every second site.
 pub fault_at : (sites : List Site) (i : ℕ) (s : Site) (d : Fault) → i < 2 * length sites
-    → get_or (flat_map site_faults sites) i d ≡ record { site = get_or sites (i / 2) s; value = nat_eq (i % 2) 1 }
-fault_at sites i s d inside = elim (eqb_tells (i % 2) 1) [
-  | inl p ↦
-      let place : i ≡ 2 * (i / 2) + 1 = omega (arith, p.1) in
-      ap (λ (n : ℕ). get_or (flat_map site_faults sites) n d) place
-      ∙ (at_site sites (i / 2) 1 s d (omega arith) (omega arith) ∙ rw p.1 refl)
-  | inr p ↦
-      let odd : i % 2 ≡ 0 = omega (arith, p.1) in
-      let place : i ≡ 2 * (i / 2) + 0 = omega (arith, odd) in
-      ap (λ (n : ℕ). get_or (flat_map site_faults sites) n d) place
-      ∙ (at_site sites (i / 2) 0 s d (omega arith) (omega arith) ∙ rw odd refl)
-]
+    → get_or (flat_map site_faults sites) i d ≡ get_or (site_faults (get_or sites (i / 2) s)) (i % 2) d
+fault_at sites i s d inside =
+    let place : i ≡ 2 * (i / 2) + i % 2 = omega arith in
+    ap (λ (n : ℕ). get_or (flat_map site_faults sites) n d) place ∙ at_site sites (i / 2) (i % 2) s d (omega arith) (omega arith)
+
+-- Both faults of a site stand on it.
+pub fault_stands : (s : Site) (k : ℕ) (d : Fault) → k < 2 → (get_or (site_faults s) k d).site ≡ s
+fault_stands s zero d h = refl
+fault_stands s (suc zero) d h = refl
+fault_stands s (suc (suc k)) d h = absurd (omega arith)

@@ -1,10 +1,10 @@
 -- The lines of a circuit that a fault stands on, and the whole fault list.
-use Rattle.std.specs.Prelude.{ℕ, List, ◌++◌, Bool, true, ltb, length, get_or, map}
+use Rattle.std.specs.Prelude.{◌<◌, ◌≤◌, ℕ, List, ◌++◌, Bool, true, ltb, length, get_or, map}
 use Rattle.std.specs.List.{filter, flat_map, range_with_len}
 use Rattle.ht_net.specs.declared.site.Site.{Site}
 use Rattle.ht_net.specs.declared.site.Site.TheVariants.{Stem, DffPin, GatePin}
 use Rattle.ht_net.specs.declared.site.Fault.{Fault}
-use Rattle.ht_net.specs.Netlist.{Netlist, gate_at, arg_at, no_net}
+use Rattle.ht_net.specs.Netlist.{Netlist, net_count, gate_at, arg_at, no_net}
 use Rattle.ht_net.specs.Levels.{loads_of}
 use Rattle.ht_net.specs.Faults.{stems_of, site_faults}
 
@@ -37,6 +37,12 @@ abbrev pub is_site : Netlist → Site → Bool
 is_site c (Stem x) = true
 is_site c (DffPin j) = is_fanout c (data_net c j)
 is_site c (GatePin g i) = is_fanout c (arg_at c g i)
+
+-- the same as a fact: a line of the circuit that is a stem, or a pin that a fan-out net drives
+abbrev pub IsFaultSite : Netlist → Site → Type 0
+IsFaultSite c (Stem x) = x.0 < net_count c
+IsFaultSite c (DffPin j) = (j < length c.dffs) × (2 ≤ loads_of c (data_net c j))
+IsFaultSite c (GatePin g i) = (g < length c.gates) × (i < length (gate_at c g).args) × (2 ≤ loads_of c (arg_at c g i))
 
 -- the fault sites, in the order of the lines
 abbrev pub sites_of : Netlist → List Site

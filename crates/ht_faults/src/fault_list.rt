@@ -1,5 +1,6 @@
 // The fault list.
 ghost use Rattle.std.specs.Prelude.{◌≡◌, ◌<◌, length, get_or, IfOk};
+ghost use Rattle.ht_net.specs.Faults.{site_faults};
 ghost use Rattle.ht_faults.specs.Sites.{faults_of};
 ghost use Rattle.ht_faults.specs.FaultList.{no_fault};
 
@@ -38,8 +39,20 @@ pub fn list(alloc: Global, circuit: &Circuit) -> Result<FaultList, AllocError>
     Ok(FaultList { sites })
 }
 
+/// A fault of a site: the first is stuck-at-0, and the second is stuck-at-1.
+fn fault_of(site: Site, k: u32) -> Fault
+    requires { k < 2 }
+    ensures { result ≡ get_or (site_faults site) k no_fault }
+{
+    Fault {
+        site,
+        value: k == 1,
+    }
+}
+
 impl FaultList {
     /// How many faults there are.
+    #[tactic(auto, using(crate::proofs::ListLaws::faults_count))]
     pub fn len(&self) -> u32
         ensures { result ≡ length self.now }
     {
@@ -51,9 +64,6 @@ impl FaultList {
         requires { i < length self.now }
         ensures { result ≡ get_or self.now i no_fault }
     {
-        Fault {
-            site: self.sites[i as usize / 2],
-            value: i % 2 == 1,
-        }
+        fault_of(self.sites[i as usize / 2], i % 2)
     }
 }

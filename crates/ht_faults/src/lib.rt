@@ -7,6 +7,11 @@
 #![tactic(auto)]
 
 mod fault_list;
+mod laws;
 mod sites;
 
 pub use fault_list::{FaultList, list};
+pub use laws::{exactly_the_sites_are_listed, fault_list_is_short, listed_faults_stand_on_sites};
+
+#[cfg(test)]
+mod tests;

@@ -64,6 +64,7 @@ fn add_gate_pins(sites: &mut Vec<Site>, circuit: &Circuit) -> Result<(), AllocEr
 }
 
 /// The sites of a circuit: stems by net, then data pins by flip-flop, then gate pins by gate and pin.
+#[tactic(auto, using(crate::proofs::SiteLaws::sites_are))]
 pub fn find_sites(alloc: Global, circuit: &Circuit) -> Result<Vec<Site>, AllocError>
     ensures sites { IfOk result (λ sites. sites.items ≡ sites_of circuit.now) }
     ensures circuit { IsCircuit circuit.now }
