@@ -1,6 +1,7 @@
--- Texts, lines and counts that grow.
-use Rattle.std.proofs.Common.{◌≡◌, ◌≤◌, ℕ, ◌+◌, List, [], ◌∷◌, ◌++◌, Bool, true, false, cond, map, Option, None, get_or, append_assoc, refl, sym, ap, ◌∙◌, arith}
+-- Texts, lines and counts that grow, and what may be said.
+use Rattle.std.proofs.Common.{◌≡◌, ◌≤◌, ℕ, ◌+◌, List, [], ◌∷◌, ◌++◌, Bool, true, false, cond, Option, Some, None, get_or, append_assoc, refl, sym, ap, ◌∙◌, arith}
 use Rattle.std.specs.Fmt.{decimal}
+use Rattle.std.specs.Option.{ForSome}
 use Rattle.std.specs.List.{count_by, flat_map, range_with_len}
 use Rattle.std.proofs.lemmas.List.{append-nil, map-id}
 use Rattle.std.proofs.lemmas.List.Concat.{flat_map-append}
@@ -8,7 +9,7 @@ use Rattle.std.proofs.lemmas.List.FromFn.{length-range_with_len, map-range_with_
 use Rattle.std.proofs.lemmas.List.Sums.{count_by-le-length, sum_by_push}
 use Rattle.ht_net.specs.declared.site.Place.{Place}
 use Rattle.ht_net.specs.Netlist.{Netlist}
-use Rattle.ht_texts.specs.Reports.{said_of, fault_line, first_lines}
+use Rattle.ht_texts.specs.Reports.{IsPlace, IsSayable, said_of, fault_line, first_lines}
 
 -- what two words with their numbers leave of a text, then four
 two_counts : (t u v a b : List ℕ) (i j k l : ℕ) → i ≡ k → j ≡ l → u ≡ t ++ a ++ decimal i → v ≡ u ++ b ++ decimal j
@@ -58,3 +59,8 @@ first_lines_more c representatives places n =
     ap (flat_map line) (range_more n)
     ∙ flat_map-append line (range_with_len 0 n) (n ∷ [])
     ∙ ap (λ (l : List ℕ). first_lines c representatives places n ++ l) (append-nil (line n))
+
+-- a first detection at a place of the circuit may be said
+pub is_sayable : (c : Netlist) (place : Option Place) → ForSome place (IsPlace c) → IsSayable c (said_of place)
+is_sayable c None within = tt
+is_sayable c (Some place) within = within place refl
