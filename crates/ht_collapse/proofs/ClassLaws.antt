@@ -1,9 +1,11 @@
 -- The first place of each end is the representative.
-use Rattle.std.proofs.Common.{◌≡◌, ◌≢◌, ◌<◌, ◌+◌, ℕ, List, [], ◌∷◌, ◌++◌, length, get_or, refl, sym, ◌∙◌, ap, arith, inl, inr, subst, length-append}
-use Rattle.std.proofs.lemmas.Bool.{cases_eq}
+use Rattle.std.proofs.Common.{◌≡◌, ◌≢◌, ◌<◌, ◌+◌, ℕ, suc, List, [], ◌∷◌, ◌++◌, length, get_or, refl, sym, ◌∙◌, ap, arith, inl, inr, subst, length-append}
+use Rattle.std.specs.Prelude.{◌↔◌}
+use Rattle.std.proofs.lemmas.Bool.{cases_eq, cases_lt}
 use Rattle.std.proofs.lemmas.List.{get_or_push, get_or_append_left}
 use Rattle.ht_net.specs.Netlist.{Netlist}
-use Rattle.ht_collapse.specs.Classes.{AreClasses}
+use Rattle.ht_faults.specs.Sites.{faults_of}
+use Rattle.ht_collapse.specs.Classes.{SameClass, itself, turned, joined, fault_at, IsRepresentative, AreClasses}
 use Rattle.ht_collapse.specs.Ends.{AreEnds}
 use Rattle.ht_collapse.specs.Places.{AreFirstPlaces}
 
@@ -22,6 +24,48 @@ are_classes c ends places led first = record {
         least = λ k less h. at.first k less ((led.exact k i (omega arith) inside).1 h);
       };
 }
+
+-- Two least numbers of one class are one.
+one_representative : (c : Netlist) (i j r q : ℕ) → SameClass c (fault_at c i) (fault_at c j) → IsRepresentative c i r → IsRepresentative c j q → r ≡ q
+one_representative c i j r q same h k = elim (cases_lt r q) [
+  | inl l ↦ absurd (k.least r l (joined (fault_at c r) (fault_at c i) (fault_at c j) h.member same))
+  | inr m ↦ elim (cases_lt q r) [
+    | inl l ↦ absurd (h.least q l (joined (fault_at c q) (fault_at c j) (fault_at c i) k.member (turned (fault_at c i) (fault_at c j) same)))
+    | inr n ↦ omega arith
+  ]
+]
+
+pub same_representative : (c : Netlist) (representatives : List ℕ) (i j : ℕ) → AreClasses c representatives → i < length (faults_of c) → j < length (faults_of c)
+    → (get_or representatives i 0 ≡ get_or representatives j 0) ↔ SameClass c (fault_at c i) (fault_at c j)
+same_representative c representatives i j h inside there =
+    let a = h.exact i inside in
+    let b = h.exact j there in (
+      λ e. joined (fault_at c i) (fault_at c (get_or representatives i 0)) (fault_at c j) (turned (fault_at c (get_or representatives i 0)) (fault_at c i) a.member)
+          (subst (λ (n : ℕ). SameClass c (fault_at c n) (fault_at c j)) (sym e) b.member),
+      λ same. one_representative c i j (get_or representatives i 0) (get_or representatives j 0) same a b,
+    )
+
+pub own_representative : (c : Netlist) (representatives : List ℕ) (i : ℕ) → AreClasses c representatives → i < length (faults_of c)
+    → get_or representatives (get_or representatives i 0) 0 ≡ get_or representatives i 0
+own_representative c representatives i h inside =
+    let a = h.exact i inside in
+    (same_representative c representatives (get_or representatives i 0) i h a.listed inside).1 a.member
+
+list_by_places : (xs ys : List ℕ) → length xs ≡ length ys → ((i : ℕ) → i < length xs → get_or xs i 0 ≡ get_or ys i 0) → xs ≡ ys
+list_by_places [] [] long h = refl
+list_by_places [] (y ∷ ys) long h = absurd (omega arith)
+list_by_places (x ∷ xs) [] long h = absurd (omega arith)
+list_by_places (x ∷ xs) (y ∷ ys) long h =
+    let here : x ≡ y = h 0 (omega arith) in
+    let rest : xs ≡ ys = list_by_places xs ys (omega arith) (λ i l. h (suc i) (omega arith)) in
+    cc
+
+pub one_list : (c : Netlist) (representatives others : List ℕ) → AreClasses c representatives → AreClasses c others → representatives ≡ others
+one_list c representatives others h k =
+    let long = h.every in
+    let same = k.every in
+    list_by_places representatives others (omega arith)
+    (λ i l. one_representative c i i (get_or representatives i 0) (get_or others i 0) (itself (fault_at c i)) (h.exact i (omega arith)) (k.exact i (omega arith)))
 
 -- The numbers below n that are their own representative, in rising order.
 pub record AreOwnBelow (representatives own : List ℕ) (n : ℕ) : Type 0 where

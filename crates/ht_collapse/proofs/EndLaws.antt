@@ -1,14 +1,16 @@
 -- Faults of the list have one end exactly where they are in one class.
-use Rattle.std.proofs.Common.{◌≡◌, ◌<◌, ◌+◌, ◌⊎◌, ℕ, List, Bool, true, false, cond, Option, Some, None, length, get_or, refl, sym, ◌∙◌, ap, arith, inl, inr, subst}
+use Rattle.std.proofs.Common.{◌≡◌, ◌<◌, ◌≤◌, ◌+◌, ◌⊎◌, ℕ, List, Bool, true, false, cond, Option, Some, None, length, get_or, refl, sym, ◌∙◌, ap, arith, inl, inr, subst}
 use Rattle.ht_net.specs.declared.site.Site.{Site}
 use Rattle.ht_net.specs.declared.site.Site.TheVariants.{Stem, DffPin, GatePin}
 use Rattle.ht_net.specs.declared.site.Fault.{Fault}
 use Rattle.ht_net.specs.Netlist.{Netlist, first_gate_net, net_count, gate_at, arg_at, IsCircuit}
-use Rattle.ht_faults.specs.Sites.{is_fanout, is_site, faults_of}
+use Rattle.ht_faults.specs.Sites.{is_fanout, IsFaultSite, faults_of}
+use Rattle.ht_net.specs.Levels.{loads_of}
+use Rattle.ht_faults.proofs.MemberLaws.{fault_site}
 use Rattle.ht_collapse.specs.Classes.{EquivalentPair, SameClass, itself, paired, turned, joined, fault_at, output_line}
-use Rattle.ht_collapse.specs.Ends.{stem_number, output_value, output_number, StayInClass, GateJoins, IsKnown, end_after, end_by, AreEnds}
-use Rattle.ht_collapse.proofs.LeadLaws.{number_below}
-use Rattle.ht_collapse.proofs.FaultListLaws.{listed_site, listed_once, stem_listed, stems_listed}
+use Rattle.ht_collapse.specs.Ends.{stem_number, output_value, output_number, StayInClass, GateJoins, end_after, end_by, AreEnds}
+use Rattle.ht_collapse.proofs.LeadLaws.{number_below, many_loads}
+use Rattle.ht_collapse.proofs.FaultListLaws.{listed_once, stem_listed, stems_listed}
 
 -- the end of a fault, which is `i` where it is alone in its class
 abbrev end_at : Netlist → List ℕ → ℕ → Fault → ℕ
@@ -79,16 +81,16 @@ module _ (c : Netlist) (circuit : IsCircuit c) (stems : List ℕ) (stay : StayIn
       (subst (λ (x : Fault). SameClass c f x) (sym (stem_listed c (first_gate_net c + g) w (omega arith))) (paired f output pair))
 
   ends_well_by : (i : ℕ) (f : Fault) → i < length (faults_of c) → f ≡ fault_at c i → (s : Site) (v : Bool) → f ≡ record { site = s; value = v }
-      → IsKnown c s → is_site c s ≡ true → EndsWell i f (end_by c stems i s v)
-  ends_well_by i f listed at (Stem x) v is known site =
-      stem_ends_well i x.0 v f known (subst (λ (y : Fault). SameClass c f y) (is ∙ sym (stem_listed c x.0 v known)) (itself f))
-  ends_well_by i f listed at (DffPin j) v is known site = (listed, subst (λ (x : Fault). SameClass c f x) at (itself f))
-  ends_well_by i f listed at (GatePin g p) v is known site = pin_ends_well i g p v f listed at is known.0 known.1 site (output_value c g v) refl
+      → IsFaultSite c s → EndsWell i f (end_by c stems i s v)
+  ends_well_by i f listed at (Stem x) v is site =
+      stem_ends_well i x.0 v f site (subst (λ (y : Fault). SameClass c f y) (is ∙ sym (stem_listed c x.0 v site)) (itself f))
+  ends_well_by i f listed at (DffPin j) v is site = (listed, subst (λ (x : Fault). SameClass c f x) at (itself f))
+  ends_well_by i f listed at (GatePin g p) v is site =
+      let more : 2 ≤ loads_of c (arg_at c g p) = site.2 in
+      pin_ends_well i g p v f listed at is site.0 site.1 (many_loads c (arg_at c g p) (omega arith)) (output_value c g v) refl
 
   ends_well : (i : ℕ) → i < length (faults_of c) → EndsWell i (fault_at c i) (end_at c stems i (fault_at c i))
-  ends_well i listed =
-      let at = listed_site c i listed in
-      ends_well_by i (fault_at c i) listed refl (fault_at c i).site (fault_at c i).value refl at.0 at.1
+  ends_well i listed = ends_well_by i (fault_at c i) listed refl (fault_at c i).site (fault_at c i).value refl (fault_site c i listed)
 
   -- what faults lead to, by number, are ends
   pub are_ends : (ends : List ℕ) → length ends ≡ length (faults_of c)

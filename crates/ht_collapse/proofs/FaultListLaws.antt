@@ -1,4 +1,4 @@
--- The fault list by number: the stems' faults first, each on a site that is there, and each fault once.
+-- The fault list by number: the stems' faults first, and each fault once.
 use Rattle.std.proofs.Common.{◌≡◌, ◌≢◌, ◌<◌, ◌≤◌, ◌+◌, ◌-◌, ◌*◌, ◌/◌, ◌%◌, ℕ, suc, zero, List, [], ◌∷◌, ◌++◌, Bool, true, false, cond, nat_eq, length, get_or, map, refl, sym, ◌∙◌, ap, arith, inl, inr, subst}
 use Rattle.std.specs.List.{filter, flat_map, range_with_len}
 use Rattle.std.proofs.lemmas.Bool.{cases_lt}
@@ -9,12 +9,12 @@ use Rattle.ht_net.specs.declared.site.Site.{Site}
 use Rattle.ht_net.specs.declared.site.Site.TheVariants.{Stem, DffPin, GatePin}
 use Rattle.ht_net.specs.declared.site.Fault.{Fault}
 use Rattle.ht_net.specs.Netlist.{Netlist, net_count, gate_at, no_net, IsCircuit}
-use Rattle.ht_net.specs.Faults.{stems_of}
+use Rattle.ht_net.specs.Faults.{site_faults, stems_of}
 use Rattle.ht_faults.specs.Sites.{data_pins_of, pins_of_gate, gate_pins_of, lines_of, is_site, sites_of, faults_of}
 use Rattle.ht_faults.specs.FaultList.{no_fault}
-use Rattle.ht_faults.proofs.ListLaws as listed
+use Rattle.ht_faults.proofs.ListLaws.{faults_count}
 use Rattle.ht_collapse.specs.Classes.{fault_at}
-use Rattle.ht_collapse.specs.Ends.{stem_number, IsKnown}
+use Rattle.ht_collapse.specs.Ends.{stem_number}
 
 -- each member of a list
 abbrev AllOf : {X : Type 0} → (X → Type 0) → List X → Type 0
@@ -38,18 +38,13 @@ all_map : {X : Type 0} → (P : X → Type 0) (f : ℕ → X) (a n : ℕ) → ((
 all_map P f a zero h = tt
 all_map P f a (suc n) h = (h a (omega arith) (omega arith), all_map P f (a + 1) n (λ k low high. h k (omega arith) (omega arith)))
 
-all_flat : {X : Type 0} → (P : X → Type 0) (f : ℕ → List X) (a n : ℕ) → ((k : ℕ) → a ≤ k → k < a + n → AllOf P (f k)) → AllOf P (flat_map f (range_with_len a n))
-all_flat P f a zero h = tt
-all_flat P f a (suc n) h = all_append P (f a) _ (h a (omega arith) (omega arith)) (all_flat P f (a + 1) n (λ k low high. h k (omega arith) (omega arith)))
+all_keep : {X : Type 0} → (P : X → Type 0) (x : X) (xs : List X) (b : Bool) → P x → AllOf P xs → AllOf P (cond b (x ∷ xs) xs)
+all_keep P x xs true h k = (h, k)
+all_keep P x xs false h k = k
 
-all_keep : {X : Type 0} → (P : X → Type 0) (p : X → Bool) (x : X) (xs : List X) (b : Bool) → p x ≡ b → P x → AllOf (λ y. P y × (p y ≡ true)) xs
-    → AllOf (λ y. P y × (p y ≡ true)) (cond b (x ∷ xs) xs)
-all_keep P p x xs true e h k = ((h, e), k)
-all_keep P p x xs false e h k = k
-
-all_filter : {X : Type 0} → (P : X → Type 0) (p : X → Bool) (xs : List X) → AllOf P xs → AllOf (λ x. P x × (p x ≡ true)) (filter p xs)
+all_filter : {X : Type 0} → (P : X → Type 0) (p : X → Bool) (xs : List X) → AllOf P xs → AllOf P (filter p xs)
 all_filter P p [] h = tt
-all_filter P p (x ∷ xs) h = all_keep P p x (filter p xs) (p x) refl h.0 (all_filter P p xs h.1)
+all_filter P p (x ∷ xs) h = all_keep P x (filter p xs) (p x) h.0 (all_filter P p xs h.1)
 
 -- a list whose members have rising keys
 abbrev Rises : {X : Type 0} → (X → ℕ) → List X → Type 0
@@ -73,16 +68,13 @@ rises_map : {X : Type 0} → (key : X → ℕ) (f : ℕ → X) (a n : ℕ) → (
 rises_map key f a zero h = tt
 rises_map key f a (suc n) h = (all_map (λ y. key (f a) < key y) f (a + 1) n (λ k low high. h a k (omega arith)), rises_map key f (a + 1) n h)
 
-all_kept : {X : Type 0} → (P : X → Type 0) (p : X → Bool) (xs : List X) → AllOf P xs → AllOf P (filter p xs)
-all_kept P p xs h = all_weaken (λ x. P x × (p x ≡ true)) P (λ x k. k.0) (filter p xs) (all_filter P p xs h)
-
 rises_keep : {X : Type 0} → (key : X → ℕ) (x : X) (xs : List X) (b : Bool) → AllOf (λ y. key x < key y) xs → Rises key xs → Rises key (cond b (x ∷ xs) xs)
 rises_keep key x xs true h k = (h, k)
 rises_keep key x xs false h k = k
 
 rises_filter : {X : Type 0} → (key : X → ℕ) (p : X → Bool) (xs : List X) → Rises key xs → Rises key (filter p xs)
 rises_filter key p [] h = tt
-rises_filter key p (x ∷ xs) h = rises_keep key x (filter p xs) (p x) (all_kept (λ y. key x < key y) p xs h.0) (rises_filter key p xs h.1)
+rises_filter key p (x ∷ xs) h = rises_keep key x (filter p xs) (p x) (all_filter (λ y. key x < key y) p xs h.0) (rises_filter key p xs h.1)
 
 -- a number for each line, which rises in the order of the lines
 abbrev line_key : Netlist → Site → ℕ
@@ -127,23 +119,16 @@ module _ (c : Netlist) (circuit : IsCircuit c) where
       gates_are_high : AllOf (λ s. first_pin 0 ≤ line_key c s) (gate_pins_of c) → AllOf (λ s. net_count c + length c.dffs ≤ line_key c s) (gate_pins_of c)
       gates_are_high h = all_weaken (λ s. first_pin 0 ≤ line_key c s) (λ s. net_count c + length c.dffs ≤ line_key c s) (λ s k. omega arith) (gate_pins_of c) h
 
-lines_known : (c : Netlist) → AllOf (IsKnown c) (lines_of c)
-lines_known c =
-    all_append (IsKnown c) (stems_of c) (data_pins_of c ++ gate_pins_of c)
-    (all_map (IsKnown c) (λ x. Stem (record { 0 = x })) 0 (net_count c) (λ k a b. omega arith))
-    (all_append (IsKnown c) (data_pins_of c) (gate_pins_of c)
-    (all_map (IsKnown c) (λ j. DffPin j) 0 (length c.dffs) (λ k a b. omega arith))
-    (all_flat (IsKnown c) (pins_of_gate c) 0 (length c.gates) (λ g a b. all_map (IsKnown c) (λ i. GatePin g i) 0 (length (gate_at c g).args)
-    (λ i low high. let x : g < length c.gates = omega arith in let y : i < length (gate_at c g).args = omega arith in (x, y)))))
-
--- the site of fault i is known, and is a site
-pub listed_site : (c : Netlist) (i : ℕ) → i < length (faults_of c) → IsKnown c (fault_at c i).site × (is_site c (fault_at c i).site ≡ true)
-listed_site c i inside =
-    let count = listed.faults_count (sites_of c) in
-    let all = all_filter (IsKnown c) (is_site c) (lines_of c) (lines_known c) in
-    let at = all_at (λ s. IsKnown c s × (is_site c s ≡ true)) (sites_of c) (i / 2) (Stem no_net) all (omega arith) in
-    let is = listed.fault_at (sites_of c) i (Stem no_net) no_fault (omega arith) in
-    subst (λ (s : Site). IsKnown c s × (is_site c s ≡ true)) (sym (ap (λ (f : Fault). f.site) is)) at
+-- An even place of the list is stuck-at-0, and an odd one stuck-at-1.
+by_place : (sites : List Site) (i : ℕ) (s : Site) (d : Fault) → i < 2 * length sites
+    → get_or (flat_map site_faults sites) i d ≡ record { site = get_or sites (i / 2) s; value = nat_eq (i % 2) 1 }
+by_place [] i s d inside = absurd (omega arith)
+by_place (x ∷ sites) zero s d inside = refl
+by_place (x ∷ sites) (suc zero) s d inside = refl
+by_place (x ∷ sites) (suc (suc i)) s d inside =
+    let half : (suc (suc i)) / 2 ≡ suc (i / 2) = omega arith in
+    let rest : (suc (suc i)) % 2 ≡ i % 2 = omega arith in
+    by_place sites i s d (omega arith) ∙ rw (half, rest) refl
 
 stems_kept : (c : Netlist) (a n : ℕ) → filter (is_site c) (map (λ x. Stem (record { 0 = x })) (range_with_len a n)) ≡ map (λ x. Stem (record { 0 = x })) (range_with_len a n)
 stems_kept c a zero = refl
@@ -163,7 +148,7 @@ stem_site_at c x inside =
 -- the stems are among the sites
 pub stems_listed : (c : Netlist) → 2 * net_count c ≤ length (faults_of c)
 stems_listed c =
-    let count = listed.faults_count (sites_of c) in
+    let count = faults_count (sites_of c) in
     let long = length-map-range_with_len (λ x. Stem (record { 0 = x })) 0 (net_count c) in
     let all = ap (λ (l : List Site). length l) (sites_begin c) in
     let split = Rattle.std.proofs.Common.length-append (stems_of c) (filter (is_site c) (data_pins_of c ++ gate_pins_of c)) in
@@ -171,18 +156,18 @@ stems_listed c =
 
 pub stem_listed : (c : Netlist) (x : ℕ) (v : Bool) → x < net_count c → fault_at c (stem_number x v) ≡ record { site = Stem (record { 0 = x }); value = v }
 stem_listed c x false inside =
-    let count = listed.faults_count (sites_of c) in
+    let count = faults_count (sites_of c) in
     let some = stems_listed c in
     let half : (2 * x) / 2 ≡ x = omega arith in
     let even : (2 * x) % 2 ≡ 0 = omega arith in
-    listed.fault_at (sites_of c) (2 * x) (Stem no_net) no_fault (omega arith)
+    by_place (sites_of c) (2 * x) (Stem no_net) no_fault (omega arith)
     ∙ rw (half, even, stem_site_at c x inside) refl
 stem_listed c x true inside =
-    let count = listed.faults_count (sites_of c) in
+    let count = faults_count (sites_of c) in
     let some = stems_listed c in
     let half : (2 * x + 1) / 2 ≡ x = omega arith in
     let odd : (2 * x + 1) % 2 ≡ 1 = omega arith in
-    listed.fault_at (sites_of c) (2 * x + 1) (Stem no_net) no_fault (omega arith)
+    by_place (sites_of c) (2 * x + 1) (Stem no_net) no_fault (omega arith)
     ∙ rw (half, odd, stem_site_at c x inside) refl
 
 -- a number for each fault, which rises in the order of the list
@@ -191,10 +176,10 @@ fault_key c f = 2 * line_key c f.site + cond f.value 1 0
 
 key_less : (c : Netlist) → IsCircuit c → (i j : ℕ) → i < j → j < length (faults_of c) → fault_key c (fault_at c i) < fault_key c (fault_at c j)
 key_less c circuit i j less inside =
-    let count = listed.faults_count (sites_of c) in
+    let count = faults_count (sites_of c) in
     let rise = rises_filter (line_key c) (is_site c) (lines_of c) (lines_rise c circuit) in
-    let a = listed.fault_at (sites_of c) i (Stem no_net) no_fault (omega arith) in
-    let b = listed.fault_at (sites_of c) j (Stem no_net) no_fault (omega arith) in
+    let a = by_place (sites_of c) i (Stem no_net) no_fault (omega arith) in
+    let b = by_place (sites_of c) j (Stem no_net) no_fault (omega arith) in
     let low : fault_key c (fault_at c i) ≡ 2 * line_key c (get_or (sites_of c) (i / 2) (Stem no_net)) + cond (nat_eq (i % 2) 1) 1 0 = ap (fault_key c) a in
     let high : fault_key c (fault_at c j) ≡ 2 * line_key c (get_or (sites_of c) (j / 2) (Stem no_net)) + cond (nat_eq (j % 2) 1) 1 0 = ap (fault_key c) b in
     elim (cases_lt (i / 2) (j / 2)) [

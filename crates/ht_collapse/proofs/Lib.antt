@@ -1,11 +1,11 @@
-pub mod DepthLaws
-pub mod GateLaws
-pub mod LoadLaws
-pub mod LineLaws
-pub mod PairLaws
+mod DepthLaws
+mod GateLaws
+mod LoadLaws
+mod LineLaws
+mod PairLaws
 pub mod RunLaws
-pub mod FaultListLaws
-pub mod LeadLaws
-pub mod OrderLaws
-pub mod EndLaws
+mod FaultListLaws
+mod LeadLaws
+mod OrderLaws
+mod EndLaws
 pub mod ClassLaws

@@ -13,9 +13,9 @@ use Rattle.ht_net.specs.Netlist.{Netlist, first_gate_net, gate_at, arg_at, IsCir
 use Rattle.ht_net.specs.Frame.{Rules, frame_outputs, next_state, run_outputs, run_state}
 use Rattle.ht_net.specs.Faults.{rules_of, tern_rules, bool_rules}
 use Rattle.ht_net.specs.Detection.{terns_of, unknown_state, tern_outputs, output_at, Opposite, IsBefore, IsFirstDetection}
-use Rattle.ht_faults.specs.Sites.{is_fanout}
+use Rattle.ht_faults.specs.Sites.{is_fanout, faults_of}
 use Rattle.ht_collapse.specs.Table.{equivalent_output}
-use Rattle.ht_collapse.specs.Classes.{EquivalentPair, SameClass, itself, paired, turned, joined, output_line}
+use Rattle.ht_collapse.specs.Classes.{EquivalentPair, SameClass, itself, paired, turned, joined, output_line, fault_at, AreClasses}
 use Rattle.ht_collapse.specs.Alike.{RunAlike}
 use Rattle.ht_collapse.proofs.DepthLaws.{circuit_depth}
 use Rattle.ht_collapse.proofs.GateLaws.{tern_bits, bool_bits, table_holds}
@@ -102,3 +102,8 @@ pub members_detected : (c : Netlist) (f g : Fault) (list : List (List Bool)) (pl
 members_detected c f g list place circuit h =
     let rows : tern_outputs c (Some f) list ≡ tern_outputs c (Some g) list = (tern_members_alike c f g circuit h).outputs (unknown_state c) (map terns_of list) in
     (subst (IsFirstBy c list place) rows, subst (IsFirstBy c list place) (sym rows))
+
+pub representative_detected : (c : Netlist) (representatives : List ℕ) (i : ℕ) (list : List (List Bool)) (place : Option Place) → IsCircuit c → AreClasses c representatives
+    → i < length (faults_of c) → IsFirstDetection c (fault_at c (get_or representatives i 0)) list place ↔ IsFirstDetection c (fault_at c i) list place
+representative_detected c representatives i list place circuit h inside =
+    members_detected c (fault_at c (get_or representatives i 0)) (fault_at c i) list place circuit (h.exact i inside).member

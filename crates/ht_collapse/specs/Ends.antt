@@ -43,12 +43,6 @@ GateJoins c ends g = (i : ℕ) → i < length (gate_at c g).args → PinJoins c 
 pub record OthersStay (c : Netlist) (before after : List ℕ) (g : ℕ) : Type 0 where
   pub stay : (k : ℕ) → ((i : ℕ) (v : Bool) → i < length (gate_at c g).args → k ≢ stem_number (arg_at c g i) v) → get_or after k 0 ≡ get_or before k 0
 
--- a line that is there
-abbrev pub IsKnown : Netlist → Site → Type 0
-IsKnown c (Stem x) = x.0 < net_count c
-IsKnown c (DffPin j) = j < length c.dffs
-IsKnown c (GatePin g i) = (g < length c.gates) × (i < length (gate_at c g).args)
-
 -- where an output fault of gate g leads, or the number i where there is none
 abbrev pub end_after : Netlist → List ℕ → ℕ → ℕ → Option Bool → ℕ
 end_after c ends i g None = i

@@ -1,8 +1,8 @@
 // Where every fault leads.
 ghost use Rattle.std.specs.Prelude.{◌≡◌, ◌<◌, ◌*◌, ◌^◌, length, IfOk};
 ghost use Rattle.ht_net.specs.Netlist.{net_count, IsCircuit};
-ghost use Rattle.ht_faults.specs.Sites.{faults_of};
-ghost use Rattle.ht_collapse.specs.Ends.{IsKnown, end_by, AreEnds};
+ghost use Rattle.ht_faults.specs.Sites.{IsFaultSite, faults_of};
+ghost use Rattle.ht_collapse.specs.Ends.{end_by, AreEnds};
 
 use crate::stems::{number_of, output_net, stem_ends};
 use crate::table::output_of;
@@ -12,7 +12,7 @@ use std::alloc::{AllocError, Global};
 
 /// Where fault `i` leads, by the ends of the stems' faults: to itself, where it is alone in its class.
 fn end_of(circuit: &Circuit, stem_ends: &[u32], i: u32, fault: Fault) -> u32
-    requires known { IsKnown circuit.now fault.site }
+    requires site { IsFaultSite circuit.now fault.site }
     requires ends { length stem_ends.now ≡ 2 * net_count circuit.now }
     ensures { result ≡ end_by circuit.now stem_ends.now i fault.site fault.value }
 {

@@ -14,4 +14,7 @@ mod stems;
 mod table;
 
 pub use classes::{Classes, collapse};
-pub use laws::members_run_alike;
+pub use laws::{classes_are_determined, members_run_alike, representatives_stand_for_members};
+
+#[cfg(test)]
+mod tests;

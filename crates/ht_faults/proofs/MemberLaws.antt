@@ -22,7 +22,7 @@ IsLine c (DffPin j) = j < length c.dffs
 IsLine c (GatePin g i) = (g < length c.gates) × (i < length (gate_at c g).args)
 
 -- a row of lines by number
-row_has : (f : ℕ → Site) (n : ℕ) (s : Site) → Contains (map f (range_with_len 0 n)) s → (i : ℕ) × (i < n) × (f i ≡ s)
+pub row_has : (f : ℕ → Site) (n : ℕ) (s : Site) → Contains (map f (range_with_len 0 n)) s → (i : ℕ) × (i < n) × (f i ≡ s)
 row_has f n s (i, inside, is) =
     let lt : i < n = omega (arith, inside, length-map-range_with_len f 0 n) in
     (i, lt, sym (get_or-map-range_with_len f 0 n i i s lt (omega arith)) ∙ is)

@@ -11,7 +11,10 @@ mod laws;
 mod sites;
 
 pub use fault_list::{FaultList, list};
-pub use laws::{exactly_the_sites_are_listed, fault_list_is_short, listed_faults_stand_on_sites};
+pub use laws::{
+    each_fault_is_listed_once, exactly_the_sites_are_listed, fault_list_is_short,
+    listed_faults_stand_on_sites,
+};
 
 #[cfg(test)]
 mod tests;

@@ -1,9 +1,9 @@
 // The machine over three values.
-ghost use Rattle.std.specs.Prelude.{◌≡◌, ℕ, ◌<◌, length, get_or, IfOk};
+ghost use Rattle.std.specs.Prelude.{◌≡◌, ◌<◌, length, get_or, IfOk};
 ghost use Rattle.ht_tern.specs.declared.tern.Tern.TheVariants.{Unk};
 ghost use Rattle.ht_net.specs.Faults.{tern_rules};
 ghost use Rattle.ht_net.specs.Detection.{terns_of, unknown_state};
-ghost use Rattle.ht_serial.specs.MachineState.{MachineState, started, stepped};
+ghost use Rattle.ht_serial.specs.MachineState.{started, stepped};
 
 use crate::simulator::{Simulator, filled};
 use ht_net::{Circuit, Fault};

@@ -1,8 +1,7 @@
 // A machine over any domain of values, frame after frame.
-ghost use Rattle.std.specs.Prelude.{◌≡◌, ℕ, ◌<◌, ◌≤◌, ◌+◌, length, get_or, replicate, Option, IfOk};
-ghost use Rattle.ht_net.specs.Netlist.{net_count, no_net};
+ghost use Rattle.std.specs.Prelude.{◌≡◌, ◌<◌, length, get_or, replicate, IfOk};
 ghost use Rattle.ht_net.specs.Faults.{rules_of};
-ghost use Rattle.ht_serial.specs.MachineState.{MachineState, started, stepped};
+ghost use Rattle.ht_serial.specs.MachineState.{started, stepped};
 
 use ht_frame::{Domain, MOST_PINS, capture, settle};
 use ht_net::{Circuit, Fault};
