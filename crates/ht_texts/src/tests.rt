@@ -161,9 +161,7 @@ fn shift_register(alloc: Global) -> Result<Circuit, NetError> {
 fn nand(alloc: Global) -> Result<Circuit, NetError> {
     let mut builder = Builder::new(alloc);
     add_ports(&mut builder, b"z")?;
-    let a = builder.net(b"a")?;
-    let z = builder.net(b"z")?;
-    builder.gate(Kind::Nand, z, &[a])?;
+    add_nand(&mut builder, b"z", b"a")?;
     builder.finish()
 }
 
@@ -172,10 +170,7 @@ fn fanout(alloc: Global) -> Result<Circuit, NetError> {
     let mut builder = Builder::new(alloc);
     add_ports(&mut builder, b"z")?;
     add_dff(&mut builder, b"r", b"a")?;
-    let a = builder.net(b"a")?;
-    let r = builder.net(b"r")?;
-    let z = builder.net(b"z")?;
-    builder.gate(Kind::And, z, &[a, r])?;
+    add_and(&mut builder, b"z", b"a", b"r")?;
     builder.finish()
 }
 
@@ -191,4 +186,17 @@ fn add_dff(builder: &mut Builder, out: &[u8], data_pin: &[u8]) -> Result<(), Net
     let out = builder.net(out)?;
     let data_pin = builder.net(data_pin)?;
     builder.dff(out, data_pin)
+}
+
+fn add_nand(builder: &mut Builder, out: &[u8], arg: &[u8]) -> Result<(), NetError> {
+    let out = builder.net(out)?;
+    let arg = builder.net(arg)?;
+    builder.gate(Kind::Nand, out, &[arg])
+}
+
+fn add_and(builder: &mut Builder, out: &[u8], a: &[u8], b: &[u8]) -> Result<(), NetError> {
+    let out = builder.net(out)?;
+    let a = builder.net(a)?;
+    let b = builder.net(b)?;
+    builder.gate(Kind::And, out, &[a, b])
 }
