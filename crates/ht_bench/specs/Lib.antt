@@ -14,3 +14,8 @@ pub mod Contents
 pub mod Accepted
 pub mod Ends
 pub mod Text
+pub mod Cause
+pub mod Added
+pub mod Progress
+pub mod Role
+pub mod Names

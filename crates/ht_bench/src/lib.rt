@@ -8,7 +8,10 @@
 #![tactic(auto)]
 
 mod add;
+mod adding;
+mod again;
 mod arguments;
+mod cause;
 mod cut;
 mod error;
 mod fault;
@@ -17,6 +20,7 @@ mod name;
 mod plain;
 mod reader;
 mod statement;
+mod table;
 
 pub use error::BenchError;
 pub use fault::PlainFault;
