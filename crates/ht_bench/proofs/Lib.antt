@@ -21,3 +21,4 @@ pub mod EndLaws
 pub mod PlaceLaws
 pub mod CycleLaws
 pub mod ExcludeLaws
+pub mod OneLaws

@@ -15,6 +15,7 @@ mod cause;
 mod cut;
 mod error;
 mod fault;
+mod laws;
 mod lines;
 mod name;
 mod plain;
@@ -24,5 +25,6 @@ mod table;
 
 pub use error::BenchError;
 pub use fault::PlainFault;
+pub use laws::one_circuit_per_text;
 pub use plain::read_plain;
 pub use reader::read;
