@@ -1,12 +1,11 @@
 -- A circuit is told by the names of its nets, so a text is the netlist of one circuit.
-use Rattle.std.proofs.Common.{◌≡◌, ◌⊎◌, inl, inr, ⊎_elim, ℕ, zero, suc, ◌<◌, ◌≤◌, ◌+◌, ◌-◌, List, [], ◌∷◌, length, get_or, map, take, refl, sym, ◌∙◌, ap, subst, arith}
+use Rattle.std.proofs.Common.{◌≡◌, ⊎_elim, ℕ, zero, suc, ◌<◌, ◌≤◌, ◌+◌, ◌-◌, List, [], ◌∷◌, length, get_or, map, refl, sym, ◌∙◌, ap, subst, arith}
 use Rattle.std.proofs.lemmas.Bool.{cases_lt}
-use Rattle.std.proofs.lemmas.List.{length-map, length-take-le, get_or-take}
+use Rattle.std.proofs.lemmas.List.{length-take-le, get_or-take}
 use Rattle.ht_tern.specs.declared.gate.Kind.{Kind}
 use Rattle.ht_net.specs.declared.site.NetId.{NetId}
 use Rattle.ht_net.specs.Netlist.{Netlist, Gate, IsCircuit, first_gate_net, no_gate, no_net}
 use Rattle.ht_net.specs.Named.{Name, NamedDff, NamedGate, NamedNetlist, name_of, named_dffs, named_gates, named_of}
-use Rattle.ht_statement.specs.Statement.{Statement}
 use Rattle.ht_bench.specs.Contents.{named_of_statements}
 use Rattle.ht_bench.specs.Text.{IsNetlistOf}
 use Rattle.ht_bench.specs.Added.{NamesDiffer}
