@@ -12,7 +12,6 @@ pub mod AgainLaws
 pub mod EndLaws
 pub mod CycleLaws
 pub mod ExcludeLaws
-pub mod OneLaws
 pub mod NormalLaws
 pub mod NormalLineLaws
 pub mod NormalListLaws

@@ -9,7 +9,6 @@ mod again;
 mod cause;
 mod cut;
 mod error;
-mod laws;
 mod lines;
 mod normal;
 mod reader;
@@ -18,7 +17,6 @@ mod spell;
 mod table;
 
 pub use error::BenchError;
-pub use laws::one_circuit_per_text;
 pub use normal::write;
 pub use reader::read;
 pub use round_trip::{
