@@ -14,3 +14,4 @@ pub mod Contents
 pub mod Accepted
 pub mod Ends
 pub mod Text
+pub mod Normal

@@ -14,11 +14,13 @@ mod error;
 mod fault;
 mod lines;
 mod name;
+mod normal;
 mod plain;
 mod reader;
 mod statement;
 
 pub use error::BenchError;
 pub use fault::PlainFault;
+pub use normal::write;
 pub use plain::read_plain;
 pub use reader::read;

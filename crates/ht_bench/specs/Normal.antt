@@ -1,0 +1,39 @@
+-- The normal text of a circuit (ISCAS-89 format).
+use Rattle.std.specs.Prelude.{ℕ, List, [], ◌∷◌, ◌++◌, map, codes}
+use Rattle.std.specs.List.{flat_map}
+use Rattle.ht_net.specs.Netlist.{Netlist}
+use Rattle.ht_net.specs.Named.{NamedDff, NamedGate, NamedNetlist, named_of}
+use Rattle.ht_statement.specs.Statement.{Statement, Nothing, Input, Output, Dff, Gate}
+use Rattle.ht_bench.specs.Statement.{kind_text, arguments_text}
+
+-- the line that states it
+abbrev pub statement_text : Statement → List ℕ
+statement_text Nothing = []
+statement_text (Input name) = codes "INPUT(" ++ name ++ codes ")"
+statement_text (Output name) = codes "OUTPUT(" ++ name ++ codes ")"
+statement_text (Dff out data_pin) = out ++ codes " = DFF(" ++ data_pin ++ codes ")"
+statement_text (Gate out kind args) = out ++ codes " = " ++ kind_text kind ++ codes "(" ++ arguments_text args ++ codes ")"
+
+-- a line with its LF
+abbrev pub statement_line : Statement → List ℕ
+statement_line statement = statement_text statement ++ codes "\n"
+
+abbrev pub statement_lines : List Statement → List ℕ
+statement_lines statements = flat_map statement_line statements
+
+abbrev pub dff_statement : NamedDff → Statement
+dff_statement d = Dff d.out d.data_pin
+
+abbrev pub gate_statement : NamedGate → Statement
+gate_statement g = Gate g.out g.kind g.args
+
+-- inputs, then outputs, then flip-flops, then gates, each in the order of the circuit
+abbrev pub named_statements : NamedNetlist → List Statement
+named_statements n = map Input n.inputs ++ map Output n.outputs ++ map dff_statement n.dffs ++ map gate_statement n.gates
+
+abbrev pub statements_of : Netlist → List Statement
+statements_of c = named_statements (named_of c)
+
+-- one line for each statement, and nothing else
+abbrev pub normal_text : Netlist → List ℕ
+normal_text c = statement_lines (statements_of c)
