@@ -10,3 +10,9 @@ pub mod DriverLaws
 pub mod ReadLaws
 pub mod UniqueLaws
 pub mod WholeLaws
+pub mod NormalLaws
+pub mod NormalLineLaws
+pub mod NormalListLaws
+pub mod NormalContentLaws
+pub mod NormalRoundLaws
+pub mod NormalOneLaws

@@ -1,18 +1,11 @@
 -- The normal text of a circuit (ISCAS-89 format).
-use Rattle.std.specs.Prelude.{ℕ, List, [], ◌∷◌, ◌++◌, map, codes}
-use Rattle.std.specs.List.{flat_map}
+use Rattle.std.specs.Prelude.{◌≡◌, ℕ, true, List, [], ◌∷◌, ◌++◌, map, codes}
+use Rattle.std.specs.List.{flat_map, list_all}
 use Rattle.ht_net.specs.Netlist.{Netlist}
 use Rattle.ht_net.specs.Named.{NamedDff, NamedGate, NamedNetlist, named_of}
-use Rattle.ht_statement.specs.Statement.{Statement, Nothing, Input, Output, Dff, Gate}
-use Rattle.ht_bench.specs.Statement.{kind_text, arguments_text}
-
--- the line that states it
-abbrev pub statement_text : Statement → List ℕ
-statement_text Nothing = []
-statement_text (Input name) = codes "INPUT(" ++ name ++ codes ")"
-statement_text (Output name) = codes "OUTPUT(" ++ name ++ codes ")"
-statement_text (Dff out data_pin) = out ++ codes " = DFF(" ++ data_pin ++ codes ")"
-statement_text (Gate out kind args) = out ++ codes " = " ++ kind_text kind ++ codes "(" ++ arguments_text args ++ codes ")"
+use Rattle.ht_statement.specs.Name.{is_name}
+use Rattle.ht_statement.specs.Statement.{Statement, Input, Output, Dff, Gate}
+use Rattle.ht_statement.specs.Normal.{statement_text}
 
 -- a line with its LF
 abbrev pub statement_line : Statement → List ℕ
@@ -37,3 +30,7 @@ statements_of c = named_statements (named_of c)
 -- one line for each statement, and nothing else
 abbrev pub normal_text : Netlist → List ℕ
 normal_text c = statement_lines (statements_of c)
+
+-- each net has a name of the format
+abbrev pub HasFormatNames : Netlist → Type 0
+HasFormatNames c = list_all is_name c.names ≡ true

@@ -17,6 +17,8 @@ mod name;
 mod normal;
 mod plain;
 mod reader;
+mod round_trip;
+mod spell;
 mod statement;
 
 pub use error::BenchError;
@@ -24,3 +26,4 @@ pub use fault::PlainFault;
 pub use normal::write;
 pub use plain::read_plain;
 pub use reader::read;
+pub use round_trip::{a_netlist_is_of_one_circuit, normal_text_is_a_netlist_of_its_circuit};

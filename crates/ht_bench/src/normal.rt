@@ -1,8 +1,11 @@
 // The writer of normal text.
-ghost use Rattle.std.specs.Prelude.{◌≡◌, IfOk};
-ghost use Rattle.ht_bench.specs.Normal.{normal_text};
+ghost use Rattle.std.specs.Prelude.{◌≡◌, ◌++◌, map, IfOk, OnOk};
+ghost use Rattle.ht_net.specs.Named.{named_of};
+ghost use Rattle.ht_statement.specs.Statement.{Input, Output};
+ghost use Rattle.ht_bench.specs.Normal.{statement_lines, dff_statement, gate_statement, normal_text};
 
-use ht_net::Circuit;
+use crate::spell::{push_dff, push_gate, push_input, push_output};
+use ht_net::{Circuit, NetId};
 use std::alloc::{AllocError, Global};
 
 /// The normal text of a circuit (ISCAS-89 format): INPUT lines by input, OUTPUT lines by output, flip-flop lines by
@@ -13,5 +16,140 @@ use std::alloc::{AllocError, Global};
 pub fn write(alloc: Global, circuit: &Circuit) -> Result<Vec<u8>, AllocError>
     ensures { IfOk result (λ text. text.items ≡ normal_text circuit.now) }
 {
-    Err(AllocError)
+    let mut text = Vec::new(alloc);
+    push_inputs(&mut text, circuit)?;
+    push_outputs(&mut text, circuit)?;
+    push_dffs(&mut text, circuit)?;
+    push_gates(&mut text, circuit)?;
+    Ok(text)
+}
+
+// Appends the lines of the inputs.
+fn push_inputs(text: &mut Vec<u8>, circuit: &Circuit) -> Result<(), AllocError>
+    ensures { OnOk result (text.new.items ≡ text.old.items ++ statement_lines (map Input (named_of circuit.now).inputs)) }
+{
+    let nets = circuit.nets();
+    for input in 0..circuit.inputs() {
+        prove!(input < nets);
+        push_input(text, circuit.name(NetId(input)))?;
+    }
+    Ok(())
+}
+
+// Appends the lines of the outputs.
+fn push_outputs(text: &mut Vec<u8>, circuit: &Circuit) -> Result<(), AllocError>
+    ensures { OnOk result (text.new.items ≡ text.old.items ++ statement_lines (map Output (named_of circuit.now).outputs)) }
+{
+    let nets = circuit.nets();
+    for output in 0..circuit.outputs() {
+        let net = circuit.output(output);
+        prove!(net.0 < nets);
+        push_output(text, circuit.name(net))?;
+    }
+    Ok(())
+}
+
+// Appends the lines of the flip-flops.
+fn push_dffs(text: &mut Vec<u8>, circuit: &Circuit) -> Result<(), AllocError>
+    ensures { OnOk result (text.new.items ≡ text.old.items ++ statement_lines (map dff_statement (named_of circuit.now).dffs)) }
+{
+    let nets = circuit.nets();
+    let first = circuit.inputs();
+    for dff in 0..circuit.dffs() {
+        let out = NetId(first + dff);
+        let data_pin = circuit.dff_data(dff);
+        prove!(out.0 < nets && data_pin.0 < nets);
+        push_dff(text, circuit.name(out), circuit.name(data_pin))?;
+    }
+    Ok(())
+}
+
+// Appends the lines of the gates.
+fn push_gates(text: &mut Vec<u8>, circuit: &Circuit) -> Result<(), AllocError>
+    ensures { OnOk result (text.new.items ≡ text.old.items ++ statement_lines (map gate_statement (named_of circuit.now).gates)) }
+{
+    let nets = circuit.nets();
+    let first = circuit.inputs() + circuit.dffs();
+    for gate in 0..circuit.gates() {
+        let out = NetId(first + gate);
+        prove!(out.0 < nets);
+        let args = circuit.gate_args(gate);
+        push_gate(
+            text,
+            circuit,
+            circuit.name(out),
+            circuit.gate_kind(gate),
+            args,
+        )?;
+    }
+    Ok(())
+}
+
+#[cfg(test)]
+mod tests {
+    use super::*;
+    use ht_net::{Builder, NetError};
+    use ht_tern::Kind;
+    use std::test::Fail;
+
+    /// Adds `out = NAND(a, b)`.
+    fn nand(builder: &mut Builder, out: &[u8], a: &[u8], b: &[u8]) -> Result<(), NetError> {
+        let out = builder.net(out)?;
+        let a = builder.net(a)?;
+        let b = builder.net(b)?;
+        builder.gate(Kind::Nand, out, &[a, b])
+    }
+
+    /// Adds `out = BUFF(arg)` and makes it an output.
+    fn buff_output(builder: &mut Builder, out: &[u8], arg: &[u8]) -> Result<(), NetError> {
+        let out = builder.net(out)?;
+        let arg = builder.net(arg)?;
+        builder.gate(Kind::Buf, out, &[arg])?;
+        builder.output(out)
+    }
+
+    /// Adds an input and a flip-flop `out = DFF(pin)`.
+    fn input_and_dff(
+        builder: &mut Builder,
+        input: &[u8],
+        out: &[u8],
+        pin: &[u8],
+    ) -> Result<(), NetError> {
+        let input = builder.net(input)?;
+        let out = builder.net(out)?;
+        let pin = builder.net(pin)?;
+        builder.dff(out, pin)?;
+        builder.input(input)
+    }
+
+    fn toggle(alloc: Global) -> Result<Circuit, NetError> {
+        let mut builder = Builder::new(alloc);
+        nand(&mut builder, b"t", b"en", b"q")?;
+        buff_output(&mut builder, b"z", b"t")?;
+        input_and_dff(&mut builder, b"en", b"q", b"t")?;
+        builder.finish()
+    }
+
+    const TOGGLE: &[u8] = b"INPUT(en)
+OUTPUT(z)
+q = DFF(t)
+t = NAND(en, q)
+z = BUFF(t)
+";
+
+    #[test]
+    fn each_line_is_spelt(rt: HostRuntime) -> Result<(), Fail> {
+        let circuit = toggle(rt.alloc())?;
+        let text = write(rt.alloc(), &circuit)?;
+        assert_eq!(rt; text.as_slice(), TOGGLE);
+        Ok(())
+    }
+
+    #[test]
+    fn no_net_gives_no_line(rt: HostRuntime) -> Result<(), Fail> {
+        let circuit = Builder::new(rt.alloc()).finish()?;
+        let text = write(rt.alloc(), &circuit)?;
+        assert_eq!(rt; text.len(), 0);
+        Ok(())
+    }
 }

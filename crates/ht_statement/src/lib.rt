@@ -4,10 +4,19 @@
 //! `specs/Reading.antt` has the whole rule. What lines state together is another crate's.
 #![tactic(auto)]
 
+mod arguments;
+mod element;
 mod fault;
+mod form;
+mod keyword;
+mod name;
+mod next;
+mod normal;
 mod reading;
 mod statement;
+mod token;
 
 pub use fault::{LineFault, LineRefusal};
+pub use normal::{normal_text_is_read, stated_is_sound};
 pub use reading::read_line;
 pub use statement::Statement;

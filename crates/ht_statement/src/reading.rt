@@ -1,11 +1,65 @@
 // The reading of a line.
-ghost use Rattle.std.specs.Prelude.{◌≡◌, IfOk, IfErr};
-ghost use Rattle.ht_statement.specs.Reading.{States, reading_of, IsWhy};
-ghost use Rattle.ht_statement.specs.StatementOf.{statement_of};
+ghost use Rattle.std.specs.Prelude.{◌≡◌, option_map, IfOk, IfErr};
+ghost use Rattle.std.specs.List.{list_all};
+ghost use Rattle.ht_statement.specs.FormOf.{form_meant};
+ghost use Rattle.ht_statement.specs.Name.{is_name};
+ghost use Rattle.ht_statement.specs.Element.{element_named};
+ghost use Rattle.ht_statement.specs.Reading.{States, IsRefused, form_reading, definition_reading, reading_of, IsWhy};
+ghost use Rattle.ht_statement.specs.StatementOf.{texts_of, statement_of};
 
-use crate::fault::LineFault;
+use crate::element::{Element, element_named, has_count};
+use crate::fault::{LineFault, LineRefusal};
+use crate::form::{Form, read_form};
+use crate::name::is_name;
 use crate::statement::Statement;
 use std::alloc::Global;
+
+/// Whether all texts are names.
+fn are_names(texts: &[&[u8]]) -> bool
+    ensures { result ≡ list_all is_name (texts_of texts.now) }
+{
+    texts.iter().all(|text| is_name(text))
+}
+
+/// What a definition states whose names are names.
+fn defined<'a>(
+    out: &'a [u8],
+    kind: &[u8],
+    args: Vec<&'a [u8]>,
+) -> Result<Statement<'a>, LineRefusal>
+    ensures states { IfOk result (λ statement. definition_reading out.now (texts_of args.entry.items) (element_named kind.now) ≡ States (statement_of statement)) }
+    ensures refusal { IfErr result (λ refusal. definition_reading out.now (texts_of args.entry.items) (element_named kind.now) ≡ IsRefused refusal) }
+{
+    let Some(element) = element_named(kind) else {
+        return Err(LineRefusal::BadKind);
+    };
+    if !has_count(element, args.len()) {
+        return Err(LineRefusal::BadCount);
+    }
+    match element {
+        Element::FlipFlop => Ok(Statement::Dff {
+            out,
+            data_pin: args[0],
+        }),
+        Element::Gate(kind) => Ok(Statement::Gate { out, kind, args }),
+    }
+}
+
+/// What a line of a form states.
+fn stated<'a>(form: Form<'a>) -> Result<Statement<'a>, LineRefusal>
+    ensures states { IfOk result (λ statement. form_reading (form_meant form.entry) ≡ States (statement_of statement)) }
+    ensures refusal { IfErr result (λ refusal. form_reading (form_meant form.entry) ≡ IsRefused refusal) }
+{
+    match form {
+        Form::Blank => Ok(Statement::Nothing),
+        Form::Input(name) if is_name(name) => Ok(Statement::Input(name)),
+        Form::Output(name) if is_name(name) => Ok(Statement::Output(name)),
+        Form::Definition { out, kind, args } if is_name(out) && are_names(&args) => {
+            defined(out, kind, args)
+        }
+        _ => Err(LineRefusal::BadName),
+    }
+}
 
 /// What a line states.
 ///
@@ -15,5 +69,8 @@ pub fn read_line<'a>(alloc: Global, line: &'a [u8]) -> Result<Statement<'a>, Lin
     ensures states { IfOk result (λ statement. reading_of line.now ≡ States (statement_of statement)) }
     ensures refusal { IfErr result (IsWhy line.now) }
 {
-    Err(LineFault::NoMemory)
+    let Some(form) = read_form(alloc, line)? else {
+        return Err(LineFault::Refused(LineRefusal::BadLine));
+    };
+    Ok(stated(form)?)
 }

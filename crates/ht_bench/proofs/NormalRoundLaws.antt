@@ -1,0 +1,153 @@
+-- The normal text of a circuit is a netlist of that circuit.
+use Rattle.std.specs.Prelude.{leb, eqb}
+use Rattle.std.proofs.Common.{◌≡◌, ◌≢◌, ℕ, ◌+◌, ◌<◌, ◌≤◌, List, [], ◌∷◌, ◌++◌, Bool, true, ◌&&◌, length, get_or, map, take, sum_by, append_assoc, refl, sym, ap, subst, ◌∙◌, arith}
+use Rattle.std.specs.List.{All, Contains, flat_map, list_all}
+use Rattle.std.proofs.lemmas.Bool.{and_from}
+use Rattle.std.proofs.lemmas.Bool.Decides.{nat_tests}
+use Rattle.std.proofs.lemmas.List.{length-append, length-take}
+use Rattle.std.proofs.lemmas.List.Concat.{flat_map-append}
+use Rattle.std.proofs.lemmas.List.Sums.{sum_by-append}
+use Rattle.std.proofs.lemmas.List.Elements.{All-nil, All-cons, All-append, All-head, All-tail, All-map, All-weaker, All-contains, Contains-append_left, Contains-get_or}
+use Rattle.ht_tern.specs.declared.gate.Kind.{Kind}
+use Rattle.ht_tern.specs.declared.gate.Kind.TheVariants.{And, Nand, Or, Nor, Xor, Xnor, Not, Buf}
+use Rattle.ht_tern.specs.Gate.{HasArity}
+use Rattle.ht_net.specs.Netlist.{Netlist, IsCircuit}
+use Rattle.ht_net.specs.Named.{Name, NamedGate, named_of}
+use Rattle.ht_statement.specs.Name.{is_name}
+use Rattle.ht_statement.specs.Element.{GateOf, has_count}
+use Rattle.ht_statement.specs.Statement.{Statement, Input, Output, names_in}
+use Rattle.ht_statement.specs.Reading.{States, reading_of}
+use Rattle.ht_statement.specs.Normal.{statement_text, has_its_count, CanBeStated}
+use Rattle.ht_statement.proofs.NormalLaws.{normal_reads}
+use Rattle.ht_bench.specs.Different.{different}
+use Rattle.ht_bench.specs.Contents.{inputs_in, dffs_in, gates_in, driven_in, inputs_of, dffs_of, gates_of, driven_by, mentions_of, nets_of, pins_of}
+use Rattle.ht_bench.specs.Accepted.{IsWithinLimits, HasNewDriver, IsAccepted, AreAccepted}
+use Rattle.ht_bench.specs.Ends.{AreDriven}
+use Rattle.ht_bench.specs.Text.{readings_of, IsNetlistOf}
+use Rattle.ht_bench.specs.Normal.{dff_statement, gate_statement, statements_of, normal_text, HasFormatNames}
+use Rattle.ht_bench.proofs.NormalLaws.{length-named_dffs}
+use Rattle.ht_bench.proofs.NormalLineLaws.{AreNames, all_from_test, lines_of_statements}
+use Rattle.ht_bench.proofs.NormalListLaws.{AllDiffer, All-left, All-flat_map, differ_apart, length-different}
+use Rattle.ht_bench.proofs.NormalContentLaws.{inputs_are, dffs_are, driven_are_names, names_differ, statements_say, pins_are, statements_made, gates_have_counts}
+
+-- ---- each line is read
+
+test_from_all : {A : Type 0} (p : A → Bool) (xs : List A) → All (λ x. p x ≡ true) xs → list_all p xs ≡ true
+test_from_all p [] all = refl
+test_from_all p (x ∷ xs) all =
+    and_from (p x) (list_all p xs) (All-head (λ y. p y ≡ true) x xs all) (test_from_all p xs (All-tail (λ y. p y ≡ true) x xs all))
+
+one_is_tested : (count : ℕ) → count ≡ 1 → eqb count 1 ≡ true
+one_is_tested count one = grind (arith, nat_tests)
+
+some_are_tested : (count : ℕ) → 0 < count → count ≤ 255 → (leb 1 count && leb count 255) ≡ true
+some_are_tested count some few = grind (arith, nat_tests)
+
+count_is_tested : (kind : Kind) (count : ℕ) → HasArity kind count → count ≤ 255 → has_count (GateOf kind) count ≡ true
+count_is_tested And count arity few = some_are_tested count arity few
+count_is_tested Nand count arity few = some_are_tested count arity few
+count_is_tested Or count arity few = some_are_tested count arity few
+count_is_tested Nor count arity few = some_are_tested count arity few
+count_is_tested Xor count arity few = some_are_tested count arity few
+count_is_tested Xnor count arity few = some_are_tested count arity few
+count_is_tested Not count arity few = one_is_tested count arity
+count_is_tested Buf count arity few = one_is_tested count arity
+
+texts_read : (statements : List Statement) → All CanBeStated statements → map reading_of (map statement_text statements) ≡ map States statements
+texts_read [] can = refl
+texts_read (s ∷ statements) can =
+    let here : reading_of (statement_text s) ≡ States s = normal_reads s (All-head CanBeStated s statements can) in
+    let rest = texts_read statements (All-tail CanBeStated s statements can) in
+    cc
+
+-- ---- the first of the statements say no more than all
+
+first_say_less : {B : Type 0} (f : Statement → List B) (first rest : List Statement) → length (flat_map f first) ≤ length (flat_map f (first ++ rest))
+first_say_less f first rest = omega (arith, ap length (flat_map-append f first rest), length-append (flat_map f first) (flat_map f rest))
+
+fewer_pins : (first rest : List Statement) → pins_of first ≤ pins_of (first ++ rest)
+fewer_pins first rest =
+    let args : NamedGate → ℕ = λ g. length g.args in
+    let dffs = first_say_less dffs_in first rest in
+    let gates = ap (sum_by args) (flat_map-append gates_in first rest) in
+    let sums = sum_by-append args (gates_of first) (gates_of rest) in
+    omega arith
+
+module _ (c : Netlist) (is : IsCircuit c) where
+  -- ---- the statements are accepted
+
+  within_limits : (first rest : List Statement) → statements_of c ≡ first ++ rest → IsWithinLimits first
+  within_limits first rest cut =
+      let made : All (Contains c.names) (mentions_of (statements_of c)) = All-flat_map (Contains c.names) names_in (statements_of c) (statements_made c is) in
+      let parts : mentions_of (statements_of c) ≡ mentions_of first ++ mentions_of rest = ap mentions_of cut ∙ flat_map-append names_in first rest in
+      let mentioned : All (Contains c.names) (mentions_of first) = All-left (Contains c.names) (mentions_of first) (mentions_of rest) (subst (All (Contains c.names)) parts made) in
+      let nets : length (nets_of first) ≤ length c.names = length-different (mentions_of first) c.names mentioned in
+      let named = is.named in
+      let few_nets = is.few_nets in
+      let few_pins = is.few_pins in
+      let few_inputs = is.few_inputs in
+      let few_dffs = is.few_dffs in
+      record {
+        nets = omega arith;
+        pins = omega (arith, fewer_pins first rest, ap pins_of cut, pins_are c is);
+        inputs = omega (arith, first_say_less inputs_in first rest, ap (λ s. length (inputs_of s)) cut, ap length (inputs_are (named_of c)), length-take c.inputs c.names);
+        dffs = omega (arith, first_say_less dffs_in first rest, ap (λ s. length (dffs_of s)) cut, ap length (dffs_are (named_of c)), length-named_dffs c c.inputs c.dffs);
+      }
+
+  new_driver : (before after : List Statement) (s : Statement) → statements_of c ≡ before ++ s ∷ after → HasNewDriver before s
+  new_driver before after s cut k d below driven =
+      let parts : c.names ≡ driven_by before ++ (driven_in s ++ driven_by after) = sym (driven_are_names c is) ∙ ap driven_by cut ∙ flat_map-append driven_in before (s ∷ after) in
+      differ_apart (driven_by before) (driven_in s ++ driven_by after) (get_or (driven_in s) k d) (subst AllDiffer parts (names_differ c is)) driven
+      (Contains-append_left (driven_in s) (driven_by after) (get_or (driven_in s) k d) (Contains-get_or (driven_in s) k d below))
+
+  accepted : AreAccepted (statements_of c)
+  accepted before after s cut = record {
+    new_driver = new_driver before after s cut;
+    limits = within_limits (before ++ s ∷ []) after (cut ∙ sym (append_assoc before (s ∷ []) after));
+  }
+
+  all_driven : AreDriven (statements_of c) (mentions_of (statements_of c))
+  all_driven =
+      subst (λ names. All (Contains names) (mentions_of (statements_of c))) (sym (driven_are_names c is))
+      (All-flat_map (Contains c.names) names_in (statements_of c) (statements_made c is))
+
+  -- ---- the statements can be stated
+
+  have_counts : All (λ s. has_its_count s ≡ true) (statements_of c)
+  have_counts =
+      let n = named_of c in
+      let HasIts : Statement → Type 0 = λ s. has_its_count s ≡ true in
+      let gates : All HasIts (map gate_statement n.gates) =
+      All-map HasIts gate_statement n.gates
+      (All-weaker (λ (g : NamedGate). HasArity g.kind (length g.args) × (length g.args ≤ 255)) (λ g. HasIts (gate_statement g))
+      (λ g has. count_is_tested g.kind (length g.args) has.0 has.1) n.gates (gates_have_counts c is)) in
+      All-append HasIts ((map Input n.inputs ++ map Output n.outputs) ++ map dff_statement n.dffs) (map gate_statement n.gates)
+      (All-append HasIts (map Input n.inputs ++ map Output n.outputs) (map dff_statement n.dffs)
+      (All-append HasIts (map Input n.inputs) (map Output n.outputs) (All-map HasIts Input n.inputs (λ k d below. refl)) (All-map HasIts Output n.outputs (λ k d below. refl)))
+      (All-map HasIts dff_statement n.dffs (λ k d below. refl)))
+      gates
+
+  module _ (good : HasFormatNames c) where
+    have_names : All (λ s. AreNames (names_in s)) (statements_of c)
+    have_names =
+        let all : AreNames c.names = all_from_test is_name (λ name. is_name name ≡ true) (λ name yes. yes) c.names good in
+        All-weaker (λ s. All (Contains c.names) (names_in s)) (λ s. AreNames (names_in s))
+        (λ s made. All-weaker (Contains c.names) (λ name. is_name name ≡ true) (λ name has. All-contains (λ n. is_name n ≡ true) c.names name all has) (names_in s) made)
+        (statements_of c) (statements_made c is)
+
+    can_be_stated : All CanBeStated (statements_of c)
+    can_be_stated k d below =
+        let s = get_or (statements_of c) k d in
+        record { names = test_from_all is_name (names_in s) (have_names k d below); count = have_counts k d below }
+
+    pub normal_is_netlist : IsNetlistOf (normal_text c) c
+    normal_is_netlist = record {
+      statements = statements_of c;
+      read = record {
+        lines = ap (map reading_of) (lines_of_statements (statements_of c) have_names) ∙ texts_read (statements_of c) can_be_stated;
+        accepted = accepted;
+      };
+      driven = all_driven;
+      is_circuit = is;
+      named = statements_say c is;
+    }

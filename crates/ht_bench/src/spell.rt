@@ -1,0 +1,89 @@
+// The lines of normal text.
+ghost use Rattle.std.specs.Prelude.{◌≡◌, ◌<◌, ◌++◌, map, All, OnOk};
+ghost use Rattle.ht_net.specs.declared.site.NetId.{NetId};
+ghost use Rattle.ht_net.specs.Netlist.{net_count};
+ghost use Rattle.ht_net.specs.Named.{name_of};
+ghost use Rattle.ht_statement.specs.Statement.{Input, Output, Dff, Gate};
+ghost use Rattle.ht_statement.specs.Normal.{kind_text, arguments_text};
+ghost use Rattle.ht_bench.specs.Normal.{statement_line};
+
+use ht_net::{Circuit, NetId};
+use ht_tern::Kind;
+use std::alloc::AllocError;
+
+// Appends the line of an input.
+pub(crate) fn push_input(text: &mut Vec<u8>, name: &[u8]) -> Result<(), AllocError>
+    ensures { OnOk result (text.new.items ≡ text.old.items ++ statement_line (Input name.now)) }
+{
+    text.extend_from_slice(b"INPUT(")?;
+    text.extend_from_slice(name)?;
+    text.extend_from_slice(b")\n")
+}
+
+// Appends the line of an output.
+pub(crate) fn push_output(text: &mut Vec<u8>, name: &[u8]) -> Result<(), AllocError>
+    ensures { OnOk result (text.new.items ≡ text.old.items ++ statement_line (Output name.now)) }
+{
+    text.extend_from_slice(b"OUTPUT(")?;
+    text.extend_from_slice(name)?;
+    text.extend_from_slice(b")\n")
+}
+
+// Appends the line of a flip-flop, by its net and the net at its data pin.
+pub(crate) fn push_dff(text: &mut Vec<u8>, out: &[u8], data_pin: &[u8]) -> Result<(), AllocError>
+    ensures { OnOk result (text.new.items ≡ text.old.items ++ statement_line (Dff out.now data_pin.now)) }
+{
+    text.extend_from_slice(out)?;
+    text.extend_from_slice(b" = DFF(")?;
+    text.extend_from_slice(data_pin)?;
+    text.extend_from_slice(b")\n")
+}
+
+// Appends the line of a gate, by the name of its net, its kind and the nets of its arguments.
+pub(crate) fn push_gate(
+    text: &mut Vec<u8>,
+    circuit: &Circuit,
+    out: &[u8],
+    kind: Kind,
+    args: &[NetId],
+) -> Result<(), AllocError>
+    requires { All (λ (net : NetId). net.0 < net_count circuit.now) args.now }
+    ensures { OnOk result (text.new.items ≡ text.old.items ++ statement_line (Gate out.now kind (map (name_of circuit.now) args.now))) }
+{
+    text.extend_from_slice(out)?;
+    text.extend_from_slice(b" = ")?;
+    text.extend_from_slice(word_of(kind))?;
+    text.extend_from_slice(b"(")?;
+    push_arguments(text, circuit, args)?;
+    text.extend_from_slice(b")\n")
+}
+
+// Appends the names of nets, with a comma and a blank between two.
+fn push_arguments(text: &mut Vec<u8>, circuit: &Circuit, args: &[NetId]) -> Result<(), AllocError>
+    requires { All (λ (net : NetId). net.0 < net_count circuit.now) args.now }
+    ensures { OnOk result (text.new.items ≡ text.old.items ++ arguments_text (map (name_of circuit.now) args.now)) }
+{
+    for (place, net) in args.iter().enumerate() {
+        if place > 0 {
+            text.extend_from_slice(b", ")?;
+        }
+        text.extend_from_slice(circuit.name(*net))?;
+    }
+    Ok(())
+}
+
+// The word of a kind of gate, in capitals: BUFF and not BUF.
+fn word_of(kind: Kind) -> &'static [u8]
+    ensures { result.now ≡ kind_text kind }
+{
+    match kind {
+        Kind::And => b"AND",
+        Kind::Nand => b"NAND",
+        Kind::Or => b"OR",
+        Kind::Nor => b"NOR",
+        Kind::Xor => b"XOR",
+        Kind::Xnor => b"XNOR",
+        Kind::Not => b"NOT",
+        Kind::Buf => b"BUFF",
+    }
+}

@@ -1,0 +1,3 @@
+pub mod TokenLaws
+pub mod NormalLaws
+pub mod StatedLaws

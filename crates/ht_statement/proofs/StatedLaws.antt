@@ -1,0 +1,69 @@
+-- What a line states has names and a count of arguments that may be.
+use Rattle.std.proofs.Common.{◌≡◌, ℕ, ◌<◌, ◌≤◌, Bool, true, false, cond, leb, eqb, List, [], ◌∷◌, length, get_or, Option, Some, None, refl, subst, arith}
+use Rattle.std.specs.List.{list_all}
+use Rattle.std.proofs.lemmas.Bool.{and_parts, and_from}
+use Rattle.std.proofs.lemmas.Bool.Decides.{nat_tests}
+use Rattle.ht_tern.specs.Gate.{HasArity}
+use Rattle.ht_tern.specs.declared.gate.Kind.{Kind}
+use Rattle.ht_tern.specs.declared.gate.Kind.TheVariants.{And, Nand, Or, Nor, Xor, Xnor, Not, Buf}
+use Rattle.ht_net.specs.Named.{Name}
+use Rattle.ht_statement.specs.Token.{tokens_of}
+use Rattle.ht_statement.specs.Name.{is_name}
+use Rattle.ht_statement.specs.Form.{Form, Blank, InputForm, OutputForm, Definition, form_of}
+use Rattle.ht_statement.specs.Element.{Element, FlipFlop, GateOf, element_named, has_count}
+use Rattle.ht_statement.specs.Statement.{Statement, Nothing, Input, Output, Dff, Gate}
+use Rattle.ht_statement.specs.Reading.{Reading, States, IsRefused, defined, form_reading, definition_reading, tokens_reading, reading_of}
+use Rattle.ht_statement.specs.declared.fault.LineRefusal.{LineRefusal}
+use Rattle.ht_statement.specs.declared.fault.LineRefusal.TheVariants.{BadName, BadCount}
+use Rattle.ht_statement.specs.Normal.{CanBeStated, StatedIsSound}
+
+-- a reading that states nothing wrong
+abbrev IsSound : Reading → Type 0
+IsSound (States statement) = CanBeStated statement
+IsSound (IsRefused refusal) = Unit {0}
+
+tested : (test : Bool) (reading : Reading) (refusal : LineRefusal) → (test ≡ true → IsSound reading) → IsSound (cond test reading (IsRefused refusal))
+tested true reading refusal sound = sound refl
+tested false reading refusal sound = tt
+
+names_of_one : (name : Name) → is_name name ≡ true → list_all is_name (name ∷ []) ≡ true
+names_of_one name is = and_from (is_name name) true is refl
+
+element_sound : (out : Name) (args : List Name) (element : Element) → list_all is_name (out ∷ args) ≡ true → has_count element (length args) ≡ true
+    → CanBeStated (defined out args element)
+element_sound out [] FlipFlop are count = absurd (grind (arith, nat_tests))
+element_sound out (arg ∷ more) FlipFlop are count =
+    let parts = and_parts (is_name out) (list_all is_name (arg ∷ more)) are in
+    let first = (and_parts (is_name arg) (list_all is_name more) parts.1).0 in
+    record { names = and_from (is_name out) (list_all is_name (arg ∷ [])) parts.0 (names_of_one arg first); count = refl }
+element_sound out args (GateOf kind) are count = record { names = are; count = count }
+
+definition_sound : (out : Name) (args : List Name) (found : Option Element) → list_all is_name (out ∷ args) ≡ true → IsSound (definition_reading out args found)
+definition_sound out args None are = tt
+definition_sound out args (Some element) are =
+    tested (has_count element (length args)) (States (defined out args element)) BadCount (λ count. element_sound out args element are count)
+
+form_sound : (form : Form) → IsSound (form_reading form)
+form_sound Blank = record { names = refl; count = refl }
+form_sound (InputForm name) = tested (is_name name) (States (Input name)) BadName (λ is. record { names = names_of_one name is; count = refl })
+form_sound (OutputForm name) = tested (is_name name) (States (Output name)) BadName (λ is. record { names = names_of_one name is; count = refl })
+form_sound (Definition out kind args) =
+    tested (list_all is_name (out ∷ args)) (definition_reading out args (element_named kind)) BadName (λ are. definition_sound out args (element_named kind) are)
+
+reading_sound : (form : Option Form) → IsSound (tokens_reading form)
+reading_sound None = tt
+reading_sound (Some form) = form_sound form
+
+pub stated_sound : StatedIsSound
+stated_sound line statement e = subst IsSound e (reading_sound (form_of (tokens_of line)))
+
+-- a count that a gate's kind may have is an arity of the kind
+pub count_is_arity : (kind : Kind) (n : ℕ) → has_count (GateOf kind) n ≡ true → HasArity kind n × (n ≤ 255)
+count_is_arity And n e = (grind (arith, nat_tests), grind (arith, nat_tests))
+count_is_arity Nand n e = (grind (arith, nat_tests), grind (arith, nat_tests))
+count_is_arity Or n e = (grind (arith, nat_tests), grind (arith, nat_tests))
+count_is_arity Nor n e = (grind (arith, nat_tests), grind (arith, nat_tests))
+count_is_arity Xor n e = (grind (arith, nat_tests), grind (arith, nat_tests))
+count_is_arity Xnor n e = (grind (arith, nat_tests), grind (arith, nat_tests))
+count_is_arity Not n e = (grind (arith, nat_tests), grind (arith, nat_tests))
+count_is_arity Buf n e = (grind (arith, nat_tests), grind (arith, nat_tests))

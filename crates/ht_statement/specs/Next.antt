@@ -1,0 +1,9 @@
+-- What the first token of a text is not.
+use Rattle.std.specs.Prelude.{◌≢◌, ℕ, List, ◌∷◌}
+use Rattle.ht_statement.specs.Token.{Token, Word, Comma, tokens_of}
+
+abbrev pub NextIsNoWord : List ℕ → Type 0
+NextIsNoWord text = (word : List ℕ) (rest : List Token) → tokens_of text ≢ Word word ∷ rest
+
+abbrev pub NextIsNoComma : List ℕ → Type 0
+NextIsNoComma text = (rest : List Token) → tokens_of text ≢ Comma ∷ rest

@@ -1,0 +1,43 @@
+// What a definition's kind names.
+ghost use Rattle.std.specs.Prelude.{◌≡◌, option_map};
+ghost use Rattle.ht_statement.specs.Element.{element_named, has_count};
+ghost use Rattle.ht_statement.specs.ElementOf.{element_of};
+
+use crate::keyword::spells;
+use ht_tern::Kind;
+
+/// A flip-flop, or a gate of a kind.
+#[derive(Clone, Copy)]
+pub(crate) enum Element {
+    FlipFlop,
+    Gate(Kind),
+}
+
+/// What a word names, in any letter case (ISCAS-89 format): BUF and BUFF are the same.
+pub(crate) fn element_named(word: &[u8]) -> Option<Element>
+    ensures { option_map element_of result ≡ element_named word.now }
+{
+    match word {
+        _ if spells(word, b"AND") => Some(Element::Gate(Kind::And)),
+        _ if spells(word, b"NAND") => Some(Element::Gate(Kind::Nand)),
+        _ if spells(word, b"OR") => Some(Element::Gate(Kind::Or)),
+        _ if spells(word, b"NOR") => Some(Element::Gate(Kind::Nor)),
+        _ if spells(word, b"XOR") => Some(Element::Gate(Kind::Xor)),
+        _ if spells(word, b"XNOR") => Some(Element::Gate(Kind::Xnor)),
+        _ if spells(word, b"NOT") => Some(Element::Gate(Kind::Not)),
+        _ if spells(word, b"BUFF") => Some(Element::Gate(Kind::Buf)),
+        _ if spells(word, b"BUF") => Some(Element::Gate(Kind::Buf)),
+        _ if spells(word, b"DFF") => Some(Element::FlipFlop),
+        _ => None,
+    }
+}
+
+/// Whether an element may have so many arguments: one for DFF, NOT and BUFF, else 1 to 255.
+pub(crate) fn has_count(element: Element, count: usize) -> bool
+    ensures { result ≡ has_count (element_of element) count }
+{
+    match element {
+        Element::FlipFlop | Element::Gate(Kind::Not | Kind::Buf) => count == 1,
+        Element::Gate(_) => matches!(count, 1..=255),
+    }
+}

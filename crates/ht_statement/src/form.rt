@@ -1,0 +1,77 @@
+// The form of a line.
+ghost use Rattle.std.specs.Prelude.{◌≡◌, ◌∷◌, option_map, IfOk};
+ghost use Rattle.ht_statement.specs.Token.{Word, Open, Equals, tokens_of};
+ghost use Rattle.ht_statement.specs.Form.{form_of};
+ghost use Rattle.ht_statement.specs.FormOf.{form_meant};
+
+use crate::arguments::arguments;
+use crate::keyword::spells;
+use crate::next::{closes, first_word};
+use crate::token::{Token, next_token};
+use std::alloc::{AllocError, Global};
+
+/// What the tokens of a line show: nothing, INPUT or OUTPUT with a name, or a definition by its net, the word of its
+/// kind and its arguments (ISCAS-89 format).
+#[derive(Drop)]
+pub(crate) enum Form<'a> {
+    Blank,
+    Input(&'a [u8]),
+    Output(&'a [u8]),
+    Definition {
+        out: &'a [u8],
+        kind: &'a [u8],
+        args: Vec<&'a [u8]>,
+    },
+}
+
+/// The form of a line that begins with a keyword and `(`, by the text behind these.
+fn port<'a>(keyword: &[u8], text: &'a [u8]) -> Option<Form<'a>>
+    ensures { option_map form_meant result ≡ form_of (Word keyword.now ∷ Open ∷ tokens_of text.now) }
+{
+    let (name, rest) = first_word(text)?;
+    if !closes(rest) {
+        return None;
+    }
+    if spells(keyword, b"INPUT") {
+        return Some(Form::Input(name));
+    }
+    if spells(keyword, b"OUTPUT") {
+        return Some(Form::Output(name));
+    }
+    None
+}
+
+/// The form of a line that begins with a net and `=`, by the text behind these.
+fn definition<'a>(
+    alloc: Global,
+    out: &'a [u8],
+    text: &'a [u8],
+) -> Result<Option<Form<'a>>, AllocError>
+    ensures { IfOk result (λ read. option_map form_meant read ≡ form_of (Word out.now ∷ Equals ∷ tokens_of text.now)) }
+{
+    let Some((kind, rest)) = first_word(text) else {
+        return Ok(None);
+    };
+    let Some((Token::Open, inside)) = next_token(rest) else {
+        return Ok(None);
+    };
+    let args = arguments(alloc, inside)?;
+    Ok(args.map(|args| Form::Definition { out, kind, args }))
+}
+
+/// The form of a line, or `None` where it has none.
+pub(crate) fn read_form<'a>(alloc: Global, line: &'a [u8]) -> Result<Option<Form<'a>>, AllocError>
+    ensures { IfOk result (λ read. option_map form_meant read ≡ form_of (tokens_of line.now)) }
+{
+    let Some((first, behind)) = next_token(line) else {
+        return Ok(Some(Form::Blank));
+    };
+    let Token::Word(word) = first else {
+        return Ok(None);
+    };
+    match next_token(behind) {
+        Some((Token::Equals, rest)) => definition(alloc, word, rest),
+        Some((Token::Open, rest)) => Ok(port(word, rest)),
+        _ => Ok(None),
+    }
+}

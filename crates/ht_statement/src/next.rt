@@ -1,0 +1,40 @@
+// What a text begins with.
+ghost use Rattle.std.specs.Prelude.{◌≡◌, ◌↔◌, ◌∷◌, ◌<◌, [], length, IsTrue, IfSome, IfNone};
+ghost use Rattle.ht_statement.specs.Token.{Word, Close, Comma, tokens_of};
+ghost use Rattle.ht_statement.specs.Next.{NextIsNoWord, NextIsNoComma};
+
+use crate::token::{Token, next_token};
+
+/// The word that a text begins with, and the text behind it.
+pub(crate) fn first_word(text: &[u8]) -> Option<(&[u8], &[u8])>
+    ensures found { IfSome result (λ parts. tokens_of text.now ≡ Word parts.0.now ∷ tokens_of parts.1.now) }
+    ensures shorter { IfSome result (λ parts. length parts.1.now < length text.now) }
+    ensures none { IfNone result (NextIsNoWord text.now) }
+{
+    match next_token(text) {
+        Some((Token::Word(word), rest)) => Some((word, rest)),
+        _ => None,
+    }
+}
+
+/// The text behind a comma that it begins with.
+pub(crate) fn behind_comma(text: &[u8]) -> Option<&[u8]>
+    ensures found { IfSome result (λ rest. tokens_of text.now ≡ Comma ∷ tokens_of rest.now) }
+    ensures shorter { IfSome result (λ rest. length rest.now < length text.now) }
+    ensures none { IfNone result (NextIsNoComma text.now) }
+{
+    match next_token(text) {
+        Some((Token::Comma, rest)) => Some(rest),
+        _ => None,
+    }
+}
+
+/// Whether `)` is all that stands in a text.
+pub(crate) fn closes(text: &[u8]) -> bool
+    ensures { IsTrue result ↔ (tokens_of text.now ≡ Close ∷ []) }
+{
+    match next_token(text) {
+        Some((Token::Close, rest)) => next_token(rest).is_none(),
+        _ => false,
+    }
+}

@@ -1,0 +1,80 @@
+// The tokens of a line.
+ghost use Rattle.std.specs.Prelude.{◌≡◌, ◌∷◌, ◌<◌, ◌≤◌, [], length, option_map, IfSome, IfNone};
+ghost use Rattle.ht_statement.specs.Token.{is_blank, mark_of, tokens_of};
+ghost use Rattle.ht_statement.specs.TokenOf.{token_of};
+ghost use Rattle.ht_statement.specs.Word.{IsWordCut, is_word_byte, BeginsNoBlank};
+
+/// A word, or one of the four marks (ISCAS-89 format).
+#[derive(Clone, Copy)]
+pub(crate) enum Token<'a> {
+    Word(&'a [u8]),
+    Open,
+    Close,
+    Comma,
+    Equals,
+}
+
+/// The token of a mark.
+fn mark_of<'a>(byte: u8) -> Option<Token<'a>>
+    ensures { option_map token_of result ≡ mark_of byte }
+{
+    match byte {
+        b'(' => Some(Token::Open),
+        b')' => Some(Token::Close),
+        b',' => Some(Token::Comma),
+        b'=' => Some(Token::Equals),
+        _ => None,
+    }
+}
+
+/// Whether a byte belongs to a word: it is no blank, no mark, and begins no comment.
+fn is_word_byte(byte: u8) -> bool
+    ensures { result ≡ is_word_byte byte }
+{
+    !matches!(byte, b' ' | b'\t' | b'#' | b'(' | b')' | b',' | b'=')
+}
+
+/// A text without the blanks that it begins with.
+fn behind_blanks(text: &[u8]) -> &[u8]
+    ensures tokens { tokens_of result.now ≡ tokens_of text.now }
+    ensures no_blank { BeginsNoBlank result.now }
+    ensures length { length result.now ≤ length text.now }
+{
+    let mut rest = text;
+    while let [b' ' | b'\t', behind @ ..] = rest {
+        rest = behind;
+    }
+    rest
+}
+
+/// The bytes before the first that belongs to no word, and the text from there on.
+fn cut_word(text: &[u8]) -> (&[u8], &[u8])
+    ensures { IsWordCut text.now result.0.now result.1.now }
+{
+    for (place, byte) in text.iter().enumerate() {
+        if !is_word_byte(*byte) {
+            return text.split_at(place);
+        }
+    }
+    (text, &[])
+}
+
+/// The first token of a text and the text behind it, or `None` where the text has no token.
+pub(crate) fn next_token(text: &[u8]) -> Option<(Token<'_>, &[u8])>
+    ensures first { IfSome result (λ parts. tokens_of text.now ≡ token_of parts.0 ∷ tokens_of parts.1.now) }
+    ensures shorter { IfSome result (λ parts. length parts.1.now < length text.now) }
+    ensures none { IfNone result (tokens_of text.now ≡ []) }
+{
+    let begun = behind_blanks(text);
+    let [first, behind @ ..] = begun else {
+        return None;
+    };
+    if *first == b'#' {
+        return None;
+    }
+    if let Some(mark) = mark_of(*first) {
+        return Some((mark, behind));
+    }
+    let (word, rest) = cut_word(begun);
+    Some((Token::Word(word), rest))
+}
