@@ -16,3 +16,14 @@ pub mod NormalListLaws
 pub mod NormalContentLaws
 pub mod NormalRoundLaws
 pub mod NormalOneLaws
+pub mod MentionLaws
+pub mod ContentLaws
+pub mod AcceptedLaws
+pub mod TableLaws
+pub mod CountLaws
+pub mod ProgressLaws
+pub mod AgainLaws
+pub mod EndLaws
+pub mod PlaceLaws
+pub mod CycleLaws
+pub mod ExcludeLaws

@@ -15,3 +15,8 @@ pub mod Accepted
 pub mod Ends
 pub mod Text
 pub mod Normal
+pub mod Cause
+pub mod Added
+pub mod Progress
+pub mod Role
+pub mod Names
