@@ -27,3 +27,4 @@ pub mod EndLaws
 pub mod PlaceLaws
 pub mod CycleLaws
 pub mod ExcludeLaws
+pub mod NormalBackLaws

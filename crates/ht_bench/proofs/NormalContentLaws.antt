@@ -8,13 +8,13 @@ use Rattle.std.proofs.lemmas.List.Sums.{sum_by-cons}
 use Rattle.std.proofs.lemmas.List.Elements.{All-nil, All-cons, All-append, All-map, All-take, All-weaker, All-contains_itself, All-from_get_or, Contains-get_or}
 use Rattle.ht_tern.specs.Gate.{HasArity}
 use Rattle.ht_net.specs.declared.site.NetId.{NetId}
-use Rattle.ht_net.specs.Netlist.{Netlist, Gate, IsCircuit, first_gate_net, net_count, pin_count, gate_at, no_net, no_gate}
+use Rattle.ht_net.specs.Netlist.{Netlist, Gate, IsCircuit, first_gate_net, net_count, pin_count, gate_at, no_net}
 use Rattle.ht_net.specs.Named.{Name, NamedDff, NamedGate, NamedNetlist, name_of, named_dffs, named_gates, named_of}
 use Rattle.ht_statement.specs.Statement.{Statement, Input, Output, names_in}
 use Rattle.ht_bench.specs.Different.{different}
 use Rattle.ht_bench.specs.Contents.{inputs_in, outputs_in, dffs_in, gates_in, driven_in, inputs_of, outputs_of, dffs_of, gates_of, driven_by, pins_of, named_of_statements}
 use Rattle.ht_bench.specs.Normal.{dff_statement, gate_statement, named_statements, statements_of}
-use Rattle.ht_bench.proofs.NormalLaws.{take_more, no_named_dff, no_named_gate, dff_named, gate_named, length-named_dffs, length-named_gates, get_or-named_dffs, get_or-named_gates}
+use Rattle.ht_bench.proofs.NormalLaws.{take_more, no_named_dff, no_named_gate, gate_named, named_dffs_count, named_gates_count, get_or-named_dffs, get_or-named_gates}
 use Rattle.ht_bench.proofs.NormalListLaws.{AllDiffer, differ_by_place, different_is}
 
 -- ---- parts of statements
@@ -154,7 +154,7 @@ module _ (c : Netlist) (is : IsCircuit c) where
   pub pins_are : pins_of (statements_of c) ≡ pin_count c
   pins_are =
       let n = named_of c in
-      let dffs : length (dffs_of (statements_of c)) ≡ length c.dffs = ap length (dffs_are n) ∙ length-named_dffs c c.inputs c.dffs in
+      let dffs : length (dffs_of (statements_of c)) ≡ length c.dffs = ap length (dffs_are n) ∙ named_dffs_count c c.inputs c.dffs in
       let args : sum_by (λ (g : NamedGate). length g.args) (gates_of (statements_of c)) ≡ sum_by (λ (g : Gate). length g.args) c.gates =
       ap (sum_by (λ (g : NamedGate). length g.args)) (gates_are n) ∙ sum_of_args c (first_gate_net c) c.gates in
       cc
@@ -188,7 +188,7 @@ module _ (c : Netlist) (is : IsCircuit c) where
       (All-from_get_or (λ d. IsMade (dff_statement d)) (named_of c).dffs no_named_dff
       (λ j below.
       let named = is.named in
-      let inside : j < length c.dffs = omega (arith, length-named_dffs c c.inputs c.dffs) in
+      let inside : j < length c.dffs = omega (arith, named_dffs_count c c.inputs c.dffs) in
       subst (λ d. IsMade (dff_statement d)) (sym (get_or-named_dffs c c.inputs c.dffs j inside))
       (All-cons (Contains c.names) (get_or c.names (c.inputs + j) []) (name_of c (get_or c.dffs j no_net) ∷ []) (Contains-get_or c.names (c.inputs + j) [] (omega arith))
       (only_one (name_of c (get_or c.dffs j no_net)) (net_has_name (get_or c.dffs j no_net) (is.data_known j inside))))))
@@ -199,7 +199,7 @@ module _ (c : Netlist) (is : IsCircuit c) where
       (All-from_get_or (λ g. IsMade (gate_statement g)) (named_of c).gates no_named_gate
       (λ g below.
       let named = is.named in
-      let inside : g < length c.gates = omega (arith, length-named_gates c (first_gate_net c) c.gates) in
+      let inside : g < length c.gates = omega (arith, named_gates_count c (first_gate_net c) c.gates) in
       subst (λ x. IsMade (gate_statement x)) (sym (get_or-named_gates c (first_gate_net c) c.gates g inside))
       (All-cons (Contains c.names) (get_or c.names (first_gate_net c + g) []) (map (name_of c) (gate_at c g).args) (Contains-get_or c.names (first_gate_net c + g) [] (omega arith))
       (All-map (Contains c.names) (name_of c) (gate_at c g).args
@@ -218,7 +218,7 @@ module _ (c : Netlist) (is : IsCircuit c) where
   pub gates_have_counts : All (λ (g : NamedGate). HasArity g.kind (length g.args) × (length g.args ≤ 255)) (named_of c).gates
   gates_have_counts = All-from_get_or (λ (g : NamedGate). HasArity g.kind (length g.args) × (length g.args ≤ 255)) (named_of c).gates no_named_gate
       (λ g below.
-      let inside : g < length c.gates = omega (arith, length-named_gates c (first_gate_net c) c.gates) in
+      let inside : g < length c.gates = omega (arith, named_gates_count c (first_gate_net c) c.gates) in
       let count = length-map (gate_at c g).args (name_of c) in
       subst (λ (x : NamedGate). HasArity x.kind (length x.args) × (length x.args ≤ 255)) (sym (get_or-named_gates c (first_gate_net c) c.gates g inside))
       (subst (HasArity (gate_at c g).kind) (sym count) (is.arities g inside), let few = is.few_args g inside in omega arith))

@@ -1,6 +1,5 @@
 -- Normal text that grows by one more argument, and by one more line.
 use Rattle.std.proofs.Common.{◌≡◌, ◌⊎◌, inl, inr, ℕ, zero, suc, ◌+◌, ◌<◌, List, [], ◌∷◌, ◌++◌, length, get_or, take, map, codes, append_assoc, append-nil, refl, sym, ap, ◌∙◌, arith, add-one}
-use Rattle.std.specs.List.{flat_map}
 use Rattle.std.proofs.Math.Seq.{take-suc}
 use Rattle.std.proofs.lemmas.List.{map-append, take_all}
 use Rattle.std.proofs.lemmas.List.Concat.{flat_map-append}
@@ -99,13 +98,13 @@ dff_named c x d = record { out = get_or c.names x []; data_pin = name_of c d }
 abbrev pub gate_named : Netlist → ℕ → Gate → NamedGate
 gate_named c x g = record { kind = g.kind; out = get_or c.names x []; args = map (name_of c) g.args }
 
-pub length-named_dffs : (c : Netlist) (x : ℕ) (dffs : List NetId) → length (named_dffs c x dffs) ≡ length dffs
-length-named_dffs c x [] = refl
-length-named_dffs c x (d ∷ dffs) = ap suc (length-named_dffs c (x + 1) dffs)
+pub named_dffs_count : (c : Netlist) (x : ℕ) (dffs : List NetId) → length (named_dffs c x dffs) ≡ length dffs
+named_dffs_count c x [] = refl
+named_dffs_count c x (d ∷ dffs) = ap suc (named_dffs_count c (x + 1) dffs)
 
-pub length-named_gates : (c : Netlist) (x : ℕ) (gates : List Gate) → length (named_gates c x gates) ≡ length gates
-length-named_gates c x [] = refl
-length-named_gates c x (g ∷ gates) = ap suc (length-named_gates c (x + 1) gates)
+pub named_gates_count : (c : Netlist) (x : ℕ) (gates : List Gate) → length (named_gates c x gates) ≡ length gates
+named_gates_count c x [] = refl
+named_gates_count c x (g ∷ gates) = ap suc (named_gates_count c (x + 1) gates)
 
 pub get_or-named_dffs : (c : Netlist) (x : ℕ) (dffs : List NetId) (k : ℕ) → k < length dffs
     → get_or (named_dffs c x dffs) k no_named_dff ≡ dff_named c (x + k) (get_or dffs k no_net)

@@ -1,12 +1,12 @@
 -- A circuit is determined by what it says by names, so a text is the netlist of one circuit at most.
-use Rattle.std.proofs.Common.{◌≡◌, ◌≢◌, ◌⊎◌, inl, inr, ⊎_elim, ℕ, suc, ◌+◌, ◌<◌, ◌≤◌, List, [], ◌∷◌, ◌++◌, length, get_or, map, take, refl, sym, ap, subst, ◌∙◌, arith}
+use Rattle.std.proofs.Common.{◌≡◌, ◌≢◌, inl, inr, ℕ, ◌+◌, ◌<◌, List, [], ◌∷◌, ◌++◌, length, get_or, map, refl, sym, ap, subst, ◌∙◌, arith}
 use Rattle.std.specs.List.{All}
 use Rattle.std.proofs.lemmas.List.{length-take}
 use Rattle.std.proofs.lemmas.List.Elements.{All-head, All-tail, All-from_get_or}
 use Rattle.ht_tern.specs.declared.gate.Kind.{Kind}
 use Rattle.ht_net.specs.declared.site.NetId.{NetId}
-use Rattle.ht_net.specs.Netlist.{Netlist, Gate, IsCircuit, first_gate_net, net_count, gate_at, no_net, no_gate}
-use Rattle.ht_net.specs.Named.{Name, NamedDff, NamedGate, NamedNetlist, name_of, named_dffs, named_gates, named_of}
+use Rattle.ht_net.specs.Netlist.{Netlist, Gate, IsCircuit, first_gate_net, gate_at, no_net, no_gate}
+use Rattle.ht_net.specs.Named.{Name, NamedDff, NamedGate, NamedNetlist, named_dffs, named_gates, named_of}
 use Rattle.ht_statement.specs.Statement.{Statement}
 use Rattle.ht_statement.specs.Reading.{States}
 use Rattle.ht_bench.specs.Text.{IsNetlistOf}
@@ -92,11 +92,11 @@ named_inners c x [] = refl
 named_inners c x (g ∷ gates) = ap (λ l. inner_of c.names g ∷ l) (named_inners c (x + 1) gates)
 
 -- the names of all nets, the data pins and the gates, from what a circuit says
-abbrev all_names : NamedNetlist → List Name
+abbrev pub all_names : NamedNetlist → List Name
 all_names n = (n.inputs ++ map (λ (d : NamedDff). d.out) n.dffs) ++ map (λ (g : NamedGate). g.out) n.gates
 
 module _ (c : Netlist) (is : IsCircuit c) where
-  names_are : all_names (named_of c) ≡ c.names
+  pub names_are : all_names (named_of c) ≡ c.names
   names_are = sym (driven_are (named_of c)) ∙ driven_are_names c is
 
   inputs_count : length (named_of c).inputs ≡ c.inputs

@@ -1,38 +1,37 @@
 -- The normal text of a circuit is a netlist of that circuit.
 use Rattle.std.specs.Prelude.{leb, eqb}
-use Rattle.std.proofs.Common.{◌≡◌, ◌≢◌, ℕ, ◌+◌, ◌<◌, ◌≤◌, List, [], ◌∷◌, ◌++◌, Bool, true, ◌&&◌, length, get_or, map, take, sum_by, append_assoc, refl, sym, ap, subst, ◌∙◌, arith}
+use Rattle.std.proofs.Common.{◌≡◌, ℕ, ◌<◌, ◌≤◌, List, [], ◌∷◌, ◌++◌, Bool, true, ◌&&◌, length, get_or, map, sum_by, append_assoc, refl, sym, ap, subst, ◌∙◌, arith}
 use Rattle.std.specs.List.{All, Contains, flat_map, list_all}
 use Rattle.std.proofs.lemmas.Bool.{and_from}
 use Rattle.std.proofs.lemmas.Bool.Decides.{nat_tests}
 use Rattle.std.proofs.lemmas.List.{length-append, length-take}
 use Rattle.std.proofs.lemmas.List.Concat.{flat_map-append}
 use Rattle.std.proofs.lemmas.List.Sums.{sum_by-append}
-use Rattle.std.proofs.lemmas.List.Elements.{All-nil, All-cons, All-append, All-head, All-tail, All-map, All-weaker, All-contains, Contains-append_left, Contains-get_or}
+use Rattle.std.proofs.lemmas.List.Elements.{All-append, All-head, All-tail, All-map, All-weaker, All-contains, Contains-append_left, Contains-get_or}
 use Rattle.ht_tern.specs.declared.gate.Kind.{Kind}
 use Rattle.ht_tern.specs.declared.gate.Kind.TheVariants.{And, Nand, Or, Nor, Xor, Xnor, Not, Buf}
 use Rattle.ht_tern.specs.Gate.{HasArity}
 use Rattle.ht_net.specs.Netlist.{Netlist, IsCircuit}
-use Rattle.ht_net.specs.Named.{Name, NamedGate, named_of}
+use Rattle.ht_net.specs.Named.{NamedGate, named_of}
 use Rattle.ht_statement.specs.Name.{is_name}
 use Rattle.ht_statement.specs.Element.{GateOf, has_count}
 use Rattle.ht_statement.specs.Statement.{Statement, Input, Output, names_in}
 use Rattle.ht_statement.specs.Reading.{States, reading_of}
 use Rattle.ht_statement.specs.Normal.{statement_text, has_its_count, CanBeStated}
 use Rattle.ht_statement.proofs.NormalLaws.{normal_reads}
-use Rattle.ht_bench.specs.Different.{different}
 use Rattle.ht_bench.specs.Contents.{inputs_in, dffs_in, gates_in, driven_in, inputs_of, dffs_of, gates_of, driven_by, mentions_of, nets_of, pins_of}
-use Rattle.ht_bench.specs.Accepted.{IsWithinLimits, HasNewDriver, IsAccepted, AreAccepted}
+use Rattle.ht_bench.specs.Accepted.{IsWithinLimits, HasNewDriver, AreAccepted}
 use Rattle.ht_bench.specs.Ends.{AreDriven}
-use Rattle.ht_bench.specs.Text.{readings_of, IsNetlistOf}
+use Rattle.ht_bench.specs.Text.{IsNetlistOf}
 use Rattle.ht_bench.specs.Normal.{dff_statement, gate_statement, statements_of, normal_text, HasFormatNames}
-use Rattle.ht_bench.proofs.NormalLaws.{length-named_dffs}
+use Rattle.ht_bench.proofs.NormalLaws.{named_dffs_count}
 use Rattle.ht_bench.proofs.NormalLineLaws.{AreNames, all_from_test, lines_of_statements}
 use Rattle.ht_bench.proofs.NormalListLaws.{AllDiffer, All-left, All-flat_map, differ_apart, length-different}
 use Rattle.ht_bench.proofs.NormalContentLaws.{inputs_are, dffs_are, driven_are_names, names_differ, statements_say, pins_are, statements_made, gates_have_counts}
 
 -- ---- each line is read
 
-test_from_all : {A : Type 0} (p : A → Bool) (xs : List A) → All (λ x. p x ≡ true) xs → list_all p xs ≡ true
+pub test_from_all : {A : Type 0} (p : A → Bool) (xs : List A) → All (λ x. p x ≡ true) xs → list_all p xs ≡ true
 test_from_all p [] all = refl
 test_from_all p (x ∷ xs) all =
     and_from (p x) (list_all p xs) (All-head (λ y. p y ≡ true) x xs all) (test_from_all p xs (All-tail (λ y. p y ≡ true) x xs all))
@@ -91,7 +90,7 @@ module _ (c : Netlist) (is : IsCircuit c) where
         nets = omega arith;
         pins = omega (arith, fewer_pins first rest, ap pins_of cut, pins_are c is);
         inputs = omega (arith, first_say_less inputs_in first rest, ap (λ s. length (inputs_of s)) cut, ap length (inputs_are (named_of c)), length-take c.inputs c.names);
-        dffs = omega (arith, first_say_less dffs_in first rest, ap (λ s. length (dffs_of s)) cut, ap length (dffs_are (named_of c)), length-named_dffs c c.inputs c.dffs);
+        dffs = omega (arith, first_say_less dffs_in first rest, ap (λ s. length (dffs_of s)) cut, ap length (dffs_are (named_of c)), named_dffs_count c c.inputs c.dffs);
       }
 
   new_driver : (before after : List Statement) (s : Statement) → statements_of c ≡ before ++ s ∷ after → HasNewDriver before s

@@ -30,4 +30,7 @@ pub use fault::PlainFault;
 pub use normal::write;
 pub use plain::read_plain;
 pub use reader::read;
-pub use round_trip::{a_netlist_is_of_one_circuit, normal_text_is_a_netlist_of_its_circuit};
+pub use round_trip::{
+    a_circuit_that_was_read_has_names_of_the_format, a_netlist_is_of_one_circuit,
+    normal_text_is_a_netlist_of_its_circuit, normal_text_is_read_as_its_circuit,
+};

@@ -50,6 +50,7 @@ fn push_outputs(text: &mut Vec<u8>, circuit: &Circuit) -> Result<(), AllocError>
 }
 
 // Appends the lines of the flip-flops.
+#[tactic(auto, using(crate::proofs::NormalLaws::named_dffs_count, crate::proofs::NormalLaws::added_lines))]
 fn push_dffs(text: &mut Vec<u8>, circuit: &Circuit) -> Result<(), AllocError>
     ensures { OnOk result (text.new.items ≡ text.old.items ++ statement_lines (map dff_statement (named_of circuit.now).dffs)) }
 {
@@ -65,6 +66,7 @@ fn push_dffs(text: &mut Vec<u8>, circuit: &Circuit) -> Result<(), AllocError>
 }
 
 // Appends the lines of the gates.
+#[tactic(auto, using(crate::proofs::NormalLaws::named_gates_count, crate::proofs::NormalLaws::added_lines))]
 fn push_gates(text: &mut Vec<u8>, circuit: &Circuit) -> Result<(), AllocError>
     ensures { OnOk result (text.new.items ≡ text.old.items ++ statement_lines (map gate_statement (named_of circuit.now).gates)) }
 {

@@ -1,5 +1,5 @@
 // The lines of normal text.
-ghost use Rattle.std.specs.Prelude.{◌≡◌, ◌<◌, ◌++◌, map, All, OnOk};
+ghost use Rattle.std.specs.Prelude.{◌≡◌, ◌<◌, ◌++◌, map, codes, All, OnOk};
 ghost use Rattle.ht_net.specs.declared.site.NetId.{NetId};
 ghost use Rattle.ht_net.specs.Netlist.{net_count};
 ghost use Rattle.ht_net.specs.Named.{name_of};
@@ -17,7 +17,7 @@ pub(crate) fn push_input(text: &mut Vec<u8>, name: &[u8]) -> Result<(), AllocErr
 {
     text.extend_from_slice(b"INPUT(")?;
     text.extend_from_slice(name)?;
-    text.extend_from_slice(b")\n")
+    push_end(text)
 }
 
 // Appends the line of an output.
@@ -26,17 +26,16 @@ pub(crate) fn push_output(text: &mut Vec<u8>, name: &[u8]) -> Result<(), AllocEr
 {
     text.extend_from_slice(b"OUTPUT(")?;
     text.extend_from_slice(name)?;
-    text.extend_from_slice(b")\n")
+    push_end(text)
 }
 
 // Appends the line of a flip-flop, by its net and the net at its data pin.
 pub(crate) fn push_dff(text: &mut Vec<u8>, out: &[u8], data_pin: &[u8]) -> Result<(), AllocError>
     ensures { OnOk result (text.new.items ≡ text.old.items ++ statement_line (Dff out.now data_pin.now)) }
 {
-    text.extend_from_slice(out)?;
-    text.extend_from_slice(b" = DFF(")?;
+    push_definition(text, out, b"DFF")?;
     text.extend_from_slice(data_pin)?;
-    text.extend_from_slice(b")\n")
+    push_end(text)
 }
 
 // Appends the line of a gate, by the name of its net, its kind and the nets of its arguments.
@@ -50,12 +49,33 @@ pub(crate) fn push_gate(
     requires { All (λ (net : NetId). net.0 < net_count circuit.now) args.now }
     ensures { OnOk result (text.new.items ≡ text.old.items ++ statement_line (Gate out.now kind (map (name_of circuit.now) args.now))) }
 {
+    push_definition(text, out, word_of(kind))?;
+    push_arguments(text, circuit, args)?;
+    push_end(text)
+}
+
+// Appends a definition up to its arguments, by the name of its net and the word of its kind.
+fn push_definition(text: &mut Vec<u8>, out: &[u8], word: &[u8]) -> Result<(), AllocError>
+    ensures { OnOk result (text.new.items ≡ text.old.items ++ (out.now ++ codes " = " ++ word.now ++ codes "(")) }
+{
     text.extend_from_slice(out)?;
     text.extend_from_slice(b" = ")?;
-    text.extend_from_slice(word_of(kind))?;
-    text.extend_from_slice(b"(")?;
-    push_arguments(text, circuit, args)?;
+    text.extend_from_slice(word)?;
+    text.extend_from_slice(b"(")
+}
+
+// Appends the end of a line.
+fn push_end(text: &mut Vec<u8>) -> Result<(), AllocError>
+    ensures { OnOk result (text.new.items ≡ text.old.items ++ codes ")\n") }
+{
     text.extend_from_slice(b")\n")
+}
+
+// Appends what stands between two arguments.
+fn push_separator(text: &mut Vec<u8>) -> Result<(), AllocError>
+    ensures { OnOk result (text.new.items ≡ text.old.items ++ codes ", ") }
+{
+    text.extend_from_slice(b", ")
 }
 
 // Appends the names of nets, with a comma and a blank between two.
@@ -65,7 +85,7 @@ fn push_arguments(text: &mut Vec<u8>, circuit: &Circuit, args: &[NetId]) -> Resu
 {
     for (place, net) in args.iter().enumerate() {
         if place > 0 {
-            text.extend_from_slice(b", ")?;
+            push_separator(text)?;
         }
         text.extend_from_slice(circuit.name(*net))?;
     }

@@ -1,8 +1,7 @@
-use Rattle.std.proofs.Common.{◌≡◌, ◌+◌, ℕ, get_or, length, ap, sym, ◌∙◌, arith}
-use Rattle.ht_net.specs.Netlist.{no_net}
+use Rattle.std.proofs.Common.{◌≡◌, get_or, arith}
 use Rattle.ht_net.specs.Named.{NamedDff, named_dffs}
 use Rattle.ht_bench.specs.Normal.{dff_statement}
-use Rattle.ht_bench.proofs.NormalLaws.{adds_line, added_lines, no_named_dff, length-named_dffs, get_or-named_dffs}
+use Rattle.ht_bench.proofs.NormalLaws.{adds_line, no_named_dff, named_dffs_count, get_or-named_dffs}
 use Rattle.ht_bench.proofs.normal.push_dffs.Goals as goal
 
 pub loop-dff-preserved : goal.loop-dff-preserved
@@ -15,10 +14,4 @@ loop-dff-preserved c =
     let pin = c.name-in-loop-dff.ensures in
     let is_written : get_or (named_dffs circuit circuit.inputs circuit.dffs) place no_named_dff ≡ written = cc in
     adds_line dff_statement (named_dffs circuit circuit.inputs circuit.dffs) place no_named_dff written _ _ _
-    (omega (arith, length-named_dffs circuit circuit.inputs circuit.dffs)) is_written c.loop-dff.invariant c.in_ok-push_dff.ensures
-
-pub returns : goal.returns
-returns c =
-    let circuit = c.args.circuit.now in
-    added_lines dff_statement (named_dffs circuit circuit.inputs circuit.dffs) c.loop-dff.dff _ _
-    (omega (arith, length-named_dffs circuit circuit.inputs circuit.dffs)) c.loop-dff.invariant
+    (omega (arith, named_dffs_count circuit circuit.inputs circuit.dffs)) is_written c.loop-dff.invariant c.in_ok-push_dff.ensures

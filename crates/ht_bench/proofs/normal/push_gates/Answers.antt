@@ -1,8 +1,8 @@
-use Rattle.std.proofs.Common.{◌≡◌, ◌+◌, ℕ, map, get_or, length, ap, sym, ◌∙◌, arith}
+use Rattle.std.proofs.Common.{◌≡◌, map, get_or, arith}
 use Rattle.ht_net.specs.Netlist.{first_gate_net}
 use Rattle.ht_net.specs.Named.{NamedGate, name_of, named_gates}
 use Rattle.ht_bench.specs.Normal.{gate_statement}
-use Rattle.ht_bench.proofs.NormalLaws.{adds_line, added_lines, no_named_gate, length-named_gates, get_or-named_gates}
+use Rattle.ht_bench.proofs.NormalLaws.{adds_line, no_named_gate, named_gates_count, get_or-named_gates}
 use Rattle.ht_bench.proofs.normal.push_gates.Goals as goal
 
 pub loop-gate-preserved : goal.loop-gate-preserved
@@ -16,10 +16,4 @@ loop-gate-preserved c =
     let args = c.gate_args-args.ensures.args in
     let is_written : get_or (named_gates circuit (first_gate_net circuit) circuit.gates) place no_named_gate ≡ written = cc in
     adds_line gate_statement (named_gates circuit (first_gate_net circuit) circuit.gates) place no_named_gate written _ _ _
-    (omega (arith, length-named_gates circuit (first_gate_net circuit) circuit.gates)) is_written c.loop-gate.invariant c.in_ok-push_gate.ensures
-
-pub returns : goal.returns
-returns c =
-    let circuit = c.args.circuit.now in
-    added_lines gate_statement (named_gates circuit (first_gate_net circuit) circuit.gates) c.loop-gate.gate _ _
-    (omega (arith, length-named_gates circuit (first_gate_net circuit) circuit.gates)) c.loop-gate.invariant
+    (omega (arith, named_gates_count circuit (first_gate_net circuit) circuit.gates)) is_written c.loop-gate.invariant c.in_ok-push_gate.ensures

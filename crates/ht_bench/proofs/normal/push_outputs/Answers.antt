@@ -1,4 +1,4 @@
-use Rattle.std.proofs.Common.{◌≡◌, [], map, get_or, length, ap, sym, ◌∙◌, arith}
+use Rattle.std.proofs.Common.{[], map, ap, sym, ◌∙◌, arith}
 use Rattle.std.proofs.lemmas.List.{get_or-map, length-map}
 use Rattle.ht_net.specs.Netlist.{no_net}
 use Rattle.ht_net.specs.Named.{name_of}
