@@ -3,5 +3,6 @@ pub mod TestLines
 pub mod FaultAt
 pub mod Places
 pub mod OneReading
+pub mod Refusals
 pub mod CauseLaws
 pub mod StatusLaws

@@ -31,3 +31,10 @@ part_after port xs ys a b c before added p = record {
   cause = omega (arith, before.call.out_later, p.cause);
   steady = λ s. p.steady (subst IsTrue (sym before.call.steady) s);
 }
+
+pub added_after : (port : OutPort) (xs ys : List ℕ) (a b c : DeskView) → Added port xs a b → Added port ys b c → Added port (xs ++ ys) a c
+added_after port xs ys a b c first second = record {
+  written = second.written
+      ∙ (ap (λ known. append_known known ys) first.written
+      ∙ append_known_more (a.written port) xs ys);
+}

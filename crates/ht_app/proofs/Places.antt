@@ -12,7 +12,7 @@ use Rattle.ht_net.specs.Faults.{stem_faults_of}
 use Rattle.ht_net.specs.Detection.{IsFirstDetection, tern_outputs}
 use Rattle.ht_serial.proofs.DetectionLaws.{detects_inside, opposite_inside, frame_width}
 use Rattle.ht_texts.specs.Reports.{IsPlace}
-use Rattle.ht_app.specs.Run.{AreFirstDetections}
+use Rattle.ht_app.specs.Done.{AreFirstDetections}
 use Rattle.ht_app.specs.Simulation.{ArePlaces}
 
 -- one more of each

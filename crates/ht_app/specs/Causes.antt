@@ -1,36 +1,37 @@
--- Why each step of a run ends it.
-use Rattle.std.specs.Prelude.{◌≡◌, ◌≢◌, ℕ, ◌<◌, ◌≤◌, ◌++◌, List, length, IsTrue, IsSome, String}
-use Rattle.std.specs.declared.alloc.Global.{Global}
+-- Why each step of a run ends it, and what it leaves.
+use Rattle.std.specs.Prelude.{◌≡◌, ◌≢◌, ℕ, ◌<◌, ◌≤◌, ◌++◌, List, length, IsTrue, IsSome}
+use Rattle.std.specs.Option.{option_map}
 use Rattle.std.specs.Io.KnownBytes.{append_known}
 use Rattle.ht_ports.specs.declared.ports.OutPort.{OutPort}
 use Rattle.ht_ports.specs.declared.ports.OutPort.TheVariants.{Report, Out}
-use Rattle.std.specs.Option.{option_map}
 use Rattle.ht_ports.specs.Causes.{Rose}
 use Rattle.ht_ports.specs.Desk.{DeskView, Holds}
 use Rattle.ht_ports.specs.declared.ports.InPort.TheVariants.{Netlist, Tests}
 use Rattle.ht_net.specs.Netlist as net
+use Rattle.ht_bench.specs.Normal.{normal_text}
 use Rattle.ht_texts.specs.Tests.{IsMalformedTest}
+use Rattle.ht_words_laws.specs.Asked.{sim}
 use Rattle.ht_app.specs.declared.trouble.Trouble.{Trouble}
-use Rattle.ht_app.specs.declared.trouble.Trouble.TheVariants.{Usage, TooLong, BadLine, ReadFault, WriteFault, NoMemory, BadTests}
-use Rattle.ht_app.specs.Run.{IsInput, AreInputs, MayHold, IsSimulated, IsBadLine, HasCause, OnlyInputs, ReportIsNamed, most_bytes}
+use Rattle.ht_app.specs.declared.trouble.Trouble.TheVariants.{TooLong, Refused, ReadFault, NoMemory, BadTests}
+use Rattle.ht_app.specs.Inputs.{most_bytes, IsInput, IsAccepted, MayHold, AreInputs}
+use Rattle.ht_app.specs.Done.{IsSimulated}
+use Rattle.ht_app.specs.Run.{RefusesNetlist, IsRefused, HasCause}
+use Rattle.ht_app.specs.After.{OnlyInputs, ReportIsNamed}
+
+-- ---- why a step ends the run
 
 -- a count rose; a steady desk does this only where it doesn't hold the name
 abbrev pub ReadFailed : List ℕ → DeskView → DeskView → Type 0
 ReadFailed name old new = Rose old.in_faults new.in_faults × (IsTrue old.steady → ¬ Holds old name)
 
--- the named netlist is there, and its text is refused for this cause
-pub record RefusesText (name : List ℕ) (old : DeskView) (IsCause : List ℕ → Type 0) : Type 0 where
-  pub there : MayHold old name
-  pub cause : (text : List ℕ) → IsInput Netlist name text old → IsCause text
-
 abbrev pub NetlistCause : List ℕ → DeskView → DeskView → Trouble → Type 0
-NetlistCause name old new TooLong = RefusesText name old (λ text. most_bytes < length text)
-NetlistCause name old new (BadLine line) = RefusesText name old (IsBadLine line)
+NetlistCause name old new TooLong = RefusesNetlist name old (λ text. most_bytes < length text)
+NetlistCause name old new (Refused error) = RefusesNetlist name old (IsRefused error)
 NetlistCause name old new ReadFault = ReadFailed name old new
 NetlistCause name old new NoMemory = Unit {0}
 NetlistCause name old new _ = ⊥
 
--- the named tests are there, and this line of them is refused
+-- the tests are there, and this line of them is refused
 pub record RefusesVectors (c : net.Netlist) (name : List ℕ) (old : DeskView) (line : ℕ) : Type 0 where
   pub there : MayHold old name
   pub cause : (text : List ℕ) → IsInput Tests name text old → IsMalformedTest c text line
@@ -40,6 +41,15 @@ TestsCause c name old new (BadTests line) = RefusesVectors c name old line
 TestsCause c name old new ReadFault = ReadFailed name old new
 TestsCause c name old new NoMemory = Unit {0}
 TestsCause c name old new _ = ⊥
+
+-- why the texts of the report couldn't be made, whatever its name
+pub record SimulateCause (netlist_name tests_name : List ℕ) (old new : DeskView) (trouble : Trouble) : Type 0 where
+  pub cause : (report_name : List ℕ) → HasCause (sim netlist_name tests_name report_name) old new trouble
+
+-- Why the output isn't whole: a count rose, and the desk isn't steady.
+pub record WriteFailed (old new : DeskView) : Type 0 where
+  pub rose : Rose old.out_faults new.out_faults
+  pub unsteady : ¬ IsTrue old.steady
 
 -- ---- what the steps leave
 
@@ -66,6 +76,12 @@ pub record OnlyWork (name : List ℕ) (old new : DeskView) : Type 0 where
   pub report : ReportIsNamed name old new
   pub file : IsSome (old.named Report) → (n : List ℕ) → n ≢ name → new.file n ≡ old.file n
 
+-- Report stands under this name with this text.
+pub record IsBegun (name text : List ℕ) (old new : DeskView) : Type 0 where
+  pub is_created : IsTrue (new.is_created Report)
+  pub named : new.named Report ≡ option_map (λ _. name) (old.named Report)
+  pub written : new.written Report ≡ option_map (λ _. text) (old.written Report)
+
 -- The report stands under this name, and the total line was added to Out.
 pub record IsReported (name body total : List ℕ) (old new : DeskView) : Type 0 where
   pub is_created : IsTrue (new.is_created Report)
@@ -73,17 +89,12 @@ pub record IsReported (name body total : List ℕ) (old new : DeskView) : Type 0
   pub written : new.written Report ≡ option_map (λ _. body ++ total) (old.written Report)
   pub total_line : new.written Out ≡ append_known (old.written Out) total
 
--- Why the report isn't whole: a count rose, and the desk isn't steady.
-pub record WriteFailed (old new : DeskView) : Type 0 where
-  pub rose : Rose old.out_faults new.out_faults
-  pub unsteady : ¬ IsTrue old.steady
+-- ---- what inputs are worked into
 
--- Why the texts of the report couldn't be made.
-abbrev pub SimulateCause : List (String Global) → DeskView → DeskView → Trouble → Type 0
-SimulateCause words old new Usage = ⊥
-SimulateCause words old new WriteFault = ⊥
-SimulateCause words old new trouble = HasCause words old new trouble
+-- the report of the two files of these names, and its total line
+pub record AreWorkedInto (netlist_name tests_name : List ℕ) (old : DeskView) (body total : List ℕ) : Type 0 where
+  pub simulated : (netlist tests : List ℕ) → AreInputs netlist_name tests_name netlist tests old → IsSimulated netlist tests (body ++ total) total
 
--- the texts that the words of `sim` are worked into
-pub record AreWorkedInto (words : List (String Global)) (old : DeskView) (body total : List ℕ) : Type 0 where
-  pub simulated : (netlist tests : List ℕ) → AreInputs words netlist tests old → IsSimulated netlist tests (body ++ total) total
+-- the normal text of the netlist of this name
+pub record IsNormalTextOf (name : List ℕ) (old : DeskView) (text : List ℕ) : Type 0 where
+  pub normal : (netlist : List ℕ) → IsInput Netlist name netlist old → (c : net.Netlist) × IsAccepted netlist c × (text ≡ normal_text c)

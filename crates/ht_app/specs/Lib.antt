@@ -1,4 +1,8 @@
-pub mod Words
+pub mod Inputs
+pub mod Jobs
+pub mod Done
+pub mod ErrLines
 pub mod Run
+pub mod After
 pub mod Causes
 pub mod Simulation

@@ -6,7 +6,7 @@ use Rattle.ht_net.specs.declared.site.Place.{Place}
 use Rattle.ht_net.specs.Netlist.{Netlist}
 use Rattle.ht_net.specs.Faults.{stem_faults_of}
 use Rattle.ht_texts.specs.Reports.{IsPlace, report_body, total_line, class_count, detected_count}
-use Rattle.ht_app.specs.Run.{AreFirstDetections}
+use Rattle.ht_app.specs.Done.{AreFirstDetections}
 use Rattle.std.specs.Prelude.{get_or}
 
 -- the fault of the list at an index, from 0

@@ -1,61 +1,59 @@
 // The line on Err.
-ghost use Rattle.std.specs.Prelude.{◌≡◌, ◌++◌, OnOk, OnErr, codes, IsTrue};
-ghost use Rattle.std.specs.Fmt.{decimal};
+ghost use Rattle.std.specs.Prelude.{◌≡◌, ◌++◌, OnOk, OnErr, codes, IsTrue, flat_map};
 ghost use Rattle.ht_ports.specs.Desk.{Writes, Added, AddedPart};
 ghost use Rattle.ht_ports.specs.declared.ports.OutPort.TheVariants as out_port;
-ghost use Rattle.ht_app.specs.Run.{line_of};
+ghost use Rattle.ht_app.specs.ErrLines.{line_of, numbered};
 
+use crate::refusal::write_refusal;
 use crate::trouble::Trouble;
 use ht_ports::{Desk, Failed, OutPort, write_all};
 use itoa::Buffer;
 
-// Writes three pieces on Err, one behind the other.
-fn write_pieces<D: Desk>(
-    desk: &mut D,
-    front: &[u8],
-    middle: &[u8],
-    back: &[u8],
-) -> Result<(), Failed>
+/// Writes two pieces on Err, one behind the other.
+pub fn write_pair<D: Desk>(desk: &mut D, front: &[u8], back: &[u8]) -> Result<(), Failed>
     ensures frame { Writes out_port.Err (D.view desk.old) (D.view desk.new) }
-    ensures added { OnOk result (Added out_port.Err (front.now ++ (middle.now ++ back.now)) (D.view desk.old) (D.view desk.new)) }
-    ensures failed { OnErr result (AddedPart out_port.Err (front.now ++ (middle.now ++ back.now)) (D.view desk.old) (D.view desk.new)) }
+    ensures added { OnOk result (Added out_port.Err (front.now ++ back.now) (D.view desk.old) (D.view desk.new)) }
+    ensures failed { OnErr result (AddedPart out_port.Err (front.now ++ back.now) (D.view desk.old) (D.view desk.new)) }
 {
     write_all(desk, OutPort::Err, front)?;
-    write_all(desk, OutPort::Err, middle)?;
     write_all(desk, OutPort::Err, back)?;
     Ok(())
 }
 
-// Writes a line with a number in it on Err.
-fn write_numbered<D: Desk>(
+/// Writes a number on Err, in front of it and behind it a piece.
+pub fn write_numbered<D: Desk>(
     desk: &mut D,
     front: &[u8],
     number: u64,
     back: &[u8],
 ) -> Result<(), Failed>
     ensures frame { Writes out_port.Err (D.view desk.old) (D.view desk.new) }
-    ensures added { OnOk result (Added out_port.Err (front.now ++ (decimal number ++ back.now)) (D.view desk.old) (D.view desk.new)) }
-    ensures failed { OnErr result (AddedPart out_port.Err (front.now ++ (decimal number ++ back.now)) (D.view desk.old) (D.view desk.new)) }
+    ensures added { OnOk result (Added out_port.Err (numbered front.now number back.now) (D.view desk.old) (D.view desk.new)) }
+    ensures failed { OnErr result (AddedPart out_port.Err (numbered front.now number back.now) (D.view desk.old) (D.view desk.new)) }
 {
     let mut buffer = Buffer::new();
-    write_pieces(desk, front, buffer.format(number).as_bytes(), back)
+    write_all(desk, OutPort::Err, front)?;
+    write_pair(desk, buffer.format(number).as_bytes(), back)?;
+    Ok(())
 }
 
 /// Says on Err why a run ends, in one line. It takes no memory.
-pub fn write_line<D: Desk>(desk: &mut D, trouble: Trouble) -> Result<(), Failed>
+pub fn write_line<D: Desk>(desk: &mut D, trouble: &Trouble) -> Result<(), Failed>
     ensures frame { Writes out_port.Err (D.view desk.old) (D.view desk.new) }
-    ensures added { OnOk result (Added out_port.Err (line_of trouble) (D.view desk.old) (D.view desk.new)) }
-    ensures failed { OnErr result (AddedPart out_port.Err (line_of trouble) (D.view desk.old) (D.view desk.new)) }
+    ensures added { OnOk result (Added out_port.Err (line_of trouble.now) (D.view desk.old) (D.view desk.new)) }
+    ensures failed { OnErr result (AddedPart out_port.Err (line_of trouble.now) (D.view desk.old) (D.view desk.new)) }
 {
     match trouble {
-        Trouble::Usage => write_all(desk, OutPort::Err, b"usage: sim NETLIST TESTS REPORT\n"),
+        Trouble::Usage => write_all(
+            desk,
+            OutPort::Err,
+            b"usage: sim NETLIST TESTS REPORT, norm NETLIST OUT\n",
+        ),
         Trouble::TooLong => write_all(desk, OutPort::Err, b"netlist: too long\n"),
-        Trouble::BadLine { line } => {
-            write_numbered(desk, b"netlist: line ", u64::from(line), b": bad line\n")
-        }
+        Trouble::Refused(error) => write_refusal(desk, error),
         Trouble::ReadFault => write_all(desk, OutPort::Err, b"read fault\n"),
         Trouble::WriteFault => write_all(desk, OutPort::Err, b"write fault\n"),
         Trouble::NoMemory => write_all(desk, OutPort::Err, b"no memory\n"),
-        Trouble::BadTests { line } => write_numbered(desk, b"tests: line ", line, b"\n"),
+        Trouble::BadTests { line } => write_numbered(desk, b"tests: line ", *line, b"\n"),
     }
 }

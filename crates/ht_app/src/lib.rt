@@ -1,19 +1,20 @@
 //! The commands, over a device.
 //!
 //! `run` is the one public call: it takes the words of the command line and a device, does the work, and answers the
-//! status. A module has one step of it: the words, the netlist, the tests, the simulation, the report, and what is said
-//! on Err. `specs/Run.antt` says what each status means.
+//! status. A module has one step of it: the commands, the netlist, the tests, the simulation, what is written, and what is
+//! said on Err. `specs/Run.antt` says why a run ends without its work, `specs/Done.antt` what a finished one leaves.
 #![tactic(auto)]
 
 mod commands;
 mod err_line;
 mod netlist;
+mod norm;
+mod refusal;
 mod report;
 mod sim;
 mod simulation;
 mod tests;
 mod trouble;
-mod words;
 
 pub use commands::run;
 

@@ -3,11 +3,11 @@ ghost use Rattle.std.specs.Prelude.{◌≡◌, ◌≤◌, List, ℕ, length, IfO
 ghost use Rattle.ht_net.specs.Netlist.{IsCircuit};
 ghost use Rattle.ht_ports.specs.Desk.{InCall};
 ghost use Rattle.ht_ports.specs.declared.ports.InPort.TheVariants as in_port;
-ghost use Rattle.ht_app.specs.Run.{IsInput, IsAccepted, MayHold};
+ghost use Rattle.ht_app.specs.Inputs.{IsInput, IsAccepted, MayHold};
 ghost use Rattle.ht_app.specs.Causes.{NetlistCause};
 
 use crate::trouble::Trouble;
-use ht_bench::{PlainFault, read_plain};
+use ht_bench::read;
 use ht_net::Circuit;
 use ht_ports::{Desk, Failed, InPort, ReadFault, read_all};
 use std::alloc::Global;
@@ -43,9 +43,6 @@ pub fn read_netlist<D: Desk>(alloc: Global, desk: &mut D, name: &str) -> Result<
     ensures cause { IfErr result (NetlistCause name.now (D.view desk.old) (D.view desk.new)) }
 {
     let text = read_text(alloc, desk, name)?;
-    match read_plain(alloc, &text) {
-        Ok(circuit) => Ok(circuit),
-        Err(PlainFault::BadLine { line }) => Err(Trouble::BadLine { line }),
-        Err(PlainFault::NoMemory) => Err(Trouble::NoMemory),
-    }
+    let circuit = read(alloc, &text)?;
+    Ok(circuit)
 }

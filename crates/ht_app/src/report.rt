@@ -1,10 +1,41 @@
-// The report and the total line.
+// The file that a command writes.
 ghost use Rattle.std.specs.Prelude.{◌≡◌, IfErr, OnOk};
-ghost use Rattle.ht_app.specs.Causes.{OnlyWork, IsReported, WriteFailed};
+ghost use Rattle.ht_ports.specs.Desk.{IsWritable, Writes, Added};
+ghost use Rattle.ht_ports.specs.declared.ports.OutPort.TheVariants as out_port;
+ghost use Rattle.ht_app.specs.Causes.{OnlyWork, IsBegun, IsReported, WriteFailed};
 ghost use Rattle.ht_app.specs.declared.trouble.Trouble.TheVariants as trouble;
 
 use crate::trouble::Trouble;
 use ht_ports::{Desk, Failed, OutPort, write_all};
+
+// Writes bytes on a port that may be written.
+fn write_text<D: Desk>(desk: &mut D, port: OutPort, text: &[u8]) -> Result<(), Trouble>
+    requires { IsWritable (D.view desk.old) port }
+    ensures frame { Writes port (D.view desk.old) (D.view desk.new) }
+    ensures added { OnOk result (Added port text.now (D.view desk.old) (D.view desk.new)) }
+    ensures error { IfErr result (λ e. e ≡ trouble.WriteFault) }
+    ensures cause { IfErr result (λ e. WriteFailed (D.view desk.old) (D.view desk.new)) }
+{
+    match write_all(desk, port, text) {
+        Ok(()) => Ok(()),
+        Err(Failed) => Err(Trouble::WriteFault),
+    }
+}
+
+/// Creates Report under this name, and begins it with this text.
+pub fn begin_report<D: Desk>(desk: &mut D, name: &str, text: &[u8]) -> Result<(), Trouble>
+    ensures frame { OnlyWork name.now (D.view desk.old) (D.view desk.new) }
+    ensures begun { OnOk result (IsBegun name.now text.now (D.view desk.old) (D.view desk.new)) }
+    ensures nothing_out { (D.view desk.new).written out_port.Out ≡ (D.view desk.old).written out_port.Out }
+    ensures error { IfErr result (λ e. e ≡ trouble.WriteFault) }
+    ensures cause { IfErr result (λ e. WriteFailed (D.view desk.old) (D.view desk.new)) }
+{
+    if let Err(Failed) = desk.create(OutPort::Report, name) {
+        return Err(Trouble::WriteFault);
+    }
+    write_text(desk, OutPort::Report, text)?;
+    Ok(())
+}
 
 /// Creates the report and writes it; the total line goes to Out before it ends the report, so that a report that ends
 /// with its total line is whole.
@@ -19,17 +50,8 @@ pub fn write_report<D: Desk>(
     ensures error { IfErr result (λ e. e ≡ trouble.WriteFault) }
     ensures cause { IfErr result (λ e. WriteFailed (D.view desk.old) (D.view desk.new)) }
 {
-    if let Err(Failed) = desk.create(OutPort::Report, name) {
-        return Err(Trouble::WriteFault);
-    }
-    if let Err(Failed) = write_all(desk, OutPort::Report, body) {
-        return Err(Trouble::WriteFault);
-    }
-    if let Err(Failed) = write_all(desk, OutPort::Out, total) {
-        return Err(Trouble::WriteFault);
-    }
-    if let Err(Failed) = write_all(desk, OutPort::Report, total) {
-        return Err(Trouble::WriteFault);
-    }
+    begin_report(desk, name, body)?;
+    write_text(desk, OutPort::Out, total)?;
+    write_text(desk, OutPort::Report, total)?;
     Ok(())
 }

@@ -1,7 +1,9 @@
 // The command `sim`.
 ghost use Rattle.std.specs.Prelude.{◌≡◌, ◌≢◌, ◌≤◌, ◌^◌, length, IfOk, IfErr, OnOk};
-ghost use Rattle.ht_app.specs.Words.{AskForSim, report_name};
-ghost use Rattle.ht_app.specs.Run.{SimDone, HasCause, AcceptsInputs};
+ghost use Rattle.ht_words_laws.specs.Asked as asked;
+ghost use Rattle.ht_app.specs.Inputs.{AcceptsTests};
+ghost use Rattle.ht_app.specs.Done.{SimDone};
+ghost use Rattle.ht_app.specs.Run.{HasCause};
 ghost use Rattle.ht_app.specs.Simulation.{IsReportOf};
 ghost use Rattle.ht_app.specs.Causes.{NothingOut, OnlyWork, SimulateCause, AreWorkedInto};
 ghost use Rattle.ht_app.specs.declared.trouble.Trouble.TheVariants as trouble;
@@ -11,7 +13,6 @@ use crate::report::write_report;
 use crate::simulation::{body_of, detections, total_of};
 use crate::tests::read_tests;
 use crate::trouble::Trouble;
-use crate::words::word;
 use ht_net::{Circuit, Vectors};
 use ht_ports::Desk;
 use std::alloc::{AllocError, Global};
@@ -36,15 +37,19 @@ fn texts_of(alloc: Global, circuit: &Circuit, list: &Vectors) -> Result<Texts, A
 }
 
 // Reads the netlist and the tests, and simulates.
-fn simulate<D: Desk>(alloc: Global, words: &[String], desk: &mut D) -> Result<Texts, Trouble>
-    requires { AskForSim words.now }
+fn simulate<D: Desk>(
+    alloc: Global,
+    netlist: &str,
+    tests: &str,
+    desk: &mut D,
+) -> Result<Texts, Trouble>
     ensures frame { NothingOut (D.view desk.old) (D.view desk.new) }
-    ensures inputs { OnOk result (AcceptsInputs words.now (D.view desk.old)) }
-    ensures texts { IfOk result (λ texts. AreWorkedInto words.now (D.view desk.old) texts.body.items texts.total.items) }
-    ensures cause { IfErr result (SimulateCause words.now (D.view desk.old) (D.view desk.new)) }
+    ensures inputs { OnOk result (AcceptsTests netlist.now tests.now (D.view desk.old)) }
+    ensures texts { IfOk result (λ texts. AreWorkedInto netlist.now tests.now (D.view desk.old) texts.body.items texts.total.items) }
+    ensures cause { IfErr result (SimulateCause netlist.now tests.now (D.view desk.old) (D.view desk.new)) }
 {
-    let circuit = read_netlist(alloc, desk, word(words, 1))?;
-    let list = read_tests(alloc, desk, word(words, 2), &circuit)?;
+    let circuit = read_netlist(alloc, desk, netlist)?;
+    let list = read_tests(alloc, desk, tests, &circuit)?;
     let Ok(texts) = texts_of(alloc, &circuit, &list) else {
         return Err(Trouble::NoMemory);
     };
@@ -52,14 +57,19 @@ fn simulate<D: Desk>(alloc: Global, words: &[String], desk: &mut D) -> Result<Te
 }
 
 /// Runs `sim`: reads, simulates, and writes the report.
-pub fn sim<D: Desk>(alloc: Global, words: &[String], desk: &mut D) -> Result<(), Trouble>
-    requires { AskForSim words.now }
-    ensures frame { OnlyWork (report_name words.now) (D.view desk.old) (D.view desk.new) }
-    ensures done { OnOk result (SimDone words.now (D.view desk.old) (D.view desk.new)) }
-    ensures cause { IfErr result (HasCause words.now (D.view desk.old) (D.view desk.new)) }
+pub fn sim<D: Desk>(
+    alloc: Global,
+    netlist: &str,
+    tests: &str,
+    report: &str,
+    desk: &mut D,
+) -> Result<(), Trouble>
+    ensures frame { OnlyWork report.now (D.view desk.old) (D.view desk.new) }
+    ensures done { OnOk result (SimDone netlist.now tests.now report.now (D.view desk.old) (D.view desk.new)) }
+    ensures cause { IfErr result (HasCause (asked.sim netlist.now tests.now report.now) (D.view desk.old) (D.view desk.new)) }
     ensures nothing { IfErr result (λ e. e ≢ trouble.WriteFault → NothingOut (D.view desk.old) (D.view desk.new)) }
 {
-    let texts = simulate(alloc, words, desk)?;
-    write_report(desk, word(words, 3), &texts.body, &texts.total)?;
+    let texts = simulate(alloc, netlist, tests, desk)?;
+    write_report(desk, report, &texts.body, &texts.total)?;
     Ok(())
 }

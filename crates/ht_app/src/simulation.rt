@@ -4,7 +4,7 @@ ghost use Rattle.ht_net.specs.Netlist.{IsCircuit, net_count};
 ghost use Rattle.ht_net.specs.Faults.{stem_faults_of};
 ghost use Rattle.ht_texts.specs.Sites.{IsSite};
 ghost use Rattle.ht_texts.specs.Reports.{report_body, total_line, class_count, detected_count};
-ghost use Rattle.ht_app.specs.Run.{AreFirstDetections};
+ghost use Rattle.ht_app.specs.Done.{AreFirstDetections};
 ghost use Rattle.ht_app.specs.Simulation.{IsFaultAt, ArePlaces};
 
 use ht_net::{Circuit, Fault, NetId, Place, Site, Vectors};

@@ -4,7 +4,7 @@ ghost use Rattle.ht_ports.specs.Desk.{InCall};
 ghost use Rattle.ht_ports.specs.declared.ports.InPort.TheVariants as in_port;
 ghost use Rattle.ht_net.specs.Netlist.{IsCircuit};
 ghost use Rattle.ht_texts.specs.Tests.{IsTestText, IsTextOf};
-ghost use Rattle.ht_app.specs.Run.{IsInput, MayHold};
+ghost use Rattle.ht_app.specs.Inputs.{IsInput, MayHold};
 ghost use Rattle.ht_app.specs.Causes.{TestsCause};
 
 use crate::trouble::Trouble;

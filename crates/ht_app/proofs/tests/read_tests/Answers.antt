@@ -11,7 +11,7 @@ use Rattle.ht_ports.proofs.NextLemmas.{next_some, next_none}
 use Rattle.ht_ports.proofs.Calls.{in_call_trans}
 use Rattle.ht_net.specs.Netlist.{Netlist}
 use Rattle.ht_texts.specs.Tests.{IsTextOf, IsMalformedTest}
-use Rattle.ht_app.specs.Run.{IsInput}
+use Rattle.ht_app.specs.Inputs.{IsInput}
 use Rattle.ht_app.proofs.TestLines.{SoFar, so_far_start, so_far_next, so_far_end, bad_line, too_long}
 use Rattle.ht_app.proofs.tests.read_tests.Goals as goal
 

@@ -2,7 +2,7 @@ use Rattle.std.proofs.Common.{◌≡◌, ◌+◌, ◌-◌, ◌^◌, ◌≤◌, �
 use Rattle.ht_ports.specs.Desk.{InCall}
 use Rattle.ht_ports.specs.Lines.{rest_of}
 use Rattle.ht_ports.specs.declared.ports.InPort.TheVariants.{Tests}
-use Rattle.ht_app.specs.Run.{IsInput, MayHold}
+use Rattle.ht_app.specs.Inputs.{IsInput, MayHold}
 use Rattle.ht_app.proofs.TestLines.{SoFar}
 use Rattle.ht_app.proofs.tests.read_tests.Given as goal
 

@@ -1,0 +1,66 @@
+// Desks for the examples, and what a run on them must give.
+
+use crate::run;
+use ht_ports::MemoryDesk;
+use std::alloc::{AllocError, Global};
+use std::process::Abort;
+use std::test::Fail;
+
+/// The words of the two commands over the files `n` and `t`; they write the file `r`.
+pub const SIM: &[&str] = &["sim", "n", "t", "r"];
+
+pub const NORM: &[&str] = &["norm", "n", "r"];
+
+/// The shift register: two flip-flops between an input and an output.
+pub const SHIFT_REGISTER: &[u8] = b"INPUT(a)\nOUTPUT(r)\nq = DFF(a)\nr = DFF(q)\n";
+
+/// The words, each a `String`.
+pub fn words_of(alloc: Global, words: &[&str]) -> Result<Vec<String>, AllocError> {
+    let mut list = Vec::new(alloc);
+    for word in words {
+        list.push(String::from_str(alloc, word)?)?;
+    }
+    Ok(list)
+}
+
+/// A desk that holds this netlist as `n` and these tests as `t`.
+pub fn desk_of(alloc: Global, netlist: &[u8], tests: &[u8]) -> Result<MemoryDesk, AllocError> {
+    let mut desk = MemoryDesk::new(alloc);
+    desk.put("n", netlist)?;
+    desk.put("t", tests)?;
+    Ok(desk)
+}
+
+/// Runs the words, and asserts the status, the line on Err, and that nothing else came out.
+pub fn refuse(
+    rt: &impl Abort,
+    alloc: Global,
+    desk: &mut MemoryDesk,
+    words: &[&str],
+    status: u8,
+    line: &[u8],
+) -> Result<(), Fail> {
+    let words = words_of(alloc, words)?;
+    assert_eq!(rt; run(alloc, &words, desk), status);
+    assert_eq!(rt; desk.err(), line);
+    assert_eq!(rt; desk.out(), b"".as_slice());
+    assert!(rt; desk.file("r").is_none());
+    Ok(())
+}
+
+/// Runs the words, and asserts that the run finishes with this file and this on Out.
+pub fn finish(
+    rt: &impl Abort,
+    alloc: Global,
+    desk: &mut MemoryDesk,
+    words: &[&str],
+    file: &[u8],
+    out: &[u8],
+) -> Result<(), Fail> {
+    let words = words_of(alloc, words)?;
+    assert_eq!(rt; run(alloc, &words, desk), 0);
+    assert_eq!(rt; desk.file("r").ok_or("no file")?, file);
+    assert_eq!(rt; desk.out(), out);
+    assert_eq!(rt; desk.err(), b"".as_slice());
+    Ok(())
+}

@@ -1,0 +1,136 @@
+// Inputs that are refused.
+
+use super::desks::{NORM, SHIFT_REGISTER, SIM, desk_of, refuse};
+use std::alloc::{AllocError, Global};
+use std::process::Abort;
+use std::test::Fail;
+
+/// Asserts that both commands refuse the netlist with this line.
+fn refuse_netlist(rt: &impl Abort, alloc: Global, netlist: &[u8], line: &[u8]) -> Result<(), Fail> {
+    for words in [SIM, NORM] {
+        let mut desk = desk_of(alloc, netlist, b"1\n")?;
+        refuse(rt, alloc, &mut desk, words, 3, line)?;
+    }
+    Ok(())
+}
+
+#[test]
+fn refused_lines_name_their_cause(rt: HostRuntime) -> Result<(), Fail> {
+    let alloc = rt.alloc();
+    let table: [(&[u8], &[u8]); 7] = [
+        // the last line is cut short
+        (
+            b"INPUT(a)\nOUTPUT(g)\ng = AND(a,",
+            b"netlist: line 3: bad line\n",
+        ),
+        (b"INPUT(=)\n", b"netlist: line 1: bad line\n"),
+        (b"\nINPUT(\xC3\xA9)\n", b"netlist: line 2: bad name\n"),
+        (b"z = MUX(a, b)\n", b"netlist: line 1: bad kind\n"),
+        (b"z = AND()\n", b"netlist: line 1: bad count\n"),
+        (
+            b"INPUT(a)\nINPUT(a)\n",
+            b"netlist: line 2: second driver a\n",
+        ),
+        // the first line counts, and on it the first cause
+        (
+            b"INPUT(a)\nINPUT(a)\nz = MUX(\n",
+            b"netlist: line 2: second driver a\n",
+        ),
+    ];
+    for (netlist, line) in table {
+        refuse_netlist(&rt, alloc, netlist, line)?;
+    }
+    Ok(())
+}
+
+#[test]
+fn refused_circuits_name_their_nets(rt: HostRuntime) -> Result<(), Fail> {
+    let alloc = rt.alloc();
+    let table: [(&[u8], &[u8]); 5] = [
+        (b"OUTPUT(z)\n", b"netlist: line 1: undriven z\n"),
+        (
+            b"INPUT(a)\nz = AND(a, b, c)\n",
+            b"netlist: line 2: undriven b\n",
+        ),
+        (b"a = NOT(b)\nb = NOT(a)\n", b"netlist: line 1: loop a b\n"),
+        (b"a = NOT(a)\n", b"netlist: line 1: loop a\n"),
+        // a net without a driver goes before a loop
+        (b"a = NOT(a)\nOUTPUT(z)\n", b"netlist: line 2: undriven z\n"),
+    ];
+    for (netlist, line) in table {
+        refuse_netlist(&rt, alloc, netlist, line)?;
+    }
+    Ok(())
+}
+
+/// One line, and then so many lines that count up.
+fn counting(
+    alloc: Global,
+    first: &str,
+    before: &str,
+    count: u32,
+    behind: &str,
+) -> Result<Vec<u8>, AllocError> {
+    let mut netlist = Vec::new(alloc);
+    netlist.extend_from_slice(first.as_bytes())?;
+    for k in 1..=count {
+        netlist.extend_from_slice(format!(in alloc; "{before}{k}{behind}")?.as_bytes())?;
+    }
+    Ok(netlist)
+}
+
+#[test]
+fn limits_are_named(rt: HostRuntime) -> Result<(), Fail> {
+    let alloc = rt.alloc();
+    let table: [(&str, &str, u32, &str, &[u8]); 3] = [
+        (
+            "INPUT(i0)\n",
+            "INPUT(i",
+            4_096,
+            ")\n",
+            b"netlist: line 4097: too many inputs\n",
+        ),
+        (
+            "INPUT(a)\n",
+            "n",
+            65_535,
+            " = BUFF(a)\n",
+            b"netlist: line 65536: too many nets\n",
+        ),
+        (
+            "INPUT(a)\n",
+            "q",
+            16_385,
+            " = DFF(a)\n",
+            b"netlist: line 16386: too many flip-flops\n",
+        ),
+    ];
+    for (first, before, count, behind, line) in table {
+        let netlist = counting(alloc, first, before, count, behind)?;
+        refuse_netlist(&rt, alloc, &netlist, line)?;
+    }
+    Ok(())
+}
+
+#[test]
+fn a_netlist_of_one_byte_too_many_is_too_long(rt: HostRuntime) -> Result<(), Fail> {
+    let alloc = rt.alloc();
+    let netlist = vec![in alloc; b'a'; 16_777_217]?;
+    refuse_netlist(&rt, alloc, &netlist, b"netlist: too long\n")?;
+    Ok(())
+}
+
+#[test]
+fn malformed_tests_name_their_line(rt: HostRuntime) -> Result<(), Fail> {
+    let alloc = rt.alloc();
+    let table: [(&[u8], &[u8]); 3] = [
+        (b"1\nx\n", b"tests: line 2\n"),
+        (b"10\n", b"tests: line 1\n"),
+        (b"1\n\n", b"tests: line 2\n"),
+    ];
+    for (tests, line) in table {
+        let mut desk = desk_of(alloc, SHIFT_REGISTER, tests)?;
+        refuse(&rt, alloc, &mut desk, SIM, 7, line)?;
+    }
+    Ok(())
+}
