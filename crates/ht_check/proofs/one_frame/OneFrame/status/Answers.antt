@@ -1,4 +1,4 @@
-use Rattle.std.proofs.Common.{◌≡◌, ◌<◌, ◌≤◌, ◌∷◌, [], ◌≢◌, subst, ℕ, List, Option, None, Some, Bool, length, get_or, ap, sym, ◌∙◌, arith, refl}
+use Rattle.std.proofs.Common.{◌≡◌, ◌<◌, ◌∷◌, [], ◌≢◌, subst, ℕ, List, Option, None, Some, Bool, length, get_or, ap, sym, ◌∙◌, arith}
 use Rattle.std.proofs.lemmas.List.{with_items_is}
 use Rattle.ht_tern.specs.declared.tern.Tern.{Tern}
 use Rattle.ht_tern.specs.declared.tern.Tern.TheVariants.{Unk}
@@ -6,7 +6,7 @@ use Rattle.ht_tern.specs.Pairs.{Pair, pair}
 use Rattle.ht_net.specs.Netlist.{net_count}
 use Rattle.ht_net.specs.Frame.{net_value, values_at, data_values}
 use Rattle.ht_frame.specs.Values.{env_of}
-use Rattle.ht_tree.specs.OneFrame.{Window, is_in, decided_value, same_pairs, input_sets, latch_sets, set_rules, places, status_of, variable_count}
+use Rattle.ht_tree.specs.OneFrame.{Window, decided_value, same_pairs, input_sets, latch_sets, set_rules, places, status_of, variable_count}
 use Rattle.ht_check.specs.declared.places.Shown.{Shown}
 use Rattle.ht_check.specs.Shown.{shown_by, either, outside_marks}
 use Rattle.ht_check.specs.Fields.{window_of}
