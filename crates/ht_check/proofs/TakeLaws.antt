@@ -1,15 +1,14 @@
 -- One token of a walk, and a whole walk.
-use Rattle.std.proofs.Common.{◌≡◌, ◌≢◌, ◌<◌, ◌+◌, ◌-◌, ◌⊎◌, ◌↔◌, ℕ, suc, zero, List, [], ◌∷◌, ◌++◌, Bool, true, false, not, ◌||◌, ◌&&◌, length, get_or, drop, refl, sym, ◌∙◌, ap, inl, inr, arith}
-use Rattle.std.specs.Prelude.{IsTrue, ltb}
+use Rattle.std.proofs.Common.{◌≡◌, ◌≢◌, ◌<◌, ◌↔◌, ℕ, suc, zero, List, [], ◌∷◌, ◌++◌, Bool, true, false, not, length, drop, refl, sym, ◌∙◌, ap, arith}
+use Rattle.std.specs.Prelude.{IsTrue}
 use Rattle.std.proofs.lemmas.Bool.Decides.{nat_tests}
-use Rattle.ht_tern.specs.declared.tern.Tern.{Tern}
-use Rattle.ht_tern.specs.declared.tern.Tern.TheVariants.{Zero, One, Unk}
+use Rattle.ht_tern.specs.declared.tern.Tern.TheVariants.{Unk}
 use Rattle.ht_tern.specs.Gate.{tern_of}
 use Rattle.ht_tree.specs.declared.token.Assign3.{Assign3}
 use Rattle.ht_tree.specs.declared.token.Token.{Token}
 use Rattle.ht_tree.specs.declared.token.Token.TheVariants as token
 use Rattle.ht_tree.specs.declared.token.Status3.{Status3}
-use Rattle.ht_tree.specs.Walks.{Node, Judge, Fits, AllFit, IsComplete, root_stack, path_of, top_path, decides, decides_again, refuses, children, next_stack, stack_after}
+use Rattle.ht_tree.specs.Walks.{Node, Judge, AllFit, top_path, refuses, next_stack, stack_after}
 use Rattle.ht_tree.specs.OneFrame.{Window, is_legal, one_frame, places, status_of, variable_count}
 use Rattle.ht_check.specs.Paths.{IsPlain, AreAllPlain, FitsAt, FitsOnTop}
 

@@ -1,10 +1,9 @@
 -- What a refutation means: no list of vectors shows a difference.
-use Rattle.std.proofs.Common.{◌≡◌, ℕ, List, [], Bool, true, false, not, Option, Some, None, length, get_or, replicate, sym, ◌∙◌, ap}
+use Rattle.std.proofs.Common.{◌≡◌, ℕ, List, [], Bool, true, false, not, Some, None, length, get_or, replicate, ◌∙◌, ap}
 use Rattle.std.proofs.lemmas.List.{length-replicate}
 use Rattle.ht_net.specs.declared.site.Fault.{Fault}
 use Rattle.ht_net.specs.Netlist.{Netlist, IsCircuit, IsOrder}
-use Rattle.ht_net.specs.Faults.{bool_rules}
-use Rattle.ht_net.specs.Silence.{IsState, Sealed, Silent, bit_at}
+use Rattle.ht_net.specs.Silence.{IsState, Silent, bit_at}
 use Rattle.ht_net.specs.Detection.{Detects}
 use Rattle.ht_net.proofs.Depth.{depth_by}
 use Rattle.ht_net.proofs.OrderLaws.{order_ranks}

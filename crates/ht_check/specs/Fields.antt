@@ -1,5 +1,5 @@
 -- How a window's fields stand for it.
-use Rattle.std.specs.Prelude.{◌≡◌, ◌<◌, ℕ, length, get_or, false}
+use Rattle.std.specs.Prelude.{◌≡◌, ℕ, length, get_or, false}
 use Rattle.ht_net.specs.Netlist.{net_count, IsCircuit}
 use Rattle.ht_tree.specs.OneFrame.{Window, is_in, variable_count}
 use Rattle.ht_check.specs.declared.one_frame.OneFrame.TheInside.{Inside}

@@ -1,6 +1,11 @@
 // The one-frame window, evaluated afresh at each path.
-ghost use Rattle.std.specs.Prelude.{◌≡◌, ◌<◌, ◌+◌, ℕ, length, get_or, false, IfOk};
-ghost use Rattle.ht_tree.specs.OneFrame.{is_in, is_legal, places, status_of, variable_count};
+ghost use Rattle.std.specs.Prelude.{◌≡◌, ◌<◌, ◌+◌, ℕ, [], ◌∷◌, length, get_or, false, IfOk};
+ghost use Rattle.ht_tern.specs.declared.tern.Tern.TheVariants.{Unk};
+ghost use Rattle.ht_tern.specs.Pairs.{pair};
+ghost use Rattle.ht_net.specs.Netlist.{net_count};
+ghost use Rattle.ht_net.specs.Frame.{data_values, net_value};
+ghost use Rattle.ht_frame.specs.Values.{env_of};
+ghost use Rattle.ht_tree.specs.OneFrame.{is_in, is_legal, places, set_rules, status_of, variable_count};
 ghost use Rattle.ht_check.specs.Paths.{IsPlain};
 
 use crate::decisions::{write_decisions, write_inputs, write_latches};
@@ -118,21 +123,42 @@ impl<'c> OneFrame<'c> {
         ensures status { result ≡ status_of (places self.old path.now) }
         ensures same { self.new ≡ self.old }
     {
-        let fault = Some(self.fault);
         let inputs = self.circuit.inputs() as usize;
         write_decisions(&mut self.decisions, path);
         write_inputs(&self.decisions, &mut self.vector);
         write_latches(&self.decisions, inputs, &self.in_z, &mut self.latches);
-        settle(
+        evaluate(
             self.circuit,
-            fault,
+            self.fault,
             &self.vector,
             &self.latches,
             &mut self.values,
+            &mut self.next,
             &mut self.pins,
         );
-        capture(self.circuit, fault, &self.values, &mut self.next);
         let shown = outputs(self.circuit, &self.values);
         shown.and(next_states(&self.in_z, &self.next)).status()
     }
+}
+
+/// Gives every net its set, and each flip-flop what it takes.
+fn evaluate(
+    circuit: &Circuit,
+    fault: Fault,
+    vector: &[PairSet],
+    latches: &[PairSet],
+    values: &mut [PairSet],
+    next: &mut [PairSet],
+    pins: &mut [PairSet],
+)
+    requires vector { length vector.now ≡ circuit.now.inputs }
+    requires latches { length latches.now ≡ length circuit.now.dffs }
+    requires values { length values.old ≡ net_count circuit.now }
+    requires next { length next.old ≡ length circuit.now.dffs }
+    requires room { length pins.old ≡ MOST_PINS }
+    ensures values { (x : ℕ) → x < net_count circuit.now → env_of (pair Unk Unk ∷ []) values.new x ≡ net_value circuit.now (set_rules fault) vector.now latches.now x }
+    ensures next { next.new ≡ data_values (set_rules fault) (env_of (pair Unk Unk ∷ []) values.new) 0 circuit.now.dffs }
+{
+    settle(circuit, Some(fault), vector, latches, values, pins);
+    capture(circuit, Some(fault), values, next);
 }

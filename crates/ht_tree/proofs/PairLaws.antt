@@ -1,11 +1,10 @@
 -- The two machines as one machine of pairs, and sets that hold its pairs.
-use Rattle.std.proofs.Common.{◌≡◌, ◌<◌, ◌≤◌, ◌+◌, ◌-◌, ◌⊎◌, ℕ, suc, zero, List, [], ◌∷◌, ◌++◌, map, Bool, true, false, cond, Option, Some, None, length, get_or, refl, sym, ◌∙◌, ap, inl, inr, arith}
-use Rattle.ht_tern.specs.declared.tern.Tern.{Tern}
+use Rattle.std.proofs.Common.{◌≡◌, ◌<◌, ◌+◌, ◌-◌, ℕ, suc, zero, List, [], ◌∷◌, map, Bool, true, false, cond, Some, None, length, get_or, refl, sym, ◌∙◌, ap, inl, inr, arith}
 use Rattle.ht_tern.specs.declared.tern.Tern.TheVariants.{Unk}
 use Rattle.ht_tern.specs.declared.gate.Kind.{Kind}
 use Rattle.ht_tern.specs.declared.gate.Kind.TheVariants.{And, Nand, Or, Nor, Xor, Xnor, Not, Buf}
-use Rattle.ht_tern.specs.Gate.{AllRelated, HasArity, gate_value, bool_gate_value, tern_of}
-use Rattle.ht_tern.specs.Pairs.{Pair, pair, IsMember, IsChoice, gate_pair, stuck_pair, lifted_set, stuck_set, set_of}
+use Rattle.ht_tern.specs.Gate.{AllRelated, HasArity, gate_value, tern_of}
+use Rattle.ht_tern.specs.Pairs.{Pair, pair, IsMember, IsChoice, gate_pair, stuck_pair, lifted_set, stuck_set}
 use Rattle.ht_tern.proofs.GateLaws.{gate_definite}
 use Rattle.ht_pairs.proofs.SetLaws.{lifted_set_holds, set_of_holds}
 use Rattle.ht_net.specs.declared.site.NetId.{NetId}
@@ -13,7 +12,7 @@ use Rattle.ht_net.specs.declared.site.Site.{Site}
 use Rattle.ht_net.specs.declared.site.Fault.{Fault}
 use Rattle.ht_net.specs.Netlist.{Netlist, IsCircuit, net_count, first_gate_net, gate_at}
 use Rattle.ht_net.specs.Frame.{Rules, Preserves, IsSettled, pin_values, gate_output, driver_value, net_value_over, net_value}
-use Rattle.ht_net.specs.Faults.{rules_of, bool_rules, forced, is_stem, is_pin, is_data_pin}
+use Rattle.ht_net.specs.Faults.{rules_of, bool_rules, forced, is_stem, is_pin}
 use Rattle.ht_net.proofs.Depth.{IsDepth}
 use Rattle.ht_net.proofs.FrameLaws.{le_or_lt, driven_input, driven_latch, driven_gate, frame_settled, settled_is_frame, pins_length}
 use Rattle.ht_net.proofs.FaultLaws.{rules_keep}

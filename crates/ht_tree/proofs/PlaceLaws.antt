@@ -1,13 +1,12 @@
 -- Where no place holds a difference, the two machines agree there.
 use Rattle.std.proofs.Common.{◌≡◌, ◌<◌, ◌+◌, ℕ, suc, zero, List, [], ◌∷◌, ◌++◌, Bool, true, false, ◌||◌, cond, length, get_or, refl, sym, ◌∙◌, ap, inl, inr, arith}
 use Rattle.std.specs.List.{list_any, list_all}
-use Rattle.ht_tern.specs.Gate.{tern_of}
 use Rattle.ht_tern.specs.Pairs.{Pair, IsMember}
 use Rattle.ht_net.specs.declared.site.NetId.{NetId}
 use Rattle.ht_net.specs.Netlist.{no_net}
 use Rattle.ht_net.specs.Frame.{Rules, values_at, data_values}
-use Rattle.ht_tree.specs.declared.token.Status3.TheVariants.{Dead, Sure, Open}
-use Rattle.ht_tree.specs.OneFrame.{is_in, outside, opposite, differs, status_by, status_of}
+use Rattle.ht_tree.specs.declared.token.Status3.TheVariants.{Dead}
+use Rattle.ht_tree.specs.OneFrame.{is_in, outside, differs, status_by, status_of}
 use Rattle.ht_tree.proofs.PairLaws.{bits}
 
 pub or_false : (a b : Bool) → (a || b) ≡ false → (a ≡ false) × (b ≡ false)

@@ -1,5 +1,5 @@
 -- From a complete walk to equal outputs for every list.
-use Rattle.std.proofs.Common.{◌≡◌, ◌<◌, ◌≤◌, ◌+◌, ◌-◌, ℕ, suc, zero, List, [], ◌∷◌, map, Bool, true, false, Option, Some, None, length, get_or, refl, sym, ◌∙◌, ap, inl, inr, arith, subst}
+use Rattle.std.proofs.Common.{◌≡◌, ◌<◌, ◌+◌, ℕ, suc, zero, List, [], ◌∷◌, map, Bool, false, Option, Some, None, length, get_or, refl, sym, ◌∙◌, ap, inl, inr, arith, subst}
 use Rattle.std.specs.List.{list_any, range_with_len}
 use Rattle.ht_tern.specs.Pairs.{Pair, IsMember}
 use Rattle.ht_net.specs.declared.site.Fault.{Fault}
@@ -15,7 +15,7 @@ use Rattle.ht_tree.specs.declared.token.Token.{Token}
 use Rattle.ht_tree.specs.declared.token.Status3.TheVariants.{Dead}
 use Rattle.ht_tree.specs.Walks.{IsComplete, path_of}
 use Rattle.ht_tree.specs.OneFrame.{Window, is_in, set_rules, input_sets, latch_sets, cell_of, outside, places, differs, status_of, one_frame}
-use Rattle.ht_tree.proofs.CoverLaws.{Along, DeadNode, along_drop, complete_covers}
+use Rattle.ht_tree.proofs.CoverLaws.{DeadNode, along_drop, complete_covers}
 use Rattle.ht_tree.proofs.PairLaws.{Has, bits, paired, pair_rules, sets_keep, forced_bits, frame_bits}
 use Rattle.ht_tree.proofs.WindowLaws.{assigned, inputs_covered, latches_covered}
 use Rattle.ht_tree.proofs.PlaceLaws.{any_append, dead_gives, place_same, output_quiet, next_quiet, taken_at}

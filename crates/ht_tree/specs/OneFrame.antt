@@ -12,7 +12,7 @@ use Rattle.ht_net.specs.Faults.{rules_of}
 use Rattle.ht_tree.specs.declared.token.Assign3.{Assign3}
 use Rattle.ht_tree.specs.declared.token.Status3.{Status3}
 use Rattle.ht_tree.specs.declared.token.Status3.TheVariants.{Dead, Sure, Open}
-use Rattle.ht_tree.specs.Walks.{Node, Judge, path_of}
+use Rattle.ht_tree.specs.Walks.{Judge, path_of}
 
 pub record Window : Type 0 where
   pub circuit : Netlist

@@ -1,5 +1,5 @@
 -- What an entry says of its fault, and what that means.
-use Rattle.std.specs.Prelude.{◌≡◌, ◌<◌, ◌+◌, ℕ, List, Bool, length, get_or}
+use Rattle.std.specs.Prelude.{◌<◌, ◌+◌, ℕ, List, Bool, length, get_or}
 use Rattle.ht_net.specs.declared.site.Fault.{Fault}
 use Rattle.ht_net.specs.Netlist.{Netlist}
 use Rattle.ht_net.specs.Silence.{IsState, Sealed, Silent}

@@ -1,4 +1,4 @@
-use Rattle.std.proofs.Common.{◌≡◌, ◌<◌, length, get_or, Some, refl, arith}
+use Rattle.std.proofs.Common.{length, get_or, Some, refl, arith}
 use Rattle.std.proofs.lemmas.List.{length-set}
 use Rattle.ht_check.proofs.DecisionLaws.{no_decision, plain_at, written_more}
 use Rattle.ht_check.proofs.decisions.write_decisions.Goals as goal

@@ -1,5 +1,4 @@
-use Rattle.std.proofs.Common.{◌≡◌, Bool, Result, Ok, Err, IfOk, rules, arith}
-use Rattle.std.proofs.lemmas.Grind.{common_steps}
+use Rattle.std.proofs.Common.{Bool, Result, Ok, Err, IfOk, rules}
 use Rattle.ht_check.proofs.passes.entry.Goals as goal
 
 ok_then : {E : Type 0} → (r : Result Bool E) (P Q : Bool → Type 0) → ((b : Bool) → P b → Q b) → IfOk r P → IfOk r Q

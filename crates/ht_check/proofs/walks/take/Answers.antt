@@ -1,5 +1,5 @@
-use Rattle.std.proofs.Common.{◌≡◌, List, Bool, true, false, not, Result, Ok, Err, IfOk, ap, sym, ◌∙◌, subst}
-use Rattle.std.specs.Prelude.{IsTrue, cond}
+use Rattle.std.proofs.Common.{◌≡◌, List, Bool, true, false, Result, Ok, Err, IfOk, ap, sym, subst}
+use Rattle.std.specs.Prelude.{cond}
 use Rattle.ht_tree.specs.declared.token.Assign3.{Assign3}
 use Rattle.ht_tree.specs.Walks.{Node}
 use Rattle.ht_tree.specs.OneFrame.{Window, variable_count, is_legal}

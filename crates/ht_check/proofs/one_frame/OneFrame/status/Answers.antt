@@ -1,4 +1,4 @@
-use Rattle.std.proofs.Common.{◌≡◌, ◌<◌, ◌≤◌, ◌∷◌, [], ◌≢◌, subst, ℕ, List, Option, None, Some, Bool, length, get_or, ap, sym, ◌∙◌, arith, refl}
+use Rattle.std.proofs.Common.{◌≡◌, ◌<◌, ◌∷◌, [], ◌≢◌, subst, ℕ, List, Option, None, Some, Bool, length, get_or, ap, sym, ◌∙◌, arith}
 use Rattle.std.proofs.lemmas.List.{with_items_is}
 use Rattle.ht_tern.specs.declared.tern.Tern.{Tern}
 use Rattle.ht_tern.specs.declared.tern.Tern.TheVariants.{Unk}
@@ -6,7 +6,7 @@ use Rattle.ht_tern.specs.Pairs.{Pair, pair}
 use Rattle.ht_net.specs.Netlist.{net_count}
 use Rattle.ht_net.specs.Frame.{net_value, values_at, data_values}
 use Rattle.ht_frame.specs.Values.{env_of}
-use Rattle.ht_tree.specs.OneFrame.{Window, is_in, decided_value, same_pairs, input_sets, latch_sets, set_rules, places, status_of, variable_count}
+use Rattle.ht_tree.specs.OneFrame.{Window, decided_value, same_pairs, input_sets, latch_sets, set_rules, places, status_of, variable_count}
 use Rattle.ht_check.specs.declared.places.Shown.{Shown}
 use Rattle.ht_check.specs.Shown.{shown_by, either, outside_marks}
 use Rattle.ht_check.specs.Fields.{window_of}
@@ -36,15 +36,14 @@ returns-clause-status c =
     let D = c.write_decisions.new.decisions in
     let V : List (List Pair) = c.write_inputs.new.vector in
     let L : List (List Pair) = c.write_latches.new.latches in
-    let S : List (List Pair) = c.settle.new.values in
-    let N : List (List Pair) = c.capture.new.latches in
+    let S : List (List Pair) = c.evaluate.new.values in
+    let N : List (List Pair) = c.evaluate.new.next in
     let d1 : c.deref.result.now ≡ D = c.deref.ensures.value ∙ with_items_is a.decisions D (omega arith) in
     let d2 : c.deref-2.result.now ≡ D = c.deref-2.ensures.value ∙ with_items_is a.decisions D (omega arith) in
     let v : c.deref-4.result.now ≡ V = c.deref-4.ensures.value ∙ with_items_is a.vector V (omega arith) in
     let l : c.deref-5.result.now ≡ L = c.deref-5.ensures.value ∙ with_items_is a.latches L (omega arith) in
-    let s6 : c.deref-6.result.now ≡ S = c.deref-6.ensures.value ∙ with_items_is a.values S (omega arith) in
-    let s7 : c.deref-7.result.now ≡ S = c.deref-7.ensures.value ∙ with_items_is a.values S (omega arith) in
-    let n : c.deref-9.result.now ≡ N = c.deref-9.ensures.value ∙ with_items_is a.next N (omega arith) in
+    let s : c.deref-6.result.now ≡ S = c.deref-6.ensures.value ∙ with_items_is a.values S (omega arith) in
+    let n : c.deref-8.result.now ≡ N = c.deref-8.ensures.value ∙ with_items_is a.next N (omega arith) in
     let room : length D ≡ variable_count w = let s = i.decisions in omega arith in
     let wide : length V ≡ w.circuit.inputs = let s = i.vector in omega arith in
     let held : length L ≡ length w.circuit.dffs = let s = i.latches in omega arith in
@@ -55,14 +54,13 @@ returns-clause-status c =
     (λ j below. c.write_latches.ensures j (omega arith) ∙ (ap (λ (t : List (Option Tern)). latch_by t c.inputs-inputs.result c.deref-3.result.now j) d2
     ∙ (ap (λ (m : List Bool). latch_by D c.inputs-inputs.result m j) c.deref-3.ensures.value ∙ ap (λ (k : ℕ). latch_by D k a.in_z.items j) c.inputs-inputs.ensures))) in
     let settled : (x : ℕ) → x < net_count w.circuit → env_of blank S x ≡ net_value w.circuit (set_rules w.fault) V L x = λ x inside.
-    c.settle.ensures x inside ∙ (ap (λ (t : List (List Pair)). net_value w.circuit (set_rules w.fault) t c.deref-5.result.now x) v
+    c.evaluate.ensures.values x inside ∙ (ap (λ (t : List (List Pair)). net_value w.circuit (set_rules w.fault) t c.deref-5.result.now x) v
     ∙ ap (λ (t : List (List Pair)). net_value w.circuit (set_rules w.fault) V t x) l) in
-    let taken : N ≡ data_values (set_rules w.fault) (env_of blank S) 0 w.circuit.dffs =
-    c.capture.ensures ∙ ap (λ (t : List (List Pair)). data_values (set_rules w.fault) (env_of blank t) 0 w.circuit.dffs) s6 in
+    let taken : N ≡ data_values (set_rules w.fault) (env_of blank S) 0 w.circuit.dffs = c.evaluate.ensures.next in
     let shown : c.and.result ≡ either (shown_by (values_at (env_of blank S) w.circuit.outputs)) (shown_by (outside_marks a.in_z.items N)) =
-    c.and.ensures ∙ (ap (λ (t : Shown). either t c.next_states.result) (c.outputs-shown.ensures ∙ ap (λ (t : List (List Pair)). shown_by (values_at (env_of blank t) w.circuit.outputs)) s7)
+    c.and.ensures ∙ (ap (λ (t : Shown). either t c.next_states.result) (c.outputs-shown.ensures ∙ ap (λ (t : List (List Pair)). shown_by (values_at (env_of blank t) w.circuit.outputs)) s)
     ∙ ap (λ (t : Shown). either (shown_by (values_at (env_of blank S) w.circuit.outputs)) t)
-    (c.next_states.ensures ∙ (ap (λ (m : List Bool). shown_by (outside_marks m c.deref-9.result.now)) c.deref-8.ensures.value
+    (c.next_states.ensures ∙ (ap (λ (m : List Bool). shown_by (outside_marks m c.deref-8.result.now)) c.deref-7.ensures.value
     ∙ ap (λ (t : List (List Pair)). shown_by (outside_marks a.in_z.items t)) n))) in
     c.status.ensures ∙ (status_is w path a.in_z.items V L S N i.circuit i.mark_count i.marks inputs latches settled taken c.and.result shown
     ∙ ap (λ (w : Window). status_of (places w path)) c.self.view_is)
