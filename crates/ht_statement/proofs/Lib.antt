@@ -1,3 +1,4 @@
 pub mod TokenLaws
 pub mod NormalLaws
 pub mod StatedLaws
+pub mod PrintLaws

@@ -1,21 +1,20 @@
 -- The normal text of a statement, token by token.
-use Rattle.std.proofs.Common.{◌≡◌, ℕ, zero, suc, ◌<◌, ◌≤◌, Bool, true, false, cond, ◌&&◌, List, [], ◌∷◌, ◌++◌, length, get_or, Option, Some, None, option_map, refl, sym, ◌∙◌, ap, subst, append_assoc, arith, codes}
-use Rattle.std.specs.List.{list_all, AllPass}
+use Rattle.std.proofs.Common.{◌≡◌, ℕ, zero, suc, ◌<◌, ◌≤◌, Bool, true, cond, List, [], ◌∷◌, ◌++◌, length, get_or, Some, option_map, refl, ◌∙◌, ap, append_assoc, arith, codes}
+use Rattle.std.specs.List.{list_all}
 use Rattle.std.proofs.lemmas.Bool.{and_parts}
 use Rattle.std.proofs.lemmas.Bool.Decides.{nat_tests}
-use Rattle.std.proofs.lemmas.List.Sums.{AllPass-from_list_all}
 use Rattle.ht_tern.specs.declared.gate.Kind.{Kind}
 use Rattle.ht_tern.specs.declared.gate.Kind.TheVariants.{And, Nand, Or, Nor, Xor, Xnor, Not, Buf}
 use Rattle.ht_net.specs.Named.{Name}
 use Rattle.ht_statement.specs.Token.{Token, Word, Open, Close, Comma, Equals, tokens_of}
 use Rattle.ht_statement.specs.Word.{is_word_byte, BeginsNoWord}
 use Rattle.ht_statement.specs.Name.{is_name, is_name_byte}
-use Rattle.ht_statement.specs.Form.{Form, InputForm, OutputForm, Definition, form_of, arguments_of, further_arguments}
+use Rattle.ht_statement.specs.Form.{Definition, form_of, arguments_of, further_arguments}
 use Rattle.ht_statement.specs.Element.{Element, FlipFlop, GateOf, element_named, has_count}
-use Rattle.ht_statement.specs.Statement.{Statement, Nothing, Input, Output, Dff, Gate, names_in}
-use Rattle.ht_statement.specs.Reading.{Reading, States, IsRefused, form_reading, definition_reading, tokens_reading, reading_of}
+use Rattle.ht_statement.specs.Statement.{Nothing, Input, Output, Dff, Gate}
+use Rattle.ht_statement.specs.Reading.{States, IsRefused, form_reading, definition_reading, tokens_reading, reading_of}
 use Rattle.ht_statement.specs.declared.fault.LineRefusal.TheVariants.{BadName, BadCount}
-use Rattle.ht_statement.specs.Normal.{kind_text, arguments_text, statement_text, CanBeStated, NormalTextIsRead}
+use Rattle.ht_statement.specs.Normal.{kind_text, arguments_text, statement_text, NormalTextIsRead}
 use Rattle.ht_statement.proofs.TokenLaws.{AreWordBytes, tokens_blank, tokens_mark, tokens_word}
 
 -- ---- words

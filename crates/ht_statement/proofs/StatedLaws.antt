@@ -1,5 +1,5 @@
 -- What a line states has names and a count of arguments that may be.
-use Rattle.std.proofs.Common.{◌≡◌, ℕ, ◌<◌, ◌≤◌, Bool, true, false, cond, leb, eqb, List, [], ◌∷◌, length, get_or, Option, Some, None, refl, subst, arith}
+use Rattle.std.proofs.Common.{◌≡◌, ℕ, ◌≤◌, Bool, true, false, cond, List, [], ◌∷◌, length, Option, Some, None, refl, subst, arith}
 use Rattle.std.specs.List.{list_all}
 use Rattle.std.proofs.lemmas.Bool.{and_parts, and_from}
 use Rattle.std.proofs.lemmas.Bool.Decides.{nat_tests}
@@ -11,8 +11,8 @@ use Rattle.ht_statement.specs.Token.{tokens_of}
 use Rattle.ht_statement.specs.Name.{is_name}
 use Rattle.ht_statement.specs.Form.{Form, Blank, InputForm, OutputForm, Definition, form_of}
 use Rattle.ht_statement.specs.Element.{Element, FlipFlop, GateOf, element_named, has_count}
-use Rattle.ht_statement.specs.Statement.{Statement, Nothing, Input, Output, Dff, Gate}
-use Rattle.ht_statement.specs.Reading.{Reading, States, IsRefused, defined, form_reading, definition_reading, tokens_reading, reading_of}
+use Rattle.ht_statement.specs.Statement.{Input, Output}
+use Rattle.ht_statement.specs.Reading.{Reading, States, IsRefused, defined, form_reading, definition_reading, tokens_reading}
 use Rattle.ht_statement.specs.declared.fault.LineRefusal.{LineRefusal}
 use Rattle.ht_statement.specs.declared.fault.LineRefusal.TheVariants.{BadName, BadCount}
 use Rattle.ht_statement.specs.Normal.{CanBeStated, StatedIsSound}

@@ -1,29 +1,29 @@
 -- The tokens of a text, token by token.
-use Rattle.std.proofs.Common.{◌≡◌, ℕ, suc, ◌<◌, ◌≤◌, Bool, true, false, cond, not, eqb, ◌||◌, List, [], ◌∷◌, ◌++◌, length, get_or, Option, Some, None, refl, sym, ◌∙◌, ap, subst, append_assoc, append-nil, arith}
+use Rattle.std.proofs.Common.{◌≡◌, ℕ, suc, ◌<◌, ◌≤◌, Bool, true, false, cond, not, List, [], ◌∷◌, ◌++◌, length, get_or, Option, Some, None, refl, sym, ◌∙◌, ap, append_assoc, append-nil, arith}
 use Rattle.std.specs.Option.{option_map_or, option_map}
 use Rattle.std.proofs.lemmas.Bool.Decides.{nat_tests}
 use Rattle.std.proofs.lemmas.List.Sums.{take_while-cons}
-use Rattle.ht_statement.specs.Token.{Token, Word, Open, Close, Comma, Equals, is_blank, mark_of, without_comment, ended, tokens_behind, tokens_of}
+use Rattle.ht_statement.specs.Token.{Token, Word, is_blank, mark_of, begins_comment, without_comment, ended, tokens_behind, tokens_of}
 use Rattle.ht_statement.specs.Word.{is_word_byte, BeginsNoBlank, BeginsNoWord, IsWordCut}
 use Rattle.ht_statement.specs.declared.token.Token.{Token as Borrowed}
 use Rattle.ht_statement.specs.TokenOf.{token_of}
 
 -- ---- comments
 
-pub comment_none : (byte : ℕ) (text : List ℕ) → eqb byte 35 ≡ false → without_comment (byte ∷ text) ≡ byte ∷ without_comment text
+pub comment_none : (byte : ℕ) (text : List ℕ) → begins_comment byte ≡ false → without_comment (byte ∷ text) ≡ byte ∷ without_comment text
 comment_none byte text e =
-    take_while-cons (λ b. not (eqb b 35)) byte text ∙ ap (λ r. cond (not r) (byte ∷ without_comment text) []) e
+    take_while-cons (λ b. not (begins_comment b)) byte text ∙ ap (λ r. cond (not r) (byte ∷ without_comment text) []) e
 
-pub comment_all : (byte : ℕ) (text : List ℕ) → eqb byte 35 ≡ true → without_comment (byte ∷ text) ≡ []
+pub comment_all : (byte : ℕ) (text : List ℕ) → begins_comment byte ≡ true → without_comment (byte ∷ text) ≡ []
 comment_all byte text e =
-    take_while-cons (λ b. not (eqb b 35)) byte text ∙ ap (λ r. cond (not r) (byte ∷ without_comment text) []) e
+    take_while-cons (λ b. not (begins_comment b)) byte text ∙ ap (λ r. cond (not r) (byte ∷ without_comment text) []) e
 
 -- ---- what one byte does, with a word before it
 
-blank_is_no_comment : (byte : ℕ) → is_blank byte ≡ true → eqb byte 35 ≡ false
+blank_is_no_comment : (byte : ℕ) → is_blank byte ≡ true → begins_comment byte ≡ false
 blank_is_no_comment byte e = grind (arith, nat_tests)
 
-word_is_no_comment : (byte : ℕ) → is_word_byte byte ≡ true → eqb byte 35 ≡ false
+word_is_no_comment : (byte : ℕ) → is_word_byte byte ≡ true → begins_comment byte ≡ false
 word_is_no_comment byte e = grind (arith, nat_tests)
 
 word_is_no_blank : (byte : ℕ) → is_word_byte byte ≡ true → is_blank byte ≡ false
@@ -32,7 +32,7 @@ word_is_no_blank byte e = grind (arith, nat_tests)
 word_is_no_mark : (byte : ℕ) → is_word_byte byte ≡ true → mark_of byte ≡ None
 word_is_no_mark byte e = grind (arith, nat_tests)
 
-mark_is_no_comment : (byte : ℕ) (mark : Token) → mark_of byte ≡ Some mark → eqb byte 35 ≡ false
+mark_is_no_comment : (byte : ℕ) (mark : Token) → mark_of byte ≡ Some mark → begins_comment byte ≡ false
 mark_is_no_comment byte mark e = grind (arith, nat_tests)
 
 mark_is_no_blank : (byte : ℕ) (mark : Token) → mark_of byte ≡ Some mark → is_blank byte ≡ false
@@ -57,7 +57,7 @@ mark_ends word byte text mark e =
     ∙ ap (λ r. cond r (ended word ++ tokens_of text) (behind_mark word byte (without_comment text) (mark_of byte))) (mark_is_no_blank byte mark e)
     ∙ ap (behind_mark word byte (without_comment text)) e
 
-pub comment_ends : (word : List ℕ) (byte : ℕ) (text : List ℕ) → eqb byte 35 ≡ true → tokens_after word (byte ∷ text) ≡ ended word
+pub comment_ends : (word : List ℕ) (byte : ℕ) (text : List ℕ) → begins_comment byte ≡ true → tokens_after word (byte ∷ text) ≡ ended word
 comment_ends word byte text e = ap (tokens_behind word) (comment_all byte text e)
 
 pub word_goes_on : (word : List ℕ) (byte : ℕ) (text : List ℕ) → is_word_byte byte ≡ true → tokens_after word (byte ∷ text) ≡ tokens_after (word ++ byte ∷ []) text
@@ -72,16 +72,16 @@ word_goes_on word byte text e =
 data Ends (byte : ℕ) : Type 0 where
   BlankEnds : is_blank byte ≡ true → Ends byte
   MarkEnds : (mark : Token) → mark_of byte ≡ Some mark → Ends byte
-  CommentEnds : eqb byte 35 ≡ true → Ends byte
+  CommentEnds : begins_comment byte ≡ true → Ends byte
 
-mark_cases : (byte : ℕ) (h c : Bool) → (m : Option Token) → mark_of byte ≡ m → is_blank byte ≡ c → eqb byte 35 ≡ h → is_word_byte byte ≡ false → Ends byte
+mark_cases : (byte : ℕ) (h c : Bool) → (m : Option Token) → mark_of byte ≡ m → is_blank byte ≡ c → begins_comment byte ≡ h → is_word_byte byte ≡ false → Ends byte
 mark_cases byte h true m em ec eh e = BlankEnds ec
 mark_cases byte true false m em ec eh e = CommentEnds eh
 mark_cases byte false false (Some mark) em ec eh e = MarkEnds mark em
 mark_cases byte false false None em ec eh e = absurd (grind (arith, nat_tests))
 
 ends : (byte : ℕ) → is_word_byte byte ≡ false → Ends byte
-ends byte e = mark_cases byte (eqb byte 35) (is_blank byte) (mark_of byte) refl refl refl e
+ends byte e = mark_cases byte (begins_comment byte) (is_blank byte) (mark_of byte) refl refl refl e
 
 ending : (word : List ℕ) (byte : ℕ) (text : List ℕ) → Ends byte → tokens_after word (byte ∷ text) ≡ ended word ++ tokens_of (byte ∷ text)
 ending word byte text (BlankEnds e) = blank_ends word byte text e ∙ ap (λ l. ended word ++ l) (sym (blank_ends [] byte text e))
@@ -105,7 +105,7 @@ run_ends word (byte ∷ run) rest are stops =
 
 -- ---- the tokens of a text by its first byte
 
-pub tokens_none : (byte : ℕ) (text : List ℕ) → eqb byte 35 ≡ true → tokens_of (byte ∷ text) ≡ []
+pub tokens_none : (byte : ℕ) (text : List ℕ) → begins_comment byte ≡ true → tokens_of (byte ∷ text) ≡ []
 tokens_none byte text e = comment_ends [] byte text e
 
 pub tokens_blank : (byte : ℕ) (text : List ℕ) → is_blank byte ≡ true → tokens_of (byte ∷ text) ≡ tokens_of text
@@ -118,11 +118,11 @@ pub tokens_word : (byte : ℕ) (run rest : List ℕ) → AreWordBytes (byte ∷ 
     → tokens_of (byte ∷ run ++ rest) ≡ Word (byte ∷ run) ∷ tokens_of rest
 tokens_word byte run rest are stops = run_ends [] (byte ∷ run) rest are stops
 
-is_word : (byte : ℕ) → eqb byte 35 ≡ false → is_blank byte ≡ false → mark_of byte ≡ None → is_word_byte byte ≡ true
+is_word : (byte : ℕ) → begins_comment byte ≡ false → is_blank byte ≡ false → mark_of byte ≡ None → is_word_byte byte ≡ true
 is_word byte no_hash no_blank no_mark = grind (arith, nat_tests)
 
 -- the word that a text begins with
-pub cut_is_word : (byte : ℕ) (behind text word rest : List ℕ) → text ≡ byte ∷ behind → eqb byte 35 ≡ false → is_blank byte ≡ false → mark_of byte ≡ None
+pub cut_is_word : (byte : ℕ) (behind text word rest : List ℕ) → text ≡ byte ∷ behind → begins_comment byte ≡ false → is_blank byte ≡ false → mark_of byte ≡ None
     → IsWordCut text word rest → tokens_of text ≡ Word word ∷ tokens_of rest
 cut_is_word byte behind text [] [] e no_hash no_blank no_mark cut =
     let wrong : [] ≡ byte ∷ behind = sym cut.whole ∙ e in absurd (cc)
@@ -135,7 +135,7 @@ cut_is_word byte behind text [] (other ∷ rest) e no_hash no_blank no_mark cut 
 cut_is_word byte behind text (first ∷ run) rest e no_hash no_blank no_mark cut =
     ap tokens_of cut.whole ∙ tokens_word first run rest cut.bytes cut.longest
 
-pub first_word : (text word rest : List ℕ) → 1 ≤ length text → eqb (get_or text 0 0) 35 ≡ false → BeginsNoBlank text → mark_of (get_or text 0 0) ≡ None
+pub first_word : (text word rest : List ℕ) → 1 ≤ length text → begins_comment (get_or text 0 0) ≡ false → BeginsNoBlank text → mark_of (get_or text 0 0) ≡ None
     → IsWordCut text word rest → tokens_of text ≡ Word word ∷ tokens_of rest
 first_word [] word rest some no_hash no_blank no_mark cut = absurd (omega arith)
 first_word (byte ∷ behind) word rest some no_hash no_blank no_mark cut =

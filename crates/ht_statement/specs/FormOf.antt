@@ -1,5 +1,4 @@
 -- How a form that borrows its words stands for the form.
-use Rattle.std.specs.Prelude.{ℕ, List}
 use Rattle.ht_statement.specs.declared.form.Form.{Form as Borrowed}
 use Rattle.ht_statement.specs.declared.form.Form.TheVariants.{Blank as BorrowedBlank, Input as BorrowedInput, Output as BorrowedOutput, Definition as BorrowedDefinition}
 use Rattle.ht_statement.specs.Form.{Form, Blank, InputForm, OutputForm, Definition}

@@ -1,5 +1,5 @@
 -- Names of nets (ISCAS-89 format).
-use Rattle.std.specs.Prelude.{ℕ, List, Bool, ◌&&◌, ◌||◌, not, eqb, leb, length}
+use Rattle.std.specs.Prelude.{ℕ, Bool, ◌&&◌, ◌||◌, not, eqb, leb, length}
 use Rattle.std.specs.List.{list_all}
 use Rattle.ht_net.specs.Named.{Name}
 

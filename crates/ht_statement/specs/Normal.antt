@@ -1,5 +1,5 @@
 -- The normal text of a statement (ISCAS-89 format).
-use Rattle.std.specs.Prelude.{◌≡◌, ℕ, List, [], ◌∷◌, ◌++◌, Bool, true, length, codes}
+use Rattle.std.specs.Prelude.{◌≡◌, ℕ, List, [], ◌∷◌, ◌++◌, Bool, true, ◌&&◌, leb, length, codes}
 use Rattle.std.specs.List.{list_all}
 use Rattle.ht_tern.specs.declared.gate.Kind.{Kind}
 use Rattle.ht_tern.specs.declared.gate.Kind.TheVariants.{And, Nand, Or, Nor, Xor, Xnor, Not, Buf}
@@ -47,6 +47,14 @@ pub record CanBeStated (statement : Statement) : Type 0 where
 -- the normal text of what a line can state is a line that states it
 abbrev pub NormalTextIsRead : Type 0
 NormalTextIsRead = (statement : Statement) → CanBeStated statement → reading_of (statement_text statement) ≡ States statement
+
+-- a byte of printable text, or a blank
+abbrev pub is_printable : ℕ → Bool
+is_printable byte = leb 32 byte && leb byte 126
+
+-- a normal text has such bytes alone: it is one line, with no LF and no CR in it
+abbrev pub NormalTextIsOneLine : Type 0
+NormalTextIsOneLine = (statement : Statement) → CanBeStated statement → list_all is_printable (statement_text statement) ≡ true
 
 -- what a line states is what a line can state
 abbrev pub StatedIsSound : Type 0

@@ -15,12 +15,17 @@ pub data Token : Type 0 where
 abbrev pub is_blank : ℕ → Bool
 is_blank byte = eqb byte 32 || eqb byte 9
 
+-- the token of a mark
 abbrev pub mark_of : ℕ → Option Token
 mark_of byte = cond (eqb byte 40) (Some Open) (cond (eqb byte 41) (Some Close) (cond (eqb byte 44) (Some Comma) (cond (eqb byte 61) (Some Equals) None)))
 
+-- `#`
+abbrev pub begins_comment : ℕ → Bool
+begins_comment byte = eqb byte 35
+
 -- from the first `#` on, a line is a comment
 abbrev pub without_comment : List ℕ → List ℕ
-without_comment line = take_while (λ byte. not (eqb byte 35)) line
+without_comment line = take_while (λ byte. not (begins_comment byte)) line
 
 -- a word that has ended, if it has any byte
 abbrev pub ended : List ℕ → List Token
@@ -34,5 +39,6 @@ tokens_behind word [] = ended word
 tokens_behind word (byte ∷ text) = cond (is_blank byte) (ended word ++ tokens_behind [] text)
     (option_map_or (λ mark. ended word ++ mark ∷ tokens_behind [] text) (mark_of byte) (tokens_behind (word ++ byte ∷ []) text))
 
+-- the tokens of a line, from the left
 abbrev pub tokens_of : List ℕ → List Token
 tokens_of line = tokens_behind [] (without_comment line)

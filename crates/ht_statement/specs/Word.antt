@@ -1,5 +1,5 @@
 -- Words cut out of a text.
-use Rattle.std.specs.Prelude.{◌≡◌, ◌≢◌, ℕ, ◌<◌, List, [], ◌∷◌, ◌++◌, Bool, true, false, ◌||◌, not, length, slice_index}
+use Rattle.std.specs.Prelude.{◌≡◌, ℕ, ◌<◌, List, [], ◌∷◌, ◌++◌, Bool, true, false, ◌||◌, not, length, slice_index}
 use Rattle.ht_statement.specs.Token.{is_blank}
 use Rattle.ht_statement.specs.Name.{is_mark}
 
@@ -7,10 +7,12 @@ use Rattle.ht_statement.specs.Name.{is_mark}
 abbrev pub is_word_byte : ℕ → Bool
 is_word_byte byte = not (is_blank byte || is_mark byte)
 
+-- a text that begins with no blank
 abbrev pub BeginsNoBlank : List ℕ → Type 0
 BeginsNoBlank [] = Unit {0}
 BeginsNoBlank (byte ∷ text) = is_blank byte ≡ false
 
+-- a text that begins with no byte of a word
 abbrev pub BeginsNoWord : List ℕ → Type 0
 BeginsNoWord [] = Unit {0}
 BeginsNoWord (byte ∷ text) = is_word_byte byte ≡ false

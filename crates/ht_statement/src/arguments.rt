@@ -8,7 +8,10 @@ use crate::next::{behind_comma, closes, first_word};
 use std::alloc::{AllocError, Global};
 
 /// The arguments behind `(`, up to the `)` that ends the line, or `None` where that is not their form.
-pub(crate) fn arguments<'a>(alloc: Global, text: &'a [u8]) -> Result<Option<Vec<&'a [u8]>>, AllocError>
+pub(crate) fn arguments<'a>(
+    alloc: Global,
+    text: &'a [u8],
+) -> Result<Option<Vec<&'a [u8]>>, AllocError>
     ensures { IfOk result (λ read. option_map (λ args. texts_of args.items) read ≡ arguments_of (tokens_of text.now)) }
 {
     let mut args = Vec::new(alloc);

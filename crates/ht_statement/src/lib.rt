@@ -2,6 +2,9 @@
 //!
 //! `read_line` gives what a line states, or the first cause why it is refused: bad line, bad name, bad kind, bad count.
 //! `specs/Reading.antt` has the whole rule. What lines state together is another crate's.
+//!
+//! `normal_text_is_read` and `stated_is_sound` are laws of the rule: they run nothing, and their contracts hold of all
+//! lines.
 #![tactic(auto)]
 
 mod arguments;
@@ -14,6 +17,8 @@ mod next;
 mod normal;
 mod reading;
 mod statement;
+#[cfg(test)]
+mod tests;
 mod token;
 
 pub use fault::{LineFault, LineRefusal};

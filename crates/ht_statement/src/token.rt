@@ -1,6 +1,6 @@
 // The tokens of a line.
 ghost use Rattle.std.specs.Prelude.{◌≡◌, ◌∷◌, ◌<◌, ◌≤◌, [], length, option_map, IfSome, IfNone};
-ghost use Rattle.ht_statement.specs.Token.{is_blank, mark_of, tokens_of};
+ghost use Rattle.ht_statement.specs.Token.{begins_comment, mark_of, tokens_of};
 ghost use Rattle.ht_statement.specs.TokenOf.{token_of};
 ghost use Rattle.ht_statement.specs.Word.{IsWordCut, is_word_byte, BeginsNoBlank};
 
@@ -27,11 +27,18 @@ fn mark_of<'a>(byte: u8) -> Option<Token<'a>>
     }
 }
 
-/// Whether a byte belongs to a word: it is no blank, no mark, and begins no comment.
+/// Whether a byte begins a comment.
+fn begins_comment(byte: u8) -> bool
+    ensures { result ≡ begins_comment byte }
+{
+    byte == b'#'
+}
+
+/// Whether a byte belongs to a word: it is no blank and no mark, and begins no comment.
 fn is_word_byte(byte: u8) -> bool
     ensures { result ≡ is_word_byte byte }
 {
-    !matches!(byte, b' ' | b'\t' | b'#' | b'(' | b')' | b',' | b'=')
+    !begins_comment(byte) && !matches!(byte, b' ' | b'\t' | b'(' | b')' | b',' | b'=')
 }
 
 /// A text without the blanks that it begins with.
@@ -69,7 +76,7 @@ pub(crate) fn next_token(text: &[u8]) -> Option<(Token<'_>, &[u8])>
     let [first, behind @ ..] = begun else {
         return None;
     };
-    if *first == b'#' {
+    if begins_comment(*first) {
         return None;
     }
     if let Some(mark) = mark_of(*first) {
