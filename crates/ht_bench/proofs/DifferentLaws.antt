@@ -11,7 +11,7 @@ use Rattle.ht_net.specs.Named.{Name}
 use Rattle.ht_bench.specs.Different.{different}
 use Rattle.ht_bench.proofs.ListLaws.{contains_head, contains_tail, contains_cases, contains_none, filter_yes, filter_no, bool_cases, contains_filter}
 
-name_cases : (a b : Name) → ((bytes_eq a b ≡ true) × (a ≡ b)) ⊎ ((bytes_eq a b ≡ false) × (a ≢ b))
+pub name_cases : (a b : Name) → ((bytes_eq a b ≡ true) × (a ≡ b)) ⊎ ((bytes_eq a b ≡ false) × (a ≢ b))
 name_cases a b =
     ⊎_elim
     (λ (yes : bytes_eq a b ≡ true). inl (yes, (bytes_eq-Decides a b).0 yes))

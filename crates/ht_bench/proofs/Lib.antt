@@ -10,6 +10,17 @@ pub mod DriverLaws
 pub mod ReadLaws
 pub mod UniqueLaws
 pub mod WholeLaws
+pub mod MentionLaws
+pub mod ContentLaws
+pub mod AcceptedLaws
+pub mod TableLaws
+pub mod CountLaws
+pub mod ProgressLaws
+pub mod AgainLaws
+pub mod EndLaws
+pub mod PlaceLaws
+pub mod CycleLaws
+pub mod ExcludeLaws
 pub mod NormalLaws
 pub mod NormalLineLaws
 pub mod NormalListLaws

@@ -14,4 +14,9 @@ pub mod Contents
 pub mod Accepted
 pub mod Ends
 pub mod Text
+pub mod Cause
+pub mod Added
+pub mod Progress
+pub mod Role
+pub mod Names
 pub mod Normal

@@ -8,7 +8,10 @@
 #![tactic(auto)]
 
 mod add;
+mod adding;
+mod again;
 mod arguments;
+mod cause;
 mod cut;
 mod error;
 mod fault;
@@ -20,6 +23,7 @@ mod reader;
 mod round_trip;
 mod spell;
 mod statement;
+mod table;
 
 pub use error::BenchError;
 pub use fault::PlainFault;

@@ -1,0 +1,60 @@
+-- A line that states a gate has as many arguments as its kind may have.
+use Rattle.std.proofs.Common.{◌≡◌, ⊎_elim, ℕ, ◌<◌, ◌≤◌, Bool, true, false, cond, ◌&&◌, List, ◌∷◌, length, Option, Some, None, refl, sym, ◌∙◌, ap, subst, arith}
+use Rattle.std.specs.Prelude.{eqb, leb}
+use Rattle.std.specs.List.{list_all}
+use Rattle.std.proofs.lemmas.Bool.Decides.{nat_tests}
+use Rattle.ht_tern.specs.declared.gate.Kind.{Kind}
+use Rattle.ht_tern.specs.declared.gate.Kind.TheVariants.{And, Nand, Or, Nor, Xor, Xnor, Not, Buf}
+use Rattle.ht_tern.specs.Gate.{HasArity}
+use Rattle.ht_net.specs.Named.{Name}
+use Rattle.ht_statement.specs.declared.fault.LineRefusal.{LineRefusal}
+use Rattle.ht_statement.specs.declared.fault.LineRefusal.TheVariants.{BadName, BadKind, BadCount}
+use Rattle.ht_statement.specs.Token.{tokens_of}
+use Rattle.ht_statement.specs.Form.{Form, Blank, InputForm, OutputForm, Definition, form_of}
+use Rattle.ht_statement.specs.Name.{is_name}
+use Rattle.ht_statement.specs.Element.{Element, FlipFlop, GateOf, element_named, has_count}
+use Rattle.ht_statement.specs.Statement.{Statement, Nothing, Input, Output, Dff, Gate}
+use Rattle.ht_statement.specs.Reading.{Reading, States, IsRefused, defined, definition_reading, form_reading, tokens_reading, reading_of}
+use Rattle.ht_bench.specs.Added.{HasArguments}
+use Rattle.ht_bench.proofs.ListLaws.{bool_cases}
+
+-- what a reading states has its arguments
+abbrev pub ReadsArguments : Reading → Type 0
+ReadsArguments (States statement) = HasArguments statement
+ReadsArguments (IsRefused refusal) = Unit {0}
+
+checked : (b : Bool) (s : Statement) (refusal : LineRefusal) → (b ≡ true → HasArguments s) → ReadsArguments (cond b (States s) (IsRefused refusal))
+checked true s refusal h = h refl
+checked false s refusal h = tt
+
+joined : (b : Bool) (reading : Reading) (refusal : LineRefusal) → ReadsArguments reading → ReadsArguments (cond b reading (IsRefused refusal))
+joined true reading refusal h = h
+joined false reading refusal h = tt
+
+counted : (kind : Kind) (count : ℕ) → has_count (GateOf kind) count ≡ true → HasArity kind count × (count ≤ 255)
+counted And count e = grind (arith, nat_tests)
+counted Nand count e = grind (arith, nat_tests)
+counted Or count e = grind (arith, nat_tests)
+counted Nor count e = grind (arith, nat_tests)
+counted Xor count e = grind (arith, nat_tests)
+counted Xnor count e = grind (arith, nat_tests)
+counted Not count e = grind (arith, nat_tests)
+counted Buf count e = grind (arith, nat_tests)
+
+definition_counted : (out : Name) (args : List Name) (element : Option Element) → ReadsArguments (definition_reading out args element)
+definition_counted out args None = tt
+definition_counted out args (Some FlipFlop) = checked (has_count FlipFlop (length args)) (defined out args FlipFlop) BadCount (λ e. tt)
+definition_counted out args (Some (GateOf kind)) = checked (has_count (GateOf kind) (length args)) (Gate out kind args) BadCount (counted kind (length args))
+
+form_counted : (form : Form) → ReadsArguments (form_reading form)
+form_counted Blank = tt
+form_counted (InputForm name) = checked (is_name name) (Input name) BadName (λ e. tt)
+form_counted (OutputForm name) = checked (is_name name) (Output name) BadName (λ e. tt)
+form_counted (Definition out kind args) = joined (list_all is_name (out ∷ args)) (definition_reading out args (element_named kind)) BadName (definition_counted out args (element_named kind))
+
+tokens_counted : (form : Option Form) → ReadsArguments (tokens_reading form)
+tokens_counted None = tt
+tokens_counted (Some form) = form_counted form
+
+pub stated_arguments : (line : List ℕ) (s : Statement) → reading_of line ≡ States s → HasArguments s
+stated_arguments line s e = subst ReadsArguments e (tokens_counted (form_of (tokens_of line)))

@@ -1,0 +1,162 @@
+-- Reading a text line by line.
+use Rattle.std.proofs.Common.{◌≡◌, ◌⊎◌, inl, inr, ⊎_elim, ℕ, ◌<◌, ◌≤◌, ◌+◌, List, [], ◌∷◌, ◌++◌, length, map, refl, sym, ◌∙◌, ap, subst, append_assoc, append-nil, arith}
+use Rattle.std.specs.List.{AllZip}
+use Rattle.std.proofs.lemmas.List.{length-append, map_push}
+use Rattle.ht_ports.specs.Cutting.{lines_of}
+use Rattle.ht_tern.specs.declared.gate.Kind.{Kind}
+use Rattle.ht_net.specs.declared.names.NameId.{NameId}
+use Rattle.ht_net.specs.declared.draft.DffPart.{DffPart}
+use Rattle.ht_net.specs.Named.{Name, NamedDff, NamedGate}
+use Rattle.ht_net.specs.Draft.{Draft, GatePart}
+use Rattle.ht_net.specs.Built.{draft_name, named_draft}
+use Rattle.ht_statement.specs.declared.fault.LineRefusal.TheVariants.{BadLine, BadName, BadKind, BadCount}
+use Rattle.ht_statement.specs.Statement.{Statement}
+use Rattle.ht_statement.specs.Reading.{Reading, States, reading_of}
+use Rattle.ht_bench.specs.Contents.{inputs_of, outputs_of, dffs_of, gates_of, named_of_statements}
+use Rattle.ht_bench.specs.Accepted.{IsAccepted, AreAccepted}
+use Rattle.ht_bench.specs.Text.{readings_of, IsAcceptedText, IsFirstRefused, Refuses}
+use Rattle.ht_bench.specs.Cause.{IsCause, error_at}
+use Rattle.ht_bench.specs.Added.{IsNumberOf, IsDffOf, IsGateOf, IsDraftWith, IsDraftOf, AddsLine, RefusesLine}
+use Rattle.ht_bench.specs.Progress.{IsReading, IsRead}
+use Rattle.ht_bench.specs.declared.cause.Cause.{Cause}
+use Rattle.ht_bench.specs.declared.cause.Cause.TheVariants.{Unread, SecondDriver, Limit, NoMemory}
+use Rattle.ht_bench.proofs.ListLaws.{contains_none, AllZip-map}
+
+-- ---- one more accepted statement
+
+-- a cut of a list with one more: at the last, or before it
+abbrev PushCut : {A : Type 0} → List A → A → List A → A → List A → Type 0
+PushCut xs s before x after = ((xs ≡ before) × (s ≡ x)) ⊎ ((rest : List _) × (xs ≡ before ++ x ∷ rest))
+
+push_cut : {A : Type 0} (xs : List A) (s : A) (before : List A) (x : A) (after : List A) → xs ++ s ∷ [] ≡ before ++ x ∷ after → PushCut xs s before x after
+push_cut [] s [] x after e = inl (refl, cc)
+push_cut (y ∷ ys) s [] x after e = inr (ys, cc)
+push_cut [] s (c ∷ before) x after e = absurd (omega (arith, ap length e, length-append before (x ∷ after)))
+push_cut (y ∷ ys) s (c ∷ before) x after e =
+    let heads : y ≡ c = cc in
+    let tails : ys ++ s ∷ [] ≡ before ++ x ∷ after = cc in
+    ⊎_elim
+    (λ (last : (ys ≡ before) × (s ≡ x)). let b : ys ≡ before = last.0 in inl ((cc), last.1))
+    (λ (earlier : (rest : List _) × (ys ≡ before ++ x ∷ rest)). let b : ys ≡ before ++ x ∷ earlier.0 = earlier.1 in inr (earlier.0, (cc)))
+    (push_cut ys s before x after tails)
+
+accepted_none : AreAccepted []
+accepted_none before after s e = absurd (omega (arith, ap length e, length-append before (s ∷ after)))
+
+accepted_push : (statements : List Statement) (s : Statement) → AreAccepted statements → IsAccepted statements s → AreAccepted (statements ++ s ∷ [])
+accepted_push statements s are is before after x e =
+    ⊎_elim
+    (λ (last : (statements ≡ before) × (s ≡ x)). subst (IsAccepted before) last.1 (subst (λ l. IsAccepted l s) last.0 is))
+    (λ (earlier : (rest : List Statement) × (statements ≡ before ++ x ∷ rest)). are before earlier.0 x earlier.1)
+    (push_cut statements s before x after e)
+
+-- ---- the text so far
+
+pub nothing_drafted : (d : Draft) → d ≡ record { names = []; inputs = []; dffs = []; gates = []; outputs = [] } → IsDraftOf [] d
+nothing_drafted d e = subst (IsDraftOf []) (sym e) (record {
+  names = refl;
+  names_differ = λ x y lt within. absurd (omega arith);
+  inputs = tt;
+  outputs = tt;
+  dffs = tt;
+  gates = tt;
+  driven = λ name c. absurd (contains_none name c);
+  drives = λ id c. absurd (contains_none id c);
+})
+
+pub reading_none : (text : List ℕ) (d : Draft) → IsDraftOf [] d → IsReading text text 0 d
+reading_none text d draft = record {
+  before = [];
+  accepted = accepted_none;
+  limits = record { nets = omega arith; pins = omega arith; inputs = omega arith; dffs = omega arith };
+  lines = refl;
+  is_count = refl;
+  short = omega arith;
+  draft = draft;
+}
+
+-- the readings of a text from a line on
+pub readings_from : (rest line more : List ℕ) → lines_of rest ≡ line ∷ lines_of more → readings_of rest ≡ reading_of line ∷ readings_of more
+readings_from rest line more first = ap (map reading_of) first
+
+-- the refusal of a line where its cause is told
+refused_at : (text : List ℕ) (number : ℕ) (cause : Cause) → IsFirstRefused text number (IsCause cause) → Refuses text (error_at cause number)
+refused_at text number (Unread BadLine) first = record { before = first.before; reading = first.reading; after = first.after; cut = first.cut; is_number = first.is_number; accepted = first.accepted; cause = first.cause }
+refused_at text number (Unread BadName) first = record { before = first.before; reading = first.reading; after = first.after; cut = first.cut; is_number = first.is_number; accepted = first.accepted; cause = first.cause }
+refused_at text number (Unread BadKind) first = record { before = first.before; reading = first.reading; after = first.after; cut = first.cut; is_number = first.is_number; accepted = first.accepted; cause = first.cause }
+refused_at text number (Unread BadCount) first = record { before = first.before; reading = first.reading; after = first.after; cut = first.cut; is_number = first.is_number; accepted = first.accepted; cause = first.cause }
+refused_at text number (SecondDriver name) first = record { before = first.before; reading = first.reading; after = first.after; cut = first.cut; is_number = first.is_number; accepted = first.accepted; cause = first.cause }
+refused_at text number (Limit what) first = record { before = first.before; reading = first.reading; after = first.after; cut = first.cut; is_number = first.is_number; accepted = first.accepted; cause = first.cause }
+refused_at text number NoMemory first = tt
+
+module _ (text rest line more : List ℕ) (count : ℕ) (old : Draft) (is : IsReading text rest count old)
+    (first : lines_of rest ≡ line ∷ lines_of more) (shorter : length more < length rest) where
+  pub reading_more : (new : Draft) → AddsLine old line new → IsReading text more (count + 1) new
+  reading_more new adds =
+      let s = adds.statement in
+      let r = adds.accepts is.before is.draft is.limits in
+      record {
+        before = is.before ++ s ∷ [];
+        accepted = accepted_push is.before s is.accepted r.0;
+        limits = r.0.limits;
+        lines =
+            is.lines
+            ∙ ap (λ l. map States is.before ++ l) (readings_from rest line more first ∙ ap (λ t. t ∷ readings_of more) adds.states)
+            ∙ sym (ap (λ l. l ++ readings_of more) (map_push States is.before s) ∙ append_assoc (map States is.before) (States s ∷ []) (readings_of more));
+        is_count = omega (arith, is.is_count, length-append is.before (s ∷ []));
+        short = omega (arith, is.short, shorter);
+        draft = r.1;
+      }
+
+  pub reading_refused : (cause : Cause) → RefusesLine old line cause → Refuses text (error_at cause (count + 1))
+  reading_refused cause refused = refused_at text (count + 1) cause (record {
+    before = is.before;
+    reading = reading_of line;
+    after = readings_of more;
+    cut = is.lines ∙ ap (λ l. map States is.before ++ l) (readings_from rest line more first);
+    is_number = ap (λ n. n + 1) is.is_count;
+    accepted = is.accepted;
+    cause = refused is.before is.draft;
+  })
+
+-- ---- the whole text
+
+pub reading_done : (text rest : List ℕ) (count : ℕ) (d : Draft) → IsReading text rest count d → rest ≡ [] → IsRead text d
+reading_done text rest count d is none = record {
+  statements = is.before;
+  read = record { lines = is.lines ∙ ap (λ t. map States is.before ++ readings_of t) none ∙ append-nil (map States is.before); accepted = is.accepted };
+  draft = is.draft;
+}
+
+abbrev named_dff : Draft → DffPart → NamedDff
+named_dff d f = record { out = draft_name d f.out; data_pin = draft_name d f.data_pin }
+
+abbrev named_gate : Draft → GatePart → NamedGate
+named_gate d g = record { kind = g.kind; out = draft_name d g.out; args = map (draft_name d) g.args }
+
+dff_by : Name → Name → NamedDff
+dff_by out pin = record { out = out; data_pin = pin }
+
+dff_named : (d : Draft) (part : DffPart) (dff : NamedDff) → IsDffOf d.names part dff → named_dff d part ≡ dff
+unfolding dff_by
+dff_named d part dff is = ap (λ out. dff_by out (draft_name d part.data_pin)) is.out.1 ∙ ap (dff_by dff.out) is.data_pin.1
+
+gate_by : Kind → Name → List Name → NamedGate
+gate_by kind out args = record { kind = kind; out = out; args = args }
+
+gate_named : (d : Draft) (part : GatePart) (gate : NamedGate) → IsGateOf d.names part gate → named_gate d part ≡ gate
+unfolding gate_by
+gate_named d part gate is =
+    let args : map (draft_name d) part.args ≡ gate.args = AllZip-map (IsNumberOf d.names) (draft_name d) (λ id name at. at.1) part.args gate.args is.args in
+    ap (λ kind. gate_by kind (draft_name d part.out) (map (draft_name d) part.args)) is.kind
+    ∙ ap (λ out. gate_by gate.kind out (map (draft_name d) part.args)) is.out.1
+    ∙ ap (gate_by gate.kind gate.out) args
+
+-- a draft says by names what its statements say
+pub named_draft_is : (mentioned : List Name) (statements : List Statement) (d : Draft) → IsDraftWith mentioned statements d → named_draft d ≡ named_of_statements statements
+named_draft_is mentioned statements d is =
+    let inputs : map (draft_name d) d.inputs ≡ inputs_of statements = AllZip-map (IsNumberOf d.names) (draft_name d) (λ id name at. at.1) d.inputs (inputs_of statements) is.inputs in
+    let outputs : map (draft_name d) d.outputs ≡ outputs_of statements = AllZip-map (IsNumberOf d.names) (draft_name d) (λ id name at. at.1) d.outputs (outputs_of statements) is.outputs in
+    let dffs : map (named_dff d) d.dffs ≡ dffs_of statements = AllZip-map (IsDffOf d.names) (named_dff d) (dff_named d) d.dffs (dffs_of statements) is.dffs in
+    let gates : map (named_gate d) d.gates ≡ gates_of statements = AllZip-map (IsGateOf d.names) (named_gate d) (gate_named d) d.gates (gates_of statements) is.gates in
+    cc

@@ -1,0 +1,95 @@
+-- How a builder's draft stands for the statements that were added to it.
+use Rattle.std.specs.Prelude.{◌≡◌, ◌≢◌, ℕ, ◌<◌, ◌≤◌, List, [], ◌∷◌, ◌++◌, length, get_or, Contains}
+use Rattle.std.specs.List.{AllZip}
+use Rattle.ht_tern.specs.Gate.{HasArity}
+use Rattle.ht_net.specs.declared.names.NameId.{NameId}
+use Rattle.ht_net.specs.declared.draft.DffPart.{DffPart}
+use Rattle.ht_net.specs.declared.error.Limit.TheVariants.{Nets}
+use Rattle.ht_net.specs.Names.{IsNewName, IsNameAt}
+use Rattle.ht_net.specs.Named.{Name, NamedDff, NamedGate}
+use Rattle.ht_net.specs.Draft.{Draft, GatePart, IsDraft, IsDriven}
+use Rattle.ht_statement.specs.Statement.{Statement, Gate}
+use Rattle.ht_statement.specs.Reading.{States, reading_of}
+use Rattle.ht_bench.specs.Different.{different}
+use Rattle.ht_bench.specs.Contents.{inputs_of, outputs_of, dffs_of, gates_of, driven_by, mentions_of}
+use Rattle.ht_bench.specs.Accepted.{IsWithinLimits, IsAccepted}
+use Rattle.ht_bench.specs.Cause.{IsCause}
+use Rattle.ht_bench.specs.declared.cause.Cause.{Cause}
+use Rattle.ht_bench.specs.declared.cause.Cause.TheVariants.{SecondDriver, Limit, NoMemory}
+
+-- a number, a flip-flop and a gate of a draft stand for these names
+abbrev pub IsNumberOf : List Name → NameId → Name → Type 0
+IsNumberOf names id name = IsNameAt names id.0 name
+
+pub record IsDffOf (names : List Name) (part : DffPart) (dff : NamedDff) : Type 0 where
+  pub out : IsNumberOf names part.out dff.out
+  pub data_pin : IsNumberOf names part.data_pin dff.data_pin
+
+pub record IsGateOf (names : List Name) (part : GatePart) (gate : NamedGate) : Type 0 where
+  pub kind : part.kind ≡ gate.kind
+  pub out : IsNumberOf names part.out gate.out
+  pub args : AllZip (IsNumberOf names) part.args gate.args
+
+abbrev pub NamesDiffer : List Name → Type 0
+NamesDiffer names = (x y : ℕ) → x < y → y < length names → get_or names x [] ≢ get_or names y []
+
+-- a draft of these statements, in which these names are mentioned
+pub record IsDraftWith (mentioned : List Name) (statements : List Statement) (d : Draft) : Type 0 where
+  pub names : d.names ≡ different mentioned
+  pub names_differ : NamesDiffer d.names
+  pub inputs : AllZip (IsNumberOf d.names) d.inputs (inputs_of statements)
+  pub outputs : AllZip (IsNumberOf d.names) d.outputs (outputs_of statements)
+  pub dffs : AllZip (IsDffOf d.names) d.dffs (dffs_of statements)
+  pub gates : AllZip (IsGateOf d.names) d.gates (gates_of statements)
+  pub driven : (name : Name) → Contains (driven_by statements) name → (id : NameId) × IsDriven d id × IsNumberOf d.names id name
+  pub drives : (id : NameId) → IsDriven d id → (name : Name) × IsNumberOf d.names id name × Contains (driven_by statements) name
+
+abbrev pub IsDraftOf : List Statement → Draft → Type 0
+IsDraftOf statements d = IsDraftWith (mentions_of statements) statements d
+
+-- a draft in which more names are mentioned, and nothing else is new
+pub record Mentions (old : Draft) (names : List Name) (new : Draft) : Type 0 where
+  pub with_names : (mentioned : List Name) (statements : List Statement) → IsDraftWith mentioned statements old → IsDraftWith (mentioned ++ names) statements new
+  pub keeps : new ≡ record old { names = new.names }
+  pub grows : (id : NameId) (name : Name) → IsNumberOf old.names id name → IsNumberOf new.names id name
+  pub is_draft : IsDraft new
+
+-- no name is left for a new one
+abbrev pub RefusesMention : Draft → Name → Cause → Type 0
+RefusesMention old name (Limit Nets) = IsNewName old.names name × (length old.names ≡ 65535)
+RefusesMention old name NoMemory = Unit {0}
+RefusesMention old name _ = ⊥
+
+-- the names are too many
+abbrev pub RefusesMentions : Draft → List Name → Cause → Type 0
+RefusesMentions old names (Limit Nets) = (mentioned : List Name) (statements : List Statement) → IsDraftWith mentioned statements old → 65535 < length (different (mentioned ++ names))
+RefusesMentions old names NoMemory = Unit {0}
+RefusesMentions old names _ = ⊥
+
+-- the net is driven already, or no name is left for it
+abbrev pub RefusesDriver : Draft → Name → Cause → Type 0
+RefusesDriver old name (SecondDriver net) = (net.items ≡ name) × ((before : List Statement) → IsDraftOf before old → Contains (driven_by before) name)
+RefusesDriver old name cause = RefusesMention old name cause
+
+-- the statement is accepted after those of the old draft, and the new draft is theirs and its
+abbrev pub Accepts : Draft → Statement → Draft → Type 0
+Accepts old statement new =
+    (before : List Statement) → IsDraftOf before old → IsWithinLimits before → IsAccepted before statement × IsDraftOf (before ++ statement ∷ []) new
+
+-- it is refused after them
+abbrev pub RefusesStatement : Draft → Statement → Cause → Type 0
+RefusesStatement old statement cause = (before : List Statement) → IsDraftOf before old → IsCause cause before (States statement)
+
+-- one argument for NOT and BUFF, 1 to 255 for the other gates
+abbrev pub HasArguments : Statement → Type 0
+HasArguments (Gate out kind args) = HasArity kind (length args) × (length args ≤ 255)
+HasArguments _ = Unit {0}
+
+-- a line adds what it states, or is refused
+pub record AddsLine (old : Draft) (line : List ℕ) (new : Draft) : Type 0 where
+  pub statement : Statement
+  pub states : reading_of line ≡ States statement
+  pub accepts : Accepts old statement new
+
+abbrev pub RefusesLine : Draft → List ℕ → Cause → Type 0
+RefusesLine old line cause = (before : List Statement) → IsDraftOf before old → IsCause cause before (reading_of line)
