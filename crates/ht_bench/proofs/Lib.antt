@@ -22,8 +22,8 @@ pub mod PlaceLaws
 pub mod CycleLaws
 pub mod ExcludeLaws
 pub mod NormalLaws
-pub mod NormalLineLaws
 pub mod NormalListLaws
+pub mod NormalLineLaws
 pub mod NormalContentLaws
 pub mod NormalRoundLaws
 pub mod NormalOneLaws

@@ -15,9 +15,8 @@ use Rattle.ht_bench.specs.Text.{IsNetlistOf, IsOfNoCircuit}
 use Rattle.ht_bench.specs.Normal.{normal_text, HasFormatNames}
 use Rattle.ht_bench.specs.declared.error.BenchError.{BenchError}
 use Rattle.ht_bench.specs.declared.error.BenchError.TheVariants.{BadLine, BadName, BadKind, BadCount, Twice, TooMany, Undriven, Loop, NoMemory}
-use Rattle.ht_bench.proofs.NormalLineLaws.{AreNames, all_from_test}
-use Rattle.ht_bench.proofs.NormalListLaws.{All-flat_map}
-use Rattle.ht_bench.proofs.NormalRoundLaws.{test_from_all, normal_is_netlist}
+use Rattle.ht_bench.proofs.NormalListLaws.{all_from_test, test_from_all, AreNames, All-flat_map}
+use Rattle.ht_bench.proofs.NormalRoundLaws.{normal_is_netlist}
 use Rattle.ht_bench.proofs.NormalOneLaws.{all_names, names_are, one_circuit}
 
 -- ---- the names of a circuit that was read

@@ -3,6 +3,8 @@
 //! `read` gives the circuit of a netlist, or the one refusal of a text that is none. `specs/Text.antt` says which texts
 //! are netlists of which circuits, and how every other text is refused.
 //!
+//! `write` gives the normal text of a circuit, which `read` reads as that circuit. `specs/Normal.antt` has that text.
+//!
 //! `read_plain` reads plain netlists: each line is one statement in its normal text. `specs/Plain.antt` says which texts
 //! these are, which circuit a text stands for, and which line is refused.
 #![tactic(auto)]
