@@ -1,7 +1,7 @@
 -- Which statements are accepted after those of a draft, and why others are refused.
 use Rattle.std.proofs.Common.{◌≡◌, ◌⊎◌, inl, inr, ⊎_elim, ℕ, ◌<◌, ◌≤◌, ◌+◌, List, [], ◌∷◌, ◌++◌, length, refl, sym, ◌∙◌, ap, subst, append_assoc, append-nil, arith}
 use Rattle.std.specs.List.{All, AllZip, Contains, sum_by}
-use Rattle.std.proofs.lemmas.Bool.{cases_eq, cases_lt}
+use Rattle.std.proofs.lemmas.Bool.{cases_eq}
 use Rattle.std.proofs.lemmas.List.{length-append}
 use Rattle.std.proofs.lemmas.List.Sums.{sum_by-append}
 use Rattle.std.proofs.lemmas.List.Elements.{All-nil, All-cons}
@@ -12,20 +12,19 @@ use Rattle.ht_net.specs.declared.error.NetError.TheVariants.{Twice, TooMany, Und
 use Rattle.ht_net.specs.declared.error.Limit.TheVariants.{Nets, Pins, Inputs, Dffs}
 use Rattle.ht_net.specs.Names.{IsNewName}
 use Rattle.ht_net.specs.Named.{Name, NamedGate}
-use Rattle.ht_net.specs.Draft.{Draft, GatePart, IsDraft, IsDriven, draft_pins}
+use Rattle.ht_net.specs.Draft.{Draft, GatePart, IsDriven, draft_pins}
 use Rattle.ht_net.specs.Refusals.{RefusesInput, AcceptsInput, RefusesDff, AcceptsDff, RefusesGate, AcceptsGate, RefusesOutput}
 use Rattle.ht_statement.specs.Statement.{Statement, Nothing, Input, Output, Dff, Gate, names_in}
 use Rattle.ht_statement.specs.Reading.{States}
 use Rattle.ht_bench.specs.Different.{different}
-use Rattle.ht_bench.specs.Contents.{inputs_in, dffs_in, gates_in, driven_in, inputs_of, dffs_of, gates_of, driven_by, mentions_of, nets_of, pins_of}
-use Rattle.ht_bench.specs.Accepted.{IsAccepted, HasNewDriver, PassesLimit}
+use Rattle.ht_bench.specs.Contents.{inputs_in, dffs_in, gates_in, driven_in, inputs_of, dffs_of, gates_of, driven_by, mentions_of, nets_of}
+use Rattle.ht_bench.specs.Accepted.{HasNewDriver, PassesLimit}
 use Rattle.ht_bench.specs.Added.{IsNumberOf, IsDraftWith, IsDraftOf, Mentions, Accepts, RefusesStatement, RefusesMention, RefusesMentions, RefusesDriver}
 use Rattle.ht_bench.specs.Cause.{cause_of}
 use Rattle.ht_bench.specs.declared.cause.Cause.{Cause}
 use Rattle.ht_bench.specs.declared.cause.Cause.TheVariants.{Unread, SecondDriver, Limit, NoMemory as CauseNoMemory}
-use Rattle.ht_bench.proofs.ListLaws.{contains_none, contains_head, contains_tail, contains_cases, flat_map-push, flat_map-push_none, AllZip-length}
-use Rattle.ht_bench.proofs.DifferentLaws.{different-append_grows, contains_in_different, contained_name_at, contains_different, contains_not_new}
-use Rattle.ht_bench.proofs.MentionLaws.{driven_is, is_driven}
+use Rattle.ht_bench.proofs.ListLaws.{contains_none, contains_head, contains_tail, contains_cases, flat_map-push, AllZip-length}
+use Rattle.ht_bench.proofs.MentionLaws.{is_driven}
 use Rattle.ht_bench.proofs.ContentLaws.{with_nothing, with_input, with_output, with_dff, with_gate, limits_of_draft, too_many_nets, inputs_same, dffs_same, pins_same}
 
 -- the mentions of one more statement

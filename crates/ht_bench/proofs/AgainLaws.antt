@@ -1,9 +1,9 @@
 -- Finding the first line that has a net in a role.
-use Rattle.std.proofs.Common.{◌≡◌, ◌≢◌, ◌⊎◌, inl, inr, ⊎_elim, ℕ, ◌<◌, ◌≤◌, ◌+◌, Bool, IsTrue, List, [], ◌∷◌, ◌++◌, length, get_or, map, take, refl, sym, ◌∙◌, ap, subst, append_assoc, arith, ◌↔◌}
+use Rattle.std.proofs.Common.{◌≡◌, ◌≢◌, ⊎_elim, ℕ, ◌<◌, ◌≤◌, ◌+◌, Bool, IsTrue, List, [], ◌∷◌, ◌++◌, length, get_or, map, take, refl, sym, ◌∙◌, ap, subst, append_assoc, arith, ◌↔◌}
 use Rattle.std.specs.List.{Contains, flat_map}
 use Rattle.std.specs.Borrow.{Bor}
 use Rattle.std.proofs.lemmas.List.{length-append, get_or_default, take_all}
-use Rattle.std.proofs.lemmas.List.Elements.{Contains-append_left, Contains-append_right, Contains-append_cases, Contains-push_cases}
+use Rattle.std.proofs.lemmas.List.Elements.{Contains-append_cases, Contains-push_cases}
 use Rattle.ht_ports.specs.Cutting.{lines_of}
 use Rattle.ht_tern.specs.declared.gate.Kind.{Kind}
 use Rattle.ht_net.specs.Named.{Name}
@@ -13,7 +13,7 @@ use Rattle.ht_statement.specs.Reading.{Reading, States, IsRefused, reading_of}
 use Rattle.ht_bench.specs.Text.{readings_of}
 use Rattle.ht_bench.specs.Role.{nets_in, HasNet, IsFirstLine, IsBefore}
 use Rattle.ht_bench.specs.declared.again.Role.{Role}
-use Rattle.ht_bench.proofs.ListLaws.{contains_head, contains_tail, contains_cases, contains_none, flat_map-push}
+use Rattle.ht_bench.proofs.ListLaws.{contains_tail, contains_cases, contains_none, flat_map-push}
 use Rattle.ht_bench.proofs.TableLaws.{more_texts, text_at, length-texts_of}
 use Rattle.ht_bench.proofs.ProgressLaws.{readings_from}
 

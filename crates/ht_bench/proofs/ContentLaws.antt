@@ -1,15 +1,14 @@
 -- What one more statement adds to a draft.
-use Rattle.std.proofs.Common.{◌≡◌, ◌⊎◌, inl, inr, ⊎_elim, ℕ, ◌<◌, ◌≤◌, ◌+◌, List, [], ◌∷◌, ◌++◌, length, get_or, take, map, refl, sym, ◌∙◌, ap, subst, append_assoc, arith}
-use Rattle.std.specs.List.{All, AllZip, Contains, fold, flat_map}
-use Rattle.std.proofs.lemmas.Bool.{cases_lt}
-use Rattle.std.proofs.lemmas.List.{length-append, length-map, map_push, take-append-le, take_all, get_or_append_left, get_or_push}
+use Rattle.std.proofs.Common.{◌≡◌, ◌⊎◌, inl, inr, ⊎_elim, ℕ, ◌<◌, ◌≤◌, ◌+◌, List, [], ◌∷◌, ◌++◌, length, map, refl, sym, ◌∙◌, ap, subst, append_assoc, arith}
+use Rattle.std.specs.List.{AllZip, Contains, fold, flat_map}
+use Rattle.std.proofs.lemmas.List.{length-append, map_push}
 use Rattle.std.proofs.lemmas.List.Elements.{Contains-append_left, Contains-append_right, Contains-append_cases, Contains-push, Contains-push_cases}
 use Rattle.ht_net.specs.declared.names.NameId.{NameId}
 use Rattle.ht_net.specs.declared.draft.DffPart.{DffPart}
 use Rattle.ht_tern.specs.declared.gate.Kind.{Kind}
 use Rattle.ht_net.specs.Names.{IsNewName}
 use Rattle.ht_net.specs.Named.{Name, NamedDff, NamedGate}
-use Rattle.ht_net.specs.Draft.{Draft, GatePart, IsDriven, driven_names, latch_names, gate_names, draft_pins, part_at, no_name, no_part}
+use Rattle.ht_net.specs.Draft.{Draft, GatePart, driven_names, latch_names, gate_names, draft_pins}
 use Rattle.ht_bench.specs.Different.{different}
 use Rattle.ht_statement.specs.Statement.{Statement, Nothing, Input, Output, Dff, Gate}
 use Rattle.ht_bench.specs.Contents.{inputs_in, outputs_in, dffs_in, gates_in, driven_in, inputs_of, outputs_of, dffs_of, gates_of, driven_by, mentions_of, pins_of}

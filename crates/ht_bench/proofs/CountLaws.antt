@@ -1,6 +1,5 @@
 -- A line that states a gate has as many arguments as its kind may have.
-use Rattle.std.proofs.Common.{◌≡◌, ⊎_elim, ℕ, ◌<◌, ◌≤◌, Bool, true, false, cond, ◌&&◌, List, ◌∷◌, length, Option, Some, None, refl, sym, ◌∙◌, ap, subst, arith}
-use Rattle.std.specs.Prelude.{eqb, leb}
+use Rattle.std.proofs.Common.{◌≡◌, ℕ, ◌≤◌, Bool, true, false, cond, List, ◌∷◌, length, Option, Some, None, refl, subst, arith}
 use Rattle.std.specs.List.{list_all}
 use Rattle.std.proofs.lemmas.Bool.Decides.{nat_tests}
 use Rattle.ht_tern.specs.declared.gate.Kind.{Kind}
@@ -8,15 +7,14 @@ use Rattle.ht_tern.specs.declared.gate.Kind.TheVariants.{And, Nand, Or, Nor, Xor
 use Rattle.ht_tern.specs.Gate.{HasArity}
 use Rattle.ht_net.specs.Named.{Name}
 use Rattle.ht_statement.specs.declared.fault.LineRefusal.{LineRefusal}
-use Rattle.ht_statement.specs.declared.fault.LineRefusal.TheVariants.{BadName, BadKind, BadCount}
+use Rattle.ht_statement.specs.declared.fault.LineRefusal.TheVariants.{BadName, BadCount}
 use Rattle.ht_statement.specs.Token.{tokens_of}
 use Rattle.ht_statement.specs.Form.{Form, Blank, InputForm, OutputForm, Definition, form_of}
 use Rattle.ht_statement.specs.Name.{is_name}
 use Rattle.ht_statement.specs.Element.{Element, FlipFlop, GateOf, element_named, has_count}
-use Rattle.ht_statement.specs.Statement.{Statement, Nothing, Input, Output, Dff, Gate}
+use Rattle.ht_statement.specs.Statement.{Statement, Input, Output, Gate}
 use Rattle.ht_statement.specs.Reading.{Reading, States, IsRefused, defined, definition_reading, form_reading, tokens_reading, reading_of}
 use Rattle.ht_bench.specs.Added.{HasArguments}
-use Rattle.ht_bench.proofs.ListLaws.{bool_cases}
 
 -- what a reading states has its arguments
 abbrev pub ReadsArguments : Reading → Type 0

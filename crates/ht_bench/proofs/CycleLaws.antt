@@ -1,9 +1,8 @@
 -- Gates that form a cycle are those of no circuit.
-use Rattle.std.proofs.Common.{◌≡◌, ◌⊎◌, inl, inr, ⊎_elim, ℕ, zero, suc, ◌<◌, ◌≤◌, ◌+◌, ◌-◌, List, [], ◌∷◌, length, get_or, map, refl, sym, ◌∙◌, ap, subst, arith}
+use Rattle.std.proofs.Common.{◌≡◌, ⊎_elim, ℕ, zero, suc, ◌<◌, ◌≤◌, ◌+◌, ◌-◌, List, [], ◌∷◌, length, get_or, map, sym, ◌∙◌, ap, subst, arith}
 use Rattle.std.specs.List.{Contains}
 use Rattle.std.proofs.lemmas.List.{length-map, get_or-map}
-use Rattle.ht_net.specs.declared.site.NetId.{NetId}
-use Rattle.ht_net.specs.Netlist.{Netlist, Gate, IsCircuit, IsRank, first_gate_net, net_count, gate_at, arg_at, no_gate, no_net}
+use Rattle.ht_net.specs.Netlist.{Netlist, Gate, IsCircuit, first_gate_net, gate_at, arg_at, no_gate, no_net}
 use Rattle.ht_net.specs.Named.{Name, NamedGate, NamedNetlist, name_of, named_gates, named_of}
 use Rattle.ht_statement.specs.Statement.{Statement}
 use Rattle.ht_bench.specs.Contents.{gates_of, named_of_statements}

@@ -1,31 +1,28 @@
 -- A text whose lines are all accepted: its circuit, its first undriven net, or its cycle.
-use Rattle.std.proofs.Common.{◌≡◌, ◌≢◌, ◌⊎◌, inl, inr, ⊎_elim, ℕ, zero, suc, ◌<◌, ◌≤◌, ◌+◌, ◌-◌, List, [], ◌∷◌, ◌++◌, length, get_or, map, refl, sym, ◌∙◌, ap, subst, append_assoc, arith, Vec}
-use Rattle.std.specs.List.{All, AllZip, Contains, flat_map, position_or_len}
+use Rattle.std.proofs.Common.{◌≡◌, ⊎_elim, ℕ, ◌<◌, ◌≤◌, ◌+◌, ◌-◌, List, [], ◌∷◌, ◌++◌, length, get_or, map, refl, sym, ◌∙◌, ap, subst, append_assoc, arith, Vec}
+use Rattle.std.specs.List.{All, Contains}
 use Rattle.std.specs.Borrow.{Bor}
-use Rattle.std.specs.Str.{bytes_eq}
 use Rattle.std.specs.declared.alloc.Global.{Global}
 use Rattle.std.proofs.lemmas.Bool.{cases_lt}
-use Rattle.std.proofs.lemmas.List.{length-append, length-map, get_or-map, get_or_append_left, get_or_default}
+use Rattle.std.proofs.lemmas.List.{length-map, get_or-map, get_or_append_left, get_or_default}
 use Rattle.std.proofs.lemmas.List.Concat.{flat_map-append}
 use Rattle.std.proofs.lemmas.List.Elements.{All-nil, All-cons, Contains-append_left, Contains-append_right, Contains-append_cases}
-use Rattle.std.proofs.lemmas.List.Sums.{position_or_len_is}
-use Rattle.std.proofs.lemmas.Slice.Eq.{bytes_eq-Decides}
 use Rattle.ht_net.specs.declared.names.NameId.{NameId}
 use Rattle.ht_net.specs.Netlist.{Netlist, IsCircuit}
-use Rattle.ht_net.specs.Named.{Name, NamedGate, named_of}
-use Rattle.ht_net.specs.Draft.{Draft, GatePart, IsDriven, IsName, part_at, no_name, no_part}
+use Rattle.ht_net.specs.Named.{Name, named_of}
+use Rattle.ht_net.specs.Draft.{Draft, IsDriven, IsName, part_at, no_name, no_part}
 use Rattle.ht_net.specs.Built.{AllDriven, IsFirstUndriven as IsFirstFree, draft_name, named_draft}
 use Rattle.ht_net.specs.Finish.{IsNameCycle, BeginsWithLeast, Feeds as FeedsName}
 use Rattle.ht_statement.specs.Statement.{Statement, Nothing, Input, Output, Dff, Gate, names_in}
 use Rattle.ht_statement.specs.StatementOf.{texts_of}
 use Rattle.ht_statement.specs.Reading.{States}
 use Rattle.ht_bench.specs.Different.{different}
-use Rattle.ht_bench.specs.Contents.{driven_in, driven_by, mentions_of, nets_of, gates_of, place_of}
-use Rattle.ht_bench.specs.Ends.{AreDriven, IsFirstUndriven, Feeds, IsCycle, IsDriverLine}
-use Rattle.ht_bench.specs.Text.{readings_of, IsNetlistOf, IsUndriven, IsLoop, texts_in}
-use Rattle.ht_bench.specs.Added.{IsNumberOf, IsGateOf, IsDraftOf}
+use Rattle.ht_bench.specs.Contents.{driven_in, driven_by, mentions_of, gates_of, place_of}
+use Rattle.ht_bench.specs.Ends.{AreDriven, Feeds, IsCycle, IsDriverLine}
+use Rattle.ht_bench.specs.Text.{IsNetlistOf, IsUndriven, IsLoop, texts_in}
+use Rattle.ht_bench.specs.Added.{IsNumberOf, IsGateOf}
 use Rattle.ht_bench.specs.Progress.{IsRead}
-use Rattle.ht_bench.specs.Role.{nets_in, HasNet, IsFirstLine}
+use Rattle.ht_bench.specs.Role.{HasNet, IsFirstLine}
 use Rattle.ht_bench.specs.Names.{AreKnown, names_at}
 use Rattle.ht_bench.specs.declared.again.Role.TheVariants.{Mentioned, Driven}
 use Rattle.ht_bench.proofs.ListLaws.{contains_head, contains_tail, contains_cases, contains_none, AllZip-right}

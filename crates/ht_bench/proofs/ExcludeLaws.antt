@@ -1,6 +1,6 @@
 -- A text that is refused is no circuit's netlist.
-use Rattle.std.proofs.Common.{◌≡◌, ◌≢◌, ⊎_elim, ℕ, ◌<◌, List, [], ◌∷◌, ◌++◌, length, map, refl, sym, ◌∙◌, ap, subst, Bool, true, false, arith}
-use Rattle.std.specs.List.{All, Contains, flat_map}
+use Rattle.std.proofs.Common.{◌≡◌, ℕ, List, [], ◌∷◌, ◌++◌, map, sym, ◌∙◌, ap, subst, Bool, true, false, arith}
+use Rattle.std.specs.List.{All, Contains}
 use Rattle.std.proofs.lemmas.Bool.{false≢true}
 use Rattle.std.proofs.lemmas.List.Elements.{All-head, All-contains, Contains-append_left, Contains-append_right}
 use Rattle.std.proofs.lemmas.List.Concat.{flat_map-append}
@@ -18,7 +18,7 @@ use Rattle.ht_bench.specs.Text.{IsNetlistOf, IsFirstRefused, IsUnread, IsUndrive
 use Rattle.ht_bench.specs.declared.error.BenchError.{BenchError}
 use Rattle.ht_bench.specs.declared.error.BenchError.TheVariants.{BadLine, BadName, BadKind, BadCount, Twice, TooMany, Undriven, Loop, NoMemory}
 use Rattle.ht_bench.proofs.ListLaws.{contains_head}
-use Rattle.ht_bench.proofs.AgainLaws.{FirstStated, first_stated, states_one}
+use Rattle.ht_bench.proofs.AgainLaws.{first_stated, states_one}
 use Rattle.ht_bench.proofs.EndLaws.{same_statements}
 use Rattle.ht_bench.proofs.CycleLaws.{no_circuit}
 

@@ -1,20 +1,18 @@
 -- Reading a text line by line.
-use Rattle.std.proofs.Common.{◌≡◌, ◌⊎◌, inl, inr, ⊎_elim, ℕ, ◌<◌, ◌≤◌, ◌+◌, List, [], ◌∷◌, ◌++◌, length, map, refl, sym, ◌∙◌, ap, subst, append_assoc, append-nil, arith}
-use Rattle.std.specs.List.{AllZip}
+use Rattle.std.proofs.Common.{◌≡◌, ◌⊎◌, inl, inr, ⊎_elim, ℕ, ◌<◌, ◌+◌, List, [], ◌∷◌, ◌++◌, length, map, refl, sym, ◌∙◌, ap, subst, append_assoc, append-nil, arith}
 use Rattle.std.proofs.lemmas.List.{length-append, map_push}
 use Rattle.ht_ports.specs.Cutting.{lines_of}
 use Rattle.ht_tern.specs.declared.gate.Kind.{Kind}
-use Rattle.ht_net.specs.declared.names.NameId.{NameId}
 use Rattle.ht_net.specs.declared.draft.DffPart.{DffPart}
 use Rattle.ht_net.specs.Named.{Name, NamedDff, NamedGate}
 use Rattle.ht_net.specs.Draft.{Draft, GatePart}
 use Rattle.ht_net.specs.Built.{draft_name, named_draft}
 use Rattle.ht_statement.specs.declared.fault.LineRefusal.TheVariants.{BadLine, BadName, BadKind, BadCount}
 use Rattle.ht_statement.specs.Statement.{Statement}
-use Rattle.ht_statement.specs.Reading.{Reading, States, reading_of}
+use Rattle.ht_statement.specs.Reading.{States, reading_of}
 use Rattle.ht_bench.specs.Contents.{inputs_of, outputs_of, dffs_of, gates_of, named_of_statements}
 use Rattle.ht_bench.specs.Accepted.{IsAccepted, AreAccepted}
-use Rattle.ht_bench.specs.Text.{readings_of, IsAcceptedText, IsFirstRefused, Refuses}
+use Rattle.ht_bench.specs.Text.{readings_of, IsFirstRefused, Refuses}
 use Rattle.ht_bench.specs.Cause.{IsCause, error_at}
 use Rattle.ht_bench.specs.Added.{IsNumberOf, IsDffOf, IsGateOf, IsDraftWith, IsDraftOf, AddsLine, RefusesLine}
 use Rattle.ht_bench.specs.Progress.{IsReading, IsRead}

@@ -1,15 +1,5 @@
 pub mod Cut
-pub mod Arguments
-pub mod Name
 pub mod Different
-pub mod Statement
-pub mod Line
-pub mod StatementOf
-pub mod Stated
-pub mod Rules
-pub mod Drafted
-pub mod Reading
-pub mod Plain
 pub mod Contents
 pub mod Accepted
 pub mod Ends

@@ -1,5 +1,5 @@
 -- Names by number.
-use Rattle.std.specs.Prelude.{ℕ, List, [], ◌<◌, length, get_or, map, All}
+use Rattle.std.specs.Prelude.{ℕ, List, [], ◌<◌, get_or, map, All}
 use Rattle.ht_net.specs.declared.names.NameId.{NameId}
 use Rattle.ht_net.specs.Named.{Name}
 

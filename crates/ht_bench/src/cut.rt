@@ -15,17 +15,6 @@ pub(crate) fn cut(text: &[u8], mark: u8) -> Option<(&[u8], &[u8])>
     None
 }
 
-/// The bytes behind a first byte that is the mark, or `None` where the text doesn't begin with it.
-pub(crate) fn behind_first(text: &[u8], mark: u8) -> Option<&[u8]>
-    ensures found { IfSome result (λ rest. text.now ≡ mark ∷ rest.now) }
-    ensures none { IfNone result ((rest : List ℕ) → text.now ≢ mark ∷ rest) }
-{
-    match text {
-        [first, rest @ ..] if *first == mark => Some(rest),
-        _ => None,
-    }
-}
-
 /// The bytes before a last byte that is the mark, or `None` where the text doesn't end with it.
 pub(crate) fn before_last(text: &[u8], mark: u8) -> Option<&[u8]>
     ensures found { IfSome result (λ front. text.now ≡ front.now ++ mark ∷ []) }

@@ -1,4 +1,4 @@
-use Rattle.ht_bench.proofs.ProgressLaws.{reading_none, reading_more, reading_refused, reading_done}
+use Rattle.ht_bench.proofs.ProgressLaws.{reading_none, reading_more}
 use Rattle.ht_bench.proofs.reader.add_lines.Goals as goal
 
 pub loop-line-init : goal.loop-line-init

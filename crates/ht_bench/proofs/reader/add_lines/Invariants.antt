@@ -1,5 +1,4 @@
 use Rattle.std.proofs.Common.{◌≡◌, length}
-use Rattle.ht_net.specs.Draft.{IsDraft}
 use Rattle.ht_statement.specs.StatementOf.{texts_of}
 use Rattle.ht_bench.specs.Progress.{IsReading}
 use Rattle.ht_bench.proofs.reader.add_lines.Given as goal

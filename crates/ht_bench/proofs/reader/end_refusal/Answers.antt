@@ -1,8 +1,8 @@
 use Rattle.std.proofs.Common.{sym, ◌∙◌, subst}
 use Rattle.ht_bench.specs.Role.{HasNet, IsFirstLine}
 use Rattle.ht_bench.specs.Text.{IsUndriven, texts_in}
-use Rattle.ht_bench.specs.declared.again.Role.TheVariants.{Mentioned, Driven}
-use Rattle.ht_bench.proofs.EndLaws.{name_read, first_copy, copied_names, net_is_mentioned, undriven_is, net_is_driven, known_net, known_nets, first_is_driven, loop_found}
+use Rattle.ht_bench.specs.declared.again.Role.TheVariants.{Mentioned}
+use Rattle.ht_bench.proofs.EndLaws.{name_read, copied_names, net_is_mentioned, undriven_is, known_nets, first_is_driven, loop_found}
 use Rattle.ht_bench.proofs.reader.end_refusal.Goals as goal
 
 pub first_line-requires-clause-has : goal.first_line-requires-clause-has

@@ -1,5 +1,4 @@
 use Rattle.std.proofs.lemmas.Result.{err_from_is_err_and}
-use Rattle.ht_bench.proofs.ProgressLaws.{nothing_drafted}
 use Rattle.ht_bench.proofs.EndLaws.{netlist_is}
 use Rattle.ht_bench.proofs.ExcludeLaws.{refused_is_of_no_circuit}
 use Rattle.ht_bench.proofs.reader.read.Goals as goal
