@@ -1,6 +1,6 @@
 -- The lines of normal text are the texts of its statements.
-use Rattle.std.proofs.Common.{◌≡◌, ◌≢◌, ℕ, ◌-◌, ◌≤◌, List, [], ◌∷◌, ◌++◌, true, length, slice_index, map, codes, append_assoc, ap, ◌∙◌, refl, arith}
-use Rattle.std.specs.List.{All, list_all}
+use Rattle.std.proofs.Common.{◌≡◌, ◌≢◌, ℕ, ◌-◌, ◌≤◌, List, [], ◌∷◌, true, length, slice_index, map, codes, append_assoc, ap, ◌∙◌, refl, arith}
+use Rattle.std.specs.List.{All}
 use Rattle.std.proofs.lemmas.Bool.Decides.{nat_tests}
 use Rattle.std.proofs.lemmas.List.Elements.{All-head, All-tail}
 use Rattle.ht_ports.specs.Cutting.{HasNoLf, lines_of, without_cr}
