@@ -83,6 +83,7 @@ fn add<'a>(alloc: Global, table: &mut Table<'a>, statement: &Statement<'a>) -> R
 }
 
 /// Adds what a line states.
+#[tactic(auto, using(crate::proofs::CountLaws::stated_arguments))]
 pub(crate) fn add_line<'a>(
     alloc: Global,
     table: &mut Table<'a>,

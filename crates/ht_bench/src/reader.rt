@@ -82,6 +82,7 @@ fn end_refusal(
 /// # Errors
 /// The text's one refusal, in the order of `BenchError`; which cycle `Loop` names is free. `NoMemory` where memory runs
 /// out.
+#[tactic(auto, using(crate::proofs::ExcludeLaws::refused_is_of_no_circuit, crate::proofs::EndLaws::netlist_is))]
 pub fn read(alloc: Global, text: &[u8]) -> Result<Circuit, BenchError>
     requires { length text.now ≤ 16777216 }
     ensures circuit { IfOk result (λ c. IsNetlistOf text.now c) }
