@@ -13,3 +13,4 @@ pub mod EndLaws
 pub mod CycleLaws
 pub mod ExcludeLaws
 pub mod OneLaws
+pub mod VerdictLaws

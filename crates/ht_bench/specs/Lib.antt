@@ -9,3 +9,4 @@ pub mod Added
 pub mod Progress
 pub mod Role
 pub mod Names
+pub mod Verdict

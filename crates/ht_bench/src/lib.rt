@@ -15,5 +15,8 @@ mod reader;
 mod table;
 
 pub use error::BenchError;
-pub use laws::one_circuit_per_text;
+pub use laws::{one_circuit_per_text, one_refusal_per_text};
 pub use reader::read;
+
+#[cfg(test)]
+mod tests;
