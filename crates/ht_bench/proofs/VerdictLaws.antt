@@ -1,6 +1,6 @@
 -- A text has one refusal, apart from the choice among cycles.
-use Rattle.std.proofs.Common.{◌≡◌, ◌⊎◌, inl, inr, ⊎_elim, ℕ, ◌<◌, ◌+◌, List, [], ◌∷◌, ◌++◌, length, map, Option, Some, None, refl, sym, ◌∙◌, ap, subst, arith}
-use Rattle.std.specs.List.{All, Contains, flat_map}
+use Rattle.std.proofs.Common.{◌≡◌, ◌⊎◌, inl, inr, ⊎_elim, ℕ, List, [], ◌∷◌, ◌++◌, length, map, Some, None, refl, sym, ◌∙◌, ap, subst, arith}
+use Rattle.std.specs.List.{All, Contains}
 use Rattle.std.proofs.lemmas.Bool.{false≢true}
 use Rattle.std.proofs.lemmas.List.Concat.{flat_map-append}
 use Rattle.std.proofs.lemmas.List.Elements.{All-head, All-contains, Contains-append_left, Contains-append_right}
@@ -14,7 +14,7 @@ use Rattle.ht_statement.specs.declared.fault.LineRefusal.TheVariants.{BadLine as
 use Rattle.ht_bench.specs.Contents.{driven_in, driven_by, mentions_of}
 use Rattle.ht_bench.specs.Accepted.{IsAccepted, IsFirstPassed, IsSecondDriver, PassesLimit}
 use Rattle.ht_bench.specs.Ends.{AreDriven, IsFirstUndriven}
-use Rattle.ht_bench.specs.Text.{readings_of, IsAcceptedText, IsFirstRefused, IsUnread, IsUndriven, IsLoop, Refuses, texts_in}
+use Rattle.ht_bench.specs.Text.{IsAcceptedText, IsFirstRefused, IsUnread, IsUndriven, IsLoop, Refuses, texts_in}
 use Rattle.ht_bench.specs.Verdict.{Verdict, UnreadAt, SecondAt, PassedAt, UndrivenAt, InCycle, verdict_of}
 use Rattle.ht_bench.specs.declared.error.BenchError.{BenchError}
 use Rattle.ht_bench.specs.declared.error.BenchError.TheVariants.{BadLine, BadName, BadKind, BadCount, Twice, TooMany, Undriven, Loop, NoMemory}

@@ -1,5 +1,5 @@
 -- What a refusal of a text says, apart from the choice among cycles.
-use Rattle.std.specs.Prelude.{ℕ, List, Option, Some, None}
+use Rattle.std.specs.Prelude.{ℕ, Option, Some, None}
 use Rattle.ht_net.specs.declared.error.Limit.{Limit}
 use Rattle.ht_net.specs.Named.{Name}
 use Rattle.ht_statement.specs.declared.fault.LineRefusal.{LineRefusal}
