@@ -19,3 +19,4 @@ pub mod NormalLineLaws
 pub mod NormalContentLaws
 pub mod NormalRoundLaws
 pub mod NormalBackLaws
+pub mod VerdictLaws

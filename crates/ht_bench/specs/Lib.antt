@@ -10,3 +10,4 @@ pub mod Progress
 pub mod Role
 pub mod Names
 pub mod Normal
+pub mod Verdict

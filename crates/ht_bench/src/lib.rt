@@ -20,10 +20,13 @@ mod spell;
 mod table;
 
 pub use error::BenchError;
-pub use laws::one_circuit_per_text;
+pub use laws::{one_circuit_per_text, one_refusal_per_text};
 pub use normal::write;
 pub use reader::read;
 pub use round_trip::{
     a_circuit_that_was_read_has_names_of_the_format, normal_text_is_a_netlist_of_its_circuit,
     normal_text_is_read_as_its_circuit,
 };
+
+#[cfg(test)]
+mod tests;
