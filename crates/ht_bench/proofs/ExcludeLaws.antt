@@ -23,7 +23,7 @@ use Rattle.ht_bench.proofs.EndLaws.{same_statements}
 use Rattle.ht_bench.proofs.CycleLaws.{no_circuit}
 
 -- readings of which some begin with what these statements state
-begins : (before : List Statement) (reading : Reading) (after : List Reading) (statements : List Statement) → map States before ++ reading ∷ after ≡ map States statements
+pub begins : (before : List Statement) (reading : Reading) (after : List Reading) (statements : List Statement) → map States before ++ reading ∷ after ≡ map States statements
     → (s : Statement) × (rest : List Statement) × (statements ≡ before ++ s ∷ rest) × (reading ≡ States s)
 begins [] reading after statements e = let r = first_stated reading after statements e in (r.0, r.1, r.2, r.3)
 begins (b ∷ before) reading after statements e =
@@ -39,14 +39,14 @@ module _ (text : List ℕ) (IsCause : List Statement → Reading → Type 0) (ag
       let r = begins first.before first.reading first.after is.statements (sym first.cut ∙ is.read.lines) in
       against first.before r.0 (subst (IsCause first.before) r.3 first.cause) (is.read.accepted first.before r.1 r.0 r.2)
 
-abbrev is_stated : Reading → Bool
+abbrev pub is_stated : Reading → Bool
 is_stated (States statement) = true
 is_stated (IsRefused refusal) = false
 
-unread_against : (refusal : LineRefusal) (before : List Statement) (s : Statement) → IsUnread refusal before (States s) → ¬ IsAccepted before s
+pub unread_against : (refusal : LineRefusal) (before : List Statement) (s : Statement) → IsUnread refusal before (States s) → ¬ IsAccepted before s
 unread_against refusal before s e accepted = false≢true (sym (ap is_stated e))
 
-second_against : (name : Name) (before : List Statement) (s : Statement) → IsSecondDriver name before (States s) → ¬ IsAccepted before s
+pub second_against : (name : Name) (before : List Statement) (s : Statement) → IsSecondDriver name before (States s) → ¬ IsAccepted before s
 second_against name before s second accepted =
     let drives : driven_in s ≡ name ∷ [] = subst (λ t. driven_in t ≡ name ∷ []) (sym (states_one s second.statement second.states)) second.drives in
     All-head (λ n. ¬ Contains (driven_by before) n) name [] (subst (All (λ n. ¬ Contains (driven_by before) n)) drives accepted.new_driver) second.driven
@@ -57,7 +57,7 @@ passed_limit Pins statements passed within = omega (arith, passed.1, within.pins
 passed_limit Inputs statements passed within = omega (arith, passed.2, within.inputs)
 passed_limit Dffs statements passed within = omega (arith, passed.3, within.dffs)
 
-limit_against : (what : Limit) (before : List Statement) (s : Statement) → PassesLimit what before (States s) → ¬ IsAccepted before s
+pub limit_against : (what : Limit) (before : List Statement) (s : Statement) → PassesLimit what before (States s) → ¬ IsAccepted before s
 limit_against what before s passes accepted =
     passed_limit what (before ++ s ∷ []) (subst (λ t. IsFirstPassed (before ++ t ∷ []) what) (sym (states_one s passes.statement passes.states)) passes.passed) accepted.limits
 

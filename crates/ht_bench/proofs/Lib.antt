@@ -12,10 +12,11 @@ pub mod AgainLaws
 pub mod EndLaws
 pub mod CycleLaws
 pub mod ExcludeLaws
+pub mod OneLaws
 pub mod NormalLaws
-pub mod NormalLineLaws
 pub mod NormalListLaws
+pub mod NormalLineLaws
 pub mod NormalContentLaws
 pub mod NormalRoundLaws
-pub mod NormalOneLaws
 pub mod NormalBackLaws
+pub mod VerdictLaws

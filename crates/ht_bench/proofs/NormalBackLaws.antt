@@ -3,7 +3,7 @@ use Rattle.std.proofs.Common.{◌≡◌, ℕ, List, [], ◌∷◌, ◌++◌, tru
 use Rattle.std.specs.List.{All}
 use Rattle.std.proofs.lemmas.List.Elements.{All-nil, All-cons, All-head, All-append, All-map, All-weaker}
 use Rattle.ht_net.specs.Netlist.{Netlist, IsCircuit}
-use Rattle.ht_net.specs.Named.{Name, NamedDff, NamedGate}
+use Rattle.ht_net.specs.Named.{Name, NamedDff, NamedGate, NamedNetlist, named_of}
 use Rattle.ht_ports.specs.Cutting.{lines_of}
 use Rattle.ht_statement.specs.Name.{is_name}
 use Rattle.ht_statement.specs.Statement.{Statement, Nothing, Input, Output, Dff, Gate, names_in}
@@ -15,10 +15,10 @@ use Rattle.ht_bench.specs.Text.{IsNetlistOf, IsOfNoCircuit}
 use Rattle.ht_bench.specs.Normal.{normal_text, HasFormatNames}
 use Rattle.ht_bench.specs.declared.error.BenchError.{BenchError}
 use Rattle.ht_bench.specs.declared.error.BenchError.TheVariants.{BadLine, BadName, BadKind, BadCount, Twice, TooMany, Undriven, Loop, NoMemory}
-use Rattle.ht_bench.proofs.NormalLineLaws.{AreNames, all_from_test}
-use Rattle.ht_bench.proofs.NormalListLaws.{All-flat_map}
-use Rattle.ht_bench.proofs.NormalRoundLaws.{test_from_all, normal_is_netlist}
-use Rattle.ht_bench.proofs.NormalOneLaws.{all_names, names_are, one_circuit}
+use Rattle.ht_bench.proofs.NormalListLaws.{all_from_test, test_from_all, AreNames, All-flat_map}
+use Rattle.ht_bench.proofs.NormalRoundLaws.{normal_is_netlist}
+use Rattle.ht_bench.proofs.NormalContentLaws.{driven_are, driven_are_names}
+use Rattle.ht_bench.proofs.OneLaws.{one_circuit}
 
 -- ---- the names of a circuit that was read
 
@@ -59,6 +59,13 @@ gates_are_named (Input name) are = All-nil GateIsNamed
 gates_are_named (Output name) are = All-nil GateIsNamed
 gates_are_named (Dff out data_pin) are = All-nil GateIsNamed
 gates_are_named (Gate out kind args) are = All-cons GateIsNamed (record { kind = kind; out = out; args = args }) [] (All-head IsGood out args are) (All-nil GateIsNamed)
+
+-- the names of all nets, from what a circuit says
+abbrev all_names : NamedNetlist → List Name
+all_names n = (n.inputs ++ map (λ (d : NamedDff). d.out) n.dffs) ++ map (λ (g : NamedGate). g.out) n.gates
+
+names_are : (c : Netlist) → IsCircuit c → all_names (named_of c) ≡ c.names
+names_are c is = sym (driven_are (named_of c)) ∙ driven_are_names c is
 
 driven_are_good : (statements : List Statement) → All (λ s. AreNames (names_in s)) statements → AreNames (all_names (named_of_statements statements))
 driven_are_good statements are =

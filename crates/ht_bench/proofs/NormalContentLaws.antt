@@ -97,7 +97,7 @@ sum_of_args c x (g ∷ gates) =
     let rest = sum_of_args c (x + 1) gates in
     omega (arith, length-map g.args (name_of c))
 
-pub cases_by_order : (a b : ℕ) → (a < b) ⊎ ((b < a) ⊎ (a ≡ b))
+cases_by_order : (a b : ℕ) → (a < b) ⊎ ((b < a) ⊎ (a ≡ b))
 cases_by_order zero zero = inr (inr refl)
 cases_by_order zero (suc b) = inl (omega arith)
 cases_by_order (suc a) zero = inr (inl (omega arith))

@@ -1,14 +1,32 @@
--- Lists of names of which no two are the same, and how many names a list has.
+-- Tests of lists, lists of names of which no two are the same, and how many names a list has.
 use Rattle.std.proofs.Common.{◌≡◌, ◌≢◌, ⊎_elim, ℕ, suc, ◌+◌, ◌<◌, ◌≤◌, List, [], ◌∷◌, ◌++◌, Bool, true, false, not, length, get_or, filter, refl, sym, ap, subst, ◌∙◌, arith}
-use Rattle.std.specs.List.{All, Contains, flat_map}
+use Rattle.std.specs.List.{All, Contains, flat_map, list_all}
 use Rattle.std.specs.Str.{bytes_eq}
-use Rattle.std.proofs.lemmas.Bool.{false≢true}
+use Rattle.std.proofs.lemmas.Bool.{false≢true, and_parts, and_from}
 use Rattle.std.proofs.lemmas.Slice.Eq.{bytes_eq-Decides}
 use Rattle.std.proofs.lemmas.List.{get_or_default}
 use Rattle.std.proofs.lemmas.List.Elements.{All-nil, All-cons, All-head, All-tail, All-append, All-contains, All-filter, Contains-append_right}
 use Rattle.ht_net.specs.Named.{Name}
+use Rattle.ht_statement.specs.Name.{is_name}
 use Rattle.ht_bench.specs.Different.{different}
 use Rattle.ht_bench.proofs.ListLaws.{contains_cases, contains_none, filter_yes, filter_no, bool_cases, contains_filter}
+
+-- ---- tests of each member
+
+pub all_from_test : {A : Type 0} (p : A → Bool) (P : A → Type 0) → ((x : A) → p x ≡ true → P x) → (xs : List A) → list_all p xs ≡ true → All P xs
+all_from_test p P says [] all = All-nil P
+all_from_test p P says (x ∷ xs) all =
+    let both = and_parts (p x) (list_all p xs) all in
+    All-cons P x xs (says x both.0) (all_from_test p P says xs both.1)
+
+pub test_from_all : {A : Type 0} (p : A → Bool) (xs : List A) → All (λ x. p x ≡ true) xs → list_all p xs ≡ true
+test_from_all p [] all = refl
+test_from_all p (x ∷ xs) all =
+    and_from (p x) (list_all p xs) (All-head (λ y. p y ≡ true) x xs all) (test_from_all p xs (All-tail (λ y. p y ≡ true) x xs all))
+
+-- the names are names of the format
+abbrev pub AreNames : List Name → Type 0
+AreNames names = All (λ name. is_name name ≡ true) names
 
 -- ---- parts of lists
 

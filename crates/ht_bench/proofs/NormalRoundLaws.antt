@@ -1,8 +1,7 @@
 -- The normal text of a circuit is a netlist of that circuit.
 use Rattle.std.specs.Prelude.{leb, eqb}
-use Rattle.std.proofs.Common.{◌≡◌, ℕ, ◌<◌, ◌≤◌, List, [], ◌∷◌, ◌++◌, Bool, true, ◌&&◌, length, get_or, map, sum_by, append_assoc, refl, sym, ap, subst, ◌∙◌, arith}
-use Rattle.std.specs.List.{All, Contains, flat_map, list_all}
-use Rattle.std.proofs.lemmas.Bool.{and_from}
+use Rattle.std.proofs.Common.{◌≡◌, ℕ, ◌<◌, ◌≤◌, List, [], ◌∷◌, ◌++◌, true, ◌&&◌, length, get_or, map, sum_by, append_assoc, refl, sym, ap, subst, ◌∙◌, arith}
+use Rattle.std.specs.List.{All, Contains, flat_map}
 use Rattle.std.proofs.lemmas.Bool.Decides.{nat_tests}
 use Rattle.std.proofs.lemmas.List.{length-append, length-take}
 use Rattle.std.proofs.lemmas.List.Concat.{flat_map-append}
@@ -25,16 +24,11 @@ use Rattle.ht_bench.specs.Ends.{AreDriven}
 use Rattle.ht_bench.specs.Text.{IsNetlistOf}
 use Rattle.ht_bench.specs.Normal.{dff_statement, gate_statement, statements_of, normal_text, HasFormatNames}
 use Rattle.ht_bench.proofs.NormalLaws.{named_dffs_count}
-use Rattle.ht_bench.proofs.NormalLineLaws.{AreNames, all_from_test, lines_of_statements}
-use Rattle.ht_bench.proofs.NormalListLaws.{AllDiffer, All-left, All-flat_map, differ_apart, length-different}
+use Rattle.ht_bench.proofs.NormalLineLaws.{lines_of_statements}
+use Rattle.ht_bench.proofs.NormalListLaws.{all_from_test, test_from_all, AreNames, AllDiffer, All-left, All-flat_map, differ_apart, length-different}
 use Rattle.ht_bench.proofs.NormalContentLaws.{inputs_are, dffs_are, driven_are_names, names_differ, statements_say, pins_are, statements_made, gates_have_counts}
 
 -- ---- each line is read
-
-pub test_from_all : {A : Type 0} (p : A → Bool) (xs : List A) → All (λ x. p x ≡ true) xs → list_all p xs ≡ true
-test_from_all p [] all = refl
-test_from_all p (x ∷ xs) all =
-    and_from (p x) (list_all p xs) (All-head (λ y. p y ≡ true) x xs all) (test_from_all p xs (All-tail (λ y. p y ≡ true) x xs all))
 
 one_is_tested : (count : ℕ) → count ≡ 1 → eqb count 1 ≡ true
 one_is_tested count one = grind (arith, nat_tests)
@@ -143,7 +137,7 @@ module _ (c : Netlist) (is : IsCircuit c) where
     normal_is_netlist = record {
       statements = statements_of c;
       read = record {
-        lines = ap (map reading_of) (lines_of_statements (statements_of c) have_names) ∙ texts_read (statements_of c) can_be_stated;
+        lines = ap (map reading_of) (lines_of_statements (statements_of c) can_be_stated) ∙ texts_read (statements_of c) can_be_stated;
         accepted = accepted;
       };
       driven = all_driven;

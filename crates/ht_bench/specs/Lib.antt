@@ -4,9 +4,10 @@ pub mod Contents
 pub mod Accepted
 pub mod Ends
 pub mod Text
-pub mod Normal
 pub mod Cause
 pub mod Added
 pub mod Progress
 pub mod Role
 pub mod Names
+pub mod Normal
+pub mod Verdict

@@ -1,7 +1,9 @@
-//! The reader of netlists (ISCAS-89 bench format).
+//! The reader and the writer of netlists (ISCAS-89 bench format).
 //!
 //! `read` gives the circuit of a netlist, or the one refusal of a text that is none. `specs/Text.antt` says which texts
 //! are netlists of which circuits, and how every other text is refused. What one line states is ht_statement's.
+//!
+//! `write` gives the normal text of a circuit, which `read` reads as that circuit. `specs/Normal.antt` has that text.
 #![tactic(auto)]
 
 mod adding;
@@ -9,6 +11,7 @@ mod again;
 mod cause;
 mod cut;
 mod error;
+mod laws;
 mod lines;
 mod normal;
 mod reader;
@@ -17,9 +20,13 @@ mod spell;
 mod table;
 
 pub use error::BenchError;
+pub use laws::{one_circuit_per_text, one_refusal_per_text};
 pub use normal::write;
 pub use reader::read;
 pub use round_trip::{
-    a_circuit_that_was_read_has_names_of_the_format, a_netlist_is_of_one_circuit,
-    normal_text_is_a_netlist_of_its_circuit, normal_text_is_read_as_its_circuit,
+    a_circuit_that_was_read_has_names_of_the_format, normal_text_is_a_netlist_of_its_circuit,
+    normal_text_is_read_as_its_circuit,
 };
+
+#[cfg(test)]
+mod tests;

@@ -11,11 +11,6 @@ pub fn normal_text_is_a_netlist_of_its_circuit()
     ensures { (c : Netlist) → IsCircuit c → HasFormatNames c → IsNetlistOf (normal_text c) c }
 {}
 
-/// A text is the netlist of one circuit at most.
-pub fn a_netlist_is_of_one_circuit()
-    ensures { (text : List ℕ) (c d : Netlist) → IsNetlistOf text c → IsNetlistOf text d → c ≡ d }
-{}
-
 /// The names of a circuit that was read are names of the format, so it can be written and read again.
 pub fn a_circuit_that_was_read_has_names_of_the_format()
     ensures { (text : List ℕ) (c : Netlist) → IsNetlistOf text c → HasFormatNames c }
