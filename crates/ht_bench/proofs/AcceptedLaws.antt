@@ -22,7 +22,7 @@ use Rattle.ht_bench.specs.Accepted.{HasNewDriver, PassesLimit}
 use Rattle.ht_bench.specs.Added.{IsNumberOf, IsDraftWith, IsDraftOf, Mentions, Accepts, RefusesStatement, RefusesMention, RefusesMentions, RefusesDriver}
 use Rattle.ht_bench.specs.Cause.{cause_of}
 use Rattle.ht_bench.specs.declared.cause.Cause.{Cause}
-use Rattle.ht_bench.specs.declared.cause.Cause.TheVariants.{Unread, SecondDriver, Limit, NoMemory as CauseNoMemory}
+use Rattle.ht_bench.specs.declared.cause.Cause.TheVariants.{RefusedAlone, SecondDriver, Limit, NoMemory as CauseNoMemory}
 use Rattle.ht_bench.proofs.ListLaws.{contains_none, contains_head, contains_tail, contains_cases, flat_map-push, AllZip-length}
 use Rattle.ht_bench.proofs.MentionLaws.{is_driven}
 use Rattle.ht_bench.proofs.ContentLaws.{with_nothing, with_input, with_output, with_dff, with_gate, limits_of_draft, too_many_nets, inputs_same, dffs_same, pins_same}
@@ -106,7 +106,7 @@ driver_refused old s name more (Limit Nets) names drives refused = λ before is.
 driver_refused old s name more (Limit Pins) names drives refused = absurd refused
 driver_refused old s name more (Limit Inputs) names drives refused = absurd refused
 driver_refused old s name more (Limit Dffs) names drives refused = absurd refused
-driver_refused old s name more (Unread refusal) names drives refused = absurd refused
+driver_refused old s name more (RefusedAlone refusal) names drives refused = absurd refused
 driver_refused old s name more CauseNoMemory names drives refused = λ before is. tt
 
 -- ---- nothing
@@ -196,7 +196,7 @@ output_refused old name (Limit Nets) refused = λ before is.
 output_refused old name (Limit Pins) refused = absurd refused
 output_refused old name (Limit Inputs) refused = absurd refused
 output_refused old name (Limit Dffs) refused = absurd refused
-output_refused old name (Unread refusal) refused = absurd refused
+output_refused old name (RefusedAlone refusal) refused = absurd refused
 output_refused old name (SecondDriver net) refused = absurd refused
 output_refused old name CauseNoMemory refused = λ before is. tt
 
@@ -225,7 +225,7 @@ module _ (old first : Draft) (out : NameId) (name : Name) (first_mentions : Ment
   arguments_refused s args (Limit Pins) names drives refused = absurd refused
   arguments_refused s args (Limit Inputs) names drives refused = absurd refused
   arguments_refused s args (Limit Dffs) names drives refused = absurd refused
-  arguments_refused s args (Unread refusal) names drives refused = absurd refused
+  arguments_refused s args (RefusedAlone refusal) names drives refused = absurd refused
   arguments_refused s args (SecondDriver net) names drives refused = absurd refused
   arguments_refused s args CauseNoMemory names drives refused = λ before is. tt
 
@@ -299,7 +299,7 @@ module _ (old first : Draft) (out : NameId) (name : Name) (first_mentions : Ment
   data_pin_refused data_pin (Limit Pins) refused = absurd refused
   data_pin_refused data_pin (Limit Inputs) refused = absurd refused
   data_pin_refused data_pin (Limit Dffs) refused = absurd refused
-  data_pin_refused data_pin (Unread refusal) refused = absurd refused
+  data_pin_refused data_pin (RefusedAlone refusal) refused = absurd refused
   data_pin_refused data_pin (SecondDriver net) refused = absurd refused
   data_pin_refused data_pin CauseNoMemory refused = λ before is. tt
 

@@ -14,7 +14,7 @@ use Rattle.ht_statement.specs.declared.fault.LineRefusal.{LineRefusal}
 use Rattle.ht_bench.specs.Contents.{driven_in, driven_by, mentions_of}
 use Rattle.ht_bench.specs.Accepted.{IsAccepted, IsWithinLimits, IsFirstPassed, IsSecondDriver, PassesLimit}
 use Rattle.ht_bench.specs.Ends.{AreDriven}
-use Rattle.ht_bench.specs.Text.{IsNetlistOf, IsFirstRefused, IsUnread, IsUndriven, IsLoop, Refuses, IsOfNoCircuit, texts_in}
+use Rattle.ht_bench.specs.Text.{IsNetlistOf, IsFirstRefused, IsRefusedAlone, IsUndriven, IsLoop, Refuses, IsOfNoCircuit, texts_in}
 use Rattle.ht_bench.specs.declared.error.BenchError.{BenchError}
 use Rattle.ht_bench.specs.declared.error.BenchError.TheVariants.{BadLine, BadName, BadKind, BadCount, Twice, TooMany, Undriven, Loop, NoMemory}
 use Rattle.ht_bench.proofs.ListLaws.{contains_head}
@@ -43,7 +43,7 @@ abbrev pub is_stated : Reading → Bool
 is_stated (States statement) = true
 is_stated (IsRefused refusal) = false
 
-pub unread_against : (refusal : LineRefusal) (before : List Statement) (s : Statement) → IsUnread refusal before (States s) → ¬ IsAccepted before s
+pub unread_against : (refusal : LineRefusal) (before : List Statement) (s : Statement) → IsRefusedAlone refusal before (States s) → ¬ IsAccepted before s
 unread_against refusal before s e accepted = false≢true (sym (ap is_stated e))
 
 pub second_against : (name : Name) (before : List Statement) (s : Statement) → IsSecondDriver name before (States s) → ¬ IsAccepted before s
@@ -79,10 +79,10 @@ loop_is_no_netlist text number cycle l circuit is =
     no_circuit circuit is.is_circuit l.statements (is.named ∙ sym (ap Rattle.ht_bench.specs.Contents.named_of_statements same)) cycle l.is_cycle
 
 pub refused_is_of_no_circuit : (text : List ℕ) (error : BenchError) → Refuses text error → IsOfNoCircuit text error
-refused_is_of_no_circuit text (BadLine line) refused = refused_is_no_netlist text (IsUnread _) (unread_against _) line refused
-refused_is_of_no_circuit text (BadName line) refused = refused_is_no_netlist text (IsUnread _) (unread_against _) line refused
-refused_is_of_no_circuit text (BadKind line) refused = refused_is_no_netlist text (IsUnread _) (unread_against _) line refused
-refused_is_of_no_circuit text (BadCount line) refused = refused_is_no_netlist text (IsUnread _) (unread_against _) line refused
+refused_is_of_no_circuit text (BadLine line) refused = refused_is_no_netlist text (IsRefusedAlone _) (unread_against _) line refused
+refused_is_of_no_circuit text (BadName line) refused = refused_is_no_netlist text (IsRefusedAlone _) (unread_against _) line refused
+refused_is_of_no_circuit text (BadKind line) refused = refused_is_no_netlist text (IsRefusedAlone _) (unread_against _) line refused
+refused_is_of_no_circuit text (BadCount line) refused = refused_is_no_netlist text (IsRefusedAlone _) (unread_against _) line refused
 refused_is_of_no_circuit text (Twice line name) refused = refused_is_no_netlist text (IsSecondDriver name.items) (second_against name.items) line refused
 refused_is_of_no_circuit text (TooMany line what) refused = refused_is_no_netlist text (PassesLimit what) (limit_against what) line refused
 refused_is_of_no_circuit text (Undriven line name) refused = undriven_is_no_netlist text line name.items refused

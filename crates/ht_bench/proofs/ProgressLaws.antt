@@ -17,7 +17,7 @@ use Rattle.ht_bench.specs.Cause.{IsCause, error_at}
 use Rattle.ht_bench.specs.Added.{IsNumberOf, IsDffOf, IsGateOf, IsDraftWith, IsDraftOf, AddsLine, RefusesLine}
 use Rattle.ht_bench.specs.Progress.{IsReading, IsRead}
 use Rattle.ht_bench.specs.declared.cause.Cause.{Cause}
-use Rattle.ht_bench.specs.declared.cause.Cause.TheVariants.{Unread, SecondDriver, Limit, NoMemory}
+use Rattle.ht_bench.specs.declared.cause.Cause.TheVariants.{RefusedAlone, SecondDriver, Limit, NoMemory}
 use Rattle.ht_bench.proofs.ListLaws.{contains_none, AllZip-map}
 
 -- ---- one more accepted statement
@@ -79,10 +79,10 @@ readings_from rest line more first = ap (map reading_of) first
 
 -- the refusal of a line where its cause is told
 refused_at : (text : List ℕ) (number : ℕ) (cause : Cause) → IsFirstRefused text number (IsCause cause) → Refuses text (error_at cause number)
-refused_at text number (Unread BadLine) first = record { before = first.before; reading = first.reading; after = first.after; cut = first.cut; is_number = first.is_number; accepted = first.accepted; cause = first.cause }
-refused_at text number (Unread BadName) first = record { before = first.before; reading = first.reading; after = first.after; cut = first.cut; is_number = first.is_number; accepted = first.accepted; cause = first.cause }
-refused_at text number (Unread BadKind) first = record { before = first.before; reading = first.reading; after = first.after; cut = first.cut; is_number = first.is_number; accepted = first.accepted; cause = first.cause }
-refused_at text number (Unread BadCount) first = record { before = first.before; reading = first.reading; after = first.after; cut = first.cut; is_number = first.is_number; accepted = first.accepted; cause = first.cause }
+refused_at text number (RefusedAlone BadLine) first = record { before = first.before; reading = first.reading; after = first.after; cut = first.cut; is_number = first.is_number; accepted = first.accepted; cause = first.cause }
+refused_at text number (RefusedAlone BadName) first = record { before = first.before; reading = first.reading; after = first.after; cut = first.cut; is_number = first.is_number; accepted = first.accepted; cause = first.cause }
+refused_at text number (RefusedAlone BadKind) first = record { before = first.before; reading = first.reading; after = first.after; cut = first.cut; is_number = first.is_number; accepted = first.accepted; cause = first.cause }
+refused_at text number (RefusedAlone BadCount) first = record { before = first.before; reading = first.reading; after = first.after; cut = first.cut; is_number = first.is_number; accepted = first.accepted; cause = first.cause }
 refused_at text number (SecondDriver name) first = record { before = first.before; reading = first.reading; after = first.after; cut = first.cut; is_number = first.is_number; accepted = first.accepted; cause = first.cause }
 refused_at text number (Limit what) first = record { before = first.before; reading = first.reading; after = first.after; cut = first.cut; is_number = first.is_number; accepted = first.accepted; cause = first.cause }
 refused_at text number NoMemory first = tt

@@ -15,7 +15,7 @@ use Rattle.ht_bench.specs.Different.{different}
 use Rattle.ht_bench.specs.Contents.{driven_by, mentions_of}
 use Rattle.ht_bench.specs.Added.{IsNumberOf, IsDraftWith, IsDraftOf, Mentions, RefusesMention, RefusesMentions}
 use Rattle.ht_bench.specs.declared.cause.Cause.{Cause}
-use Rattle.ht_bench.specs.declared.cause.Cause.TheVariants.{Unread, SecondDriver, Limit, NoMemory}
+use Rattle.ht_bench.specs.declared.cause.Cause.TheVariants.{RefusedAlone, SecondDriver, Limit, NoMemory}
 use Rattle.ht_bench.proofs.ListLaws.{AllZip-weaker, AllZip-add}
 use Rattle.ht_bench.proofs.DifferentLaws.{new_or_contained, contains_not_new}
 use Rattle.ht_bench.proofs.MentionLaws.{driven_is}
@@ -124,7 +124,7 @@ module _ (a b : Draft) (texts : List (Bor (List ℕ))) (i : ℕ) (d : Bor (List 
   step_refuses (Limit Pins) first refused = absurd refused
   step_refuses (Limit Inputs) first refused = absurd refused
   step_refuses (Limit Dffs) first refused = absurd refused
-  step_refuses (Unread refusal) first refused = absurd refused
+  step_refuses (RefusedAlone refusal) first refused = absurd refused
   step_refuses (SecondDriver net) first refused = absurd refused
   step_refuses NoMemory first refused = tt
 

@@ -14,7 +14,7 @@ use Rattle.ht_statement.specs.declared.fault.LineRefusal.TheVariants.{BadLine as
 use Rattle.ht_bench.specs.Contents.{driven_in, driven_by, mentions_of}
 use Rattle.ht_bench.specs.Accepted.{IsAccepted, IsFirstPassed, IsSecondDriver, PassesLimit}
 use Rattle.ht_bench.specs.Ends.{AreDriven, IsFirstUndriven}
-use Rattle.ht_bench.specs.Text.{IsAcceptedText, IsFirstRefused, IsUnread, IsUndriven, IsLoop, Refuses, texts_in}
+use Rattle.ht_bench.specs.Text.{IsAcceptedText, IsFirstRefused, IsRefusedAlone, IsUndriven, IsLoop, Refuses, texts_in}
 use Rattle.ht_bench.specs.Verdict.{Verdict, UnreadAt, SecondAt, PassedAt, UndrivenAt, InCycle, verdict_of}
 use Rattle.ht_bench.specs.declared.error.BenchError.{BenchError}
 use Rattle.ht_bench.specs.declared.error.BenchError.TheVariants.{BadLine, BadName, BadKind, BadCount, Twice, TooMany, Undriven, Loop, NoMemory}
@@ -80,10 +80,10 @@ refusal_in (IsRefused refusal) = refusal
 refusal_in (States statement) = LineIsBad
 
 module _ (before : List Statement) (reading : Reading) where
-  unread_unread : (a b : LineRefusal) → IsUnread a before reading → IsUnread b before reading → a ≡ b
+  unread_unread : (a b : LineRefusal) → IsRefusedAlone a before reading → IsRefusedAlone b before reading → a ≡ b
   unread_unread a b e f = ap refusal_in (sym e ∙ f)
 
-  unread_states : (a : LineRefusal) (s : Statement) → IsUnread a before reading → reading ≡ States s → ⊥
+  unread_states : (a : LineRefusal) (s : Statement) → IsRefusedAlone a before reading → reading ≡ States s → ⊥
   unread_states a s e f = false≢true (ap is_stated (sym e ∙ f))
 
   second_second : (a b : Name) → IsSecondDriver a before reading → IsSecondDriver b before reading → a ≡ b
@@ -165,7 +165,7 @@ not_all_driven text n a f statements read driven =
 -- ---- verdicts
 
 abbrev IsVerdict : List ℕ → Verdict → Type 0
-IsVerdict text (UnreadAt n refusal) = IsFirstRefused text n (IsUnread refusal)
+IsVerdict text (UnreadAt n refusal) = IsFirstRefused text n (IsRefusedAlone refusal)
 IsVerdict text (SecondAt n name) = IsFirstRefused text n (IsSecondDriver name)
 IsVerdict text (PassedAt n what) = IsFirstRefused text n (PassesLimit what)
 IsVerdict text (UndrivenAt n name) = IsUndriven text n name
@@ -191,16 +191,16 @@ verdict_is text NoMemory v refused e = absurd (none_is_not_some v e)
 module _ (text : List ℕ) where
   one_verdict : (v w : Verdict) → IsVerdict text v → IsVerdict text w → v ≡ w
   one_verdict (UnreadAt n a) (UnreadAt m b) f g =
-      let s = same_first text (IsUnread a) (IsUnread b) (unread_against a) (unread_against b) n m f g in
+      let s = same_first text (IsRefusedAlone a) (IsRefusedAlone b) (unread_against a) (unread_against b) n m f g in
       ap (λ k. UnreadAt k a) s.0 ∙ ap (UnreadAt m) (unread_unread f.before f.reading a b f.cause s.1)
   one_verdict (UnreadAt n a) (SecondAt m b) f g =
-      let s = same_first text (IsUnread a) (IsSecondDriver b) (unread_against a) (second_against b) n m f g in absurd (unread_states f.before f.reading a s.1.statement f.cause s.1.states)
+      let s = same_first text (IsRefusedAlone a) (IsSecondDriver b) (unread_against a) (second_against b) n m f g in absurd (unread_states f.before f.reading a s.1.statement f.cause s.1.states)
   one_verdict (UnreadAt n a) (PassedAt m b) f g =
-      let s = same_first text (IsUnread a) (PassesLimit b) (unread_against a) (limit_against b) n m f g in absurd (unread_states f.before f.reading a s.1.statement f.cause s.1.states)
-  one_verdict (UnreadAt n a) (UndrivenAt m b) f g = absurd (refused_not_accepted text (IsUnread a) (unread_against a) n f g.statements g.read)
-  one_verdict (UnreadAt n a) InCycle f g = absurd (refused_not_accepted text (IsUnread a) (unread_against a) n f g.2.statements g.2.read)
+      let s = same_first text (IsRefusedAlone a) (PassesLimit b) (unread_against a) (limit_against b) n m f g in absurd (unread_states f.before f.reading a s.1.statement f.cause s.1.states)
+  one_verdict (UnreadAt n a) (UndrivenAt m b) f g = absurd (refused_not_accepted text (IsRefusedAlone a) (unread_against a) n f g.statements g.read)
+  one_verdict (UnreadAt n a) InCycle f g = absurd (refused_not_accepted text (IsRefusedAlone a) (unread_against a) n f g.2.statements g.2.read)
   one_verdict (SecondAt n a) (UnreadAt m b) f g =
-      let s = same_first text (IsUnread b) (IsSecondDriver a) (unread_against b) (second_against a) m n g f in absurd (unread_states g.before g.reading b s.1.statement g.cause s.1.states)
+      let s = same_first text (IsRefusedAlone b) (IsSecondDriver a) (unread_against b) (second_against a) m n g f in absurd (unread_states g.before g.reading b s.1.statement g.cause s.1.states)
   one_verdict (SecondAt n a) (SecondAt m b) f g =
       let s = same_first text (IsSecondDriver a) (IsSecondDriver b) (second_against a) (second_against b) n m f g in
       ap (λ k. SecondAt k a) s.0 ∙ ap (SecondAt m) (second_second f.before f.reading a b f.cause s.1)
@@ -209,7 +209,7 @@ module _ (text : List ℕ) where
   one_verdict (SecondAt n a) (UndrivenAt m b) f g = absurd (refused_not_accepted text (IsSecondDriver a) (second_against a) n f g.statements g.read)
   one_verdict (SecondAt n a) InCycle f g = absurd (refused_not_accepted text (IsSecondDriver a) (second_against a) n f g.2.statements g.2.read)
   one_verdict (PassedAt n a) (UnreadAt m b) f g =
-      let s = same_first text (IsUnread b) (PassesLimit a) (unread_against b) (limit_against a) m n g f in absurd (unread_states g.before g.reading b s.1.statement g.cause s.1.states)
+      let s = same_first text (IsRefusedAlone b) (PassesLimit a) (unread_against b) (limit_against a) m n g f in absurd (unread_states g.before g.reading b s.1.statement g.cause s.1.states)
   one_verdict (PassedAt n a) (SecondAt m b) f g =
       let s = same_first text (IsSecondDriver b) (PassesLimit a) (second_against b) (limit_against a) m n g f in absurd (second_passed g.before g.reading b a g.cause s.1)
   one_verdict (PassedAt n a) (PassedAt m b) f g =
@@ -217,7 +217,7 @@ module _ (text : List ℕ) where
       ap (λ k. PassedAt k a) s.0 ∙ ap (PassedAt m) (passed_passed f.before f.reading a b f.cause s.1)
   one_verdict (PassedAt n a) (UndrivenAt m b) f g = absurd (refused_not_accepted text (PassesLimit a) (limit_against a) n f g.statements g.read)
   one_verdict (PassedAt n a) InCycle f g = absurd (refused_not_accepted text (PassesLimit a) (limit_against a) n f g.2.statements g.2.read)
-  one_verdict (UndrivenAt n a) (UnreadAt m b) f g = absurd (refused_not_accepted text (IsUnread b) (unread_against b) m g f.statements f.read)
+  one_verdict (UndrivenAt n a) (UnreadAt m b) f g = absurd (refused_not_accepted text (IsRefusedAlone b) (unread_against b) m g f.statements f.read)
   one_verdict (UndrivenAt n a) (SecondAt m b) f g = absurd (refused_not_accepted text (IsSecondDriver b) (second_against b) m g f.statements f.read)
   one_verdict (UndrivenAt n a) (PassedAt m b) f g = absurd (refused_not_accepted text (PassesLimit b) (limit_against b) m g f.statements f.read)
   one_verdict (UndrivenAt n a) (UndrivenAt m b) f g =
@@ -225,7 +225,7 @@ module _ (text : List ℕ) where
       let one = one_undriven f.statements n m a b f.first (subst (λ s. IsFirstUndriven s m b) same g.first) in
       ap (λ k. UndrivenAt k a) one.0 ∙ ap (UndrivenAt m) one.1
   one_verdict (UndrivenAt n a) InCycle f g = absurd (not_all_driven text n a f g.2.statements g.2.read g.2.driven)
-  one_verdict InCycle (UnreadAt m b) f g = absurd (refused_not_accepted text (IsUnread b) (unread_against b) m g f.2.statements f.2.read)
+  one_verdict InCycle (UnreadAt m b) f g = absurd (refused_not_accepted text (IsRefusedAlone b) (unread_against b) m g f.2.statements f.2.read)
   one_verdict InCycle (SecondAt m b) f g = absurd (refused_not_accepted text (IsSecondDriver b) (second_against b) m g f.2.statements f.2.read)
   one_verdict InCycle (PassedAt m b) f g = absurd (refused_not_accepted text (PassesLimit b) (limit_against b) m g f.2.statements f.2.read)
   one_verdict InCycle (UndrivenAt m b) f g = absurd (not_all_driven text m b g f.2.statements f.2.read f.2.driven)

@@ -41,9 +41,9 @@ pub record IsFirstRefused (text : List ℕ) (number : ℕ) (IsCause : List State
   pub accepted : AreAccepted before
   pub cause : IsCause before reading
 
--- a line that states nothing
-abbrev pub IsUnread : LineRefusal → List Statement → Reading → Type 0
-IsUnread refusal before reading = reading ≡ IsRefused refusal
+-- a line that is refused by itself
+abbrev pub IsRefusedAlone : LineRefusal → List Statement → Reading → Type 0
+IsRefusedAlone refusal before reading = reading ≡ IsRefused refusal
 
 -- all lines are accepted, and some net has no driver
 pub record IsUndriven (text : List ℕ) (number : ℕ) (name : Name) : Type 0 where
@@ -64,10 +64,10 @@ texts_in names = map (λ (v : Vec ℕ Global). v.items) names
 
 -- the refusal of a text that is no netlist; memory may run out at any text
 abbrev pub Refuses : List ℕ → BenchError → Type 0
-Refuses text (BadLine line) = IsFirstRefused text line (IsUnread LineIsBad)
-Refuses text (BadName line) = IsFirstRefused text line (IsUnread NameIsBad)
-Refuses text (BadKind line) = IsFirstRefused text line (IsUnread KindIsBad)
-Refuses text (BadCount line) = IsFirstRefused text line (IsUnread CountIsBad)
+Refuses text (BadLine line) = IsFirstRefused text line (IsRefusedAlone LineIsBad)
+Refuses text (BadName line) = IsFirstRefused text line (IsRefusedAlone NameIsBad)
+Refuses text (BadKind line) = IsFirstRefused text line (IsRefusedAlone KindIsBad)
+Refuses text (BadCount line) = IsFirstRefused text line (IsRefusedAlone CountIsBad)
 Refuses text (Twice line name) = IsFirstRefused text line (IsSecondDriver name.items)
 Refuses text (TooMany line what) = IsFirstRefused text line (PassesLimit what)
 Refuses text (Undriven line name) = IsUndriven text line name.items

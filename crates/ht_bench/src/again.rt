@@ -7,7 +7,7 @@ ghost use Rattle.ht_bench.specs.Contents.{driven_in};
 ghost use Rattle.ht_bench.specs.Role.{nets_in, HasNet, IsFirstLine};
 
 use crate::lines::next_line;
-use ht_statement::{LineFault, Statement, read_line};
+use ht_statement::{StatementFault, Statement, read_line};
 use std::alloc::{AllocError, Global};
 
 /// A net's role in a line: mentioned anywhere, or driven.
@@ -70,8 +70,8 @@ fn read_again<'a>(alloc: Global, line: &'a [u8]) -> Result<Statement<'a>, AllocE
 {
     match read_line(alloc, line) {
         Ok(statement) => Ok(statement),
-        Err(LineFault::NoMemory) => Err(AllocError),
-        Err(LineFault::Refused(_)) => unreachable!(),
+        Err(StatementFault::NoMemory) => Err(AllocError),
+        Err(StatementFault::Refused(_)) => unreachable!(),
     }
 }
 

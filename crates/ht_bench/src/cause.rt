@@ -4,14 +4,14 @@ ghost use Rattle.ht_bench.specs.Cause.{error_at};
 
 use crate::BenchError;
 use ht_net::NetError;
-use ht_statement::{LineFault, LineRefusal};
+use ht_statement::{StatementFault, LineRefusal};
 use std::alloc::{AllocError, AllocFailed};
 
 /// Why a line isn't added to a netlist in the making.
 #[derive(Debug, PartialEq, Eq, Drop)]
 pub(crate) enum Cause {
-    /// It states nothing.
-    Unread(LineRefusal),
+    /// It is refused by itself.
+    RefusedAlone(LineRefusal),
     /// It drives this net, which an earlier line drives.
     SecondDriver(Vec<u8>),
     /// With it there are more than the limit allows.
@@ -25,10 +25,10 @@ impl Cause {
         ensures { result ≡ error_at self line }
     {
         match self {
-            Cause::Unread(LineRefusal::BadLine) => BenchError::BadLine { line },
-            Cause::Unread(LineRefusal::BadName) => BenchError::BadName { line },
-            Cause::Unread(LineRefusal::BadKind) => BenchError::BadKind { line },
-            Cause::Unread(LineRefusal::BadCount) => BenchError::BadCount { line },
+            Cause::RefusedAlone(LineRefusal::BadLine) => BenchError::BadLine { line },
+            Cause::RefusedAlone(LineRefusal::BadName) => BenchError::BadName { line },
+            Cause::RefusedAlone(LineRefusal::BadKind) => BenchError::BadKind { line },
+            Cause::RefusedAlone(LineRefusal::BadCount) => BenchError::BadCount { line },
             Cause::SecondDriver(name) => BenchError::Twice { line, name },
             Cause::Limit(what) => BenchError::TooMany { line, what },
             Cause::NoMemory => BenchError::NoMemory,
@@ -56,15 +56,15 @@ impl<T: Drop> From<AllocFailed<T>> for Cause {
     }
 }
 
-impl From<LineFault> for Cause {
+impl From<StatementFault> for Cause {
     ghost use Rattle.ht_bench.specs.Cause.{cause_of_line};
 
     ghost from_gives = { λ fault cause. cause ≡ cause_of_line fault };
 
-    fn from(fault: LineFault) -> Cause {
+    fn from(fault: StatementFault) -> Cause {
         match fault {
-            LineFault::Refused(refusal) => Cause::Unread(refusal),
-            LineFault::NoMemory => Cause::NoMemory,
+            StatementFault::Refused(refusal) => Cause::RefusedAlone(refusal),
+            StatementFault::NoMemory => Cause::NoMemory,
         }
     }
 }

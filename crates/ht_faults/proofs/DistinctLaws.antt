@@ -12,7 +12,7 @@ use Rattle.ht_net.specs.declared.site.Fault.{Fault}
 use Rattle.ht_net.specs.Netlist.{Netlist, net_count, gate_at, no_net}
 use Rattle.ht_net.specs.Faults.{stems_of, site_faults}
 use Rattle.ht_net.proofs.FrameLaws.{le_or_lt}
-use Rattle.ht_faults.specs.Sites.{data_pins_of, pins_of_gate, gate_pins_of, lines_of, is_site, sites_of, faults_of}
+use Rattle.ht_faults.specs.Sites.{data_pins_of, pins_of_gate, gate_pins_of, circuit_lines, is_site, sites_of, faults_of}
 use Rattle.ht_faults.specs.FaultList.{no_fault}
 use Rattle.ht_faults.proofs.ListLaws.{faults_count, fault_at, fault_stands}
 use Rattle.ht_faults.proofs.MemberLaws.{row_has}
@@ -84,7 +84,7 @@ gate_pins_differ c a (suc n) =
     let above = gate_of_pin c (a + 1) n t later in
     absurd (omega (arith, number, above.1)))
 
-lines_differ : (c : Netlist) → AllPairs Differ (lines_of c)
+lines_differ : (c : Netlist) → AllPairs Differ (circuit_lines c)
 lines_differ c =
     let gates = gate_pins_differ c 0 (length c.gates) in
     let pins = parts_differ (data_pins_of c) (gate_pins_of c) (row_differs (λ j. DffPin j) first_of (λ j. refl) (length c.dffs)) gates
@@ -129,5 +129,5 @@ faults_differ c i j lt inside e =
           let ne = p.1 in
           let stands = sym (fault_stands (get_or sites (i / 2) s) (i % 2) no_fault (omega arith))
           ∙ (ap (λ (f : Fault). f.site) both ∙ fault_stands (get_or sites (j / 2) s) (j % 2) no_fault (omega arith)) in
-          AllPairs-filter Differ (is_site c) (lines_of c) (lines_differ c) (i / 2) (j / 2) s (omega arith) (omega (arith, count)) stands
+          AllPairs-filter Differ (is_site c) (circuit_lines c) (lines_differ c) (i / 2) (j / 2) s (omega arith) (omega (arith, count)) stands
     ]

@@ -11,7 +11,7 @@ use Rattle.ht_net.specs.declared.site.Site.TheVariants.{Stem, DffPin, GatePin}
 use Rattle.ht_net.specs.declared.site.Fault.{Fault}
 use Rattle.ht_net.specs.Netlist.{Netlist, net_count, gate_at, no_net}
 use Rattle.ht_net.specs.Faults.{stems_of}
-use Rattle.ht_faults.specs.Sites.{data_pins_of, pins_of_gate, gate_pins_of, lines_of, is_fanout, is_site, IsFaultSite, sites_of, faults_of}
+use Rattle.ht_faults.specs.Sites.{data_pins_of, pins_of_gate, gate_pins_of, circuit_lines, is_fanout, is_site, IsFaultSite, sites_of, faults_of}
 use Rattle.ht_faults.specs.FaultList.{no_fault}
 use Rattle.ht_faults.proofs.ListLaws.{faults_count, fault_at, fault_stands}
 
@@ -53,7 +53,7 @@ line_gate_pin c a (suc n) g i low high inside = elim (eqb_tells g a) [
       (line_gate_pin c (a + 1) n g i (omega arith) (omega arith) inside)
 ]
 
-is_line : (c : Netlist) (s : Site) → Contains (lines_of c) s → IsLine c s
+is_line : (c : Netlist) (s : Site) → Contains (circuit_lines c) s → IsLine c s
 is_line c s has = elim (Contains-append_cases (stems_of c) (data_pins_of c ++ gate_pins_of c) s has) [
   | inl stem ↦
       let x = row_has (λ x. Stem (record { 0 = x })) (net_count c) s stem in
@@ -66,7 +66,7 @@ is_line c s has = elim (Contains-append_cases (stems_of c) (data_pins_of c ++ ga
   ]
 ]
 
-line_is : (c : Netlist) (s : Site) → IsLine c s → Contains (lines_of c) s
+line_is : (c : Netlist) (s : Site) → IsLine c s → Contains (circuit_lines c) s
 line_is c (Stem x) inside =
     Contains-append_left (stems_of c) (data_pins_of c ++ gate_pins_of c) (Stem x) (row_holds (λ x. Stem (record { 0 = x })) (net_count c) x.0 inside)
 line_is c (DffPin j) inside =
@@ -108,12 +108,12 @@ site_line c (GatePin g i) site = (site.0, site.1)
 listed_site : (c : Netlist) (s : Site) → Contains (sites_of c) s → IsFaultSite c s
 listed_site c s has =
     site_test c s
-    (is_line c s (All-contains (Contains (lines_of c)) (sites_of c) s (All-filter (is_site c) (Contains (lines_of c)) (lines_of c) (All-contains_itself (lines_of c))) has))
-    (All-contains (λ (t : Site). is_site c t ≡ true) (sites_of c) s (filter_passes (is_site c) (lines_of c)) has)
+    (is_line c s (All-contains (Contains (circuit_lines c)) (sites_of c) s (All-filter (is_site c) (Contains (circuit_lines c)) (circuit_lines c) (All-contains_itself (circuit_lines c))) has))
+    (All-contains (λ (t : Site). is_site c t ≡ true) (sites_of c) s (filter_passes (is_site c) (circuit_lines c)) has)
 
 -- Exactly the sites are listed.
 pub sites_listed : (c : Netlist) (s : Site) → Contains (sites_of c) s ↔ IsFaultSite c s
-sites_listed c s = (listed_site c s, λ site. kept_if (is_site c) (lines_of c) s (site_passes c s site) (line_is c s (site_line c s site)))
+sites_listed c s = (listed_site c s, λ site. kept_if (is_site c) (circuit_lines c) s (site_passes c s site) (line_is c s (site_line c s site)))
 
 -- Each fault of the list stands on a site.
 pub fault_site : (c : Netlist) (i : ℕ) → i < length (faults_of c) → IsFaultSite c (get_or (faults_of c) i no_fault).site

@@ -10,7 +10,7 @@ use Rattle.ht_net.specs.declared.site.Site.{Site}
 use Rattle.ht_net.specs.declared.site.Site.TheVariants.{Stem, DffPin, GatePin}
 use Rattle.ht_net.specs.Netlist.{Netlist, Gate, net_count, pin_count, gate_at, no_gate, IsCircuit}
 use Rattle.ht_net.specs.Faults.{stems_of}
-use Rattle.ht_faults.specs.Sites.{data_pins_of, pins_of_gate, gate_pins_of, lines_of, is_site, sites_of}
+use Rattle.ht_faults.specs.Sites.{data_pins_of, pins_of_gate, gate_pins_of, circuit_lines, is_site, sites_of}
 
 -- One more line of a row: a site is added.
 pub one_kept : (p : Site → Bool) (f : ℕ → Site) (old before after : List Site) (n : ℕ)
@@ -83,7 +83,7 @@ gate_pins_count c (suc g) h =
     subst (λ (n : ℕ). length (flat_map (pins_of_gate c) (range_with_len 0 n)) ≡ sum_by (λ (a : Gate). length a.args) (take n c.gates)) (add-one g) count
 
 -- A circuit has as many lines as nets and pins.
-lines_count : (c : Netlist) → length (lines_of c) ≡ net_count c + pin_count c
+lines_count : (c : Netlist) → length (circuit_lines c) ≡ net_count c + pin_count c
 lines_count c =
     let stems : length (stems_of c) ≡ net_count c = length-map-range_with_len (λ x. Stem (record { 0 = x })) 0 (net_count c) in
     let data_pins : length (data_pins_of c) ≡ length c.dffs = length-map-range_with_len (λ j. DffPin j) 0 (length c.dffs) in
@@ -94,4 +94,4 @@ lines_count c =
 
 -- No more are sites.
 pub sites_few : (c : Netlist) → IsCircuit c → length (sites_of c) ≤ 327679
-sites_few c circuit = omega (arith, length-filter (is_site c) (lines_of c), count_by-le-length (is_site c) (lines_of c), lines_count c, circuit.few_nets, circuit.few_pins)
+sites_few c circuit = omega (arith, length-filter (is_site c) (circuit_lines c), count_by-le-length (is_site c) (circuit_lines c), lines_count c, circuit.few_nets, circuit.few_pins)

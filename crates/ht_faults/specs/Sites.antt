@@ -25,8 +25,8 @@ abbrev pub gate_pins_of : Netlist → List Site
 gate_pins_of c = flat_map (pins_of_gate c) (range_with_len 0 (length c.gates))
 
 -- all lines: stems by net, then data pins, then gate pins
-abbrev pub lines_of : Netlist → List Site
-lines_of c = stems_of c ++ (data_pins_of c ++ gate_pins_of c)
+abbrev pub circuit_lines : Netlist → List Site
+circuit_lines c = stems_of c ++ (data_pins_of c ++ gate_pins_of c)
 
 -- A fan-out net has two or more loads; an output mark counts as one.
 unfoldable pub is_fanout : Netlist → ℕ → Bool
@@ -46,7 +46,7 @@ IsFaultSite c (GatePin g i) = (g < length c.gates) × (i < length (gate_at c g).
 
 -- the fault sites, in the order of the lines
 abbrev pub sites_of : Netlist → List Site
-sites_of c = filter (is_site c) (lines_of c)
+sites_of c = filter (is_site c) (circuit_lines c)
 
 -- the fault list: each site with stuck-at-0 and then stuck-at-1
 abbrev pub faults_of : Netlist → List Fault

@@ -9,8 +9,8 @@ use Rattle.ht_statement.specs.Element.{Element, FlipFlop, GateOf, element_named,
 use Rattle.ht_statement.specs.Statement.{Statement, Nothing, Input, Output, Dff, Gate}
 use Rattle.ht_statement.specs.declared.fault.LineRefusal.{LineRefusal}
 use Rattle.ht_statement.specs.declared.fault.LineRefusal.TheVariants.{BadLine, BadName, BadKind, BadCount}
-use Rattle.ht_statement.specs.declared.fault.LineFault.{LineFault}
-use Rattle.ht_statement.specs.declared.fault.LineFault.TheVariants.{Refused, NoMemory}
+use Rattle.ht_statement.specs.declared.fault.StatementFault.{StatementFault}
+use Rattle.ht_statement.specs.declared.fault.StatementFault.TheVariants.{Refused, NoMemory}
 
 pub data Reading : Type 0 where
   States : Statement → Reading
@@ -42,6 +42,6 @@ abbrev pub reading_of : List ℕ → Reading
 reading_of line = tokens_reading (form_of (tokens_of line))
 
 -- why a line isn't read; memory may run out at any line
-abbrev pub IsWhy : List ℕ → LineFault → Type 0
-IsWhy line (Refused refusal) = reading_of line ≡ IsRefused refusal
-IsWhy line NoMemory = Unit {0}
+abbrev pub IsRefusalOf : List ℕ → StatementFault → Type 0
+IsRefusalOf line (Refused refusal) = reading_of line ≡ IsRefused refusal
+IsRefusalOf line NoMemory = Unit {0}

@@ -18,37 +18,37 @@ pub enum LineRefusal {
 
 /// Why a line isn't read: it is refused, or memory ran out.
 #[derive(Debug, PartialEq, Eq, Drop)]
-pub enum LineFault {
+pub enum StatementFault {
     Refused(LineRefusal),
     NoMemory,
 }
 
-impl From<AllocError> for LineFault {
-    ghost use Rattle.ht_statement.specs.declared.fault.LineFault.TheVariants.{NoMemory};
+impl From<AllocError> for StatementFault {
+    ghost use Rattle.ht_statement.specs.declared.fault.StatementFault.TheVariants.{NoMemory};
 
     ghost from_gives = { λ _ fault. fault ≡ NoMemory };
 
-    fn from(_error: AllocError) -> LineFault {
-        LineFault::NoMemory
+    fn from(_error: AllocError) -> StatementFault {
+        StatementFault::NoMemory
     }
 }
 
-impl<T: Drop> From<AllocFailed<T>> for LineFault {
-    ghost use Rattle.ht_statement.specs.declared.fault.LineFault.TheVariants.{NoMemory};
+impl<T: Drop> From<AllocFailed<T>> for StatementFault {
+    ghost use Rattle.ht_statement.specs.declared.fault.StatementFault.TheVariants.{NoMemory};
 
     ghost from_gives = { λ _ fault. fault ≡ NoMemory };
 
-    fn from(_error: AllocFailed<T>) -> LineFault {
-        LineFault::NoMemory
+    fn from(_error: AllocFailed<T>) -> StatementFault {
+        StatementFault::NoMemory
     }
 }
 
-impl From<LineRefusal> for LineFault {
-    ghost use Rattle.ht_statement.specs.declared.fault.LineFault.TheVariants.{Refused};
+impl From<LineRefusal> for StatementFault {
+    ghost use Rattle.ht_statement.specs.declared.fault.StatementFault.TheVariants.{Refused};
 
     ghost from_gives = { λ refusal fault. fault ≡ Refused refusal };
 
-    fn from(refusal: LineRefusal) -> LineFault {
-        LineFault::Refused(refusal)
+    fn from(refusal: LineRefusal) -> StatementFault {
+        StatementFault::Refused(refusal)
     }
 }

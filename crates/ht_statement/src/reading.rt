@@ -4,11 +4,11 @@ ghost use Rattle.std.specs.List.{list_all};
 ghost use Rattle.ht_statement.specs.FormOf.{form_meant};
 ghost use Rattle.ht_statement.specs.Name.{is_name};
 ghost use Rattle.ht_statement.specs.Element.{element_named};
-ghost use Rattle.ht_statement.specs.Reading.{States, IsRefused, form_reading, definition_reading, reading_of, IsWhy};
+ghost use Rattle.ht_statement.specs.Reading.{States, IsRefused, form_reading, definition_reading, reading_of, IsRefusalOf};
 ghost use Rattle.ht_statement.specs.StatementOf.{texts_of, statement_of};
 
 use crate::element::{Element, element_named, has_count};
-use crate::fault::{LineFault, LineRefusal};
+use crate::fault::{StatementFault, LineRefusal};
 use crate::form::{Form, read_form};
 use crate::name::is_name;
 use crate::statement::Statement;
@@ -65,12 +65,12 @@ fn stated<'a>(form: Form<'a>) -> Result<Statement<'a>, LineRefusal>
 ///
 /// # Errors
 /// `Refused` with the first cause, in the order of `LineRefusal`; `NoMemory` where memory runs out.
-pub fn read_line<'a>(alloc: Global, line: &'a [u8]) -> Result<Statement<'a>, LineFault>
+pub fn read_line<'a>(alloc: Global, line: &'a [u8]) -> Result<Statement<'a>, StatementFault>
     ensures states { IfOk result (λ statement. reading_of line.now ≡ States (statement_of statement)) }
-    ensures refusal { IfErr result (IsWhy line.now) }
+    ensures refusal { IfErr result (IsRefusalOf line.now) }
 {
     let Some(form) = read_form(alloc, line)? else {
-        return Err(LineFault::Refused(LineRefusal::BadLine));
+        return Err(StatementFault::Refused(LineRefusal::BadLine));
     };
     Ok(stated(form)?)
 }

@@ -1,12 +1,12 @@
 // Lines, and what they state.
-use crate::{LineFault, LineRefusal, Statement, read_line};
+use crate::{StatementFault, LineRefusal, Statement, read_line};
 use LineRefusal::{BadCount, BadKind, BadLine, BadName};
 use ht_tern::Kind;
 use std::alloc::Global;
 
 fn refusal(alloc: Global, line: &[u8]) -> Option<LineRefusal> {
     match read_line(alloc, line) {
-        Err(LineFault::Refused(refusal)) => Some(refusal),
+        Err(StatementFault::Refused(refusal)) => Some(refusal),
         _ => None,
     }
 }
