@@ -7,7 +7,7 @@ ghost use Rattle.ht_bench.specs.Contents.{driven_in};
 ghost use Rattle.ht_bench.specs.Role.{nets_in, HasNet, IsFirstLine};
 
 use crate::lines::next_line;
-use ht_statement::{StatementFault, Statement, read_line};
+use ht_statement::{Statement, StatementFault, read_line};
 use std::alloc::{AllocError, Global};
 
 /// A net's role in a line: mentioned anywhere, or driven.

@@ -4,7 +4,7 @@ ghost use Rattle.ht_bench.specs.Cause.{error_at};
 
 use crate::BenchError;
 use ht_net::NetError;
-use ht_statement::{StatementFault, LineRefusal};
+use ht_statement::{LineRefusal, StatementFault};
 use std::alloc::{AllocError, AllocFailed};
 
 /// Why a line isn't added to a netlist in the making.

@@ -21,7 +21,7 @@ mod statement;
 mod tests;
 mod token;
 
-pub use fault::{StatementFault, LineRefusal};
+pub use fault::{LineRefusal, StatementFault};
 pub use normal::{normal_text_is_read, stated_is_sound};
 pub use reading::read_line;
 pub use statement::Statement;

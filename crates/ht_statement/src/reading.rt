@@ -8,7 +8,7 @@ ghost use Rattle.ht_statement.specs.Reading.{States, IsRefused, form_reading, de
 ghost use Rattle.ht_statement.specs.StatementOf.{texts_of, statement_of};
 
 use crate::element::{Element, element_named, has_count};
-use crate::fault::{StatementFault, LineRefusal};
+use crate::fault::{LineRefusal, StatementFault};
 use crate::form::{Form, read_form};
 use crate::name::is_name;
 use crate::statement::Statement;

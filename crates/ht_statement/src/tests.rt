@@ -1,5 +1,5 @@
 // Lines, and what they state.
-use crate::{StatementFault, LineRefusal, Statement, read_line};
+use crate::{LineRefusal, Statement, StatementFault, read_line};
 use LineRefusal::{BadCount, BadKind, BadLine, BadName};
 use ht_tern::Kind;
 use std::alloc::Global;
