@@ -1,5 +1,5 @@
 -- Reading a text line by line.
-use Rattle.std.proofs.Common.{◌≡◌, ◌⊎◌, inl, inr, ⊎_elim, ℕ, ◌<◌, ◌+◌, List, [], ◌∷◌, ◌++◌, length, map, refl, sym, ◌∙◌, ap, subst, append_assoc, append-nil, arith}
+use Rattle.std.proofs.Common.{◌≡◌, ◌⊎◌, inl, inr, ⊎_elim, ℕ, ◌<◌, ◌+◌, List, [], ◌∷◌, ◌++◌, length, map, refl, sym, ◌∙◌, ap, subst, append_assoc, arith}
 use Rattle.std.proofs.lemmas.List.{length-append, map_push}
 use Rattle.ht_ports.specs.Cutting.{lines_of}
 use Rattle.ht_tern.specs.declared.gate.Kind.{Kind}
@@ -7,18 +7,14 @@ use Rattle.ht_net.specs.declared.draft.DffPart.{DffPart}
 use Rattle.ht_net.specs.Named.{Name, NamedDff, NamedGate}
 use Rattle.ht_net.specs.Draft.{Draft, GatePart}
 use Rattle.ht_net.specs.Built.{draft_name, named_draft}
-use Rattle.ht_statement.specs.declared.fault.LineRefusal.TheVariants.{BadLine, BadName, BadKind, BadCount}
 use Rattle.ht_statement.specs.Statement.{Statement}
 use Rattle.ht_statement.specs.Reading.{States, reading_of}
 use Rattle.ht_bench.specs.Contents.{inputs_of, outputs_of, dffs_of, gates_of, named_of_statements}
 use Rattle.ht_bench.specs.Accepted.{IsAccepted, AreAccepted}
-use Rattle.ht_bench.specs.Text.{readings_of, IsFirstRefused, Refuses}
-use Rattle.ht_bench.specs.Cause.{IsCause, error_at}
-use Rattle.ht_bench.specs.Added.{IsNumberOf, IsDffOf, IsGateOf, IsDraftWith, IsDraftOf, AddsLine, RefusesLine}
-use Rattle.ht_bench.specs.Progress.{IsReading, IsRead}
-use Rattle.ht_bench.specs.declared.cause.Cause.{Cause}
-use Rattle.ht_bench.specs.declared.cause.Cause.TheVariants.{RefusedAlone, SecondDriver, Limit, NoMemory}
-use Rattle.ht_bench.proofs.ListLaws.{contains_none, AllZip-map}
+use Rattle.ht_bench.specs.Text.{readings_of}
+use Rattle.ht_bench.specs.Added.{IsNumberOf, IsDffOf, IsGateOf, IsDraftWith, IsDraftOf, AddsLine}
+use Rattle.ht_bench.specs.Progress.{IsReading}
+use Rattle.ht_bench.proofs.ListLaws.{AllZip-map}
 
 -- ---- one more accepted statement
 
@@ -50,18 +46,6 @@ accepted_push statements s are is before after x e =
 
 -- ---- the text so far
 
-pub nothing_drafted : (d : Draft) → d ≡ record { names = []; inputs = []; dffs = []; gates = []; outputs = [] } → IsDraftOf [] d
-nothing_drafted d e = subst (IsDraftOf []) (sym e) (record {
-  names = refl;
-  names_differ = λ x y lt within. absurd (omega arith);
-  inputs = tt;
-  outputs = tt;
-  dffs = tt;
-  gates = tt;
-  driven = λ name c. absurd (contains_none name c);
-  drives = λ id c. absurd (contains_none id c);
-})
-
 pub reading_none : (text : List ℕ) (d : Draft) → IsDraftOf [] d → IsReading text text 0 d
 reading_none text d draft = record {
   before = [];
@@ -76,16 +60,6 @@ reading_none text d draft = record {
 -- the readings of a text from a line on
 pub readings_from : (rest line more : List ℕ) → lines_of rest ≡ line ∷ lines_of more → readings_of rest ≡ reading_of line ∷ readings_of more
 readings_from rest line more first = ap (map reading_of) first
-
--- the refusal of a line where its cause is told
-refused_at : (text : List ℕ) (number : ℕ) (cause : Cause) → IsFirstRefused text number (IsCause cause) → Refuses text (error_at cause number)
-refused_at text number (RefusedAlone BadLine) first = record { before = first.before; reading = first.reading; after = first.after; cut = first.cut; is_number = first.is_number; accepted = first.accepted; cause = first.cause }
-refused_at text number (RefusedAlone BadName) first = record { before = first.before; reading = first.reading; after = first.after; cut = first.cut; is_number = first.is_number; accepted = first.accepted; cause = first.cause }
-refused_at text number (RefusedAlone BadKind) first = record { before = first.before; reading = first.reading; after = first.after; cut = first.cut; is_number = first.is_number; accepted = first.accepted; cause = first.cause }
-refused_at text number (RefusedAlone BadCount) first = record { before = first.before; reading = first.reading; after = first.after; cut = first.cut; is_number = first.is_number; accepted = first.accepted; cause = first.cause }
-refused_at text number (SecondDriver name) first = record { before = first.before; reading = first.reading; after = first.after; cut = first.cut; is_number = first.is_number; accepted = first.accepted; cause = first.cause }
-refused_at text number (Limit what) first = record { before = first.before; reading = first.reading; after = first.after; cut = first.cut; is_number = first.is_number; accepted = first.accepted; cause = first.cause }
-refused_at text number NoMemory first = tt
 
 module _ (text rest line more : List ℕ) (count : ℕ) (old : Draft) (is : IsReading text rest count old)
     (first : lines_of rest ≡ line ∷ lines_of more) (shorter : length more < length rest) where
@@ -106,25 +80,7 @@ module _ (text rest line more : List ℕ) (count : ℕ) (old : Draft) (is : IsRe
         draft = r.1;
       }
 
-  pub reading_refused : (cause : Cause) → RefusesLine old line cause → Refuses text (error_at cause (count + 1))
-  reading_refused cause refused = refused_at text (count + 1) cause (record {
-    before = is.before;
-    reading = reading_of line;
-    after = readings_of more;
-    cut = is.lines ∙ ap (λ l. map States is.before ++ l) (readings_from rest line more first);
-    is_number = ap (λ n. n + 1) is.is_count;
-    accepted = is.accepted;
-    cause = refused is.before is.draft;
-  })
-
 -- ---- the whole text
-
-pub reading_done : (text rest : List ℕ) (count : ℕ) (d : Draft) → IsReading text rest count d → rest ≡ [] → IsRead text d
-reading_done text rest count d is none = record {
-  statements = is.before;
-  read = record { lines = is.lines ∙ ap (λ t. map States is.before ++ readings_of t) none ∙ append-nil (map States is.before); accepted = is.accepted };
-  draft = is.draft;
-}
 
 abbrev named_dff : Draft → DffPart → NamedDff
 named_dff d f = record { out = draft_name d f.out; data_pin = draft_name d f.data_pin }

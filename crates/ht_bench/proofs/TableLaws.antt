@@ -1,5 +1,5 @@
 -- A table of names beside a builder's draft, and names that are mentioned one by one.
-use Rattle.std.proofs.Common.{◌≡◌, ◌≢◌, ⊎_elim, ℕ, zero, suc, ◌<◌, ◌+◌, List, [], ◌∷◌, ◌++◌, length, get_or, take, refl, sym, ◌∙◌, ap, subst, append_assoc, append-nil, take-append-drop, arith, ◌≤◌, drop}
+use Rattle.std.proofs.Common.{◌≡◌, ◌≢◌, ⊎_elim, ℕ, zero, suc, ◌<◌, ◌+◌, List, [], ◌∷◌, ◌++◌, length, get_or, take, sym, ◌∙◌, ap, subst, append_assoc, take-append-drop, arith, ◌≤◌, drop}
 use Rattle.std.specs.List.{AllZip, Contains}
 use Rattle.std.specs.Borrow.{Bor}
 use Rattle.std.proofs.lemmas.Bool.{cases_lt}
@@ -8,7 +8,7 @@ use Rattle.ht_net.specs.declared.names.NameId.{NameId}
 use Rattle.ht_net.specs.declared.error.Limit.TheVariants.{Nets, Pins, Inputs, Dffs}
 use Rattle.ht_net.specs.Names.{IsNewName}
 use Rattle.ht_net.specs.Named.{Name}
-use Rattle.ht_net.specs.Draft.{Draft, IsDraft, IsDriven, IsName, no_name}
+use Rattle.ht_net.specs.Draft.{Draft, IsDriven, IsName, no_name}
 use Rattle.ht_statement.specs.Statement.{Statement}
 use Rattle.ht_statement.specs.StatementOf.{texts_of}
 use Rattle.ht_bench.specs.Different.{different}
@@ -66,14 +66,6 @@ second_driver old new id name mentions at driven before is =
     driven_is (mentions_of before ++ name ∷ []) before new id name (mentions.with_names (mentions_of before) before is) at driven
 
 -- ---- names one by one
-
-pub mentions_none : (d : Draft) → IsDraft d → Mentions d [] d
-mentions_none d is = record {
-  with_names = λ mentioned statements h. subst (λ l. IsDraftWith l statements d) (sym (append-nil mentioned)) h;
-  keeps = refl;
-  grows = λ id name at. at;
-  is_draft = is;
-}
 
 mentions_push : (a b c : Draft) (names : List Name) (name : Name) → Mentions a names b → Mentions b (name ∷ []) c → Mentions a (names ++ name ∷ []) c
 mentions_push a b c names name first last = record {
