@@ -13,28 +13,30 @@ use Rattle.ht_net.specs.Faults.{tern_rules}
 use Rattle.ht_net.specs.Detection.{terns_of, unknown_state, tern_outputs, Opposite, Detects, IsBefore}
 use Rattle.ht_net.proofs.FrameLaws.{le_or_lt}
 use Rattle.ht_net.proofs.ValueLaws.{seen_length}
-use Rattle.ht_serial.specs.MachineState.{MachineState, stepped, after_run}
+use Rattle.ht_serial.specs.MachineState.{MachineState, stepped, after_run, after_list}
 use Rattle.ht_serial.specs.Opposites.{IsOppositeAt}
 use Rattle.ht_serial.specs.Places.{IsWithin}
 use Rattle.ht_serial.specs.Recorded.{rows_of}
-use Rattle.ht_serial.proofs.RunLaws.{run_output_at, step_is_run, map_length}
+use Rattle.ht_serial.proofs.RunLaws.{run_output_at, step_is_run}
 
 -- A machine that has run t vectors of a list, and then the next one.
-pub next_is : (c : Netlist) (fault : Option Fault) (list : List (List Bool)) (t : ℕ) (m m' : MachineState) (v : List Bool) → t < length list
-    → m ≡ after_run c fault (take t list) → v ≡ get_or list t [] → m' ≡ stepped m v → m' ≡ after_run c fault (take (t + 1) list)
+pub next_is : (c : Netlist) (fault : Option Fault) (list : List (List Bool)) (t : ℕ) (m m' : MachineState Tern) (v : List Bool) → t < length list
+    → m ≡ after_list c fault (take t list) → v ≡ get_or list t [] → m' ≡ stepped tern_rules m (terns_of v) → m' ≡ after_list c fault (take (t + 1) list)
 next_is c fault list t m m' v inside is at step =
-    step ∙ (ap (λ (x : MachineState). stepped x v) is ∙ (step_is_run c fault (take t list) v
-    ∙ (ap (λ (w : List Bool). after_run c fault (take t list ++ w ∷ [])) at ∙ ap (after_run c fault) (sym (take_more list t [] inside)))))
+    let start = unknown_state c in
+    step ∙ (ap (λ x. stepped tern_rules x (terns_of v)) is ∙ (step_is_run tern_rules c fault start (map terns_of (take t list)) (terns_of v)
+    ∙ (ap (after_run tern_rules c fault start) (sym (map-append terns_of (take t list) (v ∷ [])))
+    ∙ (ap (λ (w : List Bool). after_list c fault (take t list ++ w ∷ [])) at ∙ ap (after_list c fault) (sym (take_more list t [] inside))))))
 
 -- It shows what the run over the whole list shows there.
-pub shows : (c : Netlist) (fault : Option Fault) (list : List (List Bool)) (t : ℕ) (m m' : MachineState) (v : List Bool) → t < length list
-    → m ≡ after_run c fault (take t list) → v ≡ get_or list t [] → m' ≡ stepped m v → m'.outputs ≡ get_or (tern_outputs c fault list) t []
+pub shows : (c : Netlist) (fault : Option Fault) (list : List (List Bool)) (t : ℕ) (m m' : MachineState Tern) (v : List Bool) → t < length list
+    → m ≡ after_list c fault (take t list) → v ≡ get_or list t [] → m' ≡ stepped tern_rules m (terns_of v) → m'.outputs ≡ get_or (tern_outputs c fault list) t []
 shows c fault list t m m' v inside is at step =
     let r = tern_rules fault in
     let vectors = map terns_of list in
-    let there : t < length vectors = omega (arith, map_length list) in
-    ap (λ (x : MachineState). x.outputs) (step ∙ (ap (λ (x : MachineState). stepped x v) is ∙ ap (stepped (after_run c fault (take t list))) at))
-    ∙ (ap (λ (w : List Tern). frame_outputs c r w (after_run c fault (take t list)).latches) (sym (get_or-map terns_of list t [] [] inside))
+    let there : t < length vectors = omega (arith, length-map list terns_of) in
+    ap (λ x. x.outputs) (step ∙ (ap (λ x. stepped tern_rules x (terns_of v)) is ∙ ap (λ (w : List Bool). stepped tern_rules (after_list c fault (take t list)) (terns_of w)) at))
+    ∙ (ap (λ (w : List Tern). frame_outputs c r w (after_list c fault (take t list)).latches) (sym (get_or-map terns_of list t [] [] inside))
     ∙ (ap (λ (l : List (List Tern)). (frame_outputs c r (get_or vectors t []) (run_state c r (unknown_state c) l))) (sym (take-map terns_of t list))
     ∙ sym (run_output_at c r (unknown_state c) vectors t [] there)))
 
@@ -44,7 +46,7 @@ run_length c r latches (v ∷ vectors) = ap suc (run_length c r (next_state c r 
 
 -- a run has as many frames as its list has vectors
 pub frames_count : (c : Netlist) (fault : Option Fault) (list : List (List Bool)) → length (tern_outputs c fault list) ≡ length list
-frames_count c fault list = run_length c (tern_rules fault) (unknown_state c) (map terns_of list) ∙ map_length list
+frames_count c fault list = run_length c (tern_rules fault) (unknown_state c) (map terns_of list) ∙ length-map list terns_of
 
 not_unknown : (b : Tern) → ¬ Opposite Unk b
 not_unknown Zero h = h
@@ -115,7 +117,7 @@ unfolding frame_outputs
 frame_width c fault list t inside =
     let r = tern_rules fault in
     let vectors = map terns_of list in
-    let there : t < length vectors = omega (arith, map_length list) in
+    let there : t < length vectors = omega (arith, length-map list terns_of) in
     let state = run_state c r (unknown_state c) (take t vectors) in
     ap (λ (row : List Tern). length row) (run_output_at c r (unknown_state c) vectors t [] there)
     ∙ seen_length (net_value c r (get_or vectors t []) state) c.outputs

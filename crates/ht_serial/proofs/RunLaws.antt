@@ -1,13 +1,13 @@
 -- What a machine shows, frame by frame, is what its run shows.
-use Rattle.std.proofs.Common.{◌≡◌, ◌<◌, ◌-◌, ℕ, suc, zero, List, [], ◌∷◌, ◌++◌, Bool, Option, length, get_or, take, map, refl, sym, ◌∙◌, ap, arith, append_assoc, length-append}
+use Rattle.std.proofs.Common.{◌≡◌, ◌<◌, ◌-◌, ℕ, suc, zero, List, [], ◌∷◌, ◌++◌, Bool, true, Option, length, get_or, take, refl, sym, ◌∙◌, ap, arith, append_assoc, length-append}
+use Rattle.std.specs.Prelude.{ltb}
+use Rattle.std.proofs.lemmas.Bool.{lt-ltb}
 use Rattle.std.proofs.lemmas.List.{append-nil}
-use Rattle.ht_tern.specs.declared.tern.Tern.{Tern}
 use Rattle.ht_net.specs.declared.site.Fault.{Fault}
 use Rattle.ht_net.specs.Netlist.{Netlist}
 use Rattle.ht_net.specs.Frame.{Rules, frame_outputs, next_state, run_state, run_outputs}
-use Rattle.ht_net.specs.Faults.{tern_rules}
-use Rattle.ht_net.specs.Detection.{terns_of, unknown_state, tern_outputs}
-use Rattle.ht_serial.specs.MachineState.{MachineState, started, stepped, after, after_run, unknown_outputs}
+use Rattle.ht_serial.specs.MachineState.{Reading, started, stepped, after, after_run, blank_outputs}
+use Rattle.ht_serial.proofs.StepLaws.{with_parts}
 
 -- Frame t of a run depends on the first t + 1 vectors alone.
 pub run_output_at : {V : Type 0} → (c : Netlist) (r : Rules V) (latches : List V) (vectors : List (List V)) (t : ℕ) (d : List V) → t < length vectors
@@ -26,39 +26,30 @@ pub run_outputs_more : {V : Type 0} → (c : Netlist) (r : Rules V) (latches : L
 run_outputs_more c r latches [] v d = refl
 run_outputs_more c r latches (w ∷ vectors) v d = run_outputs_more c r (next_state c r w latches) vectors v d
 
-map_more : (list : List (List Bool)) (v : List Bool) → map terns_of (list ++ v ∷ []) ≡ map terns_of list ++ terns_of v ∷ []
-map_more [] v = refl
-map_more (w ∷ list) v = ap (λ (l : List (List Tern)). terns_of w ∷ l) (map_more list v)
-
-pub map_length : (list : List (List Bool)) → length (map terns_of list) ≡ length list
-map_length [] = refl
-map_length (w ∷ list) = ap suc (map_length list)
-
-abbrev with_parts : Netlist → Option Fault → List Tern → List Tern → MachineState
-with_parts c fault outputs latches = record { circuit = c; fault = fault; outputs = outputs; latches = latches }
-
 -- One more frame of a machine is one more frame of its run.
-pub step_is_run : (c : Netlist) (fault : Option Fault) (list : List (List Bool)) (v : List Bool)
-    → stepped (after_run c fault list) v ≡ after_run c fault (list ++ v ∷ [])
-step_is_run c fault list v =
-    let r = tern_rules fault in
-    let start = unknown_state c in
-    let last : length (list ++ v ∷ []) - 1 ≡ length (map terns_of list) = omega (arith, map_length list, length-append list (v ∷ [])) in
-    let outputs : get_or (tern_outputs c fault (list ++ v ∷ [])) (length (list ++ v ∷ []) - 1) (unknown_outputs c)
-    ≡ frame_outputs c r (terns_of v) (run_state c r start (map terns_of list)) =
-    ap (λ (n : ℕ). get_or (tern_outputs c fault (list ++ v ∷ [])) n (unknown_outputs c)) last
-    ∙ (ap (λ (l : List (List Tern)). get_or (run_outputs c r start l) (length (map terns_of list)) (unknown_outputs c)) (map_more list v)
-    ∙ run_outputs_more c r start (map terns_of list) (terns_of v) (unknown_outputs c)) in
-    let latches : run_state c r start (map terns_of (list ++ v ∷ [])) ≡ next_state c r (terns_of v) (run_state c r start (map terns_of list)) =
-    ap (λ (l : List (List Tern)). run_state c r start l) (map_more list v) ∙ run_state_more c r start (map terns_of list) (terns_of v) in
-    sym (ap (λ (o : List Tern). with_parts c fault o (run_state c r start (map terns_of (list ++ v ∷ [])))) outputs
-    ∙ ap (λ (l : List Tern). with_parts c fault (frame_outputs c r (terns_of v) (run_state c r start (map terns_of list))) l) latches)
+pub step_is_run : {V : Type 0} → (rules : Reading V) (c : Netlist) (fault : Option Fault) (state : List V) (vectors : List (List V)) (v : List V)
+    → stepped rules (after_run rules c fault state vectors) v ≡ after_run rules c fault state (vectors ++ v ∷ [])
+step_is_run rules c fault state vectors v =
+    let r = rules fault in
+    let more = vectors ++ v ∷ [] in
+    let count = length-append vectors (v ∷ []) in
+    let last : length more - 1 ≡ length vectors = omega (arith, count) in
+    let ran : true ≡ ltb 0 (length more) = sym (lt-ltb 0 (length more) (omega (arith, count))) in
+    let outputs : get_or (run_outputs c r state more) (length more - 1) (blank_outputs rules c fault) ≡ frame_outputs c r v (run_state c r state vectors) =
+    ap (λ (n : ℕ). get_or (run_outputs c r state more) n (blank_outputs rules c fault)) last ∙ run_outputs_more c r state vectors v (blank_outputs rules c fault) in
+    let latches = run_state_more c r state vectors v in
+    ap (λ (b : Bool). with_parts c fault b (frame_outputs c r v (run_state c r state vectors)) (next_state c r v (run_state c r state vectors))) ran
+    ∙ (ap (λ o. with_parts c fault (ltb 0 (length more)) o (next_state c r v (run_state c r state vectors))) (sym outputs)
+    ∙ ap (λ l. with_parts c fault (ltb 0 (length more)) (get_or (run_outputs c r state more) (length more - 1) (blank_outputs rules c fault)) l) (sym latches))
 
-after_rest : (c : Netlist) (fault : Option Fault) (done rest : List (List Bool)) → after (after_run c fault done) rest ≡ after_run c fault (done ++ rest)
-after_rest c fault done [] = ap (after_run c fault) (sym (append-nil done))
-after_rest c fault done (v ∷ rest) =
-    ap (λ (m : MachineState). after m rest) (step_is_run c fault done v)
-    ∙ (after_rest c fault (done ++ v ∷ []) rest ∙ ap (after_run c fault) (append_assoc done (v ∷ []) rest))
+after_rest : {V : Type 0} → (rules : Reading V) (c : Netlist) (fault : Option Fault) (state : List V) (done rest : List (List V))
+    → after rules (after_run rules c fault state done) rest ≡ after_run rules c fault state (done ++ rest)
+after_rest rules c fault state done [] = ap (after_run rules c fault state) (sym (append-nil done))
+after_rest rules c fault state done (v ∷ rest) =
+    ap (λ m. after rules m rest) (step_is_run rules c fault state done v)
+    ∙ (after_rest rules c fault state (done ++ v ∷ []) rest ∙ ap (after_run rules c fault state) (append_assoc done (v ∷ []) rest))
 
-pub after_is_run : (c : Netlist) (fault : Option Fault) (list : List (List Bool)) → after (started c fault) list ≡ after_run c fault list
-after_is_run c fault list = after_rest c fault [] list
+-- A machine that starts from a state and steps through a list of vectors is the run from that state.
+pub after_is_run : {V : Type 0} → (rules : Reading V) (c : Netlist) (fault : Option Fault) (state : List V) (vectors : List (List V))
+    → after rules (started rules c fault state) vectors ≡ after_run rules c fault state vectors
+after_is_run rules c fault state vectors = after_rest rules c fault state [] vectors

@@ -1,24 +1,24 @@
 -- How a machine's fields stand for it.
-use Rattle.std.specs.Prelude.{◌≡◌, length}
-use Rattle.ht_tern.specs.declared.tern.Tern.TheVariants.{Unk}
-use Rattle.ht_net.specs.Netlist.{net_count, IsCircuit}
+use Rattle.std.specs.Prelude.{◌≡◌, List, Bool, Option, length}
+use Rattle.ht_net.specs.declared.site.Fault.{Fault}
+use Rattle.ht_net.specs.Netlist.{Netlist, net_count, IsCircuit}
 use Rattle.ht_net.specs.Frame.{values_at}
 use Rattle.ht_frame.specs.Values.{env_of}
 use Rattle.ht_serial.specs.MachineState.{MachineState}
-use Rattle.ht_serial.specs.declared.machine.Machine.TheInside.{Inside}
 
-abbrev pub state_of : Inside → MachineState
-state_of a = record {
-  circuit = a.circuit.now;
-  fault = a.fault;
-  outputs = values_at (env_of Unk a.values.items) a.circuit.now.outputs;
-  latches = a.latches.items;
+-- the machine whose nets and flip-flops have these values
+abbrev pub shown_by : {V : Type 0} → V → Netlist → Option Fault → Bool → List V → List V → MachineState V
+shown_by blank c fault has_run values latches = record {
+  circuit = c;
+  fault = fault;
+  has_run = has_run;
+  outputs = values_at (env_of blank values) c.outputs;
+  latches = latches;
 }
 
--- each field is as long as what it has values for
-pub record IsSized (a : Inside) : Type 0 where
-  pub circuit : IsCircuit a.circuit.now
-  pub latches : length a.latches.items ≡ length a.circuit.now.dffs
-  pub values : length a.values.items ≡ net_count a.circuit.now
-  pub vector : length a.vector.items ≡ a.circuit.now.inputs
-  pub pins : length a.pins.items ≡ 255
+-- there is a value for each net, each flip-flop and each pin of the widest gate
+pub record IsSized {V : Type 0} (c : Netlist) (values latches pins : List V) : Type 0 where
+  pub circuit : IsCircuit c
+  pub nets : length values ≡ net_count c
+  pub dffs : length latches ≡ length c.dffs
+  pub widest : length pins ≡ 255

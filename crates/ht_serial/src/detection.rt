@@ -2,6 +2,7 @@
 ghost use Rattle.std.specs.Prelude.{◌≡◌, ℕ, ◌<◌, ◌≤◌, ◌+◌, length, get_or, Option, IfOk, MatchOption, IsTrue, ◌↔◌};
 ghost use Rattle.ht_tern.specs.declared.tern.Tern.TheVariants.{Unk};
 ghost use Rattle.ht_net.specs.Detection.{Opposite, IsFirstDetection};
+ghost use Rattle.ht_net.specs.Silence.{Apart};
 ghost use Rattle.std.specs.Option.{ForSome};
 ghost use Rattle.ht_serial.specs.Opposites.{IsOppositeAt};
 ghost use Rattle.ht_serial.specs.Places.{IsWithin};
@@ -39,10 +40,12 @@ fn first_opposite(good: &[Tern], bad: &Machine) -> Option<u32>
 
 impl<'a> GoodRun<'a> {
     /// The first place where the list detects the fault: the least vector, and there the least output, where the good
-    /// machine and the faulty one show opposite definite values, both run from all-unknown. Errs where memory runs out.
+    /// machine and the faulty one show opposite definite values, both run from all-unknown. There the two show opposite bits
+    /// in two-valued runs from any two states. Errs where memory runs out.
     pub fn first_detection(&self, alloc: Global, fault: Fault) -> Result<Option<Place>, AllocError>
         ensures first { IfOk result (λ place. IsFirstDetection self.now.circuit fault self.now.list place) }
         ensures within { IfOk result (λ place. ForSome place (IsWithin self.now.circuit self.now.list)) }
+        ensures apart { IfOk result (λ place. ForSome place (λ p. Apart self.now.circuit fault self.now.list p.vector p.output)) }
     {
         let mut bad = Machine::start(alloc, self.circuit, Some(fault))?;
         for (t, good) in self.rows.iter().enumerate() {
@@ -68,6 +71,7 @@ pub fn first(
     requires { list.now.width ≡ circuit.now.inputs }
     ensures first { IfOk result (λ place. IsFirstDetection circuit.now fault list.now.list place) }
     ensures within { IfOk result (λ place. ForSome place (IsWithin circuit.now list.now.list)) }
+    ensures apart { IfOk result (λ place. ForSome place (λ p. Apart circuit.now fault list.now.list p.vector p.output)) }
 {
     GoodRun::record(alloc, circuit, list)?.first_detection(alloc, fault)
 }

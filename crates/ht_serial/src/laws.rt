@@ -1,17 +1,19 @@
 // What a machine shows after a list of vectors, and what a detection means. Each law is the contract of a function that
 // does nothing.
 ghost use Rattle.std.specs.Prelude.{◌≡◌, ℕ, List, Bool, Option};
+ghost use Rattle.ht_tern.specs.declared.tern.Tern.{Tern};
 ghost use Rattle.ht_net.specs.declared.site.Fault.{Fault};
 ghost use Rattle.ht_net.specs.Netlist.{Netlist};
+ghost use Rattle.ht_net.specs.Faults.{tern_rules, bool_rules};
 ghost use Rattle.ht_net.specs.Detection.{Detects};
 ghost use Rattle.ht_net.specs.Silence.{Apart};
 ghost use Rattle.ht_serial.specs.MachineState.{started, after, after_run};
 
-/// A machine that starts and then steps through a list of vectors shows the outputs of the run's last frame, and holds
-/// the state of the run.
-#[tactic(auto, using(crate::proofs::RunLaws::after_is_run))]
+/// A machine that starts from any state and then steps through a list of vectors shows the outputs of the run's last frame,
+/// and holds the state of the run: over three values and over two.
 pub fn machine_follows_run()
-    ensures { (c : Netlist) (fault : Option Fault) (list : List (List Bool)) → after (started c fault) list ≡ after_run c fault list }
+    ensures terns { (c : Netlist) (fault : Option Fault) (state : List Tern) (vectors : List (List Tern)) → after tern_rules (started tern_rules c fault state) vectors ≡ after_run tern_rules c fault state vectors }
+    ensures bits { (c : Netlist) (fault : Option Fault) (state : List Bool) (vectors : List (List Bool)) → after bool_rules (started bool_rules c fault state) vectors ≡ after_run bool_rules c fault state vectors }
 {}
 
 /// Where a list detects a fault, the good and the faulty machine show opposite bits in two-valued runs too, from whatever

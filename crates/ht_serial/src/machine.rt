@@ -1,39 +1,35 @@
-// A machine that is stepped through its frames.
-ghost use Rattle.std.specs.Prelude.{◌≡◌, ℕ, ◌<◌, ◌≤◌, ◌+◌, length, get_or, replicate, Option, IfOk};
+// The machine over three values.
+ghost use Rattle.std.specs.Prelude.{◌≡◌, ◌<◌, length, get_or, IfOk};
 ghost use Rattle.ht_tern.specs.declared.tern.Tern.TheVariants.{Unk};
-ghost use Rattle.ht_net.specs.Netlist.{net_count, no_net};
-ghost use Rattle.ht_net.specs.Detection.{terns_of};
-ghost use Rattle.ht_serial.specs.MachineState.{MachineState, started, stepped};
+ghost use Rattle.ht_net.specs.Faults.{tern_rules};
+ghost use Rattle.ht_net.specs.Detection.{terns_of, unknown_state};
+ghost use Rattle.ht_serial.specs.MachineState.{started, stepped};
 
-use ht_frame::{MOST_PINS, capture, settle};
+use crate::simulator::{Simulator, filled};
 use ht_net::{Circuit, Fault};
 use ht_tern::Tern;
 use std::alloc::{AllocError, Global};
 use std::marker::Model;
 
-/// A circuit with at most one stuck line, and where it stands in its run.
+/// A circuit with at most one stuck line over three values (Kleene logic), and where it stands in its run. Outputs and
+/// flip-flops count from 0.
 #[derive(Drop)]
 pub struct Machine<'c> {
-    circuit: &'c Circuit,
-    fault: Option<Fault>,
-    latches: Vec<Tern>,
-    // the value of each net in the last frame
-    values: Vec<Tern>,
-    // room for a frame's vector and for the pins of one gate
+    simulator: Simulator<'c, Tern>,
+    // room for a frame's vector
     vector: Vec<Tern>,
-    pins: Vec<Tern>,
 }
 
 impl<'c> Model for Machine<'c> {
+    ghost use Rattle.std.specs.Prelude.{◌≡◌, length};
+    ghost use Rattle.ht_tern.specs.declared.tern.Tern.{Tern};
     ghost use Rattle.ht_serial.specs.MachineState.{MachineState};
 
-    ghost Value = { MachineState };
+    ghost Value = { MachineState Tern };
 
-    ghost use Rattle.ht_serial.specs.Fields.{state_of, IsSized};
+    ghost view = { λ a. a.simulator };
 
-    ghost view = { state_of };
-
-    ghost invariant = { IsSized };
+    ghost invariant = { λ a. length a.vector.items ≡ a.simulator.circuit.inputs };
 }
 
 /// Writes bits as definite values.
@@ -46,53 +42,55 @@ fn fill(values: &mut [Tern], bits: &[bool])
     }
 }
 
-/// As many unknown values.
-fn unknowns(alloc: Global, count: usize) -> Result<Vec<Tern>, AllocError>
-    ensures { IfOk result (λ values. values.items ≡ replicate count Unk) }
-{
-    let mut values = Vec::new(alloc);
-    values.resize(count, Tern::Unk)?;
-    Ok(values)
-}
-
 impl<'c> Machine<'c> {
+    /// A machine whose flip-flops hold `latches`.
+    fn with_latches(
+        alloc: Global,
+        circuit: &'c Circuit,
+        fault: Option<Fault>,
+        latches: Vec<Tern>,
+    ) -> Result<Machine<'c>, AllocError>
+        requires { length latches.items ≡ length circuit.now.dffs }
+        ensures { IfOk result (λ machine. machine ≡ started tern_rules circuit.now fault latches.items) }
+    {
+        let simulator = Simulator::start(alloc, circuit, fault, Tern::Unk, latches)?;
+        let vector = filled(alloc, circuit.inputs() as usize, Tern::Unk)?;
+        Ok(Machine { simulator, vector })
+    }
+
     /// A machine with every flip-flop unknown. Errs where memory runs out.
     pub fn start(
         alloc: Global,
         circuit: &'c Circuit,
         fault: Option<Fault>,
     ) -> Result<Machine<'c>, AllocError>
-        ensures { IfOk result (λ machine. machine ≡ started circuit.now fault) }
+        ensures { IfOk result (λ machine. machine ≡ started tern_rules circuit.now fault (unknown_state circuit.now)) }
     {
-        let latches = unknowns(alloc, circuit.dffs() as usize)?;
-        let values = unknowns(alloc, circuit.nets() as usize)?;
-        let vector = unknowns(alloc, circuit.inputs() as usize)?;
-        let pins = unknowns(alloc, MOST_PINS)?;
-        Ok(Machine {
-            circuit,
-            fault,
-            latches,
-            values,
-            vector,
-            pins,
-        })
+        let latches = filled(alloc, circuit.dffs() as usize, Tern::Unk)?;
+        Machine::with_latches(alloc, circuit, fault, latches)
+    }
+
+    /// A machine whose flip-flops hold `state`, which has a value for each. Errs where memory runs out.
+    pub fn start_from(
+        alloc: Global,
+        circuit: &'c Circuit,
+        fault: Option<Fault>,
+        state: &[Tern],
+    ) -> Result<Machine<'c>, AllocError>
+        requires { length state.now ≡ length circuit.now.dffs }
+        ensures { IfOk result (λ machine. machine ≡ started tern_rules circuit.now fault state.now) }
+    {
+        let latches = Vec::from_slice(alloc, state)?;
+        Machine::with_latches(alloc, circuit, fault, latches)
     }
 
     /// Runs one frame. It allocates nothing.
     pub fn step(&mut self, vector: &[bool])
         requires { length vector.now ≡ self.old.circuit.inputs }
-        ensures { self.new ≡ stepped self.old vector.now }
+        ensures { self.new ≡ stepped tern_rules self.old (terns_of vector.now) }
     {
         fill(&mut self.vector, vector);
-        settle(
-            self.circuit,
-            self.fault,
-            &self.vector,
-            &self.latches,
-            &mut self.values,
-            &mut self.pins,
-        );
-        capture(self.circuit, self.fault, &self.values, &mut self.latches);
+        self.simulator.step(&self.vector);
     }
 
     /// How many outputs the circuit has.
@@ -100,15 +98,15 @@ impl<'c> Machine<'c> {
         ensures circuit { result ≡ length self.now.circuit.outputs }
         ensures shown { result ≡ length self.now.outputs }
     {
-        self.circuit.outputs()
+        self.simulator.output_count()
     }
 
-    /// An output in the last frame, from 0; unknown before the first frame.
+    /// An output in the last frame; unknown before the first.
     pub fn output(&self, o: u32) -> Tern
         requires { o < length self.now.circuit.outputs }
         ensures { result ≡ get_or self.now.outputs o Tern.Unk }
     {
-        self.values[self.circuit.output(o).index()]
+        self.simulator.output(o)
     }
 
     /// All outputs in the last frame. Errs where memory runs out.
@@ -122,11 +120,11 @@ impl<'c> Machine<'c> {
         Ok(row)
     }
 
-    /// What a flip-flop holds now, from 0.
+    /// What a flip-flop holds now.
     pub fn state(&self, j: u32) -> Tern
         requires { j < length self.now.circuit.dffs }
         ensures { result ≡ get_or self.now.latches j Tern.Unk }
     {
-        self.latches[j as usize]
+        self.simulator.state(j)
     }
 }

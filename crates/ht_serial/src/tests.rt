@@ -1,12 +1,12 @@
 // Machines, and first detections by hand.
-ghost use Rattle.std.specs.Prelude.{◌≤◌, length, IfOk, OnOk};
+ghost use Rattle.std.specs.Prelude.{◌≡◌, ◌≤◌, length, IfOk, OnOk};
 ghost use Rattle.ht_net.specs.Draft.{IsName};
 
-use crate::{GoodRun, Machine, first};
+use crate::{BoolMachine, GoodRun, Machine, first};
 use ht_frame::{MOST_PINS, settle};
 use ht_net::{Builder, Circuit, Fault, NameId, NetError, NetId, Place, Site, Vectors};
 use ht_tern::{Kind, Tern};
-use std::alloc::Global;
+use std::alloc::{AllocError, Global};
 use std::test::Fail;
 
 fn name(builder: &mut Builder, text: &[u8]) -> Result<NameId, NetError>
@@ -40,6 +40,17 @@ fn and_gate(alloc: Global) -> Result<Circuit, NetError> {
     let z = name(&mut builder, b"z")?;
     builder.gate(Kind::And, z, &[a, b])?;
     builder.output(z)?;
+    builder.finish()
+}
+
+// `n = NOT(q)`, `q = DFF(n)`, with the output q.
+fn toggle(alloc: Global) -> Result<Circuit, NetError> {
+    let mut builder = Builder::new(alloc);
+    let q = name(&mut builder, b"q")?;
+    builder.output(q)?;
+    let n = name(&mut builder, b"n")?;
+    builder.dff(q, n)?;
+    builder.gate(Kind::Not, n, &[q])?;
     builder.finish()
 }
 
@@ -132,6 +143,55 @@ fn settles_bits(rt: HostRuntime) -> Result<(), Fail> {
         let mut pins = [false; MOST_PINS];
         settle(&circuit, fault, &[false, true], &[], &mut values, &mut pins);
         assert!(rt; values == [false, true, z]);
+    }
+    Ok(())
+}
+
+// The toggle over two values, from 0: the output is 0 and then 1, and after two frames the flip-flop holds 0.
+#[test]
+fn toggle_shows_0_and_then_1(rt: HostRuntime) -> Result<(), Fail> {
+    let circuit = toggle(rt.alloc())?;
+    assert_eq!(rt; circuit.inputs(), 0);
+    assert_eq!(rt; circuit.outputs(), 1);
+    assert_eq!(rt; circuit.dffs(), 1);
+    let mut machine = BoolMachine::start_from(rt.alloc(), &circuit, None, &[false])?;
+    machine.step(&[]);
+    let first = machine.output(0);
+    machine.step(&[]);
+    assert!(rt; (first, machine.output(0), machine.state(0)) == (false, true, false));
+    Ok(())
+}
+
+// The output and the flip-flop of the toggle after one frame from 0, over three values.
+fn after_one_frame(
+    alloc: Global,
+    circuit: &Circuit,
+    fault: Option<Fault>,
+) -> Result<(Tern, Tern), AllocError>
+    requires inputs { circuit.now.inputs ≡ 0 }
+    requires outputs { length circuit.now.outputs ≡ 1 }
+    requires dffs { length circuit.now.dffs ≡ 1 }
+{
+    let mut machine = Machine::start_from(alloc, circuit, fault, &[Tern::Zero])?;
+    machine.step(&[]);
+    Ok((machine.output(0), machine.state(0)))
+}
+
+// With n stuck at 0 the flip-flop stays at 0, and without it goes to 1.
+#[test]
+fn toggle_with_n_stuck_at_0_stays(rt: HostRuntime) -> Result<(), Fail> {
+    let circuit = toggle(rt.alloc())?;
+    assert_eq!(rt; circuit.inputs(), 0);
+    assert_eq!(rt; circuit.outputs(), 1);
+    assert_eq!(rt; circuit.dffs(), 1);
+    let stuck = Fault {
+        site: Site::Stem(NetId(1)),
+        value: false,
+    };
+    let table = [(Some(stuck), Tern::Zero), (None, Tern::One)];
+    for (fault, latch) in table {
+        let shown = after_one_frame(rt.alloc(), &circuit, fault)?;
+        assert!(rt; shown == (Tern::Zero, latch));
     }
     Ok(())
 }

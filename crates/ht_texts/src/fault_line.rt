@@ -1,30 +1,38 @@
 // The line of one fault in a report.
-ghost use Rattle.std.specs.Prelude.{◌≡◌, ◌+◌, ◌++◌, IfOk, OnOk};
-ghost use Rattle.std.specs.Option.{ForSome};
+ghost use Rattle.std.specs.Prelude.{◌≡◌, ◌<◌, ◌+◌, ◌++◌, length, IfOk, OnOk};
+ghost use Rattle.ht_faults.specs.Sites.{faults_of};
+ghost use Rattle.ht_collapse.specs.Classes.{AreClasses};
 ghost use Rattle.ht_texts.specs.Sites.{IsSite};
-ghost use Rattle.ht_texts.specs.Reports.{IsPlace, fault_line, verdict_text};
+ghost use Rattle.ht_texts.specs.Reports.{IsSayable, fault_text, outcome_text, fault_line};
 
 use crate::number::push_number;
-use crate::site::{push_output, push_site};
+use crate::site::push_site;
 use crate::vector::character_of;
-use ht_net::{Circuit, Fault, Place};
+use crate::verdict::{Said, push_verdict};
+use ht_collapse::Classes;
+use ht_faults::FaultList;
+use ht_net::{Circuit, Fault};
 use std::alloc::{AllocError, Global};
 
-/// The line, with its LF, of the fault at an index of the fault list, from 0, which is first detected at this place, or
-/// nowhere. The line has the fault's number from 1.
+/// The line, with its LF, of fault `i` of the list, from 0: its number from 1, its site, its value and, for the
+/// representative of a class, what is said of it. The line of another fault has the number of its representative, from 1,
+/// and `said` has no effect. Errs where memory runs out.
 pub fn write_fault(
     alloc: Global,
     circuit: &Circuit,
-    index: u32,
-    fault: Fault,
-    place: Option<Place>,
+    faults: &FaultList,
+    classes: &Classes,
+    i: u32,
+    said: Said,
 ) -> Result<Vec<u8>, AllocError>
-    requires site { IsSite circuit.now fault.site }
-    requires place { ForSome place (IsPlace circuit.now) }
-    ensures { IfOk result (λ line. line.items ≡ fault_line circuit.now (index + 1) fault place) }
+    requires faults { faults.now ≡ faults_of circuit.now }
+    requires classes { AreClasses circuit.now classes.now }
+    requires fault { i < length faults.now }
+    requires place { IsSayable circuit.now said }
+    ensures { IfOk result (λ line. line.items ≡ fault_line circuit.now classes.now i said) }
 {
     let mut line = Vec::new(alloc);
-    push_fault(&mut line, circuit, index, fault, place)?;
+    push_fault(&mut line, circuit, faults, classes, i, said)?;
     Ok(line)
 }
 
@@ -32,37 +40,51 @@ pub fn write_fault(
 pub fn push_fault(
     text: &mut Vec<u8>,
     circuit: &Circuit,
-    index: u32,
-    fault: Fault,
-    place: Option<Place>,
+    faults: &FaultList,
+    classes: &Classes,
+    i: u32,
+    said: Said,
 ) -> Result<(), AllocError>
-    requires site { IsSite circuit.now fault.site }
-    requires place { ForSome place (IsPlace circuit.now) }
-    ensures { OnOk result (text.new.items ≡ text.old.items ++ fault_line circuit.now (index + 1) fault place) }
+    requires faults { faults.now ≡ faults_of circuit.now }
+    requires classes { AreClasses circuit.now classes.now }
+    requires fault { i < length faults.now }
+    requires place { IsSayable circuit.now said }
+    ensures { OnOk result (text.new.items ≡ text.old.items ++ fault_line circuit.now classes.now i said) }
 {
-    push_number(text, u64::from(index) + 1)?;
+    push_number(text, u64::from(i) + 1)?;
     text.extend_from_slice(b" ")?;
-    push_site(text, circuit, fault.site)?;
-    text.extend_from_slice(b" s-a-")?;
-    text.extend_from_slice(&[character_of(fault.value), b' '])?;
-    push_verdict(text, circuit, place)?;
+    push_stuck_line(text, circuit, faults.get(i))?;
+    text.extend_from_slice(b" ")?;
+    push_outcome(text, circuit, classes, i, said)?;
     text.extend_from_slice(b"\n")
 }
 
-// Appends what a report says of a fault.
-fn push_verdict(
+// Appends the site of a fault and the value that it is stuck at.
+fn push_stuck_line(text: &mut Vec<u8>, circuit: &Circuit, fault: Fault) -> Result<(), AllocError>
+    requires { IsSite circuit.now fault.site }
+    ensures { OnOk result (text.new.items ≡ text.old.items ++ fault_text circuit.now fault) }
+{
+    push_site(text, circuit, fault.site)?;
+    text.extend_from_slice(b" s-a-")?;
+    text.extend_from_slice(&[character_of(fault.value)])
+}
+
+// Appends what the report says of fault `i`: what is said of a representative, or the representative of another fault.
+fn push_outcome(
     text: &mut Vec<u8>,
     circuit: &Circuit,
-    place: Option<Place>,
+    classes: &Classes,
+    i: u32,
+    said: Said,
 ) -> Result<(), AllocError>
-    requires { ForSome place (IsPlace circuit.now) }
-    ensures { OnOk result (text.new.items ≡ text.old.items ++ verdict_text circuit.now place) }
+    requires fault { i < length classes.now }
+    requires place { IsSayable circuit.now said }
+    ensures { OnOk result (text.new.items ≡ text.old.items ++ outcome_text circuit.now classes.now i said) }
 {
-    let Some(Place { vector, output }) = place else {
-        return text.extend_from_slice(b"undetected");
-    };
-    text.extend_from_slice(b"detected ")?;
-    push_number(text, vector + 1)?;
-    text.extend_from_slice(b" ")?;
-    push_output(text, circuit, output)
+    let representative = classes.of(i);
+    if representative == i {
+        return push_verdict(text, circuit, said);
+    }
+    text.extend_from_slice(b"as ")?;
+    push_number(text, u64::from(representative) + 1)
 }

@@ -1,18 +1,30 @@
 // The head line of a report.
 ghost use Rattle.std.specs.Prelude.{◌≡◌, ◌++◌, IfOk, OnOk};
-ghost use Rattle.ht_texts.specs.Reports.{fault_count, circuit_sizes, fault_sizes, head_line};
+ghost use Rattle.ht_faults.specs.Sites.{faults_of};
+ghost use Rattle.ht_texts.specs.Reports.{circuit_sizes, fault_sizes, head_line};
 
+use crate::counting::count_classes;
 use crate::number::push_counted;
+use ht_collapse::Classes;
+use ht_faults::FaultList;
 use ht_net::Circuit;
 use std::alloc::{AllocError, Global};
 
-/// The first line of a report, with its LF: the sizes of the circuit and of its fault list.
-pub fn write_head(alloc: Global, circuit: &Circuit) -> Result<Vec<u8>, AllocError>
-    ensures { IfOk result (λ line. line.items ≡ head_line circuit.now) }
+/// The first line of a report, with its LF: the sizes of the circuit, of its fault list and of the list's classes. Errs
+/// where memory runs out.
+pub fn write_head(
+    alloc: Global,
+    circuit: &Circuit,
+    faults: &FaultList,
+    classes: &Classes,
+) -> Result<Vec<u8>, AllocError>
+    requires faults { faults.now ≡ faults_of circuit.now }
+    ensures { IfOk result (λ line. line.items ≡ head_line circuit.now classes.now) }
 {
     let mut line = Vec::new(alloc);
     push_circuit_sizes(&mut line, circuit)?;
-    push_fault_sizes(&mut line, circuit)?;
+    push_counted(&mut line, b" faults ", faults.len())?;
+    push_counted(&mut line, b" classes ", count_classes(classes))?;
     line.extend_from_slice(b"\n")?;
     Ok(line)
 }
@@ -26,22 +38,4 @@ fn push_circuit_sizes(text: &mut Vec<u8>, circuit: &Circuit) -> Result<(), Alloc
     push_counted(text, b" flip-flops ", circuit.dffs())?;
     push_counted(text, b" gates ", circuit.gates())?;
     Ok(())
-}
-
-// Appends the sizes of the circuit's fault list.
-fn push_fault_sizes(text: &mut Vec<u8>, circuit: &Circuit) -> Result<(), AllocError>
-    ensures { OnOk result (text.new.items ≡ text.old.items ++ fault_sizes circuit.now) }
-{
-    let faults = count_faults(circuit);
-    let classes = faults;
-    push_counted(text, b" faults ", faults)?;
-    push_counted(text, b" classes ", classes)
-}
-
-// How many faults a report lists: two for the stem of each net.
-#[tactic(auto, using(crate::proofs::ReportLaws::fault_count_is))]
-fn count_faults(circuit: &Circuit) -> u32
-    ensures { result ≡ fault_count circuit.now }
-{
-    2 * circuit.nets()
 }

@@ -4,6 +4,7 @@
 //! names the lines of a circuit; `specs/Reports` has the report of a fault simulation, line for line.
 #![tactic(auto)]
 
+mod counting;
 mod fault_line;
 mod head;
 mod number;
@@ -12,8 +13,11 @@ mod site;
 mod tests;
 mod total;
 mod vector;
+mod verdict;
 
+pub use counting::count_classes;
 pub use fault_line::{push_fault, write_fault};
 pub use head::write_head;
 pub use total::{Sums, write_total};
 pub use vector::{read_vector, write_vector};
+pub use verdict::Said;

@@ -3,6 +3,8 @@ use Rattle.std.specs.declared.alloc.Global.{Global}
 use Rattle.ht_tern.specs.declared.tern.Tern.{Tern}
 use Rattle.ht_net.specs.Detection.{tern_outputs}
 use Rattle.ht_net.specs.declared.site.Place.{Place}
+use Rattle.ht_net.specs.Silence.{Apart}
+use Rattle.ht_serial.proofs.ApartLaws.{detected_apart}
 use Rattle.ht_serial.specs.Places.{IsWithin}
 use Rattle.ht_serial.specs.TestSession.{TestSession}
 use Rattle.ht_serial.proofs.DetectionLaws.{next_is, shows, rows_count, row_at, frame_width, place_within, rows_detect, none_more, none_before, detects_inside}
@@ -41,15 +43,20 @@ returns-in-Some c =
     let bad = shows s.circuit (Some c.args.fault) s.list t c.loop-t.bad c.step.new.self c.get.result.now inside c.loop-t.invariant.bad vector c.step.ensures in
     let found = c.in-Some.ensures in
     let p : Place = record { vector = t; output = c.in-Some.output } in
+    let detects = rows_detect s.circuit c.args.fault s.list t c.in-Some.output c.deref.result.now c.step.new.self.outputs good bad found.0 in
     record {
       first = (
-        rows_detect s.circuit c.args.fault s.list t c.in-Some.output c.deref.result.now c.step.new.self.outputs good bad found.0,
+        detects,
         none_before s.circuit c.args.fault s.list p c.deref.result.now c.step.new.self.outputs good bad c.loop-t.invariant.none found.1,
       );
       within = λ x e.
           let P : Place → Type 0 = IsWithin s.circuit s.list in
           let is : p ≡ x = cc in
           subst P is (place_within s.circuit s.list p c.deref.result.now c.step.new.self.outputs inside good found.0);
+      apart = λ x e.
+          let P : Place → Type 0 = λ q. Apart s.circuit c.args.fault s.list q.vector q.output in
+          let is : p ≡ x = cc in
+          subst P is (detected_apart s.circuit c.args.fault s.list t c.in-Some.output detects);
     }
 
 pub loop-t-preserved : goal.loop-t-preserved
@@ -78,4 +85,5 @@ returns c =
           let inside = detects_inside c.args.self.now.circuit c.args.fault c.args.self.now.list s o d in
           c.loop-t.invariant.none s o (omega (arith, count, inside)) d;
       within = λ x e. cc;
+      apart = λ x e. cc;
     }

@@ -1,0 +1,125 @@
+-- The first place of each end is the representative.
+use Rattle.std.proofs.Common.{◌≡◌, ◌≢◌, ◌<◌, ◌+◌, ℕ, suc, List, [], ◌∷◌, ◌++◌, length, get_or, refl, sym, ◌∙◌, ap, arith, inl, inr, subst, length-append}
+use Rattle.std.specs.Prelude.{◌↔◌}
+use Rattle.std.proofs.lemmas.Bool.{cases_eq, cases_lt}
+use Rattle.std.proofs.lemmas.List.{get_or_push, get_or_append_left}
+use Rattle.ht_net.specs.Netlist.{Netlist}
+use Rattle.ht_faults.specs.Sites.{faults_of}
+use Rattle.ht_collapse.specs.Classes.{SameClass, itself, turned, joined, fault_at, IsRepresentative, AreClasses}
+use Rattle.ht_collapse.specs.Ends.{AreEnds}
+use Rattle.ht_collapse.specs.Places.{AreFirstPlaces}
+
+pub are_classes : (c : Netlist) (ends places : List ℕ) → AreEnds c ends → AreFirstPlaces ends places → AreClasses c places
+are_classes c ends places led first = record {
+  every = first.every ∙ led.every;
+  exact = λ i l.
+      let count = led.every in
+      let inside : i < length ends = omega arith in
+      let at = first.exact i inside in
+      let low = at.within in
+      let there : get_or places i 0 < length ends = omega arith in
+      record {
+        listed = omega arith;
+        member = (led.exact (get_or places i 0) i there inside).0 at.same;
+        least = λ k less h. at.first k less ((led.exact k i (omega arith) inside).1 h);
+      };
+}
+
+-- Two least numbers of one class are one.
+one_representative : (c : Netlist) (i j r q : ℕ) → SameClass c (fault_at c i) (fault_at c j) → IsRepresentative c i r → IsRepresentative c j q → r ≡ q
+one_representative c i j r q same h k = elim (cases_lt r q) [
+  | inl l ↦ absurd (k.least r l (joined (fault_at c r) (fault_at c i) (fault_at c j) h.member same))
+  | inr m ↦ elim (cases_lt q r) [
+    | inl l ↦ absurd (h.least q l (joined (fault_at c q) (fault_at c j) (fault_at c i) k.member (turned (fault_at c i) (fault_at c j) same)))
+    | inr n ↦ omega arith
+  ]
+]
+
+pub same_representative : (c : Netlist) (representatives : List ℕ) (i j : ℕ) → AreClasses c representatives → i < length (faults_of c) → j < length (faults_of c)
+    → (get_or representatives i 0 ≡ get_or representatives j 0) ↔ SameClass c (fault_at c i) (fault_at c j)
+same_representative c representatives i j h inside there =
+    let a = h.exact i inside in
+    let b = h.exact j there in (
+      λ e. joined (fault_at c i) (fault_at c (get_or representatives i 0)) (fault_at c j) (turned (fault_at c (get_or representatives i 0)) (fault_at c i) a.member)
+          (subst (λ (n : ℕ). SameClass c (fault_at c n) (fault_at c j)) (sym e) b.member),
+      λ same. one_representative c i j (get_or representatives i 0) (get_or representatives j 0) same a b,
+    )
+
+pub own_representative : (c : Netlist) (representatives : List ℕ) (i : ℕ) → AreClasses c representatives → i < length (faults_of c)
+    → get_or representatives (get_or representatives i 0) 0 ≡ get_or representatives i 0
+own_representative c representatives i h inside =
+    let a = h.exact i inside in
+    (same_representative c representatives (get_or representatives i 0) i h a.listed inside).1 a.member
+
+list_by_places : (xs ys : List ℕ) → length xs ≡ length ys → ((i : ℕ) → i < length xs → get_or xs i 0 ≡ get_or ys i 0) → xs ≡ ys
+list_by_places [] [] long h = refl
+list_by_places [] (y ∷ ys) long h = absurd (omega arith)
+list_by_places (x ∷ xs) [] long h = absurd (omega arith)
+list_by_places (x ∷ xs) (y ∷ ys) long h =
+    let here : x ≡ y = h 0 (omega arith) in
+    let rest : xs ≡ ys = list_by_places xs ys (omega arith) (λ i l. h (suc i) (omega arith)) in
+    cc
+
+pub one_list : (c : Netlist) (representatives others : List ℕ) → AreClasses c representatives → AreClasses c others → representatives ≡ others
+one_list c representatives others h k =
+    let long = h.every in
+    let same = k.every in
+    list_by_places representatives others (omega arith)
+    (λ i l. one_representative c i i (get_or representatives i 0) (get_or others i 0) (itself (fault_at c i)) (h.exact i (omega arith)) (k.exact i (omega arith)))
+
+-- The numbers below n that are their own representative, in rising order.
+pub record AreOwnBelow (representatives own : List ℕ) (n : ℕ) : Type 0 where
+  pub rises : (j k : ℕ) → j < k → k < length own → get_or own j 0 < get_or own k 0
+  pub each : (k : ℕ) → k < length own → (get_or own k 0 < n) × (get_or representatives (get_or own k 0) 0 ≡ get_or own k 0)
+  pub all : (i : ℕ) → i < n → get_or representatives i 0 ≡ i → (k : ℕ) × (k < length own) × (get_or own k 0 ≡ i)
+
+pub one_own : (representatives own : List ℕ) (n : ℕ) → AreOwnBelow representatives own n → get_or representatives n 0 ≡ n → AreOwnBelow representatives (own ++ n ∷ []) (n + 1)
+one_own representatives own n h is =
+    let long = length-append own (n ∷ []) in
+    let last = get_or_push own n 0 (length own) refl in
+    let before : (k : ℕ) → k < length own → get_or (own ++ n ∷ []) k 0 ≡ get_or own k 0 = λ k l. get_or_append_left own (n ∷ []) 0 k l in
+    record {
+      rises = λ j k less l. elim (cases_eq k (length own)) [
+        | inl e ↦
+            let there : j < length own = omega arith in
+            let low = (h.each j there).0 in
+            let a = before j there in
+            let b = ap (λ (m : ℕ). get_or (own ++ n ∷ []) m 0) e in
+            omega arith
+        | inr ne ↦
+            let a = before j (omega arith) in
+            let b = before k (omega arith) in
+            let up = h.rises j k less (omega arith) in
+            omega arith
+      ];
+      each = λ k l. elim (cases_eq k (length own)) [
+        | inl e ↦
+            let at : get_or (own ++ n ∷ []) k 0 ≡ n = ap (λ (m : ℕ). get_or (own ++ n ∷ []) m 0) e ∙ last in
+            let x : get_or (own ++ n ∷ []) k 0 < n + 1 = omega arith in
+            (x, ap (λ (m : ℕ). get_or representatives m 0) at ∙ (is ∙ sym at))
+        | inr ne ↦
+            let a = before k (omega arith) in
+            let old = h.each k (omega arith) in
+            let low = old.0 in
+            let x : get_or (own ++ n ∷ []) k 0 < n + 1 = omega arith in
+            (x, ap (λ (m : ℕ). get_or representatives m 0) a ∙ (old.1 ∙ sym a))
+      ];
+      all = λ i l own_one. elim (cases_eq i n) [
+        | inl e ↦ let x : length own < length (own ++ n ∷ []) = omega arith in (length own, x, last ∙ sym e)
+        | inr ne ↦
+            let old = h.all i (omega arith) own_one in
+            let there : old.0 < length own = old.1 in
+            let x : old.0 < length (own ++ n ∷ []) = omega arith in
+            (old.0, x, before old.0 there ∙ old.2)
+      ];
+    }
+
+pub not_own : (representatives own : List ℕ) (n : ℕ) → AreOwnBelow representatives own n → get_or representatives n 0 ≢ n → AreOwnBelow representatives own (n + 1)
+not_own representatives own n h other = record {
+  rises = h.rises;
+  each = λ k l. let old = h.each k l in let low = old.0 in let x : get_or own k 0 < n + 1 = omega arith in (x, old.1);
+  all = λ i l own_one. elim (cases_eq i n) [
+    | inl e ↦ absurd (other (subst (λ (m : ℕ). get_or representatives m 0 ≡ m) e own_one))
+    | inr ne ↦ h.all i (omega arith) own_one
+  ];
+}

@@ -1,0 +1,11 @@
+mod DepthLaws
+mod GateLaws
+mod LoadLaws
+mod LineLaws
+mod PairLaws
+pub mod RunLaws
+mod FaultListLaws
+mod LeadLaws
+mod OrderLaws
+mod EndLaws
+pub mod ClassLaws

@@ -1,0 +1,4 @@
+pub mod ListLaws
+pub mod SiteLaws
+pub mod MemberLaws
+pub mod DistinctLaws

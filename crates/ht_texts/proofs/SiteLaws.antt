@@ -1,0 +1,17 @@
+-- Each fault of the list stands on a line of the circuit.
+use Rattle.std.proofs.Common.{◌<◌, ℕ, length}
+use Rattle.ht_net.specs.declared.site.Site.{Site}
+use Rattle.ht_net.specs.declared.site.Site.TheVariants.{Stem, DffPin, GatePin}
+use Rattle.ht_net.specs.Netlist.{Netlist}
+use Rattle.ht_faults.specs.Sites.{IsFaultSite, faults_of}
+use Rattle.ht_faults.proofs.MemberLaws.{fault_site}
+use Rattle.ht_collapse.specs.Classes.{fault_at}
+use Rattle.ht_texts.specs.Sites.{IsSite}
+
+fault_site_is_line : (c : Netlist) (site : Site) → IsFaultSite c site → IsSite c site
+fault_site_is_line c (Stem x) is = is
+fault_site_is_line c (DffPin j) is = is.0
+fault_site_is_line c (GatePin g i) is = (is.0, is.1)
+
+pub fault_is_on_line : (c : Netlist) (i : ℕ) → i < length (faults_of c) → IsSite c (fault_at c i).site
+fault_is_on_line c i inside = fault_site_is_line c (fault_at c i).site (fault_site c i inside)
