@@ -10,11 +10,13 @@ ghost use Rattle.ht_app.specs.declared.trouble.Trouble.TheVariants as trouble;
 
 use crate::netlist::read_netlist;
 use crate::report::write_report;
-use crate::simulation::{body_of, detections, total_of};
+use crate::simulation::{body_of, detections};
 use crate::tests::read_tests;
 use crate::trouble::Trouble;
+use ht_collapse::collapse;
 use ht_net::{Circuit, Vectors};
 use ht_ports::Desk;
+use ht_texts::{Sums, write_total};
 use std::alloc::{AllocError, Global};
 
 /// The report without its last line, and that line.
@@ -24,15 +26,17 @@ struct Texts {
     total: Vec<u8>,
 }
 
-// Simulates each fault over the vectors.
+// Simulates the representative of each class of faults over the vectors.
 fn texts_of(alloc: Global, circuit: &Circuit, list: &Vectors) -> Result<Texts, AllocError>
     requires width { list.now.width ≡ circuit.now.inputs }
     requires few { length list.now.list ≤ 2 ^ 62 }
     ensures { IfOk result (λ texts. IsReportOf circuit.now list.now.list texts.body.items texts.total.items) }
 {
-    let places = detections(alloc, circuit, list)?;
-    let body = body_of(alloc, circuit, &places)?;
-    let total = total_of(alloc, circuit, &places)?;
+    let faults = ht_faults::list(alloc, circuit)?;
+    let classes = collapse(alloc, circuit, &faults)?;
+    let places = detections(alloc, circuit, &faults, &classes, list)?;
+    let body = body_of(alloc, circuit, &faults, &classes, &places)?;
+    let total = write_total(alloc, Sums::of(&classes, &places))?;
     Ok(Texts { body, total })
 }
 
