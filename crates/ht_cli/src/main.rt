@@ -62,7 +62,7 @@ mod tests {
             words.push(String::from_str(alloc, word)?)?;
         }
         assert_eq!(rt; run(alloc, &words, &mut desk), 3);
-        assert_eq!(rt; desk.err(), b"netlist: line 4097: bad line\n".as_slice());
+        assert_eq!(rt; desk.err(), b"netlist: line 4097: too many inputs\n".as_slice());
         assert!(rt; desk.file("r").is_none());
         Ok(())
     }
