@@ -1,8 +1,8 @@
 -- Places of detection, fault by fault.
-use Rattle.std.proofs.Common.{◌≡◌, ◌<◌, ◌≤◌, ◌+◌, ◌^◌, ◌⊎◌, inl, inr, ℕ, List, [], ◌∷◌, ◌++◌, Bool, length, get_or, Option, Some, None, refl, sym, ◌∙◌, ap, subst, arith}
+use Rattle.std.proofs.Common.{◌≡◌, ◌<◌, ◌^◌, inl, inr, ℕ, List, [], ◌∷◌, ◌++◌, Bool, length, get_or, Option, Some, None, sym, ◌∙◌, ap, subst, arith}
 use Rattle.std.specs.Option.{ForSome}
 use Rattle.std.proofs.lemmas.List.{length-append}
-use Rattle.std.proofs.lemmas.Nat.{cases_lt}
+use Rattle.std.proofs.lemmas.Bool.{cases_lt}
 use Rattle.std.proofs.Math.ListN.{get_or-append}
 use Rattle.std.proofs.Math.Seq.{get_or-append_seam}
 use Rattle.ht_net.specs.declared.site.Fault.{Fault}
@@ -11,20 +11,11 @@ use Rattle.ht_net.specs.Netlist.{Netlist, IsCircuit}
 use Rattle.ht_net.specs.Detection.{IsFirstDetection, tern_outputs}
 use Rattle.ht_serial.proofs.DetectionLaws.{detects_inside, opposite_inside, frame_width}
 use Rattle.ht_faults.specs.Sites.{faults_of}
-use Rattle.ht_collapse.specs.Classes.{AreClasses, IsRepresentative, SameClass, itself, fault_at}
+use Rattle.ht_collapse.specs.Classes.{AreClasses, fault_at}
 use Rattle.ht_collapse.proofs.RunLaws.{representative_detected}
 use Rattle.ht_texts.specs.Reports.{IsPlace}
 use Rattle.ht_app.specs.Done.{AreFirstDetections}
 use Rattle.ht_app.specs.Simulation.{AreFirstSoFar, ArePlaces}
-
--- ---- representatives
-
--- a fault that no lower number represents is its own representative
-pub own : (c : Netlist) (i r : ℕ) → IsRepresentative c i r → i ≤ r → r ≡ i
-own c i r is le = elim (cases_lt i r) [
-  | inl lt ↦ absurd (is.least i lt (itself (fault_at c i)))
-  | inr ge ↦ omega arith
-]
 
 -- a member's place is that of its representative
 pub member_place : (c : Netlist) (list : List (List Bool)) (representatives : List ℕ) (places : List (Option Place)) (i : ℕ) → IsCircuit c → AreClasses c representatives

@@ -1,5 +1,6 @@
 // The command `sim`.
 ghost use Rattle.std.specs.Prelude.{◌≡◌, ◌≢◌, ◌≤◌, ◌^◌, length, IfOk, IfErr, OnOk};
+ghost use Rattle.ht_net.specs.Netlist.{IsCircuit};
 ghost use Rattle.ht_words_laws.specs.Asked as asked;
 ghost use Rattle.ht_app.specs.Inputs.{AcceptsTests};
 ghost use Rattle.ht_app.specs.Done.{SimDone};
@@ -28,6 +29,7 @@ struct Texts {
 
 // Simulates the representative of each class of faults over the vectors.
 fn texts_of(alloc: Global, circuit: &Circuit, list: &Vectors) -> Result<Texts, AllocError>
+    requires circuit { IsCircuit circuit.now }
     requires width { list.now.width ≡ circuit.now.inputs }
     requires few { length list.now.list ≤ 2 ^ 62 }
     ensures { IfOk result (λ texts. IsReportOf circuit.now list.now.list texts.body.items texts.total.items) }

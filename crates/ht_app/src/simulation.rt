@@ -1,5 +1,6 @@
 // The fault simulation: where the vectors first detect each fault, and the report of it.
 ghost use Rattle.std.specs.Prelude.{◌≡◌, ◌<◌, length, IfOk};
+ghost use Rattle.ht_net.specs.Netlist.{IsCircuit};
 ghost use Rattle.ht_net.specs.Detection.{IsFirstDetection};
 ghost use Rattle.ht_faults.specs.Sites.{faults_of};
 ghost use Rattle.ht_collapse.specs.Classes.{AreClasses, fault_at};
@@ -24,6 +25,7 @@ fn place_of(
     places: &[Option<Place>],
     i: u32,
 ) -> Result<Option<Place>, AllocError>
+    requires circuit { IsCircuit good.now.circuit }
     requires faults { faults.now ≡ faults_of good.now.circuit }
     requires classes { AreClasses good.now.circuit classes.now }
     requires inside { i < length faults.now }
@@ -46,6 +48,7 @@ pub fn detections(
     classes: &Classes,
     list: &Vectors,
 ) -> Result<Vec<Option<Place>>, AllocError>
+    requires circuit { IsCircuit circuit.now }
     requires faults { faults.now ≡ faults_of circuit.now }
     requires classes { AreClasses circuit.now classes.now }
     requires width { list.now.width ≡ circuit.now.inputs }
