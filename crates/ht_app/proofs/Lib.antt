@@ -1,6 +1,5 @@
 pub mod Pieces
 pub mod TestLines
-pub mod FaultAt
 pub mod Places
 pub mod OneReading
 pub mod Refusals

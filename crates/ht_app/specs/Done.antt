@@ -1,15 +1,15 @@
 -- What a finished run leaves.
-use Rattle.std.specs.Prelude.{◌≡◌, ℕ, List, Bool, IsTrue, Option, Some}
+use Rattle.std.specs.Prelude.{◌≡◌, ℕ, ◌<◌, List, Bool, length, get_or, IsTrue, Option, Some, None}
 use Rattle.std.specs.Option.{option_map}
 use Rattle.std.specs.Io.KnownBytes.{append_known}
-use Rattle.ht_tern.specs.Gate.{AllRelated}
 use Rattle.ht_ports.specs.Desk.{DeskView}
 use Rattle.ht_ports.specs.declared.ports.InPort.TheVariants.{Netlist}
 use Rattle.ht_ports.specs.declared.ports.OutPort.TheVariants.{Report, Out, Err}
 use Rattle.ht_net.specs.declared.site.Place.{Place}
 use Rattle.ht_net.specs.Netlist as net
-use Rattle.ht_net.specs.Faults.{stem_faults_of}
 use Rattle.ht_net.specs.Detection.{IsFirstDetection}
+use Rattle.ht_faults.specs.Sites.{faults_of}
+use Rattle.ht_collapse.specs.Classes.{AreClasses, fault_at}
 use Rattle.ht_bench.specs.Normal.{normal_text}
 use Rattle.ht_texts.specs.Tests.{IsTestText}
 use Rattle.ht_texts.specs.Reports.{report_text, total_line, class_count, detected_count}
@@ -18,20 +18,24 @@ use Rattle.ht_app.specs.Inputs.{IsInput, IsAccepted, AreInputs, AcceptsNetlist, 
 
 -- ---- `sim`
 
--- the first place of detection of each fault, in the order of the fault list
-abbrev pub AreFirstDetections : net.Netlist → List (List Bool) → List (Option Place) → Type 0
-AreFirstDetections c list places = AllRelated (λ fault place. IsFirstDetection c fault list place) (stem_faults_of c) places
+-- the first place of detection, or none, of each fault of the list
+pub record AreFirstDetections (c : net.Netlist) (list : List (List Bool)) (places : List (Option Place)) : Type 0 where
+  pub each : length places ≡ length (faults_of c)
+  pub first : (i : ℕ) → i < length (faults_of c) → IsFirstDetection c (fault_at c i) list (get_or places i None)
 
--- The report and the total line of a circuit over the vectors of a tests text.
+-- The report and the total line of a circuit over the vectors of a tests text. A fault that represents its class has its
+-- own verdict, and every other names its representative, which has the same first detection.
 pub record IsSimulated (netlist tests report total : List ℕ) : Type 0 where
   pub circuit : net.Netlist
   pub list : List (List Bool)
+  pub representatives : List ℕ
   pub places : List (Option Place)
   pub accepted : IsAccepted netlist circuit
   pub vectors : IsTestText circuit tests list
+  pub classes : AreClasses circuit representatives
   pub detections : AreFirstDetections circuit list places
-  pub report_is : report ≡ report_text circuit places
-  pub total_is : total ≡ total_line (class_count circuit) (detected_count places)
+  pub report_is : report ≡ report_text circuit representatives places
+  pub total_is : total ≡ total_line (class_count representatives) (detected_count representatives places)
 
 -- The report stands under its name, the total line was added to Out, and Err is as it was.
 pub record SimDone (netlist_name tests_name report_name : List ℕ) (old new : DeskView) : Type 0 where

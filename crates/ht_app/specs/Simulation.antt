@@ -1,27 +1,28 @@
--- The fault list by its indices, and places of detection.
-use Rattle.std.specs.Prelude.{◌≡◌, ◌<◌, ℕ, List, Option, Bool, length}
+-- Places of detection, and the report of them.
+use Rattle.std.specs.Prelude.{◌≡◌, ◌<◌, ℕ, List, Option, None, Bool, length, get_or}
 use Rattle.std.specs.Option.{ForSome}
-use Rattle.ht_net.specs.declared.site.Fault.{Fault}
 use Rattle.ht_net.specs.declared.site.Place.{Place}
 use Rattle.ht_net.specs.Netlist.{Netlist}
-use Rattle.ht_net.specs.Faults.{stem_faults_of}
+use Rattle.ht_net.specs.Detection.{IsFirstDetection}
+use Rattle.ht_faults.specs.Sites.{faults_of}
+use Rattle.ht_collapse.specs.Classes.{AreClasses, fault_at}
 use Rattle.ht_texts.specs.Reports.{IsPlace, report_body, total_line, class_count, detected_count}
 use Rattle.ht_app.specs.Done.{AreFirstDetections}
-use Rattle.std.specs.Prelude.{get_or}
 
--- the fault of the list at an index, from 0
-pub record IsFaultAt (c : Netlist) (index : ℕ) (fault : Fault) : Type 0 where
-  pub within : index < length (stem_faults_of c)
-  pub is : (d : Fault) → get_or (stem_faults_of c) index d ≡ fault
+-- the first detections of the faults so far
+pub record AreFirstSoFar (c : Netlist) (list : List (List Bool)) (places : List (Option Place)) : Type 0 where
+  pub first : (i : ℕ) → i < length places → IsFirstDetection c (fault_at c i) list (get_or places i None)
 
--- a place, or none, for each fault of the list
+-- a place of the circuit, or none, for each fault of the list
 pub record ArePlaces (c : Netlist) (places : List (Option Place)) : Type 0 where
-  pub each : length places ≡ length (stem_faults_of c)
-  pub within : (k : ℕ) (d : Option Place) → k < length places → ForSome (get_or places k d) (IsPlace c)
+  pub each : length places ≡ length (faults_of c)
+  pub within : (i : ℕ) → i < length (faults_of c) → ForSome (get_or places i None) (IsPlace c)
 
 -- the report of the vectors, without its last line, and that line
 pub record IsReportOf (c : Netlist) (list : List (List Bool)) (body total : List ℕ) : Type 0 where
+  pub representatives : List ℕ
   pub places : List (Option Place)
+  pub classes : AreClasses c representatives
   pub detections : AreFirstDetections c list places
-  pub body_is : body ≡ report_body c places
-  pub total_is : total ≡ total_line (class_count c) (detected_count places)
+  pub body_is : body ≡ report_body c representatives places
+  pub total_is : total ≡ total_line (class_count representatives) (detected_count representatives places)

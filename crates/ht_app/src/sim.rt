@@ -1,5 +1,6 @@
 // The command `sim`.
 ghost use Rattle.std.specs.Prelude.{◌≡◌, ◌≢◌, ◌≤◌, ◌^◌, length, IfOk, IfErr, OnOk};
+ghost use Rattle.ht_net.specs.Netlist.{IsCircuit};
 ghost use Rattle.ht_words_laws.specs.Asked as asked;
 ghost use Rattle.ht_app.specs.Inputs.{AcceptsTests};
 ghost use Rattle.ht_app.specs.Done.{SimDone};
@@ -10,11 +11,13 @@ ghost use Rattle.ht_app.specs.declared.trouble.Trouble.TheVariants as trouble;
 
 use crate::netlist::read_netlist;
 use crate::report::write_report;
-use crate::simulation::{body_of, detections, total_of};
+use crate::simulation::{body_of, detections};
 use crate::tests::read_tests;
 use crate::trouble::Trouble;
+use ht_collapse::collapse;
 use ht_net::{Circuit, Vectors};
 use ht_ports::Desk;
+use ht_texts::{Sums, write_total};
 use std::alloc::{AllocError, Global};
 
 /// The report without its last line, and that line.
@@ -24,15 +27,18 @@ struct Texts {
     total: Vec<u8>,
 }
 
-// Simulates each fault over the vectors.
+// Simulates the representative of each class of faults over the vectors.
 fn texts_of(alloc: Global, circuit: &Circuit, list: &Vectors) -> Result<Texts, AllocError>
+    requires circuit { IsCircuit circuit.now }
     requires width { list.now.width ≡ circuit.now.inputs }
     requires few { length list.now.list ≤ 2 ^ 62 }
     ensures { IfOk result (λ texts. IsReportOf circuit.now list.now.list texts.body.items texts.total.items) }
 {
-    let places = detections(alloc, circuit, list)?;
-    let body = body_of(alloc, circuit, &places)?;
-    let total = total_of(alloc, circuit, &places)?;
+    let faults = ht_faults::list(alloc, circuit)?;
+    let classes = collapse(alloc, circuit, &faults)?;
+    let places = detections(alloc, circuit, &faults, &classes, list)?;
+    let body = body_of(alloc, circuit, &faults, &classes, &places)?;
+    let total = write_total(alloc, Sums::of(&classes, &places))?;
     Ok(Texts { body, total })
 }
 

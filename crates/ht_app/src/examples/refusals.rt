@@ -1,6 +1,6 @@
 // Inputs that are refused.
 
-use super::desks::{NORM, SHIFT_REGISTER, SIM, desk_of, refuse};
+use super::desks::{NORM, S27, SHIFT_REGISTER, SIM, desk_of, refuse};
 use std::alloc::{AllocError, Global};
 use std::process::Abort;
 use std::test::Fail;
@@ -123,13 +123,14 @@ fn a_netlist_of_one_byte_too_many_is_too_long(rt: HostRuntime) -> Result<(), Fai
 #[test]
 fn malformed_tests_name_their_line(rt: HostRuntime) -> Result<(), Fail> {
     let alloc = rt.alloc();
-    let table: [(&[u8], &[u8]); 3] = [
-        (b"1\nx\n", b"tests: line 2\n"),
-        (b"10\n", b"tests: line 1\n"),
-        (b"1\n\n", b"tests: line 2\n"),
+    let table: [(&[u8], &[u8], &[u8]); 4] = [
+        (SHIFT_REGISTER, b"1\nx\n", b"tests: line 2\n"),
+        (SHIFT_REGISTER, b"10\n", b"tests: line 1\n"),
+        (SHIFT_REGISTER, b"1\n\n", b"tests: line 2\n"),
+        (S27, b"1100\n11x0\n", b"tests: line 2\n"),
     ];
-    for (tests, line) in table {
-        let mut desk = desk_of(alloc, SHIFT_REGISTER, tests)?;
+    for (netlist, tests, line) in table {
+        let mut desk = desk_of(alloc, netlist, tests)?;
         refuse(&rt, alloc, &mut desk, SIM, 7, line)?;
     }
     Ok(())

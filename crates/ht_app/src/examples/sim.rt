@@ -1,6 +1,7 @@
 // `sim` finishes.
 
-use super::desks::{SHIFT_REGISTER, SIM, desk_of, finish};
+use super::desks::{S27, SHIFT_REGISTER, SIM, desk_of, finish, words_of};
+use crate::run;
 use std::alloc::Global;
 use std::test::Fail;
 
@@ -15,41 +16,7 @@ const SHIFT_REGISTER_REPORT: &[u8] =
 total 6 detected 3
 ";
 
-const S27: &[u8] = b"# s27
-# 4 inputs
-# 1 outputs
-# 3 D-type flipflops
-# 2 inverters
-# 8 gates (1 ANDs + 1 NANDs + 2 ORs + 4 NORs)
-
-INPUT(G0)
-INPUT(G1)
-INPUT(G2)
-INPUT(G3)
-
-OUTPUT(G17)
-
-G5 = DFF(G10)
-G6 = DFF(G11)
-G7 = DFF(G13)
-
-G14 = NOT(G0)
-G17 = NOT(G11)
-
-G8 = AND(G14, G6)
-
-G15 = OR(G12, G8)
-G16 = OR(G3, G8)
-
-G9 = NAND(G16, G15)
-
-G10 = NOR(G14, G11)
-G11 = NOR(G5, G9)
-G12 = NOR(G1, G7)
-G13 = NOR(G2, G12)
-";
-
-const S27_REPORT: &[u8] = b"circuit inputs 4 outputs 1 flip-flops 3 gates 10 faults 34 classes 34
+const S27_REPORT: &[u8] = b"circuit inputs 4 outputs 1 flip-flops 3 gates 10 faults 52 classes 32
 1 G0 s-a-0 undetected
 2 G0 s-a-1 undetected
 3 G1 s-a-0 undetected
@@ -63,28 +30,46 @@ const S27_REPORT: &[u8] = b"circuit inputs 4 outputs 1 flip-flops 3 gates 10 fau
 11 G6 s-a-0 undetected
 12 G6 s-a-1 undetected
 13 G7 s-a-0 undetected
-14 G7 s-a-1 undetected
-15 G14 s-a-0 undetected
-16 G14 s-a-1 undetected
+14 G7 s-a-1 as 4
+15 G14 s-a-0 as 2
+16 G14 s-a-1 as 1
 17 G17 s-a-0 detected 1 G17
 18 G17 s-a-1 undetected
-19 G8 s-a-0 undetected
+19 G8 s-a-0 as 11
 20 G8 s-a-1 undetected
-21 G15 s-a-0 undetected
+21 G15 s-a-0 as 10
 22 G15 s-a-1 undetected
-23 G16 s-a-0 undetected
-24 G16 s-a-1 undetected
+23 G16 s-a-0 as 10
+24 G16 s-a-1 as 8
 25 G9 s-a-0 undetected
-26 G9 s-a-1 undetected
+26 G9 s-a-1 as 10
 27 G10 s-a-0 undetected
 28 G10 s-a-1 undetected
-29 G11 s-a-0 undetected
+29 G11 s-a-0 as 10
 30 G11 s-a-1 detected 1 G17
-31 G12 s-a-0 undetected
+31 G12 s-a-0 as 4
 32 G12 s-a-1 undetected
-33 G13 s-a-0 undetected
+33 G13 s-a-0 as 6
 34 G13 s-a-1 undetected
-total 34 detected 2
+35 G6(1) s-a-0 undetected
+36 G6(1) s-a-1 undetected
+37 G17(1) s-a-0 as 18
+38 G17(1) s-a-1 as 17
+39 G8(1) s-a-0 as 11
+40 G8(1) s-a-1 undetected
+41 G15(1) s-a-0 undetected
+42 G15(1) s-a-1 as 22
+43 G15(2) s-a-0 undetected
+44 G15(2) s-a-1 as 22
+45 G16(2) s-a-0 undetected
+46 G16(2) s-a-1 as 8
+47 G10(1) s-a-0 undetected
+48 G10(1) s-a-1 as 27
+49 G10(2) s-a-0 undetected
+50 G10(2) s-a-1 as 27
+51 G13(2) s-a-0 undetected
+52 G13(2) s-a-1 as 6
+total 32 detected 2
 ";
 
 const EMPTY_REPORT: &[u8] =
@@ -100,11 +85,21 @@ fn good_inputs_give_the_report(rt: HostRuntime) -> Result<(), Fail> {
         (SHIFT_REGISTER, b"1\n0\n0\n", SHIFT_REGISTER_REPORT, three),
         (crlf, b"1\r\n0\r\n0", SHIFT_REGISTER_REPORT, three),
         (b"", b"", EMPTY_REPORT, none),
-        (S27, b"1100\n", S27_REPORT, b"total 34 detected 2\n"),
+        (S27, b"1100\n", S27_REPORT, b"total 32 detected 2\n"),
     ];
     for (netlist, tests, report, total) in table {
         let mut desk = desk_of(alloc, netlist, tests)?;
         finish(&rt, alloc, &mut desk, SIM, report, total)?;
     }
+    Ok(())
+}
+
+#[test]
+fn without_vectors_nothing_is_detected(rt: HostRuntime) -> Result<(), Fail> {
+    let alloc = rt.alloc();
+    let words = words_of(alloc, SIM)?;
+    let mut desk = desk_of(alloc, S27, b"")?;
+    assert_eq!(rt; run(alloc, &words, &mut desk), 0);
+    assert_eq!(rt; desk.out(), b"total 32 detected 0\n".as_slice());
     Ok(())
 }

@@ -1,32 +1,27 @@
-use Rattle.std.proofs.Common.{◌≤◌, ◌+◌, List, Option, length, take, sym, subst, arith}
-use Rattle.std.proofs.lemmas.List.{take_all}
-use Rattle.ht_tern.specs.Gate.{AllRelated}
-use Rattle.ht_net.specs.declared.site.Fault.{Fault}
-use Rattle.ht_net.specs.declared.site.Place.{Place}
-use Rattle.ht_net.specs.Faults.{stem_faults_of}
+use Rattle.std.proofs.Common.{◌∷◌, [], length, sym, subst, ap, arith}
+use Rattle.std.proofs.lemmas.List.{length-append}
+use Rattle.ht_net.specs.Netlist.{IsCircuit}
 use Rattle.ht_net.specs.Detection.{IsFirstDetection}
 use Rattle.ht_serial.specs.TestSession.{TestSession}
-use Rattle.ht_texts.proofs.ReportLaws.{fault_count_is}
-use Rattle.ht_app.proofs.Places.{related_more}
+use Rattle.ht_collapse.specs.Classes.{fault_at}
+use Rattle.ht_app.specs.Simulation.{AreFirstSoFar}
+use Rattle.ht_app.proofs.Places.{one_more}
 use Rattle.ht_app.proofs.simulation.detections.Goals as goal
 
-pub loop-index-preserved : goal.loop-index-preserved
-loop-index-preserved c =
-    let circuit = c.args.circuit.now in
-    let list = c.args.list.now.list in
-    let i = c.loop-index.index in
-    let fault = c.stem_fault.result in
-    let place = c.in_ok-place.place in
-    let R : Fault → Option Place → Type 0 = λ f p. IsFirstDetection circuit f list p in
-    let moved : R fault place = subst (λ (s : TestSession). IsFirstDetection s.circuit fault s.list place) c.in_ok-good.ensures c.in_ok-place.ensures.first in
-    let one = subst (λ (f : Fault). R f place) (sym (c.stem_fault.ensures.fault.is fault)) moved in
-    let all = related_more R (stem_faults_of circuit) c.loop-index.places.items i fault place c.stem_fault.ensures.fault.within c.loop-index.invariant one in
-    subst (λ (l : List (Option Place)). AllRelated R (take (i + 1) (stem_faults_of circuit)) l) (sym c.in_ok-push.ensures.items) all
+pub place_of-requires-clause-circuit : goal.place_of-requires-clause-circuit
+place_of-requires-clause-circuit c =
+    subst (λ (s : TestSession). IsCircuit s.circuit) (sym c.in_ok-good.ensures) c.requires.circuit
 
-pub returns : goal.returns
-returns c =
+pub loop-i-preserved : goal.loop-i-preserved
+loop-i-preserved c =
     let circuit = c.args.circuit.now in
     let list = c.args.list.now.list in
-    let i = c.loop-index.index in
-    let end : length (stem_faults_of circuit) ≤ i = omega (arith, fault_count_is circuit, c.nets-index-end.ensures.count, c.loop-index-test.false) in
-    subst (λ (l : List Fault). AllRelated (λ f p. IsFirstDetection circuit f list p) l c.loop-index.places.items) (take_all i (stem_faults_of circuit) end) c.loop-index.invariant
+    let i = c.loop-i.i in
+    let places = c.loop-i.places.items in
+    let place = c.in_ok-place.place in
+    let first = subst (λ (s : TestSession). IsFirstDetection s.circuit (fault_at s.circuit i) s.list place) c.in_ok-good.ensures c.in_ok-place.ensures in
+    let more = one_more circuit list places place i c.loop-i.invariant.so_far c.loop-i.invariant.count first in
+    record {
+      count = omega (arith, ap length c.in_ok-push.ensures.items, length-append places (place ∷ []), c.loop-i.invariant.count);
+      so_far = subst (AreFirstSoFar circuit list) (sym c.in_ok-push.ensures.items) more;
+    }

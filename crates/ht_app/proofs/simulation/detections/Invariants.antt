@@ -1,8 +1,9 @@
-use Rattle.std.proofs.Common.{take}
-use Rattle.ht_tern.specs.Gate.{AllRelated}
-use Rattle.ht_net.specs.Faults.{stem_faults_of}
-use Rattle.ht_net.specs.Detection.{IsFirstDetection}
+use Rattle.std.proofs.Common.{◌≡◌, length}
+use Rattle.ht_app.specs.Simulation.{AreFirstSoFar}
 use Rattle.ht_app.proofs.simulation.detections.Given as goal
 
-abbrev pub invariant-loop-index : goal.invariant-loop-index
-invariant-loop-index l = AllRelated (λ fault place. IsFirstDetection l.circuit fault l.list.list place) (take l.index (stem_faults_of l.circuit)) l.places.items
+abbrev pub invariant-loop-i : goal.invariant-loop-i
+invariant-loop-i l = record {
+  count : length l.places.items ≡ l.i;
+  so_far : AreFirstSoFar l.circuit l.list.list l.places.items;
+}
