@@ -76,7 +76,7 @@ pub fn body_of(
     requires places { ArePlaces circuit.now places.now }
     ensures { IfOk result (λ body. body.items ≡ report_body circuit.now classes.now places.now) }
 {
-    let mut body = write_head(alloc, circuit, faults, classes)?;
+    let mut body = write_head(alloc, circuit, classes)?;
     for i in 0..faults.len() {
         let said = Said::of(places[i as usize]);
         push_fault(&mut body, circuit, faults, classes, i, said)?;

@@ -205,6 +205,14 @@ module _ (text : List ℕ) (d : Draft) (is : IsRead text d) where
         let some = cycle.some in
         record {
           some = omega (arith, count, some);
+          distinct = λ j k less lt same.
+              let inner : k < length nets = omega (arith, count, lt) in
+              let before : j < length nets = omega (arith, less, inner) in
+              let texts : draft_name d (get_or nets j no_name) ≡ draft_name d (get_or nets k no_name) = sym (at j before) ∙ (same ∙ at k inner) in
+              let numbers : (get_or nets j no_name).0 ≡ (get_or nets k no_name).0 =
+              sym (place_is (get_or nets j no_name) (known_net j before)) ∙ (ap (place_of is.statements) texts ∙ place_is (get_or nets k no_name) (known_net k inner)) in
+              let named : ℕ → NameId = λ n. record { 0 = n } in
+              cycle.distinct j k less inner (ap named numbers);
           next = λ k lt.
               let inner : k + 1 < length nets = omega (arith, count, lt) in
               rw (at k (omega arith), at (k + 1) inner) (feeds_by_name (get_or nets k no_name) (get_or nets (k + 1) no_name) (cycle.next k inner)).1;

@@ -1,5 +1,5 @@
 -- What is judged behind the last line: nets that no line drives, and cycles of gates.
-use Rattle.std.specs.Prelude.{◌≡◌, ℕ, ◌+◌, ◌-◌, ◌<◌, ◌≤◌, List, [], ◌∷◌, ◌++◌, length, get_or, All, Contains}
+use Rattle.std.specs.Prelude.{◌≡◌, ◌≢◌, ℕ, ◌+◌, ◌-◌, ◌<◌, ◌≤◌, List, [], ◌∷◌, ◌++◌, length, get_or, All, Contains}
 use Rattle.ht_net.specs.Named.{Name, NamedGate}
 use Rattle.ht_statement.specs.Statement.{Statement, names_in}
 use Rattle.ht_bench.specs.Contents.{driven_in, driven_by, mentions_of, gates_of, place_of}
@@ -29,10 +29,11 @@ pub record Feeds (statements : List Statement) (a b : Name) : Type 0 where
   pub out : gate.out ≡ b
   pub arg : Contains gate.args a
 
--- each net is an argument of the gate that drives the next, and the last of the gate that drives the first; the first is
--- the least by first mention
+-- different nets: each is an argument of the gate that drives the next, and the last of the gate that drives the first;
+-- the first is the least by first mention
 pub record IsCycle (statements : List Statement) (cycle : List Name) : Type 0 where
   pub some : 0 < length cycle
+  pub distinct : (j k : ℕ) → j < k → k < length cycle → get_or cycle j [] ≢ get_or cycle k []
   pub next : (k : ℕ) → k + 1 < length cycle → Feeds statements (get_or cycle k []) (get_or cycle (k + 1) [])
   pub closes : Feeds statements (get_or cycle (length cycle - 1) []) (get_or cycle 0 [])
   pub least : (k : ℕ) → k < length cycle → place_of statements (get_or cycle 0 []) ≤ place_of statements (get_or cycle k [])

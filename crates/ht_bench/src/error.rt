@@ -31,8 +31,9 @@ pub enum BenchError {
     /// No line drives this net: the leftmost such net on the first line that mentions one.
     #[error("line {line}: undriven")]
     Undriven { line: u32, name: Vec<u8> },
-    /// Gates form a cycle: each net is an argument of the gate that drives the next, and the last of the gate that drives
-    /// the first. The net that is mentioned first in the text is first, and the line is the one that drives it.
+    /// Gates form a cycle. These are different nets: each is an argument of the gate that drives the next, and the last of
+    /// the gate that drives the first. The net that is mentioned first in the text is first, and the line is the one that
+    /// drives it.
     #[error("line {line}: loop")]
     Loop { line: u32, names: Vec<Vec<u8>> },
     #[error("out of memory")]

@@ -25,7 +25,7 @@ use Rattle.ht_net.specs.DraftOf.{Agrees}
 use Rattle.ht_net.specs.Named.{name_of}
 use Rattle.ht_net.specs.Built.{net_of, draft_name, draft_gates, circuit_of, AllDriven}
 use Rattle.ht_net.specs.Finish.{Feeds, IsNameCycle}
-use Rattle.ht_net.proofs.NetLaws.{net_at, net_of_below, name_at_net}
+use Rattle.ht_net.proofs.NetLaws.{net_at, net_of_below, name_at_net, driver_net}
 
 pub gate_args : (d : Draft) (g : ℕ) → g < length d.gates → args_of (draft_gates d) g ≡ map (net_of d) (get_or d.gates g no_part).args
 gate_args d g h = ap (λ (x : Rattle.ht_net.specs.Netlist.Gate). x.args) (get_or-map (λ (p : GatePart). record { kind = p.kind; args = map (net_of d) p.args }) d.gates g no_part no_gate h)
@@ -152,7 +152,7 @@ module _ (d : Draft) (drivers : List Driver) (a : Agrees d.inputs Input drivers)
       let p = driven_known x k in
       let q = driven_known y l' in
       let e : get_or d.names (get_or (driven_names d) x no_name).0 [] ≡ get_or d.names (get_or (driven_names d) y no_name).0 [] = sym (driven_name_at x k) ∙ (same ∙ driven_name_at y l') in
-      let net : ℕ → ℕ = λ n. Rattle.ht_net.proofs.NetLaws.driver_net d (get_or drivers n Free) in
+      let net : ℕ → ℕ = λ n. driver_net d (get_or drivers n Free) in
       let apart : (get_or (driven_names d) x no_name).0 ≢ (get_or (driven_names d) y no_name).0 =
       λ is. let z : x ≡ y = sym (net_at d drivers a b c x k) ∙ (ap net is ∙ net_at d drivers a b c y l') in absurd (omega arith) in
       elim (cases_lt (get_or (driven_names d) x no_name).0 (get_or (driven_names d) y no_name).0) [
@@ -229,6 +229,17 @@ module _ (d : Draft) (drivers : List Driver) (a : Agrees d.inputs Input drivers)
             ∙ (ap (λ (k : ℕ). get_or (driven_names d) k no_name) net ∙ gate_name d h below);
       }
 
+  -- gates that drive one name are one gate
+  gates_differ : (g h : ℕ) → g < length d.gates → h < length d.gates → (get_or d.gates g no_part).out ≡ (get_or d.gates h no_part).out → g ≡ h
+  gates_differ g h inside below same =
+      let long = length_driven d in
+      let net : NameId → ℕ = λ n. driver_net d (get_or drivers n.0 Free) in
+      let names : get_or (driven_names d) (length d.inputs + length d.dffs + g) no_name ≡ get_or (driven_names d) (length d.inputs + length d.dffs + h) no_name =
+      gate_name d g inside ∙ (same ∙ sym (gate_name d h below)) in
+      let z : length d.inputs + length d.dffs + g ≡ length d.inputs + length d.dffs + h =
+      sym (net_at d drivers a b c (length d.inputs + length d.dffs + g) (omega arith)) ∙ (ap net names ∙ net_at d drivers a b c (length d.inputs + length d.dffs + h) (omega arith)) in
+      omega arith
+
   pub name_cycle : (cycle : List ℕ) → IsCycle (length d.inputs + length d.dffs) (draft_gates d) cycle
       → IsNameCycle d (map (λ (g : ℕ). (get_or d.gates g no_part).out) cycle)
   name_cycle cycle h =
@@ -241,6 +252,10 @@ module _ (d : Draft) (drivers : List Driver) (a : Agrees d.inputs Input drivers)
       let some = h.some in
       record {
         some = omega arith;
+        distinct = λ j k less l same.
+            let l' : k < length cycle = omega arith in
+            let j' : j < length cycle = omega arith in
+            h.distinct j k less l' (gates_differ _ _ (known j j') (known k l') (sym (at j j') ∙ (same ∙ at k l')));
         next = λ k l.
             let l' : k + 1 < length cycle = omega arith in
             rw (at k (omega arith), at (k + 1) l') (feeds _ _ (known (k + 1) l') (known k (omega arith)) (h.next k l'));

@@ -35,6 +35,21 @@ turned_cycle d m xs h c =
     let n : ℕ = length xs in
     record {
       some = omega (arith, long);
+      distinct = λ j k less l0 same.
+          let l : k < length xs = omega (arith, long) in
+          elim (cases_lt k (length xs - m)) [
+            | inl early ↦
+                c.distinct (m + j) (m + k) (omega arith) (omega arith)
+                (sym (turned_early m j xs h (omega arith)) ∙ (same ∙ turned_early m k xs h early))
+            | inr late ↦ elim (cases_lt j (length xs - m)) [
+              | inl before ↦
+                  c.distinct (k - (length xs - m)) (m + j) (omega arith) (omega arith)
+                  (sym (turned_late m k xs h late l) ∙ (sym same ∙ turned_early m j xs h before))
+              | inr past ↦
+                  c.distinct (j - (length xs - m)) (k - (length xs - m)) (omega arith) (omega arith)
+                  (sym (turned_late m j xs h past (omega arith)) ∙ (same ∙ turned_late m k xs h late l))
+            ]
+          ];
       next = λ k l0.
           let l : k + 1 < length xs = omega (arith, long) in
           elim (cases_lt (k + 1) (length xs - m)) [

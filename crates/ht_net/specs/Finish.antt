@@ -1,5 +1,5 @@
 -- When a draft is no circuit.
-use Rattle.std.specs.Prelude.{◌≡◌, ℕ, List, ◌+◌, ◌-◌, ◌<◌, ◌≤◌, length, get_or}
+use Rattle.std.specs.Prelude.{◌≡◌, ◌≢◌, ℕ, List, ◌+◌, ◌-◌, ◌<◌, ◌≤◌, length, get_or}
 use Rattle.ht_net.specs.declared.names.NameId.{NameId}
 use Rattle.ht_net.specs.declared.error.NetError.{NetError}
 use Rattle.ht_net.specs.declared.error.NetError.TheVariants.{Undriven, Loop, NoMemory}
@@ -16,9 +16,10 @@ pub record Feeds (d : Draft) (a b : NameId) : Type 0 where
   pub is_pin : pin < length (part_at d gate).args
   pub arg : get_or (part_at d gate).args pin no_name ≡ a
 
--- each name is an argument of the gate that drives the next, and the last of the gate that drives the first
+-- different names: each is an argument of the gate that drives the next, and the last of the gate that drives the first
 pub record IsNameCycle (d : Draft) (cycle : List NameId) : Type 0 where
   pub some : 0 < length cycle
+  pub distinct : (j k : ℕ) → j < k → k < length cycle → get_or cycle j no_name ≢ get_or cycle k no_name
   pub next : (k : ℕ) → k + 1 < length cycle → Feeds d (get_or cycle k no_name) (get_or cycle (k + 1) no_name)
   pub closes : Feeds d (get_or cycle (length cycle - 1) no_name) (get_or cycle 0 no_name)
 

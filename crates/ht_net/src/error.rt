@@ -20,8 +20,8 @@ pub enum NetError {
     TooMany { what: Limit },
     /// Nothing drives the name, which is the least of these.
     Undriven { name: NameId },
-    /// Gates form a cycle: each name is an argument of the gate that drives the next, and the last of the first's. The
-    /// least name is first.
+    /// Gates form a cycle. These are different names: each is an argument of the gate that drives the next, and the last
+    /// of the first's. The least name is first.
     Loop { nets: Vec<NameId> },
     /// There is no memory.
     NoMemory,

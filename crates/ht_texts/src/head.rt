@@ -1,12 +1,11 @@
 // The head line of a report.
 ghost use Rattle.std.specs.Prelude.{◌≡◌, ◌++◌, IfOk, OnOk};
-ghost use Rattle.ht_faults.specs.Sites.{faults_of};
+ghost use Rattle.ht_collapse.specs.Classes.{AreClasses};
 ghost use Rattle.ht_texts.specs.Reports.{circuit_sizes, fault_sizes, head_line};
 
 use crate::counting::count_classes;
 use crate::number::push_counted;
 use ht_collapse::Classes;
-use ht_faults::FaultList;
 use ht_net::Circuit;
 use std::alloc::{AllocError, Global};
 
@@ -15,15 +14,14 @@ use std::alloc::{AllocError, Global};
 pub fn write_head(
     alloc: Global,
     circuit: &Circuit,
-    faults: &FaultList,
     classes: &Classes,
 ) -> Result<Vec<u8>, AllocError>
-    requires faults { faults.now ≡ faults_of circuit.now }
+    requires classes { AreClasses circuit.now classes.now }
     ensures { IfOk result (λ line. line.items ≡ head_line circuit.now classes.now) }
 {
     let mut line = Vec::new(alloc);
     push_circuit_sizes(&mut line, circuit)?;
-    push_counted(&mut line, b" faults ", faults.len())?;
+    push_counted(&mut line, b" faults ", classes.len())?;
     push_counted(&mut line, b" classes ", count_classes(classes))?;
     line.extend_from_slice(b"\n")?;
     Ok(line)

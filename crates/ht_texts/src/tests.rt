@@ -58,7 +58,7 @@ fn report(rt: HostRuntime) -> Result<(), Fail> {
 fn report_of(alloc: Global, circuit: &Circuit) -> Result<Vec<u8>, AllocError> {
     let faults = list(alloc, circuit)?;
     let classes = collapse(alloc, circuit, &faults)?;
-    let mut text = write_head(alloc, circuit, &faults, &classes)?;
+    let mut text = write_head(alloc, circuit, &classes)?;
     for i in 0..faults.len() {
         push_fault(&mut text, circuit, &faults, &classes, i, said(circuit, i))?;
     }
