@@ -57,7 +57,7 @@ fn work<D: Desk>(alloc: Global, words: &[String], desk: &mut D) -> Result<(), Tr
     }
 }
 
-/// Runs the command that the words ask for, over a device, and answers the status. The words are those after the
+/// Runs the command that the words ask for, over a desk, and answers the status. The words are those after the
 /// program's name, as `clap` takes them.
 ///
 /// | Words | Work |
@@ -70,13 +70,13 @@ fn work<D: Desk>(alloc: Global, words: &[String], desk: &mut D) -> Result<(), Tr
 /// | 0 | the command finished |
 /// | 2 | exactly where the words have none of the forms |
 /// | 3 | exactly where the netlist was read, and is refused or too long |
-/// | 4 | only where the device's count of faults of reading rose |
+/// | 4 | only where the desk's count of faults of reading rose |
 /// | 5 | only where its count of faults of writing rose |
 /// | 6 | want of memory |
-/// | 7 | `sim` alone, exactly where the tests are malformed |
+/// | 7 | `sim` alone, exactly where the netlist is accepted and the tests are malformed |
 ///
-/// Each "exactly where" yields to want of memory and to a counted fault. A status other than 0 says why in one line on
-/// Err; where that write fails the status stays.
+/// "Exactly where" yields in 2 to want of memory, and in 3 and 7 to want of memory and to a counted fault of reading. A
+/// status other than 0 says why in one line on Err; where that write fails the status stays.
 pub fn run<D: Desk>(alloc: Global, words: &[String], desk: &mut D) -> u8
     // What a status says, and what stands behind it.
     ensures done { result ≡ 0 → AskedIsDone (asked (texts_of words.now)) (D.view desk.old) (D.view desk.new) }

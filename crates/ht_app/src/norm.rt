@@ -23,9 +23,7 @@ fn normal_text<D: Desk>(alloc: Global, netlist: &str, desk: &mut D) -> Result<Ve
     ensures cause { IfErr result (NetlistCause netlist.now (D.view desk.old) (D.view desk.new)) }
 {
     let circuit = read_netlist(alloc, desk, netlist)?;
-    let Ok(text) = write(alloc, &circuit) else {
-        return Err(Trouble::NoMemory);
-    };
+    let text = write(alloc, &circuit)?;
     Ok(text)
 }
 

@@ -56,9 +56,7 @@ fn simulate<D: Desk>(
 {
     let circuit = read_netlist(alloc, desk, netlist)?;
     let list = read_tests(alloc, desk, tests, &circuit)?;
-    let Ok(texts) = texts_of(alloc, &circuit, &list) else {
-        return Err(Trouble::NoMemory);
-    };
+    let texts = texts_of(alloc, &circuit, &list)?;
     Ok(texts)
 }
 

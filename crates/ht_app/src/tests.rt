@@ -13,7 +13,7 @@ use ht_ports::{Desk, Failed, InPort, LineFault, Lines};
 use ht_texts::read_vector;
 use std::alloc::{AllocError, Global};
 
-/// More bytes than a vector of any circuit has: a longer line is malformed.
+/// The most bytes of a vector's line, since a circuit has at most 4,096 inputs. A longer line is malformed.
 const MOST_BYTES: u32 = 4_096;
 
 // Adds the vector whose text the line is; false where no vector has it.
@@ -49,9 +49,7 @@ pub fn read_tests<D: Desk>(
     if let Err(Failed) = desk.open(InPort::Tests, name) {
         return Err(Trouble::ReadFault);
     }
-    let Ok(mut lines) = Lines::new(alloc, InPort::Tests, MOST_BYTES) else {
-        return Err(Trouble::NoMemory);
-    };
+    let mut lines = Lines::new(alloc, InPort::Tests, MOST_BYTES)?;
     let mut list = Vectors::new(alloc, circuit.inputs());
     'lines: loop {
         match lines.next(desk) {

@@ -1,5 +1,5 @@
 //! Taking bytes from the front of what is left of a text.
-ghost use Rattle.std.specs.Prelude.{◌≡◌, ◌<◌, ◌≤◌, ◌+◌, ◌^◌, ◌++◌, [], length, take, drop};
+ghost use Rattle.std.specs.Prelude.{◌≡◌, ◌<◌, ◌≤◌, ◌+◌, ◌^◌, ◌++◌, [], length, take, drop, min};
 
 /// Copies what stands in `from` behind its first `taken` bytes, as much as fits
 /// into `buf`, and says how many bytes these were.
@@ -7,6 +7,7 @@ pub fn copy_front(from: &[u8], taken: usize, buf: &mut [u8]) -> usize
     ensures bound { result ≤ length buf.new }
     ensures fits { taken + result < 2 ^ 64 }
     ensures copied { drop taken from.now ≡ take result buf.new ++ drop (taken + result) from.now }
+    ensures all { result ≡ min (length (drop taken from.now)) (length buf.old) }
     ensures none { result ≡ 0 → 0 < length buf.old → drop taken from.now ≡ [] }
 {
     if taken >= from.len() {
@@ -21,7 +22,7 @@ fn copy_some(from: &[u8], buf: &mut [u8]) -> usize
     ensures bound { result ≤ length buf.new }
     ensures within { result ≤ length from.now }
     ensures copied { take result buf.new ≡ take result from.now }
-    ensures none { result ≡ 0 → 0 < length buf.old → length from.now ≡ 0 }
+    ensures all { result ≡ min (length from.now) (length buf.old) }
 {
     let count = from.len().min(buf.len());
     buf[..count].copy_from_slice(&from[..count]);

@@ -1,4 +1,4 @@
-//! FileMap in memory: their bytes by their names.
+//! Files in memory: their bytes by their names.
 ghost use Rattle.std.specs.Prelude.{◌≡◌, ◌≢◌, ◌++◌, List, ℕ, OnOk, OnErr, IfOk, IfSome, Some};
 ghost use Rattle.ht_ports.specs.Memory.{file_of};
 
