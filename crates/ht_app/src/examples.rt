@@ -2,6 +2,7 @@
 
 mod desks;
 mod faults;
+mod memory;
 mod norm;
 mod refusals;
 mod sim;

@@ -1,4 +1,4 @@
-//! What a device has to keep.
+//! What a desk has to keep.
 ghost use Rattle.std.specs.Prelude.{◌<◌, List, ℕ, length, take, OnOk, OnErr, IfOk, IsTrue, IsSome};
 ghost use Rattle.std.specs.Io.{ReadsAtMost, WritesAtMost};
 ghost use Rattle.ht_ports.specs.Desk.{DeskView, InCall, OutCall, Reads, Writes, Opened, NotOpened, Created, NotCreated, Took, NotRead, Added, NotWritten, IsWritable};

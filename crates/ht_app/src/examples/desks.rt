@@ -14,6 +14,18 @@ pub const NORM: &[&str] = &["norm", "n", "r"];
 /// The shift register: two flip-flops between an input and an output.
 pub const SHIFT_REGISTER: &[u8] = b"INPUT(a)\nOUTPUT(r)\nq = DFF(a)\nr = DFF(q)\n";
 
+/// Its report under the vectors 1, 0, 0.
+pub const SHIFT_REGISTER_REPORT: &[u8] =
+    b"circuit inputs 1 outputs 1 flip-flops 2 gates 0 faults 6 classes 6
+1 a s-a-0 detected 3 r
+2 a s-a-1 undetected
+3 q s-a-0 detected 3 r
+4 q s-a-1 undetected
+5 r s-a-0 detected 3 r
+6 r s-a-1 undetected
+total 6 detected 3
+";
+
 /// s27 as it is known, with its header.
 pub const S27: &[u8] = b"# s27
 # 4 inputs

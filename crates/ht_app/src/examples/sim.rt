@@ -1,19 +1,8 @@
 // `sim` finishes.
 
-use super::desks::{S27, SHIFT_REGISTER, SIM, desk_of, finish};
+use super::desks::{S27, SHIFT_REGISTER, SHIFT_REGISTER_REPORT, SIM, desk_of, finish};
 use std::alloc::{AllocError, Global};
 use std::test::Fail;
-
-const SHIFT_REGISTER_REPORT: &[u8] =
-    b"circuit inputs 1 outputs 1 flip-flops 2 gates 0 faults 6 classes 6
-1 a s-a-0 detected 3 r
-2 a s-a-1 undetected
-3 q s-a-0 detected 3 r
-4 q s-a-1 undetected
-5 r s-a-0 detected 3 r
-6 r s-a-1 undetected
-total 6 detected 3
-";
 
 // The report of s27, but for the two faults that the vector 1100 shows: fault 17 stands behind the first of these texts,
 // and fault 30 behind the second.
