@@ -1,6 +1,6 @@
 -- The good machine and a machine with one stuck line, over any domain of values.
 use Rattle.std.specs.Prelude.{ℕ, List, [], ◌∷◌, Bool, true, false, ◌&&◌, cond, eqb, Option, Some, None}
-use Rattle.std.specs.List.{flat_map, range_with_len}
+use Rattle.std.specs.List.{range_with_len}
 use Rattle.std.specs.Prelude.{map}
 use Rattle.ht_tern.specs.declared.tern.Tern.{Tern}
 use Rattle.ht_tern.specs.declared.tern.Tern.TheVariants.{Unk}
@@ -51,12 +51,10 @@ tern_rules fault = rules_of Unk gate_value (λ bit v. tern_of bit) fault
 abbrev pub bool_rules : Option Fault → Rules Bool
 bool_rules fault = rules_of false bool_gate_value (λ bit v. bit) fault
 
--- The fault list: each site with stuck-at-0 and then stuck-at-1, stems by the number of the net.
+-- The two faults of a site: stuck-at-0 and then stuck-at-1.
 abbrev pub site_faults : Site → List Fault
 site_faults site = record { site = site; value = false } ∷ record { site = site; value = true } ∷ []
 
+-- the stem of each net, by the number of the net
 abbrev pub stems_of : Netlist → List Site
 stems_of c = map (λ x. Stem (record { 0 = x })) (range_with_len 0 (net_count c))
-
-abbrev pub stem_faults_of : Netlist → List Fault
-stem_faults_of c = flat_map site_faults (stems_of c)

@@ -81,7 +81,7 @@ impl Builder {
 
     /// The number of a name; a new name gets the next number.
     ///
-    /// `TooMany` of `Nets` where the name is new and there are 65,535.
+    /// `TooMany` of `Nets` where the name is new and there are 65,535; `NoMemory` where memory runs out.
     pub fn net(&mut self, name: &[u8]) -> Result<NameId, NetError>
         ensures named { IfOk result (λ id. IsNameAt self.new.names id.0 name.now) }
         ensures known { OnOk result (¬ IsNewName self.old.names name.now → self.new ≡ self.old) }
@@ -119,7 +119,7 @@ impl Builder {
 
     /// Adds an input.
     ///
-    /// `Twice` where the name is driven; else `TooMany` of `Inputs` where there are 4,096.
+    /// `Twice` where the name is driven; else `TooMany` of `Inputs` where there are 4,096; `NoMemory` where memory runs out.
     pub fn input(&mut self, name: NameId) -> Result<(), NetError>
         requires { IsName self.old name }
         ensures ok { OnOk result (self.new ≡ record self.old { inputs = self.old.inputs ++ name ∷ [] }) }
@@ -144,6 +144,8 @@ impl Builder {
     }
 
     /// Adds an output, or nothing if the name is one.
+    ///
+    /// `NoMemory` where memory runs out.
     pub fn output(&mut self, name: NameId) -> Result<(), NetError>
         requires { IsName self.old name }
         ensures known { OnOk result (Contains self.old.outputs name → self.new ≡ self.old) }
@@ -160,7 +162,7 @@ impl Builder {
     /// Adds a flip-flop.
     ///
     /// `Twice` where its output is driven; else `TooMany` of `Pins` where there are 262,144 pins, and of `Dffs` where there
-    /// are 16,384 flip-flops.
+    /// are 16,384 flip-flops; `NoMemory` where memory runs out.
     pub fn dff(&mut self, out: NameId, pin: NameId) -> Result<(), NetError>
         requires out { IsName self.old out }
         requires pin { IsName self.old pin }
@@ -189,7 +191,8 @@ impl Builder {
 
     /// Adds a gate with 1 to 255 arguments, one for NOT and BUFF.
     ///
-    /// `Twice` where its output is driven; else `TooMany` of `Pins` where there would be more than 262,144 pins.
+    /// `Twice` where its output is driven; else `TooMany` of `Pins` where there would be more than 262,144 pins;
+    /// `NoMemory` where memory runs out.
     pub fn gate(&mut self, kind: Kind, out: NameId, args: &[NameId]) -> Result<(), NetError>
         requires out { IsName self.old out }
         requires args { (i : ℕ) → i < length args.now → IsName self.old (get_or args.now i no_name) }

@@ -124,6 +124,16 @@ impl Circuit {
         self.dffs[j as usize]
     }
 
+    /// The net that a flip-flop drives.
+    pub fn dff_net(&self, j: u32) -> NetId
+        requires { j < length self.now.dffs }
+        ensures net { result.0 ≡ self.now.inputs + j }
+        ensures known { result.0 < net_count self.now }
+        ensures circuit { IsCircuit self.now }
+    {
+        NetId(self.inputs + j)
+    }
+
     /// The kind of a gate.
     pub fn gate_kind(&self, g: u32) -> Kind
         requires { g < length self.now.gates }
@@ -139,6 +149,16 @@ impl Circuit {
         ensures circuit { IsCircuit self.now }
     {
         self.gates.args(g as usize)
+    }
+
+    /// The net that a gate drives.
+    pub fn gate_net(&self, g: u32) -> NetId
+        requires { g < length self.now.gates }
+        ensures net { result.0 ≡ first_gate_net self.now + g }
+        ensures known { result.0 < net_count self.now }
+        ensures circuit { IsCircuit self.now }
+    {
+        NetId(self.inputs + self.dffs.len() as u32 + g)
     }
 
     /// The name of a net: the bytes as the netlist has them.

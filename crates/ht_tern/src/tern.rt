@@ -1,6 +1,6 @@
 // The three values and their operations.
 ghost use Rattle.std.specs.Prelude.{◌≡◌, IsTrue, ◌↔◌};
-ghost use Rattle.ht_tern.specs.Gate.{Refines, complement_of, and_of, or_of, xor_of};
+ghost use Rattle.ht_tern.specs.Gate.{Refines, complement_of, and_of, or_of, xor_of, tern_of};
 
 /// A value of a net: Zero and One are definite, Unk is unknown (Kleene logic).
 #[derive(Clone, Copy, PartialEq, Eq, Debug)]
@@ -8,6 +8,15 @@ pub enum Tern {
     Zero,
     One,
     Unk,
+}
+
+/// The definite value of a bit.
+impl From<bool> for Tern {
+    ghost from_gives = { λ bit v. v ≡ tern_of bit };
+
+    fn from(bit: bool) -> Tern {
+        if bit { Tern::One } else { Tern::Zero }
+    }
 }
 
 /// The complement: an unknown value stays unknown.

@@ -20,7 +20,8 @@ use std::alloc::{AllocError, AllocFailed, Global};
 impl Builder {
     /// The circuit.
     ///
-    /// `Undriven` with the least name that nothing drives; `Loop` where all are driven and gates form a cycle.
+    /// `Undriven` with the least name that nothing drives; `Loop` where all are driven and gates form a cycle; `NoMemory`
+    /// where memory runs out.
     pub fn finish(&self) -> Result<Circuit, NetError>
         ensures circuit { IfOk result (λ c. c ≡ circuit_of self.now) }
         ensures well_formed { IfOk result (λ c. IsCircuit c) }
