@@ -15,6 +15,7 @@ pub use laws::{
     each_fault_is_listed_once, exactly_the_sites_are_listed, fault_list_is_short,
     listed_faults_stand_on_sites,
 };
+pub use sites::has_fanout;
 
 #[cfg(test)]
 mod tests;

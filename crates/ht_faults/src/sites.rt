@@ -8,9 +8,9 @@ ghost use Rattle.ht_faults.specs.Sites.{data_pins_of, pins_of_gate, gate_pins_of
 use ht_net::{Circuit, NetId, Site};
 use std::alloc::{AllocError, Global};
 
-/// Whether a net has two or more loads.
+/// Whether a net has two or more loads, so that the pins that it drives have faults of their own.
 #[tactic(auto, unfolding(crate::specs::Sites::is_fanout))]
-fn has_fanout(circuit: &Circuit, net: NetId) -> bool
+pub fn has_fanout(circuit: &Circuit, net: NetId) -> bool
     requires { net.0 < net_count circuit.now }
     ensures { result ≡ is_fanout circuit.now net.0 }
 {

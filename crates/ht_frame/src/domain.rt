@@ -40,7 +40,7 @@ impl Domain for Tern {
     }
 
     fn stick(self, bit: bool) -> Tern {
-        if bit { Tern::One } else { Tern::Zero }
+        Tern::from(bit)
     }
 }
 

@@ -2,9 +2,9 @@
 //!
 //! A `Machine` is a circuit with at most one stuck line over three values, and a `BoolMachine` the same over two. A machine
 //! starts with every flip-flop unknown or from a state, and `step` runs one frame: the nets settle, the outputs show, and
-//! each flip-flop takes the value at its data pin. Both are one private `Simulator` over any domain of values. `GoodRun` keeps what the
-//! good machine shows over a list of vectors, and its `first_detection` runs a faulty machine up to the first vector and
-//! output where the two show opposite definite values (one observation time).
+//! each flip-flop takes the value at its data pin. Both are one private `Simulator` over any domain of values. `GoodRun`
+//! keeps what the good machine shows over a list of vectors, and its `first_detection` runs a faulty machine up to the
+//! first vector and output where the two show opposite definite values (one observation time).
 #![tactic(auto)]
 
 mod bool_machine;

@@ -38,7 +38,7 @@ fn fill(values: &mut [Tern], bits: &[bool])
     ensures { values.new ≡ terns_of bits.now }
 {
     for (i, bit) in bits.iter().enumerate() {
-        values[i] = if *bit { Tern::One } else { Tern::Zero };
+        values[i] = Tern::from(*bit);
     }
 }
 

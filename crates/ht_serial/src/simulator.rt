@@ -33,7 +33,7 @@ impl<'c, V: Domain> Model for Simulator<'c, V> {
     ghost invariant = { λ a. IsSized a.circuit.now a.values.items a.latches.items a.pins.items };
 }
 
-/// The same value so often.
+/// `count` copies of a value. Errs where memory runs out.
 pub fn filled<V: Copy>(alloc: Global, count: usize, value: V) -> Result<Vec<V>, AllocError>
     ensures { IfOk result (λ values. values.items ≡ replicate count value) }
 {
