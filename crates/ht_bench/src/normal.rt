@@ -55,11 +55,10 @@ fn push_dffs(text: &mut Vec<u8>, circuit: &Circuit) -> Result<(), AllocError>
     ensures { OnOk result (text.new.items ≡ text.old.items ++ statement_lines (map dff_statement (named_of circuit.now).dffs)) }
 {
     let nets = circuit.nets();
-    let first = circuit.inputs();
     for dff in 0..circuit.dffs() {
-        let out = NetId(first + dff);
+        let out = circuit.dff_net(dff);
         let data_pin = circuit.dff_data(dff);
-        prove!(out.0 < nets && data_pin.0 < nets);
+        prove!(data_pin.0 < nets);
         push_dff(text, circuit.name(out), circuit.name(data_pin))?;
     }
     Ok(())
@@ -70,11 +69,8 @@ fn push_dffs(text: &mut Vec<u8>, circuit: &Circuit) -> Result<(), AllocError>
 fn push_gates(text: &mut Vec<u8>, circuit: &Circuit) -> Result<(), AllocError>
     ensures { OnOk result (text.new.items ≡ text.old.items ++ statement_lines (map gate_statement (named_of circuit.now).gates)) }
 {
-    let nets = circuit.nets();
-    let first = circuit.inputs() + circuit.dffs();
     for gate in 0..circuit.gates() {
-        let out = NetId(first + gate);
-        prove!(out.0 < nets);
+        let out = circuit.gate_net(gate);
         let args = circuit.gate_args(gate);
         push_gate(
             text,

@@ -4,7 +4,7 @@ ghost use Rattle.ht_net.specs.Netlist.{net_count, IsCircuit};
 ghost use Rattle.ht_faults.specs.Sites.{IsFaultSite, faults_of};
 ghost use Rattle.ht_collapse.specs.Ends.{end_by, AreEnds};
 
-use crate::stems::{number_of, output_net, stem_ends};
+use crate::stems::{number_of, stem_ends};
 use crate::table::output_of;
 use ht_faults::FaultList;
 use ht_net::{Circuit, Fault, Site};
@@ -22,7 +22,7 @@ fn end_of(circuit: &Circuit, stem_ends: &[u32], i: u32, fault: Fault) -> u32
         Site::GatePin { gate, .. } => {
             let pins = circuit.gate_args(gate).len();
             match output_of(circuit.gate_kind(gate), pins, fault.value) {
-                Some(stuck) => stem_ends[number_of(output_net(circuit, gate), stuck)],
+                Some(stuck) => stem_ends[number_of(circuit.gate_net(gate), stuck)],
                 None => i,
             }
         }

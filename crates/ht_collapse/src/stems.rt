@@ -1,10 +1,10 @@
 // Where the faults of stems lead, from the outputs back.
-ghost use Rattle.std.specs.Prelude.{◌≡◌, ◌<◌, ◌+◌, ◌*◌, ℕ, true, length, get_or, IfOk};
-ghost use Rattle.ht_net.specs.Netlist.{first_gate_net, net_count, gate_at, arg_at, IsCircuit};
-ghost use Rattle.ht_faults.specs.Sites.{is_fanout};
+ghost use Rattle.std.specs.Prelude.{◌≡◌, ◌<◌, ◌*◌, ℕ, length, get_or, IfOk};
+ghost use Rattle.ht_net.specs.Netlist.{net_count, gate_at, IsCircuit};
 ghost use Rattle.ht_collapse.specs.Ends.{stem_number, output_value, led, StayInClass, PinJoins, GateJoins, OthersStay};
 
 use crate::table::output_of;
+use ht_faults::has_fanout;
 use ht_net::{Circuit, NetId};
 use std::alloc::{AllocError, Global};
 
@@ -19,25 +19,6 @@ pub(crate) fn number_of(net: NetId, value: bool) -> usize
     }
 }
 
-/// The net that a gate drives.
-pub(crate) fn output_net(circuit: &Circuit, g: u32) -> NetId
-    requires { g < length circuit.now.gates }
-    ensures net { result.0 ≡ first_gate_net circuit.now + g }
-    ensures circuit { IsCircuit circuit.now }
-{
-    prove!(circuit.nets() > g);
-    NetId(circuit.inputs() + circuit.dffs() + g)
-}
-
-/// Whether a net has two or more loads, so that its pins have faults of their own.
-#[tactic(auto, unfolding(ht_faults::specs::Sites::is_fanout))]
-fn has_fanout(circuit: &Circuit, net: NetId) -> bool
-    requires { net.0 < net_count circuit.now }
-    ensures { result ≡ is_fanout circuit.now net.0 }
-{
-    circuit.loads(net) > 1
-}
-
 /// Leads the fault of a stem that gate `g` alone reads to where the equivalent output fault leads, if there is one.
 fn lead_on(circuit: &Circuit, g: u32, input: NetId, value: bool, ends: &mut [u32])
     requires gate { g < length circuit.now.gates }
@@ -47,7 +28,7 @@ fn lead_on(circuit: &Circuit, g: u32, input: NetId, value: bool, ends: &mut [u32
 {
     let pins = circuit.gate_args(g).len();
     if let Some(stuck) = output_of(circuit.gate_kind(g), pins, value) {
-        ends[number_of(input, value)] = ends[number_of(output_net(circuit, g), stuck)];
+        ends[number_of(input, value)] = ends[number_of(circuit.gate_net(g), stuck)];
     }
 }
 

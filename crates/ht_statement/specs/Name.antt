@@ -3,13 +3,13 @@ use Rattle.std.specs.Prelude.{ℕ, Bool, ◌&&◌, ◌||◌, not, eqb, leb, leng
 use Rattle.std.specs.List.{list_all}
 use Rattle.ht_net.specs.Named.{Name}
 
--- one of `#`, `(`, `)`, `,` and `=`
-abbrev pub is_mark : ℕ → Bool
-is_mark byte = eqb byte 35 || (eqb byte 40 || (eqb byte 41 || (eqb byte 44 || eqb byte 61)))
+-- one of `#`, `(`, `)`, `,` and `=`, which end a word as a blank does
+abbrev pub ends_word : ℕ → Bool
+ends_word byte = eqb byte 35 || (eqb byte 40 || (eqb byte 41 || (eqb byte 44 || eqb byte 61)))
 
--- a printable byte that is no blank and no mark of the format
+-- a printable byte that is no blank and ends no word
 abbrev pub is_name_byte : ℕ → Bool
-is_name_byte byte = leb 33 byte && leb byte 126 && not (is_mark byte)
+is_name_byte byte = leb 33 byte && leb byte 126 && not (ends_word byte)
 
 -- 1 to 255 such bytes
 abbrev pub is_name : Name → Bool

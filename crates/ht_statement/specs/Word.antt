@@ -1,11 +1,11 @@
 -- Words cut out of a text.
 use Rattle.std.specs.Prelude.{◌≡◌, ℕ, ◌<◌, List, [], ◌∷◌, ◌++◌, Bool, true, false, ◌||◌, not, length, slice_index}
 use Rattle.ht_statement.specs.Token.{is_blank}
-use Rattle.ht_statement.specs.Name.{is_mark}
+use Rattle.ht_statement.specs.Name.{ends_word}
 
 -- no blank, no mark, and no begin of a comment
 abbrev pub is_word_byte : ℕ → Bool
-is_word_byte byte = not (is_blank byte || is_mark byte)
+is_word_byte byte = not (is_blank byte || ends_word byte)
 
 -- a text that begins with no blank
 abbrev pub BeginsNoBlank : List ℕ → Type 0

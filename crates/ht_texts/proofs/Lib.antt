@@ -1,3 +1,4 @@
+pub mod ClassLaws
 pub mod ReportLaws
 pub mod SiteLaws
 pub mod TestLaws

@@ -6,16 +6,13 @@ use ht_collapse::Classes;
 use ht_net::Place;
 
 /// How many classes there are.
+#[tactic(auto, using(crate::proofs::ClassLaws::own_count, crate::proofs::ClassLaws::own_within))]
 pub fn count_classes(classes: &Classes) -> u32
     ensures { result ≡ class_count classes.now }
 {
-    let mut count = 0;
-    for i in 0..classes.len() {
-        if is_representative(classes, i) {
-            count += 1;
-        }
-    }
-    count
+    let count = classes.representatives().len();
+    prove!(count <= classes.len() as usize);
+    count as u32
 }
 
 // How many representatives are detected.

@@ -12,17 +12,11 @@ pub fn push_site(text: &mut Vec<u8>, circuit: &Circuit, site: Site) -> Result<()
     requires { IsSite circuit.now site }
     ensures { OnOk result (text.new.items ≡ text.old.items ++ site_text circuit.now site) }
 {
-    let first_gate_net = circuit.nets() - circuit.gates();
     match site {
         Site::Stem(net) => text.extend_from_slice(circuit.name(net)),
-        Site::DffPin { dff } => push_pin(text, circuit, NetId(circuit.inputs() + dff), 1),
+        Site::DffPin { dff } => push_pin(text, circuit, circuit.dff_net(dff), 1),
         Site::GatePin { gate, pin } => {
-            push_pin(
-                text,
-                circuit,
-                NetId(first_gate_net + gate),
-                u64::from(pin) + 1,
-            )
+            push_pin(text, circuit, circuit.gate_net(gate), u64::from(pin) + 1)
         }
     }
 }

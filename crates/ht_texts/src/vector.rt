@@ -4,14 +4,16 @@ ghost use Rattle.ht_texts.specs.Tests.{bit_code, vector_text, IsTextOf};
 
 use std::alloc::{AllocError, Global};
 
-/// The line of a vector: one character `0` or `1` for each input, in input order, without an LF.
+/// The line of a vector: one character `0` or `1` for each input, in input order, without an LF. Errs
+/// where memory runs out.
 pub fn write_vector(alloc: Global, vector: &[bool]) -> Result<Vec<u8>, AllocError>
     ensures { IfOk result (λ line. line.items ≡ vector_text vector.now) }
 {
     vector.iter().map(|bit| character_of(*bit)).collect(alloc)
 }
 
-/// The vector of `width` bits whose line this is, or `None` where it is the line of no such vector.
+/// The vector of `width` bits whose line this is, or `None` where it is the line of no such vector. Errs where memory
+/// runs out.
 pub fn read_vector(alloc: Global, line: &[u8], width: u32) -> Result<Option<Vec<bool>>, AllocError>
     ensures { IfOk result (λ read. MatchOption read
         ((vector : List Bool) → ¬ IsTextOf width line.now vector)

@@ -10,6 +10,7 @@ loop-dff-preserved c =
     let place = c.loop-dff.dff in
     let written : NamedDff = record { out = c.name.result.now; data_pin = c.name-in-loop-dff.result.now } in
     let named = get_or-named_dffs circuit circuit.inputs circuit.dffs place (omega arith) in
+    let net = c.dff_net-out.ensures.net in
     let out = c.name.ensures in
     let pin = c.name-in-loop-dff.ensures in
     let is_written : get_or (named_dffs circuit circuit.inputs circuit.dffs) place no_named_dff ≡ written = cc in

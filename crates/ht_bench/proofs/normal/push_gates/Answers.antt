@@ -11,6 +11,7 @@ loop-gate-preserved c =
     let place = c.loop-gate.gate in
     let written : NamedGate = record { kind = c.gate_kind.result; out = c.name.result.now; args = map (name_of circuit) c.gate_args-args.result.now } in
     let named = get_or-named_gates circuit (first_gate_net circuit) circuit.gates place (omega arith) in
+    let net = c.gate_net-out.ensures.net in
     let out = c.name.ensures in
     let kind = c.gate_kind.ensures in
     let args = c.gate_args-args.ensures.args in
