@@ -8,7 +8,7 @@ use Rattle.ht_net.specs.Frame.{net_value, values_at, data_values}
 use Rattle.ht_net.proofs.ValueLaws.{seen_same, taken_same, taken_length}
 use Rattle.ht_frame.specs.Values.{env_of}
 use Rattle.ht_tree.specs.declared.token.Assign3.{Assign3}
-use Rattle.ht_tree.specs.OneFrame.{Window, is_in, decided_value, same_pairs, latch_pairs, input_set, latch_set, input_sets, latch_sets, set_rules, cell_of, outside, places, status_by, status_of, variable_count}
+use Rattle.ht_tree.specs.OneFrame.{OneFrameWindow, is_in, decided_value, same_pairs, latch_pairs, input_set, latch_set, input_sets, latch_sets, set_rules, cell_of, outside, places, status_by, status_of, variable_count}
 use Rattle.ht_check.specs.declared.places.Shown.{Shown}
 use Rattle.ht_check.specs.Shown.{shown_by, either, outside_marks}
 use Rattle.ht_check.specs.Paths.{latch_by}
@@ -16,7 +16,7 @@ use Rattle.ht_check.proofs.DecisionLaws.{listed_by}
 use Rattle.ht_check.proofs.ShownLaws.{shown_append, marks_outside}
 
 -- The sets of inputs and latches.
-module _ (w : Window) (path : List Assign3) (decisions : List (Option Tern)) (room : length decisions ≡ variable_count w)
+module _ (w : OneFrameWindow) (path : List Assign3) (decisions : List (Option Tern)) (room : length decisions ≡ variable_count w)
     (written : (var : ℕ) → var < length decisions → get_or decisions var None ≡ decided_value path var) where
   pub inputs_are : (vector : List (List Pair)) → length vector ≡ w.circuit.inputs → ((i : ℕ) → i < length vector → get_or vector i [] ≡ same_pairs (get_or decisions i None))
       → vector ≡ input_sets w path
@@ -37,7 +37,7 @@ module _ (w : Window) (path : List Assign3) (decisions : List (Option Tern)) (ro
       ∙ (ap (λ (o : Option Tern). latch_pairs (is_in w.z j) (decided_value path (w.circuit.inputs + j)) o) (written (first_gate_net w.circuit + j) (omega arith))
       ∙ ap (latch_set w path) at)))))
 
-pub status_is : (w : Window) (path : List Assign3) (marks : List Bool) (vector latches values next : List (List Pair)) → IsCircuit w.circuit
+pub status_is : (w : OneFrameWindow) (path : List Assign3) (marks : List Bool) (vector latches values next : List (List Pair)) → IsCircuit w.circuit
     → length marks ≡ length w.circuit.dffs → ((j : ℕ) → get_or marks j false ≡ is_in w.z j)
     → vector ≡ input_sets w path → latches ≡ latch_sets w path
     → ((x : ℕ) → x < net_count w.circuit → env_of (pair Unk Unk ∷ []) values x ≡ net_value w.circuit (set_rules w.fault) vector latches x)

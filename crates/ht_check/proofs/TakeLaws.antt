@@ -9,7 +9,7 @@ use Rattle.ht_tree.specs.declared.token.Token.{Token}
 use Rattle.ht_tree.specs.declared.token.Token.TheVariants as token
 use Rattle.ht_tree.specs.declared.token.Status3.{Status3}
 use Rattle.ht_tree.specs.Walks.{Node, Judge, AllFit, top_path, refuses, next_stack, stack_after}
-use Rattle.ht_tree.specs.OneFrame.{Window, is_legal, one_frame, places, status_of, variable_count}
+use Rattle.ht_tree.specs.OneFrame.{OneFrameWindow, is_legal, one_frame, places, status_of, variable_count}
 use Rattle.ht_check.specs.Paths.{IsPlain, AreAllPlain, FitsAt, FitsOnTop}
 
 plain_drop : (count k : ℕ) (path : List Assign3) → IsPlain count path → IsPlain count (drop k path)
@@ -29,11 +29,11 @@ bit_definite : (b : Bool) → tern_of b ≢ Unk
 bit_definite true = λ e. cc
 bit_definite false = λ e. cc
 
-legal_below : (w : Window) (var : ℕ) → IsTrue (is_legal w var) → var < variable_count w
+legal_below : (w : OneFrameWindow) (var : ℕ) → IsTrue (is_legal w var) → var < variable_count w
 legal_below w var h = grind (arith, nat_tests)
 
 -- a token that fits keeps to the window's variables, and to two values
-pub plain_next : (w : Window) (s : Status3) (stack : List Node) (t : Token) → FitsAt (is_legal w) s t → AreAllPlain (variable_count w) stack → AreAllPlain (variable_count w) (next_stack stack t)
+pub plain_next : (w : OneFrameWindow) (s : Status3) (stack : List Node) (t : Token) → FitsAt (is_legal w) s t → AreAllPlain (variable_count w) stack → AreAllPlain (variable_count w) (next_stack stack t)
 plain_next w s [] t fit h = tt
 plain_next w s (n ∷ rest) token.Dead fit h = h.1
 plain_next w s (n ∷ rest) token.Before fit h = absurd fit
@@ -45,7 +45,7 @@ plain_next w s (n ∷ rest) (token.Two var first) fit h =
     (plain_more (variable_count w) n.decisions (record { var = var; value = tern_of first }) h.0 below (bit_definite first), both)
 
 -- A token fits on top exactly where it fits at the status there and is not refused.
-pub fits_on_top : (w : Window) (s : Status3) (stack : List Node) (t : Token) → s ≡ status_of (places w (top_path stack))
+pub fits_on_top : (w : OneFrameWindow) (s : Status3) (stack : List Node) (t : Token) → s ≡ status_of (places w (top_path stack))
     → FitsAt (is_legal w) s t → refuses stack t ≡ false → FitsOnTop (one_frame w) stack t
 fits_on_top w s [] t is fit free = cc
 fits_on_top w s (n ∷ rest) token.Dead is fit free = sym is ∙ fit
@@ -56,7 +56,7 @@ fits_on_top w s (n ∷ rest) (token.Two var first) is fit free = (sym is ∙ fit
 no_true : IsTrue false → ⊥
 no_true h = cc
 
-pub fits_there : (w : Window) (s : Status3) (stack : List Node) (t : Token) → s ≡ status_of (places w (top_path stack))
+pub fits_there : (w : OneFrameWindow) (s : Status3) (stack : List Node) (t : Token) → s ≡ status_of (places w (top_path stack))
     → FitsOnTop (one_frame w) stack t → FitsAt (is_legal w) s t × (refuses stack t ≡ false)
 fits_there w s [] t is fit = absurd fit
 fits_there w s (n ∷ rest) token.Dead is fit = (is ∙ fit, refl)

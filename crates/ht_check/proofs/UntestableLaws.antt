@@ -2,15 +2,13 @@
 use Rattle.std.proofs.Common.{◌≡◌, ℕ, List, [], Bool, true, false, not, Some, None, length, get_or, replicate, ◌∙◌, ap}
 use Rattle.std.proofs.lemmas.List.{length-replicate}
 use Rattle.ht_net.specs.declared.site.Fault.{Fault}
-use Rattle.ht_net.specs.Netlist.{Netlist, IsCircuit, IsOrder}
+use Rattle.ht_net.specs.Netlist.{Netlist, IsCircuit}
 use Rattle.ht_net.specs.Silence.{IsState, Silent, bit_at}
 use Rattle.ht_net.specs.Detection.{Detects}
-use Rattle.ht_net.proofs.Depth.{depth_by}
-use Rattle.ht_net.proofs.OrderLaws.{order_ranks}
 use Rattle.ht_serial.proofs.ApartLaws.{detected_apart}
 use Rattle.ht_tree.specs.declared.token.Token.{Token}
 use Rattle.ht_tree.specs.Walks.{IsComplete}
-use Rattle.ht_tree.specs.OneFrame.{Window, is_in, one_frame}
+use Rattle.ht_tree.specs.OneFrame.{OneFrameWindow, is_in, one_frame}
 use Rattle.ht_tree.specs.Refutations.{IsUntestable}
 use Rattle.ht_tree.proofs.SealLaws.{walk_seals, sealed_silent}
 
@@ -25,10 +23,10 @@ silent_undetected c fault state is silent list t o detects =
     let same : bit_at c None state list t o ≡ bit_at c (Some fault) state list t o = ap (λ (rows : List (List Bool)). get_or (get_or rows t []) o false) (silent list) in
     not_itself (bit_at c None state list t o) (same ∙ apart)
 
-pub untestable : (w : Window) (order : List ℕ) (tokens : List Token) → IsCircuit w.circuit → IsOrder w.circuit order → IsComplete (one_frame w) tokens → IsUntestable w.circuit w.fault w.z
-untestable w order tokens circuit ordered complete =
+pub untestable : (w : OneFrameWindow) (tokens : List Token) → IsCircuit w.circuit → IsComplete (one_frame w) tokens → IsUntestable w.circuit w.fault w.z
+untestable w tokens circuit complete =
     let c = w.circuit in
-    let seal = walk_seals w (depth_by c order) circuit (order_ranks c order circuit ordered) tokens complete in
+    let seal = walk_seals w tokens circuit complete in
     let silent = sealed_silent c w.fault (is_in w.z) seal in
     let zeros : List Bool = replicate (length c.dffs) false in
     let is : IsState c zeros = length-replicate (length c.dffs) false in

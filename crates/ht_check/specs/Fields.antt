@@ -1,10 +1,10 @@
 -- How a window's fields stand for it.
 use Rattle.std.specs.Prelude.{◌≡◌, ℕ, length, get_or, false}
 use Rattle.ht_net.specs.Netlist.{net_count, IsCircuit}
-use Rattle.ht_tree.specs.OneFrame.{Window, is_in, variable_count}
+use Rattle.ht_tree.specs.OneFrame.{OneFrameWindow, is_in, variable_count}
 use Rattle.ht_check.specs.declared.one_frame.OneFrame.TheInside.{Inside}
 
-abbrev pub window_of : Inside → Window
+abbrev pub window_of : Inside → OneFrameWindow
 window_of a = record { circuit = a.circuit.now; fault = a.fault; z = a.z.now }
 
 -- each field is as long as what it has values for, and the marks are those of z

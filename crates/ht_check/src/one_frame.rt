@@ -2,7 +2,7 @@
 ghost use Rattle.std.specs.Prelude.{◌≡◌, ◌<◌, ◌+◌, ℕ, [], ◌∷◌, length, get_or, false, IfOk};
 ghost use Rattle.ht_tern.specs.declared.tern.Tern.TheVariants.{Unk};
 ghost use Rattle.ht_tern.specs.Pairs.{pair};
-ghost use Rattle.ht_net.specs.Netlist.{net_count};
+ghost use Rattle.ht_net.specs.Netlist.{net_count, IsCircuit};
 ghost use Rattle.ht_net.specs.Frame.{data_values, net_value};
 ghost use Rattle.ht_frame.specs.Values.{env_of};
 ghost use Rattle.ht_tree.specs.OneFrame.{is_in, is_legal, places, set_rules, status_of, variable_count};
@@ -39,9 +39,9 @@ pub struct OneFrame<'c> {
 }
 
 impl<'c> Model for OneFrame<'c> {
-    ghost use Rattle.ht_tree.specs.OneFrame.{Window};
+    ghost use Rattle.ht_tree.specs.OneFrame.{OneFrameWindow};
 
-    ghost Value = { Window };
+    ghost Value = { OneFrameWindow };
 
     ghost use Rattle.ht_check.specs.Fields.{window_of, IsSized};
 
@@ -79,7 +79,8 @@ impl<'c> OneFrame<'c> {
         z: &'c [u32],
     ) -> Result<OneFrame<'c>, AllocError>
         requires { (i : ℕ) → i < length z.now → get_or z.now i 0 < length circuit.now.dffs }
-        ensures { IfOk result (λ window. window ≡ record { circuit = circuit.now; fault = fault; z = z.now }) }
+        ensures circuit { IsCircuit circuit.now }
+        ensures window { IfOk result (λ window. window ≡ record { circuit = circuit.now; fault = fault; z = z.now }) }
     {
         let nets = circuit.nets() as usize;
         let inputs = circuit.inputs() as usize;

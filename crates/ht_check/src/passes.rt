@@ -27,9 +27,7 @@ pub fn entry(
 {
     let _ = budget;
     match entry {
-        Entry::Untestable { z, tokens } => {
-            refutes(alloc, circuit, fault, z.as_slice(), tokens.as_slice())
-        },
+        Entry::Untestable { z, tokens } => refutes(alloc, circuit, fault, z, tokens),
     }
 }
 
@@ -44,8 +42,6 @@ fn refutes(
     ensures exact { IfOk result (λ passes. IsTrue passes ↔ Refutes circuit.now fault z.now tokens.now) }
     ensures sound { IfOk result (λ passes. IsTrue passes → IsUntestable circuit.now fault z.now) }
 {
-    // The order says that the gates form no cycle, so that each net has one value.
-    let _ = circuit.order();
     if !names_flip_flops(z, circuit.dffs()) {
         return Ok(false);
     }

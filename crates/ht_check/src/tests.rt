@@ -5,7 +5,7 @@ ghost use Rattle.ht_net.specs.Draft.{IsName};
 use crate::entry;
 use ht_net::{Builder, Circuit, Fault, NameId, NetError, NetId, Site};
 use ht_tern::Kind;
-use ht_tree::{Entry, FlipFlops, Token, Tokens};
+use ht_tree::{Entry, Token};
 use std::alloc::{AllocError, Global};
 use std::test::Fail;
 
@@ -54,17 +54,9 @@ fn toggle(alloc: Global) -> Result<Circuit, NetError> {
 }
 
 fn untestable(alloc: Global, z: &[u32], tokens: &[Token]) -> Result<Entry, AllocError> {
-    let mut dffs = FlipFlops::new(alloc);
-    for dff in z {
-        dffs.push(*dff)?;
-    }
-    let mut list = Tokens::new(alloc);
-    for token in tokens {
-        list.push(*token)?;
-    }
     Ok(Entry::Untestable {
-        z: dffs,
-        tokens: list,
+        z: Vec::from_slice(alloc, z)?,
+        tokens: Vec::from_slice(alloc, tokens)?,
     })
 }
 

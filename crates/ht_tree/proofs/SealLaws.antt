@@ -14,13 +14,14 @@ use Rattle.ht_net.proofs.ValueLaws.{seen_same, taken_same, taken_length}
 use Rattle.ht_tree.specs.declared.token.Token.{Token}
 use Rattle.ht_tree.specs.declared.token.Status3.TheVariants.{Dead}
 use Rattle.ht_tree.specs.Walks.{IsComplete, path_of}
-use Rattle.ht_tree.specs.OneFrame.{Window, is_in, set_rules, input_sets, latch_sets, cell_of, outside, places, differs, status_of, one_frame}
+use Rattle.ht_tree.specs.OneFrame.{OneFrameWindow, is_in, set_rules, input_sets, latch_sets, cell_of, outside, places, differs, status_of, one_frame}
+use Rattle.ht_tree.proofs.DepthLaws.{circuit_depth}
 use Rattle.ht_tree.proofs.CoverLaws.{DeadNode, along_drop, complete_covers}
 use Rattle.ht_tree.proofs.PairLaws.{Has, bits, paired, pair_rules, sets_keep, forced_bits, frame_bits}
 use Rattle.ht_tree.proofs.WindowLaws.{assigned, inputs_covered, latches_covered}
 use Rattle.ht_tree.proofs.PlaceLaws.{any_append, dead_gives, place_same, output_quiet, next_quiet, taken_at}
 
-quiet_places : (w : Window) (path : List _) → status_of (places w path) ≡ Dead
+quiet_places : (w : OneFrameWindow) (path : List _) → status_of (places w path) ≡ Dead
     → (list_any (list_any differs) (values_at (cell_of w path) w.circuit.outputs) ≡ false)
     × (list_any (list_any differs) (outside w.z 0 (data_values (set_rules w.fault) (cell_of w path) 0 w.circuit.dffs)) ≡ false)
 unfolding places
@@ -28,7 +29,7 @@ quiet_places w path h =
     any_append (list_any differs) (values_at (cell_of w path) w.circuit.outputs) (outside w.z 0 (data_values (set_rules w.fault) (cell_of w path) 0 w.circuit.dffs)) (dead_gives (places w path) h)
 
 -- One frame of both machines, from states that agree outside z.
-module _ (w : Window) (rank : ℕ → ℕ) (circuit : IsCircuit w.circuit) (ranked : IsDepth w.circuit rank) (tokens : List Token) (complete : IsComplete (one_frame w) tokens)
+module _ (w : OneFrameWindow) (rank : ℕ → ℕ) (circuit : IsCircuit w.circuit) (ranked : IsDepth w.circuit rank) (tokens : List Token) (complete : IsComplete (one_frame w) tokens)
     (vector s t : List Bool) (wide : length vector ≡ w.circuit.inputs) (held : IsState w.circuit s) (held' : IsState w.circuit t) (agree : AgreeOutside w.circuit (is_in w.z) s t) where
   abbrev c : Netlist
   c = w.circuit
@@ -71,11 +72,13 @@ module _ (w : Window) (rank : ℕ → ℕ) (circuit : IsCircuit w.circuit) (rank
       ∙ sym (taken_at (bool_rules (Some w.fault)) faulty_net 0 w.circuit.dffs j false inside))
 
 -- a complete walk seals its fault in its set
-pub walk_seals : (w : Window) (rank : ℕ → ℕ) → IsCircuit w.circuit → IsDepth w.circuit rank → (tokens : List Token) → IsComplete (one_frame w) tokens → Sealed w.circuit w.fault (is_in w.z)
-walk_seals w rank circuit ranked tokens complete = record {
-  outputs = λ vector s t wide held held' agree. outputs_agree w rank circuit ranked tokens complete vector s t wide held held' agree;
-  stays = λ vector s t wide held held' agree. next_agrees w rank circuit ranked tokens complete vector s t wide held held' agree;
-}
+pub walk_seals : (w : OneFrameWindow) (tokens : List Token) → IsCircuit w.circuit → IsComplete (one_frame w) tokens → Sealed w.circuit w.fault (is_in w.z)
+walk_seals w tokens circuit complete =
+    let d = circuit_depth w.circuit circuit in
+    record {
+      outputs = λ vector s t wide held held' agree. outputs_agree w d.0 circuit d.1 tokens complete vector s t wide held held' agree;
+      stays = λ vector s t wide held held' agree. next_agrees w d.0 circuit d.1 tokens complete vector s t wide held held' agree;
+    }
 
 -- A frame reads as many bits of a vector as there are inputs, and 0 where there are no more.
 abbrev pub fitted : ℕ → List Bool → List Bool

@@ -14,7 +14,7 @@ use Rattle.ht_tree.specs.declared.token.Status3.{Status3}
 use Rattle.ht_tree.specs.declared.token.Status3.TheVariants.{Dead, Sure, Open}
 use Rattle.ht_tree.specs.Walks.{Judge, path_of}
 
-pub record Window : Type 0 where
+pub record OneFrameWindow : Type 0 where
   pub circuit : Netlist
   pub fault : Fault
   pub z : List ℕ
@@ -52,20 +52,20 @@ latch_pairs false good faulty = same_pairs good
 
 -- Variable i decides input i; then variable n + j decides flip-flop j, or its good half where j is in z; and n + m + j
 -- decides the faulty half.
-abbrev pub variable_count : Window → ℕ
+abbrev pub variable_count : OneFrameWindow → ℕ
 variable_count w = first_gate_net w.circuit + length w.circuit.dffs
 
 abbrev pub input_set : List Assign3 → ℕ → List Pair
 input_set path i = same_pairs (decided_value path i)
 
-abbrev pub latch_set : Window → List Assign3 → ℕ → List Pair
+abbrev pub latch_set : OneFrameWindow → List Assign3 → ℕ → List Pair
 latch_set w path j = latch_pairs (is_in w.z j) (decided_value path (w.circuit.inputs + j)) (decided_value path (first_gate_net w.circuit + j))
 
 -- the sets of the inputs and of the latches
-abbrev pub input_sets : Window → List Assign3 → List (List Pair)
+abbrev pub input_sets : OneFrameWindow → List Assign3 → List (List Pair)
 input_sets w path = map (input_set path) (range_with_len 0 w.circuit.inputs)
 
-abbrev pub latch_sets : Window → List Assign3 → List (List Pair)
+abbrev pub latch_sets : OneFrameWindow → List Assign3 → List (List Pair)
 latch_sets w path = map (latch_set w path) (range_with_len 0 (length w.circuit.dffs))
 
 -- both machines over sets of pairs: a stuck line shows its bit in the faulty half
@@ -73,7 +73,7 @@ abbrev pub set_rules : Fault → Rules (List Pair)
 set_rules fault = rules_of (pair Unk Unk ∷ []) lifted_set stuck_set (Some fault)
 
 -- the cell of a net: the pairs that it may carry under the decisions of a path
-abbrev pub cell_of : Window → List Assign3 → ℕ → List Pair
+abbrev pub cell_of : OneFrameWindow → List Assign3 → ℕ → List Pair
 cell_of w path = net_value w.circuit (set_rules w.fault) (input_sets w path) (latch_sets w path)
 
 -- what stands outside a set, from flip-flop j on
@@ -82,7 +82,7 @@ outside z j [] = []
 outside z j (x ∷ xs) = cond (is_in z j) (outside z (j + 1) xs) (x ∷ outside z (j + 1) xs)
 
 -- the places where a difference counts: the outputs, and the next states of the flip-flops outside z
-unfoldable pub places : Window → List Assign3 → List (List Pair)
+unfoldable pub places : OneFrameWindow → List Assign3 → List (List Pair)
 places w path =
     values_at (cell_of w path) w.circuit.outputs
     ++ outside w.z 0 (data_values (set_rules w.fault) (cell_of w path) 0 w.circuit.dffs)
@@ -104,12 +104,12 @@ abbrev pub status_of : List (List Pair) → Status3
 status_of sets = status_by (list_any (list_all differs) sets) (list_any (list_any differs) sets)
 
 -- the window has the variable
-abbrev pub is_legal : Window → ℕ → Bool
+abbrev pub is_legal : OneFrameWindow → ℕ → Bool
 is_legal w var =
     ltb var (first_gate_net w.circuit)
     || (ltb var (variable_count w) && is_in w.z (var - first_gate_net w.circuit))
 
-abbrev pub one_frame : Window → Judge
+abbrev pub one_frame : OneFrameWindow → Judge
 one_frame w = record {
   status = λ n. status_of (places w (path_of n));
   two = λ n var. is_legal w var;

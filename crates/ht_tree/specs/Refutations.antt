@@ -22,7 +22,7 @@ pub record Refutes (c : Netlist) (fault : Fault) (z : List ℕ) (tokens : List T
 
 -- the entry of a fault passes; what an untestable entry holds is not measured by the budget
 abbrev pub Passes : Netlist → Fault → ℕ → Entry → Type 0
-Passes c fault budget (Untestable z tokens) = Refutes c fault z tokens
+Passes c fault budget (Untestable z tokens) = Refutes c fault z.items tokens.items
 
 -- No sequence of any length shows a difference: a difference can't leave the set of flip-flops, both machines give equal
 -- outputs from every common state, and no list of vectors detects the fault.
@@ -33,4 +33,4 @@ pub record IsUntestable (c : Netlist) (fault : Fault) (z : List ℕ) : Type 0 wh
 
 -- what it means that an entry passes
 abbrev pub Holds : Netlist → Fault → Entry → Type 0
-Holds c fault (Untestable z tokens) = IsUntestable c fault z
+Holds c fault (Untestable z tokens) = IsUntestable c fault z.items

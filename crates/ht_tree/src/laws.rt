@@ -1,15 +1,15 @@
 // What a complete walk of the one-frame window means. Each law is the contract of a function that does nothing.
 ghost use Rattle.std.specs.Prelude.{ℕ, List, Bool};
 ghost use Rattle.ht_net.specs.declared.site.Fault.{Fault};
-ghost use Rattle.ht_net.specs.Netlist.{Netlist, IsCircuit, IsOrder};
+ghost use Rattle.ht_net.specs.Netlist.{Netlist, IsCircuit};
 ghost use Rattle.ht_net.specs.Silence.{IsState, Sealed, Silent};
 ghost use Rattle.ht_tree.specs.declared.token.Token.{Token};
 ghost use Rattle.ht_tree.specs.Walks.{IsComplete};
-ghost use Rattle.ht_tree.specs.OneFrame.{Window, is_in, one_frame};
+ghost use Rattle.ht_tree.specs.OneFrame.{OneFrameWindow, is_in, one_frame};
 
 /// A complete walk of the one-frame window of a fault and a set of flip-flops seals the fault in the set.
 pub fn complete_walk_seals()
-    ensures { (w : Window) (order : List ℕ) (tokens : List Token) → IsCircuit w.circuit → IsOrder w.circuit order → IsComplete (one_frame w) tokens → Sealed w.circuit w.fault (is_in w.z) }
+    ensures { (w : OneFrameWindow) (tokens : List Token) → IsCircuit w.circuit → IsComplete (one_frame w) tokens → Sealed w.circuit w.fault (is_in w.z) }
 {}
 
 /// From every common start state, both machines of a sealed fault give equal outputs for every list of vectors.

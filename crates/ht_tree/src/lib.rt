@@ -11,14 +11,12 @@
 
 mod entry;
 mod laws;
-mod lists;
 mod stack;
 mod token;
 mod walk;
 
 pub use entry::Entry;
 pub use laws::{complete_walk_seals, sealed_is_silent};
-pub use lists::{FlipFlops, Tokens};
 pub use token::{Assign3, Status3, Token};
 pub use walk::Walk;
 

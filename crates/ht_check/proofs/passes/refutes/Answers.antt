@@ -1,6 +1,6 @@
 use Rattle.std.proofs.Common.{◌≡◌, Bool, Result, Ok, Err, IfOk, subst}
 use Rattle.ht_tree.specs.Walks.{IsComplete}
-use Rattle.ht_tree.specs.OneFrame.{Window, one_frame}
+use Rattle.ht_tree.specs.OneFrame.{OneFrameWindow, one_frame}
 use Rattle.ht_check.proofs.UntestableLaws.{untestable}
 use Rattle.ht_check.proofs.passes.refutes.Goals as goal
 
@@ -10,8 +10,8 @@ ok_then (Err e) P Q f h = tt
 
 pub returns-clause-sound : goal.returns-clause-sound
 returns-clause-sound c =
-    let w : Window = record { circuit = c.args.circuit.now; fault = c.args.fault; z = c.args.z.now } in
-    let made : c.in_ok-window.window ≡ w = c.in_ok-window.ensures in
+    let w : OneFrameWindow = record { circuit = c.args.circuit.now; fault = c.args.fault; z = c.args.z.now } in
+    let made : c.in_ok-window.window ≡ w = c.in_ok-window.ensures.window in
     ok_then c.is_complete.result _ _ (λ b h t.
-    untestable w c.order.result.now c.args.tokens.now c.order.ensures.circuit c.order.ensures.order
-    (subst (λ (w : Window). IsComplete (one_frame w) c.args.tokens.now) made (h.0 t))) c.is_complete.ensures
+    untestable w c.args.tokens.now c.new.ensures.circuit
+    (subst (λ (w : OneFrameWindow). IsComplete (one_frame w) c.args.tokens.now) made (h.0 t))) c.is_complete.ensures

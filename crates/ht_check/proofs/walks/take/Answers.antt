@@ -2,7 +2,7 @@ use Rattle.std.proofs.Common.{◌≡◌, List, Bool, true, false, Result, Ok, Er
 use Rattle.std.specs.Prelude.{cond}
 use Rattle.ht_tree.specs.declared.token.Assign3.{Assign3}
 use Rattle.ht_tree.specs.Walks.{Node}
-use Rattle.ht_tree.specs.OneFrame.{Window, variable_count, is_legal}
+use Rattle.ht_tree.specs.OneFrame.{OneFrameWindow, variable_count, is_legal}
 use Rattle.ht_tree.specs.WalkOf.{WalkState, fed}
 use Rattle.ht_check.specs.Paths.{IsPlain, AreAllPlain, FitsAt}
 use Rattle.ht_check.proofs.TakeLaws.{plain_top, plain_next}
@@ -24,7 +24,7 @@ pub returns-clause-plain : goal.returns-clause-plain
 returns-clause-plain c =
     let w = c.args.window.now in
     let walk = c.args.walk.now in
-    let fit = subst (λ (w : Window). FitsAt (is_legal w) c.status-status.result c.args.token) c.status-status.ensures.same (c.fits.ensures.0 c.if-not-fits.false) in
+    let fit = subst (λ (w : OneFrameWindow). FitsAt (is_legal w) c.status-status.result c.args.token) c.status-status.ensures.same (c.fits.ensures.0 c.if-not-fits.false) in
     ok_then c.feed.result _ _ (λ b h t.
     subst (λ (stack : List Node). AreAllPlain (variable_count w) stack) (sym (taken_true b c.feed.new.self walk (fed walk c.args.token) h t))
     (plain_next w c.status-status.result walk.stack c.args.token fit c.requires)) c.feed.ensures.ok

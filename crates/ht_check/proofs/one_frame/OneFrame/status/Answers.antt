@@ -6,7 +6,7 @@ use Rattle.ht_tern.specs.Pairs.{Pair, pair}
 use Rattle.ht_net.specs.Netlist.{net_count}
 use Rattle.ht_net.specs.Frame.{net_value, values_at, data_values}
 use Rattle.ht_frame.specs.Values.{env_of}
-use Rattle.ht_tree.specs.OneFrame.{Window, decided_value, same_pairs, input_sets, latch_sets, set_rules, places, status_of, variable_count}
+use Rattle.ht_tree.specs.OneFrame.{OneFrameWindow, decided_value, same_pairs, input_sets, latch_sets, set_rules, places, status_of, variable_count}
 use Rattle.ht_check.specs.declared.places.Shown.{Shown}
 use Rattle.ht_check.specs.Shown.{shown_by, either, outside_marks}
 use Rattle.ht_check.specs.Fields.{window_of}
@@ -63,4 +63,4 @@ returns-clause-status c =
     (c.next_states.ensures ∙ (ap (λ (m : List Bool). shown_by (outside_marks m c.deref-8.result.now)) c.deref-7.ensures.value
     ∙ ap (λ (t : List (List Pair)). shown_by (outside_marks a.in_z.items t)) n))) in
     c.status.ensures ∙ (status_is w path a.in_z.items V L S N i.circuit i.mark_count i.marks inputs latches settled taken c.and.result shown
-    ∙ ap (λ (w : Window). status_of (places w path)) c.self.view_is)
+    ∙ ap (λ (w : OneFrameWindow). status_of (places w path)) c.self.view_is)
