@@ -45,7 +45,7 @@ returns-clause-texts g c =
     let a = g.D.Desk.view c.args.desk.now in
     let m = g.D.Desk.view c.read_netlist.new.desk in
     let read = c.in_ok-circuit.ensures in
-    let made = c.in-Ok.ensures in
+    let made = c.in_ok-texts.ensures in
     record {
       simulated = λ n t both. record {
         circuit = c.in_ok-circuit.circuit;

@@ -17,8 +17,8 @@ use Rattle.ht_app.proofs.tests.read_tests.Goals as goal
 
 pub lines-init : goal.lines-init
 lines-init g c =
-    let lines = c.in-Ok.lines in
-    let made = c.in-Ok.ensures in
+    let lines = c.in_ok-lines.lines in
+    let made = c.in_ok-lines.ensures in
     let desk = g.D.Desk.view c.open.new.self in
     let rest : (text : List ℕ) → desk.left Tests ≡ Some text → rest_of lines desk ≡ Some text = λ text is. ap (λ l. rest_of l desk) made ∙ ap (prepend_known []) is in
     let none : c.new-list.result.list ≡ [] = ap (λ v. v.list) c.new-list.ensures in
