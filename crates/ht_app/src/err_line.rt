@@ -1,5 +1,5 @@
 // The line on Err.
-ghost use Rattle.std.specs.Prelude.{◌≡◌, ◌++◌, OnOk, OnErr, codes, IsTrue, flat_map};
+ghost use Rattle.std.specs.Prelude.{◌++◌, OnOk, OnErr};
 ghost use Rattle.ht_ports.specs.Desk.{Writes, Added, AddedPart};
 ghost use Rattle.ht_ports.specs.declared.ports.OutPort.TheVariants as out_port;
 ghost use Rattle.ht_app.specs.ErrLines.{line_of, numbered};

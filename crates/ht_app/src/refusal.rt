@@ -1,5 +1,5 @@
 // Why a netlist is refused, as the line on Err says it.
-ghost use Rattle.std.specs.Prelude.{◌≡◌, ◌++◌, OnOk, OnErr, codes, IsTrue, take};
+ghost use Rattle.std.specs.Prelude.{◌≡◌, ◌++◌, OnOk, OnErr, codes};
 ghost use Rattle.ht_ports.specs.Desk.{Writes, Added, AddedPart};
 ghost use Rattle.ht_ports.specs.declared.ports.OutPort.TheVariants as out_port;
 ghost use Rattle.ht_app.specs.ErrLines.{limit_text, loop_text, cause_text, line_number, line_of};

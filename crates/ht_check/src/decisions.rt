@@ -78,11 +78,7 @@ fn with_faulty(faulty: Tern) -> PairSet
     requires { faulty ≢ Unk }
     ensures { result ≡ each_pair None (Some faulty) }
 {
-    if faulty == Tern::One {
-        PairSet::any_two_valued().stick(true)
-    } else {
-        PairSet::any_two_valued().stick(false)
-    }
+    PairSet::any_two_valued().stick(faulty == Tern::One)
 }
 
 /// Gives each input its set.

@@ -1,8 +1,7 @@
-//! The checker of a proof's entries: it evaluates sets of pairs frame by frame and follows the walk, token by token. It
-//! shares definitions with the search that wrote the entry, and no code of it.
+//! The checker of refutations: it follows the tokens of a walk and evaluates both machines over sets of pairs at each node.
 //!
-//! `entry` is true exactly where the entry passes. Where an untestable entry passes, no sequence of vectors detects its
-//! fault: the clause `sound` of `entry` says so.
+//! `entry` is true exactly where the entry passes. Where an untestable entry passes, no list of vectors detects its fault:
+//! the clause `sound` of `entry` says so.
 #![tactic(auto)]
 
 mod decisions;

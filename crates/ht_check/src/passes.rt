@@ -1,5 +1,5 @@
 // Entries that pass.
-ghost use Rattle.std.specs.Prelude.{◌≡◌, ◌<◌, ◌↔◌, ℕ, length, get_or, IfOk, IsTrue};
+ghost use Rattle.std.specs.Prelude.{◌<◌, ◌↔◌, ℕ, length, get_or, IfOk, IsTrue};
 ghost use Rattle.ht_tree.specs.Refutations.{Holds, IsUntestable, Passes, Refutes, Rises};
 
 use crate::one_frame::OneFrame;
@@ -12,7 +12,8 @@ use std::alloc::{AllocError, Global};
 /// tokens are a complete walk of the one-frame window of the fault and these flip-flops; its walk may have any length, so
 /// the budget of the run plays no part.
 ///
-/// Where an untestable entry passes, no sequence of vectors detects the fault, from any start.
+/// Where an untestable entry passes, a difference can't leave the set, both machines give equal outputs from every common
+/// state, and no list of vectors detects the fault from all-unknown (`IsUntestable`). Flip-flops count from 0.
 ///
 /// It evaluates a frame once for each token and keeps the longest path. Errs where memory runs out.
 pub fn entry(

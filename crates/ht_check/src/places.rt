@@ -1,12 +1,12 @@
 // What the places of a window show.
-ghost use Rattle.std.specs.Prelude.{◌≡◌, ℕ, [], ◌∷◌, length};
+ghost use Rattle.std.specs.Prelude.{◌≡◌, [], ◌∷◌, length};
 ghost use Rattle.std.specs.List.{list_any, list_all};
 ghost use Rattle.ht_tern.specs.declared.tern.Tern.TheVariants.{Unk};
 ghost use Rattle.ht_tern.specs.Pairs.{pair};
-ghost use Rattle.ht_net.specs.Netlist.{net_count, IsCircuit};
+ghost use Rattle.ht_net.specs.Netlist.{net_count};
 ghost use Rattle.ht_net.specs.Frame.{values_at};
 ghost use Rattle.ht_frame.specs.Values.{env_of};
-ghost use Rattle.ht_tree.specs.OneFrame.{differs, status_by, status_of};
+ghost use Rattle.ht_tree.specs.OneFrame.{differs, status_by};
 ghost use Rattle.ht_check.specs.Shown.{either, outside_marks, shown_by};
 
 use ht_net::Circuit;

@@ -1,6 +1,6 @@
 // Walks of the one-frame window.
 ghost use Rattle.std.specs.Prelude.{◌≡◌, true, ◌↔◌, IfOk, IsTrue};
-ghost use Rattle.ht_tree.specs.Walks.{IsComplete, next_stack, top_path};
+ghost use Rattle.ht_tree.specs.Walks.{IsComplete, next_stack};
 ghost use Rattle.ht_tree.specs.OneFrame.{is_legal, one_frame, variable_count};
 ghost use Rattle.ht_check.specs.Paths.{AreAllPlain, FitsAt, FitsOnTop};
 

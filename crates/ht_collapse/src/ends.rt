@@ -1,6 +1,6 @@
 // Where every fault leads.
 ghost use Rattle.std.specs.Prelude.{◌≡◌, ◌<◌, ◌*◌, ◌^◌, length, IfOk};
-ghost use Rattle.ht_net.specs.Netlist.{net_count, IsCircuit};
+ghost use Rattle.ht_net.specs.Netlist.{net_count};
 ghost use Rattle.ht_faults.specs.Sites.{IsFaultSite, faults_of};
 ghost use Rattle.ht_collapse.specs.Ends.{end_by, AreEnds};
 

@@ -1,5 +1,4 @@
 // Classes of small circuits and of s27 (ISCAS-89), by hand.
-ghost use Rattle.std.specs.Prelude.{◌≡◌, length};
 ghost use Rattle.ht_tern.specs.Gate.{HasArity};
 
 use crate::{Classes, collapse};

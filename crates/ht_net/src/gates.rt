@@ -1,5 +1,5 @@
 // The gates of a circuit in flat arrays.
-ghost use Rattle.std.specs.Prelude.{◌≡◌, ◌≢◌, ℕ, ◌<◌, ◌≤◌, ◌+◌, ◌-◌, ◌++◌, ◌∷◌, [], length, get_or, OnOk, IfOk};
+ghost use Rattle.std.specs.Prelude.{◌≡◌, ◌<◌, ◌+◌, ◌-◌, ◌++◌, ◌∷◌, [], length, get_or, OnOk, IfOk};
 ghost use Rattle.ht_net.specs.Netlist.{no_gate};
 
 use crate::NetId;

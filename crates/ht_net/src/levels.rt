@@ -1,5 +1,5 @@
 // The levels of gates, by a walk down their arguments.
-ghost use Rattle.std.specs.Prelude.{◌≡◌, ◌≢◌, ℕ, ◌<◌, ◌≤◌, ◌+◌, ◌-◌, ◌^◌, suc, length, get_or, EachIndex, IfOk};
+ghost use Rattle.std.specs.Prelude.{◌≡◌, ℕ, ◌<◌, ◌+◌, ◌-◌, ◌^◌, length, get_or, IfOk};
 ghost use Rattle.ht_net.specs.Netlist.{no_net};
 ghost use Rattle.ht_net.specs.Next.{IsNext};
 ghost use Rattle.std.specs.Prelude.{OnOk, IfErr, true, false, []};

@@ -1,5 +1,5 @@
 // The loads of nets.
-ghost use Rattle.std.specs.Prelude.{◌≡◌, ℕ, ◌<◌, ◌≤◌, ◌+◌, ◌^◌, length, get_or, IfOk};
+ghost use Rattle.std.specs.Prelude.{◌≡◌, ℕ, ◌<◌, ◌+◌, ◌^◌, length, get_or, IfOk};
 ghost use Rattle.std.specs.List.{sum_by};
 ghost use Rattle.ht_net.specs.Netlist.{Gate};
 ghost use Rattle.ht_net.specs.Levels.{times, loads_among};

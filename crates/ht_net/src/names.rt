@@ -1,5 +1,5 @@
 // Names by number, in the order of their first mention.
-ghost use Rattle.std.specs.Prelude.{◌≡◌, ◌≢◌, ℕ, ◌<◌, ◌++◌, ◌∷◌, [], length, get_or, IfSome, IfNone, OnOk, OnErr};
+ghost use Rattle.std.specs.Prelude.{◌≡◌, ℕ, ◌<◌, ◌++◌, ◌∷◌, [], length, get_or, IfSome, IfNone, OnOk, OnErr};
 ghost use Rattle.ht_net.specs.Names.{IsNewName, IsNameAt};
 
 use indexmap::IndexSet;

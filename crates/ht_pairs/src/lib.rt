@@ -1,4 +1,4 @@
-//! Sets of pairs: what a net may carry in the good machine and in the faulty one, while the search has not yet decided.
+//! Sets of pairs: what a net may carry in the good machine and in the faulty one, where not all is decided.
 //!
 //! `PairSet` is a nonempty set of pairs (good, faulty) over the three values, in two bytes. `lift` is a gate over sets:
 //! it holds the gate's values for every choice of one member from each argument, no more and no fewer. `PairSet::stick`

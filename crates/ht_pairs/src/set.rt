@@ -18,7 +18,7 @@ pub struct PairSet {
 }
 
 impl Model for PairSet {
-    ghost use Rattle.std.specs.Prelude.{ℕ, ◌<◌, List};
+    ghost use Rattle.std.specs.Prelude.{◌<◌, List};
     ghost use Rattle.std.proofs.Common.{ap};
     ghost use Rattle.ht_tern.specs.Pairs.{Pair};
     ghost use Rattle.ht_pairs.specs.Members.{members_of, bits_of, bits_of-members_of};

@@ -2,7 +2,7 @@
 //! and no crate stands on it.
 #![tactic(auto)]
 
-ghost use Rattle.std.specs.Prelude.{◌≡◌, ◌<◌, length};
+ghost use Rattle.std.specs.Prelude.{◌≡◌, length};
 ghost use Rattle.ht_tern.specs.Gate.{HasArity};
 ghost use Rattle.ht_tern.specs.Pairs.{lifted_set};
 ghost use Rattle.ht_pairs_c.specs.Numbers.{kind_of};

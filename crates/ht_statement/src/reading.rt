@@ -1,5 +1,5 @@
 // The reading of a line.
-ghost use Rattle.std.specs.Prelude.{◌≡◌, option_map, IfOk, IfErr};
+ghost use Rattle.std.specs.Prelude.{◌≡◌, IfOk, IfErr};
 ghost use Rattle.std.specs.List.{list_all};
 ghost use Rattle.ht_statement.specs.FormOf.{form_meant};
 ghost use Rattle.ht_statement.specs.Name.{is_name};

@@ -1,7 +1,7 @@
 // The head line of a report.
 ghost use Rattle.std.specs.Prelude.{◌≡◌, ◌++◌, IfOk, OnOk};
 ghost use Rattle.ht_collapse.specs.Classes.{AreClasses};
-ghost use Rattle.ht_texts.specs.Reports.{circuit_sizes, fault_sizes, head_line};
+ghost use Rattle.ht_texts.specs.Reports.{circuit_sizes, head_line};
 
 use crate::counting::count_classes;
 use crate::number::push_counted;

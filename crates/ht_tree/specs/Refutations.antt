@@ -24,7 +24,7 @@ pub record Refutes (c : Netlist) (fault : Fault) (z : List ℕ) (tokens : List T
 abbrev pub Passes : Netlist → Fault → ℕ → Entry → Type 0
 Passes c fault budget (Untestable z tokens) = Refutes c fault z.items tokens.items
 
--- No sequence of any length shows a difference: a difference can't leave the set of flip-flops, both machines give equal
+-- No list of any length shows a difference: a difference can't leave the set of flip-flops, both machines give equal
 -- outputs from every common state, and no list of vectors detects the fault.
 pub record IsUntestable (c : Netlist) (fault : Fault) (z : List ℕ) : Type 0 where
   pub sealed : Sealed c fault (is_in z)

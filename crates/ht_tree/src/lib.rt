@@ -2,7 +2,7 @@
 //!
 //! A search decides one variable of a window after the other and writes each step as a `Token`. The tokens are judged
 //! from the left against a stack of nodes, each with the decisions that lead to it: `Walk` keeps that stack. An `Entry`
-//! is the record of one fault, as a file of proofs holds it.
+//! is the record of one fault.
 //!
 //! The definitions that search and checker share stand in `specs/`: `Walks` (nodes, tokens, complete and open walks),
 //! `OneFrame` (the cells, places, status and variables of the one-frame window) and `Refutations` (what an entry says of

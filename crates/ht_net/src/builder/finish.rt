@@ -1,11 +1,11 @@
 // From a draft to its circuit.
-ghost use Rattle.std.specs.Prelude.{◌≡◌, ℕ, ◌<◌, ◌≤◌, ◌+◌, ◌++◌, [], length, get_or, map, IfOk, IfErr, OnOk, IfSome, IfNone, Vec};
+ghost use Rattle.std.specs.Prelude.{◌≡◌, ℕ, ◌<◌, ◌+◌, ◌++◌, length, get_or, map, IfOk, IfErr, OnOk, IfSome, IfNone, Vec};
 ghost use Rattle.std.specs.declared.alloc.Global.{Global};
 ghost use Rattle.ht_net.specs.declared.names.NameId.{NameId};
 ghost use Rattle.ht_net.specs.Netlist.{IsCircuit};
 ghost use Rattle.ht_net.specs.Named.{named_of};
 ghost use Rattle.ht_net.specs.Draft.{IsDriven, IsName, no_name, driven_names, latch_names, gate_names};
-ghost use Rattle.ht_net.specs.Built.{net_of, draft_name, draft_gates, circuit_of, named_draft, AllDriven, IsFirstUndriven};
+ghost use Rattle.ht_net.specs.Built.{net_of, draft_gates, circuit_of, named_draft, AllDriven, IsFirstUndriven};
 ghost use Rattle.ht_net.specs.Cycle.{IsCycle};
 ghost use Rattle.ht_net.specs.WalkFault.{IsWalkFault};
 ghost use Rattle.ht_net.specs.Rotate.{IsLeastFirst};
