@@ -1,9 +1,8 @@
 // The kinds of gate, and the value of a gate.
 ghost use Rattle.std.specs.Prelude.{◌≡◌, ◌<◌, length};
-ghost use Rattle.ht_tern.specs.Gate.{HasArity, gate_value};
+ghost use Rattle.ht_tern.specs.Gate.{HasArity, gate_value, gate_value_over};
 
-use crate::Tern;
-use crate::tern::{and, complement, or, xor};
+use crate::{GateOperations, Tern};
 
 /// A kind of gate (ISCAS-89 format). Not and Buf have one argument, the others one or more.
 #[derive(Clone, Copy, PartialEq, Eq, Debug)]
@@ -18,25 +17,33 @@ pub enum Kind {
     Buf,
 }
 
-/// The value of a gate from the values at its pins, in the order of the pins (Kleene logic): AND, OR and XOR fold their
+/// The value of a gate over any domain, from the values at its pins, in the order of the pins: AND, OR and XOR fold their
 /// operation over the arguments, and NAND, NOR, XNOR and NOT are the complements of AND, OR, XOR and BUFF.
-pub fn eval(kind: Kind, args: &[Tern]) -> Tern
+pub fn eval_over<V: GateOperations>(kind: Kind, args: &[V]) -> V
     requires { HasArity kind (length args.now) }
-    ensures { result ≡ gate_value kind args.now }
+    ensures { (blank : V) → result ≡ gate_value_over V.operations blank kind args.now }
 {
     let mut value = args[0];
     for arg in &args[1..] {
         value = match kind {
-            Kind::And | Kind::Nand => and(value, *arg),
-            Kind::Or | Kind::Nor => or(value, *arg),
-            Kind::Xor | Kind::Xnor => xor(value, *arg),
+            Kind::And | Kind::Nand => value.conjunction(*arg),
+            Kind::Or | Kind::Nor => value.disjunction(*arg),
+            Kind::Xor | Kind::Xnor => value.parity(*arg),
             Kind::Not | Kind::Buf => value,
         };
     }
     match kind {
         Kind::And | Kind::Or | Kind::Xor | Kind::Buf => value,
-        Kind::Nand | Kind::Nor | Kind::Xnor | Kind::Not => complement(value),
+        Kind::Nand | Kind::Nor | Kind::Xnor | Kind::Not => value.complement(),
     }
+}
+
+/// The value of a gate over three values, from those at its pins, in the order of the pins (Kleene logic).
+pub fn eval(kind: Kind, args: &[Tern]) -> Tern
+    requires { HasArity kind (length args.now) }
+    ensures { result ≡ gate_value kind args.now }
+{
+    eval_over(kind, args)
 }
 
 #[cfg(test)]

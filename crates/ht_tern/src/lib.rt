@@ -2,16 +2,20 @@
 //! pins.
 //!
 //! `Tern` is a value, `Kind` a kind of gate, `eval` the value of a gate, and `refines` says where one value tells all
-//! that another tells. The tables are Kleene's strong logic; `specs/Gate.antt` has them once, for every domain of values.
+//! that another tells. The tables are Kleene's strong logic. What a gate makes of its operations is said once, for every
+//! domain of values: `GateOperations` has the operations, for `Tern` and `bool`, and `eval_over` folds them, as
+//! `specs/Gate.antt` defines.
 #![tactic(auto)]
 
 mod gate;
 mod laws;
+mod operations;
 mod tern;
 
-pub use gate::{Kind, eval};
+pub use gate::{Kind, eval, eval_over};
 pub use laws::{
     definite_arguments_give_the_two_valued_gate, refined_arguments_refine_the_value,
     two_valued_gates_stand_for_three_valued_ones,
 };
+pub use operations::GateOperations;
 pub use tern::{Tern, refines};

@@ -1,6 +1,8 @@
 // The three values and their operations.
 ghost use Rattle.std.specs.Prelude.{◌≡◌, IsTrue, ◌↔◌};
-ghost use Rattle.ht_tern.specs.Gate.{Refines, complement_of, and_of, or_of, xor_of, tern_of};
+ghost use Rattle.ht_tern.specs.Gate.{Refines, tern_of, tern_operations};
+
+use crate::GateOperations;
 
 /// A value of a net: Zero and One are definite, Unk is unknown (Kleene logic).
 #[derive(Clone, Copy, PartialEq, Eq, Debug)]
@@ -19,50 +21,47 @@ impl From<bool> for Tern {
     }
 }
 
-/// The complement: an unknown value stays unknown.
-pub(crate) fn complement(a: Tern) -> Tern
-    ensures { result ≡ complement_of a }
-{
-    match a {
-        Tern::Zero => Tern::One,
-        Tern::One => Tern::Zero,
-        Tern::Unk => Tern::Unk,
-    }
-}
+/// Three values (Kleene logic).
+impl GateOperations for Tern {
+    ghost operations = { tern_operations };
 
-/// Zero where an argument is Zero, else unknown where an argument is.
-pub(crate) fn and(a: Tern, b: Tern) -> Tern
-    ensures { result ≡ and_of a b }
-{
-    match (a, b) {
-        (Tern::Zero, _) | (_, Tern::Zero) => Tern::Zero,
-        (Tern::One, Tern::One) => Tern::One,
-        _ => Tern::Unk,
+    /// The complement: an unknown value stays unknown.
+    fn complement(self) -> Tern {
+        match self {
+            Tern::Zero => Tern::One,
+            Tern::One => Tern::Zero,
+            Tern::Unk => Tern::Unk,
+        }
     }
-}
 
-/// One where an argument is One, else unknown where an argument is.
-pub(crate) fn or(a: Tern, b: Tern) -> Tern
-    ensures { result ≡ or_of a b }
-{
-    match a {
-        Tern::One => Tern::One,
-        Tern::Zero => b,
-        Tern::Unk => match b {
-            Tern::One => Tern::One,
+    /// Zero where a value is Zero, else unknown where a value is.
+    fn conjunction(self, other: Tern) -> Tern {
+        match (self, other) {
+            (Tern::Zero, _) | (_, Tern::Zero) => Tern::Zero,
+            (Tern::One, Tern::One) => Tern::One,
             _ => Tern::Unk,
-        },
+        }
     }
-}
 
-/// Unknown where an argument is, else the parity.
-pub(crate) fn xor(a: Tern, b: Tern) -> Tern
-    ensures { result ≡ xor_of a b }
-{
-    match a {
-        Tern::Unk => Tern::Unk,
-        Tern::Zero => b,
-        Tern::One => complement(b),
+    /// One where a value is One, else unknown where a value is.
+    fn disjunction(self, other: Tern) -> Tern {
+        match self {
+            Tern::One => Tern::One,
+            Tern::Zero => other,
+            Tern::Unk => match other {
+                Tern::One => Tern::One,
+                _ => Tern::Unk,
+            },
+        }
+    }
+
+    /// Unknown where a value is, else the parity.
+    fn parity(self, other: Tern) -> Tern {
+        match self {
+            Tern::Unk => Tern::Unk,
+            Tern::Zero => other,
+            Tern::One => other.complement(),
+        }
     }
 }
 
