@@ -6,20 +6,21 @@ use Rattle.ht_net.specs.Named.{Name}
 use Rattle.ht_statement.specs.Statement.{Statement}
 use Rattle.ht_statement.specs.Reading.{Reading, States}
 use Rattle.ht_bench.specs.Contents.{driven_in, driven_by, nets_of, pins_of, inputs_of, dffs_of}
+use Rattle.ht_net.specs.Netlist.{most_nets, most_pins, most_inputs, most_dffs}
 
 -- the limits of a netlist
 pub record IsWithinLimits (statements : List Statement) : Type 0 where
-  pub nets : length (nets_of statements) ≤ 65535
-  pub pins : pins_of statements ≤ 262144
-  pub inputs : length (inputs_of statements) ≤ 4096
-  pub dffs : length (dffs_of statements) ≤ 16384
+  pub nets : length (nets_of statements) ≤ most_nets
+  pub pins : pins_of statements ≤ most_pins
+  pub inputs : length (inputs_of statements) ≤ most_inputs
+  pub dffs : length (dffs_of statements) ≤ most_dffs
 
 -- the first limit that statements pass
 abbrev pub IsFirstPassed : List Statement → Limit → Type 0
-IsFirstPassed s Nets = 65535 < length (nets_of s)
-IsFirstPassed s Pins = (length (nets_of s) ≤ 65535) × (262144 < pins_of s)
-IsFirstPassed s Inputs = (length (nets_of s) ≤ 65535) × (pins_of s ≤ 262144) × (4096 < length (inputs_of s))
-IsFirstPassed s Dffs = (length (nets_of s) ≤ 65535) × (pins_of s ≤ 262144) × (length (inputs_of s) ≤ 4096) × (16384 < length (dffs_of s))
+IsFirstPassed s Nets = most_nets < length (nets_of s)
+IsFirstPassed s Pins = (length (nets_of s) ≤ most_nets) × (most_pins < pins_of s)
+IsFirstPassed s Inputs = (length (nets_of s) ≤ most_nets) × (pins_of s ≤ most_pins) × (most_inputs < length (inputs_of s))
+IsFirstPassed s Dffs = (length (nets_of s) ≤ most_nets) × (pins_of s ≤ most_pins) × (length (inputs_of s) ≤ most_inputs) × (most_dffs < length (dffs_of s))
 
 -- no earlier line drives the net that the statement drives
 abbrev pub HasNewDriver : List Statement → Statement → Type 0

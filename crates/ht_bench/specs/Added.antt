@@ -16,6 +16,7 @@ use Rattle.ht_bench.specs.Accepted.{IsWithinLimits, IsAccepted}
 use Rattle.ht_bench.specs.Cause.{IsCause}
 use Rattle.ht_bench.specs.declared.cause.Cause.{Cause}
 use Rattle.ht_bench.specs.declared.cause.Cause.TheVariants.{SecondDriver, Limit, NoMemory}
+use Rattle.ht_net.specs.Netlist.{most_nets}
 
 -- a number, a flip-flop and a gate of a draft stand for these names
 abbrev pub IsNumberOf : List Name → NameId → Name → Type 0
@@ -56,13 +57,13 @@ pub record Mentions (old : Draft) (names : List Name) (new : Draft) : Type 0 whe
 
 -- no name is left for a new one
 abbrev pub RefusesMention : Draft → Name → Cause → Type 0
-RefusesMention old name (Limit Nets) = IsNewName old.names name × (length old.names ≡ 65535)
+RefusesMention old name (Limit Nets) = IsNewName old.names name × (length old.names ≡ most_nets)
 RefusesMention old name NoMemory = Unit {0}
 RefusesMention old name _ = ⊥
 
 -- the names are too many
 abbrev pub RefusesMentions : Draft → List Name → Cause → Type 0
-RefusesMentions old names (Limit Nets) = (mentioned : List Name) (statements : List Statement) → IsDraftWith mentioned statements old → 65535 < length (different (mentioned ++ names))
+RefusesMentions old names (Limit Nets) = (mentioned : List Name) (statements : List Statement) → IsDraftWith mentioned statements old → most_nets < length (different (mentioned ++ names))
 RefusesMentions old names NoMemory = Unit {0}
 RefusesMentions old names _ = ⊥
 

@@ -6,6 +6,7 @@ use Rattle.ht_tern.specs.declared.gate.Kind.TheVariants.{Buf}
 use Rattle.ht_tern.specs.Gate.{HasArity}
 use Rattle.ht_net.specs.declared.names.NameId.{NameId}
 use Rattle.ht_net.specs.declared.draft.DffPart.{DffPart}
+use Rattle.ht_net.specs.Netlist.{most_nets, most_pins, most_inputs, most_dffs}
 
 -- a gate by the names at its output and its pins
 pub record GatePart : Type 0 where
@@ -57,10 +58,10 @@ draft_pins d = length d.dffs + sum_by (λ (g : GatePart). length g.args) d.gates
 -- What every draft keeps: names and outputs differ, each name that is used is there, gates have as many arguments as
 -- their kind may have, and the limits hold.
 pub record IsDraft (d : Draft) : Type 0 where
-  pub few_names : length d.names ≤ 65535
-  pub few_inputs : length d.inputs ≤ 4096
-  pub few_dffs : length d.dffs ≤ 16384
-  pub few_pins : draft_pins d ≤ 262144
+  pub few_names : length d.names ≤ most_nets
+  pub few_inputs : length d.inputs ≤ most_inputs
+  pub few_dffs : length d.dffs ≤ most_dffs
+  pub few_pins : draft_pins d ≤ most_pins
   pub names_differ : (x y : ℕ) → x < y → y < length d.names → get_or d.names x [] ≢ get_or d.names y []
   pub outputs_differ : (o p : ℕ) → o < p → p < length d.outputs → get_or d.outputs o no_name ≢ get_or d.outputs p no_name
   pub outputs_known : (o : ℕ) → o < length d.outputs → IsName d (get_or d.outputs o no_name)

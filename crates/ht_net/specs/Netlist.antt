@@ -49,13 +49,26 @@ pub record IsRank (c : Netlist) (rank : ℕ → ℕ) : Type 0 where
   pub falls : (g i : ℕ) → g < length c.gates → i < length (gate_at c g).args → first_gate_net c ≤ arg_at c g i
       → rank (arg_at c g i - first_gate_net c) < rank g
 
+-- the most nets, pins, inputs and flip-flops that a circuit may have
+abbrev pub most_nets : ℕ
+most_nets = 65535
+
+abbrev pub most_pins : ℕ
+most_pins = 262144
+
+abbrev pub most_inputs : ℕ
+most_inputs = 4096
+
+abbrev pub most_dffs : ℕ
+most_dffs = 16384
+
 -- A well-formed circuit: what is read is there, names differ, no net is an output twice, the gates have a rank, and the
 -- limits are kept.
 pub record IsCircuit (c : Netlist) : Type 0 where
-  pub few_nets : net_count c ≤ 65535
-  pub few_pins : pin_count c ≤ 262144
-  pub few_inputs : c.inputs ≤ 4096
-  pub few_dffs : length c.dffs ≤ 16384
+  pub few_nets : net_count c ≤ most_nets
+  pub few_pins : pin_count c ≤ most_pins
+  pub few_inputs : c.inputs ≤ most_inputs
+  pub few_dffs : length c.dffs ≤ most_dffs
   pub arities : (g : ℕ) → g < length c.gates → HasArity (gate_at c g).kind (length (gate_at c g).args)
   pub few_args : (g : ℕ) → g < length c.gates → length (gate_at c g).args ≤ 255
   pub known : (g i : ℕ) → g < length c.gates → i < length (gate_at c g).args → arg_at c g i < net_count c

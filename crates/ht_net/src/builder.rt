@@ -4,6 +4,7 @@ ghost use Rattle.std.specs.List.{Contains};
 ghost use Rattle.ht_tern.specs.Gate.{HasArity};
 ghost use Rattle.ht_net.specs.declared.names.NameId.{NameId};
 ghost use Rattle.ht_net.specs.Names.{IsNewName, IsNameAt};
+ghost use Rattle.ht_net.specs.Netlist.{most_nets};
 ghost use Rattle.ht_net.specs.Draft.{IsDraft, IsDriven, IsName, no_name};
 ghost use Rattle.ht_net.specs.Refusals.{RefusesName, RefusesInput, AcceptsInput, RefusesOutput, RefusesDff, AcceptsDff, RefusesGate, AcceptsGate};
 
@@ -86,7 +87,7 @@ impl Builder {
         ensures named { IfOk result (λ id. IsNameAt self.new.names id.0 name.now) }
         ensures known { OnOk result (¬ IsNewName self.old.names name.now → self.new ≡ self.old) }
         ensures new { OnOk result (IsNewName self.old.names name.now → self.new ≡ record self.old { names = self.old.names ++ name.now ∷ [] }) }
-        ensures fits { OnOk result (IsNewName self.old.names name.now → length self.old.names < 65535) }
+        ensures fits { OnOk result (IsNewName self.old.names name.now → length self.old.names < most_nets) }
         ensures keeps { (id : NameId) → IsName self.old id → IsName self.new id }
         ensures err { OnErr result (self.new ≡ self.old) }
         ensures refusal { IfErr result (RefusesName self.old name.now) }
