@@ -4,7 +4,8 @@ use Rattle.std.specs.Io.KnownBytes.{append_known}
 use Rattle.ht_ports.specs.Causes.{Rose}
 use Rattle.ht_ports.specs.Desk.{DeskView, Writes}
 use Rattle.ht_ports.specs.declared.ports.InPort.TheVariants.{Netlist}
-use Rattle.ht_ports.specs.declared.ports.OutPort.TheVariants.{Err}
+use Rattle.ht_ports.specs.declared.ports.OutPort.{OutPort}
+use Rattle.ht_ports.specs.declared.ports.OutPort.TheVariants.{Out, Err}
 use Rattle.ht_net.specs.Netlist as net
 use Rattle.ht_bench.specs.Text.{IsNetlistOf, Refuses}
 use Rattle.ht_bench.specs.declared.error.BenchError.{BenchError}
@@ -13,11 +14,17 @@ use Rattle.ht_texts.specs.Tests.{IsMalformedTest}
 use Rattle.ht_words_laws.specs.Asked.{Asked, sim, norm}
 use Rattle.ht_app.specs.declared.trouble.Trouble.{Trouble}
 use Rattle.ht_app.specs.declared.trouble.Trouble.TheVariants.{Usage, TooLong, Refused, ReadFault, WriteFault, NoMemory, BadTests}
+use Rattle.ht_app.specs.Done.{IsSimulated}
 use Rattle.ht_app.specs.Inputs.{most_bytes, IsInput, IsAccepted, MayHold, AreInputs, AcceptsNetlist}
 use Rattle.ht_app.specs.Jobs.{netlist_name_of, HoldsInputs, AcceptsInputs}
 use Rattle.ht_app.specs.ErrLines.{status_of, line_of}
 
 -- ---- the causes
+
+-- a front of these bytes was added to this port, or all of them
+pub record IsBegunOn (port : OutPort) (bytes : List ℕ) (old new : DeskView) : Type 0 where
+  pub count : ℕ
+  pub front : new.written port ≡ append_known (old.written port) (take count bytes)
 
 -- The netlist is there, and its text is refused for this cause.
 pub record RefusesNetlist (name : List ℕ) (old : DeskView) (IsCause : List ℕ → Type 0) : Type 0 where
@@ -48,11 +55,25 @@ pub record FailsToRead (job : Asked) (old new : DeskView) : Type 0 where
   pub rose : Rose old.in_faults new.in_faults
   pub steady : IsTrue old.steady → ¬ HoldsInputs job old
 
+-- a front of the total line was added to Out
+pub record BeginsTotal (netlist tests : List ℕ) (old new : DeskView) : Type 0 where
+  pub report : List ℕ
+  pub total : List ℕ
+  pub simulated : IsSimulated netlist tests report total
+  pub begun : IsBegunOn Out total old new
+
+-- what the work said on Out before a write failed: `sim` a front of its total line, `norm` nothing
+abbrev pub BeginsOut : Asked → DeskView → DeskView → Type 0
+BeginsOut (sim netlist_name tests_name report_name) old new =
+    (netlist tests : List ℕ) → AreInputs netlist_name tests_name netlist tests old → BeginsTotal netlist tests old new
+BeginsOut (norm netlist_name out_name) old new = new.written Out ≡ old.written Out
+
 -- A fault of writing was counted, on a desk that isn't steady, after the inputs were accepted.
 pub record FailsToWrite (job : Asked) (old new : DeskView) : Type 0 where
   pub rose : Rose old.out_faults new.out_faults
   pub unsteady : ¬ IsTrue old.steady
   pub inputs : AcceptsInputs job old
+  pub out : BeginsOut job old new
 
 -- What holds where the work of a job ends by a trouble. Want of memory is the one free answer.
 abbrev pub HasCause : Asked → DeskView → DeskView → Trouble → Type 0

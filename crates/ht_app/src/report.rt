@@ -1,8 +1,9 @@
 // The file that a command writes.
-ghost use Rattle.std.specs.Prelude.{◌≡◌, IfErr, OnOk};
-ghost use Rattle.ht_ports.specs.Desk.{IsWritable, Writes, Added};
+ghost use Rattle.std.specs.Prelude.{◌≡◌, IfErr, OnOk, OnErr};
+ghost use Rattle.ht_ports.specs.Desk.{IsWritable, Writes, Added, AddedPart};
 ghost use Rattle.ht_ports.specs.declared.ports.OutPort.TheVariants as out_port;
 ghost use Rattle.ht_app.specs.Causes.{OnlyWork, IsBegun, IsReported, WriteFailed};
+ghost use Rattle.ht_app.specs.Run.{IsBegunOn};
 ghost use Rattle.ht_app.specs.declared.trouble.Trouble.TheVariants as trouble;
 
 use crate::trouble::Trouble;
@@ -13,6 +14,7 @@ fn write_text<D: Desk>(desk: &mut D, port: OutPort, text: &[u8]) -> Result<(), T
     requires { IsWritable (D.view desk.old) port }
     ensures frame { Writes port (D.view desk.old) (D.view desk.new) }
     ensures added { OnOk result (Added port text.now (D.view desk.old) (D.view desk.new)) }
+    ensures part { OnErr result (AddedPart port text.now (D.view desk.old) (D.view desk.new)) }
     ensures error { IfErr result (λ e. e ≡ trouble.WriteFault) }
     ensures cause { IfErr result (λ e. WriteFailed (D.view desk.old) (D.view desk.new)) }
 {
@@ -47,6 +49,7 @@ pub fn write_report<D: Desk>(
 ) -> Result<(), Trouble>
     ensures frame { OnlyWork name.now (D.view desk.old) (D.view desk.new) }
     ensures report { OnOk result (IsReported name.now body.now total.now (D.view desk.old) (D.view desk.new)) }
+    ensures begun { OnErr result (IsBegunOn out_port.Out total.now (D.view desk.old) (D.view desk.new)) }
     ensures error { IfErr result (λ e. e ≡ trouble.WriteFault) }
     ensures cause { IfErr result (λ e. WriteFailed (D.view desk.old) (D.view desk.new)) }
 {
