@@ -5,7 +5,7 @@ use Rattle.std.specs.Io.KnownBytes.{append_known}
 use Rattle.ht_ports.specs.Desk.{DeskView}
 use Rattle.ht_ports.specs.declared.ports.InPort.TheVariants.{Netlist}
 use Rattle.ht_ports.specs.declared.ports.OutPort.TheVariants.{Report, Out, Err}
-use Rattle.ht_net.specs.declared.site.Place.{Place}
+use Rattle.ht_net.specs.declared.place.Place.{Place}
 use Rattle.ht_net.specs.Netlist as net
 use Rattle.ht_net.specs.Detection.{IsFirstDetection}
 use Rattle.ht_faults.specs.Sites.{faults_of}

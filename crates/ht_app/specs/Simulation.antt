@@ -1,7 +1,7 @@
 -- Places of detection, and the report of them.
 use Rattle.std.specs.Prelude.{◌≡◌, ◌<◌, ℕ, List, Option, None, Bool, length, get_or}
 use Rattle.std.specs.Option.{ForSome}
-use Rattle.ht_net.specs.declared.site.Place.{Place}
+use Rattle.ht_net.specs.declared.place.Place.{Place}
 use Rattle.ht_net.specs.Netlist.{Netlist}
 use Rattle.ht_net.specs.Detection.{IsFirstDetection}
 use Rattle.ht_faults.specs.Sites.{faults_of}

@@ -4,7 +4,7 @@ use Rattle.std.proofs.Math.Seq.{take-suc}
 use Rattle.std.proofs.lemmas.List.{map-append, take_all}
 use Rattle.std.proofs.lemmas.List.Concat.{flat_map-append}
 use Rattle.ht_tern.specs.declared.gate.Kind.TheVariants.{Buf}
-use Rattle.ht_net.specs.declared.site.NetId.{NetId}
+use Rattle.ht_net.specs.declared.net.NetId.{NetId}
 use Rattle.ht_net.specs.Netlist.{Netlist, Gate, no_net, no_gate}
 use Rattle.ht_net.specs.Named.{Name, NamedDff, NamedGate, name_of, named_dffs, named_gates}
 use Rattle.ht_statement.specs.Statement.{Statement}

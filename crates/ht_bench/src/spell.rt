@@ -1,6 +1,6 @@
 // The lines of normal text.
 ghost use Rattle.std.specs.Prelude.{◌≡◌, ◌<◌, ◌++◌, map, codes, All, OnOk};
-ghost use Rattle.ht_net.specs.declared.site.NetId.{NetId};
+ghost use Rattle.ht_net.specs.declared.net.NetId.{NetId};
 ghost use Rattle.ht_net.specs.Netlist.{net_count};
 ghost use Rattle.ht_net.specs.Named.{name_of};
 ghost use Rattle.ht_statement.specs.Statement.{Input, Output, Dff, Gate};

@@ -1,7 +1,7 @@
 -- What a refutation means: no list of vectors shows a difference.
 use Rattle.std.proofs.Common.{◌≡◌, ℕ, List, [], Bool, true, false, not, Some, None, length, get_or, replicate, ◌∙◌, ap}
 use Rattle.std.proofs.lemmas.List.{length-replicate}
-use Rattle.ht_net.specs.declared.site.Fault.{Fault}
+use Rattle.ht_net.specs.declared.fault.Fault.{Fault}
 use Rattle.ht_net.specs.Netlist.{Netlist, IsCircuit}
 use Rattle.ht_net.specs.Silence.{IsState, Silent, bit_at}
 use Rattle.ht_net.specs.Detection.{Detects}

@@ -1,8 +1,8 @@
 -- Faults of the list have one end exactly where they are in one class.
 use Rattle.std.proofs.Common.{◌≡◌, ◌<◌, ◌≤◌, ◌+◌, ◌⊎◌, ℕ, List, Bool, true, false, cond, Option, Some, None, length, get_or, refl, sym, ◌∙◌, ap, arith, inl, inr, subst}
-use Rattle.ht_net.specs.declared.site.Site.{Site}
-use Rattle.ht_net.specs.declared.site.Site.TheVariants.{Stem, DffPin, GatePin}
-use Rattle.ht_net.specs.declared.site.Fault.{Fault}
+use Rattle.ht_net.specs.declared.fault.Site.{Site}
+use Rattle.ht_net.specs.declared.fault.Site.TheVariants.{Stem, DffPin, GatePin}
+use Rattle.ht_net.specs.declared.fault.Fault.{Fault}
 use Rattle.ht_net.specs.Netlist.{Netlist, first_gate_net, net_count, gate_at, arg_at, IsCircuit}
 use Rattle.ht_faults.specs.Sites.{is_fanout, IsFaultSite, faults_of}
 use Rattle.ht_net.specs.Levels.{loads_of}

@@ -5,8 +5,8 @@ use Rattle.std.proofs.lemmas.Bool.{cases_lt}
 use Rattle.std.proofs.lemmas.List.{get_or_append_left}
 use Rattle.std.proofs.lemmas.List.Elements.{filter-append}
 use Rattle.std.proofs.lemmas.List.FromFn.{get_or-map-range_with_len, length-map-range_with_len}
-use Rattle.ht_net.specs.declared.site.Site.{Site}
-use Rattle.ht_net.specs.declared.site.Site.TheVariants.{Stem}
+use Rattle.ht_net.specs.declared.fault.Site.{Site}
+use Rattle.ht_net.specs.declared.fault.Site.TheVariants.{Stem}
 use Rattle.ht_net.specs.Netlist.{Netlist, net_count, no_net}
 use Rattle.ht_net.specs.Faults.{stems_of}
 use Rattle.ht_faults.specs.Sites.{data_pins_of, gate_pins_of, is_site, sites_of, faults_of}

@@ -3,7 +3,7 @@ use Rattle.std.proofs.Common.{◌≡◌, ◌≢◌, ◌<◌, ◌≤◌, ◌+◌,
 use Rattle.std.specs.Prelude.{eqb}
 use Rattle.std.proofs.lemmas.Bool.Decides.{eqb_tells}
 use Rattle.ht_tern.specs.declared.gate.Kind.{Kind}
-use Rattle.ht_net.specs.declared.site.Site.TheVariants.{GatePin}
+use Rattle.ht_net.specs.declared.fault.Site.TheVariants.{GatePin}
 use Rattle.ht_net.specs.Netlist.{Netlist, first_gate_net, net_count, gate_at, arg_at, IsCircuit}
 use Rattle.ht_net.specs.Frame.{Rules, pin_values, net_value_over, net_value, IsSettled, frame_outputs, next_state}
 use Rattle.ht_net.specs.Faults.{forced}

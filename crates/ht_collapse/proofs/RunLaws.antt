@@ -5,10 +5,10 @@ use Rattle.ht_tern.specs.declared.tern.Tern.{Tern}
 use Rattle.ht_tern.specs.declared.tern.Tern.TheVariants.{Unk}
 use Rattle.ht_tern.specs.declared.gate.Kind.{Kind}
 use Rattle.ht_tern.specs.Gate.{tern_operations, bool_operations, gate_value, bool_gate_value, tern_of}
-use Rattle.ht_net.specs.declared.site.Fault.{Fault}
-use Rattle.ht_net.specs.declared.site.Place.{Place}
-use Rattle.ht_net.specs.declared.site.Site.{Site}
-use Rattle.ht_net.specs.declared.site.Site.TheVariants.{GatePin}
+use Rattle.ht_net.specs.declared.fault.Fault.{Fault}
+use Rattle.ht_net.specs.declared.place.Place.{Place}
+use Rattle.ht_net.specs.declared.fault.Site.{Site}
+use Rattle.ht_net.specs.declared.fault.Site.TheVariants.{GatePin}
 use Rattle.ht_net.specs.Netlist.{Netlist, first_gate_net, gate_at, arg_at, IsCircuit}
 use Rattle.ht_net.specs.Frame.{Rules, frame_outputs, next_state, run_outputs, run_state}
 use Rattle.ht_net.specs.Faults.{rules_of, tern_rules, bool_rules}

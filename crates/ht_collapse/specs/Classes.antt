@@ -1,8 +1,8 @@
 -- Classes of equivalent faults.
 use Rattle.std.specs.Prelude.{◌≡◌, ◌<◌, ◌+◌, ℕ, List, Some, length, get_or, cond}
-use Rattle.ht_net.specs.declared.site.Site.{Site}
-use Rattle.ht_net.specs.declared.site.Site.TheVariants.{Stem, GatePin}
-use Rattle.ht_net.specs.declared.site.Fault.{Fault}
+use Rattle.ht_net.specs.declared.fault.Site.{Site}
+use Rattle.ht_net.specs.declared.fault.Site.TheVariants.{Stem, GatePin}
+use Rattle.ht_net.specs.declared.fault.Fault.{Fault}
 use Rattle.ht_net.specs.Netlist.{Netlist, first_gate_net, gate_at, arg_at}
 use Rattle.ht_faults.specs.Sites.{is_fanout, faults_of}
 use Rattle.ht_faults.specs.FaultList.{no_fault}

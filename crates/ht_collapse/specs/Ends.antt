@@ -1,7 +1,7 @@
 -- Where faults lead: each line feeds one gate at most, so a fault has at most one equivalent fault one gate further.
 use Rattle.std.specs.Prelude.{◌≡◌, ◌≢◌, ◌<◌, ◌+◌, ◌*◌, ◌↔◌, ℕ, List, Bool, true, false, Option, Some, None, length, get_or, set}
-use Rattle.ht_net.specs.declared.site.Site.{Site}
-use Rattle.ht_net.specs.declared.site.Site.TheVariants.{Stem, DffPin, GatePin}
+use Rattle.ht_net.specs.declared.fault.Site.{Site}
+use Rattle.ht_net.specs.declared.fault.Site.TheVariants.{Stem, DffPin, GatePin}
 use Rattle.ht_net.specs.Netlist.{Netlist, first_gate_net, net_count, gate_at, arg_at}
 use Rattle.ht_faults.specs.Sites.{is_fanout, faults_of}
 use Rattle.ht_collapse.specs.Table.{equivalent_output}

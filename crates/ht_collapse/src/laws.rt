@@ -1,7 +1,7 @@
 // What members of a class have in common. Each law is the contract of a function that does nothing.
 ghost use Rattle.std.specs.Prelude.{◌≡◌, ◌<◌, ℕ, List, Bool, Option, Some, ◌↔◌, length, get_or};
-ghost use Rattle.ht_net.specs.declared.site.Fault.{Fault};
-ghost use Rattle.ht_net.specs.declared.site.Place.{Place};
+ghost use Rattle.ht_net.specs.declared.fault.Fault.{Fault};
+ghost use Rattle.ht_net.specs.declared.place.Place.{Place};
 ghost use Rattle.ht_net.specs.Netlist.{Netlist, IsCircuit};
 ghost use Rattle.ht_net.specs.Faults.{tern_rules, bool_rules};
 ghost use Rattle.ht_net.specs.Detection.{IsFirstDetection};

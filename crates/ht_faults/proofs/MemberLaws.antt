@@ -6,9 +6,9 @@ use Rattle.std.proofs.lemmas.Bool.{lt-ltb, ltb-true}
 use Rattle.std.proofs.lemmas.Bool.Decides.{eqb_tells}
 use Rattle.std.proofs.lemmas.List.Elements.{All-filter, filter_passes, All-contains, All-contains_itself, Contains-append_left, Contains-append_right, Contains-append_cases, Contains-get_or}
 use Rattle.std.proofs.lemmas.List.FromFn.{length-map-range_with_len, get_or-map-range_with_len}
-use Rattle.ht_net.specs.declared.site.Site.{Site}
-use Rattle.ht_net.specs.declared.site.Site.TheVariants.{Stem, DffPin, GatePin}
-use Rattle.ht_net.specs.declared.site.Fault.{Fault}
+use Rattle.ht_net.specs.declared.fault.Site.{Site}
+use Rattle.ht_net.specs.declared.fault.Site.TheVariants.{Stem, DffPin, GatePin}
+use Rattle.ht_net.specs.declared.fault.Fault.{Fault}
 use Rattle.ht_net.specs.Netlist.{Netlist, net_count, gate_at, no_net}
 use Rattle.ht_net.specs.Faults.{stems_of}
 use Rattle.ht_faults.specs.Sites.{data_pins_of, pins_of_gate, gate_pins_of, circuit_lines, is_fanout, is_site, IsFaultSite, sites_of, faults_of}

@@ -1,8 +1,8 @@
 -- A fault list as contracts see it, and how its fields stand for it.
 use Rattle.std.specs.Prelude.{◌<◌, ◌^◌, List, false, length}
 use Rattle.std.specs.List.{flat_map}
-use Rattle.ht_net.specs.declared.site.Site.TheVariants.{Stem}
-use Rattle.ht_net.specs.declared.site.Fault.{Fault}
+use Rattle.ht_net.specs.declared.fault.Site.TheVariants.{Stem}
+use Rattle.ht_net.specs.declared.fault.Fault.{Fault}
 use Rattle.ht_net.specs.Netlist.{no_net}
 use Rattle.ht_net.specs.Faults.{site_faults}
 use Rattle.ht_faults.specs.declared.fault_list.FaultList.TheInside.{Inside}

@@ -1,9 +1,9 @@
 -- The lines of a circuit that a fault stands on, and the whole fault list.
 use Rattle.std.specs.Prelude.{◌<◌, ◌≤◌, ℕ, List, ◌++◌, Bool, true, ltb, length, get_or, map}
 use Rattle.std.specs.List.{filter, flat_map, range_with_len}
-use Rattle.ht_net.specs.declared.site.Site.{Site}
-use Rattle.ht_net.specs.declared.site.Site.TheVariants.{Stem, DffPin, GatePin}
-use Rattle.ht_net.specs.declared.site.Fault.{Fault}
+use Rattle.ht_net.specs.declared.fault.Site.{Site}
+use Rattle.ht_net.specs.declared.fault.Site.TheVariants.{Stem, DffPin, GatePin}
+use Rattle.ht_net.specs.declared.fault.Fault.{Fault}
 use Rattle.ht_net.specs.Netlist.{Netlist, net_count, gate_at, arg_at, no_net}
 use Rattle.ht_net.specs.Levels.{loads_of}
 use Rattle.ht_net.specs.Faults.{stems_of, site_faults}

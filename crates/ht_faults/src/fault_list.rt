@@ -18,7 +18,7 @@ pub struct FaultList {
 
 impl Model for FaultList {
     ghost use Rattle.std.specs.Prelude.{List};
-    ghost use Rattle.ht_net.specs.declared.site.Fault.{Fault};
+    ghost use Rattle.ht_net.specs.declared.fault.Fault.{Fault};
 
     ghost Value = { List Fault };
 

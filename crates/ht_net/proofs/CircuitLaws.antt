@@ -10,7 +10,7 @@ use Rattle.std.proofs.lemmas.Map.Steps.{length-le_from_distinct_below}
 use Rattle.std.proofs.lemmas.Map.Views.{Contains-from_any}
 use Rattle.std.proofs.lemmas.List.{get_or-append_right, get_or_append_left, length-map, get_or-map}
 use Rattle.ht_net.specs.declared.names.NameId.{NameId}
-use Rattle.ht_net.specs.declared.site.NetId.{NetId}
+use Rattle.ht_net.specs.declared.net.NetId.{NetId}
 use Rattle.ht_net.specs.declared.builder.Driver.{Driver}
 use Rattle.ht_net.specs.declared.builder.Driver.TheVariants.{Free, Input, Dff, Gate}
 use Rattle.ht_tern.specs.declared.gate.Kind.{Kind}

@@ -5,8 +5,8 @@ use Rattle.ht_tern.specs.declared.tern.Tern.TheVariants.{Unk}
 use Rattle.ht_tern.specs.declared.gate.Kind.{Kind}
 use Rattle.ht_tern.specs.Gate.{AllRelated, Refines, StandsFor, gate_value, bool_gate_value, tern_of}
 use Rattle.ht_tern.proofs.GateLaws.{gate_refines, gate_bits}
-use Rattle.ht_net.specs.declared.site.Fault.{Fault}
-use Rattle.ht_net.specs.declared.site.Site.{Site}
+use Rattle.ht_net.specs.declared.fault.Fault.{Fault}
+use Rattle.ht_net.specs.declared.fault.Site.{Site}
 use Rattle.ht_net.specs.Netlist.{Netlist}
 use Rattle.ht_net.specs.Frame.{Preserves, net_value, run_outputs}
 use Rattle.ht_net.specs.Faults.{rules_of, forced, tern_rules, bool_rules, is_stem, is_pin, is_data_pin}

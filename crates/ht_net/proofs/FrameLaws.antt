@@ -1,7 +1,7 @@
 use Rattle.std.proofs.Common.{◌≡◌, ◌<◌, ◌≤◌, ◌+◌, ◌-◌, ℕ, suc, zero, List, [], ◌∷◌, length, get_or, refl, sym, ◌∙◌, ap, arith, inl, inr, ◌⊎◌, take, drop, set, ◌++◌, append_assoc}
 use Rattle.std.proofs.lemmas.List.{take_more_set, drop_more, drop_all, append-nil}
 use Rattle.std.proofs.lemmas.Bool.Decides.{nat_tests}
-use Rattle.ht_net.specs.declared.site.NetId.{NetId}
+use Rattle.ht_net.specs.declared.net.NetId.{NetId}
 use Rattle.ht_tern.specs.declared.gate.Kind.{Kind}
 use Rattle.ht_net.specs.Netlist.{Netlist, first_gate_net, net_count, gate_at, no_net}
 use Rattle.ht_net.specs.Frame.{Rules, pin_values, gate_output, driver_value, net_value_over, net_value_within, net_value, IsSettled}

@@ -1,6 +1,6 @@
 -- The levels that a walk finds are the levels of the gates.
 use Rattle.std.proofs.Common.{◌≡◌, ◌<◌, ◌+◌, ◌-◌, ℕ, suc, List, [], ◌∷◌, length, get_or, max, cond, Bool, true, false, refl, sym, ◌∙◌, ap, arith, inl, inr}
-use Rattle.ht_net.specs.declared.site.NetId.{NetId}
+use Rattle.ht_net.specs.declared.net.NetId.{NetId}
 use Rattle.std.specs.Prelude.{ltb}
 use Rattle.std.proofs.lemmas.Bool.Decides.{nat_tests}
 use Rattle.ht_net.specs.Netlist.{Netlist, first_gate_net, gate_at, IsCircuit, IsOrder}

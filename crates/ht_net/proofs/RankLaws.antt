@@ -1,6 +1,6 @@
 -- Levels are a rank, and a cycle leaves none.
 use Rattle.std.proofs.Common.{◌≡◌, ◌<◌, ◌≤◌, ◌+◌, ◌-◌, ℕ, suc, zero, List, [], ◌∷◌, length, get_or, arith, subst}
-use Rattle.ht_net.specs.declared.site.NetId.{NetId}
+use Rattle.ht_net.specs.declared.net.NetId.{NetId}
 use Rattle.ht_net.specs.Netlist.{Gate, no_net}
 use Rattle.ht_net.specs.GateLevels.{net_level, highest_level, args_of, IsLevelled, IsRanked}
 use Rattle.ht_net.specs.Cycle.{Reads, IsCycle}

@@ -2,7 +2,7 @@
 use Rattle.std.proofs.Common.{◌+◌, ◌-◌, ℕ, suc, zero, List, [], ◌∷◌, length, get_or, cond, true, false, Bool}
 use Rattle.std.specs.Prelude.{ltb}
 use Rattle.ht_tern.specs.Gate.{AllRelated}
-use Rattle.ht_net.specs.declared.site.NetId.{NetId}
+use Rattle.ht_net.specs.declared.net.NetId.{NetId}
 use Rattle.ht_net.specs.Netlist.{Netlist, first_gate_net, gate_at}
 use Rattle.ht_net.specs.Frame.{Rules, pin_values, gate_output, driver_value, net_value_over, net_value_within, net_value, Preserves, values_at, data_values, frame_outputs, next_state, run_outputs}
 

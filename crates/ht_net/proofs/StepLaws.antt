@@ -6,7 +6,7 @@ use Rattle.std.proofs.lemmas.Bool.{cases_lt, cases_eq}
 use Rattle.std.proofs.lemmas.Bool.Decides.{nat_tests}
 use Rattle.std.proofs.lemmas.List.{get_or-take, length-take-le, get_or-set_same, get_or-set_other, length-set, get_or_append_left, get_or_push, get_or-reverse, get_or-drop, length-reverse, length-drop, get_or_past}
 use Rattle.std.proofs.lemmas.List.Sums.{sum_by-set}
-use Rattle.ht_net.specs.declared.site.NetId.{NetId}
+use Rattle.ht_net.specs.declared.net.NetId.{NetId}
 use Rattle.ht_net.specs.Netlist.{Gate}
 use Rattle.ht_net.specs.GateLevels.{net_level, highest_level, args_of, IsLevelled}
 use Rattle.ht_net.specs.Cycle.{Reads, IsCycle}

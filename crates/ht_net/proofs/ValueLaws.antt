@@ -1,7 +1,7 @@
 -- What outputs show and flip-flops take.
 use Rattle.std.proofs.Common.{◌≡◌, ◌<◌, ◌+◌, ℕ, suc, zero, List, [], ◌∷◌, ◌++◌, length, get_or, take, drop, set, replicate, refl, sym, ◌∙◌, ap, arith, append_assoc}
 use Rattle.std.proofs.lemmas.List.{take_more_set, drop_more, drop_all, append-nil, take_all}
-use Rattle.ht_net.specs.declared.site.NetId.{NetId}
+use Rattle.ht_net.specs.declared.net.NetId.{NetId}
 use Rattle.ht_net.specs.Netlist.{no_net}
 use Rattle.ht_net.specs.Frame.{Rules, values_at, data_values}
 

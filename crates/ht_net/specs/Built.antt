@@ -2,7 +2,7 @@
 use Rattle.std.specs.Prelude.{List, [], ◌<◌, length, get_or, map, eqb}
 use Rattle.std.specs.List.{position_or_len}
 use Rattle.ht_net.specs.declared.names.NameId.{NameId}
-use Rattle.ht_net.specs.declared.site.NetId.{NetId}
+use Rattle.ht_net.specs.declared.net.NetId.{NetId}
 use Rattle.ht_net.specs.declared.draft.DffPart.{DffPart}
 use Rattle.ht_net.specs.Netlist.{Netlist, Gate}
 use Rattle.ht_net.specs.Draft.{Draft, GatePart, driven_names, IsDriven, IsName}

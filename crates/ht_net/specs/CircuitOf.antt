@@ -1,7 +1,7 @@
 -- How a circuit's fields stand for it.
 use Rattle.std.specs.Prelude.{List, ◌≡◌, ℕ, ◌<◌, ◌≤◌, length, get_or, map, Vec}
 use Rattle.std.specs.declared.alloc.Global.{Global}
-use Rattle.ht_net.specs.declared.site.NetId.{NetId}
+use Rattle.ht_net.specs.declared.net.NetId.{NetId}
 use Rattle.ht_net.specs.Netlist.{Netlist, Gate, first_gate_net, net_count, IsRank, IsCircuit, IsOrder, most_nets}
 use Rattle.ht_net.specs.GateLevels.{AreKnown}
 use Rattle.ht_net.specs.Levels.{level_of, loads_of, IsLevelOrder}

@@ -1,6 +1,6 @@
 -- The levels of gates: 1 more than the highest level among the arguments, where an input or a flip-flop counts as 0.
 use Rattle.std.specs.Prelude.{◌≡◌, ℕ, List, [], ◌∷◌, ◌-◌, ◌+◌, ◌<◌, ◌≤◌, suc, max, ltb, cond, length, get_or}
-use Rattle.ht_net.specs.declared.site.NetId.{NetId}
+use Rattle.ht_net.specs.declared.net.NetId.{NetId}
 use Rattle.ht_net.specs.Netlist.{Gate, no_gate, no_net}
 
 -- the arguments of a gate

@@ -1,7 +1,7 @@
 -- The levels of gates and the loads of nets.
 use Rattle.std.specs.Prelude.{◌≤◌, ◌<◌, ℕ, suc, List, [], ◌∷◌, ◌+◌, ◌-◌, max, cond, ltb, length, get_or, eqb}
 use Rattle.std.specs.List.{sum_by, count_by}
-use Rattle.ht_net.specs.declared.site.NetId.{NetId}
+use Rattle.ht_net.specs.declared.net.NetId.{NetId}
 use Rattle.ht_net.specs.Netlist.{Netlist, Gate, first_gate_net}
 use Rattle.ht_net.specs.Frame.{Rules, net_value}
 

@@ -1,6 +1,6 @@
 -- What a gate waits for.
 use Rattle.std.specs.Prelude.{◌≡◌, ℕ, List, ◌+◌, ◌<◌, suc, length, get_or}
-use Rattle.ht_net.specs.declared.site.NetId.{NetId}
+use Rattle.ht_net.specs.declared.net.NetId.{NetId}
 use Rattle.ht_net.specs.declared.levels.Next.{Next}
 use Rattle.ht_net.specs.declared.levels.Next.TheVariants.{Level, Gate}
 use Rattle.ht_net.specs.Netlist.{no_net}

@@ -1,6 +1,6 @@
 -- What two-valued runs show of a fault: apart, sealed and silent.
 use Rattle.std.specs.Prelude.{◌≡◌, ◌<◌, ℕ, List, [], Bool, false, not, Option, Some, None, length, get_or}
-use Rattle.ht_net.specs.declared.site.Fault.{Fault}
+use Rattle.ht_net.specs.declared.fault.Fault.{Fault}
 use Rattle.ht_net.specs.Netlist.{Netlist}
 use Rattle.ht_net.specs.Frame.{frame_outputs, next_state, run_outputs}
 use Rattle.ht_net.specs.Faults.{bool_rules}

@@ -1,7 +1,7 @@
 -- A walk down the arguments of gates: which gates have their levels, and the path to the gate that is looked at.
 use Rattle.std.specs.Prelude.{◌≡◌, ◌≢◌, ℕ, List, Bool, true, false, ◌-◌, ◌+◌, ◌<◌, ◌≤◌, suc, cond, eqb, length, get_or}
 use Rattle.std.specs.List.{sum_by}
-use Rattle.ht_net.specs.declared.site.NetId.{NetId}
+use Rattle.ht_net.specs.declared.net.NetId.{NetId}
 use Rattle.ht_net.specs.Netlist.{Gate, no_net}
 use Rattle.ht_net.specs.GateLevels.{args_of, highest_level}
 use Rattle.ht_net.specs.Cycle.{Reads}

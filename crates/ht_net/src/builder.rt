@@ -8,6 +8,7 @@ ghost use Rattle.ht_net.specs.Netlist.{most_nets};
 ghost use Rattle.ht_net.specs.Draft.{IsDraft, IsDriven, IsName, no_name};
 ghost use Rattle.ht_net.specs.Refusals.{RefusesName, RefusesInput, AcceptsInput, RefusesOutput, RefusesDff, AcceptsDff, RefusesGate, AcceptsGate};
 
+mod cycle;
 mod finish;
 
 use crate::draft::{DffPart, DraftGate};

@@ -7,8 +7,9 @@ ghost use Rattle.ht_net.specs.WalkFault.{IsWalkFault};
 
 use crate::NetId;
 use crate::gates::Gates;
-use crate::levels::{WalkError, find_levels, level_order};
+use crate::levels::{WalkError, find_levels};
 use crate::loads::count_loads;
+use crate::order::level_order;
 use ht_tern::Kind;
 use std::alloc::Global;
 use std::marker::Model;

@@ -7,7 +7,6 @@ ghost use Rattle.ht_net.specs.GateLevels.{AreKnown, IsLevelled};
 ghost use Rattle.ht_net.specs.Walk.{IsPartly, IsPath, StaySeen};
 ghost use Rattle.ht_net.specs.WalkFault.{IsWalkFault};
 ghost use Rattle.ht_net.specs.Tail.{IsOnPath, IsTail};
-ghost use Rattle.ht_net.specs.Sorted.{IsEach, IsRising};
 
 use crate::NetId;
 use crate::gates::Gates;
@@ -141,18 +140,4 @@ pub fn find_levels(alloc: Global, first: u32, gates: &Gates) -> Result<Vec<u32>,
         }
     }
     Ok(levels)
-}
-
-/// All gates, with levels that do not fall.
-pub fn level_order(alloc: Global, levels: &[u32]) -> Result<Vec<u32>, AllocError>
-    requires { length levels.now < 2 ^ 32 }
-    ensures each { IfOk result (λ order. IsEach (length levels.now) order.items) }
-    ensures rising { IfOk result (λ order. IsRising levels.now order.items) }
-{
-    let mut order: Vec<u32> = Vec::new(alloc);
-    for gate in 0..levels.len() as u32 {
-        order.push(gate)?;
-    }
-    order.sort_by_key(|gate| levels.get(*gate as usize).copied().unwrap_or(0))?;
-    Ok(order)
 }

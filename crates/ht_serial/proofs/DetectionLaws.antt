@@ -5,8 +5,8 @@ use Rattle.std.proofs.lemmas.List.{get_or-map, get_or_past, take-map, take_more,
 use Rattle.std.specs.declared.alloc.Global.{Global}
 use Rattle.ht_tern.specs.declared.tern.Tern.{Tern}
 use Rattle.ht_tern.specs.declared.tern.Tern.TheVariants.{Zero, One, Unk}
-use Rattle.ht_net.specs.declared.site.Fault.{Fault}
-use Rattle.ht_net.specs.declared.site.Place.{Place}
+use Rattle.ht_net.specs.declared.fault.Fault.{Fault}
+use Rattle.ht_net.specs.declared.place.Place.{Place}
 use Rattle.ht_net.specs.Netlist.{Netlist}
 use Rattle.ht_net.specs.Frame.{Rules, net_value, frame_outputs, next_state, run_state, run_outputs}
 use Rattle.ht_net.specs.Faults.{tern_rules}

@@ -3,7 +3,7 @@ use Rattle.std.proofs.Common.{◌≡◌, ◌<◌, ◌-◌, ℕ, suc, zero, List,
 use Rattle.std.specs.Prelude.{ltb}
 use Rattle.std.proofs.lemmas.Bool.{lt-ltb}
 use Rattle.std.proofs.lemmas.List.{append-nil}
-use Rattle.ht_net.specs.declared.site.Fault.{Fault}
+use Rattle.ht_net.specs.declared.fault.Fault.{Fault}
 use Rattle.ht_net.specs.Netlist.{Netlist}
 use Rattle.ht_net.specs.Frame.{Rules, frame_outputs, next_state, run_state, run_outputs}
 use Rattle.ht_serial.specs.MachineState.{Reading, started, stepped, after, after_run, blank_outputs}

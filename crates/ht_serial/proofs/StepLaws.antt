@@ -1,7 +1,7 @@
 -- What the fields of a machine make of it at the start and after a frame.
 use Rattle.std.proofs.Common.{◌≡◌, ◌<◌, ℕ, List, Bool, true, false, Option, replicate, get_or, ◌∙◌, ap}
 use Rattle.std.proofs.lemmas.List.{get_or-replicate}
-use Rattle.ht_net.specs.declared.site.Fault.{Fault}
+use Rattle.ht_net.specs.declared.fault.Fault.{Fault}
 use Rattle.ht_net.specs.Netlist.{Netlist, net_count, no_net, IsCircuit}
 use Rattle.ht_net.specs.Frame.{net_value, values_at, data_values, frame_outputs, next_state}
 use Rattle.ht_net.proofs.ValueLaws.{seen_same, taken_same, seen_all}

@@ -1,6 +1,6 @@
 -- How a machine's fields stand for it.
 use Rattle.std.specs.Prelude.{◌≡◌, List, Bool, Option, length}
-use Rattle.ht_net.specs.declared.site.Fault.{Fault}
+use Rattle.ht_net.specs.declared.fault.Fault.{Fault}
 use Rattle.ht_net.specs.Netlist.{Netlist, net_count, IsCircuit}
 use Rattle.ht_net.specs.Frame.{values_at}
 use Rattle.ht_frame.specs.Values.{env_of}

@@ -1,7 +1,7 @@
 -- A machine as contracts see it, over any domain of values, and what frames make of it.
 use Rattle.std.specs.Prelude.{◌-◌, List, [], ◌∷◌, Bool, true, false, ltb, Option, length, get_or, replicate, map}
 use Rattle.ht_tern.specs.declared.tern.Tern.{Tern}
-use Rattle.ht_net.specs.declared.site.Fault.{Fault}
+use Rattle.ht_net.specs.declared.fault.Fault.{Fault}
 use Rattle.ht_net.specs.Netlist.{Netlist}
 use Rattle.ht_net.specs.Frame.{Rules, frame_outputs, next_state, run_state, run_outputs}
 use Rattle.ht_net.specs.Faults.{tern_rules}

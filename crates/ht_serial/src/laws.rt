@@ -2,7 +2,7 @@
 // does nothing.
 ghost use Rattle.std.specs.Prelude.{◌≡◌, ℕ, List, Bool, Option};
 ghost use Rattle.ht_tern.specs.declared.tern.Tern.{Tern};
-ghost use Rattle.ht_net.specs.declared.site.Fault.{Fault};
+ghost use Rattle.ht_net.specs.declared.fault.Fault.{Fault};
 ghost use Rattle.ht_net.specs.Netlist.{Netlist};
 ghost use Rattle.ht_net.specs.Faults.{tern_rules, bool_rules};
 ghost use Rattle.ht_net.specs.Detection.{Detects};

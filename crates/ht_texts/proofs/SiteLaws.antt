@@ -1,7 +1,7 @@
 -- Each fault of the list stands on a line of the circuit.
 use Rattle.std.proofs.Common.{◌<◌, ℕ, length}
-use Rattle.ht_net.specs.declared.site.Site.{Site}
-use Rattle.ht_net.specs.declared.site.Site.TheVariants.{Stem, DffPin, GatePin}
+use Rattle.ht_net.specs.declared.fault.Site.{Site}
+use Rattle.ht_net.specs.declared.fault.Site.TheVariants.{Stem, DffPin, GatePin}
 use Rattle.ht_net.specs.Netlist.{Netlist}
 use Rattle.ht_faults.specs.Sites.{IsFaultSite, faults_of}
 use Rattle.ht_faults.proofs.MemberLaws.{fault_site}

@@ -1,8 +1,8 @@
 -- The lines of a circuit that a fault can stand on, and how a report names them.
 use Rattle.std.specs.Prelude.{ℕ, ◌+◌, ◌<◌, List, ◌++◌, length, get_or, codes}
 use Rattle.std.specs.Fmt.{decimal}
-use Rattle.ht_net.specs.declared.site.Site.{Site}
-use Rattle.ht_net.specs.declared.site.Site.TheVariants.{Stem, DffPin, GatePin}
+use Rattle.ht_net.specs.declared.fault.Site.{Site}
+use Rattle.ht_net.specs.declared.fault.Site.TheVariants.{Stem, DffPin, GatePin}
 use Rattle.ht_net.specs.Netlist.{Netlist, net_count, first_gate_net, gate_at, no_net}
 use Rattle.ht_net.specs.Named.{name_of}
 

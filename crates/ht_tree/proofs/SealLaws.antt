@@ -2,7 +2,7 @@
 use Rattle.std.proofs.Common.{◌≡◌, ◌<◌, ◌+◌, ℕ, suc, zero, List, [], ◌∷◌, map, Bool, false, Option, Some, None, length, get_or, refl, sym, ◌∙◌, ap, inl, inr, arith, subst}
 use Rattle.std.specs.List.{list_any, range_with_len}
 use Rattle.ht_tern.specs.Pairs.{Pair, IsMember}
-use Rattle.ht_net.specs.declared.site.Fault.{Fault}
+use Rattle.ht_net.specs.declared.fault.Fault.{Fault}
 use Rattle.ht_net.specs.Netlist.{Netlist, IsCircuit, net_count, first_gate_net, no_net}
 use Rattle.ht_net.specs.Frame.{Rules, net_value, net_value_over, net_value_within, driver_value, values_at, data_values, frame_outputs, next_state, run_outputs}
 use Rattle.ht_net.specs.Faults.{bool_rules, is_data_pin}

@@ -1,6 +1,6 @@
 // What a complete walk of the one-frame window means. Each law is the contract of a function that does nothing.
 ghost use Rattle.std.specs.Prelude.{ℕ, List, Bool};
-ghost use Rattle.ht_net.specs.declared.site.Fault.{Fault};
+ghost use Rattle.ht_net.specs.declared.fault.Fault.{Fault};
 ghost use Rattle.ht_net.specs.Netlist.{Netlist, IsCircuit};
 ghost use Rattle.ht_net.specs.Silence.{IsState, Sealed, Silent};
 ghost use Rattle.ht_tree.specs.declared.token.Token.{Token};

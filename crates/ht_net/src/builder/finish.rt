@@ -6,10 +6,8 @@ ghost use Rattle.ht_net.specs.Netlist.{IsCircuit};
 ghost use Rattle.ht_net.specs.Named.{named_of};
 ghost use Rattle.ht_net.specs.Draft.{IsDriven, IsName, no_name, driven_names, latch_names, gate_names};
 ghost use Rattle.ht_net.specs.Built.{net_of, draft_gates, circuit_of, named_draft, AllDriven, IsFirstUndriven};
-ghost use Rattle.ht_net.specs.Cycle.{IsCycle};
 ghost use Rattle.ht_net.specs.WalkFault.{IsWalkFault};
-ghost use Rattle.ht_net.specs.Rotate.{IsLeastFirst};
-ghost use Rattle.ht_net.specs.Finish.{RefusesFinish, IsNameCycle, BeginsWithLeast};
+ghost use Rattle.ht_net.specs.Finish.{RefusesFinish};
 
 use super::{Builder, Driver};
 use crate::gates::Gates;
@@ -167,36 +165,4 @@ impl Builder {
         }
         Ok(names)
     }
-
-    /// The names that the gates of a cycle drive, the least first.
-    fn cycle_names(&self, gates: &[u32]) -> Result<Vec<NameId>, AllocError>
-        requires driven { AllDriven self.now }
-        requires cycle { IsCycle (length self.now.inputs + length self.now.dffs) (draft_gates self.now) gates.now }
-        ensures cycle { IfOk result (λ names. IsNameCycle self.now names.items) }
-        ensures least { IfOk result (λ names. BeginsWithLeast names.items) }
-    {
-        let mut names = Vec::new(self.alloc);
-        for gate in gates {
-            let part = &self.gates[*gate as usize];
-            names.push(part.out)?;
-        }
-        least_first(self.alloc, &names)
-    }
-}
-
-/// The same cycle, from its least name on.
-fn least_first(alloc: Global, names: &[NameId]) -> Result<Vec<NameId>, AllocError>
-    requires { 0 < length names.now }
-    ensures { IfOk result (λ rotated. IsLeastFirst names.now rotated.items) }
-{
-    let mut least = 0;
-    for place in 0..names.len() {
-        if names[place].0 < names[least].0 {
-            least = place;
-        }
-    }
-    let mut rotated = Vec::new(alloc);
-    rotated.extend_from_slice(&names[least..])?;
-    rotated.extend_from_slice(&names[..least])?;
-    Ok(rotated)
 }

@@ -1,5 +1,5 @@
 use Rattle.std.proofs.Common.{◌≡◌, ◌<◌, List, length, get_or, sym, ◌∙◌, ap, arith, subst}
-use Rattle.ht_net.specs.declared.site.Fault.{Fault}
+use Rattle.ht_net.specs.declared.fault.Fault.{Fault}
 use Rattle.ht_faults.specs.Sites.{IsFaultSite, faults_of}
 use Rattle.ht_faults.specs.FaultList.{no_fault}
 use Rattle.ht_collapse.specs.Classes.{fault_at}

@@ -1,5 +1,5 @@
 use Rattle.std.proofs.Common.{◌≡◌, ◌<◌, ℕ, List, Bool, true, false, length, get_or, sym, ◌∙◌, ap, subst}
-use Rattle.ht_net.specs.declared.site.NetId.{NetId}
+use Rattle.ht_net.specs.declared.net.NetId.{NetId}
 use Rattle.ht_net.specs.Netlist.{Netlist, arg_at, gate_at, no_net, IsCircuit}
 use Rattle.ht_faults.specs.Sites.{is_fanout}
 use Rattle.ht_collapse.specs.Ends.{stem_number, output_value, led, StayInClass, PinJoins, OthersStay}

@@ -1,6 +1,6 @@
 use Rattle.std.proofs.Common.{◌≡◌, ◌∙◌, sym, ap}
-use Rattle.ht_net.specs.declared.site.NetId.{NetId}
-use Rattle.ht_net.specs.declared.site.Site.TheVariants.{DffPin}
+use Rattle.ht_net.specs.declared.net.NetId.{NetId}
+use Rattle.ht_net.specs.declared.fault.Site.TheVariants.{DffPin}
 use Rattle.ht_faults.specs.Sites.{is_fanout, is_site}
 use Rattle.ht_faults.proofs.SiteLaws.{one_kept, one_left}
 use Rattle.ht_faults.proofs.sites.add_data_pins.Goals as goal

@@ -1,6 +1,6 @@
 use Rattle.std.proofs.Common.{◌≡◌, ◌++◌, map}
 use Rattle.std.specs.List.{filter, range_with_len}
-use Rattle.ht_net.specs.declared.site.Site.TheVariants.{DffPin}
+use Rattle.ht_net.specs.declared.fault.Site.TheVariants.{DffPin}
 use Rattle.ht_faults.specs.Sites.{is_site}
 use Rattle.ht_faults.proofs.sites.add_data_pins.Given as goal
 

@@ -1,6 +1,6 @@
 use Rattle.std.proofs.Common.{◌≡◌, ◌∙◌, sym, ap, List, get_or}
-use Rattle.ht_net.specs.declared.site.NetId.{NetId}
-use Rattle.ht_net.specs.declared.site.Site.TheVariants.{GatePin}
+use Rattle.ht_net.specs.declared.net.NetId.{NetId}
+use Rattle.ht_net.specs.declared.fault.Site.TheVariants.{GatePin}
 use Rattle.ht_net.specs.Netlist.{no_net}
 use Rattle.ht_faults.specs.Sites.{is_fanout, is_site}
 use Rattle.ht_faults.proofs.SiteLaws.{one_kept, one_left}

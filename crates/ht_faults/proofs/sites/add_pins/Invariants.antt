@@ -1,6 +1,6 @@
 use Rattle.std.proofs.Common.{◌≡◌, ◌++◌, map}
 use Rattle.std.specs.List.{filter, range_with_len}
-use Rattle.ht_net.specs.declared.site.Site.TheVariants.{GatePin}
+use Rattle.ht_net.specs.declared.fault.Site.TheVariants.{GatePin}
 use Rattle.ht_faults.specs.Sites.{is_site}
 use Rattle.ht_faults.proofs.sites.add_pins.Given as goal
 

@@ -1,6 +1,6 @@
 use Rattle.std.proofs.Common.{◌≡◌, ◌++◌, map}
 use Rattle.std.specs.List.{range_with_len}
-use Rattle.ht_net.specs.declared.site.Site.TheVariants.{Stem}
+use Rattle.ht_net.specs.declared.fault.Site.TheVariants.{Stem}
 use Rattle.ht_faults.proofs.sites.add_stems.Given as goal
 
 abbrev pub invariant-loop-x : goal.invariant-loop-x

@@ -1,6 +1,6 @@
 use Rattle.std.proofs.Common.{◌<◌, ap, List, length, arith}
 use Rattle.std.proofs.lemmas.List.Sums.{sum_by_more_le_part, sum_by_more}
-use Rattle.ht_net.specs.declared.site.NetId.{NetId}
+use Rattle.ht_net.specs.declared.net.NetId.{NetId}
 use Rattle.ht_net.specs.Netlist.{Gate, no_gate}
 use Rattle.ht_net.specs.Levels.{times}
 use Rattle.ht_net.proofs.LoadLaws.{times_le_length}

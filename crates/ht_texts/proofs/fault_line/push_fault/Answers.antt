@@ -1,5 +1,5 @@
 use Rattle.std.proofs.Common.{◌<◌, length, sym, ◌∙◌, ap, subst, List, get_or}
-use Rattle.ht_net.specs.declared.site.Fault.{Fault}
+use Rattle.ht_net.specs.declared.fault.Fault.{Fault}
 use Rattle.ht_faults.specs.FaultList.{no_fault}
 use Rattle.ht_texts.specs.Sites.{IsSite}
 use Rattle.ht_texts.proofs.SiteLaws.{fault_is_on_line}

@@ -1,8 +1,8 @@
 use Rattle.std.proofs.Common.{◌/◌, ◌%◌, length, get_or, arith, ap, ◌∙◌, sym, List}
 use Rattle.std.proofs.lemmas.List.{get_or_read}
-use Rattle.ht_net.specs.declared.site.Site.{Site}
-use Rattle.ht_net.specs.declared.site.Site.TheVariants.{Stem}
-use Rattle.ht_net.specs.declared.site.Fault.{Fault}
+use Rattle.ht_net.specs.declared.fault.Site.{Site}
+use Rattle.ht_net.specs.declared.fault.Site.TheVariants.{Stem}
+use Rattle.ht_net.specs.declared.fault.Fault.{Fault}
 use Rattle.ht_net.specs.Faults.{site_faults}
 use Rattle.ht_net.specs.Netlist.{no_net}
 use Rattle.ht_faults.specs.FaultList.{no_fault}

@@ -1,6 +1,6 @@
 use Rattle.std.proofs.Common.{rules, ◌≡◌, ℕ, ◌≤◌, length, map, arith, List, subst, sym, ap, ◌∙◌, refl, Vec, Global, Result, Ok, Err, IfOk}
 use Rattle.ht_net.specs.declared.names.NameId.{NameId}
-use Rattle.ht_net.specs.declared.site.NetId.{NetId}
+use Rattle.ht_net.specs.declared.net.NetId.{NetId}
 use Rattle.ht_net.specs.Netlist.{Gate, Netlist}
 use Rattle.ht_net.specs.Named.{named_of}
 use Rattle.ht_net.specs.CircuitOf.{netlist_by, IsUnranked}

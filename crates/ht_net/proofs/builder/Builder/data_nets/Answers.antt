@@ -1,6 +1,6 @@
 use Rattle.std.proofs.Common.{rules, ◌≡◌, ◌<◌, ◌++◌, ◌∷◌, [], List, length, get_or, subst, sym, ap, ◌∙◌, map, take}
 use Rattle.ht_net.specs.declared.draft.DffPart.{DffPart}
-use Rattle.ht_net.specs.declared.site.NetId.{NetId}
+use Rattle.ht_net.specs.declared.net.NetId.{NetId}
 use Rattle.ht_net.specs.Draft.{Draft, no_dff}
 use Rattle.ht_net.specs.Built.{net_of}
 use Rattle.ht_net.proofs.NetLaws.{map_take_more}

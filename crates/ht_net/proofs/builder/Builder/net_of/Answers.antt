@@ -1,6 +1,6 @@
 use Rattle.std.proofs.Common.{rules, ◌≡◌, ℕ, ◌<◌, ◌+◌, length, arith, subst, sym, ap, ◌∙◌}
 use Rattle.std.proofs.lemmas.List.{get_or_read, length-map}
-use Rattle.ht_net.specs.declared.site.NetId.{NetId}
+use Rattle.ht_net.specs.declared.net.NetId.{NetId}
 use Rattle.ht_net.specs.declared.builder.Driver.TheVariants.{Free}
 use Rattle.ht_net.specs.declared.draft.DffPart.{DffPart}
 use Rattle.ht_net.specs.Draft.{Draft, IsDriven}

@@ -1,5 +1,5 @@
 use Rattle.std.proofs.Common.{rules, ◌≡◌, ℕ, ◌+◌, List, length, subst, sym, ap, ◌∙◌, arith}
-use Rattle.ht_net.specs.declared.site.NetId.{NetId}
+use Rattle.ht_net.specs.declared.net.NetId.{NetId}
 use Rattle.ht_net.specs.Netlist.{Netlist, Gate, IsCircuit, IsOrder}
 use Rattle.ht_net.specs.Levels.{loads_among}
 use Rattle.ht_net.specs.GateLevels.{IsLevelled}

@@ -1,6 +1,6 @@
 use Rattle.std.proofs.Common.{rules, ◌≡◌, ◌+◌, ◌++◌, ◌∷◌, [], List, ℕ, length, ap, ◌∙◌}
 use Rattle.ht_tern.specs.declared.gate.Kind.{Kind}
-use Rattle.ht_net.specs.declared.site.NetId.{NetId}
+use Rattle.ht_net.specs.declared.net.NetId.{NetId}
 use Rattle.ht_net.specs.Netlist.{Gate}
 use Rattle.ht_net.specs.Flat.{gates_of}
 use Rattle.ht_net.proofs.FlatLaws.{gates_push}

@@ -2,7 +2,7 @@ use Rattle.std.proofs.Common.{◌≡◌, ◌<◌, ◌∙◌, ap, List, [], None,
 use Rattle.std.specs.declared.alloc.Global.{Global}
 use Rattle.ht_tern.specs.declared.tern.Tern.{Tern}
 use Rattle.ht_net.specs.Detection.{tern_outputs}
-use Rattle.ht_net.specs.declared.site.Place.{Place}
+use Rattle.ht_net.specs.declared.place.Place.{Place}
 use Rattle.ht_net.specs.Silence.{Apart}
 use Rattle.ht_serial.proofs.ApartLaws.{detected_apart}
 use Rattle.ht_serial.specs.Places.{IsWithin}

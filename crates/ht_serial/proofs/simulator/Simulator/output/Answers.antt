@@ -1,7 +1,7 @@
 use Rattle.std.proofs.Common.{◌<◌, ◌≡◌, length, get_or, arith, ap, ◌∙◌, sym}
 use Rattle.std.proofs.lemmas.List.{get_or_read}
 use Rattle.ht_net.proofs.ValueLaws.{seen_get}
-use Rattle.ht_net.specs.declared.site.NetId.{NetId}
+use Rattle.ht_net.specs.declared.net.NetId.{NetId}
 use Rattle.ht_net.specs.Netlist.{no_net}
 use Rattle.ht_frame.specs.Values.{env_of}
 use Rattle.ht_serial.proofs.simulator.Simulator.output.Goals as goal

@@ -1,7 +1,7 @@
 use Rattle.std.proofs.Common.{rules, ◌≡◌, ℕ, length, get_or, arith}
 use Rattle.std.proofs.lemmas.List.Sorted.{IsNonDecreasingBy-from_sort_by_key}
 use Rattle.ht_net.proofs.SortLaws.{each_of_permutation, rising_of_sorted}
-use Rattle.ht_net.proofs.levels.level_order.Goals as goal
+use Rattle.ht_net.proofs.order.level_order.Goals as goal
 
 pub returns-clause-each : goal.returns-clause-each
 returns-clause-each c =

@@ -1,6 +1,6 @@
 use Rattle.std.proofs.Common.{◌<◌, ◌≤◌, ℕ, length, get_or}
 use Rattle.ht_net.specs.Draft.{no_name}
-use Rattle.ht_net.proofs.builder.finish.least_first.Given as goal
+use Rattle.ht_net.proofs.builder.cycle.least_first.Given as goal
 
 abbrev pub invariant-loop-place : goal.invariant-loop-place
 invariant-loop-place l = record {
