@@ -31,6 +31,17 @@ impl From<AllocError> for WalkError {
     }
 }
 
+impl<T: Drop> From<AllocFailed<T>> for WalkError {
+    ghost use Rattle.std.specs.Prelude.{◌≡◌};
+    ghost use Rattle.ht_net.specs.declared.levels.WalkError.TheVariants.{NoMemory};
+
+    ghost from_gives = { λ _ e. e ≡ NoMemory };
+
+    fn from(_: AllocFailed<T>) -> WalkError {
+        WalkError::NoMemory
+    }
+}
+
 /// What a gate waits for.
 #[derive(Clone, Copy)]
 enum Next {
@@ -94,9 +105,7 @@ fn visit(
     ensures fault { IfErr result (IsWalkFault first gates.now) }
 {
     let mut path = Vec::new(alloc);
-    if path.push(root as u32).is_err() {
-        return Err(WalkError::NoMemory);
-    }
+    path.push(root as u32)?;
     seen[root] = true;
     while let Some(&gate) = path.last() {
         match find_next(first, levels, gates.args(gate as usize)) {
@@ -106,14 +115,9 @@ fn visit(
             }
             Next::Gate(below) => {
                 if seen[below as usize] {
-                    return match tail_from(alloc, &path, below) {
-                        Ok(cycle) => Err(WalkError::Cycle(cycle)),
-                        Err(_) => Err(WalkError::NoMemory),
-                    };
+                    return Err(WalkError::Cycle(tail_from(alloc, &path, below)?));
                 }
-                if path.push(below).is_err() {
-                    return Err(WalkError::NoMemory);
-                }
+                path.push(below)?;
                 seen[below as usize] = true;
             }
         }
@@ -128,12 +132,8 @@ pub fn find_levels(alloc: Global, first: u32, gates: &Gates) -> Result<Vec<u32>,
     ensures levels { IfOk result (λ levels. IsLevelled first gates.now levels.items) }
     ensures fault { IfErr result (IsWalkFault first gates.now) }
 {
-    let Ok(mut levels) = vec![in alloc; 0; gates.len()] else {
-        return Err(WalkError::NoMemory);
-    };
-    let Ok(mut seen) = vec![in alloc; false; gates.len()] else {
-        return Err(WalkError::NoMemory);
-    };
+    let mut levels = vec![in alloc; 0; gates.len()]?;
+    let mut seen = vec![in alloc; false; gates.len()]?;
     for root in 0..gates.len() {
         if !seen[root] {
             visit(alloc, first, gates, root, &mut levels, &mut seen)?;
