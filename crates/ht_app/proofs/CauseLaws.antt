@@ -94,7 +94,7 @@ pub sim_done : (netlist tests name body total : List ℕ) (a m b : DeskView) →
 sim_done netlist tests name body total a m b p work reported inputs texts = record {
   is_created = reported.is_created;
   named = reported.named ∙ ap (λ f. option_map (λ _. name) (f Report)) p.named;
-  quiet = work.written err (λ e. cc) (λ e. cc) ∙ ap (λ f. f err) p.written;
+  quiet = work.quiet ∙ ap (λ f. f err) p.written;
   inputs = inputs;
   texts = λ n t both. (
     body ++ total,
@@ -110,7 +110,7 @@ pub norm_done : (netlist name text : List ℕ) (a m b : DeskView) → NothingOut
 norm_done netlist name text a m b p work begun out input normal = record {
   is_created = begun.is_created;
   named = begun.named ∙ ap (λ f. option_map (λ _. name) (f Report)) p.named;
-  quiet = work.written err (λ e. cc) (λ e. cc) ∙ ap (λ f. f err) p.written;
+  quiet = work.quiet ∙ ap (λ f. f err) p.written;
   nothing_out = out ∙ ap (λ f. f Out) p.written;
   input = input;
   text = λ n is.
@@ -149,10 +149,10 @@ job_done asked job a b is done = subst (λ (j : Asked). IsDone j a b) (one_job a
 pub says : (line name : List ℕ) (r : Result (Unit {0}) Failed) (a m b : DeskView) → OnlyWork name a m
     → OnOk r (Added err line m b) → OnErr r (AddedPart err line m b) → SaysOnErr line a m b
 says line name (Ok u) a m b work added failed =
-    let quiet : m.written err ≡ a.written err = work.written err (λ e. cc) (λ e. cc) in
+    let quiet : m.written err ≡ a.written err = work.quiet in
     record { quiet = quiet; count = length line; added = added.written ∙ (λ i. append_known (quiet i) (sym (take_all _ line (le_refl _)) i)); whole = inl refl }
 says line name (Err e) a m b work added failed =
-    let quiet : m.written err ≡ a.written err = work.written err (λ e. cc) (λ e. cc) in
+    let quiet : m.written err ≡ a.written err = work.quiet in
     record { quiet = quiet; count = failed.count; added = failed.part.written ∙ ap (λ known. append_known known (take failed.count line)) quiet; whole = inr failed.cause }
 
 -- the line is no reading
@@ -165,32 +165,18 @@ only_inputs_later a m b p q = record {
 -- the work and a line on Err
 pub only_report : (name : List ℕ) (a m b : DeskView) → OnlyWork name a m → Writes err m b → OnlyReport name a b
 only_report name a m b work p = record {
-  in_later = omega (arith, work.in_later, p.call.in_later);
-  out_later = omega (arith, work.out_later, p.call.out_later);
-  steady = p.call.steady ∙ work.steady;
-  inputs = only_inputs_later a m b work.inputs p;
-  written = λ o r u e. p.call.others_written o e ∙ work.written o r u;
-  named = λ o r. ap (λ f. f o) p.named ∙ work.named o r;
-  is_created = λ o r. ap (λ f. f o) p.is_created ∙ work.is_created o r;
-  report = elim work.report [
+  in_later = omega (arith, work.only.in_later, p.call.in_later);
+  out_later = omega (arith, work.only.out_later, p.call.out_later);
+  steady = p.call.steady ∙ work.only.steady;
+  inputs = only_inputs_later a m b work.only.inputs p;
+  written = λ o r u e. p.call.others_written o e ∙ work.only.written o r u e;
+  named = λ o r. ap (λ f. f o) p.named ∙ work.only.named o r;
+  is_created = λ o r. ap (λ f. f o) p.is_created ∙ work.only.is_created o r;
+  report = elim work.only.report [
     | inl same ↦ inl (ap (λ f. f Report) p.named ∙ same.0, ap (λ f. f Report) p.is_created ∙ same.1)
     | inr is ↦ inr (ap (λ f. f Report) p.named ∙ is)
   ];
-  file = λ told n ne. p.call.other_files n (λ file. absurd file) ∙ work.file told n ne;
-}
-
--- the work alone
-pub only_work : (name : List ℕ) (a b : DeskView) → OnlyWork name a b → OnlyReport name a b
-only_work name a b work = record {
-  in_later = work.in_later;
-  out_later = work.out_later;
-  steady = work.steady;
-  inputs = work.inputs;
-  written = λ o r u e. work.written o r u;
-  named = work.named;
-  is_created = work.is_created;
-  report = work.report;
-  file = work.file;
+  file = λ told n ne. p.call.other_files n (λ file. absurd file) ∙ work.only.file told n ne;
 }
 
 -- nothing and a line on Err
@@ -235,13 +221,16 @@ nothing_out_refl a = record {
 
 pub only_work_refl : (name : List ℕ) (a : DeskView) → OnlyWork name a a
 only_work_refl name a = record {
-  in_later = le_refl _;
-  out_later = le_refl _;
-  steady = refl;
-  inputs = record { left = λ p n t. refl; is_open = λ p n t. refl };
-  written = λ p r o. refl;
-  named = λ p r. refl;
-  is_created = λ p r. refl;
-  report = inl (refl, refl);
-  file = λ told n ne. refl;
+  only = record {
+    in_later = le_refl _;
+    out_later = le_refl _;
+    steady = refl;
+    inputs = record { left = λ p n t. refl; is_open = λ p n t. refl };
+    written = λ p r o e. refl;
+    named = λ p r. refl;
+    is_created = λ p r. refl;
+    report = inl (refl, refl);
+    file = λ told n ne. refl;
+  };
+  quiet = refl;
 }

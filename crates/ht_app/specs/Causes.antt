@@ -3,7 +3,7 @@ use Rattle.std.specs.Prelude.{◌≡◌, ◌≢◌, ℕ, ◌<◌, ◌≤◌, ◌
 use Rattle.std.specs.Option.{option_map}
 use Rattle.std.specs.Io.KnownBytes.{append_known}
 use Rattle.ht_ports.specs.declared.ports.OutPort.{OutPort}
-use Rattle.ht_ports.specs.declared.ports.OutPort.TheVariants.{Report, Out}
+use Rattle.ht_ports.specs.declared.ports.OutPort.TheVariants.{Report, Out, Err}
 use Rattle.ht_ports.specs.Causes.{Rose}
 use Rattle.ht_ports.specs.Desk.{DeskView, Holds}
 use Rattle.ht_ports.specs.declared.ports.InPort.TheVariants.{Netlist, Tests}
@@ -16,7 +16,7 @@ use Rattle.ht_app.specs.declared.trouble.Trouble.TheVariants.{TooLong, Refused, 
 use Rattle.ht_app.specs.Inputs.{most_bytes, IsInput, IsAccepted, MayHold, AreInputs}
 use Rattle.ht_app.specs.Done.{IsSimulated}
 use Rattle.ht_app.specs.Run.{RefusesNetlist, IsRefused, HasCause}
-use Rattle.ht_app.specs.After.{OnlyInputs, ReportIsNamed}
+use Rattle.ht_app.specs.After.{OnlyInputs, OnlyReport}
 
 -- ---- why a step ends the run
 
@@ -66,15 +66,8 @@ pub record NothingOut (old new : DeskView) : Type 0 where
 
 -- Something comes out on Report, under this name, and on Out alone.
 pub record OnlyWork (name : List ℕ) (old new : DeskView) : Type 0 where
-  pub in_later : old.in_faults ≤ new.in_faults
-  pub out_later : old.out_faults ≤ new.out_faults
-  pub steady : new.steady ≡ old.steady
-  pub inputs : OnlyInputs old new
-  pub written : (p : OutPort) → p ≢ Report → p ≢ Out → new.written p ≡ old.written p
-  pub named : (p : OutPort) → p ≢ Report → new.named p ≡ old.named p
-  pub is_created : (p : OutPort) → p ≢ Report → new.is_created p ≡ old.is_created p
-  pub report : ReportIsNamed name old new
-  pub file : IsSome (old.named Report) → (n : List ℕ) → n ≢ name → new.file n ≡ old.file n
+  pub only : OnlyReport name old new
+  pub quiet : new.written Err ≡ old.written Err
 
 -- Report stands under this name with this text.
 pub record IsBegun (name text : List ℕ) (old new : DeskView) : Type 0 where
