@@ -16,7 +16,7 @@ use Rattle.ht_net.specs.declared.builder.Driver.TheVariants.{Free, Input, Dff, G
 use Rattle.ht_tern.specs.declared.gate.Kind.{Kind}
 use Rattle.ht_tern.specs.Gate.{HasArity}
 use Rattle.ht_net.specs.declared.draft.DffPart.{DffPart}
-use Rattle.ht_net.specs.Netlist.{Netlist, no_gate, no_net, gate_at, first_gate_net, net_count, IsRank, IsCircuit}
+use Rattle.ht_net.specs.Netlist.{Netlist, no_gate, no_net, gate_at, first_gate_net}
 use Rattle.ht_net.specs.GateLevels.{args_of, AreKnown}
 use Rattle.ht_net.specs.Cycle.{Reads, IsCycle}
 use Rattle.ht_net.specs.CircuitOf.{IsUnranked}

@@ -1,6 +1,6 @@
 use Rattle.std.proofs.Common.{List, ℕ, length, sym, ◌∙◌, ap, take_all, le_refl, rules}
 use Rattle.std.specs.Io.KnownBytes.{append_known}
-use Rattle.ht_ports.specs.declared.ports.OutPort.TheVariants.{Report, Out}
+use Rattle.ht_ports.specs.declared.ports.OutPort.TheVariants.{Out}
 use Rattle.ht_ports.proofs.Calls.{append_known_nil}
 use Rattle.ht_app.specs.Run.{IsBegunOn}
 use Rattle.ht_app.proofs.report.write_report.Goals as goal
