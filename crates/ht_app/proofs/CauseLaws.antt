@@ -14,7 +14,7 @@ use Rattle.ht_app.specs.declared.trouble.Trouble.TheVariants.{Usage, TooLong, Re
 use Rattle.ht_app.specs.Inputs.{IsInput, MayHold, IsAccepted, AcceptsNetlist, AcceptsTests}
 use Rattle.ht_app.specs.Jobs.{netlist_name_of, output_name_of, output_name, HoldsInputs, AcceptsInputs}
 use Rattle.ht_app.specs.Done.{SimDone, NormDone, IsDone, AskedIsDone}
-use Rattle.ht_app.specs.Run.{HasCause, AskedHasCause, SaysOnErr, IsBegunOn, BeginsOut}
+use Rattle.ht_app.specs.Run.{HasCause, AskedHasCause, SaysOnErr, IsCut}
 use Rattle.ht_app.specs.After.{OnlyErr, OnlyReport, OnlyInputs, SaysNothingOut}
 use Rattle.ht_app.specs.Causes.{NetlistCause, TestsCause, AreWorkedInto, IsNormalTextOf, NothingOut, OnlyWork, IsBegun, IsReported, WriteFailed}
 
@@ -71,22 +71,12 @@ tests_cause netlist tests report c a m b (BadTests line) p accepted accepts h = 
 -- ---- writing
 
 -- a write failed after the texts were made
-pub write_cause : (job : Asked) (a m b : DeskView) → NothingOut a m → WriteFailed m b → AcceptsInputs job a → BeginsOut job a b → HasCause job a b WriteFault
-write_cause job a m b p failed inputs out = record {
+pub write_cause : (job : Asked) (a m b : DeskView) → NothingOut a m → WriteFailed m b → AcceptsInputs job a → IsCut job a b → HasCause job a b WriteFault
+write_cause job a m b p failed inputs leaves = record {
   rose = omega (arith, p.out_later, failed.rose);
   unsteady = λ steady. failed.unsteady (subst IsTrue (sym p.steady) steady);
   inputs = inputs;
-  out = out;
-}
-
--- what was said on Out before that is a front of the total line
-pub total_begun : (netlist tests name body total : List ℕ) (a m b : DeskView) → NothingOut a m → AreWorkedInto netlist tests a body total
-    → IsBegunOn Out total m b → BeginsOut (sim netlist tests name) a b
-total_begun netlist tests name body total a m b p texts begun = λ n t inputs. record {
-  report = body ++ total;
-  total = total;
-  simulated = texts.simulated n t inputs;
-  begun = record { count = begun.count; front = begun.front ∙ ap (λ f. append_known (f Out) (take begun.count total)) p.written };
+  leaves = leaves;
 }
 
 pub sim_done : (netlist tests name body total : List ℕ) (a m b : DeskView) → NothingOut a m → OnlyWork name m b → IsReported name body total m b

@@ -4,4 +4,5 @@ pub mod Places
 pub mod OneReading
 pub mod Refusals
 pub mod CauseLaws
+pub mod CutLaws
 pub mod StatusLaws

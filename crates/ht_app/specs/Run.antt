@@ -1,13 +1,15 @@
 -- Why a run ends without its work.
 use Rattle.std.specs.Prelude.{◌≡◌, ◌≢◌, ◌⊎◌, ℕ, ◌<◌, ◌≤◌, List, length, take, Some, None, IsTrue, Option}
+use Rattle.std.specs.Option.{option_map}
 use Rattle.std.specs.Io.KnownBytes.{append_known}
 use Rattle.ht_ports.specs.Causes.{Rose}
 use Rattle.ht_ports.specs.Desk.{DeskView, Writes}
 use Rattle.ht_ports.specs.declared.ports.InPort.TheVariants.{Netlist}
 use Rattle.ht_ports.specs.declared.ports.OutPort.{OutPort}
-use Rattle.ht_ports.specs.declared.ports.OutPort.TheVariants.{Out, Err}
+use Rattle.ht_ports.specs.declared.ports.OutPort.TheVariants.{Report, Out, Err}
 use Rattle.ht_net.specs.Netlist as net
 use Rattle.ht_bench.specs.Text.{IsNetlistOf, Refuses}
+use Rattle.ht_bench.specs.Normal.{normal_text}
 use Rattle.ht_bench.specs.declared.error.BenchError.{BenchError}
 use Rattle.ht_bench.specs.declared.error.BenchError.TheVariants as bench
 use Rattle.ht_texts.specs.Tests.{IsMalformedTest}
@@ -55,25 +57,38 @@ pub record FailsToRead (job : Asked) (old new : DeskView) : Type 0 where
   pub rose : Rose old.in_faults new.in_faults
   pub steady : IsTrue old.steady → ¬ HoldsInputs job old
 
--- a front of the total line was added to Out
-pub record BeginsTotal (netlist tests : List ℕ) (old new : DeskView) : Type 0 where
+-- Report is as it was, or has a proper front of this text.
+pub record IsCutShort (text : List ℕ) (old new : DeskView) : Type 0 where
+  pub part : (new.written Report ≡ old.written Report)
+      ⊎ ((count : ℕ) × (count < length text) × (new.written Report ≡ option_map (λ _. take count text) (old.written Report)))
+
+-- `sim` without a whole report, and with a front of its total line on Out
+pub record SimIsCut (netlist tests : List ℕ) (old new : DeskView) : Type 0 where
   pub report : List ℕ
   pub total : List ℕ
   pub simulated : IsSimulated netlist tests report total
   pub begun : IsBegunOn Out total old new
+  pub cut : IsCutShort report old new
 
--- what the work said on Out before a write failed: `sim` a front of its total line, `norm` nothing
-abbrev pub BeginsOut : Asked → DeskView → DeskView → Type 0
-BeginsOut (sim netlist_name tests_name report_name) old new =
-    (netlist tests : List ℕ) → AreInputs netlist_name tests_name netlist tests old → BeginsTotal netlist tests old new
-BeginsOut (norm netlist_name out_name) old new = new.written Out ≡ old.written Out
+-- `norm` without a whole normal text
+pub record NormIsCut (netlist : List ℕ) (old new : DeskView) : Type 0 where
+  pub circuit : net.Netlist
+  pub accepted : IsAccepted netlist circuit
+  pub cut : IsCutShort (normal_text circuit) old new
+
+-- what the work leaves where a write failed; `norm` says nothing on Out
+abbrev pub IsCut : Asked → DeskView → DeskView → Type 0
+IsCut (sim netlist_name tests_name report_name) old new =
+    (netlist tests : List ℕ) → AreInputs netlist_name tests_name netlist tests old → SimIsCut netlist tests old new
+IsCut (norm netlist_name out_name) old new =
+    (new.written Out ≡ old.written Out) × ((netlist : List ℕ) → IsInput Netlist netlist_name netlist old → NormIsCut netlist old new)
 
 -- A fault of writing was counted, on a desk that isn't steady, after the inputs were accepted.
 pub record FailsToWrite (job : Asked) (old new : DeskView) : Type 0 where
   pub rose : Rose old.out_faults new.out_faults
   pub unsteady : ¬ IsTrue old.steady
   pub inputs : AcceptsInputs job old
-  pub out : BeginsOut job old new
+  pub leaves : IsCut job old new
 
 -- What holds where the work of a job ends by a trouble. Want of memory is the one free answer.
 abbrev pub HasCause : Asked → DeskView → DeskView → Trouble → Type 0

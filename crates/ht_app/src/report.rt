@@ -1,9 +1,9 @@
 // The file that a command writes.
-ghost use Rattle.std.specs.Prelude.{◌≡◌, IfErr, OnOk, OnErr};
+ghost use Rattle.std.specs.Prelude.{◌≡◌, ◌<◌, ◌++◌, length, IfErr, OnOk, OnErr};
 ghost use Rattle.ht_ports.specs.Desk.{IsWritable, Writes, Added, AddedPart};
 ghost use Rattle.ht_ports.specs.declared.ports.OutPort.TheVariants as out_port;
 ghost use Rattle.ht_app.specs.Causes.{OnlyWork, IsBegun, IsReported, WriteFailed};
-ghost use Rattle.ht_app.specs.Run.{IsBegunOn};
+ghost use Rattle.ht_app.specs.Run.{IsBegunOn, IsCutShort};
 ghost use Rattle.ht_app.specs.declared.trouble.Trouble.TheVariants as trouble;
 
 use crate::trouble::Trouble;
@@ -28,6 +28,7 @@ fn write_text<D: Desk>(desk: &mut D, port: OutPort, text: &[u8]) -> Result<(), T
 pub fn begin_report<D: Desk>(desk: &mut D, name: &str, text: &[u8]) -> Result<(), Trouble>
     ensures frame { OnlyWork name.now (D.view desk.old) (D.view desk.new) }
     ensures begun { OnOk result (IsBegun name.now text.now (D.view desk.old) (D.view desk.new)) }
+    ensures cut { OnErr result (IsCutShort text.now (D.view desk.old) (D.view desk.new)) }
     ensures nothing_out { (D.view desk.new).written out_port.Out ≡ (D.view desk.old).written out_port.Out }
     ensures error { IfErr result (λ e. e ≡ trouble.WriteFault) }
     ensures cause { IfErr result (λ e. WriteFailed (D.view desk.old) (D.view desk.new)) }
@@ -47,9 +48,11 @@ pub fn write_report<D: Desk>(
     body: &[u8],
     total: &[u8],
 ) -> Result<(), Trouble>
+    requires { 0 < length total.now }
     ensures frame { OnlyWork name.now (D.view desk.old) (D.view desk.new) }
     ensures report { OnOk result (IsReported name.now body.now total.now (D.view desk.old) (D.view desk.new)) }
     ensures begun { OnErr result (IsBegunOn out_port.Out total.now (D.view desk.old) (D.view desk.new)) }
+    ensures cut { OnErr result (IsCutShort (body.now ++ total.now) (D.view desk.old) (D.view desk.new)) }
     ensures error { IfErr result (λ e. e ≡ trouble.WriteFault) }
     ensures cause { IfErr result (λ e. WriteFailed (D.view desk.old) (D.view desk.new)) }
 {

@@ -1,5 +1,5 @@
 // The command `sim`.
-ghost use Rattle.std.specs.Prelude.{◌≡◌, ◌≢◌, ◌≤◌, ◌^◌, length, IfOk, IfErr, OnOk};
+ghost use Rattle.std.specs.Prelude.{◌≡◌, ◌≢◌, ◌<◌, ◌≤◌, ◌^◌, length, IfOk, IfErr, OnOk};
 ghost use Rattle.ht_net.specs.Netlist.{IsCircuit};
 ghost use Rattle.ht_words_laws.specs.Asked as asked;
 ghost use Rattle.ht_app.specs.Inputs.{AcceptsTests};
@@ -51,6 +51,7 @@ fn simulate<D: Desk>(
 ) -> Result<Texts, Trouble>
     ensures frame { NothingOut (D.view desk.old) (D.view desk.new) }
     ensures inputs { OnOk result (AcceptsTests netlist.now tests.now (D.view desk.old)) }
+    ensures some { IfOk result (λ texts. 0 < length texts.total.items) }
     ensures texts { IfOk result (λ texts. AreWorkedInto netlist.now tests.now (D.view desk.old) texts.body.items texts.total.items) }
     ensures cause { IfErr result (SimulateCause netlist.now tests.now (D.view desk.old) (D.view desk.new)) }
 {

@@ -1,11 +1,12 @@
-use Rattle.std.proofs.Common.{List, ℕ, sym, subst, rules}
+use Rattle.std.proofs.Common.{List, ℕ, ◌++◌, sym, subst, rules}
 use Rattle.ht_words_laws.specs.Asked.{sim}
 use Rattle.ht_app.specs.Run.{HasCause}
 use Rattle.ht_app.specs.declared.trouble.Trouble.{Trouble}
 use Rattle.ht_app.specs.Causes.{IsReported}
 use Rattle.ht_ports.specs.declared.ports.OutPort.TheVariants.{Out}
-use Rattle.ht_app.specs.Run.{IsBegunOn}
-use Rattle.ht_app.proofs.CauseLaws.{write_cause, total_begun, sim_done}
+use Rattle.ht_app.specs.Run.{IsBegunOn, IsCutShort}
+use Rattle.ht_app.proofs.CauseLaws.{write_cause, sim_done}
+use Rattle.ht_app.proofs.CutLaws.{sim_cut}
 use Rattle.ht_app.proofs.sim.sim.Goals as goal
 
 pub returns-in_err-texts-clause-cause : goal.returns-in_err-texts-clause-cause
@@ -21,8 +22,10 @@ returns-in_err-write_report-clause-cause g c =
     let m = g.D.Desk.view c.simulate.new.desk in
     let b = g.D.Desk.view c.write_report.new.desk in
     let begun : IsBegunOn Out c.in_ok-texts.texts.total.items m b = subst (λ (l : List ℕ). IsBegunOn Out l m b) c.deref-2.ensures.value c.in_err-write_report.ensures.begun in
-    let out = total_begun c.args.netlist.now c.args.tests.now c.args.report.now c.in_ok-texts.texts.body.items c.in_ok-texts.texts.total.items a m b texts.frame texts.texts begun in
-    let cause = write_cause job a m b texts.frame c.in_err-write_report.ensures.cause texts.inputs out in
+    let cut : IsCutShort (c.in_ok-texts.texts.body.items ++ c.in_ok-texts.texts.total.items) m b = subst (λ (l : List ℕ). IsCutShort (c.in_ok-texts.texts.body.items ++ l) m b) c.deref-2.ensures.value
+    (subst (λ (l : List ℕ). IsCutShort (l ++ c.deref-2.result.now) m b) c.deref.ensures.value c.in_err-write_report.ensures.cut) in
+    let leaves = sim_cut c.args.netlist.now c.args.tests.now c.args.report.now c.in_ok-texts.texts.body.items c.in_ok-texts.texts.total.items a m b texts.frame texts.texts begun cut in
+    let cause = write_cause job a m b texts.frame c.in_err-write_report.ensures.cause texts.inputs leaves in
     let whole : HasCause job a b c.in_err-write_report.field-0.0 = subst (λ (t : Trouble). HasCause job a b t) (sym c.in_err-write_report.ensures.error) cause in
     search (rules, whole)
 

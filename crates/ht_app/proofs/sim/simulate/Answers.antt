@@ -1,7 +1,8 @@
-use Rattle.std.proofs.Common.{◌++◌, rules}
+use Rattle.std.proofs.Common.{◌<◌, ◌++◌, ℕ, List, length, sym, subst, rules}
 use Rattle.ht_words_laws.specs.Asked.{sim}
 use Rattle.ht_app.specs.Causes.{SimulateCause}
 use Rattle.ht_app.proofs.CauseLaws.{netlist_cause, tests_cause, accepts_netlist, may_hold_before, input_later}
+use Rattle.ht_app.proofs.CutLaws.{total_some}
 use Rattle.ht_app.proofs.sim.simulate.Goals as goal
 
 pub returns-in_err-circuit-clause-cause : goal.returns-in_err-circuit-clause-cause
@@ -39,6 +40,11 @@ returns-clause-inputs g c =
         (c.in_ok-list.list.list, c.in_ok-list.ensures.list t (input_later c.args.tests.now t a m read.frame both.tests_is)),
       );
     }
+
+pub returns-clause-some : goal.returns-clause-some
+returns-clause-some g c =
+    let made = c.in_ok-texts.ensures in
+    subst (λ (l : List ℕ). 0 < length l) (sym made.total_is) (total_some _ _)
 
 pub returns-clause-texts : goal.returns-clause-texts
 returns-clause-texts g c =
