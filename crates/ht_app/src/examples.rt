@@ -2,6 +2,7 @@
 
 mod desks;
 mod faults;
+mod memory;
 mod mute;
 mod norm;
 mod refusals;

@@ -9,7 +9,7 @@ use Rattle.ht_net.specs.Netlist.{Netlist, first_gate_net, net_count, gate_at, ar
 use Rattle.ht_faults.specs.Sites.{is_fanout}
 use Rattle.ht_collapse.specs.Classes.{EquivalentPair, SameClass, paired, joined, fault_at}
 use Rattle.ht_collapse.specs.Ends.{stem_number, output_value, output_number, led, StayInClass, PinJoins, OthersStay}
-use Rattle.ht_collapse.proofs.DepthLaws.{circuit_depth}
+use Rattle.ht_net.proofs.DepthLaws.{circuit_depth}
 use Rattle.ht_collapse.proofs.FaultListLaws.{stem_listed}
 
 pub number_same : (x y : ℕ) (u v : Bool) → stem_number x u ≡ stem_number y v → (x ≡ y) × (u ≡ v)

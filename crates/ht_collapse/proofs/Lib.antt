@@ -1,4 +1,3 @@
-mod DepthLaws
 mod GateLaws
 mod LoadLaws
 mod LineLaws

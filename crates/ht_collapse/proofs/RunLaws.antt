@@ -17,7 +17,7 @@ use Rattle.ht_faults.specs.Sites.{is_fanout, faults_of}
 use Rattle.ht_collapse.specs.Table.{equivalent_output}
 use Rattle.ht_collapse.specs.Classes.{EquivalentPair, SameClass, itself, paired, turned, joined, output_line, fault_at, AreClasses}
 use Rattle.ht_collapse.specs.Alike.{RunAlike}
-use Rattle.ht_collapse.proofs.DepthLaws.{circuit_depth}
+use Rattle.ht_net.proofs.DepthLaws.{circuit_depth}
 use Rattle.ht_collapse.proofs.GateLaws.{tern_bits, bool_bits, table_holds}
 use Rattle.ht_collapse.proofs.LoadLaws.{read_by}
 use Rattle.ht_collapse.proofs.LineLaws.{stuck, stem_site}

@@ -28,17 +28,17 @@ gate_pins_of c = flat_map (pins_of_gate c) (range_with_len 0 (length c.gates))
 abbrev pub circuit_lines : Netlist → List Site
 circuit_lines c = stems_of c ++ (data_pins_of c ++ gate_pins_of c)
 
--- A fan-out net has two or more loads; an output mark counts as one.
+-- A fanout net has two or more loads; an output mark counts as one.
 unfoldable pub is_fanout : Netlist → ℕ → Bool
 is_fanout c x = ltb 1 (loads_of c x)
 
--- A line is a fault site if it is a stem, or a pin that a fan-out net drives. An output mark is no line.
+-- A line is a fault site if it is a stem, or a pin that a fanout net drives. An output mark is no line.
 abbrev pub is_site : Netlist → Site → Bool
 is_site c (Stem x) = true
 is_site c (DffPin j) = is_fanout c (data_net c j)
 is_site c (GatePin g i) = is_fanout c (arg_at c g i)
 
--- the same as a fact: a line of the circuit that is a stem, or a pin that a fan-out net drives
+-- the same as a fact: a line of the circuit that is a stem, or a pin that a fanout net drives
 abbrev pub IsFaultSite : Netlist → Site → Type 0
 IsFaultSite c (Stem x) = x.0 < net_count c
 IsFaultSite c (DffPin j) = (j < length c.dffs) × (2 ≤ loads_of c (data_net c j))

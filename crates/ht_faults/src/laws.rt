@@ -6,7 +6,7 @@ ghost use Rattle.ht_net.specs.Netlist.{Netlist, IsCircuit};
 ghost use Rattle.ht_faults.specs.Sites.{IsFaultSite, sites_of, faults_of};
 ghost use Rattle.ht_faults.specs.FaultList.{no_fault};
 
-/// Exactly the sites of a circuit are listed: stems, and pins that a fan-out net drives.
+/// Exactly the sites of a circuit are listed: stems, and pins that a fanout net drives.
 #[tactic(auto, using(crate::proofs::MemberLaws::sites_listed))]
 pub fn exactly_the_sites_are_listed()
     ensures { (c : Netlist) (site : Site) → Contains (sites_of c) site ↔ IsFaultSite c site }
