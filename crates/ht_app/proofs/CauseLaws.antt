@@ -24,17 +24,20 @@ holds_netlist : (job : Asked) (a : DeskView) → HoldsInputs job a → Holds a (
 holds_netlist (sim netlist tests report) a h = h.0
 holds_netlist (norm netlist out) a h = h
 
-pub netlist_cause : (job : Asked) (a b : DeskView) (t : Trouble) → NetlistCause (netlist_name_of job) a b t → HasCause job a b t
+pub netlist_cause : (job : Asked) (a b : DeskView) (t : Trouble) → NetlistCause (netlist_name_of job) a b t
+    → HasCause job a b t
 netlist_cause job a b Usage h = absurd h
 netlist_cause job a b TooLong h = h
 netlist_cause job a b (Refused error) h = h
-netlist_cause job a b ReadFault h = record { rose = h.0; steady = λ steady inputs. h.1 steady (holds_netlist job a inputs) }
+netlist_cause job a b ReadFault h = record
+    { rose = h.0; steady = λ steady inputs. h.1 steady (holds_netlist job a inputs) }
 netlist_cause job a b WriteFault h = absurd h
 netlist_cause job a b NoMemory h = tt
 netlist_cause job a b (BadTests line) h = absurd h
 
 -- what is told of the tests stays told while the netlist is read
-pub input_later : (name text : List ℕ) (a m : DeskView) → InCall Netlist a m → IsInput Tests name text a → IsInput Tests name text m
+pub input_later : (name text : List ℕ) (a m : DeskView) → InCall Netlist a m → IsInput Tests name text a
+    → IsInput Tests name text m
 input_later name text a m p is = record {
   file = ap (λ f. f name) p.file ∙ is.file;
   told = subst IsSome (sym (p.others_left Tests (λ e. cc))) is.told;
@@ -50,7 +53,8 @@ pub accepts_netlist : (name : List ℕ) (c : net.Netlist) (a : DeskView) → May
     → ((text : List ℕ) → IsInput Netlist name text a → IsAccepted text c) → AcceptsNetlist name a
 accepts_netlist name c a there accepted = record { there = there; accepted = λ text input. (c, accepted text input) }
 
-pub tests_cause : (netlist tests report : List ℕ) (c : net.Netlist) (a m b : DeskView) (t : Trouble) → InCall Netlist a m
+pub tests_cause : (netlist tests report : List ℕ) (c : net.Netlist) (a m b : DeskView) (t : Trouble)
+    → InCall Netlist a m
     → ((text : List ℕ) → IsInput Netlist netlist text a → IsAccepted text c) → AcceptsNetlist netlist a
     → TestsCause c tests m b t → HasCause (sim netlist tests report) a b t
 tests_cause netlist tests report c a m b Usage p accepted accepts h = absurd h
@@ -71,7 +75,8 @@ tests_cause netlist tests report c a m b (BadTests line) p accepted accepts h = 
 -- ---- writing
 
 -- a write failed after the texts were made
-pub write_cause : (job : Asked) (a m b : DeskView) → NothingOut a m → WriteFailed m b → AcceptsInputs job a → IsCut job a b → HasCause job a b WriteFault
+pub write_cause : (job : Asked) (a m b : DeskView) → NothingOut a m → WriteFailed m b → AcceptsInputs job a
+    → IsCut job a b → HasCause job a b WriteFault
 write_cause job a m b p failed inputs leaves = record {
   rose = omega (arith, p.out_later, failed.rose);
   unsteady = λ steady. failed.unsteady (subst IsTrue (sym p.steady) steady);
@@ -79,7 +84,8 @@ write_cause job a m b p failed inputs leaves = record {
   leaves = leaves;
 }
 
-pub sim_done : (netlist tests name body total : List ℕ) (a m b : DeskView) → NothingOut a m → OnlyWork name m b → IsReported name body total m b
+pub sim_done : (netlist tests name body total : List ℕ) (a m b : DeskView) → NothingOut a m → OnlyWork name m b
+    → IsReported name body total m b
     → AcceptsTests netlist tests a → AreWorkedInto netlist tests a body total → SimDone netlist tests name a b
 sim_done netlist tests name body total a m b p work reported inputs texts = record {
   is_created = reported.is_created;
@@ -95,7 +101,8 @@ sim_done netlist tests name body total a m b p work reported inputs texts = reco
   );
 }
 
-pub norm_done : (netlist name text : List ℕ) (a m b : DeskView) → NothingOut a m → OnlyWork name m b → IsBegun name text m b → b.written Out ≡ m.written Out
+pub norm_done : (netlist name text : List ℕ) (a m b : DeskView) → NothingOut a m → OnlyWork name m b
+    → IsBegun name text m b → b.written Out ≡ m.written Out
     → AcceptsNetlist netlist a → IsNormalTextOf netlist a text → NormDone netlist name a b
 norm_done netlist name text a m b p work begun out input normal = record {
   is_created = begun.is_created;
@@ -104,8 +111,12 @@ norm_done netlist name text a m b p work begun out input normal = record {
   nothing_out = out ∙ ap (λ f. f Out) p.written;
   input = input;
   text = λ n is.
-      let made = normal.normal n is in
-      (made.0, made.1, begun.written ∙ ap (λ f. option_map (λ _. text) (f Report)) p.written ∙ ap (λ l. option_map (λ _. l) (a.written Report)) made.2);
+      let made = normal.normal n is in (
+        made.0,
+        made.1,
+        begun.written ∙ ap (λ f. option_map (λ _. text) (f Report)) p.written ∙ ap
+            (λ l. option_map (λ _. l) (a.written Report)) made.2,
+      );
 }
 
 -- ---- what the words ask for
@@ -113,16 +124,23 @@ norm_done netlist name text a m b p work begun out input normal = record {
 one_job : (asked : Option Asked) (j k : Asked) → asked ≡ Some j → asked ≡ Some k → j ≡ k
 one_job asked j k p q = cc
 
-pub cause_of_job : (asked : Option Asked) (job : Asked) (a b : DeskView) (t : Trouble) → asked ≡ Some job → AskedHasCause asked a b t → HasCause job a b t
+pub cause_of_job : (asked : Option Asked) (job : Asked) (a b : DeskView) (t : Trouble) → asked ≡ Some job
+    → AskedHasCause asked a b t → HasCause job a b t
 cause_of_job asked job a b Usage is h = let e : Some job ≡ None = sym is ∙ h.0 in cc
-cause_of_job asked job a b TooLong is h = subst (λ (j : Asked). HasCause j a b TooLong) (one_job asked h.0 job h.1 is) h.2
-cause_of_job asked job a b (Refused error) is h = subst (λ (j : Asked). HasCause j a b (Refused error)) (one_job asked h.0 job h.1 is) h.2
-cause_of_job asked job a b ReadFault is h = subst (λ (j : Asked). HasCause j a b ReadFault) (one_job asked h.0 job h.1 is) h.2
-cause_of_job asked job a b WriteFault is h = subst (λ (j : Asked). HasCause j a b WriteFault) (one_job asked h.0 job h.1 is) h.2
+cause_of_job asked job a b TooLong is h = subst (λ (j : Asked). HasCause j a b TooLong) (one_job asked h.0 job h.1 is)
+    h.2
+cause_of_job asked job a b (Refused error) is h = subst (λ (j : Asked). HasCause j a b (Refused error))
+    (one_job asked h.0 job h.1 is) h.2
+cause_of_job asked job a b ReadFault is h = subst (λ (j : Asked). HasCause j a b ReadFault)
+    (one_job asked h.0 job h.1 is) h.2
+cause_of_job asked job a b WriteFault is h = subst (λ (j : Asked). HasCause j a b WriteFault)
+    (one_job asked h.0 job h.1 is) h.2
 cause_of_job asked job a b NoMemory is h = tt
-cause_of_job asked job a b (BadTests line) is h = subst (λ (j : Asked). HasCause j a b (BadTests line)) (one_job asked h.0 job h.1 is) h.2
+cause_of_job asked job a b (BadTests line) is h = subst (λ (j : Asked). HasCause j a b (BadTests line))
+    (one_job asked h.0 job h.1 is) h.2
 
-pub asked_cause : (asked : Option Asked) (job : Asked) (a b : DeskView) (t : Trouble) → asked ≡ Some job → HasCause job a b t → AskedHasCause asked a b t
+pub asked_cause : (asked : Option Asked) (job : Asked) (a b : DeskView) (t : Trouble) → asked ≡ Some job
+    → HasCause job a b t → AskedHasCause asked a b t
 asked_cause asked job a b Usage is h = absurd h
 asked_cause asked job a b TooLong is h = (job, is, h)
 asked_cause asked job a b (Refused error) is h = (job, is, h)
@@ -131,7 +149,8 @@ asked_cause asked job a b WriteFault is h = (job, is, h)
 asked_cause asked job a b NoMemory is h = tt
 asked_cause asked job a b (BadTests line) is h = (job, is, h)
 
-pub job_done : (asked : Option Asked) (job : Asked) (a b : DeskView) → asked ≡ Some job → AskedIsDone asked a b → IsDone job a b
+pub job_done : (asked : Option Asked) (job : Asked) (a b : DeskView) → asked ≡ Some job → AskedIsDone asked a b
+    → IsDone job a b
 job_done asked job a b is done = subst (λ (j : Asked). IsDone j a b) (one_job asked done.0 job done.1 is) done.2
 
 -- ---- the line on Err behind the work
@@ -140,10 +159,21 @@ pub says : (line name : List ℕ) (r : Result (Unit {0}) Failed) (a m b : DeskVi
     → OnOk r (Added err line m b) → OnErr r (AddedPart err line m b) → SaysOnErr line a m b
 says line name (Ok u) a m b work added failed =
     let quiet : m.written err ≡ a.written err = work.quiet in
-    record { quiet = quiet; count = length line; added = added.written ∙ (λ i. append_known (quiet i) (sym (take_all _ line (le_refl _)) i)); whole = inl refl }
+    record {
+      quiet = quiet;
+      count = length line;
+      added = added.written ∙ (λ i. append_known (quiet i) (sym (take_all _ line (le_refl _)) i));
+      whole = inl refl;
+    }
 says line name (Err e) a m b work added failed =
     let quiet : m.written err ≡ a.written err = work.quiet in
-    record { quiet = quiet; count = failed.count; added = failed.part.written ∙ ap (λ known. append_known known (take failed.count line)) quiet; whole = inr failed.cause }
+    record {
+      quiet = quiet;
+      count = failed.count;
+      added = failed.part.written ∙ ap
+          (λ known. append_known known (take failed.count line)) quiet;
+      whole = inr failed.cause;
+    }
 
 -- the line is no reading
 only_inputs_later : (a m b : DeskView) → OnlyInputs a m → Writes err m b → OnlyInputs a b
@@ -179,20 +209,24 @@ only_err a m b none p = record {
 }
 
 -- a line on Err is nothing on Out
-pub says_nothing_later : (job : Asked) (a m b : DeskView) → SaysNothingOut job a m → Writes err m b → SaysNothingOut job a b
+pub says_nothing_later : (job : Asked) (a m b : DeskView) → SaysNothingOut job a m → Writes err m b
+    → SaysNothingOut job a b
 says_nothing_later (sim netlist tests report) a m b quiet p = tt
 says_nothing_later (norm netlist out) a m b quiet p = p.call.others_written Out (λ e. cc) ∙ quiet
 
 -- the job that the words ask for says nothing on Out, and so does each job that they ask for
-pub says_nothing_asked : (asked : Option Asked) (j k : Asked) (a b : DeskView) → asked ≡ Some j → asked ≡ Some k → SaysNothingOut j a b → SaysNothingOut k a b
-says_nothing_asked asked j k a b p q quiet = subst (λ (job : Asked). SaysNothingOut job a b) (one_job asked j k p q) quiet
+pub says_nothing_asked : (asked : Option Asked) (j k : Asked) (a b : DeskView) → asked ≡ Some j → asked ≡ Some k
+    → SaysNothingOut j a b → SaysNothingOut k a b
+says_nothing_asked asked j k a b p q quiet = subst (λ (job : Asked). SaysNothingOut job a b) (one_job asked j k p q)
+    quiet
 
 -- a desk that isn't touched says nothing
 pub says_nothing_refl : (job : Asked) (a : DeskView) → SaysNothingOut job a a
 says_nothing_refl (sim netlist tests report) a = tt
 says_nothing_refl (norm netlist out) a = refl
 
-pub only_work_asked : (asked : Option Asked) (job : Asked) (a b : DeskView) → asked ≡ Some job → OnlyWork (output_name_of job) a b → OnlyWork (output_name asked) a b
+pub only_work_asked : (asked : Option Asked) (job : Asked) (a b : DeskView) → asked ≡ Some job
+    → OnlyWork (output_name_of job) a b → OnlyWork (output_name asked) a b
 only_work_asked asked job a b is work = subst (λ (o : Option Asked). OnlyWork (output_name o) a b) (sym is) work
 
 -- ---- a desk that isn't touched

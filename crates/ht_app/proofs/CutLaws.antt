@@ -13,12 +13,14 @@ use Rattle.ht_app.specs.Run.{IsBegunOn, IsCutShort, IsCut}
 use Rattle.ht_app.specs.Causes.{NothingOut, AreWorkedInto, IsNormalTextOf}
 
 -- bytes behind those that were written since the port was created
-stands_more : (known : Option (List ℕ)) (xs ys : List ℕ) → append_known (option_map (λ _. xs) known) ys ≡ option_map (λ _. xs ++ ys) known
+stands_more : (known : Option (List ℕ)) (xs ys : List ℕ) → append_known (option_map (λ _. xs) known) ys
+    ≡ option_map (λ _. xs ++ ys) known
 stands_more None xs ys = refl
 stands_more (Some old) xs ys = refl
 
 -- a front stands, and of the rest a part was added
-pub cut_later : (xs ys : List ℕ) (a m b : DeskView) → m.written Report ≡ option_map (λ _. xs) (a.written Report) → AddedPart Report ys m b → IsCutShort (xs ++ ys) a b
+pub cut_later : (xs ys : List ℕ) (a m b : DeskView) → m.written Report ≡ option_map (λ _. xs) (a.written Report)
+    → AddedPart Report ys m b → IsCutShort (xs ++ ys) a b
 cut_later xs ys a m b stands p = record {
   part = inr (
     length xs + p.count,
@@ -31,13 +33,15 @@ cut_later xs ys a m b stands p = record {
 }
 
 -- a front stands, and nothing of the rest was added
-pub cut_between : (xs ys : List ℕ) (a m b : DeskView) → 0 < length ys → m.written Report ≡ option_map (λ _. xs) (a.written Report)
+pub cut_between : (xs ys : List ℕ) (a m b : DeskView) → 0 < length ys → m.written Report
+    ≡ option_map (λ _. xs) (a.written Report)
     → b.written Report ≡ m.written Report → IsCutShort (xs ++ ys) a b
 cut_between xs ys a m b some stands same = record {
   part = inr (
     length xs,
     omega (arith, some, length-append xs ys),
-    same ∙ (stands ∙ ap (λ (l : List ℕ). option_map (λ _. l) (a.written Report)) (sym (take-append-le (length xs) xs ys (le_refl _) ∙ take_all _ xs (le_refl _)))),
+    same ∙ (stands ∙ ap (λ (l : List ℕ). option_map (λ _. l) (a.written Report))
+        (sym (take-append-le (length xs) xs ys (le_refl _) ∙ take_all _ xs (le_refl _)))),
   );
 }
 
@@ -49,7 +53,8 @@ cut_before xs ys a b p = record {
     | inr q ↦ inr (
       q.0,
       let less = q.1 in omega (arith, less, length-append xs ys),
-      q.2 ∙ ap (λ (l : List ℕ). option_map (λ _. l) (a.written Report)) (sym (take-append-le q.0 xs ys (let less = q.1 in omega (arith, less)))),
+      q.2 ∙ ap (λ (l : List ℕ). option_map (λ _. l) (a.written Report))
+          (sym (take-append-le q.0 xs ys (let less = q.1 in omega (arith, less)))),
     )
   ];
 }
@@ -63,13 +68,18 @@ cut_earlier text a m b none p = record {
   ];
 }
 
-pub sim_cut : (netlist tests name body total : List ℕ) (a m b : DeskView) → NothingOut a m → AreWorkedInto netlist tests a body total
+pub sim_cut : (netlist tests name body total : List ℕ) (a m b : DeskView) → NothingOut a m
+    → AreWorkedInto netlist tests a body total
     → IsBegunOn Out total m b → IsCutShort (body ++ total) m b → IsCut (sim netlist tests name) a b
 sim_cut netlist tests name body total a m b none texts begun cut = λ n t inputs. record {
   report = body ++ total;
   total = total;
   simulated = texts.simulated n t inputs;
-  begun = record { count = begun.count; front = begun.front ∙ ap (λ f. append_known (f Out) (take begun.count total)) none.written };
+  begun = record {
+    count = begun.count;
+    front = begun.front ∙ ap (λ f. append_known (f Out) (take begun.count total))
+        none.written;
+  };
   cut = cut_earlier (body ++ total) a m b none cut;
 }
 

@@ -25,6 +25,7 @@ inputs_count c is = length-take-le c.inputs c.names (omega (arith, is.named))
 
 pub same_inputs : (text : List ℕ) (c d : Netlist) → IsNetlistOf text c → IsNetlistOf text d → c.inputs ≡ d.inputs
 same_inputs text c d p q =
-    let statements : p.statements ≡ q.statements = one_reading p.statements q.statements (sym p.read.lines ∙ q.read.lines) in
+    let statements : p.statements ≡ q.statements = one_reading p.statements q.statements
+    (sym p.read.lines ∙ q.read.lines) in
     let named : named_of c ≡ named_of d = p.named ∙ ap named_of_statements statements ∙ sym q.named in
     sym (inputs_count c p.is_circuit) ∙ ap (λ (n : NamedNetlist). length n.inputs) named ∙ inputs_count d q.is_circuit

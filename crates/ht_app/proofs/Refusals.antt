@@ -11,7 +11,8 @@ use Rattle.ht_app.specs.ErrLines.{trouble_of}
 use Rattle.ht_app.specs.Run.{RefusesNetlist, IsRefused}
 use Rattle.ht_app.specs.Causes.{NetlistCause}
 
-no_circuit : (text : List ℕ) (error : BenchError) → error ≢ NoMemory → IsOfNoCircuit text error → (c : net.Netlist) → ¬ IsNetlistOf text c
+no_circuit : (text : List ℕ) (error : BenchError) → error ≢ NoMemory → IsOfNoCircuit text error → (c : net.Netlist)
+    → ¬ IsNetlistOf text c
 no_circuit text (BadLine line) other none = none
 no_circuit text (BadName line) other none = none
 no_circuit text (BadKind line) other none = none
@@ -22,7 +23,8 @@ no_circuit text (Undriven line name) other none = none
 no_circuit text (Loop line names) other none = none
 no_circuit text NoMemory other none = absurd (other refl)
 
-is_refused : (text : List ℕ) (error : BenchError) → error ≢ NoMemory → length text ≤ most_bytes → Refuses text error → IsOfNoCircuit text error → IsRefused error text
+is_refused : (text : List ℕ) (error : BenchError) → error ≢ NoMemory → length text ≤ most_bytes → Refuses text error
+    → IsOfNoCircuit text error → IsRefused error text
 is_refused text error other short refused none = record {
   short = short;
   refused = refused;
@@ -38,13 +40,16 @@ pub record IsReadInVain (name : List ℕ) (a : DeskView) (text : List ℕ) (erro
   pub refused : Refuses text error
   pub none : IsOfNoCircuit text error
 
-refuses : (name : List ℕ) (a : DeskView) (text : List ℕ) (error : BenchError) → error ≢ NoMemory → IsReadInVain name a text error → RefusesNetlist name a (IsRefused error)
+refuses : (name : List ℕ) (a : DeskView) (text : List ℕ) (error : BenchError) → error ≢ NoMemory
+    → IsReadInVain name a text error → RefusesNetlist name a (IsRefused error)
 refuses name a text error other vain = record {
   there = vain.there;
-  cause = λ t is. subst (IsRefused error) (vain.is_text t is) (is_refused text error other vain.short vain.refused vain.none);
+  cause = λ t is. subst (IsRefused error) (vain.is_text t is)
+      (is_refused text error other vain.short vain.refused vain.none);
 }
 
-pub bench_cause : (name : List ℕ) (a b : DeskView) (text : List ℕ) (error : BenchError) → IsReadInVain name a text error → NetlistCause name a b (trouble_of error)
+pub bench_cause : (name : List ℕ) (a b : DeskView) (text : List ℕ) (error : BenchError) → IsReadInVain name a text error
+    → NetlistCause name a b (trouble_of error)
 bench_cause name a b text (BadLine line) vain = refuses name a text (BadLine line) (λ e. cc) vain
 bench_cause name a b text (BadName line) vain = refuses name a text (BadName line) (λ e. cc) vain
 bench_cause name a b text (BadKind line) vain = refuses name a text (BadKind line) (λ e. cc) vain

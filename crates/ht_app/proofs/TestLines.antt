@@ -49,7 +49,8 @@ lf_count-take : (rest : List ℕ) (k : ℕ) → k < length (first_through rest) 
 lf_count-take [] k lt = absurd (omega arith)
 lf_count-take (x ∷ rest) zero lt = refl
 lf_count-take (x ∷ rest) (suc k) lt = elim (cases_eq x 10) [
-  | inl lf ↦ let one : length (first_through (x ∷ rest)) ≡ 1 = grind (arith, nat_tests) in absurd (omega (arith, lt, one))
+  | inl lf ↦ let one : length (first_through (x ∷ rest)) ≡ 1 = grind (arith, nat_tests)
+      in absurd (omega (arith, lt, one))
   | inr other ↦
       let more : length (first_through (x ∷ rest)) ≡ suc (length (first_through rest)) = grind (arith, nat_tests) in
       let behind = lf_count-take rest k (omega (arith, lt, more)) in
@@ -58,7 +59,14 @@ lf_count-take (x ∷ rest) (suc k) lt = elim (cases_eq x 10) [
 ]
 
 pub so_far_start : (c : Netlist) (text : List ℕ) → SoFar c text 0 [] text
-so_far_start c text = record { front = []; whole = refl; size = refl; lfs = λ _. refl; lines = refl; widths = λ k d lt. absurd (omega arith) }
+so_far_start c text = record {
+  front = [];
+  whole = refl;
+  size = refl;
+  lfs = λ _. refl;
+  lines = refl;
+  widths = λ k d lt. absurd (omega arith);
+}
 
 -- the bytes of one line more
 line_taken : (line : List ℕ) (count : ℕ) (rest after : List ℕ) → NextLine line count (Some rest) (Some after)
@@ -67,11 +75,15 @@ line_taken line count rest after next =
     let is : rest ≡ next.taken ++ after = let e = next.next.took in cc in
     (next.taken, is, next.size, λ more. one next.next.cut more)
   where
-    one : (next.taken ≡ next.piece ++ 10 ∷ []) ⊎ ((next.taken ≡ next.piece) × (0 < length next.piece) × IsAtEnd (Some after)) → 0 < length after → lf_count next.taken ≡ 1
-    one (inl lf) more = ap lf_count lf ∙ lf_count-append next.piece (10 ∷ []) ∙ ap (λ n. n + 1) (no_lf_count next.piece next.next.no_lf)
+    one : (next.taken ≡ next.piece ++ 10 ∷ [])
+        ⊎ ((next.taken ≡ next.piece) × (0 < length next.piece) × IsAtEnd (Some after)) → 0 < length after
+        → lf_count next.taken ≡ 1
+    one (inl lf) more = ap lf_count lf ∙ lf_count-append next.piece (10 ∷ []) ∙ ap (λ n. n + 1)
+        (no_lf_count next.piece next.next.no_lf)
     one (inr last) more = let end : after ≡ [] = last.2 in absurd (omega (arith, more, ap length end))
 
-pub so_far_next : (c : Netlist) (text : List ℕ) (passed : ℕ) (list : List (List Bool)) (rest line : List ℕ) (count : ℕ) (new : Option (List ℕ)) (vector : List Bool)
+pub so_far_next : (c : Netlist) (text : List ℕ) (passed : ℕ) (list : List (List Bool)) (rest line : List ℕ) (count : ℕ)
+    (new : Option (List ℕ)) (vector : List Bool)
     → SoFar c text passed list rest → NextLine line count (Some rest) new → IsTextOf c.inputs line vector
     → (after : List ℕ) × (new ≡ Some after) × SoFar c text (passed + count) (list ++ vector ∷ []) after
 so_far_next c text passed list rest line count None vector so next is = let e : Some rest ≡ None = next.next.took in cc
@@ -92,7 +104,8 @@ so_far_next c text passed list rest line count (Some after) vector so next is =
         lines = so.lines ∙ ap (λ l. map vector_text list ++ l) (now ∙ ap (λ l. l ∷ lines_of after) is.characters)
             ∙ sym (append_assoc (map vector_text list) (vector_text vector ∷ []) (lines_of after))
             ∙ ap (λ l. l ++ lines_of after) (sym (map-append vector_text list (vector ∷ [])));
-        widths = All-append (λ (v : List Bool). length v ≡ c.inputs) list (vector ∷ []) so.widths (λ k d lt. one_width k d lt);
+        widths = All-append (λ (v : List Bool). length v ≡ c.inputs) list (vector ∷ []) so.widths
+            (λ k d lt. one_width k d lt);
       },
     )
   where
@@ -101,7 +114,8 @@ so_far_next c text passed list rest line count (Some after) vector so next is =
     one_width (suc k) d lt = absurd (omega arith)
 
 -- at the end all lines are read
-pub so_far_end : (c : Netlist) (text : List ℕ) (passed : ℕ) (list : List (List Bool)) (rest : List ℕ) → SoFar c text passed list rest → rest ≡ [] → passed ≤ 2 ^ 62 → IsTestText c text list
+pub so_far_end : (c : Netlist) (text : List ℕ) (passed : ℕ) (list : List (List Bool)) (rest : List ℕ)
+    → SoFar c text passed list rest → rest ≡ [] → passed ≤ 2 ^ 62 → IsTestText c text list
 so_far_end c text passed list rest so end fits = record {
   lines = so.lines ∙ ap (λ l. map vector_text list ++ lines_of l) end ∙ append-nil (map vector_text list);
   widths = so.widths;
@@ -109,56 +123,74 @@ so_far_end c text passed list rest so end fits = record {
 }
 
 -- the byte at which a text becomes too long stands behind the lines so far
-byte_line : (c : Netlist) (text : List ℕ) (passed : ℕ) (list : List (List Bool)) (rest : List ℕ) → SoFar c text passed list rest → 0 < length rest → passed ≤ 2 ^ 62
+byte_line : (c : Netlist) (text : List ℕ) (passed : ℕ) (list : List (List Bool)) (rest : List ℕ)
+    → SoFar c text passed list rest → 0 < length rest → passed ≤ 2 ^ 62
     → line_of_byte text (2 ^ 62) ≡ length list + lf_count (take (2 ^ 62 - passed) rest) + 1
 byte_line c text passed list rest so some fits =
     let split : length so.front + (2 ^ 62 - passed) ≡ 2 ^ 62 = omega (arith, so.size, fits) in
     let cut : take (2 ^ 62) text ≡ so.front ++ take (2 ^ 62 - passed) rest =
-    ap (λ n. take n text) (sym split) ∙ ap (λ t. take (length so.front + (2 ^ 62 - passed)) t) so.whole ∙ take-append-add so.front rest (2 ^ 62 - passed) in
-    ap (λ l. lf_count l + 1) cut ∙ ap (λ n. n + 1) (lf_count-append so.front (take (2 ^ 62 - passed) rest)) ∙ ap (λ n. n + lf_count (take (2 ^ 62 - passed) rest) + 1) (so.lfs some)
+    ap (λ n. take n text) (sym split) ∙ ap (λ t. take (length so.front + (2 ^ 62 - passed)) t) so.whole ∙
+    take-append-add so.front rest (2 ^ 62 - passed) in
+    ap (λ l. lf_count l + 1) cut ∙ ap (λ n. n + 1) (lf_count-append so.front (take (2 ^ 62 - passed) rest)) ∙ ap
+    (λ n. n + lf_count (take (2 ^ 62 - passed) rest) + 1) (so.lfs some)
 
 -- no line so far is wrong
-none_before : (c : Netlist) (text : List ℕ) (passed : ℕ) (list : List (List Bool)) (rest : List ℕ) → SoFar c text passed list rest → 0 < length rest → passed ≤ 2 ^ 62
+none_before : (c : Netlist) (text : List ℕ) (passed : ℕ) (list : List (List Bool)) (rest : List ℕ)
+    → SoFar c text passed list rest → 0 < length rest → passed ≤ 2 ^ 62
     → (m : ℕ) → m < length list + 1 → ¬ IsWrongLine c text m
 none_before c text passed list rest so some fits m lt (inl none) =
     let inside : m - 1 < length list = omega (arith, lt, none.counted.0) in
     let at : line_at text m ≡ vector_text (get_or list (m - 1) []) =
     ap (λ l. get_or l (m - 1) []) so.lines
-    ∙ get_or-append (map vector_text list) (lines_of rest) [] (m - 1) (omega (arith, inside, length-map list vector_text))
+    ∙ get_or-append (map vector_text list) (lines_of rest) [] (m - 1)
+    (omega (arith, inside, length-map list vector_text))
     ∙ get_or-map vector_text list (m - 1) [] [] inside in
     none.none (get_or list (m - 1) []) (record { characters = at; bits = so.widths (m - 1) [] inside })
 none_before c text passed list rest so some fits m lt (inr long) =
     absurd (omega (arith, lt, long.line, byte_line c text passed list rest so some fits))
 
 -- the line that comes next
-next_line_at : (c : Netlist) (text : List ℕ) (passed : ℕ) (list : List (List Bool)) (rest : List ℕ) → SoFar c text passed list rest
-    → (line : List ℕ) (more : List (List ℕ)) → lines_of rest ≡ line ∷ more → (line_at text (length list + 1) ≡ line) × (length list + 1 ≤ length (lines_of text))
+next_line_at : (c : Netlist) (text : List ℕ) (passed : ℕ) (list : List (List Bool)) (rest : List ℕ)
+    → SoFar c text passed list rest
+    → (line : List ℕ) (more : List (List ℕ)) → lines_of rest ≡ line ∷ more → (line_at text (length list + 1) ≡ line)
+    × (length list + 1 ≤ length (lines_of text))
 next_line_at c text passed list rest so line more is =
-    let whole : lines_of text ≡ map vector_text list ++ line ∷ more = so.lines ∙ ap (λ l. map vector_text list ++ l) is in
+    let whole : lines_of text ≡ map vector_text list ++ line ∷ more = so.lines ∙ ap (λ l. map vector_text list ++ l) is
+    in
     let place : length list + 1 - 1 ≡ length (map vector_text list) = omega (arith, length-map list vector_text) in (
-      ap (λ l. get_or l (length list + 1 - 1) []) whole ∙ ap (λ n. get_or (map vector_text list ++ line ∷ more) n []) place ∙ get_or-append_seam (map vector_text list) line more [],
+      ap (λ l. get_or l (length list + 1 - 1) []) whole ∙ ap (λ n. get_or (map vector_text list ++ line ∷ more) n [])
+          place ∙ get_or-append_seam (map vector_text list) line more [],
       omega (arith, ap length whole, length-append (map vector_text list) (line ∷ more), length-map list vector_text),
     )
 
 -- a next line that no vector has as its text
-no_vector : (c : Netlist) (text : List ℕ) (passed : ℕ) (list : List (List Bool)) (rest : List ℕ) → SoFar c text passed list rest → 0 < length rest → passed ≤ 2 ^ 62
-    → (line : List ℕ) (more : List (List ℕ)) → lines_of rest ≡ line ∷ more → ((vector : List Bool) → ¬ IsTextOf c.inputs line vector) → IsMalformedTest c text (length list + 1)
+no_vector : (c : Netlist) (text : List ℕ) (passed : ℕ) (list : List (List Bool)) (rest : List ℕ)
+    → SoFar c text passed list rest → 0 < length rest → passed ≤ 2 ^ 62
+    → (line : List ℕ) (more : List (List ℕ)) → lines_of rest ≡ line ∷ more
+    → ((vector : List Bool) → ¬ IsTextOf c.inputs line vector) → IsMalformedTest c text (length list + 1)
 no_vector c text passed list rest so some fits line more is none =
     let at = next_line_at c text passed list rest so line more is in
     record {
-      wrong = inl (record { counted = (omega arith, at.1); none = λ vector of. none vector (subst (λ (l : List ℕ). IsTextOf c.inputs l vector) at.0 of) });
+      wrong = inl (record {
+        counted = (omega arith, at.1);
+        none = λ vector of. none vector
+            (subst (λ (l : List ℕ). IsTextOf c.inputs l vector) at.0 of);
+      });
       first = none_before c text passed list rest so some fits;
     }
 
-pub bad_line : (c : Netlist) (text : List ℕ) (passed : ℕ) (list : List (List Bool)) (rest line : List ℕ) (count : ℕ) (new : Option (List ℕ))
-    → SoFar c text passed list rest → passed ≤ 2 ^ 62 → 0 < count → NextLine line count (Some rest) new → ((vector : List Bool) → ¬ IsTextOf c.inputs line vector)
+pub bad_line : (c : Netlist) (text : List ℕ) (passed : ℕ) (list : List (List Bool)) (rest line : List ℕ) (count : ℕ)
+    (new : Option (List ℕ))
+    → SoFar c text passed list rest → passed ≤ 2 ^ 62 → 0 < count → NextLine line count (Some rest) new
+    → ((vector : List Bool) → ¬ IsTextOf c.inputs line vector)
     → IsMalformedTest c text (length list + 1)
 bad_line c text passed list rest line count new so fits some next none =
     let cut = next_cuts line count rest new next in
     no_vector c text passed list rest so (omega (arith, cut.2.size, some)) fits line (lines_of cut.0) cut.2.lines none
 
 pub too_long : (c : Netlist) (text : List ℕ) (passed : ℕ) (list : List (List Bool)) (rest : List ℕ)
-    → SoFar c text passed list rest → passed ≤ 2 ^ 62 → c.inputs ≤ 4096 → IsTooLongLine 4096 passed rest → IsMalformedTest c text (length list + 1)
+    → SoFar c text passed list rest → passed ≤ 2 ^ 62 → c.inputs ≤ 4096 → IsTooLongLine 4096 passed rest
+    → IsMalformedTest c text (length list + 1)
 too_long c text passed list [] so fits few (inl long) = absurd (omega arith)
 too_long c text passed list [] so fits few (inr late) = absurd (omega (arith, fits, late))
 too_long c text passed list (x ∷ rest) so fits few (inl long) =
@@ -170,6 +202,10 @@ too_long c text passed list (x ∷ rest) so fits few (inr late) =
     let none = lf_count-take (x ∷ rest) (2 ^ 62 - passed) (omega (arith, late, fits)) in
     let within = length-first_through (x ∷ rest) in
     record {
-      wrong = inr (record { long = omega (arith, late, ap length so.whole, length-append so.front (x ∷ rest), so.size, within); line = omega (arith, line, none) });
+      wrong = inr (record {
+        long = omega
+            (arith, late, ap length so.whole, length-append so.front (x ∷ rest), so.size, within);
+        line = omega (arith, line, none);
+      });
       first = none_before c text passed list (x ∷ rest) so (omega arith) fits;
     }

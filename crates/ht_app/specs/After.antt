@@ -24,7 +24,8 @@ pub record OnlyInputs (old new : DeskView) : Type 0 where
 -- Report is as it was, or is created under this name.
 abbrev pub ReportIsNamed : List ℕ → DeskView → DeskView → Type 0
 ReportIsNamed name old new =
-    ((new.named Report ≡ old.named Report) × (new.is_created Report ≡ old.is_created Report)) ⊎ (new.named Report ≡ option_map (λ _. name) (old.named Report))
+    ((new.named Report ≡ old.named Report) × (new.is_created Report ≡ old.is_created Report))
+    ⊎ (new.named Report ≡ option_map (λ _. name) (old.named Report))
 
 -- Nothing is created but Report, under its name; nothing comes out but on Report, Out and Err; no file changes but that
 -- of the report's name; the counts don't fall, and the desk stays steady or not.

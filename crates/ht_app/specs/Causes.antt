@@ -85,8 +85,10 @@ pub record IsReported (name body total : List ℕ) (old new : DeskView) : Type 0
 
 -- the report of the two files of these names, and its total line
 pub record AreWorkedInto (netlist_name tests_name : List ℕ) (old : DeskView) (body total : List ℕ) : Type 0 where
-  pub simulated : (netlist tests : List ℕ) → AreInputs netlist_name tests_name netlist tests old → IsSimulated netlist tests (body ++ total) total
+  pub simulated : (netlist tests : List ℕ) → AreInputs netlist_name tests_name netlist tests old
+      → IsSimulated netlist tests (body ++ total) total
 
 -- the normal text of the netlist of this name
 pub record IsNormalTextOf (name : List ℕ) (old : DeskView) (text : List ℕ) : Type 0 where
-  pub normal : (netlist : List ℕ) → IsInput Netlist name netlist old → (c : net.Netlist) × IsAccepted netlist c × (text ≡ normal_text c)
+  pub normal : (netlist : List ℕ) → IsInput Netlist name netlist old → (c : net.Netlist) × IsAccepted netlist c
+      × (text ≡ normal_text c)

@@ -23,7 +23,8 @@ pub record AreFirstDetections (c : net.Netlist) (list : List (List Bool)) (place
   pub each : length places ≡ length (faults_of c)
   pub first : (i : ℕ) → i < length (faults_of c) → IsFirstDetection c (fault_at c i) list (get_or places i None)
 
--- The report and the total line of a circuit over the vectors of a tests text. A fault that represents its class has its
+-- The report and the total line of a circuit over the vectors of a tests text. A fault that represents its class has
+-- its
 -- own verdict, and every other names its representative, which has the same first detection.
 pub record IsSimulated (netlist tests report total : List ℕ) : Type 0 where
   pub circuit : net.Netlist
@@ -45,7 +46,8 @@ pub record SimDone (netlist_name tests_name report_name : List ℕ) (old new : D
   pub inputs : AcceptsTests netlist_name tests_name old
   pub texts : (netlist tests : List ℕ) → AreInputs netlist_name tests_name netlist tests old
       → (report total : List ℕ) × IsSimulated netlist tests report total
-      × (new.written Report ≡ option_map (λ _. report) (old.written Report)) × (new.written Out ≡ append_known (old.written Out) total)
+      × (new.written Report ≡ option_map (λ _. report) (old.written Report))
+      × (new.written Out ≡ append_known (old.written Out) total)
 
 -- ---- `norm`
 
@@ -57,7 +59,8 @@ pub record NormDone (netlist_name out_name : List ℕ) (old new : DeskView) : Ty
   pub nothing_out : new.written Out ≡ old.written Out
   pub input : AcceptsNetlist netlist_name old
   pub text : (netlist : List ℕ) → IsInput Netlist netlist_name netlist old
-      → (c : net.Netlist) × IsAccepted netlist c × (new.written Report ≡ option_map (λ _. normal_text c) (old.written Report))
+      → (c : net.Netlist) × IsAccepted netlist c
+      × (new.written Report ≡ option_map (λ _. normal_text c) (old.written Report))
 
 -- ---- each command
 

@@ -64,7 +64,8 @@ numbered front number back = front ++ (decimal number ++ back)
 abbrev pub line_of : Trouble → List ℕ
 line_of Usage = codes "usage: sim NETLIST TESTS REPORT, norm NETLIST OUT\n"
 line_of TooLong = codes "netlist: too long\n"
-line_of (Refused error) = numbered (codes "netlist: line ") (line_number error) (codes ": ") ++ (cause_text error ++ codes "\n")
+line_of (Refused error) = numbered (codes "netlist: line ") (line_number error) (codes ": ")
+    ++ (cause_text error ++ codes "\n")
 line_of ReadFault = codes "read fault\n"
 line_of WriteFault = codes "write fault\n"
 line_of NoMemory = codes "no memory\n"

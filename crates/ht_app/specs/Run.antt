@@ -60,7 +60,8 @@ pub record FailsToRead (job : Asked) (old new : DeskView) : Type 0 where
 -- Report is as it was, or has a proper front of this text.
 pub record IsCutShort (text : List ℕ) (old new : DeskView) : Type 0 where
   pub part : (new.written Report ≡ old.written Report)
-      ⊎ ((count : ℕ) × (count < length text) × (new.written Report ≡ option_map (λ _. take count text) (old.written Report)))
+      ⊎ ((count : ℕ) × (count < length text)
+      × (new.written Report ≡ option_map (λ _. take count text) (old.written Report)))
 
 -- `sim` without a whole report, and with a front of its total line on Out
 pub record SimIsCut (netlist tests : List ℕ) (old new : DeskView) : Type 0 where
@@ -81,7 +82,8 @@ abbrev pub IsCut : Asked → DeskView → DeskView → Type 0
 IsCut (sim netlist_name tests_name report_name) old new =
     (netlist tests : List ℕ) → AreInputs netlist_name tests_name netlist tests old → SimIsCut netlist tests old new
 IsCut (norm netlist_name out_name) old new =
-    (new.written Out ≡ old.written Out) × ((netlist : List ℕ) → IsInput Netlist netlist_name netlist old → NormIsCut netlist old new)
+    (new.written Out ≡ old.written Out)
+    × ((netlist : List ℕ) → IsInput Netlist netlist_name netlist old → NormIsCut netlist old new)
 
 -- A fault of writing was counted, on a desk that isn't steady, after the inputs were accepted.
 pub record FailsToWrite (job : Asked) (old new : DeskView) : Type 0 where

@@ -27,7 +27,8 @@ fn do_job<D: Desk>(alloc: Global, job: &Job, desk: &mut D) -> Result<(), Trouble
     ensures nothing_out { SaysNothingOut (asked_by job.now) (D.view desk.old) (D.view desk.new) }
     ensures done { OnOk result (IsDone (asked_by job.now) (D.view desk.old) (D.view desk.new)) }
     ensures cause { IfErr result (HasCause (asked_by job.now) (D.view desk.old) (D.view desk.new)) }
-    ensures nothing { IfErr result (λ e. e ≢ trouble.WriteFault → NothingOut (D.view desk.old) (D.view desk.new)) }
+    ensures nothing { IfErr result
+        (λ e. e ≢ trouble.WriteFault → NothingOut (D.view desk.old) (D.view desk.new)) }
 {
     match job {
         Job::Sim {
@@ -41,11 +42,16 @@ fn do_job<D: Desk>(alloc: Global, job: &Job, desk: &mut D) -> Result<(), Trouble
 
 // Reads the words, and does the job that they ask for.
 fn work<D: Desk>(alloc: Global, words: &[String], desk: &mut D) -> Result<(), Trouble>
-    ensures frame { OnlyWork (output_name (asked (texts_of words.now))) (D.view desk.old) (D.view desk.new) }
-    ensures nothing_out { (job : Asked) → asked (texts_of words.now) ≡ Some job → SaysNothingOut job (D.view desk.old) (D.view desk.new) }
-    ensures done { OnOk result (AskedIsDone (asked (texts_of words.now)) (D.view desk.old) (D.view desk.new)) }
-    ensures cause { IfErr result (AskedHasCause (asked (texts_of words.now)) (D.view desk.old) (D.view desk.new)) }
-    ensures nothing { IfErr result (λ e. e ≢ trouble.WriteFault → NothingOut (D.view desk.old) (D.view desk.new)) }
+    ensures frame { OnlyWork (output_name (asked (texts_of words.now))) (D.view desk.old)
+        (D.view desk.new) }
+    ensures nothing_out { (job : Asked) → asked (texts_of words.now) ≡ Some job
+        → SaysNothingOut job (D.view desk.old) (D.view desk.new) }
+    ensures done { OnOk result
+        (AskedIsDone (asked (texts_of words.now)) (D.view desk.old) (D.view desk.new)) }
+    ensures cause { IfErr result
+        (AskedHasCause (asked (texts_of words.now)) (D.view desk.old) (D.view desk.new)) }
+    ensures nothing { IfErr result
+        (λ e. e ≢ trouble.WriteFault → NothingOut (D.view desk.old) (D.view desk.new)) }
 {
     match command(alloc, words) {
         Ok(job) => {
@@ -79,8 +85,10 @@ fn work<D: Desk>(alloc: Global, words: &[String], desk: &mut D) -> Result<(), Tr
 /// status other than 0 says why in one line on Err; where that write fails the status stays.
 pub fn run<D: Desk>(alloc: Global, words: &[String], desk: &mut D) -> u8
     // What a status says, and what stands behind it.
-    ensures done { result ≡ 0 → AskedIsDone (asked (texts_of words.now)) (D.view desk.old) (D.view desk.new) }
-    ensures trouble { result ≢ 0 → EndsBy (asked (texts_of words.now)) result (D.view desk.old) (D.view desk.new) }
+    ensures done { result ≡ 0 → AskedIsDone (asked (texts_of words.now)) (D.view desk.old)
+        (D.view desk.new) }
+    ensures trouble { result ≢ 0 → EndsBy (asked (texts_of words.now)) result (D.view desk.old)
+        (D.view desk.new) }
 
     // The causes of the refusals are exact.
     ensures usage { result ≡ 2 → asked (texts_of words.now) ≡ None }
@@ -88,26 +96,36 @@ pub fn run<D: Desk>(alloc: Global, words: &[String], desk: &mut D) -> u8
     ensures refused { (job : Asked) → asked (texts_of words.now) ≡ Some job
         → (text : List ℕ) → IsInput in_port.Netlist (netlist_name_of job) text (D.view desk.old)
         → ((c : Netlist) → ¬ IsAccepted text c) → (result ≡ 3) ⊎ (result ≡ 4) ⊎ (result ≡ 6) }
-    ensures malformed { (netlist_name tests_name report_name : List ℕ) → asked (texts_of words.now) ≡ Some (sim netlist_name tests_name report_name)
-        → (netlist tests : List ℕ) (c : Netlist) (line : ℕ) → AreInputs netlist_name tests_name netlist tests (D.view desk.old)
-        → IsAccepted netlist c → IsMalformedTest c tests line → (result ≡ 7) ⊎ (result ≡ 4) ⊎ (result ≡ 6) }
+    ensures malformed { (netlist_name tests_name report_name : List ℕ) → asked (texts_of words.now)
+        ≡ Some (sim netlist_name tests_name report_name)
+        → (netlist tests : List ℕ) (c : Netlist) (line : ℕ) → AreInputs netlist_name tests_name
+        netlist tests (D.view desk.old)
+        → IsAccepted netlist c → IsMalformedTest c tests line → (result ≡ 7) ⊎ (result ≡ 4)
+        ⊎ (result ≡ 6) }
 
     // Where no fault was counted, good inputs give the output, or memory was wanting.
-    ensures complete_sim { (netlist_name tests_name report_name : List ℕ) → asked (texts_of words.now) ≡ Some (sim netlist_name tests_name report_name)
-        → (netlist tests : List ℕ) (c : Netlist) (list : List (List Bool)) → AreInputs netlist_name tests_name netlist tests (D.view desk.old)
+    ensures complete_sim { (netlist_name tests_name report_name : List ℕ)
+        → asked (texts_of words.now) ≡ Some (sim netlist_name tests_name report_name)
+        → (netlist tests : List ℕ) (c : Netlist) (list : List (List Bool))
+        → AreInputs netlist_name tests_name netlist tests (D.view desk.old)
         → IsAccepted netlist c → IsTestText c tests list
         → Faultless (D.view desk.old) (D.view desk.new) → (result ≡ 0) ⊎ (result ≡ 6) }
-    ensures complete_norm { (netlist_name out_name : List ℕ) → asked (texts_of words.now) ≡ Some (norm netlist_name out_name)
-        → (netlist : List ℕ) (c : Netlist) → IsInput in_port.Netlist netlist_name netlist (D.view desk.old)
+    ensures complete_norm { (netlist_name out_name : List ℕ) → asked (texts_of words.now)
+        ≡ Some (norm netlist_name out_name)
+        → (netlist : List ℕ) (c : Netlist) → IsInput in_port.Netlist netlist_name netlist
+        (D.view desk.old)
         → IsAccepted netlist c
         → Faultless (D.view desk.old) (D.view desk.new) → (result ≡ 0) ⊎ (result ≡ 6) }
     ensures steady { (job : Asked) → asked (texts_of words.now) ≡ Some job
-        → IsTrue (D.view desk.old).steady → HoldsInputs job (D.view desk.old) → (result ≢ 4) × (result ≢ 5) }
+        → IsTrue (D.view desk.old).steady → HoldsInputs job (D.view desk.old) → (result ≢ 4)
+        × (result ≢ 5) }
 
     // What stands afterwards.
     ensures nothing { result ≢ 0 → result ≢ 5 → OnlyErr (D.view desk.old) (D.view desk.new) }
-    ensures nothing_out { (job : Asked) → asked (texts_of words.now) ≡ Some job → SaysNothingOut job (D.view desk.old) (D.view desk.new) }
-    ensures files { OnlyReport (output_name (asked (texts_of words.now))) (D.view desk.old) (D.view desk.new) }
+    ensures nothing_out { (job : Asked) → asked (texts_of words.now) ≡ Some job
+        → SaysNothingOut job (D.view desk.old) (D.view desk.new) }
+    ensures files { OnlyReport (output_name (asked (texts_of words.now))) (D.view desk.old)
+        (D.view desk.new) }
 {
     match work(alloc, words, desk) {
         Ok(()) => 0,

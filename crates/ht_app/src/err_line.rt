@@ -12,8 +12,10 @@ use itoa::Buffer;
 /// Writes two pieces on Err, one behind the other.
 pub fn write_pair<D: Desk>(desk: &mut D, front: &[u8], back: &[u8]) -> Result<(), Failed>
     ensures frame { Writes out_port.Err (D.view desk.old) (D.view desk.new) }
-    ensures added { OnOk result (Added out_port.Err (front.now ++ back.now) (D.view desk.old) (D.view desk.new)) }
-    ensures failed { OnErr result (AddedPart out_port.Err (front.now ++ back.now) (D.view desk.old) (D.view desk.new)) }
+    ensures added { OnOk result
+        (Added out_port.Err (front.now ++ back.now) (D.view desk.old) (D.view desk.new)) }
+    ensures failed { OnErr result
+        (AddedPart out_port.Err (front.now ++ back.now) (D.view desk.old) (D.view desk.new)) }
 {
     write_all(desk, OutPort::Err, front)?;
     write_all(desk, OutPort::Err, back)?;
@@ -28,8 +30,12 @@ pub fn write_numbered<D: Desk>(
     back: &[u8],
 ) -> Result<(), Failed>
     ensures frame { Writes out_port.Err (D.view desk.old) (D.view desk.new) }
-    ensures added { OnOk result (Added out_port.Err (numbered front.now number back.now) (D.view desk.old) (D.view desk.new)) }
-    ensures failed { OnErr result (AddedPart out_port.Err (numbered front.now number back.now) (D.view desk.old) (D.view desk.new)) }
+    ensures added { OnOk result
+        (Added out_port.Err (numbered front.now number back.now) (D.view desk.old)
+        (D.view desk.new)) }
+    ensures failed { OnErr result
+        (AddedPart out_port.Err (numbered front.now number back.now) (D.view desk.old)
+        (D.view desk.new)) }
 {
     let mut buffer = Buffer::new();
     write_all(desk, OutPort::Err, front)?;
@@ -40,8 +46,10 @@ pub fn write_numbered<D: Desk>(
 /// Says on Err why a run ends, in one line. It takes no memory.
 pub fn write_line<D: Desk>(desk: &mut D, trouble: &Trouble) -> Result<(), Failed>
     ensures frame { Writes out_port.Err (D.view desk.old) (D.view desk.new) }
-    ensures added { OnOk result (Added out_port.Err (line_of trouble.now) (D.view desk.old) (D.view desk.new)) }
-    ensures failed { OnErr result (AddedPart out_port.Err (line_of trouble.now) (D.view desk.old) (D.view desk.new)) }
+    ensures added { OnOk result
+        (Added out_port.Err (line_of trouble.now) (D.view desk.old) (D.view desk.new)) }
+    ensures failed { OnErr result
+        (AddedPart out_port.Err (line_of trouble.now) (D.view desk.old) (D.view desk.new)) }
 {
     match trouble {
         Trouble::Usage => write_all(

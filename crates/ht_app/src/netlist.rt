@@ -20,7 +20,9 @@ fn read_text<D: Desk>(alloc: Global, desk: &mut D, name: &str) -> Result<Vec<u8>
     ensures frame { InCall in_port.Netlist (D.view desk.old) (D.view desk.new) }
     ensures within { IfOk result (λ v. length v.items ≤ 16777216) }
     ensures there { OnOk result (MayHold (D.view desk.old) name.now) }
-    ensures text { IfOk result (λ v. (text : List ℕ) → IsInput in_port.Netlist name.now text (D.view desk.old) → v.items ≡ text) }
+    ensures text { IfOk result
+        (λ v. (text : List ℕ) → IsInput in_port.Netlist name.now text (D.view desk.old) → v.items
+        ≡ text) }
     ensures cause { IfErr result (NetlistCause name.now (D.view desk.old) (D.view desk.new)) }
 {
     if let Err(Failed) = desk.open(InPort::Netlist, name) {
@@ -39,7 +41,9 @@ pub fn read_netlist<D: Desk>(alloc: Global, desk: &mut D, name: &str) -> Result<
     ensures frame { InCall in_port.Netlist (D.view desk.old) (D.view desk.new) }
     ensures there { OnOk result (MayHold (D.view desk.old) name.now) }
     ensures well_formed { IfOk result IsCircuit }
-    ensures circuit { IfOk result (λ c. (text : List ℕ) → IsInput in_port.Netlist name.now text (D.view desk.old) → IsAccepted text c) }
+    ensures circuit { IfOk result
+        (λ c. (text : List ℕ) → IsInput in_port.Netlist name.now text (D.view desk.old)
+        → IsAccepted text c) }
     ensures cause { IfErr result (NetlistCause name.now (D.view desk.old) (D.view desk.new)) }
 {
     let text = read_text(alloc, desk, name)?;

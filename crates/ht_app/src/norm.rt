@@ -30,10 +30,13 @@ fn normal_text<D: Desk>(alloc: Global, netlist: &str, desk: &mut D) -> Result<Ve
 /// Runs `norm`: reads the netlist, and writes its normal text.
 pub fn norm<D: Desk>(alloc: Global, netlist: &str, out: &str, desk: &mut D) -> Result<(), Trouble>
     ensures frame { OnlyWork out.now (D.view desk.old) (D.view desk.new) }
-    ensures nothing_out { (D.view desk.new).written out_port.Out ≡ (D.view desk.old).written out_port.Out }
+    ensures nothing_out { (D.view desk.new).written out_port.Out
+        ≡ (D.view desk.old).written out_port.Out }
     ensures done { OnOk result (NormDone netlist.now out.now (D.view desk.old) (D.view desk.new)) }
-    ensures cause { IfErr result (HasCause (asked.norm netlist.now out.now) (D.view desk.old) (D.view desk.new)) }
-    ensures nothing { IfErr result (λ e. e ≢ trouble.WriteFault → NothingOut (D.view desk.old) (D.view desk.new)) }
+    ensures cause { IfErr result
+        (HasCause (asked.norm netlist.now out.now) (D.view desk.old) (D.view desk.new)) }
+    ensures nothing { IfErr result
+        (λ e. e ≢ trouble.WriteFault → NothingOut (D.view desk.old) (D.view desk.new)) }
 {
     let text = normal_text(alloc, netlist, desk)?;
     begin_report(desk, out, &text)?;

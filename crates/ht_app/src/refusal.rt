@@ -41,8 +41,10 @@ fn limit_text(limit: Limit) -> &'static [u8]
 // Writes the names of a cycle on Err, each behind one space.
 fn write_names<D: Desk>(desk: &mut D, names: &[Vec<u8>]) -> Result<(), Failed>
     ensures frame { Writes out_port.Err (D.view desk.old) (D.view desk.new) }
-    ensures added { OnOk result (Added out_port.Err (loop_text names.now) (D.view desk.old) (D.view desk.new)) }
-    ensures failed { OnErr result (AddedPart out_port.Err (loop_text names.now) (D.view desk.old) (D.view desk.new)) }
+    ensures added { OnOk result
+        (Added out_port.Err (loop_text names.now) (D.view desk.old) (D.view desk.new)) }
+    ensures failed { OnErr result
+        (AddedPart out_port.Err (loop_text names.now) (D.view desk.old) (D.view desk.new)) }
 {
     for name in names {
         write_pair(desk, b" ", name)?;
@@ -52,8 +54,12 @@ fn write_names<D: Desk>(desk: &mut D, names: &[Vec<u8>]) -> Result<(), Failed>
 
 fn write_loop<D: Desk>(desk: &mut D, names: &[Vec<u8>]) -> Result<(), Failed>
     ensures frame { Writes out_port.Err (D.view desk.old) (D.view desk.new) }
-    ensures added { OnOk result (Added out_port.Err (codes "loop" ++ loop_text names.now) (D.view desk.old) (D.view desk.new)) }
-    ensures failed { OnErr result (AddedPart out_port.Err (codes "loop" ++ loop_text names.now) (D.view desk.old) (D.view desk.new)) }
+    ensures added { OnOk result
+        (Added out_port.Err (codes "loop" ++ loop_text names.now) (D.view desk.old)
+        (D.view desk.new)) }
+    ensures failed { OnErr result
+        (AddedPart out_port.Err (codes "loop" ++ loop_text names.now) (D.view desk.old)
+        (D.view desk.new)) }
 {
     write_all(desk, OutPort::Err, b"loop")?;
     write_names(desk, names)?;
@@ -63,8 +69,10 @@ fn write_loop<D: Desk>(desk: &mut D, names: &[Vec<u8>]) -> Result<(), Failed>
 // Writes the cause on Err.
 fn write_cause<D: Desk>(desk: &mut D, error: &BenchError) -> Result<(), Failed>
     ensures frame { Writes out_port.Err (D.view desk.old) (D.view desk.new) }
-    ensures added { OnOk result (Added out_port.Err (cause_text error.now) (D.view desk.old) (D.view desk.new)) }
-    ensures failed { OnErr result (AddedPart out_port.Err (cause_text error.now) (D.view desk.old) (D.view desk.new)) }
+    ensures added { OnOk result
+        (Added out_port.Err (cause_text error.now) (D.view desk.old) (D.view desk.new)) }
+    ensures failed { OnErr result
+        (AddedPart out_port.Err (cause_text error.now) (D.view desk.old) (D.view desk.new)) }
 {
     match error {
         BenchError::BadLine { .. } => write_all(desk, OutPort::Err, b"bad line"),
@@ -82,8 +90,12 @@ fn write_cause<D: Desk>(desk: &mut D, error: &BenchError) -> Result<(), Failed>
 /// Says on Err why the netlist is refused, in one line.
 pub fn write_refusal<D: Desk>(desk: &mut D, error: &BenchError) -> Result<(), Failed>
     ensures frame { Writes out_port.Err (D.view desk.old) (D.view desk.new) }
-    ensures added { OnOk result (Added out_port.Err (line_of (trouble.Refused error.now)) (D.view desk.old) (D.view desk.new)) }
-    ensures failed { OnErr result (AddedPart out_port.Err (line_of (trouble.Refused error.now)) (D.view desk.old) (D.view desk.new)) }
+    ensures added { OnOk result
+        (Added out_port.Err (line_of (trouble.Refused error.now)) (D.view desk.old)
+        (D.view desk.new)) }
+    ensures failed { OnErr result
+        (AddedPart out_port.Err (line_of (trouble.Refused error.now)) (D.view desk.old)
+        (D.view desk.new)) }
 {
     write_numbered(
         desk,

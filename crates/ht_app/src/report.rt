@@ -29,7 +29,8 @@ pub fn begin_report<D: Desk>(desk: &mut D, name: &str, text: &[u8]) -> Result<()
     ensures frame { OnlyWork name.now (D.view desk.old) (D.view desk.new) }
     ensures begun { OnOk result (IsBegun name.now text.now (D.view desk.old) (D.view desk.new)) }
     ensures cut { OnErr result (IsCutShort text.now (D.view desk.old) (D.view desk.new)) }
-    ensures nothing_out { (D.view desk.new).written out_port.Out ≡ (D.view desk.old).written out_port.Out }
+    ensures nothing_out { (D.view desk.new).written out_port.Out
+        ≡ (D.view desk.old).written out_port.Out }
     ensures error { IfErr result (λ e. e ≡ trouble.WriteFault) }
     ensures cause { IfErr result (λ e. WriteFailed (D.view desk.old) (D.view desk.new)) }
 {
@@ -50,9 +51,12 @@ pub fn write_report<D: Desk>(
 ) -> Result<(), Trouble>
     requires { 0 < length total.now }
     ensures frame { OnlyWork name.now (D.view desk.old) (D.view desk.new) }
-    ensures report { OnOk result (IsReported name.now body.now total.now (D.view desk.old) (D.view desk.new)) }
-    ensures begun { OnErr result (IsBegunOn out_port.Out total.now (D.view desk.old) (D.view desk.new)) }
-    ensures cut { OnErr result (IsCutShort (body.now ++ total.now) (D.view desk.old) (D.view desk.new)) }
+    ensures report { OnOk result
+        (IsReported name.now body.now total.now (D.view desk.old) (D.view desk.new)) }
+    ensures begun { OnErr result
+        (IsBegunOn out_port.Out total.now (D.view desk.old) (D.view desk.new)) }
+    ensures cut { OnErr result
+        (IsCutShort (body.now ++ total.now) (D.view desk.old) (D.view desk.new)) }
     ensures error { IfErr result (λ e. e ≡ trouble.WriteFault) }
     ensures cause { IfErr result (λ e. WriteFailed (D.view desk.old) (D.view desk.new)) }
 {

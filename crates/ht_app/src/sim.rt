@@ -32,7 +32,8 @@ fn texts_of(alloc: Global, circuit: &Circuit, list: &Vectors) -> Result<Texts, A
     requires circuit { IsCircuit circuit.now }
     requires width { list.now.width ≡ circuit.now.inputs }
     requires few { length list.now.list ≤ 2 ^ 62 }
-    ensures { IfOk result (λ texts. IsReportOf circuit.now list.now.list texts.body.items texts.total.items) }
+    ensures { IfOk result
+        (λ texts. IsReportOf circuit.now list.now.list texts.body.items texts.total.items) }
 {
     let faults = ht_faults::list(alloc, circuit)?;
     let classes = collapse(alloc, circuit, &faults)?;
@@ -52,8 +53,11 @@ fn simulate<D: Desk>(
     ensures frame { NothingOut (D.view desk.old) (D.view desk.new) }
     ensures inputs { OnOk result (AcceptsTests netlist.now tests.now (D.view desk.old)) }
     ensures some { IfOk result (λ texts. 0 < length texts.total.items) }
-    ensures texts { IfOk result (λ texts. AreWorkedInto netlist.now tests.now (D.view desk.old) texts.body.items texts.total.items) }
-    ensures cause { IfErr result (SimulateCause netlist.now tests.now (D.view desk.old) (D.view desk.new)) }
+    ensures texts { IfOk result
+        (λ texts. AreWorkedInto netlist.now tests.now (D.view desk.old) texts.body.items
+        texts.total.items) }
+    ensures cause { IfErr result
+        (SimulateCause netlist.now tests.now (D.view desk.old) (D.view desk.new)) }
 {
     let circuit = read_netlist(alloc, desk, netlist)?;
     let list = read_tests(alloc, desk, tests, &circuit)?;
@@ -70,9 +74,12 @@ pub fn sim<D: Desk>(
     desk: &mut D,
 ) -> Result<(), Trouble>
     ensures frame { OnlyWork report.now (D.view desk.old) (D.view desk.new) }
-    ensures done { OnOk result (SimDone netlist.now tests.now report.now (D.view desk.old) (D.view desk.new)) }
-    ensures cause { IfErr result (HasCause (asked.sim netlist.now tests.now report.now) (D.view desk.old) (D.view desk.new)) }
-    ensures nothing { IfErr result (λ e. e ≢ trouble.WriteFault → NothingOut (D.view desk.old) (D.view desk.new)) }
+    ensures done { OnOk result
+        (SimDone netlist.now tests.now report.now (D.view desk.old) (D.view desk.new)) }
+    ensures cause { IfErr result
+        (HasCause (asked.sim netlist.now tests.now report.now) (D.view desk.old) (D.view desk.new)) }
+    ensures nothing { IfErr result
+        (λ e. e ≢ trouble.WriteFault → NothingOut (D.view desk.old) (D.view desk.new)) }
 {
     let texts = simulate(alloc, netlist, tests, desk)?;
     write_report(desk, report, &texts.body, &texts.total)?;

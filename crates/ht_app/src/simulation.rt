@@ -31,7 +31,9 @@ fn place_of(
     requires inside { i < length faults.now }
     requires before { length places.now ≡ i }
     requires so_far { AreFirstSoFar good.now.circuit good.now.list places.now }
-    ensures { IfOk result (λ place. IsFirstDetection good.now.circuit (fault_at good.now.circuit i) good.now.list place) }
+    ensures { IfOk result
+        (λ place. IsFirstDetection good.now.circuit (fault_at good.now.circuit i) good.now.list
+        place) }
 {
     let representative = classes.of(i);
     if representative < i {

@@ -21,8 +21,10 @@ fn push_line(alloc: Global, list: &mut Vectors, width: u32, line: &[u8]) -> Resu
     requires { list.old.width ≡ width }
     ensures width { list.new.width ≡ list.old.width }
     ensures added { IfOk result (λ is_vector. MatchBool is_vector
-        ((vector : List Bool) × IsTextOf list.old.width line.now vector × (list.new.list ≡ list.old.list ++ vector ∷ []))
-        ((list.new ≡ list.old) × ((vector : List Bool) → ¬ IsTextOf list.old.width line.now vector))) }
+        ((vector : List Bool) × IsTextOf list.old.width line.now vector
+        × (list.new.list ≡ list.old.list ++ vector ∷ []))
+        ((list.new ≡ list.old)
+        × ((vector : List Bool) → ¬ IsTextOf list.old.width line.now vector))) }
 {
     let Some(vector) = read_vector(alloc, line, width)? else {
         return Ok(false);
@@ -43,8 +45,11 @@ pub fn read_tests<D: Desk>(
     ensures there { OnOk result (MayHold (D.view desk.old) name.now) }
     ensures width { IfOk result (λ list. list.width ≡ circuit.now.inputs) }
     ensures few { IfOk result (λ list. length list.list ≤ 2 ^ 62) }
-    ensures list { IfOk result (λ list. (text : List ℕ) → IsInput in_port.Tests name.now text (D.view desk.old) → IsTestText circuit.now text list.list) }
-    ensures cause { IfErr result (TestsCause circuit.now name.now (D.view desk.old) (D.view desk.new)) }
+    ensures list { IfOk result
+        (λ list. (text : List ℕ) → IsInput in_port.Tests name.now text (D.view desk.old)
+        → IsTestText circuit.now text list.list) }
+    ensures cause { IfErr result
+        (TestsCause circuit.now name.now (D.view desk.old) (D.view desk.new)) }
 {
     if let Err(Failed) = desk.open(InPort::Tests, name) {
         return Err(Trouble::ReadFault);

@@ -28,11 +28,13 @@ use Rattle.ht_bench.proofs.MentionLaws.{is_driven}
 use Rattle.ht_bench.proofs.ContentLaws.{with_nothing, with_input, with_output, with_dff, with_gate, limits_of_draft, too_many_nets, inputs_same, dffs_same, pins_same}
 
 -- the mentions of one more statement
-mentions-push : (before : List Statement) (s : Statement) → mentions_of (before ++ s ∷ []) ≡ mentions_of before ++ names_in s
+mentions-push : (before : List Statement) (s : Statement) → mentions_of (before ++ s ∷ []) ≡ mentions_of before
+    ++ names_in s
 mentions-push before s = flat_map-push names_in before s
 
 -- a draft with the mentions of one more statement is one of it
-draft_with_mentions : (before : List Statement) (s : Statement) (d : Draft) → IsDraftWith (mentions_of before ++ names_in s) (before ++ s ∷ []) d → IsDraftOf (before ++ s ∷ []) d
+draft_with_mentions : (before : List Statement) (s : Statement) (d : Draft)
+    → IsDraftWith (mentions_of before ++ names_in s) (before ++ s ∷ []) d → IsDraftOf (before ++ s ∷ []) d
 draft_with_mentions before s d is = subst (λ l. IsDraftWith l (before ++ s ∷ []) d) (sym (mentions-push before s)) is
 
 -- an output changes nothing else
@@ -40,21 +42,28 @@ contains_id : (ids : List NameId) (id : NameId) → Contains ids id ⊎ (¬ Cont
 contains_id [] id = inr (λ c. contains_none id c)
 contains_id (x ∷ ids) id =
     ⊎_elim
-    (λ (same : x.0 ≡ id.0). let number : ℕ → NameId = λ n. record { 0 = n } in inl (subst (Contains (x ∷ ids)) (ap number same) (contains_head x ids)))
+    (λ (same : x.0 ≡ id.0). let number : ℕ → NameId = λ n. record { 0 = n }
+    in inl (subst (Contains (x ∷ ids)) (ap number same) (contains_head x ids)))
     (λ (other : ¬ (x.0 ≡ id.0)).
     ⊎_elim (λ (there : Contains ids id). inl (contains_tail x ids id there))
-    (λ (absent : ¬ Contains ids id). inr (λ c. ⊎_elim (λ (e : x ≡ id). other (ap (λ (n : NameId). n.0) e)) absent (contains_cases x ids id c))) (contains_id ids id))
+    (λ (absent : ¬ Contains ids id). inr
+    (λ c. ⊎_elim (λ (e : x ≡ id). other (ap (λ (n : NameId). n.0) e)) absent (contains_cases x ids id c)))
+    (contains_id ids id))
     (cases_eq x.0 id.0)
 
-only_outputs : (d new : Draft) (id : NameId) → (Contains d.outputs id → new ≡ d) → (¬ Contains d.outputs id → new ≡ record d { outputs = d.outputs ++ id ∷ [] })
+only_outputs : (d new : Draft) (id : NameId) → (Contains d.outputs id → new ≡ d)
+    → (¬ Contains d.outputs id → new ≡ record d { outputs = d.outputs ++ id ∷ [] })
     → new ≡ record d { outputs = new.outputs }
 only_outputs d new id known added =
     ⊎_elim
-    (λ (there : Contains d.outputs id). let e = known there in e ∙ ap (λ (x : Draft). record d { outputs = x.outputs }) (sym e))
-    (λ (absent : ¬ Contains d.outputs id). let e = added absent in e ∙ ap (λ (x : Draft). record d { outputs = x.outputs }) (sym e))
+    (λ (there : Contains d.outputs id). let e = known there in e ∙ ap (λ (x : Draft). record d { outputs = x.outputs })
+    (sym e))
+    (λ (absent : ¬ Contains d.outputs id). let e = added absent
+    in e ∙ ap (λ (x : Draft). record d { outputs = x.outputs }) (sym e))
     (contains_id d.outputs id)
 
-pub outputs_keep_names : (d new : Draft) (id : NameId) → (Contains d.outputs id → new ≡ d) → (¬ Contains d.outputs id → new ≡ record d { outputs = d.outputs ++ id ∷ [] }) → new.names ≡ d.names
+pub outputs_keep_names : (d new : Draft) (id : NameId) → (Contains d.outputs id → new ≡ d)
+    → (¬ Contains d.outputs id → new ≡ record d { outputs = d.outputs ++ id ∷ [] }) → new.names ≡ d.names
 outputs_keep_names d new id known added = ap (λ (x : Draft). x.names) (only_outputs d new id known added)
 
 -- ---- drivers and limits of one more statement
@@ -62,10 +71,13 @@ outputs_keep_names d new id known added = ap (λ (x : Draft). x.names) (only_out
 module _ (before : List Statement) (s : Statement) where
   pub new_driver_of : (net : Name) → driven_in s ≡ net ∷ [] → ¬ Contains (driven_by before) net → HasNewDriver before s
   new_driver_of net drives absent =
-      subst (All (λ n. ¬ Contains (driven_by before) n)) (sym drives) (All-cons (λ n. ¬ Contains (driven_by before) n) net [] absent (All-nil (λ n. ¬ Contains (driven_by before) n)))
+      subst (All (λ n. ¬ Contains (driven_by before) n)) (sym drives)
+      (All-cons (λ n. ¬ Contains (driven_by before) n) net [] absent
+      (All-nil (λ n. ¬ Contains (driven_by before) n)))
 
   -- names too many
-  pub nets_pass : HasNewDriver before s → 65535 < length (different (mentions_of before ++ names_in s)) → PassesLimit Nets before (States s)
+  pub nets_pass : HasNewDriver before s → 65535 < length (different (mentions_of before ++ names_in s))
+      → PassesLimit Nets before (States s)
   nets_pass new many = record {
     statement = s;
     states = refl;
@@ -74,7 +86,8 @@ module _ (before : List Statement) (s : Statement) where
   }
 
   -- where a draft has the names, there is room for them
-  nets_fit : (d : Draft) → IsDraftWith (mentions_of before ++ names_in s) before d → length d.names ≤ 65535 → length (nets_of (before ++ s ∷ [])) ≤ 65535
+  nets_fit : (d : Draft) → IsDraftWith (mentions_of before ++ names_in s) before d → length d.names ≤ 65535
+      → length (nets_of (before ++ s ∷ [])) ≤ 65535
   nets_fit d is few = omega (arith, few, ap length is.names, ap (λ l. length (different l)) (mentions-push before s))
 
   inputs_more : length (inputs_of (before ++ s ∷ [])) ≡ length (inputs_of before) + length (inputs_in s)
@@ -84,15 +97,19 @@ module _ (before : List Statement) (s : Statement) where
   dffs_more = ap length (flat_map-push dffs_in before s) ∙ length-append (dffs_of before) (dffs_in s)
 
   gate_pins_more : sum_by (λ (g : NamedGate). length g.args) (gates_of (before ++ s ∷ []))
-      ≡ sum_by (λ (g : NamedGate). length g.args) (gates_of before) + sum_by (λ (g : NamedGate). length g.args) (gates_in s)
-  gate_pins_more = ap (sum_by (λ (g : NamedGate). length g.args)) (flat_map-push gates_in before s) ∙ sum_by-append (λ (g : NamedGate). length g.args) (gates_of before) (gates_in s)
+      ≡ sum_by (λ (g : NamedGate). length g.args) (gates_of before) + sum_by (λ (g : NamedGate). length g.args)
+      (gates_in s)
+  gate_pins_more = ap (sum_by (λ (g : NamedGate). length g.args)) (flat_map-push gates_in before s) ∙ sum_by-append
+      (λ (g : NamedGate). length g.args) (gates_of before) (gates_in s)
 
 -- a new name isn't driven
-new_is_free : (mentioned : List Name) (before : List Statement) (d : Draft) (name : Name) → IsDraftWith mentioned before d → IsNewName d.names name → ¬ Contains (driven_by before) name
+new_is_free : (mentioned : List Name) (before : List Statement) (d : Draft) (name : Name)
+    → IsDraftWith mentioned before d → IsNewName d.names name → ¬ Contains (driven_by before) name
 new_is_free mentioned before d name is new c = let r = is.driven name c in new r.0.0 r.2.0 r.2.1
 
 -- the net that a statement drives is driven already, or finds no room
-pub driver_refused : (old : Draft) (s : Statement) (name : Name) (more : List Name) (cause : Cause) → names_in s ≡ name ∷ more → driven_in s ≡ name ∷ []
+pub driver_refused : (old : Draft) (s : Statement) (name : Name) (more : List Name) (cause : Cause) → names_in s ≡ name
+    ∷ more → driven_in s ≡ name ∷ []
     → RefusesDriver old name cause → RefusesStatement old s cause
 driver_refused old s name more (SecondDriver net) names drives refused = λ before is. record {
   statement = s;
@@ -101,8 +118,10 @@ driver_refused old s name more (SecondDriver net) names drives refused = λ befo
   driven = subst (Contains (driven_by before)) (sym refused.0) (refused.1 before is);
 }
 driver_refused old s name more (Limit Nets) names drives refused = λ before is.
-    nets_pass before s (new_driver_of before s name drives (new_is_free (mentions_of before) before old name is refused.0))
-    (subst (λ l. 65535 < length (different (mentions_of before ++ l))) (sym names) (too_many_nets (mentions_of before) more before old name is refused.0 refused.1))
+    nets_pass before s (new_driver_of before s name drives
+    (new_is_free (mentions_of before) before old name is refused.0))
+    (subst (λ l. 65535 < length (different (mentions_of before ++ l))) (sym names)
+    (too_many_nets (mentions_of before) more before old name is refused.0 refused.1))
 driver_refused old s name more (Limit Pins) names drives refused = absurd refused
 driver_refused old s name more (Limit Inputs) names drives refused = absurd refused
 driver_refused old s name more (Limit Dffs) names drives refused = absurd refused
@@ -114,8 +133,10 @@ driver_refused old s name more CauseNoMemory names drives refused = λ before is
 pub nothing_accepted : (old : Draft) → Accepts old Nothing old
 nothing_accepted old before is within =
     let s = Nothing in
-    let none : IsDraftWith (mentions_of before ++ []) before old = subst (λ l. IsDraftWith l before old) (sym (append-nil (mentions_of before))) is in
-    let same : mentions_of (before ++ s ∷ []) ≡ mentions_of before = mentions-push before s ∙ append-nil (mentions_of before) in (
+    let none : IsDraftWith (mentions_of before ++ []) before old = subst (λ l. IsDraftWith l before old)
+    (sym (append-nil (mentions_of before))) is in
+    let same : mentions_of (before ++ s ∷ []) ≡ mentions_of before = mentions-push before s ∙ append-nil
+    (mentions_of before) in (
       record {
         new_driver = All-nil (λ n. ¬ Contains (driven_by before) n);
         limits = record {
@@ -130,15 +151,20 @@ nothing_accepted old before is within =
 
 -- ---- inputs and outputs
 
-module _ (old d new : Draft) (id : NameId) (name : Name) (mentions : Mentions old (name ∷ []) d) (at : IsNumberOf d.names id name) where
-  pub input_accepted : new ≡ record d { inputs = d.inputs ++ id ∷ [] } → AcceptsInput d id → Accepts old (Input name) new
+module _ (old d new : Draft) (id : NameId) (name : Name) (mentions : Mentions old (name ∷ []) d)
+    (at : IsNumberOf d.names id name) where
+  pub input_accepted : new ≡ record d { inputs = d.inputs ++ id ∷ [] } → AcceptsInput d id
+      → Accepts old (Input name) new
   input_accepted e (free, few) before is within =
       let s = Input name in
       let with_name = mentions.with_names (mentions_of before) before is in
       let draft = mentions.is_draft in
-      let made : IsDraftOf (before ++ s ∷ []) new = subst (IsDraftOf (before ++ s ∷ [])) (sym e) (draft_with_mentions before s (record d { inputs = d.inputs ++ id ∷ [] }) (with_input (mentions_of before ++ name ∷ []) before d id name with_name at)) in (
+      let made : IsDraftOf (before ++ s ∷ []) new = subst (IsDraftOf (before ++ s ∷ [])) (sym e)
+      (draft_with_mentions before s (record d { inputs = d.inputs ++ id ∷ [] })
+      (with_input (mentions_of before ++ name ∷ []) before d id name with_name at)) in (
         record {
-          new_driver = new_driver_of before s name refl (λ c. free (is_driven (mentions_of before ++ name ∷ []) before d id name with_name at c));
+          new_driver = new_driver_of before s name refl
+              (λ c. free (is_driven (mentions_of before ++ name ∷ []) before d id name with_name at c));
           limits = limits_of_draft (before ++ s ∷ []) new made
               (omega (arith, draft.few_names, ap (λ (x : Draft). length x.names) e))
               (omega (arith, draft.few_pins, ap draft_pins e))
@@ -148,7 +174,8 @@ module _ (old d new : Draft) (id : NameId) (name : Name) (mentions : Mentions ol
         made,
       )
 
-  pub input_refused : (error : NetError) → ¬ IsDriven d id → RefusesInput d id error → RefusesStatement old (Input name) (cause_of error)
+  pub input_refused : (error : NetError) → ¬ IsDriven d id → RefusesInput d id error
+      → RefusesStatement old (Input name) (cause_of error)
   input_refused (TooMany Inputs) free refused = λ before is.
       let s = Input name in
       let with_name = mentions.with_names (mentions_of before) before is in
@@ -156,11 +183,25 @@ module _ (old d new : Draft) (id : NameId) (name : Name) (mentions : Mentions ol
       record {
         statement = s;
         states = refl;
-        new_driver = new_driver_of before s name refl (λ c. free (is_driven (mentions_of before ++ name ∷ []) before d id name with_name at c));
+        new_driver = new_driver_of before s name refl
+            (λ c. free (is_driven (mentions_of before ++ name ∷ []) before d id name with_name at c));
         passed = (
           nets_fit before s d with_name draft.few_names,
-          omega (arith, draft.few_pins, pins_same (mentions_of before ++ name ∷ []) before d with_name, dffs_more before s, gate_pins_more before s),
-          omega (arith, refused.1, inputs_same (mentions_of before ++ name ∷ []) before d with_name, inputs_more before s),
+          omega (
+            arith,
+            draft.few_pins,
+            pins_same (mentions_of before ++ name ∷ []) before d with_name,
+            dffs_more before
+                s,
+            gate_pins_more before s,
+          ),
+          omega (
+            arith,
+            refused.1,
+            inputs_same (mentions_of before ++ name ∷ []) before d with_name,
+            inputs_more before
+                s,
+          ),
         );
       }
   input_refused (Twice other) free refused = absurd (free refused.1)
@@ -171,13 +212,15 @@ module _ (old d new : Draft) (id : NameId) (name : Name) (mentions : Mentions ol
   input_refused (Loop nets) free refused = absurd refused
   input_refused NoMemory free refused = λ before is. tt
 
-  pub output_accepted : (Contains d.outputs id → new ≡ d) → (¬ Contains d.outputs id → new ≡ record d { outputs = d.outputs ++ id ∷ [] }) → Accepts old (Output name) new
+  pub output_accepted : (Contains d.outputs id → new ≡ d)
+      → (¬ Contains d.outputs id → new ≡ record d { outputs = d.outputs ++ id ∷ [] }) → Accepts old (Output name) new
   output_accepted known added before is within =
       let s = Output name in
       let e = only_outputs d new id known added in
       let with_name = mentions.with_names (mentions_of before) before is in
       let draft = mentions.is_draft in
-      let made : IsDraftOf (before ++ s ∷ []) new = draft_with_mentions before s new (with_output (mentions_of before ++ name ∷ []) before d id name with_name at new known added) in (
+      let made : IsDraftOf (before ++ s ∷ []) new = draft_with_mentions before s new
+      (with_output (mentions_of before ++ name ∷ []) before d id name with_name at new known added) in (
         record {
           new_driver = All-nil (λ n. ¬ Contains (driven_by before) n);
           limits = limits_of_draft (before ++ s ∷ []) new made
@@ -190,9 +233,11 @@ module _ (old d new : Draft) (id : NameId) (name : Name) (mentions : Mentions ol
       )
 
 -- an output's net finds no room
-pub output_refused : (old : Draft) (name : Name) (cause : Cause) → RefusesMention old name cause → RefusesStatement old (Output name) cause
+pub output_refused : (old : Draft) (name : Name) (cause : Cause) → RefusesMention old name cause
+    → RefusesStatement old (Output name) cause
 output_refused old name (Limit Nets) refused = λ before is.
-    nets_pass before (Output name) (All-nil (λ n. ¬ Contains (driven_by before) n)) (too_many_nets (mentions_of before) [] before old name is refused.0 refused.1)
+    nets_pass before (Output name) (All-nil (λ n. ¬ Contains (driven_by before) n))
+    (too_many_nets (mentions_of before) [] before old name is refused.0 refused.1)
 output_refused old name (Limit Pins) refused = absurd refused
 output_refused old name (Limit Inputs) refused = absurd refused
 output_refused old name (Limit Dffs) refused = absurd refused
@@ -200,7 +245,8 @@ output_refused old name (RefusedAlone refusal) refused = absurd refused
 output_refused old name (SecondDriver net) refused = absurd refused
 output_refused old name CauseNoMemory refused = λ before is. tt
 
-pub only_memory : (old : Draft) (s : Statement) (error : NetError) → RefusesOutput error → RefusesStatement old s (cause_of error)
+pub only_memory : (old : Draft) (s : Statement) (error : NetError) → RefusesOutput error
+    → RefusesStatement old s (cause_of error)
 only_memory old s NoMemory refused = λ before is. tt
 only_memory old s (Twice other) refused = absurd refused
 only_memory old s (TooMany what) refused = absurd refused
@@ -209,18 +255,22 @@ only_memory old s (Loop nets) refused = absurd refused
 
 -- ---- definitions: the net that is driven is mentioned first, then the arguments
 
-module _ (old first : Draft) (out : NameId) (name : Name) (first_mentions : Mentions old (name ∷ []) first) (first_at : IsNumberOf first.names out name) (free : ¬ IsDriven first out) where
+module _ (old first : Draft) (out : NameId) (name : Name) (first_mentions : Mentions old (name ∷ []) first)
+    (first_at : IsNumberOf first.names out name) (free : ¬ IsDriven first out) where
   out_is_free : (before : List Statement) → IsDraftOf before old → ¬ Contains (driven_by before) name
   out_is_free before is c =
-      free (is_driven (mentions_of before ++ name ∷ []) before first out name (first_mentions.with_names (mentions_of before) before is) first_at c)
+      free (is_driven (mentions_of before ++ name ∷ []) before first out name
+      (first_mentions.with_names (mentions_of before) before is) first_at c)
 
   -- the arguments find no room
-  pub arguments_refused : (s : Statement) (args : List Name) (cause : Cause) → names_in s ≡ name ∷ args → driven_in s ≡ name ∷ []
+  pub arguments_refused : (s : Statement) (args : List Name) (cause : Cause) → names_in s ≡ name ∷ args → driven_in s
+      ≡ name ∷ []
       → RefusesMentions first args cause → RefusesStatement old s cause
   arguments_refused s args (Limit Nets) names drives refused = λ before is.
       let with_name = first_mentions.with_names (mentions_of before) before is in
       nets_pass before s (new_driver_of before s name drives (out_is_free before is))
-      (subst (λ l. 65535 < length (different l)) (append_assoc (mentions_of before) (name ∷ []) args ∙ ap (λ l. mentions_of before ++ l) (sym names))
+      (subst (λ l. 65535 < length (different l))
+      (append_assoc (mentions_of before) (name ∷ []) args ∙ ap (λ l. mentions_of before ++ l) (sym names))
       (refused (mentions_of before ++ name ∷ []) before with_name))
   arguments_refused s args (Limit Pins) names drives refused = absurd refused
   arguments_refused s args (Limit Inputs) names drives refused = absurd refused
@@ -236,10 +286,12 @@ module _ (old first : Draft) (out : NameId) (name : Name) (first_mentions : Ment
     still_free : ¬ IsDriven d out
     still_free driven = free (subst (λ (x : Draft). IsDriven x out) mentions.keeps driven)
 
-    with_all : (before : List Statement) → IsDraftOf before old → IsDraftWith (mentions_of before ++ name ∷ args) before d
+    with_all : (before : List Statement) → IsDraftOf before old → IsDraftWith (mentions_of before ++ name ∷ args) before
+        d
     with_all before is =
         subst (λ l. IsDraftWith l before d) (append_assoc (mentions_of before) (name ∷ []) args)
-        (mentions.with_names (mentions_of before ++ name ∷ []) before (first_mentions.with_names (mentions_of before) before is))
+        (mentions.with_names (mentions_of before ++ name ∷ []) before
+        (first_mentions.with_names (mentions_of before) before is))
 
     -- ---- gates
 
@@ -247,26 +299,37 @@ module _ (old first : Draft) (out : NameId) (name : Name) (first_mentions : Ment
       same_count : length ids ≡ length args
       same_count = AllZip-length (IsNumberOf d.names) ids args args_at
 
-      pub gate_accepted : (new : Draft) → new ≡ record d { gates = d.gates ++ record { kind = kind; out = out; args = ids } ∷ [] } → AcceptsGate d out (length ids)
+      pub gate_accepted : (new : Draft) → new
+          ≡ record d { gates = d.gates ++ record { kind = kind; out = out; args = ids } ∷ [] }
+          → AcceptsGate d out (length ids)
           → Accepts old (Gate name kind args) new
       gate_accepted new e accepts before is within =
           let s = Gate name kind args in
           let draft = mentions.is_draft in
           let part : GatePart = record { kind = kind; out = out; args = ids } in
           let made : IsDraftOf (before ++ s ∷ []) new = subst (IsDraftOf (before ++ s ∷ [])) (sym e)
-          (draft_with_mentions before s (record d { gates = d.gates ++ part ∷ [] }) (with_gate (mentions_of before ++ name ∷ args) before d kind out ids name args (with_all before is) out_at args_at)) in (
+          (draft_with_mentions before s (record d { gates = d.gates ++ part ∷ [] })
+          (with_gate (mentions_of before ++ name ∷ args) before d kind out ids name args (with_all before is) out_at
+          args_at)) in (
             record {
               new_driver = new_driver_of before s name refl (out_is_free before is);
               limits = limits_of_draft (before ++ s ∷ []) new made
                   (omega (arith, draft.few_names, ap (λ (x : Draft). length x.names) e))
-                  (omega (arith, accepts.1, sum_by-append (λ (g : GatePart). length g.args) d.gates (part ∷ []), ap draft_pins e))
+                  (omega (
+                    arith,
+                    accepts.1,
+                    sum_by-append (λ (g : GatePart). length g.args) d.gates (part ∷ []),
+                    ap
+                        draft_pins e,
+                  ))
                   (omega (arith, draft.few_inputs, ap (λ (x : Draft). length x.inputs) e))
                   (omega (arith, draft.few_dffs, ap (λ (x : Draft). length x.dffs) e));
             },
             made,
           )
 
-      pub gate_refused : (error : NetError) → RefusesGate d out (length ids) error → RefusesStatement old (Gate name kind args) (cause_of error)
+      pub gate_refused : (error : NetError) → RefusesGate d out (length ids) error
+          → RefusesStatement old (Gate name kind args) (cause_of error)
       gate_refused (TooMany Pins) refused = λ before is.
           let s = Gate name kind args in
           record {
@@ -275,7 +338,15 @@ module _ (old first : Draft) (out : NameId) (name : Name) (first_mentions : Ment
             new_driver = new_driver_of before s name refl (out_is_free before is);
             passed = (
               nets_fit before s d (with_all before is) mentions.is_draft.few_names,
-              omega (arith, refused.1, same_count, pins_same (mentions_of before ++ name ∷ args) before d (with_all before is), dffs_more before s, gate_pins_more before s),
+              omega (
+                arith,
+                refused.1,
+                same_count,
+                pins_same (mentions_of before ++ name ∷ args) before d
+                    (with_all before is),
+                dffs_more before s,
+                gate_pins_more before s,
+              ),
             );
           }
       gate_refused (Twice other) refused = absurd (still_free refused.1)
@@ -289,7 +360,8 @@ module _ (old first : Draft) (out : NameId) (name : Name) (first_mentions : Ment
   -- ---- flip-flops
 
   -- the net at the data pin finds no room
-  pub data_pin_refused : (data_pin : Name) (cause : Cause) → RefusesMention first data_pin cause → RefusesStatement old (Dff name data_pin) cause
+  pub data_pin_refused : (data_pin : Name) (cause : Cause) → RefusesMention first data_pin cause
+      → RefusesStatement old (Dff name data_pin) cause
   data_pin_refused data_pin (Limit Nets) refused = λ before is.
       let s = Dff name data_pin in
       let with_name = first_mentions.with_names (mentions_of before) before is in
@@ -303,15 +375,18 @@ module _ (old first : Draft) (out : NameId) (name : Name) (first_mentions : Ment
   data_pin_refused data_pin (SecondDriver net) refused = absurd refused
   data_pin_refused data_pin CauseNoMemory refused = λ before is. tt
 
-  module _ (d : Draft) (data_pin : Name) (mentions : Mentions first (data_pin ∷ []) d) (pin : NameId) (pin_at : IsNumberOf d.names pin data_pin) where
-    pub dff_accepted : (new : Draft) → new ≡ record d { dffs = d.dffs ++ record { out = out; data_pin = pin } ∷ [] } → AcceptsDff d out → Accepts old (Dff name data_pin) new
+  module _ (d : Draft) (data_pin : Name) (mentions : Mentions first (data_pin ∷ []) d) (pin : NameId)
+      (pin_at : IsNumberOf d.names pin data_pin) where
+    pub dff_accepted : (new : Draft) → new ≡ record d { dffs = d.dffs ++ record { out = out; data_pin = pin } ∷ [] }
+        → AcceptsDff d out → Accepts old (Dff name data_pin) new
     dff_accepted new e (still, few_pins, few) before is within =
         let s = Dff name data_pin in
         let both = with_all d (data_pin ∷ []) mentions before is in
         let draft = mentions.is_draft in
         let made : IsDraftOf (before ++ s ∷ []) new = subst (IsDraftOf (before ++ s ∷ [])) (sym e)
         (draft_with_mentions before s (record d { dffs = d.dffs ++ record { out = out; data_pin = pin } ∷ [] })
-        (with_dff (mentions_of before ++ name ∷ data_pin ∷ []) before d out pin name data_pin both (out_at d (data_pin ∷ []) mentions) pin_at)) in
+        (with_dff (mentions_of before ++ name ∷ data_pin ∷ []) before d out pin name data_pin both
+        (out_at d (data_pin ∷ []) mentions) pin_at)) in
         let one_more = length-append d.dffs (record { out = out; data_pin = pin } ∷ []) in (
           record {
             new_driver = new_driver_of before s name refl (out_is_free before is);
@@ -324,7 +399,8 @@ module _ (old first : Draft) (out : NameId) (name : Name) (first_mentions : Ment
           made,
         )
 
-    pub dff_refused : (error : NetError) → RefusesDff d out error → RefusesStatement old (Dff name data_pin) (cause_of error)
+    pub dff_refused : (error : NetError) → RefusesDff d out error → RefusesStatement old (Dff name data_pin)
+        (cause_of error)
     dff_refused (TooMany Pins) refused = λ before is.
         let s = Dff name data_pin in
         let both = with_all d (data_pin ∷ []) mentions before is in
@@ -334,7 +410,14 @@ module _ (old first : Draft) (out : NameId) (name : Name) (first_mentions : Ment
           new_driver = new_driver_of before s name refl (out_is_free before is);
           passed = (
             nets_fit before s d both mentions.is_draft.few_names,
-            omega (arith, refused.1, pins_same (mentions_of before ++ name ∷ data_pin ∷ []) before d both, dffs_more before s, gate_pins_more before s),
+            omega (
+              arith,
+              refused.1,
+              pins_same (mentions_of before ++ name ∷ data_pin ∷ []) before d both,
+              dffs_more
+                  before s,
+              gate_pins_more before s,
+            ),
           );
         }
     dff_refused (TooMany Dffs) refused = λ before is.

@@ -24,23 +24,32 @@ at_place xs k d lt = (k, lt, get_or_default xs k (get_or xs k d) d lt)
 
 module _ (texts : List (Bor (List ℕ))) (i : ℕ) (d : Bor (List ℕ)) (lt : i < length texts) (name : Name) where
   pub one_is : (get_or texts i d).now ≡ name → Contains (texts_of texts) name
-  one_is e = subst (Contains (texts_of texts)) (text_at texts i d lt ∙ e) (at_place (texts_of texts) i d.now (omega (arith, lt, length-texts_of texts)))
+  one_is e = subst (Contains (texts_of texts)) (text_at texts i d lt ∙ e)
+      (at_place (texts_of texts) i d.now (omega (arith, lt, length-texts_of texts)))
 
-  pub one_more_is_not : ¬ Contains (take i (texts_of texts)) name → (get_or texts i d).now ≢ name → ¬ Contains (take (i + 1) (texts_of texts)) name
+  pub one_more_is_not : ¬ Contains (take i (texts_of texts)) name → (get_or texts i d).now ≢ name
+      → ¬ Contains (take (i + 1) (texts_of texts)) name
   one_more_is_not earlier other c =
-      ⊎_elim earlier other (Contains-push_cases (take i (texts_of texts)) (get_or texts i d).now name (subst (λ l. Contains l name) (more_texts texts i d lt) c))
+      ⊎_elim earlier other
+      (Contains-push_cases (take i (texts_of texts)) (get_or texts i d).now name
+      (subst (λ l. Contains l name) (more_texts texts i d lt) c))
 
-pub none_is : (texts : List (Bor (List ℕ))) (i : ℕ) (name : Name) → length texts ≤ i → ¬ Contains (take i (texts_of texts)) name → ¬ Contains (texts_of texts) name
-none_is texts i name all absent c = absent (subst (λ l. Contains l name) (sym (take_all i (texts_of texts) (omega (arith, all, length-texts_of texts)))) c)
+pub none_is : (texts : List (Bor (List ℕ))) (i : ℕ) (name : Name) → length texts ≤ i
+    → ¬ Contains (take i (texts_of texts)) name → ¬ Contains (texts_of texts) name
+none_is texts i name all absent c = absent
+    (subst (λ l. Contains l name) (sym (take_all i (texts_of texts) (omega (arith, all, length-texts_of texts)))) c)
 
 -- a gate mentions its net and its arguments
-pub gate_mentions : (is : Bool) (statement : Statement) (out : Name) (kind : Kind) (args names : List Name) (name : Name) → statement ≡ Gate out kind args → names ≡ args → out ≢ name
+pub gate_mentions : (is : Bool) (statement : Statement) (out : Name) (kind : Kind) (args names : List Name)
+    (name : Name) → statement ≡ Gate out kind args → names ≡ args → out ≢ name
     → (IsTrue is ↔ Contains names name) → IsTrue is ↔ Contains (names_in statement) name
 gate_mentions is statement out kind args names name e same other tells =
     let behind : Contains (names_in statement) name → Contains names name = λ c.
-    ⊎_elim (λ (o : out ≡ name). absurd (other o)) (λ (later : Contains args name). subst (λ l. Contains l name) (sym same) later)
+    ⊎_elim (λ (o : out ≡ name). absurd (other o))
+    (λ (later : Contains args name). subst (λ l. Contains l name) (sym same) later)
     (contains_cases out args name (subst (λ (s : Statement). Contains (names_in s) name) e c)) in (
-      λ yes. subst (λ (s : Statement). Contains (names_in s) name) (sym e) (contains_tail out args name (subst (λ l. Contains l name) same (tells.0 yes))),
+      λ yes. subst (λ (s : Statement). Contains (names_in s) name) (sym e)
+          (contains_tail out args name (subst (λ l. Contains l name) same (tells.0 yes))),
       λ c. tells.1 (behind c),
     )
 
@@ -56,16 +65,19 @@ states_one s t e = ap stated e
 -- the first of some lines that state something
 abbrev pub FirstStated : Reading → List Reading → List Statement → Type 0
 FirstStated reading readings statements =
-    (s : Statement) × (rest : List Statement) × (statements ≡ s ∷ rest) × (reading ≡ States s) × (readings ≡ map States rest)
+    (s : Statement) × (rest : List Statement) × (statements ≡ s ∷ rest) × (reading ≡ States s)
+    × (readings ≡ map States rest)
 
-pub first_stated : (reading : Reading) (readings : List Reading) (statements : List Statement) → reading ∷ readings ≡ map States statements → FirstStated reading readings statements
+pub first_stated : (reading : Reading) (readings : List Reading) (statements : List Statement) → reading ∷ readings
+    ≡ map States statements → FirstStated reading readings statements
 first_stated reading readings [] e = absurd (omega (arith, ap length e))
 first_stated reading readings (s ∷ statements) e =
     let heads : reading ≡ States s = cc in
     let tails : readings ≡ map States statements = cc in
     (s, statements, refl, heads, tails)
 
-pub nothing_before : (text : List ℕ) (role : Role) (name : Name) → HasNet text role name → IsBefore text text 0 role name
+pub nothing_before : (text : List ℕ) (role : Role) (name : Name) → HasNet text role name
+    → IsBefore text text 0 role name
 nothing_before text role name has = record {
   before = [];
   after = has.statements;
@@ -77,10 +89,12 @@ nothing_before text role name has = record {
   has = has.has;
 }
 
-module _ (text rest line more : List ℕ) (count : ℕ) (role : Role) (name : Name) (is : IsBefore text rest count role name)
+module _ (text rest line more : List ℕ) (count : ℕ) (role : Role) (name : Name)
+    (is : IsBefore text rest count role name)
     (first : lines_of rest ≡ line ∷ lines_of more) where
   next_stated : FirstStated (reading_of line) (readings_of more) is.after
-  next_stated = first_stated (reading_of line) (readings_of more) is.after (sym (readings_from rest line more first) ∙ is.rest_lines)
+  next_stated = first_stated (reading_of line) (readings_of more) is.after
+      (sym (readings_from rest line more first) ∙ is.rest_lines)
 
   pub line_states : (statement : Statement) × (reading_of line ≡ States statement)
   line_states = (next_stated.0, next_stated.3)
@@ -103,24 +117,30 @@ module _ (text rest line more : List ℕ) (count : ℕ) (role : Role) (name : Na
       earlier = is.earlier;
     }
 
-    pub line_passed : length more < length rest → ¬ Contains (nets_in role statement) name → IsBefore text more (count + 1) role name
+    pub line_passed : length more < length rest → ¬ Contains (nets_in role statement) name
+        → IsBefore text more (count + 1) role name
     line_passed shorter absent = record {
       before = is.before ++ statement ∷ [];
       after = next_stated.1;
-      lines = is.lines ∙ ap (map States) (ap (λ l. is.before ++ l) after_is ∙ sym (append_assoc is.before (statement ∷ []) next_stated.1));
+      lines = is.lines ∙ ap (map States)
+          (ap (λ l. is.before ++ l) after_is ∙ sym (append_assoc is.before (statement ∷ []) next_stated.1));
       rest_lines = next_stated.4;
       is_count = omega (arith, is.is_count, length-append is.before (statement ∷ []));
       short = omega (arith, is.short, shorter);
       earlier = λ c.
           ⊎_elim is.earlier absent
-          (Contains-append_cases (flat_map (nets_in role) is.before) (nets_in role statement) name (subst (λ l. Contains l name) (flat_map-push (nets_in role) is.before statement) c));
+          (Contains-append_cases (flat_map (nets_in role) is.before) (nets_in role statement) name
+          (subst (λ l. Contains l name) (flat_map-push (nets_in role) is.before statement) c));
       has =
-          ⊎_elim (λ (here : Contains (nets_in role statement) name). absurd (absent here)) (λ (later : Contains (flat_map (nets_in role) next_stated.1) name). later)
-          (Contains-append_cases (nets_in role statement) (flat_map (nets_in role) next_stated.1) name (subst (λ l. Contains (flat_map (nets_in role) l) name) after_is is.has));
+          ⊎_elim (λ (here : Contains (nets_in role statement) name). absurd (absent here))
+          (λ (later : Contains (flat_map (nets_in role) next_stated.1) name). later)
+          (Contains-append_cases (nets_in role statement) (flat_map (nets_in role) next_stated.1) name
+          (subst (λ l. Contains (flat_map (nets_in role) l) name) after_is is.has));
     }
 
 -- the line comes before the text ends
-pub not_at_end : (text rest : List ℕ) (count : ℕ) (role : Role) (name : Name) → IsBefore text rest count role name → rest ≡ [] → ⊥
+pub not_at_end : (text rest : List ℕ) (count : ℕ) (role : Role) (name : Name) → IsBefore text rest count role name
+    → rest ≡ [] → ⊥
 not_at_end text rest count role name is none = ended is.after (ap readings_of (sym none) ∙ is.rest_lines) is.has
   where
     ended : (after : List Statement) → [] ≡ map States after → ¬ Contains (flat_map (nets_in role) after) name

@@ -39,7 +39,8 @@ adds_left xs ys rest id adds = record {
       (λ (r : Contains rest x). Contains-append_right ys rest x r) (Contains-append_cases xs rest x c);
   is_there = Contains-append_left ys rest id adds.is_there;
   only = λ x c. ⊎_elim
-      (λ (l : Contains ys x). ⊎_elim (λ (o : Contains xs x). inl (Contains-append_left xs rest x o)) (λ (e : id ≡ x). inr e) (adds.only x l))
+      (λ (l : Contains ys x). ⊎_elim (λ (o : Contains xs x). inl (Contains-append_left xs rest x o))
+      (λ (e : id ≡ x). inr e) (adds.only x l))
       (λ (r : Contains rest x). inl (Contains-append_right xs rest x r)) (Contains-append_cases ys rest x c);
 }
 
@@ -51,40 +52,57 @@ adds_right first xs ys id adds = record {
   is_there = Contains-append_right first ys id adds.is_there;
   only = λ x c. ⊎_elim
       (λ (l : Contains first x). inl (Contains-append_left first xs x l))
-      (λ (r : Contains ys x). ⊎_elim (λ (o : Contains xs x). inl (Contains-append_right first xs x o)) (λ (e : id ≡ x). inr e) (adds.only x r)) (Contains-append_cases first ys x c);
+      (λ (r : Contains ys x). ⊎_elim (λ (o : Contains xs x). inl (Contains-append_right first xs x o))
+      (λ (e : id ≡ x). inr e) (adds.only x r)) (Contains-append_cases first ys x c);
 }
 
-module _ (mentioned : List Name) (statements : List Statement) (d : Draft) (is : IsDraftWith mentioned statements d) (s : Statement) where
+module _ (mentioned : List Name) (statements : List Statement) (d : Draft) (is : IsDraftWith mentioned statements d)
+    (s : Statement) where
   inputs_stay : inputs_in s ≡ [] → AllZip (IsNumberOf d.names) d.inputs (inputs_of (statements ++ s ∷ []))
-  inputs_stay none = subst (AllZip (IsNumberOf d.names) d.inputs) (sym (flat_map-push_none inputs_in statements s none)) is.inputs
+  inputs_stay none = subst (AllZip (IsNumberOf d.names) d.inputs) (sym (flat_map-push_none inputs_in statements s none))
+      is.inputs
 
   outputs_stay : outputs_in s ≡ [] → AllZip (IsNumberOf d.names) d.outputs (outputs_of (statements ++ s ∷ []))
-  outputs_stay none = subst (λ l. AllZip (IsNumberOf d.names) d.outputs (different l)) (sym (flat_map-push_none outputs_in statements s none)) is.outputs
+  outputs_stay none = subst (λ l. AllZip (IsNumberOf d.names) d.outputs (different l))
+      (sym (flat_map-push_none outputs_in statements s none)) is.outputs
 
   dffs_stay : dffs_in s ≡ [] → AllZip (IsDffOf d.names) d.dffs (dffs_of (statements ++ s ∷ []))
   dffs_stay none = subst (AllZip (IsDffOf d.names) d.dffs) (sym (flat_map-push_none dffs_in statements s none)) is.dffs
 
   gates_stay : gates_in s ≡ [] → AllZip (IsGateOf d.names) d.gates (gates_of (statements ++ s ∷ []))
-  gates_stay none = subst (AllZip (IsGateOf d.names) d.gates) (sym (flat_map-push_none gates_in statements s none)) is.gates
+  gates_stay none = subst (AllZip (IsGateOf d.names) d.gates) (sym (flat_map-push_none gates_in statements s none))
+      is.gates
 
-  module _ (new : List NameId) (id : NameId) (name : Name) (at : IsNumberOf d.names id name) (adds : AddsMember (driven_names d) new id) (drives : driven_in s ≡ name ∷ []) where
+  module _ (new : List NameId) (id : NameId) (name : Name) (at : IsNumberOf d.names id name)
+      (adds : AddsMember (driven_names d) new id) (drives : driven_in s ≡ name ∷ []) where
     driven_now : driven_by (statements ++ s ∷ []) ≡ driven_by statements ++ name ∷ []
     driven_now = flat_map-push driven_in statements s ∙ ap (λ l. driven_by statements ++ l) drives
 
-    driven_has : (n : Name) → Contains (driven_by (statements ++ s ∷ [])) n → (x : NameId) × Contains new x × IsNumberOf d.names x n
+    driven_has : (n : Name) → Contains (driven_by (statements ++ s ∷ [])) n → (x : NameId) × Contains new x
+        × IsNumberOf d.names x n
     driven_has n c =
         ⊎_elim
         (λ (old : Contains (driven_by statements) n). let r = is.driven n old in (r.0, adds.stays r.0 r.1, r.2))
         (λ (e : name ≡ n). (id, adds.is_there, subst (IsNumberOf d.names id) e at))
         (Contains-push_cases (driven_by statements) name n (subst (λ l. Contains l n) driven_now c))
 
-    drives_has : (x : NameId) → Contains new x → (n : Name) × IsNumberOf d.names x n × Contains (driven_by (statements ++ s ∷ [])) n
+    drives_has : (x : NameId) → Contains new x → (n : Name) × IsNumberOf d.names x n
+        × Contains (driven_by (statements ++ s ∷ [])) n
     drives_has x c =
         ⊎_elim
         (λ (old : Contains (driven_names d) x).
-        let r = is.drives x old in
-        (r.0, r.1, subst (λ l. Contains l r.0) (sym driven_now) (Contains-append_left (driven_by statements) (name ∷ []) r.0 r.2)))
-        (λ (e : id ≡ x). (name, subst (λ y. IsNumberOf d.names y name) e at, subst (λ l. Contains l name) (sym driven_now) (Contains-push (driven_by statements) name)))
+        let r = is.drives x old in (
+          r.0,
+          r.1,
+          subst (λ l. Contains l r.0) (sym driven_now)
+              (Contains-append_left (driven_by statements) (name ∷ []) r.0 r.2),
+        ))
+        (λ (e : id ≡ x). (
+          name,
+          subst (λ y. IsNumberOf d.names y name) e at,
+          subst (λ l. Contains l name)
+              (sym driven_now) (Contains-push (driven_by statements) name),
+        ))
         (adds.only x c)
 
 -- ---- one more statement
@@ -99,7 +117,8 @@ with_input mentioned statements d id name is at =
     record {
       names = is.names;
       names_differ = is.names_differ;
-      inputs = subst (AllZip (IsNumberOf d.names) (d.inputs ++ id ∷ [])) (sym (flat_map-push inputs_in statements s)) (AllZip-add (IsNumberOf d.names) d.inputs (inputs_of statements) id name is.inputs at);
+      inputs = subst (AllZip (IsNumberOf d.names) (d.inputs ++ id ∷ [])) (sym (flat_map-push inputs_in statements s))
+          (AllZip-add (IsNumberOf d.names) d.inputs (inputs_of statements) id name is.inputs at);
       outputs = outputs_stay mentioned statements d is s refl;
       dffs = dffs_stay mentioned statements d is s refl;
       gates = gates_stay mentioned statements d is s refl;
@@ -107,40 +126,50 @@ with_input mentioned statements d id name is at =
       drives = drives_has mentioned statements d is s new id name at adds refl;
     }
 
-pub with_dff : (mentioned : List Name) (statements : List Statement) (d : Draft) (out pin : NameId) (name data_pin : Name)
+pub with_dff : (mentioned : List Name) (statements : List Statement) (d : Draft) (out pin : NameId)
+    (name data_pin : Name)
     → IsDraftWith mentioned statements d → IsNumberOf d.names out name → IsNumberOf d.names pin data_pin
-    → IsDraftWith mentioned (statements ++ Dff name data_pin ∷ []) (record d { dffs = d.dffs ++ record { out = out; data_pin = pin } ∷ [] })
+    → IsDraftWith mentioned (statements ++ Dff name data_pin ∷ [])
+    (record d { dffs = d.dffs ++ record { out = out; data_pin = pin } ∷ [] })
 with_dff mentioned statements d out pin name data_pin is at pin_at =
     let s = Dff name data_pin in
     let part : DffPart = record { out = out; data_pin = pin } in
-    let latches : map (λ (f : DffPart). f.out) (d.dffs ++ part ∷ []) ≡ latch_names d ++ out ∷ [] = map_push (λ (f : DffPart). f.out) d.dffs part in
+    let latches : map (λ (f : DffPart). f.out) (d.dffs ++ part ∷ []) ≡ latch_names d ++ out
+    ∷ [] = map_push (λ (f : DffPart). f.out) d.dffs part in
     let new = d.inputs ++ (map (λ (f : DffPart). f.out) (d.dffs ++ part ∷ []) ++ gate_names d) in
     let adds : AddsMember (driven_names d) new out =
     subst (λ l. AddsMember (driven_names d) (d.inputs ++ (l ++ gate_names d)) out) (sym latches)
-    (adds_right d.inputs (latch_names d ++ gate_names d) ((latch_names d ++ out ∷ []) ++ gate_names d) out (adds_left (latch_names d) (latch_names d ++ out ∷ []) (gate_names d) out (adds_push (latch_names d) out))) in
+    (adds_right d.inputs (latch_names d ++ gate_names d) ((latch_names d ++ out ∷ []) ++ gate_names d) out
+    (adds_left (latch_names d) (latch_names d ++ out ∷ []) (gate_names d) out (adds_push (latch_names d) out))) in
     let dff : NamedDff = record { out = name; data_pin = data_pin } in
     record {
       names = is.names;
       names_differ = is.names_differ;
       inputs = inputs_stay mentioned statements d is s refl;
       outputs = outputs_stay mentioned statements d is s refl;
-      dffs = subst (AllZip (IsDffOf d.names) (d.dffs ++ part ∷ [])) (sym (flat_map-push dffs_in statements s)) (AllZip-add (IsDffOf d.names) d.dffs (dffs_of statements) part dff is.dffs (record { out = at; data_pin = pin_at }));
+      dffs = subst (AllZip (IsDffOf d.names) (d.dffs ++ part ∷ [])) (sym (flat_map-push dffs_in statements s))
+          (AllZip-add (IsDffOf d.names) d.dffs (dffs_of statements) part dff is.dffs
+          (record { out = at; data_pin = pin_at }));
       gates = gates_stay mentioned statements d is s refl;
       driven = driven_has mentioned statements d is s new out name at adds refl;
       drives = drives_has mentioned statements d is s new out name at adds refl;
     }
 
-pub with_gate : (mentioned : List Name) (statements : List Statement) (d : Draft) (kind : Kind) (out : NameId) (ids : List NameId) (name : Name) (args : List Name)
+pub with_gate : (mentioned : List Name) (statements : List Statement) (d : Draft) (kind : Kind) (out : NameId)
+    (ids : List NameId) (name : Name) (args : List Name)
     → IsDraftWith mentioned statements d → IsNumberOf d.names out name → AllZip (IsNumberOf d.names) ids args
-    → IsDraftWith mentioned (statements ++ Gate name kind args ∷ []) (record d { gates = d.gates ++ record { kind = kind; out = out; args = ids } ∷ [] })
+    → IsDraftWith mentioned (statements ++ Gate name kind args ∷ [])
+    (record d { gates = d.gates ++ record { kind = kind; out = out; args = ids } ∷ [] })
 with_gate mentioned statements d kind out ids name args is at args_at =
     let s = Gate name kind args in
     let part : GatePart = record { kind = kind; out = out; args = ids } in
-    let gates_are : map (λ (g : GatePart). g.out) (d.gates ++ part ∷ []) ≡ gate_names d ++ out ∷ [] = map_push (λ (g : GatePart). g.out) d.gates part in
+    let gates_are : map (λ (g : GatePart). g.out) (d.gates ++ part ∷ []) ≡ gate_names d ++ out
+    ∷ [] = map_push (λ (g : GatePart). g.out) d.gates part in
     let new = d.inputs ++ (latch_names d ++ map (λ (g : GatePart). g.out) (d.gates ++ part ∷ [])) in
     let adds : AddsMember (driven_names d) new out =
     subst (λ l. AddsMember (driven_names d) (d.inputs ++ (latch_names d ++ l)) out) (sym gates_are)
-    (adds_right d.inputs (latch_names d ++ gate_names d) (latch_names d ++ (gate_names d ++ out ∷ [])) out (adds_right (latch_names d) (gate_names d) (gate_names d ++ out ∷ []) out (adds_push (gate_names d) out))) in
+    (adds_right d.inputs (latch_names d ++ gate_names d) (latch_names d ++ (gate_names d ++ out ∷ [])) out
+    (adds_right (latch_names d) (gate_names d) (gate_names d ++ out ∷ []) out (adds_push (gate_names d) out))) in
     let gate : NamedGate = record { kind = kind; out = name; args = args } in
     record {
       names = is.names;
@@ -148,14 +177,17 @@ with_gate mentioned statements d kind out ids name args is at args_at =
       inputs = inputs_stay mentioned statements d is s refl;
       outputs = outputs_stay mentioned statements d is s refl;
       dffs = dffs_stay mentioned statements d is s refl;
-      gates = subst (AllZip (IsGateOf d.names) (d.gates ++ part ∷ [])) (sym (flat_map-push gates_in statements s)) (AllZip-add (IsGateOf d.names) d.gates (gates_of statements) part gate is.gates (record { kind = refl; out = at; args = args_at }));
+      gates = subst (AllZip (IsGateOf d.names) (d.gates ++ part ∷ [])) (sym (flat_map-push gates_in statements s))
+          (AllZip-add (IsGateOf d.names) d.gates (gates_of statements) part gate is.gates
+          (record { kind = refl; out = at; args = args_at }));
       driven = driven_has mentioned statements d is s new out name at adds refl;
       drives = drives_has mentioned statements d is s new out name at adds refl;
     }
 
 module _ (mentioned : List Name) (statements : List Statement) (d : Draft) (id : NameId) (name : Name)
     (is : IsDraftWith mentioned statements d) (at : IsNumberOf d.names id name) where
-  with_outputs : (outputs : List NameId) → AllZip (IsNumberOf d.names) outputs (outputs_of (statements ++ Output name ∷ []))
+  with_outputs : (outputs : List NameId) → AllZip (IsNumberOf d.names) outputs
+      (outputs_of (statements ++ Output name ∷ []))
       → IsDraftWith mentioned (statements ++ Output name ∷ []) (record d { outputs = outputs })
   with_outputs outputs are =
       let s = Output name in
@@ -171,7 +203,8 @@ module _ (mentioned : List Name) (statements : List Statement) (d : Draft) (id :
         drives = λ x c. let r = is.drives x c in (r.0, r.1, subst (λ l. Contains l r.0) (sym same) r.2);
       }
 
-  pub with_output : (new : Draft) → (Contains d.outputs id → new ≡ d) → (¬ Contains d.outputs id → new ≡ record d { outputs = d.outputs ++ id ∷ [] })
+  pub with_output : (new : Draft) → (Contains d.outputs id → new ≡ d)
+      → (¬ Contains d.outputs id → new ≡ record d { outputs = d.outputs ++ id ∷ [] })
       → IsDraftWith mentioned (statements ++ Output name ∷ []) new
   with_output new known added =
       let s = Output name in
@@ -182,18 +215,23 @@ module _ (mentioned : List Name) (statements : List Statement) (d : Draft) (id :
       let same : r.0 ≡ id = one_number d.names r.0 id name is.names_differ r.1 at in
       subst (IsDraftWith mentioned (statements ++ s ∷ [])) (sym (known (subst (Contains d.outputs) same r.2)))
       (with_outputs d.outputs (subst (AllZip (IsNumberOf d.names) d.outputs) (sym old.1) is.outputs)))
-      (λ (fresh : IsNewName (outputs_of statements) name × (outputs_of (statements ++ s ∷ []) ≡ outputs_of statements ++ name ∷ [])).
+      (λ (fresh : IsNewName (outputs_of statements) name
+      × (outputs_of (statements ++ s ∷ []) ≡ outputs_of statements ++ name ∷ [])).
       let absent : ¬ Contains d.outputs id = λ c.
       let r = AllZip-right (IsNumberOf d.names) d.outputs (outputs_of statements) id is.outputs c in
       let same : r.0 ≡ name = sym r.1.1 ∙ at.1 in
       contains_not_new (outputs_of statements) name (subst (Contains (outputs_of statements)) same r.2) fresh.0 in
       subst (IsDraftWith mentioned (statements ++ s ∷ [])) (sym (added absent))
       (with_outputs (d.outputs ++ id ∷ [])
-      (subst (AllZip (IsNumberOf d.names) (d.outputs ++ id ∷ [])) (sym fresh.1) (AllZip-add (IsNumberOf d.names) d.outputs (outputs_of statements) id name is.outputs at))))
-      (subst (λ l. (Contains (outputs_of statements) name × (different l ≡ outputs_of statements)) ⊎ (IsNewName (outputs_of statements) name × (different l ≡ outputs_of statements ++ name ∷ []))) (sym all) (different-push (flat_map outputs_in statements) name))
+      (subst (AllZip (IsNumberOf d.names) (d.outputs ++ id ∷ [])) (sym fresh.1)
+      (AllZip-add (IsNumberOf d.names) d.outputs (outputs_of statements) id name is.outputs at))))
+      (subst (λ l. (Contains (outputs_of statements) name × (different l ≡ outputs_of statements))
+      ⊎ (IsNewName (outputs_of statements) name × (different l ≡ outputs_of statements ++ name ∷ []))) (sym all)
+      (different-push (flat_map outputs_in statements) name))
 
 -- an empty line
-pub with_nothing : (mentioned : List Name) (statements : List Statement) (d : Draft) → IsDraftWith mentioned statements d → IsDraftWith mentioned (statements ++ Nothing ∷ []) d
+pub with_nothing : (mentioned : List Name) (statements : List Statement) (d : Draft)
+    → IsDraftWith mentioned statements d → IsDraftWith mentioned (statements ++ Nothing ∷ []) d
 with_nothing mentioned statements d is =
     let s = Nothing in
     let same = flat_map-push_none driven_in statements s refl in
@@ -210,28 +248,34 @@ with_nothing mentioned statements d is =
 
 -- ---- counts
 
-sums_same : (names : List Name) (parts : List GatePart) (gates : List NamedGate) (a : ℕ) → AllZip (IsGateOf names) parts gates
+sums_same : (names : List Name) (parts : List GatePart) (gates : List NamedGate) (a : ℕ)
+    → AllZip (IsGateOf names) parts gates
     → fold (λ n (g : GatePart). n + length g.args) a parts ≡ fold (λ n (g : NamedGate). n + length g.args) a gates
 sums_same names [] [] a h = refl
 sums_same names [] (y ∷ ys) a h = absurd h
 sums_same names (x ∷ xs) [] a h = absurd h
 sums_same names (x ∷ xs) (y ∷ ys) a h =
     let same : length x.args ≡ length y.args = AllZip-length (IsNumberOf names) x.args y.args h.0.args in
-    sums_same names xs ys (a + length x.args) h.1 ∙ ap (λ n. fold (λ n (g : NamedGate). n + length g.args) (a + n) ys) same
+    sums_same names xs ys (a + length x.args) h.1 ∙ ap (λ n. fold (λ n (g : NamedGate). n + length g.args) (a + n) ys)
+    same
 
-pub pins_same : (mentioned : List Name) (statements : List Statement) (d : Draft) → IsDraftWith mentioned statements d → draft_pins d ≡ pins_of statements
+pub pins_same : (mentioned : List Name) (statements : List Statement) (d : Draft) → IsDraftWith mentioned statements d
+    → draft_pins d ≡ pins_of statements
 pins_same mentioned statements d is =
     let dffs_same = AllZip-length (IsDffOf d.names) d.dffs (dffs_of statements) is.dffs in
     let gates_same = sums_same d.names d.gates (gates_of statements) 0 is.gates in
     omega (arith, dffs_same, gates_same)
 
-pub inputs_same : (mentioned : List Name) (statements : List Statement) (d : Draft) → IsDraftWith mentioned statements d → length d.inputs ≡ length (inputs_of statements)
+pub inputs_same : (mentioned : List Name) (statements : List Statement) (d : Draft) → IsDraftWith mentioned statements d
+    → length d.inputs ≡ length (inputs_of statements)
 inputs_same mentioned statements d is = AllZip-length (IsNumberOf d.names) d.inputs (inputs_of statements) is.inputs
 
-pub dffs_same : (mentioned : List Name) (statements : List Statement) (d : Draft) → IsDraftWith mentioned statements d → length d.dffs ≡ length (dffs_of statements)
+pub dffs_same : (mentioned : List Name) (statements : List Statement) (d : Draft) → IsDraftWith mentioned statements d
+    → length d.dffs ≡ length (dffs_of statements)
 dffs_same mentioned statements d is = AllZip-length (IsDffOf d.names) d.dffs (dffs_of statements) is.dffs
 
-pub limits_of_draft : (statements : List Statement) (d : Draft) → IsDraftOf statements d → length d.names ≤ 65535 → draft_pins d ≤ 262144 → length d.inputs ≤ 4096 → length d.dffs ≤ 16384
+pub limits_of_draft : (statements : List Statement) (d : Draft) → IsDraftOf statements d → length d.names ≤ 65535
+    → draft_pins d ≤ 262144 → length d.inputs ≤ 4096 → length d.dffs ≤ 16384
     → IsWithinLimits statements
 limits_of_draft statements d is nets pins inputs dffs = record {
   nets = omega (arith, ap length is.names);
@@ -240,13 +284,24 @@ limits_of_draft statements d is nets pins inputs dffs = record {
   dffs = omega (arith, dffs_same (mentions_of statements) statements d is);
 }
 
-pub too_many_nets : (mentioned more : List Name) (statements : List Statement) (d : Draft) (name : Name) → IsDraftWith mentioned statements d
+pub too_many_nets : (mentioned more : List Name) (statements : List Statement) (d : Draft) (name : Name)
+    → IsDraftWith mentioned statements d
     → IsNewName d.names name → length d.names ≡ 65535 → 65535 < length (different (mentioned ++ name ∷ more))
 too_many_nets mentioned more statements d name is new full =
     ⊎_elim
     (λ (old : Contains (different mentioned) name × (different (mentioned ++ name ∷ []) ≡ different mentioned)).
     absurd (contains_not_new d.names name (subst (λ l. Contains l name) (sym is.names) old.0) new))
-    (λ (fresh : IsNewName (different mentioned) name × (different (mentioned ++ name ∷ []) ≡ different mentioned ++ name ∷ [])).
-    let there : length (different ((mentioned ++ name ∷ []) ++ more)) ≡ length (different (mentioned ++ name ∷ more)) = ap (λ l. length (different l)) (append_assoc mentioned (name ∷ []) more) in
-    omega (arith, different-append_grows (mentioned ++ name ∷ []) more, there, ap length fresh.1, length-append (different mentioned) (name ∷ []), ap length is.names))
+    (λ (fresh : IsNewName (different mentioned) name
+    × (different (mentioned ++ name ∷ []) ≡ different mentioned ++ name ∷ [])).
+    let there : length (different ((mentioned ++ name ∷ []) ++ more)) ≡ length (different (mentioned ++ name ∷ more)) =
+    ap (λ l. length (different l)) (append_assoc mentioned (name ∷ []) more) in
+    omega (
+      arith,
+      different-append_grows (mentioned ++ name ∷ []) more,
+      there,
+      ap length fresh.1,
+      length-append
+          (different mentioned) (name ∷ []),
+      ap length is.names,
+    ))
     (different-push mentioned name)

@@ -21,11 +21,13 @@ abbrev pub ReadsArguments : Reading → Type 0
 ReadsArguments (States statement) = HasArguments statement
 ReadsArguments (IsRefused refusal) = Unit {0}
 
-checked : (b : Bool) (s : Statement) (refusal : LineRefusal) → (b ≡ true → HasArguments s) → ReadsArguments (cond b (States s) (IsRefused refusal))
+checked : (b : Bool) (s : Statement) (refusal : LineRefusal) → (b ≡ true → HasArguments s)
+    → ReadsArguments (cond b (States s) (IsRefused refusal))
 checked true s refusal h = h refl
 checked false s refusal h = tt
 
-joined : (b : Bool) (reading : Reading) (refusal : LineRefusal) → ReadsArguments reading → ReadsArguments (cond b reading (IsRefused refusal))
+joined : (b : Bool) (reading : Reading) (refusal : LineRefusal) → ReadsArguments reading
+    → ReadsArguments (cond b reading (IsRefused refusal))
 joined true reading refusal h = h
 joined false reading refusal h = tt
 
@@ -39,16 +41,20 @@ counted Xnor count e = grind (arith, nat_tests)
 counted Not count e = grind (arith, nat_tests)
 counted Buf count e = grind (arith, nat_tests)
 
-definition_counted : (out : Name) (args : List Name) (element : Option Element) → ReadsArguments (definition_reading out args element)
+definition_counted : (out : Name) (args : List Name) (element : Option Element)
+    → ReadsArguments (definition_reading out args element)
 definition_counted out args None = tt
-definition_counted out args (Some FlipFlop) = checked (has_count FlipFlop (length args)) (defined out args FlipFlop) BadCount (λ e. tt)
-definition_counted out args (Some (GateOf kind)) = checked (has_count (GateOf kind) (length args)) (Gate out kind args) BadCount (counted kind (length args))
+definition_counted out args (Some FlipFlop) = checked (has_count FlipFlop (length args)) (defined out args FlipFlop)
+    BadCount (λ e. tt)
+definition_counted out args (Some (GateOf kind)) = checked (has_count (GateOf kind) (length args)) (Gate out kind args)
+    BadCount (counted kind (length args))
 
 form_counted : (form : Form) → ReadsArguments (form_reading form)
 form_counted Blank = tt
 form_counted (InputForm name) = checked (is_name name) (Input name) BadName (λ e. tt)
 form_counted (OutputForm name) = checked (is_name name) (Output name) BadName (λ e. tt)
-form_counted (Definition out kind args) = joined (list_all is_name (out ∷ args)) (definition_reading out args (element_named kind)) BadName (definition_counted out args (element_named kind))
+form_counted (Definition out kind args) = joined (list_all is_name (out ∷ args))
+    (definition_reading out args (element_named kind)) BadName (definition_counted out args (element_named kind))
 
 tokens_counted : (form : Option Form) → ReadsArguments (tokens_reading form)
 tokens_counted None = tt

@@ -17,7 +17,8 @@ pub record IsNamedGate (c : Netlist) (x : ℕ) (gates : List Gate) (gate : Named
   pub out : gate.out ≡ get_or c.names (x + place) []
   pub args : gate.args ≡ map (name_of c) (get_or gates place no_gate).args
 
-named_gate : (c : Netlist) (x : ℕ) (gates : List Gate) (gate : NamedGate) → Contains (named_gates c x gates) gate → IsNamedGate c x gates gate
+named_gate : (c : Netlist) (x : ℕ) (gates : List Gate) (gate : NamedGate) → Contains (named_gates c x gates) gate
+    → IsNamedGate c x gates gate
 named_gate c x [] gate there = absurd (contains_none gate there)
 named_gate c x (g ∷ gates) gate there =
     let head : NamedGate = record { kind = g.kind; out = get_or c.names x []; args = map (name_of c) g.args } in
@@ -25,7 +26,8 @@ named_gate c x (g ∷ gates) gate there =
     (λ (e : head ≡ gate). record {
       place = 0;
       within = omega arith;
-      out = let z : x ≡ x + 0 = omega arith in ap (λ (n : NamedGate). n.out) (sym e) ∙ ap (λ (n : ℕ). get_or c.names n []) z;
+      out = let z : x ≡ x + 0 = omega arith in ap (λ (n : NamedGate). n.out) (sym e) ∙ ap
+          (λ (n : ℕ). get_or c.names n []) z;
       args = ap (λ (n : NamedGate). n.args) (sym e);
     })
     (λ (later : Contains (named_gates c (x + 1) gates) gate).
@@ -47,22 +49,30 @@ pub record IsPin (c : Netlist) (a b : Name) : Type 0 where
   pub out : place_in c.names b ≡ first_gate_net c + gate
   pub arg : place_in c.names a ≡ arg_at c gate pin
 
-module _ (c : Netlist) (is : IsCircuit c) (statements : List Statement) (named : named_of c ≡ named_of_statements statements) where
+module _ (c : Netlist) (is : IsCircuit c) (statements : List Statement)
+    (named : named_of c ≡ named_of_statements statements) where
   pin_of : (a b : Name) → Feeds statements a b → IsPin c a b
   pin_of a b feeds =
-      let gates : gates_of statements ≡ named_gates c (first_gate_net c) c.gates = sym (ap (λ (n : NamedNetlist). n.gates) named) in
-      let g = named_gate c (first_gate_net c) c.gates feeds.gate (subst (λ l. Contains l feeds.gate) gates feeds.is_gate) in
-      let there : Contains (map (name_of c) (get_or c.gates g.place no_gate).args) a = subst (λ l. Contains l a) g.args feeds.arg in
-      let inside : there.0 < length (get_or c.gates g.place no_gate).args = omega (arith, there.1, length-map (get_or c.gates g.place no_gate).args (name_of c)) in
-      let name : get_or c.names (arg_at c g.place there.0) [] ≡ a = sym (get_or-map (name_of c) (get_or c.gates g.place no_gate).args there.0 no_net a inside) ∙ there.2 in
+      let gates : gates_of statements ≡ named_gates c (first_gate_net c) c.gates = sym
+      (ap (λ (n : NamedNetlist). n.gates) named) in
+      let g = named_gate c (first_gate_net c) c.gates feeds.gate
+      (subst (λ l. Contains l feeds.gate) gates feeds.is_gate) in
+      let there : Contains (map (name_of c) (get_or c.gates g.place no_gate).args) a = subst (λ l. Contains l a) g.args
+      feeds.arg in
+      let inside : there.0 < length (get_or c.gates g.place no_gate).args = omega
+      (arith, there.1, length-map (get_or c.gates g.place no_gate).args (name_of c)) in
+      let name : get_or c.names (arg_at c g.place there.0) []
+      ≡ a = sym (get_or-map (name_of c) (get_or c.gates g.place no_gate).args there.0 no_net a inside) ∙ there.2 in
       let out_name : get_or c.names (first_gate_net c + g.place) [] ≡ b = sym g.out ∙ feeds.out in
       record {
         gate = g.place;
         is_gate = g.within;
         pin = there.0;
         is_pin = inside;
-        out = ap (place_in c.names) (sym out_name) ∙ place_at c.names (first_gate_net c + g.place) is.names_differ (omega (arith, g.within, is.named));
-        arg = ap (place_in c.names) (sym name) ∙ place_at c.names (arg_at c g.place there.0) is.names_differ (omega (arith, is.known g.place there.0 g.within inside, is.named));
+        out = ap (place_in c.names) (sym out_name) ∙ place_at c.names (first_gate_net c + g.place) is.names_differ
+            (omega (arith, g.within, is.named));
+        arg = ap (place_in c.names) (sym name) ∙ place_at c.names (arg_at c g.place there.0) is.names_differ
+            (omega (arith, is.known g.place there.0 g.within inside, is.named));
       }
 
   -- the rank of the gate that drives a net
@@ -73,7 +83,8 @@ module _ (c : Netlist) (is : IsCircuit c) (statements : List Statement) (named :
   unfolding rank_at
   rises a b pin driven =
       let up = is.ranked.1.falls pin.gate pin.pin pin.is_gate pin.is_pin (omega (arith, driven, pin.arg)) in
-      let from : place_in c.names a - first_gate_net c ≡ arg_at c pin.gate pin.pin - first_gate_net c = ap (λ n. n - first_gate_net c) pin.arg in
+      let from : place_in c.names a - first_gate_net c ≡ arg_at c pin.gate pin.pin - first_gate_net c = ap
+      (λ n. n - first_gate_net c) pin.arg in
       let to : place_in c.names b - first_gate_net c ≡ pin.gate = omega (arith, pin.out) in
       subst (λ n. is.ranked.0 n < is.ranked.0 (place_in c.names b - first_gate_net c)) (sym from)
       (subst (λ n. is.ranked.0 (arg_at c pin.gate pin.pin - first_gate_net c) < is.ranked.0 n) (sym to) up)
@@ -85,7 +96,8 @@ module _ (c : Netlist) (is : IsCircuit c) (statements : List Statement) (named :
         let pin = pin_of (get_or cycle (length cycle - 1) []) (get_or cycle 0 []) h.closes in omega (arith, pin.out)
     is_driven_by_gate (suc k) lt =
         let z : k + 1 ≡ suc k = omega arith in
-        let pin = subst (λ n. IsPin c (get_or cycle k []) (get_or cycle n [])) z (pin_of (get_or cycle k []) (get_or cycle (k + 1) []) (h.next k (omega arith))) in
+        let pin = subst (λ n. IsPin c (get_or cycle k []) (get_or cycle n [])) z
+        (pin_of (get_or cycle k []) (get_or cycle (k + 1) []) (h.next k (omega arith))) in
         omega (arith, pin.out)
 
     climb : (k : ℕ) → k < length cycle → rank_at (get_or cycle 0 []) + k ≤ rank_at (get_or cycle k [])
@@ -93,7 +105,8 @@ module _ (c : Netlist) (is : IsCircuit c) (statements : List Statement) (named :
     climb (suc k) lt =
         let before = climb k (omega arith) in
         let z : k + 1 ≡ suc k = omega arith in
-        let pin = subst (λ n. IsPin c (get_or cycle k []) (get_or cycle n [])) z (pin_of (get_or cycle k []) (get_or cycle (k + 1) []) (h.next k (omega arith))) in
+        let pin = subst (λ n. IsPin c (get_or cycle k []) (get_or cycle n [])) z
+        (pin_of (get_or cycle k []) (get_or cycle (k + 1) []) (h.next k (omega arith))) in
         let up = rises (get_or cycle k []) (get_or cycle (suc k) []) pin (is_driven_by_gate k (omega arith)) in
         omega (arith, before, up)
 
@@ -102,5 +115,7 @@ module _ (c : Netlist) (is : IsCircuit c) (statements : List Statement) (named :
         let last = length cycle - 1 in
         let some = h.some in
         let up = climb (length cycle - 1) (omega arith) in
-        let down = rises (get_or cycle (length cycle - 1) []) (get_or cycle 0 []) (pin_of (get_or cycle (length cycle - 1) []) (get_or cycle 0 []) h.closes) (is_driven_by_gate (length cycle - 1) (omega arith)) in
+        let down = rises (get_or cycle (length cycle - 1) []) (get_or cycle 0 [])
+        (pin_of (get_or cycle (length cycle - 1) []) (get_or cycle 0 []) h.closes)
+        (is_driven_by_gate (length cycle - 1) (omega arith)) in
         omega (arith, up, down)

@@ -15,7 +15,8 @@ pub name_cases : (a b : Name) → ((bytes_eq a b ≡ true) × (a ≡ b)) ⊎ ((b
 name_cases a b =
     ⊎_elim
     (λ (yes : bytes_eq a b ≡ true). inl (yes, (bytes_eq-Decides a b).0 yes))
-    (λ (no : bytes_eq a b ≡ false). inr (no, λ e. false≢true (sym no ∙ (bytes_eq-Decides a b).1 e))) (bool_cases (bytes_eq a b))
+    (λ (no : bytes_eq a b ≡ false). inr (no, λ e. false≢true (sym no ∙ (bytes_eq-Decides a b).1 e)))
+    (bool_cases (bytes_eq a b))
 
 pub All-from_new : (names : List Name) (name : Name) → IsNewName names name → All (λ n. n ≢ name) names
 All-from_new names name new k d lt = λ e. new k lt (get_or_default names k [] d lt ∙ e)
@@ -36,10 +37,12 @@ pub new_or_contained : (names : List Name) (name : Name) → IsNewName names nam
 new_or_contained [] name = inl (λ k lt. absurd (omega arith))
 new_or_contained (x ∷ names) name =
     ⊎_elim
-    (λ (same : (bytes_eq x name ≡ true) × (x ≡ name)). inr (subst (λ n. Contains (x ∷ names) n) same.1 (contains_head x names)))
+    (λ (same : (bytes_eq x name ≡ true) × (x ≡ name)). inr
+    (subst (λ n. Contains (x ∷ names) n) same.1 (contains_head x names)))
     (λ (other : (bytes_eq x name ≡ false) × (x ≢ name)).
     ⊎_elim
-    (λ (new : IsNewName names name). inl (new_from_All (x ∷ names) name (All-cons (λ n. n ≢ name) x names other.1 (All-from_new names name new))))
+    (λ (new : IsNewName names name). inl
+    (new_from_All (x ∷ names) name (All-cons (λ n. n ≢ name) x names other.1 (All-from_new names name new))))
     (λ (old : Contains names name). inr (contains_tail x names name old)) (new_or_contained names name))
     (name_cases x name)
 
@@ -53,14 +56,17 @@ AddsName names name =
     ⊎ (IsNewName (different names) name × (different (names ++ name ∷ []) ≡ different names ++ name ∷ []))
 
 module _ (x : Name) (names : List Name) (name : Name) where
-  same_head : x ≡ name → AddsName names name → filter (is_not x) (different (names ++ name ∷ [])) ≡ filter (is_not x) (different names)
+  same_head : x ≡ name → AddsName names name → filter (is_not x) (different (names ++ name ∷ []))
+      ≡ filter (is_not x) (different names)
   same_head same adds =
       ⊎_elim
-      (λ (old : Contains (different names) name × (different (names ++ name ∷ []) ≡ different names)). ap (filter (is_not x)) old.1)
+      (λ (old : Contains (different names) name × (different (names ++ name ∷ []) ≡ different names)). ap
+      (filter (is_not x)) old.1)
       (λ (new : IsNewName (different names) name × (different (names ++ name ∷ []) ≡ different names ++ name ∷ [])).
       ap (filter (is_not x)) new.1
       ∙ filter-append (is_not x) (different names) (name ∷ [])
-      ∙ ap (λ l. filter (is_not x) (different names) ++ l) (filter_no (is_not x) name [] (ap not ((bytes_eq-Decides name x).1 (sym same))))
+      ∙ ap (λ l. filter (is_not x) (different names) ++ l)
+      (filter_no (is_not x) name [] (ap not ((bytes_eq-Decides name x).1 (sym same))))
       ∙ append-nil (filter (is_not x) (different names)))
       adds
 
@@ -69,7 +75,8 @@ module _ (x : Name) (names : List Name) (name : Name) where
       ⊎_elim
       (λ (old : Contains (different names) name × (different (names ++ name ∷ []) ≡ different names)).
       inl (
-        contains_tail x (filter (is_not x) (different names)) name (contains_filter (is_not x) (different names) name (ap not differ) old.0),
+        contains_tail x (filter (is_not x) (different names)) name
+            (contains_filter (is_not x) (different names) name (ap not differ) old.0),
         ap (λ l. x ∷ filter (is_not x) l) old.1,
       ))
       (λ (new : IsNewName (different names) name × (different (names ++ name ∷ []) ≡ different names ++ name ∷ [])).
@@ -89,17 +96,20 @@ different-push (x ∷ names) name =
     ⊎_elim
     (λ (same : (bytes_eq name x ≡ true) × (name ≡ x)).
     inl (
-      subst (λ n. Contains (different (x ∷ names)) n) (sym same.1) (contains_head x (filter (is_not x) (different names))),
+      subst (λ n. Contains (different (x ∷ names)) n) (sym same.1)
+          (contains_head x (filter (is_not x) (different names))),
       ap (λ l. x ∷ l) (same_head x names name (sym same.1) (different-push names name)),
     ))
     (λ (other : (bytes_eq name x ≡ false) × (name ≢ x)).
     other_head x names name (λ e. other.1 (sym e)) other.0 (different-push names name))
     (name_cases name x)
 
-pub different-push_grows : (names : List Name) (name : Name) → length (different names) ≤ length (different (names ++ name ∷ []))
+pub different-push_grows : (names : List Name) (name : Name)
+    → length (different names) ≤ length (different (names ++ name ∷ []))
 different-push_grows names name =
     ⊎_elim
-    (λ (old : Contains (different names) name × (different (names ++ name ∷ []) ≡ different names)). omega (arith, ap length old.1))
+    (λ (old : Contains (different names) name × (different (names ++ name ∷ []) ≡ different names)). omega
+    (arith, ap length old.1))
     (λ (new : IsNewName (different names) name × (different (names ++ name ∷ []) ≡ different names ++ name ∷ [])).
     omega (arith, ap length new.1, length-append (different names) (name ∷ [])))
     (different-push names name)
@@ -108,17 +118,21 @@ different-push_grows names name =
 pub different-append_grows : (names more : List Name) → length (different names) ≤ length (different (names ++ more))
 different-append_grows names [] = omega (arith, ap (λ l. length (different l)) (append-nil names))
 different-append_grows names (name ∷ more) =
-    let there : length (different ((names ++ name ∷ []) ++ more)) ≡ length (different (names ++ name ∷ more)) = ap (λ l. length (different l)) (append_assoc names (name ∷ []) more) in
+    let there : length (different ((names ++ name ∷ []) ++ more)) ≡ length (different (names ++ name ∷ more)) = ap
+    (λ l. length (different l)) (append_assoc names (name ∷ []) more) in
     omega (arith, different-push_grows names name, different-append_grows (names ++ name ∷ []) more, there)
 
 -- the different names of a longer list go on from those of the list
-pub different-append : (names more : List Name) → (rest : List Name) × (different (names ++ more) ≡ different names ++ rest)
+pub different-append : (names more : List Name) → (rest : List Name)
+    × (different (names ++ more) ≡ different names ++ rest)
 different-append names [] = ([], ap different (append-nil names) ∙ sym (append-nil (different names)))
 different-append names (name ∷ more) =
     let on = different-append (names ++ name ∷ []) more in
-    let all : different (names ++ name ∷ more) ≡ different (names ++ name ∷ []) ++ on.0 = sym (ap different (append_assoc names (name ∷ []) more)) ∙ on.1 in
+    let all : different (names ++ name ∷ more) ≡ different (names ++ name ∷ [])
+    ++ on.0 = sym (ap different (append_assoc names (name ∷ []) more)) ∙ on.1 in
     ⊎_elim
-    (λ (old : Contains (different names) name × (different (names ++ name ∷ []) ≡ different names)). (on.0, all ∙ ap (λ l. l ++ on.0) old.1))
+    (λ (old : Contains (different names) name × (different (names ++ name ∷ []) ≡ different names)).
+    (on.0, all ∙ ap (λ l. l ++ on.0) old.1))
     (λ (new : IsNewName (different names) name × (different (names ++ name ∷ []) ≡ different names ++ name ∷ [])).
     (name ∷ on.0, all ∙ ap (λ l. l ++ on.0) new.1 ∙ append_assoc (different names) (name ∷ []) on.0))
     (different-push names name)
@@ -127,11 +141,13 @@ pub contains_different : (names : List Name) (name : Name) → Contains names na
 contains_different [] name c = absurd (contains_none name c)
 contains_different (x ∷ names) name c =
     ⊎_elim
-    (λ (same : (bytes_eq name x ≡ true) × (name ≡ x)). subst (Contains (different (x ∷ names))) (sym same.1) (contains_head x (filter (is_not x) (different names))))
+    (λ (same : (bytes_eq name x ≡ true) × (name ≡ x)). subst (Contains (different (x ∷ names))) (sym same.1)
+    (contains_head x (filter (is_not x) (different names))))
     (λ (other : (bytes_eq name x ≡ false) × (name ≢ x)).
     ⊎_elim (λ (e : x ≡ name). absurd (other.1 (sym e)))
     (λ (rest : Contains names name).
-    contains_tail x (filter (is_not x) (different names)) name (contains_filter (is_not x) (different names) name (ap not other.0) (contains_different names name rest)))
+    contains_tail x (filter (is_not x) (different names)) name
+    (contains_filter (is_not x) (different names) name (ap not other.0) (contains_different names name rest)))
     (contains_cases x names name c))
     (name_cases name x)
 
@@ -140,14 +156,17 @@ contained_by_filter p [] y c = c
 contained_by_filter p (x ∷ xs) y c =
     ⊎_elim
     (λ (yes : p x ≡ true).
-    ⊎_elim (λ (e : x ≡ y). subst (Contains (x ∷ xs)) e (contains_head x xs)) (λ (rest : Contains (filter p xs) y). contains_tail x xs y (contained_by_filter p xs y rest))
+    ⊎_elim (λ (e : x ≡ y). subst (Contains (x ∷ xs)) e (contains_head x xs))
+    (λ (rest : Contains (filter p xs) y). contains_tail x xs y (contained_by_filter p xs y rest))
     (contains_cases x (filter p xs) y (subst (λ l. Contains l y) (filter_yes p x xs yes) c)))
-    (λ (no : p x ≡ false). contains_tail x xs y (contained_by_filter p xs y (subst (λ l. Contains l y) (filter_no p x xs no) c)))
+    (λ (no : p x ≡ false). contains_tail x xs y
+    (contained_by_filter p xs y (subst (λ l. Contains l y) (filter_no p x xs no) c)))
     (bool_cases (p x))
 
 pub contains_in_different : (names : List Name) (name : Name) → Contains (different names) name → Contains names name
 contains_in_different [] name c = c
 contains_in_different (x ∷ names) name c =
     ⊎_elim (λ (e : x ≡ name). subst (Contains (x ∷ names)) e (contains_head x names))
-    (λ (rest : Contains (filter (is_not x) (different names)) name). contains_tail x names name (contains_in_different names name (contained_by_filter (is_not x) (different names) name rest)))
+    (λ (rest : Contains (filter (is_not x) (different names)) name). contains_tail x names name
+    (contains_in_different names name (contained_by_filter (is_not x) (different names) name rest)))
     (contains_cases x (filter (is_not x) (different names)) name c)

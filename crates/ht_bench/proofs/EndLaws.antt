@@ -60,24 +60,32 @@ first_cut (x ∷ names) name c =
     ⊎_elim
     (λ same. ([], names, ap (λ n. n ∷ names) same.1, λ n. contains_none name n))
     (λ other.
-    let later : Contains names name = ⊎_elim (λ (e : x ≡ name). absurd (other.1 e)) (λ (l : Contains names name). l) (contains_cases x names name c) in
+    let later : Contains names name = ⊎_elim (λ (e : x ≡ name). absurd (other.1 e)) (λ (l : Contains names name). l)
+    (contains_cases x names name c) in
     let r = first_cut names name later in
     (x ∷ r.0, r.1, ap (λ l. x ∷ l) r.2, λ n. ⊎_elim (λ (e : x ≡ name). other.1 e) r.3 (contains_cases x r.0 name n)))
     (name_cases x name)
 
 -- a name that is read from a table
-pub name_read : (texts : List (Bor (List ℕ))) (names : List Name) (i : ℕ) (text : Bor (List ℕ)) → texts_of texts ≡ names → i < length names → text ≡ get_or texts i text → text.now ≡ get_or names i []
+pub name_read : (texts : List (Bor (List ℕ))) (names : List Name) (i : ℕ) (text : Bor (List ℕ)) → texts_of texts ≡ names
+    → i < length names → text ≡ get_or texts i text → text.now ≡ get_or names i []
 name_read texts names i text are lt e =
     let within : i < length texts = omega (arith, lt, ap length are, length-texts_of texts) in
-    ap (λ (t : Bor (List ℕ)). t.now) e ∙ sym (text_at texts i text within) ∙ ap (λ l. get_or l i text.now) are ∙ sym (get_or_default names i [] text.now lt)
+    ap (λ (t : Bor (List ℕ)). t.now) e ∙ sym (text_at texts i text within) ∙ ap (λ l. get_or l i text.now) are ∙ sym
+    (get_or_default names i [] text.now lt)
 
 -- the first of some copies
-pub first_copy : (copies : List (Vec ℕ Global)) (first : Vec ℕ Global) (name : Name) → 0 < length copies → first ≡ get_or copies 0 first → name ≡ first.items → name ≡ get_or (texts_in copies) 0 []
+pub first_copy : (copies : List (Vec ℕ Global)) (first : Vec ℕ Global) (name : Name) → 0 < length copies → first
+    ≡ get_or copies 0 first → name ≡ first.items → name ≡ get_or (texts_in copies) 0 []
 first_copy copies first name some e same =
-    same ∙ ap (λ (v : Vec ℕ Global). v.items) e ∙ sym (get_or-map (λ (v : Vec ℕ Global). v.items) copies 0 first [] some)
+    same ∙ ap (λ (v : Vec ℕ Global). v.items) e ∙ sym
+    (get_or-map (λ (v : Vec ℕ Global). v.items) copies 0 first [] some)
 
-pub copied_names : (d : Draft) (texts all : List (Bor (List ℕ))) (nets ids : List NameId) (names : List Name) → names ≡ names_at (texts_of texts) ids → texts ≡ all → texts_of all ≡ d.names → ids ≡ nets → names ≡ map (draft_name d) nets
-copied_names d texts all nets ids names e lent are same = e ∙ ap (λ l. names_at l ids) (ap texts_of lent ∙ are) ∙ ap (map (draft_name d)) same
+pub copied_names : (d : Draft) (texts all : List (Bor (List ℕ))) (nets ids : List NameId) (names : List Name) → names
+    ≡ names_at (texts_of texts) ids → texts ≡ all → texts_of all ≡ d.names → ids ≡ nets → names
+    ≡ map (draft_name d) nets
+copied_names d texts all nets ids names e lent are same = e ∙ ap (λ l. names_at l ids) (ap texts_of lent ∙ are) ∙ ap
+    (map (draft_name d)) same
 
 module _ (text : List ℕ) (d : Draft) (is : IsRead text d) where
   -- ---- a net by its number
@@ -87,22 +95,27 @@ module _ (text : List ℕ) (d : Draft) (is : IsRead text d) where
     statements = is.statements;
     lines = is.read.lines;
     has = contains_in_different (mentions_of is.statements) (get_or d.names id.0 [])
-        (subst (λ l. Contains l (get_or d.names id.0 [])) is.draft.names (contained_name_at d.names id.0 (get_or d.names id.0 []) (known, refl)));
+        (subst (λ l. Contains l (get_or d.names id.0 [])) is.draft.names
+        (contained_name_at d.names id.0 (get_or d.names id.0 []) (known, refl)));
   }
 
   pub net_is_driven : (id : NameId) → IsName d id → IsDriven d id → HasNet text Driven (get_or d.names id.0 [])
   net_is_driven id known driven = record {
     statements = is.statements;
     lines = is.read.lines;
-    has = driven_is (mentions_of is.statements) is.statements d id (get_or d.names id.0 []) is.draft (known, refl) driven;
+    has = driven_is (mentions_of is.statements) is.statements d id (get_or d.names id.0 []) is.draft (known, refl)
+        driven;
   }
 
   pub all_driven : AllDriven d → AreDriven is.statements (mentions_of is.statements)
   all_driven all = all_from (Contains (driven_by is.statements)) (mentions_of is.statements) (λ name c.
-      let at = name_at_contained d.names name (subst (λ l. Contains l name) (sym is.draft.names) (contains_different (mentions_of is.statements) name c)) in
-      driven_is (mentions_of is.statements) is.statements d (record { 0 = at.0 }) name is.draft at.1 (all (record { 0 = at.0 }) at.1.0))
+      let at = name_at_contained d.names name
+      (subst (λ l. Contains l name) (sym is.draft.names) (contains_different (mentions_of is.statements) name c)) in
+      driven_is (mentions_of is.statements) is.statements d (record { 0 = at.0 }) name is.draft at.1
+      (all (record { 0 = at.0 }) at.1.0))
 
-  pub netlist_is : (circuit : Netlist) → AllDriven d → IsCircuit circuit → named_of circuit ≡ named_draft d → IsNetlistOf text circuit
+  pub netlist_is : (circuit : Netlist) → AllDriven d → IsCircuit circuit → named_of circuit ≡ named_draft d
+      → IsNetlistOf text circuit
   netlist_is circuit all is_circuit named = record {
     statements = is.statements;
     read = is.read;
@@ -115,34 +128,51 @@ module _ (text : List ℕ) (d : Draft) (is : IsRead text d) where
 
   module _ (id : NameId) (free : IsFirstFree d id) where
     -- a net that is mentioned before the first undriven one is driven
-    earlier_driven : (first more : List Name) → mentions_of is.statements ≡ first ++ more → ¬ Contains first (get_or d.names id.0 []) → (other : Name) → Contains first other → Contains (driven_by is.statements) other
+    earlier_driven : (first more : List Name) → mentions_of is.statements ≡ first ++ more
+        → ¬ Contains first (get_or d.names id.0 []) → (other : Name) → Contains first other
+        → Contains (driven_by is.statements) other
     earlier_driven first more cut absent other c =
         let on = different-append first more in
         let names : d.names ≡ different first ++ on.0 = is.draft.names ∙ ap different cut ∙ on.1 in
         let at = name_at_contained (different first) other (contains_different first other c) in
-        let here : IsNumberOf d.names (record { 0 = at.0 }) other = subst (λ l. IsNumberOf l (record { 0 = at.0 }) other) (sym names) (number_stays (different first) on.0 (record { 0 = at.0 }) other at.1) in
+        let here : IsNumberOf d.names (record { 0 = at.0 }) other = subst
+        (λ l. IsNumberOf l (record { 0 = at.0 }) other) (sym names)
+        (number_stays (different first) on.0 (record { 0 = at.0 }) other at.1) in
         let below : at.0 < id.0 =
         ⊎_elim
         (λ (lt : id.0 < length (different first)).
-        let same : get_or (different first) id.0 [] ≡ get_or d.names id.0 [] = sym (get_or_append_left (different first) on.0 [] id.0 lt) ∙ ap (λ l. get_or l id.0 []) (sym names) in
-        absurd (absent (contains_in_different first (get_or d.names id.0 []) (contained_name_at (different first) id.0 (get_or d.names id.0 []) (lt, same)))))
+        let same : get_or (different first) id.0 []
+        ≡ get_or d.names id.0 [] = sym (get_or_append_left (different first) on.0 [] id.0 lt) ∙ ap
+        (λ l. get_or l id.0 []) (sym names) in
+        absurd (absent (contains_in_different first (get_or d.names id.0 [])
+        (contained_name_at (different first) id.0 (get_or d.names id.0 []) (lt, same)))))
         (λ (ge : length (different first) ≤ id.0). omega (arith, ge, at.1.0))
         (cases_lt id.0 (length (different first))) in
-        driven_is (mentions_of is.statements) is.statements d (record { 0 = at.0 }) other is.draft here (free.2 (record { 0 = at.0 }) below)
+        driven_is (mentions_of is.statements) is.statements d (record { 0 = at.0 }) other is.draft here
+        (free.2 (record { 0 = at.0 }) below)
 
-    pub undriven_is : (number : ℕ) → IsFirstLine text Mentioned (get_or d.names id.0 []) number → IsUndriven text number (get_or d.names id.0 [])
+    pub undriven_is : (number : ℕ) → IsFirstLine text Mentioned (get_or d.names id.0 []) number
+        → IsUndriven text number (get_or d.names id.0 [])
     undriven_is number first =
-        let same : first.before ++ first.statement ∷ first.after ≡ is.statements = same_statements (first.before ++ first.statement ∷ first.after) is.statements (sym first.lines ∙ is.read.lines) in
+        let same : first.before ++ first.statement ∷ first.after
+        ≡ is.statements = same_statements (first.before ++ first.statement ∷ first.after) is.statements
+        (sym first.lines ∙ is.read.lines) in
         let cut = first_cut (names_in first.statement) (get_or d.names id.0 []) first.has in
-        let all : mentions_of is.statements ≡ mentions_of first.before ++ (names_in first.statement ++ mentions_of first.after) =
+        let all : mentions_of is.statements ≡ mentions_of first.before
+        ++ (names_in first.statement ++ mentions_of first.after) =
         ap mentions_of (sym same) ∙ flat_map-append names_in first.before (first.statement ∷ first.after) in
-        let through : mentions_of is.statements ≡ (mentions_of first.before ++ cut.0) ++ (get_or d.names id.0 [] ∷ (cut.1 ++ mentions_of first.after)) =
+        let through : mentions_of is.statements ≡ (mentions_of first.before ++ cut.0)
+        ++ (get_or d.names id.0 [] ∷ (cut.1 ++ mentions_of first.after)) =
         all ∙ ap (λ l. mentions_of first.before ++ (l ++ mentions_of first.after)) cut.2
-        ∙ ap (λ l. mentions_of first.before ++ l) (append_assoc cut.0 (get_or d.names id.0 [] ∷ cut.1) (mentions_of first.after))
-        ∙ sym (append_assoc (mentions_of first.before) cut.0 (get_or d.names id.0 [] ∷ (cut.1 ++ mentions_of first.after))) in
+        ∙ ap (λ l. mentions_of first.before ++ l)
+        (append_assoc cut.0 (get_or d.names id.0 [] ∷ cut.1) (mentions_of first.after))
+        ∙ sym (append_assoc (mentions_of first.before) cut.0
+        (get_or d.names id.0 [] ∷ (cut.1 ++ mentions_of first.after))) in
         let absent : ¬ Contains (mentions_of first.before ++ cut.0) (get_or d.names id.0 []) = λ c.
-        ⊎_elim first.earlier cut.3 (Contains-append_cases (mentions_of first.before) cut.0 (get_or d.names id.0 []) c) in
-        let driven = earlier_driven (mentions_of first.before ++ cut.0) (get_or d.names id.0 [] ∷ (cut.1 ++ mentions_of first.after)) through absent in
+        ⊎_elim first.earlier cut.3 (Contains-append_cases (mentions_of first.before) cut.0 (get_or d.names id.0 []) c)
+        in
+        let driven = earlier_driven (mentions_of first.before ++ cut.0)
+        (get_or d.names id.0 [] ∷ (cut.1 ++ mentions_of first.after)) through absent in
         record {
           statements = is.statements;
           read = is.read;
@@ -152,26 +182,33 @@ module _ (text : List ℕ) (d : Draft) (is : IsRead text d) where
             after = first.after;
             cut = sym same;
             is_number = first.is_number;
-            earlier = all_from (Contains (driven_by is.statements)) (mentions_of first.before) (λ other c. driven other (Contains-append_left (mentions_of first.before) cut.0 other c));
+            earlier = all_from (Contains (driven_by is.statements)) (mentions_of first.before)
+                (λ other c. driven other (Contains-append_left (mentions_of first.before) cut.0 other c));
             left = cut.0;
             right = cut.1;
             names = cut.2;
-            leftmost = all_from (Contains (driven_by is.statements)) cut.0 (λ other c. driven other (Contains-append_right (mentions_of first.before) cut.0 other c));
-            undriven = λ c. free.1 (is_driven (mentions_of is.statements) is.statements d id (get_or d.names id.0 []) is.draft (free.0, refl) c);
+            leftmost = all_from (Contains (driven_by is.statements)) cut.0
+                (λ other c. driven other (Contains-append_right (mentions_of first.before) cut.0 other c));
+            undriven = λ c. free.1
+                (is_driven (mentions_of is.statements) is.statements d id (get_or d.names id.0 []) is.draft
+                (free.0, refl) c);
           };
         }
 
   -- ---- the cycle
 
   place_is : (id : NameId) → IsName d id → place_of is.statements (get_or d.names id.0 []) ≡ id.0
-  place_is id known = ap (λ l. place_in l (get_or d.names id.0 [])) (sym is.draft.names) ∙ place_at d.names id.0 is.draft.names_differ known
+  place_is id known = ap (λ l. place_in l (get_or d.names id.0 [])) (sym is.draft.names) ∙ place_at d.names id.0
+      is.draft.names_differ known
 
   -- a number that feeds another is that of a name, and the name feeds the other name
   feeds_by_name : (a b : NameId) → FeedsName d a b → IsName d a × Feeds is.statements (draft_name d a) (draft_name d b)
   feeds_by_name a b feeds =
-      let gate = AllZip-right (IsGateOf d.names) d.gates (gates_of is.statements) (part_at d feeds.gate) is.draft.gates (at_place d.gates feeds.gate no_part feeds.is_gate) in
+      let gate = AllZip-right (IsGateOf d.names) d.gates (gates_of is.statements) (part_at d feeds.gate) is.draft.gates
+      (at_place d.gates feeds.gate no_part feeds.is_gate) in
       let arg = AllZip-right (IsNumberOf d.names) (part_at d feeds.gate).args gate.0.args a gate.1.args
-      (subst (Contains (part_at d feeds.gate).args) feeds.arg (at_place (part_at d feeds.gate).args feeds.pin no_name feeds.is_pin)) in (
+      (subst (Contains (part_at d feeds.gate).args) feeds.arg
+      (at_place (part_at d feeds.gate).args feeds.pin no_name feeds.is_pin)) in (
         arg.1.0,
         record {
           gate = gate.0;
@@ -185,70 +222,96 @@ module _ (text : List ℕ) (d : Draft) (is : IsRead text d) where
     pub known_net : (k : ℕ) → k < length nets → IsName d (get_or nets k no_name)
     known_net k lt =
         ⊎_elim
-        (λ (inner : k + 1 < length nets). (feeds_by_name (get_or nets k no_name) (get_or nets (k + 1) no_name) (cycle.next k inner)).0)
+        (λ (inner : k + 1 < length nets).
+        (feeds_by_name (get_or nets k no_name) (get_or nets (k + 1) no_name) (cycle.next k inner)).0)
         (λ (last : length nets ≤ k + 1).
         let e : length nets - 1 ≡ k = omega (arith, last, lt) in
-        subst (λ n. IsName d (get_or nets n no_name)) e (feeds_by_name (get_or nets (length nets - 1) no_name) (get_or nets 0 no_name) cycle.closes).0)
+        subst (λ n. IsName d (get_or nets n no_name)) e
+        (feeds_by_name (get_or nets (length nets - 1) no_name) (get_or nets 0 no_name) cycle.closes).0)
         (cases_lt (k + 1) (length nets))
 
-    pub known_nets : (ids : List NameId) (texts all : List (Bor (List ℕ))) → ids ≡ nets → texts ≡ all → texts_of all ≡ d.names → AreKnown (length texts) ids
+    pub known_nets : (ids : List NameId) (texts all : List (Bor (List ℕ))) → ids ≡ nets → texts ≡ all → texts_of all
+        ≡ d.names → AreKnown (length texts) ids
     known_nets ids texts all same lent are k other lt =
         let inner : k < length nets = omega (arith, lt, ap length same) in
-        let there : get_or ids k other ≡ get_or nets k no_name = ap (λ l. get_or l k other) same ∙ sym (get_or_default nets k no_name other inner) in
+        let there : get_or ids k other ≡ get_or nets k no_name = ap (λ l. get_or l k other) same ∙ sym
+        (get_or_default nets k no_name other inner) in
         let below : (get_or nets k no_name).0 < length d.names = known_net k inner in
         omega (arith, below, ap (λ (n : NameId). n.0) there, ap length are, length-texts_of all, ap length lent)
 
     pub cycle_is : BeginsWithLeast nets → IsCycle is.statements (map (draft_name d) nets)
     cycle_is least =
         let count : length (map (draft_name d) nets) ≡ length nets = length-map nets (draft_name d) in
-        let at : (k : ℕ) → k < length nets → get_or (map (draft_name d) nets) k [] ≡ draft_name d (get_or nets k no_name) = λ k lt. get_or-map (draft_name d) nets k no_name [] lt in
+        let at : (k : ℕ) → k < length nets → get_or (map (draft_name d) nets) k []
+        ≡ draft_name d (get_or nets k no_name) = λ k lt. get_or-map (draft_name d) nets k no_name [] lt in
         let some = cycle.some in
         record {
           some = omega (arith, count, some);
           distinct = λ j k less lt same.
               let inner : k < length nets = omega (arith, count, lt) in
               let before : j < length nets = omega (arith, less, inner) in
-              let texts : draft_name d (get_or nets j no_name) ≡ draft_name d (get_or nets k no_name) = sym (at j before) ∙ (same ∙ at k inner) in
+              let texts : draft_name d (get_or nets j no_name) ≡ draft_name d (get_or nets k no_name) = sym
+              (at j before) ∙ (same ∙ at k inner) in
               let numbers : (get_or nets j no_name).0 ≡ (get_or nets k no_name).0 =
-              sym (place_is (get_or nets j no_name) (known_net j before)) ∙ (ap (place_of is.statements) texts ∙ place_is (get_or nets k no_name) (known_net k inner)) in
+              sym (place_is (get_or nets j no_name) (known_net j before)) ∙
+              (ap (place_of is.statements) texts ∙ place_is (get_or nets k no_name) (known_net k inner)) in
               let named : ℕ → NameId = λ n. record { 0 = n } in
               cycle.distinct j k less inner (ap named numbers);
           next = λ k lt.
               let inner : k + 1 < length nets = omega (arith, count, lt) in
-              rw (at k (omega arith), at (k + 1) inner) (feeds_by_name (get_or nets k no_name) (get_or nets (k + 1) no_name) (cycle.next k inner)).1;
+              rw (at k (omega arith), at (k + 1) inner)
+              (feeds_by_name (get_or nets k no_name) (get_or nets (k + 1) no_name) (cycle.next k inner)).1;
           closes =
-              let last : get_or (map (draft_name d) nets) (length (map (draft_name d) nets) - 1) [] ≡ draft_name d (get_or nets (length nets - 1) no_name) =
+              let last : get_or (map (draft_name d) nets) (length (map (draft_name d) nets) - 1) []
+              ≡ draft_name d (get_or nets (length nets - 1) no_name) =
               ap (λ (n : ℕ). get_or (map (draft_name d) nets) (n - 1) []) count ∙ at (length nets - 1) (omega arith) in
-              rw (last, at 0 some) (feeds_by_name (get_or nets (length nets - 1) no_name) (get_or nets 0 no_name) cycle.closes).1;
+              rw (last, at 0 some)
+              (feeds_by_name (get_or nets (length nets - 1) no_name) (get_or nets 0 no_name) cycle.closes).1;
           least = λ k lt.
               let inner : k < length nets = omega (arith, count, lt) in
-              let first = ap (place_of is.statements) (at 0 some) ∙ place_is (get_or nets 0 no_name) (known_net 0 some) in
-              let other = ap (place_of is.statements) (at k inner) ∙ place_is (get_or nets k no_name) (known_net k inner) in
+              let first = ap (place_of is.statements) (at 0 some) ∙ place_is (get_or nets 0 no_name) (known_net 0 some)
+              in
+              let other = ap (place_of is.statements) (at k inner) ∙ place_is (get_or nets k no_name)
+              (known_net k inner) in
               omega (arith, first, other, least k inner);
         }
 
   only_driven : (s : Statement) (name : Name) → Contains (driven_in s) name → driven_in s ≡ name ∷ []
   only_driven Nothing name c = absurd (contains_none name c)
-  only_driven (Input net) name c = ⊎_elim (λ (e : net ≡ name). ap (λ n. n ∷ []) e) (λ (l : Contains [] name). absurd (contains_none name l)) (contains_cases net [] name c)
+  only_driven (Input net) name c = ⊎_elim (λ (e : net ≡ name). ap (λ n. n ∷ []) e)
+      (λ (l : Contains [] name). absurd (contains_none name l)) (contains_cases net [] name c)
   only_driven (Output net) name c = absurd (contains_none name c)
-  only_driven (Dff net data_pin) name c = ⊎_elim (λ (e : net ≡ name). ap (λ n. n ∷ []) e) (λ (l : Contains [] name). absurd (contains_none name l)) (contains_cases net [] name c)
-  only_driven (Gate net kind args) name c = ⊎_elim (λ (e : net ≡ name). ap (λ n. n ∷ []) e) (λ (l : Contains [] name). absurd (contains_none name l)) (contains_cases net [] name c)
+  only_driven (Dff net data_pin) name c = ⊎_elim (λ (e : net ≡ name). ap (λ n. n ∷ []) e)
+      (λ (l : Contains [] name). absurd (contains_none name l)) (contains_cases net [] name c)
+  only_driven (Gate net kind args) name c = ⊎_elim (λ (e : net ≡ name). ap (λ n. n ∷ []) e)
+      (λ (l : Contains [] name). absurd (contains_none name l)) (contains_cases net [] name c)
 
-  pub driver_line_is : (name : Name) (number : ℕ) → IsFirstLine text Driven name number → IsDriverLine is.statements name number
+  pub driver_line_is : (name : Name) (number : ℕ) → IsFirstLine text Driven name number
+      → IsDriverLine is.statements name number
   driver_line_is name number first = record {
     before = first.before;
     statement = first.statement;
     after = first.after;
-    cut = sym (same_statements (first.before ++ first.statement ∷ first.after) is.statements (sym first.lines ∙ is.read.lines));
+    cut = sym (same_statements (first.before ++ first.statement ∷ first.after) is.statements
+        (sym first.lines ∙ is.read.lines));
     is_number = first.is_number;
     drives = only_driven first.statement name first.has;
   }
 
   -- copies of the cycle's names, of which the first is looked for
-  module _ (nets : List NameId) (cycle : IsNameCycle d nets) (copies : List (Vec ℕ Global)) (first : Vec ℕ Global) (name : Name)
-      (all : AllDriven d) (least : BeginsWithLeast nets) (names : texts_in copies ≡ map (draft_name d) nets) (e : first ≡ get_or copies 0 first) (same : name ≡ first.items) where
+  module _ (nets : List NameId) (cycle : IsNameCycle d nets) (copies : List (Vec ℕ Global)) (first : Vec ℕ Global)
+      (name : Name)
+      (all : AllDriven d) (least : BeginsWithLeast nets) (names : texts_in copies ≡ map (draft_name d) nets)
+      (e : first ≡ get_or copies 0 first) (same : name ≡ first.items) where
     some_copies : 0 < length copies
-    some_copies = omega (arith, cycle.some, ap length names, length-map nets (draft_name d), length-map copies (λ (v : Vec ℕ Global). v.items))
+    some_copies = omega (
+      arith,
+      cycle.some,
+      ap length names,
+      length-map nets (draft_name d),
+      length-map copies
+          (λ (v : Vec ℕ Global). v.items),
+    )
 
     name_is_first : name ≡ get_or (texts_in copies) 0 []
     name_is_first = first_copy copies first name some_copies e same
@@ -259,7 +322,8 @@ module _ (text : List ℕ) (d : Draft) (is : IsRead text d) where
     pub first_is_driven : HasNet text Driven name
     first_is_driven =
         let known = known_net nets cycle 0 cycle.some in
-        subst (HasNet text Driven) (sym name_is) (net_is_driven (get_or nets 0 no_name) known (all (get_or nets 0 no_name) known))
+        subst (HasNet text Driven) (sym name_is)
+        (net_is_driven (get_or nets 0 no_name) known (all (get_or nets 0 no_name) known))
 
     pub loop_found : (number : ℕ) → IsFirstLine text Driven name number → IsLoop text number (texts_in copies)
     loop_found number line = record {
@@ -267,5 +331,6 @@ module _ (text : List ℕ) (d : Draft) (is : IsRead text d) where
       read = is.read;
       driven = all_driven all;
       is_cycle = subst (IsCycle is.statements) (sym names) (cycle_is nets cycle least);
-      line = driver_line_is (get_or (texts_in copies) 0 []) number (subst (λ n. IsFirstLine text Driven n number) name_is_first line);
+      line = driver_line_is (get_or (texts_in copies) 0 []) number
+          (subst (λ n. IsFirstLine text Driven n number) name_is_first line);
     }

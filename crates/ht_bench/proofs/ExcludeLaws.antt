@@ -23,7 +23,8 @@ use Rattle.ht_bench.proofs.EndLaws.{same_statements}
 use Rattle.ht_bench.proofs.CycleLaws.{no_circuit}
 
 -- readings of which some begin with what these statements state
-pub begins : (before : List Statement) (reading : Reading) (after : List Reading) (statements : List Statement) → map States before ++ reading ∷ after ≡ map States statements
+pub begins : (before : List Statement) (reading : Reading) (after : List Reading) (statements : List Statement)
+    → map States before ++ reading ∷ after ≡ map States statements
     → (s : Statement) × (rest : List Statement) × (statements ≡ before ++ s ∷ rest) × (reading ≡ States s)
 begins [] reading after statements e = let r = first_stated reading after statements e in (r.0, r.1, r.2, r.3)
 begins (b ∷ before) reading after statements e =
@@ -33,58 +34,84 @@ begins (b ∷ before) reading after statements e =
     (on.0, on.1, r.2 ∙ ap (λ s. s ∷ r.1) (sym same) ∙ ap (λ l. b ∷ l) on.2, on.3)
 
 -- where a cause goes against acceptance, a text that is refused for it is no netlist
-module _ (text : List ℕ) (IsCause : List Statement → Reading → Type 0) (against : (before : List Statement) (s : Statement) → IsCause before (States s) → ¬ IsAccepted before s) where
-  refused_is_no_netlist : (number : ℕ) → IsFirstRefused text number IsCause → (circuit : Netlist) → ¬ IsNetlistOf text circuit
+module _ (text : List ℕ) (IsCause : List Statement → Reading → Type 0)
+    (against : (before : List Statement) (s : Statement) → IsCause before (States s) → ¬ IsAccepted before s) where
+  refused_is_no_netlist : (number : ℕ) → IsFirstRefused text number IsCause → (circuit : Netlist)
+      → ¬ IsNetlistOf text circuit
   refused_is_no_netlist number first circuit is =
       let r = begins first.before first.reading first.after is.statements (sym first.cut ∙ is.read.lines) in
-      against first.before r.0 (subst (IsCause first.before) r.3 first.cause) (is.read.accepted first.before r.1 r.0 r.2)
+      against first.before r.0 (subst (IsCause first.before) r.3 first.cause)
+      (is.read.accepted first.before r.1 r.0 r.2)
 
 abbrev pub is_stated : Reading → Bool
 is_stated (States statement) = true
 is_stated (IsRefused refusal) = false
 
-pub unread_against : (refusal : LineRefusal) (before : List Statement) (s : Statement) → IsRefusedAlone refusal before (States s) → ¬ IsAccepted before s
+pub unread_against : (refusal : LineRefusal) (before : List Statement) (s : Statement)
+    → IsRefusedAlone refusal before (States s) → ¬ IsAccepted before s
 unread_against refusal before s e accepted = false≢true (sym (ap is_stated e))
 
-pub second_against : (name : Name) (before : List Statement) (s : Statement) → IsSecondDriver name before (States s) → ¬ IsAccepted before s
+pub second_against : (name : Name) (before : List Statement) (s : Statement) → IsSecondDriver name before (States s)
+    → ¬ IsAccepted before s
 second_against name before s second accepted =
-    let drives : driven_in s ≡ name ∷ [] = subst (λ t. driven_in t ≡ name ∷ []) (sym (states_one s second.statement second.states)) second.drives in
-    All-head (λ n. ¬ Contains (driven_by before) n) name [] (subst (All (λ n. ¬ Contains (driven_by before) n)) drives accepted.new_driver) second.driven
+    let drives : driven_in s ≡ name ∷ [] = subst (λ t. driven_in t ≡ name ∷ [])
+    (sym (states_one s second.statement second.states)) second.drives in
+    All-head (λ n. ¬ Contains (driven_by before) n) name []
+    (subst (All (λ n. ¬ Contains (driven_by before) n)) drives accepted.new_driver) second.driven
 
-passed_limit : (what : Limit) (statements : List Statement) → IsFirstPassed statements what → ¬ IsWithinLimits statements
+passed_limit : (what : Limit) (statements : List Statement) → IsFirstPassed statements what
+    → ¬ IsWithinLimits statements
 passed_limit Nets statements passed within = omega (arith, passed, within.nets)
 passed_limit Pins statements passed within = omega (arith, passed.1, within.pins)
 passed_limit Inputs statements passed within = omega (arith, passed.2, within.inputs)
 passed_limit Dffs statements passed within = omega (arith, passed.3, within.dffs)
 
-pub limit_against : (what : Limit) (before : List Statement) (s : Statement) → PassesLimit what before (States s) → ¬ IsAccepted before s
+pub limit_against : (what : Limit) (before : List Statement) (s : Statement) → PassesLimit what before (States s)
+    → ¬ IsAccepted before s
 limit_against what before s passes accepted =
-    passed_limit what (before ++ s ∷ []) (subst (λ t. IsFirstPassed (before ++ t ∷ []) what) (sym (states_one s passes.statement passes.states)) passes.passed) accepted.limits
+    passed_limit what (before ++ s ∷ [])
+    (subst (λ t. IsFirstPassed (before ++ t ∷ []) what) (sym (states_one s passes.statement passes.states))
+    passes.passed) accepted.limits
 
-undriven_is_no_netlist : (text : List ℕ) (number : ℕ) (name : Name) → IsUndriven text number name → (circuit : Netlist) → ¬ IsNetlistOf text circuit
+undriven_is_no_netlist : (text : List ℕ) (number : ℕ) (name : Name) → IsUndriven text number name → (circuit : Netlist)
+    → ¬ IsNetlistOf text circuit
 undriven_is_no_netlist text number name u circuit is =
-    let same : is.statements ≡ u.statements = same_statements is.statements u.statements (sym is.read.lines ∙ u.read.lines) in
-    let all : AreDriven u.statements (mentions_of u.statements) = subst (λ l. AreDriven l (mentions_of l)) same is.driven in
+    let same : is.statements ≡ u.statements = same_statements is.statements u.statements
+    (sym is.read.lines ∙ u.read.lines) in
+    let all : AreDriven u.statements (mentions_of u.statements) = subst (λ l. AreDriven l (mentions_of l)) same
+    is.driven in
     let f = u.first in
-    let on_line : Contains (names_in f.statement) name = subst (λ l. Contains l name) (sym f.names) (Contains-append_right f.left (name ∷ f.right) name (contains_head name f.right)) in
-    let mentions : mentions_of u.statements ≡ mentions_of f.before ++ (names_in f.statement ++ mentions_of f.after) = ap mentions_of f.cut ∙ flat_map-append names_in f.before (f.statement ∷ f.after) in
+    let on_line : Contains (names_in f.statement) name = subst (λ l. Contains l name) (sym f.names)
+    (Contains-append_right f.left (name ∷ f.right) name (contains_head name f.right)) in
+    let mentions : mentions_of u.statements ≡ mentions_of f.before ++ (names_in f.statement ++ mentions_of f.after) = ap
+    mentions_of f.cut ∙ flat_map-append names_in f.before (f.statement ∷ f.after) in
     let mentioned : Contains (mentions_of u.statements) name =
     subst (λ l. Contains l name) (sym mentions)
-    (Contains-append_right (mentions_of f.before) (names_in f.statement ++ mentions_of f.after) name (Contains-append_left (names_in f.statement) (mentions_of f.after) name on_line)) in
+    (Contains-append_right (mentions_of f.before) (names_in f.statement ++ mentions_of f.after) name
+    (Contains-append_left (names_in f.statement) (mentions_of f.after) name on_line)) in
     f.undriven (All-contains (Contains (driven_by u.statements)) (mentions_of u.statements) name all mentioned)
 
-loop_is_no_netlist : (text : List ℕ) (number : ℕ) (cycle : List Name) → IsLoop text number cycle → (circuit : Netlist) → ¬ IsNetlistOf text circuit
+loop_is_no_netlist : (text : List ℕ) (number : ℕ) (cycle : List Name) → IsLoop text number cycle → (circuit : Netlist)
+    → ¬ IsNetlistOf text circuit
 loop_is_no_netlist text number cycle l circuit is =
-    let same : l.statements ≡ is.statements = same_statements l.statements is.statements (sym l.read.lines ∙ is.read.lines) in
-    no_circuit circuit is.is_circuit l.statements (is.named ∙ sym (ap Rattle.ht_bench.specs.Contents.named_of_statements same)) cycle l.is_cycle
+    let same : l.statements ≡ is.statements = same_statements l.statements is.statements
+    (sym l.read.lines ∙ is.read.lines) in
+    no_circuit circuit is.is_circuit l.statements
+    (is.named ∙ sym (ap Rattle.ht_bench.specs.Contents.named_of_statements same)) cycle l.is_cycle
 
 pub refused_is_of_no_circuit : (text : List ℕ) (error : BenchError) → Refuses text error → IsOfNoCircuit text error
-refused_is_of_no_circuit text (BadLine line) refused = refused_is_no_netlist text (IsRefusedAlone _) (unread_against _) line refused
-refused_is_of_no_circuit text (BadName line) refused = refused_is_no_netlist text (IsRefusedAlone _) (unread_against _) line refused
-refused_is_of_no_circuit text (BadKind line) refused = refused_is_no_netlist text (IsRefusedAlone _) (unread_against _) line refused
-refused_is_of_no_circuit text (BadCount line) refused = refused_is_no_netlist text (IsRefusedAlone _) (unread_against _) line refused
-refused_is_of_no_circuit text (Twice line name) refused = refused_is_no_netlist text (IsSecondDriver name.items) (second_against name.items) line refused
-refused_is_of_no_circuit text (TooMany line what) refused = refused_is_no_netlist text (PassesLimit what) (limit_against what) line refused
+refused_is_of_no_circuit text (BadLine line) refused = refused_is_no_netlist text (IsRefusedAlone _) (unread_against _)
+    line refused
+refused_is_of_no_circuit text (BadName line) refused = refused_is_no_netlist text (IsRefusedAlone _) (unread_against _)
+    line refused
+refused_is_of_no_circuit text (BadKind line) refused = refused_is_no_netlist text (IsRefusedAlone _) (unread_against _)
+    line refused
+refused_is_of_no_circuit text (BadCount line) refused = refused_is_no_netlist text (IsRefusedAlone _) (unread_against _)
+    line refused
+refused_is_of_no_circuit text (Twice line name) refused = refused_is_no_netlist text (IsSecondDriver name.items)
+    (second_against name.items) line refused
+refused_is_of_no_circuit text (TooMany line what) refused = refused_is_no_netlist text (PassesLimit what)
+    (limit_against what) line refused
 refused_is_of_no_circuit text (Undriven line name) refused = undriven_is_no_netlist text line name.items refused
 refused_is_of_no_circuit text (Loop line names) refused = loop_is_no_netlist text line (texts_in names.items) refused
 refused_is_of_no_circuit text NoMemory refused = tt

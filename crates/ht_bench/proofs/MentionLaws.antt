@@ -17,16 +17,21 @@ use Rattle.ht_bench.proofs.ListLaws.{AllZip-weaker}
 use Rattle.ht_bench.proofs.DifferentLaws.{different-push, new_or_contained, contains_not_new}
 
 -- a longer list of names keeps the numbers
-pub number_stays : (names more : List Name) (id : NameId) (name : Name) → IsNumberOf names id name → IsNumberOf (names ++ more) id name
-number_stays names more id name at = (omega (arith, at.0, length-append names more), get_or_append_left names more [] id.0 at.0 ∙ at.1)
+pub number_stays : (names more : List Name) (id : NameId) (name : Name) → IsNumberOf names id name
+    → IsNumberOf (names ++ more) id name
+number_stays names more id name at =
+    (omega (arith, at.0, length-append names more), get_or_append_left names more [] id.0 at.0 ∙ at.1)
 
 abbrev pub KeepsNumbers : List Name → List Name → Type 0
 KeepsNumbers names new_names = (id : NameId) (name : Name) → IsNumberOf names id name → IsNumberOf new_names id name
 
-dff_stays : (names new_names : List Name) → KeepsNumbers names new_names → (part : DffPart) (dff : NamedDff) → IsDffOf names part dff → IsDffOf new_names part dff
-dff_stays names new_names keeps part dff is = record { out = keeps part.out dff.out is.out; data_pin = keeps part.data_pin dff.data_pin is.data_pin }
+dff_stays : (names new_names : List Name) → KeepsNumbers names new_names → (part : DffPart) (dff : NamedDff)
+    → IsDffOf names part dff → IsDffOf new_names part dff
+dff_stays names new_names keeps part dff is = record
+    { out = keeps part.out dff.out is.out; data_pin = keeps part.data_pin dff.data_pin is.data_pin }
 
-gate_stays : (names new_names : List Name) → KeepsNumbers names new_names → (part : GatePart) (gate : NamedGate) → IsGateOf names part gate → IsGateOf new_names part gate
+gate_stays : (names new_names : List Name) → KeepsNumbers names new_names → (part : GatePart) (gate : NamedGate)
+    → IsGateOf names part gate → IsGateOf new_names part gate
 gate_stays names new_names keeps part gate is = record {
   kind = is.kind;
   out = keeps part.out gate.out is.out;
@@ -35,7 +40,8 @@ gate_stays names new_names keeps part gate is = record {
 
 -- a draft with other names that keep the numbers
 pub with_other_names : (mentioned more : List Name) (statements : List Statement) (d : Draft) (names : List Name)
-    → IsDraftWith mentioned statements d → names ≡ different more → NamesDiffer names → KeepsNumbers d.names names → IsDraftWith more statements (record d { names = names })
+    → IsDraftWith mentioned statements d → names ≡ different more → NamesDiffer names → KeepsNumbers d.names names
+    → IsDraftWith more statements (record d { names = names })
 with_other_names mentioned more statements d names is e differ keeps = record {
   names = e;
   names_differ = differ;
@@ -59,56 +65,75 @@ module _ (d new : Draft) (name : Name)
   net_keeps : new ≡ record d { names = new.names }
   net_keeps =
       ⊎_elim (λ (e : new ≡ d). e ∙ ap (λ (x : Draft). record d { names = x.names }) (sym e))
-      (λ (e : new ≡ record d { names = d.names ++ name ∷ [] }). e ∙ ap (λ (x : Draft). record d { names = x.names }) (sym e)) net_cases
+      (λ (e : new ≡ record d { names = d.names ++ name ∷ [] }). e ∙ ap (λ (x : Draft). record d { names = x.names })
+      (sym e)) net_cases
 
   net_grows : KeepsNumbers d.names new.names
   net_grows id other at =
       ⊎_elim (λ (e : new ≡ d). subst (λ (x : Draft). IsNumberOf x.names id other) (sym e) at)
-      (λ (e : new ≡ record d { names = d.names ++ name ∷ [] }). subst (λ (x : Draft). IsNumberOf x.names id other) (sym e) (number_stays d.names (name ∷ []) id other at)) net_cases
+      (λ (e : new ≡ record d { names = d.names ++ name ∷ [] }). subst (λ (x : Draft). IsNumberOf x.names id other)
+      (sym e) (number_stays d.names (name ∷ []) id other at)) net_cases
 
-  net_with_name : IsDraft new → (mentioned : List Name) (statements : List Statement) → IsDraftWith mentioned statements d → IsDraftWith (mentioned ++ name ∷ []) statements new
+  net_with_name : IsDraft new → (mentioned : List Name) (statements : List Statement)
+      → IsDraftWith mentioned statements d → IsDraftWith (mentioned ++ name ∷ []) statements new
   net_with_name is_draft mentioned statements is =
       ⊎_elim
       (λ (old : Contains (different mentioned) name × (different (mentioned ++ name ∷ []) ≡ different mentioned)).
       let e : new ≡ d = known (contains_not_new d.names name (subst (λ l. Contains l name) (sym is.names) old.0)) in
       subst (IsDraftWith (mentioned ++ name ∷ []) statements) (sym e)
-      (with_other_names mentioned (mentioned ++ name ∷ []) statements d d.names is (is.names ∙ sym old.1) is.names_differ (λ id other at. at)))
-      (λ (fresh : IsNewName (different mentioned) name × (different (mentioned ++ name ∷ []) ≡ different mentioned ++ name ∷ [])).
-      let e : new ≡ record d { names = d.names ++ name ∷ [] } = added (subst (λ l. IsNewName l name) (sym is.names) fresh.0) in
+      (with_other_names mentioned (mentioned ++ name ∷ []) statements d d.names is (is.names ∙ sym old.1)
+      is.names_differ (λ id other at. at)))
+      (λ (fresh : IsNewName (different mentioned) name
+      × (different (mentioned ++ name ∷ []) ≡ different mentioned ++ name ∷ [])).
+      let e : new ≡ record d { names = d.names ++ name ∷ [] } = added
+      (subst (λ l. IsNewName l name) (sym is.names) fresh.0) in
       subst (IsDraftWith (mentioned ++ name ∷ []) statements) (sym e)
-      (with_other_names mentioned (mentioned ++ name ∷ []) statements d (d.names ++ name ∷ []) is (ap (λ l. l ++ name ∷ []) is.names ∙ sym fresh.1) (subst (λ (x : Draft). NamesDiffer x.names) e is_draft.names_differ) (number_stays d.names (name ∷ []))))
+      (with_other_names mentioned (mentioned ++ name ∷ []) statements d (d.names ++ name ∷ []) is
+      (ap (λ l. l ++ name ∷ []) is.names ∙ sym fresh.1)
+      (subst (λ (x : Draft). NamesDiffer x.names) e is_draft.names_differ) (number_stays d.names (name ∷ []))))
       (different-push mentioned name)
 
   pub net_mentions : IsDraft new → Mentions d (name ∷ []) new
-  net_mentions is_draft = record { with_names = net_with_name is_draft; keeps = net_keeps; grows = net_grows; is_draft = is_draft }
+  net_mentions is_draft = record {
+    with_names = net_with_name is_draft;
+    keeps = net_keeps;
+    grows = net_grows;
+    is_draft = is_draft;
+  }
 
 -- names that differ have one number each
-pub one_number : (names : List Name) (a b : NameId) (name : Name) → NamesDiffer names → IsNumberOf names a name → IsNumberOf names b name → a ≡ b
+pub one_number : (names : List Name) (a b : NameId) (name : Name) → NamesDiffer names → IsNumberOf names a name
+    → IsNumberOf names b name → a ≡ b
 one_number names a b name differ at_a at_b =
     ⊎_elim
     (λ (lt : a.0 < b.0). absurd (differ a.0 b.0 lt at_b.0 (at_a.1 ∙ sym at_b.1)))
     (λ ge.
     ⊎_elim
     (λ (lt : b.0 < a.0). absurd (differ b.0 a.0 lt at_a.0 (at_b.1 ∙ sym at_a.1)))
-    (λ le. let number : ℕ → NameId = λ n. record { 0 = n } in let e : a.0 ≡ b.0 = omega arith in ap number e) (cases_lt b.0 a.0))
+    (λ le. let number : ℕ → NameId = λ n. record { 0 = n } in let e : a.0 ≡ b.0 = omega arith in ap number e)
+    (cases_lt b.0 a.0))
     (cases_lt a.0 b.0)
 
 pub driven_is : (mentioned : List Name) (statements : List Statement) (d : Draft) (id : NameId) (name : Name)
-    → IsDraftWith mentioned statements d → IsNumberOf d.names id name → IsDriven d id → Contains (driven_by statements) name
+    → IsDraftWith mentioned statements d → IsNumberOf d.names id name → IsDriven d id
+    → Contains (driven_by statements) name
 driven_is mentioned statements d id name is at driven =
     let r = is.drives id driven in
     let same : r.0 ≡ name = sym r.1.1 ∙ at.1 in
     subst (Contains (driven_by statements)) same r.2
 
 pub is_driven : (mentioned : List Name) (statements : List Statement) (d : Draft) (id : NameId) (name : Name)
-    → IsDraftWith mentioned statements d → IsNumberOf d.names id name → Contains (driven_by statements) name → IsDriven d id
+    → IsDraftWith mentioned statements d → IsNumberOf d.names id name → Contains (driven_by statements) name
+    → IsDriven d id
 is_driven mentioned statements d id name is at contains =
     let r = is.driven name contains in
     subst (IsDriven d) (one_number d.names r.0 id name is.names_differ r.2 at) r.1
 
 -- the same of lists of names
-pub drivers_contained : (mentioned : List Name) (statements : List Statement) (d : Draft) → IsDraftWith mentioned statements d
-    → (ids : List NameId) (names : List Name) → AllZip (IsNumberOf d.names) ids names → All (IsDriven d) ids → All (Contains (driven_by statements)) names
+pub drivers_contained : (mentioned : List Name) (statements : List Statement) (d : Draft)
+    → IsDraftWith mentioned statements d
+    → (ids : List NameId) (names : List Name) → AllZip (IsNumberOf d.names) ids names → All (IsDriven d) ids
+    → All (Contains (driven_by statements)) names
 drivers_contained mentioned statements d is [] [] h driven = All-nil (Contains (driven_by statements))
 drivers_contained mentioned statements d is [] (y ∷ ys) h driven = absurd h
 drivers_contained mentioned statements d is (x ∷ xs) [] h driven = absurd h
@@ -117,8 +142,10 @@ drivers_contained mentioned statements d is (x ∷ xs) (y ∷ ys) h driven =
     (driven_is mentioned statements d x y is h.0 (All-head (IsDriven d) x xs driven))
     (drivers_contained mentioned statements d is xs ys h.1 (All-tail (IsDriven d) x xs driven))
 
-pub contained_drivers : (mentioned : List Name) (statements : List Statement) (d : Draft) → IsDraftWith mentioned statements d
-    → (ids : List NameId) (names : List Name) → AllZip (IsNumberOf d.names) ids names → All (Contains (driven_by statements)) names → All (IsDriven d) ids
+pub contained_drivers : (mentioned : List Name) (statements : List Statement) (d : Draft)
+    → IsDraftWith mentioned statements d
+    → (ids : List NameId) (names : List Name) → AllZip (IsNumberOf d.names) ids names
+    → All (Contains (driven_by statements)) names → All (IsDriven d) ids
 contained_drivers mentioned statements d is [] [] h contained = All-nil (IsDriven d)
 contained_drivers mentioned statements d is [] (y ∷ ys) h contained = absurd h
 contained_drivers mentioned statements d is (x ∷ xs) [] h contained = absurd h

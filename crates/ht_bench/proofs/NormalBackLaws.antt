@@ -1,4 +1,5 @@
--- What is read has names of the format, so its normal text is read as the same circuit, and is refused for want of memory alone.
+-- What is read has names of the format, so its normal text is read as the same circuit, and is refused for want of
+-- memory alone.
 use Rattle.std.proofs.Common.{◌≡◌, ℕ, List, [], ◌∷◌, ◌++◌, true, map, refl, sym, ap, subst, ◌∙◌}
 use Rattle.std.specs.List.{All}
 use Rattle.std.proofs.lemmas.List.Elements.{All-nil, All-cons, All-head, All-append, All-map, All-weaker}
@@ -25,7 +26,8 @@ use Rattle.ht_bench.proofs.OneLaws.{one_circuit}
 abbrev IsGood : Name → Type 0
 IsGood name = is_name name ≡ true
 
-can_be_stated : (lines : List (List ℕ)) (statements : List Statement) → map reading_of lines ≡ map States statements → All CanBeStated statements
+can_be_stated : (lines : List (List ℕ)) (statements : List Statement) → map reading_of lines ≡ map States statements
+    → All CanBeStated statements
 can_be_stated lines [] read = All-nil CanBeStated
 can_be_stated [] (s ∷ statements) read = absurd (cc)
 can_be_stated (line ∷ lines) (s ∷ statements) read =
@@ -47,7 +49,8 @@ dffs_are_named : (s : Statement) → AreNames (names_in s) → All DffIsNamed (d
 dffs_are_named Nothing are = All-nil DffIsNamed
 dffs_are_named (Input name) are = All-nil DffIsNamed
 dffs_are_named (Output name) are = All-nil DffIsNamed
-dffs_are_named (Dff out data_pin) are = All-cons DffIsNamed (record { out = out; data_pin = data_pin }) [] (All-head IsGood out (data_pin ∷ []) are) (All-nil DffIsNamed)
+dffs_are_named (Dff out data_pin) are = All-cons DffIsNamed (record { out = out; data_pin = data_pin }) []
+    (All-head IsGood out (data_pin ∷ []) are) (All-nil DffIsNamed)
 dffs_are_named (Gate out kind args) are = All-nil DffIsNamed
 
 abbrev GateIsNamed : NamedGate → Type 0
@@ -58,7 +61,8 @@ gates_are_named Nothing are = All-nil GateIsNamed
 gates_are_named (Input name) are = All-nil GateIsNamed
 gates_are_named (Output name) are = All-nil GateIsNamed
 gates_are_named (Dff out data_pin) are = All-nil GateIsNamed
-gates_are_named (Gate out kind args) are = All-cons GateIsNamed (record { kind = kind; out = out; args = args }) [] (All-head IsGood out args are) (All-nil GateIsNamed)
+gates_are_named (Gate out kind args) are = All-cons GateIsNamed (record { kind = kind; out = out; args = args }) []
+    (All-head IsGood out args are) (All-nil GateIsNamed)
 
 -- the names of all nets, from what a circuit says
 abbrev all_names : NamedNetlist → List Name
@@ -67,24 +71,31 @@ all_names n = (n.inputs ++ map (λ (d : NamedDff). d.out) n.dffs) ++ map (λ (g 
 names_are : (c : Netlist) → IsCircuit c → all_names (named_of c) ≡ c.names
 names_are c is = sym (driven_are (named_of c)) ∙ driven_are_names c is
 
-driven_are_good : (statements : List Statement) → All (λ s. AreNames (names_in s)) statements → AreNames (all_names (named_of_statements statements))
+driven_are_good : (statements : List Statement) → All (λ s. AreNames (names_in s)) statements
+    → AreNames (all_names (named_of_statements statements))
 driven_are_good statements are =
     let inputs = inputs_of statements in
     let dffs = dffs_of statements in
     let gates = gates_of statements in
-    let good_inputs : AreNames inputs = All-flat_map IsGood inputs_in statements (All-weaker (λ s. AreNames (names_in s)) (λ s. AreNames (inputs_in s)) inputs_are_names statements are) in
-    let good_dffs : All DffIsNamed dffs = All-flat_map DffIsNamed dffs_in statements (All-weaker (λ s. AreNames (names_in s)) (λ s. All DffIsNamed (dffs_in s)) dffs_are_named statements are) in
-    let good_gates : All GateIsNamed gates = All-flat_map GateIsNamed gates_in statements (All-weaker (λ s. AreNames (names_in s)) (λ s. All GateIsNamed (gates_in s)) gates_are_named statements are) in
+    let good_inputs : AreNames inputs = All-flat_map IsGood inputs_in statements
+    (All-weaker (λ s. AreNames (names_in s)) (λ s. AreNames (inputs_in s)) inputs_are_names statements are) in
+    let good_dffs : All DffIsNamed dffs = All-flat_map DffIsNamed dffs_in statements
+    (All-weaker (λ s. AreNames (names_in s)) (λ s. All DffIsNamed (dffs_in s)) dffs_are_named statements are) in
+    let good_gates : All GateIsNamed gates = All-flat_map GateIsNamed gates_in statements
+    (All-weaker (λ s. AreNames (names_in s)) (λ s. All GateIsNamed (gates_in s)) gates_are_named statements are) in
     All-append IsGood (inputs ++ map (λ (d : NamedDff). d.out) dffs) (map (λ (g : NamedGate). g.out) gates)
-    (All-append IsGood inputs (map (λ (d : NamedDff). d.out) dffs) good_inputs (All-map IsGood (λ (d : NamedDff). d.out) dffs good_dffs))
+    (All-append IsGood inputs (map (λ (d : NamedDff). d.out) dffs) good_inputs
+    (All-map IsGood (λ (d : NamedDff). d.out) dffs good_dffs))
     (All-map IsGood (λ (g : NamedGate). g.out) gates good_gates)
 
 pub names_were_read : (text : List ℕ) (c : Netlist) → IsNetlistOf text c → HasFormatNames c
 names_were_read text c is =
     let can = can_be_stated (lines_of text) is.statements is.read.lines in
     let are : All (λ s. AreNames (names_in s)) is.statements =
-    All-weaker CanBeStated (λ s. AreNames (names_in s)) (λ s stated. all_from_test is_name IsGood (λ name yes. yes) (names_in s) stated.names) is.statements can in
-    let names : all_names (named_of_statements is.statements) ≡ c.names = sym (ap all_names is.named) ∙ names_are c is.is_circuit in
+    All-weaker CanBeStated (λ s. AreNames (names_in s))
+    (λ s stated. all_from_test is_name IsGood (λ name yes. yes) (names_in s) stated.names) is.statements can in
+    let names : all_names (named_of_statements is.statements) ≡ c.names = sym (ap all_names is.named) ∙ names_are c
+    is.is_circuit in
     test_from_all is_name c.names (subst AreNames names (driven_are_good is.statements are))
 
 -- ---- what is read from normal text
@@ -92,7 +103,8 @@ names_were_read text c is =
 pub read_back : (c d : Netlist) → IsCircuit c → HasFormatNames c → IsNetlistOf (normal_text c) d → d ≡ c
 read_back c d is good read = one_circuit (normal_text c) d c read (normal_is_netlist c is good)
 
-pub not_refused : (c : Netlist) (error : BenchError) → IsCircuit c → HasFormatNames c → IsOfNoCircuit (normal_text c) error → error ≡ NoMemory
+pub not_refused : (c : Netlist) (error : BenchError) → IsCircuit c → HasFormatNames c
+    → IsOfNoCircuit (normal_text c) error → error ≡ NoMemory
 not_refused c (BadLine line) is good refuses = absurd (refuses c (normal_is_netlist c is good))
 not_refused c (BadName line) is good refuses = absurd (refuses c (normal_is_netlist c is good))
 not_refused c (BadKind line) is good refuses = absurd (refuses c (normal_is_netlist c is good))

@@ -27,11 +27,13 @@ flat_self : {A : Type 0} (xs : List A) → flat_map (λ (x : A). x ∷ []) xs �
 flat_self [] = refl
 flat_self (x ∷ xs) = ap (λ l. x ∷ l) (flat_self xs)
 
-four_parts : {A : Type 0} (a b d e a' b' d' e' : List A) → a ≡ a' → b ≡ b' → d ≡ d' → e ≡ e' → ((a ++ b) ++ d) ++ e ≡ ((a' ++ b') ++ d') ++ e'
+four_parts : {A : Type 0} (a b d e a' b' d' e' : List A) → a ≡ a' → b ≡ b' → d ≡ d' → e ≡ e' → ((a ++ b) ++ d) ++ e
+    ≡ ((a' ++ b') ++ d') ++ e'
 four_parts a b d e a' b' d' e' p q r s = cc
 
 module _ {B : Type 0} (f : Statement → List B) (n : NamedNetlist) where
-  pub content : (a b d e : List B) → flat_map (λ x. f (Input x)) n.inputs ≡ a → flat_map (λ x. f (Output x)) n.outputs ≡ b
+  pub content : (a b d e : List B) → flat_map (λ x. f (Input x)) n.inputs ≡ a → flat_map (λ x. f (Output x)) n.outputs
+      ≡ b
       → flat_map (λ x. f (dff_statement x)) n.dffs ≡ d → flat_map (λ x. f (gate_statement x)) n.gates ≡ e
       → flat_map f (named_statements n) ≡ ((a ++ b) ++ d) ++ e
   content a b d e is_a is_b is_d is_e =
@@ -40,31 +42,41 @@ module _ {B : Type 0} (f : Statement → List B) (n : NamedNetlist) where
       let dffs = map dff_statement n.dffs in
       let gates = map gate_statement n.gates in
       flat_map-append f ((inputs ++ outputs) ++ dffs) gates
-      ∙ ap (λ l. l ++ flat_map f gates) (flat_map-append f (inputs ++ outputs) dffs ∙ ap (λ l. l ++ flat_map f dffs) (flat_map-append f inputs outputs))
+      ∙ ap (λ l. l ++ flat_map f gates)
+      (flat_map-append f (inputs ++ outputs) dffs ∙ ap (λ l. l ++ flat_map f dffs)
+      (flat_map-append f inputs outputs))
       ∙ four_parts (flat_map f inputs) (flat_map f outputs) (flat_map f dffs) (flat_map f gates) a b d e
-      (flat_map-map f Input n.inputs ∙ is_a) (flat_map-map f Output n.outputs ∙ is_b) (flat_map-map f dff_statement n.dffs ∙ is_d) (flat_map-map f gate_statement n.gates ∙ is_e)
+      (flat_map-map f Input n.inputs ∙ is_a) (flat_map-map f Output n.outputs ∙ is_b)
+      (flat_map-map f dff_statement n.dffs ∙ is_d) (flat_map-map f gate_statement n.gates ∙ is_e)
 
 first_part : {A : Type 0} (xs : List A) → ((xs ++ []) ++ []) ++ [] ≡ xs
 first_part xs = append-nil ((xs ++ []) ++ []) ∙ append-nil (xs ++ []) ∙ append-nil xs
 
 module _ (n : NamedNetlist) where
   pub inputs_are : inputs_of (named_statements n) ≡ n.inputs
-  inputs_are = content inputs_in n n.inputs [] [] [] (flat_self n.inputs) (flat_none n.outputs) (flat_none n.dffs) (flat_none n.gates) ∙ first_part n.inputs
+  inputs_are = content inputs_in n n.inputs [] [] [] (flat_self n.inputs) (flat_none n.outputs) (flat_none n.dffs)
+      (flat_none n.gates) ∙ first_part n.inputs
 
   pub outputs_are : flat_map outputs_in (named_statements n) ≡ n.outputs
-  outputs_are = content outputs_in n [] n.outputs [] [] (flat_none n.inputs) (flat_self n.outputs) (flat_none n.dffs) (flat_none n.gates) ∙ (append-nil (n.outputs ++ []) ∙ append-nil n.outputs)
+  outputs_are = content outputs_in n [] n.outputs [] [] (flat_none n.inputs) (flat_self n.outputs) (flat_none n.dffs)
+      (flat_none n.gates) ∙ (append-nil (n.outputs ++ []) ∙ append-nil n.outputs)
 
   pub dffs_are : dffs_of (named_statements n) ≡ n.dffs
-  dffs_are = content dffs_in n [] [] n.dffs [] (flat_none n.inputs) (flat_none n.outputs) (flat_self n.dffs) (flat_none n.gates) ∙ append-nil n.dffs
+  dffs_are = content dffs_in n [] [] n.dffs [] (flat_none n.inputs) (flat_none n.outputs) (flat_self n.dffs)
+      (flat_none n.gates) ∙ append-nil n.dffs
 
   pub gates_are : gates_of (named_statements n) ≡ n.gates
-  gates_are = content gates_in n [] [] [] n.gates (flat_none n.inputs) (flat_none n.outputs) (flat_none n.dffs) (flat_self n.gates)
+  gates_are = content gates_in n [] [] [] n.gates (flat_none n.inputs) (flat_none n.outputs) (flat_none n.dffs)
+      (flat_self n.gates)
 
-  pub driven_are : driven_by (named_statements n) ≡ (n.inputs ++ map (λ (d : NamedDff). d.out) n.dffs) ++ map (λ (g : NamedGate). g.out) n.gates
+  pub driven_are : driven_by (named_statements n) ≡ (n.inputs ++ map (λ (d : NamedDff). d.out) n.dffs)
+      ++ map (λ (g : NamedGate). g.out) n.gates
   driven_are =
       content driven_in n n.inputs [] (map (λ (d : NamedDff). d.out) n.dffs) (map (λ (g : NamedGate). g.out) n.gates)
-      (flat_self n.inputs) (flat_none n.outputs) (flat_map_single (λ (d : NamedDff). d.out) n.dffs) (flat_map_single (λ (g : NamedGate). g.out) n.gates)
-      ∙ ap (λ l. (l ++ map (λ (d : NamedDff). d.out) n.dffs) ++ map (λ (g : NamedGate). g.out) n.gates) (append-nil n.inputs)
+      (flat_self n.inputs) (flat_none n.outputs) (flat_map_single (λ (d : NamedDff). d.out) n.dffs)
+      (flat_map_single (λ (g : NamedGate). g.out) n.gates)
+      ∙ ap (λ l. (l ++ map (λ (d : NamedDff). d.out) n.dffs) ++ map (λ (g : NamedGate). g.out) n.gates)
+      (append-nil n.inputs)
 
 -- ---- the nets that are driven
 
@@ -103,7 +115,8 @@ cases_by_order zero (suc b) = inl (omega arith)
 cases_by_order (suc a) zero = inr (inl (omega arith))
 cases_by_order (suc a) (suc b) =
     ⊎_elim (λ (less : a < b). inl (omega arith))
-    (λ (rest : (b < a) ⊎ (a ≡ b)). ⊎_elim (λ (more : b < a). inr (inl (omega arith))) (λ (equal : a ≡ b). inr (inr (ap suc equal))) rest) (cases_by_order a b)
+    (λ (rest : (b < a) ⊎ (a ≡ b)). ⊎_elim (λ (more : b < a). inr (inl (omega arith)))
+    (λ (equal : a ≡ b). inr (inr (ap suc equal))) rest) (cases_by_order a b)
 
 abbrev netlist_by : List Name → List Name → List NamedDff → List NamedGate → NamedNetlist
 netlist_by i o d g = record { inputs = i; outputs = o; dffs = d; gates = g }
@@ -138,24 +151,30 @@ module _ (c : Netlist) (is : IsCircuit c) where
       let named = is.named in
       let x_known = is.outputs_known x (omega arith) in
       let y_known = is.outputs_known y (omega arith) in
-      one_net (get_or c.outputs x no_net) (get_or c.outputs y no_net) (omega arith) (omega arith) (is.outputs_differ x y before (omega arith))
-      (sym (get_or-map (name_of c) c.outputs x no_net [] (omega arith)) ∙ same ∙ get_or-map (name_of c) c.outputs y no_net [] (omega arith)))
+      one_net (get_or c.outputs x no_net) (get_or c.outputs y no_net) (omega arith) (omega arith)
+      (is.outputs_differ x y before (omega arith))
+      (sym (get_or-map (name_of c) c.outputs x no_net [] (omega arith)) ∙ same ∙ get_or-map (name_of c) c.outputs y
+      no_net [] (omega arith)))
 
   -- the statements say the circuit
   pub statements_say : named_of c ≡ named_of_statements (statements_of c)
   statements_say =
       let n = named_of c in
       let inputs : inputs_of (statements_of c) ≡ n.inputs = inputs_are n in
-      let outputs : outputs_of (statements_of c) ≡ n.outputs = ap different (outputs_are n) ∙ different_is n.outputs outputs_differ in
+      let outputs : outputs_of (statements_of c) ≡ n.outputs = ap different (outputs_are n) ∙ different_is n.outputs
+      outputs_differ in
       let dffs : dffs_of (statements_of c) ≡ n.dffs = dffs_are n in
       let gates : gates_of (statements_of c) ≡ n.gates = gates_are n in
-      sym (same_parts (inputs_of (statements_of c)) n.inputs (outputs_of (statements_of c)) n.outputs (dffs_of (statements_of c)) n.dffs (gates_of (statements_of c)) n.gates inputs outputs dffs gates)
+      sym (same_parts (inputs_of (statements_of c)) n.inputs (outputs_of (statements_of c)) n.outputs
+      (dffs_of (statements_of c)) n.dffs (gates_of (statements_of c)) n.gates inputs outputs dffs gates)
 
   pub pins_are : pins_of (statements_of c) ≡ pin_count c
   pins_are =
       let n = named_of c in
-      let dffs : length (dffs_of (statements_of c)) ≡ length c.dffs = ap length (dffs_are n) ∙ named_dffs_count c c.inputs c.dffs in
-      let args : sum_by (λ (g : NamedGate). length g.args) (gates_of (statements_of c)) ≡ sum_by (λ (g : Gate). length g.args) c.gates =
+      let dffs : length (dffs_of (statements_of c)) ≡ length c.dffs = ap length (dffs_are n) ∙ named_dffs_count c
+      c.inputs c.dffs in
+      let args : sum_by (λ (g : NamedGate). length g.args) (gates_of (statements_of c))
+      ≡ sum_by (λ (g : Gate). length g.args) c.gates =
       ap (sum_by (λ (g : NamedGate). length g.args)) (gates_are n) ∙ sum_of_args c (first_gate_net c) c.gates in
       cc
 
@@ -173,14 +192,16 @@ module _ (c : Netlist) (is : IsCircuit c) where
   inputs_made : All IsMade (map Input (named_of c).inputs)
   inputs_made =
       All-map IsMade Input (named_of c).inputs
-      (All-weaker (Contains c.names) (λ name. IsMade (Input name)) only_one (named_of c).inputs (All-take (Contains c.names) c.inputs c.names (All-contains_itself c.names)))
+      (All-weaker (Contains c.names) (λ name. IsMade (Input name)) only_one (named_of c).inputs
+      (All-take (Contains c.names) c.inputs c.names (All-contains_itself c.names)))
 
   outputs_made : All IsMade (map Output (named_of c).outputs)
   outputs_made =
       All-map IsMade Output (named_of c).outputs
       (All-map (λ name. IsMade (Output name)) (name_of c) c.outputs
       (All-from_get_or (λ net. IsMade (Output (name_of c net))) c.outputs no_net
-      (λ o below. only_one (name_of c (get_or c.outputs o no_net)) (net_has_name (get_or c.outputs o no_net) (is.outputs_known o below)))))
+      (λ o below. only_one (name_of c (get_or c.outputs o no_net))
+      (net_has_name (get_or c.outputs o no_net) (is.outputs_known o below)))))
 
   dffs_made : All IsMade (map dff_statement (named_of c).dffs)
   dffs_made =
@@ -190,8 +211,10 @@ module _ (c : Netlist) (is : IsCircuit c) where
       let named = is.named in
       let inside : j < length c.dffs = omega (arith, named_dffs_count c c.inputs c.dffs) in
       subst (λ d. IsMade (dff_statement d)) (sym (get_or-named_dffs c c.inputs c.dffs j inside))
-      (All-cons (Contains c.names) (get_or c.names (c.inputs + j) []) (name_of c (get_or c.dffs j no_net) ∷ []) (Contains-get_or c.names (c.inputs + j) [] (omega arith))
-      (only_one (name_of c (get_or c.dffs j no_net)) (net_has_name (get_or c.dffs j no_net) (is.data_known j inside))))))
+      (All-cons (Contains c.names) (get_or c.names (c.inputs + j) []) (name_of c (get_or c.dffs j no_net) ∷ [])
+      (Contains-get_or c.names (c.inputs + j) [] (omega arith))
+      (only_one (name_of c (get_or c.dffs j no_net))
+      (net_has_name (get_or c.dffs j no_net) (is.data_known j inside))))))
 
   gates_made : All IsMade (map gate_statement (named_of c).gates)
   gates_made =
@@ -201,7 +224,8 @@ module _ (c : Netlist) (is : IsCircuit c) where
       let named = is.named in
       let inside : g < length c.gates = omega (arith, named_gates_count c (first_gate_net c) c.gates) in
       subst (λ x. IsMade (gate_statement x)) (sym (get_or-named_gates c (first_gate_net c) c.gates g inside))
-      (All-cons (Contains c.names) (get_or c.names (first_gate_net c + g) []) (map (name_of c) (gate_at c g).args) (Contains-get_or c.names (first_gate_net c + g) [] (omega arith))
+      (All-cons (Contains c.names) (get_or c.names (first_gate_net c + g) []) (map (name_of c) (gate_at c g).args)
+      (Contains-get_or c.names (first_gate_net c + g) [] (omega arith))
       (All-map (Contains c.names) (name_of c) (gate_at c g).args
       (All-from_get_or (λ net. Contains c.names (name_of c net)) (gate_at c g).args no_net
       (λ i within. net_has_name (get_or (gate_at c g).args i no_net) (is.known g i inside within)))))))
@@ -210,15 +234,23 @@ module _ (c : Netlist) (is : IsCircuit c) where
   pub statements_made : All (λ s. All (Contains c.names) (names_in s)) (statements_of c)
   statements_made =
       let n = named_of c in
-      All-append IsMade ((map Input n.inputs ++ map Output n.outputs) ++ map dff_statement n.dffs) (map gate_statement n.gates)
-      (All-append IsMade (map Input n.inputs ++ map Output n.outputs) (map dff_statement n.dffs) (All-append IsMade (map Input n.inputs) (map Output n.outputs) inputs_made outputs_made) dffs_made)
+      All-append IsMade ((map Input n.inputs ++ map Output n.outputs) ++ map dff_statement n.dffs)
+      (map gate_statement n.gates)
+      (All-append IsMade (map Input n.inputs ++ map Output n.outputs) (map dff_statement n.dffs)
+      (All-append IsMade (map Input n.inputs) (map Output n.outputs) inputs_made outputs_made) dffs_made)
       gates_made
 
   -- each gate has as many arguments as its kind may have
-  pub gates_have_counts : All (λ (g : NamedGate). HasArity g.kind (length g.args) × (length g.args ≤ 255)) (named_of c).gates
-  gates_have_counts = All-from_get_or (λ (g : NamedGate). HasArity g.kind (length g.args) × (length g.args ≤ 255)) (named_of c).gates no_named_gate
+  pub gates_have_counts : All (λ (g : NamedGate). HasArity g.kind (length g.args) × (length g.args ≤ 255))
+      (named_of c).gates
+  gates_have_counts = All-from_get_or (λ (g : NamedGate). HasArity g.kind (length g.args) × (length g.args ≤ 255))
+      (named_of c).gates no_named_gate
       (λ g below.
       let inside : g < length c.gates = omega (arith, named_gates_count c (first_gate_net c) c.gates) in
       let count = length-map (gate_at c g).args (name_of c) in
-      subst (λ (x : NamedGate). HasArity x.kind (length x.args) × (length x.args ≤ 255)) (sym (get_or-named_gates c (first_gate_net c) c.gates g inside))
-      (subst (HasArity (gate_at c g).kind) (sym count) (is.arities g inside), let few = is.few_args g inside in omega arith))
+      subst (λ (x : NamedGate). HasArity x.kind (length x.args) × (length x.args ≤ 255))
+      (sym (get_or-named_gates c (first_gate_net c) c.gates g inside)) (
+        subst (HasArity (gate_at c g).kind) (sym count) (is.arities g inside),
+        let few = is.few_args g inside
+            in omega arith,
+      ))

@@ -26,20 +26,24 @@ arguments_text-push first (next ∷ names) name =
     ap (λ text. first ++ (codes ", " ++ text)) (arguments_text-push next names name)
     ∙ regroup first (codes ", ") (arguments_text (next ∷ names)) (codes ", ") name
 
-pub take_more : {A : Type 0} (xs : List A) (k : ℕ) (d : A) → k < length xs → take (k + 1) xs ≡ take k xs ++ get_or xs k d ∷ []
+pub take_more : {A : Type 0} (xs : List A) (k : ℕ) (d : A) → k < length xs → take (k + 1) xs ≡ take k xs
+    ++ get_or xs k d ∷ []
 take_more xs k d below = ap (λ n. take n xs) (add-one k) ∙ take-suc xs k d below
 
-map_take_more : {A B : Type 0} (f : A → B) (xs : List A) (k : ℕ) (d : A) → k < length xs → map f (take (k + 1) xs) ≡ map f (take k xs) ++ f (get_or xs k d) ∷ []
+map_take_more : {A B : Type 0} (f : A → B) (xs : List A) (k : ℕ) (d : A) → k < length xs → map f (take (k + 1) xs)
+    ≡ map f (take k xs) ++ f (get_or xs k d) ∷ []
 map_take_more f xs k d below = ap (map f) (take_more xs k d below) ∙ map-append f (take k xs) (get_or xs k d ∷ [])
 
 -- the first argument stands alone
-pub arguments_text-first : (c : Netlist) (args : List NetId) → 0 < length args → arguments_text (map (name_of c) (take 1 args)) ≡ name_of c (get_or args 0 no_net)
+pub arguments_text-first : (c : Netlist) (args : List NetId) → 0 < length args
+    → arguments_text (map (name_of c) (take 1 args)) ≡ name_of c (get_or args 0 no_net)
 arguments_text-first c [] some = absurd (omega arith)
 arguments_text-first c (arg ∷ args) some = refl
 
 -- each further one stands behind a comma and a blank
 pub arguments_text-next : (c : Netlist) (args : List NetId) (k : ℕ) → k < length args → 0 < k
-    → arguments_text (map (name_of c) (take (k + 1) args)) ≡ arguments_text (map (name_of c) (take k args)) ++ codes ", " ++ name_of c (get_or args k no_net)
+    → arguments_text (map (name_of c) (take (k + 1) args)) ≡ arguments_text (map (name_of c) (take k args))
+    ++ codes ", " ++ name_of c (get_or args k no_net)
 arguments_text-next c [] k below more = absurd (omega arith)
 arguments_text-next c (arg ∷ args) zero below more = absurd (omega arith)
 arguments_text-next c (arg ∷ args) (suc k) below more =
@@ -53,12 +57,15 @@ pub adds_argument : (c : Netlist) (args : List NetId) (k : ℕ) (old before betw
     → after ≡ between ++ name_of c (get_or args k no_net)
     → after ≡ old ++ arguments_text (map (name_of c) (take (k + 1) args))
 adds_argument c args k old before between after below is_before (inl (some, is_between)) is_after =
-    is_after ∙ ap (λ text. text ++ name_of c (get_or args k no_net)) (is_between ∙ ap (λ text. text ++ codes ", ") is_before)
+    is_after ∙ ap (λ text. text ++ name_of c (get_or args k no_net))
+    (is_between ∙ ap (λ text. text ++ codes ", ") is_before)
     ∙ regroup_more old (arguments_text (map (name_of c) (take k args))) (codes ", ") (name_of c (get_or args k no_net))
     ∙ ap (λ text. old ++ text) (sym (arguments_text-next c args k below some))
 adds_argument c args k old before between after below is_before (inr (none, is_between)) is_after =
-    let is_first : arguments_text (map (name_of c) (take 1 args)) ≡ name_of c (get_or args 0 no_net) = arguments_text-first c args (omega arith) in
-    let start : before ≡ old = is_before ∙ ap (λ n. old ++ arguments_text (map (name_of c) (take n args))) none ∙ append-nil old in
+    let is_first : arguments_text (map (name_of c) (take 1 args)) ≡ name_of c (get_or args 0 no_net) =
+    arguments_text-first c args (omega arith) in
+    let start : before ≡ old = is_before ∙ ap (λ n. old ++ arguments_text (map (name_of c) (take n args))) none ∙
+    append-nil old in
     is_after ∙ ap (λ text. text ++ name_of c (get_or args k no_net)) (is_between ∙ start)
     ∙ ap (λ n. old ++ name_of c (get_or args n no_net)) none
     ∙ ap (λ text. old ++ text) (sym is_first)
@@ -67,7 +74,8 @@ adds_argument c args k old before between after below is_before (inr (none, is_b
 -- ---- one more line
 
 -- a text to which the line of one more member was added
-pub adds_line : {A : Type 0} (f : A → Statement) (xs : List A) (k : ℕ) (d x : A) (old before after : List ℕ) → k < length xs → get_or xs k d ≡ x
+pub adds_line : {A : Type 0} (f : A → Statement) (xs : List A) (k : ℕ) (d x : A) (old before after : List ℕ)
+    → k < length xs → get_or xs k d ≡ x
     → before ≡ old ++ statement_lines (map f (take k xs)) → after ≡ before ++ statement_line (f x)
     → after ≡ old ++ statement_lines (map f (take (k + 1) xs))
 adds_line f xs k d x old before after below is_member is_before is_after =
@@ -82,7 +90,8 @@ adds_line f xs k d x old before after below is_member is_before is_after =
 -- a text to which the lines of all members were added
 pub added_lines : {A : Type 0} (f : A → Statement) (xs : List A) (k : ℕ) (old new : List ℕ) → length xs ≡ k
     → new ≡ old ++ statement_lines (map f (take k xs)) → new ≡ old ++ statement_lines (map f xs)
-added_lines f xs k old new all is_new = is_new ∙ ap (λ l. old ++ statement_lines (map f l)) (take_all k xs (omega arith))
+added_lines f xs k old new all is_new = is_new ∙ ap (λ l. old ++ statement_lines (map f l))
+    (take_all k xs (omega arith))
 
 -- ---- flip-flops and gates by name
 

@@ -28,13 +28,16 @@ no_return (x ∷ text) is e = omega (arith, is (length (x ∷ text) - 1) 0 (omeg
 keeps_line : (text : List ℕ) → slice_index text (length text - 1) ≢ 13 → without_cr text ≡ text
 keeps_line text other = grind (arith, nat_tests)
 
-pub lines_of_statements : (statements : List Statement) → All CanBeStated statements → lines_of (statement_lines statements) ≡ map statement_text statements
+pub lines_of_statements : (statements : List Statement) → All CanBeStated statements
+    → lines_of (statement_lines statements) ≡ map statement_text statements
 lines_of_statements [] can = refl
 lines_of_statements (s ∷ statements) can =
     let is : IsPrintable (statement_text s) =
-    all_from_test is_printable (λ byte. 32 ≤ byte) byte_is_printable (statement_text s) (normal_is_one_line s (All-head CanBeStated s statements can)) in
+    all_from_test is_printable (λ byte. 32 ≤ byte) byte_is_printable (statement_text s)
+    (normal_is_one_line s (All-head CanBeStated s statements can)) in
     let rest = lines_of_statements statements (All-tail CanBeStated s statements can) in
     ap lines_of (append_assoc (statement_text s) (codes "\n") (statement_lines statements))
     ∙ lines-lf (statement_text s) (statement_lines statements) (no_lf (statement_text s) is)
-    ∙ ap (λ line. line ∷ lines_of (statement_lines statements)) (keeps_line (statement_text s) (no_return (statement_text s) is))
+    ∙ ap (λ line. line ∷ lines_of (statement_lines statements))
+    (keeps_line (statement_text s) (no_return (statement_text s) is))
     ∙ ap (λ lines. statement_text s ∷ lines) rest

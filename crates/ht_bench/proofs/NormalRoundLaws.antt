@@ -46,7 +46,8 @@ count_is_tested Xnor count arity few = some_are_tested count arity few
 count_is_tested Not count arity few = one_is_tested count arity
 count_is_tested Buf count arity few = one_is_tested count arity
 
-texts_read : (statements : List Statement) → All CanBeStated statements → map reading_of (map statement_text statements) ≡ map States statements
+texts_read : (statements : List Statement) → All CanBeStated statements → map reading_of (map statement_text statements)
+    ≡ map States statements
 texts_read [] can = refl
 texts_read (s ∷ statements) can =
     let here : reading_of (statement_text s) ≡ States s = normal_reads s (All-head CanBeStated s statements can) in
@@ -55,8 +56,10 @@ texts_read (s ∷ statements) can =
 
 -- ---- the first of the statements say no more than all
 
-first_say_less : {B : Type 0} (f : Statement → List B) (first rest : List Statement) → length (flat_map f first) ≤ length (flat_map f (first ++ rest))
-first_say_less f first rest = omega (arith, ap length (flat_map-append f first rest), length-append (flat_map f first) (flat_map f rest))
+first_say_less : {B : Type 0} (f : Statement → List B) (first rest : List Statement)
+    → length (flat_map f first) ≤ length (flat_map f (first ++ rest))
+first_say_less f first rest = omega
+    (arith, ap length (flat_map-append f first rest), length-append (flat_map f first) (flat_map f rest))
 
 fewer_pins : (first rest : List Statement) → pins_of first ≤ pins_of (first ++ rest)
 fewer_pins first rest =
@@ -71,9 +74,12 @@ module _ (c : Netlist) (is : IsCircuit c) where
 
   within_limits : (first rest : List Statement) → statements_of c ≡ first ++ rest → IsWithinLimits first
   within_limits first rest cut =
-      let made : All (Contains c.names) (mentions_of (statements_of c)) = All-flat_map (Contains c.names) names_in (statements_of c) (statements_made c is) in
-      let parts : mentions_of (statements_of c) ≡ mentions_of first ++ mentions_of rest = ap mentions_of cut ∙ flat_map-append names_in first rest in
-      let mentioned : All (Contains c.names) (mentions_of first) = All-left (Contains c.names) (mentions_of first) (mentions_of rest) (subst (All (Contains c.names)) parts made) in
+      let made : All (Contains c.names) (mentions_of (statements_of c)) = All-flat_map (Contains c.names) names_in
+      (statements_of c) (statements_made c is) in
+      let parts : mentions_of (statements_of c) ≡ mentions_of first ++ mentions_of rest = ap mentions_of cut ∙
+      flat_map-append names_in first rest in
+      let mentioned : All (Contains c.names) (mentions_of first) = All-left (Contains c.names) (mentions_of first)
+      (mentions_of rest) (subst (All (Contains c.names)) parts made) in
       let nets : length (nets_of first) ≤ length c.names = length-different (mentions_of first) c.names mentioned in
       let named = is.named in
       let few_nets = is.few_nets in
@@ -83,15 +89,33 @@ module _ (c : Netlist) (is : IsCircuit c) where
       record {
         nets = omega arith;
         pins = omega (arith, fewer_pins first rest, ap pins_of cut, pins_are c is);
-        inputs = omega (arith, first_say_less inputs_in first rest, ap (λ s. length (inputs_of s)) cut, ap length (inputs_are (named_of c)), length-take c.inputs c.names);
-        dffs = omega (arith, first_say_less dffs_in first rest, ap (λ s. length (dffs_of s)) cut, ap length (dffs_are (named_of c)), named_dffs_count c c.inputs c.dffs);
+        inputs = omega (
+          arith,
+          first_say_less inputs_in first rest,
+          ap (λ s. length (inputs_of s)) cut,
+          ap length
+              (inputs_are (named_of c)),
+          length-take c.inputs c.names,
+        );
+        dffs = omega (
+          arith,
+          first_say_less dffs_in first rest,
+          ap (λ s. length (dffs_of s)) cut,
+          ap length
+              (dffs_are (named_of c)),
+          named_dffs_count c c.inputs c.dffs,
+        );
       }
 
-  new_driver : (before after : List Statement) (s : Statement) → statements_of c ≡ before ++ s ∷ after → HasNewDriver before s
+  new_driver : (before after : List Statement) (s : Statement) → statements_of c ≡ before ++ s ∷ after
+      → HasNewDriver before s
   new_driver before after s cut k d below driven =
-      let parts : c.names ≡ driven_by before ++ (driven_in s ++ driven_by after) = sym (driven_are_names c is) ∙ ap driven_by cut ∙ flat_map-append driven_in before (s ∷ after) in
-      differ_apart (driven_by before) (driven_in s ++ driven_by after) (get_or (driven_in s) k d) (subst AllDiffer parts (names_differ c is)) driven
-      (Contains-append_left (driven_in s) (driven_by after) (get_or (driven_in s) k d) (Contains-get_or (driven_in s) k d below))
+      let parts : c.names ≡ driven_by before ++ (driven_in s ++ driven_by after) = sym (driven_are_names c is) ∙ ap
+      driven_by cut ∙ flat_map-append driven_in before (s ∷ after) in
+      differ_apart (driven_by before) (driven_in s ++ driven_by after) (get_or (driven_in s) k d)
+      (subst AllDiffer parts (names_differ c is)) driven
+      (Contains-append_left (driven_in s) (driven_by after) (get_or (driven_in s) k d)
+      (Contains-get_or (driven_in s) k d below))
 
   accepted : AreAccepted (statements_of c)
   accepted before after s cut = record {
@@ -112,20 +136,25 @@ module _ (c : Netlist) (is : IsCircuit c) where
       let HasIts : Statement → Type 0 = λ s. has_its_count s ≡ true in
       let gates : All HasIts (map gate_statement n.gates) =
       All-map HasIts gate_statement n.gates
-      (All-weaker (λ (g : NamedGate). HasArity g.kind (length g.args) × (length g.args ≤ 255)) (λ g. HasIts (gate_statement g))
+      (All-weaker (λ (g : NamedGate). HasArity g.kind (length g.args) × (length g.args ≤ 255))
+      (λ g. HasIts (gate_statement g))
       (λ g has. count_is_tested g.kind (length g.args) has.0 has.1) n.gates (gates_have_counts c is)) in
-      All-append HasIts ((map Input n.inputs ++ map Output n.outputs) ++ map dff_statement n.dffs) (map gate_statement n.gates)
+      All-append HasIts ((map Input n.inputs ++ map Output n.outputs) ++ map dff_statement n.dffs)
+      (map gate_statement n.gates)
       (All-append HasIts (map Input n.inputs ++ map Output n.outputs) (map dff_statement n.dffs)
-      (All-append HasIts (map Input n.inputs) (map Output n.outputs) (All-map HasIts Input n.inputs (λ k d below. refl)) (All-map HasIts Output n.outputs (λ k d below. refl)))
+      (All-append HasIts (map Input n.inputs) (map Output n.outputs) (All-map HasIts Input n.inputs (λ k d below. refl))
+      (All-map HasIts Output n.outputs (λ k d below. refl)))
       (All-map HasIts dff_statement n.dffs (λ k d below. refl)))
       gates
 
   module _ (good : HasFormatNames c) where
     have_names : All (λ s. AreNames (names_in s)) (statements_of c)
     have_names =
-        let all : AreNames c.names = all_from_test is_name (λ name. is_name name ≡ true) (λ name yes. yes) c.names good in
+        let all : AreNames c.names = all_from_test is_name (λ name. is_name name ≡ true) (λ name yes. yes) c.names good
+        in
         All-weaker (λ s. All (Contains c.names) (names_in s)) (λ s. AreNames (names_in s))
-        (λ s made. All-weaker (Contains c.names) (λ name. is_name name ≡ true) (λ name has. All-contains (λ n. is_name n ≡ true) c.names name all has) (names_in s) made)
+        (λ s made. All-weaker (Contains c.names) (λ name. is_name name ≡ true)
+        (λ name has. All-contains (λ n. is_name n ≡ true) c.names name all has) (names_in s) made)
         (statements_of c) (statements_made c is)
 
     can_be_stated : All CanBeStated (statements_of c)
@@ -137,7 +166,8 @@ module _ (c : Netlist) (is : IsCircuit c) where
     normal_is_netlist = record {
       statements = statements_of c;
       read = record {
-        lines = ap (map reading_of) (lines_of_statements (statements_of c) can_be_stated) ∙ texts_read (statements_of c) can_be_stated;
+        lines = ap (map reading_of) (lines_of_statements (statements_of c) can_be_stated) ∙ texts_read (statements_of c)
+            can_be_stated;
         accepted = accepted;
       };
       driven = all_driven;

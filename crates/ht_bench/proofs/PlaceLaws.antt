@@ -11,9 +11,11 @@ use Rattle.ht_bench.proofs.DifferentLaws.{name_cases}
 abbrev pub place_in : List Name → Name → ℕ
 place_in names name = position_or_len (λ other. bytes_eq other name) names
 
-pub place_at : (names : List Name) (k : ℕ) → NamesDiffer names → k < length names → place_in names (get_or names k []) ≡ k
+pub place_at : (names : List Name) (k : ℕ) → NamesDiffer names → k < length names → place_in names (get_or names k [])
+    ≡ k
 place_at names k differ lt =
     position_or_len_is (λ other. bytes_eq other (get_or names k [])) names k [] (omega (arith, lt))
     (λ j less.
-    ⊎_elim (λ same. absurd (differ j k less lt same.1)) (λ other. other.0) (name_cases (get_or names j []) (get_or names k [])))
+    ⊎_elim (λ same. absurd (differ j k less lt same.1)) (λ other. other.0)
+    (name_cases (get_or names j []) (get_or names k [])))
     (λ less. (bytes_eq-Decides (get_or names k []) (get_or names k [])).1 refl)

@@ -22,7 +22,8 @@ use Rattle.ht_bench.proofs.ListLaws.{AllZip-map}
 abbrev PushCut : {A : Type 0} → List A → A → List A → A → List A → Type 0
 PushCut xs s before x after = ((xs ≡ before) × (s ≡ x)) ⊎ ((rest : List _) × (xs ≡ before ++ x ∷ rest))
 
-push_cut : {A : Type 0} (xs : List A) (s : A) (before : List A) (x : A) (after : List A) → xs ++ s ∷ [] ≡ before ++ x ∷ after → PushCut xs s before x after
+push_cut : {A : Type 0} (xs : List A) (s : A) (before : List A) (x : A) (after : List A) → xs ++ s ∷ [] ≡ before ++ x
+    ∷ after → PushCut xs s before x after
 push_cut [] s [] x after e = inl (refl, cc)
 push_cut (y ∷ ys) s [] x after e = inr (ys, cc)
 push_cut [] s (c ∷ before) x after e = absurd (omega (arith, ap length e, length-append before (x ∷ after)))
@@ -31,16 +32,19 @@ push_cut (y ∷ ys) s (c ∷ before) x after e =
     let tails : ys ++ s ∷ [] ≡ before ++ x ∷ after = cc in
     ⊎_elim
     (λ (last : (ys ≡ before) × (s ≡ x)). let b : ys ≡ before = last.0 in inl ((cc), last.1))
-    (λ (earlier : (rest : List _) × (ys ≡ before ++ x ∷ rest)). let b : ys ≡ before ++ x ∷ earlier.0 = earlier.1 in inr (earlier.0, (cc)))
+    (λ (earlier : (rest : List _) × (ys ≡ before ++ x ∷ rest)). let b : ys ≡ before ++ x ∷ earlier.0 = earlier.1
+    in inr (earlier.0, (cc)))
     (push_cut ys s before x after tails)
 
 accepted_none : AreAccepted []
 accepted_none before after s e = absurd (omega (arith, ap length e, length-append before (s ∷ after)))
 
-accepted_push : (statements : List Statement) (s : Statement) → AreAccepted statements → IsAccepted statements s → AreAccepted (statements ++ s ∷ [])
+accepted_push : (statements : List Statement) (s : Statement) → AreAccepted statements → IsAccepted statements s
+    → AreAccepted (statements ++ s ∷ [])
 accepted_push statements s are is before after x e =
     ⊎_elim
-    (λ (last : (statements ≡ before) × (s ≡ x)). subst (IsAccepted before) last.1 (subst (λ l. IsAccepted l s) last.0 is))
+    (λ (last : (statements ≡ before) × (s ≡ x)). subst (IsAccepted before) last.1
+    (subst (λ l. IsAccepted l s) last.0 is))
     (λ (earlier : (rest : List Statement) × (statements ≡ before ++ x ∷ rest)). are before earlier.0 x earlier.1)
     (push_cut statements s before x after e)
 
@@ -58,7 +62,8 @@ reading_none text d draft = record {
 }
 
 -- the readings of a text from a line on
-pub readings_from : (rest line more : List ℕ) → lines_of rest ≡ line ∷ lines_of more → readings_of rest ≡ reading_of line ∷ readings_of more
+pub readings_from : (rest line more : List ℕ) → lines_of rest ≡ line ∷ lines_of more → readings_of rest
+    ≡ reading_of line ∷ readings_of more
 readings_from rest line more first = ap (map reading_of) first
 
 module _ (text rest line more : List ℕ) (count : ℕ) (old : Draft) (is : IsReading text rest count old)
@@ -73,8 +78,10 @@ module _ (text rest line more : List ℕ) (count : ℕ) (old : Draft) (is : IsRe
         limits = r.0.limits;
         lines =
             is.lines
-            ∙ ap (λ l. map States is.before ++ l) (readings_from rest line more first ∙ ap (λ t. t ∷ readings_of more) adds.states)
-            ∙ sym (ap (λ l. l ++ readings_of more) (map_push States is.before s) ∙ append_assoc (map States is.before) (States s ∷ []) (readings_of more));
+            ∙ ap (λ l. map States is.before ++ l)
+            (readings_from rest line more first ∙ ap (λ t. t ∷ readings_of more) adds.states)
+            ∙ sym (ap (λ l. l ++ readings_of more) (map_push States is.before s) ∙ append_assoc (map States is.before)
+            (States s ∷ []) (readings_of more));
         is_count = omega (arith, is.is_count, length-append is.before (s ∷ []));
         short = omega (arith, is.short, shorter);
         draft = r.1;
@@ -93,7 +100,8 @@ dff_by out pin = record { out = out; data_pin = pin }
 
 dff_named : (d : Draft) (part : DffPart) (dff : NamedDff) → IsDffOf d.names part dff → named_dff d part ≡ dff
 unfolding dff_by
-dff_named d part dff is = ap (λ out. dff_by out (draft_name d part.data_pin)) is.out.1 ∙ ap (dff_by dff.out) is.data_pin.1
+dff_named d part dff is = ap (λ out. dff_by out (draft_name d part.data_pin)) is.out.1 ∙ ap (dff_by dff.out)
+    is.data_pin.1
 
 gate_by : Kind → Name → List Name → NamedGate
 gate_by kind out args = record { kind = kind; out = out; args = args }
@@ -101,16 +109,22 @@ gate_by kind out args = record { kind = kind; out = out; args = args }
 gate_named : (d : Draft) (part : GatePart) (gate : NamedGate) → IsGateOf d.names part gate → named_gate d part ≡ gate
 unfolding gate_by
 gate_named d part gate is =
-    let args : map (draft_name d) part.args ≡ gate.args = AllZip-map (IsNumberOf d.names) (draft_name d) (λ id name at. at.1) part.args gate.args is.args in
+    let args : map (draft_name d) part.args ≡ gate.args = AllZip-map (IsNumberOf d.names) (draft_name d)
+    (λ id name at. at.1) part.args gate.args is.args in
     ap (λ kind. gate_by kind (draft_name d part.out) (map (draft_name d) part.args)) is.kind
     ∙ ap (λ out. gate_by gate.kind out (map (draft_name d) part.args)) is.out.1
     ∙ ap (gate_by gate.kind gate.out) args
 
 -- a draft says by names what its statements say
-pub named_draft_is : (mentioned : List Name) (statements : List Statement) (d : Draft) → IsDraftWith mentioned statements d → named_draft d ≡ named_of_statements statements
+pub named_draft_is : (mentioned : List Name) (statements : List Statement) (d : Draft)
+    → IsDraftWith mentioned statements d → named_draft d ≡ named_of_statements statements
 named_draft_is mentioned statements d is =
-    let inputs : map (draft_name d) d.inputs ≡ inputs_of statements = AllZip-map (IsNumberOf d.names) (draft_name d) (λ id name at. at.1) d.inputs (inputs_of statements) is.inputs in
-    let outputs : map (draft_name d) d.outputs ≡ outputs_of statements = AllZip-map (IsNumberOf d.names) (draft_name d) (λ id name at. at.1) d.outputs (outputs_of statements) is.outputs in
-    let dffs : map (named_dff d) d.dffs ≡ dffs_of statements = AllZip-map (IsDffOf d.names) (named_dff d) (dff_named d) d.dffs (dffs_of statements) is.dffs in
-    let gates : map (named_gate d) d.gates ≡ gates_of statements = AllZip-map (IsGateOf d.names) (named_gate d) (gate_named d) d.gates (gates_of statements) is.gates in
+    let inputs : map (draft_name d) d.inputs ≡ inputs_of statements = AllZip-map (IsNumberOf d.names) (draft_name d)
+    (λ id name at. at.1) d.inputs (inputs_of statements) is.inputs in
+    let outputs : map (draft_name d) d.outputs ≡ outputs_of statements = AllZip-map (IsNumberOf d.names) (draft_name d)
+    (λ id name at. at.1) d.outputs (outputs_of statements) is.outputs in
+    let dffs : map (named_dff d) d.dffs ≡ dffs_of statements = AllZip-map (IsDffOf d.names) (named_dff d) (dff_named d)
+    d.dffs (dffs_of statements) is.dffs in
+    let gates : map (named_gate d) d.gates ≡ gates_of statements = AllZip-map (IsGateOf d.names) (named_gate d)
+    (gate_named d) d.gates (gates_of statements) is.gates in
     cc

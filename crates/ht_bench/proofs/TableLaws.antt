@@ -34,7 +34,8 @@ module _ (d new : Draft) (name : Name)
       let within : id.0 < length (d.names ++ name ∷ []) = subst (λ l. id.0 < length l) e at.0 in
       let there : get_or (d.names ++ name ∷ []) id.0 [] ≡ name = subst (λ l. get_or l id.0 [] ≡ name) e at.1 in
       ⊎_elim
-      (λ (lt : id.0 < length d.names). absurd (is_new id.0 lt (sym (get_or_append_left d.names (name ∷ []) [] id.0 lt) ∙ there)))
+      (λ (lt : id.0 < length d.names). absurd
+      (is_new id.0 lt (sym (get_or_append_left d.names (name ∷ []) [] id.0 lt) ∙ there)))
       (λ (ge : length d.names ≤ id.0). omega (arith, ge, within, length-append d.names (name ∷ [])))
       (cases_lt id.0 (length d.names))
 
@@ -45,29 +46,36 @@ module _ (d new : Draft) (name : Name)
     count_is : length texts ≡ length d.names
     count_is = sym (length-map texts (λ (t : Bor (List ℕ)). t.now)) ∙ ap length are
 
-    pub pushed_names : (all : List (Bor (List ℕ))) (text : Bor (List ℕ)) → text.now ≡ name → id.0 ≡ length texts → all ≡ texts ++ text ∷ [] → texts_of all ≡ new.names
+    pub pushed_names : (all : List (Bor (List ℕ))) (text : Bor (List ℕ)) → text.now ≡ name → id.0 ≡ length texts → all
+        ≡ texts ++ text ∷ [] → texts_of all ≡ new.names
     pushed_names all text is number e =
         ⊎_elim
         (λ (is_new : IsNewName d.names name).
         ap texts_of e ∙ map_push (λ (t : Bor (List ℕ)). t.now) texts text
-        ∙ ap (λ l. l ++ text.now ∷ []) are ∙ ap (λ n. d.names ++ n ∷ []) is ∙ sym (ap (λ (x : Draft). x.names) (added is_new)))
-        (λ (old : Contains d.names name). absurd (omega (arith, number, number_of_known old, count_is))) (new_or_contained d.names name)
+        ∙ ap (λ l. l ++ text.now ∷ []) are ∙ ap (λ n. d.names ++ n ∷ []) is ∙ sym
+        (ap (λ (x : Draft). x.names) (added is_new)))
+        (λ (old : Contains d.names name). absurd (omega (arith, number, number_of_known old, count_is)))
+        (new_or_contained d.names name)
 
     pub kept_names : id.0 ≢ length texts → texts_of texts ≡ new.names
     kept_names other =
         ⊎_elim
         (λ (is_new : IsNewName d.names name). absurd (other (number_of_new is_new ∙ sym count_is)))
-        (λ (old : Contains d.names name). are ∙ sym (ap (λ (x : Draft). x.names) (known (contains_not_new d.names name old)))) (new_or_contained d.names name)
+        (λ (old : Contains d.names name). are ∙ sym
+        (ap (λ (x : Draft). x.names) (known (contains_not_new d.names name old)))) (new_or_contained d.names name)
 
 -- a net that is driven after its mention was driven before
-pub second_driver : (old new : Draft) (id : NameId) (name : Name) → Mentions old (name ∷ []) new → IsNumberOf new.names id name → IsDriven new id
+pub second_driver : (old new : Draft) (id : NameId) (name : Name) → Mentions old (name ∷ []) new
+    → IsNumberOf new.names id name → IsDriven new id
     → (before : List Statement) → IsDraftOf before old → Contains (driven_by before) name
 second_driver old new id name mentions at driven before is =
-    driven_is (mentions_of before ++ name ∷ []) before new id name (mentions.with_names (mentions_of before) before is) at driven
+    driven_is (mentions_of before ++ name ∷ []) before new id name (mentions.with_names (mentions_of before) before is)
+    at driven
 
 -- ---- names one by one
 
-mentions_push : (a b c : Draft) (names : List Name) (name : Name) → Mentions a names b → Mentions b (name ∷ []) c → Mentions a (names ++ name ∷ []) c
+mentions_push : (a b c : Draft) (names : List Name) (name : Name) → Mentions a names b → Mentions b (name ∷ []) c
+    → Mentions a (names ++ name ∷ []) c
 mentions_push a b c names name first last = record {
   with_names = λ mentioned statements h.
       subst (λ l. IsDraftWith l statements c) (append_assoc mentioned names (name ∷ []))
@@ -77,42 +85,55 @@ mentions_push a b c names name first last = record {
   is_draft = last.is_draft;
 }
 
-pub text_at : (texts : List (Bor (List ℕ))) (i : ℕ) (d : Bor (List ℕ)) → i < length texts → get_or (texts_of texts) i d.now ≡ (get_or texts i d).now
+pub text_at : (texts : List (Bor (List ℕ))) (i : ℕ) (d : Bor (List ℕ)) → i < length texts
+    → get_or (texts_of texts) i d.now ≡ (get_or texts i d).now
 text_at texts i d lt = get_or-map (λ (t : Bor (List ℕ)). t.now) texts i d d.now lt
 
 pub length-texts_of : (texts : List (Bor (List ℕ))) → length (texts_of texts) ≡ length texts
 length-texts_of texts = length-map texts (λ (t : Bor (List ℕ)). t.now)
 
-pub more_texts : (texts : List (Bor (List ℕ))) (i : ℕ) (d : Bor (List ℕ)) → i < length texts → take (i + 1) (texts_of texts) ≡ take i (texts_of texts) ++ (get_or texts i d).now ∷ []
+pub more_texts : (texts : List (Bor (List ℕ))) (i : ℕ) (d : Bor (List ℕ)) → i < length texts
+    → take (i + 1) (texts_of texts) ≡ take i (texts_of texts) ++ (get_or texts i d).now ∷ []
 more_texts texts i d lt =
     take_more (texts_of texts) i d.now (omega (arith, lt, length-texts_of texts))
     ∙ ap (λ t. take i (texts_of texts) ++ t ∷ []) (text_at texts i d lt)
 
 -- the step of a loop over names
 module _ (a b c : Draft) (texts : List (Bor (List ℕ))) (i : ℕ) (d : Bor (List ℕ)) (lt : i < length texts) where
-  pub step_mentions : Mentions a (take i (texts_of texts)) b → Mentions b ((get_or texts i d).now ∷ []) c → Mentions a (take (i + 1) (texts_of texts)) c
-  step_mentions first last = subst (λ l. Mentions a l c) (sym (more_texts texts i d lt)) (mentions_push a b c (take i (texts_of texts)) (get_or texts i d).now first last)
+  pub step_mentions : Mentions a (take i (texts_of texts)) b → Mentions b ((get_or texts i d).now ∷ []) c
+      → Mentions a (take (i + 1) (texts_of texts)) c
+  step_mentions first last = subst (λ l. Mentions a l c) (sym (more_texts texts i d lt))
+      (mentions_push a b c (take i (texts_of texts)) (get_or texts i d).now first last)
 
-  pub step_numbers : (ids new : List NameId) (id : NameId) → new ≡ ids ++ id ∷ [] → AllZip (IsNumberOf b.names) ids (take i (texts_of texts)) → Mentions b ((get_or texts i d).now ∷ []) c → IsNumberOf c.names id (get_or texts i d).now
+  pub step_numbers : (ids new : List NameId) (id : NameId) → new ≡ ids ++ id ∷ []
+      → AllZip (IsNumberOf b.names) ids (take i (texts_of texts)) → Mentions b ((get_or texts i d).now ∷ []) c
+      → IsNumberOf c.names id (get_or texts i d).now
       → AllZip (IsNumberOf c.names) new (take (i + 1) (texts_of texts))
   step_numbers ids new id e are last at =
       subst (λ l. AllZip (IsNumberOf c.names) l (take (i + 1) (texts_of texts))) (sym e)
       (subst (AllZip (IsNumberOf c.names) (ids ++ id ∷ [])) (sym (more_texts texts i d lt))
-      (AllZip-add (IsNumberOf c.names) ids (take i (texts_of texts)) id (get_or texts i d).now (AllZip-weaker (IsNumberOf b.names) (IsNumberOf c.names) last.grows ids (take i (texts_of texts)) are) at))
+      (AllZip-add (IsNumberOf c.names) ids (take i (texts_of texts)) id (get_or texts i d).now
+      (AllZip-weaker (IsNumberOf b.names) (IsNumberOf c.names) last.grows ids (take i (texts_of texts)) are) at))
 
 -- one name that finds no room refuses them all
 module _ (a b : Draft) (texts : List (Bor (List ℕ))) (i : ℕ) (d : Bor (List ℕ)) (lt : i < length texts) where
   texts_cut : texts_of texts ≡ take i (texts_of texts) ++ (get_or texts i d).now ∷ drop (i + 1) (texts_of texts)
   texts_cut =
       sym (take-append-drop i (texts_of texts))
-      ∙ ap (λ l. take i (texts_of texts) ++ l) (drop_more (texts_of texts) i d.now (omega (arith, lt, length-texts_of texts)) ∙ ap (λ t. t ∷ drop (i + 1) (texts_of texts)) (text_at texts i d lt))
+      ∙ ap (λ l. take i (texts_of texts) ++ l)
+      (drop_more (texts_of texts) i d.now (omega (arith, lt, length-texts_of texts)) ∙ ap
+      (λ t. t ∷ drop (i + 1) (texts_of texts)) (text_at texts i d lt))
 
-  pub step_refuses : (cause : Cause) → Mentions a (take i (texts_of texts)) b → RefusesMention b (get_or texts i d).now cause → RefusesMentions a (texts_of texts) cause
+  pub step_refuses : (cause : Cause) → Mentions a (take i (texts_of texts)) b → RefusesMention b (get_or texts i d).now
+      cause → RefusesMentions a (texts_of texts) cause
   step_refuses (Limit Nets) first refused = λ mentioned statements h.
       let name = (get_or texts i d).now in
       let rest = drop (i + 1) (texts_of texts) in
-      let many = too_many_nets (mentioned ++ take i (texts_of texts)) rest statements b name (first.with_names mentioned statements h) refused.0 refused.1 in
-      subst (λ l. 65535 < length (different l)) (append_assoc mentioned (take i (texts_of texts)) (name ∷ rest) ∙ ap (λ l. mentioned ++ l) (sym texts_cut)) many
+      let many = too_many_nets (mentioned ++ take i (texts_of texts)) rest statements b name
+      (first.with_names mentioned statements h) refused.0 refused.1 in
+      subst (λ l. 65535 < length (different l))
+      (append_assoc mentioned (take i (texts_of texts)) (name ∷ rest) ∙ ap (λ l. mentioned ++ l) (sym texts_cut))
+      many
   step_refuses (Limit Pins) first refused = absurd refused
   step_refuses (Limit Inputs) first refused = absurd refused
   step_refuses (Limit Dffs) first refused = absurd refused
@@ -120,11 +141,13 @@ module _ (a b : Draft) (texts : List (Bor (List ℕ))) (i : ℕ) (d : Bor (List 
   step_refuses (SecondDriver net) first refused = absurd refused
   step_refuses NoMemory first refused = tt
 
-known_number : (names : List Name) (all : List Name) (ids : List NameId) → AllZip (IsNumberOf all) ids names → (i : ℕ) → i < length ids → (get_or ids i no_name).0 < length all
+known_number : (names : List Name) (all : List Name) (ids : List NameId) → AllZip (IsNumberOf all) ids names → (i : ℕ)
+    → i < length ids → (get_or ids i no_name).0 < length all
 known_number names all [] h i lt = absurd (omega arith)
 known_number [] all (id ∷ ids) h i lt = absurd h
 known_number (name ∷ names) all (id ∷ ids) h zero lt = h.0.0
 known_number (name ∷ names) all (id ∷ ids) h (suc i) lt = known_number names all ids h.1 i (omega arith)
 
-pub known_numbers : (names : List Name) (d : Draft) (ids : List NameId) → AllZip (IsNumberOf d.names) ids names → (i : ℕ) → i < length ids → IsName d (get_or ids i no_name)
+pub known_numbers : (names : List Name) (d : Draft) (ids : List NameId) → AllZip (IsNumberOf d.names) ids names
+    → (i : ℕ) → i < length ids → IsName d (get_or ids i no_name)
 known_numbers names d ids are i lt = known_number names d.names ids are i lt

@@ -27,9 +27,11 @@ use Rattle.ht_bench.proofs.ExcludeLaws.{begins, is_stated, unread_against, secon
 
 -- the same, or the first within the front of the second, or the other way
 abbrev CutCases : {A : Type 0} → List A → A → List A → A → Type 0
-CutCases b x c y = ((b ≡ c) × (x ≡ y)) ⊎ (((rest : List _) × (c ≡ b ++ x ∷ rest)) ⊎ ((rest : List _) × (b ≡ c ++ y ∷ rest)))
+CutCases b x c y = ((b ≡ c) × (x ≡ y))
+    ⊎ (((rest : List _) × (c ≡ b ++ x ∷ rest)) ⊎ ((rest : List _) × (b ≡ c ++ y ∷ rest)))
 
-cut_cases : {A : Type 0} (b : List A) (x : A) (a : List A) (c : List A) (y : A) (d : List A) → b ++ x ∷ a ≡ c ++ y ∷ d → CutCases b x c y
+cut_cases : {A : Type 0} (b : List A) (x : A) (a : List A) (c : List A) (y : A) (d : List A) → b ++ x ∷ a ≡ c ++ y ∷ d
+    → CutCases b x c y
 cut_cases [] x a [] y d e = inl (refl, cc)
 cut_cases [] x a (z ∷ c) y d e = let heads : x ≡ z = cc in inr (inl (c, ap (λ n. n ∷ c) (sym heads)))
 cut_cases (z ∷ b) x a [] y d e = let heads : z ≡ y = cc in inr (inr (b, ap (λ n. n ∷ b) heads))
@@ -40,8 +42,10 @@ cut_cases (z ∷ b) x a (w ∷ c) y d e =
     (λ (same : (b ≡ c) × (x ≡ y)). let f : b ≡ c = same.0 in inl ((cc), same.1))
     (λ (other : ((rest : List _) × (c ≡ b ++ x ∷ rest)) ⊎ ((rest : List _) × (b ≡ c ++ y ∷ rest))).
     ⊎_elim
-    (λ (first : (rest : List _) × (c ≡ b ++ x ∷ rest)). let f : c ≡ b ++ x ∷ first.0 = first.1 in inr (inl (first.0, (cc))))
-    (λ (second : (rest : List _) × (b ≡ c ++ y ∷ rest)). let f : b ≡ c ++ y ∷ second.0 = second.1 in inr (inr (second.0, (cc)))) other)
+    (λ (first : (rest : List _) × (c ≡ b ++ x ∷ rest)). let f : c ≡ b ++ x ∷ first.0 = first.1
+    in inr (inl (first.0, (cc))))
+    (λ (second : (rest : List _) × (b ≡ c ++ y ∷ rest)). let f : b ≡ c ++ y ∷ second.0 = second.1
+    in inr (inr (second.0, (cc)))) other)
     (cut_cases b x a c y d tails)
 
 -- ---- the first refused line
@@ -57,7 +61,8 @@ module _ (text : List ℕ) (C D : List Statement → Reading → Type 0)
         omega (arith, f.is_number, g.is_number, ap length before),
         subst (λ b. D b f.reading) (sym before) (subst (D g.before) (sym same.1) g.cause),
       ))
-      (λ (other : ((rest : List Reading) × (map States g.before ≡ map States f.before ++ f.reading ∷ rest)) ⊎ ((rest : List Reading) × (map States f.before ≡ map States g.before ++ g.reading ∷ rest))).
+      (λ (other : ((rest : List Reading) × (map States g.before ≡ map States f.before ++ f.reading ∷ rest))
+      ⊎ ((rest : List Reading) × (map States f.before ≡ map States g.before ++ g.reading ∷ rest))).
       ⊎_elim
       (λ (first : (rest : List Reading) × (map States g.before ≡ map States f.before ++ f.reading ∷ rest)).
       let r = begins f.before f.reading first.0 g.before (sym first.1) in
@@ -67,8 +72,10 @@ module _ (text : List ℕ) (C D : List Statement → Reading → Type 0)
       absurd (d_against g.before r.0 (subst (D g.before) r.3 g.cause) (f.accepted g.before r.1 r.0 r.2))) other)
       (cut_cases (map States f.before) f.reading f.after (map States g.before) g.reading g.after (sym f.cut ∙ g.cut))
 
-module _ (text : List ℕ) (C : List Statement → Reading → Type 0) (against : (before : List Statement) (s : Statement) → C before (States s) → ¬ IsAccepted before s) where
-  refused_not_accepted : (n : ℕ) → IsFirstRefused text n C → (statements : List Statement) → ¬ IsAcceptedText text statements
+module _ (text : List ℕ) (C : List Statement → Reading → Type 0)
+    (against : (before : List Statement) (s : Statement) → C before (States s) → ¬ IsAccepted before s) where
+  refused_not_accepted : (n : ℕ) → IsFirstRefused text n C → (statements : List Statement)
+      → ¬ IsAcceptedText text statements
   refused_not_accepted n first statements is =
       let r = begins first.before first.reading first.after statements (sym first.cut ∙ is.lines) in
       against first.before r.0 (subst (C first.before) r.3 first.cause) (is.accepted first.before r.1 r.0 r.2)
@@ -95,9 +102,12 @@ module _ (before : List Statement) (reading : Reading) where
   second_passed : (a : Name) (what : Limit) → IsSecondDriver a before reading → PassesLimit what before reading → ⊥
   second_passed a what f g =
       let same = states_one f.statement g.statement (sym f.states ∙ g.states) in
-      All-head (λ n. ¬ Contains (driven_by before) n) a [] (subst (All (λ n. ¬ Contains (driven_by before) n)) (ap driven_in (sym same) ∙ f.drives) g.new_driver) f.driven
+      All-head (λ n. ¬ Contains (driven_by before) n) a []
+      (subst (All (λ n. ¬ Contains (driven_by before) n)) (ap driven_in (sym same) ∙ f.drives) g.new_driver)
+      f.driven
 
-  one_limit : (statements : List Statement) (a b : Limit) → IsFirstPassed statements a → IsFirstPassed statements b → a ≡ b
+  one_limit : (statements : List Statement) (a b : Limit) → IsFirstPassed statements a → IsFirstPassed statements b → a
+      ≡ b
   one_limit s Nets Nets p q = refl
   one_limit s Nets Pins p q = absurd (omega (arith, p, q.0))
   one_limit s Nets Inputs p q = absurd (omega (arith, p, q.0))
@@ -118,49 +128,67 @@ module _ (before : List Statement) (reading : Reading) where
   passed_passed : (a b : Limit) → PassesLimit a before reading → PassesLimit b before reading → a ≡ b
   passed_passed a b f g =
       let same = states_one f.statement g.statement (sym f.states ∙ g.states) in
-      one_limit (before ++ f.statement ∷ []) a b f.passed (subst (λ s. IsFirstPassed (before ++ s ∷ []) b) (sym same) g.passed)
+      one_limit (before ++ f.statement ∷ []) a b f.passed
+      (subst (λ s. IsFirstPassed (before ++ s ∷ []) b) (sym same) g.passed)
 
 -- ---- behind the last line
 
 -- a net in a statement is mentioned
-mentioned_in : (statements before : List Statement) (s : Statement) (after : List Statement) (left : List Name) (name : Name) (right : List Name)
+mentioned_in : (statements before : List Statement) (s : Statement) (after : List Statement) (left : List Name)
+    (name : Name) (right : List Name)
     → statements ≡ before ++ s ∷ after → names_in s ≡ left ++ name ∷ right → Contains (mentions_of statements) name
 mentioned_in statements before s after left name right cut names =
-    let on_line : Contains (names_in s) name = subst (λ l. Contains l name) (sym names) (Contains-append_right left (name ∷ right) name (contains_head name right)) in
+    let on_line : Contains (names_in s) name = subst (λ l. Contains l name) (sym names)
+    (Contains-append_right left (name ∷ right) name (contains_head name right)) in
     subst (λ l. Contains l name) (sym (ap mentions_of cut ∙ flat_map-append names_in before (s ∷ after)))
-    (Contains-append_right (mentions_of before) (names_in s ++ mentions_of after) name (Contains-append_left (names_in s) (mentions_of after) name on_line))
+    (Contains-append_right (mentions_of before) (names_in s ++ mentions_of after) name
+    (Contains-append_left (names_in s) (mentions_of after) name on_line))
 
-first_is_not_earlier : (statements : List Statement) (n m : ℕ) (a b : Name) (f : IsFirstUndriven statements n a) (g : IsFirstUndriven statements m b) (rest : List Statement)
+first_is_not_earlier : (statements : List Statement) (n m : ℕ) (a b : Name) (f : IsFirstUndriven statements n a)
+    (g : IsFirstUndriven statements m b) (rest : List Statement)
     → g.before ≡ f.before ++ f.statement ∷ rest → ⊥
 first_is_not_earlier statements n m a b f g rest cut =
-    f.undriven (All-contains (Contains (driven_by statements)) (mentions_of g.before) a g.earlier (mentioned_in g.before f.before f.statement rest f.left a f.right cut f.names))
+    f.undriven (All-contains (Contains (driven_by statements)) (mentions_of g.before) a g.earlier
+    (mentioned_in g.before f.before f.statement rest f.left a f.right cut f.names))
 
-left_is_not_earlier : (statements : List Statement) (n m : ℕ) (a b : Name) (f : IsFirstUndriven statements n a) (g : IsFirstUndriven statements m b) (rest : List Name)
+left_is_not_earlier : (statements : List Statement) (n m : ℕ) (a b : Name) (f : IsFirstUndriven statements n a)
+    (g : IsFirstUndriven statements m b) (rest : List Name)
     → g.left ≡ f.left ++ a ∷ rest → ⊥
 left_is_not_earlier statements n m a b f g rest cut =
-    f.undriven (All-contains (Contains (driven_by statements)) g.left a g.leftmost (subst (λ l. Contains l a) (sym cut) (Contains-append_right f.left (a ∷ rest) a (contains_head a rest))))
+    f.undriven (All-contains (Contains (driven_by statements)) g.left a g.leftmost
+    (subst (λ l. Contains l a) (sym cut) (Contains-append_right f.left (a ∷ rest) a (contains_head a rest))))
 
-one_undriven : (statements : List Statement) (n m : ℕ) (a b : Name) → IsFirstUndriven statements n a → IsFirstUndriven statements m b → (n ≡ m) × (a ≡ b)
+one_undriven : (statements : List Statement) (n m : ℕ) (a b : Name) → IsFirstUndriven statements n a
+    → IsFirstUndriven statements m b → (n ≡ m) × (a ≡ b)
 one_undriven statements n m a b f g =
     ⊎_elim
     (λ (same : (f.before ≡ g.before) × (f.statement ≡ g.statement)). (
       omega (arith, f.is_number, g.is_number, ap length same.0),
       ⊎_elim
           (λ (names : (f.left ≡ g.left) × (a ≡ b)). names.1)
-          (λ other. absurd (⊎_elim (λ (r : (rest : List Name) × (g.left ≡ f.left ++ a ∷ rest)). left_is_not_earlier statements n m a b f g r.0 r.1)
-          (λ (r : (rest : List Name) × (f.left ≡ g.left ++ b ∷ rest)). left_is_not_earlier statements m n b a g f r.0 r.1) other))
+          (λ other. absurd (⊎_elim
+          (λ (r : (rest : List Name) × (g.left ≡ f.left ++ a ∷ rest)). left_is_not_earlier statements n m a b f g
+          r.0 r.1)
+          (λ (r : (rest : List Name) × (f.left ≡ g.left ++ b ∷ rest)). left_is_not_earlier statements m n b a g f r.0
+          r.1) other))
           (cut_cases f.left a f.right g.left b g.right (sym f.names ∙ ap names_in same.1 ∙ g.names)),
     ))
-    (λ other. absurd (⊎_elim (λ (r : (rest : List Statement) × (g.before ≡ f.before ++ f.statement ∷ rest)). first_is_not_earlier statements n m a b f g r.0 r.1)
-    (λ (r : (rest : List Statement) × (f.before ≡ g.before ++ g.statement ∷ rest)). first_is_not_earlier statements m n b a g f r.0 r.1) other))
+    (λ other. absurd (⊎_elim
+    (λ (r : (rest : List Statement) × (g.before ≡ f.before ++ f.statement ∷ rest)). first_is_not_earlier statements
+    n m a b f g r.0 r.1)
+    (λ (r : (rest : List Statement) × (f.before ≡ g.before ++ g.statement ∷ rest)). first_is_not_earlier statements m n
+    b a g f r.0 r.1) other))
     (cut_cases f.before f.statement f.after g.before g.statement g.after (sym f.cut ∙ g.cut))
 
-not_all_driven : (text : List ℕ) (n : ℕ) (a : Name) (f : IsUndriven text n a) (statements : List Statement) → IsAcceptedText text statements → AreDriven statements (mentions_of statements) → ⊥
+not_all_driven : (text : List ℕ) (n : ℕ) (a : Name) (f : IsUndriven text n a) (statements : List Statement)
+    → IsAcceptedText text statements → AreDriven statements (mentions_of statements) → ⊥
 not_all_driven text n a f statements read driven =
     let same : statements ≡ f.statements = same_statements statements f.statements (sym read.lines ∙ f.read.lines) in
-    let all : AreDriven f.statements (mentions_of f.statements) = subst (λ l. AreDriven l (mentions_of l)) same driven in
+    let all : AreDriven f.statements (mentions_of f.statements) = subst (λ l. AreDriven l (mentions_of l)) same driven
+    in
     let u = f.first in
-    u.undriven (All-contains (Contains (driven_by f.statements)) (mentions_of f.statements) a all (mentioned_in f.statements u.before u.statement u.after u.left a u.right u.cut u.names))
+    u.undriven (All-contains (Contains (driven_by f.statements)) (mentions_of f.statements) a all
+    (mentioned_in f.statements u.before u.statement u.after u.left a u.right u.cut u.names))
 
 -- ---- verdicts
 
@@ -174,7 +202,8 @@ IsVerdict text InCycle = (n : ℕ) × (cycle : List Name) × IsLoop text n cycle
 told : {A : Type 0} (x y : A) → Some x ≡ Some y → x ≡ y
 told x y e = cc
 
-verdict_is : (text : List ℕ) (error : BenchError) (v : Verdict) → Refuses text error → verdict_of error ≡ Some v → IsVerdict text v
+verdict_is : (text : List ℕ) (error : BenchError) (v : Verdict) → Refuses text error → verdict_of error ≡ Some v
+    → IsVerdict text v
 verdict_is text (BadLine line) v refused e = subst (IsVerdict text) (told _ v e) refused
 verdict_is text (BadName line) v refused e = subst (IsVerdict text) (told _ v e) refused
 verdict_is text (BadKind line) v refused e = subst (IsVerdict text) (told _ v e) refused
@@ -182,7 +211,8 @@ verdict_is text (BadCount line) v refused e = subst (IsVerdict text) (told _ v e
 verdict_is text (Twice line name) v refused e = subst (IsVerdict text) (told _ v e) refused
 verdict_is text (TooMany line what) v refused e = subst (IsVerdict text) (told _ v e) refused
 verdict_is text (Undriven line name) v refused e = subst (IsVerdict text) (told _ v e) refused
-verdict_is text (Loop line names) v refused e = subst (IsVerdict text) (told InCycle v e) (line, texts_in names.items, refused)
+verdict_is text (Loop line names) v refused e = subst (IsVerdict text) (told InCycle v e)
+    (line, texts_in names.items, refused)
 verdict_is text NoMemory v refused e = absurd (none_is_not_some v e)
   where
     none_is_not_some : (v : Verdict) → None ≡ Some v → ⊥
@@ -194,42 +224,63 @@ module _ (text : List ℕ) where
       let s = same_first text (IsRefusedAlone a) (IsRefusedAlone b) (unread_against a) (unread_against b) n m f g in
       ap (λ k. UnreadAt k a) s.0 ∙ ap (UnreadAt m) (unread_unread f.before f.reading a b f.cause s.1)
   one_verdict (UnreadAt n a) (SecondAt m b) f g =
-      let s = same_first text (IsRefusedAlone a) (IsSecondDriver b) (unread_against a) (second_against b) n m f g in absurd (unread_states f.before f.reading a s.1.statement f.cause s.1.states)
+      let s = same_first text (IsRefusedAlone a) (IsSecondDriver b) (unread_against a) (second_against b) n m f g
+      in absurd (unread_states f.before f.reading a s.1.statement f.cause s.1.states)
   one_verdict (UnreadAt n a) (PassedAt m b) f g =
-      let s = same_first text (IsRefusedAlone a) (PassesLimit b) (unread_against a) (limit_against b) n m f g in absurd (unread_states f.before f.reading a s.1.statement f.cause s.1.states)
-  one_verdict (UnreadAt n a) (UndrivenAt m b) f g = absurd (refused_not_accepted text (IsRefusedAlone a) (unread_against a) n f g.statements g.read)
-  one_verdict (UnreadAt n a) InCycle f g = absurd (refused_not_accepted text (IsRefusedAlone a) (unread_against a) n f g.2.statements g.2.read)
+      let s = same_first text (IsRefusedAlone a) (PassesLimit b) (unread_against a) (limit_against b) n m f g
+      in absurd (unread_states f.before f.reading a s.1.statement f.cause s.1.states)
+  one_verdict (UnreadAt n a) (UndrivenAt m b) f g = absurd
+      (refused_not_accepted text (IsRefusedAlone a) (unread_against a) n f g.statements g.read)
+  one_verdict (UnreadAt n a) InCycle f g = absurd
+      (refused_not_accepted text (IsRefusedAlone a) (unread_against a) n f g.2.statements g.2.read)
   one_verdict (SecondAt n a) (UnreadAt m b) f g =
-      let s = same_first text (IsRefusedAlone b) (IsSecondDriver a) (unread_against b) (second_against a) m n g f in absurd (unread_states g.before g.reading b s.1.statement g.cause s.1.states)
+      let s = same_first text (IsRefusedAlone b) (IsSecondDriver a) (unread_against b) (second_against a) m n g f
+      in absurd (unread_states g.before g.reading b s.1.statement g.cause s.1.states)
   one_verdict (SecondAt n a) (SecondAt m b) f g =
       let s = same_first text (IsSecondDriver a) (IsSecondDriver b) (second_against a) (second_against b) n m f g in
       ap (λ k. SecondAt k a) s.0 ∙ ap (SecondAt m) (second_second f.before f.reading a b f.cause s.1)
   one_verdict (SecondAt n a) (PassedAt m b) f g =
-      let s = same_first text (IsSecondDriver a) (PassesLimit b) (second_against a) (limit_against b) n m f g in absurd (second_passed f.before f.reading a b f.cause s.1)
-  one_verdict (SecondAt n a) (UndrivenAt m b) f g = absurd (refused_not_accepted text (IsSecondDriver a) (second_against a) n f g.statements g.read)
-  one_verdict (SecondAt n a) InCycle f g = absurd (refused_not_accepted text (IsSecondDriver a) (second_against a) n f g.2.statements g.2.read)
+      let s = same_first text (IsSecondDriver a) (PassesLimit b) (second_against a) (limit_against b) n m f g
+      in absurd (second_passed f.before f.reading a b f.cause s.1)
+  one_verdict (SecondAt n a) (UndrivenAt m b) f g = absurd
+      (refused_not_accepted text (IsSecondDriver a) (second_against a) n f g.statements g.read)
+  one_verdict (SecondAt n a) InCycle f g = absurd
+      (refused_not_accepted text (IsSecondDriver a) (second_against a) n f g.2.statements g.2.read)
   one_verdict (PassedAt n a) (UnreadAt m b) f g =
-      let s = same_first text (IsRefusedAlone b) (PassesLimit a) (unread_against b) (limit_against a) m n g f in absurd (unread_states g.before g.reading b s.1.statement g.cause s.1.states)
+      let s = same_first text (IsRefusedAlone b) (PassesLimit a) (unread_against b) (limit_against a) m n g f
+      in absurd (unread_states g.before g.reading b s.1.statement g.cause s.1.states)
   one_verdict (PassedAt n a) (SecondAt m b) f g =
-      let s = same_first text (IsSecondDriver b) (PassesLimit a) (second_against b) (limit_against a) m n g f in absurd (second_passed g.before g.reading b a g.cause s.1)
+      let s = same_first text (IsSecondDriver b) (PassesLimit a) (second_against b) (limit_against a) m n g f
+      in absurd (second_passed g.before g.reading b a g.cause s.1)
   one_verdict (PassedAt n a) (PassedAt m b) f g =
       let s = same_first text (PassesLimit a) (PassesLimit b) (limit_against a) (limit_against b) n m f g in
       ap (λ k. PassedAt k a) s.0 ∙ ap (PassedAt m) (passed_passed f.before f.reading a b f.cause s.1)
-  one_verdict (PassedAt n a) (UndrivenAt m b) f g = absurd (refused_not_accepted text (PassesLimit a) (limit_against a) n f g.statements g.read)
-  one_verdict (PassedAt n a) InCycle f g = absurd (refused_not_accepted text (PassesLimit a) (limit_against a) n f g.2.statements g.2.read)
-  one_verdict (UndrivenAt n a) (UnreadAt m b) f g = absurd (refused_not_accepted text (IsRefusedAlone b) (unread_against b) m g f.statements f.read)
-  one_verdict (UndrivenAt n a) (SecondAt m b) f g = absurd (refused_not_accepted text (IsSecondDriver b) (second_against b) m g f.statements f.read)
-  one_verdict (UndrivenAt n a) (PassedAt m b) f g = absurd (refused_not_accepted text (PassesLimit b) (limit_against b) m g f.statements f.read)
+  one_verdict (PassedAt n a) (UndrivenAt m b) f g = absurd
+      (refused_not_accepted text (PassesLimit a) (limit_against a) n f g.statements g.read)
+  one_verdict (PassedAt n a) InCycle f g = absurd
+      (refused_not_accepted text (PassesLimit a) (limit_against a) n f g.2.statements g.2.read)
+  one_verdict (UndrivenAt n a) (UnreadAt m b) f g = absurd
+      (refused_not_accepted text (IsRefusedAlone b) (unread_against b) m g f.statements f.read)
+  one_verdict (UndrivenAt n a) (SecondAt m b) f g = absurd
+      (refused_not_accepted text (IsSecondDriver b) (second_against b) m g f.statements f.read)
+  one_verdict (UndrivenAt n a) (PassedAt m b) f g = absurd
+      (refused_not_accepted text (PassesLimit b) (limit_against b) m g f.statements f.read)
   one_verdict (UndrivenAt n a) (UndrivenAt m b) f g =
-      let same : g.statements ≡ f.statements = same_statements g.statements f.statements (sym g.read.lines ∙ f.read.lines) in
+      let same : g.statements ≡ f.statements = same_statements g.statements f.statements
+      (sym g.read.lines ∙ f.read.lines) in
       let one = one_undriven f.statements n m a b f.first (subst (λ s. IsFirstUndriven s m b) same g.first) in
       ap (λ k. UndrivenAt k a) one.0 ∙ ap (UndrivenAt m) one.1
   one_verdict (UndrivenAt n a) InCycle f g = absurd (not_all_driven text n a f g.2.statements g.2.read g.2.driven)
-  one_verdict InCycle (UnreadAt m b) f g = absurd (refused_not_accepted text (IsRefusedAlone b) (unread_against b) m g f.2.statements f.2.read)
-  one_verdict InCycle (SecondAt m b) f g = absurd (refused_not_accepted text (IsSecondDriver b) (second_against b) m g f.2.statements f.2.read)
-  one_verdict InCycle (PassedAt m b) f g = absurd (refused_not_accepted text (PassesLimit b) (limit_against b) m g f.2.statements f.2.read)
+  one_verdict InCycle (UnreadAt m b) f g = absurd
+      (refused_not_accepted text (IsRefusedAlone b) (unread_against b) m g f.2.statements f.2.read)
+  one_verdict InCycle (SecondAt m b) f g = absurd
+      (refused_not_accepted text (IsSecondDriver b) (second_against b) m g f.2.statements f.2.read)
+  one_verdict InCycle (PassedAt m b) f g = absurd
+      (refused_not_accepted text (PassesLimit b) (limit_against b) m g f.2.statements f.2.read)
   one_verdict InCycle (UndrivenAt m b) f g = absurd (not_all_driven text m b g f.2.statements f.2.read f.2.driven)
   one_verdict InCycle InCycle f g = refl
 
-pub one_refusal : (text : List ℕ) (error other : BenchError) (v w : Verdict) → Refuses text error → Refuses text other → verdict_of error ≡ Some v → verdict_of other ≡ Some w → v ≡ w
-one_refusal text error other v w refused also e f = one_verdict text v w (verdict_is text error v refused e) (verdict_is text other w also f)
+pub one_refusal : (text : List ℕ) (error other : BenchError) (v w : Verdict) → Refuses text error → Refuses text other
+    → verdict_of error ≡ Some v → verdict_of other ≡ Some w → v ≡ w
+one_refusal text error other v w refused also e f = one_verdict text v w (verdict_is text error v refused e)
+    (verdict_is text other w also f)

@@ -19,8 +19,10 @@ pub record IsWithinLimits (statements : List Statement) : Type 0 where
 abbrev pub IsFirstPassed : List Statement → Limit → Type 0
 IsFirstPassed s Nets = most_nets < length (nets_of s)
 IsFirstPassed s Pins = (length (nets_of s) ≤ most_nets) × (most_pins < pins_of s)
-IsFirstPassed s Inputs = (length (nets_of s) ≤ most_nets) × (pins_of s ≤ most_pins) × (most_inputs < length (inputs_of s))
-IsFirstPassed s Dffs = (length (nets_of s) ≤ most_nets) × (pins_of s ≤ most_pins) × (length (inputs_of s) ≤ most_inputs) × (most_dffs < length (dffs_of s))
+IsFirstPassed s Inputs = (length (nets_of s) ≤ most_nets) × (pins_of s ≤ most_pins)
+    × (most_inputs < length (inputs_of s))
+IsFirstPassed s Dffs = (length (nets_of s) ≤ most_nets) × (pins_of s ≤ most_pins) × (length (inputs_of s) ≤ most_inputs)
+    × (most_dffs < length (dffs_of s))
 
 -- no earlier line drives the net that the statement drives
 abbrev pub HasNewDriver : List Statement → Statement → Type 0
@@ -34,7 +36,8 @@ pub record IsAccepted (before : List Statement) (statement : Statement) : Type 0
 -- each statement is accepted after those before it
 abbrev pub AreAccepted : List Statement → Type 0
 AreAccepted statements =
-    (before after : List Statement) (statement : Statement) → statements ≡ before ++ statement ∷ after → IsAccepted before statement
+    (before after : List Statement) (statement : Statement) → statements ≡ before ++ statement ∷ after
+    → IsAccepted before statement
 
 -- a line drives a net that an earlier line drives
 pub record IsSecondDriver (name : Name) (before : List Statement) (reading : Reading) : Type 0 where

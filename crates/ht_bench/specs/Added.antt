@@ -42,15 +42,18 @@ pub record IsDraftWith (mentioned : List Name) (statements : List Statement) (d 
   pub outputs : AllZip (IsNumberOf d.names) d.outputs (outputs_of statements)
   pub dffs : AllZip (IsDffOf d.names) d.dffs (dffs_of statements)
   pub gates : AllZip (IsGateOf d.names) d.gates (gates_of statements)
-  pub driven : (name : Name) → Contains (driven_by statements) name → (id : NameId) × IsDriven d id × IsNumberOf d.names id name
-  pub drives : (id : NameId) → IsDriven d id → (name : Name) × IsNumberOf d.names id name × Contains (driven_by statements) name
+  pub driven : (name : Name) → Contains (driven_by statements) name → (id : NameId) × IsDriven d id
+      × IsNumberOf d.names id name
+  pub drives : (id : NameId) → IsDriven d id → (name : Name) × IsNumberOf d.names id name
+      × Contains (driven_by statements) name
 
 abbrev pub IsDraftOf : List Statement → Draft → Type 0
 IsDraftOf statements d = IsDraftWith (mentions_of statements) statements d
 
 -- a draft in which more names are mentioned, and nothing else is new
 pub record Mentions (old : Draft) (names : List Name) (new : Draft) : Type 0 where
-  pub with_names : (mentioned : List Name) (statements : List Statement) → IsDraftWith mentioned statements old → IsDraftWith (mentioned ++ names) statements new
+  pub with_names : (mentioned : List Name) (statements : List Statement) → IsDraftWith mentioned statements old
+      → IsDraftWith (mentioned ++ names) statements new
   pub keeps : new ≡ record old { names = new.names }
   pub grows : (id : NameId) (name : Name) → IsNumberOf old.names id name → IsNumberOf new.names id name
   pub is_draft : IsDraft new
@@ -63,23 +66,27 @@ RefusesMention old name _ = ⊥
 
 -- the names are too many
 abbrev pub RefusesMentions : Draft → List Name → Cause → Type 0
-RefusesMentions old names (Limit Nets) = (mentioned : List Name) (statements : List Statement) → IsDraftWith mentioned statements old → most_nets < length (different (mentioned ++ names))
+RefusesMentions old names (Limit Nets) = (mentioned : List Name) (statements : List Statement)
+    → IsDraftWith mentioned statements old → most_nets < length (different (mentioned ++ names))
 RefusesMentions old names NoMemory = Unit {0}
 RefusesMentions old names _ = ⊥
 
 -- the net is driven already, or no name is left for it
 abbrev pub RefusesDriver : Draft → Name → Cause → Type 0
-RefusesDriver old name (SecondDriver net) = (net.items ≡ name) × ((before : List Statement) → IsDraftOf before old → Contains (driven_by before) name)
+RefusesDriver old name (SecondDriver net) = (net.items ≡ name)
+    × ((before : List Statement) → IsDraftOf before old → Contains (driven_by before) name)
 RefusesDriver old name cause = RefusesMention old name cause
 
 -- the statement is accepted after those of the old draft, and the new draft is theirs and its
 abbrev pub Accepts : Draft → Statement → Draft → Type 0
 Accepts old statement new =
-    (before : List Statement) → IsDraftOf before old → IsWithinLimits before → IsAccepted before statement × IsDraftOf (before ++ statement ∷ []) new
+    (before : List Statement) → IsDraftOf before old → IsWithinLimits before → IsAccepted before statement
+    × IsDraftOf (before ++ statement ∷ []) new
 
 -- it is refused after them
 abbrev pub RefusesStatement : Draft → Statement → Cause → Type 0
-RefusesStatement old statement cause = (before : List Statement) → IsDraftOf before old → IsCause cause before (States statement)
+RefusesStatement old statement cause = (before : List Statement) → IsDraftOf before old
+    → IsCause cause before (States statement)
 
 -- one argument for NOT and BUFF, 1 to 255 for the other gates
 abbrev pub HasArguments : Statement → Type 0

@@ -1,4 +1,5 @@
--- What the statements of a netlist say together (ISCAS-89 format): inputs, outputs, flip-flops, gates, and which nets are
+-- What the statements of a netlist say together (ISCAS-89 format): inputs, outputs, flip-flops, gates, and which nets
+-- are
 -- driven and mentioned.
 use Rattle.std.specs.Prelude.{ℕ, ◌+◌, List, [], ◌∷◌, length, flat_map, sum_by}
 use Rattle.std.specs.List.{position_or_len}

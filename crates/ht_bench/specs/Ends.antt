@@ -36,7 +36,8 @@ pub record IsCycle (statements : List Statement) (cycle : List Name) : Type 0 wh
   pub distinct : (j k : ℕ) → j < k → k < length cycle → get_or cycle j [] ≢ get_or cycle k []
   pub next : (k : ℕ) → k + 1 < length cycle → Feeds statements (get_or cycle k []) (get_or cycle (k + 1) [])
   pub closes : Feeds statements (get_or cycle (length cycle - 1) []) (get_or cycle 0 [])
-  pub least : (k : ℕ) → k < length cycle → place_of statements (get_or cycle 0 []) ≤ place_of statements (get_or cycle k [])
+  pub least : (k : ℕ) → k < length cycle → place_of statements (get_or cycle 0 []) ≤ place_of statements
+      (get_or cycle k [])
 
 -- the line that drives a net
 pub record IsDriverLine (statements : List Statement) (name : Name) (number : ℕ) : Type 0 where

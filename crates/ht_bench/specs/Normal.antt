@@ -22,7 +22,8 @@ gate_statement g = Gate g.out g.kind g.args
 
 -- inputs, then outputs, then flip-flops, then gates, each in the order of the circuit
 abbrev pub named_statements : NamedNetlist → List Statement
-named_statements n = map Input n.inputs ++ map Output n.outputs ++ map dff_statement n.dffs ++ map gate_statement n.gates
+named_statements n = map Input n.inputs ++ map Output n.outputs ++ map dff_statement n.dffs
+    ++ map gate_statement n.gates
 
 abbrev pub statements_of : Netlist → List Statement
 statements_of c = named_statements (named_of c)

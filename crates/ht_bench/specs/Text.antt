@@ -22,7 +22,8 @@ pub record IsAcceptedText (text : List ℕ) (statements : List Statement) : Type
   pub lines : readings_of text ≡ map States statements
   pub accepted : AreAccepted statements
 
--- A netlist and its circuit: the lines are accepted, each net that is mentioned is driven, the circuit is well formed, and
+-- A netlist and its circuit: the lines are accepted, each net that is mentioned is driven, the circuit is well formed,
+-- and
 -- its inputs, outputs, flip-flops and gates are those of the lines in their order.
 pub record IsNetlistOf (text : List ℕ) (circuit : Netlist) : Type 0 where
   pub statements : List Statement

@@ -13,7 +13,8 @@ use std::alloc::Global;
 
 fn add_input<'a>(alloc: Global, table: &mut Table<'a>, name: &'a [u8]) -> Result<(), Cause>
     ensures accepts { OnOk result (Accepts table.old.builder (Input name.now) table.new.builder) }
-    ensures names { OnOk result (texts_of table.old.names.items ≡ table.old.builder.names → texts_of table.new.names.items ≡ table.new.builder.names) }
+    ensures names { OnOk result (texts_of table.old.names.items ≡ table.old.builder.names
+        → texts_of table.new.names.items ≡ table.new.builder.names) }
     ensures refusal { IfErr result (RefusesStatement table.old.builder (Input name.now)) }
 {
     let id = mention_driven(alloc, table, name)?;
@@ -24,7 +25,8 @@ fn add_input<'a>(alloc: Global, table: &mut Table<'a>, name: &'a [u8]) -> Result
 /// Adds an output, or nothing if the net is one.
 fn add_output<'a>(table: &mut Table<'a>, name: &'a [u8]) -> Result<(), Cause>
     ensures accepts { OnOk result (Accepts table.old.builder (Output name.now) table.new.builder) }
-    ensures names { OnOk result (texts_of table.old.names.items ≡ table.old.builder.names → texts_of table.new.names.items ≡ table.new.builder.names) }
+    ensures names { OnOk result (texts_of table.old.names.items ≡ table.old.builder.names
+        → texts_of table.new.names.items ≡ table.new.builder.names) }
     ensures refusal { IfErr result (RefusesStatement table.old.builder (Output name.now)) }
 {
     let id = mention(table, name)?;
@@ -38,8 +40,10 @@ fn add_dff<'a>(
     out: &'a [u8],
     data_pin: &'a [u8],
 ) -> Result<(), Cause>
-    ensures accepts { OnOk result (Accepts table.old.builder (Dff out.now data_pin.now) table.new.builder) }
-    ensures names { OnOk result (texts_of table.old.names.items ≡ table.old.builder.names → texts_of table.new.names.items ≡ table.new.builder.names) }
+    ensures accepts { OnOk result
+        (Accepts table.old.builder (Dff out.now data_pin.now) table.new.builder) }
+    ensures names { OnOk result (texts_of table.old.names.items ≡ table.old.builder.names
+        → texts_of table.new.names.items ≡ table.new.builder.names) }
     ensures refusal { IfErr result (RefusesStatement table.old.builder (Dff out.now data_pin.now)) }
 {
     let out_id = mention_driven(alloc, table, out)?;
@@ -57,9 +61,12 @@ fn add_gate<'a>(
 ) -> Result<(), Cause>
     requires arity { HasArity kind (length args.now) }
     requires few { length args.now ≤ 255 }
-    ensures accepts { OnOk result (Accepts table.old.builder (Gate out.now kind (texts_of args.now)) table.new.builder) }
-    ensures names { OnOk result (texts_of table.old.names.items ≡ table.old.builder.names → texts_of table.new.names.items ≡ table.new.builder.names) }
-    ensures refusal { IfErr result (RefusesStatement table.old.builder (Gate out.now kind (texts_of args.now))) }
+    ensures accepts { OnOk result
+        (Accepts table.old.builder (Gate out.now kind (texts_of args.now)) table.new.builder) }
+    ensures names { OnOk result (texts_of table.old.names.items ≡ table.old.builder.names
+        → texts_of table.new.names.items ≡ table.new.builder.names) }
+    ensures refusal { IfErr result
+        (RefusesStatement table.old.builder (Gate out.now kind (texts_of args.now))) }
 {
     let out_id = mention_driven(alloc, table, out)?;
     let arg_ids = mention_all(alloc, table, args)?;
@@ -69,8 +76,10 @@ fn add_gate<'a>(
 
 fn add<'a>(alloc: Global, table: &mut Table<'a>, statement: &Statement<'a>) -> Result<(), Cause>
     requires { HasArguments (statement_of statement.now) }
-    ensures accepts { OnOk result (Accepts table.old.builder (statement_of statement.now) table.new.builder) }
-    ensures names { OnOk result (texts_of table.old.names.items ≡ table.old.builder.names → texts_of table.new.names.items ≡ table.new.builder.names) }
+    ensures accepts { OnOk result
+        (Accepts table.old.builder (statement_of statement.now) table.new.builder) }
+    ensures names { OnOk result (texts_of table.old.names.items ≡ table.old.builder.names
+        → texts_of table.new.names.items ≡ table.new.builder.names) }
     ensures refusal { IfErr result (RefusesStatement table.old.builder (statement_of statement.now)) }
 {
     match statement {
@@ -90,7 +99,8 @@ pub(crate) fn add_line<'a>(
     line: &'a [u8],
 ) -> Result<(), Cause>
     ensures adds { OnOk result (AddsLine table.old.builder line.now table.new.builder) }
-    ensures names { OnOk result (texts_of table.old.names.items ≡ table.old.builder.names → texts_of table.new.names.items ≡ table.new.builder.names) }
+    ensures names { OnOk result (texts_of table.old.names.items ≡ table.old.builder.names
+        → texts_of table.new.names.items ≡ table.new.builder.names) }
     ensures refusal { IfErr result (RefusesLine table.old.builder line.now) }
 {
     let statement = read_line(alloc, line)?;

@@ -26,7 +26,9 @@ pub fn write(alloc: Global, circuit: &Circuit) -> Result<Vec<u8>, AllocError>
 
 // Appends the lines of the inputs.
 fn push_inputs(text: &mut Vec<u8>, circuit: &Circuit) -> Result<(), AllocError>
-    ensures { OnOk result (text.new.items ≡ text.old.items ++ statement_lines (map Input (named_of circuit.now).inputs)) }
+    ensures { OnOk result
+        (text.new.items ≡ text.old.items
+        ++ statement_lines (map Input (named_of circuit.now).inputs)) }
 {
     let nets = circuit.nets();
     for input in 0..circuit.inputs() {
@@ -38,7 +40,9 @@ fn push_inputs(text: &mut Vec<u8>, circuit: &Circuit) -> Result<(), AllocError>
 
 // Appends the lines of the outputs.
 fn push_outputs(text: &mut Vec<u8>, circuit: &Circuit) -> Result<(), AllocError>
-    ensures { OnOk result (text.new.items ≡ text.old.items ++ statement_lines (map Output (named_of circuit.now).outputs)) }
+    ensures { OnOk result
+        (text.new.items ≡ text.old.items
+        ++ statement_lines (map Output (named_of circuit.now).outputs)) }
 {
     let nets = circuit.nets();
     for output in 0..circuit.outputs() {
@@ -52,7 +56,9 @@ fn push_outputs(text: &mut Vec<u8>, circuit: &Circuit) -> Result<(), AllocError>
 // Appends the lines of the flip-flops.
 #[tactic(auto, using(crate::proofs::NormalLaws::named_dffs_count, crate::proofs::NormalLaws::added_lines))]
 fn push_dffs(text: &mut Vec<u8>, circuit: &Circuit) -> Result<(), AllocError>
-    ensures { OnOk result (text.new.items ≡ text.old.items ++ statement_lines (map dff_statement (named_of circuit.now).dffs)) }
+    ensures { OnOk result
+        (text.new.items ≡ text.old.items
+        ++ statement_lines (map dff_statement (named_of circuit.now).dffs)) }
 {
     let nets = circuit.nets();
     for dff in 0..circuit.dffs() {
@@ -67,7 +73,9 @@ fn push_dffs(text: &mut Vec<u8>, circuit: &Circuit) -> Result<(), AllocError>
 // Appends the lines of the gates.
 #[tactic(auto, using(crate::proofs::NormalLaws::named_gates_count, crate::proofs::NormalLaws::added_lines))]
 fn push_gates(text: &mut Vec<u8>, circuit: &Circuit) -> Result<(), AllocError>
-    ensures { OnOk result (text.new.items ≡ text.old.items ++ statement_lines (map gate_statement (named_of circuit.now).gates)) }
+    ensures { OnOk result
+        (text.new.items ≡ text.old.items
+        ++ statement_lines (map gate_statement (named_of circuit.now).gates)) }
 {
     for gate in 0..circuit.gates() {
         let out = circuit.gate_net(gate);

@@ -19,6 +19,8 @@ pub fn a_circuit_that_was_read_has_names_of_the_format()
 /// What `read` answers on the normal text of a well-formed circuit whose names are names of the format: that circuit,
 /// or want of memory.
 pub fn normal_text_is_read_as_its_circuit()
-    ensures circuit { (c d : Netlist) → IsCircuit c → HasFormatNames c → IsNetlistOf (normal_text c) d → d ≡ c }
-    ensures refusal { (c : Netlist) (error : BenchError) → IsCircuit c → HasFormatNames c → IsOfNoCircuit (normal_text c) error → error ≡ NoMemory }
+    ensures circuit { (c d : Netlist) → IsCircuit c → HasFormatNames c
+        → IsNetlistOf (normal_text c) d → d ≡ c }
+    ensures refusal { (c : Netlist) (error : BenchError) → IsCircuit c → HasFormatNames c
+        → IsOfNoCircuit (normal_text c) error → error ≡ NoMemory }
 {}

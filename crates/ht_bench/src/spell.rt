@@ -31,7 +31,8 @@ pub(crate) fn push_output(text: &mut Vec<u8>, name: &[u8]) -> Result<(), AllocEr
 
 // Appends the line of a flip-flop, by its net and the net at its data pin.
 pub(crate) fn push_dff(text: &mut Vec<u8>, out: &[u8], data_pin: &[u8]) -> Result<(), AllocError>
-    ensures { OnOk result (text.new.items ≡ text.old.items ++ statement_line (Dff out.now data_pin.now)) }
+    ensures { OnOk result
+        (text.new.items ≡ text.old.items ++ statement_line (Dff out.now data_pin.now)) }
 {
     push_definition(text, out, b"DFF")?;
     text.extend_from_slice(data_pin)?;
@@ -47,7 +48,9 @@ pub(crate) fn push_gate(
     args: &[NetId],
 ) -> Result<(), AllocError>
     requires { All (λ (net : NetId). net.0 < net_count circuit.now) args.now }
-    ensures { OnOk result (text.new.items ≡ text.old.items ++ statement_line (Gate out.now kind (map (name_of circuit.now) args.now))) }
+    ensures { OnOk result
+        (text.new.items ≡ text.old.items
+        ++ statement_line (Gate out.now kind (map (name_of circuit.now) args.now))) }
 {
     push_definition(text, out, word_of(kind))?;
     push_arguments(text, circuit, args)?;
@@ -56,7 +59,8 @@ pub(crate) fn push_gate(
 
 // Appends a definition up to its arguments, by the name of its net and the word of its kind.
 fn push_definition(text: &mut Vec<u8>, out: &[u8], word: &[u8]) -> Result<(), AllocError>
-    ensures { OnOk result (text.new.items ≡ text.old.items ++ (out.now ++ codes " = " ++ word.now ++ codes "(")) }
+    ensures { OnOk result
+        (text.new.items ≡ text.old.items ++ (out.now ++ codes " = " ++ word.now ++ codes "(")) }
 {
     text.extend_from_slice(out)?;
     text.extend_from_slice(b" = ")?;
@@ -81,7 +85,8 @@ fn push_separator(text: &mut Vec<u8>) -> Result<(), AllocError>
 // Appends the names of nets, with a comma and a blank between two.
 fn push_arguments(text: &mut Vec<u8>, circuit: &Circuit, args: &[NetId]) -> Result<(), AllocError>
     requires { All (λ (net : NetId). net.0 < net_count circuit.now) args.now }
-    ensures { OnOk result (text.new.items ≡ text.old.items ++ arguments_text (map (name_of circuit.now) args.now)) }
+    ensures { OnOk result
+        (text.new.items ≡ text.old.items ++ arguments_text (map (name_of circuit.now) args.now)) }
 {
     for (place, net) in args.iter().enumerate() {
         if place > 0 {

@@ -20,7 +20,8 @@ pub(crate) struct Table<'a> {
 pub(crate) fn mention<'a>(table: &mut Table<'a>, name: &'a [u8]) -> Result<NameId, Cause>
     ensures number { IfOk result (λ id. IsNumberOf table.new.builder.names id name.now) }
     ensures mentions { OnOk result (Mentions table.old.builder (name.now ∷ []) table.new.builder) }
-    ensures names { OnOk result (texts_of table.old.names.items ≡ table.old.builder.names → texts_of table.new.names.items ≡ table.new.builder.names) }
+    ensures names { OnOk result (texts_of table.old.names.items ≡ table.old.builder.names
+        → texts_of table.new.names.items ≡ table.new.builder.names) }
     ensures refusal { IfErr result (RefusesMention table.old.builder name.now) }
 {
     let id = table.builder.net(name)?;
@@ -37,9 +38,12 @@ pub(crate) fn mention_all<'a>(
     names: &[&'a [u8]],
 ) -> Result<Vec<NameId>, Cause>
     requires { IsDraft table.old.builder }
-    ensures numbers { IfOk result (λ ids. AllZip (IsNumberOf table.new.builder.names) ids.items (texts_of names.now)) }
-    ensures mentions { OnOk result (Mentions table.old.builder (texts_of names.now) table.new.builder) }
-    ensures names { OnOk result (texts_of table.old.names.items ≡ table.old.builder.names → texts_of table.new.names.items ≡ table.new.builder.names) }
+    ensures numbers { IfOk result
+        (λ ids. AllZip (IsNumberOf table.new.builder.names) ids.items (texts_of names.now)) }
+    ensures mentions { OnOk result
+        (Mentions table.old.builder (texts_of names.now) table.new.builder) }
+    ensures names { OnOk result (texts_of table.old.names.items ≡ table.old.builder.names
+        → texts_of table.new.names.items ≡ table.new.builder.names) }
     ensures refusal { IfErr result (RefusesMentions table.old.builder (texts_of names.now)) }
 {
     let mut ids = Vec::new(alloc);
@@ -58,7 +62,8 @@ pub(crate) fn mention_driven<'a>(
     ensures number { IfOk result (λ id. IsNumberOf table.new.builder.names id name.now) }
     ensures free { IfOk result (λ id. ¬ IsDriven table.new.builder id) }
     ensures mentions { OnOk result (Mentions table.old.builder (name.now ∷ []) table.new.builder) }
-    ensures names { OnOk result (texts_of table.old.names.items ≡ table.old.builder.names → texts_of table.new.names.items ≡ table.new.builder.names) }
+    ensures names { OnOk result (texts_of table.old.names.items ≡ table.old.builder.names
+        → texts_of table.new.names.items ≡ table.new.builder.names) }
     ensures refusal { IfErr result (RefusesDriver table.old.builder name.now) }
 {
     let id = mention(table, name)?;

@@ -95,7 +95,8 @@ or_assoc : (a b c : Bool) → ((a || b) || c) ≡ (a || (b || c))
 or_assoc true b c = refl
 or_assoc false b c = refl
 
-pub shown_more : (a : Shown) (s : List Pair) (sets : List (List Pair)) → either (either a (shown_by (s ∷ []))) (shown_by sets) ≡ either a (shown_by (s ∷ sets))
+pub shown_more : (a : Shown) (s : List Pair) (sets : List (List Pair)) → either (either a (shown_by (s ∷ [])))
+    (shown_by sets) ≡ either a (shown_by (s ∷ sets))
 shown_more a s sets =
     let must = or_more a.must (list_all differs s) (list_any (list_all differs) sets) in
     let may = or_more a.may (list_any differs s) (list_any (list_any differs) sets) in
@@ -104,9 +105,11 @@ shown_more a s sets =
 pub shown_end : (a : Shown) → either a (shown_by []) ≡ a
 shown_end a = let must = or_nothing a.must in let may = or_nothing a.may in (λ i. record { must = must i; may = may i })
 
-any_append : {V : Type 0} → (test : V → Bool) (xs ys : List V) → (list_any test xs || list_any test ys) ≡ list_any test (xs ++ ys)
+any_append : {V : Type 0} → (test : V → Bool) (xs ys : List V) → (list_any test xs || list_any test ys)
+    ≡ list_any test (xs ++ ys)
 any_append test [] ys = refl
-any_append test (x ∷ xs) ys = or_assoc (test x) (list_any test xs) (list_any test ys) ∙ ap (λ (b : Bool). test x || b) (any_append test xs ys)
+any_append test (x ∷ xs) ys = or_assoc (test x) (list_any test xs) (list_any test ys) ∙ ap (λ (b : Bool). test x || b)
+    (any_append test xs ys)
 
 pub shown_append : (xs ys : List (List Pair)) → either (shown_by xs) (shown_by ys) ≡ shown_by (xs ++ ys)
 shown_append xs ys =
@@ -123,10 +126,12 @@ marks_outside (mark ∷ marks) z j [] e h = absurd (omega arith)
 marks_outside (true ∷ marks) z j (x ∷ xs) e h =
     let at : j + 0 ≡ j = omega arith in
     let here : true ≡ is_in z j = h 0 (omega arith) ∙ ap (is_in z) at in
-    let rest = marks_outside marks z (j + 1) xs (omega arith) (λ k l. let at : j + suc k ≡ j + 1 + k = omega arith in h (suc k) (omega arith) ∙ ap (is_in z) at) in
+    let rest = marks_outside marks z (j + 1) xs (omega arith) (λ k l. let at : j + suc k ≡ j + 1 + k = omega arith
+    in h (suc k) (omega arith) ∙ ap (is_in z) at) in
     rest ∙ ap (λ (b : Bool). cond b (outside z (j + 1) xs) (x ∷ outside z (j + 1) xs)) here
 marks_outside (false ∷ marks) z j (x ∷ xs) e h =
     let at : j + 0 ≡ j = omega arith in
     let here : false ≡ is_in z j = h 0 (omega arith) ∙ ap (is_in z) at in
-    let rest = marks_outside marks z (j + 1) xs (omega arith) (λ k l. let at : j + suc k ≡ j + 1 + k = omega arith in h (suc k) (omega arith) ∙ ap (is_in z) at) in
+    let rest = marks_outside marks z (j + 1) xs (omega arith) (λ k l. let at : j + suc k ≡ j + 1 + k = omega arith
+    in h (suc k) (omega arith) ∙ ap (is_in z) at) in
     (λ i. x ∷ rest i) ∙ ap (λ (b : Bool). cond b (outside z (j + 1) xs) (x ∷ outside z (j + 1) xs)) here

@@ -17,13 +17,16 @@ not_itself true e = cc
 not_itself false e = cc
 
 -- what is detected is opposite from all states, and a silent state shows no difference
-silent_undetected : (c : Netlist) (fault : Fault) (state : List Bool) → IsState c state → Silent c fault state → (list : List (List Bool)) (t o : ℕ) → ¬ Detects c fault list t o
+silent_undetected : (c : Netlist) (fault : Fault) (state : List Bool) → IsState c state → Silent c fault state
+    → (list : List (List Bool)) (t o : ℕ) → ¬ Detects c fault list t o
 silent_undetected c fault state is silent list t o detects =
     let apart = detected_apart c fault list t o detects state state is is in
-    let same : bit_at c None state list t o ≡ bit_at c (Some fault) state list t o = ap (λ (rows : List (List Bool)). get_or (get_or rows t []) o false) (silent list) in
+    let same : bit_at c None state list t o ≡ bit_at c (Some fault) state list t o = ap
+    (λ (rows : List (List Bool)). get_or (get_or rows t []) o false) (silent list) in
     not_itself (bit_at c None state list t o) (same ∙ apart)
 
-pub untestable : (w : OneFrameWindow) (tokens : List Token) → IsCircuit w.circuit → IsComplete (one_frame w) tokens → IsUntestable w.circuit w.fault w.z
+pub untestable : (w : OneFrameWindow) (tokens : List Token) → IsCircuit w.circuit → IsComplete (one_frame w) tokens
+    → IsUntestable w.circuit w.fault w.z
 untestable w tokens circuit complete =
     let c = w.circuit in
     let seal = walk_seals w tokens circuit complete in

@@ -34,4 +34,5 @@ FitsAt legal s token.Before = ⊥
 
 -- the set of latch j: variable first + j decides it, and variable first + m + j its faulty half
 abbrev pub latch_by : List (Option Tern) → ℕ → List Bool → ℕ → List Pair
-latch_by decisions first halves j = latch_pairs (get_or halves j false) (get_or decisions (first + j) None) (get_or decisions (first + length halves + j) None)
+latch_by decisions first halves j = latch_pairs (get_or halves j false) (get_or decisions (first + j) None)
+    (get_or decisions (first + length halves + j) None)

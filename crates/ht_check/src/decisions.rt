@@ -11,7 +11,8 @@ use ht_tree::Assign3;
 /// Writes what a path has decided for each variable.
 pub fn write_decisions(decisions: &mut [Option<Tern>], path: &[Assign3])
     requires { IsPlain (length decisions.old) path.now }
-    ensures { (var : ℕ) → var < length decisions.old → get_or decisions.new var None ≡ decided_value path.now var }
+    ensures { (var : ℕ) → var < length decisions.old → get_or decisions.new var None
+        ≡ decided_value path.now var }
 {
     decisions.fill(None);
     for decision in path {
@@ -84,7 +85,8 @@ fn with_faulty(faulty: Tern) -> PairSet
 /// Gives each input its set.
 pub fn write_inputs(decisions: &[Option<Tern>], vector: &mut [PairSet])
     requires { length vector.old ≤ length decisions.now }
-    ensures { (i : ℕ) → i < length vector.old → get_or vector.new i [] ≡ same_pairs (get_or decisions.now i None) }
+    ensures { (i : ℕ) → i < length vector.old → get_or vector.new i []
+        ≡ same_pairs (get_or decisions.now i None) }
 {
     for i in 0..vector.len() {
         vector[i] = same(decisions[i]);
@@ -102,7 +104,8 @@ pub fn write_latches(
     requires halves { length halves.now ≡ length latches.old }
     requires room { length decisions.now ≡ first + length latches.old + length latches.old }
     requires definite { (var : ℕ) → get_or decisions.now var None ≢ Some Unk }
-    ensures { (j : ℕ) → j < length latches.old → get_or latches.new j [] ≡ latch_by decisions.now first halves.now j }
+    ensures { (j : ℕ) → j < length latches.old → get_or latches.new j []
+        ≡ latch_by decisions.now first halves.now j }
 {
     let faulty = first + latches.len();
     for j in 0..latches.len() {

@@ -80,7 +80,8 @@ impl<'c> OneFrame<'c> {
     ) -> Result<OneFrame<'c>, AllocError>
         requires { (i : ℕ) → i < length z.now → get_or z.now i 0 < length circuit.now.dffs }
         ensures circuit { IsCircuit circuit.now }
-        ensures window { IfOk result (λ window. window ≡ record { circuit = circuit.now; fault = fault; z = z.now }) }
+        ensures window { IfOk result
+            (λ window. window ≡ record { circuit = circuit.now; fault = fault; z = z.now }) }
     {
         let nets = circuit.nets() as usize;
         let inputs = circuit.inputs() as usize;
@@ -157,8 +158,10 @@ fn evaluate(
     requires values { length values.old ≡ net_count circuit.now }
     requires next { length next.old ≡ length circuit.now.dffs }
     requires room { length pins.old ≡ MOST_PINS }
-    ensures values { (x : ℕ) → x < net_count circuit.now → env_of (pair Unk Unk ∷ []) values.new x ≡ net_value circuit.now (set_rules fault) vector.now latches.now x }
-    ensures next { next.new ≡ data_values (set_rules fault) (env_of (pair Unk Unk ∷ []) values.new) 0 circuit.now.dffs }
+    ensures values { (x : ℕ) → x < net_count circuit.now → env_of (pair Unk Unk ∷ []) values.new x
+        ≡ net_value circuit.now (set_rules fault) vector.now latches.now x }
+    ensures next { next.new ≡ data_values (set_rules fault) (env_of (pair Unk Unk ∷ []) values.new)
+        0 circuit.now.dffs }
 {
     settle(circuit, Some(fault), vector, latches, values, pins);
     capture(circuit, Some(fault), values, next);

@@ -23,7 +23,8 @@ pub fn entry(
     budget: u64,
     entry: &Entry,
 ) -> Result<bool, AllocError>
-    ensures exact { IfOk result (λ passes. IsTrue passes ↔ Passes circuit.now fault budget entry.now) }
+    ensures exact { IfOk result
+        (λ passes. IsTrue passes ↔ Passes circuit.now fault budget entry.now) }
     ensures sound { IfOk result (λ passes. IsTrue passes → Holds circuit.now fault entry.now) }
 {
     let _ = budget;
@@ -40,7 +41,8 @@ fn refutes(
     z: &[u32],
     tokens: &[Token],
 ) -> Result<bool, AllocError>
-    ensures exact { IfOk result (λ passes. IsTrue passes ↔ Refutes circuit.now fault z.now tokens.now) }
+    ensures exact { IfOk result
+        (λ passes. IsTrue passes ↔ Refutes circuit.now fault z.now tokens.now) }
     ensures sound { IfOk result (λ passes. IsTrue passes → IsUntestable circuit.now fault z.now) }
 {
     if !names_flip_flops(z, circuit.dffs()) {
@@ -52,7 +54,8 @@ fn refutes(
 
 /// Whether numbers rise and are below a count.
 fn names_flip_flops(z: &[u32], count: u32) -> bool
-    ensures { IsTrue result ↔ (Rises z.now × ((i : ℕ) → i < length z.now → get_or z.now i 0 < count)) }
+    ensures { IsTrue result
+        ↔ (Rises z.now × ((i : ℕ) → i < length z.now → get_or z.now i 0 < count)) }
 {
     for i in 0..z.len() {
         if z[i] >= count {

@@ -82,7 +82,8 @@ fn may_differ(set: PairSet) -> bool
 /// What the outputs show.
 pub fn outputs(circuit: &Circuit, values: &[PairSet]) -> Shown
     requires { length values.now ≡ net_count circuit.now }
-    ensures { result ≡ shown_by (values_at (env_of (pair Unk Unk ∷ []) values.now) circuit.now.outputs) }
+    ensures { result ≡ shown_by
+        (values_at (env_of (pair Unk Unk ∷ []) values.now) circuit.now.outputs) }
 {
     prove_eq!(values.len(), circuit.nets() as usize);
     let mut shown = Shown::nothing();

@@ -14,7 +14,8 @@ pub fn is_complete(
     window: &mut OneFrame,
     tokens: &[Token],
 ) -> Result<bool, AllocError>
-    ensures { IfOk result (λ complete. IsTrue complete ↔ IsComplete (one_frame window.old) tokens.now) }
+    ensures { IfOk result
+        (λ complete. IsTrue complete ↔ IsComplete (one_frame window.old) tokens.now) }
 {
     let mut walk = Walk::new(alloc, 1);
     for token in tokens {
@@ -29,9 +30,12 @@ pub fn is_complete(
 fn take(window: &mut OneFrame, walk: &mut Walk, token: Token) -> Result<bool, AllocError>
     requires { AreAllPlain (variable_count window.old) walk.old.stack }
     ensures window { window.new ≡ window.old }
-    ensures fits { IfOk result (λ taken. IsTrue taken ↔ FitsOnTop (one_frame window.old) walk.old.stack token) }
-    ensures stack { IfOk result (λ taken. taken ≡ true → walk.new.stack ≡ next_stack walk.old.stack token) }
-    ensures plain { IfOk result (λ taken. taken ≡ true → AreAllPlain (variable_count window.old) walk.new.stack) }
+    ensures fits { IfOk result
+        (λ taken. IsTrue taken ↔ FitsOnTop (one_frame window.old) walk.old.stack token) }
+    ensures stack { IfOk result
+        (λ taken. taken ≡ true → walk.new.stack ≡ next_stack walk.old.stack token) }
+    ensures plain { IfOk result
+        (λ taken. taken ≡ true → AreAllPlain (variable_count window.old) walk.new.stack) }
 {
     let status = window.status(walk.pending());
     if !fits(window, status, token) {

@@ -9,7 +9,8 @@ use Rattle.ht_collapse.specs.Classes.{SameClass, itself, turned, joined, fault_a
 use Rattle.ht_collapse.specs.Ends.{AreEnds}
 use Rattle.ht_collapse.specs.Places.{AreFirstPlaces}
 
-pub are_classes : (c : Netlist) (ends places : List ℕ) → AreEnds c ends → AreFirstPlaces ends places → AreClasses c places
+pub are_classes : (c : Netlist) (ends places : List ℕ) → AreEnds c ends → AreFirstPlaces ends places
+    → AreClasses c places
 are_classes c ends places led first = record {
   every = first.every ∙ led.every;
   exact = λ i l.
@@ -26,32 +27,38 @@ are_classes c ends places led first = record {
 }
 
 -- Two least numbers of one class are one.
-one_representative : (c : Netlist) (i j r q : ℕ) → SameClass c (fault_at c i) (fault_at c j) → IsRepresentative c i r → IsRepresentative c j q → r ≡ q
+one_representative : (c : Netlist) (i j r q : ℕ) → SameClass c (fault_at c i) (fault_at c j) → IsRepresentative c i r
+    → IsRepresentative c j q → r ≡ q
 one_representative c i j r q same h k = elim (cases_lt r q) [
   | inl l ↦ absurd (k.least r l (joined (fault_at c r) (fault_at c i) (fault_at c j) h.member same))
   | inr m ↦ elim (cases_lt q r) [
-    | inl l ↦ absurd (h.least q l (joined (fault_at c q) (fault_at c j) (fault_at c i) k.member (turned (fault_at c i) (fault_at c j) same)))
+    | inl l ↦ absurd (h.least q l
+        (joined (fault_at c q) (fault_at c j) (fault_at c i) k.member (turned (fault_at c i) (fault_at c j) same)))
     | inr n ↦ omega arith
   ]
 ]
 
-pub same_representative : (c : Netlist) (representatives : List ℕ) (i j : ℕ) → AreClasses c representatives → i < length (faults_of c) → j < length (faults_of c)
+pub same_representative : (c : Netlist) (representatives : List ℕ) (i j : ℕ) → AreClasses c representatives
+    → i < length (faults_of c) → j < length (faults_of c)
     → (get_or representatives i 0 ≡ get_or representatives j 0) ↔ SameClass c (fault_at c i) (fault_at c j)
 same_representative c representatives i j h inside there =
     let a = h.exact i inside in
     let b = h.exact j there in (
-      λ e. joined (fault_at c i) (fault_at c (get_or representatives i 0)) (fault_at c j) (turned (fault_at c (get_or representatives i 0)) (fault_at c i) a.member)
+      λ e. joined (fault_at c i) (fault_at c (get_or representatives i 0)) (fault_at c j)
+          (turned (fault_at c (get_or representatives i 0)) (fault_at c i) a.member)
           (subst (λ (n : ℕ). SameClass c (fault_at c n) (fault_at c j)) (sym e) b.member),
       λ same. one_representative c i j (get_or representatives i 0) (get_or representatives j 0) same a b,
     )
 
-pub own_representative : (c : Netlist) (representatives : List ℕ) (i : ℕ) → AreClasses c representatives → i < length (faults_of c)
+pub own_representative : (c : Netlist) (representatives : List ℕ) (i : ℕ) → AreClasses c representatives
+    → i < length (faults_of c)
     → get_or representatives (get_or representatives i 0) 0 ≡ get_or representatives i 0
 own_representative c representatives i h inside =
     let a = h.exact i inside in
     (same_representative c representatives (get_or representatives i 0) i h a.listed inside).1 a.member
 
-list_by_places : (xs ys : List ℕ) → length xs ≡ length ys → ((i : ℕ) → i < length xs → get_or xs i 0 ≡ get_or ys i 0) → xs ≡ ys
+list_by_places : (xs ys : List ℕ) → length xs ≡ length ys → ((i : ℕ) → i < length xs → get_or xs i 0 ≡ get_or ys i 0)
+    → xs ≡ ys
 list_by_places [] [] long h = refl
 list_by_places [] (y ∷ ys) long h = absurd (omega arith)
 list_by_places (x ∷ xs) [] long h = absurd (omega arith)
@@ -60,24 +67,29 @@ list_by_places (x ∷ xs) (y ∷ ys) long h =
     let rest : xs ≡ ys = list_by_places xs ys (omega arith) (λ i l. h (suc i) (omega arith)) in
     cc
 
-pub one_list : (c : Netlist) (representatives others : List ℕ) → AreClasses c representatives → AreClasses c others → representatives ≡ others
+pub one_list : (c : Netlist) (representatives others : List ℕ) → AreClasses c representatives → AreClasses c others
+    → representatives ≡ others
 one_list c representatives others h k =
     let long = h.every in
     let same = k.every in
     list_by_places representatives others (omega arith)
-    (λ i l. one_representative c i i (get_or representatives i 0) (get_or others i 0) (itself (fault_at c i)) (h.exact i (omega arith)) (k.exact i (omega arith)))
+    (λ i l. one_representative c i i (get_or representatives i 0) (get_or others i 0) (itself (fault_at c i))
+    (h.exact i (omega arith)) (k.exact i (omega arith)))
 
 -- The numbers below n that are their own representative, in rising order.
 pub record AreOwnBelow (representatives own : List ℕ) (n : ℕ) : Type 0 where
   pub rises : (j k : ℕ) → j < k → k < length own → get_or own j 0 < get_or own k 0
-  pub each : (k : ℕ) → k < length own → (get_or own k 0 < n) × (get_or representatives (get_or own k 0) 0 ≡ get_or own k 0)
+  pub each : (k : ℕ) → k < length own → (get_or own k 0 < n)
+      × (get_or representatives (get_or own k 0) 0 ≡ get_or own k 0)
   pub all : (i : ℕ) → i < n → get_or representatives i 0 ≡ i → (k : ℕ) × (k < length own) × (get_or own k 0 ≡ i)
 
-pub one_own : (representatives own : List ℕ) (n : ℕ) → AreOwnBelow representatives own n → get_or representatives n 0 ≡ n → AreOwnBelow representatives (own ++ n ∷ []) (n + 1)
+pub one_own : (representatives own : List ℕ) (n : ℕ) → AreOwnBelow representatives own n → get_or representatives n 0
+    ≡ n → AreOwnBelow representatives (own ++ n ∷ []) (n + 1)
 one_own representatives own n h is =
     let long = length-append own (n ∷ []) in
     let last = get_or_push own n 0 (length own) refl in
-    let before : (k : ℕ) → k < length own → get_or (own ++ n ∷ []) k 0 ≡ get_or own k 0 = λ k l. get_or_append_left own (n ∷ []) 0 k l in
+    let before : (k : ℕ) → k < length own → get_or (own ++ n ∷ []) k 0 ≡ get_or own k 0 = λ k l. get_or_append_left own
+    (n ∷ []) 0 k l in
     record {
       rises = λ j k less l. elim (cases_eq k (length own)) [
         | inl e ↦
@@ -114,7 +126,8 @@ one_own representatives own n h is =
       ];
     }
 
-pub not_own : (representatives own : List ℕ) (n : ℕ) → AreOwnBelow representatives own n → get_or representatives n 0 ≢ n → AreOwnBelow representatives own (n + 1)
+pub not_own : (representatives own : List ℕ) (n : ℕ) → AreOwnBelow representatives own n
+    → get_or representatives n 0 ≢ n → AreOwnBelow representatives own (n + 1)
 not_own representatives own n h other = record {
   rises = h.rises;
   each = λ k l. let old = h.each k l in let low = old.0 in let x : get_or own k 0 < n + 1 = omega arith in (x, old.1);

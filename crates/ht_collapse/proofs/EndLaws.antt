@@ -17,15 +17,18 @@ use Rattle.ht_collapse.proofs.FaultListLaws.{listed_once, stem_listed, stems_lis
 abbrev end_at : Netlist → List ℕ → ℕ → Fault → ℕ
 end_at c stems i f = end_by c stems i f.site f.value
 
-module _ (c : Netlist) (circuit : IsCircuit c) (stems : List ℕ) (stay : StayInClass c stems) (joins : (g : ℕ) → g < length c.gates → GateJoins c stems g) where
+module _ (c : Netlist) (circuit : IsCircuit c) (stems : List ℕ) (stay : StayInClass c stems)
+    (joins : (g : ℕ) → g < length c.gates → GateJoins c stems g) where
   -- two faults are one, or have one end whatever their numbers are
   abbrev Meets : Fault → Fault → Type 0
   Meets f g = (f ≡ g) ⊎ ((i j : ℕ) → end_at c stems i f ≡ end_at c stems j g)
 
   -- an input fault has the end of the output fault
-  input_end : (g p : ℕ) (v w : Bool) → g < length c.gates → p < length (gate_at c g).args → output_value c g v ≡ Some w → (i : ℕ)
+  input_end : (g p : ℕ) (v w : Bool) → g < length c.gates → p < length (gate_at c g).args → output_value c g v ≡ Some w
+      → (i : ℕ)
       → (fanout : Bool) → is_fanout c (arg_at c g p) ≡ fanout
-      → end_by c stems i (cond fanout (GatePin g p) (Stem (record { 0 = arg_at c g p }))) v ≡ get_or stems (output_number c g w) 0
+      → end_by c stems i (cond fanout (GatePin g p) (Stem (record { 0 = arg_at c g p }))) v
+      ≡ get_or stems (output_number c g w) 0
   input_end g p v w inside pin values i true is = ap (end_after c stems i g) values
   input_end g p v w inside pin values i false is = (joins g inside p pin).joins v w is values
 
@@ -54,19 +57,26 @@ module _ (c : Netlist) (circuit : IsCircuit c) (stems : List ℕ) (stay : StayIn
   abbrev EndsWell : ℕ → Fault → ℕ → Type 0
   EndsWell i f e = (e < length (faults_of c)) × SameClass c f (fault_at c e)
 
-  stem_ends_well : (i x : ℕ) (v : Bool) (f : Fault) → x < net_count c → SameClass c f (fault_at c (stem_number x v)) → EndsWell i f (get_or stems (stem_number x v) 0)
+  stem_ends_well : (i x : ℕ) (v : Bool) (f : Fault) → x < net_count c → SameClass c f (fault_at c (stem_number x v))
+      → EndsWell i f (get_or stems (stem_number x v) 0)
   stem_ends_well i x v f inside h =
-      let at : stem_number x v < length stems = let b = number_below x (net_count c) v inside in let e = stay.every in omega arith in
+      let at : stem_number x v < length stems = let b = number_below x (net_count c) v inside in let e = stay.every
+      in omega arith in
       let low = stay.known (stem_number x v) at in
       let some = stems_listed c in
       let long = stay.every in
-      let a : get_or stems (stem_number x v) 0 < length (faults_of c) = omega arith in
-      (a, joined f (fault_at c (stem_number x v)) (fault_at c (get_or stems (stem_number x v) 0)) h (stay.member (stem_number x v) at))
+      let a : get_or stems (stem_number x v) 0 < length (faults_of c) = omega arith in (
+        a,
+        joined f (fault_at c (stem_number x v)) (fault_at c (get_or stems (stem_number x v) 0)) h
+            (stay.member (stem_number x v) at),
+      )
 
-  pin_ends_well : (i g p : ℕ) (v : Bool) (f : Fault) → i < length (faults_of c) → f ≡ fault_at c i → f ≡ record { site = GatePin g p; value = v }
+  pin_ends_well : (i g p : ℕ) (v : Bool) (f : Fault) → i < length (faults_of c) → f ≡ fault_at c i → f
+      ≡ record { site = GatePin g p; value = v }
       → g < length c.gates → p < length (gate_at c g).args → is_fanout c (arg_at c g p) ≡ true
       → (o : Option Bool) → output_value c g v ≡ o → EndsWell i f (end_after c stems i g o)
-  pin_ends_well i g p v f listed at is inside pin fanout None values = (listed, subst (λ (x : Fault). SameClass c f x) at (itself f))
+  pin_ends_well i g p v f listed at is inside pin fanout None values =
+      (listed, subst (λ (x : Fault). SameClass c f x) at (itself f))
   pin_ends_well i g p v f listed at is inside pin fanout (Some w) values =
       let output : Fault = record { site = output_line c g; value = w } in
       let pair : EquivalentPair c f (record { site = output_line c g; value = w }) = record {
@@ -74,28 +84,35 @@ module _ (c : Netlist) (circuit : IsCircuit c) (stems : List ℕ) (stay : StayIn
         is_gate = inside;
         pin = p;
         is_pin = pin;
-        at_input = ap (λ (x : Fault). x.site) is ∙ sym (ap (λ (b : Bool). let s : Site = cond b (GatePin g p) (Stem (record { 0 = arg_at c g p })) in s) fanout);
+        at_input = ap (λ (x : Fault). x.site) is ∙ sym
+            (ap (λ (b : Bool). let s : Site = cond b (GatePin g p) (Stem (record { 0 = arg_at c g p })) in s) fanout);
         at_output = refl;
         values = ap (λ (x : Fault). output_value c g x.value) is ∙ values;
       } in
       stem_ends_well i (first_gate_net c + g) w f (omega arith)
-      (subst (λ (x : Fault). SameClass c f x) (sym (stem_listed c (first_gate_net c + g) w (omega arith))) (paired f output pair))
+      (subst (λ (x : Fault). SameClass c f x) (sym (stem_listed c (first_gate_net c + g) w (omega arith)))
+      (paired f output pair))
 
-  ends_well_by : (i : ℕ) (f : Fault) → i < length (faults_of c) → f ≡ fault_at c i → (s : Site) (v : Bool) → f ≡ record { site = s; value = v }
+  ends_well_by : (i : ℕ) (f : Fault) → i < length (faults_of c) → f ≡ fault_at c i → (s : Site) (v : Bool) → f
+      ≡ record { site = s; value = v }
       → IsFaultSite c s → EndsWell i f (end_by c stems i s v)
   ends_well_by i f listed at (Stem x) v is site =
-      stem_ends_well i x.0 v f site (subst (λ (y : Fault). SameClass c f y) (is ∙ sym (stem_listed c x.0 v site)) (itself f))
+      stem_ends_well i x.0 v f site
+      (subst (λ (y : Fault). SameClass c f y) (is ∙ sym (stem_listed c x.0 v site)) (itself f))
   ends_well_by i f listed at (DffPin j) v is site = (listed, subst (λ (x : Fault). SameClass c f x) at (itself f))
   ends_well_by i f listed at (GatePin g p) v is site =
       let more : 2 ≤ loads_of c (arg_at c g p) = site.2 in
-      pin_ends_well i g p v f listed at is site.0 site.1 (many_loads c (arg_at c g p) (omega arith)) (output_value c g v) refl
+      pin_ends_well i g p v f listed at is site.0 site.1 (many_loads c (arg_at c g p) (omega arith))
+      (output_value c g v) refl
 
   ends_well : (i : ℕ) → i < length (faults_of c) → EndsWell i (fault_at c i) (end_at c stems i (fault_at c i))
-  ends_well i listed = ends_well_by i (fault_at c i) listed refl (fault_at c i).site (fault_at c i).value refl (fault_site c i listed)
+  ends_well i listed = ends_well_by i (fault_at c i) listed refl (fault_at c i).site (fault_at c i).value refl
+      (fault_site c i listed)
 
   -- what faults lead to, by number, are ends
   pub are_ends : (ends : List ℕ) → length ends ≡ length (faults_of c)
-      → ((i : ℕ) → i < length (faults_of c) → get_or ends i 0 ≡ end_by c stems i (fault_at c i).site (fault_at c i).value) → AreEnds c ends
+      → ((i : ℕ) → i < length (faults_of c) → get_or ends i 0 ≡ end_by c stems i (fault_at c i).site
+      (fault_at c i).value) → AreEnds c ends
   are_ends ends long is = record {
     every = long;
     known = λ i l.
@@ -106,15 +123,21 @@ module _ (c : Netlist) (circuit : IsCircuit c) (stems : List ℕ) (stay : StayIn
     exact = λ i j l m.
         let a : i < length (faults_of c) = omega arith in
         let b : j < length (faults_of c) = omega arith in
-        let well_i : SameClass c (fault_at c i) (fault_at c (get_or ends i 0)) = subst (λ (n : ℕ). SameClass c (fault_at c i) (fault_at c n)) (sym (is i a)) (ends_well i a).1 in
-        let well_j : SameClass c (fault_at c j) (fault_at c (get_or ends j 0)) = subst (λ (n : ℕ). SameClass c (fault_at c j) (fault_at c n)) (sym (is j b)) (ends_well j b).1 in (
+        let well_i : SameClass c (fault_at c i) (fault_at c (get_or ends i 0)) = subst
+        (λ (n : ℕ). SameClass c (fault_at c i) (fault_at c n)) (sym (is i a)) (ends_well i a).1 in
+        let well_j : SameClass c (fault_at c j) (fault_at c (get_or ends j 0)) = subst
+        (λ (n : ℕ). SameClass c (fault_at c j) (fault_at c n)) (sym (is j b)) (ends_well j b).1 in (
           λ e. joined (fault_at c i) (fault_at c (get_or ends i 0)) (fault_at c j) well_i
-              (subst (λ (n : ℕ). SameClass c (fault_at c n) (fault_at c j)) (sym e) (turned (fault_at c j) (fault_at c (get_or ends j 0)) well_j)),
+              (subst (λ (n : ℕ). SameClass c (fault_at c n) (fault_at c j)) (sym e)
+              (turned (fault_at c j) (fault_at c (get_or ends j 0)) well_j)),
           λ h. same_end ends is i j a b (class_meets (fault_at c i) (fault_at c j) h),
         );
   }
     where
-      same_end : (ends : List ℕ) → ((i : ℕ) → i < length (faults_of c) → get_or ends i 0 ≡ end_by c stems i (fault_at c i).site (fault_at c i).value)
-          → (i j : ℕ) → i < length (faults_of c) → j < length (faults_of c) → Meets (fault_at c i) (fault_at c j) → get_or ends i 0 ≡ get_or ends j 0
+      same_end : (ends : List ℕ)
+          → ((i : ℕ) → i < length (faults_of c) → get_or ends i 0 ≡ end_by c stems i (fault_at c i).site
+          (fault_at c i).value)
+          → (i j : ℕ) → i < length (faults_of c) → j < length (faults_of c) → Meets (fault_at c i) (fault_at c j)
+          → get_or ends i 0 ≡ get_or ends j 0
       same_end ends is i j a b (inl e) = ap (λ (n : ℕ). get_or ends n 0) (listed_once c i j a b e)
       same_end ends is i j a b (inr h) = is i a ∙ (h i j ∙ sym (is j b))

@@ -17,7 +17,8 @@ use Rattle.ht_collapse.specs.Classes.{fault_at}
 use Rattle.ht_collapse.specs.Ends.{stem_number}
 
 -- No fault stands at two places of the list.
-pub listed_once : (c : Netlist) (i j : ℕ) → i < length (faults_of c) → j < length (faults_of c) → fault_at c i ≡ fault_at c j → i ≡ j
+pub listed_once : (c : Netlist) (i j : ℕ) → i < length (faults_of c) → j < length (faults_of c) → fault_at c i
+    ≡ fault_at c j → i ≡ j
 listed_once c i j inside there same = elim (cases_lt i j) [
   | inl less ↦ absurd (faults_differ c i j less there same)
   | inr h ↦ elim (cases_lt j i) [
@@ -26,7 +27,8 @@ listed_once c i j inside there same = elim (cases_lt i j) [
   ]
 ]
 
-stems_kept : (c : Netlist) (a n : ℕ) → filter (is_site c) (map (λ x. Stem (record { 0 = x })) (range_with_len a n)) ≡ map (λ x. Stem (record { 0 = x })) (range_with_len a n)
+stems_kept : (c : Netlist) (a n : ℕ) → filter (is_site c) (map (λ x. Stem (record { 0 = x })) (range_with_len a n))
+    ≡ map (λ x. Stem (record { 0 = x })) (range_with_len a n)
 stems_kept c a zero = refl
 stems_kept c a (suc n) = ap (λ (l : List Site). Stem (record { 0 = a }) ∷ l) (stems_kept c (a + 1) n)
 
@@ -39,7 +41,8 @@ stem_site_at : (c : Netlist) (x : ℕ) → x < net_count c → get_or (sites_of 
 stem_site_at c x inside =
     let long = length-map-range_with_len (λ x. Stem (record { 0 = x })) 0 (net_count c) in
     ap (λ (l : List Site). get_or l x (Stem no_net)) (sites_begin c)
-    ∙ (get_or_append_left (stems_of c) (filter (is_site c) (data_pins_of c ++ gate_pins_of c)) (Stem no_net) x (omega arith)
+    ∙ (get_or_append_left (stems_of c) (filter (is_site c) (data_pins_of c ++ gate_pins_of c)) (Stem no_net) x
+    (omega arith)
     ∙ get_or-map-range_with_len (λ x. Stem (record { 0 = x })) 0 (net_count c) x x (Stem no_net) inside (omega arith))
 
 -- The stems' faults are among the faults.
@@ -51,7 +54,8 @@ stems_listed c =
     let split = length-append (stems_of c) (filter (is_site c) (data_pins_of c ++ gate_pins_of c)) in
     omega (arith, count, long, all, split)
 
-pub stem_listed : (c : Netlist) (x : ℕ) (v : Bool) → x < net_count c → fault_at c (stem_number x v) ≡ record { site = Stem (record { 0 = x }); value = v }
+pub stem_listed : (c : Netlist) (x : ℕ) (v : Bool) → x < net_count c → fault_at c (stem_number x v)
+    ≡ record { site = Stem (record { 0 = x }); value = v }
 stem_listed c x false inside =
     let count = by_site.faults_count (sites_of c) in
     let some = stems_listed c in

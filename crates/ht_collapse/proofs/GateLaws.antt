@@ -9,7 +9,8 @@ use Rattle.ht_tern.specs.declared.gate.Kind.TheVariants.{And, Nand, Or, Nor, Xor
 use Rattle.ht_tern.specs.Gate.{Operations, tern_operations, bool_operations, folded, gate_value_over, tern_of, and_of, or_of}
 use Rattle.ht_collapse.specs.Table.{controlled_output, single_output, equivalent_output}
 
--- The bits of a domain: complements, and the bit that decides a conjunction or a disjunction whatever the other value is.
+-- The bits of a domain: complements, and the bit that decides a conjunction or a disjunction whatever the other value
+-- is.
 pub record HasBits {V : Type 0} (o : Operations V) (at : Bool → V) : Type 0 where
   pub complement : (b : Bool) → o.complement (at b) ≡ at (not b)
   pub conjunction_left : (x : V) → o.conjunction (at false) x ≡ at false
@@ -62,7 +63,8 @@ fold_from : {V : Type 0} → (op : V → V → V) (z : V) (left : (x : V) → op
 fold_from op z left [] = refl
 fold_from op z left (x ∷ xs) = ap (λ v. folded op v xs) (left x) ∙ fold_from op z left xs
 
-fold_at : {V : Type 0} → (op : V → V → V) (z blank : V) (left : (x : V) → op z x ≡ z) (right : (x : V) → op x z ≡ z) (a : V) (xs : List V) (i : ℕ)
+fold_at : {V : Type 0} → (op : V → V → V) (z blank : V) (left : (x : V) → op z x ≡ z) (right : (x : V) → op x z ≡ z)
+    (a : V) (xs : List V) (i : ℕ)
     → i < length (a ∷ xs) → get_or (a ∷ xs) i blank ≡ z → folded op a xs ≡ z
 fold_at op z blank left right a xs zero inside at = ap (λ v. folded op v xs) at ∙ fold_from op z left xs
 fold_at op z blank left right a [] (suc i) inside at = absurd (omega arith)
@@ -76,21 +78,28 @@ same_some x w h = cc
 
 -- a domain's bits and what stands where there is no argument
 module _ {V : Type 0} (o : Operations V) (at : Bool → V) (blank : V) (bits : HasBits o at) where
-  conjunction_at : (a : V) (xs : List V) (i : ℕ) → i < length (a ∷ xs) → get_or (a ∷ xs) i blank ≡ at false → folded o.conjunction a xs ≡ at false
-  conjunction_at a xs i inside is = fold_at o.conjunction (at false) blank bits.conjunction_left bits.conjunction_right a xs i inside is
+  conjunction_at : (a : V) (xs : List V) (i : ℕ) → i < length (a ∷ xs) → get_or (a ∷ xs) i blank ≡ at false
+      → folded o.conjunction a xs ≡ at false
+  conjunction_at a xs i inside is = fold_at o.conjunction (at false) blank bits.conjunction_left bits.conjunction_right
+      a xs i inside is
 
-  disjunction_at : (a : V) (xs : List V) (i : ℕ) → i < length (a ∷ xs) → get_or (a ∷ xs) i blank ≡ at true → folded o.disjunction a xs ≡ at true
-  disjunction_at a xs i inside is = fold_at o.disjunction (at true) blank bits.disjunction_left bits.disjunction_right a xs i inside is
+  disjunction_at : (a : V) (xs : List V) (i : ℕ) → i < length (a ∷ xs) → get_or (a ∷ xs) i blank ≡ at true
+      → folded o.disjunction a xs ≡ at true
+  disjunction_at a xs i inside is = fold_at o.disjunction (at true) blank bits.disjunction_left bits.disjunction_right a
+      xs i inside is
 
   complement_is : (x : V) (b w : Bool) → x ≡ at b → not b ≡ w → o.complement x ≡ at w
   complement_is x b w is h = ap o.complement is ∙ (bits.complement b ∙ ap at h)
 
-  controlled : (kind : Kind) (a : V) (xs : List V) (i : ℕ) (v w : Bool) → i < length (a ∷ xs) → get_or (a ∷ xs) i blank ≡ at v
+  controlled : (kind : Kind) (a : V) (xs : List V) (i : ℕ) (v w : Bool) → i < length (a ∷ xs) → get_or (a ∷ xs) i blank
+      ≡ at v
       → controlled_output kind v ≡ Some w → gate_value_over o blank kind (a ∷ xs) ≡ at w
   controlled And a xs i false w inside is h = conjunction_at a xs i inside is ∙ ap at (same_some false w h)
-  controlled Nand a xs i false w inside is h = complement_is _ false w (conjunction_at a xs i inside is) (same_some true w h)
+  controlled Nand a xs i false w inside is h = complement_is _ false w (conjunction_at a xs i inside is)
+      (same_some true w h)
   controlled Or a xs i true w inside is h = disjunction_at a xs i inside is ∙ ap at (same_some true w h)
-  controlled Nor a xs i true w inside is h = complement_is _ true w (disjunction_at a xs i inside is) (same_some false w h)
+  controlled Nor a xs i true w inside is h = complement_is _ true w (disjunction_at a xs i inside is)
+      (same_some false w h)
   controlled And a xs i true w inside is h = cc
   controlled Nand a xs i true w inside is h = cc
   controlled Or a xs i false w inside is h = cc
@@ -100,7 +109,8 @@ module _ {V : Type 0} (o : Operations V) (at : Bool → V) (blank : V) (bits : H
   controlled Not a xs i v w inside is h = cc
   controlled Buf a xs i v w inside is h = cc
 
-  single : (kind : Kind) (a : V) (v w : Bool) → a ≡ at v → Some (single_output kind v) ≡ Some w → gate_value_over o blank kind (a ∷ []) ≡ at w
+  single : (kind : Kind) (a : V) (v w : Bool) → a ≡ at v → Some (single_output kind v) ≡ Some w
+      → gate_value_over o blank kind (a ∷ []) ≡ at w
   single And a v w is h = is ∙ ap at (same_some v w h)
   single Nand a v w is h = complement_is a v w is (same_some (not v) w h)
   single Or a v w is h = is ∙ ap at (same_some v w h)

@@ -18,7 +18,8 @@ pub other_test : (x y : ℕ) → x ≢ y → eqb x y ≡ false
 other_test x y ne = grind (arith, nat_tests)
 
 -- the value at one pin
-pub pins_get : {V : Type 0} → (r : Rules V) (g : ℕ) (e : ℕ → V) (k : ℕ) (args : List NetId) (i : ℕ) (d : V) → i < length args
+pub pins_get : {V : Type 0} → (r : Rules V) (g : ℕ) (e : ℕ → V) (k : ℕ) (args : List NetId) (i : ℕ) (d : V)
+    → i < length args
     → get_or (pin_values r g e k args) i d ≡ r.pin g (k + i) (e (get_or args i no_net).0)
 pins_get r g e k [] i d h = absurd (omega arith)
 pins_get r g e k (a ∷ args) zero d h = let z : k + zero ≡ k = omega arith in ap (λ (n : ℕ). r.pin g n (e a.0)) (sym z)
@@ -27,7 +28,8 @@ pins_get r g e k (a ∷ args) (suc i) d h =
     pins_get r g e (k + 1) args i d (omega arith) ∙ ap (λ (n : ℕ). r.pin g n (e (get_or args i no_net).0)) z
 
 -- two machines whose pins of a gate do the same
-pub pins_alike : {V : Type 0} → (r s : Rules V) (g : ℕ) (e : ℕ → V) (k : ℕ) (args : List NetId) → ((i : ℕ) (v : V) → r.pin g i v ≡ s.pin g i v)
+pub pins_alike : {V : Type 0} → (r s : Rules V) (g : ℕ) (e : ℕ → V) (k : ℕ) (args : List NetId)
+    → ((i : ℕ) (v : V) → r.pin g i v ≡ s.pin g i v)
     → pin_values r g e k args ≡ pin_values s g e k args
 pins_alike r s g e k [] h = refl
 pins_alike r s g e k (a ∷ args) h =
@@ -37,7 +39,8 @@ pins_alike r s g e k (a ∷ args) h =
 
 -- Two machines give a net the same value if its stem and the pins of its gate do the same in both.
 pub value_alike : {V : Type 0} → (c : Netlist) (r s : Rules V) (vector latches : List V) (e : ℕ → V) (x : ℕ)
-    → r.blank ≡ s.blank → ((kind : Kind) (xs : List V) → r.gate kind xs ≡ s.gate kind xs) → ((v : V) → r.stem x v ≡ s.stem x v)
+    → r.blank ≡ s.blank → ((kind : Kind) (xs : List V) → r.gate kind xs ≡ s.gate kind xs)
+    → ((v : V) → r.stem x v ≡ s.stem x v)
     → ((i : ℕ) (v : V) → first_gate_net c ≤ x → r.pin (x - first_gate_net c) i v ≡ s.pin (x - first_gate_net c) i v)
     → net_value_over c r vector latches e x ≡ net_value_over c s vector latches e x
 unfolding net_value_over gate_output
@@ -45,11 +48,14 @@ value_alike {V} c r s vector latches e x b gates stems pins =
     stems (driver_value c r vector latches e x) ∙ ap (s.stem x) (elim (le_or_lt (first_gate_net c) x) [
       | inl at ↦
           driven_gate c r vector latches e x at
-          ∙ (gates _ _ ∙ (ap (s.gate (gate_at c (x - first_gate_net c)).kind) (pins_alike r s (x - first_gate_net c) e 0 (gate_at c (x - first_gate_net c)).args (λ i v. pins i v at))
+          ∙ (gates _ _ ∙ (ap (s.gate (gate_at c (x - first_gate_net c)).kind)
+          (pins_alike r s (x - first_gate_net c) e 0 (gate_at c (x - first_gate_net c)).args (λ i v. pins i v at))
           ∙ sym (driven_gate c s vector latches e x at)))
       | inr low ↦ elim (le_or_lt c.inputs x) [
-        | inl at ↦ driven_latch c r vector latches e x at low ∙ (ap (λ (d : V). get_or latches (x - c.inputs) d) b ∙ sym (driven_latch c s vector latches e x at low))
-        | inr l ↦ driven_input c r vector latches e x l ∙ (ap (λ (d : V). get_or vector x d) b ∙ sym (driven_input c s vector latches e x l))
+        | inl at ↦ driven_latch c r vector latches e x at low ∙
+            (ap (λ (d : V). get_or latches (x - c.inputs) d) b ∙ sym (driven_latch c s vector latches e x at low))
+        | inr l ↦ driven_input c r vector latches e x l ∙
+            (ap (λ (d : V). get_or vector x d) b ∙ sym (driven_input c s vector latches e x l))
       ]
     ])
 
@@ -72,21 +78,25 @@ module _ {V : Type 0} (blank : V) (gate : Kind → List V → V) (at : Bool → 
 
   -- and every other net has its value from the good machine's rules
   pub stem_free : (a : ℕ) (v : Bool) (vector latches : List V) (e : ℕ → V) (x : ℕ) → x ≢ a
-      → net_value_over c (stuck blank gate at (stem_site a) v) vector latches e x ≡ net_value_over c (good blank gate at) vector latches e x
+      → net_value_over c (stuck blank gate at (stem_site a) v) vector latches e x
+      ≡ net_value_over c (good blank gate at) vector latches e x
   unfolding forced
   stem_free a v vector latches e x ne =
       let q = other_test x a ne in
-      value_alike c (stuck blank gate at (stem_site a) v) (good blank gate at) vector latches e x refl (λ kind xs. refl) (λ z. rw q refl) (λ k z low. refl)
+      value_alike c (stuck blank gate at (stem_site a) v) (good blank gate at) vector latches e x refl (λ kind xs. refl)
+      (λ z. rw q refl) (λ k z low. refl)
 
   -- a gate whose stem is free, by the values at its pins
-  pub good_gate : (a : ℕ) (v : Bool) (vector latches : List V) (e : ℕ → V) (y g : ℕ) → first_gate_net c ≤ y → y - first_gate_net c ≡ g
+  pub good_gate : (a : ℕ) (v : Bool) (vector latches : List V) (e : ℕ → V) (y g : ℕ) → first_gate_net c ≤ y
+      → y - first_gate_net c ≡ g
       → net_value_over c (good blank gate at) vector latches e y
       ≡ gate (gate_at c g).kind (pin_values (stuck blank gate at (stem_site a) v) g e 0 (gate_at c g).args)
   unfolding net_value_over gate_output forced
   good_gate a v vector latches e y g low is =
       let machine : Rules V = good blank gate at in
       driven_gate c machine vector latches e y low ∙ (ap (λ (n : ℕ). gate_output c machine e n) is
-      ∙ ap (gate (gate_at c g).kind) (pins_alike machine (stuck blank gate at (stem_site a) v) g e 0 (gate_at c g).args (λ k z. refl)))
+      ∙ ap (gate (gate_at c g).kind)
+      (pins_alike machine (stuck blank gate at (stem_site a) v) g e 0 (gate_at c g).args (λ k z. refl)))
 
   -- a stuck pin shows its bit, and every gate but its own has its value from the good machine's rules
   pub pin_stuck : (g i : ℕ) (v : Bool) (e : ℕ → V) → i < length (gate_at c g).args
@@ -98,7 +108,8 @@ module _ {V : Type 0} (blank : V) (gate : Kind → List V → V) (at : Bool → 
       let this = equal_test i i refl in
       pins_get (stuck blank gate at (GatePin g i) v) g e 0 (gate_at c g).args i blank inside ∙ rw (z, same, this) refl
 
-  pub pin_gate : (g i : ℕ) (v : Bool) (vector latches : List V) (e : ℕ → V) (y : ℕ) → first_gate_net c ≤ y → y - first_gate_net c ≡ g
+  pub pin_gate : (g i : ℕ) (v : Bool) (vector latches : List V) (e : ℕ → V) (y : ℕ) → first_gate_net c ≤ y
+      → y - first_gate_net c ≡ g
       → net_value_over c (stuck blank gate at (GatePin g i) v) vector latches e y
       ≡ gate (gate_at c g).kind (pin_values (stuck blank gate at (GatePin g i) v) g e 0 (gate_at c g).args)
   unfolding net_value_over gate_output forced
@@ -106,9 +117,12 @@ module _ {V : Type 0} (blank : V) (gate : Kind → List V → V) (at : Bool → 
       driven_gate c (stuck blank gate at (GatePin g i) v) vector latches e y low
       ∙ ap (λ (n : ℕ). gate_output c (stuck blank gate at (GatePin g i) v) e n) is
 
-  pub pin_free : (g i : ℕ) (v : Bool) (vector latches : List V) (e : ℕ → V) (y : ℕ) → (first_gate_net c ≤ y → y - first_gate_net c ≢ g)
-      → net_value_over c (stuck blank gate at (GatePin g i) v) vector latches e y ≡ net_value_over c (good blank gate at) vector latches e y
+  pub pin_free : (g i : ℕ) (v : Bool) (vector latches : List V) (e : ℕ → V) (y : ℕ)
+      → (first_gate_net c ≤ y → y - first_gate_net c ≢ g)
+      → net_value_over c (stuck blank gate at (GatePin g i) v) vector latches e y
+      ≡ net_value_over c (good blank gate at) vector latches e y
   unfolding forced
   pin_free g i v vector latches e y other =
-      value_alike c (stuck blank gate at (GatePin g i) v) (good blank gate at) vector latches e y refl (λ kind xs. refl) (λ z. refl)
+      value_alike c (stuck blank gate at (GatePin g i) v) (good blank gate at) vector latches e y refl (λ kind xs. refl)
+      (λ z. refl)
       (λ k z low. let f = other_test (y - first_gate_net c) g (other low) in rw f refl)

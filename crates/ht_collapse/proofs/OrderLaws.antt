@@ -8,19 +8,23 @@ use Rattle.ht_collapse.proofs.LoadLaws.{read_by}
 use Rattle.ht_collapse.proofs.LeadLaws.{number_same}
 
 -- every fault leads to itself
-pub own_stay : (c : Netlist) (ends : List ℕ) → length ends ≡ 2 * net_count c → ((k : ℕ) → k < 2 * net_count c → get_or ends k 0 ≡ k) → StayInClass c ends
+pub own_stay : (c : Netlist) (ends : List ℕ) → length ends ≡ 2 * net_count c
+    → ((k : ℕ) → k < 2 * net_count c → get_or ends k 0 ≡ k) → StayInClass c ends
 own_stay c ends long own = record {
   every = long;
   known = λ k l. let e = own k (omega arith) in omega arith;
-  member = λ k l. subst (λ (n : ℕ). SameClass c (fault_at c k) (fault_at c n)) (sym (own k (omega arith))) (itself (fault_at c k));
+  member = λ k l. subst (λ (n : ℕ). SameClass c (fault_at c k) (fault_at c n)) (sym (own k (omega arith)))
+      (itself (fault_at c k));
 }
 
-pub others_join : (c : Netlist) (before between after : List ℕ) (g : ℕ) → OthersStay c before between g → OthersStay c between after g → OthersStay c before after g
+pub others_join : (c : Netlist) (before between after : List ℕ) (g : ℕ) → OthersStay c before between g
+    → OthersStay c between after g → OthersStay c before after g
 others_join c before between after g h l = record { stay = λ k ne. l.stay k ne ∙ h.stay k ne }
 
 module _ (c : Netlist) (order : List ℕ) (circuit : IsCircuit c) (ordered : IsOrder c order) where
   -- No later gate of the order drives an argument of the gate at place k.
-  not_later : (k j i : ℕ) → k < j → j < length order → i < length (gate_at c (get_or order k 0)).args → first_gate_net c + get_or order j 0 ≢ arg_at c (get_or order k 0) i
+  not_later : (k j i : ℕ) → k < j → j < length order → i < length (gate_at c (get_or order k 0)).args → first_gate_net c
+      + get_or order j 0 ≢ arg_at c (get_or order k 0) i
   not_later k j i less inside pin same = go (ordered.earlier k i (omega arith) pin)
     where
       go : IsReady c order k (arg_at c (get_or order k 0) i) → ⊥
@@ -31,11 +35,13 @@ module _ (c : Netlist) (order : List ℕ) (circuit : IsCircuit c) (ordered : IsO
           ordered.distinct p.0 j (omega arith) inside (omega arith)
 
   -- What a later gate joined stays joined when the gate at place k is taken.
-  later_stays : (before after : List ℕ) (k j : ℕ) → k < j → j < length order → OthersStay c before after (get_or order k 0)
+  later_stays : (before after : List ℕ) (k j : ℕ) → k < j → j < length order
+      → OthersStay c before after (get_or order k 0)
       → GateJoins c before (get_or order j 0) → GateJoins c after (get_or order j 0)
   later_stays before after k j less inside others old = λ i pin. record {
     joins = λ v w single values.
-        let alone = read_by c (arg_at c (get_or order j 0) i) (get_or order j 0) i single (ordered.within j inside) pin refl in
+        let alone = read_by c (arg_at c (get_or order j 0) i) (get_or order j 0) i single (ordered.within j inside) pin
+        refl in
         let input = others.stay (stem_number (arg_at c (get_or order j 0) i) v) (λ p u there same.
         let is = number_same (arg_at c (get_or order j 0) i) (arg_at c (get_or order k 0) p) v u same in
         let gate = alone.gates (get_or order k 0) p (ordered.within k (omega arith)) there (sym is.0) in
@@ -46,7 +52,8 @@ module _ (c : Netlist) (order : List ℕ) (circuit : IsCircuit c) (ordered : IsO
         input ∙ ((old i pin).joins v w single values ∙ sym output);
   }
 
-  pub one_gate : (before after : List ℕ) (k : ℕ) → k < length order → OthersStay c before after (get_or order k 0) → GateJoins c after (get_or order k 0)
+  pub one_gate : (before after : List ℕ) (k : ℕ) → k < length order → OthersStay c before after (get_or order k 0)
+      → GateJoins c after (get_or order k 0)
       → ((j : ℕ) → k + 1 ≤ j → j < length order → GateJoins c before (get_or order j 0))
       → (j : ℕ) → k ≤ j → j < length order → GateJoins c after (get_or order j 0)
   one_gate before after k at others this old j low inside = elim (cases_eq j k) [
@@ -54,7 +61,8 @@ module _ (c : Netlist) (order : List ℕ) (circuit : IsCircuit c) (ordered : IsO
     | inr ne ↦ later_stays before after k j (omega arith) inside others (old j (omega arith) inside)
   ]
 
-  pub all_gates : (ends : List ℕ) → ((j : ℕ) → 0 ≤ j → j < length order → GateJoins c ends (get_or order j 0)) → (g : ℕ) → g < length c.gates → GateJoins c ends g
+  pub all_gates : (ends : List ℕ) → ((j : ℕ) → 0 ≤ j → j < length order → GateJoins c ends (get_or order j 0)) → (g : ℕ)
+      → g < length c.gates → GateJoins c ends g
   all_gates ends h g inside =
       let at = ordered.covers g inside in
       subst (GateJoins c ends) at.2 (h at.0 (omega arith) at.1)

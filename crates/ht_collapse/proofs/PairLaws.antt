@@ -34,9 +34,11 @@ but_other a v e x ne = rw (other_test x a ne) refl
 but_same : {V : Type 0} → (a : ℕ) (v : V) (e : ℕ → V) (x : ℕ) → x ≡ a → but a v e x ≡ v
 but_same a v e x is = rw (equal_test x a is) refl
 
-module _ {V : Type 0} (blank : V) (gate : Kind → List V → V) (at : Bool → V) (table : HasTable blank gate at) (c : Netlist) where
+module _ {V : Type 0} (blank : V) (gate : Kind → List V → V) (at : Bool → V) (table : HasTable blank gate at)
+    (c : Netlist) where
   -- one gate's pin and its output
-  module _ (depth : ℕ → ℕ) (deep : IsDepth c depth) (circuit : IsCircuit c) (g i : ℕ) (v w : Bool) (inside : g < length c.gates) (pin : i < length (gate_at c g).args)
+  module _ (depth : ℕ → ℕ) (deep : IsDepth c depth) (circuit : IsCircuit c) (g i : ℕ) (v w : Bool)
+      (inside : g < length c.gates) (pin : i < length (gate_at c g).args)
       (values : equivalent_output (gate_at c g).kind (length (gate_at c g).args) v ≡ Some w) where
     abbrev by_output : Rules V
     by_output = stuck blank gate at (stem_site (first_gate_net c + g)) w
@@ -50,7 +52,8 @@ module _ {V : Type 0} (blank : V) (gate : Kind → List V → V) (at : Bool → 
         (ap (λ (n : ℕ). equivalent_output (gate_at c g).kind n v) long ∙ values)
 
     pin_same : (vector latches : List V) (e : ℕ → V) (y : ℕ)
-        → net_value_over c (stuck blank gate at (GatePin g i) v) vector latches e y ≡ net_value_over c by_output vector latches e y
+        → net_value_over c (stuck blank gate at (GatePin g i) v) vector latches e y
+        ≡ net_value_over c by_output vector latches e y
     pin_same vector latches e y = elim (eqb_tells y (first_gate_net c + g)) [
       | inl p ↦
           let is : y ≡ first_gate_net c + g = p.1 in
@@ -69,7 +72,8 @@ module _ {V : Type 0} (blank : V) (gate : Kind → List V → V) (at : Bool → 
     pin_value : (vector latches : List V) (x : ℕ) → x < net_count c
         → net_value c (stuck blank gate at (GatePin g i) v) vector latches x ≡ net_value c by_output vector latches x
     pin_value vector latches x within =
-        settled_is_frame c depth deep by_output vector latches (net_value c (stuck blank gate at (GatePin g i) v) vector latches)
+        settled_is_frame c depth deep by_output vector latches
+        (net_value c (stuck blank gate at (GatePin g i) v) vector latches)
         (record {
           settled = λ y h. (frame_settled c depth deep (stuck blank gate at (GatePin g i) v) vector latches).settled y h
               ∙ pin_same vector latches (net_value c (stuck blank gate at (GatePin g i) v) vector latches) y;
@@ -78,8 +82,10 @@ module _ {V : Type 0} (blank : V) (gate : Kind → List V → V) (at : Bool → 
     pub pin_pair : FrameAlike c (stuck blank gate at (GatePin g i) v) by_output
     unfolding frame_outputs next_state forced
     pin_pair = record {
-      outputs = λ vector latches. seen_same _ _ c.outputs (λ o l. pin_value vector latches _ (circuit.outputs_known o l));
-      next = λ vector latches. taken_same by_output _ _ 0 c.dffs (λ j l. pin_value vector latches _ (circuit.data_known j l));
+      outputs = λ vector latches. seen_same _ _ c.outputs
+          (λ o l. pin_value vector latches _ (circuit.outputs_known o l));
+      next = λ vector latches. taken_same by_output _ _ 0 c.dffs
+          (λ j l. pin_value vector latches _ (circuit.data_known j l));
     }
 
     -- A stem that the gate alone reads, stuck, gives every other net the value that the stuck output gives it.
@@ -100,13 +106,15 @@ module _ {V : Type 0} (blank : V) (gate : Kind → List V → V) (at : Bool → 
         abbrev f : ℕ → V
         f = but a (net_value_over c by_output vector latches e a) e
 
-        unread : (y : ℕ) → y < net_count c → y ≢ first_gate_net c + g → net_value_over c by_output vector latches e y ≡ net_value_over c by_output vector latches f y
+        unread : (y : ℕ) → y < net_count c → y ≢ first_gate_net c + g → net_value_over c by_output vector latches e y
+            ≡ net_value_over c by_output vector latches f y
         unread y h other = value_same c by_output vector latches e f y
             (λ k low l.
             let not_a : arg_at c (y - first_gate_net c) k ≢ a = λ q.
             let z = alone.gates (y - first_gate_net c) k (omega arith) l q in
             absurd (other (omega arith)) in
-            sym (but_other a (net_value_over c by_output vector latches e a) e (arg_at c (y - first_gate_net c) k) not_a))
+            sym (but_other a (net_value_over c by_output vector latches e a) e (arg_at c (y - first_gate_net c) k)
+            not_a))
 
         pin_read : e a ≡ at v → get_or (pin_values by_stem g e 0 (gate_at c g).args) i blank ≡ at v
         unfolding forced
@@ -120,21 +128,24 @@ module _ {V : Type 0} (blank : V) (gate : Kind → List V → V) (at : Bool → 
               let here : y - first_gate_net c ≡ g = omega arith in
               let low : first_gate_net c ≤ y = omega arith in
               good_gate blank gate at c a v vector latches e y g low here
-              ∙ (decided by_stem e shown ∙ sym (stem_stuck blank gate at c (first_gate_net c + g) w vector latches f y is))
+              ∙ (decided by_stem e shown ∙ sym
+              (stem_stuck blank gate at c (first_gate_net c + g) w vector latches f y is))
           | inr q ↦ sym (stem_free blank gate at c (first_gate_net c + g) w vector latches e y q.1) ∙ unread y h q.1
         ]
 
         stem_settled : IsSettled c by_output vector latches f
         stem_settled =
             let settled = frame_settled c depth deep by_stem vector latches in
-            let is_stuck : e a ≡ at v = settled.settled a known ∙ stem_stuck blank gate at c a v vector latches e a refl in
+            let is_stuck : e a ≡ at v = settled.settled a known ∙ stem_stuck blank gate at c a v vector latches e a refl
+            in
             let shown : get_or (pin_values by_stem g e 0 (gate_at c g).args) i blank ≡ at v = pin_read is_stuck in
             record {
               settled = λ y h. elim (eqb_tells y a) [
                 | inl p ↦
                     let is : y ≡ a = p.1 in
                     but_same a (net_value_over c by_output vector latches e a) e y is
-                    ∙ (ap (λ (n : ℕ). net_value_over c by_output vector latches e n) (sym is) ∙ unread y h (λ q. apart (sym is ∙ q)))
+                    ∙ (ap (λ (n : ℕ). net_value_over c by_output vector latches e n) (sym is) ∙ unread y h
+                    (λ q. apart (sym is ∙ q)))
                 | inr p ↦
                     let ne : y ≢ a = p.1 in
                     but_other a (net_value_over c by_output vector latches e a) e y ne
@@ -150,6 +161,8 @@ module _ {V : Type 0} (blank : V) (gate : Kind → List V → V) (at : Bool → 
       pub stem_pair : FrameAlike c by_stem by_output
       unfolding frame_outputs next_state forced
       stem_pair = record {
-        outputs = λ vector latches. seen_same _ _ c.outputs (λ o l. stem_value vector latches _ (circuit.outputs_known o l) (alone.outputs o l));
-        next = λ vector latches. taken_same by_output _ _ 0 c.dffs (λ j l. stem_value vector latches _ (circuit.data_known j l) (alone.dffs j l));
+        outputs = λ vector latches. seen_same _ _ c.outputs
+            (λ o l. stem_value vector latches _ (circuit.outputs_known o l) (alone.outputs o l));
+        next = λ vector latches. taken_same by_output _ _ 0 c.dffs
+            (λ j l. stem_value vector latches _ (circuit.data_known j l) (alone.dffs j l));
       }

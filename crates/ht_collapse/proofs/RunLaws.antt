@@ -24,42 +24,53 @@ use Rattle.ht_collapse.proofs.LineLaws.{stuck, stem_site}
 use Rattle.ht_collapse.proofs.PairLaws.{HasTable, FrameAlike, pin_pair, stem_pair}
 
 -- Machines that are alike in a frame are alike in a run.
-frames_outputs : {V : Type 0} → (c : Netlist) (r s : Rules V) → FrameAlike c r s → (state : List V) (vectors : List (List V)) → run_outputs c r state vectors ≡ run_outputs c s state vectors
+frames_outputs : {V : Type 0} → (c : Netlist) (r s : Rules V) → FrameAlike c r s
+    → (state : List V) (vectors : List (List V)) → run_outputs c r state vectors ≡ run_outputs c s state vectors
 frames_outputs c r s h state [] = refl
 frames_outputs {V} c r s h state (vector ∷ vectors) =
     ap (λ (row : List V). row ∷ run_outputs c r (next_state c r vector state) vectors) (h.outputs vector state)
     ∙ ap (λ (rows : List (List V)). frame_outputs c s vector state ∷ rows)
-    (ap (λ (next : List V). run_outputs c r next vectors) (h.next vector state) ∙ frames_outputs c r s h (next_state c s vector state) vectors)
+    (ap (λ (next : List V). run_outputs c r next vectors) (h.next vector state) ∙ frames_outputs c r s h
+    (next_state c s vector state) vectors)
 
-frames_states : {V : Type 0} → (c : Netlist) (r s : Rules V) → FrameAlike c r s → (state : List V) (vectors : List (List V)) → run_state c r state vectors ≡ run_state c s state vectors
+frames_states : {V : Type 0} → (c : Netlist) (r s : Rules V) → FrameAlike c r s
+    → (state : List V) (vectors : List (List V)) → run_state c r state vectors ≡ run_state c s state vectors
 frames_states c r s h state [] = refl
 frames_states {V} c r s h state (vector ∷ vectors) =
-    ap (λ (next : List V). run_state c r next vectors) (h.next vector state) ∙ frames_states c r s h (next_state c s vector state) vectors
+    ap (λ (next : List V). run_state c r next vectors) (h.next vector state) ∙ frames_states c r s h
+    (next_state c s vector state) vectors
 
 frames_alike : {V : Type 0} → (c : Netlist) (r s : Rules V) → FrameAlike c r s → RunAlike c r s
 frames_alike c r s h = record { outputs = frames_outputs c r s h; states = frames_states c r s h }
 
-module _ {V : Type 0} (blank : V) (gate : Kind → List V → V) (at : Bool → V) (table : HasTable blank gate at) (c : Netlist) (circuit : IsCircuit c) where
+module _ {V : Type 0} (blank : V) (gate : Kind → List V → V) (at : Bool → V) (table : HasTable blank gate at)
+    (c : Netlist) (circuit : IsCircuit c) where
   abbrev machine : Fault → Rules V
   machine f = rules_of blank gate (λ b v. at b) (Some f)
 
   -- by whether the input's net is a fanout
-  pair_by : (g i : ℕ) (v w : Bool) → g < length c.gates → i < length (gate_at c g).args → equivalent_output (gate_at c g).kind (length (gate_at c g).args) v ≡ Some w
+  pair_by : (g i : ℕ) (v w : Bool) → g < length c.gates → i < length (gate_at c g).args
+      → equivalent_output (gate_at c g).kind (length (gate_at c g).args) v ≡ Some w
       → (fanout : Bool) → is_fanout c (arg_at c g i) ≡ fanout
-      → FrameAlike c (stuck blank gate at (cond fanout (GatePin g i) (stem_site (arg_at c g i))) v) (stuck blank gate at (stem_site (first_gate_net c + g)) w)
+      → FrameAlike c (stuck blank gate at (cond fanout (GatePin g i) (stem_site (arg_at c g i))) v)
+      (stuck blank gate at (stem_site (first_gate_net c + g)) w)
   pair_by g i v w inside pin values true is =
       let d = circuit_depth c circuit in
       pin_pair blank gate at table c d.0 d.1 circuit g i v w inside pin values
   pair_by g i v w inside pin values false is =
       let d = circuit_depth c circuit in
-      stem_pair blank gate at table c d.0 d.1 circuit g i v w inside pin values (arg_at c g i) (circuit.known g i inside pin) refl
+      stem_pair blank gate at table c d.0 d.1 circuit g i v w inside pin values (arg_at c g i)
+      (circuit.known g i inside pin) refl
       (read_by c (arg_at c g i) g i is inside pin refl)
 
   pair_alike : (f g : Fault) → EquivalentPair c f g → FrameAlike c (machine f) (machine g)
   pair_alike f g h =
-      let alike = pair_by h.gate h.pin f.value g.value h.is_gate h.is_pin h.values (is_fanout c (arg_at c h.gate h.pin)) refl in
-      let by_input : Site → Type 0 = λ site. FrameAlike c (stuck blank gate at site f.value) (stuck blank gate at (output_line c h.gate) g.value) in
-      let by_output : Site → Type 0 = λ site. FrameAlike c (stuck blank gate at f.site f.value) (stuck blank gate at site g.value) in
+      let alike = pair_by h.gate h.pin f.value g.value h.is_gate h.is_pin h.values (is_fanout c (arg_at c h.gate h.pin))
+      refl in
+      let by_input : Site → Type 0 = λ site. FrameAlike c (stuck blank gate at site f.value)
+      (stuck blank gate at (output_line c h.gate) g.value) in
+      let by_output : Site → Type 0 = λ site. FrameAlike c (stuck blank gate at f.site f.value)
+      (stuck blank gate at site g.value) in
       subst by_output (sym h.at_output) (subst by_input (sym h.at_input) alike)
 
   members_alike : (f g : Fault) → SameClass c f g → RunAlike c (machine f) (machine g)
@@ -67,7 +78,10 @@ module _ {V : Type 0} (blank : V) (gate : Kind → List V → V) (at : Bool → 
   members_alike _ _ (paired f g h) = frames_alike c (machine f) (machine g) (pair_alike f g h)
   members_alike _ _ (turned f g h) =
       let alike = members_alike f g h in
-      record { outputs = λ state vectors. sym (alike.outputs state vectors); states = λ state vectors. sym (alike.states state vectors) }
+      record {
+        outputs = λ state vectors. sym (alike.outputs state vectors);
+        states = λ state vectors. sym (alike.states state vectors);
+      }
   members_alike _ _ (joined f g k h l) =
       let first = members_alike f g h in
       let second = members_alike g k l in
@@ -82,10 +96,12 @@ tern_table = record { decides = table_holds tern_operations tern_of Unk tern_bit
 bool_table : HasTable false bool_gate_value (λ b. b)
 bool_table = record { decides = table_holds bool_operations (λ b. b) false bool_bits }
 
-pub tern_members_alike : (c : Netlist) (f g : Fault) → IsCircuit c → SameClass c f g → RunAlike c (tern_rules (Some f)) (tern_rules (Some g))
+pub tern_members_alike : (c : Netlist) (f g : Fault) → IsCircuit c → SameClass c f g
+    → RunAlike c (tern_rules (Some f)) (tern_rules (Some g))
 tern_members_alike c f g circuit h = members_alike Unk gate_value tern_of tern_table c circuit f g h
 
-pub bool_members_alike : (c : Netlist) (f g : Fault) → IsCircuit c → SameClass c f g → RunAlike c (bool_rules (Some f)) (bool_rules (Some g))
+pub bool_members_alike : (c : Netlist) (f g : Fault) → IsCircuit c → SameClass c f g
+    → RunAlike c (bool_rules (Some f)) (bool_rules (Some g))
 bool_members_alike c f g circuit h = members_alike false bool_gate_value (λ b. b) bool_table c circuit f g h
 
 -- What a list detects first depends on the faulty machine's outputs alone.
@@ -97,13 +113,19 @@ IsFirstBy c list place rows =
     MatchOption place ((t o : ℕ) → ¬ DetectsBy c list rows t o)
     (λ p. DetectsBy c list rows p.vector p.output × ((t o : ℕ) → IsBefore t o p → ¬ DetectsBy c list rows t o))
 
-pub members_detected : (c : Netlist) (f g : Fault) (list : List (List Bool)) (place : Option Place) → IsCircuit c → SameClass c f g
+pub members_detected : (c : Netlist) (f g : Fault) (list : List (List Bool)) (place : Option Place) → IsCircuit c
+    → SameClass c f g
     → IsFirstDetection c f list place ↔ IsFirstDetection c g list place
 members_detected c f g list place circuit h =
-    let rows : tern_outputs c (Some f) list ≡ tern_outputs c (Some g) list = (tern_members_alike c f g circuit h).outputs (unknown_state c) (map terns_of list) in
+    let rows : tern_outputs c (Some f) list
+    ≡ tern_outputs c (Some g) list = (tern_members_alike c f g circuit h).outputs (unknown_state c)
+    (map terns_of list) in
     (subst (IsFirstBy c list place) rows, subst (IsFirstBy c list place) (sym rows))
 
-pub representative_detected : (c : Netlist) (representatives : List ℕ) (i : ℕ) (list : List (List Bool)) (place : Option Place) → IsCircuit c → AreClasses c representatives
-    → i < length (faults_of c) → IsFirstDetection c (fault_at c (get_or representatives i 0)) list place ↔ IsFirstDetection c (fault_at c i) list place
+pub representative_detected : (c : Netlist) (representatives : List ℕ) (i : ℕ) (list : List (List Bool))
+    (place : Option Place) → IsCircuit c → AreClasses c representatives
+    → i < length (faults_of c) → IsFirstDetection c (fault_at c (get_or representatives i 0)) list place
+    ↔ IsFirstDetection c (fault_at c i) list place
 representative_detected c representatives i list place circuit h inside =
-    members_detected c (fault_at c (get_or representatives i 0)) (fault_at c i) list place circuit (h.exact i inside).member
+    members_detected c (fault_at c (get_or representatives i 0)) (fault_at c i) list place circuit
+    (h.exact i inside).member

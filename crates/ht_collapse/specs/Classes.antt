@@ -16,7 +16,8 @@ line_of_pin c g i = cond (is_fanout c (arg_at c g i)) (GatePin g i) (Stem (recor
 abbrev pub output_line : Netlist → ℕ → Site
 output_line c g = Stem (record { 0 = first_gate_net c + g })
 
--- An input fault of a gate and an output fault of the same gate are equivalent, by the table. No pair crosses a flip-flop.
+-- An input fault of a gate and an output fault of the same gate are equivalent, by the table. No pair crosses a
+-- flip-flop.
 pub record EquivalentPair (c : Netlist) (input output : Fault) : Type 0 where
   pub gate : ℕ
   pub is_gate : gate < length c.gates

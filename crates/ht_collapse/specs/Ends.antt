@@ -41,14 +41,16 @@ GateJoins c ends g = (i : ℕ) → i < length (gate_at c g).args → PinJoins c 
 
 -- The ends of faults whose number isn't that of a stem's fault at a pin of gate g are left alone.
 pub record OthersStay (c : Netlist) (before after : List ℕ) (g : ℕ) : Type 0 where
-  pub stay : (k : ℕ) → ((i : ℕ) (v : Bool) → i < length (gate_at c g).args → k ≢ stem_number (arg_at c g i) v) → get_or after k 0 ≡ get_or before k 0
+  pub stay : (k : ℕ) → ((i : ℕ) (v : Bool) → i < length (gate_at c g).args → k ≢ stem_number (arg_at c g i) v)
+      → get_or after k 0 ≡ get_or before k 0
 
 -- where an output fault of gate g leads, or the number i where there is none
 abbrev pub end_after : Netlist → List ℕ → ℕ → ℕ → Option Bool → ℕ
 end_after c ends i g None = i
 end_after c ends i g (Some w) = get_or ends (output_number c g w) 0
 
--- where fault i, which stands on this line, leads by the ends of the stems' faults: to itself, where it is alone in its class
+-- where fault i, which stands on this line, leads by the ends of the stems' faults: to itself, where it is alone in its
+-- class
 abbrev pub end_by : Netlist → List ℕ → ℕ → Site → Bool → ℕ
 end_by c ends i (Stem x) v = get_or ends (stem_number x.0 v) 0
 end_by c ends i (DffPin j) v = i

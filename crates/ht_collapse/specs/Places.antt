@@ -18,4 +18,5 @@ pub record IsNoted (numbers : List ℕ) (i number : ℕ) (noted : Option ℕ) : 
       (λ p. (p < i) × (get_or numbers p 0 ≡ number) × ((k : ℕ) → k < p → get_or numbers k 0 ≢ number))
 
 abbrev pub AreNoted : List ℕ → ℕ → List (Option ℕ) → Type 0
-AreNoted numbers i firsts = (number : ℕ) → number < length numbers → IsNoted numbers i number (get_or firsts number None)
+AreNoted numbers i firsts = (number : ℕ) → number < length numbers
+    → IsNoted numbers i number (get_or firsts number None)

@@ -3,7 +3,8 @@ use Rattle.std.specs.Prelude.{ℕ, Bool, true, false, not, cond, eqb, Option, So
 use Rattle.ht_tern.specs.declared.gate.Kind.{Kind}
 use Rattle.ht_tern.specs.declared.gate.Kind.TheVariants.{And, Nand, Or, Nor, Xnor, Not}
 
--- With two or more pins, one pin at the controlling value gives the output: 0 for AND and NAND, 1 for OR and NOR. XOR and
+-- With two or more pins, one pin at the controlling value gives the output: 0 for AND and NAND, 1 for OR and NOR. XOR
+-- and
 -- XNOR have no controlling value.
 abbrev pub controlled_output : Kind → Bool → Option Bool
 controlled_output And false = Some false
@@ -20,7 +21,8 @@ single_output Xnor value = not value
 single_output Not value = not value
 single_output kind value = value
 
--- The value that the output of a gate with so many pins is stuck at, where one of its inputs is stuck at a value and the
+-- The value that the output of a gate with so many pins is stuck at, where one of its inputs is stuck at a value and
+-- the
 -- two faults are equivalent.
 unfoldable pub equivalent_output : Kind → ℕ → Bool → Option Bool
 equivalent_output kind pins value = cond (eqb pins 1) (Some (single_output kind value)) (controlled_output kind value)

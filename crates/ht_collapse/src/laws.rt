@@ -13,9 +13,12 @@ ghost use Rattle.ht_collapse.specs.Alike.{RunAlike};
 /// over two. So a list of vectors detects them at the same first place.
 #[tactic(auto, using(crate::proofs::RunLaws::tern_members_alike, crate::proofs::RunLaws::bool_members_alike, crate::proofs::RunLaws::members_detected))]
 pub fn members_run_alike()
-    ensures terns { (c : Netlist) (f g : Fault) → IsCircuit c → SameClass c f g → RunAlike c (tern_rules (Some f)) (tern_rules (Some g)) }
-    ensures bits { (c : Netlist) (f g : Fault) → IsCircuit c → SameClass c f g → RunAlike c (bool_rules (Some f)) (bool_rules (Some g)) }
-    ensures detection { (c : Netlist) (f g : Fault) (list : List (List Bool)) (place : Option Place) → IsCircuit c → SameClass c f g
+    ensures terns { (c : Netlist) (f g : Fault) → IsCircuit c → SameClass c f g
+        → RunAlike c (tern_rules (Some f)) (tern_rules (Some g)) }
+    ensures bits { (c : Netlist) (f g : Fault) → IsCircuit c → SameClass c f g
+        → RunAlike c (bool_rules (Some f)) (bool_rules (Some g)) }
+    ensures detection { (c : Netlist) (f g : Fault) (list : List (List Bool)) (place : Option Place)
+        → IsCircuit c → SameClass c f g
         → IsFirstDetection c f list place ↔ IsFirstDetection c g list place }
 {}
 
@@ -23,15 +26,21 @@ pub fn members_run_alike()
 /// A representative is its own.
 #[tactic(auto, using(crate::proofs::ClassLaws::one_list, crate::proofs::ClassLaws::same_representative, crate::proofs::ClassLaws::own_representative))]
 pub fn classes_are_determined()
-    ensures one_list { (c : Netlist) (representatives others : List ℕ) → AreClasses c representatives → AreClasses c others → representatives ≡ others }
-    ensures exact { (c : Netlist) (representatives : List ℕ) (i j : ℕ) → AreClasses c representatives → i < length (faults_of c) → j < length (faults_of c)
-        → (get_or representatives i 0 ≡ get_or representatives j 0) ↔ SameClass c (fault_at c i) (fault_at c j) }
-    ensures own { (c : Netlist) (representatives : List ℕ) (i : ℕ) → AreClasses c representatives → i < length (faults_of c)
+    ensures one_list { (c : Netlist) (representatives others : List ℕ)
+        → AreClasses c representatives → AreClasses c others → representatives ≡ others }
+    ensures exact { (c : Netlist) (representatives : List ℕ) (i j : ℕ)
+        → AreClasses c representatives → i < length (faults_of c) → j < length (faults_of c)
+        → (get_or representatives i 0 ≡ get_or representatives j 0)
+        ↔ SameClass c (fault_at c i) (fault_at c j) }
+    ensures own { (c : Netlist) (representatives : List ℕ) (i : ℕ) → AreClasses c representatives
+        → i < length (faults_of c)
         → get_or representatives (get_or representatives i 0) 0 ≡ get_or representatives i 0 }
 {}
 
 /// What a list of vectors detects first of a representative it detects first of each member.
 pub fn representatives_stand_for_members()
-    ensures { (c : Netlist) (representatives : List ℕ) (i : ℕ) (list : List (List Bool)) (place : Option Place) → IsCircuit c → AreClasses c representatives
-        → i < length (faults_of c) → IsFirstDetection c (fault_at c (get_or representatives i 0)) list place ↔ IsFirstDetection c (fault_at c i) list place }
+    ensures { (c : Netlist) (representatives : List ℕ) (i : ℕ) (list : List (List Bool))
+        (place : Option Place) → IsCircuit c → AreClasses c representatives
+        → i < length (faults_of c) → IsFirstDetection c (fault_at c (get_or representatives i 0))
+        list place ↔ IsFirstDetection c (fault_at c i) list place }
 {}

@@ -24,7 +24,8 @@ fn lead_on(circuit: &Circuit, g: u32, input: NetId, value: bool, ends: &mut [u32
     requires gate { g < length circuit.now.gates }
     requires input { input.0 < net_count circuit.now }
     requires ends { length ends.old ≡ 2 * net_count circuit.now }
-    ensures { ends.new ≡ led circuit.now g (stem_number input.0 value) (output_value circuit.now g value) ends.old }
+    ensures { ends.new ≡ led circuit.now g (stem_number input.0 value)
+        (output_value circuit.now g value) ends.old }
 {
     let pins = circuit.gate_args(g).len();
     if let Some(stuck) = output_of(circuit.gate_kind(g), pins, value) {
@@ -39,7 +40,8 @@ fn join_pin(circuit: &Circuit, g: u32, i: u32, ends: &mut [u32])
     requires before { StayInClass circuit.now ends.old }
     ensures after { StayInClass circuit.now ends.new }
     ensures this { PinJoins circuit.now ends.new g i }
-    ensures pins { (k : ℕ) → k < length (gate_at circuit.now g).args → PinJoins circuit.now ends.old g k → PinJoins circuit.now ends.new g k }
+    ensures pins { (k : ℕ) → k < length (gate_at circuit.now g).args → PinJoins circuit.now ends.old
+        g k → PinJoins circuit.now ends.new g k }
     ensures others { OthersStay circuit.now ends.old ends.new g }
 {
     let input = circuit.gate_args(g)[i as usize];
@@ -80,7 +82,8 @@ fn own_ends(alloc: Global, count: u32) -> Result<Vec<u32>, AllocError>
 /// from the last of the order to the first, so what follows a gate is known when the gate is taken.
 pub(crate) fn stem_ends(alloc: Global, circuit: &Circuit) -> Result<Vec<u32>, AllocError>
     ensures members { IfOk result (λ ends. StayInClass circuit.now ends.items) }
-    ensures joins { IfOk result (λ ends. (g : ℕ) → g < length circuit.now.gates → GateJoins circuit.now ends.items g) }
+    ensures joins { IfOk result (λ ends. (g : ℕ) → g < length circuit.now.gates
+        → GateJoins circuit.now ends.items g) }
     ensures circuit { IsCircuit circuit.now }
 {
     let mut ends = own_ends(alloc, 2 * circuit.nets())?;

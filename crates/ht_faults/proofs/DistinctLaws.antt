@@ -36,7 +36,8 @@ pin_of (Stem x) = 0
 pin_of (DffPin j) = 0
 pin_of (GatePin g i) = i
 
-row_differs : (f : ℕ → Site) (number : Site → ℕ) → ((i : ℕ) → number (f i) ≡ i) → (n : ℕ) → AllPairs Differ (map f (range_with_len 0 n))
+row_differs : (f : ℕ → Site) (number : Site → ℕ) → ((i : ℕ) → number (f i) ≡ i) → (n : ℕ)
+    → AllPairs Differ (map f (range_with_len 0 n))
 row_differs f number is n i j d lt inside e =
     let below : j < n = omega (arith, inside, length-map-range_with_len f 0 n) in
     let at_i = get_or-map-range_with_len f 0 n i i d (omega arith) (omega arith) in
@@ -44,34 +45,40 @@ row_differs f number is n i j d lt inside e =
     let same : i ≡ j = sym (is i) ∙ (ap number (sym at_i ∙ (e ∙ at_j)) ∙ is j) in
     absurd (omega arith)
 
-parts_differ : (xs ys : List Site) → AllPairs Differ xs → AllPairs Differ ys → ((s t : Site) → Contains xs s → Contains ys t → s ≢ t) → AllPairs Differ (xs ++ ys)
+parts_differ : (xs ys : List Site) → AllPairs Differ xs → AllPairs Differ ys
+    → ((s t : Site) → Contains xs s → Contains ys t → s ≢ t) → AllPairs Differ (xs ++ ys)
 parts_differ xs ys left right across i j d lt inside e = elim (le_or_lt (length xs) j) [
-  | inr within ↦ left i j d lt within (sym (get_or_append_left xs ys d i (omega arith)) ∙ (e ∙ get_or_append_left xs ys d j within))
+  | inr within ↦ left i j d lt within
+      (sym (get_or_append_left xs ys d i (omega arith)) ∙ (e ∙ get_or_append_left xs ys d j within))
   | inl past ↦
       let count = length-append xs ys in
       let low : j - length xs < length ys = omega arith in
       let at_j = get_or-append_right xs ys (length xs) j d refl past in
       elim (le_or_lt (length xs) i) [
         | inr within ↦
-            across (get_or xs i d) (get_or ys (j - length xs) d) (Contains-get_or xs i d within) (Contains-get_or ys (j - length xs) d low)
+            across (get_or xs i d) (get_or ys (j - length xs) d) (Contains-get_or xs i d within)
+            (Contains-get_or ys (j - length xs) d low)
             (sym (get_or_append_left xs ys d i within) ∙ (e ∙ at_j))
         | inl also ↦
-            right (i - length xs) (j - length xs) d (omega arith) low (sym (get_or-append_right xs ys (length xs) i d refl also) ∙ (e ∙ at_j))
+            right (i - length xs) (j - length xs) d (omega arith) low
+            (sym (get_or-append_right xs ys (length xs) i d refl also) ∙ (e ∙ at_j))
       ]
 ]
 
 -- a gate's pins have its number
-gate_of_pin : (c : Netlist) (a n : ℕ) (s : Site) → Contains (flat_map (pins_of_gate c) (range_with_len a n)) s → (kind_of s ≡ 2) × (a ≤ first_of s)
+gate_of_pin : (c : Netlist) (a n : ℕ) (s : Site) → Contains (flat_map (pins_of_gate c) (range_with_len a n)) s
+    → (kind_of s ≡ 2) × (a ≤ first_of s)
 gate_of_pin c a zero s (k, inside, is) = absurd (omega arith)
-gate_of_pin c a (suc n) s has = elim (Contains-append_cases (pins_of_gate c a) (flat_map (pins_of_gate c) (range_with_len (a + 1) n)) s has) [
-  | inl here ↦
-      let pin = row_has (λ i. GatePin a i) (length (gate_at c a).args) s here in
-      let number : a ≡ first_of s = ap first_of pin.2 in
-      (sym (ap kind_of pin.2), omega (arith, number))
-  | inr later ↦
-      let rest = gate_of_pin c (a + 1) n s later in
-      (rest.0, omega (arith, rest.1))
-]
+gate_of_pin c a (suc n) s has = elim
+    (Contains-append_cases (pins_of_gate c a) (flat_map (pins_of_gate c) (range_with_len (a + 1) n)) s has) [
+      | inl here ↦
+          let pin = row_has (λ i. GatePin a i) (length (gate_at c a).args) s here in
+          let number : a ≡ first_of s = ap first_of pin.2 in
+          (sym (ap kind_of pin.2), omega (arith, number))
+      | inr later ↦
+          let rest = gate_of_pin c (a + 1) n s later in
+          (rest.0, omega (arith, rest.1))
+    ]
 
 gate_pins_differ : (c : Netlist) (a n : ℕ) → AllPairs Differ (flat_map (pins_of_gate c) (range_with_len a n))
 gate_pins_differ c a zero = λ i j d lt inside e. absurd (omega arith)
@@ -87,12 +94,14 @@ gate_pins_differ c a (suc n) =
 lines_differ : (c : Netlist) → AllPairs Differ (circuit_lines c)
 lines_differ c =
     let gates = gate_pins_differ c 0 (length c.gates) in
-    let pins = parts_differ (data_pins_of c) (gate_pins_of c) (row_differs (λ j. DffPin j) first_of (λ j. refl) (length c.dffs)) gates
+    let pins = parts_differ (data_pins_of c) (gate_pins_of c)
+    (row_differs (λ j. DffPin j) first_of (λ j. refl) (length c.dffs)) gates
     (λ s t here later e.
     let j = row_has (λ j. DffPin j) (length c.dffs) s here in
     let kind : 1 ≡ kind_of t = ap kind_of (j.2 ∙ e) in
     absurd (omega (arith, kind, (gate_of_pin c 0 (length c.gates) t later).0))) in
-    parts_differ (stems_of c) (data_pins_of c ++ gate_pins_of c) (row_differs (λ x. Stem (record { 0 = x })) first_of (λ x. refl) (net_count c)) pins
+    parts_differ (stems_of c) (data_pins_of c ++ gate_pins_of c)
+    (row_differs (λ x. Stem (record { 0 = x })) first_of (λ x. refl) (net_count c)) pins
     (λ s t here later e.
     let x = row_has (λ x. Stem (record { 0 = x })) (net_count c) s here in
     let kind : 0 ≡ kind_of t = ap kind_of (x.2 ∙ e) in
@@ -105,14 +114,16 @@ lines_differ c =
     ])
 
 -- the two faults of a site differ
-values_differ : (s : Site) (k l : ℕ) (d : Fault) → k < l → l < 2 → get_or (site_faults s) k d ≢ get_or (site_faults s) l d
+values_differ : (s : Site) (k l : ℕ) (d : Fault) → k < l → l < 2 → get_or (site_faults s) k d ≢ get_or (site_faults s) l
+    d
 values_differ s zero (suc zero) d lt two e = let v : false ≡ true = ap (λ (f : Fault). f.value) e in cc
 values_differ s zero zero d lt two e = absurd (omega arith)
 values_differ s (suc k) l d lt two e = absurd (omega arith)
 values_differ s zero (suc (suc l)) d lt two e = absurd (omega arith)
 
 -- Each fault is listed once.
-pub faults_differ : (c : Netlist) (i j : ℕ) → i < j → j < length (faults_of c) → get_or (faults_of c) i no_fault ≢ get_or (faults_of c) j no_fault
+pub faults_differ : (c : Netlist) (i j : ℕ) → i < j → j < length (faults_of c)
+    → get_or (faults_of c) i no_fault ≢ get_or (faults_of c) j no_fault
 faults_differ c i j lt inside e =
     let sites = sites_of c in
     let count = faults_count sites in
@@ -129,5 +140,6 @@ faults_differ c i j lt inside e =
           let ne = p.1 in
           let stands = sym (fault_stands (get_or sites (i / 2) s) (i % 2) no_fault (omega arith))
           ∙ (ap (λ (f : Fault). f.site) both ∙ fault_stands (get_or sites (j / 2) s) (j % 2) no_fault (omega arith)) in
-          AllPairs-filter Differ (is_site c) (circuit_lines c) (lines_differ c) (i / 2) (j / 2) s (omega arith) (omega (arith, count)) stands
+          AllPairs-filter Differ (is_site c) (circuit_lines c) (lines_differ c) (i / 2) (j / 2) s (omega arith)
+          (omega (arith, count)) stands
     ]

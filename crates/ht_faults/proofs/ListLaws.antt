@@ -16,7 +16,8 @@ faults_count (s ∷ sites) = omega (arith, faults_count sites)
 at_site : (sites : List Site) (k j : ℕ) (s : Site) (d : Fault) → k < length sites → j < 2
     → get_or (flat_map site_faults sites) (2 * k + j) d ≡ get_or (site_faults (get_or sites k s)) j d
 at_site sites k j s d inside two =
-    let before : length (flat_map site_faults (take k sites)) ≡ 2 * k = omega (arith, faults_count (take k sites), length-take-le k sites (omega arith)) in
+    let before : length (flat_map site_faults (take k sites))
+    ≡ 2 * k = omega (arith, faults_count (take k sites), length-take-le k sites (omega arith)) in
     ap (λ (n : ℕ). get_or (flat_map site_faults sites) (n + j) d) (sym before)
     ∙ get_or-flat_map site_faults sites k j s d inside two
 
@@ -25,7 +26,8 @@ pub fault_at : (sites : List Site) (i : ℕ) (s : Site) (d : Fault) → i < 2 * 
     → get_or (flat_map site_faults sites) i d ≡ get_or (site_faults (get_or sites (i / 2) s)) (i % 2) d
 fault_at sites i s d inside =
     let place : i ≡ 2 * (i / 2) + i % 2 = omega arith in
-    ap (λ (n : ℕ). get_or (flat_map site_faults sites) n d) place ∙ at_site sites (i / 2) (i % 2) s d (omega arith) (omega arith)
+    ap (λ (n : ℕ). get_or (flat_map site_faults sites) n d) place ∙ at_site sites (i / 2) (i % 2) s d (omega arith)
+    (omega arith)
 
 -- Both faults of a site stand on it.
 pub fault_stands : (s : Site) (k : ℕ) (d : Fault) → k < 2 → (get_or (site_faults s) k d).site ≡ s

@@ -15,12 +15,14 @@ pub fn exactly_the_sites_are_listed()
 /// Every fault of the list stands on a site of the circuit.
 #[tactic(auto, using(crate::proofs::MemberLaws::fault_site))]
 pub fn listed_faults_stand_on_sites()
-    ensures { (c : Netlist) (i : ℕ) → i < length (faults_of c) → IsFaultSite c (get_or (faults_of c) i no_fault).site }
+    ensures { (c : Netlist) (i : ℕ) → i < length (faults_of c)
+        → IsFaultSite c (get_or (faults_of c) i no_fault).site }
 {}
 
 /// No fault is listed twice.
 pub fn each_fault_is_listed_once()
-    ensures { (c : Netlist) (i j : ℕ) → i < j → j < length (faults_of c) → get_or (faults_of c) i no_fault ≢ get_or (faults_of c) j no_fault }
+    ensures { (c : Netlist) (i j : ℕ) → i < j → j < length (faults_of c)
+        → get_or (faults_of c) i no_fault ≢ get_or (faults_of c) j no_fault }
 {}
 
 /// A circuit has two faults for each site, and fewer than a million, since it has few nets and pins.

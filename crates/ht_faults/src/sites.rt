@@ -30,7 +30,9 @@ fn add_stems(sites: &mut Vec<Site>, circuit: &Circuit) -> Result<(), AllocError>
 /// Adds the data pins that are sites.
 fn add_data_pins(sites: &mut Vec<Site>, circuit: &Circuit) -> Result<(), AllocError>
     requires { IsCircuit circuit.now }
-    ensures { OnOk result (sites.new.items ≡ sites.old.items ++ filter (is_site circuit.now) (data_pins_of circuit.now)) }
+    ensures { OnOk result
+        (sites.new.items ≡ sites.old.items ++ filter (is_site circuit.now)
+        (data_pins_of circuit.now)) }
 {
     for dff in 0..circuit.dffs() {
         if has_fanout(circuit, circuit.dff_data(dff)) {
@@ -43,7 +45,9 @@ fn add_data_pins(sites: &mut Vec<Site>, circuit: &Circuit) -> Result<(), AllocEr
 /// Adds the pins of a gate that are sites.
 fn add_pins(sites: &mut Vec<Site>, circuit: &Circuit, gate: u32) -> Result<(), AllocError>
     requires { gate < length circuit.now.gates }
-    ensures { OnOk result (sites.new.items ≡ sites.old.items ++ filter (is_site circuit.now) (pins_of_gate circuit.now gate)) }
+    ensures { OnOk result
+        (sites.new.items ≡ sites.old.items ++ filter (is_site circuit.now)
+        (pins_of_gate circuit.now gate)) }
 {
     for (i, arg) in circuit.gate_args(gate).iter().enumerate() {
         if has_fanout(circuit, *arg) {
@@ -55,7 +59,9 @@ fn add_pins(sites: &mut Vec<Site>, circuit: &Circuit, gate: u32) -> Result<(), A
 
 /// Adds the pins of all gates that are sites.
 fn add_gate_pins(sites: &mut Vec<Site>, circuit: &Circuit) -> Result<(), AllocError>
-    ensures { OnOk result (sites.new.items ≡ sites.old.items ++ filter (is_site circuit.now) (gate_pins_of circuit.now)) }
+    ensures { OnOk result
+        (sites.new.items ≡ sites.old.items ++ filter (is_site circuit.now)
+        (gate_pins_of circuit.now)) }
 {
     for gate in 0..circuit.gates() {
         add_pins(sites, circuit, gate)?;

@@ -38,7 +38,8 @@ lower_fewer rank (suc n) g k inside h = elim (eqb_tells g n) [
 ]
 
 -- a gate whose rank is below k and not below j is counted for k alone
-lower_less : (rank : ℕ → ℕ) (n g j k : ℕ) → g < n → j ≤ rank g → rank g < k → lower_ranks rank n j < lower_ranks rank n k
+lower_less : (rank : ℕ → ℕ) (n g j k : ℕ) → g < n → j ≤ rank g → rank g < k → lower_ranks rank n j < lower_ranks rank n
+    k
 lower_less rank zero g j k inside h l = absurd (omega arith)
 lower_less rank (suc n) g j k inside h l = elim (eqb_tells g n) [
   | inl p ↦
@@ -53,19 +54,22 @@ lower_less rank (suc n) g j k inside h l = elim (eqb_tells g n) [
 ]
 
 abbrev depth_by_rank : Netlist → (ℕ → ℕ) → ℕ → ℕ
-depth_by_rank c rank x = cond (ltb x (first_gate_net c)) 0 (suc (lower_ranks rank (length c.gates) (rank (x - first_gate_net c))))
+depth_by_rank c rank x = cond (ltb x (first_gate_net c)) 0
+    (suc (lower_ranks rank (length c.gates) (rank (x - first_gate_net c))))
 
 depth_low : (c : Netlist) (rank : ℕ → ℕ) (x : ℕ) → x < first_gate_net c → depth_by_rank c rank x ≡ 0
 depth_low c rank x h = grind (arith, nat_tests)
 
-depth_high : (c : Netlist) (rank : ℕ → ℕ) (x : ℕ) → first_gate_net c ≤ x → depth_by_rank c rank x ≡ suc (lower_ranks rank (length c.gates) (rank (x - first_gate_net c)))
+depth_high : (c : Netlist) (rank : ℕ → ℕ) (x : ℕ) → first_gate_net c ≤ x → depth_by_rank c rank x
+    ≡ suc (lower_ranks rank (length c.gates) (rank (x - first_gate_net c)))
 depth_high c rank x h = grind (arith, nat_tests)
 
 rank_is_depth : (c : Netlist) (rank : ℕ → ℕ) → IsCircuit c → IsRank c rank → IsDepth c (depth_by_rank c rank)
 rank_is_depth c rank circuit ranked = record {
   small = λ x inside. elim (le_or_lt (first_gate_net c) x) [
     | inl at ↦
-        let few = lower_fewer rank (length c.gates) (x - first_gate_net c) (rank (x - first_gate_net c)) (omega arith) (omega arith) in
+        let few = lower_fewer rank (length c.gates) (x - first_gate_net c) (rank (x - first_gate_net c)) (omega arith)
+        (omega arith) in
         rw (depth_high c rank x at) (omega arith)
     | inr low ↦ rw (depth_low c rank x low) (omega arith)
   ];
@@ -76,9 +80,12 @@ rank_is_depth c rank circuit ranked = record {
         | inl at ↦
             let known = circuit.known g i inside pin in
             let falls = ranked.falls g i inside pin at in
-            let less = lower_less rank (length c.gates) (arg_at c g i - first_gate_net c) (rank (arg_at c g i - first_gate_net c)) (rank g) (omega arith) (omega arith) falls in
-            rw (depth_high c rank (arg_at c g i) at, depth_high c rank (first_gate_net c + g) (omega arith), same) (omega arith)
-        | inr low ↦ rw (depth_low c rank (arg_at c g i) low, depth_high c rank (first_gate_net c + g) (omega arith)) (omega arith)
+            let less = lower_less rank (length c.gates) (arg_at c g i - first_gate_net c)
+            (rank (arg_at c g i - first_gate_net c)) (rank g) (omega arith) (omega arith) falls in
+            rw (depth_high c rank (arg_at c g i) at, depth_high c rank (first_gate_net c + g) (omega arith), same)
+            (omega arith)
+        | inr low ↦ rw (depth_low c rank (arg_at c g i) low, depth_high c rank (first_gate_net c + g) (omega arith))
+            (omega arith)
       ];
 }
 

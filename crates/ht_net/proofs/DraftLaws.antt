@@ -11,7 +11,8 @@ use Rattle.ht_net.specs.Names.{IsNewName}
 use Rattle.ht_net.specs.Draft.{Draft, GatePart, IsDraft, IsName, no_name, no_part, no_dff, draft_pins}
 
 -- what holds of each member holds with one more
-pub each_push : {A : Type 0} (P : A → Type 0) (list : List A) (x d : A) → ((i : ℕ) → i < length list → P (get_or list i d)) → P x
+pub each_push : {A : Type 0} (P : A → Type 0) (list : List A) (x d : A)
+    → ((i : ℕ) → i < length list → P (get_or list i d)) → P x
     → (i : ℕ) → i < length (list ++ x ∷ []) → P (get_or (list ++ x ∷ []) i d)
 each_push P list x d each new i l =
     let long = length-append list (x ∷ []) in
@@ -21,17 +22,22 @@ each_push P list x d each new i l =
     ]
 
 -- different members and one that is none of them
-pub differ_push : {A : Type 0} (list : List A) (x d : A) → ((i j : ℕ) → i < j → j < length list → get_or list i d ≢ get_or list j d)
-    → ((i : ℕ) → i < length list → get_or list i d ≢ x) → (i j : ℕ) → i < j → j < length (list ++ x ∷ []) → get_or (list ++ x ∷ []) i d ≢ get_or (list ++ x ∷ []) j d
+pub differ_push : {A : Type 0} (list : List A) (x d : A)
+    → ((i j : ℕ) → i < j → j < length list → get_or list i d ≢ get_or list j d)
+    → ((i : ℕ) → i < length list → get_or list i d ≢ x) → (i j : ℕ) → i < j → j < length (list ++ x ∷ [])
+    → get_or (list ++ x ∷ []) i d ≢ get_or (list ++ x ∷ []) j d
 differ_push list x d differ new i j less l =
     let long = length-append list (x ∷ []) in
     let low : i < length list = omega arith in
     elim (cases_lt j (length list)) [
-      | inl inside ↦ rw (get_or_append_left list (x ∷ []) d i low, get_or_append_left list (x ∷ []) d j inside) (differ i j less inside)
-      | inr more ↦ let is : length list ≡ j = omega arith in rw (get_or_append_left list (x ∷ []) d i low, get_or_push list x d j is) (new i low)
+      | inl inside ↦ rw (get_or_append_left list (x ∷ []) d i low, get_or_append_left list (x ∷ []) d j inside)
+          (differ i j less inside)
+      | inr more ↦ let is : length list ≡ j = omega arith
+          in rw (get_or_append_left list (x ∷ []) d i low, get_or_push list x d j is) (new i low)
     ]
 
-pub draft_name_added : (d : Draft) (name : List ℕ) → IsDraft d → IsNewName d.names name → length d.names < 65535 → IsDraft (record d { names = d.names ++ name ∷ [] })
+pub draft_name_added : (d : Draft) (name : List ℕ) → IsDraft d → IsNewName d.names name → length d.names < 65535
+    → IsDraft (record d { names = d.names ++ name ∷ [] })
 draft_name_added d name h fresh fits =
     let long = length-append d.names (name ∷ []) in
     record {
@@ -48,7 +54,8 @@ draft_name_added d name h fresh fits =
       few_args = h.few_args;
     }
 
-pub draft_input_added : (d : Draft) (name : NameId) → IsDraft d → length d.inputs < 4096 → IsDraft (record d { inputs = d.inputs ++ name ∷ [] })
+pub draft_input_added : (d : Draft) (name : NameId) → IsDraft d → length d.inputs < 4096
+    → IsDraft (record d { inputs = d.inputs ++ name ∷ [] })
 draft_input_added d name h fits =
     let long = length-append d.inputs (name ∷ []) in
     record {
@@ -65,14 +72,16 @@ draft_input_added d name h fits =
       few_args = h.few_args;
     }
 
-pub draft_output_added : (d : Draft) (name : NameId) → IsDraft d → IsName d name → ¬ Contains d.outputs name → IsDraft (record d { outputs = d.outputs ++ name ∷ [] })
+pub draft_output_added : (d : Draft) (name : NameId) → IsDraft d → IsName d name → ¬ Contains d.outputs name
+    → IsDraft (record d { outputs = d.outputs ++ name ∷ [] })
 draft_output_added d name h is fresh = record {
   few_names = h.few_names;
   few_inputs = h.few_inputs;
   few_dffs = h.few_dffs;
   few_pins = h.few_pins;
   names_differ = h.names_differ;
-  outputs_differ = differ_push d.outputs name no_name h.outputs_differ (λ i l e. fresh (i, l, get_or_default d.outputs i name no_name l ∙ e));
+  outputs_differ = differ_push d.outputs name no_name h.outputs_differ
+      (λ i l e. fresh (i, l, get_or_default d.outputs i name no_name l ∙ e));
   outputs_known = each_push (λ (n : NameId). IsName d n) d.outputs name no_name h.outputs_known is;
   data_known = h.data_known;
   args_known = h.args_known;
@@ -80,7 +89,8 @@ draft_output_added d name h is fresh = record {
   few_args = h.few_args;
 }
 
-pub draft_dff_added : (d : Draft) (dff : DffPart) → IsDraft d → IsName d dff.data_pin → draft_pins d < 262144 → length d.dffs < 16384 → IsDraft (record d { dffs = d.dffs ++ dff ∷ [] })
+pub draft_dff_added : (d : Draft) (dff : DffPart) → IsDraft d → IsName d dff.data_pin → draft_pins d < 262144
+    → length d.dffs < 16384 → IsDraft (record d { dffs = d.dffs ++ dff ∷ [] })
 draft_dff_added d dff h is pins fits =
     let long = length-append d.dffs (dff ∷ []) in
     record {
@@ -97,13 +107,15 @@ draft_dff_added d dff h is pins fits =
       few_args = h.few_args;
     }
 
-pub pins_push : (gates : List GatePart) (p : GatePart) → sum_by (λ (g : GatePart). length g.args) (gates ++ p ∷ []) ≡ sum_by (λ (g : GatePart). length g.args) gates + length p.args
+pub pins_push : (gates : List GatePart) (p : GatePart) → sum_by (λ (g : GatePart). length g.args) (gates ++ p ∷ [])
+    ≡ sum_by (λ (g : GatePart). length g.args) gates + length p.args
 pins_push gates p =
     let e = sum_by-append (λ (g : GatePart). length g.args) gates (p ∷ []) in
     let one : sum_by (λ (g : GatePart). length g.args) (p ∷ []) ≡ 0 + length p.args = refl in
     omega (arith, e, one)
 
-pub draft_gate_added : (d : Draft) (p : GatePart) → IsDraft d → ((i : ℕ) → i < length p.args → IsName d (get_or p.args i no_name)) → HasArity p.kind (length p.args)
+pub draft_gate_added : (d : Draft) (p : GatePart) → IsDraft d
+    → ((i : ℕ) → i < length p.args → IsName d (get_or p.args i no_name)) → HasArity p.kind (length p.args)
     → length p.args ≤ 255 → draft_pins d + length p.args ≤ 262144 → IsDraft (record d { gates = d.gates ++ p ∷ [] })
 draft_gate_added d p h known arity few fits = record {
   few_names = h.few_names;
@@ -114,7 +126,8 @@ draft_gate_added d p h known arity few fits = record {
   outputs_differ = h.outputs_differ;
   outputs_known = h.outputs_known;
   data_known = h.data_known;
-  args_known = λ g i l m. each_push (λ (q : GatePart). (i : ℕ) → i < length q.args → IsName d (get_or q.args i no_name)) d.gates p no_part (λ k n j. h.args_known k j n) known g l i m;
+  args_known = λ g i l m. each_push (λ (q : GatePart). (i : ℕ) → i < length q.args → IsName d (get_or q.args i no_name))
+      d.gates p no_part (λ k n j. h.args_known k j n) known g l i m;
   arities = each_push (λ (q : GatePart). HasArity q.kind (length q.args)) d.gates p no_part h.arities arity;
   few_args = each_push (λ (q : GatePart). length q.args ≤ 255) d.gates p no_part h.few_args few;
 }

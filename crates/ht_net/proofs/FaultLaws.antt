@@ -14,13 +14,16 @@ use Rattle.ht_net.proofs.RelationLaws.{cond_related, frame_related, run_related}
 
 pub forced_related : {V W : Type 0} → (R : V → W → Type 0) (stick : Bool → V → V) (stick' : Bool → W → W)
     → ((b : Bool) (x : V) (y : W) → R x y → R (stick b x) (stick' b y))
-    → (fault : Option Fault) (here : Site → Bool) (x : V) (y : W) → R x y → R (forced stick fault here x) (forced stick' fault here y)
+    → (fault : Option Fault) (here : Site → Bool) (x : V) (y : W) → R x y
+    → R (forced stick fault here x) (forced stick' fault here y)
 unfolding forced
 forced_related R stick stick' l None here x y r = r
-forced_related R stick stick' l (Some fault) here x y r = cond_related R (here fault.site) _ _ _ _ (l fault.value x y r) r
+forced_related R stick stick' l (Some fault) here x y r = cond_related R (here fault.site) _ _ _ _ (l fault.value x y r)
+    r
 
 -- Machines over two domains with the same stuck line keep what their gates and their sticking keep.
-pub rules_keep : {V W : Type 0} → (R : V → W → Type 0) (d : V) (e : W) (gate : Kind → List V → V) (gate' : Kind → List W → W) (stick : Bool → V → V) (stick' : Bool → W → W)
+pub rules_keep : {V W : Type 0} → (R : V → W → Type 0) (d : V) (e : W) (gate : Kind → List V → V)
+    (gate' : Kind → List W → W) (stick : Bool → V → V) (stick' : Bool → W → W)
     → R d e → ((kind : Kind) (xs : List V) (ys : List W) → AllRelated R xs ys → R (gate kind xs) (gate' kind ys))
     → ((b : Bool) (x : V) (y : W) → R x y → R (stick b x) (stick' b y))
     → (fault : Option Fault) → Preserves R (rules_of d gate stick fault) (rules_of e gate' stick' fault)
@@ -33,20 +36,25 @@ rules_keep R d e gate gate' stick stick' h k l fault = record {
 }
 
 pub machine_refines : (fault : Option Fault) → Preserves Refines (tern_rules fault) (tern_rules fault)
-machine_refines fault = rules_keep Refines Unk Unk gate_value gate_value (λ b v. tern_of b) (λ b v. tern_of b) (inl refl) gate_refines (λ b x y r. inr refl) fault
+machine_refines fault = rules_keep Refines Unk Unk gate_value gate_value (λ b v. tern_of b) (λ b v. tern_of b)
+    (inl refl) gate_refines (λ b x y r. inr refl) fault
 
 pub machine_bits : (fault : Option Fault) → Preserves StandsFor (tern_rules fault) (bool_rules fault)
-machine_bits fault = rules_keep StandsFor Unk false gate_value bool_gate_value (λ b v. tern_of b) (λ b v. b) (inl refl) gate_bits (λ b x y r. inr refl) fault
+machine_bits fault = rules_keep StandsFor Unk false gate_value bool_gate_value (λ b v. tern_of b) (λ b v. b) (inl refl)
+    gate_bits (λ b x y r. inr refl) fault
 
 -- A net_value from values that say more gives values that say no less, in any circuit, with or without a rank.
 pub frame_refines : (c : Netlist) (fault : Option Fault) (vector vector' latches latches' : List Tern)
     → AllRelated Refines vector vector' → AllRelated Refines latches latches' → (x : ℕ)
     → Refines (net_value c (tern_rules fault) vector latches x) (net_value c (tern_rules fault) vector' latches' x)
 frame_refines c fault vector vector' latches latches' h k x =
-    frame_related Refines c (tern_rules fault) (tern_rules fault) (machine_refines fault) vector latches vector' latches' h k x
+    frame_related Refines c (tern_rules fault) (tern_rules fault) (machine_refines fault) vector latches vector'
+    latches' h k x
 
 -- Every two-valued run_outputs stands for the three-valued one.
-pub run_bits : (c : Netlist) (fault : Option Fault) (latches : List Tern) (state : List Bool) (vectors : List (List Tern)) (bits : List (List Bool))
+pub run_bits : (c : Netlist) (fault : Option Fault) (latches : List Tern) (state : List Bool)
+    (vectors : List (List Tern)) (bits : List (List Bool))
     → AllRelated StandsFor latches state → AllRelated (AllRelated StandsFor) vectors bits
-    → AllRelated (AllRelated StandsFor) (run_outputs c (tern_rules fault) latches vectors) (run_outputs c (bool_rules fault) state bits)
+    → AllRelated (AllRelated StandsFor) (run_outputs c (tern_rules fault) latches vectors)
+    (run_outputs c (bool_rules fault) state bits)
 run_bits c fault = run_related StandsFor c (tern_rules fault) (bool_rules fault) (machine_bits fault)

@@ -14,7 +14,8 @@ place_first g (x ∷ order) (suc k) h e =
     let rest : place_of g order ≤ k = place_first g order k (omega arith) e in
     grind (arith, nat_tests)
 
-pub place_holds : (g : ℕ) (order : List ℕ) (k : ℕ) → k < length order → get_or order k 0 ≡ g → get_or order (place_of g order) 0 ≡ g
+pub place_holds : (g : ℕ) (order : List ℕ) (k : ℕ) → k < length order → get_or order k 0 ≡ g
+    → get_or order (place_of g order) 0 ≡ g
 place_holds g [] k h e = absurd (omega arith)
 place_holds g (x ∷ order) zero h e =
     elim (eqb_tells g x) [ inl p ↦ rw p.0 (sym p.1) | inr p ↦ absurd (p.1 (sym e)) ]
@@ -25,7 +26,8 @@ place_holds g (x ∷ order) (suc k) h e =
 rank_low : (c : Netlist) (order : List ℕ) (x : ℕ) → x < first_gate_net c → depth_by c order x ≡ 0
 rank_low c order x h = grind (arith, nat_tests)
 
-rank_high : (c : Netlist) (order : List ℕ) (x : ℕ) → first_gate_net c ≤ x → depth_by c order x ≡ suc (place_of (x - first_gate_net c) order)
+rank_high : (c : Netlist) (order : List ℕ) (x : ℕ) → first_gate_net c ≤ x → depth_by c order x
+    ≡ suc (place_of (x - first_gate_net c) order)
 rank_high c order x h = grind (arith, nat_tests)
 
 -- the rank of an argument that is ready before place k
@@ -33,8 +35,10 @@ rank_ready : (c : Netlist) (order : List ℕ) (k a : ℕ) → k < length order �
 rank_ready c order k a h (inl low) = rw (rank_low c order a low) (omega arith)
 rank_ready c order k a h (inr p) =
     let j = p.0 in
-    let e : a - first_gate_net c ≡ get_or order p.0 0 = let q : a ≡ first_gate_net c + get_or order p.0 0 = p.2 in omega arith in
-    let le : place_of (a - first_gate_net c) order ≤ p.0 = place_first (a - first_gate_net c) order p.0 (omega arith) (sym e) in
+    let e : a - first_gate_net c ≡ get_or order p.0 0 = let q : a ≡ first_gate_net c + get_or order p.0 0 = p.2
+    in omega arith in
+    let le : place_of (a - first_gate_net c) order ≤ p.0 = place_first (a - first_gate_net c) order p.0 (omega arith)
+    (sym e) in
     rw (rank_high c order a (let q : a ≡ first_gate_net c + get_or order p.0 0 = p.2 in omega arith)) (omega arith)
 
 pub order_ranks : (c : Netlist) (order : List ℕ) → IsCircuit c → IsOrder c order → IsDepth c (depth_by c order)
@@ -62,25 +66,36 @@ order_ranks c order circuit ordered = record {
 }
 
 -- The values of a net_value, net by net, where the gates have an order.
-pub frame_input : {V : Type 0} → (c : Netlist) (order : List ℕ) (circuit : IsCircuit c) (ordered : IsOrder c order) (r : Rules V) (vector latches : List V) (x : ℕ)
+pub frame_input : {V : Type 0} → (c : Netlist) (order : List ℕ) (circuit : IsCircuit c) (ordered : IsOrder c order)
+    (r : Rules V) (vector latches : List V) (x : ℕ)
     → x < c.inputs → r.stem x (get_or vector x r.blank) ≡ net_value c r vector latches x
 unfolding net_value_over
 frame_input c order circuit ordered r vector latches x h =
-    sym ((frame_settled c (depth_by c order) (order_ranks c order circuit ordered) r vector latches).settled x (omega arith) ∙ ap (r.stem x) (driven_input c r vector latches (net_value c r vector latches) x h))
+    sym ((frame_settled c (depth_by c order) (order_ranks c order circuit ordered) r vector latches).settled x
+    (omega arith) ∙ ap (r.stem x) (driven_input c r vector latches (net_value c r vector latches) x h))
 
-pub frame_latch : {V : Type 0} → (c : Netlist) (order : List ℕ) (circuit : IsCircuit c) (ordered : IsOrder c order) (r : Rules V) (vector latches : List V) (x : ℕ)
-    → c.inputs ≤ x → x < first_gate_net c → r.stem x (get_or latches (x - c.inputs) r.blank) ≡ net_value c r vector latches x
+pub frame_latch : {V : Type 0} → (c : Netlist) (order : List ℕ) (circuit : IsCircuit c) (ordered : IsOrder c order)
+    (r : Rules V) (vector latches : List V) (x : ℕ)
+    → c.inputs ≤ x → x < first_gate_net c → r.stem x (get_or latches (x - c.inputs) r.blank)
+    ≡ net_value c r vector latches x
 unfolding net_value_over
 frame_latch c order circuit ordered r vector latches x h k =
-    sym ((frame_settled c (depth_by c order) (order_ranks c order circuit ordered) r vector latches).settled x (omega arith) ∙ ap (r.stem x) (driven_latch c r vector latches (net_value c r vector latches) x h k))
+    sym ((frame_settled c (depth_by c order) (order_ranks c order circuit ordered) r vector latches).settled x
+    (omega arith) ∙ ap (r.stem x) (driven_latch c r vector latches (net_value c r vector latches) x h k))
 
-pub frame_gate : {V : Type 0} → (c : Netlist) (order : List ℕ) (circuit : IsCircuit c) (ordered : IsOrder c order) (r : Rules V) (vector latches : List V) (e : ℕ → V) (g : ℕ)
-    → g < length c.gates → ((j : ℕ) → j < length (gate_at c g).args → e (get_or (gate_at c g).args j no_net).0 ≡ net_value c r vector latches (get_or (gate_at c g).args j no_net).0)
+pub frame_gate : {V : Type 0} → (c : Netlist) (order : List ℕ) (circuit : IsCircuit c) (ordered : IsOrder c order)
+    (r : Rules V) (vector latches : List V) (e : ℕ → V) (g : ℕ)
+    → g < length c.gates
+    → ((j : ℕ) → j < length (gate_at c g).args → e (get_or (gate_at c g).args j no_net).0
+    ≡ net_value c r vector latches (get_or (gate_at c g).args j no_net).0)
     → r.stem (first_gate_net c + g) (gate_output c r e g) ≡ net_value c r vector latches (first_gate_net c + g)
 unfolding net_value_over
 frame_gate c order circuit ordered r vector latches e g inside h =
     let x = first_gate_net c + g in
     let is : first_gate_net c + g - first_gate_net c ≡ g = omega arith in
-    ap (r.stem (first_gate_net c + g)) (gate_same c r e (net_value c r vector latches) g h ∙ ap (λ (n : ℕ). gate_output c r (net_value c r vector latches) n) (sym is)
+    ap (r.stem (first_gate_net c + g))
+    (gate_same c r e (net_value c r vector latches) g h ∙ ap
+    (λ (n : ℕ). gate_output c r (net_value c r vector latches) n) (sym is)
     ∙ sym (driven_gate c r vector latches (net_value c r vector latches) (first_gate_net c + g) (omega arith)))
-    ∙ sym ((frame_settled c (depth_by c order) (order_ranks c order circuit ordered) r vector latches).settled (first_gate_net c + g) (omega arith))
+    ∙ sym ((frame_settled c (depth_by c order) (order_ranks c order circuit ordered) r vector latches).settled
+    (first_gate_net c + g) (omega arith))

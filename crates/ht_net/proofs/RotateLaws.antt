@@ -11,13 +11,17 @@ use Rattle.ht_net.specs.Rotate.{IsLeastFirst}
 abbrev turned : ℕ → List NameId → List NameId
 turned m xs = drop m xs ++ take m xs
 
-turned_early : (m k : ℕ) (xs : List NameId) → m < length xs → k < length xs - m → get_or (turned m xs) k no_name ≡ get_or xs (m + k) no_name
+turned_early : (m k : ℕ) (xs : List NameId) → m < length xs → k < length xs - m → get_or (turned m xs) k no_name
+    ≡ get_or xs (m + k) no_name
 turned_early m k xs h l =
-    get_or_append_left (drop m xs) (take m xs) no_name k (let n = length-drop m xs in omega arith) ∙ get_or-drop m xs k no_name
+    get_or_append_left (drop m xs) (take m xs) no_name k (let n = length-drop m xs in omega arith) ∙ get_or-drop m xs k
+    no_name
 
-turned_late : (m k : ℕ) (xs : List NameId) → m < length xs → length xs - m ≤ k → k < length xs → get_or (turned m xs) k no_name ≡ get_or xs (k - (length xs - m)) no_name
+turned_late : (m k : ℕ) (xs : List NameId) → m < length xs → length xs - m ≤ k → k < length xs
+    → get_or (turned m xs) k no_name ≡ get_or xs (k - (length xs - m)) no_name
 turned_late m k xs h l u =
-    get_or-append_right (drop m xs) (take m xs) (length xs - m) k no_name (length-drop m xs) l ∙ get_or-take m xs (k - (length xs - m)) no_name (omega arith)
+    get_or-append_right (drop m xs) (take m xs) (length xs - m) k no_name (length-drop m xs) l ∙ get_or-take m xs
+    (k - (length xs - m)) no_name (omega arith)
 
 turned_long : (m : ℕ) (xs : List NameId) → m < length xs → length (turned m xs) ≡ length xs
 turned_long m xs h =
@@ -27,9 +31,11 @@ turned_long m xs h =
     omega arith
 
 feeds_at : (d : Draft) (a a' b b' : NameId) → a ≡ a' → b ≡ b' → Feeds d a' b' → Feeds d a b
-feeds_at d a a' b b' e f h = subst (λ (x : NameId). Feeds d x b) (sym e) (subst (λ (y : NameId). Feeds d a' y) (sym f) h)
+feeds_at d a a' b b' e f h = subst (λ (x : NameId). Feeds d x b) (sym e)
+    (subst (λ (y : NameId). Feeds d a' y) (sym f) h)
 
-pub turned_cycle : (d : Draft) (m : ℕ) (xs : List NameId) → m < length xs → IsNameCycle d xs → IsNameCycle d (drop m xs ++ take m xs)
+pub turned_cycle : (d : Draft) (m : ℕ) (xs : List NameId) → m < length xs → IsNameCycle d xs
+    → IsNameCycle d (drop m xs ++ take m xs)
 turned_cycle d m xs h c =
     let long = turned_long m xs h in
     let n : ℕ = length xs in
@@ -55,29 +61,37 @@ turned_cycle d m xs h c =
           elim (cases_lt (k + 1) (length xs - m)) [
             | inl early ↦
                 let z : m + (k + 1) ≡ m + k + 1 = omega arith in
-                feeds_at d _ (get_or xs (m + k) no_name) _ (get_or xs (m + k + 1) no_name) (turned_early m k xs h (omega arith))
-                (turned_early m (k + 1) xs h early ∙ ap (λ (x : ℕ). get_or xs x no_name) z) (c.next (m + k) (omega arith))
+                feeds_at d _ (get_or xs (m + k) no_name) _ (get_or xs (m + k + 1) no_name)
+                (turned_early m k xs h (omega arith))
+                (turned_early m (k + 1) xs h early ∙ ap (λ (x : ℕ). get_or xs x no_name) z)
+                (c.next (m + k) (omega arith))
             | inr late ↦ elim (cases_lt k (length xs - m)) [
               | inl border ↦
                   let z : m + k ≡ length xs - 1 = omega arith in
                   let y : k + 1 - (length xs - m) ≡ 0 = omega arith in
-                  feeds_at d _ (get_or xs (length xs - 1) no_name) _ (get_or xs 0 no_name) (turned_early m k xs h border ∙ ap (λ (x : ℕ). get_or xs x no_name) z)
+                  feeds_at d _ (get_or xs (length xs - 1) no_name) _ (get_or xs 0 no_name)
+                  (turned_early m k xs h border ∙ ap (λ (x : ℕ). get_or xs x no_name) z)
                   (turned_late m (k + 1) xs h late l ∙ ap (λ (x : ℕ). get_or xs x no_name) y) c.closes
               | inr past ↦
                   let z : k + 1 - (length xs - m) ≡ k - (length xs - m) + 1 = omega arith in
-                  feeds_at d _ (get_or xs (k - (length xs - m)) no_name) _ (get_or xs (k - (length xs - m) + 1) no_name) (turned_late m k xs h past (omega arith))
-                  (turned_late m (k + 1) xs h late l ∙ ap (λ (x : ℕ). get_or xs x no_name) z) (c.next (k - (length xs - m)) (omega arith))
+                  feeds_at d _ (get_or xs (k - (length xs - m)) no_name) _ (get_or xs (k - (length xs - m) + 1) no_name)
+                  (turned_late m k xs h past (omega arith))
+                  (turned_late m (k + 1) xs h late l ∙ ap (λ (x : ℕ). get_or xs x no_name) z)
+                  (c.next (k - (length xs - m)) (omega arith))
             ]
           ];
       closes =
-          let first : get_or (turned m xs) 0 no_name ≡ get_or xs m no_name = turned_early m 0 xs h (omega arith) ∙ (let z : m + 0 ≡ m = omega arith in ap (λ (x : ℕ). get_or xs x no_name) z) in
-          let end : get_or (turned m xs) (length (turned m xs) - 1) no_name ≡ get_or (turned m xs) (length xs - 1) no_name = ap (λ (x : ℕ). get_or (turned m xs) (x - 1) no_name) long in
+          let first : get_or (turned m xs) 0 no_name ≡ get_or xs m no_name = turned_early m 0 xs h (omega arith) ∙
+          (let z : m + 0 ≡ m = omega arith in ap (λ (x : ℕ). get_or xs x no_name) z) in
+          let end : get_or (turned m xs) (length (turned m xs) - 1) no_name ≡ get_or (turned m xs) (length xs - 1)
+          no_name = ap (λ (x : ℕ). get_or (turned m xs) (x - 1) no_name) long in
           elim (cases_lt 0 m) [
             | inl some ↦
                 let z : length xs - 1 - (length xs - m) ≡ m - 1 = omega arith in
                 let y : m - 1 + 1 ≡ m = omega arith in
                 feeds_at d _ (get_or xs (m - 1) no_name) _ (get_or xs (m - 1 + 1) no_name)
-                (end ∙ (turned_late m (length xs - 1) xs h (omega arith) (omega arith) ∙ ap (λ (x : ℕ). get_or xs x no_name) z))
+                (end ∙ (turned_late m (length xs - 1) xs h (omega arith) (omega arith) ∙ ap
+                (λ (x : ℕ). get_or xs x no_name) z))
                 (first ∙ ap (λ (x : ℕ). get_or xs x no_name) (sym y)) (c.next (m - 1) (omega arith))
             | inr none ↦
                 let z : m + (length xs - 1) ≡ length xs - 1 = omega arith in
@@ -88,26 +102,38 @@ turned_cycle d m xs h c =
           ];
     }
 
-pub turned_least : (m : ℕ) (xs : List NameId) → m < length xs → ((k : ℕ) → k < length xs → (get_or xs m no_name).0 ≤ (get_or xs k no_name).0) → BeginsWithLeast (drop m xs ++ take m xs)
+pub turned_least : (m : ℕ) (xs : List NameId) → m < length xs
+    → ((k : ℕ) → k < length xs → (get_or xs m no_name).0 ≤ (get_or xs k no_name).0)
+    → BeginsWithLeast (drop m xs ++ take m xs)
 turned_least m xs h least = λ k l0.
     let l : k < length xs = let n = turned_long m xs h in omega arith in
     let first : (get_or (turned m xs) 0 no_name).0 ≡ (get_or xs m no_name).0 =
-    ap (λ (x : NameId). x.0) (turned_early m 0 xs h (omega arith) ∙ (let z : m + 0 ≡ m = omega arith in ap (λ (x : ℕ). get_or xs x no_name) z)) in
+    ap (λ (x : NameId). x.0)
+    (turned_early m 0 xs h (omega arith) ∙
+    (let z : m + 0 ≡ m = omega arith in ap (λ (x : ℕ). get_or xs x no_name) z)) in
     elim (cases_lt k (length xs - m)) [
-      | inl early ↦ let e = ap (λ (x : NameId). x.0) (turned_early m k xs h early) in let b = least (m + k) (omega arith) in omega (arith, first, e, b)
-      | inr late ↦ let e = ap (λ (x : NameId). x.0) (turned_late m k xs h late l) in let b = least (k - (length xs - m)) (omega arith) in omega (arith, first, e, b)
+      | inl early ↦ let e = ap (λ (x : NameId). x.0) (turned_early m k xs h early)
+          in let b = least (m + k) (omega arith) in omega (arith, first, e, b)
+      | inr late ↦ let e = ap (λ (x : NameId). x.0) (turned_late m k xs h late l)
+          in let b = least (k - (length xs - m)) (omega arith) in omega (arith, first, e, b)
     ]
 
-pub least_cycle : (d : Draft) (names rotated : List NameId) → IsLeastFirst names rotated → IsNameCycle d names → IsNameCycle d rotated
-least_cycle d names rotated h c = subst (λ (l : List NameId). IsNameCycle d l) (sym h.is) (turned_cycle d h.place names h.is_place c)
+pub least_cycle : (d : Draft) (names rotated : List NameId) → IsLeastFirst names rotated → IsNameCycle d names
+    → IsNameCycle d rotated
+least_cycle d names rotated h c = subst (λ (l : List NameId). IsNameCycle d l) (sym h.is)
+    (turned_cycle d h.place names h.is_place c)
 
 pub least_begins : (names rotated : List NameId) → IsLeastFirst names rotated → BeginsWithLeast rotated
-least_begins names rotated h = subst (λ (l : List NameId). BeginsWithLeast l) (sym h.is) (turned_least h.place names h.is_place h.least)
+least_begins names rotated h = subst (λ (l : List NameId). BeginsWithLeast l) (sym h.is)
+    (turned_least h.place names h.is_place h.least)
 
-pub least_cycle_ok : {E : Type 0} (d : Draft) (names read : List NameId) (r : Result (Vec NameId Global) E) → read ≡ names → IfOk r (λ v. IsLeastFirst read v.items) → IsNameCycle d names → IfOk r (λ v. IsNameCycle d v.items)
-least_cycle_ok d names read (Ok v) e h c = least_cycle d read v.items h (subst (λ (l : List NameId). IsNameCycle d l) (sym e) c)
+pub least_cycle_ok : {E : Type 0} (d : Draft) (names read : List NameId) (r : Result (Vec NameId Global) E) → read
+    ≡ names → IfOk r (λ v. IsLeastFirst read v.items) → IsNameCycle d names → IfOk r (λ v. IsNameCycle d v.items)
+least_cycle_ok d names read (Ok v) e h c = least_cycle d read v.items h
+    (subst (λ (l : List NameId). IsNameCycle d l) (sym e) c)
 least_cycle_ok d names read (Err x) e h c = tt
 
-pub least_begins_ok : {E : Type 0} (read : List NameId) (r : Result (Vec NameId Global) E) → IfOk r (λ v. IsLeastFirst read v.items) → IfOk r (λ v. BeginsWithLeast v.items)
+pub least_begins_ok : {E : Type 0} (read : List NameId) (r : Result (Vec NameId Global) E)
+    → IfOk r (λ v. IsLeastFirst read v.items) → IfOk r (λ v. BeginsWithLeast v.items)
 least_begins_ok read (Ok v) h = least_begins read v.items h
 least_begins_ok read (Err x) h = tt

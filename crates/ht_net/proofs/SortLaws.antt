@@ -22,29 +22,37 @@ eqb_flips x y = elim (cases_eq x y) [
   | inr ne ↦ eqb_other x y ne ∙ sym (eqb_other y x (λ e. ne (sym e)))
 ]
 
-pub each_of_permutation : (n : ℕ) (list order : List ℕ) → length list ≡ n → ((k : ℕ) → k < n → get_or list k 0 ≡ k) → IsPermutation list order → IsEach n order
+pub each_of_permutation : (n : ℕ) (list order : List ℕ) → length list ≡ n → ((k : ℕ) → k < n → get_or list k 0 ≡ k)
+    → IsPermutation list order → IsEach n order
 each_of_permutation n list order count same moved =
     let long : length order ≡ n = length_permutation list order moved ∙ count in
-    let all = All-permutation (λ (g : ℕ). g < n) list order moved (λ k d l. let e = same k (omega arith) in let f = get_or_default list k d 0 l in omega arith) in
+    let all = All-permutation (λ (g : ℕ). g < n) list order moved
+    (λ k d l. let e = same k (omega arith) in let f = get_or_default list k d 0 l in omega arith) in
     record {
       once = long;
       within = λ k l. all k 0 l;
       distinct = λ j k less l e.
           let start = IsDistinct-from_apart eqb list (λ a b d m h.
-          eqb_other (get_or list a d) (get_or list b d) (λ q. let x = get_or_default list a d 0 (omega arith) in let y = get_or_default list b d 0 h in let u = same a (omega arith) in let v = same b (omega arith) in absurd (omega arith))) in
-          let after = apart_from_distinct eqb order j k 0 (IsDistinct-IsPermutation eqb eqb_flips list order moved start) less l in
+          eqb_other (get_or list a d) (get_or list b d) (λ q. let x = get_or_default list a d 0 (omega arith)
+          in let y = get_or_default list b d 0 h in let u = same a (omega arith) in let v = same b (omega arith)
+          in absurd (omega arith))) in
+          let after = apart_from_distinct eqb order j k 0
+          (IsDistinct-IsPermutation eqb eqb_flips list order moved start) less l in
           let yes : eqb (get_or order j 0) (get_or order k 0) ≡ true = eq-eqb (get_or order j 0) (get_or order k 0) e in
           false≢true (sym after ∙ yes);
       covers = λ g l.
-          let c = Contains-permutation list order g moved (g, (omega arith), get_or_default list g g 0 (omega arith) ∙ same g l) in
+          let c = Contains-permutation list order g moved
+          (g, (omega arith), get_or_default list g g 0 (omega arith) ∙ same g l) in
           (c.0, c.1, get_or_default order c.0 0 g c.1 ∙ c.2);
     }
 
-pub rising_of_sorted : (levels order : List ℕ) → IsNonDecreasingBy (λ (g : ℕ). get_or levels g 0) order → IsRising levels order
+pub rising_of_sorted : (levels order : List ℕ) → IsNonDecreasingBy (λ (g : ℕ). get_or levels g 0) order
+    → IsRising levels order
 rising_of_sorted levels order h = λ j k le l. h j k 0 le l
 
 -- An order by levels has each gate after those that it reads.
-pub order_by_levels : (c : Netlist) (levels order : List ℕ) → IsLevelled (first_gate_net c) c.gates levels → AreKnown (first_gate_net c) c.gates
+pub order_by_levels : (c : Netlist) (levels order : List ℕ) → IsLevelled (first_gate_net c) c.gates levels
+    → AreKnown (first_gate_net c) c.gates
     → IsEach (length c.gates) order → IsRising levels order → IsOrder c order
 order_by_levels c levels order levelled known each rising = record {
   within = λ k l. each.within k l;
@@ -61,7 +69,8 @@ order_by_levels c levels order levelled known each rising = record {
             let h : ℕ = a.0 - first_gate_net c in
             let below : h < length c.gates = let b = known.known g i inside pin in omega arith in
             let place = each.covers h below in
-            let less : get_or levels h 0 < get_or levels g 0 = (levels_rank (first_gate_net c) c.gates levels levelled).falls g i inside pin high in
+            let less : get_or levels h 0 < get_or levels g 0 =
+            (levels_rank (first_gate_net c) c.gates levels levelled).falls g i inside pin high in
             let is : get_or order place.0 0 ≡ h = place.2 in
             inr (
               place.0,
@@ -69,7 +78,8 @@ order_by_levels c levels order levelled known each rising = record {
                 | inl before ↦ before
                 | inr after ↦
                     let up = rising k place.0 after place.1 in
-                    let same : get_or levels (get_or order place.0 0) 0 ≡ get_or levels h 0 = ap (λ (n : ℕ). get_or levels n 0) is in
+                    let same : get_or levels (get_or order place.0 0) 0
+                    ≡ get_or levels h 0 = ap (λ (n : ℕ). get_or levels n 0) is in
                     absurd (omega (arith, up, same, less))
               ],
               (let e : a.0 ≡ first_gate_net c + h = omega arith in e ∙ ap (λ (n : ℕ). first_gate_net c + n) (sym is)),

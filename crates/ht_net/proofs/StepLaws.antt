@@ -14,59 +14,73 @@ use Rattle.ht_net.specs.Walk.{AreReady, IsPartly, IsPath, open_count, unseen_cou
 use Rattle.ht_net.specs.Next.{HasLevel}
 use Rattle.ht_net.proofs.WalkLaws.{level_gate, level_low}
 
-pub open_set : (levels : List ℕ) (g v : ℕ) → g < length levels → get_or levels g 0 ≡ 0 → v ≢ 0 → open_count (set levels g v) + 1 ≡ open_count levels
+pub open_set : (levels : List ℕ) (g v : ℕ) → g < length levels → get_or levels g 0 ≡ 0 → v ≢ 0
+    → open_count (set levels g v) + 1 ≡ open_count levels
 open_set levels g v h z nz =
     let a : one_if_zero (get_or levels g 0) ≡ 1 = rw z refl in
     let b : one_if_zero v ≡ 0 = let q : eqb v 0 ≡ false = grind (arith, nat_tests) in rw q refl in
     omega (arith, sum_by-set one_if_zero levels g v 0 h, a, b)
 
-pub unseen_set : (seen : List Bool) (g : ℕ) → g < length seen → get_or seen g false ≡ false → unseen_count (set seen g true) + 1 ≡ unseen_count seen
+pub unseen_set : (seen : List Bool) (g : ℕ) → g < length seen → get_or seen g false ≡ false
+    → unseen_count (set seen g true) + 1 ≡ unseen_count seen
 unseen_set seen g h z =
     let a : one_if_false (get_or seen g false) ≡ 1 = rw z refl in
     omega (arith, sum_by-set one_if_false seen g true false h, a)
 
-level_same : (first : ℕ) (levels : List ℕ) (a : NetId) (g v : ℕ) → get_or levels g 0 ≡ 0 → (first ≤ a.0 → get_or levels (a.0 - first) 0 ≢ 0)
+level_same : (first : ℕ) (levels : List ℕ) (a : NetId) (g v : ℕ) → get_or levels g 0 ≡ 0
+    → (first ≤ a.0 → get_or levels (a.0 - first) 0 ≢ 0)
     → net_level first (set levels g v) a ≡ net_level first levels a
 level_same first levels a g v z r = elim (cases_lt a.0 first) [
   | inl lt ↦ level_low first (set levels g v) a lt ∙ sym (level_low first levels a lt)
   | inr low ↦
       let ne : a.0 - first ≢ g = λ e. r low (ap (λ (n : ℕ). get_or levels n 0) e ∙ z) in
-      level_gate first (set levels g v) a low ∙ (get_or-set_other levels g (a.0 - first) v 0 ne ∙ sym (level_gate first levels a low))
+      level_gate first (set levels g v) a low ∙
+      (get_or-set_other levels g (a.0 - first) v 0 ne ∙ sym (level_gate first levels a low))
 ]
 
-highest_same : (first : ℕ) (levels : List ℕ) (args : List NetId) (g v : ℕ) → get_or levels g 0 ≡ 0 → AreReady first levels args
+highest_same : (first : ℕ) (levels : List ℕ) (args : List NetId) (g v : ℕ) → get_or levels g 0 ≡ 0
+    → AreReady first levels args
     → highest_level first (set levels g v) args ≡ highest_level first levels args
 highest_same first levels [] g v z ready = refl
 highest_same first levels (a ∷ args) g v z ready =
-    let here : net_level first (set levels g v) a ≡ net_level first levels a = level_same first levels a g v z (λ low. ready.ready 0 (omega arith) low) in
-    let rest = highest_same first levels args g v z (record { ready = λ i h low. ready.ready (suc i) (omega arith) low }) in
+    let here : net_level first (set levels g v) a ≡ net_level first levels a = level_same first levels a g v z
+    (λ low. ready.ready 0 (omega arith) low) in
+    let rest = highest_same first levels args g v z
+    (record { ready = λ i h low. ready.ready (suc i) (omega arith) low }) in
     cc
 
-level_le : (first : ℕ) (levels : List ℕ) (a : NetId) (bound : ℕ) → ((k : ℕ) → get_or levels k 0 ≤ bound) → net_level first levels a ≤ bound
+level_le : (first : ℕ) (levels : List ℕ) (a : NetId) (bound : ℕ) → ((k : ℕ) → get_or levels k 0 ≤ bound)
+    → net_level first levels a ≤ bound
 level_le first levels a bound h = elim (cases_lt a.0 first) [
   | inl lt ↦ rw (level_low first levels a lt) (omega arith)
   | inr low ↦ rw (level_gate first levels a low) (h (a.0 - first))
 ]
 
-pub highest_le : (first : ℕ) (levels : List ℕ) (args : List NetId) (bound : ℕ) → ((k : ℕ) → get_or levels k 0 ≤ bound) → highest_level first levels args ≤ bound
+pub highest_le : (first : ℕ) (levels : List ℕ) (args : List NetId) (bound : ℕ) → ((k : ℕ) → get_or levels k 0 ≤ bound)
+    → highest_level first levels args ≤ bound
 highest_le first levels [] bound h = omega arith
 highest_le first levels (a ∷ args) bound h =
     let here : net_level first levels a ≤ bound = level_le first levels a bound h in
     let rest : highest_level first levels args ≤ bound = highest_le first levels args bound h in
     omega arith
 
-set_some : (levels : List ℕ) (g v x : ℕ) → g < length levels → v ≢ 0 → get_or levels x 0 ≢ 0 → get_or (set levels g v) x 0 ≢ 0
+set_some : (levels : List ℕ) (g v x : ℕ) → g < length levels → v ≢ 0 → get_or levels x 0 ≢ 0
+    → get_or (set levels g v) x 0 ≢ 0
 set_some levels g v x h nz some = elim (cases_eq x g) [
   | inl is ↦ λ e. nz (sym (get_or-set_same levels g v 0 h) ∙ (ap (λ (n : ℕ). get_or (set levels g v) n 0) (sym is) ∙ e))
   | inr ne ↦ λ e. some (sym (get_or-set_other levels g x v 0 ne) ∙ e)
 ]
 
-ready_same : (first : ℕ) (levels : List ℕ) (args : List NetId) (g v : ℕ) → g < length levels → v ≢ 0 → AreReady first levels args → AreReady first (set levels g v) args
-ready_same first levels args g v h nz before = record { ready = λ i l low. set_some levels g v _ h nz (before.ready i l low) }
+ready_same : (first : ℕ) (levels : List ℕ) (args : List NetId) (g v : ℕ) → g < length levels → v ≢ 0
+    → AreReady first levels args → AreReady first (set levels g v) args
+ready_same first levels args g v h nz before = record
+    { ready = λ i l low. set_some levels g v _ h nz (before.ready i l low) }
 
 -- a gate whose arguments have levels gets its own
-pub partly_set : (first : ℕ) (gates : List Gate) (levels : List ℕ) (g level : ℕ) → g < length gates → get_or levels g 0 ≡ 0
-    → HasLevel first levels (args_of gates g) level → IsPartly first gates levels → IsPartly first gates (set levels g level)
+pub partly_set : (first : ℕ) (gates : List Gate) (levels : List ℕ) (g level : ℕ) → g < length gates → get_or levels g 0
+    ≡ 0
+    → HasLevel first levels (args_of gates g) level → IsPartly first gates levels
+    → IsPartly first gates (set levels g level)
 partly_set first gates levels g level h z has before =
     let inside : g < length levels = omega (arith, before.count) in
     let nz : level ≢ 0 = omega (arith, has.exact) in
@@ -75,34 +89,42 @@ partly_set first gates levels g level h z has before =
       | inl l ↦ omega (arith, before.bounded k l)
       | inr l ↦ let p : get_or levels k 0 ≡ 0 = get_or_past levels k 0 (omega (arith, before.count)) in omega arith
     ] in
-    let top : highest_level first levels (args_of gates g) ≤ length gates - open_count levels = highest_le first levels (args_of gates g) _ all in
+    let top : highest_level first levels (args_of gates g) ≤ length gates - open_count levels = highest_le first levels
+    (args_of gates g) _ all in
     let here : level + open_count levels ≤ length gates + 1 = omega (arith, has.exact, before.bounded g h) in
     record {
       count = length-set levels g level ∙ before.count;
       ready = λ k l some. elim (cases_eq k g) [
         | inl is ↦ rw is (ready_same first levels (args_of gates g) g level inside nz has.ready)
-        | inr ne ↦ ready_same first levels (args_of gates k) g level inside nz (before.ready k l (λ e. some (get_or-set_other levels g k level 0 ne ∙ e)))
+        | inr ne ↦ ready_same first levels (args_of gates k) g level inside nz
+            (before.ready k l (λ e. some (get_or-set_other levels g k level 0 ne ∙ e)))
       ];
       exact = λ k l some. elim (cases_eq k g) [
-        | inl is ↦ rw is (get_or-set_same levels g level 0 inside ∙ (has.exact ∙ ap suc (sym (highest_same first levels (args_of gates g) g level z has.ready))))
+        | inl is ↦ rw is (get_or-set_same levels g level 0 inside ∙
+            (has.exact ∙ ap suc (sym (highest_same first levels (args_of gates g) g level z has.ready))))
         | inr ne ↦
             let old : get_or levels k 0 ≢ 0 = λ e. some (get_or-set_other levels g k level 0 ne ∙ e) in
-            get_or-set_other levels g k level 0 ne ∙ (before.exact k l old ∙ ap suc (sym (highest_same first levels (args_of gates k) g level z (before.ready k l old))))
+            get_or-set_other levels g k level 0 ne ∙
+            (before.exact k l old ∙ ap suc
+            (sym (highest_same first levels (args_of gates k) g level z (before.ready k l old))))
       ];
       bounded = λ k l. elim (cases_eq k g) [
-        | inl is ↦ let e : get_or (set levels g level) k 0 ≡ level = ap (λ (n : ℕ). get_or (set levels g level) n 0) is ∙ get_or-set_same levels g level 0 inside in omega arith
+        | inl is ↦ let e : get_or (set levels g level) k 0 ≡ level = ap (λ (n : ℕ). get_or (set levels g level) n 0) is
+            ∙ get_or-set_same levels g level 0 inside in omega arith
         | inr ne ↦ let e = get_or-set_other levels g k level 0 ne in let b = before.bounded k l in omega arith
       ];
     }
 
 -- the top of the path gets its level and leaves the path
-pub path_pop : (first : ℕ) (gates : List Gate) (levels : List ℕ) (seen : List Bool) (path : List ℕ) (g level : ℕ) → length levels ≡ length gates
+pub path_pop : (first : ℕ) (gates : List Gate) (levels : List ℕ) (seen : List Bool) (path : List ℕ) (g level : ℕ)
+    → length levels ≡ length gates
     → 0 < length path → get_or path (length path - 1) 0 ≡ g → level ≢ 0 → IsPath first gates levels seen path
     → IsPath first gates (set levels g level) seen (take (length path - 1) path)
 path_pop first gates levels seen path g level count some top nz before =
     let n : ℕ = length path - 1 in
     let long : length (take n path) ≡ n = length-take-le n path (omega arith) in
-    let at : (k : ℕ) → k < length (take n path) → get_or (take n path) k 0 ≡ get_or path k 0 = λ k l. get_or-take n path k 0 (omega arith) in
+    let at : (k : ℕ) → k < length (take n path) → get_or (take n path) k 0 ≡ get_or path k 0 = λ k l. get_or-take n path
+    k 0 (omega arith) in
     let inside : g < length levels = let q = before.known n (omega arith) in omega arith in
     record {
       count = before.count;
@@ -111,13 +133,19 @@ path_pop first gates levels seen path g level count some top nz before =
       unlevelled = λ k l.
           let ne : get_or path k 0 ≢ g = λ e. before.distinct k n (omega arith) (omega arith) (e ∙ sym top) in
           rw (at k l) (get_or-set_other levels g (get_or path k 0) level 0 ne ∙ before.unlevelled k (omega arith));
-      distinct = λ j k less l. let l' : j < length (take n path) = omega arith in rw (at j l', at k l) (before.distinct j k less (omega arith));
-      reads = λ k l. let l' : k < length (take n path) = omega arith in rw (at k l', at (k + 1) l) (before.reads k (omega arith));
+      distinct = λ j k less l. let l' : j < length (take n path) = omega arith
+          in rw (at j l', at k l) (before.distinct j k less (omega arith));
+      reads = λ k l. let l' : k < length (take n path) = omega arith
+          in rw (at k l', at (k + 1) l) (before.reads k (omega arith));
       unseen = λ k l new.
-          let ne : k ≢ g = λ e. absurd (let m = before.marked n (omega arith) in let q : get_or seen k false ≡ true = ap (λ (x : ℕ). get_or seen x false) (e ∙ sym top) ∙ m in let f : true ≡ false = sym q ∙ new in cc) in
+          let ne : k ≢ g = λ e. absurd (let m = before.marked n (omega arith) in let q : get_or seen k false
+          ≡ true = ap (λ (x : ℕ). get_or seen x false) (e ∙ sym top) ∙ m in let f : true ≡ false = sym q ∙ new
+          in cc) in
           get_or-set_other levels g k level 0 ne ∙ before.unseen k l new;
       on_path = λ k l old z. elim (cases_eq k g) [
-        | inl is ↦ absurd (nz (sym (get_or-set_same levels g level 0 inside) ∙ (ap (λ (x : ℕ). get_or (set levels g level) x 0) (sym is) ∙ z)))
+        | inl is ↦ absurd (nz
+            (sym (get_or-set_same levels g level 0 inside) ∙
+            (ap (λ (x : ℕ). get_or (set levels g level) x 0) (sym is) ∙ z)))
         | inr ne ↦
             let p = before.on_path k l old (sym (get_or-set_other levels g k level 0 ne) ∙ z) in
             let not_top : p.0 ≢ n = λ e. ne (sym p.2 ∙ (ap (λ (x : ℕ). get_or path x 0) e ∙ top)) in
@@ -127,21 +155,28 @@ path_pop first gates levels seen path g level count some top nz before =
     }
 
 -- a gate that the top of the path reads joins the path
-pub path_push : (first : ℕ) (gates : List Gate) (levels : List ℕ) (seen : List Bool) (path : List ℕ) (h : ℕ) → h < length gates
-    → get_or seen h false ≡ false → (0 < length path → Reads first gates (get_or path (length path - 1) 0) h) → IsPath first gates levels seen path
+pub path_push : (first : ℕ) (gates : List Gate) (levels : List ℕ) (seen : List Bool) (path : List ℕ) (h : ℕ)
+    → h < length gates
+    → get_or seen h false ≡ false → (0 < length path → Reads first gates (get_or path (length path - 1) 0) h)
+    → IsPath first gates levels seen path
     → IsPath first gates levels (set seen h true) (path ++ h ∷ [])
 path_push first gates levels seen path h known new reads before =
     let n : ℕ = length path in
     let long : length (path ++ h ∷ []) ≡ n + 1 = length-append path (h ∷ []) in
     let inside : h < length seen = omega (arith, before.count) in
-    let old : (k : ℕ) → k < n → get_or (path ++ h ∷ []) k 0 ≡ get_or path k 0 = λ k l. get_or_append_left path (h ∷ []) 0 k l in
+    let old : (k : ℕ) → k < n → get_or (path ++ h ∷ []) k 0 ≡ get_or path k 0 = λ k l. get_or_append_left path (h ∷ [])
+    0 k l in
     let last : get_or (path ++ h ∷ []) n 0 ≡ h = get_or_push path h 0 n refl in
     let apart : (k : ℕ) → k < n → get_or path k 0 ≢ h = λ k l e.
     let m = before.marked k l in let f : true ≡ false = sym m ∙ (ap (λ (x : ℕ). get_or seen x false) e ∙ new) in cc in
     let here : get_or (set seen h true) h false ≡ true = get_or-set_same seen h true false inside in
     record {
       count = length-set seen h true ∙ before.count;
-      known = λ k l. elim (cases_lt k n) [ inl s ↦ rw (old k s) (before.known k s) | inr b ↦ let is : k ≡ n = omega arith in rw (is, last) known ];
+      known = λ k l. elim (cases_lt k n) [
+        | inl s ↦ rw (old k s) (before.known k s)
+        | inr b ↦ let is : k
+            ≡ n = omega arith in rw (is, last) known
+      ];
       marked = λ k l. elim (cases_lt k n) [
         | inl s ↦ rw (old k s) (get_or-set_other seen h (get_or path k 0) true false (apart k s) ∙ before.marked k s)
         | inr b ↦ let is : k ≡ n = omega arith in rw (is, last) here
@@ -156,10 +191,12 @@ path_push first gates levels seen path h known new reads before =
       ];
       reads = λ k l. let s' : k < n = omega arith in elim (cases_lt (k + 1) n) [
         | inl s ↦ rw (old k s', old (k + 1) s) (before.reads k s)
-        | inr b ↦ let is : k + 1 ≡ n = omega arith in let top : k ≡ n - 1 = omega arith in rw (old k s', is, last, top) (reads (omega arith))
+        | inr b ↦ let is : k + 1 ≡ n = omega arith in let top : k ≡ n - 1 = omega arith
+            in rw (old k s', is, last, top) (reads (omega arith))
       ];
       unseen = λ k l z.
-          let ne : k ≢ h = λ e. let f : true ≡ false = sym here ∙ (ap (λ (x : ℕ). get_or (set seen h true) x false) (sym e) ∙ z) in cc in
+          let ne : k ≢ h = λ e. let f : true
+          ≡ false = sym here ∙ (ap (λ (x : ℕ). get_or (set seen h true) x false) (sym e) ∙ z) in cc in
           before.unseen k l (sym (get_or-set_other seen h k true false ne) ∙ z);
       on_path = λ k l s z. elim (cases_eq k h) [
         | inl is ↦ (n, omega arith, last ∙ sym is)
@@ -170,35 +207,44 @@ path_push first gates levels seen path h known new reads before =
     }
 
 -- the path from a gate on, when the top reads that gate
-pub cycle_found : (first : ℕ) (gates : List Gate) (levels : List ℕ) (seen : List Bool) (path : List ℕ) (place h : ℕ) → place < length path → get_or path place 0 ≡ h
-    → Reads first gates (get_or path (length path - 1) 0) h → IsPath first gates levels seen path → IsCycle first gates (reverse (drop place path))
+pub cycle_found : (first : ℕ) (gates : List Gate) (levels : List ℕ) (seen : List Bool) (path : List ℕ) (place h : ℕ)
+    → place < length path → get_or path place 0 ≡ h
+    → Reads first gates (get_or path (length path - 1) 0) h → IsPath first gates levels seen path
+    → IsCycle first gates (reverse (drop place path))
 cycle_found first gates levels seen path place h inside is reads before =
     let tail : List ℕ = drop place path in
     let n : ℕ = length path - place in
     let long : length (reverse tail) ≡ n = length-reverse tail ∙ length-drop place path in
     let at : (k : ℕ) → k < n → get_or (reverse tail) k 0 ≡ get_or path (length path - 1 - k) 0 = λ k l.
     let z : place + (length tail - 1 - k) ≡ length path - 1 - k = let e = length-drop place path in omega arith in
-    get_or-reverse tail k 0 (let e = length-drop place path in omega arith) ∙ (get_or-drop place path (length tail - 1 - k) 0 ∙ ap (λ (x : ℕ). get_or path x 0) z) in
+    get_or-reverse tail k 0 (let e = length-drop place path in omega arith) ∙
+    (get_or-drop place path (length tail - 1 - k) 0 ∙ ap (λ (x : ℕ). get_or path x 0) z) in
     record {
       some = omega arith;
       known = λ k l. rw (at k (omega arith)) (before.known _ (omega arith));
-      distinct = λ j k less l. rw (at j (omega arith), at k (omega arith)) (λ e. before.distinct (length path - 1 - k) (length path - 1 - j) (omega arith) (omega arith) (sym e));
+      distinct = λ j k less l. rw (at j (omega arith), at k (omega arith))
+          (λ e. before.distinct (length path - 1 - k) (length path - 1 - j) (omega arith) (omega arith) (sym e));
       next = λ k l.
           let z : length path - 1 - (k + 1) + 1 ≡ length path - 1 - k = omega arith in
           let r = before.reads (length path - 1 - (k + 1)) (omega arith) in
           rw (at k (omega arith), at (k + 1) (omega arith)) (rw z at r);
       closes =
           let a : get_or (reverse tail) (length (reverse tail) - 1) 0 ≡ h =
-          ap (λ (x : ℕ). get_or (reverse tail) (x - 1) 0) long ∙ (at (n - 1) (omega arith) ∙ ((let z : length path - 1 - (n - 1) ≡ place = omega arith in ap (λ (x : ℕ). get_or path x 0) z) ∙ is)) in
-          let b : get_or (reverse tail) 0 0 ≡ get_or path (length path - 1) 0 = at 0 (omega arith) ∙ (let z : length path - 1 - 0 ≡ length path - 1 = omega arith in ap (λ (x : ℕ). get_or path x 0) z) in
+          ap (λ (x : ℕ). get_or (reverse tail) (x - 1) 0) long ∙
+          (at (n - 1) (omega arith) ∙
+          ((let z : length path - 1 - (n - 1) ≡ place = omega arith in ap (λ (x : ℕ). get_or path x 0) z) ∙ is)) in
+          let b : get_or (reverse tail) 0 0 ≡ get_or path (length path - 1) 0 = at 0 (omega arith) ∙
+          (let z : length path - 1 - 0 ≡ length path - 1 = omega arith in ap (λ (x : ℕ). get_or path x 0) z) in
           rw (a, b) reads;
     }
 
 -- an empty path, with all gates seen
-pub walk_done : (first : ℕ) (gates : List Gate) (levels : List ℕ) (seen : List Bool) → IsPartly first gates levels → IsPath first gates levels seen []
+pub walk_done : (first : ℕ) (gates : List Gate) (levels : List ℕ) (seen : List Bool) → IsPartly first gates levels
+    → IsPath first gates levels seen []
     → ((g : ℕ) → g < length gates → get_or seen g false ≡ true) → IsLevelled first gates levels
 walk_done first gates levels seen partly path all =
-    let some : (g : ℕ) → g < length gates → get_or levels g 0 ≢ 0 = λ g h e. let p = path.on_path g h (all g h) e in absurd (omega (arith, p.1)) in
+    let some : (g : ℕ) → g < length gates → get_or levels g 0 ≢ 0 = λ g h e. let p = path.on_path g h (all g h) e
+    in absurd (omega (arith, p.1)) in
     record {
       count = partly.count;
       exact = λ g h. partly.exact g h (some g h);

@@ -9,7 +9,8 @@ use Rattle.ht_net.specs.GateLevels.{net_level, highest_level}
 use Rattle.ht_net.specs.Walk.{AreReady}
 use Rattle.ht_net.specs.Next.{HasLevel}
 
-pub level_gate : (first : ℕ) (levels : List ℕ) (x : NetId) → first ≤ x.0 → net_level first levels x ≡ get_or levels (x.0 - first) 0
+pub level_gate : (first : ℕ) (levels : List ℕ) (x : NetId) → first ≤ x.0 → net_level first levels x
+    ≡ get_or levels (x.0 - first) 0
 level_gate first levels x h = let q : ltb x.0 first ≡ false = grind (arith, nat_tests) in rw q refl
 
 pub level_low : (first : ℕ) (levels : List ℕ) (x : NetId) → x.0 < first → net_level first levels x ≡ 0
@@ -17,7 +18,8 @@ level_low first levels x h = let q : ltb x.0 first ≡ true = grind (arith, nat_
 
 -- one more argument
 pub highest_more : (first : ℕ) (levels : List ℕ) (args : List NetId) (i : ℕ) → i < length args
-    → highest_level first levels (take (i + 1) args) ≡ max (highest_level first levels (take i args)) (net_level first levels (get_or args i no_net))
+    → highest_level first levels (take (i + 1) args) ≡ max (highest_level first levels (take i args))
+    (net_level first levels (get_or args i no_net))
 highest_more first levels [] i h = absurd (omega arith)
 highest_more first levels (a ∷ args) zero h = omega arith
 highest_more first levels (a ∷ args) (suc i) h =
@@ -30,11 +32,14 @@ has_level_none first levels args = record { ready = record { ready = λ i h. abs
 pub cases_last : (j i : ℕ) → j < i + 1 → (j < i) ⊎ (j ≡ i)
 cases_last j i h = grind arith
 
-ready_more : (first : ℕ) (levels : List ℕ) (args : List NetId) (i : ℕ) → i < length args → AreReady first levels (take i args)
-    → (first ≤ (get_or args i no_net).0 → get_or levels ((get_or args i no_net).0 - first) 0 ≢ 0) → AreReady first levels (take (i + 1) args)
+ready_more : (first : ℕ) (levels : List ℕ) (args : List NetId) (i : ℕ) → i < length args
+    → AreReady first levels (take i args)
+    → (first ≤ (get_or args i no_net).0 → get_or levels ((get_or args i no_net).0 - first) 0 ≢ 0)
+    → AreReady first levels (take (i + 1) args)
 ready_more first levels args i h before here = record {
   ready = λ j l.
-      let small : j < i + 1 = let z : length (take (i + 1) args) ≡ i + 1 = length-take-le (i + 1) args (omega arith) in omega arith in
+      let small : j < i + 1 = let z : length (take (i + 1) args) ≡ i + 1 = length-take-le (i + 1) args (omega arith)
+      in omega arith in
       rw (get_or-take (i + 1) args j no_net small) (elim (cases_last j i small) [
         | inl less ↦ let z : length (take i args) ≡ i = length-take-le i args (omega arith) in
             rw (get_or-take i args j no_net less) at (before.ready j (omega arith))
@@ -42,7 +47,8 @@ ready_more first levels args i h before here = record {
       ]);
 }
 
-pub has_level_gate : (first : ℕ) (levels : List ℕ) (args : List NetId) (i level below : ℕ) → i < length args → HasLevel first levels (take i args) level
+pub has_level_gate : (first : ℕ) (levels : List ℕ) (args : List NetId) (i level below : ℕ) → i < length args
+    → HasLevel first levels (take i args) level
     → first ≤ (get_or args i no_net).0 → below ≡ get_or levels ((get_or args i no_net).0 - first) 0 → below ≢ 0
     → HasLevel first levels (take (i + 1) args) (max level (below + 1))
 has_level_gate first levels args i level below h before low is some = record {
@@ -54,7 +60,8 @@ has_level_gate first levels args i level below h before low is some = record {
       rw (a, b, ← is, c) (omega arith);
 }
 
-pub has_level_low : (first : ℕ) (levels : List ℕ) (args : List NetId) (i level : ℕ) → i < length args → HasLevel first levels (take i args) level
+pub has_level_low : (first : ℕ) (levels : List ℕ) (args : List NetId) (i level : ℕ) → i < length args
+    → HasLevel first levels (take i args) level
     → (get_or args i no_net).0 < first → HasLevel first levels (take (i + 1) args) level
 has_level_low first levels args i level h before low = record {
   ready = ready_more first levels args i h before.ready (λ l e. absurd (omega arith));

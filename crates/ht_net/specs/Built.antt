@@ -32,7 +32,8 @@ named_draft d = record {
   inputs = map (draft_name d) d.inputs;
   outputs = map (draft_name d) d.outputs;
   dffs = map (λ (f : DffPart). record { out = draft_name d f.out; data_pin = draft_name d f.data_pin }) d.dffs;
-  gates = map (λ (g : GatePart). record { kind = g.kind; out = draft_name d g.out; args = map (draft_name d) g.args }) d.gates;
+  gates = map (λ (g : GatePart). record { kind = g.kind; out = draft_name d g.out; args = map (draft_name d) g.args })
+      d.gates;
 }
 
 abbrev pub AllDriven : Draft → Type 0

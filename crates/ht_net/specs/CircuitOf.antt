@@ -10,7 +10,14 @@ use Rattle.ht_net.specs.declared.circuit.Circuit.TheInside.{Inside}
 -- a circuit by its parts
 abbrev pub netlist_by : ℕ → List NetId → List Gate → List NetId → List (Vec ℕ Global) → Netlist
 netlist_by inputs dffs gates outputs names =
-    record { inputs = inputs; dffs = dffs; gates = gates; outputs = outputs; names = map (λ (v : Vec ℕ Global). v.items) names }
+    record {
+      inputs = inputs;
+      dffs = dffs;
+      gates = gates;
+      outputs = outputs;
+      names = map (λ (v : Vec ℕ Global). v.items)
+          names;
+    }
 
 abbrev pub netlist_of : Inside → Netlist
 netlist_of a = netlist_by a.inputs a.dffs.items a.gates a.outputs.items a.names.items

@@ -30,7 +30,8 @@ Opposite Zero One = Unit {0}
 Opposite One Zero = Unit {0}
 Opposite good bad = ⊥
 
--- The list detects the fault at output o of vector t: there the good and the faulty machine show opposite definite values.
+-- The list detects the fault at output o of vector t: there the good and the faulty machine show opposite definite
+-- values.
 abbrev pub Detects : Netlist → Fault → List (List Bool) → ℕ → ℕ → Type 0
 Detects c fault list t o = Opposite (output_at c None list t o) (output_at c (Some fault) list t o)
 

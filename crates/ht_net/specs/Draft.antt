@@ -63,9 +63,11 @@ pub record IsDraft (d : Draft) : Type 0 where
   pub few_dffs : length d.dffs ≤ most_dffs
   pub few_pins : draft_pins d ≤ most_pins
   pub names_differ : (x y : ℕ) → x < y → y < length d.names → get_or d.names x [] ≢ get_or d.names y []
-  pub outputs_differ : (o p : ℕ) → o < p → p < length d.outputs → get_or d.outputs o no_name ≢ get_or d.outputs p no_name
+  pub outputs_differ : (o p : ℕ) → o < p → p < length d.outputs → get_or d.outputs o no_name ≢ get_or d.outputs p
+      no_name
   pub outputs_known : (o : ℕ) → o < length d.outputs → IsName d (get_or d.outputs o no_name)
   pub data_known : (j : ℕ) → j < length d.dffs → IsName d (get_or d.dffs j no_dff).data_pin
-  pub args_known : (g i : ℕ) → g < length d.gates → i < length (part_at d g).args → IsName d (get_or (part_at d g).args i no_name)
+  pub args_known : (g i : ℕ) → g < length d.gates → i < length (part_at d g).args
+      → IsName d (get_or (part_at d g).args i no_name)
   pub arities : (g : ℕ) → g < length d.gates → HasArity (part_at d g).kind (length (part_at d g).args)
   pub few_args : (g : ℕ) → g < length d.gates → length (part_at d g).args ≤ 255

@@ -8,7 +8,13 @@ use Rattle.ht_net.specs.declared.builder.Builder.TheInside.{Inside}
 use Rattle.ht_net.specs.Draft.{Draft, IsDraft, latch_names, gate_names, draft_pins, no_name}
 
 abbrev pub draft_of : Inside → Draft
-draft_of a = record { names = a.names; inputs = a.inputs.items; dffs = a.dffs.items; gates = a.gates.items; outputs = a.outputs.keys }
+draft_of a = record {
+  names = a.names;
+  inputs = a.inputs.items;
+  dffs = a.dffs.items;
+  gates = a.gates.items;
+  outputs = a.outputs.keys;
+}
 
 -- a list of names and the drivers that one way of driving makes tell the same
 pub record Agrees (list : List NameId) (made : ℕ → Driver) (drivers : List Driver) : Type 0 where
@@ -32,7 +38,8 @@ pub record IsKept (a : Inside) : Type 0 where
   -- a driver for each name
   pub count : length a.drivers.items ≡ length a.names
   pub pins : a.pins ≡ draft_pins (draft_of a)
-  pub all : free_count a.drivers.items + (length a.inputs.items + (length a.dffs.items + length a.gates.items)) ≡ length a.names
+  pub all : free_count a.drivers.items + (length a.inputs.items + (length a.dffs.items + length a.gates.items))
+      ≡ length a.names
   pub inputs : Agrees a.inputs.items Input a.drivers.items
   pub dffs : Agrees (latch_names (draft_of a)) Dff a.drivers.items
   pub gates : Agrees (gate_names (draft_of a)) Gate a.drivers.items

@@ -29,7 +29,8 @@ gate_output c r env g = r.gate (gate_at c g).kind (pin_values r g env 0 (gate_at
 unfoldable pub driver_value : {V : Type 0} → Netlist → Rules V → List V → List V → (ℕ → V) → ℕ → V
 driver_value c r vector latches env x =
     cond (ltb x c.inputs) (get_or vector x r.blank)
-    (cond (ltb x (first_gate_net c)) (get_or latches (x - c.inputs) r.blank) (gate_output c r env (x - first_gate_net c)))
+    (cond (ltb x (first_gate_net c)) (get_or latches (x - c.inputs) r.blank)
+    (gate_output c r env (x - first_gate_net c)))
 
 -- the value of net x, where the nets that its gate reads have the values of env
 unfoldable pub net_value_over : {V : Type 0} → Netlist → Rules V → List V → List V → (ℕ → V) → ℕ → V
@@ -38,7 +39,8 @@ net_value_over c r vector latches env x = r.stem x (driver_value c r vector latc
 -- the value of net x by a recursion of at most k gates
 unfoldable pub net_value_within : {V : Type 0} → ℕ → Netlist → Rules V → List V → List V → ℕ → V
 net_value_within zero c r vector latches x = r.blank
-net_value_within (suc k) c r vector latches x = net_value_over c r vector latches (net_value_within k c r vector latches) x
+net_value_within (suc k) c r vector latches x = net_value_over c r vector latches
+    (net_value_within k c r vector latches) x
 
 -- the value of net x in a frame, by recursion from the net down to inputs and latches
 unfoldable pub net_value : {V : Type 0} → Netlist → Rules V → List V → List V → ℕ → V
@@ -72,7 +74,8 @@ run_state c r latches (vector ∷ vectors) = run_state c r (next_state c r vecto
 
 abbrev pub run_outputs : {V : Type 0} → Netlist → Rules V → List V → List (List V) → List (List V)
 run_outputs c r latches [] = []
-run_outputs c r latches (vector ∷ vectors) = frame_outputs c r vector latches ∷ run_outputs c r (next_state c r vector latches) vectors
+run_outputs c r latches (vector ∷ vectors) = frame_outputs c r vector latches
+    ∷ run_outputs c r (next_state c r vector latches) vectors
 
 -- The rules of two machines preserve a relation between their values: whatever holds of the values that go into a gate
 -- or a line holds of the values that come out.

@@ -16,7 +16,8 @@ highest_level first levels (a ∷ args) = max (net_level first levels a) (highes
 
 -- each net that the gates read is there
 pub record AreKnown (first : ℕ) (gates : List Gate) : Type 0 where
-  pub known : (g i : ℕ) → g < length gates → i < length (args_of gates g) → (get_or (args_of gates g) i no_net).0 < first + length gates
+  pub known : (g i : ℕ) → g < length gates → i < length (args_of gates g) → (get_or (args_of gates g) i no_net).0 <
+      first + length gates
 
 pub record IsLevelled (first : ℕ) (gates : List Gate) (levels : List ℕ) : Type 0 where
   pub count : length levels ≡ length gates
@@ -25,5 +26,6 @@ pub record IsLevelled (first : ℕ) (gates : List Gate) (levels : List ℕ) : Ty
 
 -- a number for each gate that is greater than that of each gate that it reads
 pub record IsRanked (first : ℕ) (gates : List Gate) (rank : ℕ → ℕ) : Type 0 where
-  pub falls : (g i : ℕ) → g < length gates → i < length (args_of gates g) → first ≤ (get_or (args_of gates g) i no_net).0
+  pub falls : (g i : ℕ) → g < length gates → i < length (args_of gates g)
+      → first ≤ (get_or (args_of gates g) i no_net).0
       → rank ((get_or (args_of gates g) i no_net).0 - first) < rank g

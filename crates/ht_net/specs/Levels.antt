@@ -11,7 +11,13 @@ highest (n ∷ ns) = max n (highest ns)
 
 -- Numbers as values: an input or a latch is 0, and a gate is 1 more than the highest of its arguments.
 abbrev pub level_rules : Rules ℕ
-level_rules = record { blank = 0; gate = λ kind ns. suc (highest ns); stem = λ x n. n; pin = λ g i n. n; data_pin = λ j n. n }
+level_rules = record {
+  blank = 0;
+  gate = λ kind ns. suc (highest ns);
+  stem = λ x n. n;
+  pin = λ g i n. n;
+  data_pin = λ j n. n;
+}
 
 -- the level of gate g
 abbrev pub level_of : Netlist → ℕ → ℕ

@@ -89,4 +89,5 @@ pub record IsOrder (c : Netlist) (order : List ℕ) : Type 0 where
   pub once : length order ≡ length c.gates
   pub distinct : (j k : ℕ) → j < k → k < length order → get_or order j 0 ≢ get_or order k 0
   pub covers : (g : ℕ) → g < length c.gates → (k : ℕ) × (k < length order) × (get_or order k 0 ≡ g)
-  pub earlier : (k i : ℕ) → k < length order → i < length (gate_at c (get_or order k 0)).args → IsReady c order k (arg_at c (get_or order k 0) i)
+  pub earlier : (k i : ℕ) → k < length order → i < length (gate_at c (get_or order k 0)).args
+      → IsReady c order k (arg_at c (get_or order k 0) i)

@@ -15,20 +15,26 @@ bit_at c fault state list t o = get_or (get_or (run_outputs c (bool_rules fault)
 
 -- opposite for every state of the good machine and every state of the faulty machine
 abbrev pub Apart : Netlist → Fault → List (List Bool) → ℕ → ℕ → Type 0
-Apart c fault list t o = (state state' : List Bool) → IsState c state → IsState c state' → bit_at c (Some fault) state' list t o ≡ not (bit_at c None state list t o)
+Apart c fault list t o = (state state' : List Bool) → IsState c state → IsState c state'
+    → bit_at c (Some fault) state' list t o ≡ not (bit_at c None state list t o)
 
 -- two states that are equal but perhaps at the flip-flops of z
 abbrev pub AgreeOutside : Netlist → (ℕ → Bool) → List Bool → List Bool → Type 0
 AgreeOutside c z state state' = (j : ℕ) → j < length c.dffs → z j ≡ false → get_or state j false ≡ get_or state' j false
 
--- From states that agree outside z, one frame of the good and of the faulty machine gives equal outputs, and next states
+-- From states that agree outside z, one frame of the good and of the faulty machine gives equal outputs, and next
+-- states
 -- that agree outside z.
 pub record Sealed (c : Netlist) (fault : Fault) (z : ℕ → Bool) : Type 0 where
-  pub outputs : (vector state state' : List Bool) → length vector ≡ c.inputs → IsState c state → IsState c state' → AgreeOutside c z state state'
+  pub outputs : (vector state state' : List Bool) → length vector ≡ c.inputs → IsState c state → IsState c state'
+      → AgreeOutside c z state state'
       → frame_outputs c (bool_rules None) vector state ≡ frame_outputs c (bool_rules (Some fault)) vector state'
-  pub stays : (vector state state' : List Bool) → length vector ≡ c.inputs → IsState c state → IsState c state' → AgreeOutside c z state state'
-      → AgreeOutside c z (next_state c (bool_rules None) vector state) (next_state c (bool_rules (Some fault)) vector state')
+  pub stays : (vector state state' : List Bool) → length vector ≡ c.inputs → IsState c state → IsState c state'
+      → AgreeOutside c z state state'
+      → AgreeOutside c z (next_state c (bool_rules None) vector state)
+      (next_state c (bool_rules (Some fault)) vector state')
 
 -- From the common state both machines give equal outputs for every list of vectors.
 abbrev pub Silent : Netlist → Fault → List Bool → Type 0
-Silent c fault state = (list : List (List Bool)) → run_outputs c (bool_rules None) state list ≡ run_outputs c (bool_rules (Some fault)) state list
+Silent c fault state = (list : List (List Bool)) → run_outputs c (bool_rules None) state list
+    ≡ run_outputs c (bool_rules (Some fault)) state list

@@ -21,13 +21,15 @@ unseen_count seen = sum_by one_if_false seen
 
 -- each argument that is a gate has a level
 pub record AreReady (first : ℕ) (levels : List ℕ) (args : List NetId) : Type 0 where
-  pub ready : (i : ℕ) → i < length args → first ≤ (get_or args i no_net).0 → get_or levels ((get_or args i no_net).0 - first) 0 ≢ 0
+  pub ready : (i : ℕ) → i < length args → first ≤ (get_or args i no_net).0
+      → get_or levels ((get_or args i no_net).0 - first) 0 ≢ 0
 
 -- what is known of the levels so far
 pub record IsPartly (first : ℕ) (gates : List Gate) (levels : List ℕ) : Type 0 where
   pub count : length levels ≡ length gates
   pub ready : (g : ℕ) → g < length gates → get_or levels g 0 ≢ 0 → AreReady first levels (args_of gates g)
-  pub exact : (g : ℕ) → g < length gates → get_or levels g 0 ≢ 0 → get_or levels g 0 ≡ suc (highest_level first levels (args_of gates g))
+  pub exact : (g : ℕ) → g < length gates → get_or levels g 0 ≢ 0 → get_or levels g 0
+      ≡ suc (highest_level first levels (args_of gates g))
   pub bounded : (g : ℕ) → g < length gates → get_or levels g 0 + open_count levels ≤ length gates
 
 pub record IsPath (first : ℕ) (gates : List Gate) (levels : List ℕ) (seen : List Bool) (path : List ℕ) : Type 0 where
@@ -38,7 +40,8 @@ pub record IsPath (first : ℕ) (gates : List Gate) (levels : List ℕ) (seen : 
   pub distinct : (j k : ℕ) → j < k → k < length path → get_or path j 0 ≢ get_or path k 0
   pub reads : (k : ℕ) → k + 1 < length path → Reads first gates (get_or path k 0) (get_or path (k + 1) 0)
   pub unseen : (g : ℕ) → g < length gates → get_or seen g false ≡ false → get_or levels g 0 ≡ 0
-  pub on_path : (g : ℕ) → g < length gates → get_or seen g false ≡ true → get_or levels g 0 ≡ 0 → (k : ℕ) × (k < length path) × (get_or path k 0 ≡ g)
+  pub on_path : (g : ℕ) → g < length gates → get_or seen g false ≡ true → get_or levels g 0 ≡ 0 → (k : ℕ)
+      × (k < length path) × (get_or path k 0 ≡ g)
 
 -- what has been seen stays seen
 abbrev pub StaySeen : List Bool → List Bool → Type 0

@@ -87,8 +87,10 @@ impl Builder {
     pub fn net(&mut self, name: &[u8]) -> Result<NameId, NetError>
         ensures named { IfOk result (λ id. IsNameAt self.new.names id.0 name.now) }
         ensures known { OnOk result (¬ IsNewName self.old.names name.now → self.new ≡ self.old) }
-        ensures new { OnOk result (IsNewName self.old.names name.now → self.new ≡ record self.old { names = self.old.names ++ name.now ∷ [] }) }
-        ensures fits { OnOk result (IsNewName self.old.names name.now → length self.old.names < most_nets) }
+        ensures new { OnOk result (IsNewName self.old.names name.now → self.new
+            ≡ record self.old { names = self.old.names ++ name.now ∷ [] }) }
+        ensures fits { OnOk result
+            (IsNewName self.old.names name.now → length self.old.names < most_nets) }
         ensures keeps { (id : NameId) → IsName self.old id → IsName self.new id }
         ensures err { OnErr result (self.new ≡ self.old) }
         ensures refusal { IfErr result (RefusesName self.old name.now) }
@@ -124,7 +126,8 @@ impl Builder {
     /// `Twice` where the name is driven; else `TooMany` of `Inputs` where there are 4,096; `NoMemory` where memory runs out.
     pub fn input(&mut self, name: NameId) -> Result<(), NetError>
         requires { IsName self.old name }
-        ensures ok { OnOk result (self.new ≡ record self.old { inputs = self.old.inputs ++ name ∷ [] }) }
+        ensures ok { OnOk result
+            (self.new ≡ record self.old { inputs = self.old.inputs ++ name ∷ [] }) }
         ensures accepts { OnOk result (AcceptsInput self.old name) }
         ensures err { OnErr result (self.new ≡ self.old) }
         ensures refusal { IfErr result (RefusesInput self.old name) }
@@ -151,7 +154,9 @@ impl Builder {
     pub fn output(&mut self, name: NameId) -> Result<(), NetError>
         requires { IsName self.old name }
         ensures known { OnOk result (Contains self.old.outputs name → self.new ≡ self.old) }
-        ensures new { OnOk result (¬ Contains self.old.outputs name → self.new ≡ record self.old { outputs = self.old.outputs ++ name ∷ [] }) }
+        ensures new { OnOk result
+            (¬ Contains self.old.outputs name → self.new
+            ≡ record self.old { outputs = self.old.outputs ++ name ∷ [] }) }
         ensures err { OnErr result (self.new ≡ self.old) }
         ensures refusal { IfErr result RefusesOutput }
     {
@@ -168,7 +173,9 @@ impl Builder {
     pub fn dff(&mut self, out: NameId, pin: NameId) -> Result<(), NetError>
         requires out { IsName self.old out }
         requires pin { IsName self.old pin }
-        ensures ok { OnOk result (self.new ≡ record self.old { dffs = self.old.dffs ++ record { out = out; data_pin = pin } ∷ [] }) }
+        ensures ok { OnOk result
+            (self.new ≡ record self.old
+            { dffs = self.old.dffs ++ record { out = out; data_pin = pin } ∷ [] }) }
         ensures accepts { OnOk result (AcceptsDff self.old out) }
         ensures err { OnErr result (self.new ≡ self.old) }
         ensures refusal { IfErr result (RefusesDff self.old out) }
@@ -200,7 +207,9 @@ impl Builder {
         requires args { (i : ℕ) → i < length args.now → IsName self.old (get_or args.now i no_name) }
         requires arity { HasArity kind (length args.now) }
         requires few { length args.now ≤ 255 }
-        ensures ok { OnOk result (self.new ≡ record self.old { gates = self.old.gates ++ record { kind = kind; out = out; args = args.now } ∷ [] }) }
+        ensures ok { OnOk result
+            (self.new ≡ record self.old
+            { gates = self.old.gates ++ record { kind = kind; out = out; args = args.now } ∷ [] }) }
         ensures accepts { OnOk result (AcceptsGate self.old out (length args.now)) }
         ensures err { OnErr result (self.new ≡ self.old) }
         ensures refusal { IfErr result (RefusesGate self.old out (length args.now)) }

@@ -53,7 +53,8 @@ impl Circuit {
         names: Vec<Vec<u8>>,
     ) -> Result<Circuit, WalkError>
         requires { IsUnranked (netlist_by inputs dffs.items gates outputs.items names.items) }
-        ensures circuit { IfOk result (λ c. c ≡ netlist_by inputs dffs.items gates outputs.items names.items) }
+        ensures circuit { IfOk result
+            (λ c. c ≡ netlist_by inputs dffs.items gates outputs.items names.items) }
         ensures fault { IfErr result (IsWalkFault (inputs + length dffs.items) gates) }
     {
         let first = inputs + dffs.len() as u32;

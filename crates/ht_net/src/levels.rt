@@ -53,7 +53,8 @@ enum Next {
 
 /// The first gate among a gate's arguments that has no level, or the level that these give.
 fn find_next(first: u32, levels: &[u32], args: &[NetId]) -> Next
-    requires known { (i : ℕ) → i < length args.now → (get_or args.now i no_net).0 < first + length levels.now }
+    requires known { (i : ℕ) → i < length args.now → (get_or args.now i no_net).0 < first
+        + length levels.now }
     requires small { (g : ℕ) → g < length levels.now → get_or levels.now g 0 < 2 ^ 32 - 1 }
     ensures { IsNext first levels.now args.now result }
 {

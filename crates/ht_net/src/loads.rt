@@ -24,7 +24,8 @@ fn add_loads(loads: &mut [u32], nets: &[NetId])
 fn add_gate_loads(loads: &mut [u32], gates: &Gates)
     requires known { ArgsAreBelow (length loads.old) gates.now }
     requires fits { (x : ℕ) → get_or loads.old x 0 + pins_of gates.now < 2 ^ 32 }
-    ensures { (x : ℕ) → get_or loads.new x 0 ≡ get_or loads.old x 0 + sum_by (λ (g : Gate). times x g.args) gates.now }
+    ensures { (x : ℕ) → get_or loads.new x 0 ≡ get_or loads.old x 0
+        + sum_by (λ (g : Gate). times x g.args) gates.now }
 {
     for g in 0..gates.len() {
         add_loads(loads, gates.args(g));
@@ -58,7 +59,8 @@ pub fn count_loads(
     requires outputs { AreBelow nets outputs.now }
     requires few { pins_of gates.now + (length dffs.now + length outputs.now) < 2 ^ 32 }
     ensures count { IfOk result (λ loads. length loads.items ≡ nets) }
-    ensures loads { IfOk result (λ loads. (x : ℕ) → get_or loads.items x 0 ≡ loads_among gates.now dffs.now outputs.now x) }
+    ensures loads { IfOk result
+        (λ loads. (x : ℕ) → get_or loads.items x 0 ≡ loads_among gates.now dffs.now outputs.now x) }
 {
     let mut loads = vec![in alloc; 0; nets]?;
     add_all_loads(&mut loads, gates, dffs, outputs);

@@ -12,7 +12,8 @@ use Rattle.ht_pairs.specs.Results.{IsImage, IsImageOfTwo}
 
 -- r is the fold from a member of s along a choice from the sets
 abbrev pub Reached : Kind → List Pair → List (List Pair) → Pair → Type 0
-Reached kind s sets r = (p : Pair) × (xs : List Pair) × IsMember p s × IsChoice xs sets × (r ≡ folded (operation_of pair_operations kind) p xs)
+Reached kind s sets r = (p : Pair) × (xs : List Pair) × IsMember p s × IsChoice xs sets
+    × (r ≡ folded (operation_of pair_operations kind) p xs)
 
 -- the same where the fold begins with the first set of a list
 abbrev pub Folded : Kind → List (List Pair) → Pair → Type 0
@@ -20,10 +21,17 @@ Folded kind [] r = ⊥
 Folded kind (s ∷ sets) r = Reached kind s sets r
 
 step_back : (kind : Kind) (s t u : List Pair) → IsImageOfTwo (operation_of pair_operations kind) s t u
-    → (rest : List (List Pair)) (r p : Pair) → IsMember p s → (xs : List Pair) → IsChoice xs (t ∷ rest) → r ≡ folded (operation_of pair_operations kind) p xs → Reached kind u rest r
+    → (rest : List (List Pair)) (r p : Pair) → IsMember p s → (xs : List Pair) → IsChoice xs (t ∷ rest) → r
+    ≡ folded (operation_of pair_operations kind) p xs → Reached kind u rest r
 step_back kind s t u h rest r p i [] c e = absurd c
-step_back kind s t u h rest r p i (q ∷ xs) c e =
-    (operation_of pair_operations kind p q, xs, (h.members (operation_of pair_operations kind p q)).1 (p, q, i, c.0, refl), c.1, e)
+step_back kind s t u h rest r p i (q ∷ xs) c e = (
+  operation_of pair_operations kind p q,
+  xs,
+  (h.members (operation_of pair_operations kind p q)).1
+      (p, q, i, c.0, refl),
+  c.1,
+  e,
+)
 
 step : (kind : Kind) (s t u : List Pair) → IsImageOfTwo (operation_of pair_operations kind) s t u
     → (rest : List (List Pair)) (r : Pair) → Reached kind u rest r ↔ Reached kind s (t ∷ rest) r
@@ -33,7 +41,8 @@ step kind s t u h rest r = (
   λ w. step_back kind s t u h rest r w.0 w.2 w.1 w.3 w.4,
 )
 
-last_back : (kind : Kind) (s : List Pair) (r p : Pair) → IsMember p s → (xs : List Pair) → IsChoice xs [] → r ≡ folded (operation_of pair_operations kind) p xs → IsMember r s
+last_back : (kind : Kind) (s : List Pair) (r p : Pair) → IsMember p s → (xs : List Pair) → IsChoice xs [] → r
+    ≡ folded (operation_of pair_operations kind) p xs → IsMember r s
 last_back kind s r p i [] c e = rw e i
 last_back kind s r p i (q ∷ xs) c e = absurd c
 
@@ -72,26 +81,38 @@ faulty_halves : (xs : List Pair) → AllRelated FaultyIs xs (map (λ p. p.faulty
 faulty_halves [] = tt
 faulty_halves (x ∷ xs) = (refl, faulty_halves xs)
 
-pub gate_value_over-pairs : (kind : Kind) (xs : List Pair) → gate_value_over pair_operations (pair Unk Unk) kind xs ≡ gate_pair kind xs
+pub gate_value_over-pairs : (kind : Kind) (xs : List Pair) → gate_value_over pair_operations (pair Unk Unk) kind xs
+    ≡ gate_pair kind xs
 gate_value_over-pairs kind xs =
     let v = gate_value_over pair_operations (pair Unk Unk) kind xs in
-    ap (λ g. pair g v.faulty) (gate_related GoodIs pair_operations tern_operations good_preserved (pair Unk Unk) Unk refl kind xs (map (λ p. p.good) xs) (good_halves xs))
-    ∙ ap (λ f. pair (gate_value kind (map (λ p. p.good) xs)) f) (gate_related FaultyIs pair_operations tern_operations faulty_preserved (pair Unk Unk) Unk refl kind xs (map (λ p. p.faulty) xs) (faulty_halves xs))
+    ap (λ g. pair g v.faulty)
+    (gate_related GoodIs pair_operations tern_operations good_preserved (pair Unk Unk) Unk refl kind xs
+    (map (λ p. p.good) xs) (good_halves xs))
+    ∙ ap (λ f. pair (gate_value kind (map (λ p. p.good) xs)) f)
+    (gate_related FaultyIs pair_operations tern_operations faulty_preserved (pair Unk Unk) Unk refl kind xs
+    (map (λ p. p.faulty) xs) (faulty_halves xs))
 
-made : (kind : Kind) (s : List Pair) (sets : List (List Pair)) (u : List Pair) → ((r : Pair) → IsMember r u ↔ Folded kind (s ∷ sets) r)
-    → (r : Pair) (xs : List Pair) → IsChoice xs (s ∷ sets) → r ≡ gate_pair kind xs → (p : Pair) × IsMember p u × (r ≡ polarity_of pair_operations kind p)
+made : (kind : Kind) (s : List Pair) (sets : List (List Pair)) (u : List Pair)
+    → ((r : Pair) → IsMember r u ↔ Folded kind (s ∷ sets) r)
+    → (r : Pair) (xs : List Pair) → IsChoice xs (s ∷ sets) → r ≡ gate_pair kind xs → (p : Pair) × IsMember p u
+    × (r ≡ polarity_of pair_operations kind p)
 made kind s sets u h r [] c e = absurd c
 made kind s sets u h r (x ∷ xs) c e =
     let p = folded (operation_of pair_operations kind) x xs in
     (p, (h p).1 (x, xs, c.0, c.1, refl), e ∙ sym (gate_value_over-pairs kind (x ∷ xs)))
 
 -- what the polarity makes of the folds are the results of the gate
-finished : (kind : Kind) (sets : List (List Pair)) → 0 < length sets → (u : List Pair) → ((r : Pair) → IsMember r u ↔ Folded kind sets r)
+finished : (kind : Kind) (sets : List (List Pair)) → 0 < length sets → (u : List Pair)
+    → ((r : Pair) → IsMember r u ↔ Folded kind sets r)
     → (r : Pair) → ((p : Pair) × IsMember p u × (r ≡ polarity_of pair_operations kind p)) ↔ Arises kind sets r
 finished kind [] n u h r = absurd (omega (arith, n))
 finished kind (s ∷ sets) n u h r = (
-  λ w. let e = (h w.0).0 w.1 in
-      (e.0 ∷ e.1, (e.2, e.3), w.2 ∙ (ap (polarity_of pair_operations kind) e.4 ∙ gate_value_over-pairs kind (e.0 ∷ e.1))),
+  λ w. let e = (h w.0).0 w.1 in (
+    e.0 ∷ e.1,
+    (e.2, e.3),
+    w.2 ∙
+        (ap (polarity_of pair_operations kind) e.4 ∙ gate_value_over-pairs kind (e.0 ∷ e.1)),
+  ),
   λ w. made kind s sets u h r w.0 w.1 w.2,
 )
 
@@ -113,17 +134,24 @@ pub record FoldsTo (kind : Kind) (set : List Pair) (rest args : List (List Pair)
   pub results : (r : Pair) → Reached kind set rest r ↔ Folded kind args r
 
 -- the loop takes one more set
-pub folds_more : (kind : Kind) (s u : List Pair) (args items : List (List Pair)) (i : ℕ) (item d : List Pair) → i < length items → item ≡ get_or items i d
-    → IsImageOfTwo (operation_of pair_operations kind) s item u → FoldsTo kind s (drop i items) args → FoldsTo kind u (drop (i + 1) items) args
+pub folds_more : (kind : Kind) (s u : List Pair) (args items : List (List Pair)) (i : ℕ) (item d : List Pair)
+    → i < length items → item ≡ get_or items i d
+    → IsImageOfTwo (operation_of pair_operations kind) s item u → FoldsTo kind s (drop i items) args
+    → FoldsTo kind u (drop (i + 1) items) args
 folds_more kind s u args items i item d n e h inv = record {
   results = λ r. chained (step kind s item u h (drop (i + 1) items) r)
-      (subst (λ (l : List (List Pair)). Reached kind s l r ↔ Folded kind args r) (drop_more items i d n ∙ ap (λ (x : List Pair). x ∷ drop (i + 1) items) (sym e)) (inv.results r));
+      (subst (λ (l : List (List Pair)). Reached kind s l r ↔ Folded kind args r)
+      (drop_more items i d n ∙ ap (λ (x : List Pair). x ∷ drop (i + 1) items) (sym e)) (inv.results r));
 }
 
 -- the loop has taken all sets
-pub folded_all : (kind : Kind) (s u : List Pair) (args items : List (List Pair)) (i : ℕ) → HasArity kind (length args) → length items ≤ i
-    → FoldsTo kind s (drop i items) args → IsImage (polarity_of pair_operations kind) s u → (r : Pair) → IsMember r u ↔ Arises kind args r
+pub folded_all : (kind : Kind) (s u : List Pair) (args items : List (List Pair)) (i : ℕ) → HasArity kind (length args)
+    → length items ≤ i
+    → FoldsTo kind s (drop i items) args → IsImage (polarity_of pair_operations kind) s u → (r : Pair) → IsMember r u
+    ↔ Arises kind args r
 folded_all kind s u args items i n e inv h r =
     chained (h.members r) (finished kind args (HasArity-positive kind (length args) n) s
     (λ p. let ended = last kind s p in
-    chained (ended.1, ended.0) (subst (λ (l : List (List Pair)). Reached kind s l p ↔ Folded kind args p) (drop_all i items e) (inv.results p))) r)
+    chained (ended.1, ended.0)
+    (subst (λ (l : List (List Pair)). Reached kind s l p ↔ Folded kind args p) (drop_all i items e)
+    (inv.results p))) r)

@@ -7,7 +7,8 @@ use Rattle.ht_tern.specs.Pairs.{Pair, all_pairs, IsMember}
 use Rattle.ht_pairs.specs.Members.{holds, members_of, place_of}
 use Rattle.ht_pairs.proofs.PairTests.{any, any_gives, each_gives, in_all}
 
-at_first : (f : Pair → Bool) (q : Pair) (ps : List Pair) (p : Pair) → f q ≡ true → (IsMember p ps → f p ≡ true) → IsMember p (q ∷ ps) → f p ≡ true
+at_first : (f : Pair → Bool) (q : Pair) (ps : List Pair) (p : Pair) → f q ≡ true → (IsMember p ps → f p ≡ true)
+    → IsMember p (q ∷ ps) → f p ≡ true
 at_first f q ps p e more (inl d) = ap f d ∙ e
 at_first f q ps p e more (inr h) = more h
 
@@ -17,7 +18,8 @@ along p e h = rw (sym e) h
 pub filter_passes : (f : Pair → Bool) (ps : List Pair) (p : Pair) → IsMember p (filter f ps) → f p ≡ true
 filter_passes f [] p h = absurd h
 filter_passes f (q ∷ ps) p h = elim (cases_Bool (f q)) [
-  | inl e ↦ at_first f q (filter f ps) p e (filter_passes f ps p) (along p (cond-true (f q) (q ∷ filter f ps) (filter f ps) e) h)
+  | inl e ↦ at_first f q (filter f ps) p e (filter_passes f ps p)
+      (along p (cond-true (f q) (q ∷ filter f ps) (filter f ps) e) h)
   | inr e ↦ filter_passes f ps p (along p (cond-false (f q) (q ∷ filter f ps) (filter f ps) e) h)
 ]
 
@@ -55,10 +57,12 @@ min_test x y h k = elim (bit_cases x h) [
 ]
 
 pub holds-or : (a b : ℕ) (p : Pair) → holds (bit_or a b) p ≡ (holds a p || holds b p)
-holds-or a b p = ap (λ x. eqb x 1) (bit_at_or a b (place_of p)) ∙ max_test _ _ (bit_at-lt a (place_of p)) (bit_at-lt b (place_of p))
+holds-or a b p = ap (λ x. eqb x 1) (bit_at_or a b (place_of p)) ∙ max_test _ _ (bit_at-lt a (place_of p))
+    (bit_at-lt b (place_of p))
 
 pub holds-and : (a b : ℕ) (p : Pair) → holds (bit_and a b) p ≡ (holds a p && holds b p)
-holds-and a b p = ap (λ x. eqb x 1) (bit_at_and a b (place_of p)) ∙ min_test _ _ (bit_at-lt a (place_of p)) (bit_at-lt b (place_of p))
+holds-and a b p = ap (λ x. eqb x 1) (bit_at_and a b (place_of p)) ∙ min_test _ _ (bit_at-lt a (place_of p))
+    (bit_at-lt b (place_of p))
 
 -- a number that is not 0 has a member
 pub some_member : (n : ℕ) → 0 < n → n < 512 → (p : Pair) × (holds n p ≡ true)

@@ -12,11 +12,13 @@ use Rattle.ht_pairs.proofs.PairTests.{each, any, each_gives, any_gives, any_from
 abbrev move_test : (ℕ → ℕ) → (Pair → Pair → Bool) → ℕ → Bool
 move_test move leads n = ltb (move n) 512 && each (λ r. eq_bool (holds (move n) r) (any (λ p. holds n p && leads p r)))
 
-tried : (move : ℕ → ℕ) (leads : Pair → Pair → Bool) → agree_below (move_test move leads) (λ n. true) 512 ≡ true → (n : ℕ) → n < 512 → IsMoved leads n (move n)
+tried : (move : ℕ → ℕ) (leads : Pair → Pair → Bool) → agree_below (move_test move leads) (λ n. true) 512 ≡ true
+    → (n : ℕ) → n < 512 → IsMoved leads n (move n)
 tried move leads passed n h =
     let parts = and_parts (ltb (move n) 512) _ (agree_below_at (move_test move leads) (λ n. true) 512 n passed h) in
     let spread : (r : Pair) → holds (move n) r ≡ any (λ p. holds n p && leads p r) =
-    λ r. eq_bool-true _ _ (each_gives (λ r. eq_bool (holds (move n) r) (any (λ p. holds n p && leads p r))) parts.1 r) in
+    λ r. eq_bool-true _ _ (each_gives (λ r. eq_bool (holds (move n) r) (any (λ p. holds n p && leads p r))) parts.1 r)
+    in
     record {
       small = ltb-true _ _ parts.0;
       members = λ r. (
@@ -51,7 +53,8 @@ raised_moves Good n h = tried (raised_bits Good) (along Good raises) refl n h
 raised_moves Faulty n h = tried (raised_bits Faulty) (along Faulty raises) refl n h
 
 abbrev blurred_bits : Half → ℕ → ℕ
-blurred_bits half n = bit_or n (bit_and (bit_or (left n (step_of half)) (left n (2 * step_of half))) (left (zeros_of half) (2 * step_of half)))
+blurred_bits half n = bit_or n
+    (bit_and (bit_or (left n (step_of half)) (left n (2 * step_of half))) (left (zeros_of half) (2 * step_of half)))
 
 pub blurred_moves : (half : Half) (n : ℕ) → n < 512 → IsMoved (along half blurs) n (blurred_bits half n)
 blurred_moves Good n h = tried (blurred_bits Good) (along Good blurs) refl n h
@@ -59,7 +62,8 @@ blurred_moves Faulty n h = tried (blurred_bits Faulty) (along Faulty blurs) refl
 
 abbrev complemented_bits : Half → ℕ → ℕ
 complemented_bits half n =
-    bit_or (bit_or (left (bit_and n (zeros_of half)) (step_of half)) (right (bit_and n (left (zeros_of half) (step_of half))) (step_of half)))
+    bit_or (bit_or (left (bit_and n (zeros_of half)) (step_of half))
+    (right (bit_and n (left (zeros_of half) (step_of half))) (step_of half)))
     (bit_and n (left (zeros_of half) (2 * step_of half)))
 
 pub complemented_moves : (half : Half) (n : ℕ) → n < 512 → IsMoved (along half complements) n (complemented_bits half n)
@@ -78,7 +82,9 @@ passed_moves Faulty n h = tried (passed_bits Faulty) (along Faulty passes) refl 
 abbrev inverted_bits : Half → ℕ → ℕ
 inverted_bits half n =
     let t = bit_and n (left (zeros_of half) (step_of half)) in
-    bit_or (bit_or t (right t (step_of half))) (bit_and (bit_or (bit_or n (left n (step_of half))) (left n (2 * step_of half))) (left (zeros_of half) (2 * step_of half)))
+    bit_or (bit_or t (right t (step_of half)))
+    (bit_and (bit_or (bit_or n (left n (step_of half))) (left n (2 * step_of half)))
+    (left (zeros_of half) (2 * step_of half)))
 
 pub inverted_moves : (half : Half) (n : ℕ) → n < 512 → IsMoved (along half inverts) n (inverted_bits half n)
 inverted_moves Good n h = tried (inverted_bits Good) (along Good inverts) refl n h

@@ -42,9 +42,11 @@ IsMoved-followed {f} {g} {n} {m} {k} first second = record {
 -- The pairs to which two members lead together, one from each of two sets, and no others.
 record IsMet (leads : Pair → Pair → Pair → Bool) (s t met : ℕ) : Type 0 where
   small : met < 512
-  members : (r : Pair) → IsTrue (holds met r) ↔ ((p : Pair) × (q : Pair) × IsTrue (holds s p) × IsTrue (holds t q) × IsTrue (leads p q r))
+  members : (r : Pair) → IsTrue (holds met r)
+      ↔ ((p : Pair) × (q : Pair) × IsTrue (holds s p) × IsTrue (holds t q) × IsTrue (leads p q r))
 
-IsMet-and : {f g : Pair → Pair → Bool} {s t a b : ℕ} → IsMoved f s a → IsMoved g t b → IsMet (λ p q r. f p r && g q r) s t (bit_and a b)
+IsMet-and : {f g : Pair → Pair → Bool} {s t a b : ℕ} → IsMoved f s a → IsMoved g t b
+    → IsMet (λ p q r. f p r && g q r) s t (bit_and a b)
 IsMet-and {f} {g} {s} {t} {a} {b} one two = record {
   small = lt_of_le_of_lt (and_le_l a b) one.small;
   members = λ r. (
@@ -59,7 +61,8 @@ IsMet-and {f} {g} {s} {t} {a} {b} one two = record {
   );
 }
 
-IsMet-or : {f g : Pair → Pair → Pair → Bool} {s t a b : ℕ} → IsMet f s t a → IsMet g s t b → IsMet (λ p q r. f p q r || g p q r) s t (bit_or a b)
+IsMet-or : {f g : Pair → Pair → Pair → Bool} {s t a b : ℕ} → IsMet f s t a → IsMet g s t b
+    → IsMet (λ p q r. f p q r || g p q r) s t (bit_or a b)
 IsMet-or {f} {g} {s} {t} {a} {b} one two = record {
   small = or_lt 9 _ _ one.small two.small;
   members = λ r. (
@@ -78,7 +81,8 @@ IsMet-or {f} {g} {s} {t} {a} {b} one two = record {
 abbrev any_of : ℕ → ℕ → ℕ → ℕ → ℕ
 any_of a b c d = bit_or (bit_or (bit_or a b) c) d
 
-IsMet-any_of : {f g h k : Pair → Pair → Pair → Bool} {s t a b c d : ℕ} → IsMet f s t a → IsMet g s t b → IsMet h s t c → IsMet k s t d
+IsMet-any_of : {f g h k : Pair → Pair → Pair → Bool} {s t a b c d : ℕ} → IsMet f s t a → IsMet g s t b → IsMet h s t c
+    → IsMet k s t d
     → IsMet (λ p q r. ((f p q r || g p q r) || h p q r) || k p q r) s t (any_of a b c d)
 IsMet-any_of one two three four = IsMet-or (IsMet-or (IsMet-or one two) three) four
 
@@ -86,7 +90,8 @@ IsMet-any_of one two three four = IsMet-or (IsMet-or (IsMet-or one two) three) f
 abbrev table : (Pair → Pair → Pair) → (Pair → Pair → Pair → Bool) → Bool
 table op leads = each (λ p. each (λ q. each (λ r. eq_bool (leads p q r) (same_pair r (op p q)))))
 
-table_at : (op : Pair → Pair → Pair) (leads : Pair → Pair → Pair → Bool) → table op leads ≡ true → (p q r : Pair) → leads p q r ≡ same_pair r (op p q)
+table_at : (op : Pair → Pair → Pair) (leads : Pair → Pair → Pair → Bool) → table op leads ≡ true → (p q r : Pair)
+    → leads p q r ≡ same_pair r (op p q)
 table_at op leads h p q r =
     eq_bool-true _ _ (each_gives (λ r. eq_bool (leads p q r) (same_pair r (op p q)))
     (each_gives (λ q. each (λ r. eq_bool (leads p q r) (same_pair r (op p q))))
@@ -109,8 +114,14 @@ by_table op leads tabled s t n h k met =
       image = record {
         members = λ r. (
           λ i.
-              let w = (met.members r).0 (member_holds n r i) in
-              (w.0, w.1, holds_member s w.0 w.2, holds_member t w.1 w.3, same_pair-true r (op w.0 w.1) (sym (table_at op leads tabled w.0 w.1 r) ∙ w.4)),
+              let w = (met.members r).0 (member_holds n r i) in (
+                w.0,
+                w.1,
+                holds_member s w.0 w.2,
+                holds_member t w.1 w.3,
+                same_pair-true r (op w.0 w.1)
+                    (sym (table_at op leads tabled w.0 w.1 r) ∙ w.4),
+              ),
           λ w. holds_member n r (holds_result w.0 w.1 r (member_holds s w.0 w.2) (member_holds t w.1 w.3) w.4),
         );
       };
@@ -119,7 +130,8 @@ by_table op leads tabled s t n h k met =
 -- Four terms: each half of a result comes from either member, and the other member's is moved to it.
 abbrev between : (Pair → Pair → Bool) → (Pair → Pair → Bool) → Pair → Pair → Pair → Bool
 between f g p q r =
-    (((same_pair p r && followed f g q r) || (followed f g p r && same_pair q r)) || (f p r && g q r)) || (g p r && f q r)
+    (((same_pair p r && followed f g q r) || (followed f g p r && same_pair q r)) || (f p r && g q r))
+    || (g p r && f q r)
 
 and_table : table pair_operations.conjunction (between (along Faulty lowers) (along Good lowers)) ≡ true
 and_table = refl
@@ -140,35 +152,46 @@ between_results op f g tabled valid_s valid_t f_s f_t fg_t fg_s g_t g_s =
 pub conjunction_results : {s t s_f t_f t_fg s_fg t_g s_g : ℕ} → IsValid s → IsValid t
     → IsMoved (along Faulty lowers) s s_f → IsMoved (along Faulty lowers) t t_f → IsMoved (along Good lowers) t_f t_fg
     → IsMoved (along Good lowers) s_f s_fg → IsMoved (along Good lowers) t t_g → IsMoved (along Good lowers) s s_g
-    → IsResultOfTwo pair_operations.conjunction s t (any_of (bit_and s t_fg) (bit_and s_fg t) (bit_and s_f t_g) (bit_and s_g t_f))
+    → IsResultOfTwo pair_operations.conjunction s t
+    (any_of (bit_and s t_fg) (bit_and s_fg t) (bit_and s_f t_g) (bit_and s_g t_f))
 conjunction_results = between_results pair_operations.conjunction (along Faulty lowers) (along Good lowers) and_table
 
 pub disjunction_results : {s t s_f t_f t_fg s_fg t_g s_g : ℕ} → IsValid s → IsValid t
     → IsMoved (along Faulty raises) s s_f → IsMoved (along Faulty raises) t t_f → IsMoved (along Good raises) t_f t_fg
     → IsMoved (along Good raises) s_f s_fg → IsMoved (along Good raises) t t_g → IsMoved (along Good raises) s s_g
-    → IsResultOfTwo pair_operations.disjunction s t (any_of (bit_and s t_fg) (bit_and s_fg t) (bit_and s_f t_g) (bit_and s_g t_f))
+    → IsResultOfTwo pair_operations.disjunction s t
+    (any_of (bit_and s t_fg) (bit_and s_fg t) (bit_and s_f t_g) (bit_and s_g t_f))
 disjunction_results = between_results pair_operations.disjunction (along Faulty raises) (along Good raises) or_table
 
 -- Four terms: whether each half of the first member passes or inverts the second's.
 abbrev crossed : Pair → Pair → Pair → Bool
 crossed p q r =
     (((followed (along Faulty passes) (along Good passes) p r && followed (along Faulty blurs) (along Good blurs) q r)
-    || (followed (along Faulty inverts) (along Good passes) p r && followed (along Faulty complements) (along Good blurs) q r))
-    || (followed (along Faulty passes) (along Good inverts) p r && followed (along Faulty blurs) (along Good complements) q r))
-    || (followed (along Faulty inverts) (along Good inverts) p r && followed (along Faulty complements) (along Good complements) q r)
+    || (followed (along Faulty inverts) (along Good passes) p r && followed (along Faulty complements)
+    (along Good blurs) q r))
+    || (followed (along Faulty passes) (along Good inverts) p r
+    && followed (along Faulty blurs) (along Good complements) q r))
+    || (followed (along Faulty inverts) (along Good inverts) p r && followed (along Faulty complements)
+    (along Good complements) q r)
 
 xor_table : table pair_operations.parity crossed ≡ true
 xor_table = refl
 
 pub parity_results : {s t s_p s_i t_b t_c s_pp t_bb s_ip t_cb s_pi t_bc s_ii t_cc : ℕ} → IsValid s → IsValid t
-    → IsMoved (along Faulty passes) s s_p → IsMoved (along Faulty inverts) s s_i → IsMoved (along Faulty blurs) t t_b → IsMoved (along Faulty complements) t t_c
-    → IsMoved (along Good passes) s_p s_pp → IsMoved (along Good blurs) t_b t_bb → IsMoved (along Good passes) s_i s_ip → IsMoved (along Good blurs) t_c t_cb
-    → IsMoved (along Good inverts) s_p s_pi → IsMoved (along Good complements) t_b t_bc → IsMoved (along Good inverts) s_i s_ii → IsMoved (along Good complements) t_c t_cc
-    → IsResultOfTwo pair_operations.parity s t (any_of (bit_and s_pp t_bb) (bit_and s_ip t_cb) (bit_and s_pi t_bc) (bit_and s_ii t_cc))
+    → IsMoved (along Faulty passes) s s_p → IsMoved (along Faulty inverts) s s_i → IsMoved (along Faulty blurs) t t_b
+    → IsMoved (along Faulty complements) t t_c
+    → IsMoved (along Good passes) s_p s_pp → IsMoved (along Good blurs) t_b t_bb → IsMoved (along Good passes) s_i s_ip
+    → IsMoved (along Good blurs) t_c t_cb
+    → IsMoved (along Good inverts) s_p s_pi → IsMoved (along Good complements) t_b t_bc
+    → IsMoved (along Good inverts) s_i s_ii → IsMoved (along Good complements) t_c t_cc
+    → IsResultOfTwo pair_operations.parity s t
+    (any_of (bit_and s_pp t_bb) (bit_and s_ip t_cb) (bit_and s_pi t_bc) (bit_and s_ii t_cc))
 parity_results valid_s valid_t p i b c pp bb ip cb pi bc ii complemented =
     by_table pair_operations.parity crossed xor_table _ _ _ valid_s valid_t (IsMet-any_of
-    (IsMet-and (IsMoved-followed p pp) (IsMoved-followed b bb)) (IsMet-and (IsMoved-followed i ip) (IsMoved-followed c cb))
-    (IsMet-and (IsMoved-followed p pi) (IsMoved-followed b bc)) (IsMet-and (IsMoved-followed i ii) (IsMoved-followed c complemented)))
+    (IsMet-and (IsMoved-followed p pp) (IsMoved-followed b bb))
+    (IsMet-and (IsMoved-followed i ip) (IsMoved-followed c cb))
+    (IsMet-and (IsMoved-followed p pi) (IsMoved-followed b bc))
+    (IsMet-and (IsMoved-followed i ii) (IsMoved-followed c complemented)))
 
 -- The same for an operation on one set.
 pub record IsResultOfOne (op : Pair → Pair) (s n : ℕ) : Type 0 where
@@ -182,21 +205,30 @@ by_move op s n h moved =
       valid = (member_some n (op p.0) ((moved.members (op p.0)).1 (p.0, p.1, same_pair-from _ _ refl)), moved.small);
       image = record {
         members = λ r. (
-          λ i. let w = (moved.members r).0 (member_holds n r i) in (w.0, holds_member s w.0 w.1, sym (same_pair-true (op w.0) r w.2)),
+          λ i. let w = (moved.members r).0 (member_holds n r i)
+              in (w.0, holds_member s w.0 w.1, sym (same_pair-true (op w.0) r w.2)),
           λ w. holds_member n r ((moved.members r).1 (w.0, member_holds s w.0 w.1, same_pair-from _ _ (sym w.2))),
         );
       };
     }
 
-complement_table : each (λ p. each (λ r. eq_bool (followed (along Faulty complements) (along Good complements) p r) (becomes pair_operations.complement p r))) ≡ true
+complement_table : each
+    (λ p. each (λ r. eq_bool (followed (along Faulty complements) (along Good complements) p r)
+    (becomes pair_operations.complement p r))) ≡ true
 complement_table = refl
 
-complement_at : (p r : Pair) → followed (along Faulty complements) (along Good complements) p r ≡ becomes pair_operations.complement p r
+complement_at : (p r : Pair) → followed (along Faulty complements) (along Good complements) p r
+    ≡ becomes pair_operations.complement p r
 complement_at p r =
-    eq_bool-true _ _ (each_gives (λ r. eq_bool (followed (along Faulty complements) (along Good complements) p r) (becomes pair_operations.complement p r))
-    (each_gives (λ p. each (λ r. eq_bool (followed (along Faulty complements) (along Good complements) p r) (becomes pair_operations.complement p r))) complement_table p) r)
+    eq_bool-true _ _ (each_gives
+    (λ r. eq_bool (followed (along Faulty complements) (along Good complements) p r)
+    (becomes pair_operations.complement p r))
+    (each_gives (λ p. each
+    (λ r. eq_bool (followed (along Faulty complements) (along Good complements) p r)
+    (becomes pair_operations.complement p r))) complement_table p) r)
 
-pub complement_results : (s m n : ℕ) → IsValid s → IsMoved (along Faulty complements) s m → IsMoved (along Good complements) m n → IsResultOfOne pair_operations.complement s n
+pub complement_results : (s m n : ℕ) → IsValid s → IsMoved (along Faulty complements) s m
+    → IsMoved (along Good complements) m n → IsResultOfOne pair_operations.complement s n
 complement_results s m n h one two =
     let moved = IsMoved-followed one two in
     by_move pair_operations.complement s n h (record {
@@ -208,7 +240,8 @@ complement_results s m n h one two =
     })
 
 -- the first of two members, where the second set is not empty; and a member itself
-pub image_of_first : (s : List Pair) (t : List Pair) (n : ℕ) → members_of n ≡ t → IsValid n → IsImageOfTwo (λ p q. p) s t s
+pub image_of_first : (s : List Pair) (t : List Pair) (n : ℕ) → members_of n ≡ t → IsValid n
+    → IsImageOfTwo (λ p q. p) s t s
 image_of_first s t n is h =
     let q = some_member n h.0 h.1 in
     rw (← is) (record { members = λ r. (λ i. (r, q.0, i, holds_member n q.0 q.1, refl), λ w. rw w.4 w.2) })

@@ -83,7 +83,8 @@ same_tern-self Unk = refl
 pub same_pair-true : (p q : Pair) → same_pair p q ≡ true → p ≡ q
 same_pair-true p q h =
     let parts = and_parts (same_tern p.good q.good) (same_tern p.faulty q.faulty) h in
-    ap (λ g. pair g p.faulty) (same_tern-true p.good q.good parts.0) ∙ ap (λ f. pair q.good f) (same_tern-true p.faulty q.faulty parts.1)
+    ap (λ g. pair g p.faulty) (same_tern-true p.good q.good parts.0) ∙ ap (λ f. pair q.good f)
+    (same_tern-true p.faulty q.faulty parts.1)
 
 pub same_pair-from : (p q : Pair) → p ≡ q → same_pair p q ≡ true
 same_pair-from p q e = rw e (and_from _ _ (same_tern-self q.good) (same_tern-self q.faulty))

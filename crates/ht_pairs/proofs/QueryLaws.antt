@@ -24,18 +24,22 @@ single_at Unk Unk = refl
 pub single_is : (g f : Tern) (k : ℕ) → k ≡ place_of (pair g f) → members_of (1 * 2 ^ k % 65536) ≡ pair g f ∷ []
 single_is g f k e = rw e (single_at g f)
 
-pub has_tells : (n k : ℕ) (p : Pair) (set : List Pair) → k ≡ place_of p → members_of n ≡ set → IsTrue (eqb (bit_and (n / 2 ^ k) 1) 1) ↔ IsMember p set
+pub has_tells : (n k : ℕ) (p : Pair) (set : List Pair) → k ≡ place_of p → members_of n ≡ set
+    → IsTrue (eqb (bit_and (n / 2 ^ k) 1) 1) ↔ IsMember p set
 has_tells n k p set at is =
     let e : eqb (bit_and (n / 2 ^ k) 1) 1 ≡ holds n p = rw at (ap (λ x. eqb x 1) (shr_and_one n (place_of p))) in
     rw (← is) (λ h. holds_member n p (sym e ∙ h), λ h. e ∙ member_holds n p h)
 
 single_test : ℕ → Bool
 unfolding members_of
-single_test n = eqb n 0 || (ltb 0 (length (members_of n)) && eq_bool (eqb (bit_and n (n - 1)) 0) (eqb (length (members_of n)) 1))
+single_test n = eqb n 0
+    || (ltb 0 (length (members_of n)) && eq_bool (eqb (bit_and n (n - 1)) 0) (eqb (length (members_of n)) 1))
 
-single_parts : (n : ℕ) → 0 < n → n < 512 → (ltb 0 (length (members_of n)) && eq_bool (eqb (bit_and n (n - 1)) 0) (eqb (length (members_of n)) 1)) ≡ true
+single_parts : (n : ℕ) → 0 < n → n < 512
+    → (ltb 0 (length (members_of n)) && eq_bool (eqb (bit_and n (n - 1)) 0) (eqb (length (members_of n)) 1)) ≡ true
 unfolding members_of single_test
-single_parts n h k = elim (or_cases (eqb n 0) _ (agree_below_at single_test (λ m. true) 512 n refl k)) [ inl e ↦ absurd (omega (arith, h, eqb-true n 0 e)) | inr e ↦ e ]
+single_parts n h k = elim (or_cases (eqb n 0) _ (agree_below_at single_test (λ m. true) 512 n refl k))
+    [ inl e ↦ absurd (omega (arith, h, eqb-true n 0 e)) | inr e ↦ e ]
 
 pub members_of-nonempty : (n : ℕ) → 0 < n → n < 512 → 0 < length (members_of n)
 members_of-nonempty n h k = ltb-true _ _ (and_parts (ltb 0 (length (members_of n))) _ (single_parts n h k)).0
@@ -50,7 +54,8 @@ may_test n = eq_bool (not (eqb (bit_and n 10) 0)) (holds n (pair Zero One) || ho
 
 may_tells : (n : ℕ) → n < 512 → IsTrue (not (eqb (bit_and n 10) 0)) ↔ MayDiffer (members_of n)
 may_tells n k =
-    let d = eq_bool-true (not (eqb (bit_and n 10) 0)) (holds n (pair Zero One) || holds n (pair One Zero)) (agree_below_at may_test (λ m. true) 512 n refl k) in (
+    let d = eq_bool-true (not (eqb (bit_and n 10) 0)) (holds n (pair Zero One) || holds n (pair One Zero))
+    (agree_below_at may_test (λ m. true) 512 n refl k) in (
       λ w. elim (or_cases (holds n (pair Zero One)) (holds n (pair One Zero)) (sym d ∙ w)) [
         | inl e ↦ inl (holds_member n (pair Zero One) e)
         | inr e ↦ inr (holds_member n (pair One Zero) e)
@@ -87,9 +92,15 @@ must_test n = eq_bool (eqb (bit_or n 10) 10) (each (λ p. not (holds n p) || dif
 
 must_tells : (n : ℕ) → n < 512 → IsTrue (eqb (bit_or n 10) 10) ↔ MustDiffer (members_of n)
 must_tells n k =
-    let d = eq_bool-true (eqb (bit_or n 10) 10) (each (λ p. not (holds n p) || differs p)) (agree_below_at must_test (λ m. true) 512 n refl k) in (
-      λ w. record { each = λ p i. differs-true p (implied (holds n p) (differs p) (each_gives (λ p. not (holds n p) || differs p) (sym d ∙ w) p) (member_holds n p i)) },
-      λ w. d ∙ each_from (λ p. not (holds n p) || differs p) (λ p. implies (holds n p) (differs p) (λ e. differs-from p (w.each p (holds_member n p e)))),
+    let d = eq_bool-true (eqb (bit_or n 10) 10) (each (λ p. not (holds n p) || differs p))
+    (agree_below_at must_test (λ m. true) 512 n refl k) in (
+      λ w. record {
+        each = λ p i. differs-true p
+            (implied (holds n p) (differs p) (each_gives (λ p. not (holds n p) || differs p) (sym d ∙ w) p)
+            (member_holds n p i));
+      },
+      λ w. d ∙ each_from (λ p. not (holds n p) || differs p)
+          (λ p. implies (holds n p) (differs p) (λ e. differs-from p (w.each p (holds_member n p e)))),
     )
 
 pub same_tells : (m n : ℕ) → m < 512 → n < 512 → IsTrue (eqb m n) ↔ (members_of m ≡ members_of n)
@@ -98,8 +109,10 @@ same_tells m n h k = (
   λ w. eq-eqb m n (sym (bits_of-members_of m h) ∙ (ap bits_of w ∙ bits_of-members_of n k)),
 )
 
-pub may_differ_tells : (n : ℕ) (set : List Pair) → members_of n ≡ set → (0 < n) × (n < 512) → IsTrue (not (eqb (bit_and n 10) 0)) ↔ MayDiffer set
+pub may_differ_tells : (n : ℕ) (set : List Pair) → members_of n ≡ set → (0 < n) × (n < 512)
+    → IsTrue (not (eqb (bit_and n 10) 0)) ↔ MayDiffer set
 may_differ_tells n set is h = rw (← is) (may_tells n h.1)
 
-pub must_differ_tells : (n : ℕ) (set : List Pair) → members_of n ≡ set → (0 < n) × (n < 512) → IsTrue (eqb (bit_or n 10) 10) ↔ MustDiffer set
+pub must_differ_tells : (n : ℕ) (set : List Pair) → members_of n ≡ set → (0 < n) × (n < 512)
+    → IsTrue (eqb (bit_or n 10) 10) ↔ MustDiffer set
 must_differ_tells n set is h = rw (← is) (must_tells n h.1)

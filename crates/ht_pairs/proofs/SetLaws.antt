@@ -13,7 +13,8 @@ use Rattle.ht_pairs.proofs.MemberLaws.{member_holds, holds_member, filter_passes
 
 is_member-true : (p : Pair) (ps : List Pair) → is_member p ps ≡ true → IsMember p ps
 is_member-true p [] h = cc
-is_member-true p (q ∷ ps) h = elim (or_cases (same_pair p q) (is_member p ps) h) [ inl e ↦ inl (same_pair-true p q e) | inr e ↦ inr (is_member-true p ps e) ]
+is_member-true p (q ∷ ps) h = elim (or_cases (same_pair p q) (is_member p ps) h)
+    [ inl e ↦ inl (same_pair-true p q e) | inr e ↦ inr (is_member-true p ps e) ]
 
 is_member-from : (p : Pair) (ps : List Pair) → IsMember p ps → is_member p ps ≡ true
 is_member-from p [] h = absurd h
@@ -25,11 +26,13 @@ agree true b h k = sym (h refl)
 agree false true h k = k refl
 agree false false h k = refl
 
-pub members_of-set_of : (n : ℕ) (ps : List Pair) → ((p : Pair) → IsMember p (members_of n) ↔ IsMember p ps) → members_of n ≡ set_of ps
+pub members_of-set_of : (n : ℕ) (ps : List Pair) → ((p : Pair) → IsMember p (members_of n) ↔ IsMember p ps)
+    → members_of n ≡ set_of ps
 unfolding members_of set_of
 members_of-set_of n ps h =
     filter_agree (holds n) (λ p. is_member p ps)
-    (λ p. agree (holds n p) (is_member p ps) (λ e. is_member-from p ps ((h p).0 (holds_member n p e))) (λ e. member_holds n p ((h p).1 (is_member-true p ps e)))) all_pairs
+    (λ p. agree (holds n p) (is_member p ps) (λ e. is_member-from p ps ((h p).0 (holds_member n p e)))
+    (λ e. member_holds n p ((h p).1 (is_member-true p ps e)))) all_pairs
 
 pub set_of_holds : (ps : List Pair) (p : Pair) → IsMember p (set_of ps) ↔ IsMember p ps
 unfolding set_of
@@ -43,7 +46,8 @@ member_map f [] x h = absurd h
 member_map f (y ∷ xs) x (inl e) = inl (ap f e)
 member_map f (y ∷ xs) x (inr h) = inr (member_map f xs x h)
 
-map_member : {X Y : Type 0} → (f : X → Y) (xs : List X) (y : Y) → IsMember y (map f xs) → (x : X) × IsMember x xs × (y ≡ f x)
+map_member : {X Y : Type 0} → (f : X → Y) (xs : List X) (y : Y) → IsMember y (map f xs) → (x : X) × IsMember x xs
+    × (y ≡ f x)
 map_member f [] y h = absurd h
 map_member f (x ∷ xs) y (inl e) = (x, inl refl, e)
 map_member f (x ∷ xs) y (inr h) = let w = map_member f xs y h in (w.0, inr w.1, w.2)
@@ -62,14 +66,17 @@ member_either x [] t h = inr h
 member_either x (y ∷ s) t (inl e) = inl (inl e)
 member_either x (y ∷ s) t (inr h) = elim (member_either x s t h) [ inl k ↦ inl (inr k) | inr k ↦ inr k ]
 
-member_flat_map : {X Y : Type 0} → (f : X → List Y) (xs : List X) (x : X) (y : Y) → IsMember x xs → IsMember y (f x) → IsMember y (flat_map f xs)
+member_flat_map : {X Y : Type 0} → (f : X → List Y) (xs : List X) (x : X) (y : Y) → IsMember x xs → IsMember y (f x)
+    → IsMember y (flat_map f xs)
 member_flat_map f [] x y h k = absurd h
 member_flat_map f (z ∷ xs) x y (inl e) k = member_left y (f z) (flat_map f xs) (rw (sym e) k)
 member_flat_map f (z ∷ xs) x y (inr h) k = member_right y (f z) (flat_map f xs) (member_flat_map f xs x y h k)
 
-flat_map_member : {X Y : Type 0} → (f : X → List Y) (xs : List X) (y : Y) → IsMember y (flat_map f xs) → (x : X) × IsMember x xs × IsMember y (f x)
+flat_map_member : {X Y : Type 0} → (f : X → List Y) (xs : List X) (y : Y) → IsMember y (flat_map f xs) → (x : X)
+    × IsMember x xs × IsMember y (f x)
 flat_map_member f [] y h = absurd h
-flat_map_member f (z ∷ xs) y h = elim (member_either y (f z) (flat_map f xs) h) [ inl k ↦ (z, inl refl, k) | inr k ↦ let w = flat_map_member f xs y k in (w.0, inr w.1, w.2) ]
+flat_map_member f (z ∷ xs) y h = elim (member_either y (f z) (flat_map f xs) h)
+    [ inl k ↦ (z, inl refl, k) | inr k ↦ let w = flat_map_member f xs y k in (w.0, inr w.1, w.2) ]
 
 -- the enumerated choices are all choices, and no others
 pub choice_listed : (xs : List Pair) (sets : List (List Pair)) → IsChoice xs sets → IsMember xs (choices sets)
@@ -77,7 +84,8 @@ choice_listed [] [] h = inl refl
 choice_listed [] (s ∷ sets) h = absurd h
 choice_listed (x ∷ xs) [] h = absurd h
 choice_listed (x ∷ xs) (s ∷ sets) h =
-    member_flat_map (λ p. map (λ ys. p ∷ ys) (choices sets)) s x (x ∷ xs) h.0 (member_map (λ ys. x ∷ ys) (choices sets) xs (choice_listed xs sets h.1))
+    member_flat_map (λ p. map (λ ys. p ∷ ys) (choices sets)) s x (x ∷ xs) h.0
+    (member_map (λ ys. x ∷ ys) (choices sets) xs (choice_listed xs sets h.1))
 
 pub listed_choice : (xs : List Pair) (sets : List (List Pair)) → IsMember xs (choices sets) → IsChoice xs sets
 listed_choice xs [] (inl e) = rw e tt
@@ -87,25 +95,33 @@ listed_choice xs (s ∷ sets) h =
     let m = map_member (λ ys. w.0 ∷ ys) (choices sets) xs w.2 in
     rw m.2 (w.1, listed_choice m.0 sets m.1)
 
-arises_listed : (kind : Kind) (sets : List (List Pair)) (r : Pair) → Arises kind sets r ↔ IsMember r (map (gate_pair kind) (choices sets))
+arises_listed : (kind : Kind) (sets : List (List Pair)) (r : Pair) → Arises kind sets r
+    ↔ IsMember r (map (gate_pair kind) (choices sets))
 arises_listed kind sets r = (
   λ w. rw w.2 (member_map (gate_pair kind) (choices sets) w.0 (choice_listed w.0 sets w.1)),
   λ h. let m = map_member (gate_pair kind) (choices sets) r h in (m.0, listed_choice m.0 sets m.1, m.2),
 )
 
-pub members_of-lifted_set : (kind : Kind) (sets : List (List Pair)) (n : ℕ) → ((r : Pair) → IsMember r (members_of n) ↔ Arises kind sets r) → members_of n ≡ lifted_set kind sets
+pub members_of-lifted_set : (kind : Kind) (sets : List (List Pair)) (n : ℕ)
+    → ((r : Pair) → IsMember r (members_of n) ↔ Arises kind sets r) → members_of n ≡ lifted_set kind sets
 unfolding lifted_set
 members_of-lifted_set kind sets n h =
     members_of-set_of n (map (gate_pair kind) (choices sets))
     (λ r. (λ i. (arises_listed kind sets r).0 ((h r).0 i), λ i. (h r).1 ((arises_listed kind sets r).1 i)))
 
-pub members_of-stuck_set : (value : Bool) (s : List Pair) (n : ℕ) → IsImage (stuck_pair value) s (members_of n) → members_of n ≡ stuck_set value s
+pub members_of-stuck_set : (value : Bool) (s : List Pair) (n : ℕ) → IsImage (stuck_pair value) s (members_of n)
+    → members_of n ≡ stuck_set value s
 unfolding stuck_set
 members_of-stuck_set value s n h =
     members_of-set_of n (map (stuck_pair value) s)
-    (λ r. (λ i. let w = (h.members r).0 i in rw w.2 (member_map (stuck_pair value) s w.0 w.1), λ i. (h.members r).1 (map_member (stuck_pair value) s r i)))
+    (λ r. (
+      λ i. let w = (h.members r).0 i in rw w.2 (member_map (stuck_pair value) s w.0 w.1),
+      λ i. (h.members r).1
+          (map_member (stuck_pair value) s r i),
+    ))
 
-pub lifted_set_holds : (kind : Kind) (sets : List (List Pair)) (r : Pair) → IsMember r (lifted_set kind sets) ↔ Arises kind sets r
+pub lifted_set_holds : (kind : Kind) (sets : List (List Pair)) (r : Pair) → IsMember r (lifted_set kind sets)
+    ↔ Arises kind sets r
 unfolding lifted_set
 lifted_set_holds kind sets r =
     let a = set_of_holds (map (gate_pair kind) (choices sets)) r in
@@ -129,6 +145,8 @@ choices-single : (pairs : List Pair) → choices (map (λ p. p ∷ []) pairs) �
 choices-single [] = refl
 choices-single (p ∷ pairs) = rw (choices-single pairs) refl
 
-pub lifted_set-single : (kind : Kind) (pairs : List Pair) → lifted_set kind (map (λ p. p ∷ []) pairs) ≡ gate_pair kind pairs ∷ []
+pub lifted_set-single : (kind : Kind) (pairs : List Pair) → lifted_set kind (map (λ p. p ∷ []) pairs)
+    ≡ gate_pair kind pairs ∷ []
 unfolding lifted_set
-lifted_set-single kind pairs = rw (choices-single pairs) (set_of-one_at (gate_pair kind pairs).good (gate_pair kind pairs).faulty)
+lifted_set-single kind pairs = rw (choices-single pairs)
+    (set_of-one_at (gate_pair kind pairs).good (gate_pair kind pairs).faulty)

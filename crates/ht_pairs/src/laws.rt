@@ -5,10 +5,12 @@ ghost use Rattle.ht_tern.specs.Pairs.{Arises, IsMember, Pair, gate_pair, lifted_
 
 /// A member of a gate's set is the gate's value for some choice of members, and each such value is a member.
 pub fn lifted_set_holds_what_arises()
-    ensures { (kind : Kind) (sets : List (List Pair)) (r : Pair) → IsMember r (lifted_set kind sets) ↔ Arises kind sets r }
+    ensures { (kind : Kind) (sets : List (List Pair)) (r : Pair) → IsMember r (lifted_set kind sets)
+        ↔ Arises kind sets r }
 {}
 
 /// Single pairs lift to a single pair: the gate's values in the good machine and in the faulty one.
 pub fn single_pairs_lift_to_a_single_pair()
-    ensures { (kind : Kind) (pairs : List Pair) → lifted_set kind (map (λ p. p ∷ []) pairs) ≡ gate_pair kind pairs ∷ [] }
+    ensures { (kind : Kind) (pairs : List Pair) → lifted_set kind (map (λ p. p ∷ []) pairs)
+        ≡ gate_pair kind pairs ∷ [] }
 {}

@@ -9,7 +9,8 @@ use Rattle.std.proofs.lemmas.Slice.Eq.{bytes_eq-Decides}
 use Rattle.ht_ports.specs.NamedTexts.{text_named, bytes_at, opened_in}
 use Rattle.ht_ports.specs.declared.clean.Text.{Text}
 
-pub bytes_in : (texts : List Text) (k : ℕ) (d : Text) → k < length texts → bytes_at texts k ≡ (get_or texts k d).bytes.items
+pub bytes_in : (texts : List Text) (k : ℕ) (d : Text) → k < length texts → bytes_at texts k
+    ≡ (get_or texts k d).bytes.items
 bytes_in [] k d lt = absurd (omega arith)
 bytes_in (t ∷ texts) zero d lt = refl
 bytes_in (t ∷ texts) (suc k) d lt = bytes_in texts k d (omega arith)
@@ -20,26 +21,31 @@ bytes_past (t ∷ texts) zero le = absurd (omega arith)
 bytes_past (t ∷ texts) (suc k) le = bytes_past texts k (omega arith)
 
 -- a new text takes the place of no other
-pub bytes_push : (texts : List Text) (new : Text) (k : ℕ) → k < length texts → bytes_at (texts ++ new ∷ []) k ≡ bytes_at texts k
+pub bytes_push : (texts : List Text) (new : Text) (k : ℕ) → k < length texts → bytes_at (texts ++ new ∷ []) k
+    ≡ bytes_at texts k
 bytes_push [] new k lt = absurd (omega arith)
 bytes_push (t ∷ texts) new zero lt = refl
 bytes_push (t ∷ texts) new (suc k) lt = bytes_push texts new k (omega arith)
 
-pub opened_push : (texts : List Text) (new : Text) (opened : Option ℕ) → ForSome opened (λ k. k < length texts) → opened_in (texts ++ new ∷ []) opened ≡ opened_in texts opened
+pub opened_push : (texts : List Text) (new : Text) (opened : Option ℕ) → ForSome opened (λ k. k < length texts)
+    → opened_in (texts ++ new ∷ []) opened ≡ opened_in texts opened
 opened_push texts new None there = refl
 opened_push texts new (Some k) there = bytes_push texts new k (there k refl)
 
-or_if : (b : Bool) (x : List ℕ) (y z : Option (List ℕ)) → option_or (if b then Some x else y) z ≡ (if b then Some x else option_or y z)
+or_if : (b : Bool) (x : List ℕ) (y z : Option (List ℕ)) → option_or (if b then Some x else y) z
+    ≡ (if b then Some x else option_or y z)
 or_if true x y z = refl
 or_if false x y z = refl
 
 -- a new text counts before all others
 pub named_push : (texts : List Text) (new : Text) (name : List ℕ)
-    → text_named (texts ++ new ∷ []) name ≡ (if bytes_eq (string_bytes new.name) name then Some new.bytes.items else text_named texts name)
+    → text_named (texts ++ new ∷ []) name
+    ≡ (if bytes_eq (string_bytes new.name) name then Some new.bytes.items else text_named texts name)
 named_push [] new name = refl
 named_push (t ∷ texts) new name =
     let own : Option (List ℕ) = if bytes_eq (string_bytes t.name) name then Some t.bytes.items else None in
-    ap (λ o. option_or o own) (named_push texts new name) ∙ or_if (bytes_eq (string_bytes new.name) name) new.bytes.items (text_named texts name) own
+    ap (λ o. option_or o own) (named_push texts new name) ∙ or_if (bytes_eq (string_bytes new.name) name)
+    new.bytes.items (text_named texts name) own
 
 if_true : (b : Bool) (x y : Option (List ℕ)) → b ≡ true → (if b then x else y) ≡ x
 if_true true x y e = refl
@@ -49,29 +55,37 @@ if_false : (b : Bool) (x y : Option (List ℕ)) → b ≡ false → (if b then x
 if_false false x y e = refl
 if_false true x y e = cc
 
-pub named_new : (texts : List Text) (new : Text) (name : List ℕ) → bytes_eq (string_bytes new.name) name ≡ true → text_named (texts ++ new ∷ []) name ≡ Some new.bytes.items
+pub named_new : (texts : List Text) (new : Text) (name : List ℕ) → bytes_eq (string_bytes new.name) name ≡ true
+    → text_named (texts ++ new ∷ []) name ≡ Some new.bytes.items
 named_new texts new name is = named_push texts new name ∙ if_true _ _ _ is
 
-pub named_other : (texts : List Text) (new : Text) (name : List ℕ) → bytes_eq (string_bytes new.name) name ≡ false → text_named (texts ++ new ∷ []) name ≡ text_named texts name
+pub named_other : (texts : List Text) (new : Text) (name : List ℕ) → bytes_eq (string_bytes new.name) name ≡ false
+    → text_named (texts ++ new ∷ []) name ≡ text_named texts name
 named_other texts new name is = named_push texts new name ∙ if_false _ _ _ is
 
-one_more : (texts : List Text) (name : List ℕ) (i : ℕ) (d : Text) → i < length texts → text_named (take (i + 1) texts) name ≡ text_named (take i texts ++ get_or texts i d ∷ []) name
+one_more : (texts : List Text) (name : List ℕ) (i : ℕ) (d : Text) → i < length texts
+    → text_named (take (i + 1) texts) name ≡ text_named (take i texts ++ get_or texts i d ∷ []) name
 one_more texts name i d lt = ap (λ (l : List Text). text_named l name) (take_more texts i d lt)
 
 -- among the first texts, where the last of them has this name
-pub named_here : (texts : List Text) (name : List ℕ) (i : ℕ) (d : Text) → i < length texts → bytes_eq (string_bytes (get_or texts i d).name) name ≡ true
+pub named_here : (texts : List Text) (name : List ℕ) (i : ℕ) (d : Text) → i < length texts
+    → bytes_eq (string_bytes (get_or texts i d).name) name ≡ true
     → text_named (take (i + 1) texts) name ≡ Some (bytes_at texts i)
-named_here texts name i d lt is = one_more texts name i d lt ∙ named_new (take i texts) (get_or texts i d) name is ∙ ap Some (sym (bytes_in texts i d lt))
+named_here texts name i d lt is = one_more texts name i d lt ∙ named_new (take i texts) (get_or texts i d) name is ∙ ap
+    Some (sym (bytes_in texts i d lt))
 
 -- and where it has another
-pub named_before : (texts : List Text) (name : List ℕ) (i : ℕ) (d : Text) → i < length texts → bytes_eq (string_bytes (get_or texts i d).name) name ≡ false
+pub named_before : (texts : List Text) (name : List ℕ) (i : ℕ) (d : Text) → i < length texts
+    → bytes_eq (string_bytes (get_or texts i d).name) name ≡ false
     → text_named (take (i + 1) texts) name ≡ text_named (take i texts) name
 named_before texts name i d lt is = one_more texts name i d lt ∙ named_other (take i texts) (get_or texts i d) name is
 
 -- a text that is put is found under its name
-pub named_put : (texts : List Text) (new : Text) (name : List ℕ) → string_bytes new.name ≡ name → text_named (texts ++ new ∷ []) name ≡ Some new.bytes.items
+pub named_put : (texts : List Text) (new : Text) (name : List ℕ) → string_bytes new.name ≡ name
+    → text_named (texts ++ new ∷ []) name ≡ Some new.bytes.items
 named_put texts new name is = named_new texts new name (grind (arith, bytes_eq-Decides))
 
 -- and changes what is found under no other
-pub named_kept : (texts : List Text) (new : Text) (name : List ℕ) → name ≢ string_bytes new.name → text_named (texts ++ new ∷ []) name ≡ text_named texts name
+pub named_kept : (texts : List Text) (new : Text) (name : List ℕ) → name ≢ string_bytes new.name
+    → text_named (texts ++ new ∷ []) name ≡ text_named texts name
 named_kept texts new name other = named_other texts new name (grind (arith, bytes_eq-Decides))

@@ -11,7 +11,8 @@ use Rattle.ht_ports.specs.declared.clean.Text.{Text}
 -- the bytes of the newest text of this name
 abbrev pub text_named : List Text → List ℕ → Option (List ℕ)
 text_named [] name = None
-text_named (t ∷ texts) name = option_or (text_named texts name) (if bytes_eq (string_bytes t.name) name then Some t.bytes.items else None)
+text_named (t ∷ texts) name = option_or (text_named texts name)
+    (if bytes_eq (string_bytes t.name) name then Some t.bytes.items else None)
 
 -- the bytes of the text at an index; none behind the last text
 abbrev pub bytes_at : List Text → ℕ → List ℕ

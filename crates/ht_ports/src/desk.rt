@@ -42,7 +42,8 @@ pub trait Desk {
         requires { IsTrue ((view self.old).is_open port) }
         ensures bound { ReadsAtMost result buf.new }
         ensures frame { Reads port (view self.old) (view self.new) }
-        ensures took { IfOk result (λ n. Took port (length buf.old) (take n buf.new) (view self.old) (view self.new)) }
+        ensures took { IfOk result
+            (λ n. Took port (length buf.old) (take n buf.new) (view self.old) (view self.new)) }
         ensures failed { OnErr result (NotRead (view self.old) (view self.new)) };
 
     /// Adds bytes of the front of `bytes`, and says how many: of a nonempty
@@ -55,7 +56,8 @@ pub trait Desk {
         ensures bound { WritesAtMost result bytes.now }
         ensures some { IfOk result (λ n. 0 < length bytes.now → 0 < n) }
         ensures frame { Writes port (view self.old) (view self.new) }
-        ensures added { IfOk result (λ n. Added port (take n bytes.now) (view self.old) (view self.new)) }
+        ensures added { IfOk result
+            (λ n. Added port (take n bytes.now) (view self.old) (view self.new)) }
         ensures failed { OnErr result (NotWritten (view self.old) (view self.new)) };
 
     ghost steady_tells: { (desk : Self) (name : List ℕ) → IsTrue (view desk).steady → IsSome ((view desk).file name) };

@@ -118,7 +118,8 @@ impl<T> PerOutPort<T> {
     pub fn replace(&mut self, port: OutPort, value: T) -> T
         ensures old { result ≡ at_out_port self.old port }
         ensures set { at_out_port self.new port ≡ value }
-        ensures others { (p : OutPort) → p ≢ port → at_out_port self.new p ≡ at_out_port self.old p }
+        ensures others { (p : OutPort) → p ≢ port → at_out_port self.new p
+            ≡ at_out_port self.old p }
     {
         match port {
             OutPort::Tests => mem::replace(&mut self.tests, value),

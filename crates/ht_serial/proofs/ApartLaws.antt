@@ -27,12 +27,16 @@ lists_stand [] = tt
 lists_stand (v ∷ list) = (bits_stand v, lists_stand list)
 
 -- An output over three values from all-unknown stands for the two-valued one from any state.
-pub output_stands : (c : Netlist) (fault : Option Fault) (state : List Bool) (list : List (List Bool)) (t o : ℕ) → IsState c state
+pub output_stands : (c : Netlist) (fault : Option Fault) (state : List Bool) (list : List (List Bool)) (t o : ℕ)
+    → IsState c state
     → StandsFor (output_at c fault list t o) (bit_at c fault state list t o)
 output_stands c fault state list t o is =
-    let rows = run_bits c fault (unknown_state c) state (map terns_of list) list (any_state (length c.dffs) state is) (lists_stand list) in
-    get_related StandsFor (get_or (tern_outputs c fault list) t []) (get_or (run_outputs c (bool_rules fault) state list) t []) o Unk false
-    (get_related (AllRelated StandsFor) (tern_outputs c fault list) (run_outputs c (bool_rules fault) state list) t [] [] rows tt)
+    let rows = run_bits c fault (unknown_state c) state (map terns_of list) list (any_state (length c.dffs) state is)
+    (lists_stand list) in
+    get_related StandsFor (get_or (tern_outputs c fault list) t [])
+    (get_or (run_outputs c (bool_rules fault) state list) t []) o Unk false
+    (get_related (AllRelated StandsFor) (tern_outputs c fault list) (run_outputs c (bool_rules fault) state list) t []
+    [] rows tt)
     (inl refl)
 
 is_zero : (b : Bool) → StandsFor Zero b → b ≡ false
@@ -57,7 +61,9 @@ opposite_bits Unk Zero b d g h o = absurd o
 opposite_bits Unk One b d g h o = absurd o
 opposite_bits Unk Unk b d g h o = absurd o
 
-pub detected_apart : (c : Netlist) (fault : Fault) (list : List (List Bool)) (t o : ℕ) → Detects c fault list t o → Apart c fault list t o
+pub detected_apart : (c : Netlist) (fault : Fault) (list : List (List Bool)) (t o : ℕ) → Detects c fault list t o
+    → Apart c fault list t o
 detected_apart c fault list t o d = λ state state' is is'.
-    opposite_bits (output_at c None list t o) (output_at c (Some fault) list t o) (bit_at c None state list t o) (bit_at c (Some fault) state' list t o)
+    opposite_bits (output_at c None list t o) (output_at c (Some fault) list t o) (bit_at c None state list t o)
+    (bit_at c (Some fault) state' list t o)
     (output_stands c None state list t o is) (output_stands c (Some fault) state' list t o is') d

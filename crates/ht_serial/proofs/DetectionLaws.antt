@@ -20,33 +20,46 @@ use Rattle.ht_serial.specs.Recorded.{rows_of}
 use Rattle.ht_serial.proofs.RunLaws.{run_output_at, step_is_run}
 
 -- A machine that has run t vectors of a list, and then the next one.
-pub next_is : (c : Netlist) (fault : Option Fault) (list : List (List Bool)) (t : ℕ) (m m' : MachineState Tern) (v : List Bool) → t < length list
-    → m ≡ after_list c fault (take t list) → v ≡ get_or list t [] → m' ≡ stepped tern_rules m (terns_of v) → m' ≡ after_list c fault (take (t + 1) list)
+pub next_is : (c : Netlist) (fault : Option Fault) (list : List (List Bool)) (t : ℕ) (m m' : MachineState Tern)
+    (v : List Bool) → t < length list
+    → m ≡ after_list c fault (take t list) → v ≡ get_or list t [] → m' ≡ stepped tern_rules m (terns_of v) → m'
+    ≡ after_list c fault (take (t + 1) list)
 next_is c fault list t m m' v inside is at step =
     let start = unknown_state c in
-    step ∙ (ap (λ x. stepped tern_rules x (terns_of v)) is ∙ (step_is_run tern_rules c fault start (map terns_of (take t list)) (terns_of v)
+    step ∙ (ap (λ x. stepped tern_rules x (terns_of v)) is ∙
+    (step_is_run tern_rules c fault start (map terns_of (take t list)) (terns_of v)
     ∙ (ap (after_run tern_rules c fault start) (sym (map-append terns_of (take t list) (v ∷ [])))
-    ∙ (ap (λ (w : List Bool). after_list c fault (take t list ++ w ∷ [])) at ∙ ap (after_list c fault) (sym (take_more list t [] inside))))))
+    ∙ (ap (λ (w : List Bool). after_list c fault (take t list ++ w ∷ [])) at ∙ ap (after_list c fault)
+    (sym (take_more list t [] inside))))))
 
 -- It shows what the run over the whole list shows there.
-pub shows : (c : Netlist) (fault : Option Fault) (list : List (List Bool)) (t : ℕ) (m m' : MachineState Tern) (v : List Bool) → t < length list
-    → m ≡ after_list c fault (take t list) → v ≡ get_or list t [] → m' ≡ stepped tern_rules m (terns_of v) → m'.outputs ≡ get_or (tern_outputs c fault list) t []
+pub shows : (c : Netlist) (fault : Option Fault) (list : List (List Bool)) (t : ℕ) (m m' : MachineState Tern)
+    (v : List Bool) → t < length list
+    → m ≡ after_list c fault (take t list) → v ≡ get_or list t [] → m' ≡ stepped tern_rules m (terns_of v) → m'.outputs
+    ≡ get_or (tern_outputs c fault list) t []
 shows c fault list t m m' v inside is at step =
     let r = tern_rules fault in
     let vectors = map terns_of list in
     let there : t < length vectors = omega (arith, length-map list terns_of) in
-    ap (λ x. x.outputs) (step ∙ (ap (λ x. stepped tern_rules x (terns_of v)) is ∙ ap (λ (w : List Bool). stepped tern_rules (after_list c fault (take t list)) (terns_of w)) at))
-    ∙ (ap (λ (w : List Tern). frame_outputs c r w (after_list c fault (take t list)).latches) (sym (get_or-map terns_of list t [] [] inside))
-    ∙ (ap (λ (l : List (List Tern)). (frame_outputs c r (get_or vectors t []) (run_state c r (unknown_state c) l))) (sym (take-map terns_of t list))
+    ap (λ x. x.outputs) (step ∙
+    (ap (λ x. stepped tern_rules x (terns_of v)) is ∙ ap
+    (λ (w : List Bool). stepped tern_rules (after_list c fault (take t list)) (terns_of w)) at))
+    ∙ (ap (λ (w : List Tern). frame_outputs c r w (after_list c fault (take t list)).latches)
+    (sym (get_or-map terns_of list t [] [] inside))
+    ∙ (ap (λ (l : List (List Tern)). (frame_outputs c r (get_or vectors t []) (run_state c r (unknown_state c) l)))
+    (sym (take-map terns_of t list))
     ∙ sym (run_output_at c r (unknown_state c) vectors t [] there)))
 
-run_length : {V : Type 0} → (c : Netlist) (r : Rules V) (latches : List V) (vectors : List (List V)) → length (run_outputs c r latches vectors) ≡ length vectors
+run_length : {V : Type 0} → (c : Netlist) (r : Rules V) (latches : List V) (vectors : List (List V))
+    → length (run_outputs c r latches vectors) ≡ length vectors
 run_length c r latches [] = refl
 run_length c r latches (v ∷ vectors) = ap suc (run_length c r (next_state c r v latches) vectors)
 
 -- a run has as many frames as its list has vectors
-pub frames_count : (c : Netlist) (fault : Option Fault) (list : List (List Bool)) → length (tern_outputs c fault list) ≡ length list
-frames_count c fault list = run_length c (tern_rules fault) (unknown_state c) (map terns_of list) ∙ length-map list terns_of
+pub frames_count : (c : Netlist) (fault : Option Fault) (list : List (List Bool)) → length (tern_outputs c fault list)
+    ≡ length list
+frames_count c fault list = run_length c (tern_rules fault) (unknown_state c) (map terns_of list) ∙ length-map list
+    terns_of
 
 not_unknown : (b : Tern) → ¬ Opposite Unk b
 not_unknown Zero h = h
@@ -63,10 +76,12 @@ opposite_inside good bad o h = elim (le_or_lt (length good) o) [
 ]
 
 -- What is detected is detected at a vector of the list.
-pub detects_inside : (c : Netlist) (f : Fault) (list : List (List Bool)) (t o : ℕ) → Detects c f list t o → t < length list
+pub detects_inside : (c : Netlist) (f : Fault) (list : List (List Bool)) (t o : ℕ) → Detects c f list t o
+    → t < length list
 detects_inside c f list t o d = elim (le_or_lt (length list) t) [
   | inl past ↦
-      let none : get_or (tern_outputs c None list) t [] ≡ [] = get_or_past (tern_outputs c None list) t [] (omega (arith, frames_count c None list)) in
+      let none : get_or (tern_outputs c None list) t [] ≡ [] = get_or_past (tern_outputs c None list) t []
+      (omega (arith, frames_count c None list)) in
       let P : List Tern → Type 0 = λ row. IsOppositeAt row (get_or (tern_outputs c (Some f) list) t []) o in
       absurd (not_unknown (get_or (get_or (tern_outputs c (Some f) list) t []) o Unk) (subst P none d))
   | inr inside ↦ inside
@@ -112,7 +127,8 @@ none_before c f list p good bad g b below here s o (inr q) d =
     here o q.1 (detected_rows c f list p.vector o good bad g b (subst P q.0 d))
 
 -- Each frame of a run shows as many values as the circuit has outputs.
-pub frame_width : (c : Netlist) (fault : Option Fault) (list : List (List Bool)) (t : ℕ) → t < length list → length (get_or (tern_outputs c fault list) t []) ≡ length c.outputs
+pub frame_width : (c : Netlist) (fault : Option Fault) (list : List (List Bool)) (t : ℕ) → t < length list
+    → length (get_or (tern_outputs c fault list) t []) ≡ length c.outputs
 unfolding frame_outputs
 frame_width c fault list t inside =
     let r = tern_rules fault in
@@ -126,25 +142,32 @@ frame_width c fault list t inside =
 pub place_within : (c : Netlist) (list : List (List Bool)) (p : Place) (good bad : List Tern) → p.vector < length list
     → good ≡ get_or (tern_outputs c None list) p.vector [] → IsOppositeAt good bad p.output → IsWithin c list p
 place_within c list p good bad inside g h =
-    let width : length good ≡ length c.outputs = ap (λ (l : List Tern). length l) g ∙ frame_width c None list p.vector inside in
+    let width : length good ≡ length c.outputs = ap (λ (l : List Tern). length l) g ∙ frame_width c None list p.vector
+    inside in
     record { vector = inside; output = omega (arith, width, opposite_inside good bad p.output h) }
 
 -- The rows of a recorded run.
-pub rows_count : (c : Netlist) (list : List (List Bool)) (rows : List (Vec Tern Global)) → rows_of rows ≡ tern_outputs c None list → length rows ≡ length list
-rows_count c list rows is = sym (length-map rows (λ (row : Vec Tern Global). row.items)) ∙ (ap (λ (l : List (List Tern)). length l) is ∙ frames_count c None list)
+pub rows_count : (c : Netlist) (list : List (List Bool)) (rows : List (Vec Tern Global)) → rows_of rows
+    ≡ tern_outputs c None list → length rows ≡ length list
+rows_count c list rows is = sym (length-map rows (λ (row : Vec Tern Global). row.items)) ∙
+    (ap (λ (l : List (List Tern)). length l) is ∙ frames_count c None list)
 
-pub row_at : (c : Netlist) (list : List (List Bool)) (rows : List (Vec Tern Global)) (t : ℕ) (row : Vec Tern Global) → rows_of rows ≡ tern_outputs c None list
+pub row_at : (c : Netlist) (list : List (List Bool)) (rows : List (Vec Tern Global)) (t : ℕ) (row : Vec Tern Global)
+    → rows_of rows ≡ tern_outputs c None list
     → t < length rows → row ≡ get_or rows t row → row.items ≡ get_or (tern_outputs c None list) t []
 row_at c list rows t row is inside at =
     ap (λ (r : Vec Tern Global). r.items) at ∙ (sym (get_or-map (λ (r : Vec Tern Global). r.items) rows t row [] inside)
     ∙ ap (λ (l : List (List Tern)). get_or l t []) is)
 
 -- One more row is recorded.
-pub rows_more : (c : Netlist) (list : List (List Bool)) (rows more : List (Vec Tern Global)) (t : ℕ) (row : Vec Tern Global) → t < length list
-    → rows_of rows ≡ take t (tern_outputs c None list) → more ≡ rows ++ row ∷ [] → row.items ≡ get_or (tern_outputs c None list) t []
+pub rows_more : (c : Netlist) (list : List (List Bool)) (rows more : List (Vec Tern Global)) (t : ℕ)
+    (row : Vec Tern Global) → t < length list
+    → rows_of rows ≡ take t (tern_outputs c None list) → more ≡ rows ++ row ∷ [] → row.items
+    ≡ get_or (tern_outputs c None list) t []
     → rows_of more ≡ take (t + 1) (tern_outputs c None list)
 rows_more c list rows more t row inside is pushed shown =
     let there : t < length (tern_outputs c None list) = omega (arith, frames_count c None list) in
     ap rows_of pushed ∙ (map-append (λ (r : Vec Tern Global). r.items) rows (row ∷ [])
-    ∙ (ap (λ (l : List (List Tern)). l ++ row.items ∷ []) is ∙ (ap (λ (r : List Tern). take t (tern_outputs c None list) ++ r ∷ []) shown
+    ∙ (ap (λ (l : List (List Tern)). l ++ row.items ∷ []) is ∙
+    (ap (λ (r : List Tern). take t (tern_outputs c None list) ++ r ∷ []) shown
     ∙ sym (take_more (tern_outputs c None list) t [] there))))

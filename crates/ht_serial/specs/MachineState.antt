@@ -25,7 +25,8 @@ blank_outputs rules c fault = replicate (length c.outputs) (rules fault).blank
 
 -- a machine before its first frame, whose flip-flops hold a state
 abbrev pub started : {V : Type 0} → Reading V → Netlist → Option Fault → List V → MachineState V
-started rules c fault state = record { circuit = c; fault = fault; has_run = false; outputs = blank_outputs rules c fault; latches = state }
+started rules c fault state = record
+    { circuit = c; fault = fault; has_run = false; outputs = blank_outputs rules c fault; latches = state }
 
 -- a machine after one more frame
 abbrev pub stepped : {V : Type 0} → Reading V → MachineState V → List V → MachineState V

@@ -28,7 +28,8 @@ fn is_opposite(good: Tern, bad: Tern) -> bool
 fn first_opposite(good: &[Tern], bad: &Machine) -> Option<u32>
     requires { length good.now ≡ length bad.now.outputs }
     ensures { MatchOption result ((o : ℕ) → ¬ IsOppositeAt good.now bad.now.outputs o)
-        (λ p. IsOppositeAt good.now bad.now.outputs p × ((o : ℕ) → o < p → ¬ IsOppositeAt good.now bad.now.outputs o)) }
+        (λ p. IsOppositeAt good.now bad.now.outputs p
+        × ((o : ℕ) → o < p → ¬ IsOppositeAt good.now bad.now.outputs o)) }
 {
     for o in 0..bad.output_count() {
         if is_opposite(good[o as usize], bad.output(o)) {
@@ -43,9 +44,13 @@ impl<'a> GoodRun<'a> {
     /// machine and the faulty one show opposite definite values, both run from all-unknown. There the two show opposite bits
     /// in two-valued runs from any two states. Errs where memory runs out.
     pub fn first_detection(&self, alloc: Global, fault: Fault) -> Result<Option<Place>, AllocError>
-        ensures first { IfOk result (λ place. IsFirstDetection self.now.circuit fault self.now.list place) }
-        ensures within { IfOk result (λ place. ForSome place (IsWithin self.now.circuit self.now.list)) }
-        ensures apart { IfOk result (λ place. ForSome place (λ p. Apart self.now.circuit fault self.now.list p.vector p.output)) }
+        ensures first { IfOk result
+            (λ place. IsFirstDetection self.now.circuit fault self.now.list place) }
+        ensures within { IfOk result
+            (λ place. ForSome place (IsWithin self.now.circuit self.now.list)) }
+        ensures apart { IfOk result
+            (λ place. ForSome place
+            (λ p. Apart self.now.circuit fault self.now.list p.vector p.output)) }
     {
         let mut bad = Machine::start(alloc, self.circuit, Some(fault))?;
         for (t, good) in self.rows.iter().enumerate() {
@@ -71,7 +76,8 @@ pub fn first(
     requires { list.now.width ≡ circuit.now.inputs }
     ensures first { IfOk result (λ place. IsFirstDetection circuit.now fault list.now.list place) }
     ensures within { IfOk result (λ place. ForSome place (IsWithin circuit.now list.now.list)) }
-    ensures apart { IfOk result (λ place. ForSome place (λ p. Apart circuit.now fault list.now.list p.vector p.output)) }
+    ensures apart { IfOk result
+        (λ place. ForSome place (λ p. Apart circuit.now fault list.now.list p.vector p.output)) }
 {
     GoodRun::record(alloc, circuit, list)?.first_detection(alloc, fault)
 }

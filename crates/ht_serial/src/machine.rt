@@ -51,7 +51,8 @@ impl<'c> Machine<'c> {
         latches: Vec<Tern>,
     ) -> Result<Machine<'c>, AllocError>
         requires { length latches.items ≡ length circuit.now.dffs }
-        ensures { IfOk result (λ machine. machine ≡ started tern_rules circuit.now fault latches.items) }
+        ensures { IfOk result
+            (λ machine. machine ≡ started tern_rules circuit.now fault latches.items) }
     {
         let simulator = Simulator::start(alloc, circuit, fault, Tern::Unk, latches)?;
         let vector = filled(alloc, circuit.inputs() as usize, Tern::Unk)?;
@@ -64,7 +65,8 @@ impl<'c> Machine<'c> {
         circuit: &'c Circuit,
         fault: Option<Fault>,
     ) -> Result<Machine<'c>, AllocError>
-        ensures { IfOk result (λ machine. machine ≡ started tern_rules circuit.now fault (unknown_state circuit.now)) }
+        ensures { IfOk result
+            (λ machine. machine ≡ started tern_rules circuit.now fault (unknown_state circuit.now)) }
     {
         let latches = filled(alloc, circuit.dffs() as usize, Tern::Unk)?;
         Machine::with_latches(alloc, circuit, fault, latches)

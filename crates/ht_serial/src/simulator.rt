@@ -53,7 +53,9 @@ impl<'c, V: Domain> Simulator<'c, V> {
     ) -> Result<Simulator<'c, V>, AllocError>
         requires blank { blank ≡ V.blank }
         requires latches { length latches.items ≡ length circuit.now.dffs }
-        ensures { IfOk result (λ machine. machine ≡ started (rules_of V.blank V.gate V.stick) circuit.now fault latches.items) }
+        ensures { IfOk result
+            (λ machine. machine ≡ started (rules_of V.blank V.gate V.stick) circuit.now fault
+            latches.items) }
     {
         let values = filled(alloc, circuit.nets() as usize, blank)?;
         let pins = filled(alloc, MOST_PINS, blank)?;

@@ -19,16 +19,20 @@ use Rattle.ht_statement.proofs.TokenLaws.{AreWordBytes, tokens_blank, tokens_mar
 
 -- ---- words
 
-all_at : (test : ℕ → Bool) (text : List ℕ) → list_all test text ≡ true → (k : ℕ) → k < length text → test (get_or text k 0) ≡ true
+all_at : (test : ℕ → Bool) (text : List ℕ) → list_all test text ≡ true → (k : ℕ) → k < length text
+    → test (get_or text k 0) ≡ true
 all_at test [] e k lt = absurd (omega arith)
 all_at test (byte ∷ text) e zero lt = (and_parts (test byte) (list_all test text) e).0
-all_at test (byte ∷ text) e (suc k) lt = all_at test text (and_parts (test byte) (list_all test text) e).1 k (omega arith)
+all_at test (byte ∷ text) e (suc k) lt = all_at test text (and_parts (test byte) (list_all test text) e).1 k
+    (omega arith)
 
-word_then : (word rest : List ℕ) → 1 ≤ length word → AreWordBytes word → BeginsNoWord rest → tokens_of (word ++ rest) ≡ Word word ∷ tokens_of rest
+word_then : (word rest : List ℕ) → 1 ≤ length word → AreWordBytes word → BeginsNoWord rest → tokens_of (word ++ rest)
+    ≡ Word word ∷ tokens_of rest
 word_then [] rest some are stops = absurd (omega arith)
 word_then (byte ∷ run) rest some are stops = tokens_word byte run rest are stops
 
-literal_then : (word rest : List ℕ) → 1 ≤ length word → list_all is_word_byte word ≡ true → BeginsNoWord rest → tokens_of (word ++ rest) ≡ Word word ∷ tokens_of rest
+literal_then : (word rest : List ℕ) → 1 ≤ length word → list_all is_word_byte word ≡ true → BeginsNoWord rest
+    → tokens_of (word ++ rest) ≡ Word word ∷ tokens_of rest
 literal_then word rest some all stops = word_then word rest some (all_at is_word_byte word all) stops
 
 name_byte_is_word : (byte : ℕ) → is_name_byte byte ≡ true → is_word_byte byte ≡ true
@@ -40,9 +44,11 @@ name_is_some name e = grind (arith, nat_tests)
 name_bytes : (name : Name) → is_name name ≡ true → list_all is_name_byte name ≡ true
 name_bytes name e = grind (arith, nat_tests)
 
-name_then : (name : Name) (rest : List ℕ) → is_name name ≡ true → BeginsNoWord rest → tokens_of (name ++ rest) ≡ Word name ∷ tokens_of rest
+name_then : (name : Name) (rest : List ℕ) → is_name name ≡ true → BeginsNoWord rest → tokens_of (name ++ rest)
+    ≡ Word name ∷ tokens_of rest
 name_then name rest is stops =
-    word_then name rest (name_is_some name is) (λ k lt. name_byte_is_word (get_or name k 0) (all_at is_name_byte name (name_bytes name is) k lt)) stops
+    word_then name rest (name_is_some name is)
+    (λ k lt. name_byte_is_word (get_or name k 0) (all_at is_name_byte name (name_bytes name is) k lt)) stops
 
 -- ---- arguments
 
@@ -68,7 +74,8 @@ all_head name names e = (and_parts (is_name name) (list_all is_name names) e).0
 all_tail : (name : Name) (names : List Name) → list_all is_name (name ∷ names) ≡ true → list_all is_name names ≡ true
 all_tail name names e = (and_parts (is_name name) (list_all is_name names) e).1
 
-arguments_tokens : (names : List Name) → list_all is_name names ≡ true → tokens_of (arguments_text names ++ 41 ∷ []) ≡ argument_tokens names
+arguments_tokens : (names : List Name) → list_all is_name names ≡ true → tokens_of (arguments_text names ++ 41 ∷ [])
+    ≡ argument_tokens names
 arguments_tokens [] are = refl
 arguments_tokens (name ∷ []) are = name_then name (41 ∷ []) (all_head name [] are) refl
 arguments_tokens (name ∷ next ∷ more) are =
@@ -76,25 +83,29 @@ arguments_tokens (name ∷ next ∷ more) are =
     ap tokens_of (append_assoc name (44 ∷ 32 ∷ arguments_text (next ∷ more)) (41 ∷ []))
     ∙ name_then name (44 ∷ 32 ∷ rest) (all_head name (next ∷ more) are) refl
     ∙ ap (λ l. Word name ∷ l) (tokens_mark 44 (32 ∷ rest) Comma refl)
-    ∙ ap (λ l. Word name ∷ Comma ∷ l) (tokens_blank 32 rest refl ∙ arguments_tokens (next ∷ more) (all_tail name (next ∷ more) are))
+    ∙ ap (λ l. Word name ∷ Comma ∷ l)
+    (tokens_blank 32 rest refl ∙ arguments_tokens (next ∷ more) (all_tail name (next ∷ more) are))
 
 -- ---- lines
 
-port_tokens : (keyword : List ℕ) (name : Name) → 1 ≤ length keyword → list_all is_word_byte keyword ≡ true → is_name name ≡ true
+port_tokens : (keyword : List ℕ) (name : Name) → 1 ≤ length keyword → list_all is_word_byte keyword ≡ true
+    → is_name name ≡ true
     → tokens_of (keyword ++ 40 ∷ (name ++ 41 ∷ [])) ≡ Word keyword ∷ Open ∷ Word name ∷ Close ∷ []
 port_tokens keyword name some all is =
     literal_then keyword (40 ∷ (name ++ 41 ∷ [])) some all refl
     ∙ ap (λ l. Word keyword ∷ l) (tokens_mark 40 (name ++ 41 ∷ []) Open refl)
     ∙ ap (λ l. Word keyword ∷ Open ∷ l) (name_then name (41 ∷ []) is refl)
 
-definition_tokens : (out : Name) (kind inside : List ℕ) → is_name out ≡ true → 1 ≤ length kind → list_all is_word_byte kind ≡ true
+definition_tokens : (out : Name) (kind inside : List ℕ) → is_name out ≡ true → 1 ≤ length kind
+    → list_all is_word_byte kind ≡ true
     → tokens_of (out ++ 32 ∷ 61 ∷ 32 ∷ (kind ++ 40 ∷ inside)) ≡ Word out ∷ Equals ∷ Word kind ∷ Open ∷ tokens_of inside
 definition_tokens out kind inside is some all =
     name_then out (32 ∷ 61 ∷ 32 ∷ (kind ++ 40 ∷ inside)) is refl
     ∙ ap (λ l. Word out ∷ l)
     (tokens_blank 32 (61 ∷ 32 ∷ (kind ++ 40 ∷ inside)) refl
     ∙ tokens_mark 61 (32 ∷ (kind ++ 40 ∷ inside)) Equals refl)
-    ∙ ap (λ l. Word out ∷ Equals ∷ l) (tokens_blank 32 (kind ++ 40 ∷ inside) refl ∙ literal_then kind (40 ∷ inside) some all refl)
+    ∙ ap (λ l. Word out ∷ Equals ∷ l)
+    (tokens_blank 32 (kind ++ 40 ∷ inside) refl ∙ literal_then kind (40 ∷ inside) some all refl)
     ∙ ap (λ l. Word out ∷ Equals ∷ Word kind ∷ l) (tokens_mark 40 inside Open refl)
 
 -- ---- readings
@@ -102,15 +113,19 @@ definition_tokens out kind inside is some all =
 cond_true : {A : Type 0} (b : Bool) (x y : A) → b ≡ true → cond b x y ≡ x
 cond_true b x y e = ap (λ t. cond t x y) e
 
-definition_read : (out : Name) (kind : List ℕ) (args : List Name) (element : Element) → list_all is_name (out ∷ args) ≡ true → element_named kind ≡ Some element
+definition_read : (out : Name) (kind : List ℕ) (args : List Name) (element : Element) → list_all is_name (out ∷ args)
+    ≡ true → element_named kind ≡ Some element
     → form_reading (Definition out kind args) ≡ definition_reading out args (Some element)
 definition_read out kind args element are named =
-    cond_true (list_all is_name (out ∷ args)) (definition_reading out args (element_named kind)) (IsRefused BadName) are ∙ ap (definition_reading out args) named
+    cond_true (list_all is_name (out ∷ args)) (definition_reading out args (element_named kind)) (IsRefused BadName) are
+    ∙ ap (definition_reading out args) named
 
 -- the line of a definition
-definition_line : (out : Name) (kind : List ℕ) (args : List Name) (element : Element) → list_all is_name (out ∷ args) ≡ true
+definition_line : (out : Name) (kind : List ℕ) (args : List Name) (element : Element) → list_all is_name (out ∷ args)
+    ≡ true
     → 1 ≤ length kind → list_all is_word_byte kind ≡ true → element_named kind ≡ Some element
-    → reading_of (out ++ 32 ∷ 61 ∷ 32 ∷ (kind ++ 40 ∷ (arguments_text args ++ 41 ∷ []))) ≡ definition_reading out args (Some element)
+    → reading_of (out ++ 32 ∷ 61 ∷ 32 ∷ (kind ++ 40 ∷ (arguments_text args ++ 41 ∷ [])))
+    ≡ definition_reading out args (Some element)
 definition_line out kind args element are some all named =
     ap (λ t. tokens_reading (form_of t))
     (definition_tokens out kind (arguments_text args ++ 41 ∷ []) (all_head out args are) some all
@@ -149,22 +164,28 @@ kind_named Not = refl
 kind_named Buf = refl
 
 -- the lines of a flip-flop and of a gate are a definition's
-dff_text : (out data_pin : Name) → statement_text (Dff out data_pin) ≡ out ++ 32 ∷ 61 ∷ 32 ∷ (codes "DFF" ++ 40 ∷ (arguments_text (data_pin ∷ []) ++ 41 ∷ []))
+dff_text : (out data_pin : Name) → statement_text (Dff out data_pin) ≡ out ++ 32 ∷ 61 ∷ 32
+    ∷ (codes "DFF" ++ 40 ∷ (arguments_text (data_pin ∷ []) ++ 41 ∷ []))
 dff_text out data_pin = simp append_assoc
 
-gate_text : (out : Name) (kind : Kind) (args : List Name) → statement_text (Gate out kind args) ≡ out ++ 32 ∷ 61 ∷ 32 ∷ (kind_text kind ++ 40 ∷ (arguments_text args ++ 41 ∷ []))
+gate_text : (out : Name) (kind : Kind) (args : List Name) → statement_text (Gate out kind args) ≡ out ++ 32 ∷ 61 ∷ 32
+    ∷ (kind_text kind ++ 40 ∷ (arguments_text args ++ 41 ∷ []))
 gate_text out kind args = simp append_assoc
 
 pub normal_reads : NormalTextIsRead
 normal_reads Nothing can = refl
 normal_reads (Input name) can =
-    ap (λ t. tokens_reading (form_of t)) (port_tokens (codes "INPUT") name (omega arith) refl (all_head name [] can.names))
+    ap (λ t. tokens_reading (form_of t))
+    (port_tokens (codes "INPUT") name (omega arith) refl (all_head name [] can.names))
     ∙ cond_true (is_name name) (States (Input name)) (IsRefused BadName) (all_head name [] can.names)
 normal_reads (Output name) can =
-    ap (λ t. tokens_reading (form_of t)) (port_tokens (codes "OUTPUT") name (omega arith) refl (all_head name [] can.names))
+    ap (λ t. tokens_reading (form_of t))
+    (port_tokens (codes "OUTPUT") name (omega arith) refl (all_head name [] can.names))
     ∙ cond_true (is_name name) (States (Output name)) (IsRefused BadName) (all_head name [] can.names)
 normal_reads (Dff out data_pin) can =
-    ap reading_of (dff_text out data_pin) ∙ definition_line out (codes "DFF") (data_pin ∷ []) FlipFlop can.names (omega arith) refl refl
+    ap reading_of (dff_text out data_pin) ∙ definition_line out (codes "DFF") (data_pin ∷ []) FlipFlop can.names
+    (omega arith) refl refl
 normal_reads (Gate out kind args) can =
-    ap reading_of (gate_text out kind args) ∙ definition_line out (kind_text kind) args (GateOf kind) can.names (kind_is_some kind) (kind_is_word kind) (kind_named kind)
+    ap reading_of (gate_text out kind args) ∙ definition_line out (kind_text kind) args (GateOf kind) can.names
+    (kind_is_some kind) (kind_is_word kind) (kind_named kind)
     ∙ cond_true (has_count (GateOf kind) (length args)) (States (Gate out kind args)) (IsRefused BadCount) can.count

@@ -16,7 +16,8 @@ ArePrintable text = list_all is_printable text ≡ true
 
 both : (front rest : List ℕ) → ArePrintable front → ArePrintable rest → ArePrintable (front ++ rest)
 both front rest are more =
-    list_all-append is_printable front rest ∙ and_from (list_all is_printable front) (list_all is_printable rest) are more
+    list_all-append is_printable front rest ∙ and_from (list_all is_printable front) (list_all is_printable rest) are
+    more
 
 byte_prints : (byte : ℕ) → is_name_byte byte ≡ true → is_printable byte ≡ true
 byte_prints byte e = grind (arith, nat_tests)
@@ -53,16 +54,20 @@ arguments_print (name ∷ next ∷ more) e =
 
 pub normal_is_one_line : NormalTextIsOneLine
 normal_is_one_line Nothing can = refl
-normal_is_one_line (Input name) can = both (codes "INPUT(" ++ name) (codes ")") (both (codes "INPUT(") name refl (head_prints name [] can.names)) refl
-normal_is_one_line (Output name) can = both (codes "OUTPUT(" ++ name) (codes ")") (both (codes "OUTPUT(") name refl (head_prints name [] can.names)) refl
+normal_is_one_line (Input name) can = both (codes "INPUT(" ++ name) (codes ")")
+    (both (codes "INPUT(") name refl (head_prints name [] can.names)) refl
+normal_is_one_line (Output name) can = both (codes "OUTPUT(" ++ name) (codes ")")
+    (both (codes "OUTPUT(") name refl (head_prints name [] can.names)) refl
 normal_is_one_line (Dff out data_pin) can =
     let parts = and_parts (is_name out) (list_all is_name (data_pin ∷ [])) can.names in
     let front = both out (codes " = DFF(") (name_prints out parts.0) refl in
-    both (out ++ codes " = DFF(" ++ data_pin) (codes ")") (both (out ++ codes " = DFF(") data_pin front (head_prints data_pin [] parts.1)) refl
+    both (out ++ codes " = DFF(" ++ data_pin) (codes ")")
+    (both (out ++ codes " = DFF(") data_pin front (head_prints data_pin [] parts.1)) refl
 normal_is_one_line (Gate out kind args) can =
     let parts = and_parts (is_name out) (list_all is_name args) can.names in
     let one = both out (codes " = ") (name_prints out parts.0) refl in
     let two = both (out ++ codes " = ") (kind_text kind) one (kind_prints kind) in
     let three = both (out ++ codes " = " ++ kind_text kind) (codes "(") two refl in
-    let four = both (out ++ codes " = " ++ kind_text kind ++ codes "(") (arguments_text args) three (arguments_print args parts.1) in
+    let four = both (out ++ codes " = " ++ kind_text kind ++ codes "(") (arguments_text args) three
+    (arguments_print args parts.1) in
     both (out ++ codes " = " ++ kind_text kind ++ codes "(" ++ arguments_text args) (codes ")") four refl

@@ -22,33 +22,43 @@ abbrev IsSound : Reading → Type 0
 IsSound (States statement) = CanBeStated statement
 IsSound (IsRefused refusal) = Unit {0}
 
-tested : (test : Bool) (reading : Reading) (refusal : LineRefusal) → (test ≡ true → IsSound reading) → IsSound (cond test reading (IsRefused refusal))
+tested : (test : Bool) (reading : Reading) (refusal : LineRefusal) → (test ≡ true → IsSound reading)
+    → IsSound (cond test reading (IsRefused refusal))
 tested true reading refusal sound = sound refl
 tested false reading refusal sound = tt
 
 names_of_one : (name : Name) → is_name name ≡ true → list_all is_name (name ∷ []) ≡ true
 names_of_one name is = and_from (is_name name) true is refl
 
-element_sound : (out : Name) (args : List Name) (element : Element) → list_all is_name (out ∷ args) ≡ true → has_count element (length args) ≡ true
+element_sound : (out : Name) (args : List Name) (element : Element) → list_all is_name (out ∷ args) ≡ true
+    → has_count element (length args) ≡ true
     → CanBeStated (defined out args element)
 element_sound out [] FlipFlop are count = absurd (grind (arith, nat_tests))
 element_sound out (arg ∷ more) FlipFlop are count =
     let parts = and_parts (is_name out) (list_all is_name (arg ∷ more)) are in
     let first = (and_parts (is_name arg) (list_all is_name more) parts.1).0 in
-    record { names = and_from (is_name out) (list_all is_name (arg ∷ [])) parts.0 (names_of_one arg first); count = refl }
+    record {
+      names = and_from (is_name out) (list_all is_name (arg ∷ [])) parts.0 (names_of_one arg first);
+      count = refl;
+    }
 element_sound out args (GateOf kind) are count = record { names = are; count = count }
 
-definition_sound : (out : Name) (args : List Name) (found : Option Element) → list_all is_name (out ∷ args) ≡ true → IsSound (definition_reading out args found)
+definition_sound : (out : Name) (args : List Name) (found : Option Element) → list_all is_name (out ∷ args) ≡ true
+    → IsSound (definition_reading out args found)
 definition_sound out args None are = tt
 definition_sound out args (Some element) are =
-    tested (has_count element (length args)) (States (defined out args element)) BadCount (λ count. element_sound out args element are count)
+    tested (has_count element (length args)) (States (defined out args element)) BadCount
+    (λ count. element_sound out args element are count)
 
 form_sound : (form : Form) → IsSound (form_reading form)
 form_sound Blank = record { names = refl; count = refl }
-form_sound (InputForm name) = tested (is_name name) (States (Input name)) BadName (λ is. record { names = names_of_one name is; count = refl })
-form_sound (OutputForm name) = tested (is_name name) (States (Output name)) BadName (λ is. record { names = names_of_one name is; count = refl })
+form_sound (InputForm name) = tested (is_name name) (States (Input name)) BadName
+    (λ is. record { names = names_of_one name is; count = refl })
+form_sound (OutputForm name) = tested (is_name name) (States (Output name)) BadName
+    (λ is. record { names = names_of_one name is; count = refl })
 form_sound (Definition out kind args) =
-    tested (list_all is_name (out ∷ args)) (definition_reading out args (element_named kind)) BadName (λ are. definition_sound out args (element_named kind) are)
+    tested (list_all is_name (out ∷ args)) (definition_reading out args (element_named kind)) BadName
+    (λ are. definition_sound out args (element_named kind) are)
 
 reading_sound : (form : Option Form) → IsSound (tokens_reading form)
 reading_sound None = tt

@@ -10,7 +10,8 @@ use Rattle.ht_statement.specs.TokenOf.{token_of}
 
 -- ---- comments
 
-pub comment_none : (byte : ℕ) (text : List ℕ) → begins_comment byte ≡ false → without_comment (byte ∷ text) ≡ byte ∷ without_comment text
+pub comment_none : (byte : ℕ) (text : List ℕ) → begins_comment byte ≡ false → without_comment (byte ∷ text) ≡ byte
+    ∷ without_comment text
 comment_none byte text e =
     take_while-cons (λ b. not (begins_comment b)) byte text ∙ ap (λ r. cond (not r) (byte ∷ without_comment text) []) e
 
@@ -44,26 +45,33 @@ tokens_after word text = tokens_behind word (without_comment text)
 
 -- what follows the blank test
 abbrev behind_mark : List ℕ → ℕ → List ℕ → Option Token → List Token
-behind_mark word byte text mark = option_map_or (λ m. ended word ++ m ∷ tokens_behind [] text) mark (tokens_behind (word ++ byte ∷ []) text)
+behind_mark word byte text mark = option_map_or (λ m. ended word ++ m ∷ tokens_behind [] text) mark
+    (tokens_behind (word ++ byte ∷ []) text)
 
-pub blank_ends : (word : List ℕ) (byte : ℕ) (text : List ℕ) → is_blank byte ≡ true → tokens_after word (byte ∷ text) ≡ ended word ++ tokens_of text
+pub blank_ends : (word : List ℕ) (byte : ℕ) (text : List ℕ) → is_blank byte ≡ true → tokens_after word (byte ∷ text)
+    ≡ ended word ++ tokens_of text
 blank_ends word byte text e =
     ap (tokens_behind word) (comment_none byte text (blank_is_no_comment byte e))
     ∙ ap (λ r. cond r (ended word ++ tokens_of text) (behind_mark word byte (without_comment text) (mark_of byte))) e
 
-pub mark_ends : (word : List ℕ) (byte : ℕ) (text : List ℕ) (mark : Token) → mark_of byte ≡ Some mark → tokens_after word (byte ∷ text) ≡ ended word ++ mark ∷ tokens_of text
+pub mark_ends : (word : List ℕ) (byte : ℕ) (text : List ℕ) (mark : Token) → mark_of byte ≡ Some mark
+    → tokens_after word (byte ∷ text) ≡ ended word ++ mark ∷ tokens_of text
 mark_ends word byte text mark e =
     ap (tokens_behind word) (comment_none byte text (mark_is_no_comment byte mark e))
-    ∙ ap (λ r. cond r (ended word ++ tokens_of text) (behind_mark word byte (without_comment text) (mark_of byte))) (mark_is_no_blank byte mark e)
+    ∙ ap (λ r. cond r (ended word ++ tokens_of text) (behind_mark word byte (without_comment text) (mark_of byte)))
+    (mark_is_no_blank byte mark e)
     ∙ ap (behind_mark word byte (without_comment text)) e
 
-pub comment_ends : (word : List ℕ) (byte : ℕ) (text : List ℕ) → begins_comment byte ≡ true → tokens_after word (byte ∷ text) ≡ ended word
+pub comment_ends : (word : List ℕ) (byte : ℕ) (text : List ℕ) → begins_comment byte ≡ true
+    → tokens_after word (byte ∷ text) ≡ ended word
 comment_ends word byte text e = ap (tokens_behind word) (comment_all byte text e)
 
-pub word_goes_on : (word : List ℕ) (byte : ℕ) (text : List ℕ) → is_word_byte byte ≡ true → tokens_after word (byte ∷ text) ≡ tokens_after (word ++ byte ∷ []) text
+pub word_goes_on : (word : List ℕ) (byte : ℕ) (text : List ℕ) → is_word_byte byte ≡ true
+    → tokens_after word (byte ∷ text) ≡ tokens_after (word ++ byte ∷ []) text
 word_goes_on word byte text e =
     ap (tokens_behind word) (comment_none byte text (word_is_no_comment byte e))
-    ∙ ap (λ r. cond r (ended word ++ tokens_of text) (behind_mark word byte (without_comment text) (mark_of byte))) (word_is_no_blank byte e)
+    ∙ ap (λ r. cond r (ended word ++ tokens_of text) (behind_mark word byte (without_comment text) (mark_of byte)))
+    (word_is_no_blank byte e)
     ∙ ap (behind_mark word byte (without_comment text)) (word_is_no_mark byte e)
 
 -- ---- a whole word
@@ -74,7 +82,8 @@ data Ends (byte : ℕ) : Type 0 where
   MarkEnds : (mark : Token) → mark_of byte ≡ Some mark → Ends byte
   CommentEnds : begins_comment byte ≡ true → Ends byte
 
-mark_cases : (byte : ℕ) (h c : Bool) → (m : Option Token) → mark_of byte ≡ m → is_blank byte ≡ c → begins_comment byte ≡ h → is_word_byte byte ≡ false → Ends byte
+mark_cases : (byte : ℕ) (h c : Bool) → (m : Option Token) → mark_of byte ≡ m → is_blank byte ≡ c → begins_comment byte
+    ≡ h → is_word_byte byte ≡ false → Ends byte
 mark_cases byte h true m em ec eh e = BlankEnds ec
 mark_cases byte true false m em ec eh e = CommentEnds eh
 mark_cases byte false false (Some mark) em ec eh e = MarkEnds mark em
@@ -83,11 +92,15 @@ mark_cases byte false false None em ec eh e = absurd (grind (arith, nat_tests))
 ends : (byte : ℕ) → is_word_byte byte ≡ false → Ends byte
 ends byte e = mark_cases byte (begins_comment byte) (is_blank byte) (mark_of byte) refl refl refl e
 
-ending : (word : List ℕ) (byte : ℕ) (text : List ℕ) → Ends byte → tokens_after word (byte ∷ text) ≡ ended word ++ tokens_of (byte ∷ text)
-ending word byte text (BlankEnds e) = blank_ends word byte text e ∙ ap (λ l. ended word ++ l) (sym (blank_ends [] byte text e))
-ending word byte text (MarkEnds mark e) = mark_ends word byte text mark e ∙ ap (λ l. ended word ++ l) (sym (mark_ends [] byte text mark e))
+ending : (word : List ℕ) (byte : ℕ) (text : List ℕ) → Ends byte → tokens_after word (byte ∷ text) ≡ ended word
+    ++ tokens_of (byte ∷ text)
+ending word byte text (BlankEnds e) = blank_ends word byte text e ∙ ap (λ l. ended word ++ l)
+    (sym (blank_ends [] byte text e))
+ending word byte text (MarkEnds mark e) = mark_ends word byte text mark e ∙ ap (λ l. ended word ++ l)
+    (sym (mark_ends [] byte text mark e))
 ending word byte text (CommentEnds e) =
-    comment_ends word byte text e ∙ sym (append-nil (ended word)) ∙ ap (λ l. ended word ++ l) (sym (comment_ends [] byte text e))
+    comment_ends word byte text e ∙ sym (append-nil (ended word)) ∙ ap (λ l. ended word ++ l)
+    (sym (comment_ends [] byte text e))
 
 word_ends : (word rest : List ℕ) → BeginsNoWord rest → tokens_after word rest ≡ ended word ++ tokens_of rest
 word_ends word [] stops = sym (append-nil (ended word))
@@ -96,8 +109,10 @@ word_ends word (byte ∷ text) stops = ending word byte text (ends byte stops)
 abbrev pub AreWordBytes : List ℕ → Type 0
 AreWordBytes text = (k : ℕ) → k < length text → is_word_byte (get_or text k 0) ≡ true
 
-pub run_ends : (word run rest : List ℕ) → AreWordBytes run → BeginsNoWord rest → tokens_after word (run ++ rest) ≡ ended (word ++ run) ++ tokens_of rest
-run_ends word [] rest are stops = word_ends word rest stops ∙ ap (λ w. ended w ++ tokens_of rest) (sym (append-nil word))
+pub run_ends : (word run rest : List ℕ) → AreWordBytes run → BeginsNoWord rest → tokens_after word (run ++ rest)
+    ≡ ended (word ++ run) ++ tokens_of rest
+run_ends word [] rest are stops = word_ends word rest stops ∙ ap (λ w. ended w ++ tokens_of rest)
+    (sym (append-nil word))
 run_ends word (byte ∷ run) rest are stops =
     word_goes_on word byte (run ++ rest) (are 0 (omega arith))
     ∙ run_ends (word ++ byte ∷ []) run rest (λ k lt. are (suc k) (omega arith)) stops
@@ -111,18 +126,21 @@ tokens_none byte text e = comment_ends [] byte text e
 pub tokens_blank : (byte : ℕ) (text : List ℕ) → is_blank byte ≡ true → tokens_of (byte ∷ text) ≡ tokens_of text
 tokens_blank byte text e = blank_ends [] byte text e
 
-pub tokens_mark : (byte : ℕ) (text : List ℕ) (mark : Token) → mark_of byte ≡ Some mark → tokens_of (byte ∷ text) ≡ mark ∷ tokens_of text
+pub tokens_mark : (byte : ℕ) (text : List ℕ) (mark : Token) → mark_of byte ≡ Some mark → tokens_of (byte ∷ text) ≡ mark
+    ∷ tokens_of text
 tokens_mark byte text mark e = mark_ends [] byte text mark e
 
 pub tokens_word : (byte : ℕ) (run rest : List ℕ) → AreWordBytes (byte ∷ run) → BeginsNoWord rest
     → tokens_of (byte ∷ run ++ rest) ≡ Word (byte ∷ run) ∷ tokens_of rest
 tokens_word byte run rest are stops = run_ends [] (byte ∷ run) rest are stops
 
-is_word : (byte : ℕ) → begins_comment byte ≡ false → is_blank byte ≡ false → mark_of byte ≡ None → is_word_byte byte ≡ true
+is_word : (byte : ℕ) → begins_comment byte ≡ false → is_blank byte ≡ false → mark_of byte ≡ None → is_word_byte byte
+    ≡ true
 is_word byte no_hash no_blank no_mark = grind (arith, nat_tests)
 
 -- the word that a text begins with
-pub cut_is_word : (byte : ℕ) (behind text word rest : List ℕ) → text ≡ byte ∷ behind → begins_comment byte ≡ false → is_blank byte ≡ false → mark_of byte ≡ None
+pub cut_is_word : (byte : ℕ) (behind text word rest : List ℕ) → text ≡ byte ∷ behind → begins_comment byte ≡ false
+    → is_blank byte ≡ false → mark_of byte ≡ None
     → IsWordCut text word rest → tokens_of text ≡ Word word ∷ tokens_of rest
 cut_is_word byte behind text [] [] e no_hash no_blank no_mark cut =
     let wrong : [] ≡ byte ∷ behind = sym cut.whole ∙ e in absurd (cc)
@@ -135,11 +153,13 @@ cut_is_word byte behind text [] (other ∷ rest) e no_hash no_blank no_mark cut 
 cut_is_word byte behind text (first ∷ run) rest e no_hash no_blank no_mark cut =
     ap tokens_of cut.whole ∙ tokens_word first run rest cut.bytes cut.longest
 
-pub first_word : (text word rest : List ℕ) → 1 ≤ length text → begins_comment (get_or text 0 0) ≡ false → BeginsNoBlank text → mark_of (get_or text 0 0) ≡ None
+pub first_word : (text word rest : List ℕ) → 1 ≤ length text → begins_comment (get_or text 0 0) ≡ false
+    → BeginsNoBlank text → mark_of (get_or text 0 0) ≡ None
     → IsWordCut text word rest → tokens_of text ≡ Word word ∷ tokens_of rest
 first_word [] word rest some no_hash no_blank no_mark cut = absurd (omega arith)
 first_word (byte ∷ behind) word rest some no_hash no_blank no_mark cut =
     cut_is_word byte behind (byte ∷ behind) word rest refl no_hash no_blank no_mark cut
 
-pub no_mark : (found : Option Borrowed) (mark : Option Token) → option_map token_of found ≡ mark → found ≡ None → mark ≡ None
+pub no_mark : (found : Option Borrowed) (mark : Option Token) → option_map token_of found ≡ mark → found ≡ None → mark
+    ≡ None
 no_mark found mark e none = sym e ∙ ap (option_map token_of) none

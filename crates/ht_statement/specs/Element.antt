@@ -12,7 +12,8 @@ pub data Element : Type 0 where
 
 -- the words of kinds, in capitals
 abbrev pub kind_words : List (List ℕ × Element)
-kind_words = (codes "AND", GateOf And) ∷ (codes "NAND", GateOf Nand) ∷ (codes "OR", GateOf Or) ∷ (codes "NOR", GateOf Nor)
+kind_words = (codes "AND", GateOf And) ∷ (codes "NAND", GateOf Nand) ∷ (codes "OR", GateOf Or)
+    ∷ (codes "NOR", GateOf Nor)
     ∷ (codes "XOR", GateOf Xor) ∷ (codes "XNOR", GateOf Xnor) ∷ (codes "NOT", GateOf Not)
     ∷ (codes "BUFF", GateOf Buf) ∷ (codes "BUF", GateOf Buf) ∷ (codes "DFF", FlipFlop) ∷ []
 

@@ -32,7 +32,8 @@ statement_text Nothing = []
 statement_text (Input name) = codes "INPUT(" ++ name ++ codes ")"
 statement_text (Output name) = codes "OUTPUT(" ++ name ++ codes ")"
 statement_text (Dff out data_pin) = out ++ codes " = DFF(" ++ data_pin ++ codes ")"
-statement_text (Gate out kind args) = out ++ codes " = " ++ kind_text kind ++ codes "(" ++ arguments_text args ++ codes ")"
+statement_text (Gate out kind args) = out ++ codes " = " ++ kind_text kind ++ codes "(" ++ arguments_text args
+    ++ codes ")"
 
 -- a gate of its kind may have so many arguments
 abbrev pub has_its_count : Statement → Bool
@@ -46,7 +47,8 @@ pub record CanBeStated (statement : Statement) : Type 0 where
 
 -- the normal text of what a line can state is a line that states it
 abbrev pub NormalTextIsRead : Type 0
-NormalTextIsRead = (statement : Statement) → CanBeStated statement → reading_of (statement_text statement) ≡ States statement
+NormalTextIsRead = (statement : Statement) → CanBeStated statement → reading_of (statement_text statement)
+    ≡ States statement
 
 -- a byte of printable text, or a blank
 abbrev pub is_printable : ℕ → Bool
@@ -54,7 +56,8 @@ is_printable byte = leb 32 byte && leb byte 126
 
 -- a normal text has such bytes alone: it is one line, with no LF and no CR in it
 abbrev pub NormalTextIsOneLine : Type 0
-NormalTextIsOneLine = (statement : Statement) → CanBeStated statement → list_all is_printable (statement_text statement) ≡ true
+NormalTextIsOneLine = (statement : Statement) → CanBeStated statement → list_all is_printable (statement_text statement)
+    ≡ true
 
 -- what a line states is what a line can state
 abbrev pub StatedIsSound : Type 0

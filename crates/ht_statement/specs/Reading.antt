@@ -24,14 +24,16 @@ defined out args (GateOf kind) = Gate out kind args
 -- a definition by the element that its kind names, whose count of arguments is judged last
 abbrev pub definition_reading : Name → List Name → Option Element → Reading
 definition_reading out args None = IsRefused BadKind
-definition_reading out args (Some element) = cond (has_count element (length args)) (States (defined out args element)) (IsRefused BadCount)
+definition_reading out args (Some element) = cond (has_count element (length args)) (States (defined out args element))
+    (IsRefused BadCount)
 
 -- names are judged first, then the kind, then the count
 abbrev pub form_reading : Form → Reading
 form_reading Blank = States Nothing
 form_reading (InputForm name) = cond (is_name name) (States (Input name)) (IsRefused BadName)
 form_reading (OutputForm name) = cond (is_name name) (States (Output name)) (IsRefused BadName)
-form_reading (Definition out kind args) = cond (list_all is_name (out ∷ args)) (definition_reading out args (element_named kind)) (IsRefused BadName)
+form_reading (Definition out kind args) = cond (list_all is_name (out ∷ args))
+    (definition_reading out args (element_named kind)) (IsRefused BadName)
 
 -- a line whose tokens have no form is a bad line
 abbrev pub tokens_reading : Option Form → Reading

@@ -17,7 +17,8 @@ is_blank byte = eqb byte 32 || eqb byte 9
 
 -- the token of a mark
 abbrev pub mark_of : ℕ → Option Token
-mark_of byte = cond (eqb byte 40) (Some Open) (cond (eqb byte 41) (Some Close) (cond (eqb byte 44) (Some Comma) (cond (eqb byte 61) (Some Equals) None)))
+mark_of byte = cond (eqb byte 40) (Some Open)
+    (cond (eqb byte 41) (Some Close) (cond (eqb byte 44) (Some Comma) (cond (eqb byte 61) (Some Equals) None)))
 
 -- `#`
 abbrev pub begins_comment : ℕ → Bool
@@ -37,7 +38,8 @@ ended (byte ∷ word) = Word (byte ∷ word) ∷ []
 abbrev pub tokens_behind : List ℕ → List ℕ → List Token
 tokens_behind word [] = ended word
 tokens_behind word (byte ∷ text) = cond (is_blank byte) (ended word ++ tokens_behind [] text)
-    (option_map_or (λ mark. ended word ++ mark ∷ tokens_behind [] text) (mark_of byte) (tokens_behind (word ++ byte ∷ []) text))
+    (option_map_or (λ mark. ended word ++ mark ∷ tokens_behind [] text) (mark_of byte)
+    (tokens_behind (word ++ byte ∷ []) text))
 
 -- the tokens of a line, from the left
 abbrev pub tokens_of : List ℕ → List Token

@@ -12,7 +12,8 @@ pub(crate) fn arguments<'a>(
     alloc: Global,
     text: &'a [u8],
 ) -> Result<Option<Vec<&'a [u8]>>, AllocError>
-    ensures { IfOk result (λ read. option_map (λ args. texts_of args.items) read ≡ arguments_of (tokens_of text.now)) }
+    ensures { IfOk result (λ read. option_map (λ args. texts_of args.items) read
+        ≡ arguments_of (tokens_of text.now)) }
 {
     let mut args = Vec::new(alloc);
     if closes(text) {

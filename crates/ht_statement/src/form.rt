@@ -47,7 +47,8 @@ fn definition<'a>(
     out: &'a [u8],
     text: &'a [u8],
 ) -> Result<Option<Form<'a>>, AllocError>
-    ensures { IfOk result (λ read. option_map form_meant read ≡ form_of (Word out.now ∷ Equals ∷ tokens_of text.now)) }
+    ensures { IfOk result
+        (λ read. option_map form_meant read ≡ form_of (Word out.now ∷ Equals ∷ tokens_of text.now)) }
 {
     let Some((kind, rest)) = first_word(text) else {
         return Ok(None);

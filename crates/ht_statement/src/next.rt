@@ -7,7 +7,8 @@ use crate::token::{Token, next_token};
 
 /// The word that a text begins with, and the text behind it.
 pub(crate) fn first_word(text: &[u8]) -> Option<(&[u8], &[u8])>
-    ensures found { IfSome result (λ parts. tokens_of text.now ≡ Word parts.0.now ∷ tokens_of parts.1.now) }
+    ensures found { IfSome result (λ parts. tokens_of text.now ≡ Word parts.0.now
+        ∷ tokens_of parts.1.now) }
     ensures shorter { IfSome result (λ parts. length parts.1.now < length text.now) }
     ensures none { IfNone result (NextIsNoWord text.now) }
 {

@@ -27,8 +27,12 @@ fn defined<'a>(
     kind: &[u8],
     args: Vec<&'a [u8]>,
 ) -> Result<Statement<'a>, LineRefusal>
-    ensures states { IfOk result (λ statement. definition_reading out.now (texts_of args.entry.items) (element_named kind.now) ≡ States (statement_of statement)) }
-    ensures refusal { IfErr result (λ refusal. definition_reading out.now (texts_of args.entry.items) (element_named kind.now) ≡ IsRefused refusal) }
+    ensures states { IfOk result
+        (λ statement. definition_reading out.now (texts_of args.entry.items)
+        (element_named kind.now) ≡ States (statement_of statement)) }
+    ensures refusal { IfErr result
+        (λ refusal. definition_reading out.now (texts_of args.entry.items) (element_named kind.now)
+        ≡ IsRefused refusal) }
 {
     let Some(element) = element_named(kind) else {
         return Err(LineRefusal::BadKind);
@@ -47,8 +51,10 @@ fn defined<'a>(
 
 /// What a line of a form states.
 fn stated<'a>(form: Form<'a>) -> Result<Statement<'a>, LineRefusal>
-    ensures states { IfOk result (λ statement. form_reading (form_meant form.entry) ≡ States (statement_of statement)) }
-    ensures refusal { IfErr result (λ refusal. form_reading (form_meant form.entry) ≡ IsRefused refusal) }
+    ensures states { IfOk result (λ statement. form_reading (form_meant form.entry)
+        ≡ States (statement_of statement)) }
+    ensures refusal { IfErr result (λ refusal. form_reading (form_meant form.entry)
+        ≡ IsRefused refusal) }
 {
     match form {
         Form::Blank => Ok(Statement::Nothing),
@@ -66,7 +72,8 @@ fn stated<'a>(form: Form<'a>) -> Result<Statement<'a>, LineRefusal>
 /// # Errors
 /// `Refused` with the first cause, in the order of `LineRefusal`; `NoMemory` where memory runs out.
 pub fn read_line<'a>(alloc: Global, line: &'a [u8]) -> Result<Statement<'a>, StatementFault>
-    ensures states { IfOk result (λ statement. reading_of line.now ≡ States (statement_of statement)) }
+    ensures states { IfOk result
+        (λ statement. reading_of line.now ≡ States (statement_of statement)) }
     ensures refusal { IfErr result (IsRefusalOf line.now) }
 {
     let Some(form) = read_form(alloc, line)? else {

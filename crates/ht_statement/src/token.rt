@@ -68,7 +68,8 @@ fn cut_word(text: &[u8]) -> (&[u8], &[u8])
 
 /// The first token of a text and the text behind it, or `None` where the text has no token.
 pub(crate) fn next_token(text: &[u8]) -> Option<(Token<'_>, &[u8])>
-    ensures first { IfSome result (λ parts. tokens_of text.now ≡ token_of parts.0 ∷ tokens_of parts.1.now) }
+    ensures first { IfSome result (λ parts. tokens_of text.now ≡ token_of parts.0
+        ∷ tokens_of parts.1.now) }
     ensures shorter { IfSome result (λ parts. length parts.1.now < length text.now) }
     ensures none { IfNone result (tokens_of text.now ≡ []) }
 {

@@ -6,7 +6,8 @@ use Rattle.ht_tern.specs.declared.gate.Kind.{Kind}
 use Rattle.ht_tern.specs.declared.gate.Kind.TheVariants.{And, Nand, Or, Nor, Xor, Xnor, Not, Buf}
 use Rattle.ht_tern.specs.Gate.{Operations, tern_operations, bool_operations, operation_of, polarity_of, folded, gate_value_over, gate_value, bool_gate_value, tern_of, Refines, StandsFor, AllRelated, PreservesOperations, complement_of, and_of, or_of, xor_of, bool_xor}
 
-pub operation_related : {V W : Type 0} → (R : V → W → Type 0) (o : Operations V) (p : Operations W) (keeps : PreservesOperations R o p) (kind : Kind) (x u : V) (y v : W)
+pub operation_related : {V W : Type 0} → (R : V → W → Type 0) (o : Operations V) (p : Operations W)
+    (keeps : PreservesOperations R o p) (kind : Kind) (x u : V) (y v : W)
     → R x y → R u v → R (operation_of o kind x u) (operation_of p kind y v)
 operation_related R o p keeps And x u y v h k = keeps.conjunction x u y v h k
 operation_related R o p keeps Nand x u y v h k = keeps.conjunction x u y v h k
@@ -17,7 +18,8 @@ operation_related R o p keeps Xnor x u y v h k = keeps.parity x u y v h k
 operation_related R o p keeps Not x u y v h k = h
 operation_related R o p keeps Buf x u y v h k = h
 
-pub polarity_related : {V W : Type 0} → (R : V → W → Type 0) (o : Operations V) (p : Operations W) (keeps : PreservesOperations R o p) (kind : Kind) (x : V) (y : W)
+pub polarity_related : {V W : Type 0} → (R : V → W → Type 0) (o : Operations V) (p : Operations W)
+    (keeps : PreservesOperations R o p) (kind : Kind) (x : V) (y : W)
     → R x y → R (polarity_of o kind x) (polarity_of p kind y)
 polarity_related R o p keeps And x y h = h
 polarity_related R o p keeps Nand x y h = keeps.complement x y h
@@ -28,20 +30,26 @@ polarity_related R o p keeps Xnor x y h = keeps.complement x y h
 polarity_related R o p keeps Not x y h = keeps.complement x y h
 polarity_related R o p keeps Buf x y h = h
 
-pub folded_related : {V W : Type 0} → (R : V → W → Type 0) (f : V → V → V) (g : W → W → W) (keeps : (x u : V) (y v : W) → R x y → R u v → R (f x u) (g y v))
+pub folded_related : {V W : Type 0} → (R : V → W → Type 0) (f : V → V → V) (g : W → W → W)
+    (keeps : (x u : V) (y v : W) → R x y → R u v → R (f x u) (g y v))
     (x : V) (y : W) (xs : List V) (ys : List W) → R x y → AllRelated R xs ys → R (folded f x xs) (folded g y ys)
 folded_related R f g keeps x y [] [] h k = h
 folded_related R f g keeps x y [] (v ∷ ys) h k = absurd k
 folded_related R f g keeps x y (u ∷ xs) [] h k = absurd k
-folded_related R f g keeps x y (u ∷ xs) (v ∷ ys) h k = folded_related R f g keeps (f x u) (g y v) xs ys (keeps x u y v h k.0) k.1
+folded_related R f g keeps x y (u ∷ xs) (v ∷ ys) h k = folded_related R f g keeps (f x u) (g y v) xs ys
+    (keeps x u y v h k.0) k.1
 
-pub gate_related : {V W : Type 0} → (R : V → W → Type 0) (o : Operations V) (p : Operations W) (keeps : PreservesOperations R o p) (d : V) (e : W) (blank : R d e)
-    (kind : Kind) (xs : List V) (ys : List W) → AllRelated R xs ys → R (gate_value_over o d kind xs) (gate_value_over p e kind ys)
+pub gate_related : {V W : Type 0} → (R : V → W → Type 0) (o : Operations V) (p : Operations W)
+    (keeps : PreservesOperations R o p) (d : V) (e : W) (blank : R d e)
+    (kind : Kind) (xs : List V) (ys : List W) → AllRelated R xs ys
+    → R (gate_value_over o d kind xs) (gate_value_over p e kind ys)
 gate_related R o p keeps d e blank kind [] [] h = blank
 gate_related R o p keeps d e blank kind [] (y ∷ ys) h = absurd h
 gate_related R o p keeps d e blank kind (x ∷ xs) [] h = absurd h
 gate_related R o p keeps d e blank kind (x ∷ xs) (y ∷ ys) h =
-    polarity_related R o p keeps kind _ _ (folded_related R (operation_of o kind) (operation_of p kind) (operation_related R o p keeps kind) x y xs ys h.0 h.1)
+    polarity_related R o p keeps kind _ _
+    (folded_related R (operation_of o kind) (operation_of p kind) (operation_related R o p keeps kind) x y xs ys h.0
+    h.1)
 
 and_left' : (a b : Bool) → (a && b) ≡ true → a ≡ true
 and_left' true b h = refl
@@ -109,20 +117,30 @@ follows_gives false b h k = cc
 
 -- an operation of two arguments keeps refinement, by its table
 abbrev pub keeps_two : (Tern → Tern → Tern) → Bool
-keeps_two f = all_terns (λ x. all_terns (λ u. all_terns (λ y. all_terns (λ v. follows (refines_test x y && refines_test u v) (refines_test (f x u) (f y v))))))
+keeps_two f = all_terns
+    (λ x. all_terns (λ u. all_terns
+    (λ y. all_terns (λ v. follows (refines_test x y && refines_test u v) (refines_test (f x u) (f y v))))))
 
-pub keeps_two_gives : (f : Tern → Tern → Tern) → keeps_two f ≡ true → (x u y v : Tern) → Refines x y → Refines u v → Refines (f x u) (f y v)
+pub keeps_two_gives : (f : Tern → Tern → Tern) → keeps_two f ≡ true → (x u y v : Tern) → Refines x y → Refines u v
+    → Refines (f x u) (f y v)
 keeps_two_gives f h x u y v a b =
     refines_from _ _ (follows_gives (refines_test x y && refines_test u v) (refines_test (f x u) (f y v))
     (each_tern (λ w. follows (refines_test x y && refines_test u w) (refines_test (f x u) (f y w)))
     (each_tern (λ z. all_terns (λ w. follows (refines_test x z && refines_test u w) (refines_test (f x u) (f z w))))
-    (each_tern (λ t. all_terns (λ z. all_terns (λ w. follows (refines_test x z && refines_test t w) (refines_test (f x t) (f z w)))))
-    (each_tern (λ s. all_terns (λ t. all_terns (λ z. all_terns (λ w. follows (refines_test s z && refines_test t w) (refines_test (f s t) (f z w)))))) h x) u) y) v)
+    (each_tern (λ t. all_terns
+    (λ z. all_terns (λ w. follows (refines_test x z && refines_test t w) (refines_test (f x t) (f z w)))))
+    (each_tern (λ s. all_terns
+    (λ t. all_terns (λ z. all_terns
+    (λ w. follows (refines_test s z && refines_test t w) (refines_test (f s t) (f z w)))))) h x) u) y) v)
     (and_both' _ _ (refines_to x y a) (refines_to u v b)))
 
 pub refinement_preserved : PreservesOperations Refines tern_operations tern_operations
 refinement_preserved = record {
-  complement = λ x y h. refines_from _ _ (follows_gives (refines_test x y) (refines_test (complement_of x) (complement_of y)) (each_tern (λ z. follows (refines_test x z) (refines_test (complement_of x) (complement_of z))) (each_tern (λ x. all_terns (λ y. follows (refines_test x y) (refines_test (complement_of x) (complement_of y)))) refl x) y) (refines_to x y h));
+  complement = λ x y h. refines_from _ _
+      (follows_gives (refines_test x y) (refines_test (complement_of x) (complement_of y))
+      (each_tern (λ z. follows (refines_test x z) (refines_test (complement_of x) (complement_of z)))
+      (each_tern (λ x. all_terns (λ y. follows (refines_test x y) (refines_test (complement_of x) (complement_of y))))
+      refl x) y) (refines_to x y h));
   conjunction = keeps_two_gives and_of refl;
   disjunction = keeps_two_gives or_of refl;
   parity = keeps_two_gives xor_of refl;
@@ -158,10 +176,12 @@ bits_preserved = record {
   parity = stands_two xor_of bool_xor refl xor_bits;
 }
 
-pub gate_refines : (kind : Kind) (xs ys : List Tern) → AllRelated Refines xs ys → Refines (gate_value kind xs) (gate_value kind ys)
+pub gate_refines : (kind : Kind) (xs ys : List Tern) → AllRelated Refines xs ys
+    → Refines (gate_value kind xs) (gate_value kind ys)
 gate_refines = gate_related Refines tern_operations tern_operations refinement_preserved Unk Unk (inl refl)
 
-pub gate_bits : (kind : Kind) (xs : List Tern) (ys : List Bool) → AllRelated StandsFor xs ys → StandsFor (gate_value kind xs) (bool_gate_value kind ys)
+pub gate_bits : (kind : Kind) (xs : List Tern) (ys : List Bool) → AllRelated StandsFor xs ys
+    → StandsFor (gate_value kind xs) (bool_gate_value kind ys)
 gate_bits = gate_related StandsFor tern_operations bool_operations bits_preserved Unk false (inl refl)
 
 -- a value is this bit
@@ -180,9 +200,11 @@ are_bits : (bits : List Bool) → AllRelated IsBit (map tern_of bits) bits
 are_bits [] = tt
 are_bits (bit ∷ bits) = (refl, are_bits bits)
 
-pub gate_definite : (kind : Kind) (bits : List Bool) → 0 < length bits → gate_value kind (map tern_of bits) ≡ tern_of (bool_gate_value kind bits)
+pub gate_definite : (kind : Kind) (bits : List Bool) → 0 < length bits → gate_value kind (map tern_of bits)
+    ≡ tern_of (bool_gate_value kind bits)
 gate_definite kind [] some = absurd (omega arith)
 gate_definite kind (bit ∷ bits) some =
     polarity_related IsBit tern_operations bool_operations is_bit_preserved kind _ _
-    (folded_related IsBit (operation_of tern_operations kind) (operation_of bool_operations kind) (operation_related IsBit tern_operations bool_operations is_bit_preserved kind)
+    (folded_related IsBit (operation_of tern_operations kind) (operation_of bool_operations kind)
+    (operation_related IsBit tern_operations bool_operations is_bit_preserved kind)
     (tern_of bit) bit (map tern_of bits) bits refl (are_bits bits))

@@ -45,7 +45,13 @@ abbrev pub tern_operations : Operations Tern
 tern_operations = record { complement = complement_of; conjunction = and_of; disjunction = or_of; parity = xor_of }
 
 abbrev pub bool_operations : Operations Bool
-bool_operations = record { complement = not; conjunction = λ a b. a && b; disjunction = λ a b. a || b; parity = bool_xor }
+bool_operations = record {
+  complement = not;
+  conjunction = λ a b. a && b;
+  disjunction = λ a b. a
+      || b;
+  parity = bool_xor;
+}
 
 -- the operation that a kind folds over its arguments
 abbrev pub operation_of : {V : Type 0} → Operations V → Kind → V → V → V

@@ -15,7 +15,8 @@ pair g f = record { good = g; faulty = f }
 
 -- the nine pairs, in the order in which a set lists its members
 abbrev pub all_pairs : List Pair
-all_pairs = pair Zero Zero ∷ pair Zero One ∷ pair Zero Unk ∷ pair One Zero ∷ pair One One ∷ pair One Unk ∷ pair Unk Zero ∷ pair Unk One ∷ pair Unk Unk ∷ []
+all_pairs = pair Zero Zero ∷ pair Zero One ∷ pair Zero Unk ∷ pair One Zero ∷ pair One One ∷ pair One Unk ∷ pair Unk Zero
+    ∷ pair Unk One ∷ pair Unk Unk ∷ []
 
 -- x is one of the members
 abbrev pub IsMember : {X : Type 0} → X → List X → Type 0

@@ -32,17 +32,20 @@ range_more n =
     sym (map-id (range_with_len 0 (n + 1))) ∙ (map-range_with_len_more (λ (x : ℕ). x) 0 n n (omega arith)
     ∙ ap (λ (l : List ℕ). l ++ n ∷ []) (map-id (range_with_len 0 n)))
 
-count_more : (p : ℕ → Bool) (n : ℕ) → count_by p (range_with_len 0 (n + 1)) ≡ count_by p (range_with_len 0 n) + cond (p n) 1 0
+count_more : (p : ℕ → Bool) (n : ℕ) → count_by p (range_with_len 0 (n + 1)) ≡ count_by p (range_with_len 0 n)
+    + cond (p n) 1 0
 count_more p n = ap (count_by p) (range_more n) ∙ sum_by_push (λ (x : ℕ). cond (p x) 1 0) (range_with_len 0 n) n
 
 -- a number that passes is counted, and another isn't
-pub counted : (p : ℕ → Bool) (n k : ℕ) → k ≡ count_by p (range_with_len 0 n) → p n ≡ true → k + 1 ≡ count_by p (range_with_len 0 (n + 1))
+pub counted : (p : ℕ → Bool) (n k : ℕ) → k ≡ count_by p (range_with_len 0 n) → p n ≡ true → k + 1
+    ≡ count_by p (range_with_len 0 (n + 1))
 counted p n k so_far passes =
     let more : ℕ = cond (p n) 1 0 in
     let one : more ≡ 1 = rw passes refl in
     omega (arith, so_far, one, count_more p n)
 
-pub passed_over : (p : ℕ → Bool) (n k : ℕ) → k ≡ count_by p (range_with_len 0 n) → p n ≡ false → k ≡ count_by p (range_with_len 0 (n + 1))
+pub passed_over : (p : ℕ → Bool) (n k : ℕ) → k ≡ count_by p (range_with_len 0 n) → p n ≡ false → k
+    ≡ count_by p (range_with_len 0 (n + 1))
 passed_over p n k so_far fails =
     let more : ℕ = cond (p n) 1 0 in
     let none : more ≡ 0 = rw fails refl in
@@ -53,7 +56,8 @@ count_within p n k is = omega (arith, is, count_by-le-length p (range_with_len 0
 
 -- the lines of the first faults grow by the next fault's line
 pub first_lines_more : (c : Netlist) (representatives : List ℕ) (places : List (Option Place)) (n : ℕ)
-    → first_lines c representatives places (n + 1) ≡ first_lines c representatives places n ++ fault_line c representatives n (said_of (get_or places n None))
+    → first_lines c representatives places (n + 1) ≡ first_lines c representatives places n
+    ++ fault_line c representatives n (said_of (get_or places n None))
 first_lines_more c representatives places n =
     let line : ℕ → List ℕ = λ i. fault_line c representatives i (said_of (get_or places i None)) in
     ap (flat_map line) (range_more n)

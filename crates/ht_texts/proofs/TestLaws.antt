@@ -17,7 +17,8 @@ bit_code_injective false true e = absurd (omega (arith, e))
 bit_code_injective true false e = absurd (omega (arith, e))
 bit_code_injective true true e = refl
 
-map_injective : {A B : Type 0} (f : A → B) → ((x y : A) → f x ≡ f y → x ≡ y) → (xs ys : List A) → map f xs ≡ map f ys → xs ≡ ys
+map_injective : {A B : Type 0} (f : A → B) → ((x y : A) → f x ≡ f y → x ≡ y) → (xs ys : List A) → map f xs ≡ map f ys
+    → xs ≡ ys
 map_injective f injective [] [] e = refl
 map_injective f injective [] (y ∷ ys) e = cc
 map_injective f injective (x ∷ xs) [] e = cc
@@ -42,7 +43,8 @@ bit_or_none x = elim (cases_eq x 48) [
 ]
 
 -- each character of the line is a bit's, or one is no bit's
-bits_or_none : (line : List ℕ) → ((vector : List Bool) × (line ≡ vector_text vector)) ⊎ ((k : ℕ) × (k < length line) × ((bit : Bool) → get_or line k 0 ≢ bit_code bit))
+bits_or_none : (line : List ℕ) → ((vector : List Bool) × (line ≡ vector_text vector))
+    ⊎ ((k : ℕ) × (k < length line) × ((bit : Bool) → get_or line k 0 ≢ bit_code bit))
 bits_or_none [] = inl ([], refl)
 bits_or_none (x ∷ line) = elim (bit_or_none x) [
   | inr none ↦ inr (0, omega arith, none)
@@ -52,12 +54,17 @@ bits_or_none (x ∷ line) = elim (bit_or_none x) [
   ]
 ]
 
-vector_or_none : (width : ℕ) (line : List ℕ) → ((vector : List Bool) × IsTextOf width line vector) ⊎ ((vector : List Bool) → ¬ IsTextOf width line vector)
+vector_or_none : (width : ℕ) (line : List ℕ) → ((vector : List Bool) × IsTextOf width line vector)
+    ⊎ ((vector : List Bool) → ¬ IsTextOf width line vector)
 vector_or_none width line = elim (cases_eq (length line) width) [
   | inr differs ↦ inr (no_vector_fits width line differs)
   | inl same ↦ elim (bits_or_none line) [
     | inr bad ↦ inr (no_vector_has width line bad.0 bad.1 bad.2)
-    | inl read ↦ inl (read.0, record { characters = read.1; bits = sym (length-vector_text read.0) ∙ sym (ap length read.1) ∙ same })
+    | inl read ↦ inl (
+      read.0,
+      record
+          { characters = read.1; bits = sym (length-vector_text read.0) ∙ sym (ap length read.1) ∙ same },
+    )
   ]
 ]
 
@@ -72,8 +79,10 @@ pub record StopsAt (width : ℕ) (lines : List (List ℕ)) (k : ℕ) : Type 0 wh
   pub none : (vector : List Bool) → ¬ IsTextOf width (get_or lines k []) vector
   pub before : (j : ℕ) → j < k → (vector : List Bool) × IsTextOf width (get_or lines j []) vector
 
-vectors_or_stop : (width : ℕ) (lines : List (List ℕ)) → ((list : List (List Bool)) × AreVectors width lines list) ⊎ ((k : ℕ) × StopsAt width lines k)
-vectors_or_stop width [] = inl ([], record { texts = refl; widths = All-nil (λ (vector : List Bool). length vector ≡ width) })
+vectors_or_stop : (width : ℕ) (lines : List (List ℕ)) → ((list : List (List Bool)) × AreVectors width lines list)
+    ⊎ ((k : ℕ) × StopsAt width lines k)
+vectors_or_stop width [] = inl
+    ([], record { texts = refl; widths = All-nil (λ (vector : List Bool). length vector ≡ width) })
 vectors_or_stop width (line ∷ lines) = elim (vector_or_none width line) [
   | inr none ↦ inr (0, record { within = omega arith; none = none; before = λ j below. absurd (omega arith) })
   | inl here ↦ elim (vectors_or_stop width lines) [
@@ -89,10 +98,11 @@ vectors_or_stop width (line ∷ lines) = elim (vector_or_none width line) [
       record {
         within = omega (arith, stop.1.within);
         none = stop.1.none;
-        before = λ j. elim j as (λ i. i < suc stop.0 → (vector : List Bool) × IsTextOf width (get_or (line ∷ lines) i []) vector) [
-          | zero ↦ λ _. here
-          | suc i ↦ λ below. stop.1.before i (omega arith)
-        ];
+        before = λ j. elim j as
+            (λ i. i < suc stop.0 → (vector : List Bool) × IsTextOf width (get_or (line ∷ lines) i []) vector) [
+              | zero ↦ λ _. here
+              | suc i ↦ λ below. stop.1.before i (omega arith)
+            ];
       },
     )
   ]
@@ -101,7 +111,8 @@ vectors_or_stop width (line ∷ lines) = elim (vector_or_none width line) [
 -- ---- where no line is wrong by itself, and where one is
 
 -- each line of a list's text is a vector's
-vector_at : (width : ℕ) (lines : List (List ℕ)) (list : List (List Bool)) → AreVectors width lines list → (k : ℕ) → k < length lines
+vector_at : (width : ℕ) (lines : List (List ℕ)) (list : List (List Bool)) → AreVectors width lines list → (k : ℕ)
+    → k < length lines
     → (vector : List Bool) × IsTextOf width (get_or lines k []) vector
 vector_at width lines list are k below =
     let inside : k < length list = omega (arith, ap length are.texts ∙ length-map list vector_text) in (
@@ -112,13 +123,15 @@ vector_at width lines list are k below =
       },
     )
 
-no_wrong_line : (c : Netlist) (text : List ℕ) (list : List (List Bool)) → AreVectors c.inputs (lines_of text) list → (n : ℕ) → ¬ IsNoVector c text n
+no_wrong_line : (c : Netlist) (text : List ℕ) (list : List (List Bool)) → AreVectors c.inputs (lines_of text) list
+    → (n : ℕ) → ¬ IsNoVector c text n
 no_wrong_line c text list are n bad =
     let found = vector_at c.inputs (lines_of text) list are (n - 1) (omega (arith, bad.counted.0, bad.counted.1)) in
     bad.none found.0 found.1
 
 -- the lines before the one where the reading stops are not wrong by themselves
-no_wrong_before : (c : Netlist) (text : List ℕ) (k n : ℕ) → StopsAt c.inputs (lines_of text) k → n ≤ k → ¬ IsNoVector c text n
+no_wrong_before : (c : Netlist) (text : List ℕ) (k n : ℕ) → StopsAt c.inputs (lines_of text) k → n ≤ k
+    → ¬ IsNoVector c text n
 no_wrong_before c text k n stop upto bad =
     let found = stop.before (n - 1) (omega (arith, bad.counted.0)) in
     bad.none found.0 found.1
@@ -126,12 +139,14 @@ no_wrong_before c text k n stop upto bad =
 wrong_at : (c : Netlist) (text : List ℕ) (k : ℕ) → StopsAt c.inputs (lines_of text) k → IsNoVector c text (k + 1)
 wrong_at c text k stop = record {
   counted = (omega arith, omega (arith, stop.within));
-  none = subst (λ i. (vector : List Bool) → ¬ IsTextOf c.inputs (get_or (lines_of text) i []) vector) (omega arith) stop.none;
+  none = subst (λ i. (vector : List Bool) → ¬ IsTextOf c.inputs (get_or (lines_of text) i []) vector) (omega arith)
+      stop.none;
 }
 
 -- ---- one list or one line
 
-pub one_list : (c : Netlist) (text : List ℕ) (a b : List (List Bool)) → IsTestText c text a → IsTestText c text b → a ≡ b
+pub one_list : (c : Netlist) (text : List ℕ) (a b : List (List Bool)) → IsTestText c text a → IsTestText c text b → a
+    ≡ b
 one_list c text a b is_a is_b = map_injective vector_text vector_text_injective a b (sym is_a.lines ∙ is_b.lines)
 
 pub one_line : (c : Netlist) (text : List ℕ) (m n : ℕ) → IsMalformedTest c text m → IsMalformedTest c text n → m ≡ n
@@ -143,28 +158,33 @@ one_line c text m n at_m at_n = elim (cases_lt m n) [
   ]
 ]
 
-pub never_both : (c : Netlist) (text : List ℕ) (list : List (List Bool)) (n : ℕ) → IsTestText c text list → ¬ IsMalformedTest c text n
+pub never_both : (c : Netlist) (text : List ℕ) (list : List (List Bool)) (n : ℕ) → IsTestText c text list
+    → ¬ IsMalformedTest c text n
 never_both c text list n is malformed = elim malformed.wrong [
   | inl bad ↦ no_wrong_line c text list (record { texts = is.lines; widths = is.widths }) n bad
   | inr long ↦ omega (arith, is.short, long.long)
 ]
 
-by_length : (c : Netlist) (text : List ℕ) → ((list : List (List Bool)) × AreVectors c.inputs (lines_of text) list) ⊎ ((k : ℕ) × StopsAt c.inputs (lines_of text) k)
+by_length : (c : Netlist) (text : List ℕ) → ((list : List (List Bool)) × AreVectors c.inputs (lines_of text) list)
+    ⊎ ((k : ℕ) × StopsAt c.inputs (lines_of text) k)
     → (2 ^ 62 < length text) ⊎ (length text ≤ 2 ^ 62)
     → ((list : List (List Bool)) × IsTestText c text list) ⊎ ((n : ℕ) × IsMalformedTest c text n)
-by_length c text (inl (list, are)) (inr short) = inl (list, record { lines = are.texts; widths = are.widths; short = short })
+by_length c text (inl (list, are)) (inr short) = inl
+    (list, record { lines = are.texts; widths = are.widths; short = short })
 by_length c text (inl (list, are)) (inl long) = inr (
   line_of_byte text (2 ^ 62),
   record {
     wrong = inr (record { long = long; line = refl });
-    first = λ m below wrong. elim wrong [ inl bad ↦ no_wrong_line c text list are m bad | inr other ↦ omega (arith, below, other.line) ];
+    first = λ m below wrong. elim wrong
+        [ inl bad ↦ no_wrong_line c text list are m bad | inr other ↦ omega (arith, below, other.line) ];
   },
 )
 by_length c text (inr (k, stop)) (inr short) = inr (
   k + 1,
   record {
     wrong = inl (wrong_at c text k stop);
-    first = λ m below wrong. elim wrong [ inl bad ↦ no_wrong_before c text k m stop (omega arith) bad | inr other ↦ omega (arith, short, other.long) ];
+    first = λ m below wrong. elim wrong
+        [ inl bad ↦ no_wrong_before c text k m stop (omega arith) bad | inr other ↦ omega (arith, short, other.long) ];
   },
 )
 by_length c text (inr (k, stop)) (inl long) = elim (cases_lt (line_of_byte text (2 ^ 62)) (k + 1)) [
@@ -172,17 +192,25 @@ by_length c text (inr (k, stop)) (inl long) = elim (cases_lt (line_of_byte text 
     line_of_byte text (2 ^ 62),
     record {
       wrong = inr (record { long = long; line = refl });
-      first = λ m below wrong. elim wrong [ inl bad ↦ no_wrong_before c text k m stop (omega arith) bad | inr other ↦ omega (arith, below, other.line) ];
+      first = λ m below wrong. elim wrong [
+        | inl bad ↦ no_wrong_before c text k m stop (omega arith) bad
+        | inr other ↦ omega (arith, below, other.line)
+      ];
     },
   )
   | inr later ↦ inr (
     k + 1,
     record {
       wrong = inl (wrong_at c text k stop);
-      first = λ m below wrong. elim wrong [ inl bad ↦ no_wrong_before c text k m stop (omega arith) bad | inr other ↦ omega (arith, later, below, other.line) ];
+      first = λ m below wrong. elim wrong [
+        | inl bad ↦ no_wrong_before c text k m stop (omega arith) bad
+        | inr other ↦ omega
+            (arith, later, below, other.line)
+      ];
     },
   )
 ]
 
-pub list_or_line : (c : Netlist) (text : List ℕ) → ((list : List (List Bool)) × IsTestText c text list) ⊎ ((n : ℕ) × IsMalformedTest c text n)
+pub list_or_line : (c : Netlist) (text : List ℕ) → ((list : List (List Bool)) × IsTestText c text list)
+    ⊎ ((n : ℕ) × IsMalformedTest c text n)
 list_or_line c text = by_length c text (vectors_or_stop c.inputs (lines_of text)) (cases_lt (2 ^ 62) (length text))

@@ -1,5 +1,7 @@
--- The report of a fault simulation: a head line, a line for each fault, and the total. Each line ends with LF. A list of
--- representatives has the number of each fault's representative, from 0; a list of places has the first detection of each
+-- The report of a fault simulation: a head line, a line for each fault, and the total. Each line ends with LF. A list
+-- of
+-- representatives has the number of each fault's representative, from 0; a list of places has the first detection of
+-- each
 -- fault, where those of representatives alone are told.
 use Rattle.std.specs.Prelude.{ℕ, ◌+◌, ◌-◌, ◌^◌, ◌<◌, List, [], ◌∷◌, ◌++◌, Bool, ◌&&◌, eqb, cond, length, get_or, Option, Some, None, is_some, codes}
 use Rattle.std.specs.Fmt.{decimal}
@@ -56,7 +58,8 @@ IsSayable c (Detected place) = IsPlace c place
 -- none
 abbrev pub verdict_text : Netlist → Said → List ℕ
 verdict_text c Undetected = codes "undetected"
-verdict_text c (Detected place) = codes "detected " ++ decimal (place.vector + 1) ++ codes " " ++ output_text c place.output
+verdict_text c (Detected place) = codes "detected " ++ decimal (place.vector + 1) ++ codes " "
+    ++ output_text c place.output
 
 -- a line that is stuck at a value
 abbrev pub fault_text : Netlist → Fault → List ℕ
@@ -65,12 +68,14 @@ fault_text c fault = site_text c fault.site ++ codes " s-a-" ++ bit_code fault.v
 -- what the report says of fault i: its verdict, or the number from 1 of the representative that stands for it
 abbrev pub outcome_text : Netlist → List ℕ → ℕ → Said → List ℕ
 outcome_text c representatives i said =
-    cond (is_representative representatives i) (verdict_text c said) (codes "as " ++ decimal (get_or representatives i 0 + 1))
+    cond (is_representative representatives i) (verdict_text c said)
+    (codes "as " ++ decimal (get_or representatives i 0 + 1))
 
 -- the line of fault i, which has its number from 1
 abbrev pub fault_line : Netlist → List ℕ → ℕ → Said → List ℕ
 fault_line c representatives i said =
-    decimal (i + 1) ++ codes " " ++ fault_text c (fault_at c i) ++ codes " " ++ outcome_text c representatives i said ++ codes "\n"
+    decimal (i + 1) ++ codes " " ++ fault_text c (fault_at c i) ++ codes " " ++ outcome_text c representatives i said
+    ++ codes "\n"
 
 -- the lines of the first n faults
 abbrev pub first_lines : Netlist → List ℕ → List (Option Place) → ℕ → List ℕ
@@ -100,4 +105,5 @@ report_body c representatives places = head_line c representatives ++ fault_line
 
 abbrev pub report_text : Netlist → List ℕ → List (Option Place) → List ℕ
 report_text c representatives places =
-    report_body c representatives places ++ total_line (class_count representatives) (detected_count representatives places)
+    report_body c representatives places ++ total_line (class_count representatives)
+    (detected_count representatives places)

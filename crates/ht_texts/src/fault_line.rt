@@ -49,7 +49,8 @@ pub fn push_fault(
     requires classes { AreClasses circuit.now classes.now }
     requires fault { i < length faults.now }
     requires place { IsSayable circuit.now said }
-    ensures { OnOk result (text.new.items ≡ text.old.items ++ fault_line circuit.now classes.now i said) }
+    ensures { OnOk result
+        (text.new.items ≡ text.old.items ++ fault_line circuit.now classes.now i said) }
 {
     push_number(text, u64::from(i) + 1)?;
     text.extend_from_slice(b" ")?;
@@ -79,7 +80,8 @@ fn push_outcome(
 ) -> Result<(), AllocError>
     requires fault { i < length classes.now }
     requires place { IsSayable circuit.now said }
-    ensures { OnOk result (text.new.items ≡ text.old.items ++ outcome_text circuit.now classes.now i said) }
+    ensures { OnOk result
+        (text.new.items ≡ text.old.items ++ outcome_text circuit.now classes.now i said) }
 {
     let representative = classes.of(i);
     if representative == i {

@@ -41,7 +41,8 @@ pub fn character_of(bit: bool) -> u8
 
 // The bit of a character, or `None` where it is neither `0` nor `1`.
 fn bit_of(character: u8) -> Option<bool>
-    ensures { MatchOption result ((bit : Bool) → character ≢ bit_code bit) (λ bit. character ≡ bit_code bit) }
+    ensures { MatchOption result ((bit : Bool) → character ≢ bit_code bit)
+        (λ bit. character ≡ bit_code bit) }
 {
     match character {
         b'0' => Some(false),

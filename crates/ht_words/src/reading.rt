@@ -62,9 +62,12 @@ fn norm(alloc: Global, words: &[String]) -> Result<Job, WordsFault>
 // What `clap` makes of the words.
 fn matches_for<'a>(command: Command<'a>, words: &'a [String]) -> Result<ArgMatches<'a>, WordsFault>
     requires { is_simple_and_free (app_of command) ≡ true }
-    ensures usage { result ≡ Err fault.Usage → is_taken (app_of command.entry) (texts_of words.entry.now) ≡ false }
-    ensures taken { IfOk result (λ m. is_taken (app_of command.entry) (texts_of words.entry.now) ≡ true) }
-    ensures rows { IfOk result (λ m. rows_of (found_of m) ≡ matches_of (app_of command.entry) (texts_of words.entry.now)) }
+    ensures usage { result ≡ Err fault.Usage → is_taken (app_of command.entry)
+        (texts_of words.entry.now) ≡ false }
+    ensures taken { IfOk result (λ m. is_taken (app_of command.entry) (texts_of words.entry.now)
+        ≡ true) }
+    ensures rows { IfOk result
+        (λ m. rows_of (found_of m) ≡ matches_of (app_of command.entry) (texts_of words.entry.now)) }
 {
     match command.try_get_matches_from(words) {
         Ok(matches) => Ok(matches),
@@ -75,8 +78,10 @@ fn matches_for<'a>(command: Command<'a>, words: &'a [String]) -> Result<ArgMatch
 
 // The value of an argument.
 fn value(alloc: Global, matches: &ArgMatches<'_>, id: &str) -> Result<String, WordsFault>
-    ensures usage { result ≡ Err fault.Usage → first_of id.now (rows_of (found_of matches.now)) ≡ None }
-    ensures ok { IfOk result (λ s. first_of id.now (rows_of (found_of matches.now)) ≡ Some (string_bytes s)) }
+    ensures usage { result ≡ Err fault.Usage → first_of id.now (rows_of (found_of matches.now))
+        ≡ None }
+    ensures ok { IfOk result (λ s. first_of id.now (rows_of (found_of matches.now))
+        ≡ Some (string_bytes s)) }
 {
     match matches.get_str(id) {
         Some(text) => Ok(String::from_str(alloc, text)?),

@@ -27,7 +27,8 @@ module _ (app known : App) (is : app ≡ known) (words : List Text) (ids : List 
   refused : is_taken app words ≡ false → values_by_clap known ids words ≡ None
   refused e = ap (λ b. cond b (all_of (map (value_of known words) ids)) None) (same_taken ∙ e)
 
-  answered : (rows : List Row) → rows ≡ matches_of app words → is_taken app words ≡ true → values_by_clap known ids words ≡ values_in ids rows
+  answered : (rows : List Row) → rows ≡ matches_of app words → is_taken app words ≡ true
+      → values_by_clap known ids words ≡ values_in ids rows
   answered rows rows_are taken =
       ap (λ b. cond b (all_of (map (value_of known words) ids)) None) (same_taken ∙ taken)
       ∙ ap (λ rs. all_of (map (λ id. first_of id rs) ids)) (ap (λ a. matches_of a words) (sym is) ∙ sym rows_are)
@@ -38,7 +39,8 @@ module _ (app : App) (words : List Text) (is : app ≡ sim_app) where
   sim_refused e = ap sim_of (refused app sim_app is words sim_names e)
 
   pub sim_answered : (rows : List Row) → rows ≡ matches_of app words → is_taken app words ≡ true
-      → sim_by_clap words ≡ sim_from (first_of (codes "netlist") rows) (first_of (codes "tests") rows) (first_of (codes "report") rows)
+      → sim_by_clap words ≡ sim_from (first_of (codes "netlist") rows) (first_of (codes "tests") rows)
+      (first_of (codes "report") rows)
   unfolding sim_by_clap
   sim_answered rows rows_are taken = ap sim_of (answered app sim_app is words sim_names rows rows_are taken)
 
@@ -57,13 +59,16 @@ module _ (app : App) (words : List Text) (is : app ≡ norm_app) where
 some_is_none : {X : Type 0} (x : X) → Some x ≡ None → ⊥
 some_is_none x h = cc
 
-by_first : (ws : List (String Global)) (first : String Global) → Some first ≡ slice_get ws 0 → asked_by_clap (texts_of ws) ≡ by_clap_from (string_bytes first) (texts_of ws)
+by_first : (ws : List (String Global)) (first : String Global) → Some first ≡ slice_get ws 0
+    → asked_by_clap (texts_of ws) ≡ by_clap_from (string_bytes first) (texts_of ws)
 unfolding asked_by_clap
 by_first [] first e = absurd (some_is_none first e)
 by_first (w ∷ ws) first e =
-    ap (λ name. by_clap_from name (texts_of (w ∷ ws))) (ap (λ o. unwrap_or o (string_bytes first)) (ap (option_map (λ s. string_bytes s)) (sym e)))
+    ap (λ name. by_clap_from name (texts_of (w ∷ ws)))
+    (ap (λ o. unwrap_or o (string_bytes first)) (ap (option_map (λ s. string_bytes s)) (sym e)))
 
-named : (ws : List (String Global)) (first : String Global) → Some first ≡ slice_get ws 0 → (name : Text) → string_bytes first ≡ name → asked (texts_of ws) ≡ by_clap_from name (texts_of ws)
+named : (ws : List (String Global)) (first : String Global) → Some first ≡ slice_get ws 0 → (name : Text)
+    → string_bytes first ≡ name → asked (texts_of ws) ≡ by_clap_from name (texts_of ws)
 named ws first e name is = asked_is_by_clap ws ∙ by_first ws first e ∙ ap (λ s. by_clap_from s (texts_of ws)) is
 
 module _ (ws : List (String Global)) (first : String Global) (is : Some first ≡ slice_get ws 0) where
@@ -80,9 +85,11 @@ module _ (ws : List (String Global)) (first : String Global) (is : Some first �
       go true e = absurd (differs ((bytes_eq-Decides (string_bytes first) name).0 e))
       go false e = e
 
-  pub named_otherwise : (string_bytes first ≡ codes "sim" → ⊥) → (string_bytes first ≡ codes "norm" → ⊥) → asked (texts_of ws) ≡ None
+  pub named_otherwise : (string_bytes first ≡ codes "sim" → ⊥) → (string_bytes first ≡ codes "norm" → ⊥)
+      → asked (texts_of ws) ≡ None
   named_otherwise no_sim no_norm = named ws first is (string_bytes first) refl
-      ∙ (λ i. cond (other_name (codes "sim") no_sim i) (sim_by_clap (texts_of ws)) (cond (other_name (codes "norm") no_norm i) (norm_by_clap (texts_of ws)) None))
+      ∙ (λ i. cond (other_name (codes "sim") no_sim i) (sim_by_clap (texts_of ws))
+      (cond (other_name (codes "norm") no_norm i) (norm_by_clap (texts_of ws)) None))
 
 pub no_words : (ws : List (String Global)) → None ≡ slice_get ws 0 → asked (texts_of ws) ≡ None
 unfolding asked

@@ -24,7 +24,8 @@ rules = rules_from 1 norm_names
 -- ---- the arguments at their places
 
 past : (k : ℕ) → arg_by_index rules (suc (suc (suc k))) ≡ None
-past k = λ i. cond (ne_eqb 1 (suc (suc (suc k))) (λ e. omega arith) i) (Some (word netlist)) (cond (ne_eqb 2 (suc (suc (suc k))) (λ e. omega arith) i) (Some (word out)) None)
+past k = λ i. cond (ne_eqb 1 (suc (suc (suc k))) (λ e. omega arith) i) (Some (word netlist))
+    (cond (ne_eqb 2 (suc (suc (suc k))) (λ e. omega arith) i) (Some (word out)) None)
 
 at_place : (k : ℕ) → Finds rules (arg_by_index rules k) (place_in norm_names k)
 at_place zero = inl (refl, refl)
@@ -45,7 +46,8 @@ is_model = record { at = at_place; fits = few_places; option = λ n. inl (refl, 
 
 walks : Walks norm_app (codes "norm") norm_names
 unfolding answer
-walks name words = ap (λ k. cond (is_empty k) (Some (matches_of norm_app (name ∷ words))) None) (leaf_fault (built norm_app) nothing_held words refl)
+walks name words = ap (λ k. cond (is_empty k) (Some (matches_of norm_app (name ∷ words))) None)
+    (leaf_fault (built norm_app) nothing_held words refl)
 
 -- where each operand is at its place
 by_operands : (o : Option (List Text)) → norm_of (placed_values norm_names o) ≡ norm_of o
@@ -56,8 +58,10 @@ by_operands (Some (a ∷ [])) = refl
 by_operands (Some (a ∷ b ∷ [])) = refl
 by_operands (Some (a ∷ b ∷ c ∷ more)) = refl
 
-pub norm_is_plain : (name : Text) (words : List Text) → AreReadable words → norm_by_clap (name ∷ words) ≡ norm_of (operands words)
+pub norm_is_plain : (name : Text) (words : List Text) → AreReadable words → norm_by_clap (name ∷ words)
+    ≡ norm_of (operands words)
 unfolding norm_by_clap
 norm_is_plain name words readable =
-    ap norm_of (values_by_clap_are norm_app (codes "norm") norm_names walks is_model (refl, refl, λ a. (refl, refl, λ b. refl)) name words readable)
+    ap norm_of (values_by_clap_are norm_app (codes "norm") norm_names walks is_model
+    (refl, refl, λ a. (refl, refl, λ b. refl)) name words readable)
     ∙ by_operands (operands words)

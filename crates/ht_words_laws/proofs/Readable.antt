@@ -40,8 +40,10 @@ is_readable (b ∷ bs) u f e = go (b == 45) refl
             (first.0, ap (λ (t : Text). slice_get (chars t) 0) (sym same) ∙ first.1)
 
     go : (t : Bool) → (b == 45) ≡ t → (z : ℕ) × (slice_get (chars f) 0 ≡ Some z)
-    go false g = let bad : None ≡ Some f = ap (λ t. option_and_then short_of_rest (cond t (Some bs) None)) (sym g) ∙ e in cc
-    go true g = rest bs (after_hyphen b bs u ((Decides-eqb b 45).0 g)) (ap (λ t. option_and_then short_of_rest (cond t (Some bs) None)) (sym g) ∙ e)
+    go false g = let bad : None ≡ Some f = ap (λ t. option_and_then short_of_rest (cond t (Some bs) None)) (sym g) ∙ e
+        in cc
+    go true g = rest bs (after_hyphen b bs u ((Decides-eqb b 45).0 g))
+        (ap (λ t. option_and_then short_of_rest (cond t (Some bs) None)) (sym g) ∙ e)
 
 pub are_readable : (ws : List (String Global)) → AreReadable (texts_of ws)
 are_readable [] = tt

@@ -27,7 +27,9 @@ rules = rules_from 1 sim_names
 -- ---- the arguments at their places
 
 past : (k : ℕ) → arg_by_index rules (suc (suc (suc (suc k)))) ≡ None
-past k = λ i. cond (ne_eqb 1 (suc (suc (suc (suc k)))) (λ e. omega arith) i) (Some (word netlist)) (cond (ne_eqb 2 (suc (suc (suc (suc k)))) (λ e. omega arith) i) (Some (word tests)) (cond (ne_eqb 3 (suc (suc (suc (suc k)))) (λ e. omega arith) i) (Some (word report)) None))
+past k = λ i. cond (ne_eqb 1 (suc (suc (suc (suc k)))) (λ e. omega arith) i) (Some (word netlist))
+    (cond (ne_eqb 2 (suc (suc (suc (suc k)))) (λ e. omega arith) i) (Some (word tests))
+    (cond (ne_eqb 3 (suc (suc (suc (suc k)))) (λ e. omega arith) i) (Some (word report)) None))
 
 at_place : (k : ℕ) → Finds rules (arg_by_index rules k) (place_in sim_names k)
 at_place zero = inl (refl, refl)
@@ -50,7 +52,8 @@ is_model = record { at = at_place; fits = few_places; option = λ n. inl (refl, 
 
 walks : Walks sim_app (codes "sim") sim_names
 unfolding answer
-walks name words = ap (λ k. cond (is_empty k) (Some (matches_of sim_app (name ∷ words))) None) (leaf_fault (built sim_app) nothing_held words refl)
+walks name words = ap (λ k. cond (is_empty k) (Some (matches_of sim_app (name ∷ words))) None)
+    (leaf_fault (built sim_app) nothing_held words refl)
 
 -- where each operand is at its place
 by_operands : (o : Option (List Text)) → sim_of (placed_values sim_names o) ≡ sim_of o
@@ -62,8 +65,10 @@ by_operands (Some (a ∷ b ∷ [])) = refl
 by_operands (Some (a ∷ b ∷ c ∷ [])) = refl
 by_operands (Some (a ∷ b ∷ c ∷ d ∷ more)) = refl
 
-pub sim_is_plain : (name : Text) (words : List Text) → AreReadable words → sim_by_clap (name ∷ words) ≡ sim_of (operands words)
+pub sim_is_plain : (name : Text) (words : List Text) → AreReadable words → sim_by_clap (name ∷ words)
+    ≡ sim_of (operands words)
 unfolding sim_by_clap
 sim_is_plain name words readable =
-    ap sim_of (values_by_clap_are sim_app (codes "sim") sim_names walks is_model (refl, refl, λ a. (refl, refl, λ b. (refl, refl, λ c. refl))) name words readable)
+    ap sim_of (values_by_clap_are sim_app (codes "sim") sim_names walks is_model
+    (refl, refl, λ a. (refl, refl, λ b. (refl, refl, λ c. refl))) name words readable)
     ∙ by_operands (operands words)

@@ -13,7 +13,8 @@ impl Builder {
     /// The names that the gates of a cycle drive, the least first.
     pub(super) fn cycle_names(&self, gates: &[u32]) -> Result<Vec<NameId>, AllocError>
         requires driven { AllDriven self.now }
-        requires cycle { IsCycle (length self.now.inputs + length self.now.dffs) (draft_gates self.now) gates.now }
+        requires cycle { IsCycle (length self.now.inputs + length self.now.dffs)
+            (draft_gates self.now) gates.now }
         ensures cycle { IfOk result (λ names. IsNameCycle self.now names.items) }
         ensures least { IfOk result (λ names. BeginsWithLeast names.items) }
     {

@@ -60,7 +60,8 @@ impl Builder {
         ensures circuit { IfOk result (λ c. c ≡ circuit_of self.now) }
         ensures well_formed { IfOk result (λ c. IsCircuit c) }
         ensures named { IfOk result (λ c. named_of c ≡ named_draft self.now) }
-        ensures fault { IfErr result (IsWalkFault (length self.now.inputs + length self.now.dffs) (draft_gates self.now)) }
+        ensures fault { IfErr result
+            (IsWalkFault (length self.now.inputs + length self.now.dffs) (draft_gates self.now)) }
     {
         let inputs = self.inputs.len() as u32;
         let dffs = self.data_nets()?;
@@ -88,7 +89,8 @@ impl Builder {
 
     /// The nets of names.
     fn nets_of(&self, names: &[NameId]) -> Result<Vec<NetId>, AllocError>
-        requires named { (i : ℕ) → i < length names.now → IsName self.now (get_or names.now i no_name) }
+        requires named { (i : ℕ) → i < length names.now
+            → IsName self.now (get_or names.now i no_name) }
         requires driven { AllDriven self.now }
         ensures { IfOk result (λ nets. nets.items ≡ map (net_of self.now) names.now) }
     {
@@ -156,7 +158,8 @@ impl Builder {
 
     /// The name of each net.
     fn net_names(&self) -> Result<Vec<Vec<u8>>, AllocError>
-        ensures { IfOk result (λ names. map (λ (v : Vec ℕ Global). v.items) names.items ≡ (circuit_of self.now).names) }
+        ensures { IfOk result (λ names. map (λ (v : Vec ℕ Global). v.items) names.items
+            ≡ (circuit_of self.now).names) }
     {
         let mut names = Vec::new(self.alloc);
         for name in &self.driven_names()? {

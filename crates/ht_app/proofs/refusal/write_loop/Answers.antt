@@ -12,5 +12,6 @@ returns-in_err-write_all-clause-failed g c =
 pub returns-in_err-write_names-clause-failed : goal.returns-in_err-write_names-clause-failed
 returns-in_err-write_names-clause-failed g c =
     let first = c.in_ok-write_all.ensures in
-    let part = part_after Err (codes "loop") (loop_text c.args.names.now) _ _ _ first.frame first.added c.in_err-write_names.ensures.failed in
+    let part = part_after Err (codes "loop") (loop_text c.args.names.now) _ _ _ first.frame first.added
+    c.in_err-write_names.ensures.failed in
     search (rules, part)

@@ -9,11 +9,13 @@ use Rattle.ht_app.proofs.refusal.write_names.Goals as goal
 
 -- the names up to one, that name, and the names behind it
 split : (names : List (Vec ℕ Global)) (k : ℕ) (d : Vec ℕ Global) → k < length names
-    → loop_text names ≡ loop_text (take k names) ++ ((codes " " ++ (get_or names k d).items) ++ loop_text (drop (suc k) names))
+    → loop_text names ≡ loop_text (take k names)
+    ++ ((codes " " ++ (get_or names k d).items) ++ loop_text (drop (suc k) names))
 split [] k d lt = absurd (omega arith)
 split (name ∷ names) zero d lt = refl
 split (name ∷ names) (suc k) d lt =
-    ap (λ l. (codes " " ++ name.items) ++ l) (split names k d (omega arith)) ∙ sym (append_assoc (codes " " ++ name.items) (loop_text (take k names)) _)
+    ap (λ l. (codes " " ++ name.items) ++ l) (split names k d (omega arith)) ∙ sym
+    (append_assoc (codes " " ++ name.items) (loop_text (take k names)) _)
 
 pub returns-in_err-write_pair-clause-failed : goal.returns-in_err-write_pair-clause-failed
 returns-in_err-write_pair-clause-failed g c =
@@ -25,8 +27,11 @@ returns-in_err-write_pair-clause-failed g c =
     let behind = loop_text (drop (suc k) names) in
     let part = part_after Err (loop_text (take k names)) (text ++ behind) _ _ _ before.frame before.added
     (part_before Err text behind _ _ c.in_err-write_pair.ensures.failed) in
-    let one : text ≡ codes " " ++ (get_or names k name).items = ap (λ l. codes " " ++ l) (c.deref.ensures.value ∙ ap (λ (v : Vec ℕ Global). v.items) c.name-item.is) in
+    let one : text ≡ codes " " ++ (get_or names k name).items = ap (λ l. codes " " ++ l)
+    (c.deref.ensures.value ∙ ap (λ (v : Vec ℕ Global). v.items) c.name-item.is) in
     let all : loop_text (take k names) ++ (text ++ behind) ≡ loop_text names =
-    ap (λ (l : List ℕ). loop_text (take k names) ++ (l ++ behind)) one ∙ sym (split names k name c.loop-name-test.true) in
-    let whole = subst (λ (l : List ℕ). AddedPart Err l (g.D.Desk.view c.args.desk.now) (g.D.Desk.view c.write_pair.new.desk)) all part in
+    ap (λ (l : List ℕ). loop_text (take k names) ++ (l ++ behind)) one ∙ sym (split names k name c.loop-name-test.true)
+    in
+    let whole = subst (λ (l : List ℕ). AddedPart Err l (g.D.Desk.view c.args.desk.now)
+    (g.D.Desk.view c.write_pair.new.desk)) all part in
     search (rules, whole)

@@ -8,5 +8,6 @@ returns-in_err-write_text-clause-cut g c =
     let a = g.D.Desk.view c.args.desk.now in
     let m = g.D.Desk.view c.create.new.self in
     let b = g.D.Desk.view c.write_text.new.desk in
-    let cut : IsCutShort c.args.text.now a b = cut_later [] c.args.text.now a m b c.in_default.ensures.created.written c.in_err-write_text.ensures.part in
+    let cut : IsCutShort c.args.text.now a b = cut_later [] c.args.text.now a m b c.in_default.ensures.created.written
+    c.in_err-write_text.ensures.part in
     search (rules, cut)

@@ -11,7 +11,8 @@ pub returns-in_err-begin_report-clause-begun : goal.returns-in_err-begin_report-
 returns-in_err-begin_report-clause-begun g c =
     let a = g.D.Desk.view c.args.desk.now in
     let b = g.D.Desk.view c.begin_report.new.desk in
-    let none : IsBegunOn Out c.args.total.now a b = record { count = 0; front = c.in_err-begin_report.ensures.nothing_out ∙ sym (append_known_nil (a.written Out)) } in
+    let none : IsBegunOn Out c.args.total.now a b = record
+    { count = 0; front = c.in_err-begin_report.ensures.nothing_out ∙ sym (append_known_nil (a.written Out)) } in
     search (rules, none)
 
 -- the whole total line was
@@ -35,7 +36,8 @@ pub returns-in_err-begin_report-clause-cut : goal.returns-in_err-begin_report-cl
 returns-in_err-begin_report-clause-cut g c =
     let a = g.D.Desk.view c.args.desk.now in
     let b = g.D.Desk.view c.begin_report.new.desk in
-    let cut : IsCutShort (c.args.body.now ++ c.args.total.now) a b = cut_before c.args.body.now c.args.total.now a b c.in_err-begin_report.ensures.cut in
+    let cut : IsCutShort (c.args.body.now ++ c.args.total.now) a b = cut_before c.args.body.now c.args.total.now a b
+    c.in_err-begin_report.ensures.cut in
     search (rules, cut)
 
 pub returns-in_err-write_text-clause-cut : goal.returns-in_err-write_text-clause-cut
@@ -43,7 +45,8 @@ returns-in_err-write_text-clause-cut g c =
     let a = g.D.Desk.view c.args.desk.now in
     let m = g.D.Desk.view c.begin_report.new.desk in
     let b = g.D.Desk.view c.write_text.new.desk in
-    let cut : IsCutShort (c.args.body.now ++ c.args.total.now) a b = cut_between c.args.body.now c.args.total.now a m b c.requires c.in_ok-begin_report.ensures.begun.written
+    let cut : IsCutShort (c.args.body.now ++ c.args.total.now) a b = cut_between c.args.body.now c.args.total.now a m b
+    c.requires c.in_ok-begin_report.ensures.begun.written
     (c.in_err-write_text.ensures.frame.call.others_written Report (λ e. cc)) in
     search (rules, cut)
 
@@ -53,5 +56,6 @@ returns-in_err-write_text-2-clause-cut g c =
     let m = g.D.Desk.view c.write_text.new.desk in
     let b = g.D.Desk.view c.write_text-2.new.desk in
     let same = c.in_ok-write_text.ensures.frame.call.others_written Report (λ e. cc) in
-    let cut : IsCutShort (c.args.body.now ++ c.args.total.now) a b = cut_later c.args.body.now c.args.total.now a m b (same ∙ c.in_ok-begin_report.ensures.begun.written) c.in_err-write_text-2.ensures.part in
+    let cut : IsCutShort (c.args.body.now ++ c.args.total.now) a b = cut_later c.args.body.now c.args.total.now a m b
+    (same ∙ c.in_ok-begin_report.ensures.begun.written) c.in_err-write_text-2.ensures.part in
     search (rules, cut)

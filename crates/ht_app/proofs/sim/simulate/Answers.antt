@@ -10,7 +10,10 @@ returns-in_err-circuit-clause-cause g c =
     let a = g.D.Desk.view c.args.desk.now in
     let m = g.D.Desk.view c.read_netlist.new.desk in
     let cause : SimulateCause c.args.netlist.now c.args.tests.now a m c.in_err-circuit.field-0.0 =
-    record { cause = λ report. netlist_cause (sim c.args.netlist.now c.args.tests.now report) a m c.in_err-circuit.field-0.0 c.in_err-circuit.ensures.cause } in
+    record {
+      cause = λ report. netlist_cause (sim c.args.netlist.now c.args.tests.now report) a m
+          c.in_err-circuit.field-0.0 c.in_err-circuit.ensures.cause;
+    } in
     search (rules, cause)
 
 pub returns-in_err-list-clause-cause : goal.returns-in_err-list-clause-cause
@@ -22,7 +25,10 @@ returns-in_err-list-clause-cause g c =
     let read = c.in_ok-circuit.ensures in
     let accepts = accepts_netlist c.args.netlist.now circuit a read.there read.circuit in
     let cause : SimulateCause c.args.netlist.now c.args.tests.now a b c.in_err-list.field-0.0 =
-    record { cause = λ report. tests_cause c.args.netlist.now c.args.tests.now report circuit a m b c.in_err-list.field-0.0 read.frame read.circuit accepts c.in_err-list.ensures.cause } in
+    record {
+      cause = λ report. tests_cause c.args.netlist.now c.args.tests.now report circuit a m b
+          c.in_err-list.field-0.0 read.frame read.circuit accepts c.in_err-list.ensures.cause;
+    } in
     search (rules, cause)
 
 pub returns-clause-inputs : goal.returns-clause-inputs
@@ -37,7 +43,11 @@ returns-clause-inputs g c =
       accepted = λ n t both. (
         circuit,
         read.circuit n both.netlist_is,
-        (c.in_ok-list.list.list, c.in_ok-list.ensures.list t (input_later c.args.tests.now t a m read.frame both.tests_is)),
+        (
+          c.in_ok-list.list.list,
+          c.in_ok-list.ensures.list t
+              (input_later c.args.tests.now t a m read.frame both.tests_is),
+        ),
       );
     }
 

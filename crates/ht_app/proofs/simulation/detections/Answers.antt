@@ -19,9 +19,15 @@ loop-i-preserved c =
     let i = c.loop-i.i in
     let places = c.loop-i.places.items in
     let place = c.in_ok-place.place in
-    let first = subst (λ (s : TestSession). IsFirstDetection s.circuit (fault_at s.circuit i) s.list place) c.in_ok-good.ensures c.in_ok-place.ensures in
+    let first = subst (λ (s : TestSession). IsFirstDetection s.circuit (fault_at s.circuit i) s.list place)
+    c.in_ok-good.ensures c.in_ok-place.ensures in
     let more = one_more circuit list places place i c.loop-i.invariant.so_far c.loop-i.invariant.count first in
     record {
-      count = omega (arith, ap length c.in_ok-push.ensures.items, length-append places (place ∷ []), c.loop-i.invariant.count);
+      count = omega (
+        arith,
+        ap length c.in_ok-push.ensures.items,
+        length-append places (place ∷ []),
+        c.loop-i.invariant.count,
+      );
       so_far = subst (AreFirstSoFar circuit list) (sym c.in_ok-push.ensures.items) more;
     }

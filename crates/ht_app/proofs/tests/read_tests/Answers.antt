@@ -20,11 +20,14 @@ lines-init g c =
     let lines = c.in_ok-lines.lines in
     let made = c.in_ok-lines.ensures in
     let desk = g.D.Desk.view c.open.new.self in
-    let rest : (text : List ℕ) → desk.left Tests ≡ Some text → rest_of lines desk ≡ Some text = λ text is. ap (λ l. rest_of l desk) made ∙ ap (prepend_known []) is in
+    let rest : (text : List ℕ) → desk.left Tests ≡ Some text → rest_of lines desk
+    ≡ Some text = λ text is. ap (λ l. rest_of l desk) made ∙ ap (prepend_known []) is in
     let none : c.new-list.result.list ≡ [] = ap (λ v. v.list) c.new-list.ensures in
     let start : (text : List ℕ) → SoFar c.args.circuit.now text lines.passed c.new-list.result.list text =
-    λ text. subst (λ (n : ℕ). SoFar c.args.circuit.now text n c.new-list.result.list text) (sym (ap (λ l. l.passed) made))
-    (subst (λ (d : List (List Bool)). SoFar c.args.circuit.now text 0 d text) (sym none) (so_far_start c.args.circuit.now text)) in
+    λ text. subst (λ (n : ℕ). SoFar c.args.circuit.now text n c.new-list.result.list text)
+    (sym (ap (λ l. l.passed) made))
+    (subst (λ (d : List (List Bool)). SoFar c.args.circuit.now text 0 d text) (sym none)
+    (so_far_start c.args.circuit.now text)) in
     record {
       port = ap (λ l. l.port) made;
       most = ap (λ l. l.most) made;
@@ -50,13 +53,16 @@ read_call : (port : InPort) (a b c : DeskView) → port ≡ Tests → InCall Tes
 read_call port a b c same p q = in_call_trans Tests a b c p (subst (λ (o : InPort). Reads o b c) same q).call
 
 -- the list so far, one line later
-more : (c : Netlist) (name line : List ℕ) (list : List (List Bool)) (vector : List Bool) (first a b : DeskView) (old new : LinesView)
-    → ((text : List ℕ) → IsInput Tests name text first → (rest : List ℕ) × (rest_of old a ≡ Some rest) × SoFar c text old.passed list rest)
+more : (c : Netlist) (name line : List ℕ) (list : List (List Bool)) (vector : List Bool) (first a b : DeskView)
+    (old new : LinesView)
+    → ((text : List ℕ) → IsInput Tests name text first → (rest : List ℕ) × (rest_of old a ≡ Some rest)
+    × SoFar c text old.passed list rest)
     → Gives line old new a b → IsTextOf c.inputs line vector → (text : List ℕ) → IsInput Tests name text first
     → (rest : List ℕ) × (rest_of new b ≡ Some rest) × SoFar c text new.passed (list ++ vector ∷ []) rest
 more c name line list vector first a b old new so gives of text is =
     let before = so text is in
-    let after = so_far_next c text old.passed list before.0 line gives.count (rest_of new b) vector before.2 (subst (λ (r : Option (List ℕ)). NextLine line gives.count r (rest_of new b)) before.1 gives.next) of in
+    let after = so_far_next c text old.passed list before.0 line gives.count (rest_of new b) vector before.2
+    (subst (λ (r : Option (List ℕ)). NextLine line gives.count r (rest_of new b)) before.1 gives.next) of in
     (after.0, after.1, subst (λ (n : ℕ). SoFar c text n (list ++ vector ∷ []) after.0) (sym gives.passed) after.2)
 
 pub lines-preserved : goal.lines-preserved
@@ -66,13 +72,16 @@ lines-preserved g c =
     let a = g.D.Desk.view c.lines.desk in
     let b = g.D.Desk.view c.next.new.desk in
     let next : Next c.lines.lines after a b c.next.result = c.next.follows.holds-at-none in
-    let gives = next_some c.lines.lines after a b c.next.result _ c.in-Ok-Some.line next c.in-Ok-Some.is c.in-Ok-Some.field-0-is in
+    let gives = next_some c.lines.lines after a b c.next.result _ c.in-Ok-Some.line next c.in-Ok-Some.is
+    c.in-Ok-Some.field-0-is in
     let port : after.port ≡ Tests = next.port ∙ before.port in
     let reads = c.in-Ok-Some.ensures.frame in
     let lives : after.live ≡ true = next.live ∙ ap is_ok c.in-Ok-Some.is in
     let live : IsTrue after.live = search rules in
-    let open_now : IsTrue (b.is_open Tests) = subst (λ (f : InPort → Bool). IsTrue (f Tests)) (sym reads.is_open) before.open_now in
-    let taken : (vector : List Bool) × IsTextOf c.lines.list.width c.in-Ok-Some.line.now vector × (c.push_line.new.list.list ≡ c.lines.list.list ++ vector ∷ []) = search rules in
+    let open_now : IsTrue (b.is_open Tests) = subst (λ (f : InPort → Bool). IsTrue (f Tests)) (sym reads.is_open)
+    before.open_now in
+    let taken : (vector : List Bool) × IsTextOf c.lines.list.width c.in-Ok-Some.line.now vector
+    × (c.push_line.new.list.list ≡ c.lines.list.list ++ vector ∷ []) = search rules in
     record {
       port = port;
       most = next.most ∙ before.most;
@@ -81,13 +90,25 @@ lines-preserved g c =
       frame = read_call c.lines.lines.port _ a b before.port before.frame reads;
       there = before.there;
       fits = gives.fits;
-      counted = omega (arith, ap length taken.2, length-append c.lines.list.list (taken.0 ∷ []), before.counted, gives.given);
+      counted = omega (
+        arith,
+        ap length taken.2,
+        length-append c.lines.list.list (taken.0 ∷ []),
+        before.counted,
+        gives.given,
+      );
       below = omega (arith, gives.given, gives.passed, gives.some, before.below);
       width = search (rules, before.width);
       so_far = λ text is.
-          let of : IsTextOf c.args.circuit.now.inputs c.in-Ok-Some.line.now taken.0 = subst (λ (w : ℕ). IsTextOf w c.in-Ok-Some.line.now taken.0) before.width taken.1 in
-          let all = more c.args.circuit.now c.args.name.now c.in-Ok-Some.line.now c.lines.list.list taken.0 (g.D.Desk.view c.args.desk.now) a b c.lines.lines after before.so_far gives of text is in
-          (all.0, all.1, subst (λ (l : List (List Bool)). SoFar c.args.circuit.now text after.passed l all.0) (sym taken.2) all.2);
+          let of : IsTextOf c.args.circuit.now.inputs c.in-Ok-Some.line.now taken.0 = subst
+          (λ (w : ℕ). IsTextOf w c.in-Ok-Some.line.now taken.0) before.width taken.1 in
+          let all = more c.args.circuit.now c.args.name.now c.in-Ok-Some.line.now c.lines.list.list taken.0
+          (g.D.Desk.view c.args.desk.now) a b c.lines.lines after before.so_far gives of text is in (
+            all.0,
+            all.1,
+            subst (λ (l : List (List Bool)). SoFar c.args.circuit.now text after.passed l all.0)
+                (sym taken.2) all.2,
+          );
     }
 
 pub returns-then-not-branch-clause-cause : goal.returns-then-not-branch-clause-cause
@@ -97,18 +118,22 @@ returns-then-not-branch-clause-cause g c =
     let a = g.D.Desk.view c.lines.desk in
     let b = g.D.Desk.view c.next.new.desk in
     let next : Next c.lines.lines after a b c.next.result = c.next.follows.holds-at-none in
-    let gives = next_some c.lines.lines after a b c.next.result _ c.in-Ok-Some.line next c.in-Ok-Some.is c.in-Ok-Some.field-0-is in
-    let refused : (c.push_line.new.list ≡ c.lines.list) × ((vector : List Bool) → ¬ IsTextOf c.lines.list.width c.in-Ok-Some.line.now vector) = search rules in
+    let gives = next_some c.lines.lines after a b c.next.result _ c.in-Ok-Some.line next c.in-Ok-Some.is
+    c.in-Ok-Some.field-0-is in
+    let refused : (c.push_line.new.list ≡ c.lines.list)
+    × ((vector : List Bool) → ¬ IsTextOf c.lines.list.width c.in-Ok-Some.line.now vector) = search rules in
     let at : c.len.result ≡ length c.lines.list.list = c.len.ensures ∙ ap (λ v. length v.list) refused.0 in
     record {
       there = before.there;
       cause = λ text is.
           let so = before.so_far text is in
-          let step = subst (λ (r : Option (List ℕ)). NextLine c.in-Ok-Some.line.now gives.count r (rest_of after b)) so.1 gives.next in
+          let step = subst (λ (r : Option (List ℕ)). NextLine c.in-Ok-Some.line.now gives.count r (rest_of after b))
+          so.1 gives.next in
           let none : (vector : List Bool) → ¬ IsTextOf c.args.circuit.now.inputs c.in-Ok-Some.line.now vector =
           subst (λ (w : ℕ). (vector : List Bool) → ¬ IsTextOf w c.in-Ok-Some.line.now vector) before.width refused.1 in
           subst (λ (n : ℕ). IsMalformedTest c.args.circuit.now text (n + 1)) (sym at)
-          (bad_line c.args.circuit.now text c.lines.lines.passed c.lines.list.list so.0 c.in-Ok-Some.line.now gives.count (rest_of after b) so.2 before.fits gives.some step none);
+          (bad_line c.args.circuit.now text c.lines.lines.passed c.lines.list.list so.0 c.in-Ok-Some.line.now
+          gives.count (rest_of after b) so.2 before.fits gives.some step none);
     }
 
 pub returns-in-Ok-None-clause-list : goal.returns-in-Ok-None-clause-list
@@ -133,7 +158,8 @@ returns-in-Err-TooLong-clause-cause g c =
       there = before.there;
       cause = λ text is.
           let so = before.so_far text is in
-          let long : IsTooLongLine 4096 c.lines.lines.passed so.0 = subst (λ (m : ℕ). IsTooLongLine m c.lines.lines.passed so.0) before.most (cause.1 so.0 so.1) in
+          let long : IsTooLongLine 4096 c.lines.lines.passed so.0 = subst
+          (λ (m : ℕ). IsTooLongLine m c.lines.lines.passed so.0) before.most (cause.1 so.0 so.1) in
           subst (λ (n : ℕ). IsMalformedTest c.args.circuit.now text n) (omega (arith, cause.0, before.counted))
           (too_long c.args.circuit.now text c.lines.lines.passed c.lines.list.list so.0 so.2 before.fits few long);
     }

@@ -18,7 +18,8 @@ invariant-lines g l = record {
   counted : length l.list.list ≡ l.lines.given;
   below : l.lines.given ≤ l.lines.passed;
   width : l.list.width ≡ l.circuit.inputs;
-  so_far : (text : List ℕ) → IsInput Tests l.name text (g.D.Desk.view l.fn.desk) → (rest : List ℕ) × (rest_of l.lines (g.D.Desk.view l.desk) ≡ Some rest) × SoFar l.circuit text l.lines.passed l.list.list rest;
+  so_far : (text : List ℕ) → IsInput Tests l.name text (g.D.Desk.view l.fn.desk) → (rest : List ℕ)
+      × (rest_of l.lines (g.D.Desk.view l.desk) ≡ Some rest) × SoFar l.circuit text l.lines.passed l.list.list rest;
 }
 
 abbrev pub decreases-lines : goal.decreases-lines

@@ -11,4 +11,6 @@ returns-in-Nothing-clause-accepts c = rw c.in-Nothing.is (nothing_accepted c.arg
 pub returns-in-Gate-clause-accepts : goal.returns-in-Gate-clause-accepts
 returns-in-Gate-clause-accepts c =
     rw c.in-Gate.is
-    (subst (λ args. OnOk c.add_gate.result (Accepts c.args.table.now.builder (Gate c.in-Gate.out.now c.in-Gate.kind (texts_of args)) c.add_gate.new.table.builder)) c.deref.ensures.value c.add_gate.ensures.accepts)
+    (subst (λ args. OnOk c.add_gate.result
+    (Accepts c.args.table.now.builder (Gate c.in-Gate.out.now c.in-Gate.kind (texts_of args))
+    c.add_gate.new.table.builder)) c.deref.ensures.value c.add_gate.ensures.accepts)

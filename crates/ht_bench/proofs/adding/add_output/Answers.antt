@@ -7,17 +7,22 @@ use Rattle.ht_bench.proofs.adding.add_output.Goals as goal
 pub returns-in_err-id-clause-refusal : goal.returns-in_err-id-clause-refusal
 returns-in_err-id-clause-refusal c =
     let p = err_from_is_err_and c.from_residual.result c.from_residual.ensures.1 in
-    rw (p.1, p.2) (output_refused c.args.table.now.builder c.args.name.now c.in_err-id.field-0.0 c.in_err-id.ensures.refusal)
+    rw (p.1, p.2) (output_refused c.args.table.now.builder c.args.name.now c.in_err-id.field-0.0
+    c.in_err-id.ensures.refusal)
 
 pub returns-in_err-output-clause-refusal : goal.returns-in_err-output-clause-refusal
 returns-in_err-output-clause-refusal c =
     let p = err_from_is_err_and c.from_residual-in_err-output.result c.from_residual-in_err-output.ensures.1 in
-    rw (p.1, p.2) (only_memory c.args.table.now.builder (Output c.args.name.now) c.in_err-output.field-0.0 c.in_err-output.ensures.refusal)
+    rw (p.1, p.2) (only_memory c.args.table.now.builder (Output c.args.name.now) c.in_err-output.field-0.0
+    c.in_err-output.ensures.refusal)
 
 pub returns-clause-accepts : goal.returns-clause-accepts
 returns-clause-accepts c =
-    output_accepted c.args.table.now.builder c.mention.new.table.builder c.output.new.self c.in_ok-id.id c.args.name.now c.in_ok-id.ensures.mentions c.in_ok-id.ensures.number c.in_ok-output.ensures.known c.in_ok-output.ensures.new
+    output_accepted c.args.table.now.builder c.mention.new.table.builder c.output.new.self c.in_ok-id.id c.args.name.now
+    c.in_ok-id.ensures.mentions c.in_ok-id.ensures.number c.in_ok-output.ensures.known c.in_ok-output.ensures.new
 
 pub returns-clause-names : goal.returns-clause-names
 returns-clause-names c = λ are.
-    c.in_ok-id.ensures.names are ∙ sym (outputs_keep_names c.mention.new.table.builder c.output.new.self c.in_ok-id.id c.in_ok-output.ensures.known c.in_ok-output.ensures.new)
+    c.in_ok-id.ensures.names are ∙ sym
+    (outputs_keep_names c.mention.new.table.builder c.output.new.self c.in_ok-id.id c.in_ok-output.ensures.known
+    c.in_ok-output.ensures.new)

@@ -5,13 +5,15 @@ use Rattle.ht_bench.proofs.again.is_one_of.Goals as goal
 pub returns-then-eq : goal.returns-then-eq
 returns-then-eq c =
     let within : c.loop-other.other-index < length c.args.names.now = omega arith in
-    let there = one_is c.args.names.now c.loop-other.other-index (record { ref_ptr = (0, 0); now = [] }) within c.args.name.now (search rules) in
+    let there = one_is c.args.names.now c.loop-other.other-index (record { ref_ptr = (0, 0); now = [] }) within
+    c.args.name.now (search rules) in
     (λ yes. there, λ c'. refl)
 
 pub loop-other-preserved : goal.loop-other-preserved
 loop-other-preserved c =
     let within : c.loop-other.other-index < length c.args.names.now = omega arith in
-    one_more_is_not c.args.names.now c.loop-other.other-index (record { ref_ptr = (0, 0); now = [] }) within c.args.name.now c.loop-other.invariant (search rules)
+    one_more_is_not c.args.names.now c.loop-other.other-index (record { ref_ptr = (0, 0); now = [] }) within
+    c.args.name.now c.loop-other.invariant (search rules)
 
 pub returns : goal.returns
 returns c =

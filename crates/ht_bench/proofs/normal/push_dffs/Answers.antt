@@ -15,4 +15,5 @@ loop-dff-preserved c =
     let pin = c.name-in-loop-dff.ensures in
     let is_written : get_or (named_dffs circuit circuit.inputs circuit.dffs) place no_named_dff ≡ written = cc in
     adds_line dff_statement (named_dffs circuit circuit.inputs circuit.dffs) place no_named_dff written _ _ _
-    (omega (arith, named_dffs_count circuit circuit.inputs circuit.dffs)) is_written c.loop-dff.invariant c.in_ok-push_dff.ensures
+    (omega (arith, named_dffs_count circuit circuit.inputs circuit.dffs)) is_written c.loop-dff.invariant
+    c.in_ok-push_dff.ensures

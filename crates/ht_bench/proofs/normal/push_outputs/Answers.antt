@@ -11,5 +11,7 @@ loop-output-preserved c =
     let circuit = c.args.circuit.now in
     let place = c.loop-output.output in
     let is_named = get_or-map (name_of circuit) circuit.outputs place no_net [] (omega arith) in
-    adds_line Output (map (name_of circuit) circuit.outputs) place [] c.name.result.now _ _ _ (omega (arith, length-map circuit.outputs (name_of circuit)))
-    (is_named ∙ ap (name_of circuit) (sym c.output-net.ensures) ∙ sym c.name.ensures) c.loop-output.invariant c.in_ok-push_output.ensures
+    adds_line Output (map (name_of circuit) circuit.outputs) place [] c.name.result.now _ _ _
+    (omega (arith, length-map circuit.outputs (name_of circuit)))
+    (is_named ∙ ap (name_of circuit) (sym c.output-net.ensures) ∙ sym c.name.ensures) c.loop-output.invariant
+    c.in_ok-push_output.ensures

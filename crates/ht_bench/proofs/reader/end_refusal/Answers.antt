@@ -8,32 +8,46 @@ use Rattle.ht_bench.proofs.reader.end_refusal.Goals as goal
 pub first_line-requires-clause-has : goal.first_line-requires-clause-has
 first_line-requires-clause-has c =
     let free = rw c.in-Undriven.is at c.requires.refused in
-    let is = name_read c.args.table.now.names.items c.args.table.now.builder.names c.in-Undriven.name.0 c.index-name.result.now c.requires.names free.0 c.index-name.ensures in
-    subst (HasNet c.args.text.now Mentioned) (sym is) (net_is_mentioned c.args.text.now c.args.table.now.builder c.requires.read c.in-Undriven.name free.0)
+    let is = name_read c.args.table.now.names.items c.args.table.now.builder.names c.in-Undriven.name.0
+    c.index-name.result.now c.requires.names free.0 c.index-name.ensures in
+    subst (HasNet c.args.text.now Mentioned) (sym is)
+    (net_is_mentioned c.args.text.now c.args.table.now.builder c.requires.read c.in-Undriven.name free.0)
 
 pub returns-in_ok-name-in-Undriven : goal.returns-in_ok-name-in-Undriven
 returns-in_ok-name-in-Undriven c =
     let free = rw c.in-Undriven.is at c.requires.refused in
-    let is = name_read c.args.table.now.names.items c.args.table.now.builder.names c.in-Undriven.name.0 c.index-name.result.now c.requires.names free.0 c.index-name.ensures in
-    let first = subst (λ n. IsFirstLine c.args.text.now Mentioned n c.in_ok-line-in-Undriven.line) is c.in_ok-line-in-Undriven.ensures in
+    let is = name_read c.args.table.now.names.items c.args.table.now.builder.names c.in-Undriven.name.0
+    c.index-name.result.now c.requires.names free.0 c.index-name.ensures in
+    let first = subst (λ n. IsFirstLine c.args.text.now Mentioned n c.in_ok-line-in-Undriven.line) is
+    c.in_ok-line-in-Undriven.ensures in
     subst (IsUndriven c.args.text.now c.in_ok-line-in-Undriven.line) (sym (c.in_ok-name-in-Undriven.ensures.items ∙ is))
-    (undriven_is c.args.text.now c.args.table.now.builder c.requires.read c.in-Undriven.name free c.in_ok-line-in-Undriven.line first)
+    (undriven_is c.args.text.now c.args.table.now.builder c.requires.read c.in-Undriven.name free
+    c.in_ok-line-in-Undriven.line first)
 
 pub names_of-requires : goal.names_of-requires
 names_of-requires c =
     let refused = rw c.in-Loop.is at c.requires.refused in
-    known_nets c.args.text.now c.args.table.now.builder c.requires.read c.in-Loop.nets.items refused.1 c.deref-in-Loop.result.now c.deref.result.now c.args.table.now.names.items
+    known_nets c.args.text.now c.args.table.now.builder c.requires.read c.in-Loop.nets.items refused.1
+    c.deref-in-Loop.result.now c.deref.result.now c.args.table.now.names.items
     c.deref-in-Loop.ensures.value c.deref.ensures.value c.requires.names
 
 pub first_line-requires-in-Loop-clause-has : goal.first_line-requires-in-Loop-clause-has
 first_line-requires-in-Loop-clause-has c =
     let refused = rw c.in-Loop.is at c.requires.refused in
-    let names = copied_names c.args.table.now.builder c.deref.result.now c.args.table.now.names.items c.in-Loop.nets.items c.deref-in-Loop.result.now (texts_in c.in_ok-names-in-Loop.names.items) c.in_ok-names-in-Loop.ensures c.deref.ensures.value c.requires.names c.deref-in-Loop.ensures.value in
-    first_is_driven c.args.text.now c.args.table.now.builder c.requires.read c.in-Loop.nets.items refused.1 c.in_ok-names-in-Loop.names.items c.index.result.now c.deref-in-Loop-2.result.now refused.0 refused.2 names c.index.ensures c.deref-in-Loop-2.ensures.value
+    let names = copied_names c.args.table.now.builder c.deref.result.now c.args.table.now.names.items
+    c.in-Loop.nets.items c.deref-in-Loop.result.now (texts_in c.in_ok-names-in-Loop.names.items)
+    c.in_ok-names-in-Loop.ensures c.deref.ensures.value c.requires.names c.deref-in-Loop.ensures.value in
+    first_is_driven c.args.text.now c.args.table.now.builder c.requires.read c.in-Loop.nets.items refused.1
+    c.in_ok-names-in-Loop.names.items c.index.result.now c.deref-in-Loop-2.result.now refused.0 refused.2 names
+    c.index.ensures c.deref-in-Loop-2.ensures.value
 
 pub returns-in_ok-line-in-Loop : goal.returns-in_ok-line-in-Loop
 returns-in_ok-line-in-Loop c =
     let refused = rw c.in-Loop.is at c.requires.refused in
-    let names = copied_names c.args.table.now.builder c.deref.result.now c.args.table.now.names.items c.in-Loop.nets.items c.deref-in-Loop.result.now (texts_in c.in_ok-names-in-Loop.names.items) c.in_ok-names-in-Loop.ensures c.deref.ensures.value c.requires.names c.deref-in-Loop.ensures.value in
-    loop_found c.args.text.now c.args.table.now.builder c.requires.read c.in-Loop.nets.items refused.1 c.in_ok-names-in-Loop.names.items c.index.result.now c.deref-in-Loop-2.result.now refused.0 refused.2 names c.index.ensures c.deref-in-Loop-2.ensures.value
+    let names = copied_names c.args.table.now.builder c.deref.result.now c.args.table.now.names.items
+    c.in-Loop.nets.items c.deref-in-Loop.result.now (texts_in c.in_ok-names-in-Loop.names.items)
+    c.in_ok-names-in-Loop.ensures c.deref.ensures.value c.requires.names c.deref-in-Loop.ensures.value in
+    loop_found c.args.text.now c.args.table.now.builder c.requires.read c.in-Loop.nets.items refused.1
+    c.in_ok-names-in-Loop.names.items c.index.result.now c.deref-in-Loop-2.result.now refused.0 refused.2 names
+    c.index.ensures c.deref-in-Loop-2.ensures.value
     c.in_ok-line-in-Loop.line c.in_ok-line-in-Loop.ensures

@@ -4,4 +4,5 @@ use Rattle.ht_statement.specs.Normal.{arguments_text}
 use Rattle.ht_bench.proofs.spell.push_arguments.Given as goal
 
 abbrev pub invariant-loop-place : goal.invariant-loop-place
-invariant-loop-place l = l.text.items ≡ l.initial.text.items ++ arguments_text (map (name_of l.circuit) (take l.place l.args))
+invariant-loop-place l = l.text.items ≡ l.initial.text.items
+    ++ arguments_text (map (name_of l.circuit) (take l.place l.args))

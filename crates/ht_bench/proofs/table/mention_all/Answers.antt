@@ -8,16 +8,20 @@ returns-in_err-mention-clause-refusal c =
     let within : c.loop-name.name-index < length c.args.names.now = omega arith in
     let p = err_from_is_err_and c.from_residual.result c.from_residual.ensures.1 in
     rw (p.1, p.2)
-    (step_refuses c.args.table.now.builder c.loop-name.table.builder c.args.names.now c.loop-name.name-index (record { ref_ptr = (0, 0); now = [] }) within
+    (step_refuses c.args.table.now.builder c.loop-name.table.builder c.args.names.now c.loop-name.name-index
+    (record { ref_ptr = (0, 0); now = [] }) within
     c.in_err-mention.field-0.0 c.loop-name.invariant.mentions c.in_err-mention.ensures.refusal)
 
 pub loop-name-preserved : goal.loop-name-preserved
 loop-name-preserved c =
     let within : c.loop-name.name-index < length c.args.names.now = omega arith in
     record {
-      mentions = step_mentions c.args.table.now.builder c.loop-name.table.builder c.mention.new.table.builder c.args.names.now c.loop-name.name-index (record { ref_ptr = (0, 0); now = [] }) within
+      mentions = step_mentions c.args.table.now.builder c.loop-name.table.builder c.mention.new.table.builder
+          c.args.names.now c.loop-name.name-index (record { ref_ptr = (0, 0); now = [] }) within
           c.loop-name.invariant.mentions c.in_ok-mention.ensures.mentions;
-      numbers = step_numbers c.args.table.now.builder c.loop-name.table.builder c.mention.new.table.builder c.args.names.now c.loop-name.name-index (record { ref_ptr = (0, 0); now = [] }) within
-          c.loop-name.ids.items c.push.new.self.items c.in_ok-mention.field-0 c.in_ok-push.ensures.items c.loop-name.invariant.numbers c.in_ok-mention.ensures.mentions c.in_ok-mention.ensures.number;
+      numbers = step_numbers c.args.table.now.builder c.loop-name.table.builder c.mention.new.table.builder
+          c.args.names.now c.loop-name.name-index (record { ref_ptr = (0, 0); now = [] }) within
+          c.loop-name.ids.items c.push.new.self.items c.in_ok-mention.field-0 c.in_ok-push.ensures.items
+          c.loop-name.invariant.numbers c.in_ok-mention.ensures.mentions c.in_ok-mention.ensures.number;
       keeps = λ are. c.in_ok-mention.ensures.names (c.loop-name.invariant.keeps are);
     }

@@ -8,5 +8,6 @@ abbrev pub invariant-loop-name : goal.invariant-loop-name
 invariant-loop-name l = record {
   mentions : Mentions l.initial.table.builder (take l.name-index (texts_of l.names)) l.table.builder;
   numbers : AllZip (IsNumberOf l.table.builder.names) l.ids.items (take l.name-index (texts_of l.names));
-  keeps : texts_of l.initial.table.names.items ≡ l.initial.table.builder.names → texts_of l.table.names.items ≡ l.table.builder.names;
+  keeps : texts_of l.initial.table.names.items ≡ l.initial.table.builder.names → texts_of l.table.names.items
+      ≡ l.table.builder.names;
 }

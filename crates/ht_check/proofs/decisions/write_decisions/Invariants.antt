@@ -3,4 +3,5 @@ use Rattle.ht_tree.specs.OneFrame.{decided_value}
 use Rattle.ht_check.proofs.decisions.write_decisions.Given as goal
 
 abbrev pub invariant-loop-decision : goal.invariant-loop-decision
-invariant-loop-decision l = (var : ℕ) → var < length l.decisions → get_or l.decisions var None ≡ decided_value (take l.decision-index l.path) var
+invariant-loop-decision l = (var : ℕ) → var < length l.decisions → get_or l.decisions var None
+    ≡ decided_value (take l.decision-index l.path) var

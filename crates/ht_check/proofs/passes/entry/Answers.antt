@@ -9,4 +9,5 @@ pub returns-clause-exact : goal.returns-clause-exact
 returns-clause-exact c =
     let y = c.deref.ensures.value in
     let z = c.deref-2.ensures.value in
-    ok_then c.refutes.result _ _ (λ b h. (λ t. let k = h.0 t in search rules, λ p. search rules)) c.refutes.ensures.exact
+    ok_then c.refutes.result _ _ (λ b h. (λ t. let k = h.0 t in search rules, λ p. search rules))
+    c.refutes.ensures.exact

@@ -8,4 +8,5 @@ use Rattle.ht_check.proofs.places.outputs.Given as goal
 
 abbrev pub invariant-loop-o : goal.invariant-loop-o
 invariant-loop-o l =
-    either l.shown (shown_by (values_at (env_of (pair Unk Unk ∷ []) l.values) (drop l.o l.circuit.outputs))) ≡ shown_by (values_at (env_of (pair Unk Unk ∷ []) l.values) l.circuit.outputs)
+    either l.shown (shown_by (values_at (env_of (pair Unk Unk ∷ []) l.values) (drop l.o l.circuit.outputs)))
+    ≡ shown_by (values_at (env_of (pair Unk Unk ∷ []) l.values) l.circuit.outputs)

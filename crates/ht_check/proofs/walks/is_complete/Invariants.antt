@@ -9,5 +9,6 @@ abbrev pub invariant-loop-token : goal.invariant-loop-token
 invariant-loop-token l = record {
   window : l.window ≡ l.fn.window;
   plain : AreAllPlain (variable_count l.fn.window) l.walk.stack;
-  rest : Completes (one_frame l.fn.window) l.walk.stack (drop l.token-index l.tokens) ↔ Completes (one_frame l.fn.window) root_stack l.tokens;
+  rest : Completes (one_frame l.fn.window) l.walk.stack (drop l.token-index l.tokens)
+      ↔ Completes (one_frame l.fn.window) root_stack l.tokens;
 }

@@ -10,7 +10,8 @@ use Rattle.ht_check.proofs.walks.take.Goals as goal
 
 pub status-status-requires : goal.status-status-requires
 status-status-requires c =
-    subst (λ (path : List Assign3). IsPlain (variable_count c.args.window.now) path) (sym c.pending.ensures) (plain_top (variable_count c.args.window.now) c.args.walk.now.stack c.requires)
+    subst (λ (path : List Assign3). IsPlain (variable_count c.args.window.now) path) (sym c.pending.ensures)
+    (plain_top (variable_count c.args.window.now) c.args.walk.now.stack c.requires)
 
 ok_then : {E : Type 0} → (r : Result Bool E) (P Q : Bool → Type 0) → ((b : Bool) → P b → Q b) → IfOk r P → IfOk r Q
 ok_then (Ok b) P Q f h = f b h
@@ -24,7 +25,9 @@ pub returns-clause-plain : goal.returns-clause-plain
 returns-clause-plain c =
     let w = c.args.window.now in
     let walk = c.args.walk.now in
-    let fit = subst (λ (w : OneFrameWindow). FitsAt (is_legal w) c.status-status.result c.args.token) c.status-status.ensures.same (c.fits.ensures.0 c.if-not-fits.false) in
+    let fit = subst (λ (w : OneFrameWindow). FitsAt (is_legal w) c.status-status.result c.args.token)
+    c.status-status.ensures.same (c.fits.ensures.0 c.if-not-fits.false) in
     ok_then c.feed.result _ _ (λ b h t.
-    subst (λ (stack : List Node). AreAllPlain (variable_count w) stack) (sym (taken_true b c.feed.new.self walk (fed walk c.args.token) h t))
+    subst (λ (stack : List Node). AreAllPlain (variable_count w) stack)
+    (sym (taken_true b c.feed.new.self walk (fed walk c.args.token) h t))
     (plain_next w c.status-status.result walk.stack c.args.token fit c.requires)) c.feed.ensures.ok

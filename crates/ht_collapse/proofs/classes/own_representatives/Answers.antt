@@ -7,10 +7,12 @@ pub loop-i-preserved : goal.loop-i-preserved
 loop-i-preserved c =
     elim c.if-by_fault-i.branch [
       | then-by_fault-i+in_ok-push w ↦
-          subst (λ (l : List ℕ). AreOwnBelow c.args.by_fault.now l (c.loop-i.i + 1)) (sym (ap (λ (v : Vec ℕ Global). v.items) w.own-is ∙ w.in_ok-push.ensures.items))
+          subst (λ (l : List ℕ). AreOwnBelow c.args.by_fault.now l (c.loop-i.i + 1))
+          (sym (ap (λ (v : Vec ℕ Global). v.items) w.own-is ∙ w.in_ok-push.ensures.items))
           (one_own c.args.by_fault.now c.loop-i.own.items c.loop-i.i c.loop-i.invariant w.if-by_fault-i.true)
       | else-by_fault-i w ↦
-          subst (λ (l : List ℕ). AreOwnBelow c.args.by_fault.now l (c.loop-i.i + 1)) (sym (ap (λ (v : Vec ℕ Global). v.items) w.own-is))
+          subst (λ (l : List ℕ). AreOwnBelow c.args.by_fault.now l (c.loop-i.i + 1))
+          (sym (ap (λ (v : Vec ℕ Global). v.items) w.own-is))
           (not_own c.args.by_fault.now c.loop-i.own.items c.loop-i.i c.loop-i.invariant w.if-by_fault-i.false)
     ]
 
@@ -21,6 +23,7 @@ returns c =
     let e : c.loop-i.i ≡ length c.args.by_fault.now = let a = c.loop-i.auto.i-end in omega arith in
     record {
       rises = h.rises;
-      each = λ k l. let at = h.each k l in let low = at.0 in let x : get_or c.loop-i.own.items k 0 < length c.args.by_fault.now = omega arith in (x, at.1);
+      each = λ k l. let at = h.each k l in let low = at.0 in let x : get_or c.loop-i.own.items k 0 < length
+          c.args.by_fault.now = omega arith in (x, at.1);
       all = λ i l is. h.all i (omega arith) is;
     }

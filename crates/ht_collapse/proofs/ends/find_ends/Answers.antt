@@ -11,14 +11,18 @@ pub end_of-requires-clause-site : goal.end_of-requires-clause-site
 end_of-requires-clause-site c =
     let n = c.args.circuit.now in
     let count : length c.args.faults.now ≡ length (faults_of n) = ap (λ (l : List Fault). length l) c.requires in
-    let is : c.get.result ≡ fault_at n c.loop-i.i = c.get.ensures ∙ ap (λ (l : List Fault). get_or l c.loop-i.i no_fault) c.requires in
-    let inside : c.loop-i.i < length (faults_of n) = let a = c.loop-i-test.true in let b = c.len-i-end.ensures in omega arith in
+    let is : c.get.result ≡ fault_at n c.loop-i.i = c.get.ensures ∙ ap
+    (λ (l : List Fault). get_or l c.loop-i.i no_fault) c.requires in
+    let inside : c.loop-i.i < length (faults_of n) = let a = c.loop-i-test.true in let b = c.len-i-end.ensures
+    in omega arith in
     subst (λ (f : Fault). IsFaultSite n f.site) (sym is) (fault_site n c.loop-i.i inside)
 
 pub returns-clause-ends : goal.returns-clause-ends
 returns-clause-ends c =
     let n = c.args.circuit.now in
     let count : length c.args.faults.now ≡ length (faults_of n) = ap (λ (l : List Fault). length l) c.requires in
-    let all : c.loop-i.i ≡ length (faults_of n) = let a = c.loop-i-test.false in let b = c.len-i-end.ensures in let z = c.loop-i.auto.i-end in omega arith in
-    are_ends n c.in_ok-stem_ends.ensures.circuit c.in_ok-stem_ends.stem_ends.items c.in_ok-stem_ends.ensures.members c.in_ok-stem_ends.ensures.joins
+    let all : c.loop-i.i ≡ length (faults_of n) = let a = c.loop-i-test.false in let b = c.len-i-end.ensures
+    in let z = c.loop-i.auto.i-end in omega arith in
+    are_ends n c.in_ok-stem_ends.ensures.circuit c.in_ok-stem_ends.stem_ends.items c.in_ok-stem_ends.ensures.members
+    c.in_ok-stem_ends.ensures.joins
     c.loop-i.ends.items (c.loop-i.invariant.long ∙ all) (λ i l. c.loop-i.invariant.led i (omega arith))

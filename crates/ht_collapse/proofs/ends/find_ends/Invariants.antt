@@ -6,5 +6,6 @@ use Rattle.ht_collapse.proofs.ends.find_ends.Given as goal
 abbrev pub invariant-loop-i : goal.invariant-loop-i
 invariant-loop-i l = record {
   long : length l.ends.items ≡ l.i;
-  led : (k : ℕ) → k < l.i → get_or l.ends.items k 0 ≡ end_by l.circuit l.stem_ends.items k (fault_at l.circuit k).site (fault_at l.circuit k).value;
+  led : (k : ℕ) → k < l.i → get_or l.ends.items k 0 ≡ end_by l.circuit l.stem_ends.items k (fault_at l.circuit k).site
+      (fault_at l.circuit k).value;
 }

@@ -4,4 +4,5 @@ use Rattle.ht_faults.specs.Sites.{is_site, pins_of_gate}
 use Rattle.ht_faults.proofs.sites.add_gate_pins.Given as goal
 
 abbrev pub invariant-loop-gate : goal.invariant-loop-gate
-invariant-loop-gate l = l.sites.items ≡ l.fn.sites.items ++ filter (is_site l.circuit) (flat_map (pins_of_gate l.circuit) (range_with_len 0 l.gate))
+invariant-loop-gate l = l.sites.items ≡ l.fn.sites.items
+    ++ filter (is_site l.circuit) (flat_map (pins_of_gate l.circuit) (range_with_len 0 l.gate))

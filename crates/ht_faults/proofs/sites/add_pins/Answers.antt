@@ -11,8 +11,13 @@ pub loop-i-preserved : goal.loop-i-preserved
 loop-i-preserved c =
     let n = c.args.circuit.now in
     let g = c.args.gate in
-    let test : c.has_fanout.result ≡ is_site n (GatePin g c.loop-i.i) = c.has_fanout.ensures ∙ ap (λ (l : List NetId). is_fanout n (get_or l c.loop-i.i no_net).0) c.gate_args-arg-items.ensures.args in
+    let test : c.has_fanout.result ≡ is_site n (GatePin g c.loop-i.i) = c.has_fanout.ensures ∙ ap
+    (λ (l : List NetId). is_fanout n (get_or l c.loop-i.i no_net).0) c.gate_args-arg-items.ensures.args in
     elim c.if-has_fanout.branch [
-      | then-has_fanout+in_ok-push w ↦ rw (w.sites-is) (one_kept (is_site n) (λ i. GatePin g i) c.args.sites.now.items c.loop-i.sites.items w.push.new.self.items c.loop-i.i c.loop-i.invariant w.in_ok-push.ensures.items (sym test ∙ w.if-has_fanout.true))
-      | else-has_fanout w ↦ rw (w.sites-is) (one_left (is_site n) (λ i. GatePin g i) c.args.sites.now.items c.loop-i.sites.items c.loop-i.i c.loop-i.invariant (sym test ∙ w.if-has_fanout.false))
+      | then-has_fanout+in_ok-push w ↦ rw (w.sites-is)
+          (one_kept (is_site n) (λ i. GatePin g i) c.args.sites.now.items c.loop-i.sites.items w.push.new.self.items
+          c.loop-i.i c.loop-i.invariant w.in_ok-push.ensures.items (sym test ∙ w.if-has_fanout.true))
+      | else-has_fanout w ↦ rw (w.sites-is)
+          (one_left (is_site n) (λ i. GatePin g i) c.args.sites.now.items c.loop-i.sites.items c.loop-i.i
+          c.loop-i.invariant (sym test ∙ w.if-has_fanout.false))
     ]

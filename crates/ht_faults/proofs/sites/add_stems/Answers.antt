@@ -11,4 +11,5 @@ loop-x-preserved c =
     let so_far : List Site = map (λ x. Stem (record { 0 = x })) (range_with_len 0 c.loop-x.x) in
     let one : List Site = Stem (record { 0 = c.loop-x.x }) ∷ [] in
     c.in_ok-push.ensures.items ∙ (ap (λ (l : List Site). l ++ one) c.loop-x.invariant ∙ (append_assoc old so_far one
-    ∙ ap (λ (l : List Site). old ++ l) (sym (map-range_with_len_more (λ x. Stem (record { 0 = x })) 0 c.loop-x.x c.loop-x.x (omega arith)))))
+    ∙ ap (λ (l : List Site). old ++ l)
+    (sym (map-range_with_len_more (λ x. Stem (record { 0 = x })) 0 c.loop-x.x c.loop-x.x (omega arith)))))

@@ -8,5 +8,6 @@ use Rattle.ht_statement.proofs.reading.are_names.Goals as goal
 
 pub returns : goal.returns
 returns c =
-    all_from_yields_List (λ (t : Bor (List ℕ)). is_name t.now) _ _ _ c.all.ensures.ran (YieldsList-from_slice c.args.texts.now cc) (λ x b q k. search (rules, tests))
+    all_from_yields_List (λ (t : Bor (List ℕ)). is_name t.now) _ _ _ c.all.ensures.ran
+    (YieldsList-from_slice c.args.texts.now cc) (λ x b q k. search (rules, tests))
     ∙ sym (list_all-map is_name (λ (t : Bor (List ℕ)). t.now) c.args.texts.now)

@@ -8,5 +8,6 @@ returns-clause-first c =
     let begun = c.behind_blanks-begun.result.now in
     let no_hash : begins_comment (get_or begun 0 0) ≡ false = search rules in
     sym c.behind_blanks-begun.ensures.tokens
-    ∙ first_word begun c.cut_word.result.0.now c.cut_word.result.1.now c.in-len1-up.len_at_least no_hash c.behind_blanks-begun.ensures.no_blank
+    ∙ first_word begun c.cut_word.result.0.now c.cut_word.result.1.now c.in-len1-up.len_at_least no_hash
+    c.behind_blanks-begun.ensures.no_blank
     (no_mark c.mark_of.result _ c.mark_of.ensures c.in_default-mark_of.is) c.cut_word.ensures

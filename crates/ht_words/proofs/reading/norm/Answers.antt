@@ -6,23 +6,27 @@ use Rattle.ht_words.proofs.reading.norm.Goals as goal
 
 pub returns-in_err-matches-clause-usage : goal.returns-in_err-matches-clause-usage
 returns-in_err-matches-clause-usage c = λ e.
-    norm_refused (app_of c.in_ok-norm.field-0) (texts_of c.args.words.now) c.in_ok-norm.ensures (c.matches_for.ensures.usage (search rules))
+    norm_refused (app_of c.in_ok-norm.field-0) (texts_of c.args.words.now) c.in_ok-norm.ensures
+    (c.matches_for.ensures.usage (search rules))
 
 pub returns-in_err-value-clause-usage : goal.returns-in_err-value-clause-usage
 returns-in_err-value-clause-usage c = λ e.
     let m = c.in_ok-matches in
     let rows = rows_of (found_of m.matches) in
-    norm_answered (app_of c.in_ok-norm.field-0) (texts_of c.args.words.now) c.in_ok-norm.ensures rows m.ensures.rows m.ensures.taken
+    norm_answered (app_of c.in_ok-norm.field-0) (texts_of c.args.words.now) c.in_ok-norm.ensures rows m.ensures.rows
+    m.ensures.taken
     ∙ (λ i. norm_from (c.value.ensures.usage (search rules) i) (first_of (codes "out") rows))
 
 pub returns-in_err-value-2-clause-usage : goal.returns-in_err-value-2-clause-usage
 returns-in_err-value-2-clause-usage c = λ e.
     let m = c.in_ok-matches in
-    norm_answered (app_of c.in_ok-norm.field-0) (texts_of c.args.words.now) c.in_ok-norm.ensures (rows_of (found_of m.matches)) m.ensures.rows m.ensures.taken
+    norm_answered (app_of c.in_ok-norm.field-0) (texts_of c.args.words.now) c.in_ok-norm.ensures
+    (rows_of (found_of m.matches)) m.ensures.rows m.ensures.taken
     ∙ (λ i. norm_from (c.in_ok-value.ensures.ok i) (c.value-2.ensures.usage (search rules) i))
 
 pub returns-clause-ok : goal.returns-clause-ok
 returns-clause-ok c =
     let m = c.in_ok-matches in
-    norm_answered (app_of c.in_ok-norm.field-0) (texts_of c.args.words.now) c.in_ok-norm.ensures (rows_of (found_of m.matches)) m.ensures.rows m.ensures.taken
+    norm_answered (app_of c.in_ok-norm.field-0) (texts_of c.args.words.now) c.in_ok-norm.ensures
+    (rows_of (found_of m.matches)) m.ensures.rows m.ensures.taken
     ∙ (λ i. norm_from (c.in_ok-value.ensures.ok i) (c.in_ok-value-2.ensures.ok i))

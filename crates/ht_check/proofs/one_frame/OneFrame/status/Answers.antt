@@ -47,20 +47,31 @@ returns-clause-status c =
     let room : length D ≡ variable_count w = let s = i.decisions in omega arith in
     let wide : length V ≡ w.circuit.inputs = let s = i.vector in omega arith in
     let held : length L ≡ length w.circuit.dffs = let s = i.latches in omega arith in
-    let written : (var : ℕ) → var < length D → get_or D var None ≡ decided_value path var = λ var below. c.write_decisions.ensures var (omega arith) in
+    let written : (var : ℕ) → var < length D → get_or D var None ≡ decided_value path var = λ var below.
+    c.write_decisions.ensures var (omega arith) in
     let inputs : V ≡ input_sets w path = inputs_are w path D room written V wide
-    (λ k below. c.write_inputs.ensures k (omega arith) ∙ ap (λ (t : List (Option Tern)). same_pairs (get_or t k None)) d1) in
+    (λ k below. c.write_inputs.ensures k (omega arith) ∙ ap (λ (t : List (Option Tern)). same_pairs (get_or t k None))
+    d1) in
     let latches : L ≡ latch_sets w path = latches_are w path D room written a.in_z.items L i.mark_count i.marks held
-    (λ j below. c.write_latches.ensures j (omega arith) ∙ (ap (λ (t : List (Option Tern)). latch_by t c.inputs-inputs.result c.deref-3.result.now j) d2
-    ∙ (ap (λ (m : List Bool). latch_by D c.inputs-inputs.result m j) c.deref-3.ensures.value ∙ ap (λ (k : ℕ). latch_by D k a.in_z.items j) c.inputs-inputs.ensures))) in
-    let settled : (x : ℕ) → x < net_count w.circuit → env_of blank S x ≡ net_value w.circuit (set_rules w.fault) V L x = λ x inside.
-    c.evaluate.ensures.values x inside ∙ (ap (λ (t : List (List Pair)). net_value w.circuit (set_rules w.fault) t c.deref-5.result.now x) v
+    (λ j below. c.write_latches.ensures j (omega arith) ∙
+    (ap (λ (t : List (Option Tern)). latch_by t c.inputs-inputs.result c.deref-3.result.now j) d2
+    ∙ (ap (λ (m : List Bool). latch_by D c.inputs-inputs.result m j) c.deref-3.ensures.value ∙ ap
+    (λ (k : ℕ). latch_by D k a.in_z.items j) c.inputs-inputs.ensures))) in
+    let settled : (x : ℕ) → x < net_count w.circuit → env_of blank S x ≡ net_value w.circuit (set_rules w.fault) V L x =
+    λ x inside.
+    c.evaluate.ensures.values x inside ∙
+    (ap (λ (t : List (List Pair)). net_value w.circuit (set_rules w.fault) t c.deref-5.result.now x) v
     ∙ ap (λ (t : List (List Pair)). net_value w.circuit (set_rules w.fault) V t x) l) in
     let taken : N ≡ data_values (set_rules w.fault) (env_of blank S) 0 w.circuit.dffs = c.evaluate.ensures.next in
-    let shown : c.and.result ≡ either (shown_by (values_at (env_of blank S) w.circuit.outputs)) (shown_by (outside_marks a.in_z.items N)) =
-    c.and.ensures ∙ (ap (λ (t : Shown). either t c.next_states.result) (c.outputs-shown.ensures ∙ ap (λ (t : List (List Pair)). shown_by (values_at (env_of blank t) w.circuit.outputs)) s)
+    let shown : c.and.result ≡ either (shown_by (values_at (env_of blank S) w.circuit.outputs))
+    (shown_by (outside_marks a.in_z.items N)) =
+    c.and.ensures ∙ (ap (λ (t : Shown). either t c.next_states.result)
+    (c.outputs-shown.ensures ∙ ap
+    (λ (t : List (List Pair)). shown_by (values_at (env_of blank t) w.circuit.outputs)) s)
     ∙ ap (λ (t : Shown). either (shown_by (values_at (env_of blank S) w.circuit.outputs)) t)
-    (c.next_states.ensures ∙ (ap (λ (m : List Bool). shown_by (outside_marks m c.deref-8.result.now)) c.deref-7.ensures.value
+    (c.next_states.ensures ∙
+    (ap (λ (m : List Bool). shown_by (outside_marks m c.deref-8.result.now)) c.deref-7.ensures.value
     ∙ ap (λ (t : List (List Pair)). shown_by (outside_marks a.in_z.items t)) n))) in
-    c.status.ensures ∙ (status_is w path a.in_z.items V L S N i.circuit i.mark_count i.marks inputs latches settled taken c.and.result shown
+    c.status.ensures ∙ (status_is w path a.in_z.items V L S N i.circuit i.mark_count i.marks inputs latches settled
+    taken c.and.result shown
     ∙ ap (λ (w : OneFrameWindow). status_of (places w path)) c.self.view_is)

@@ -18,7 +18,8 @@ pub returns : goal.returns
 returns c =
     let view = ap (λ (l : List Fault). length l) c.self.view_is in
     let count = faults_count c.self.inside.sites.items in
-    let site = get_or_read c.self.inside.sites.items (c.args.i / 2) c.index.result.now (omega (arith, count, view)) c.index.ensures (Stem no_net) in
+    let site = get_or_read c.self.inside.sites.items (c.args.i / 2) c.index.result.now (omega (arith, count, view))
+    c.index.ensures (Stem no_net) in
     c.fault_of.ensures ∙ (ap (λ (s : Site). get_or (site_faults s) (c.args.i % 2) no_fault) site
     ∙ (sym (fault_at c.self.inside.sites.items c.args.i (Stem no_net) no_fault (omega (arith, count, view)))
     ∙ ap (λ (l : List Fault). get_or l c.args.i no_fault) c.self.view_is))

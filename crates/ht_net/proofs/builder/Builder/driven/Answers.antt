@@ -11,13 +11,22 @@ use Rattle.ht_net.proofs.builder.Builder.driven.Goals.{in-Free, in_default}
 pub returns : goal.returns
 returns c =
     let i = c.self.invariant in
-    let named : c.args.name.0 < length c.self.inside.names = subst (λ (d : Draft). c.args.name.0 < length d.names) (sym c.self.view_is) c.requires in
+    let named : c.args.name.0 < length c.self.inside.names = subst (λ (d : Draft). c.args.name.0 < length d.names)
+    (sym c.self.view_is) c.requires in
     let inside : c.args.name.0 < length c.self.inside.drivers.items = omega (arith, named, i.count) in
     let read = get_or_read c.self.inside.drivers.items c.args.name.0 c.index.result.now inside c.index.ensures Free in
-    let P : Bool → Draft → Type 0 = λ b d. (IsTrue (not b) → IsDriven d c.args.name) × (IsDriven d c.args.name → IsTrue (not b)) in
+    let P : Bool → Draft → Type 0 = λ b d. (IsTrue (not b) → IsDriven d c.args.name)
+    × (IsDriven d c.args.name → IsTrue (not b)) in
     elim c.match-matches.branch [
-      | in-Free w ↦ subst (λ (b : Bool). P b c.args.self.now) (sym w.matches-is) (subst (P true) c.self.view_is
-          (λ t. absurd (false≢true t), λ h. absurd (free_is_not_driven (draft_of c.self.inside) c.self.inside.drivers.items c.args.name i.inputs i.dffs i.gates (sym read ∙ w.in-Free.is) h)))
-      | in_default w ↦ subst (λ (b : Bool). P b c.args.self.now) (sym w.matches-is) (subst (P false) c.self.view_is
-          (λ t. driver_drives (draft_of c.self.inside) c.self.inside.drivers.items c.args.name c.index.result.now i.inputs i.dffs i.gates (sym read) w.in_default.not-Free, λ h. refl))
+      | in-Free w ↦ subst (λ (b : Bool). P b c.args.self.now) (sym w.matches-is) (subst (P true) c.self.view_is (
+        λ t. absurd (false≢true t),
+        λ h. absurd
+            (free_is_not_driven (draft_of c.self.inside) c.self.inside.drivers.items c.args.name i.inputs i.dffs
+            i.gates (sym read ∙ w.in-Free.is) h),
+      ))
+      | in_default w ↦ subst (λ (b : Bool). P b c.args.self.now) (sym w.matches-is) (subst (P false) c.self.view_is (
+        λ t. driver_drives (draft_of c.self.inside) c.self.inside.drivers.items c.args.name c.index.result.now
+            i.inputs i.dffs i.gates (sym read) w.in_default.not-Free,
+        λ h. refl,
+      ))
     ]

@@ -12,11 +12,14 @@ use Rattle.ht_net.proofs.builder.Builder.finish.Goals as goal
 
 no_rank : (d : Draft) (cycle : List ℕ) → IsCycle (length d.inputs + length d.dffs) (draft_gates d) cycle → HasNoRank d
 no_rank d cycle h = λ rank ranked.
-    let first : first_gate_net (circuit_of d) ≡ length d.inputs + length d.dffs = ap (λ (n : ℕ). length d.inputs + n) (length-map d.dffs (λ (f : DffPart). net_of d f.data_pin)) in
+    let first : first_gate_net (circuit_of d) ≡ length d.inputs + length d.dffs = ap (λ (n : ℕ). length d.inputs + n)
+    (length-map d.dffs (λ (f : DffPart). net_of d f.data_pin)) in
     let all : IsRanked (first_gate_net (circuit_of d)) (draft_gates d) rank = record { falls = ranked.falls } in
-    cycle_has_no_rank (length d.inputs + length d.dffs) (draft_gates d) cycle h rank (subst (λ (n : ℕ). IsRanked n (draft_gates d) rank) first all)
+    cycle_has_no_rank (length d.inputs + length d.dffs) (draft_gates d) cycle h rank
+    (subst (λ (n : ℕ). IsRanked n (draft_gates d) rank) first all)
 
 pub returns-in-Ok-cycle_names-clause-refusal : goal.returns-in-Ok-cycle_names-clause-refusal
 returns-in-Ok-cycle_names-clause-refusal c =
-    let cycle : IsCycle (length c.args.self.now.inputs + length c.args.self.now.dffs) (draft_gates c.args.self.now) c.in-Err-Cycle.gates.items = search rules in
+    let cycle : IsCycle (length c.args.self.now.inputs + length c.args.self.now.dffs) (draft_gates c.args.self.now)
+    c.in-Err-Cycle.gates.items = search rules in
     (search rules, search rules, search rules, no_rank c.args.self.now c.in-Err-Cycle.gates.items cycle)

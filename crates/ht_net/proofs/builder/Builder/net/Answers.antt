@@ -14,13 +14,19 @@ invariant_of-self-else-is_err-2 c =
     let i = c.self.invariant in
     let drivers : c.push.new.self.items ≡ c.self.inside.drivers.items ++ Free ∷ [] = search rules in
     let names : c.push-2.new.self ≡ c.self.inside.names ++ c.args.name.now ∷ [] = search rules in
-    let free : (list : List NameId) (made : ℕ → Driver) → Agrees list made c.self.inside.drivers.items → Agrees list made c.push.new.self.items =
-    λ list made h. subst (λ (l : List Driver). Agrees list made l) (sym drivers) (agrees_free list made c.self.inside.drivers.items h) in
-    let more : length c.push.new.self.items ≡ length c.self.inside.drivers.items + 1 = ap (λ (l : List Driver). length l) drivers ∙ length_push c.self.inside.drivers.items Free in
-    let longer : length c.push-2.new.self ≡ length c.self.inside.names + 1 = ap (λ (l : List (List ℕ)). length l) names ∙ length_push c.self.inside.names c.args.name.now in
-    let fits : length c.self.inside.names < 65535 = omega (arith, i.draft.few_names, c.len-place.ensures, c.if-place-eq-MAX_NETS.false) in
+    let free : (list : List NameId) (made : ℕ → Driver) → Agrees list made c.self.inside.drivers.items
+    → Agrees list made c.push.new.self.items =
+    λ list made h. subst (λ (l : List Driver). Agrees list made l) (sym drivers)
+    (agrees_free list made c.self.inside.drivers.items h) in
+    let more : length c.push.new.self.items ≡ length c.self.inside.drivers.items
+    + 1 = ap (λ (l : List Driver). length l) drivers ∙ length_push c.self.inside.drivers.items Free in
+    let longer : length c.push-2.new.self ≡ length c.self.inside.names + 1 = ap (λ (l : List (List ℕ)). length l) names
+    ∙ length_push c.self.inside.names c.args.name.now in
+    let fits : length c.self.inside.names < 65535 = omega
+    (arith, i.draft.few_names, c.len-place.ensures, c.if-place-eq-MAX_NETS.false) in
     record {
-      draft = subst (λ (l : List (List ℕ)). IsDraft (record (draft_of c.self.inside) { names = l })) (sym names) (draft_name_added (draft_of c.self.inside) c.args.name.now i.draft c.in_default.ensures.none fits);
+      draft = subst (λ (l : List (List ℕ)). IsDraft (record (draft_of c.self.inside) { names = l })) (sym names)
+          (draft_name_added (draft_of c.self.inside) c.args.name.now i.draft c.in_default.ensures.none fits);
       count = omega (arith, more, longer, i.count);
       pins = i.pins;
       all = omega (arith, ap free_count drivers, free_push c.self.inside.drivers.items, longer, i.all);

@@ -9,5 +9,7 @@ pub loop-name-preserved : goal.loop-name-preserved
 loop-name-preserved c =
     let pushed : c.push.new.self.items ≡ c.loop-name.nets.items ++ c.net_of.result ∷ [] = search rules in
     pushed ∙ (ap (λ (l : List NetId). l ++ c.net_of.result ∷ []) c.loop-name.invariant
-    ∙ (ap (λ (n : NetId). map (net_of c.args.self.now) (take c.loop-name.name-index c.args.names.now) ++ n ∷ []) c.net_of.ensures
-    ∙ sym (map_take_more (net_of c.args.self.now) c.args.names.now c.loop-name.name-index no_name c.loop-name-test.true)))
+    ∙ (ap (λ (n : NetId). map (net_of c.args.self.now) (take c.loop-name.name-index c.args.names.now) ++ n ∷ [])
+    c.net_of.ensures
+    ∙ sym (map_take_more (net_of c.args.self.now) c.args.names.now c.loop-name.name-index no_name
+    c.loop-name-test.true)))

@@ -3,4 +3,5 @@ use Rattle.ht_net.specs.Draft.{GatePart}
 use Rattle.ht_net.proofs.builder.Builder.push_gate_names.Given as goal
 
 abbrev pub invariant-loop-gate : goal.invariant-loop-gate
-invariant-loop-gate l = l.names.items ≡ l.fn.names.items ++ map (λ (g : GatePart). g.out) (take l.gate-index l.self.gates)
+invariant-loop-gate l = l.names.items ≡ l.fn.names.items
+    ++ map (λ (g : GatePart). g.out) (take l.gate-index l.self.gates)

@@ -6,8 +6,10 @@ use Rattle.ht_net.specs.Flat.{gates_of}
 use Rattle.ht_net.proofs.FlatLaws.{gates_push}
 use Rattle.ht_net.proofs.gates.Gates.push.Goals as goal
 
-same_arrays : (kinds kinds' : List Kind) (starts starts' : List ℕ) (args args' : List NetId) → kinds ≡ kinds' → starts ≡ starts' → args ≡ args' → gates_of kinds starts args ≡ gates_of kinds' starts' args'
-same_arrays kinds kinds' starts starts' args args' e f g = ap (λ (l : List Kind). gates_of l starts args) e ∙ (ap (λ (l : List ℕ). gates_of kinds' l args) f ∙ ap (λ (l : List NetId). gates_of kinds' starts' l) g)
+same_arrays : (kinds kinds' : List Kind) (starts starts' : List ℕ) (args args' : List NetId) → kinds ≡ kinds' → starts
+    ≡ starts' → args ≡ args' → gates_of kinds starts args ≡ gates_of kinds' starts' args'
+same_arrays kinds kinds' starts starts' args args' e f g = ap (λ (l : List Kind). gates_of l starts args) e ∙
+    (ap (λ (l : List ℕ). gates_of kinds' l args) f ∙ ap (λ (l : List NetId). gates_of kinds' starts' l) g)
 
 pub returns : goal.returns
 returns c =
@@ -18,5 +20,6 @@ returns c =
     let starts = pushed ∙ ap (λ (n : ℕ). c.self.inside.starts.items ++ n ∷ []) end in
     let args : c.extend_from_slice.new.self.items ≡ c.self.inside.args.items ++ c.args.args.now = search rules in
     same_arrays _ _ _ _ _ _ kinds starts args
-    ∙ (gates_push c.self.inside.kinds.items c.self.inside.starts.items c.self.inside.args.items c.args.kind c.args.args.now i.starts i.ends i.within
+    ∙ (gates_push c.self.inside.kinds.items c.self.inside.starts.items c.self.inside.args.items c.args.kind
+    c.args.args.now i.starts i.ends i.within
     ∙ ap (λ (l : List Gate). l ++ record { kind = c.args.kind; args = c.args.args.now } ∷ []) c.self.view_is)

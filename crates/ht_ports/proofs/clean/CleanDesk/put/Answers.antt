@@ -14,13 +14,15 @@ returns-clause-put c =
     let added : c.push.new.self.items ≡ texts ++ new ∷ [] = search rules in
     let name : string_bytes new.name ≡ c.args.name.now = search rules in
     let bytes : new.bytes.items ≡ c.args.bytes.now = search rules in
-    let found : (n : List ℕ) → text_named c.push.new.self.items n ≡ text_named (texts ++ new ∷ []) n = λ n. ap (λ l. text_named l n) added in
+    let found : (n : List ℕ) → text_named c.push.new.self.items n ≡ text_named (texts ++ new ∷ []) n = λ n. ap
+    (λ l. text_named l n) added in
     record {
       file = ap Some (found c.args.name.now ∙ named_put texts new c.args.name.now name ∙ ap Some bytes);
       others = λ n other. ap Some (found n ∙ named_kept texts new n (λ same. other (same ∙ name)));
       ports = record {
         left = λ i p. Some (drop (at_in_port desk.taken p)
-            ((ap (λ l. opened_in l (at_in_port desk.opened p)) added ∙ opened_push texts new (at_in_port desk.opened p) (desk.opened_texts p)) i));
+            ((ap (λ l. opened_in l (at_in_port desk.opened p)) added ∙ opened_push texts new (at_in_port desk.opened p)
+            (desk.opened_texts p)) i));
         written = refl;
         named = refl;
         is_open = refl;

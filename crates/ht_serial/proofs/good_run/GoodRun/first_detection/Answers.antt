@@ -12,7 +12,11 @@ use Rattle.ht_serial.proofs.good_run.GoodRun.first_detection.Goals as goal
 
 pub get-requires : goal.get-requires
 get-requires c =
-    omega (arith, rows_count c.self.inside.circuit.now c.self.inside.list.now.list c.self.inside.rows.items c.self.invariant.rows)
+    omega (
+      arith,
+      rows_count c.self.inside.circuit.now c.self.inside.list.now.list c.self.inside.rows.items
+          c.self.invariant.rows,
+    )
 
 pub first_opposite-requires : goal.first_opposite-requires
 first_opposite-requires c =
@@ -23,10 +27,14 @@ first_opposite-requires c =
     let inside : t < length s.list = omega (arith, count) in
     let vector = c.get.ensures.row ∙ ap (λ (x : TestSession). get_or x.list t []) c.self.view_is in
     let item : c.good-item.result ≡ get_or c.self.inside.rows.items t c.good-item.result =
-    c.good-item.is ∙ ap (λ (l : List (Vec Tern Global)). get_or l t c.good-item.result) c.deref-good-items.ensures.value in
-    let good = c.deref.ensures.value ∙ row_at s.circuit s.list c.self.inside.rows.items t c.good-item.result rows (omega arith) item in
-    let bad = shows s.circuit (Some c.args.fault) s.list t c.loop-t.bad c.step.new.self c.get.result.now inside c.loop-t.invariant.bad vector c.step.ensures in
-    ap (λ (l : List Tern). length l) good ∙ (frame_width s.circuit None s.list t inside ∙ (sym (frame_width s.circuit (Some c.args.fault) s.list t inside)
+    c.good-item.is ∙ ap (λ (l : List (Vec Tern Global)). get_or l t c.good-item.result) c.deref-good-items.ensures.value
+    in
+    let good = c.deref.ensures.value ∙ row_at s.circuit s.list c.self.inside.rows.items t c.good-item.result rows
+    (omega arith) item in
+    let bad = shows s.circuit (Some c.args.fault) s.list t c.loop-t.bad c.step.new.self c.get.result.now inside
+    c.loop-t.invariant.bad vector c.step.ensures in
+    ap (λ (l : List Tern). length l) good ∙
+    (frame_width s.circuit None s.list t inside ∙ (sym (frame_width s.circuit (Some c.args.fault) s.list t inside)
     ∙ ap (λ (l : List Tern). length l) (sym bad)))
 
 pub returns-in-Some : goal.returns-in-Some
@@ -38,16 +46,21 @@ returns-in-Some c =
     let inside : t < length s.list = omega (arith, count) in
     let vector = c.get.ensures.row ∙ ap (λ (x : TestSession). get_or x.list t []) c.self.view_is in
     let item : c.good-item.result ≡ get_or c.self.inside.rows.items t c.good-item.result =
-    c.good-item.is ∙ ap (λ (l : List (Vec Tern Global)). get_or l t c.good-item.result) c.deref-good-items.ensures.value in
-    let good = c.deref.ensures.value ∙ row_at s.circuit s.list c.self.inside.rows.items t c.good-item.result rows (omega arith) item in
-    let bad = shows s.circuit (Some c.args.fault) s.list t c.loop-t.bad c.step.new.self c.get.result.now inside c.loop-t.invariant.bad vector c.step.ensures in
+    c.good-item.is ∙ ap (λ (l : List (Vec Tern Global)). get_or l t c.good-item.result) c.deref-good-items.ensures.value
+    in
+    let good = c.deref.ensures.value ∙ row_at s.circuit s.list c.self.inside.rows.items t c.good-item.result rows
+    (omega arith) item in
+    let bad = shows s.circuit (Some c.args.fault) s.list t c.loop-t.bad c.step.new.self c.get.result.now inside
+    c.loop-t.invariant.bad vector c.step.ensures in
     let found = c.in-Some.ensures in
     let p : Place = record { vector = t; output = c.in-Some.output } in
-    let detects = rows_detect s.circuit c.args.fault s.list t c.in-Some.output c.deref.result.now c.step.new.self.outputs good bad found.0 in
+    let detects = rows_detect s.circuit c.args.fault s.list t c.in-Some.output c.deref.result.now
+    c.step.new.self.outputs good bad found.0 in
     record {
       first = (
         detects,
-        none_before s.circuit c.args.fault s.list p c.deref.result.now c.step.new.self.outputs good bad c.loop-t.invariant.none found.1,
+        none_before s.circuit c.args.fault s.list p c.deref.result.now c.step.new.self.outputs good bad
+            c.loop-t.invariant.none found.1,
       );
       within = λ x e.
           let P : Place → Type 0 = IsWithin s.circuit s.list in
@@ -68,12 +81,17 @@ loop-t-preserved c =
     let inside : t < length s.list = omega (arith, count) in
     let vector = c.get.ensures.row ∙ ap (λ (x : TestSession). get_or x.list t []) c.self.view_is in
     let item : c.good-item.result ≡ get_or c.self.inside.rows.items t c.good-item.result =
-    c.good-item.is ∙ ap (λ (l : List (Vec Tern Global)). get_or l t c.good-item.result) c.deref-good-items.ensures.value in
-    let good = c.deref.ensures.value ∙ row_at s.circuit s.list c.self.inside.rows.items t c.good-item.result rows (omega arith) item in
-    let bad = shows s.circuit (Some c.args.fault) s.list t c.loop-t.bad c.step.new.self c.get.result.now inside c.loop-t.invariant.bad vector c.step.ensures in
+    c.good-item.is ∙ ap (λ (l : List (Vec Tern Global)). get_or l t c.good-item.result) c.deref-good-items.ensures.value
+    in
+    let good = c.deref.ensures.value ∙ row_at s.circuit s.list c.self.inside.rows.items t c.good-item.result rows
+    (omega arith) item in
+    let bad = shows s.circuit (Some c.args.fault) s.list t c.loop-t.bad c.step.new.self c.get.result.now inside
+    c.loop-t.invariant.bad vector c.step.ensures in
     record {
-      bad = next_is s.circuit (Some c.args.fault) s.list t c.loop-t.bad c.step.new.self c.get.result.now inside c.loop-t.invariant.bad vector c.step.ensures;
-      none = none_more s.circuit c.args.fault s.list t c.deref.result.now c.step.new.self.outputs good bad c.loop-t.invariant.none c.in_default.ensures;
+      bad = next_is s.circuit (Some c.args.fault) s.list t c.loop-t.bad c.step.new.self c.get.result.now inside
+          c.loop-t.invariant.bad vector c.step.ensures;
+      none = none_more s.circuit c.args.fault s.list t c.deref.result.now c.step.new.self.outputs good bad
+          c.loop-t.invariant.none c.in_default.ensures;
     }
 
 pub returns : goal.returns

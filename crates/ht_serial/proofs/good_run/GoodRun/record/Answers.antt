@@ -9,10 +9,13 @@ loop-t-preserved c =
     let n = c.args.circuit.now in
     let list = c.args.list.now.list in
     let inside : c.loop-t.t < length list = omega arith in
-    let shown = shows n None list c.loop-t.t c.loop-t.good c.step.new.self c.get.result.now inside c.loop-t.invariant.good c.get.ensures.row c.step.ensures in
+    let shown = shows n None list c.loop-t.t c.loop-t.good c.step.new.self c.get.result.now inside
+    c.loop-t.invariant.good c.get.ensures.row c.step.ensures in
     record {
-      good = next_is n None list c.loop-t.t c.loop-t.good c.step.new.self c.get.result.now inside c.loop-t.invariant.good c.get.ensures.row c.step.ensures;
-      rows = rows_more n list c.loop-t.rows.items c.push.new.self.items c.loop-t.t c.in_ok-outputs.field-0 inside c.loop-t.invariant.rows c.in_ok-push.ensures.items (c.in_ok-outputs.ensures ∙ shown);
+      good = next_is n None list c.loop-t.t c.loop-t.good c.step.new.self c.get.result.now inside
+          c.loop-t.invariant.good c.get.ensures.row c.step.ensures;
+      rows = rows_more n list c.loop-t.rows.items c.push.new.self.items c.loop-t.t c.in_ok-outputs.field-0 inside
+          c.loop-t.invariant.rows c.in_ok-push.ensures.items (c.in_ok-outputs.ensures ∙ shown);
     }
 
 pub invariant_of-result : goal.invariant_of-result
@@ -20,6 +23,7 @@ invariant_of-result c =
     let n = c.args.circuit.now in
     let list = c.args.list.now.list in
     record {
-      rows = c.loop-t.invariant.rows ∙ take_all c.loop-t.t (tern_outputs n None list) (omega (arith, frames_count n None list));
+      rows = c.loop-t.invariant.rows ∙ take_all c.loop-t.t (tern_outputs n None list)
+          (omega (arith, frames_count n None list));
       width = c.requires;
     }
