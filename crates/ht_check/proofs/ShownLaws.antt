@@ -4,7 +4,7 @@ use Rattle.std.specs.Prelude.{IsTrue}
 use Rattle.std.specs.List.{list_any, list_all}
 use Rattle.ht_tern.specs.declared.tern.Tern.{Tern}
 use Rattle.ht_tern.specs.declared.tern.Tern.TheVariants.{Zero, One, Unk}
-use Rattle.ht_tern.specs.Pairs.{Pair, pair, IsMember, Differs, MayDiffer, MustDiffer}
+use Rattle.ht_pairs.specs.Pairs.{Pair, pair, IsMember, Differs, MayDiffer, MustDiffer}
 use Rattle.ht_tree.specs.OneFrame.{is_in, outside, differs, opposite}
 use Rattle.ht_check.specs.declared.places.Shown.{Shown}
 use Rattle.ht_check.specs.Shown.{shown_by, either, outside_marks}

@@ -2,7 +2,7 @@
 use Rattle.std.proofs.Common.{◌≡◌, ◌<◌, ◌+◌, ℕ, List, [], ◌∷◌, ◌++◌, Bool, false, Option, None, length, get_or, ◌∙◌, ap, arith}
 use Rattle.ht_tern.specs.declared.tern.Tern.{Tern}
 use Rattle.ht_tern.specs.declared.tern.Tern.TheVariants.{Unk}
-use Rattle.ht_tern.specs.Pairs.{Pair, pair}
+use Rattle.ht_pairs.specs.Pairs.{Pair, pair}
 use Rattle.ht_net.specs.Netlist.{net_count, first_gate_net, no_net, IsCircuit}
 use Rattle.ht_net.specs.Frame.{net_value, values_at, data_values}
 use Rattle.ht_net.proofs.ValueLaws.{seen_same, taken_same, taken_length}

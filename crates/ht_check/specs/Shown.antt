@@ -1,7 +1,7 @@
 -- What places show: whether one must differ, and whether one may.
 use Rattle.std.specs.Prelude.{List, [], ◌∷◌, Bool, true, false, ◌||◌}
 use Rattle.std.specs.List.{list_any, list_all}
-use Rattle.ht_tern.specs.Pairs.{Pair}
+use Rattle.ht_pairs.specs.Pairs.{Pair}
 use Rattle.ht_tree.specs.OneFrame.{differs}
 use Rattle.ht_check.specs.declared.places.Shown.{Shown}
 

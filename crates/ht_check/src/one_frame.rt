@@ -1,7 +1,7 @@
 // The one-frame window, evaluated afresh at each path.
 ghost use Rattle.std.specs.Prelude.{◌≡◌, ◌<◌, ◌+◌, ℕ, [], ◌∷◌, length, get_or, false, IfOk};
 ghost use Rattle.ht_tern.specs.declared.tern.Tern.TheVariants.{Unk};
-ghost use Rattle.ht_tern.specs.Pairs.{pair};
+ghost use Rattle.ht_pairs.specs.Pairs.{pair};
 ghost use Rattle.ht_net.specs.Netlist.{net_count, IsCircuit};
 ghost use Rattle.ht_net.specs.Frame.{data_values, net_value};
 ghost use Rattle.ht_frame.specs.Values.{env_of};

@@ -2,7 +2,7 @@
 ghost use Rattle.std.specs.Prelude.{◌≡◌, [], ◌∷◌, length};
 ghost use Rattle.std.specs.List.{list_any, list_all};
 ghost use Rattle.ht_tern.specs.declared.tern.Tern.TheVariants.{Unk};
-ghost use Rattle.ht_tern.specs.Pairs.{pair};
+ghost use Rattle.ht_pairs.specs.Pairs.{pair};
 ghost use Rattle.ht_net.specs.Netlist.{net_count};
 ghost use Rattle.ht_net.specs.Frame.{values_at};
 ghost use Rattle.ht_frame.specs.Values.{env_of};

@@ -12,7 +12,8 @@ use Rattle.ht_net.specs.declared.fault.Site.TheVariants.{GatePin}
 use Rattle.ht_net.specs.Netlist.{Netlist, first_gate_net, gate_at, arg_at, IsCircuit}
 use Rattle.ht_net.specs.Frame.{Rules, frame_outputs, next_state, run_outputs, run_state}
 use Rattle.ht_net.specs.Faults.{rules_of, tern_rules, bool_rules}
-use Rattle.ht_net.specs.Detection.{terns_of, unknown_state, tern_outputs, output_at, Opposite, IsBefore, IsFirstDetection}
+use Rattle.ht_tern.specs.Opposite.{Opposite}
+use Rattle.ht_net.specs.Detection.{terns_of, unknown_state, tern_outputs, output_at, IsBefore, IsFirstDetection}
 use Rattle.ht_faults.specs.Sites.{is_fanout, faults_of}
 use Rattle.ht_collapse.specs.Table.{equivalent_output}
 use Rattle.ht_collapse.specs.Classes.{EquivalentPair, SameClass, itself, paired, turned, joined, output_line, fault_at, AreClasses}

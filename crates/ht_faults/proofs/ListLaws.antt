@@ -5,7 +5,7 @@ use Rattle.std.proofs.lemmas.List.{length-take-le}
 use Rattle.std.proofs.lemmas.List.Concat.{get_or-flat_map}
 use Rattle.ht_net.specs.declared.fault.Site.{Site}
 use Rattle.ht_net.specs.declared.fault.Fault.{Fault}
-use Rattle.ht_net.specs.Faults.{site_faults}
+use Rattle.ht_faults.specs.Sites.{site_faults}
 
 -- two faults for each site
 pub faults_count : (sites : List Site) → length (flat_map site_faults sites) ≡ 2 * length sites

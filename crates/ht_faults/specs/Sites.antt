@@ -1,12 +1,19 @@
 -- The lines of a circuit that a fault stands on, and the whole fault list.
-use Rattle.std.specs.Prelude.{◌<◌, ◌≤◌, ℕ, List, ◌++◌, Bool, true, ltb, length, get_or, map}
+use Rattle.std.specs.Prelude.{◌<◌, ◌≤◌, ℕ, List, [], ◌∷◌, ◌++◌, Bool, true, false, ltb, length, get_or, map}
 use Rattle.std.specs.List.{filter, flat_map, range_with_len}
 use Rattle.ht_net.specs.declared.fault.Site.{Site}
 use Rattle.ht_net.specs.declared.fault.Site.TheVariants.{Stem, DffPin, GatePin}
 use Rattle.ht_net.specs.declared.fault.Fault.{Fault}
 use Rattle.ht_net.specs.Netlist.{Netlist, net_count, gate_at, arg_at, no_net}
 use Rattle.ht_net.specs.Levels.{loads_of}
-use Rattle.ht_net.specs.Faults.{stems_of, site_faults}
+
+-- The two faults of a site: stuck-at-0 and then stuck-at-1.
+abbrev pub site_faults : Site → List Fault
+site_faults site = record { site = site; value = false } ∷ record { site = site; value = true } ∷ []
+
+-- the stem of each net, by the number of the net
+abbrev pub stems_of : Netlist → List Site
+stems_of c = map (λ x. Stem (record { 0 = x })) (range_with_len 0 (net_count c))
 
 -- the net at the data pin of flip-flop j
 abbrev pub data_net : Netlist → ℕ → ℕ

@@ -1,6 +1,6 @@
 // The fault list.
 ghost use Rattle.std.specs.Prelude.{◌≡◌, ◌<◌, length, get_or, IfOk};
-ghost use Rattle.ht_net.specs.Faults.{site_faults};
+ghost use Rattle.ht_faults.specs.Sites.{site_faults};
 ghost use Rattle.ht_faults.specs.Sites.{faults_of};
 ghost use Rattle.ht_faults.specs.FaultList.{no_fault};
 

@@ -1,8 +1,9 @@
 -- Where a list of vectors detects a fault: one observation time, all flip-flops unknown at the start.
 use Rattle.std.specs.Prelude.{◌≡◌, ◌<◌, ◌⊎◌, ℕ, List, [], Bool, Option, Some, None, map, replicate, length, get_or, MatchOption}
 use Rattle.ht_tern.specs.declared.tern.Tern.{Tern}
-use Rattle.ht_tern.specs.declared.tern.Tern.TheVariants.{Zero, One, Unk}
+use Rattle.ht_tern.specs.declared.tern.Tern.TheVariants.{Unk}
 use Rattle.ht_tern.specs.Gate.{tern_of}
+use Rattle.ht_tern.specs.Opposite.{Opposite}
 use Rattle.ht_net.specs.declared.fault.Fault.{Fault}
 use Rattle.ht_net.specs.declared.place.Place.{Place}
 use Rattle.ht_net.specs.Netlist.{Netlist}
@@ -23,12 +24,6 @@ tern_outputs c fault list = run_outputs c (tern_rules fault) (unknown_state c) (
 -- what output o shows at vector t
 abbrev pub output_at : Netlist → Option Fault → List (List Bool) → ℕ → ℕ → Tern
 output_at c fault list t o = get_or (get_or (tern_outputs c fault list) t []) o Unk
-
--- definite in both and opposite
-abbrev pub Opposite : Tern → Tern → Type 0
-Opposite Zero One = Unit {0}
-Opposite One Zero = Unit {0}
-Opposite good bad = ⊥
 
 -- The list detects the fault at output o of vector t: there the good and the faulty machine show opposite definite
 -- values.

@@ -1,7 +1,5 @@
 -- The good machine and a machine with one stuck line, over any domain of values.
-use Rattle.std.specs.Prelude.{ℕ, List, [], ◌∷◌, Bool, true, false, ◌&&◌, cond, eqb, Option, Some, None}
-use Rattle.std.specs.List.{range_with_len}
-use Rattle.std.specs.Prelude.{map}
+use Rattle.std.specs.Prelude.{ℕ, List, Bool, true, false, ◌&&◌, cond, eqb, Option, Some, None}
 use Rattle.ht_tern.specs.declared.tern.Tern.{Tern}
 use Rattle.ht_tern.specs.declared.tern.Tern.TheVariants.{Unk}
 use Rattle.ht_tern.specs.declared.gate.Kind.{Kind}
@@ -9,7 +7,6 @@ use Rattle.ht_tern.specs.Gate.{gate_value, bool_gate_value, tern_of}
 use Rattle.ht_net.specs.declared.fault.Site.{Site}
 use Rattle.ht_net.specs.declared.fault.Site.TheVariants.{Stem, DffPin, GatePin}
 use Rattle.ht_net.specs.declared.fault.Fault.{Fault}
-use Rattle.ht_net.specs.Netlist.{Netlist, net_count}
 use Rattle.ht_net.specs.Frame.{Rules}
 
 -- whether a site is the stem of net x, pin i of gate g, or the data pin of flip-flop j
@@ -50,11 +47,3 @@ tern_rules fault = rules_of Unk gate_value (λ bit v. tern_of bit) fault
 
 abbrev pub bool_rules : Option Fault → Rules Bool
 bool_rules fault = rules_of false bool_gate_value (λ bit v. bit) fault
-
--- The two faults of a site: stuck-at-0 and then stuck-at-1.
-abbrev pub site_faults : Site → List Fault
-site_faults site = record { site = site; value = false } ∷ record { site = site; value = true } ∷ []
-
--- the stem of each net, by the number of the net
-abbrev pub stems_of : Netlist → List Site
-stems_of c = map (λ x. Stem (record { 0 = x })) (range_with_len 0 (net_count c))

@@ -7,7 +7,7 @@ use Rattle.ht_tern.specs.declared.gate.Kind.{Kind}
 use Rattle.ht_tern.specs.declared.gate.Kind.TheVariants.{And, Nand, Or, Nor, Xor, Xnor, Not, Buf}
 use Rattle.ht_tern.specs.Gate.{operation_of, polarity_of, folded, gate_value_over, gate_value, tern_operations, AllRelated, PreservesOperations, HasArity}
 use Rattle.ht_tern.proofs.GateLaws.{gate_related}
-use Rattle.ht_tern.specs.Pairs.{Pair, pair, IsMember, IsChoice, pair_operations, gate_pair, Arises}
+use Rattle.ht_pairs.specs.Pairs.{Pair, pair, IsMember, IsChoice, pair_operations, gate_pair, Arises}
 use Rattle.ht_pairs.specs.Results.{IsImage, IsImageOfTwo}
 
 -- r is the fold from a member of s along a choice from the sets

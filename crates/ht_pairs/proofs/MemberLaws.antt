@@ -3,7 +3,7 @@ use Rattle.std.proofs.Common.{◌≡◌, ◌⊎◌, ◌<◌, ℕ, zero, suc, Boo
 use Rattle.std.specs.List.{filter}
 use Rattle.std.proofs.lemmas.Bool.{agree_below_at, cases_Bool, cond-true, cond-false, or_cases, eqb-true}
 use Rattle.std.proofs.lemmas.Nat.Bits.{bit_at_and, bit_at_or, bit_at-lt}
-use Rattle.ht_tern.specs.Pairs.{Pair, all_pairs, IsMember}
+use Rattle.ht_pairs.specs.Pairs.{Pair, all_pairs, IsMember}
 use Rattle.ht_pairs.specs.Members.{holds, members_of, place_of}
 use Rattle.ht_pairs.proofs.PairTests.{any, any_gives, each_gives, in_all}
 

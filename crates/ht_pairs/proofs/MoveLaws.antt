@@ -1,7 +1,7 @@
 -- What each move does, tried at all 512 numbers; two moves in a row, and moves of two sets that meet.
 use Rattle.std.proofs.Common.{◌≡◌, ◌<◌, ◌*◌, ◌/◌, ◌%◌, ◌^◌, ℕ, Bool, true, false, refl, sym, ◌∙◌, ◌&&◌, ltb, bit_or, bit_and}
 use Rattle.std.proofs.lemmas.Bool.{and_parts, and_from, agree_below, agree_below_at, ltb-true}
-use Rattle.ht_tern.specs.Pairs.{Pair, stuck_pair}
+use Rattle.ht_pairs.specs.Pairs.{Pair, stuck_pair}
 use Rattle.ht_pairs.specs.Members.{holds}
 use Rattle.ht_pairs.specs.declared.moves.Half.{Half}
 use Rattle.ht_pairs.specs.declared.moves.Half.TheVariants.{Good, Faulty}

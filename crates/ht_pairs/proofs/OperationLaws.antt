@@ -2,7 +2,7 @@
 use Rattle.std.proofs.Common.{◌≡◌, ◌<◌, ◌↔◌, ℕ, Bool, true, List, refl, sym, ◌∙◌, ◌&&◌, ◌||◌, bit_or, bit_and, inl, inr, IsTrue, lt_of_le_of_lt}
 use Rattle.std.proofs.lemmas.Bool.{and_parts, and_from, or_cases, or_left, or_right}
 use Rattle.std.proofs.lemmas.Nat.{or_lt, and_le_l}
-use Rattle.ht_tern.specs.Pairs.{Pair, same_pair, pair_operations}
+use Rattle.ht_pairs.specs.Pairs.{Pair, same_pair, pair_operations}
 use Rattle.ht_pairs.specs.Members.{holds, members_of}
 use Rattle.ht_pairs.specs.Results.{IsImage, IsImageOfTwo}
 use Rattle.ht_pairs.specs.declared.moves.Half.TheVariants.{Good, Faulty}

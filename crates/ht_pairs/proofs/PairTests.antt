@@ -3,7 +3,7 @@ use Rattle.std.proofs.Common.{◌≡◌, Bool, true, false, List, [], ◌∷◌,
 use Rattle.std.proofs.lemmas.Bool.{and_parts, and_from, or_cases, or_left, or_right}
 use Rattle.ht_tern.specs.declared.tern.Tern.{Tern}
 use Rattle.ht_tern.specs.declared.tern.Tern.TheVariants.{Zero, One, Unk}
-use Rattle.ht_tern.specs.Pairs.{Pair, pair, all_pairs, IsMember, same_tern, same_pair}
+use Rattle.ht_pairs.specs.Pairs.{Pair, pair, all_pairs, IsMember, same_tern, same_pair}
 
 abbrev pub every : (Pair → Bool) → List Pair → Bool
 every f [] = true

@@ -4,7 +4,7 @@ use Rattle.std.proofs.lemmas.Bool.{agree_below_at, and_parts, or_cases, or_left,
 use Rattle.std.proofs.lemmas.Nat.Bits.{shr_and_one}
 use Rattle.ht_tern.specs.declared.tern.Tern.{Tern}
 use Rattle.ht_tern.specs.declared.tern.Tern.TheVariants.{Zero, One, Unk}
-use Rattle.ht_tern.specs.Pairs.{Pair, pair, IsMember, Differs, MayDiffer, MustDiffer, same_pair}
+use Rattle.ht_pairs.specs.Pairs.{Pair, pair, IsMember, Differs, MayDiffer, MustDiffer, same_pair}
 use Rattle.ht_pairs.specs.Members.{holds, members_of, bits_of, bits_of-members_of, place_of}
 use Rattle.ht_pairs.proofs.PairTests.{each, each_gives, each_from, same_pair-true, same_pair-from, eq_bool, eq_bool-true}
 use Rattle.ht_pairs.proofs.MemberLaws.{member_holds, holds_member}

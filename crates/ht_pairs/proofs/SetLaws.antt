@@ -5,7 +5,7 @@ use Rattle.std.proofs.lemmas.List.Elements.{filter_agree}
 use Rattle.ht_tern.specs.declared.tern.Tern.{Tern}
 use Rattle.ht_tern.specs.declared.tern.Tern.TheVariants.{Zero, One, Unk}
 use Rattle.ht_tern.specs.declared.gate.Kind.{Kind}
-use Rattle.ht_tern.specs.Pairs.{Pair, pair, IsMember, IsChoice, gate_pair, Arises, is_member, set_of, choices, lifted_set, stuck_pair, stuck_set, all_pairs, same_pair}
+use Rattle.ht_pairs.specs.Pairs.{Pair, pair, IsMember, IsChoice, gate_pair, Arises, is_member, set_of, choices, lifted_set, stuck_pair, stuck_set, all_pairs, same_pair}
 use Rattle.ht_pairs.specs.Members.{holds, members_of}
 use Rattle.ht_pairs.specs.Results.{IsImage}
 use Rattle.ht_pairs.proofs.PairTests.{same_pair-true, same_pair-from, in_all}

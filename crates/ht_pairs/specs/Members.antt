@@ -5,7 +5,7 @@ use Rattle.std.specs.List.{filter, sum_by}
 use Rattle.std.proofs.lemmas.Bool.{agree_below_at, eqb-true}
 use Rattle.ht_tern.specs.declared.tern.Tern.{Tern}
 use Rattle.ht_tern.specs.declared.tern.Tern.TheVariants.{Zero, One, Unk}
-use Rattle.ht_tern.specs.Pairs.{Pair, all_pairs}
+use Rattle.ht_pairs.specs.Pairs.{Pair, all_pairs}
 
 abbrev pub tern_place : Tern → ℕ
 tern_place Zero = 0

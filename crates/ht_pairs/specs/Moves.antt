@@ -3,7 +3,7 @@ use Rattle.std.specs.Prelude.{◌<◌, ◌↔◌, ℕ, Bool, true, false, ◌&&�
 use Rattle.ht_tern.specs.declared.tern.Tern.{Tern}
 use Rattle.ht_tern.specs.declared.tern.Tern.TheVariants.{Zero, One, Unk}
 use Rattle.ht_tern.specs.Gate.{complement_of, and_of, or_of}
-use Rattle.ht_tern.specs.Pairs.{Pair, same_tern, same_pair}
+use Rattle.ht_pairs.specs.Pairs.{Pair, same_tern, same_pair}
 use Rattle.ht_pairs.specs.Members.{holds}
 use Rattle.ht_pairs.specs.declared.moves.Half.{Half}
 use Rattle.ht_pairs.specs.declared.moves.Half.TheVariants.{Good, Faulty}

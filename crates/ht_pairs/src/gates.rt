@@ -1,7 +1,7 @@
 // A gate over sets of pairs.
 ghost use Rattle.std.specs.Prelude.{◌≡◌, ◌↔◌, length};
 ghost use Rattle.ht_tern.specs.Gate.{HasArity, operation_of, polarity_of};
-ghost use Rattle.ht_tern.specs.Pairs.{Arises, IsMember, Pair, lifted_set, pair_operations};
+ghost use Rattle.ht_pairs.specs.Pairs.{Arises, IsMember, Pair, lifted_set, pair_operations};
 ghost use Rattle.ht_pairs.specs.Results.{IsImage, IsImageOfTwo};
 
 use crate::PairSet;

@@ -1,7 +1,7 @@
 // What holds of every gate's set. Each law is the contract of a function that does nothing.
 ghost use Rattle.std.specs.Prelude.{◌≡◌, ◌↔◌, List, [], ◌∷◌, map};
 ghost use Rattle.ht_tern.specs.declared.gate.Kind.{Kind};
-ghost use Rattle.ht_tern.specs.Pairs.{Arises, IsMember, Pair, gate_pair, lifted_set};
+ghost use Rattle.ht_pairs.specs.Pairs.{Arises, IsMember, Pair, gate_pair, lifted_set};
 
 /// A member of a gate's set is the gate's value for some choice of members, and each such value is a member.
 pub fn lifted_set_holds_what_arises()

@@ -3,7 +3,7 @@
 // A set is a number of nine bits, here also the empty one. In groups of three it has the pairs whose good half is 0, 1
 // and X, and in each group the faulty half is 0, 1 and X.
 ghost use Rattle.std.specs.Prelude.{◌≡◌, ◌<◌};
-ghost use Rattle.ht_tern.specs.Pairs.{stuck_pair};
+ghost use Rattle.ht_pairs.specs.Pairs.{stuck_pair};
 ghost use Rattle.ht_pairs.specs.Moves.{IsMoved, along, becomes, blurs, complements, inverts, lowers, passes, raises, step_of, zeros_of};
 
 /// A half of a pair.

@@ -1,7 +1,7 @@
 // Sets of pairs: how one is made, what it may be asked, and the stuck line.
 ghost use Rattle.std.specs.Prelude.{◌≡◌, ◌+◌, ◌*◌, ◌<◌, ◌↔◌, IsTrue, [], ◌∷◌, length};
 ghost use Rattle.ht_tern.specs.declared.tern.Tern.TheVariants.{Zero, One, Unk};
-ghost use Rattle.ht_tern.specs.Pairs.{IsMember, MayDiffer, MustDiffer, pair, stuck_set};
+ghost use Rattle.ht_pairs.specs.Pairs.{IsMember, MayDiffer, MustDiffer, pair, stuck_set};
 ghost use Rattle.ht_pairs.specs.Members.{place_of, tern_place};
 
 use crate::moves::stuck;
@@ -20,7 +20,7 @@ pub struct PairSet {
 impl Model for PairSet {
     ghost use Rattle.std.specs.Prelude.{◌<◌, List};
     ghost use Rattle.std.proofs.Common.{ap};
-    ghost use Rattle.ht_tern.specs.Pairs.{Pair};
+    ghost use Rattle.ht_pairs.specs.Pairs.{Pair};
     ghost use Rattle.ht_pairs.specs.Members.{members_of, bits_of, bits_of-members_of};
 
     ghost Value = { List Pair };

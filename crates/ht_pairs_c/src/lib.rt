@@ -4,7 +4,7 @@
 
 ghost use Rattle.std.specs.Prelude.{◌≡◌, length};
 ghost use Rattle.ht_tern.specs.Gate.{HasArity};
-ghost use Rattle.ht_tern.specs.Pairs.{lifted_set};
+ghost use Rattle.ht_pairs.specs.Pairs.{lifted_set};
 ghost use Rattle.ht_pairs_c.specs.Numbers.{kind_of};
 
 use ht_pairs::{PairSet, lift};

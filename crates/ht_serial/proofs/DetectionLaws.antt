@@ -10,7 +10,8 @@ use Rattle.ht_net.specs.declared.place.Place.{Place}
 use Rattle.ht_net.specs.Netlist.{Netlist}
 use Rattle.ht_net.specs.Frame.{Rules, net_value, frame_outputs, next_state, run_state, run_outputs}
 use Rattle.ht_net.specs.Faults.{tern_rules}
-use Rattle.ht_net.specs.Detection.{terns_of, unknown_state, tern_outputs, Opposite, Detects, IsBefore}
+use Rattle.ht_tern.specs.Opposite.{Opposite}
+use Rattle.ht_net.specs.Detection.{terns_of, unknown_state, tern_outputs, Detects, IsBefore}
 use Rattle.ht_net.proofs.FrameLaws.{le_or_lt}
 use Rattle.ht_net.proofs.ValueLaws.{seen_length}
 use Rattle.ht_serial.specs.MachineState.{MachineState, stepped, after_run, after_list}

@@ -2,7 +2,7 @@
 use Rattle.std.specs.Prelude.{ℕ, List, get_or}
 use Rattle.ht_tern.specs.declared.tern.Tern.{Tern}
 use Rattle.ht_tern.specs.declared.tern.Tern.TheVariants.{Unk}
-use Rattle.ht_net.specs.Detection.{Opposite}
+use Rattle.ht_tern.specs.Opposite.{Opposite}
 
 -- output o shows opposite definite values
 abbrev pub IsOppositeAt : List Tern → List Tern → ℕ → Type 0

@@ -1,7 +1,8 @@
 // The first place where a list of vectors detects a fault.
 ghost use Rattle.std.specs.Prelude.{◌≡◌, ℕ, ◌<◌, length, Option, IfOk, MatchOption, IsTrue, ◌↔◌};
 ghost use Rattle.ht_tern.specs.declared.tern.Tern.TheVariants.{Unk};
-ghost use Rattle.ht_net.specs.Detection.{Opposite, IsFirstDetection};
+ghost use Rattle.ht_tern.specs.Opposite.{Opposite};
+ghost use Rattle.ht_net.specs.Detection.{IsFirstDetection};
 ghost use Rattle.ht_net.specs.Silence.{Apart};
 ghost use Rattle.std.specs.Option.{ForSome};
 ghost use Rattle.ht_serial.specs.Opposites.{IsOppositeAt};

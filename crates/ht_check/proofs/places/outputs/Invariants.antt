@@ -1,6 +1,6 @@
 use Rattle.std.proofs.Common.{◌≡◌, drop, [], ◌∷◌}
 use Rattle.ht_tern.specs.declared.tern.Tern.TheVariants.{Unk}
-use Rattle.ht_tern.specs.Pairs.{pair}
+use Rattle.ht_pairs.specs.Pairs.{pair}
 use Rattle.ht_net.specs.Frame.{values_at}
 use Rattle.ht_frame.specs.Values.{env_of}
 use Rattle.ht_check.specs.Shown.{either, shown_by}

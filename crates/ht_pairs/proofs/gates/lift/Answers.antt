@@ -1,5 +1,5 @@
 use Rattle.std.proofs.Common.{sym, ◌∙◌, subst, List, ◌↔◌}
-use Rattle.ht_tern.specs.Pairs.{Pair, IsMember, Arises}
+use Rattle.ht_pairs.specs.Pairs.{Pair, IsMember, Arises}
 use Rattle.ht_pairs.proofs.SetLaws.{members_of-lifted_set}
 use Rattle.ht_pairs.proofs.FoldLaws.{folded_all}
 use Rattle.ht_pairs.proofs.gates.lift.Goals as goal
