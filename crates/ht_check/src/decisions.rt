@@ -48,7 +48,7 @@ pub fn latch(halves: bool, good: Option<Tern>, faulty: Option<Tern>) -> PairSet
 }
 
 /// The set of a decided good half, and a faulty half that is open.
-#[tactic(auto, unfolding(ht_tern::specs::Pairs::lifted_set, ht_tern::specs::Pairs::set_of))]
+#[tactic(auto, unfolding(ht_pairs::specs::Pairs::lifted_set, ht_pairs::specs::Pairs::set_of))]
 fn with_good(good: Tern) -> PairSet
     requires { good ≢ Unk }
     ensures { result ≡ each_pair (Some good) None }
@@ -74,7 +74,7 @@ fn with_good(good: Tern) -> PairSet
 }
 
 /// The set of a decided faulty half, and a good half that is open.
-#[tactic(auto, unfolding(ht_tern::specs::Pairs::stuck_set, ht_tern::specs::Pairs::set_of))]
+#[tactic(auto, unfolding(ht_pairs::specs::Pairs::stuck_set, ht_pairs::specs::Pairs::set_of))]
 fn with_faulty(faulty: Tern) -> PairSet
     requires { faulty ≢ Unk }
     ensures { result ≡ each_pair None (Some faulty) }

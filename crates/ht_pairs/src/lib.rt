@@ -5,7 +5,7 @@
 //! forces a stuck line's faulty half. No call takes memory.
 //!
 //! Contracts see a `PairSet` as the list of its members in the order 00, 01, 0X, 10, 11, 1X, X0, X1, XX.
-//! `specs/Pairs.antt` of `ht_tern` has pairs, choices and a gate's set, by enumeration; the code moves bits.
+//! `specs/Pairs.antt` has pairs, choices and a gate's set, by enumeration; the code moves bits.
 #![tactic(auto)]
 
 mod gates;
