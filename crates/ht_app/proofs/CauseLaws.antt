@@ -8,7 +8,7 @@ use Rattle.ht_ports.specs.declared.ports.Failed.{Failed}
 use Rattle.ht_ports.specs.declared.ports.InPort.TheVariants.{Netlist, Tests}
 use Rattle.ht_ports.specs.declared.ports.OutPort.TheVariants.{Report, Out, Err as err}
 use Rattle.ht_net.specs.Netlist as net
-use Rattle.ht_words_laws.specs.Asked.{Asked, sim, norm}
+use Rattle.ht_asked.specs.Asked.{Asked, sim, norm}
 use Rattle.ht_app.specs.declared.trouble.Trouble.{Trouble}
 use Rattle.ht_app.specs.declared.trouble.Trouble.TheVariants.{Usage, TooLong, Refused, ReadFault, WriteFault, NoMemory, BadTests}
 use Rattle.ht_app.specs.Inputs.{IsInput, MayHold, IsAccepted, AcceptsNetlist, AcceptsTests}

@@ -7,7 +7,7 @@ use Rattle.std.specs.Option.{option_map}
 use Rattle.std.specs.Io.KnownBytes.{append_known}
 use Rattle.ht_ports.specs.Desk.{DeskView, AddedPart}
 use Rattle.ht_ports.specs.declared.ports.OutPort.TheVariants.{Report, Out}
-use Rattle.ht_words_laws.specs.Asked.{sim, norm}
+use Rattle.ht_asked.specs.Asked.{sim, norm}
 use Rattle.ht_texts.specs.Reports.{total_line}
 use Rattle.ht_app.specs.Run.{IsBegunOn, IsCutShort, IsCut}
 use Rattle.ht_app.specs.Causes.{NothingOut, AreWorkedInto, IsNormalTextOf}

@@ -7,7 +7,7 @@ use Rattle.ht_ports.specs.declared.ports.InPort.{InPort}
 use Rattle.ht_ports.specs.declared.ports.InPort.TheVariants.{Netlist, Tests}
 use Rattle.ht_ports.specs.declared.ports.OutPort.{OutPort}
 use Rattle.ht_ports.specs.declared.ports.OutPort.TheVariants.{Report, Out, Err}
-use Rattle.ht_words_laws.specs.Asked.{Asked, sim, norm}
+use Rattle.ht_asked.specs.Asked.{Asked, sim, norm}
 
 -- nothing is created, and nothing comes out but on Err
 pub record OnlyErr (old new : DeskView) : Type 0 where

@@ -9,7 +9,7 @@ use Rattle.ht_ports.specs.declared.ports.InPort.TheVariants.{Netlist, Tests}
 use Rattle.ht_net.specs.Netlist as net
 use Rattle.ht_bench.specs.Normal.{normal_text}
 use Rattle.ht_texts.specs.Tests.{IsMalformedTest}
-use Rattle.ht_words_laws.specs.Asked.{sim}
+use Rattle.ht_asked.specs.Asked.{sim}
 use Rattle.ht_app.specs.declared.trouble.Trouble.{Trouble}
 use Rattle.ht_app.specs.declared.trouble.Trouble.TheVariants.{TooLong, Refused, ReadFault, NoMemory, BadTests}
 use Rattle.ht_app.specs.Inputs.{most_bytes, IsInput, IsAccepted, MayHold, AreInputs}

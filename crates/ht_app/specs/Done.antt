@@ -13,7 +13,7 @@ use Rattle.ht_collapse.specs.Classes.{AreClasses, fault_at}
 use Rattle.ht_bench.specs.Normal.{normal_text}
 use Rattle.ht_texts.specs.Tests.{IsTestText}
 use Rattle.ht_texts.specs.Reports.{report_text, total_line, class_count, detected_count}
-use Rattle.ht_words_laws.specs.Asked.{Asked, sim, norm}
+use Rattle.ht_asked.specs.Asked.{Asked, sim, norm}
 use Rattle.ht_app.specs.Inputs.{IsInput, IsAccepted, AreInputs, AcceptsNetlist, AcceptsTests}
 
 -- ---- `sim`

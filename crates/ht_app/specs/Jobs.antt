@@ -1,7 +1,7 @@
 -- The files of a job.
 use Rattle.std.specs.Prelude.{ℕ, List, [], Option, Some, None}
 use Rattle.ht_ports.specs.Desk.{DeskView, Holds}
-use Rattle.ht_words_laws.specs.Asked.{Asked, sim, norm}
+use Rattle.ht_asked.specs.Asked.{Asked, sim, norm}
 use Rattle.ht_app.specs.Inputs.{AcceptsNetlist, AcceptsTests}
 
 -- the netlist to read

@@ -13,7 +13,7 @@ use Rattle.ht_bench.specs.Normal.{normal_text}
 use Rattle.ht_bench.specs.declared.error.BenchError.{BenchError}
 use Rattle.ht_bench.specs.declared.error.BenchError.TheVariants as bench
 use Rattle.ht_texts.specs.Tests.{IsMalformedTest}
-use Rattle.ht_words_laws.specs.Asked.{Asked, sim, norm}
+use Rattle.ht_asked.specs.Asked.{Asked, sim, norm}
 use Rattle.ht_app.specs.declared.trouble.Trouble.{Trouble}
 use Rattle.ht_app.specs.declared.trouble.Trouble.TheVariants.{Usage, TooLong, Refused, ReadFault, WriteFault, NoMemory, BadTests}
 use Rattle.ht_app.specs.Done.{IsSimulated}

@@ -3,7 +3,7 @@ ghost use Rattle.std.specs.Prelude.{◌≡◌, ◌≢◌, ◌⊎◌, ℕ, List, 
 ghost use Rattle.ht_ports.specs.declared.ports.InPort.TheVariants as in_port;
 ghost use Rattle.ht_net.specs.Netlist.{Netlist};
 ghost use Rattle.ht_texts.specs.Tests.{IsTestText, IsMalformedTest};
-ghost use Rattle.ht_words_laws.specs.Asked.{Asked, asked, texts_of, sim, norm};
+ghost use Rattle.ht_asked.specs.Asked.{Asked, asked, texts_of, sim, norm};
 ghost use Rattle.ht_words.specs.Jobs.{asked_by};
 ghost use Rattle.ht_app.specs.Inputs.{IsInput, AreInputs, IsAccepted};
 ghost use Rattle.ht_app.specs.Jobs.{netlist_name_of, output_name_of, output_name, HoldsInputs};

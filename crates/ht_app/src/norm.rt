@@ -1,7 +1,7 @@
 // The command `norm`.
 ghost use Rattle.std.specs.Prelude.{◌≡◌, ◌≢◌, IfOk, IfErr, OnOk};
 ghost use Rattle.ht_ports.specs.declared.ports.OutPort.TheVariants as out_port;
-ghost use Rattle.ht_words_laws.specs.Asked as asked;
+ghost use Rattle.ht_asked.specs.Asked as asked;
 ghost use Rattle.ht_app.specs.Inputs.{AcceptsNetlist};
 ghost use Rattle.ht_app.specs.Done.{NormDone};
 ghost use Rattle.ht_app.specs.Run.{HasCause};

@@ -1,7 +1,7 @@
 // The command `sim`.
 ghost use Rattle.std.specs.Prelude.{◌≡◌, ◌≢◌, ◌<◌, ◌≤◌, ◌^◌, length, IfOk, IfErr, OnOk};
 ghost use Rattle.ht_net.specs.Netlist.{IsCircuit};
-ghost use Rattle.ht_words_laws.specs.Asked as asked;
+ghost use Rattle.ht_asked.specs.Asked as asked;
 ghost use Rattle.ht_app.specs.Inputs.{AcceptsTests};
 ghost use Rattle.ht_app.specs.Done.{SimDone};
 ghost use Rattle.ht_app.specs.Run.{HasCause};

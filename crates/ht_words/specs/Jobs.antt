@@ -1,7 +1,7 @@
 -- Jobs as what words ask for.
 use Rattle.std.specs.Prelude.{codes, string_bytes}
 use Rattle.clap.specs.Walk.{Text}
-use Rattle.ht_words_laws.specs.Asked.{Asked, norm, sim}
+use Rattle.ht_asked.specs.Asked.{Asked, norm, sim}
 use Rattle.ht_words.specs.declared.job.Job.{Job}
 use Rattle.ht_words.specs.declared.job.Job.TheVariants as job
 use Rattle.ht_words.specs.declared.command_name.CommandName.{CommandName}

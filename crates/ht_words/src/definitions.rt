@@ -1,7 +1,7 @@
 // One `clap` command for each command of the program.
 ghost use Rattle.std.specs.Prelude.{◌≡◌, IfOk, false};
 ghost use Rattle.clap.specs.Words.{app_of, rule_of};
-ghost use Rattle.ht_words_laws.specs.Definitions.{app_named, norm_app, sim_app, wanted};
+ghost use Rattle.ht_asked.specs.Definitions.{app_named, norm_app, sim_app, wanted};
 
 use clap::{Arg, Command};
 use std::alloc::{AllocError, Global};

@@ -1,8 +1,8 @@
 // From words to a job.
 ghost use Rattle.std.specs.Prelude.{◌≡◌, IfOk, None, Some, false, string_bytes, true};
 ghost use Rattle.clap.specs.Words.{app_of, first_of, found_of, is_simple_and_free, matches_of, rows_of};
-ghost use Rattle.ht_words_laws.specs.Asked.{asked, texts_of};
-ghost use Rattle.ht_words_laws.specs.ByClap.{asked_by_clap, is_taken, norm_by_clap, sim_by_clap};
+ghost use Rattle.ht_asked.specs.Asked.{asked, texts_of};
+ghost use Rattle.ht_asked.specs.ByClap.{asked_by_clap, is_taken, norm_by_clap, sim_by_clap};
 ghost use Rattle.ht_words.specs.Jobs.{asked_by};
 ghost use Rattle.ht_words.specs.declared.job.WordsFault.TheVariants as fault;
 

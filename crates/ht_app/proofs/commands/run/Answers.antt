@@ -1,5 +1,5 @@
 use Rattle.std.proofs.Common.{◌≡◌, ◌⊎◌, ◌≢◌, ℕ, sym, ◌∙◌, subst}
-use Rattle.ht_words_laws.specs.Asked.{asked, texts_of, sim, norm}
+use Rattle.ht_asked.specs.Asked.{asked, texts_of, sim, norm}
 use Rattle.ht_app.specs.Jobs.{output_name}
 use Rattle.ht_app.specs.ErrLines.{status_of, line_of}
 use Rattle.ht_app.proofs.CauseLaws.{says, only_err, only_report, says_nothing_later, cause_of_job, job_done}

@@ -1,5 +1,5 @@
 use Rattle.std.proofs.Common.{List, ℕ, sym, subst, rules}
-use Rattle.ht_words_laws.specs.Asked.{norm}
+use Rattle.ht_asked.specs.Asked.{norm}
 use Rattle.ht_app.specs.declared.trouble.Trouble.{Trouble}
 use Rattle.ht_app.specs.Run.{HasCause, IsCutShort}
 use Rattle.ht_app.specs.Causes.{IsBegun}

@@ -1,5 +1,5 @@
 use Rattle.std.proofs.Common.{◌<◌, ◌++◌, ℕ, List, length, sym, subst, rules}
-use Rattle.ht_words_laws.specs.Asked.{sim}
+use Rattle.ht_asked.specs.Asked.{sim}
 use Rattle.ht_app.specs.Causes.{SimulateCause}
 use Rattle.ht_app.proofs.CauseLaws.{netlist_cause, tests_cause, accepts_netlist, may_hold_before, input_later}
 use Rattle.ht_app.proofs.CutLaws.{total_some}

@@ -1,7 +1,7 @@
 use Rattle.std.proofs.Common.{◌∙◌, ap, refl, sym}
 use Rattle.std.proofs.lemmas.Result.{IfOk-weaker}
-use Rattle.ht_words_laws.proofs.AskedByClap.{asked_is_by_clap}
-use Rattle.ht_words_laws.proofs.Answered.{named_norm, named_otherwise, named_sim, no_words}
+use Rattle.ht_asked.proofs.AskedByClap.{asked_is_by_clap}
+use Rattle.ht_asked.proofs.Answered.{named_norm, named_otherwise, named_sim, no_words}
 use Rattle.ht_words.specs.Jobs.{spelling}
 use Rattle.ht_words.specs.declared.command_name.CommandName.TheVariants as name
 use Rattle.ht_words.proofs.reading.command.Goals as goal

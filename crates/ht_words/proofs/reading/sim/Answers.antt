@@ -1,7 +1,7 @@
 use Rattle.std.proofs.Common.{◌∙◌, codes, rules}
 use Rattle.clap.specs.Words.{app_of, first_of, found_of, rows_of}
-use Rattle.ht_words_laws.specs.Asked.{texts_of}
-use Rattle.ht_words_laws.proofs.Answered.{sim_answered, sim_from, sim_refused}
+use Rattle.ht_asked.specs.Asked.{texts_of}
+use Rattle.ht_asked.proofs.Answered.{sim_answered, sim_from, sim_refused}
 use Rattle.ht_words.proofs.reading.sim.Goals as goal
 
 pub returns-in_err-matches-clause-usage : goal.returns-in_err-matches-clause-usage

@@ -4,13 +4,13 @@ use Rattle.clap.specs.Lexer.{usize_max}
 use Rattle.clap.specs.Walk.{Rule, Text, arg_by_index, is_empty, nothing_held}
 use Rattle.clap.specs.Simple.{built, matches_of}
 use Rattle.clap.proofs.FaultLemmas.{leaf_fault}
-use Rattle.ht_words_laws.specs.Uses.{arguments, place_in}
-use Rattle.ht_words_laws.specs.Definitions.{sim_app, sim_names}
-use Rattle.ht_words_laws.specs.Asked.{operands, sim_of}
-use Rattle.ht_words_laws.specs.ByClap.{sim_by_clap}
-use Rattle.ht_words_laws.proofs.WalkIsRead.{AreReadable, Finds, IsModel, Param, answer, word}
-use Rattle.ht_words_laws.proofs.Operands.{placed}
-use Rattle.ht_words_laws.proofs.Positionals.{Walks, need, placed_values, rules_from, values_by_clap_are}
+use Rattle.ht_asked.specs.Uses.{arguments, place_in}
+use Rattle.ht_asked.specs.Definitions.{sim_app, sim_names}
+use Rattle.ht_asked.specs.Asked.{operands, sim_of}
+use Rattle.ht_asked.specs.ByClap.{sim_by_clap}
+use Rattle.ht_asked.proofs.WalkIsRead.{AreReadable, Finds, IsModel, Param, answer, word}
+use Rattle.ht_asked.proofs.Operands.{placed}
+use Rattle.ht_asked.proofs.Positionals.{Walks, need, placed_values, rules_from, values_by_clap_are}
 
 abbrev netlist : Param
 netlist = need (codes "netlist") 1

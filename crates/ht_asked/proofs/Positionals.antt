@@ -10,11 +10,11 @@ use Rattle.clap.specs.Walk.{Row, Rule, Text, first_of, has_row, is_empty, with_d
 use Rattle.clap.specs.Simple.{App, matches_of}
 use Rattle.clap.specs.Takes.{is_given}
 use Rattle.clap.specs.Faults.{check_fault, default_fault, defaults_fault, given_default_fault}
-use Rattle.ht_words_laws.specs.Uses.{Use, arguments, used_value, uses_of}
-use Rattle.ht_words_laws.specs.Asked.{operands}
-use Rattle.ht_words_laws.specs.ByClap.{all_of, all_with, is_taken, values_by_clap}
-use Rattle.ht_words_laws.proofs.WalkIsRead.{AreReadable, IsModel, Param, answer, finish, idle_at, row, rows, shape, walk_is_read, word}
-use Rattle.ht_words_laws.proofs.Operands.{Places, placed, reads_operands}
+use Rattle.ht_asked.specs.Uses.{Use, arguments, used_value, uses_of}
+use Rattle.ht_asked.specs.Asked.{operands}
+use Rattle.ht_asked.specs.ByClap.{all_of, all_with, is_taken, values_by_clap}
+use Rattle.ht_asked.proofs.WalkIsRead.{AreReadable, IsModel, Param, answer, finish, idle_at, row, rows, shape, walk_is_read, word}
+use Rattle.ht_asked.proofs.Operands.{Places, placed, reads_operands}
 
 -- ---- what is found among the uses
 

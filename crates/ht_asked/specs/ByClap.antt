@@ -4,8 +4,8 @@ use Rattle.std.specs.Str.{bytes_eq}
 use Rattle.clap.specs.Walk.{Text, first_of, is_empty}
 use Rattle.clap.specs.Simple.{App, matches_of}
 use Rattle.clap.specs.Faults.{fault_of}
-use Rattle.ht_words_laws.specs.Definitions.{norm_app, norm_names, sim_app, sim_names}
-use Rattle.ht_words_laws.specs.Asked.{Asked, norm_of, sim_of}
+use Rattle.ht_asked.specs.Definitions.{norm_app, norm_names, sim_app, sim_names}
+use Rattle.ht_asked.specs.Asked.{Asked, norm_of, sim_of}
 
 -- `clap` takes the words
 abbrev pub is_taken : App → List Text → Bool

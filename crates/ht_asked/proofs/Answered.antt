@@ -5,11 +5,11 @@ use Rattle.std.specs.Str.{bytes_eq}
 use Rattle.std.proofs.lemmas.Slice.Eq.{bytes_eq-Decides}
 use Rattle.clap.specs.Walk.{Row, Text, first_of}
 use Rattle.clap.specs.Simple.{App, matches_of}
-use Rattle.ht_words_laws.specs.Definitions.{norm_app, norm_names, sim_app, sim_names}
-use Rattle.ht_words_laws.specs.Asked.{Asked, asked, norm_of, sim_of, texts_of}
-use Rattle.ht_words_laws.specs.ByClap.{all_of, asked_by_clap, by_clap_from, is_taken, norm_by_clap, sim_by_clap, value_of, values_by_clap}
-use Rattle.ht_words_laws.proofs.Positionals.{values_in}
-use Rattle.ht_words_laws.proofs.AskedByClap.{asked_is_by_clap}
+use Rattle.ht_asked.specs.Definitions.{norm_app, norm_names, sim_app, sim_names}
+use Rattle.ht_asked.specs.Asked.{Asked, asked, norm_of, sim_of, texts_of}
+use Rattle.ht_asked.specs.ByClap.{all_of, asked_by_clap, by_clap_from, is_taken, norm_by_clap, sim_by_clap, value_of, values_by_clap}
+use Rattle.ht_asked.proofs.Positionals.{values_in}
+use Rattle.ht_asked.proofs.AskedByClap.{asked_is_by_clap}
 
 -- ---- what `clap` answered
 

@@ -16,8 +16,8 @@ use Rattle.clap.specs.declared.builder.value_parser.ValueParser.TheVariants as v
 use Rattle.clap.specs.declared.builder.value_parser.Reading.TheVariants as reading
 use Rattle.clap.specs.declared.parser.matches.ValueSource.TheVariants.{CommandLine}
 use Rattle.clap.specs.declared.error.kind.ErrorKind.TheVariants as kind
-use Rattle.ht_words_laws.specs.Uses.{Arguments, Use, add_use, has_use, Looks, looks, looks_by, read, read_option, read_positional, read_word}
-use Rattle.ht_words_laws.specs.Uses as look
+use Rattle.ht_asked.specs.Uses.{Arguments, Use, add_use, has_use, Looks, looks, looks_by, read, read_option, read_positional, read_word}
+use Rattle.ht_asked.specs.Uses as look
 
 -- what is free in an argument of ours
 pub record Param : Type 0 where

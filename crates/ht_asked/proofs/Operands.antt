@@ -6,9 +6,9 @@ use Rattle.std.proofs.lemmas.Bool.Decides.{Decides-eqb}
 use Rattle.std.proofs.lemmas.Slice.Eq.{bytes_eq-Decides}
 use Rattle.clap.specs.Lexer.{long_of, long_of_rest, name_and_value, short_of, short_of_rest, strip_byte}
 use Rattle.clap.specs.Walk.{Text}
-use Rattle.ht_words_laws.specs.Uses.{Arguments, Use, has_use, Looks, looks_by, read, read_positional, read_word}
-use Rattle.ht_words_laws.specs.Uses as look
-use Rattle.ht_words_laws.specs.Asked.{is_option, operands}
+use Rattle.ht_asked.specs.Uses.{Arguments, Use, has_use, Looks, looks_by, read, read_positional, read_word}
+use Rattle.ht_asked.specs.Uses as look
+use Rattle.ht_asked.specs.Asked.{is_option, operands}
 
 abbrev dashes : Text
 dashes = 45 ∷ 45 ∷ []
