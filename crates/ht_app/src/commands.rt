@@ -35,8 +35,14 @@ fn do_job<D: Desk>(alloc: Global, job: &Job, desk: &mut D) -> Result<(), Trouble
             netlist,
             tests,
             report,
-        } => sim(alloc, netlist, tests, report, desk),
-        Job::Norm { netlist, out } => norm(alloc, netlist, out, desk),
+        } => sim(
+            alloc,
+            netlist.as_str(),
+            tests.as_str(),
+            report.as_str(),
+            desk,
+        ),
+        Job::Norm { netlist, out } => norm(alloc, netlist.as_str(), out.as_str(), desk),
     }
 }
 

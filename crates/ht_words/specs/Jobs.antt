@@ -1,5 +1,5 @@
 -- Jobs as what words ask for.
-use Rattle.std.specs.Prelude.{codes, string_bytes}
+use Rattle.std.specs.Prelude.{codes}
 use Rattle.clap.specs.Walk.{Text}
 use Rattle.ht_asked.specs.Asked.{Asked, norm, sim}
 use Rattle.ht_words.specs.declared.job.Job.{Job}
@@ -14,5 +14,5 @@ spelling name.Norm = codes "norm"
 
 -- what words ask for where they ask for the job
 abbrev pub asked_by : Job → Asked
-asked_by (job.Sim netlist tests report) = sim (string_bytes netlist) (string_bytes tests) (string_bytes report)
-asked_by (job.Norm netlist out) = norm (string_bytes netlist) (string_bytes out)
+asked_by (job.Sim netlist tests report) = sim netlist tests report
+asked_by (job.Norm netlist out) = norm netlist out

@@ -1,7 +1,8 @@
-// What words ask for.
+//! What words ask for.
 ghost use Rattle.std.specs.Prelude.{◌≡◌};
 ghost use Rattle.ht_words.specs.declared.job.WordsFault.TheVariants as fault;
 
+use crate::file_name::FileName;
 use std::alloc::AllocError;
 use thiserror::Error;
 
@@ -11,18 +12,18 @@ pub enum Job {
     /// Runs the tests on the netlist, and reports each fault.
     Sim {
         /// The netlist to read.
-        netlist: String,
+        netlist: FileName,
         /// The tests to read.
-        tests: String,
+        tests: FileName,
         /// The report to write.
-        report: String,
+        report: FileName,
     },
     /// Writes the netlist in its normal form.
     Norm {
         /// The netlist to read.
-        netlist: String,
+        netlist: FileName,
         /// The normal netlist to write.
-        out: String,
+        out: FileName,
     },
 }
 

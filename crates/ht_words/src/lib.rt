@@ -7,10 +7,12 @@
 
 mod command_name;
 mod definitions;
+mod file_name;
 mod job;
 mod reading;
 #[cfg(test)]
 mod tests;
 
+pub use file_name::FileName;
 pub use job::{Job, WordsFault};
 pub use reading::command;

@@ -1,5 +1,5 @@
 // From words to a job.
-ghost use Rattle.std.specs.Prelude.{◌≡◌, IfOk, None, Some, false, string_bytes, true};
+ghost use Rattle.std.specs.Prelude.{◌≡◌, IfOk, None, Some, false, true};
 ghost use Rattle.clap.specs.Words.{app_of, first_of, found_of, is_simple_and_free, matches_of, rows_of};
 ghost use Rattle.ht_asked.specs.Asked.{asked, texts_of};
 ghost use Rattle.ht_asked.specs.ByClap.{asked_by_clap, is_taken, norm_by_clap, sim_by_clap};
@@ -8,6 +8,7 @@ ghost use Rattle.ht_words.specs.declared.job.WordsFault.TheVariants as fault;
 
 use crate::command_name::CommandName;
 use crate::definitions;
+use crate::file_name::FileName;
 use crate::job::{Job, WordsFault};
 use clap::error::ErrorKind;
 use clap::{ArgMatches, Command};
@@ -77,14 +78,14 @@ fn matches_for<'a>(command: Command<'a>, words: &'a [String]) -> Result<ArgMatch
 }
 
 // The value of an argument.
-fn value(alloc: Global, matches: &ArgMatches<'_>, id: &str) -> Result<String, WordsFault>
+fn value(alloc: Global, matches: &ArgMatches<'_>, id: &str) -> Result<FileName, WordsFault>
     ensures usage { result ≡ Err fault.Usage → first_of id.now (rows_of (found_of matches.now))
         ≡ None }
-    ensures ok { IfOk result (λ s. first_of id.now (rows_of (found_of matches.now))
-        ≡ Some (string_bytes s)) }
+    ensures ok { IfOk result (λ name. first_of id.now (rows_of (found_of matches.now))
+        ≡ Some name) }
 {
     match matches.get_str(id) {
-        Some(text) => Ok(String::from_str(alloc, text)?),
+        Some(text) => Ok(FileName::new(String::from_str(alloc, text)?)),
         None => Err(WordsFault::Usage),
     }
 }

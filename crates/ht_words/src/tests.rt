@@ -16,8 +16,17 @@ fn told(alloc: Global, words: &[&str]) -> Result<String, Fail> {
                 tests,
                 report,
             },
-        ) => Ok(format!(in alloc; "sim <{netlist}> <{tests}> <{report}>")?),
-        Ok(Job::Norm { netlist, out }) => Ok(format!(in alloc; "norm <{netlist}> <{out}>")?),
+        ) => Ok(format!(in alloc;
+            "sim <{}> <{}> <{}>",
+            netlist.as_str(),
+            tests.as_str(),
+            report.as_str()
+        )?),
+        Ok(Job::Norm { netlist, out }) => Ok(format!(in alloc;
+            "norm <{}> <{}>",
+            netlist.as_str(),
+            out.as_str()
+        )?),
         Err(WordsFault::Usage) => Ok(String::from_str(alloc, "usage")?),
         Err(WordsFault::NoMemory) => Err(Fail::from("no memory")),
     }

@@ -5,8 +5,8 @@ use Rattle.ht_words.proofs.reading.value.Goals as goal
 
 pub returns-in_ok-from_str-in-Some-clause-ok : goal.returns-in_ok-from_str-in-Some-clause-ok
 returns-in_ok-from_str-in-Some-clause-ok c =
-    sym (first_value-rows (found_of c.args.matches.now) c.args.id.now) ∙ sym c.in-Some.ensures ∙ ap Some
-    (sym c.in_ok-from_str-in-Some.ensures.ok)
+    sym (first_value-rows (found_of c.args.matches.now) c.args.id.now) ∙ sym c.in-Some.ensures
+    ∙ ap Some (sym c.in_ok-from_str-in-Some.ensures.ok ∙ sym c.new.ensures)
 
 pub returns-in-None-clause-usage : goal.returns-in-None-clause-usage
 returns-in-None-clause-usage c = λ e. sym (first_value-rows (found_of c.args.matches.now) c.args.id.now) ∙ sym
