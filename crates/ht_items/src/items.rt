@@ -1,4 +1,4 @@
-// A list that contracts see as a list.
+//! A list that contracts see as a list.
 ghost use Rattle.std.specs.Prelude.{◌≡◌, ◌++◌, ◌∷◌, [], OnOk, OnErr};
 
 use std::alloc::{AllocError, Global};
