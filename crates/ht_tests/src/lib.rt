@@ -28,6 +28,8 @@ mod statement;
 #[cfg(test)]
 mod texts;
 #[cfg(test)]
+mod trail;
+#[cfg(test)]
 mod tree;
 #[cfg(test)]
 mod words;

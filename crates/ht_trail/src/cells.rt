@@ -5,8 +5,8 @@ ghost use Rattle.ht_trail.specs.Trails.{CellsState, restored, IsLater};
 use std::alloc::{AllocError, Global};
 use std::marker::Model;
 
-/// A moment to which cells can be taken back: how many old values were on the trail then. It is valid until the cells are
-/// taken back to an earlier one.
+/// A moment to which cells can be taken back: how many old values were on the trail then. It is valid until the cells
+/// are taken back to an earlier one.
 #[derive(Clone, Copy, PartialEq, Eq, Debug)]
 pub struct Mark(pub u64);
 

@@ -11,8 +11,8 @@ invariant_of-self-2 g c =
     let end : c.in-Ok.end ≡ length items + length more = search rules in
     let ends : c.push.new.self.items ≡ c.self.inside.ends.items ++ c.in-Ok.end ∷ [] = search rules in
     let all : c.extend_from_slice.new.self.items ≡ items ++ more = search rules in
-    let are = ends_push 0 c.self.inside.ends.items items more (length items + length more) refl (length-append items more)
-    c.self.invariant in
+    let long = length-append items more in
+    let are = ends_push 0 c.self.inside.ends.items items more (length items + length more) refl long c.self.invariant in
     rw (all, ends, end) are
 
 pub returns-clause-ok : goal.returns-clause-ok

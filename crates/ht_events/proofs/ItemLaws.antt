@@ -1,0 +1,122 @@
+-- Items by frame and place, and their positions.
+use Rattle.std.proofs.Common.{◌≡◌, ◌<◌, ◌≤◌, ◌+◌, ◌*◌, ◌/◌, ◌%◌, inl, inr, ℕ, suc, zero, List, get_or, refl, sym, ◌∙◌, ap, arith}
+use Rattle.std.proofs.lemmas.Nat.{div-mul-add, mod-mul-add, div-add-mod'}
+use Rattle.std.proofs.Math.Nat.{mul-le-mul_right, div-lt_iff_lt-mul, mod-lt, suc-mul, mul-zero}
+use Rattle.std.proofs.lemmas.Bool.Decides.{nat_tests}
+use Rattle.ht_net.specs.Netlist.{Netlist}
+use Rattle.ht_events.specs.Items.{frame_items, item_count, item_at, frame_of, local_of, driven_net, Reads, reader_frame, IsReader, IsLoad}
+use Rattle.ht_events.specs.Plans.{IsRanking}
+
+pub item_frame : (c : Netlist) (f l : ℕ) → l < frame_items c → frame_of c (item_at c f l) ≡ f
+item_frame c f l h = div-mul-add f (frame_items c) l h
+
+pub item_local : (c : Netlist) (f l : ℕ) → l < frame_items c → local_of c (item_at c f l) ≡ l
+item_local c f l h = mod-mul-add f (frame_items c) l h
+
+pub item_is : (c : Netlist) (item : ℕ) → item_at c (frame_of c item) (local_of c item) ≡ item
+item_is c item = div-add-mod' item (frame_items c)
+
+mul_mono : (a b n : ℕ) → a ≤ b → a * n ≤ b * n
+mul_mono a b n h = mul-le-mul_right n h
+
+pub item_inside : (c : Netlist) (k f l : ℕ) → f < k → l < frame_items c → item_at c f l < item_count c k
+item_inside c k f l fs ls =
+    let n = frame_items c in
+    let m : suc f * n ≤ k * n = mul_mono (suc f) k n (omega (arith, fs)) in
+    let e : suc f * n ≡ f * n + n = suc-mul f n in
+    omega (arith, m, e, ls)
+
+pub some_items : (c : Netlist) (k item : ℕ) → item < item_count c k → 0 < frame_items c
+some_items c k item h = some (frame_items c) k h where
+  some : (n k : ℕ) → item < k * n → 0 < n
+  some zero k h = let e = mul-zero k in absurd (omega (arith, e, h))
+  some (suc n) k h = omega arith
+
+pub frame_inside : (c : Netlist) (k item : ℕ) → item < item_count c k → frame_of c item < k
+frame_inside c k item h = (div-lt_iff_lt-mul {k = frame_items c} {x = item} {y = k} (some_items c k item h)).1 h
+
+pub local_inside : (c : Netlist) (k item : ℕ) → item < item_count c k → local_of c item < frame_items c
+local_inside c k item h = mod-lt item (some_items c k item h)
+
+-- a reader is in the first frames, and is an item of its frame
+pub reads_known : (c : Netlist) (l x : ℕ) → Reads c l x → l < frame_items c
+reads_known c l x (inl g) = g.known
+reads_known c l x (inr d) = let h = d.is_dff in omega (arith, h)
+
+pub reader_inside : (c : Netlist) (k f x item : ℕ) → IsReader c k f x item → item < item_count c k
+reader_inside c k f x item r =
+    let at = r.at in
+    let h = item_inside c k (reader_frame c f r.local) r.local r.inside (reads_known c r.local x r.reads) in
+    omega (arith, at, h)
+
+module _ (c : Netlist) (order ranks : List ℕ) (ranking : IsRanking c order ranks) where
+  -- the position of an item in a plan of this circuit
+  abbrev pub position_of : ℕ → ℕ
+  position_of item = frame_of c item * frame_items c + get_or ranks (local_of c item) 0
+
+  pub positions_differ : (k x y : ℕ) → x < item_count c k → y < item_count c k → position_of x ≡ position_of y → x ≡ y
+  positions_differ k x y xs ys e =
+      let n = frame_items c in
+      let rx = ranking.small (local_of c x) (local_inside c k x xs) in
+      let ry = ranking.small (local_of c y) (local_inside c k y ys) in
+      let f : frame_of c x ≡ frame_of c y = sym (div-mul-add (frame_of c x) n (get_or ranks (local_of c x) 0) rx) ∙
+      (ap (λ (p : ℕ). p / n) e ∙ div-mul-add (frame_of c y) n (get_or ranks (local_of c y) 0) ry) in
+      let r : get_or ranks (local_of c x) 0 ≡ get_or ranks (local_of c y) 0 = sym
+      (mod-mul-add (frame_of c x) n (get_or ranks (local_of c x) 0) rx) ∙
+      (ap (λ (p : ℕ). p % n) e ∙ mod-mul-add (frame_of c y) n (get_or ranks (local_of c y) 0) ry) in
+      let l : local_of c x ≡ local_of c y = sym (ranking.back (local_of c x) (local_inside c k x xs)) ∙
+      (ap (λ (p : ℕ). get_or order p 0) r ∙ ranking.back (local_of c y) (local_inside c k y ys)) in
+      sym (item_is c x) ∙ ((λ i. item_at c (f i) (l i)) ∙ item_is c y)
+
+  -- the item of a position
+  pub ranked_item : (k place f n o : ℕ) → place < item_count c k → f ≡ frame_of c place → n ≡ frame_items c → o
+      ≡ get_or order (local_of c place) 0 → position_of (f * n + o) ≡ place
+  ranked_item k place f n o inside fs ns os =
+      let l = local_of c place in
+      let known = ranking.known l (local_inside c k place inside) in
+      let small : o < frame_items c = omega (arith, os, known) in
+      let fy : frame_of c (f * n + o) ≡ f = ap (λ (m : ℕ). frame_of c (f * m + o)) ns ∙ item_frame c f o small in
+      let ly : local_of c (f * n + o) ≡ o = ap (λ (m : ℕ). local_of c (f * m + o)) ns ∙ item_local c f o small in
+      let r : get_or ranks (local_of c (f * n + o)) 0 ≡ l = ap (λ (m : ℕ). get_or ranks m 0) (ly ∙ os) ∙ ranking.forth l
+      (local_inside c k place inside) in
+      (λ i. (fy ∙ fs) i * frame_items c + r i) ∙ item_is c place
+
+  pub ranked_inside : (k place f n o : ℕ) → place < item_count c k → f ≡ frame_of c place → n ≡ frame_items c → o
+      ≡ get_or order (local_of c place) 0 → f * n + o < item_count c k
+  ranked_inside k place f n o inside fs ns os =
+      let l = local_of c place in
+      let known = ranking.known l (local_inside c k place inside) in
+      let small : o < frame_items c = omega (arith, os, known) in
+      let fi = frame_inside c k place inside in
+      let h = item_inside c k f o (omega (arith, fs, fi)) small in
+      let e : f * n + o ≡ item_at c f o = ap (λ (m : ℕ). f * m + o) ns in
+      omega (arith, e, h)
+
+  pub loads_later : (k item y : ℕ) → item < item_count c k → IsLoad c k item y → position_of item < position_of y
+  loads_later k item y inside load =
+      let n = frame_items c in
+      let f = frame_of c item in
+      let l = local_of c item in
+      let m = load.local in
+      let known = reads_known c m (driven_net c l) load.reads in
+      let rl = ranking.small l (local_inside c k item inside) in
+      let fy : frame_of c y ≡ reader_frame c f m = ap (frame_of c) load.at ∙ item_frame c (reader_frame c f m) m known
+      in
+      let ly : local_of c y ≡ m = ap (local_of c) load.at ∙ item_local c (reader_frame c f m) m known in
+      let py : position_of y ≡ reader_frame c f m * n + get_or ranks m 0 = (λ i. fy i * n + get_or ranks (ly i) 0) in
+      later f l m n rl (local_inside c k item inside) refl load.reads py where
+        later : (f l m n : ℕ) → get_or ranks l 0 < n → l < frame_items c → n ≡ frame_items c
+            → Reads c m (driven_net c l) → position_of y ≡ reader_frame c f m * n + get_or ranks m 0 → f * n
+            + get_or ranks l 0 < position_of y
+        later f l m n rl known same (inl g) py =
+            let h = g.is_gate in
+            let e : reader_frame c f m ≡ f = grind (arith, nat_tests, h) in
+            let up = ranking.rises m l known g in
+            let p : position_of y ≡ f * n + get_or ranks m 0 = py ∙ ap (λ (g : ℕ). g * n + get_or ranks m 0) e in
+            omega (arith, p, up)
+        later f l m n rl known same (inr d) py =
+            let h = d.is_dff in
+            let e : reader_frame c f m ≡ suc f = grind (arith, nat_tests, h) in
+            let s : suc f * n ≡ f * n + n = suc-mul f n in
+            let p : position_of y ≡ suc f * n + get_or ranks m 0 = py ∙ ap (λ (g : ℕ). g * n + get_or ranks m 0) e in
+            omega (arith, s, p, rl)

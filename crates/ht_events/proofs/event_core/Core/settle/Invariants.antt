@@ -1,0 +1,17 @@
+use Rattle.std.proofs.Common.{◌≡◌, ◌<◌, ◌-◌, ℕ}
+use Rattle.ht_events.specs.Plans.{position_at}
+use Rattle.ht_events.specs.Pending.{Pends, core_items}
+use Rattle.ht_events.proofs.event_core.Core.settle.Given as goal
+
+abbrev pub invariant-loop-item : goal.invariant-loop-item
+invariant-loop-item g l = record {
+  plan : l.self.plan ≡ l.fn.self.plan;
+  circuit : g.P.Plant.circuit l.plant ≡ g.P.Plant.circuit l.fn.plant;
+  frames : g.P.Plant.frames l.plant ≡ g.P.Plant.frames l.fn.plant;
+  keeps : g.P.Plant.keeps l.fn.plant l.plant;
+  agree : (x : ℕ) → x < core_items l.fn.self → ¬ Pends l.self x → g.P.Plant.agrees l.plant x;
+  below : (y : ℕ) → y < core_items l.fn.self → position_at l.fn.self.plan y < l.from → ¬ Pends l.self y;
+}
+
+abbrev pub decreases-loop-item : goal.decreases-loop-item
+decreases-loop-item g l = core_items l.fn.self - l.from

@@ -1,0 +1,46 @@
+use Rattle.std.proofs.Common.{◌≡◌, ◌<◌, ◌*◌, ◌+◌, ◌∙◌, ℕ, subst, get_or, ap, arith, sym, length}
+use Rattle.std.proofs.lemmas.List.{get_or_default}
+use Rattle.ht_events.specs.Items.{item_count, frame_of, local_of, frame_items}
+use Rattle.ht_events.specs.Plans.{PlanState, position_at}
+use Rattle.ht_events.proofs.ItemLaws.{ranked_item, ranked_inside, local_inside}
+use Rattle.ht_events.proofs.plan.Plan.item.Goals as goal
+
+at : (c : goal.After-row_known-1) (l : ℕ) → l ≡ c.local-local.result → l < length c.self.inside.order.items
+    → c.index.result.now ≡ get_or c.self.inside.order.items l 0
+at c l same known =
+    let o = c.self.inside.order.items in
+    let s = same in
+    c.index.ensures ∙ (get_or_default o c.local-local.result c.index.result.now 0 (omega (arith, s, known)) ∙ ap
+    (λ (k : ℕ). get_or o k 0) (sym same))
+
+pub returns-clause-item : goal.returns-clause-item
+returns-clause-item c =
+    let a = c.self.inside in
+    let r = c.self.invariant.ranking in
+    let p = c.args.position in
+    let f = c.frame-frame.result in
+    let n = c.frame_items-items.result in
+    let P : PlanState → Type 0 = λ (s : PlanState). p < item_count s.circuit s.frames → f ≡ frame_of s.circuit p → n
+    ≡ frame_items s.circuit → c.local-local.result ≡ local_of s.circuit p
+    → position_at s (f * n + c.index.result.now) ≡ p in
+    subst P c.self.view_is (λ inside fs ns ls. ranked_item a.circuit.now a.order.items a.ranks.items r a.frames p f n
+    c.index.result.now inside fs ns
+    (at c (local_of a.circuit.now p) (sym ls) (let h = local_inside a.circuit.now a.frames p inside
+    in let m = r.order_count in omega (arith, h, m))))
+    c.requires c.frame-frame.ensures.frame c.frame_items-items.ensures.items c.local-local.ensures.local
+
+pub returns-clause-inside : goal.returns-clause-inside
+returns-clause-inside c =
+    let a = c.self.inside in
+    let r = c.self.invariant.ranking in
+    let p = c.args.position in
+    let f = c.frame-frame.result in
+    let n = c.frame_items-items.result in
+    let P : PlanState → Type 0 = λ (s : PlanState). p < item_count s.circuit s.frames → f ≡ frame_of s.circuit p → n
+    ≡ frame_items s.circuit → c.local-local.result ≡ local_of s.circuit p → f * n
+    + c.index.result.now < item_count s.circuit s.frames in
+    subst P c.self.view_is (λ inside fs ns ls. ranked_inside a.circuit.now a.order.items a.ranks.items r a.frames p f n
+    c.index.result.now inside fs ns
+    (at c (local_of a.circuit.now p) (sym ls) (let h = local_inside a.circuit.now a.frames p inside
+    in let m = r.order_count in omega (arith, h, m))))
+    c.requires c.frame-frame.ensures.frame c.frame_items-items.ensures.items c.local-local.ensures.local

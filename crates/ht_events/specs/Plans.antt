@@ -1,0 +1,54 @@
+-- The order in which the items of a frame are fired, and a table of what reads each net.
+use Rattle.std.specs.Prelude.{◌≡◌, ◌<◌, ◌≤◌, ◌+◌, ◌*◌, ℕ, List, [], length, get_or, map, Vec}
+use Rattle.std.specs.List.{Contains}
+use Rattle.std.specs.declared.alloc.Global.{Global}
+use Rattle.ht_net.specs.Netlist.{Netlist, IsCircuit, net_count}
+use Rattle.ht_events.specs.Items.{frame_items, frame_of, local_of, driven_net, IsGateOn, Reads}
+use Rattle.ht_events.specs.declared.plan.Plan.TheInside.{Inside}
+
+abbrev pub Row : Type 0
+Row = Vec ℕ Global
+
+-- the rows as lists
+abbrev pub rows_of : List Row → List (List ℕ)
+rows_of rows = map (λ (r : Row). r.items) rows
+
+abbrev pub row_at : List Row → ℕ → List ℕ
+row_at rows x = get_or (rows_of rows) x []
+
+-- each net's row has the items of a frame that read it
+pub record IsTable (c : Netlist) (rows : List (List ℕ)) : Type 0 where
+  pub count : length rows ≡ net_count c
+  pub sound : (x l : ℕ) → Contains (get_or rows x []) l → Reads c l x
+  pub complete : (x l : ℕ) → Reads c l x → Contains (get_or rows x []) l
+
+-- ranks gives the rank of each item of a frame in the order; a gate comes after what it reads
+pub record IsRanking (c : Netlist) (order ranks : List ℕ) : Type 0 where
+  pub order_count : length order ≡ frame_items c
+  pub rank_count : length ranks ≡ frame_items c
+  pub small : (l : ℕ) → l < frame_items c → get_or ranks l 0 < frame_items c
+  pub known : (r : ℕ) → r < frame_items c → get_or order r 0 < frame_items c
+  pub back : (l : ℕ) → l < frame_items c → get_or order (get_or ranks l 0) 0 ≡ l
+  pub forth : (r : ℕ) → r < frame_items c → get_or ranks (get_or order r 0) 0 ≡ r
+  pub rises : (l m : ℕ) → m < frame_items c → IsGateOn c l (driven_net c m) → get_or ranks m 0 < get_or ranks l 0
+
+-- a circuit, a number of frames, what reads each net, and the rank of each item of a frame
+pub record PlanState : Type 0 where
+  pub circuit : Netlist
+  pub frames : ℕ
+  pub readers : List (List ℕ)
+  pub ranks : List ℕ
+
+-- where an item stands in the order of all: by frame, and there by rank
+abbrev pub position_at : PlanState → ℕ → ℕ
+position_at s item = frame_of s.circuit item * frame_items s.circuit + get_or s.ranks (local_of s.circuit item) 0
+
+abbrev pub plan_of : Inside → PlanState
+plan_of a = record { circuit = a.circuit.now; frames = a.frames; readers = a.readers; ranks = a.ranks.items }
+
+pub record IsPlan (a : Inside) : Type 0 where
+  pub circuit : IsCircuit a.circuit.now
+  pub some : 0 < a.frames
+  pub few : a.frames ≤ 447
+  pub table : IsTable a.circuit.now a.readers
+  pub ranking : IsRanking a.circuit.now a.order.items a.ranks.items

@@ -1,0 +1,277 @@
+//! The items that are pending, and what fires them.
+ghost use Rattle.std.specs.Prelude.{◌≡◌, ℕ, ◌<◌, ◌≤◌, ◌+◌, true, false, length, get_or, set, IfOk, OnOk, OnErr, IfSome, IfNone, ◌⊎◌};
+ghost use Rattle.std.specs.List.{count_by};
+ghost use Rattle.ht_net.specs.Netlist.{net_count};
+ghost use Rattle.ht_events.specs.Items.{IsLoad, IsReader, item_count, item_at, reader_frame, frame_items};
+ghost use Rattle.ht_events.specs.Plans.{position_at};
+ghost use Rattle.ht_events.specs.Pending.{CoreState, Pends, IsMarked, core_items};
+
+use crate::plan::{MAX_FRAMES, Plan};
+use crate::plant::Plant;
+use ht_net::{Circuit, NetId};
+use std::alloc::{AllocError, Global};
+use std::marker::Model;
+
+/// Which items are pending.
+#[derive(Drop)]
+pub struct Core<'c> {
+    plan: Plan<'c>,
+    // by where the item stands in the order of all; all that are set stand from low on and below high
+    marks: Vec<bool>,
+    low: u32,
+    high: u32,
+}
+
+impl<'c> Model for Core<'c> {
+    ghost use Rattle.ht_events.specs.Pending.{CoreState};
+
+    ghost Value = { CoreState };
+
+    ghost use Rattle.ht_events.specs.Pending.{core_of, IsCore};
+
+    ghost view = { core_of };
+
+    ghost invariant = { IsCore };
+}
+
+impl<'c> Core<'c> {
+    /// A core for a circuit over some frames, in which no item is pending. It has room for all.
+    ///
+    /// # Errors
+    /// Out of memory.
+    pub fn new(alloc: Global, circuit: &'c Circuit, frames: u32) -> Result<Core<'c>, AllocError>
+        requires some { 0 < frames }
+        requires few { frames ≤ MAX_FRAMES }
+        ensures circuit { IfOk result (λ core. core.plan.circuit ≡ circuit.now) }
+        ensures frames { IfOk result (λ core. core.plan.frames ≡ frames) }
+        ensures none { IfOk result (λ core. (x : ℕ) → ¬ Pends core x) }
+    {
+        let plan = Plan::new(alloc, circuit, frames)?;
+        let items = frames as usize * plan.frame_items() as usize;
+        Ok(Core {
+            plan,
+            marks: vec![in alloc; false; items]?,
+            low: 0,
+            high: 0,
+        })
+    }
+
+    /// How many items there are.
+    pub fn items(&self) -> u32
+        ensures { result ≡ core_items self.now }
+    {
+        let frames = self.plan.frames();
+        let items = self.plan.frame_items();
+        frames * items
+    }
+
+    /// How many items are pending.
+    pub fn pending(&self) -> u32
+        ensures { result ≡ count_by (λ m. m) self.now.marks }
+    {
+        let _ = self.items();
+        self.marks.iter().filter(|mark| **mark).count() as u32
+    }
+
+    /// Makes all items pending.
+    pub fn touch_all(&mut self)
+        ensures plan { self.new.plan ≡ self.old.plan }
+        ensures all { (y : ℕ) → y < core_items self.old → Pends self.new y }
+    {
+        for item in 0..self.items() {
+            self.touch(item);
+        }
+    }
+
+    /// Whether an item is pending.
+    pub fn is_pending(&self, item: u32) -> bool
+        requires { item < core_items self.now }
+        ensures yes { result ≡ true → Pends self.now item }
+        ensures no { result ≡ false → ¬ Pends self.now item }
+    {
+        self.marks[self.plan.position(item) as usize]
+    }
+
+    /// Makes an item pending.
+    pub fn touch(&mut self, item: u32)
+        requires { item < core_items self.old }
+        ensures plan { self.new.plan ≡ self.old.plan }
+        ensures more { (y : ℕ) → Pends self.old y → Pends self.new y }
+        ensures has { Pends self.new item }
+        ensures only { (y : ℕ) → y < core_items self.old → Pends self.new y → Pends self.old y
+            ⊎ (y ≡ item) }
+    {
+        let position = self.plan.position(item);
+        self.marks[position as usize] = true;
+        self.low = self.low.min(position);
+        self.high = self.high.max(position + 1);
+    }
+
+    // Makes an item no longer pending.
+    fn remove(&mut self, item: u32)
+        requires { item < core_items self.old }
+        ensures plan { self.new.plan ≡ self.old.plan }
+        ensures taken { ¬ Pends self.new item }
+        ensures fewer { (y : ℕ) → Pends self.new y → Pends self.old y }
+        ensures only { (y : ℕ) → y < core_items self.old → Pends self.old y → Pends self.new y
+            ⊎ (y ≡ item) }
+    {
+        let position = self.plan.position(item);
+        self.marks[position as usize] = false;
+        if self.low == position {
+            self.low = position + 1;
+        }
+    }
+
+    // Makes an item of a frame pending that reads a net of `frame`, if it is in a frame that is there.
+    fn touch_reader(&mut self, frame: u32, local: u32)
+        requires frame { frame < self.old.plan.frames }
+        requires local { local < frame_items self.old.plan.circuit }
+        ensures plan { self.new.plan ≡ self.old.plan }
+        ensures more { (y : ℕ) → Pends self.old y → Pends self.new y }
+        ensures has { reader_frame self.old.plan.circuit frame local < self.old.plan.frames
+            → Pends self.new (item_at self.old.plan.circuit
+            (reader_frame self.old.plan.circuit frame local) local) }
+        ensures only { (y : ℕ) → y < core_items self.old → Pends self.new y → Pends self.old y
+            ⊎ ((reader_frame self.old.plan.circuit frame local < self.old.plan.frames)
+            × (y ≡ item_at self.old.plan.circuit (reader_frame self.old.plan.circuit frame local)
+            local)) }
+    {
+        let frames = self.plan.frames();
+        let at = if local < self.plan.dffs() {
+            frame + 1
+        } else {
+            frame
+        };
+        if at < frames {
+            let item = self.plan.item_at(at, local);
+            self.touch(item);
+        }
+    }
+
+    /// Makes the items pending that read a net of a frame.
+    pub fn touch_loads(&mut self, frame: u32, net: NetId)
+        requires frame { frame < self.old.plan.frames }
+        requires net { net.0 < net_count self.old.plan.circuit }
+        ensures plan { self.new.plan ≡ self.old.plan }
+        ensures more { (y : ℕ) → Pends self.old y → Pends self.new y }
+        ensures loads { (y : ℕ) → IsReader self.old.plan.circuit self.old.plan.frames frame net.0 y
+            → Pends self.new y }
+        ensures only { (y : ℕ) → y < core_items self.old → Pends self.new y → Pends self.old y
+            ⊎ IsReader self.old.plan.circuit self.old.plan.frames frame net.0 y }
+    {
+        let count = self.plan.readers(net).len();
+        for i in 0..count {
+            let local = self.plan.readers(net)[i];
+            self.touch_reader(frame, local);
+        }
+    }
+
+    /// Fires one pending item, any one: makes it agree, and its loads pending if its value changed.
+    ///
+    /// # Errors
+    /// Out of memory; the item is still pending.
+    pub fn fire<P: Plant>(&mut self, plant: &mut P, item: u32) -> Result<(), AllocError>
+        requires circuit { P.circuit plant.old ≡ self.old.plan.circuit }
+        requires frames { P.frames plant.old ≡ self.old.plan.frames }
+        requires item { item < core_items self.old }
+        requires pending { Pends self.old item }
+        requires agree { (x : ℕ) → x < core_items self.old → ¬ Pends self.old x
+            → P.agrees plant.old x }
+        ensures plan { self.new.plan ≡ self.old.plan }
+        ensures circuit { P.circuit plant.new ≡ P.circuit plant.old }
+        ensures frames { P.frames plant.new ≡ P.frames plant.old }
+        ensures price { P.price plant.new ≡ P.price plant.old }
+        ensures keeps { P.keeps plant.old plant.new }
+        ensures spent { P.spent plant.new ≤ P.spent plant.old + P.price plant.old }
+        ensures agree { (x : ℕ) → x < core_items self.old → ¬ Pends self.new x
+            → P.agrees plant.new x }
+        ensures taken { OnOk result (¬ Pends self.new item) }
+        ensures only { OnOk result ((x : ℕ) → x < core_items self.old → Pends self.new x
+            → Pends self.old x ⊎ IsLoad self.old.plan.circuit self.old.plan.frames item x) }
+        ensures err { OnErr result (self.new ≡ self.old) }
+    {
+        let _ = self.plan.position(item);
+        let changed = plant.recompute(item)?;
+        self.remove(item);
+        if changed {
+            let frame = self.plan.frame(item);
+            let net = self.plan.net(item);
+            self.touch_loads(frame, net);
+        }
+        Ok(())
+    }
+
+    // The first position from `from` on that is marked.
+    fn next_mark(&self, from: u32) -> Option<u32>
+        ensures inside { IfSome result (λ p. p < core_items self.now) }
+        ensures marked { IfSome result (λ p. IsMarked self.now p) }
+        ensures first { IfSome result
+            (λ p. (from ≤ p) × ((q : ℕ) → from ≤ q → q < p → ¬ IsMarked self.now q)) }
+        ensures none { IfNone result ((q : ℕ) → from ≤ q → ¬ IsMarked self.now q) }
+    {
+        for position in from..self.high {
+            if self.marks[position as usize] {
+                return Some(position);
+            }
+        }
+        None
+    }
+
+    // The pending item that stands first in the order of all.
+    fn first(&mut self, from: u32) -> Option<u32>
+        requires { (y : ℕ) → y < core_items self.old → position_at self.old.plan y < from
+            → ¬ Pends self.old y }
+        ensures same { self.new ≡ self.old }
+        ensures inside { IfSome result (λ item. item < core_items self.old) }
+        ensures pending { IfSome result (λ item. Pends self.old item) }
+        ensures from { IfSome result (λ item. from ≤ position_at self.old.plan item) }
+        ensures first { IfSome result
+            (λ item. (y : ℕ) → y < core_items self.old → position_at self.old.plan y < position_at
+            self.old.plan item → ¬ Pends self.old y) }
+        ensures none { IfNone result ((y : ℕ) → y < core_items self.old → ¬ Pends self.old y) }
+    {
+        let start = self.low.max(from);
+        match self.next_mark(start) {
+            Some(position) => {
+                if from <= self.low {
+                    self.low = position;
+                }
+                Some(self.plan.item(position))
+            },
+            None => {
+                if from <= self.low {
+                    self.low = u32::MAX;
+                    self.high = 0;
+                }
+                None
+            },
+        }
+    }
+
+    /// Fires items, the lowest frame and there the lowest level first, until none is pending. The cost is one firing
+    /// for each event, and a look at each position between the first and the last.
+    ///
+    /// # Errors
+    /// Out of memory; an item that is not pending agrees.
+    pub fn settle<P: Plant>(&mut self, plant: &mut P) -> Result<(), AllocError>
+        requires circuit { P.circuit plant.old ≡ self.old.plan.circuit }
+        requires frames { P.frames plant.old ≡ self.old.plan.frames }
+        requires agree { (x : ℕ) → x < core_items self.old → ¬ Pends self.old x
+            → P.agrees plant.old x }
+        ensures plan { self.new.plan ≡ self.old.plan }
+        ensures circuit { P.circuit plant.new ≡ P.circuit plant.old }
+        ensures frames { P.frames plant.new ≡ P.frames plant.old }
+        ensures keeps { P.keeps plant.old plant.new }
+        ensures agree { (x : ℕ) → x < core_items self.old → ¬ Pends self.new x
+            → P.agrees plant.new x }
+        ensures none { OnOk result ((x : ℕ) → x < core_items self.old → ¬ Pends self.new x) }
+    {
+        let mut from = 0;
+        while let Some(item) = self.first(from) {
+            from = self.plan.position(item) + 1;
+            self.fire(plant, item)?;
+        }
+        Ok(())
+    }
+}

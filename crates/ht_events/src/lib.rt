@@ -1,0 +1,17 @@
+//! Evaluation by events (PROOFS 1992): an item that may disagree with what it reads is pending, and firing it makes it
+//! agree and what reads it pending. None pending means that all agree, whatever order they were fired in.
+//!
+//! Items are, frame by frame, the flip-flops and then the gates (`specs/Items.antt`). A `Plant` keeps their cells, as a
+//! window of pair sets or a word of machines does; `Core` knows what is pending and nothing of cells. `settle` fires
+//! the lowest frame and level first, so that no item is fired twice where that can be helped.
+#![tactic(auto)]
+
+mod event_core;
+mod plan;
+mod plant;
+mod ranking;
+mod readers;
+
+pub use event_core::Core;
+pub use plan::MAX_FRAMES;
+pub use plant::Plant;

@@ -1,0 +1,181 @@
+//! What reads what, and in which order items are fired.
+ghost use Rattle.std.specs.Prelude.{◌≡◌, ℕ, ◌<◌, ◌≤◌, ◌+◌, ◌-◌, ◌^◌, [], IfOk, length, get_or};
+ghost use Rattle.std.specs.List.{Contains};
+ghost use Rattle.ht_net.specs.Netlist.{IsCircuit, net_count};
+ghost use Rattle.ht_events.specs.Items.{Reads, IsLoad, frame_items, item_at, item_count, frame_of, local_of, driven_net};
+ghost use Rattle.ht_events.specs.Plans.{position_at, PlanState, IsTable};
+
+use crate::ranking::ranking;
+use crate::readers::readers;
+use ht_items::FlatRows;
+use ht_net::{Circuit, NetId};
+use std::alloc::{AllocError, Global};
+use std::marker::Model;
+
+/// The most frames of a plan: the longest window of a search. The weights of 1 to 446 frames sum to 99,681, so a budget
+/// of 100,000 reaches no longer one.
+pub const MAX_FRAMES: u32 = 447;
+
+/// A circuit over some frames, what reads each net, and the order in which items are fired.
+#[derive(Drop)]
+pub struct Plan<'c> {
+    circuit: &'c Circuit,
+    frames: u32,
+    // for each net the items of a frame that read it
+    readers: FlatRows<u32>,
+    // the items of a frame in the order in which they are fired, and the rank of each there
+    order: Vec<u32>,
+    ranks: Vec<u32>,
+}
+
+impl<'c> Model for Plan<'c> {
+    ghost use Rattle.ht_events.specs.Plans.{PlanState};
+
+    ghost Value = { PlanState };
+
+    ghost use Rattle.ht_events.specs.Plans.{plan_of, IsPlan};
+
+    ghost view = { plan_of };
+
+    ghost invariant = { IsPlan };
+}
+
+impl<'c> Plan<'c> {
+    /// A plan for a circuit over some frames.
+    ///
+    /// # Errors
+    /// Out of memory.
+    pub fn new(alloc: Global, circuit: &'c Circuit, frames: u32) -> Result<Plan<'c>, AllocError>
+        requires some { 0 < frames }
+        requires few { frames ≤ MAX_FRAMES }
+        ensures circuit { IfOk result (λ plan. plan.circuit ≡ circuit.now) }
+        ensures frames { IfOk result (λ plan. plan.frames ≡ frames) }
+    {
+        let _ = circuit.nets();
+        let readers = readers(alloc, circuit)?;
+        let (order, ranks) = ranking(alloc, circuit)?;
+        Ok(Plan {
+            circuit,
+            frames,
+            readers,
+            order,
+            ranks,
+        })
+    }
+
+    /// How many frames there are.
+    pub fn frames(&self) -> u32
+        ensures frames { result ≡ self.now.frames }
+        ensures few { self.now.frames ≤ MAX_FRAMES }
+    {
+        self.frames
+    }
+
+    /// How many items a frame has.
+    pub fn frame_items(&self) -> u32
+        ensures items { result ≡ frame_items self.now.circuit }
+        ensures circuit { IsCircuit self.now.circuit }
+    {
+        let _ = self.circuit.nets();
+        self.circuit.dffs() + self.circuit.gates()
+    }
+
+    /// How many flip-flops the circuit has.
+    pub fn dffs(&self) -> u32
+        ensures { result ≡ length self.now.circuit.dffs }
+    {
+        self.circuit.dffs()
+    }
+
+    /// How many inputs the circuit has.
+    pub fn inputs(&self) -> u32
+        ensures { result ≡ self.now.circuit.inputs }
+    {
+        self.circuit.inputs()
+    }
+
+    /// An item's frame.
+    pub fn frame(&self, item: u32) -> u32
+        requires { item < item_count self.now.circuit self.now.frames }
+        ensures frame { result ≡ frame_of self.now.circuit item }
+        ensures inside { result < self.now.frames }
+    {
+        let items = self.frame_items();
+        item / items
+    }
+
+    /// An item's index in its frame, from 0.
+    pub fn local(&self, item: u32) -> u32
+        requires { item < item_count self.now.circuit self.now.frames }
+        ensures local { result ≡ local_of self.now.circuit item }
+        ensures inside { result < frame_items self.now.circuit }
+    {
+        let items = self.frame_items();
+        item % items
+    }
+
+    /// The net that an item drives.
+    pub fn net(&self, item: u32) -> NetId
+        requires { item < item_count self.now.circuit self.now.frames }
+        ensures net { result.0 ≡ driven_net self.now.circuit (local_of self.now.circuit item) }
+        ensures known { result.0 < net_count self.now.circuit }
+    {
+        let local = self.local(item);
+        let dffs = self.circuit.dffs();
+        if local < dffs {
+            self.circuit.dff_net(local)
+        } else {
+            self.circuit.gate_net(local - dffs)
+        }
+    }
+
+    /// Where an item stands in the order of all, from 0.
+    pub fn position(&self, item: u32) -> u32
+        requires { item < item_count self.now.circuit self.now.frames }
+        ensures position { result ≡ position_at self.now item }
+        ensures inside { result < item_count self.now.circuit self.now.frames }
+        ensures few { item_count self.now.circuit self.now.frames < 2 ^ 32 - 1 }
+        ensures only { (y : ℕ) → y < item_count self.now.circuit self.now.frames
+            → position_at self.now y ≡ position_at self.now item → y ≡ item }
+        ensures later { (y : ℕ) → IsLoad self.now.circuit self.now.frames item y
+            → position_at self.now item < position_at self.now y }
+    {
+        let items = self.frame_items();
+        let frame = self.frame(item);
+        let local = self.local(item);
+        frame * items + self.ranks[local as usize]
+    }
+
+    /// The item that stands there in the order of all.
+    pub fn item(&self, position: u32) -> u32
+        requires { position < item_count self.now.circuit self.now.frames }
+        ensures item { position_at self.now result ≡ position }
+        ensures inside { result < item_count self.now.circuit self.now.frames }
+    {
+        let items = self.frame_items();
+        let frame = self.frame(position);
+        let local = self.local(position);
+        frame * items + self.order[local as usize]
+    }
+
+    /// The item with this index in a frame.
+    pub fn item_at(&self, frame: u32, local: u32) -> u32
+        requires frame { frame < self.now.frames }
+        requires local { local < frame_items self.now.circuit }
+        ensures item { result ≡ item_at self.now.circuit frame local }
+        ensures inside { result < item_count self.now.circuit self.now.frames }
+    {
+        let _ = self.frames();
+        let items = self.frame_items();
+        frame * items + local
+    }
+
+    /// The items of a frame that read a net.
+    pub fn readers(&self, net: NetId) -> &[u32]
+        requires { net.0 < net_count self.now.circuit }
+        ensures readers { result.now ≡ get_or self.now.readers net.0 [] }
+        ensures table { IsTable self.now.circuit self.now.readers }
+    {
+        self.readers.row(net.index())
+    }
+}

@@ -1,0 +1,47 @@
+//! What is kept up to date, item by item.
+ghost use Rattle.std.specs.Prelude.{◌≡◌, ℕ, ◌<◌, ◌≤◌, ◌+◌, false, OnOk, OnErr, Ok};
+ghost use Rattle.ht_net.specs.Netlist.{Netlist};
+ghost use Rattle.ht_events.specs.Items.{IsLoad, item_count};
+
+use std::alloc::AllocError;
+
+/// Cells of the items of a circuit over some frames, each of which agrees with its arguments or doesn't.
+pub trait Plant {
+    // the circuit and how many frames there are
+    ghost circuit: { Self → Netlist };
+
+    ghost frames: { Self → ℕ };
+
+    // an item has the value that its arguments give
+    ghost agrees: { Self → ℕ → Type 0 };
+
+    // what stays the same from the first to the second
+    ghost keeps: { Self → Self → Type 0 };
+
+    // the most that one call spends, and what was spent so far
+    ghost price: { Self → ℕ };
+
+    ghost spent: { Self → ℕ };
+
+    /// Makes an item agree with what it reads, and says whether its value changed.
+    ///
+    /// # Errors
+    /// Out of memory; the items that agreed still do.
+    fn recompute(&mut self, item: u32) -> Result<bool, AllocError>
+        requires { item < item_count (circuit self.old) (frames self.old) }
+        ensures circuit { circuit self.new ≡ circuit self.old }
+        ensures frames { frames self.new ≡ frames self.old }
+        ensures price { price self.new ≡ price self.old }
+        ensures keeps { keeps self.old self.new }
+        ensures spent { spent self.new ≤ spent self.old + price self.old }
+        ensures agrees { OnOk result (agrees self.new item) }
+        ensures others { OnOk result ((x : ℕ) → x < item_count (circuit self.old) (frames self.old)
+            → ¬ IsLoad (circuit self.old) (frames self.old) item x → agrees self.old x
+            → agrees self.new x) }
+        ensures loads { result ≡ Ok false → (x : ℕ) → agrees self.old x → agrees self.new x }
+        ensures err { OnErr result ((x : ℕ) → agrees self.old x → agrees self.new x) };
+
+    ghost reflexive: { (a : Self) → keeps a a };
+
+    ghost transitive: { (a b c : Self) → keeps a b → keeps b c → keeps a c };
+}
