@@ -1,5 +1,5 @@
 -- The normal text of a circuit is a netlist of that circuit.
-use Rattle.std.specs.Prelude.{leb, eqb}
+use Rattle.std.specs.Prelude.{leb, ltb}
 use Rattle.std.proofs.Common.{◌≡◌, ℕ, ◌<◌, ◌≤◌, List, [], ◌∷◌, ◌++◌, true, ◌&&◌, length, get_or, map, sum_by, append_assoc, refl, sym, ap, subst, ◌∙◌, arith}
 use Rattle.std.specs.List.{All, Contains, flat_map}
 use Rattle.std.proofs.lemmas.Bool.Decides.{nat_tests}
@@ -30,10 +30,7 @@ use Rattle.ht_bench.proofs.NormalContentLaws.{inputs_are, dffs_are, driven_are_n
 
 -- ---- each line is read
 
-one_is_tested : (count : ℕ) → count ≡ 1 → eqb count 1 ≡ true
-one_is_tested count one = grind (arith, nat_tests)
-
-some_are_tested : (count : ℕ) → 0 < count → count ≤ 255 → (leb 1 count && leb count 255) ≡ true
+some_are_tested : (count : ℕ) → ltb 0 count ≡ true → count ≤ 255 → (leb 1 count && leb count 255) ≡ true
 some_are_tested count some few = grind (arith, nat_tests)
 
 count_is_tested : (kind : Kind) (count : ℕ) → HasArity kind count → count ≤ 255 → has_count (GateOf kind) count ≡ true
@@ -43,8 +40,8 @@ count_is_tested Or count arity few = some_are_tested count arity few
 count_is_tested Nor count arity few = some_are_tested count arity few
 count_is_tested Xor count arity few = some_are_tested count arity few
 count_is_tested Xnor count arity few = some_are_tested count arity few
-count_is_tested Not count arity few = one_is_tested count arity
-count_is_tested Buf count arity few = one_is_tested count arity
+count_is_tested Not count arity few = arity
+count_is_tested Buf count arity few = arity
 
 texts_read : (statements : List Statement) → All CanBeStated statements → map reading_of (map statement_text statements)
     ≡ map States statements

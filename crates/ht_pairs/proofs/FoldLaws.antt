@@ -4,9 +4,8 @@ use Rattle.std.proofs.lemmas.List.{drop_more, drop_all}
 use Rattle.ht_tern.specs.declared.tern.Tern.{Tern}
 use Rattle.ht_tern.specs.declared.tern.Tern.TheVariants.{Unk}
 use Rattle.ht_tern.specs.declared.gate.Kind.{Kind}
-use Rattle.ht_tern.specs.declared.gate.Kind.TheVariants.{And, Nand, Or, Nor, Xor, Xnor, Not, Buf}
 use Rattle.ht_tern.specs.Gate.{operation_of, polarity_of, folded, gate_value_over, gate_value, tern_operations, AllRelated, PreservesOperations, HasArity}
-use Rattle.ht_tern.proofs.GateLaws.{gate_related}
+use Rattle.ht_tern.proofs.GateLaws.{gate_related, arity_positive}
 use Rattle.ht_pairs.specs.Pairs.{Pair, pair, IsMember, IsChoice, pair_operations, gate_pair, Arises}
 use Rattle.ht_pairs.specs.Results.{IsImage, IsImageOfTwo}
 
@@ -119,16 +118,6 @@ finished kind (s ∷ sets) n u h r = (
 chained : {P Q R : Type 0} → (P ↔ Q) → (Q ↔ R) → P ↔ R
 chained a b = (λ x. b.0 (a.0 x), λ z. a.1 (b.1 z))
 
-HasArity-positive : (kind : Kind) (n : ℕ) → HasArity kind n → 0 < n
-HasArity-positive And n h = h
-HasArity-positive Nand n h = h
-HasArity-positive Or n h = h
-HasArity-positive Nor n h = h
-HasArity-positive Xor n h = h
-HasArity-positive Xnor n h = h
-HasArity-positive Not n h = omega (arith, h)
-HasArity-positive Buf n h = omega (arith, h)
-
 -- The members of a set lead to the same results along the sets that are left as the first argument does along all.
 pub record FoldsTo (kind : Kind) (set : List Pair) (rest args : List (List Pair)) : Type 0 where
   pub results : (r : Pair) → Reached kind set rest r ↔ Folded kind args r
@@ -150,7 +139,7 @@ pub folded_all : (kind : Kind) (s u : List Pair) (args items : List (List Pair))
     → FoldsTo kind s (drop i items) args → IsImage (polarity_of pair_operations kind) s u → (r : Pair) → IsMember r u
     ↔ Arises kind args r
 folded_all kind s u args items i n e inv h r =
-    chained (h.members r) (finished kind args (HasArity-positive kind (length args) n) s
+    chained (h.members r) (finished kind args (arity_positive kind (length args) n) s
     (λ p. let ended = last kind s p in
     chained (ended.1, ended.0)
     (subst (λ (l : List (List Pair)). Reached kind s l p ↔ Folded kind args p) (drop_all i items e)

@@ -53,8 +53,9 @@ fn beside(set: PairSet, arg: PairSet) -> PairSet
 fn with_polarity(kind: Kind, set: PairSet) -> PairSet
     ensures { IsImage (polarity_of pair_operations kind) set result }
 {
-    match kind {
-        Kind::And | Kind::Or | Kind::Xor | Kind::Buf => set,
-        Kind::Nand | Kind::Nor | Kind::Xnor | Kind::Not => set.complement(),
+    if kind.inverts() {
+        set.complement()
+    } else {
+        set
     }
 }

@@ -1,10 +1,11 @@
 -- Relations that the operations keep are kept by every gate.
-use Rattle.std.proofs.Common.{ap, sym, ◌∙◌, ◌<◌, length, map, arith, ◌≡◌, inl, inr, List, [], ◌∷◌, Bool, true, false, refl, not, ◌&&◌, ◌||◌}
+use Rattle.std.proofs.Common.{ap, sym, ◌∙◌, ◌<◌, ℕ, length, map, arith, ◌≡◌, inl, inr, List, [], ◌∷◌, Bool, true, false, refl, not, ◌&&◌, ◌||◌}
+use Rattle.std.proofs.lemmas.Bool.{eqb-true, ltb-true}
 use Rattle.ht_tern.specs.declared.tern.Tern.{Tern}
 use Rattle.ht_tern.specs.declared.tern.Tern.TheVariants.{Zero, One, Unk}
 use Rattle.ht_tern.specs.declared.gate.Kind.{Kind}
 use Rattle.ht_tern.specs.declared.gate.Kind.TheVariants.{And, Nand, Or, Nor, Xor, Xnor, Not, Buf}
-use Rattle.ht_tern.specs.Gate.{Operations, tern_operations, bool_operations, operation_of, polarity_of, folded, gate_value_over, gate_value, bool_gate_value, tern_of, Refines, StandsFor, AllRelated, PreservesOperations, complement_of, and_of, or_of, xor_of, bool_xor}
+use Rattle.ht_tern.specs.Gate.{Operations, tern_operations, bool_operations, operation_of, polarity_of, folded, gate_value_over, gate_value, bool_gate_value, tern_of, Refines, StandsFor, AllRelated, PreservesOperations, complement_of, and_of, or_of, xor_of, bool_xor, HasArity}
 
 pub operation_related : {V W : Type 0} → (R : V → W → Type 0) (o : Operations V) (p : Operations W)
     (keeps : PreservesOperations R o p) (kind : Kind) (x u : V) (y v : W)
@@ -208,3 +209,14 @@ gate_definite kind (bit ∷ bits) some =
     (folded_related IsBit (operation_of tern_operations kind) (operation_of bool_operations kind)
     (operation_related IsBit tern_operations bool_operations is_bit_preserved kind)
     (tern_of bit) bit (map tern_of bits) bits refl (are_bits bits))
+
+-- a gate has an argument
+pub arity_positive : (kind : Kind) (n : ℕ) → HasArity kind n → 0 < n
+arity_positive And n h = ltb-true 0 n h
+arity_positive Nand n h = ltb-true 0 n h
+arity_positive Or n h = ltb-true 0 n h
+arity_positive Nor n h = ltb-true 0 n h
+arity_positive Xor n h = ltb-true 0 n h
+arity_positive Xnor n h = ltb-true 0 n h
+arity_positive Not n h = let e = eqb-true n 1 h in omega arith
+arity_positive Buf n h = let e = eqb-true n 1 h in omega arith

@@ -1,5 +1,5 @@
 -- The three values, the kinds of gate, and the value of a gate over any domain of values.
-use Rattle.std.specs.Prelude.{◌≡◌, ◌<◌, ◌⊎◌, ℕ, List, [], ◌∷◌, Bool, true, false, not, ◌&&◌, ◌||◌}
+use Rattle.std.specs.Prelude.{◌≡◌, ◌⊎◌, ℕ, List, [], ◌∷◌, Bool, true, false, not, ◌&&◌, ◌||◌, nat_eq, nat_lt, IsTrue, if◌then◌else◌}
 use Rattle.ht_tern.specs.declared.tern.Tern.{Tern}
 use Rattle.ht_tern.specs.declared.tern.Tern.TheVariants.{Zero, One, Unk}
 use Rattle.ht_tern.specs.declared.gate.Kind.{Kind}
@@ -48,8 +48,7 @@ abbrev pub bool_operations : Operations Bool
 bool_operations = record {
   complement = not;
   conjunction = λ a b. a && b;
-  disjunction = λ a b. a
-      || b;
+  disjunction = λ a b. a || b;
   parity = bool_xor;
 }
 
@@ -64,16 +63,17 @@ operation_of o Xnor = o.parity
 operation_of o Not = λ a b. a
 operation_of o Buf = λ a b. a
 
--- whether a kind gives the folded value or its complement
+-- the kinds that give the complement of what they fold: NAND, NOR, XNOR and NOT
+abbrev pub inverts : Kind → Bool
+inverts Nand = true
+inverts Nor = true
+inverts Xnor = true
+inverts Not = true
+inverts kind = false
+
+-- the complement where the kind inverts, else the value itself
 abbrev pub polarity_of : {V : Type 0} → Operations V → Kind → V → V
-polarity_of o And = λ a. a
-polarity_of o Nand = o.complement
-polarity_of o Or = λ a. a
-polarity_of o Nor = o.complement
-polarity_of o Xor = λ a. a
-polarity_of o Xnor = o.complement
-polarity_of o Not = o.complement
-polarity_of o Buf = λ a. a
+polarity_of o kind = if inverts kind then o.complement else λ a. a
 
 abbrev pub folded : {V : Type 0} → (V → V → V) → V → List V → V
 folded op a [] = a
@@ -92,10 +92,14 @@ abbrev pub bool_gate_value : Kind → List Bool → Bool
 bool_gate_value kind args = gate_value_over bool_operations false kind args
 
 -- how many arguments a kind may have: one for NOT and BUFF, else one or more
+abbrev pub has_arity : Kind → ℕ → Bool
+has_arity Not n = nat_eq n 1
+has_arity Buf n = nat_eq n 1
+has_arity kind n = nat_lt 0 n
+
+-- the same as a fact
 abbrev pub HasArity : Kind → ℕ → Type 0
-HasArity Not n = n ≡ 1
-HasArity Buf n = n ≡ 1
-HasArity kind n = 0 < n
+HasArity kind n = IsTrue (has_arity kind n)
 
 abbrev pub tern_of : Bool → Tern
 tern_of false = Zero

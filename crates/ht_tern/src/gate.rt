@@ -1,6 +1,6 @@
 // The kinds of gate, and the value of a gate.
 ghost use Rattle.std.specs.Prelude.{◌≡◌, ◌<◌, length};
-ghost use Rattle.ht_tern.specs.Gate.{HasArity, gate_value, gate_value_over};
+ghost use Rattle.ht_tern.specs.Gate.{HasArity, gate_value, gate_value_over, has_arity, inverts};
 
 use crate::{GateOperations, Tern};
 
@@ -15,6 +15,25 @@ pub enum Kind {
     Xnor,
     Not,
     Buf,
+}
+
+impl Kind {
+    /// Whether a gate gives the complement of what it folds: NAND, NOR, XNOR and NOT.
+    pub fn inverts(self) -> bool
+        ensures { result ≡ inverts self }
+    {
+        matches!(self, Kind::Nand | Kind::Nor | Kind::Xnor | Kind::Not)
+    }
+
+    /// Whether a gate may have so many arguments: one for NOT and BUFF, else one or more (ISCAS-89 format).
+    pub fn has_arity(self, count: usize) -> bool
+        ensures { result ≡ has_arity self count }
+    {
+        match self {
+            Kind::Not | Kind::Buf => count == 1,
+            _ => count > 0,
+        }
+    }
 }
 
 /// The value of a gate over any domain, from the values at its pins, in the order of the pins: AND, OR and XOR fold their
@@ -32,9 +51,10 @@ pub fn eval_over<V: GateOperations>(kind: Kind, args: &[V]) -> V
             Kind::Not | Kind::Buf => value,
         };
     }
-    match kind {
-        Kind::And | Kind::Or | Kind::Xor | Kind::Buf => value,
-        Kind::Nand | Kind::Nor | Kind::Xnor | Kind::Not => value.complement(),
+    if kind.inverts() {
+        value.complement()
+    } else {
+        value
     }
 }
 

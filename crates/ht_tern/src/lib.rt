@@ -18,4 +18,4 @@ pub use laws::{
     two_valued_gates_stand_for_three_valued_ones,
 };
 pub use operations::GateOperations;
-pub use tern::{Tern, refines};
+pub use tern::{Tern, is_opposite, refines};

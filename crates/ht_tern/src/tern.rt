@@ -1,6 +1,7 @@
 // The three values and their operations.
 ghost use Rattle.std.specs.Prelude.{◌≡◌, IsTrue, ◌↔◌};
 ghost use Rattle.ht_tern.specs.Gate.{Refines, tern_of, tern_operations};
+ghost use Rattle.ht_tern.specs.Opposite.{Opposite, are_opposite};
 
 use crate::GateOperations;
 
@@ -72,5 +73,19 @@ pub fn refines(a: Tern, b: Tern) -> bool
     match b {
         Tern::Unk => true,
         _ => a == b,
+    }
+}
+
+/// Whether a tester tells the two values apart: both are definite, and they are opposite (one observation time, as in
+/// PROOFS 1992).
+#[tactic(auto, using(crate::proofs::OppositeLaws::opposite_tested))]
+pub fn is_opposite(good: Tern, faulty: Tern) -> bool
+    ensures fact { IsTrue result ↔ Opposite good faulty }
+    ensures value { result ≡ are_opposite good faulty }
+{
+    match good {
+        Tern::Zero => faulty == Tern::One,
+        Tern::One => faulty == Tern::Zero,
+        Tern::Unk => false,
     }
 }
