@@ -7,8 +7,9 @@ use Rattle.ht_net.specs.Netlist.{net_count, first_gate_net, no_net, IsCircuit}
 use Rattle.ht_net.specs.Frame.{net_value, values_at, data_values}
 use Rattle.ht_net.proofs.ValueLaws.{seen_same, taken_same, taken_length}
 use Rattle.ht_frame.specs.Values.{env_of}
+use Rattle.ht_pairs.specs.Decided.{same_pairs}
 use Rattle.ht_tree.specs.declared.token.Assign3.{Assign3}
-use Rattle.ht_tree.specs.OneFrame.{OneFrameWindow, is_in, decided_value, same_pairs, latch_pairs, input_set, latch_set, input_sets, latch_sets, set_rules, cell_of, outside, places, status_by, status_of, variable_count}
+use Rattle.ht_tree.specs.OneFrame.{OneFrameWindow, is_in, decided_value, latch_pairs, input_set, latch_set, input_sets, latch_sets, set_rules, cell_of, outside, places, status_by, status_of, variable_count}
 use Rattle.ht_check.specs.declared.places.Shown.{Shown}
 use Rattle.ht_check.specs.Shown.{shown_by, either, outside_marks}
 use Rattle.ht_check.specs.Paths.{latch_by}

@@ -1,11 +1,12 @@
 // The sets of inputs and latches, from what a path has decided.
 ghost use Rattle.std.specs.Prelude.{◌≡◌, ◌≢◌, ◌<◌, ◌≤◌, ◌+◌, ℕ, [], length, get_or, Some, None};
 ghost use Rattle.ht_tern.specs.declared.tern.Tern.TheVariants.{Unk};
-ghost use Rattle.ht_tree.specs.OneFrame.{decided_value, each_pair, latch_pairs, same_pairs};
+ghost use Rattle.ht_pairs.specs.Decided.{same_pairs};
+ghost use Rattle.ht_tree.specs.OneFrame.{decided_value, latch_pairs};
 ghost use Rattle.ht_check.specs.Paths.{IsPlain, latch_by};
 
-use ht_pairs::{PairSet, lift};
-use ht_tern::{Kind, Tern};
+use ht_pairs::PairSet;
+use ht_tern::Tern;
 use ht_tree::Assign3;
 
 /// Writes what a path has decided for each variable.
@@ -20,66 +21,17 @@ pub fn write_decisions(decisions: &mut [Option<Tern>], path: &[Assign3])
     }
 }
 
-/// The set of a value that is the same in both machines.
-pub fn same(value: Option<Tern>) -> PairSet
-    ensures { result ≡ same_pairs value }
-{
-    match value {
-        None => PairSet::both_same(),
-        Some(value) => PairSet::single(value, value),
-    }
-}
-
 /// The set of a latch: a value that each machine has by itself, or the good machine's in both.
 pub fn latch(halves: bool, good: Option<Tern>, faulty: Option<Tern>) -> PairSet
     requires good { good ≢ Some Unk }
     requires faulty { faulty ≢ Some Unk }
     ensures { result ≡ latch_pairs halves good faulty }
 {
-    if !halves {
-        return same(good);
-    }
-    match (good, faulty) {
-        (Some(good), Some(faulty)) => PairSet::single(good, faulty),
-        (Some(good), None) => with_good(good),
-        (None, Some(faulty)) => with_faulty(faulty),
-        (None, None) => PairSet::any_two_valued(),
-    }
-}
-
-/// The set of a decided good half, and a faulty half that is open.
-#[tactic(auto, unfolding(ht_pairs::specs::Pairs::lifted_set, ht_pairs::specs::Pairs::set_of))]
-fn with_good(good: Tern) -> PairSet
-    requires { good ≢ Unk }
-    ensures { result ≡ each_pair (Some good) None }
-{
-    // AND and OR force the good half of any pair, and let its faulty half through.
-    if good == Tern::One {
-        lift(
-            Kind::Or,
-            &[
-                PairSet::any_two_valued(),
-                PairSet::single(Tern::One, Tern::Zero),
-            ],
-        )
+    if halves {
+        PairSet::independent(good, faulty)
     } else {
-        lift(
-            Kind::And,
-            &[
-                PairSet::any_two_valued(),
-                PairSet::single(Tern::Zero, Tern::One),
-            ],
-        )
+        PairSet::same(good)
     }
-}
-
-/// The set of a decided faulty half, and a good half that is open.
-#[tactic(auto, unfolding(ht_pairs::specs::Pairs::stuck_set, ht_pairs::specs::Pairs::set_of))]
-fn with_faulty(faulty: Tern) -> PairSet
-    requires { faulty ≢ Unk }
-    ensures { result ≡ each_pair None (Some faulty) }
-{
-    PairSet::any_two_valued().stick(faulty == Tern::One)
 }
 
 /// Gives each input its set.
@@ -89,7 +41,7 @@ pub fn write_inputs(decisions: &[Option<Tern>], vector: &mut [PairSet])
         ≡ same_pairs (get_or decisions.now i None) }
 {
     for i in 0..vector.len() {
-        vector[i] = same(decisions[i]);
+        vector[i] = PairSet::same(decisions[i]);
     }
 }
 

@@ -4,7 +4,7 @@ use Rattle.std.specs.List.{filter}
 use Rattle.std.proofs.lemmas.Bool.{agree_below_at, cases_Bool, cond-true, cond-false, or_cases, eqb-true}
 use Rattle.std.proofs.lemmas.Nat.Bits.{bit_at_and, bit_at_or, bit_at-lt}
 use Rattle.ht_pairs.specs.Pairs.{Pair, all_pairs, IsMember}
-use Rattle.ht_pairs.specs.Members.{holds, members_of, place_of}
+use Rattle.ht_pairs.specs.Members.{holds, members_of, bit_of}
 use Rattle.ht_pairs.proofs.PairTests.{any, any_gives, each_gives, in_all}
 
 at_first : (f : Pair → Bool) (q : Pair) (ps : List Pair) (p : Pair) → f q ≡ true → (IsMember p ps → f p ≡ true)
@@ -57,12 +57,12 @@ min_test x y h k = elim (bit_cases x h) [
 ]
 
 pub holds-or : (a b : ℕ) (p : Pair) → holds (bit_or a b) p ≡ (holds a p || holds b p)
-holds-or a b p = ap (λ x. eqb x 1) (bit_at_or a b (place_of p)) ∙ max_test _ _ (bit_at-lt a (place_of p))
-    (bit_at-lt b (place_of p))
+holds-or a b p = ap (λ x. eqb x 1) (bit_at_or a b (bit_of p)) ∙ max_test _ _ (bit_at-lt a (bit_of p))
+    (bit_at-lt b (bit_of p))
 
 pub holds-and : (a b : ℕ) (p : Pair) → holds (bit_and a b) p ≡ (holds a p && holds b p)
-holds-and a b p = ap (λ x. eqb x 1) (bit_at_and a b (place_of p)) ∙ min_test _ _ (bit_at-lt a (place_of p))
-    (bit_at-lt b (place_of p))
+holds-and a b p = ap (λ x. eqb x 1) (bit_at_and a b (bit_of p)) ∙ min_test _ _ (bit_at-lt a (bit_of p))
+    (bit_at-lt b (bit_of p))
 
 -- a number that is not 0 has a member
 pub some_member : (n : ℕ) → 0 < n → n < 512 → (p : Pair) × (holds n p ≡ true)

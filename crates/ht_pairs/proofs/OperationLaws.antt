@@ -6,7 +6,7 @@ use Rattle.ht_pairs.specs.Pairs.{Pair, same_pair, pair_operations}
 use Rattle.ht_pairs.specs.Members.{holds, members_of}
 use Rattle.ht_pairs.specs.Results.{IsImage, IsImageOfTwo}
 use Rattle.ht_pairs.specs.declared.moves.Half.TheVariants.{Good, Faulty}
-use Rattle.ht_pairs.specs.Moves.{IsMoved, along, becomes, lowers, raises, blurs, complements, passes, inverts}
+use Rattle.ht_pairs.specs.Moves.{IsMoved, along, becomes, lowers, raises, blurs, complements, passes, flips}
 use Rattle.ht_pairs.proofs.PairTests.{each, any, each_gives, any_gives, any_from, same_pair-true, same_pair-from, eq_bool, eq_bool-true}
 use Rattle.ht_pairs.proofs.MemberLaws.{holds-or, holds-and, member_holds, holds_member, some_member, member_some}
 
@@ -163,27 +163,27 @@ pub disjunction_results : {s t s_f t_f t_fg s_fg t_g s_g : ℕ} → IsValid s �
     (any_of (bit_and s t_fg) (bit_and s_fg t) (bit_and s_f t_g) (bit_and s_g t_f))
 disjunction_results = between_results pair_operations.disjunction (along Faulty raises) (along Good raises) or_table
 
--- Four terms: whether each half of the first member passes or inverts the second's.
+-- Four terms: whether each half of the first member passes or flips the second's.
 abbrev crossed : Pair → Pair → Pair → Bool
 crossed p q r =
     (((followed (along Faulty passes) (along Good passes) p r && followed (along Faulty blurs) (along Good blurs) q r)
-    || (followed (along Faulty inverts) (along Good passes) p r && followed (along Faulty complements)
+    || (followed (along Faulty flips) (along Good passes) p r && followed (along Faulty complements)
     (along Good blurs) q r))
-    || (followed (along Faulty passes) (along Good inverts) p r
+    || (followed (along Faulty passes) (along Good flips) p r
     && followed (along Faulty blurs) (along Good complements) q r))
-    || (followed (along Faulty inverts) (along Good inverts) p r && followed (along Faulty complements)
+    || (followed (along Faulty flips) (along Good flips) p r && followed (along Faulty complements)
     (along Good complements) q r)
 
 xor_table : table pair_operations.parity crossed ≡ true
 xor_table = refl
 
 pub parity_results : {s t s_p s_i t_b t_c s_pp t_bb s_ip t_cb s_pi t_bc s_ii t_cc : ℕ} → IsValid s → IsValid t
-    → IsMoved (along Faulty passes) s s_p → IsMoved (along Faulty inverts) s s_i → IsMoved (along Faulty blurs) t t_b
+    → IsMoved (along Faulty passes) s s_p → IsMoved (along Faulty flips) s s_i → IsMoved (along Faulty blurs) t t_b
     → IsMoved (along Faulty complements) t t_c
     → IsMoved (along Good passes) s_p s_pp → IsMoved (along Good blurs) t_b t_bb → IsMoved (along Good passes) s_i s_ip
     → IsMoved (along Good blurs) t_c t_cb
-    → IsMoved (along Good inverts) s_p s_pi → IsMoved (along Good complements) t_b t_bc
-    → IsMoved (along Good inverts) s_i s_ii → IsMoved (along Good complements) t_c t_cc
+    → IsMoved (along Good flips) s_p s_pi → IsMoved (along Good complements) t_b t_bc
+    → IsMoved (along Good flips) s_i s_ii → IsMoved (along Good complements) t_c t_cc
     → IsResultOfTwo pair_operations.parity s t
     (any_of (bit_and s_pp t_bb) (bit_and s_ip t_cb) (bit_and s_pi t_bc) (bit_and s_ii t_cc))
 parity_results valid_s valid_t p i b c pp bb ip cb pi bc ii complemented =

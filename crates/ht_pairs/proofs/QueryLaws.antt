@@ -1,15 +1,18 @@
 -- What the questions on the bits tell of the members.
-use Rattle.std.proofs.Common.{◌≡◌, ◌<◌, ◌↔◌, ◌-◌, ◌*◌, ◌/◌, ◌%◌, ◌^◌, ℕ, Bool, true, false, not, List, [], ◌∷◌, length, refl, sym, ◌∙◌, ap, inl, inr, ◌||◌, ◌&&◌, eqb, ltb, bit_and, bit_or, IsTrue, arith}
+use Rattle.std.proofs.Common.{◌≡◌, ◌<◌, ◌↔◌, ◌-◌, ◌*◌, ◌/◌, ◌%◌, ◌^◌, ℕ, Bool, true, false, not, List, [], ◌∷◌, length, refl, sym, ◌∙◌, ap, inl, inr, ◌||◌, ◌&&◌, eqb, ltb, bit_and, bit_or, IsTrue, Some, None, arith}
 use Rattle.std.proofs.lemmas.Bool.{agree_below_at, and_parts, or_cases, or_left, or_right, eqb-true, eq-eqb, ltb-true}
 use Rattle.std.proofs.lemmas.Nat.Bits.{shr_and_one}
 use Rattle.ht_tern.specs.declared.tern.Tern.{Tern}
 use Rattle.ht_tern.specs.declared.tern.Tern.TheVariants.{Zero, One, Unk}
-use Rattle.ht_pairs.specs.Pairs.{Pair, pair, IsMember, Differs, MayDiffer, MustDiffer, same_pair}
-use Rattle.ht_pairs.specs.Members.{holds, members_of, bits_of, bits_of-members_of, place_of}
-use Rattle.ht_pairs.proofs.PairTests.{each, each_gives, each_from, same_pair-true, same_pair-from, eq_bool, eq_bool-true}
+use Rattle.ht_pairs.specs.Pairs.{Pair, pair, IsMember, MayDiffer, MustDiffer}
+use Rattle.ht_pairs.specs.Decided.{each_pair}
+use Rattle.ht_tern.specs.Opposite.{are_opposite}
+use Rattle.ht_tern.proofs.OppositeLaws.{opposite_tested}
+use Rattle.ht_pairs.specs.Members.{holds, members_of, bits_of, bits_of-members_of, bit_of, tern_index}
+use Rattle.ht_pairs.proofs.PairTests.{each, each_gives, each_from, eq_bool, eq_bool-true}
 use Rattle.ht_pairs.proofs.MemberLaws.{member_holds, holds_member}
 
-single_at : (g f : Tern) → members_of (1 * 2 ^ place_of (pair g f) % 65536) ≡ pair g f ∷ []
+single_at : (g f : Tern) → members_of (1 * 2 ^ bit_of (pair g f) % 65536) ≡ pair g f ∷ []
 unfolding members_of
 single_at Zero Zero = refl
 single_at Zero One = refl
@@ -21,13 +24,32 @@ single_at Unk Zero = refl
 single_at Unk One = refl
 single_at Unk Unk = refl
 
-pub single_is : (g f : Tern) (k : ℕ) → k ≡ place_of (pair g f) → members_of (1 * 2 ^ k % 65536) ≡ pair g f ∷ []
+pub single_is : (g f : Tern) (k : ℕ) → k ≡ bit_of (pair g f) → members_of (1 * 2 ^ k % 65536) ≡ pair g f ∷ []
 single_is g f k e = rw e (single_at g f)
 
-pub has_tells : (n k : ℕ) (p : Pair) (set : List Pair) → k ≡ place_of p → members_of n ≡ set
+open_faulty_at : (g : Tern) → members_of (3 * 2 ^ (3 * tern_index g) % 65536) ≡ each_pair (Some g) None
+unfolding members_of
+open_faulty_at Zero = refl
+open_faulty_at One = refl
+open_faulty_at Unk = refl
+
+pub open_faulty_is : (g : Tern) (k : ℕ) → k ≡ tern_index g → members_of (3 * 2 ^ (3 * k) % 65536)
+    ≡ each_pair (Some g) None
+open_faulty_is g k e = rw e (open_faulty_at g)
+
+open_good_at : (f : Tern) → members_of (9 * 2 ^ tern_index f % 65536) ≡ each_pair None (Some f)
+unfolding members_of
+open_good_at Zero = refl
+open_good_at One = refl
+open_good_at Unk = refl
+
+pub open_good_is : (f : Tern) (k : ℕ) → k ≡ tern_index f → members_of (9 * 2 ^ k % 65536) ≡ each_pair None (Some f)
+open_good_is f k e = rw e (open_good_at f)
+
+pub has_tells : (n k : ℕ) (p : Pair) (set : List Pair) → k ≡ bit_of p → members_of n ≡ set
     → IsTrue (eqb (bit_and (n / 2 ^ k) 1) 1) ↔ IsMember p set
 has_tells n k p set at is =
-    let e : eqb (bit_and (n / 2 ^ k) 1) 1 ≡ holds n p = rw at (ap (λ x. eqb x 1) (shr_and_one n (place_of p))) in
+    let e : eqb (bit_and (n / 2 ^ k) 1) 1 ≡ holds n p = rw at (ap (λ x. eqb x 1) (shr_and_one n (bit_of p))) in
     rw (← is) (λ h. holds_member n p (sym e ∙ h), λ h. e ∙ member_holds n p h)
 
 single_test : ℕ → Bool
@@ -67,17 +89,7 @@ may_tells n k =
     )
 
 abbrev differs : Pair → Bool
-differs p = same_pair p (pair Zero One) || same_pair p (pair One Zero)
-
-differs-true : (p : Pair) → differs p ≡ true → Differs p
-differs-true p h = elim (or_cases (same_pair p (pair Zero One)) (same_pair p (pair One Zero)) h) [
-  | inl e ↦ inl (same_pair-true p (pair Zero One) e)
-  | inr e ↦ inr (same_pair-true p (pair One Zero) e)
-]
-
-differs-from : (p : Pair) → Differs p → differs p ≡ true
-differs-from p (inl e) = or_left _ (same_pair p (pair One Zero)) (same_pair-from p (pair Zero One) e)
-differs-from p (inr e) = or_right (same_pair p (pair Zero One)) _ (same_pair-from p (pair One Zero) e)
+differs p = are_opposite p.good p.faulty
 
 implied : (b c : Bool) → (not b || c) ≡ true → b ≡ true → c ≡ true
 implied true c h k = h
@@ -95,12 +107,12 @@ must_tells n k =
     let d = eq_bool-true (eqb (bit_or n 10) 10) (each (λ p. not (holds n p) || differs p))
     (agree_below_at must_test (λ m. true) 512 n refl k) in (
       λ w. record {
-        each = λ p i. differs-true p
+        each = λ p i. (opposite_tested p.good p.faulty).0
             (implied (holds n p) (differs p) (each_gives (λ p. not (holds n p) || differs p) (sym d ∙ w) p)
             (member_holds n p i));
       },
       λ w. d ∙ each_from (λ p. not (holds n p) || differs p)
-          (λ p. implies (holds n p) (differs p) (λ e. differs-from p (w.each p (holds_member n p e)))),
+          (λ p. implies (holds n p) (differs p) (λ e. (opposite_tested p.good p.faulty).1 (w.each p (holds_member n p e)))),
     )
 
 pub same_tells : (m n : ℕ) → m < 512 → n < 512 → IsTrue (eqb m n) ↔ (members_of m ≡ members_of n)

@@ -21,7 +21,8 @@ is_member-from p [] h = absurd h
 is_member-from p (q ∷ ps) (inl e) = or_left (same_pair p q) (is_member p ps) (same_pair-from p q e)
 is_member-from p (q ∷ ps) (inr h) = or_right (same_pair p q) (is_member p ps) (is_member-from p ps h)
 
-agree : (a b : Bool) → (a ≡ true → b ≡ true) → (b ≡ true → a ≡ true) → a ≡ b
+-- two tests that follow from each other are equal
+pub agree : (a b : Bool) → (a ≡ true → b ≡ true) → (b ≡ true → a ≡ true) → a ≡ b
 agree true b h k = sym (h refl)
 agree false true h k = k refl
 agree false false h k = refl
@@ -41,23 +42,24 @@ set_of_holds ps p = (
   λ h. filter_keeps (λ q. is_member q ps) all_pairs p (in_all p) (is_member-from p ps h),
 )
 
-member_map : {X Y : Type 0} → (f : X → Y) (xs : List X) (x : X) → IsMember x xs → IsMember (f x) (map f xs)
+-- members of a mapped list, and of two lists joined
+pub member_map : {X Y : Type 0} → (f : X → Y) (xs : List X) (x : X) → IsMember x xs → IsMember (f x) (map f xs)
 member_map f [] x h = absurd h
 member_map f (y ∷ xs) x (inl e) = inl (ap f e)
 member_map f (y ∷ xs) x (inr h) = inr (member_map f xs x h)
 
-map_member : {X Y : Type 0} → (f : X → Y) (xs : List X) (y : Y) → IsMember y (map f xs) → (x : X) × IsMember x xs
+pub map_member : {X Y : Type 0} → (f : X → Y) (xs : List X) (y : Y) → IsMember y (map f xs) → (x : X) × IsMember x xs
     × (y ≡ f x)
 map_member f [] y h = absurd h
 map_member f (x ∷ xs) y (inl e) = (x, inl refl, e)
 map_member f (x ∷ xs) y (inr h) = let w = map_member f xs y h in (w.0, inr w.1, w.2)
 
-member_left : {X : Type 0} → (x : X) (s t : List X) → IsMember x s → IsMember x (s ++ t)
+pub member_left : {X : Type 0} → (x : X) (s t : List X) → IsMember x s → IsMember x (s ++ t)
 member_left x [] t h = absurd h
 member_left x (y ∷ s) t (inl e) = inl e
 member_left x (y ∷ s) t (inr h) = inr (member_left x s t h)
 
-member_right : {X : Type 0} → (x : X) (s t : List X) → IsMember x t → IsMember x (s ++ t)
+pub member_right : {X : Type 0} → (x : X) (s t : List X) → IsMember x t → IsMember x (s ++ t)
 member_right x [] t h = h
 member_right x (y ∷ s) t h = inr (member_right x s t h)
 

@@ -1,4 +1,5 @@
 pub mod Pairs
+pub mod Decided
 pub mod Members
 pub mod Moves
 pub mod Results

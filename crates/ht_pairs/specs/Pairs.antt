@@ -3,6 +3,7 @@ use Rattle.std.specs.Prelude.{◌≡◌, ◌⊎◌, List, [], ◌∷◌, map, fl
 use Rattle.ht_tern.specs.declared.tern.Tern.{Tern}
 use Rattle.ht_tern.specs.declared.tern.Tern.TheVariants.{Zero, One, Unk}
 use Rattle.ht_tern.specs.declared.gate.Kind.{Kind}
+use Rattle.ht_tern.specs.Opposite.{Opposite}
 use Rattle.ht_tern.specs.Gate.{Operations, complement_of, and_of, or_of, xor_of, gate_value, tern_of, AllRelated}
 
 -- a net's value in the good machine, and in the faulty one
@@ -23,17 +24,13 @@ abbrev pub IsMember : {X : Type 0} → X → List X → Type 0
 IsMember x [] = ⊥
 IsMember x (y ∷ ys) = (x ≡ y) ⊎ IsMember x ys
 
--- the two machines have definite values, and opposite ones
-abbrev pub Differs : Pair → Type 0
-Differs p = (p ≡ pair Zero One) ⊎ (p ≡ pair One Zero)
-
--- some member differs
+-- some member has opposite definite values
 abbrev pub MayDiffer : List Pair → Type 0
 MayDiffer set = IsMember (pair Zero One) set ⊎ IsMember (pair One Zero) set
 
--- Each member differs.
+-- Each member has opposite definite values.
 pub record MustDiffer (set : List Pair) : Type 0 where
-  pub each : (p : Pair) → IsMember p set → Differs p
+  pub each : (p : Pair) → IsMember p set → Opposite p.good p.faulty
 
 -- the operations of three values, half by half
 abbrev pub pair_operations : Operations Pair

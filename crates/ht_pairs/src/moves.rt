@@ -4,7 +4,7 @@
 // and X, and in each group the faulty half is 0, 1 and X.
 ghost use Rattle.std.specs.Prelude.{◌≡◌, ◌<◌};
 ghost use Rattle.ht_pairs.specs.Pairs.{stuck_pair};
-ghost use Rattle.ht_pairs.specs.Moves.{IsMoved, along, becomes, blurs, complements, inverts, lowers, passes, raises, step_of, zeros_of};
+ghost use Rattle.ht_pairs.specs.Moves.{IsMoved, along, becomes, blurs, complements, flips, lowers, passes, raises, step_of, zeros_of};
 
 /// A half of a pair.
 #[derive(Clone, Copy)]
@@ -89,14 +89,14 @@ pub(crate) fn passed(set: u16, half: Half) -> u16
 }
 
 /// What XOR may make of the half where it is 1, and the other value any but X; and X, where the other value is X.
-#[tactic(auto, using(crate::proofs::MoveLaws::inverted_moves))]
-pub(crate) fn inverted(set: u16, half: Half) -> u16
+#[tactic(auto, using(crate::proofs::MoveLaws::flipped_moves))]
+pub(crate) fn flipped(set: u16, half: Half) -> u16
     requires { set < 512 }
-    ensures { IsMoved (along half inverts) set result }
+    ensures { IsMoved (along half flips) set result }
 {
     let (zeros, step) = (half.zeros(), half.step());
-    let inverting = set & (zeros << step);
-    inverting | inverting >> step | (set | set << step | set << (2 * step)) & (zeros << (2 * step))
+    let flipping = set & (zeros << step);
+    flipping | flipping >> step | (set | set << step | set << (2 * step)) & (zeros << (2 * step))
 }
 
 /// The faulty half of each member becomes a stuck value.

@@ -5,7 +5,7 @@ ghost use Rattle.ht_pairs.specs.Pairs.{pair_operations};
 ghost use Rattle.ht_pairs.specs.Results.{IsImage, IsImageOfTwo};
 
 use crate::moves::Half::{Faulty, Good};
-use crate::moves::{blurred, complemented, inverted, lowered, passed, raised};
+use crate::moves::{blurred, complemented, flipped, lowered, passed, raised};
 use crate::set::PairSet;
 
 impl PairSet {
@@ -52,14 +52,14 @@ impl PairSet {
     {
         let (s, t) = (self.bits, other.bits);
         let s_passed = passed(s, Faulty);
-        let s_inverted = inverted(s, Faulty);
+        let s_flipped = flipped(s, Faulty);
         let t_blurred = blurred(t, Faulty);
         let t_complemented = complemented(t, Faulty);
         PairSet {
             bits: passed(s_passed, Good) & blurred(t_blurred, Good)
-                | passed(s_inverted, Good) & blurred(t_complemented, Good)
-                | inverted(s_passed, Good) & complemented(t_blurred, Good)
-                | inverted(s_inverted, Good) & complemented(t_complemented, Good),
+                | passed(s_flipped, Good) & blurred(t_complemented, Good)
+                | flipped(s_passed, Good) & complemented(t_blurred, Good)
+                | flipped(s_flipped, Good) & complemented(t_complemented, Good),
         }
     }
 

@@ -1,8 +1,9 @@
-// Sets of pairs: how one is made, what it may be asked, and the stuck line.
-ghost use Rattle.std.specs.Prelude.{◌≡◌, ◌+◌, ◌*◌, ◌<◌, ◌↔◌, IsTrue, [], ◌∷◌, length};
+//! Sets of pairs: how one is made, what it may be asked, and the stuck line.
+ghost use Rattle.std.specs.Prelude.{◌≡◌, ◌+◌, ◌*◌, ◌<◌, ◌↔◌, IsTrue, [], ◌∷◌, length, Some, None};
 ghost use Rattle.ht_tern.specs.declared.tern.Tern.TheVariants.{Zero, One, Unk};
 ghost use Rattle.ht_pairs.specs.Pairs.{IsMember, MayDiffer, MustDiffer, pair, stuck_set};
-ghost use Rattle.ht_pairs.specs.Members.{place_of, tern_place};
+ghost use Rattle.ht_pairs.specs.Members.{bit_of, tern_index};
+ghost use Rattle.ht_pairs.specs.Decided.{each_pair, same_pairs};
 
 use crate::moves::stuck;
 use ht_tern::Tern;
@@ -59,12 +60,27 @@ impl Eq for PairSet {
     ghost laws = { on_equiv bits_of nat_eq_equiv };
 }
 
-/// The pairs of two definite values that are opposite: 01 and 10.
+// 01 and 10: two definite values that are opposite.
 const OPPOSITE: u16 = 0b000_001_010;
 
-/// The index of a value among the three.
+// 00 and 11.
+const BOTH_SAME: u16 = 0b000_010_001;
+
+// 00, 11 and XX.
+const SAME_OR_UNKNOWN: u16 = 0b100_010_001;
+
+// 00, 01, 10 and 11.
+const TWO_VALUED: u16 = 0b000_011_011;
+
+// A good half that is 0, and a faulty half that is 0 or 1: 00 and 01. Three bits up the good half is 1, six up X.
+const OPEN_FAULTY: u16 = 0b000_000_011;
+
+// A good half that is 0 or 1, and a faulty half that is 0: 00 and 10. One bit up the faulty half is 1, two up X.
+const OPEN_GOOD: u16 = 0b000_001_001;
+
+// The index of a value among the three.
 fn index(value: Tern) -> u32
-    ensures { result ≡ tern_place value }
+    ensures { result ≡ tern_index value }
 {
     match value {
         Tern::Zero => 0,
@@ -73,9 +89,9 @@ fn index(value: Tern) -> u32
     }
 }
 
-/// The index of a pair's bit, among the nine.
-fn place(good: Tern, faulty: Tern) -> u32
-    ensures place { result ≡ place_of (pair good faulty) }
+// The index of a pair's bit, among the nine.
+fn bit_of(good: Tern, faulty: Tern) -> u32
+    ensures bit { result ≡ bit_of (pair good faulty) }
     ensures within { result < 9 }
 {
     3 * index(good) + index(faulty)
@@ -87,7 +103,7 @@ impl PairSet {
         ensures { result ≡ pair good faulty ∷ [] }
     {
         PairSet {
-            bits: 1 << place(good, faulty),
+            bits: 1 << bit_of(good, faulty),
         }
     }
 
@@ -95,9 +111,7 @@ impl PairSet {
     pub fn both_same() -> PairSet
         ensures { result ≡ pair Zero Zero ∷ pair One One ∷ [] }
     {
-        PairSet {
-            bits: 0b000_010_001,
-        }
+        PairSet { bits: BOTH_SAME }
     }
 
     /// A value that is the same in both machines: {00, 11, XX}, an undecided latch of the good machine.
@@ -105,7 +119,7 @@ impl PairSet {
         ensures { result ≡ pair Zero Zero ∷ pair One One ∷ pair Unk Unk ∷ [] }
     {
         PairSet {
-            bits: 0b100_010_001,
+            bits: SAME_OR_UNKNOWN,
         }
     }
 
@@ -113,8 +127,46 @@ impl PairSet {
     pub fn any_two_valued() -> PairSet
         ensures { result ≡ pair Zero Zero ∷ pair Zero One ∷ pair One Zero ∷ pair One One ∷ [] }
     {
+        PairSet { bits: TWO_VALUED }
+    }
+
+    /// A value that is the same in both machines: the decided one, or 0 or 1 where none is decided.
+    pub fn same(value: Option<Tern>) -> PairSet
+        ensures { result ≡ same_pairs value }
+    {
+        match value {
+            None => PairSet::both_same(),
+            Some(value) => PairSet::single(value, value),
+        }
+    }
+
+    // A decided good half, and a faulty half that is open.
+    fn with_good(good: Tern) -> PairSet
+        ensures { result ≡ each_pair (Some good) None }
+    {
         PairSet {
-            bits: 0b000_011_011,
+            bits: OPEN_FAULTY << (3 * index(good)),
+        }
+    }
+
+    // A good half that is open, and a decided faulty half.
+    fn with_faulty(faulty: Tern) -> PairSet
+        ensures { result ≡ each_pair None (Some faulty) }
+    {
+        PairSet {
+            bits: OPEN_GOOD << index(faulty),
+        }
+    }
+
+    /// A value that each machine has by itself: in each half the decided one, or 0 or 1 where none is decided.
+    pub fn independent(good: Option<Tern>, faulty: Option<Tern>) -> PairSet
+        ensures { result ≡ each_pair good faulty }
+    {
+        match (good, faulty) {
+            (Some(good), Some(faulty)) => PairSet::single(good, faulty),
+            (Some(good), None) => PairSet::with_good(good),
+            (None, Some(faulty)) => PairSet::with_faulty(faulty),
+            (None, None) => PairSet::any_two_valued(),
         }
     }
 
@@ -132,10 +184,10 @@ impl PairSet {
     pub fn has(self, good: Tern, faulty: Tern) -> bool
         ensures { IsTrue result ↔ IsMember (pair good faulty) self }
     {
-        (self.bits >> place(good, faulty)) & 1 == 1
+        (self.bits >> bit_of(good, faulty)) & 1 == 1
     }
 
-    /// Whether the set holds one pair alone. No set is empty, as the second clause tells.
+    /// Whether the set holds only one pair. No set is empty, as the second clause says.
     #[tactic(auto, using(crate::proofs::QueryLaws::single_tells))]
     pub fn is_single(self) -> bool
         ensures single { IsTrue result ↔ (length self ≡ 1) }

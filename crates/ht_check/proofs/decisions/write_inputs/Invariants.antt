@@ -1,5 +1,5 @@
 use Rattle.std.proofs.Common.{◌≡◌, ◌<◌, ℕ, get_or, [], None}
-use Rattle.ht_tree.specs.OneFrame.{same_pairs}
+use Rattle.ht_pairs.specs.Decided.{same_pairs}
 use Rattle.ht_check.proofs.decisions.write_inputs.Given as goal
 
 abbrev pub invariant-loop-i : goal.invariant-loop-i

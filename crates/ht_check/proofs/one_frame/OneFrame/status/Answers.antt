@@ -6,7 +6,8 @@ use Rattle.ht_pairs.specs.Pairs.{Pair, pair}
 use Rattle.ht_net.specs.Netlist.{net_count}
 use Rattle.ht_net.specs.Frame.{net_value, values_at, data_values}
 use Rattle.ht_frame.specs.Values.{env_of}
-use Rattle.ht_tree.specs.OneFrame.{OneFrameWindow, decided_value, same_pairs, input_sets, latch_sets, set_rules, places, status_of, variable_count}
+use Rattle.ht_pairs.specs.Decided.{same_pairs}
+use Rattle.ht_tree.specs.OneFrame.{OneFrameWindow, decided_value, input_sets, latch_sets, set_rules, places, status_of, variable_count}
 use Rattle.ht_check.specs.declared.places.Shown.{Shown}
 use Rattle.ht_check.specs.Shown.{shown_by, either, outside_marks}
 use Rattle.ht_check.specs.Fields.{window_of}
