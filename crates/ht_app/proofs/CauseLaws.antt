@@ -1,10 +1,9 @@
 -- Causes, carried from the step that finds them to the run.
-use Rattle.std.proofs.Common.{◌≡◌, inl, inr, ℕ, List, ◌++◌, length, take, Ok, Err, Result, OnOk, OnErr, IsTrue, refl, sym, ◌∙◌, ap, subst, arith, take_all, le_refl}
+use Rattle.std.proofs.Common.{◌≡◌, inl, inr, ℕ, List, ◌++◌, length, take, Bool, true, false, IsTrue, refl, sym, ◌∙◌, ap, subst, arith, take_all, le_refl}
 use Rattle.std.specs.Prelude.{IsSome, Option, Some, None}
 use Rattle.std.specs.Option.{option_map}
 use Rattle.std.specs.Io.KnownBytes.{append_known}
-use Rattle.ht_ports.specs.Desk.{DeskView, InCall, Writes, Added, AddedPart, Holds}
-use Rattle.ht_ports.specs.declared.ports.Failed.{Failed}
+use Rattle.ht_ports.specs.Desk.{DeskView, InCall, Writes, Wrote, Holds}
 use Rattle.ht_ports.specs.declared.ports.InPort.TheVariants.{Netlist, Tests}
 use Rattle.ht_ports.specs.declared.ports.OutPort.TheVariants.{Report, Out, Err as err}
 use Rattle.ht_net.specs.Netlist as net
@@ -155,24 +154,24 @@ job_done asked job a b is done = subst (λ (j : Asked). IsDone j a b) (one_job a
 
 -- ---- the line on Err behind the work
 
-pub says : (line name : List ℕ) (r : Result (Unit {0}) Failed) (a m b : DeskView) → OnlyWork name a m
-    → OnOk r (Added err line m b) → OnErr r (AddedPart err line m b) → SaysOnErr line a m b
-says line name (Ok u) a m b work added failed =
+pub says : (line name : List ℕ) (ok : Bool) (a m b : DeskView) → OnlyWork name a m → Wrote err line ok m b
+    → SaysOnErr line a m b
+says line name true a m b work wrote =
     let quiet : m.written err ≡ a.written err = work.quiet in
     record {
       quiet = quiet;
       count = length line;
-      added = added.written ∙ (λ i. append_known (quiet i) (sym (take_all _ line (le_refl _)) i));
+      added = wrote.outcome.written ∙ (λ i. append_known (quiet i) (sym (take_all _ line (le_refl _)) i));
       whole = inl refl;
     }
-says line name (Err e) a m b work added failed =
+says line name false a m b work wrote =
     let quiet : m.written err ≡ a.written err = work.quiet in
     record {
       quiet = quiet;
-      count = failed.count;
-      added = failed.part.written ∙ ap
-          (λ known. append_known known (take failed.count line)) quiet;
-      whole = inr failed.cause;
+      count = wrote.outcome.count;
+      added = wrote.outcome.part.written ∙ ap
+          (λ known. append_known known (take wrote.outcome.count line)) quiet;
+      whole = inr wrote.outcome.cause;
     }
 
 -- the line is no reading

@@ -1,4 +1,3 @@
-pub mod Pieces
 pub mod TestLines
 pub mod Places
 pub mod OneReading

@@ -1,6 +1,6 @@
 // The line on Err.
-ghost use Rattle.std.specs.Prelude.{◌++◌, OnOk, OnErr};
-ghost use Rattle.ht_ports.specs.Desk.{Writes, Added, AddedPart};
+ghost use Rattle.std.specs.Prelude.{◌++◌, is_ok};
+ghost use Rattle.ht_ports.specs.Desk.{Wrote};
 ghost use Rattle.ht_ports.specs.declared.ports.OutPort.TheVariants as out_port;
 ghost use Rattle.ht_app.specs.ErrLines.{line_of, numbered};
 
@@ -11,15 +11,11 @@ use itoa::Buffer;
 
 /// Writes two pieces on Err, one behind the other.
 pub fn write_pair<D: Desk>(desk: &mut D, front: &[u8], back: &[u8]) -> Result<(), Failed>
-    ensures frame { Writes out_port.Err (D.view desk.old) (D.view desk.new) }
-    ensures added { OnOk result
-        (Added out_port.Err (front.now ++ back.now) (D.view desk.old) (D.view desk.new)) }
-    ensures failed { OnErr result
-        (AddedPart out_port.Err (front.now ++ back.now) (D.view desk.old) (D.view desk.new)) }
+    ensures { Wrote out_port.Err (front.now ++ back.now) (is_ok result) (D.view desk.old)
+        (D.view desk.new) }
 {
     write_all(desk, OutPort::Err, front)?;
-    write_all(desk, OutPort::Err, back)?;
-    Ok(())
+    write_all(desk, OutPort::Err, back)
 }
 
 /// Writes a number on Err, in front of it and behind it a piece.
@@ -29,27 +25,18 @@ pub fn write_numbered<D: Desk>(
     number: u64,
     back: &[u8],
 ) -> Result<(), Failed>
-    ensures frame { Writes out_port.Err (D.view desk.old) (D.view desk.new) }
-    ensures added { OnOk result
-        (Added out_port.Err (numbered front.now number back.now) (D.view desk.old)
-        (D.view desk.new)) }
-    ensures failed { OnErr result
-        (AddedPart out_port.Err (numbered front.now number back.now) (D.view desk.old)
-        (D.view desk.new)) }
+    ensures { Wrote out_port.Err (numbered front.now number back.now) (is_ok result)
+        (D.view desk.old) (D.view desk.new) }
 {
     let mut buffer = Buffer::new();
     write_all(desk, OutPort::Err, front)?;
-    write_pair(desk, buffer.format(number).as_bytes(), back)?;
-    Ok(())
+    write_pair(desk, buffer.format(number).as_bytes(), back)
 }
 
 /// Says on Err why a run ends, in one line. It takes no memory.
 pub fn write_line<D: Desk>(desk: &mut D, trouble: &Trouble) -> Result<(), Failed>
-    ensures frame { Writes out_port.Err (D.view desk.old) (D.view desk.new) }
-    ensures added { OnOk result
-        (Added out_port.Err (line_of trouble.now) (D.view desk.old) (D.view desk.new)) }
-    ensures failed { OnErr result
-        (AddedPart out_port.Err (line_of trouble.now) (D.view desk.old) (D.view desk.new)) }
+    ensures { Wrote out_port.Err (line_of trouble.now) (is_ok result) (D.view desk.old)
+        (D.view desk.new) }
 {
     match trouble {
         Trouble::Usage => write_all(

@@ -1,6 +1,6 @@
 // Why a netlist is refused, as the line on Err says it.
-ghost use Rattle.std.specs.Prelude.{◌≡◌, ◌++◌, OnOk, OnErr, codes};
-ghost use Rattle.ht_ports.specs.Desk.{Writes, Added, AddedPart};
+ghost use Rattle.std.specs.Prelude.{◌≡◌, ◌++◌, is_ok, codes};
+ghost use Rattle.ht_ports.specs.Desk.{Wrote};
 ghost use Rattle.ht_ports.specs.declared.ports.OutPort.TheVariants as out_port;
 ghost use Rattle.ht_app.specs.ErrLines.{limit_text, loop_text, cause_text, line_number, line_of};
 ghost use Rattle.ht_app.specs.declared.trouble.Trouble.TheVariants as trouble;
@@ -40,11 +40,8 @@ fn limit_text(limit: Limit) -> &'static [u8]
 
 // Writes the names of a cycle on Err, each behind one space.
 fn write_names<D: Desk>(desk: &mut D, names: &[Vec<u8>]) -> Result<(), Failed>
-    ensures frame { Writes out_port.Err (D.view desk.old) (D.view desk.new) }
-    ensures added { OnOk result
-        (Added out_port.Err (loop_text names.now) (D.view desk.old) (D.view desk.new)) }
-    ensures failed { OnErr result
-        (AddedPart out_port.Err (loop_text names.now) (D.view desk.old) (D.view desk.new)) }
+    ensures { Wrote out_port.Err (loop_text names.now) (is_ok result) (D.view desk.old)
+        (D.view desk.new) }
 {
     for name in names {
         write_pair(desk, b" ", name)?;
@@ -53,26 +50,17 @@ fn write_names<D: Desk>(desk: &mut D, names: &[Vec<u8>]) -> Result<(), Failed>
 }
 
 fn write_loop<D: Desk>(desk: &mut D, names: &[Vec<u8>]) -> Result<(), Failed>
-    ensures frame { Writes out_port.Err (D.view desk.old) (D.view desk.new) }
-    ensures added { OnOk result
-        (Added out_port.Err (codes "loop" ++ loop_text names.now) (D.view desk.old)
-        (D.view desk.new)) }
-    ensures failed { OnErr result
-        (AddedPart out_port.Err (codes "loop" ++ loop_text names.now) (D.view desk.old)
-        (D.view desk.new)) }
+    ensures { Wrote out_port.Err (codes "loop" ++ loop_text names.now) (is_ok result)
+        (D.view desk.old) (D.view desk.new) }
 {
     write_all(desk, OutPort::Err, b"loop")?;
-    write_names(desk, names)?;
-    Ok(())
+    write_names(desk, names)
 }
 
 // Writes the cause on Err.
 fn write_cause<D: Desk>(desk: &mut D, error: &BenchError) -> Result<(), Failed>
-    ensures frame { Writes out_port.Err (D.view desk.old) (D.view desk.new) }
-    ensures added { OnOk result
-        (Added out_port.Err (cause_text error.now) (D.view desk.old) (D.view desk.new)) }
-    ensures failed { OnErr result
-        (AddedPart out_port.Err (cause_text error.now) (D.view desk.old) (D.view desk.new)) }
+    ensures { Wrote out_port.Err (cause_text error.now) (is_ok result) (D.view desk.old)
+        (D.view desk.new) }
 {
     match error {
         BenchError::BadLine { .. } => write_all(desk, OutPort::Err, b"bad line"),
@@ -89,13 +77,8 @@ fn write_cause<D: Desk>(desk: &mut D, error: &BenchError) -> Result<(), Failed>
 
 /// Says on Err why the netlist is refused, in one line.
 pub fn write_refusal<D: Desk>(desk: &mut D, error: &BenchError) -> Result<(), Failed>
-    ensures frame { Writes out_port.Err (D.view desk.old) (D.view desk.new) }
-    ensures added { OnOk result
-        (Added out_port.Err (line_of (trouble.Refused error.now)) (D.view desk.old)
-        (D.view desk.new)) }
-    ensures failed { OnErr result
-        (AddedPart out_port.Err (line_of (trouble.Refused error.now)) (D.view desk.old)
-        (D.view desk.new)) }
+    ensures { Wrote out_port.Err (line_of (trouble.Refused error.now)) (is_ok result)
+        (D.view desk.old) (D.view desk.new) }
 {
     write_numbered(
         desk,
@@ -104,6 +87,5 @@ pub fn write_refusal<D: Desk>(desk: &mut D, error: &BenchError) -> Result<(), Fa
         b": ",
     )?;
     write_cause(desk, error)?;
-    write_all(desk, OutPort::Err, b"\n")?;
-    Ok(())
+    write_all(desk, OutPort::Err, b"\n")
 }

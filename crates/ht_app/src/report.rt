@@ -1,6 +1,6 @@
 // The file that a command writes.
-ghost use Rattle.std.specs.Prelude.{◌≡◌, ◌<◌, ◌++◌, length, IfErr, OnOk, OnErr};
-ghost use Rattle.ht_ports.specs.Desk.{IsWritable, Writes, Added, AddedPart};
+ghost use Rattle.std.specs.Prelude.{◌≡◌, ◌<◌, ◌++◌, length, is_ok, IfErr, OnOk, OnErr};
+ghost use Rattle.ht_ports.specs.Desk.{IsWritable, Wrote};
 ghost use Rattle.ht_ports.specs.declared.ports.OutPort.TheVariants as out_port;
 ghost use Rattle.ht_app.specs.Causes.{OnlyWork, IsBegun, IsReported, WriteFailed};
 ghost use Rattle.ht_app.specs.Run.{IsBegunOn, IsCutShort};
@@ -12,9 +12,7 @@ use ht_ports::{Desk, Failed, OutPort, write_all};
 // Writes bytes on a port that may be written.
 fn write_text<D: Desk>(desk: &mut D, port: OutPort, text: &[u8]) -> Result<(), Trouble>
     requires { IsWritable (D.view desk.old) port }
-    ensures frame { Writes port (D.view desk.old) (D.view desk.new) }
-    ensures added { OnOk result (Added port text.now (D.view desk.old) (D.view desk.new)) }
-    ensures part { OnErr result (AddedPart port text.now (D.view desk.old) (D.view desk.new)) }
+    ensures wrote { Wrote port text.now (is_ok result) (D.view desk.old) (D.view desk.new) }
     ensures error { IfErr result (λ e. e ≡ trouble.WriteFault) }
     ensures cause { IfErr result (λ e. WriteFailed (D.view desk.old) (D.view desk.new)) }
 {

@@ -1,7 +1,7 @@
 //! What a desk has to keep.
 ghost use Rattle.std.specs.Prelude.{◌<◌, List, ℕ, length, take, OnOk, OnErr, IfOk, IsTrue, IsSome};
 ghost use Rattle.std.specs.Io.{ReadsAtMost, WritesAtMost};
-ghost use Rattle.ht_ports.specs.Desk.{DeskView, InCall, OutCall, Reads, Writes, Opened, NotOpened, Created, NotCreated, Took, NotRead, Added, NotWritten, IsWritable};
+ghost use Rattle.ht_ports.specs.Desk.{DeskView, InCall, OutCall, Reads, Writes, Opened, NotOpened, Created, NotCreated, Took, NotRead, Added, NotWritten, KeepsCounts, IsWritable};
 
 use crate::{Failed, InPort, OutPort};
 
@@ -11,6 +11,7 @@ use crate::{Failed, InPort, OutPort};
 /// names and the ports where the desk tells them, which ports are open or
 /// created, two counts of faults, and whether the desk is steady. A steady desk
 /// tells which names it holds, and fails only at the opening of another name.
+/// A call that goes well counts no fault.
 pub trait Desk {
     ghost view: { Self → DeskView };
 
@@ -22,6 +23,7 @@ pub trait Desk {
     fn open(&mut self, port: InPort, name: &str) -> Result<(), Failed>
         ensures frame { InCall port (view self.old) (view self.new) }
         ensures opened { OnOk result (Opened port name.now (view self.old) (view self.new)) }
+        ensures quiet { OnOk result (KeepsCounts (view self.old) (view self.new)) }
         ensures failed { OnErr result (NotOpened port name.now (view self.old) (view self.new)) };
 
     /// Makes the file `name`, or empties it. At `Out` and `Err` no file changes.
@@ -31,6 +33,7 @@ pub trait Desk {
     fn create(&mut self, port: OutPort, name: &str) -> Result<(), Failed>
         ensures frame { OutCall port (view self.old) (view self.new) }
         ensures created { OnOk result (Created port name.now (view self.old) (view self.new)) }
+        ensures quiet { OnOk result (KeepsCounts (view self.old) (view self.new)) }
         ensures failed { OnErr result (NotCreated port (view self.old) (view self.new)) };
 
     /// Takes bytes from the front of what is left, and says how many: at a
@@ -44,6 +47,7 @@ pub trait Desk {
         ensures frame { Reads port (view self.old) (view self.new) }
         ensures took { IfOk result
             (λ n. Took port (length buf.old) (take n buf.new) (view self.old) (view self.new)) }
+        ensures quiet { OnOk result (KeepsCounts (view self.old) (view self.new)) }
         ensures failed { OnErr result (NotRead (view self.old) (view self.new)) };
 
     /// Adds bytes of the front of `bytes`, and says how many: of a nonempty
@@ -58,6 +62,7 @@ pub trait Desk {
         ensures frame { Writes port (view self.old) (view self.new) }
         ensures added { IfOk result
             (λ n. Added port (take n bytes.now) (view self.old) (view self.new)) }
+        ensures quiet { OnOk result (KeepsCounts (view self.old) (view self.new)) }
         ensures failed { OnErr result (NotWritten (view self.old) (view self.new)) };
 
     ghost steady_tells: { (desk : Self) (name : List ℕ) → IsTrue (view desk).steady → IsSome ((view desk).file name) };

@@ -39,8 +39,8 @@ returns-in-Err-clause-trouble g c = λ ne.
       out_later = c.in-Err.ensures.frame.only.out_later;
       line = c.write_line.ensures.frame;
       cause = c.in-Err.ensures.cause;
-      says = says (line_of t) (output_name (asked (texts_of c.args.words.now))) c.write_line.result a m b
-          c.in-Err.ensures.frame c.write_line.ensures.added c.write_line.ensures.failed;
+      says = says (line_of t) (output_name (asked (texts_of c.args.words.now))) _ a m b
+          c.in-Err.ensures.frame c.write_line.ensures;
     }
 
 pub returns-in-Err-clause-usage : goal.returns-in-Err-clause-usage

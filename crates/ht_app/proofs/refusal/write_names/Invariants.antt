@@ -1,11 +1,9 @@
-use Rattle.std.proofs.Common.{take}
-use Rattle.ht_ports.specs.Desk.{Writes, Added}
+use Rattle.std.proofs.Common.{take, true}
+use Rattle.ht_ports.specs.Desk.{Wrote}
 use Rattle.ht_ports.specs.declared.ports.OutPort.TheVariants.{Err}
 use Rattle.ht_app.specs.ErrLines.{loop_text}
 use Rattle.ht_app.proofs.refusal.write_names.Given as goal
 
 abbrev pub invariant-loop-name : goal.invariant-loop-name
-invariant-loop-name g l = record {
-  frame : Writes Err (g.D.Desk.view l.fn.desk) (g.D.Desk.view l.desk);
-  added : Added Err (loop_text (take l.name-index l.names)) (g.D.Desk.view l.fn.desk) (g.D.Desk.view l.desk);
-}
+invariant-loop-name g l =
+    Wrote Err (loop_text (take l.name-index l.names)) true (g.D.Desk.view l.fn.desk) (g.D.Desk.view l.desk)

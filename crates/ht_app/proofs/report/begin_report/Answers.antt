@@ -9,5 +9,5 @@ returns-in_err-write_text-clause-cut g c =
     let m = g.D.Desk.view c.create.new.self in
     let b = g.D.Desk.view c.write_text.new.desk in
     let cut : IsCutShort c.args.text.now a b = cut_later [] c.args.text.now a m b c.in_default.ensures.created.written
-    c.in_err-write_text.ensures.part in
+    c.in_err-write_text.ensures.wrote.outcome in
     search (rules, cut)

@@ -20,8 +20,8 @@ pub returns-in_err-write_text-2-clause-begun : goal.returns-in_err-write_text-2-
 returns-in_err-write_text-2-clause-begun g c =
     let a = g.D.Desk.view c.args.desk.now in
     let b = g.D.Desk.view c.write_text-2.new.desk in
-    let later = c.in_err-write_text-2.ensures.frame.call.others_written Out (λ e. cc) in
-    let added = c.in_ok-write_text.ensures.added.written in
+    let later = c.in_err-write_text-2.ensures.wrote.frame.call.others_written Out (λ e. cc) in
+    let added = c.in_ok-write_text.ensures.wrote.outcome.written in
     let before = c.in_ok-begin_report.ensures.nothing_out in
     let all : IsBegunOn Out c.args.total.now a b = record {
       count = length c.args.total.now;
@@ -47,7 +47,7 @@ returns-in_err-write_text-clause-cut g c =
     let b = g.D.Desk.view c.write_text.new.desk in
     let cut : IsCutShort (c.args.body.now ++ c.args.total.now) a b = cut_between c.args.body.now c.args.total.now a m b
     c.requires c.in_ok-begin_report.ensures.begun.written
-    (c.in_err-write_text.ensures.frame.call.others_written Report (λ e. cc)) in
+    (c.in_err-write_text.ensures.wrote.frame.call.others_written Report (λ e. cc)) in
     search (rules, cut)
 
 pub returns-in_err-write_text-2-clause-cut : goal.returns-in_err-write_text-2-clause-cut
@@ -55,7 +55,7 @@ returns-in_err-write_text-2-clause-cut g c =
     let a = g.D.Desk.view c.args.desk.now in
     let m = g.D.Desk.view c.write_text.new.desk in
     let b = g.D.Desk.view c.write_text-2.new.desk in
-    let same = c.in_ok-write_text.ensures.frame.call.others_written Report (λ e. cc) in
+    let same = c.in_ok-write_text.ensures.wrote.frame.call.others_written Report (λ e. cc) in
     let cut : IsCutShort (c.args.body.now ++ c.args.total.now) a b = cut_later c.args.body.now c.args.total.now a m b
-    (same ∙ c.in_ok-begin_report.ensures.begun.written) c.in_err-write_text-2.ensures.part in
+    (same ∙ c.in_ok-begin_report.ensures.begun.written) c.in_err-write_text-2.ensures.wrote.outcome in
     search (rules, cut)
