@@ -7,7 +7,7 @@ use Rattle.ht_tern.specs.declared.tern.Tern.{Tern}
 use Rattle.ht_tern.specs.declared.tern.Tern.TheVariants.{Zero, Unk}
 use Rattle.ht_net.proofs.FrameLaws.{le_or_lt}
 use Rattle.ht_tree.specs.declared.token.Assign3.{Assign3}
-use Rattle.ht_tree.specs.OneFrame.{newer, decided_value}
+use Rattle.ht_tree.specs.Decisions.{newer, decided_value}
 use Rattle.ht_check.specs.Paths.{IsPlain}
 
 abbrev pub no_decision : Assign3

@@ -1,5 +1,5 @@
 -- What places show, one by one.
-use Rattle.std.proofs.Common.{◌≡◌, ◌<◌, ◌+◌, ◌⊎◌, ◌↔◌, ℕ, suc, List, [], ◌∷◌, ◌++◌, Bool, true, false, ◌||◌, ◌&&◌, cond, length, get_or, refl, sym, ◌∙◌, ap, inl, inr, arith}
+use Rattle.std.proofs.Common.{◌≡◌, ◌⊎◌, ◌↔◌, List, [], ◌∷◌, ◌++◌, Bool, true, false, ◌||◌, ◌&&◌, refl, sym, ◌∙◌, ap, inl, inr}
 use Rattle.std.specs.Prelude.{IsTrue}
 use Rattle.std.specs.List.{list_any, list_all}
 use Rattle.ht_tern.specs.declared.tern.Tern.{Tern}
@@ -8,9 +8,9 @@ use Rattle.ht_pairs.specs.Pairs.{Pair, pair, IsMember, MayDiffer, MustDiffer}
 use Rattle.ht_pairs.proofs.SetLaws.{agree}
 use Rattle.ht_tern.specs.Opposite.{Opposite, are_opposite}
 use Rattle.ht_tern.proofs.OppositeLaws.{opposite_tested}
-use Rattle.ht_tree.specs.OneFrame.{is_in, outside, differs}
+use Rattle.ht_tree.specs.Places.{differs}
 use Rattle.ht_check.specs.declared.places.Shown.{Shown}
-use Rattle.ht_check.specs.Shown.{shown_by, either, outside_marks}
+use Rattle.ht_check.specs.Shown.{shown_by, either}
 
 or_gives : (a b : Bool) → (a || b) ≡ true → (a ≡ true) ⊎ (b ≡ true)
 or_gives true b h = inl refl
@@ -106,22 +106,3 @@ shown_append xs ys =
     let must = any_append (list_all differs) xs ys in
     let may = any_append (list_any differs) xs ys in
     (λ i. record { must = must i; may = may i })
-
--- what is not marked is what stands outside the set
-pub marks_outside : {V : Type 0} → (marks : List Bool) (z : List ℕ) (j : ℕ) (xs : List V) → length marks ≡ length xs
-    → ((k : ℕ) → k < length marks → get_or marks k false ≡ is_in z (j + k)) → outside_marks marks xs ≡ outside z j xs
-marks_outside [] z j [] e h = refl
-marks_outside [] z j (x ∷ xs) e h = absurd (omega arith)
-marks_outside (mark ∷ marks) z j [] e h = absurd (omega arith)
-marks_outside (true ∷ marks) z j (x ∷ xs) e h =
-    let at : j + 0 ≡ j = omega arith in
-    let here : true ≡ is_in z j = h 0 (omega arith) ∙ ap (is_in z) at in
-    let rest = marks_outside marks z (j + 1) xs (omega arith) (λ k l. let at : j + suc k ≡ j + 1 + k = omega arith
-    in h (suc k) (omega arith) ∙ ap (is_in z) at) in
-    rest ∙ ap (λ (b : Bool). cond b (outside z (j + 1) xs) (x ∷ outside z (j + 1) xs)) here
-marks_outside (false ∷ marks) z j (x ∷ xs) e h =
-    let at : j + 0 ≡ j = omega arith in
-    let here : false ≡ is_in z j = h 0 (omega arith) ∙ ap (is_in z) at in
-    let rest = marks_outside marks z (j + 1) xs (omega arith) (λ k l. let at : j + suc k ≡ j + 1 + k = omega arith
-    in h (suc k) (omega arith) ∙ ap (is_in z) at) in
-    (λ i. x ∷ rest i) ∙ ap (λ (b : Bool). cond b (outside z (j + 1) xs) (x ∷ outside z (j + 1) xs)) here

@@ -1,83 +1,78 @@
 -- What the arrays of a window make of its status.
-use Rattle.std.proofs.Common.{◌≡◌, ◌<◌, ◌+◌, ℕ, List, [], ◌∷◌, ◌++◌, Bool, false, Option, None, length, get_or, ◌∙◌, ap, arith}
+use Rattle.std.proofs.Common.{◌≡◌, ◌<◌, ◌+◌, ◌*◌, ℕ, List, [], ◌∷◌, ◌++◌, Bool, false, Option, Some, None, length, get_or, ◌∙◌, ap, arith}
 use Rattle.ht_tern.specs.declared.tern.Tern.{Tern}
 use Rattle.ht_tern.specs.declared.tern.Tern.TheVariants.{Unk}
 use Rattle.ht_pairs.specs.Pairs.{Pair, pair}
-use Rattle.ht_net.specs.Netlist.{net_count, first_gate_net, no_net, IsCircuit}
+use Rattle.ht_net.specs.declared.fault.Fault.{Fault}
+use Rattle.ht_net.specs.Netlist.{Netlist, net_count, first_gate_net, no_net, IsCircuit}
 use Rattle.ht_net.specs.Frame.{net_value, values_at, data_values}
-use Rattle.ht_net.proofs.ValueLaws.{seen_same, taken_same, taken_length}
+use Rattle.ht_net.proofs.ValueLaws.{seen_same, taken_same}
 use Rattle.ht_frame.specs.Values.{env_of}
-use Rattle.ht_pairs.specs.Decided.{same_pairs}
 use Rattle.ht_tree.specs.declared.token.Assign3.{Assign3}
-use Rattle.ht_tree.specs.OneFrame.{OneFrameWindow, is_in, decided_value, latch_pairs, input_set, latch_set, input_sets, latch_sets, set_rules, cell_of, outside, places, status_by, status_of, variable_count}
+use Rattle.ht_pairs.specs.Decided.{same_pairs}
+use Rattle.ht_tree.specs.Decisions.{is_in, decided_value, latch_pairs}
+use Rattle.ht_tree.specs.Windows.{one_frame, one_frame_window, pair_set_rules, input_set, frame_inputs, first_latch, latches_at, cell_at}
+use Rattle.ht_tree.specs.WindowStatus.{status_at, without_place}
 use Rattle.ht_check.specs.declared.places.Shown.{Shown}
-use Rattle.ht_check.specs.Shown.{shown_by, either, outside_marks}
+use Rattle.ht_check.specs.Shown.{shown_by, shown_status, either, outside_marks}
 use Rattle.ht_check.specs.Paths.{latch_by}
 use Rattle.ht_check.proofs.DecisionLaws.{listed_by}
-use Rattle.ht_check.proofs.ShownLaws.{shown_append, marks_outside}
+use Rattle.ht_check.proofs.ShownLaws.{shown_append}
+use Rattle.ht_check.proofs.PlaceLaws.{status_shown}
 
 -- The sets of inputs and latches.
-module _ (w : OneFrameWindow) (path : List Assign3) (decisions : List (Option Tern))
-    (room : length decisions ≡ variable_count w)
+module _ (c : Netlist) (fault : Fault) (z : List ℕ) (path : List Assign3) (decisions : List (Option Tern))
+    (room : length decisions ≡ first_gate_net c + length c.dffs)
     (written : (var : ℕ) → var < length decisions → get_or decisions var None ≡ decided_value path var) where
-  pub inputs_are : (vector : List (List Pair)) → length vector ≡ w.circuit.inputs
+  pub inputs_are : (vector : List (List Pair)) → length vector ≡ c.inputs
       → ((i : ℕ) → i < length vector → get_or vector i [] ≡ same_pairs (get_or decisions i None))
-      → vector ≡ input_sets w path
+      → vector ≡ frame_inputs (one_frame_window c fault z) path 0
   inputs_are vector long h =
-      listed_by (input_set path) 0 w.circuit.inputs vector [] long
-      (λ k l. let at : k ≡ 0 + k = omega arith
-      in h k (omega arith) ∙ (ap same_pairs (written k (omega arith)) ∙ ap (input_set path) at))
+      listed_by (input_set path) (0 * c.inputs) c.inputs vector [] long
+      (λ k l. let at : k ≡ 0 * c.inputs + k = omega arith in
+      h k (omega arith) ∙ (ap same_pairs (written k (omega arith)) ∙ ap (input_set path) at))
 
-  pub latches_are : (marks : List Bool) (latches : List (List Pair)) → length marks ≡ length w.circuit.dffs
-      → ((j : ℕ) → get_or marks j false ≡ is_in w.z j)
-      → length latches ≡ length w.circuit.dffs
-      → ((j : ℕ) → j < length latches → get_or latches j [] ≡ latch_by decisions w.circuit.inputs marks j)
-      → latches ≡ latch_sets w path
+  pub latches_are : (marks : List Bool) (latches : List (List Pair)) → length marks ≡ length c.dffs
+      → ((j : ℕ) → get_or marks j false ≡ is_in z j)
+      → length latches ≡ length c.dffs
+      → ((j : ℕ) → j < length latches → get_or latches j [] ≡ latch_by decisions c.inputs marks j)
+      → latches ≡ latches_at (one_frame_window c fault z) path 0
+  unfolding latches_at
   latches_are marks latches count marked long h =
-      listed_by (latch_set w path) 0 (length w.circuit.dffs) latches [] long
+      let latch : ℕ → List Pair = first_latch (one_frame_window c fault z) (one_frame z) path in
+      listed_by latch 0 (length c.dffs) latches [] long
       (λ j l. let at : j ≡ 0 + j = omega arith in
-      let half : w.circuit.inputs + length marks + j ≡ first_gate_net w.circuit + j = omega arith in
-      h j (omega arith) ∙ (ap
-      (λ (b : Bool). latch_pairs b (get_or decisions (w.circuit.inputs + j) None)
-      (get_or decisions (w.circuit.inputs + length marks + j) None)) (marked j)
-      ∙ (ap (λ (o : Option Tern). latch_pairs (is_in w.z j) o
-      (get_or decisions (w.circuit.inputs + length marks + j) None)) (written (w.circuit.inputs + j) (omega arith))
-      ∙ (ap (λ (n : ℕ). latch_pairs (is_in w.z j) (decided_value path (w.circuit.inputs + j)) (get_or decisions n None))
-      half
-      ∙ (ap (λ (o : Option Tern). latch_pairs (is_in w.z j) (decided_value path (w.circuit.inputs + j)) o)
-      (written (first_gate_net w.circuit + j) (omega arith))
-      ∙ ap (latch_set w path) at)))))
+      let half : c.inputs + length marks + j ≡ first_gate_net c + j = omega arith in
+      let good = written (c.inputs + j) (omega arith) in
+      let faulty = ap (λ (n : ℕ). get_or decisions n None) half ∙ written (first_gate_net c + j) (omega arith) in
+      h j (omega arith) ∙ ((λ i. latch_pairs (marked j i) (good i) (faulty i)) ∙ ap latch at))
 
-pub status_is : (w : OneFrameWindow) (path : List Assign3) (marks : List Bool)
-    (vector latches values next : List (List Pair)) → IsCircuit w.circuit
-    → length marks ≡ length w.circuit.dffs → ((j : ℕ) → get_or marks j false ≡ is_in w.z j)
-    → vector ≡ input_sets w path → latches ≡ latch_sets w path
-    → ((x : ℕ) → x < net_count w.circuit → env_of (pair Unk Unk ∷ []) values x ≡ net_value w.circuit (set_rules w.fault)
-    vector latches x)
-    → next ≡ data_values (set_rules w.fault) (env_of (pair Unk Unk ∷ []) values) 0 w.circuit.dffs
-    → (shown : Shown) → shown ≡ either (shown_by (values_at (env_of (pair Unk Unk ∷ []) values) w.circuit.outputs))
+pub status_is : (c : Netlist) (fault : Fault) (z : List ℕ) (path : List Assign3) (marks : List Bool)
+    (vector latches values next : List (List Pair)) → IsCircuit c
+    → length marks ≡ length c.dffs → ((j : ℕ) → get_or marks j false ≡ is_in z j)
+    → vector ≡ frame_inputs (one_frame_window c fault z) path 0
+    → latches ≡ latches_at (one_frame_window c fault z) path 0
+    → ((x : ℕ) → x < net_count c
+    → env_of (pair Unk Unk ∷ []) values x ≡ net_value c (pair_set_rules (Some fault)) vector latches x)
+    → next ≡ data_values (pair_set_rules (Some fault)) (env_of (pair Unk Unk ∷ []) values) 0 c.dffs
+    → (shown : Shown)
+    → shown ≡ either (shown_by (values_at (env_of (pair Unk Unk ∷ []) values) c.outputs))
     (shown_by (outside_marks marks next))
-    → status_by shown.must shown.may ≡ status_of (places w path)
-unfolding places
-status_is w path marks vector latches values next circuit count marked v l settled taken shown is =
+    → shown_status shown ≡ without_place (status_at (one_frame_window c fault z) path)
+status_is c fault z path marks vector latches values next circuit count marked v l settled taken shown is =
+    let w = one_frame_window c fault z in
     let env : ℕ → List Pair = env_of (pair Unk Unk ∷ []) values in
-    let r = set_rules w.fault in
-    let cells : (x : ℕ) → x < net_count w.circuit → env x ≡ cell_of w path x = λ x inside.
-    settled x inside ∙ (ap (λ (t : List (List Pair)). net_value w.circuit r t latches x) v ∙ ap
-    (λ (t : List (List Pair)). net_value w.circuit r (input_sets w path) t x) l) in
-    let a : values_at env w.circuit.outputs ≡ values_at (cell_of w path) w.circuit.outputs = seen_same env
-    (cell_of w path) w.circuit.outputs
-    (λ o l. cells (get_or w.circuit.outputs o no_net).0 (circuit.outputs_known o l)) in
-    let b : next ≡ data_values r (cell_of w path) 0 w.circuit.dffs = taken ∙ taken_same r env (cell_of w path) 0
-    w.circuit.dffs (λ o l. cells (get_or w.circuit.dffs o no_net).0 (circuit.data_known o l)) in
-    let n : length next ≡ length w.circuit.dffs = ap length taken ∙ taken_length r env 0 w.circuit.dffs in
-    let d : outside_marks marks next ≡ outside w.z 0 next = marks_outside marks w.z 0 next (omega arith)
-    (λ k l. let at : k ≡ 0 + k = omega arith in marked k ∙ ap (is_in w.z) at) in
-    let whole : shown ≡ shown_by
-    (values_at (cell_of w path) w.circuit.outputs
-    ++ outside w.z 0 (data_values r (cell_of w path) 0 w.circuit.dffs)) =
-    is ∙ (shown_append (values_at env w.circuit.outputs) (outside_marks marks next)
-    ∙ (ap (λ (t : List (List Pair)). shown_by (t ++ outside_marks marks next)) a
-    ∙ (ap (λ (t : List (List Pair)). shown_by (values_at (cell_of w path) w.circuit.outputs ++ t)) d
-    ∙ ap (λ (t : List (List Pair)). shown_by (values_at (cell_of w path) w.circuit.outputs ++ outside w.z 0 t)) b))) in
-    ap (λ (s : Shown). status_by s.must s.may) whole
+    let r = pair_set_rules (Some fault) in
+    let cells : (x : ℕ) → x < net_count c → env x ≡ cell_at w path 0 x =
+    λ x inside. settled x inside ∙ (λ i. net_value c r (v i) (l i) x) in
+    let a : values_at env c.outputs ≡ values_at (cell_at w path 0) c.outputs =
+    seen_same env (cell_at w path 0) c.outputs
+    (λ o l. cells (get_or c.outputs o no_net).0 (circuit.outputs_known o l)) in
+    let b : next ≡ data_values r (cell_at w path 0) 0 c.dffs =
+    taken ∙ taken_same r env (cell_at w path 0) 0 c.dffs
+    (λ o l. cells (get_or c.dffs o no_net).0 (circuit.data_known o l)) in
+    let whole : shown ≡ shown_by (values_at (cell_at w path 0) c.outputs
+    ++ outside_marks marks (data_values r (cell_at w path 0) 0 c.dffs)) =
+    is ∙ (shown_append (values_at env c.outputs) (outside_marks marks next)
+    ∙ (λ i. shown_by (a i ++ outside_marks marks (b i)))) in
+    ap shown_status whole ∙ status_shown c fault z path marks count marked

@@ -1,15 +1,21 @@
 -- One token of a walk, and a whole walk.
 use Rattle.std.proofs.Common.{◌≡◌, ◌≢◌, ◌<◌, ◌↔◌, ℕ, suc, zero, List, [], ◌∷◌, ◌++◌, Bool, true, false, not, length, drop, refl, sym, ◌∙◌, ap, arith}
 use Rattle.std.specs.Prelude.{IsTrue}
-use Rattle.std.proofs.lemmas.Bool.Decides.{nat_tests}
+use Rattle.std.proofs.lemmas.Bool.{or_left}
+use Rattle.ht_tree.proofs.VariableLaws.{variable_below}
 use Rattle.ht_tern.specs.declared.tern.Tern.TheVariants.{Unk}
 use Rattle.ht_tern.specs.Gate.{tern_of}
 use Rattle.ht_tree.specs.declared.token.Assign3.{Assign3}
 use Rattle.ht_tree.specs.declared.token.Token.{Token}
 use Rattle.ht_tree.specs.declared.token.Token.TheVariants as token
 use Rattle.ht_tree.specs.declared.token.Status3.{Status3}
-use Rattle.ht_tree.specs.Walks.{Node, Judge, AllFit, top_path, refuses, next_stack, stack_after}
-use Rattle.ht_tree.specs.OneFrame.{OneFrameWindow, is_legal, one_frame, places, status_of, variable_count}
+use Rattle.ht_tree.specs.Walks.{Node, Judge, Completes, path_of, top_path, refuses, next_stack}
+use Rattle.ht_tree.specs.Windows.{SearchWindow, IsWindow}
+use Rattle.ht_tree.specs.WindowStatus.{status_at, without_place}
+use Rattle.ht_tree.specs.Variables.{may_two, may_three, variable_bound}
+use Rattle.ht_tree.specs.Nodes.{window_at, judge_of}
+use Rattle.ht_tree.specs.Counts.{seeks_difference}
+use Rattle.ht_tree.proofs.NodeLaws.{window_stays, no_three, no_before}
 use Rattle.ht_check.specs.Paths.{IsPlain, AreAllPlain, FitsAt, FitsOnTop}
 
 plain_drop : (count k : ℕ) (path : List Assign3) → IsPlain count path → IsPlain count (drop k path)
@@ -26,57 +32,63 @@ plain_more : (count : ℕ) (path : List Assign3) (d : Assign3) → IsPlain count
 plain_more count [] d h k l = (k, l, tt)
 plain_more count (x ∷ path) d h k l = (h.0, h.1, plain_more count path d h.2 k l)
 
+untrue : (b : Bool) → b ≡ false → IsTrue b → ⊥
+untrue true e h = cc
+untrue false e h = cc
+
 bit_definite : (b : Bool) → tern_of b ≢ Unk
 bit_definite true = λ e. cc
 bit_definite false = λ e. cc
 
-legal_below : (w : OneFrameWindow) (var : ℕ) → IsTrue (is_legal w var) → var < variable_count w
-legal_below w var h = grind (arith, nat_tests)
+legal_below : (w : SearchWindow) (var : ℕ) → IsWindow w → IsTrue (may_two w var) → var < variable_bound w
+legal_below w var valid h = variable_below w var valid (or_left (may_two w var) (may_three w var) h)
 
 -- a token that fits keeps to the window's variables, and to two values
-pub plain_next : (w : OneFrameWindow) (s : Status3) (stack : List Node) (t : Token) → FitsAt (is_legal w) s t
-    → AreAllPlain (variable_count w) stack → AreAllPlain (variable_count w) (next_stack stack t)
-plain_next w s [] t fit h = tt
-plain_next w s (n ∷ rest) token.Dead fit h = h.1
-plain_next w s (n ∷ rest) token.Before fit h = absurd fit
-plain_next w s (n ∷ rest) (token.Three var) fit h = absurd fit
-plain_next w s (n ∷ rest) (token.Two var first) fit h =
-    let below = legal_below w var fit.1 in
-    let other = plain_more (variable_count w) n.decisions (record { var = var; value = tern_of (not first) }) h.0 below
+pub plain_next : (w : SearchWindow) (valid : IsWindow w) (s : Status3) (stack : List Node) (t : Token)
+    → FitsAt (may_two w) s t
+    → AreAllPlain (variable_bound w) stack → AreAllPlain (variable_bound w) (next_stack stack t)
+plain_next w valid s [] t fit h = tt
+plain_next w valid s (n ∷ rest) token.Dead fit h = h.1
+plain_next w valid s (n ∷ rest) token.Before fit h = absurd fit
+plain_next w valid s (n ∷ rest) (token.Three var) fit h = absurd fit
+plain_next w valid s (n ∷ rest) (token.Two var first) fit h =
+    let below = legal_below w var valid fit.1 in
+    let other = plain_more (variable_bound w) n.decisions (record { var = var; value = tern_of (not first) }) h.0 below
     (bit_definite (not first)) in
-    let both : IsPlain (variable_count w) (n.decisions ++ record { var = var; value = tern_of (not first) } ∷ [])
-    × AreAllPlain (variable_count w) rest = (other, h.1) in (
-      plain_more (variable_count w) n.decisions (record { var = var; value = tern_of first }) h.0 below
+    let both : IsPlain (variable_bound w) (n.decisions ++ record { var = var; value = tern_of (not first) } ∷ [])
+    × AreAllPlain (variable_bound w) rest = (other, h.1) in (
+      plain_more (variable_bound w) n.decisions (record { var = var; value = tern_of first }) h.0 below
           (bit_definite first),
       both,
     )
 
--- A token fits on top exactly where it fits at the status there and is not refused.
-pub fits_on_top : (w : OneFrameWindow) (s : Status3) (stack : List Node) (t : Token) → s
-    ≡ status_of (places w (top_path stack))
-    → FitsAt (is_legal w) s t → refuses stack t ≡ false → FitsOnTop (one_frame w) stack t
-fits_on_top w s [] t is fit free = cc
-fits_on_top w s (n ∷ rest) token.Dead is fit free = sym is ∙ fit
-fits_on_top w s (n ∷ rest) token.Before is fit free = absurd fit
-fits_on_top w s (n ∷ rest) (token.Three var) is fit free = absurd fit
-fits_on_top w s (n ∷ rest) (token.Two var first) is fit free = (sym is ∙ fit.0, fit.1, free)
+-- What is judged at a node of a window in which a difference is looked for.
+module _ (w : SearchWindow) (seeks : seeks_difference w.start ≡ true) where
+  status_there : (n : Node) → without_place (status_at (window_at w n) (path_of n))
+      ≡ without_place (status_at w (path_of n))
+  status_there n = ap (λ (v : SearchWindow). without_place (status_at v (path_of n))) (window_stays w n seeks)
 
-no_true : IsTrue false → ⊥
-no_true h = cc
+  two_there : (n : Node) (var : ℕ) → may_two (window_at w n) var ≡ may_two w var
+  two_there n var = ap (λ (v : SearchWindow). may_two v var) (window_stays w n seeks)
 
-pub fits_there : (w : OneFrameWindow) (s : Status3) (stack : List Node) (t : Token) → s
-    ≡ status_of (places w (top_path stack))
-    → FitsOnTop (one_frame w) stack t → FitsAt (is_legal w) s t × (refuses stack t ≡ false)
-fits_there w s [] t is fit = absurd fit
-fits_there w s (n ∷ rest) token.Dead is fit = (is ∙ fit, refl)
-fits_there w s (n ∷ rest) token.Before is fit = absurd (no_true fit.1)
-fits_there w s (n ∷ rest) (token.Three var) is fit = absurd (no_true fit.1)
-fits_there w s (n ∷ rest) (token.Two var first) is fit = ((is ∙ fit.0, fit.1), fit.2)
+  -- A token fits on top exactly where it fits at the status there and is not refused.
+  pub fits_on_top : (s : Status3) (stack : List Node) (t : Token) → s ≡ without_place (status_at w (top_path stack))
+      → FitsAt (may_two w) s t → refuses stack t ≡ false → FitsOnTop (judge_of w) stack t
+  fits_on_top s [] t is fit free = cc
+  fits_on_top s (n ∷ rest) token.Dead is fit free = status_there n ∙ (sym is ∙ fit)
+  fits_on_top s (n ∷ rest) token.Before is fit free = absurd fit
+  fits_on_top s (n ∷ rest) (token.Three var) is fit free = absurd fit
+  fits_on_top s (n ∷ rest) (token.Two var first) is fit free =
+      (status_there n ∙ (sym is ∙ fit.0), two_there n var ∙ fit.1, free)
 
--- What is left of a walk: every token fits, and the last one leaves no node.
-pub record Completes (j : Judge) (stack : List Node) (tokens : List Token) : Type 0 where
-  pub fit : AllFit j stack tokens
-  pub finished : stack_after stack tokens ≡ []
+  pub fits_there : (s : Status3) (stack : List Node) (t : Token) → s ≡ without_place (status_at w (top_path stack))
+      → FitsOnTop (judge_of w) stack t → FitsAt (may_two w) s t × (refuses stack t ≡ false)
+  fits_there s [] t is fit = absurd fit
+  fits_there s (n ∷ rest) token.Dead is fit = (is ∙ (sym (status_there n) ∙ fit), refl)
+  fits_there s (n ∷ rest) token.Before is fit = absurd (untrue _ (no_before w n seeks) fit.1)
+  fits_there s (n ∷ rest) (token.Three var) is fit = absurd (untrue _ (no_three w n var seeks) fit.1)
+  fits_there s (n ∷ rest) (token.Two var first) is fit =
+      ((is ∙ (sym (status_there n) ∙ fit.0), sym (two_there n var) ∙ fit.1), fit.2)
 
 pub completes_more : (j : Judge) (stack : List Node) (t : Token) (tokens : List Token) → Completes j stack (t ∷ tokens)
     ↔ (FitsOnTop j stack t × Completes j (next_stack stack t) tokens)

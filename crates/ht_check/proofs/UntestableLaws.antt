@@ -8,9 +8,12 @@ use Rattle.ht_net.specs.Detection.{Detects}
 use Rattle.ht_serial.proofs.ApartLaws.{detected_apart}
 use Rattle.ht_tree.specs.declared.token.Token.{Token}
 use Rattle.ht_tree.specs.Walks.{IsComplete}
-use Rattle.ht_tree.specs.OneFrame.{OneFrameWindow, is_in, one_frame}
-use Rattle.ht_tree.specs.Refutations.{IsUntestable}
-use Rattle.ht_tree.proofs.SealLaws.{walk_seals, sealed_silent}
+use Rattle.ht_tree.specs.Decisions.{is_in}
+use Rattle.ht_tree.specs.Windows.{one_frame_window}
+use Rattle.ht_tree.specs.Nodes.{judge_of}
+use Rattle.ht_tree.specs.Entries.{IsUntestable}
+use Rattle.ht_tree.proofs.SealLaws.{walk_seals}
+use Rattle.ht_tree.proofs.SilenceLaws.{sealed_silent}
 
 not_itself : (b : Bool) → b ≡ not b → ⊥
 not_itself true e = cc
@@ -25,12 +28,11 @@ silent_undetected c fault state is silent list t o detects =
     (λ (rows : List (List Bool)). get_or (get_or rows t []) o false) (silent list) in
     not_itself (bit_at c None state list t o) (same ∙ apart)
 
-pub untestable : (w : OneFrameWindow) (tokens : List Token) → IsCircuit w.circuit → IsComplete (one_frame w) tokens
-    → IsUntestable w.circuit w.fault w.z
-untestable w tokens circuit complete =
-    let c = w.circuit in
-    let seal = walk_seals w tokens circuit complete in
-    let silent = sealed_silent c w.fault (is_in w.z) seal in
+pub untestable : (c : Netlist) (fault : Fault) (z : List ℕ) (tokens : List Token) → IsCircuit c
+    → IsComplete (judge_of (one_frame_window c fault z)) tokens → IsUntestable c fault z
+untestable c fault z tokens circuit complete =
+    let seal = walk_seals c fault z tokens circuit complete in
+    let silent = sealed_silent c fault (is_in z) seal in
     let zeros : List Bool = replicate (length c.dffs) false in
     let is : IsState c zeros = length-replicate (length c.dffs) false in
-    record { sealed = seal; silent = silent; undetected = silent_undetected c w.fault zeros is (silent zeros is) }
+    record { sealed = seal; silent = silent; undetected = silent_undetected c fault zeros is (silent zeros is) }

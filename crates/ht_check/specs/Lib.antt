@@ -1,3 +1,3 @@
 pub mod Paths
 pub mod Shown
-pub mod Fields
+pub mod WindowOf

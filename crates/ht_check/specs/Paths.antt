@@ -9,7 +9,7 @@ use Rattle.ht_tree.specs.declared.token.Token.TheVariants as token
 use Rattle.ht_tree.specs.declared.token.Status3.{Status3}
 use Rattle.ht_tree.specs.declared.token.Status3.TheVariants as status
 use Rattle.ht_tree.specs.Walks.{Node, Judge, Fits}
-use Rattle.ht_tree.specs.OneFrame.{latch_pairs}
+use Rattle.ht_tree.specs.Decisions.{latch_pairs}
 
 -- each decision is of one of so many variables, and definite
 abbrev pub IsPlain : ℕ → List Assign3 → Type 0

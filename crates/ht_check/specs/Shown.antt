@@ -1,8 +1,10 @@
 -- What places show: whether one must differ, and whether one may.
-use Rattle.std.specs.Prelude.{List, [], ◌∷◌, Bool, true, false, ◌||◌}
+use Rattle.std.specs.Prelude.{List, [], ◌∷◌, Bool, true, false, ◌||◌, if◌then◌else◌}
 use Rattle.std.specs.List.{list_any, list_all}
 use Rattle.ht_pairs.specs.Pairs.{Pair}
-use Rattle.ht_tree.specs.OneFrame.{differs}
+use Rattle.ht_tree.specs.declared.token.Status3.{Status3}
+use Rattle.ht_tree.specs.declared.token.Status3.TheVariants.{Dead, Sure, Open}
+use Rattle.ht_tree.specs.Places.{differs}
 use Rattle.ht_check.specs.declared.places.Shown.{Shown}
 
 abbrev pub shown_by : List (List Pair) → Shown
@@ -17,3 +19,7 @@ outside_marks [] xs = xs
 outside_marks (mark ∷ marks) [] = []
 outside_marks (true ∷ marks) (x ∷ xs) = outside_marks marks xs
 outside_marks (false ∷ marks) (x ∷ xs) = x ∷ outside_marks marks xs
+
+-- the status of a window whose places show this
+abbrev pub shown_status : Shown → Status3
+shown_status a = if a.must then Sure else if a.may then Open else Dead

@@ -2,7 +2,7 @@
 ghost use Rattle.std.specs.Prelude.{◌≡◌, ◌≢◌, ◌<◌, ◌≤◌, ◌+◌, ℕ, [], length, get_or, Some, None};
 ghost use Rattle.ht_tern.specs.declared.tern.Tern.TheVariants.{Unk};
 ghost use Rattle.ht_pairs.specs.Decided.{same_pairs};
-ghost use Rattle.ht_tree.specs.OneFrame.{decided_value, latch_pairs};
+ghost use Rattle.ht_tree.specs.Decisions.{decided_value, latch_pairs};
 ghost use Rattle.ht_check.specs.Paths.{IsPlain, latch_by};
 
 use ht_pairs::PairSet;

@@ -1,11 +1,15 @@
 // The one-frame window, evaluated afresh at each path.
-ghost use Rattle.std.specs.Prelude.{◌≡◌, ◌<◌, ◌+◌, ℕ, [], ◌∷◌, length, get_or, false, IfOk};
+ghost use Rattle.std.specs.Prelude.{◌≡◌, ◌<◌, ◌+◌, ℕ, [], ◌∷◌, length, get_or, true, false, Some, IfOk};
 ghost use Rattle.ht_tern.specs.declared.tern.Tern.TheVariants.{Unk};
 ghost use Rattle.ht_pairs.specs.Pairs.{pair};
 ghost use Rattle.ht_net.specs.Netlist.{net_count, IsCircuit};
 ghost use Rattle.ht_net.specs.Frame.{data_values, net_value};
 ghost use Rattle.ht_frame.specs.Values.{env_of};
-ghost use Rattle.ht_tree.specs.OneFrame.{is_in, is_legal, places, set_rules, status_of, variable_count};
+ghost use Rattle.ht_tree.specs.Counts.{seeks_difference};
+ghost use Rattle.ht_tree.specs.Decisions.{is_in};
+ghost use Rattle.ht_tree.specs.Variables.{may_two, variable_bound};
+ghost use Rattle.ht_tree.specs.Windows.{IsWindow, one_frame_window, pair_set_rules};
+ghost use Rattle.ht_tree.specs.WindowStatus.{status_at, without_place};
 ghost use Rattle.ht_check.specs.Paths.{IsPlain};
 
 use crate::decisions::{write_decisions, write_inputs, write_latches};
@@ -39,11 +43,11 @@ pub struct OneFrame<'c> {
 }
 
 impl<'c> Model for OneFrame<'c> {
-    ghost use Rattle.ht_tree.specs.OneFrame.{OneFrameWindow};
+    ghost use Rattle.ht_tree.specs.Windows.{SearchWindow};
 
-    ghost Value = { OneFrameWindow };
+    ghost Value = { SearchWindow };
 
-    ghost use Rattle.ht_check.specs.Fields.{window_of, IsSized};
+    ghost use Rattle.ht_check.specs.WindowOf.{window_of, IsSized};
 
     ghost view = { window_of };
 
@@ -81,7 +85,7 @@ impl<'c> OneFrame<'c> {
         requires { (i : ℕ) → i < length z.now → get_or z.now i 0 < length circuit.now.dffs }
         ensures circuit { IsCircuit circuit.now }
         ensures window { IfOk result
-            (λ window. window ≡ record { circuit = circuit.now; fault = fault; z = z.now }) }
+            (λ window. window ≡ one_frame_window circuit.now fault z.now) }
     {
         let nets = circuit.nets() as usize;
         let inputs = circuit.inputs() as usize;
@@ -109,7 +113,7 @@ impl<'c> OneFrame<'c> {
 
     /// Whether the window has a variable.
     pub fn is_legal(&self, var: u32) -> bool
-        ensures { result ≡ is_legal self.now var }
+        ensures { result ≡ may_two self.now var }
     {
         let dffs = self.circuit.dffs();
         let halves = self.circuit.inputs() + dffs;
@@ -121,8 +125,10 @@ impl<'c> OneFrame<'c> {
 
     /// The status at a path, by one evaluation of the frame. It allocates nothing.
     pub fn status(&mut self, path: &[Assign3]) -> Status3
-        requires { IsPlain (variable_count self.old) path.now }
-        ensures status { result ≡ status_of (places self.old path.now) }
+        requires { IsPlain (variable_bound self.old) path.now }
+        ensures status { result ≡ without_place (status_at self.old path.now) }
+        ensures window { IsWindow self.old }
+        ensures seeks { seeks_difference self.old.start ≡ true }
         ensures same { self.new ≡ self.old }
     {
         let inputs = self.circuit.inputs() as usize;
@@ -159,8 +165,8 @@ fn evaluate(
     requires next { length next.old ≡ length circuit.now.dffs }
     requires room { length pins.old ≡ MOST_PINS }
     ensures values { (x : ℕ) → x < net_count circuit.now → env_of (pair Unk Unk ∷ []) values.new x
-        ≡ net_value circuit.now (set_rules fault) vector.now latches.now x }
-    ensures next { next.new ≡ data_values (set_rules fault) (env_of (pair Unk Unk ∷ []) values.new)
+        ≡ net_value circuit.now (pair_set_rules (Some fault)) vector.now latches.now x }
+    ensures next { next.new ≡ data_values (pair_set_rules (Some fault)) (env_of (pair Unk Unk ∷ []) values.new)
         0 circuit.now.dffs }
 {
     settle(circuit, Some(fault), vector, latches, values, pins);

@@ -1,6 +1,6 @@
 // Entries that pass.
 ghost use Rattle.std.specs.Prelude.{◌<◌, ◌↔◌, ℕ, length, get_or, IfOk, IsTrue};
-ghost use Rattle.ht_tree.specs.Refutations.{Holds, IsUntestable, Passes, Refutes, Rises};
+ghost use Rattle.ht_tree.specs.Entries.{Holds, IsUntestable, Passes, Refutes, Rises};
 
 use crate::one_frame::OneFrame;
 use crate::walks::is_complete;
@@ -29,7 +29,13 @@ pub fn entry(
 {
     let _ = budget;
     match entry {
-        Entry::Untestable { z, tokens } => refutes(alloc, circuit, fault, z, tokens),
+        Entry::Untestable { z, tokens } => refutes(
+            alloc,
+            circuit,
+            fault,
+            z.as_slice(),
+            tokens.as_slice(),
+        ),
     }
 }
 

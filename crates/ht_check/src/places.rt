@@ -6,8 +6,8 @@ ghost use Rattle.ht_pairs.specs.Pairs.{pair};
 ghost use Rattle.ht_net.specs.Netlist.{net_count};
 ghost use Rattle.ht_net.specs.Frame.{values_at};
 ghost use Rattle.ht_frame.specs.Values.{env_of};
-ghost use Rattle.ht_tree.specs.OneFrame.{differs, status_by};
-ghost use Rattle.ht_check.specs.Shown.{either, outside_marks, shown_by};
+ghost use Rattle.ht_tree.specs.Places.{differs};
+ghost use Rattle.ht_check.specs.Shown.{either, outside_marks, shown_by, shown_status};
 
 use ht_net::Circuit;
 use ht_pairs::PairSet;
@@ -53,7 +53,7 @@ impl Shown {
 
     /// The status of a window whose places show this.
     pub fn status(self) -> Status3
-        ensures { result ≡ status_by self.must self.may }
+        ensures { result ≡ shown_status self }
     {
         if self.must {
             Status3::Sure

@@ -3,6 +3,7 @@ ghost use Rattle.std.specs.Prelude.{◌≤◌, length, IfOk, OnOk};
 ghost use Rattle.ht_net.specs.Draft.{IsName};
 
 use crate::entry;
+use ht_items::Items;
 use ht_net::{Builder, Circuit, Fault, NameId, NetError, NetId, Site};
 use ht_tern::Kind;
 use ht_tree::{Entry, Token};
@@ -55,8 +56,8 @@ fn toggle(alloc: Global) -> Result<Circuit, NetError> {
 
 fn untestable(alloc: Global, z: &[u32], tokens: &[Token]) -> Result<Entry, AllocError> {
     Ok(Entry::Untestable {
-        z: Vec::from_slice(alloc, z)?,
-        tokens: Vec::from_slice(alloc, tokens)?,
+        z: Items::from_vec(Vec::from_slice(alloc, z)?),
+        tokens: Items::from_vec(Vec::from_slice(alloc, tokens)?),
     })
 }
 

@@ -1,7 +1,8 @@
 // Walks of the one-frame window.
 ghost use Rattle.std.specs.Prelude.{◌≡◌, true, ◌↔◌, IfOk, IsTrue};
 ghost use Rattle.ht_tree.specs.Walks.{IsComplete, next_stack};
-ghost use Rattle.ht_tree.specs.OneFrame.{is_legal, one_frame, variable_count};
+ghost use Rattle.ht_tree.specs.Nodes.{judge_of};
+ghost use Rattle.ht_tree.specs.Variables.{may_two, variable_bound};
 ghost use Rattle.ht_check.specs.Paths.{AreAllPlain, FitsAt, FitsOnTop};
 
 use crate::one_frame::OneFrame;
@@ -15,7 +16,7 @@ pub fn is_complete(
     tokens: &[Token],
 ) -> Result<bool, AllocError>
     ensures { IfOk result
-        (λ complete. IsTrue complete ↔ IsComplete (one_frame window.old) tokens.now) }
+        (λ complete. IsTrue complete ↔ IsComplete (judge_of window.old) tokens.now) }
 {
     let mut walk = Walk::new(alloc, 1);
     for token in tokens {
@@ -28,14 +29,14 @@ pub fn is_complete(
 
 /// Follows a token where it fits.
 fn take(window: &mut OneFrame, walk: &mut Walk, token: Token) -> Result<bool, AllocError>
-    requires { AreAllPlain (variable_count window.old) walk.old.stack }
+    requires { AreAllPlain (variable_bound window.old) walk.old.stack }
     ensures window { window.new ≡ window.old }
     ensures fits { IfOk result
-        (λ taken. IsTrue taken ↔ FitsOnTop (one_frame window.old) walk.old.stack token) }
+        (λ taken. IsTrue taken ↔ FitsOnTop (judge_of window.old) walk.old.stack token) }
     ensures stack { IfOk result
         (λ taken. taken ≡ true → walk.new.stack ≡ next_stack walk.old.stack token) }
     ensures plain { IfOk result
-        (λ taken. taken ≡ true → AreAllPlain (variable_count window.old) walk.new.stack) }
+        (λ taken. taken ≡ true → AreAllPlain (variable_bound window.old) walk.new.stack) }
 {
     let status = window.status(walk.pending());
     if !fits(window, status, token) {
@@ -46,7 +47,7 @@ fn take(window: &mut OneFrame, walk: &mut Walk, token: Token) -> Result<bool, Al
 
 /// Whether a token fits where the status is this, if it decides no variable again.
 fn fits(window: &OneFrame, status: Status3, token: Token) -> bool
-    ensures { IsTrue result ↔ FitsAt (is_legal window.now) status token }
+    ensures { IsTrue result ↔ FitsAt (may_two window.now) status token }
 {
     match token {
         Token::Two { var, first: _ } => status == Status3::Open && window.is_legal(var),

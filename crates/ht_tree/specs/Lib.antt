@@ -1,5 +1,13 @@
 pub mod Walks
-pub mod StackOf
 pub mod WalkOf
-pub mod OneFrame
-pub mod Refutations
+pub mod StackOf
+pub mod Decisions
+pub mod Windows
+pub mod Places
+pub mod WindowStatus
+pub mod Variables
+pub mod Nodes
+pub mod WalkBack
+pub mod Searches
+pub mod Counts
+pub mod Entries

@@ -1,24 +1,33 @@
-//! Walks and entries: what a search writes down, and what a checker judges.
+//! Windows, walks and entries: what a search looks at and writes down, and what a checker judges.
 //!
 //! A search decides one variable of a window after the other and writes each step as a `Token`. The tokens are judged
 //! from the left against a stack of nodes, each with the decisions that lead to it: `Walk` keeps that stack. An `Entry`
 //! is the record of one fault.
 //!
 //! The definitions that search and checker share stand in `specs/`: `Walks` (nodes, tokens, complete and open walks),
-//! `OneFrame` (the cells, places, status and variables of the one-frame window) and `Refutations` (what an entry says of
-//! its fault).
+//! `Windows` (the four windows and their cells), `Places`, `WindowStatus` and `Variables` (where a window shows what is
+//! looked for, and what is left to decide), `Nodes` (the window of a node), `WalkBack` (the choice of variable),
+//! `Searches` (how a search ends), `Counts` (how many tokens it can take) and `Entries` (what an entry says of a fault).
 #![tactic(auto)]
 
 mod entry;
-mod laws;
 mod stack;
+mod theorems;
 mod token;
 mod walk;
+mod window;
 
 pub use entry::Entry;
-pub use laws::{complete_walk_seals, sealed_is_silent};
-pub use token::{Assign3, Status3, Token};
+pub use theorems::{
+    before_opens_the_window_below, complete_walk_seals, decided_window_is_not_open,
+    decision_keeps_the_window, decision_leaves_one_variable_less, difference_search_is_never_spent,
+    enough_budget_is_never_spent, latches_count_two, nodes_have_windows, open_net_has_a_choice,
+    open_status_has_a_choice, sealed_is_silent, sizes_measure, tokens_are_bounded,
+    variables_count_one,
+};
+pub use token::{Assign3, Choice, Status3, Token};
 pub use walk::Walk;
+pub use window::{Spot, Status, WindowPlace};
 
 #[cfg(test)]
 mod tests;

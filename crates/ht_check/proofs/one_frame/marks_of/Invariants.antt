@@ -1,5 +1,5 @@
 use Rattle.std.proofs.Common.{◌≡◌, ℕ, length, get_or, drop, false, ◌||◌}
-use Rattle.ht_tree.specs.OneFrame.{is_in}
+use Rattle.ht_tree.specs.Decisions.{is_in}
 use Rattle.ht_check.proofs.one_frame.marks_of.Given as goal
 
 abbrev pub invariant-loop-j : goal.invariant-loop-j
