@@ -8,6 +8,8 @@ use Rattle.std.specs.Io.KnownBytes.{append_known}
 use Rattle.ht_ports.specs.Desk.{DeskView, AddedPart}
 use Rattle.ht_ports.specs.declared.ports.OutPort.TheVariants.{Report, Out}
 use Rattle.ht_asked.specs.Asked.{sim, norm}
+use Rattle.ht_texts.specs.declared.total.Sums.{Sums}
+use Rattle.ht_texts.specs.Lines.{with_lf}
 use Rattle.ht_texts.specs.Reports.{total_line}
 use Rattle.ht_app.specs.Run.{IsBegunOn, IsCutShort, IsCut}
 use Rattle.ht_app.specs.Causes.{NothingOut, AreWorkedInto, IsNormalTextOf}
@@ -97,5 +99,5 @@ norm_cut netlist name text a m b none normal out cut = (
 )
 
 -- a total line has some bytes
-pub total_some : (classes detected : ℕ) → 0 < length (total_line classes detected)
-total_some classes detected = omega arith
+pub total_some : (sums : Sums) → 0 < length (with_lf (total_line sums))
+total_some sums = omega arith

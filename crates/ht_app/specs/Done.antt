@@ -1,5 +1,5 @@
 -- What a finished run leaves.
-use Rattle.std.specs.Prelude.{◌≡◌, ℕ, ◌<◌, List, Bool, length, get_or, IsTrue, Option, Some, None}
+use Rattle.std.specs.Prelude.{◌≡◌, ℕ, List, Bool, IsTrue, Option, Some, None}
 use Rattle.std.specs.Option.{option_map}
 use Rattle.std.specs.Io.KnownBytes.{append_known}
 use Rattle.ht_ports.specs.Desk.{DeskView}
@@ -7,25 +7,20 @@ use Rattle.ht_ports.specs.declared.ports.InPort.TheVariants.{Netlist}
 use Rattle.ht_ports.specs.declared.ports.OutPort.TheVariants.{Report, Out, Err}
 use Rattle.ht_net.specs.declared.place.Place.{Place}
 use Rattle.ht_net.specs.Netlist as net
-use Rattle.ht_net.specs.Detection.{IsFirstDetection}
-use Rattle.ht_faults.specs.Sites.{faults_of}
-use Rattle.ht_collapse.specs.Classes.{AreClasses, fault_at}
+use Rattle.ht_collapse.specs.Classes.{AreClasses}
+use Rattle.ht_grade.specs.Detections.{AreFirstDetections}
 use Rattle.ht_bench.specs.Normal.{normal_text}
+use Rattle.ht_texts.specs.Lines.{with_lf}
 use Rattle.ht_texts.specs.Tests.{IsTestText}
-use Rattle.ht_texts.specs.Reports.{report_text, total_line, class_count, detected_count}
+use Rattle.ht_texts.specs.Verdicts.{saids_of}
+use Rattle.ht_texts.specs.Reports.{report_text, report_sums, total_line}
 use Rattle.ht_asked.specs.Asked.{Asked, sim, norm}
 use Rattle.ht_app.specs.Inputs.{IsInput, IsAccepted, AreInputs, AcceptsNetlist, AcceptsTests}
 
 -- ---- `sim`
 
--- the first place of detection, or none, of each fault of the list
-pub record AreFirstDetections (c : net.Netlist) (list : List (List Bool)) (places : List (Option Place)) : Type 0 where
-  pub each : length places ≡ length (faults_of c)
-  pub first : (i : ℕ) → i < length (faults_of c) → IsFirstDetection c (fault_at c i) list (get_or places i None)
-
 -- The report and the total line of a circuit over the vectors of a tests text. A fault that represents its class has
--- its
--- own verdict, and every other names its representative, which has the same first detection.
+-- its own verdict, and every other names its representative, which has the same first detection.
 pub record IsSimulated (netlist tests report total : List ℕ) : Type 0 where
   pub circuit : net.Netlist
   pub list : List (List Bool)
@@ -34,9 +29,9 @@ pub record IsSimulated (netlist tests report total : List ℕ) : Type 0 where
   pub accepted : IsAccepted netlist circuit
   pub vectors : IsTestText circuit tests list
   pub classes : AreClasses circuit representatives
-  pub detections : AreFirstDetections circuit list places
-  pub report_is : report ≡ report_text circuit representatives places
-  pub total_is : total ≡ total_line (class_count representatives) (detected_count representatives places)
+  pub detections : AreFirstDetections circuit representatives list places
+  pub report_is : report ≡ report_text circuit representatives None (saids_of places)
+  pub total_is : total ≡ with_lf (total_line (report_sums representatives None (saids_of places)))
 
 -- The report stands under its name, the total line was added to Out, and Err is as it was.
 pub record SimDone (netlist_name tests_name report_name : List ℕ) (old new : DeskView) : Type 0 where

@@ -12,7 +12,6 @@ mod norm;
 mod refusal;
 mod report;
 mod sim;
-mod simulation;
 mod tests;
 mod trouble;
 

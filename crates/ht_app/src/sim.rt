@@ -11,13 +11,13 @@ ghost use Rattle.ht_app.specs.declared.trouble.Trouble.TheVariants as trouble;
 
 use crate::netlist::read_netlist;
 use crate::report::write_report;
-use crate::simulation::{body_of, detections};
 use crate::tests::read_tests;
 use crate::trouble::Trouble;
 use ht_collapse::collapse;
+use ht_grade::first_detections;
 use ht_net::{Circuit, Vectors};
 use ht_ports::Desk;
-use ht_texts::{Sums, write_total};
+use ht_texts::{Sums, saids_of, write_body, write_total};
 use std::alloc::{AllocError, Global};
 
 /// The report without its last line, and that line.
@@ -29,7 +29,6 @@ struct Texts {
 
 // Simulates the representative of each class of faults over the vectors.
 fn texts_of(alloc: Global, circuit: &Circuit, list: &Vectors) -> Result<Texts, AllocError>
-    requires circuit { IsCircuit circuit.now }
     requires width { list.now.width ≡ circuit.now.inputs }
     requires few { length list.now.list ≤ 2 ^ 62 }
     ensures { IfOk result
@@ -37,9 +36,10 @@ fn texts_of(alloc: Global, circuit: &Circuit, list: &Vectors) -> Result<Texts, A
 {
     let faults = ht_faults::list(alloc, circuit)?;
     let classes = collapse(alloc, circuit, &faults)?;
-    let places = detections(alloc, circuit, &faults, &classes, list)?;
-    let body = body_of(alloc, circuit, &faults, &classes, &places)?;
-    let total = write_total(alloc, Sums::of(&classes, &places))?;
+    let places = first_detections(alloc, circuit, &faults, &classes, list)?;
+    let saids = saids_of(alloc, &places)?;
+    let body = write_body(alloc, circuit, &faults, &classes, None, &saids)?;
+    let total = write_total(alloc, Sums::of(&classes, &saids, false))?;
     Ok(Texts { body, total })
 }
 

@@ -1,8 +1,7 @@
 -- The first place of each end is the representative.
-use Rattle.std.proofs.Common.{◌≡◌, ◌≢◌, ◌<◌, ◌+◌, ℕ, suc, List, [], ◌∷◌, ◌++◌, length, get_or, refl, sym, ◌∙◌, ap, arith, inl, inr, subst, length-append}
+use Rattle.std.proofs.Common.{◌≡◌, ◌<◌, ℕ, suc, List, [], ◌∷◌, length, get_or, refl, sym, ◌∙◌, arith, inl, inr, subst}
 use Rattle.std.specs.Prelude.{◌↔◌}
-use Rattle.std.proofs.lemmas.Bool.{cases_eq, cases_lt}
-use Rattle.std.proofs.lemmas.List.{get_or_push, get_or_append_left}
+use Rattle.std.proofs.lemmas.Bool.{cases_lt}
 use Rattle.ht_net.specs.Netlist.{Netlist}
 use Rattle.ht_faults.specs.Sites.{faults_of}
 use Rattle.ht_collapse.specs.Classes.{SameClass, itself, turned, joined, fault_at, IsRepresentative, AreClasses}
@@ -75,64 +74,3 @@ one_list c representatives others h k =
     list_by_places representatives others (omega arith)
     (λ i l. one_representative c i i (get_or representatives i 0) (get_or others i 0) (itself (fault_at c i))
     (h.exact i (omega arith)) (k.exact i (omega arith)))
-
--- The numbers below n that are their own representative, in rising order.
-pub record AreOwnBelow (representatives own : List ℕ) (n : ℕ) : Type 0 where
-  pub rises : (j k : ℕ) → j < k → k < length own → get_or own j 0 < get_or own k 0
-  pub each : (k : ℕ) → k < length own → (get_or own k 0 < n)
-      × (get_or representatives (get_or own k 0) 0 ≡ get_or own k 0)
-  pub all : (i : ℕ) → i < n → get_or representatives i 0 ≡ i → (k : ℕ) × (k < length own) × (get_or own k 0 ≡ i)
-
-pub one_own : (representatives own : List ℕ) (n : ℕ) → AreOwnBelow representatives own n → get_or representatives n 0
-    ≡ n → AreOwnBelow representatives (own ++ n ∷ []) (n + 1)
-one_own representatives own n h is =
-    let long = length-append own (n ∷ []) in
-    let last = get_or_push own n 0 (length own) refl in
-    let before : (k : ℕ) → k < length own → get_or (own ++ n ∷ []) k 0 ≡ get_or own k 0 = λ k l. get_or_append_left own
-    (n ∷ []) 0 k l in
-    record {
-      rises = λ j k less l. elim (cases_eq k (length own)) [
-        | inl e ↦
-            let there : j < length own = omega arith in
-            let low = (h.each j there).0 in
-            let a = before j there in
-            let b = ap (λ (m : ℕ). get_or (own ++ n ∷ []) m 0) e in
-            omega arith
-        | inr ne ↦
-            let a = before j (omega arith) in
-            let b = before k (omega arith) in
-            let up = h.rises j k less (omega arith) in
-            omega arith
-      ];
-      each = λ k l. elim (cases_eq k (length own)) [
-        | inl e ↦
-            let at : get_or (own ++ n ∷ []) k 0 ≡ n = ap (λ (m : ℕ). get_or (own ++ n ∷ []) m 0) e ∙ last in
-            let x : get_or (own ++ n ∷ []) k 0 < n + 1 = omega arith in
-            (x, ap (λ (m : ℕ). get_or representatives m 0) at ∙ (is ∙ sym at))
-        | inr ne ↦
-            let a = before k (omega arith) in
-            let old = h.each k (omega arith) in
-            let low = old.0 in
-            let x : get_or (own ++ n ∷ []) k 0 < n + 1 = omega arith in
-            (x, ap (λ (m : ℕ). get_or representatives m 0) a ∙ (old.1 ∙ sym a))
-      ];
-      all = λ i l own_one. elim (cases_eq i n) [
-        | inl e ↦ let x : length own < length (own ++ n ∷ []) = omega arith in (length own, x, last ∙ sym e)
-        | inr ne ↦
-            let old = h.all i (omega arith) own_one in
-            let there : old.0 < length own = old.1 in
-            let x : old.0 < length (own ++ n ∷ []) = omega arith in
-            (old.0, x, before old.0 there ∙ old.2)
-      ];
-    }
-
-pub not_own : (representatives own : List ℕ) (n : ℕ) → AreOwnBelow representatives own n
-    → get_or representatives n 0 ≢ n → AreOwnBelow representatives own (n + 1)
-not_own representatives own n h other = record {
-  rises = h.rises;
-  each = λ k l. let old = h.each k l in let low = old.0 in let x : get_or own k 0 < n + 1 = omega arith in (x, old.1);
-  all = λ i l own_one. elim (cases_eq i n) [
-    | inl e ↦ absurd (other (subst (λ (m : ℕ). get_or representatives m 0 ≡ m) e own_one))
-    | inr ne ↦ h.all i (omega arith) own_one
-  ];
-}

@@ -8,3 +8,4 @@ mod LeadLaws
 mod OrderLaws
 mod EndLaws
 pub mod ClassLaws
+pub mod OwnLaws

@@ -3,4 +3,4 @@ pub mod Classes
 pub mod Alike
 pub mod Ends
 pub mod Places
-pub mod ClassList
+pub mod ClassesOf

@@ -1,8 +1,7 @@
 // Classes of equivalent faults.
 ghost use Rattle.std.specs.Prelude.{◌≡◌, ◌<◌, ◌^◌, length, get_or, IfOk};
 ghost use Rattle.ht_faults.specs.Sites.{faults_of};
-ghost use Rattle.ht_collapse.specs.Classes.{AreClasses};
-ghost use Rattle.ht_collapse.specs.ClassList.{AreOwn};
+ghost use Rattle.ht_collapse.specs.Classes.{AreClasses, own_representatives};
 
 use crate::ends::find_ends;
 use crate::places::first_places;
@@ -24,17 +23,17 @@ impl Model for Classes {
 
     ghost Value = { List ℕ };
 
-    ghost use Rattle.ht_collapse.specs.ClassList.{representatives_in, IsListed};
+    ghost use Rattle.ht_collapse.specs.ClassesOf.{representatives_in, AreListed};
 
     ghost view = { representatives_in };
 
-    ghost invariant = { IsListed };
+    ghost invariant = { AreListed };
 }
 
 /// The numbers that are their own representative.
 fn own_representatives(alloc: Global, by_fault: &[u32]) -> Result<Vec<u32>, AllocError>
     requires { length by_fault.now < 2 ^ 32 }
-    ensures { IfOk result (λ own. AreOwn by_fault.now own.items) }
+    ensures { IfOk result (λ own. own.items ≡ own_representatives by_fault.now) }
 {
     let mut own = Vec::new(alloc);
     for i in 0..by_fault.len() as u32 {
@@ -76,7 +75,7 @@ impl Classes {
 
     /// The numbers that are their own representative, rising: one for each class.
     pub fn representatives(&self) -> &[u32]
-        ensures { AreOwn self.now result.now }
+        ensures { result.now ≡ own_representatives self.now }
     {
         &self.own
     }

@@ -1,5 +1,6 @@
-pub mod ClassLaws
 pub mod ReportLaws
 pub mod SiteLaws
+pub mod CountLaws
+pub mod LineLaws
 pub mod TestLaws
 pub mod VectorLaws

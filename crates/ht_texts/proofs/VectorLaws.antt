@@ -6,7 +6,7 @@ pub length-vector_text : (vector : List Bool) → length (vector_text vector) �
 length-vector_text [] = refl
 length-vector_text (bit ∷ vector) = let rest = length-vector_text vector in grind arith
 
-get_or-vector_text : (vector : List Bool) (k : ℕ) → k < length vector → (bit : Bool)
+pub get_or-vector_text : (vector : List Bool) (k : ℕ) → k < length vector → (bit : Bool)
     × (get_or (vector_text vector) k 0 ≡ bit_code bit)
 get_or-vector_text [] k below = absurd (omega arith)
 get_or-vector_text (bit ∷ vector) zero below = (bit, refl)

@@ -1,3 +1,6 @@
+pub mod Lines
 pub mod Tests
 pub mod Sites
+pub mod Verdicts
+pub mod Counts
 pub mod Reports

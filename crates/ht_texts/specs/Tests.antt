@@ -3,6 +3,7 @@ use Rattle.std.specs.Prelude.{◌≡◌, ◌==◌, ◌⊎◌, ◌<◌, ◌≤◌
 use Rattle.std.specs.List.{All, count_by}
 use Rattle.ht_net.specs.Netlist.{Netlist}
 use Rattle.ht_ports.specs.Cutting.{lines_of}
+use Rattle.ht_texts.specs.Lines.{with_lfs}
 
 -- the character of a bit, `0` or `1`
 abbrev pub bit_code : Bool → ℕ
@@ -12,6 +13,10 @@ bit_code true = 49
 -- the characters of a vector, in input order
 abbrev pub vector_text : List Bool → List ℕ
 vector_text vector = map bit_code vector
+
+-- the text of a list of vectors: the characters of each, and an LF
+abbrev pub test_text : List (List Bool) → List ℕ
+test_text list = with_lfs (map vector_text list)
 
 -- the line is the text of this vector, which has one bit for each of so many inputs
 pub record IsTextOf (width : ℕ) (line : List ℕ) (vector : List Bool) : Type 0 where

@@ -1,22 +1,28 @@
-// The line of one fault in a report.
-ghost use Rattle.std.specs.Prelude.{◌≡◌, ◌<◌, ◌+◌, ◌++◌, length, IfOk, OnOk};
+//! The line of one fault in a report.
+ghost use Rattle.std.specs.Prelude.{◌≡◌, ◌<◌, ◌++◌, true, length, IfOk, OnOk};
 ghost use Rattle.ht_faults.specs.Sites.{faults_of};
-ghost use Rattle.ht_collapse.specs.Classes.{AreClasses};
+ghost use Rattle.ht_collapse.specs.Classes.{AreClasses, is_representative};
+ghost use Rattle.ht_texts.specs.Lines.{with_lf};
 ghost use Rattle.ht_texts.specs.Sites.{IsSite};
-ghost use Rattle.ht_texts.specs.Reports.{IsSayable, fault_text, outcome_text, fault_line};
+ghost use Rattle.ht_texts.specs.Verdicts.{IsSayable};
+ghost use Rattle.ht_texts.specs.Reports.{fault_text, outcome_text, fault_line};
 
 use crate::number::push_number;
+use crate::said::{Said, push_verdict};
 use crate::site::push_site;
 use crate::vector::character_of;
-use crate::verdict::{Said, push_verdict};
 use ht_collapse::Classes;
 use ht_faults::FaultList;
 use ht_net::{Circuit, Fault};
 use std::alloc::{AllocError, Global};
 
 /// The line, with its LF, of fault `i` of the list, from 0: its number from 1, its site, its value and, for the
-/// representative of a class, what is said of it. The line of another fault has the number of its representative, from 1,
-/// and `said` has no effect. Errs where memory runs out.
+/// representative of a class, what is said of it, as `17 G17 s-a-0 detected 1 G17`. The line of another fault has the
+/// number of its representative, from 1, as `8 n(1) s-a-1 as 3`, and `said` has no effect.
+///
+/// # Errors
+///
+/// `AllocError`: out of memory.
 pub fn write_fault(
     alloc: Global,
     circuit: &Circuit,
@@ -28,15 +34,16 @@ pub fn write_fault(
     requires faults { faults.now ≡ faults_of circuit.now }
     requires classes { AreClasses circuit.now classes.now }
     requires fault { i < length faults.now }
-    requires place { IsSayable circuit.now said }
-    ensures { IfOk result (λ line. line.items ≡ fault_line circuit.now classes.now i said) }
+    requires sayable { is_representative classes.now i ≡ true → IsSayable circuit.now said }
+    ensures { IfOk result
+        (λ line. line.items ≡ with_lf (fault_line circuit.now classes.now i said)) }
 {
     let mut line = Vec::new(alloc);
     push_fault(&mut line, circuit, faults, classes, i, said)?;
     Ok(line)
 }
 
-/// Appends the line that `write_fault` gives. After an error the text may hold a part of the line.
+// Appends the line that `write_fault` gives. After an error the text may hold a part of the line.
 pub fn push_fault(
     text: &mut Vec<u8>,
     circuit: &Circuit,
@@ -48,9 +55,9 @@ pub fn push_fault(
     requires faults { faults.now ≡ faults_of circuit.now }
     requires classes { AreClasses circuit.now classes.now }
     requires fault { i < length faults.now }
-    requires place { IsSayable circuit.now said }
+    requires sayable { is_representative classes.now i ≡ true → IsSayable circuit.now said }
     ensures { OnOk result
-        (text.new.items ≡ text.old.items ++ fault_line circuit.now classes.now i said) }
+        (text.new.items ≡ text.old.items ++ with_lf (fault_line circuit.now classes.now i said)) }
 {
     push_number(text, u64::from(i) + 1)?;
     text.extend_from_slice(b" ")?;
@@ -70,7 +77,7 @@ fn push_stuck_line(text: &mut Vec<u8>, circuit: &Circuit, fault: Fault) -> Resul
     text.extend_from_slice(&[character_of(fault.value)])
 }
 
-// Appends what the report says of fault `i`: what is said of a representative, or the representative of another fault.
+// Appends what the report says of fault `i`: the verdict of a representative, or the representative of another fault.
 fn push_outcome(
     text: &mut Vec<u8>,
     circuit: &Circuit,
@@ -79,7 +86,7 @@ fn push_outcome(
     said: Said,
 ) -> Result<(), AllocError>
     requires fault { i < length classes.now }
-    requires place { IsSayable circuit.now said }
+    requires sayable { is_representative classes.now i ≡ true → IsSayable circuit.now said }
     ensures { OnOk result
         (text.new.items ≡ text.old.items ++ outcome_text circuit.now classes.now i said) }
 {

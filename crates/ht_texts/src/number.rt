@@ -1,4 +1,4 @@
-// Decimal numbers.
+//! Decimal numbers.
 ghost use Rattle.std.specs.Prelude.{◌≡◌, ◌++◌, OnOk};
 ghost use Rattle.std.specs.Fmt.{decimal};
 
@@ -13,7 +13,7 @@ pub fn push_number(text: &mut Vec<u8>, number: u64) -> Result<(), AllocError>
     text.extend_from_slice(buffer.format(number).as_bytes())
 }
 
-// Appends a word and, behind it, a number.
+// Appends a word and, after it, a number.
 pub fn push_counted(text: &mut Vec<u8>, word: &[u8], number: u32) -> Result<(), AllocError>
     ensures { OnOk result (text.new.items ≡ text.old.items ++ word.now ++ decimal number) }
 {

@@ -1,4 +1,4 @@
-// The names of sites and outputs in a report.
+//! The names of sites and outputs in a report.
 ghost use Rattle.std.specs.Prelude.{◌≡◌, ◌<◌, ◌++◌, length, OnOk};
 ghost use Rattle.ht_net.specs.Netlist.{net_count};
 ghost use Rattle.ht_texts.specs.Sites.{IsSite, pin_text, site_text, output_text};

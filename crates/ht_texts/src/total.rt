@@ -1,42 +1,46 @@
-// The sums of a report, and its total line.
-ghost use Rattle.std.specs.Prelude.{◌≡◌, length, IfOk};
-ghost use Rattle.ht_texts.specs.Reports.{class_count, detected_count, total_line};
+//! The sums of a report, and its total line.
+ghost use Rattle.std.specs.Prelude.{◌≡◌, ◌++◌, IfOk, OnOk};
+ghost use Rattle.ht_texts.specs.Lines.{with_lf};
+ghost use Rattle.ht_texts.specs.Reports.{search_text, total_line};
 
-use crate::counting::{count_classes, count_detected};
 use crate::number::push_counted;
-use ht_collapse::Classes;
-use ht_net::Place;
 use std::alloc::{AllocError, Global};
 
-/// The sums of a report: how many classes of faults there are, and how many of them are detected.
+/// The sums of a report: how many classes of faults there are, and of how many of them each verdict is said.
 #[derive(Clone, Copy, PartialEq, Eq, Debug)]
 pub struct Sums {
     pub classes: u32,
     pub detected: u32,
+    pub untestable: u32,
+    pub aborted: u32,
+    /// Whether faults were searched for, and not only simulated: only then the total says how many classes are untestable
+    /// and how many were given up.
+    pub search: bool,
 }
 
-impl Sums {
-    /// The sums of a report where each representative is first detected at the place that stands at its number, or
-    /// nowhere. What stands at the numbers of other faults has no effect.
-    pub fn of(classes: &Classes, places: &[Option<Place>]) -> Sums
-        requires { length places.now ≡ length classes.now }
-        ensures classes { result.classes ≡ class_count classes.now }
-        ensures detected { result.detected ≡ detected_count classes.now places.now }
-    {
-        Sums {
-            classes: count_classes(classes),
-            detected: count_detected(classes, places),
-        }
-    }
-}
-
-/// The last line of a report, with its LF. Errs where memory runs out.
+/// The last line of a report, with its LF: `total 32 detected 2`, and of a search
+/// `total 32 detected 30 untestable 1 aborted 1`.
+///
+/// # Errors
+///
+/// `AllocError`: out of memory.
 pub fn write_total(alloc: Global, sums: Sums) -> Result<Vec<u8>, AllocError>
-    ensures { IfOk result (λ line. line.items ≡ total_line sums.classes sums.detected) }
+    ensures { IfOk result (λ line. line.items ≡ with_lf (total_line sums)) }
 {
     let mut line = Vec::new(alloc);
     push_counted(&mut line, b"total ", sums.classes)?;
     push_counted(&mut line, b" detected ", sums.detected)?;
+    if sums.search {
+        push_search(&mut line, sums)?;
+    }
     line.extend_from_slice(b"\n")?;
     Ok(line)
+}
+
+// Appends what only a search counts.
+fn push_search(text: &mut Vec<u8>, sums: Sums) -> Result<(), AllocError>
+    ensures { OnOk result (text.new.items ≡ text.old.items ++ search_text sums) }
+{
+    push_counted(text, b" untestable ", sums.untestable)?;
+    push_counted(text, b" aborted ", sums.aborted)
 }

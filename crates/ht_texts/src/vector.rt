@@ -1,19 +1,28 @@
-// The text of one vector.
+//! The text of one vector.
 ghost use Rattle.std.specs.Prelude.{◌≡◌, ◌≢◌, List, Bool, IfOk, MatchOption};
+ghost use Rattle.ht_texts.specs.Lines.{with_lf};
 ghost use Rattle.ht_texts.specs.Tests.{bit_code, vector_text, IsTextOf};
 
 use std::alloc::{AllocError, Global};
 
-/// The line of a vector: one character `0` or `1` for each input, in input order, without an LF. Errs
-/// where memory runs out.
+/// The line of a vector, with its LF: one character `0` or `1` for each input, in input order, as `1100`.
+///
+/// # Errors
+///
+/// `AllocError`: out of memory.
 pub fn write_vector(alloc: Global, vector: &[bool]) -> Result<Vec<u8>, AllocError>
-    ensures { IfOk result (λ line. line.items ≡ vector_text vector.now) }
+    ensures { IfOk result (λ line. line.items ≡ with_lf (vector_text vector.now)) }
 {
-    vector.iter().map(|bit| character_of(*bit)).collect(alloc)
+    let mut line: Vec<u8> = vector.iter().map(|bit| character_of(*bit)).collect(alloc)?;
+    line.extend_from_slice(b"\n")?;
+    Ok(line)
 }
 
-/// The vector of `width` bits whose line this is, or `None` where it is the line of no such vector. Errs where memory
-/// runs out.
+/// The vector of `width` bits whose line this is, without its LF, or `None` where it is the line of no such vector.
+///
+/// # Errors
+///
+/// `AllocError`: out of memory.
 pub fn read_vector(alloc: Global, line: &[u8], width: u32) -> Result<Option<Vec<bool>>, AllocError>
     ensures { IfOk result (λ read. MatchOption read
         ((vector : List Bool) → ¬ IsTextOf width line.now vector)

@@ -1,8 +1,11 @@
-use Rattle.std.proofs.Common.{◌<◌, ◌++◌, ℕ, List, length, sym, subst, rules}
+use Rattle.std.proofs.Common.{◌<◌, ℕ, List, length, None, sym, subst, rules}
+use Rattle.ht_texts.specs.Verdicts.{saids_of}
+use Rattle.ht_texts.specs.Reports.{report_sums}
 use Rattle.ht_asked.specs.Asked.{sim}
 use Rattle.ht_app.specs.Causes.{SimulateCause}
 use Rattle.ht_app.proofs.CauseLaws.{netlist_cause, tests_cause, accepts_netlist, may_hold_before, input_later}
 use Rattle.ht_app.proofs.CutLaws.{total_some}
+use Rattle.ht_app.proofs.Places.{whole_report}
 use Rattle.ht_app.proofs.sim.simulate.Goals as goal
 
 pub returns-in_err-circuit-clause-cause : goal.returns-in_err-circuit-clause-cause
@@ -54,7 +57,7 @@ returns-clause-inputs g c =
 pub returns-clause-some : goal.returns-clause-some
 returns-clause-some g c =
     let made = c.in_ok-texts.ensures in
-    subst (λ (l : List ℕ). 0 < length l) (sym made.total_is) (total_some _ _)
+    subst (λ (l : List ℕ). 0 < length l) (sym made.total_is) (total_some (report_sums made.representatives None (saids_of made.places)))
 
 pub returns-clause-texts : goal.returns-clause-texts
 returns-clause-texts g c =
@@ -72,7 +75,8 @@ returns-clause-texts g c =
         vectors = c.in_ok-list.ensures.list t (input_later c.args.tests.now t a m read.frame both.tests_is);
         classes = made.classes;
         detections = made.detections;
-        report_is = λ i. made.body_is i ++ made.total_is i;
+        report_is = whole_report c.in_ok-circuit.circuit made.representatives (saids_of made.places)
+            c.in_ok-texts.texts.body.items c.in_ok-texts.texts.total.items made.body_is made.total_is;
         total_is = made.total_is;
       };
     }

@@ -1,6 +1,6 @@
-use Rattle.std.proofs.Common.{◌≡◌, ◌<◌, ℕ, List, length, ap, arith, subst}
+use Rattle.std.proofs.Common.{◌≡◌, ◌<◌, ℕ, List, length, ap, ◌∙◌, arith, subst}
 use Rattle.ht_collapse.specs.Places.{AreFirstPlaces}
-use Rattle.ht_collapse.specs.ClassList.{AreOwn}
+use Rattle.ht_collapse.specs.Classes.{own_representatives}
 use Rattle.ht_collapse.proofs.ClassLaws.{are_classes}
 use Rattle.ht_collapse.proofs.classes.collapse.Goals as goal
 
@@ -26,7 +26,7 @@ own_representatives-requires c =
 
 pub invariant_of-result : goal.invariant_of-result
 invariant_of-result c = record {
-  own = subst (λ (l : List ℕ). AreOwn l c.in_ok-own.own.items) c.deref-2.ensures.value c.in_ok-own.ensures;
+  own = c.in_ok-own.ensures ∙ ap own_representatives c.deref-2.ensures.value;
   short = places_short c.in_ok-ends.ends.items c.deref.result.now c.in_ok-by_fault.by_fault.items c.deref.ensures.value
       c.in_ok-by_fault.ensures c.in_ok-ends.ensures.short;
 }

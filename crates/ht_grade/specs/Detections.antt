@@ -1,0 +1,32 @@
+-- The first detections of the classes of faults.
+use Rattle.std.specs.Prelude.{◌≡◌, ◌<◌, ℕ, List, Bool, true, Option, None, length, get_or}
+use Rattle.std.specs.Option.{ForSome}
+use Rattle.ht_net.specs.declared.place.Place.{Place}
+use Rattle.ht_net.specs.Netlist.{Netlist}
+use Rattle.ht_net.specs.Detection.{IsFirstDetection}
+use Rattle.ht_faults.specs.Sites.{faults_of}
+use Rattle.ht_collapse.specs.Classes.{fault_at, is_representative, own_representatives}
+use Rattle.ht_serial.specs.Places.{IsWithin}
+
+abbrev pub place_at : List (Option Place) → ℕ → Option Place
+place_at places i = get_or places i None
+
+-- An entry for each fault of the list, by number from 0: of a representative it is the first place where the vectors
+-- detect it, or none.
+pub record AreFirstDetections (c : Netlist) (representatives : List ℕ) (list : List (List Bool))
+    (places : List (Option Place)) : Type 0 where
+  pub each : length places ≡ length (faults_of c)
+  pub first : (i : ℕ) → i < length (faults_of c) → is_representative representatives i ≡ true
+      → IsFirstDetection c (fault_at c i) list (place_at places i)
+
+-- each place is an output of the circuit, at a vector of the list
+abbrev pub AreWithin : Netlist → List (List Bool) → List (Option Place) → Type 0
+AreWithin c list places = (i : ℕ) → ForSome (place_at places i) (IsWithin c list)
+
+-- the first detections of the first k classes
+pub record AreFirstSoFar (c : Netlist) (representatives : List ℕ) (list : List (List Bool)) (k : ℕ)
+    (places : List (Option Place)) : Type 0 where
+  pub each : length places ≡ length (faults_of c)
+  pub first : (j : ℕ) → j < k → IsFirstDetection c (fault_at c (get_or (own_representatives representatives) j 0)) list
+      (place_at places (get_or (own_representatives representatives) j 0))
+  pub within : AreWithin c list places

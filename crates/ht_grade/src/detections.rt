@@ -1,0 +1,41 @@
+//! The first detection of each class of faults.
+ghost use Rattle.std.specs.Prelude.{◌≡◌, IfOk};
+ghost use Rattle.ht_faults.specs.Sites.{faults_of};
+ghost use Rattle.ht_collapse.specs.Classes.{AreClasses};
+ghost use Rattle.ht_grade.specs.Detections.{AreFirstDetections, AreWithin};
+
+use ht_collapse::Classes;
+use ht_faults::FaultList;
+use ht_net::{Circuit, Place, Vectors};
+use ht_serial::GoodRun;
+use std::alloc::{AllocError, Global};
+
+/// The first place where the vectors detect the representative of each class, or none, at the number of that fault, from 0.
+/// There are as many entries as faults; what stands at another fault's number has no meaning. Each representative is
+/// simulated from the first vector to its detection.
+///
+/// # Errors
+///
+/// `AllocError`: out of memory.
+pub fn first_detections(
+    alloc: Global,
+    circuit: &Circuit,
+    faults: &FaultList,
+    classes: &Classes,
+    list: &Vectors,
+) -> Result<Vec<Option<Place>>, AllocError>
+    requires faults { faults.now ≡ faults_of circuit.now }
+    requires classes { AreClasses circuit.now classes.now }
+    requires width { list.now.width ≡ circuit.now.inputs }
+    ensures first { IfOk result
+        (λ places. AreFirstDetections circuit.now classes.now list.now.list places.items) }
+    ensures within { IfOk result (λ places. AreWithin circuit.now list.now.list places.items) }
+{
+    let good = GoodRun::record(alloc, circuit, list)?;
+    let mut places = Vec::new(alloc);
+    places.resize(faults.len() as usize, None)?;
+    for i in classes.representatives() {
+        places[*i as usize] = good.first_detection(alloc, faults.get(*i))?;
+    }
+    Ok(places)
+}

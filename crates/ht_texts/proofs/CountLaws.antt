@@ -1,0 +1,27 @@
+-- Counts of verdicts, class by class.
+use Rattle.std.proofs.Common.{◌≡◌, ◌<◌, ◌+◌, ℕ, List, Bool, take, length, get_or, sym, ap, ◌∙◌, arith}
+use Rattle.std.proofs.lemmas.List.Sums.{sum_by_more}
+use Rattle.ht_texts.specs.declared.said.Said.{Said}
+use Rattle.ht_texts.specs.declared.total.Sums.{Sums}
+use Rattle.ht_texts.specs.Verdicts.{said_at, is_detected, is_untestable, is_aborted}
+use Rattle.ht_texts.specs.Counts.{count_said, one_if, AreCounted, CountsOne}
+
+count_more : (is_kind : Said → Bool) (saids : List Said) (faults : List ℕ) (k i : ℕ) → k < length faults
+    → i ≡ get_or faults k 0
+    → count_said is_kind saids (take (k + 1) faults)
+    ≡ count_said is_kind saids (take k faults) + one_if (is_kind (said_at saids i))
+count_more is_kind saids faults k i inside is =
+    sum_by_more (λ x. one_if (is_kind (said_at saids x))) faults k 0 inside
+    ∙ ap (λ x. count_said is_kind saids (take k faults) + one_if (is_kind (said_at saids x))) (sym is)
+
+-- one class more is counted
+pub one_counted : (classes : ℕ) (saids : List Said) (search : Bool) (faults : List ℕ) (k i : ℕ) (old new : Sums)
+    → AreCounted classes saids search (take k faults) old → k < length faults → i ≡ get_or faults k 0
+    → CountsOne (said_at saids i) old new → AreCounted classes saids search (take (k + 1) faults) new
+one_counted classes saids search faults k i old new so_far inside is one = record {
+  classes_are = one.classes ∙ so_far.classes_are;
+  detected = omega (arith, one.detected, so_far.detected, count_more is_detected saids faults k i inside is);
+  untestable = omega (arith, one.untestable, so_far.untestable, count_more is_untestable saids faults k i inside is);
+  aborted = omega (arith, one.aborted, so_far.aborted, count_more is_aborted saids faults k i inside is);
+  search_is = one.search ∙ so_far.search_is;
+}

@@ -1,0 +1,54 @@
+//! How many classes there are, and of how many of them each verdict is said.
+ghost use Rattle.std.specs.Prelude.{◌≡◌, ◌<◌, ◌-◌, ◌^◌, length};
+ghost use Rattle.ht_collapse.specs.Classes.{class_count};
+ghost use Rattle.ht_texts.specs.Counts.{CountsOne, sums_of};
+
+use crate::said::Said;
+use crate::total::Sums;
+use ht_collapse::Classes;
+
+// How many classes there are.
+#[tactic(auto, using(ht_collapse::proofs::OwnLaws::own_within))]
+pub fn count_classes(classes: &Classes) -> u32
+    ensures { result ≡ class_count classes.now }
+{
+    let count = classes.representatives().len();
+    prove!(count <= classes.len() as usize);
+    count as u32
+}
+
+impl Sums {
+    /// The sums of a report where this is said of each fault. What is said of a fault that isn't its own representative
+    /// has no effect.
+    pub fn of(classes: &Classes, saids: &[Said], search: bool) -> Sums
+        requires { length saids.now ≡ length classes.now }
+        ensures { result ≡ sums_of classes.now saids.now search }
+    {
+        let mut sums = Sums {
+            classes: count_classes(classes),
+            detected: 0,
+            untestable: 0,
+            aborted: 0,
+            search,
+        };
+        for i in classes.representatives() {
+            sums.count(saids[*i as usize]);
+        }
+        sums
+    }
+
+    // Counts one class, of which this is said.
+    fn count(&mut self, said: Said)
+        requires detected { self.old.detected < 2 ^ 32 - 1 }
+        requires untestable { self.old.untestable < 2 ^ 32 - 1 }
+        requires aborted { self.old.aborted < 2 ^ 32 - 1 }
+        ensures { CountsOne said self.old self.new }
+    {
+        match said {
+            Said::Detected(_) => self.detected += 1,
+            Said::Untestable => self.untestable += 1,
+            Said::Aborted => self.aborted += 1,
+            Said::Undetected => {}
+        }
+    }
+}

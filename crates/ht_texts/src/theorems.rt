@@ -1,0 +1,16 @@
+//! What is written is read. The law is the contract of a function that does nothing.
+ghost use Rattle.std.specs.Prelude.{◌≡◌, ◌≤◌, ◌^◌, ℕ, List, Bool, length};
+ghost use Rattle.std.specs.List.{All};
+ghost use Rattle.ht_net.specs.Netlist.{Netlist};
+ghost use Rattle.ht_texts.specs.Tests.{test_text, IsTestText, IsMalformedTest};
+
+/// The lines of vectors, each with its LF, are the test text of these vectors, and none of them is malformed: so a reader
+/// takes them. A text is at most 2^62 bytes long.
+pub fn tests_are_read()
+    ensures list { (c : Netlist) (list : List (List Bool))
+        → All (λ (vector : List Bool). length vector ≡ c.inputs) list
+        → length (test_text list) ≤ 2 ^ 62 → IsTestText c (test_text list) list }
+    ensures no_line { (c : Netlist) (list : List (List Bool)) (n : ℕ)
+        → All (λ (vector : List Bool). length vector ≡ c.inputs) list
+        → length (test_text list) ≤ 2 ^ 62 → ¬ IsMalformedTest c (test_text list) n }
+{}
