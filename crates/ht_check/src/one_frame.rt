@@ -14,7 +14,7 @@ ghost use Rattle.ht_check.specs.Paths.{IsPlain};
 
 use crate::decisions::{write_decisions, write_inputs, write_latches};
 use crate::places::{next_states, outputs};
-use ht_frame::{MOST_PINS, capture, settle};
+use ht_frame::{MAX_GATE_PINS, capture, settle};
 use ht_net::{Circuit, Fault};
 use ht_pairs::PairSet;
 use ht_tern::Tern;
@@ -96,7 +96,7 @@ impl<'c> OneFrame<'c> {
         let latches = sets(alloc, dffs)?;
         let values = sets(alloc, nets)?;
         let next = sets(alloc, dffs)?;
-        let pins = sets(alloc, MOST_PINS)?;
+        let pins = sets(alloc, MAX_GATE_PINS)?;
         Ok(OneFrame {
             circuit,
             fault,
@@ -163,7 +163,7 @@ fn evaluate(
     requires latches { length latches.now ≡ length circuit.now.dffs }
     requires values { length values.old ≡ net_count circuit.now }
     requires next { length next.old ≡ length circuit.now.dffs }
-    requires room { length pins.old ≡ MOST_PINS }
+    requires room { length pins.old ≡ MAX_GATE_PINS }
     ensures values { (x : ℕ) → x < net_count circuit.now → env_of (pair Unk Unk ∷ []) values.new x
         ≡ net_value circuit.now (pair_set_rules (Some fault)) vector.now latches.now x }
     ensures next { next.new ≡ data_values (pair_set_rules (Some fault)) (env_of (pair Unk Unk ∷ []) values.new)

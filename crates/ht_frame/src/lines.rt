@@ -1,13 +1,13 @@
-// What stems and pins make of the values that they carry.
+//! What stems and pins make of the values that they carry.
 ghost use Rattle.std.specs.Prelude.{◌≡◌, Option};
 ghost use Rattle.ht_net.specs.Faults.{rules_of};
 
 use crate::domain::Domain;
 use ht_net::{Fault, NetId, Site};
 
-/// What the stem of a net makes of a value.
+/// What the stem of a net makes of a value: the stuck value where the fault is there, else the value itself.
 #[tactic(auto, unfolding(ht_net::specs::Faults::forced))]
-pub(crate) fn stem<V: Domain>(fault: Option<Fault>, net: u32, value: V) -> V
+pub fn stem<V: Domain>(fault: Option<Fault>, net: u32, value: V) -> V
     ensures { result ≡ (rules_of V.blank V.gate V.stick fault).stem net value }
 {
     match fault {
@@ -16,9 +16,9 @@ pub(crate) fn stem<V: Domain>(fault: Option<Fault>, net: u32, value: V) -> V
     }
 }
 
-/// What a pin of a gate makes of a value.
+/// What a pin of a gate makes of a value. Gates and their pins count from 0.
 #[tactic(auto, unfolding(ht_net::specs::Faults::forced))]
-pub(crate) fn gate_pin<V: Domain>(fault: Option<Fault>, gate: u32, pin: u8, value: V) -> V
+pub fn gate_pin<V: Domain>(fault: Option<Fault>, gate: u32, pin: u8, value: V) -> V
     ensures { result ≡ (rules_of V.blank V.gate V.stick fault).pin gate pin value }
 {
     match fault {
@@ -27,9 +27,9 @@ pub(crate) fn gate_pin<V: Domain>(fault: Option<Fault>, gate: u32, pin: u8, valu
     }
 }
 
-/// What the data pin of a flip-flop makes of a value.
+/// What the data pin of a flip-flop makes of a value. Flip-flops count from 0.
 #[tactic(auto, unfolding(ht_net::specs::Faults::forced))]
-pub(crate) fn data_pin<V: Domain>(fault: Option<Fault>, dff: u32, value: V) -> V
+pub fn data_pin<V: Domain>(fault: Option<Fault>, dff: u32, value: V) -> V
     ensures { result ≡ (rules_of V.blank V.gate V.stick fault).data_pin dff value }
 {
     match fault {

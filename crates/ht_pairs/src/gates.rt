@@ -1,4 +1,4 @@
-// A gate over sets of pairs.
+//! A gate over sets of pairs.
 ghost use Rattle.std.specs.Prelude.{◌≡◌, ◌↔◌, length};
 ghost use Rattle.ht_tern.specs.Gate.{HasArity, operation_of, polarity_of};
 ghost use Rattle.ht_pairs.specs.Pairs.{Arises, IsMember, Pair, lifted_set, pair_operations};

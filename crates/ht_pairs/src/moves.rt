@@ -1,7 +1,7 @@
-// Moves of all members of a set at once, along one half of the pairs.
-//
-// A set is a number of nine bits, here also the empty one. In groups of three it has the pairs whose good half is 0, 1
-// and X, and in each group the faulty half is 0, 1 and X.
+//! Moves of all members of a set at once, along one half of the pairs.
+//!
+//! A set is a number of nine bits, here also the empty one. In groups of three it has the pairs whose good half is 0, 1
+//! and X, and in each group the faulty half is 0, 1 and X.
 ghost use Rattle.std.specs.Prelude.{◌≡◌, ◌<◌};
 ghost use Rattle.ht_pairs.specs.Pairs.{stuck_pair};
 ghost use Rattle.ht_pairs.specs.Moves.{IsMoved, along, becomes, blurs, complements, flips, lowers, passes, raises, step_of, zeros_of};

@@ -1,6 +1,6 @@
-// The operations of gates over sets: the results for every choice of one member from each argument.
-//
-// A term `a & b` has the pairs to which a move leads from a member of `self`, and another from a member of `other`.
+//! The operations of gates over sets: the results for every choice of one member from each argument.
+//!
+//! A term `a & b` has the pairs to which a move leads from a member of `self`, and another from a member of `other`.
 ghost use Rattle.ht_pairs.specs.Pairs.{pair_operations};
 ghost use Rattle.ht_pairs.specs.Results.{IsImage, IsImageOfTwo};
 

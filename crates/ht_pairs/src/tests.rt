@@ -1,4 +1,4 @@
-// Worked examples, and each public call once.
+//! Worked examples, and each public call once.
 use crate::{PairSet, lift};
 use ht_tern::Tern::{One, Unk, Zero};
 use ht_tern::{Kind, Tern};

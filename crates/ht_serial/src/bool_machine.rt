@@ -1,4 +1,4 @@
-// The machine over two values.
+//! The machine over two values.
 ghost use Rattle.std.specs.Prelude.{◌≡◌, ◌<◌, false, IsTrue, length, get_or, IfOk};
 ghost use Rattle.ht_net.specs.Faults.{bool_rules};
 ghost use Rattle.ht_serial.specs.MachineState.{started, stepped};

@@ -1,4 +1,4 @@
-// The first place where a list of vectors detects a fault.
+//! The first place where a list of vectors detects a fault.
 ghost use Rattle.std.specs.Prelude.{◌≡◌, ℕ, ◌<◌, length, Option, IfOk, MatchOption, IsTrue, ◌↔◌};
 ghost use Rattle.ht_tern.specs.declared.tern.Tern.TheVariants.{Unk};
 ghost use Rattle.ht_tern.specs.Opposite.{Opposite};

@@ -1,4 +1,4 @@
-// What the good machine shows over a list of vectors.
+//! What the good machine shows over a list of vectors.
 ghost use Rattle.std.specs.Prelude.{◌≡◌, IfOk};
 
 use crate::machine::Machine;

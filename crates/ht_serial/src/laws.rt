@@ -1,5 +1,5 @@
-// What a machine shows after a list of vectors, and what a detection means. Each law is the contract of a function that
-// does nothing.
+//! What a machine shows after a list of vectors, and what a detection means. Each law is the contract of a function that
+//! does nothing.
 ghost use Rattle.std.specs.Prelude.{◌≡◌, ℕ, List, Bool, Option};
 ghost use Rattle.ht_tern.specs.declared.tern.Tern.{Tern};
 ghost use Rattle.ht_net.specs.declared.fault.Fault.{Fault};

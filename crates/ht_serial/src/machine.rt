@@ -1,4 +1,4 @@
-// The machine over three values.
+//! The machine over three values.
 ghost use Rattle.std.specs.Prelude.{◌≡◌, ◌<◌, length, get_or, IfOk};
 ghost use Rattle.ht_tern.specs.declared.tern.Tern.TheVariants.{Unk};
 ghost use Rattle.ht_net.specs.Faults.{tern_rules};

@@ -1,9 +1,9 @@
-// A machine over any domain of values, frame after frame.
+//! A machine over any domain of values, frame after frame.
 ghost use Rattle.std.specs.Prelude.{◌≡◌, ◌<◌, length, get_or, replicate, IfOk};
 ghost use Rattle.ht_net.specs.Faults.{rules_of};
 ghost use Rattle.ht_serial.specs.MachineState.{started, stepped};
 
-use ht_frame::{Domain, MOST_PINS, capture, settle};
+use ht_frame::{Domain, MAX_GATE_PINS, capture, settle};
 use ht_net::{Circuit, Fault};
 use std::alloc::{AllocError, Global};
 use std::marker::Model;
@@ -58,7 +58,7 @@ impl<'c, V: Domain> Simulator<'c, V> {
             latches.items) }
     {
         let values = filled(alloc, circuit.nets() as usize, blank)?;
-        let pins = filled(alloc, MOST_PINS, blank)?;
+        let pins = filled(alloc, MAX_GATE_PINS, blank)?;
         Ok(Simulator {
             circuit,
             fault,

@@ -1,9 +1,9 @@
-// Machines, and first detections by hand.
+//! Machines, and first detections by hand.
 ghost use Rattle.std.specs.Prelude.{◌≡◌, ◌≤◌, length, IfOk, OnOk};
 ghost use Rattle.ht_net.specs.Draft.{IsName};
 
 use crate::{BoolMachine, GoodRun, Machine, first};
-use ht_frame::{MOST_PINS, settle};
+use ht_frame::{MAX_GATE_PINS, settle};
 use ht_net::{Builder, Circuit, Fault, NameId, NetError, NetId, Place, Site, Vectors};
 use ht_tern::{Kind, Tern};
 use std::alloc::{AllocError, Global};
@@ -140,7 +140,7 @@ fn settles_bits(rt: HostRuntime) -> Result<(), Fail> {
     let table = [(None, false), (Some(pin), true)];
     for (fault, z) in table {
         let mut values = [false; 3];
-        let mut pins = [false; MOST_PINS];
+        let mut pins = [false; MAX_GATE_PINS];
         settle(&circuit, fault, &[false, true], &[], &mut values, &mut pins);
         assert!(rt; values == [false, true, z]);
     }

@@ -1,4 +1,4 @@
-// The kinds of gate, and the value of a gate.
+//! The kinds of gate, and the value of a gate.
 ghost use Rattle.std.specs.Prelude.{◌≡◌, ◌<◌, length};
 ghost use Rattle.ht_tern.specs.Gate.{HasArity, gate_value, gate_value_over, has_arity, inverts};
 

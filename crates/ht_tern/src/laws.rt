@@ -1,4 +1,4 @@
-// What every gate keeps. Each law is the contract of a function that does nothing.
+//! What every gate keeps. Each law is the contract of a function that does nothing.
 ghost use Rattle.std.specs.Prelude.{◌≡◌, ◌<◌, List, Bool, length, map};
 ghost use Rattle.ht_tern.specs.declared.gate.Kind.{Kind};
 ghost use Rattle.ht_tern.specs.declared.tern.Tern.{Tern};

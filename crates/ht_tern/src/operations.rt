@@ -1,4 +1,4 @@
-// The operations of a domain of values, from which every gate is made.
+//! The operations of a domain of values, from which every gate is made.
 ghost use Rattle.std.specs.Prelude.{◌≡◌};
 ghost use Rattle.ht_tern.specs.Gate.{Operations, bool_operations};
 

@@ -1,4 +1,4 @@
-// The three values and their operations.
+//! The three values and their operations.
 ghost use Rattle.std.specs.Prelude.{◌≡◌, IsTrue, ◌↔◌};
 ghost use Rattle.ht_tern.specs.Gate.{Refines, tern_of, tern_operations};
 ghost use Rattle.ht_tern.specs.Opposite.{Opposite, are_opposite};
