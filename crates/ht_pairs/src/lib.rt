@@ -9,13 +9,11 @@
 #![tactic(auto)]
 
 mod gates;
-mod laws;
 mod moves;
 mod operations;
 mod set;
-#[cfg(test)]
-mod tests;
+mod theorems;
 
 pub use gates::lift;
-pub use laws::{lifted_set_holds_what_arises, single_pairs_lift_to_a_single_pair};
 pub use set::PairSet;
+pub use theorems::{lifted_set_holds_what_arises, single_pairs_lift_to_a_single_pair};

@@ -17,7 +17,7 @@ use Rattle.ht_net.proofs.ValueLaws.{seen_length}
 use Rattle.ht_serial.specs.MachineState.{MachineState, stepped, after_run, after_list}
 use Rattle.ht_serial.specs.Opposites.{IsOppositeAt}
 use Rattle.ht_serial.specs.Places.{IsWithin}
-use Rattle.ht_serial.specs.Recorded.{rows_of}
+use Rattle.ht_serial.specs.GoodRunOf.{value_rows}
 use Rattle.ht_serial.proofs.RunLaws.{run_output_at, step_is_run}
 
 -- A machine that has run t vectors of a list, and then the next one.
@@ -68,11 +68,11 @@ not_unknown One h = h
 not_unknown Unk h = h
 
 -- What is opposite stands at an output.
-pub opposite_inside : (good bad : List Tern) (o : ℕ) → IsOppositeAt good bad o → o < length good
-opposite_inside good bad o h = elim (le_or_lt (length good) o) [
+pub opposite_inside : (good faulty : List Tern) (o : ℕ) → IsOppositeAt good faulty o → o < length good
+opposite_inside good faulty o h = elim (le_or_lt (length good) o) [
   | inl past ↦
-      let P : Tern → Type 0 = λ v. Opposite v (get_or bad o Unk) in
-      absurd (not_unknown (get_or bad o Unk) (subst P (get_or_past good o Unk past) h))
+      let P : Tern → Type 0 = λ v. Opposite v (get_or faulty o Unk) in
+      absurd (not_unknown (get_or faulty o Unk) (subst P (get_or_past good o Unk past) h))
   | inr inside ↦ inside
 ]
 
@@ -89,43 +89,43 @@ detects_inside c f list t o d = elim (le_or_lt (length list) t) [
 ]
 
 -- The rows of both runs at vector t decide what is detected there.
-pub rows_detect : (c : Netlist) (f : Fault) (list : List (List Bool)) (t o : ℕ) (good bad : List Tern)
-    → good ≡ get_or (tern_outputs c None list) t [] → bad ≡ get_or (tern_outputs c (Some f) list) t []
-    → IsOppositeAt good bad o → Detects c f list t o
-rows_detect c f list t o good bad g b h =
-    let P : List Tern → Type 0 = λ row. IsOppositeAt row bad o in
+pub rows_detect : (c : Netlist) (f : Fault) (list : List (List Bool)) (t o : ℕ) (good faulty : List Tern)
+    → good ≡ get_or (tern_outputs c None list) t [] → faulty ≡ get_or (tern_outputs c (Some f) list) t []
+    → IsOppositeAt good faulty o → Detects c f list t o
+rows_detect c f list t o good faulty g b h =
+    let P : List Tern → Type 0 = λ row. IsOppositeAt row faulty o in
     let Q : List Tern → Type 0 = λ row. IsOppositeAt (get_or (tern_outputs c None list) t []) row o in
     subst Q b (subst P g h)
 
-pub detected_rows : (c : Netlist) (f : Fault) (list : List (List Bool)) (t o : ℕ) (good bad : List Tern)
-    → good ≡ get_or (tern_outputs c None list) t [] → bad ≡ get_or (tern_outputs c (Some f) list) t []
-    → Detects c f list t o → IsOppositeAt good bad o
-detected_rows c f list t o good bad g b h =
-    let P : List Tern → Type 0 = λ row. IsOppositeAt row bad o in
+pub detected_rows : (c : Netlist) (f : Fault) (list : List (List Bool)) (t o : ℕ) (good faulty : List Tern)
+    → good ≡ get_or (tern_outputs c None list) t [] → faulty ≡ get_or (tern_outputs c (Some f) list) t []
+    → Detects c f list t o → IsOppositeAt good faulty o
+detected_rows c f list t o good faulty g b h =
+    let P : List Tern → Type 0 = λ row. IsOppositeAt row faulty o in
     let Q : List Tern → Type 0 = λ row. IsOppositeAt (get_or (tern_outputs c None list) t []) row o in
     subst P (sym g) (subst Q (sym b) h)
 
 -- Nothing is detected up to vector t, if nothing is before it and none of its outputs is opposite.
-pub none_more : (c : Netlist) (f : Fault) (list : List (List Bool)) (t : ℕ) (good bad : List Tern)
-    → good ≡ get_or (tern_outputs c None list) t [] → bad ≡ get_or (tern_outputs c (Some f) list) t []
-    → ((s o : ℕ) → s < t → ¬ Detects c f list s o) → ((o : ℕ) → ¬ IsOppositeAt good bad o)
+pub none_more : (c : Netlist) (f : Fault) (list : List (List Bool)) (t : ℕ) (good faulty : List Tern)
+    → good ≡ get_or (tern_outputs c None list) t [] → faulty ≡ get_or (tern_outputs c (Some f) list) t []
+    → ((s o : ℕ) → s < t → ¬ Detects c f list s o) → ((o : ℕ) → ¬ IsOppositeAt good faulty o)
     → (s o : ℕ) → s < t + 1 → ¬ Detects c f list s o
-none_more c f list t good bad g b below here s o lt d = elim (eqb_tells s t) [
+none_more c f list t good faulty g b below here s o lt d = elim (eqb_tells s t) [
   | inl p ↦
       let P : ℕ → Type 0 = λ k. Detects c f list k o in
-      here o (detected_rows c f list t o good bad g b (subst P p.1 d))
+      here o (detected_rows c f list t o good faulty g b (subst P p.1 d))
   | inr p ↦ let ne : s ≢ t = p.1 in below s o (omega arith) d
 ]
 
 -- Nothing is detected before an output of vector t, if nothing is before that vector and no lower output is opposite.
-pub none_before : (c : Netlist) (f : Fault) (list : List (List Bool)) (p : Place) (good bad : List Tern)
-    → good ≡ get_or (tern_outputs c None list) p.vector [] → bad ≡ get_or (tern_outputs c (Some f) list) p.vector []
-    → ((s o : ℕ) → s < p.vector → ¬ Detects c f list s o) → ((o : ℕ) → o < p.output → ¬ IsOppositeAt good bad o)
+pub none_before : (c : Netlist) (f : Fault) (list : List (List Bool)) (p : Place) (good faulty : List Tern)
+    → good ≡ get_or (tern_outputs c None list) p.vector [] → faulty ≡ get_or (tern_outputs c (Some f) list) p.vector []
+    → ((s o : ℕ) → s < p.vector → ¬ Detects c f list s o) → ((o : ℕ) → o < p.output → ¬ IsOppositeAt good faulty o)
     → (s o : ℕ) → IsBefore s o p → ¬ Detects c f list s o
-none_before c f list p good bad g b below here s o (inl lt) d = below s o lt d
-none_before c f list p good bad g b below here s o (inr q) d =
+none_before c f list p good faulty g b below here s o (inl lt) d = below s o lt d
+none_before c f list p good faulty g b below here s o (inr q) d =
     let P : ℕ → Type 0 = λ k. Detects c f list k o in
-    here o q.1 (detected_rows c f list p.vector o good bad g b (subst P q.0 d))
+    here o q.1 (detected_rows c f list p.vector o good faulty g b (subst P q.0 d))
 
 -- Each frame of a run shows as many values as the circuit has outputs.
 pub frame_width : (c : Netlist) (fault : Option Fault) (list : List (List Bool)) (t : ℕ) → t < length list
@@ -140,21 +140,21 @@ frame_width c fault list t inside =
     ∙ seen_length (net_value c r (get_or vectors t []) state) c.outputs
 
 -- What is opposite at a vector of the list stands at an output of the circuit.
-pub place_within : (c : Netlist) (list : List (List Bool)) (p : Place) (good bad : List Tern) → p.vector < length list
-    → good ≡ get_or (tern_outputs c None list) p.vector [] → IsOppositeAt good bad p.output → IsWithin c list p
-place_within c list p good bad inside g h =
+pub place_within : (c : Netlist) (list : List (List Bool)) (p : Place) (good faulty : List Tern) → p.vector < length list
+    → good ≡ get_or (tern_outputs c None list) p.vector [] → IsOppositeAt good faulty p.output → IsWithin c list p
+place_within c list p good faulty inside g h =
     let width : length good ≡ length c.outputs = ap (λ (l : List Tern). length l) g ∙ frame_width c None list p.vector
     inside in
-    record { vector = inside; output = omega (arith, width, opposite_inside good bad p.output h) }
+    record { vector = inside; output = omega (arith, width, opposite_inside good faulty p.output h) }
 
 -- The rows of a recorded run.
-pub rows_count : (c : Netlist) (list : List (List Bool)) (rows : List (Vec Tern Global)) → rows_of rows
+pub rows_count : (c : Netlist) (list : List (List Bool)) (rows : List (Vec Tern Global)) → value_rows rows
     ≡ tern_outputs c None list → length rows ≡ length list
 rows_count c list rows is = sym (length-map rows (λ (row : Vec Tern Global). row.items)) ∙
     (ap (λ (l : List (List Tern)). length l) is ∙ frames_count c None list)
 
 pub row_at : (c : Netlist) (list : List (List Bool)) (rows : List (Vec Tern Global)) (t : ℕ) (row : Vec Tern Global)
-    → rows_of rows ≡ tern_outputs c None list
+    → value_rows rows ≡ tern_outputs c None list
     → t < length rows → row ≡ get_or rows t row → row.items ≡ get_or (tern_outputs c None list) t []
 row_at c list rows t row is inside at =
     ap (λ (r : Vec Tern Global). r.items) at ∙ (sym (get_or-map (λ (r : Vec Tern Global). r.items) rows t row [] inside)
@@ -163,12 +163,12 @@ row_at c list rows t row is inside at =
 -- One more row is recorded.
 pub rows_more : (c : Netlist) (list : List (List Bool)) (rows more : List (Vec Tern Global)) (t : ℕ)
     (row : Vec Tern Global) → t < length list
-    → rows_of rows ≡ take t (tern_outputs c None list) → more ≡ rows ++ row ∷ [] → row.items
+    → value_rows rows ≡ take t (tern_outputs c None list) → more ≡ rows ++ row ∷ [] → row.items
     ≡ get_or (tern_outputs c None list) t []
-    → rows_of more ≡ take (t + 1) (tern_outputs c None list)
+    → value_rows more ≡ take (t + 1) (tern_outputs c None list)
 rows_more c list rows more t row inside is pushed shown =
     let there : t < length (tern_outputs c None list) = omega (arith, frames_count c None list) in
-    ap rows_of pushed ∙ (map-append (λ (r : Vec Tern Global). r.items) rows (row ∷ [])
+    ap value_rows pushed ∙ (map-append (λ (r : Vec Tern Global). r.items) rows (row ∷ [])
     ∙ (ap (λ (l : List (List Tern)). l ++ row.items ∷ []) is ∙
     (ap (λ (r : List Tern). take t (tern_outputs c None list) ++ r ∷ []) shown
     ∙ sym (take_more (tern_outputs c None list) t [] there))))

@@ -16,20 +16,20 @@ pub record MachineState (V : Type 0) : Type 0 where
   pub outputs : List V
   pub latches : List V
 
--- A reading of a machine: its rules by its stuck line, as `tern_rules` over three values and `bool_rules` over two.
-abbrev pub Reading : Type 0 → Type 0
-Reading V = Option Fault → Rules V
+-- The rules of a machine: its rules by its stuck line, as `tern_rules` over three values and `bool_rules` over two.
+abbrev pub FaultRules : Type 0 → Type 0
+FaultRules V = Option Fault → Rules V
 
-abbrev pub blank_outputs : {V : Type 0} → Reading V → Netlist → Option Fault → List V
+abbrev pub blank_outputs : {V : Type 0} → FaultRules V → Netlist → Option Fault → List V
 blank_outputs rules c fault = replicate (length c.outputs) (rules fault).blank
 
 -- a machine before its first frame, whose flip-flops hold a state
-abbrev pub started : {V : Type 0} → Reading V → Netlist → Option Fault → List V → MachineState V
+abbrev pub started : {V : Type 0} → FaultRules V → Netlist → Option Fault → List V → MachineState V
 started rules c fault state = record
     { circuit = c; fault = fault; has_run = false; outputs = blank_outputs rules c fault; latches = state }
 
 -- a machine after one more frame
-abbrev pub stepped : {V : Type 0} → Reading V → MachineState V → List V → MachineState V
+abbrev pub stepped : {V : Type 0} → FaultRules V → MachineState V → List V → MachineState V
 stepped rules m vector = record m {
   has_run = true;
   outputs = frame_outputs m.circuit (rules m.fault) vector m.latches;
@@ -37,12 +37,12 @@ stepped rules m vector = record m {
 }
 
 -- a machine after a list of vectors, frame by frame
-abbrev pub after : {V : Type 0} → Reading V → MachineState V → List (List V) → MachineState V
+abbrev pub after : {V : Type 0} → FaultRules V → MachineState V → List (List V) → MachineState V
 after rules m [] = m
 after rules m (vector ∷ vectors) = after rules (stepped rules m vector) vectors
 
 -- a machine after a list of vectors, by its whole run: the outputs of the last frame, and the state that is reached
-abbrev pub after_run : {V : Type 0} → Reading V → Netlist → Option Fault → List V → List (List V) → MachineState V
+abbrev pub after_run : {V : Type 0} → FaultRules V → Netlist → Option Fault → List V → List (List V) → MachineState V
 after_run rules c fault state vectors = record {
   circuit = c;
   fault = fault;

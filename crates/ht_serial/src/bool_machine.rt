@@ -25,7 +25,10 @@ impl<'c> Model for BoolMachine<'c> {
 }
 
 impl<'c> BoolMachine<'c> {
-    /// A machine whose flip-flops hold `state`, which has a bit for each. Errs where memory runs out.
+    /// A machine whose flip-flops hold `state`, which has a bit for each.
+    ///
+    /// # Errors
+    /// Out of memory.
     pub fn start_from(
         alloc: Global,
         circuit: &'c Circuit,

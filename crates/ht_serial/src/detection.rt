@@ -1,7 +1,5 @@
 //! The first place where a list of vectors detects a fault.
 ghost use Rattle.std.specs.Prelude.{◌≡◌, ℕ, ◌<◌, length, Option, IfOk, MatchOption, IsTrue, ◌↔◌};
-ghost use Rattle.ht_tern.specs.declared.tern.Tern.TheVariants.{Unk};
-ghost use Rattle.ht_tern.specs.Opposite.{Opposite};
 ghost use Rattle.ht_net.specs.Detection.{IsFirstDetection};
 ghost use Rattle.ht_net.specs.Silence.{Apart};
 ghost use Rattle.std.specs.Option.{ForSome};
@@ -11,29 +9,18 @@ ghost use Rattle.ht_serial.specs.Places.{IsWithin};
 use crate::good_run::GoodRun;
 use crate::machine::Machine;
 use ht_net::{Circuit, Fault, Place, Vectors};
-use ht_tern::Tern;
+use ht_tern::{Tern, is_opposite};
 use std::alloc::{AllocError, Global};
 
-/// Whether both values are definite, and opposite.
-fn is_opposite(good: Tern, bad: Tern) -> bool
-    ensures { IsTrue result ↔ Opposite good bad }
+// The least output where the good machine shows `good` and the faulty one the opposite definite value.
+fn first_opposite(good: &[Tern], faulty: &Machine) -> Option<u32>
+    requires { length good.now ≡ length faulty.now.outputs }
+    ensures { MatchOption result ((o : ℕ) → ¬ IsOppositeAt good.now faulty.now.outputs o)
+        (λ p. IsOppositeAt good.now faulty.now.outputs p
+        × ((o : ℕ) → o < p → ¬ IsOppositeAt good.now faulty.now.outputs o)) }
 {
-    match good {
-        Tern::Zero => bad == Tern::One,
-        Tern::One => bad == Tern::Zero,
-        Tern::Unk => false,
-    }
-}
-
-/// The least output where the good machine shows `good` and a machine shows the opposite definite value.
-fn first_opposite(good: &[Tern], bad: &Machine) -> Option<u32>
-    requires { length good.now ≡ length bad.now.outputs }
-    ensures { MatchOption result ((o : ℕ) → ¬ IsOppositeAt good.now bad.now.outputs o)
-        (λ p. IsOppositeAt good.now bad.now.outputs p
-        × ((o : ℕ) → o < p → ¬ IsOppositeAt good.now bad.now.outputs o)) }
-{
-    for o in 0..bad.output_count() {
-        if is_opposite(good[o as usize], bad.output(o)) {
+    for o in 0..faulty.output_count() {
+        if is_opposite(good[o as usize], faulty.output(o)) {
             return Some(o);
         }
     }
@@ -42,8 +29,11 @@ fn first_opposite(good: &[Tern], bad: &Machine) -> Option<u32>
 
 impl<'a> GoodRun<'a> {
     /// The first place where the list detects the fault: the least vector, and there the least output, where the good
-    /// machine and the faulty one show opposite definite values, both run from all-unknown. There the two show opposite bits
-    /// in two-valued runs from any two states. Errs where memory runs out.
+    /// machine and the faulty one show opposite definite values, both run from all-unknown (PROOFS 1992). There the two show opposite bits
+    /// in two-valued runs from any two states.
+    ///
+    /// # Errors
+    /// Out of memory.
     pub fn first_detection(&self, alloc: Global, fault: Fault) -> Result<Option<Place>, AllocError>
         ensures first { IfOk result
             (λ place. IsFirstDetection self.now.circuit fault self.now.list place) }
@@ -53,10 +43,10 @@ impl<'a> GoodRun<'a> {
             (λ place. ForSome place
             (λ p. Apart self.now.circuit fault self.now.list p.vector p.output)) }
     {
-        let mut bad = Machine::start(alloc, self.circuit, Some(fault))?;
+        let mut faulty = Machine::start(alloc, self.circuit, Some(fault))?;
         for (t, good) in self.rows.iter().enumerate() {
-            bad.step(self.list.get(t as u64));
-            if let Some(output) = first_opposite(good, &bad) {
+            faulty.step(self.list.get(t as u64));
+            if let Some(output) = first_opposite(good, &faulty) {
                 return Ok(Some(Place {
                     vector: t as u64,
                     output,
@@ -67,7 +57,10 @@ impl<'a> GoodRun<'a> {
     }
 }
 
-/// The same for one fault alone. Where there are more, record the good machine's run once (`GoodRun::record`).
+/// The same for one fault. Where there are more, record the good machine's run once (`GoodRun::record`).
+///
+/// # Errors
+/// Out of memory.
 pub fn first(
     alloc: Global,
     circuit: &Circuit,

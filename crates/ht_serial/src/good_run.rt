@@ -7,7 +7,8 @@ use ht_tern::Tern;
 use std::alloc::{AllocError, Global};
 use std::marker::Model;
 
-/// A circuit and a list of vectors, with the good machine's outputs at each vector: it runs once for all faults.
+/// A circuit and a list of vectors, with the good machine's outputs at each vector: it runs once for all faults. It keeps
+/// a value for each vector and output, one byte each.
 #[derive(Drop)]
 pub struct GoodRun<'a> {
     pub(crate) circuit: &'a Circuit,
@@ -17,19 +18,22 @@ pub struct GoodRun<'a> {
 }
 
 impl<'a> Model for GoodRun<'a> {
-    ghost use Rattle.ht_serial.specs.TestSession.{TestSession};
+    ghost use Rattle.ht_serial.specs.GoodRunView.{GoodRunView};
 
-    ghost Value = { TestSession };
+    ghost Value = { GoodRunView };
 
-    ghost use Rattle.ht_serial.specs.Recorded.{session_of, IsRecorded};
+    ghost use Rattle.ht_serial.specs.GoodRunOf.{good_run_of, IsRecorded};
 
-    ghost view = { session_of };
+    ghost view = { good_run_of };
 
     ghost invariant = { IsRecorded };
 }
 
 impl<'a> GoodRun<'a> {
-    /// Runs the good machine over the list, from all-unknown. Errs where memory runs out.
+    /// Runs the good machine over the list, from all-unknown.
+    ///
+    /// # Errors
+    /// Out of memory.
     pub fn record(
         alloc: Global,
         circuit: &'a Circuit,
@@ -42,7 +46,7 @@ impl<'a> GoodRun<'a> {
         let mut rows = Vec::new(alloc);
         for t in 0..list.len() {
             good.step(list.get(t));
-            rows.push(good.outputs(alloc)?)?;
+            rows.push(good.output_row(alloc)?)?;
         }
         Ok(GoodRun {
             circuit,

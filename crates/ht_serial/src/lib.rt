@@ -10,14 +10,12 @@
 mod bool_machine;
 mod detection;
 mod good_run;
-mod laws;
 mod machine;
 mod simulator;
-#[cfg(test)]
-mod tests;
+mod theorems;
 
 pub use bool_machine::BoolMachine;
 pub use detection::first;
 pub use good_run::GoodRun;
-pub use laws::{detected_faults_are_apart, machine_follows_run};
 pub use machine::Machine;
+pub use theorems::{detected_faults_are_apart, machine_follows_run};

@@ -32,7 +32,7 @@ impl<'c> Model for Machine<'c> {
     ghost invariant = { λ a. length a.vector.items ≡ a.simulator.circuit.inputs };
 }
 
-/// Writes bits as definite values.
+// Writes bits as definite values.
 fn fill(values: &mut [Tern], bits: &[bool])
     requires { length values.old ≡ length bits.now }
     ensures { values.new ≡ terns_of bits.now }
@@ -43,7 +43,7 @@ fn fill(values: &mut [Tern], bits: &[bool])
 }
 
 impl<'c> Machine<'c> {
-    /// A machine whose flip-flops hold `latches`.
+    // A machine whose flip-flops hold `latches`.
     fn with_latches(
         alloc: Global,
         circuit: &'c Circuit,
@@ -59,7 +59,10 @@ impl<'c> Machine<'c> {
         Ok(Machine { simulator, vector })
     }
 
-    /// A machine with every flip-flop unknown. Errs where memory runs out.
+    /// A machine with every flip-flop unknown.
+    ///
+    /// # Errors
+    /// Out of memory.
     pub fn start(
         alloc: Global,
         circuit: &'c Circuit,
@@ -72,7 +75,10 @@ impl<'c> Machine<'c> {
         Machine::with_latches(alloc, circuit, fault, latches)
     }
 
-    /// A machine whose flip-flops hold `state`, which has a value for each. Errs where memory runs out.
+    /// A machine whose flip-flops hold `state`, which has a value for each.
+    ///
+    /// # Errors
+    /// Out of memory.
     pub fn start_from(
         alloc: Global,
         circuit: &'c Circuit,
@@ -111,8 +117,11 @@ impl<'c> Machine<'c> {
         self.simulator.output(o)
     }
 
-    /// All outputs in the last frame. Errs where memory runs out.
-    pub fn outputs(&self, alloc: Global) -> Result<Vec<Tern>, AllocError>
+    /// The output row: the outputs in the last frame, in their order; unknown before the first.
+    ///
+    /// # Errors
+    /// Out of memory.
+    pub fn output_row(&self, alloc: Global) -> Result<Vec<Tern>, AllocError>
         ensures { IfOk result (λ row. row.items ≡ self.now.outputs) }
     {
         let mut row = Vec::new(alloc);

@@ -26,14 +26,17 @@ impl<'c, V: Domain> Model for Simulator<'c, V> {
 
     ghost Value = { MachineState V };
 
-    ghost use Rattle.ht_serial.specs.Fields.{shown_by, IsSized};
+    ghost use Rattle.ht_serial.specs.MachineOf.{machine_of, AreMachineFields};
 
-    ghost view = { λ a. shown_by V.blank a.circuit.now a.fault a.has_run a.values.items a.latches.items };
+    ghost view = { λ a. machine_of V.blank a.circuit.now a.fault a.has_run a.values.items a.latches.items };
 
-    ghost invariant = { λ a. IsSized a.circuit.now a.values.items a.latches.items a.pins.items };
+    ghost invariant = { λ a. AreMachineFields a.circuit.now a.values.items a.latches.items a.pins.items };
 }
 
-/// `count` copies of a value. Errs where memory runs out.
+/// `count` copies of a value.
+///
+/// # Errors
+/// Out of memory.
 pub fn filled<V: Copy>(alloc: Global, count: usize, value: V) -> Result<Vec<V>, AllocError>
     ensures { IfOk result (λ values. values.items ≡ replicate count value) }
 {
@@ -43,7 +46,10 @@ pub fn filled<V: Copy>(alloc: Global, count: usize, value: V) -> Result<Vec<V>, 
 }
 
 impl<'c, V: Domain> Simulator<'c, V> {
-    /// A machine before its first frame, whose flip-flops hold `latches`. Errs where memory runs out.
+    /// A machine before its first frame, whose flip-flops hold `latches`.
+    ///
+    /// # Errors
+    /// Out of memory.
     pub fn start(
         alloc: Global,
         circuit: &'c Circuit,

@@ -8,14 +8,14 @@
 #![tactic(auto)]
 
 mod gate;
-mod laws;
 mod operations;
 mod tern;
+mod theorems;
 
 pub use gate::{Kind, eval, eval_over};
-pub use laws::{
+pub use operations::GateOperations;
+pub use tern::{Tern, is_opposite, refines};
+pub use theorems::{
     definite_arguments_give_the_two_valued_gate, refined_arguments_refine_the_value,
     two_valued_gates_stand_for_three_valued_ones,
 };
-pub use operations::GateOperations;
-pub use tern::{Tern, is_opposite, refines};

@@ -6,7 +6,7 @@ use Rattle.ht_net.specs.declared.place.Place.{Place}
 use Rattle.ht_net.specs.Silence.{Apart}
 use Rattle.ht_serial.proofs.ApartLaws.{detected_apart}
 use Rattle.ht_serial.specs.Places.{IsWithin}
-use Rattle.ht_serial.specs.TestSession.{TestSession}
+use Rattle.ht_serial.specs.GoodRunView.{GoodRunView}
 use Rattle.ht_serial.proofs.DetectionLaws.{next_is, shows, rows_count, row_at, frame_width, place_within, rows_detect, none_more, none_before, detects_inside}
 use Rattle.ht_serial.proofs.good_run.GoodRun.first_detection.Goals as goal
 
@@ -22,44 +22,44 @@ pub first_opposite-requires : goal.first_opposite-requires
 first_opposite-requires c =
     let s = c.args.self.now in
     let t = c.loop-t.t in
-    let rows = c.self.invariant.rows ∙ ap (λ (x : TestSession). tern_outputs x.circuit None x.list) c.self.view_is in
+    let rows = c.self.invariant.rows ∙ ap (λ (x : GoodRunView). tern_outputs x.circuit None x.list) c.self.view_is in
     let count = rows_count s.circuit s.list c.self.inside.rows.items rows in
     let inside : t < length s.list = omega (arith, count) in
-    let vector = c.get.ensures.row ∙ ap (λ (x : TestSession). get_or x.list t []) c.self.view_is in
+    let vector = c.get.ensures.row ∙ ap (λ (x : GoodRunView). get_or x.list t []) c.self.view_is in
     let item : c.good-item.result ≡ get_or c.self.inside.rows.items t c.good-item.result =
     c.good-item.is ∙ ap (λ (l : List (Vec Tern Global)). get_or l t c.good-item.result) c.deref-good-items.ensures.value
     in
     let good = c.deref.ensures.value ∙ row_at s.circuit s.list c.self.inside.rows.items t c.good-item.result rows
     (omega arith) item in
-    let bad = shows s.circuit (Some c.args.fault) s.list t c.loop-t.bad c.step.new.self c.get.result.now inside
-    c.loop-t.invariant.bad vector c.step.ensures in
+    let faulty = shows s.circuit (Some c.args.fault) s.list t c.loop-t.faulty c.step.new.self c.get.result.now inside
+    c.loop-t.invariant.faulty vector c.step.ensures in
     ap (λ (l : List Tern). length l) good ∙
     (frame_width s.circuit None s.list t inside ∙ (sym (frame_width s.circuit (Some c.args.fault) s.list t inside)
-    ∙ ap (λ (l : List Tern). length l) (sym bad)))
+    ∙ ap (λ (l : List Tern). length l) (sym faulty)))
 
 pub returns-in-Some : goal.returns-in-Some
 returns-in-Some c =
     let s = c.args.self.now in
     let t = c.loop-t.t in
-    let rows = c.self.invariant.rows ∙ ap (λ (x : TestSession). tern_outputs x.circuit None x.list) c.self.view_is in
+    let rows = c.self.invariant.rows ∙ ap (λ (x : GoodRunView). tern_outputs x.circuit None x.list) c.self.view_is in
     let count = rows_count s.circuit s.list c.self.inside.rows.items rows in
     let inside : t < length s.list = omega (arith, count) in
-    let vector = c.get.ensures.row ∙ ap (λ (x : TestSession). get_or x.list t []) c.self.view_is in
+    let vector = c.get.ensures.row ∙ ap (λ (x : GoodRunView). get_or x.list t []) c.self.view_is in
     let item : c.good-item.result ≡ get_or c.self.inside.rows.items t c.good-item.result =
     c.good-item.is ∙ ap (λ (l : List (Vec Tern Global)). get_or l t c.good-item.result) c.deref-good-items.ensures.value
     in
     let good = c.deref.ensures.value ∙ row_at s.circuit s.list c.self.inside.rows.items t c.good-item.result rows
     (omega arith) item in
-    let bad = shows s.circuit (Some c.args.fault) s.list t c.loop-t.bad c.step.new.self c.get.result.now inside
-    c.loop-t.invariant.bad vector c.step.ensures in
+    let faulty = shows s.circuit (Some c.args.fault) s.list t c.loop-t.faulty c.step.new.self c.get.result.now inside
+    c.loop-t.invariant.faulty vector c.step.ensures in
     let found = c.in-Some.ensures in
     let p : Place = record { vector = t; output = c.in-Some.output } in
     let detects = rows_detect s.circuit c.args.fault s.list t c.in-Some.output c.deref.result.now
-    c.step.new.self.outputs good bad found.0 in
+    c.step.new.self.outputs good faulty found.0 in
     record {
       first = (
         detects,
-        none_before s.circuit c.args.fault s.list p c.deref.result.now c.step.new.self.outputs good bad
+        none_before s.circuit c.args.fault s.list p c.deref.result.now c.step.new.self.outputs good faulty
             c.loop-t.invariant.none found.1,
       );
       within = λ x e.
@@ -76,27 +76,27 @@ pub loop-t-preserved : goal.loop-t-preserved
 loop-t-preserved c =
     let s = c.args.self.now in
     let t = c.loop-t.t in
-    let rows = c.self.invariant.rows ∙ ap (λ (x : TestSession). tern_outputs x.circuit None x.list) c.self.view_is in
+    let rows = c.self.invariant.rows ∙ ap (λ (x : GoodRunView). tern_outputs x.circuit None x.list) c.self.view_is in
     let count = rows_count s.circuit s.list c.self.inside.rows.items rows in
     let inside : t < length s.list = omega (arith, count) in
-    let vector = c.get.ensures.row ∙ ap (λ (x : TestSession). get_or x.list t []) c.self.view_is in
+    let vector = c.get.ensures.row ∙ ap (λ (x : GoodRunView). get_or x.list t []) c.self.view_is in
     let item : c.good-item.result ≡ get_or c.self.inside.rows.items t c.good-item.result =
     c.good-item.is ∙ ap (λ (l : List (Vec Tern Global)). get_or l t c.good-item.result) c.deref-good-items.ensures.value
     in
     let good = c.deref.ensures.value ∙ row_at s.circuit s.list c.self.inside.rows.items t c.good-item.result rows
     (omega arith) item in
-    let bad = shows s.circuit (Some c.args.fault) s.list t c.loop-t.bad c.step.new.self c.get.result.now inside
-    c.loop-t.invariant.bad vector c.step.ensures in
+    let faulty = shows s.circuit (Some c.args.fault) s.list t c.loop-t.faulty c.step.new.self c.get.result.now inside
+    c.loop-t.invariant.faulty vector c.step.ensures in
     record {
-      bad = next_is s.circuit (Some c.args.fault) s.list t c.loop-t.bad c.step.new.self c.get.result.now inside
-          c.loop-t.invariant.bad vector c.step.ensures;
-      none = none_more s.circuit c.args.fault s.list t c.deref.result.now c.step.new.self.outputs good bad
+      faulty = next_is s.circuit (Some c.args.fault) s.list t c.loop-t.faulty c.step.new.self c.get.result.now inside
+          c.loop-t.invariant.faulty vector c.step.ensures;
+      none = none_more s.circuit c.args.fault s.list t c.deref.result.now c.step.new.self.outputs good faulty
           c.loop-t.invariant.none c.in_default.ensures;
     }
 
 pub returns : goal.returns
 returns c =
-    let rows = c.self.invariant.rows ∙ ap (λ (x : TestSession). tern_outputs x.circuit None x.list) c.self.view_is in
+    let rows = c.self.invariant.rows ∙ ap (λ (x : GoodRunView). tern_outputs x.circuit None x.list) c.self.view_is in
     let count = rows_count c.args.self.now.circuit c.args.self.now.list c.self.inside.rows.items rows in
     record {
       first = λ s o d.

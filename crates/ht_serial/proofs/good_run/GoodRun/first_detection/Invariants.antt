@@ -5,6 +5,6 @@ use Rattle.ht_serial.proofs.good_run.GoodRun.first_detection.Given as goal
 
 abbrev pub invariant-loop-t : goal.invariant-loop-t
 invariant-loop-t l = record {
-  bad : l.bad ≡ after_list l.self.circuit (Some l.fn.fault) (take l.t l.self.list);
+  faulty : l.faulty ≡ after_list l.self.circuit (Some l.fn.fault) (take l.t l.self.list);
   none : (s o : ℕ) → s < l.t → ¬ Detects l.self.circuit l.fn.fault l.self.list s o;
 }

@@ -14,8 +14,8 @@ loop-t-preserved c =
     record {
       good = next_is n None list c.loop-t.t c.loop-t.good c.step.new.self c.get.result.now inside
           c.loop-t.invariant.good c.get.ensures.row c.step.ensures;
-      rows = rows_more n list c.loop-t.rows.items c.push.new.self.items c.loop-t.t c.in_ok-outputs.field-0 inside
-          c.loop-t.invariant.rows c.in_ok-push.ensures.items (c.in_ok-outputs.ensures ∙ shown);
+      rows = rows_more n list c.loop-t.rows.items c.push.new.self.items c.loop-t.t c.in_ok-output_row.field-0 inside
+          c.loop-t.invariant.rows c.in_ok-push.ensures.items (c.in_ok-output_row.ensures ∙ shown);
     }
 
 pub invariant_of-result : goal.invariant_of-result

@@ -1,5 +1,5 @@
 use Rattle.ht_tern.proofs.GateLaws.{gate_definite}
-use Rattle.ht_tern.proofs.laws.definite_arguments_give_the_two_valued_gate.Goals as goal
+use Rattle.ht_tern.proofs.theorems.definite_arguments_give_the_two_valued_gate.Goals as goal
 
 pub returns : goal.returns
 returns c = gate_definite

@@ -1,5 +1,5 @@
 use Rattle.ht_tern.proofs.GateLaws.{gate_refines}
-use Rattle.ht_tern.proofs.laws.refined_arguments_refine_the_value.Goals as goal
+use Rattle.ht_tern.proofs.theorems.refined_arguments_refine_the_value.Goals as goal
 
 pub returns : goal.returns
 returns c = gate_refines

@@ -7,8 +7,8 @@ use Rattle.ht_frame.specs.Values.{env_of}
 use Rattle.ht_serial.specs.MachineState.{MachineState}
 
 -- the machine whose nets and flip-flops have these values
-abbrev pub shown_by : {V : Type 0} → V → Netlist → Option Fault → Bool → List V → List V → MachineState V
-shown_by blank c fault has_run values latches = record {
+abbrev pub machine_of : {V : Type 0} → V → Netlist → Option Fault → Bool → List V → List V → MachineState V
+machine_of blank c fault has_run values latches = record {
   circuit = c;
   fault = fault;
   has_run = has_run;
@@ -17,7 +17,7 @@ shown_by blank c fault has_run values latches = record {
 }
 
 -- there is a value for each net, each flip-flop and each pin of the widest gate
-pub record IsSized {V : Type 0} (c : Netlist) (values latches pins : List V) : Type 0 where
+pub record AreMachineFields {V : Type 0} (c : Netlist) (values latches pins : List V) : Type 0 where
   pub circuit : IsCircuit c
   pub nets : length values ≡ net_count c
   pub dffs : length latches ≡ length c.dffs
