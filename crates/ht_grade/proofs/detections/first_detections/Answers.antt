@@ -6,7 +6,7 @@ use Rattle.ht_net.specs.Detection.{IsFirstDetection}
 use Rattle.ht_faults.specs.FaultList.{no_fault}
 use Rattle.ht_collapse.proofs.OwnLaws.{own_below}
 use Rattle.ht_serial.specs.Places.{IsWithin}
-use Rattle.ht_serial.specs.TestSession.{TestSession}
+use Rattle.ht_serial.specs.GoodRunView.{GoodRunView}
 use Rattle.ht_grade.proofs.DetectionLaws.{one_more, all_first}
 use Rattle.ht_grade.proofs.detections.first_detections.Goals as goal
 
@@ -34,9 +34,9 @@ loop-i-preserved c =
     (c.loop-i.invariant.each ∙ sym c.requires.classes.every) in
     let fault = c.get.ensures ∙ ap (λ (l : List Fault). get_or l i no_fault) c.requires.faults in
     let place : Option Place = c.in_ok-places.field-0 in
-    let first = subst (λ (s : TestSession). IsFirstDetection s.circuit c.get.result s.list place) c.in_ok-good.ensures
+    let first = subst (λ (s : GoodRunView). IsFirstDetection s.circuit c.get.result s.list place) c.in_ok-good.ensures
     c.in_ok-places.ensures.first in
-    let within = subst (λ (s : TestSession). ForSome place (IsWithin s.circuit s.list)) c.in_ok-good.ensures
+    let within = subst (λ (s : GoodRunView). ForSome place (IsWithin s.circuit s.list)) c.in_ok-good.ensures
     c.in_ok-places.ensures.within in
     one_more circuit classes list places place k i c.loop-i.invariant (ap (λ (l : List ℕ). get_or l k 0) own) below
     (subst (λ (f : Fault). IsFirstDetection circuit f list place) fault first) within
