@@ -12,7 +12,7 @@ use Rattle.ht_net.specs.declared.error.NetError.TheVariants.{Twice, TooMany, Und
 use Rattle.ht_net.specs.declared.error.Limit.TheVariants.{Nets, Pins, Inputs, Dffs}
 use Rattle.ht_net.specs.Names.{IsNewName}
 use Rattle.ht_net.specs.Named.{Name, NamedGate}
-use Rattle.ht_net.specs.Draft.{Draft, GatePart, IsDriven, draft_pins}
+use Rattle.ht_net.specs.Draft.{Draft, DraftGate, IsDriven, draft_pins}
 use Rattle.ht_net.specs.Refusals.{RefusesInput, AcceptsInput, RefusesDff, AcceptsDff, RefusesGate, AcceptsGate, RefusesOutput}
 use Rattle.ht_statement.specs.Statement.{Statement, Nothing, Input, Output, Dff, Gate, names_in}
 use Rattle.ht_statement.specs.Reading.{States}
@@ -306,7 +306,7 @@ module _ (old first : Draft) (out : NameId) (name : Name) (first_mentions : Ment
       gate_accepted new e accepts before is within =
           let s = Gate name kind args in
           let draft = mentions.is_draft in
-          let part : GatePart = record { kind = kind; out = out; args = ids } in
+          let part : DraftGate = record { kind = kind; out = out; args = ids } in
           let made : IsDraftOf (before ++ s ∷ []) new = subst (IsDraftOf (before ++ s ∷ [])) (sym e)
           (draft_with_mentions before s (record d { gates = d.gates ++ part ∷ [] })
           (with_gate (mentions_of before ++ name ∷ args) before d kind out ids name args (with_all before is) out_at
@@ -318,7 +318,7 @@ module _ (old first : Draft) (out : NameId) (name : Name) (first_mentions : Ment
                   (omega (
                     arith,
                     accepts.1,
-                    sum_by-append (λ (g : GatePart). length g.args) d.gates (part ∷ []),
+                    sum_by-append (λ (g : DraftGate). length g.args) d.gates (part ∷ []),
                     ap
                         draft_pins e,
                   ))

@@ -4,11 +4,11 @@ use Rattle.std.specs.List.{AllZip, Contains, fold, flat_map}
 use Rattle.std.proofs.lemmas.List.{length-append, map_push}
 use Rattle.std.proofs.lemmas.List.Elements.{Contains-append_left, Contains-append_right, Contains-append_cases, Contains-push, Contains-push_cases}
 use Rattle.ht_net.specs.declared.names.NameId.{NameId}
-use Rattle.ht_net.specs.declared.draft.DffPart.{DffPart}
+use Rattle.ht_net.specs.declared.draft.DraftDff.{DraftDff}
 use Rattle.ht_tern.specs.declared.gate.Kind.{Kind}
 use Rattle.ht_net.specs.Names.{IsNewName}
 use Rattle.ht_net.specs.Named.{Name, NamedDff, NamedGate}
-use Rattle.ht_net.specs.Draft.{Draft, GatePart, driven_names, latch_names, gate_names, draft_pins}
+use Rattle.ht_net.specs.Draft.{Draft, DraftGate, driven_names, latch_names, gate_names, draft_pins}
 use Rattle.ht_bench.specs.Different.{different}
 use Rattle.ht_statement.specs.Statement.{Statement, Nothing, Input, Output, Dff, Gate}
 use Rattle.ht_bench.specs.Contents.{inputs_in, outputs_in, dffs_in, gates_in, driven_in, inputs_of, outputs_of, dffs_of, gates_of, driven_by, mentions_of, pins_of}
@@ -133,10 +133,10 @@ pub with_dff : (mentioned : List Name) (statements : List Statement) (d : Draft)
     (record d { dffs = d.dffs ++ record { out = out; data_pin = pin } ∷ [] })
 with_dff mentioned statements d out pin name data_pin is at pin_at =
     let s = Dff name data_pin in
-    let part : DffPart = record { out = out; data_pin = pin } in
-    let latches : map (λ (f : DffPart). f.out) (d.dffs ++ part ∷ []) ≡ latch_names d ++ out
-    ∷ [] = map_push (λ (f : DffPart). f.out) d.dffs part in
-    let new = d.inputs ++ (map (λ (f : DffPart). f.out) (d.dffs ++ part ∷ []) ++ gate_names d) in
+    let part : DraftDff = record { out = out; data_pin = pin } in
+    let latches : map (λ (f : DraftDff). f.out) (d.dffs ++ part ∷ []) ≡ latch_names d ++ out
+    ∷ [] = map_push (λ (f : DraftDff). f.out) d.dffs part in
+    let new = d.inputs ++ (map (λ (f : DraftDff). f.out) (d.dffs ++ part ∷ []) ++ gate_names d) in
     let adds : AddsMember (driven_names d) new out =
     subst (λ l. AddsMember (driven_names d) (d.inputs ++ (l ++ gate_names d)) out) (sym latches)
     (adds_right d.inputs (latch_names d ++ gate_names d) ((latch_names d ++ out ∷ []) ++ gate_names d) out
@@ -162,10 +162,10 @@ pub with_gate : (mentioned : List Name) (statements : List Statement) (d : Draft
     (record d { gates = d.gates ++ record { kind = kind; out = out; args = ids } ∷ [] })
 with_gate mentioned statements d kind out ids name args is at args_at =
     let s = Gate name kind args in
-    let part : GatePart = record { kind = kind; out = out; args = ids } in
-    let gates_are : map (λ (g : GatePart). g.out) (d.gates ++ part ∷ []) ≡ gate_names d ++ out
-    ∷ [] = map_push (λ (g : GatePart). g.out) d.gates part in
-    let new = d.inputs ++ (latch_names d ++ map (λ (g : GatePart). g.out) (d.gates ++ part ∷ [])) in
+    let part : DraftGate = record { kind = kind; out = out; args = ids } in
+    let gates_are : map (λ (g : DraftGate). g.out) (d.gates ++ part ∷ []) ≡ gate_names d ++ out
+    ∷ [] = map_push (λ (g : DraftGate). g.out) d.gates part in
+    let new = d.inputs ++ (latch_names d ++ map (λ (g : DraftGate). g.out) (d.gates ++ part ∷ [])) in
     let adds : AddsMember (driven_names d) new out =
     subst (λ l. AddsMember (driven_names d) (d.inputs ++ (latch_names d ++ l)) out) (sym gates_are)
     (adds_right d.inputs (latch_names d ++ gate_names d) (latch_names d ++ (gate_names d ++ out ∷ [])) out
@@ -248,9 +248,9 @@ with_nothing mentioned statements d is =
 
 -- ---- counts
 
-sums_same : (names : List Name) (parts : List GatePart) (gates : List NamedGate) (a : ℕ)
+sums_same : (names : List Name) (parts : List DraftGate) (gates : List NamedGate) (a : ℕ)
     → AllZip (IsGateOf names) parts gates
-    → fold (λ n (g : GatePart). n + length g.args) a parts ≡ fold (λ n (g : NamedGate). n + length g.args) a gates
+    → fold (λ n (g : DraftGate). n + length g.args) a parts ≡ fold (λ n (g : NamedGate). n + length g.args) a gates
 sums_same names [] [] a h = refl
 sums_same names [] (y ∷ ys) a h = absurd h
 sums_same names (x ∷ xs) [] a h = absurd h

@@ -11,8 +11,8 @@ use Rattle.ht_net.specs.declared.names.NameId.{NameId}
 use Rattle.ht_net.specs.Netlist.{Netlist, IsCircuit}
 use Rattle.ht_net.specs.Named.{Name, named_of}
 use Rattle.ht_net.specs.Draft.{Draft, IsDriven, IsName, part_at, no_name, no_part}
-use Rattle.ht_net.specs.Built.{AllDriven, IsFirstUndriven as IsFirstFree, draft_name, named_draft}
-use Rattle.ht_net.specs.Finish.{IsNameCycle, BeginsWithLeast, Feeds as FeedsName}
+use Rattle.ht_net.specs.Built.{AllDriven, IsLeastUndriven as IsFirstFree, draft_name, named_draft}
+use Rattle.ht_net.specs.Finish.{IsNameCycle, BeginsWithLeast, FeedsName}
 use Rattle.ht_statement.specs.Statement.{Statement, Nothing, Input, Output, Dff, Gate, names_in}
 use Rattle.ht_statement.specs.StatementOf.{texts_of}
 use Rattle.ht_statement.specs.Reading.{States}
@@ -223,11 +223,11 @@ module _ (text : List ℕ) (d : Draft) (is : IsRead text d) where
     known_net k lt =
         ⊎_elim
         (λ (inner : k + 1 < length nets).
-        (feeds_by_name (get_or nets k no_name) (get_or nets (k + 1) no_name) (cycle.next k inner)).0)
+        (feeds_by_name (get_or nets k no_name) (get_or nets (k + 1) no_name) (cycle.next k no_name inner)).0)
         (λ (last : length nets ≤ k + 1).
         let e : length nets - 1 ≡ k = omega (arith, last, lt) in
         subst (λ n. IsName d (get_or nets n no_name)) e
-        (feeds_by_name (get_or nets (length nets - 1) no_name) (get_or nets 0 no_name) cycle.closes).0)
+        (feeds_by_name (get_or nets (length nets - 1) no_name) (get_or nets 0 no_name) (cycle.closes no_name)).0)
         (cases_lt (k + 1) (length nets))
 
     pub known_nets : (ids : List NameId) (texts all : List (Bor (List ℕ))) → ids ≡ nets → texts ≡ all → texts_of all
@@ -256,17 +256,17 @@ module _ (text : List ℕ) (d : Draft) (is : IsRead text d) where
               sym (place_is (get_or nets j no_name) (known_net j before)) ∙
               (ap (place_of is.statements) texts ∙ place_is (get_or nets k no_name) (known_net k inner)) in
               let named : ℕ → NameId = λ n. record { 0 = n } in
-              cycle.distinct j k less inner (ap named numbers);
+              cycle.distinct j k no_name less inner (ap named numbers);
           next = λ k lt.
               let inner : k + 1 < length nets = omega (arith, count, lt) in
               rw (at k (omega arith), at (k + 1) inner)
-              (feeds_by_name (get_or nets k no_name) (get_or nets (k + 1) no_name) (cycle.next k inner)).1;
+              (feeds_by_name (get_or nets k no_name) (get_or nets (k + 1) no_name) (cycle.next k no_name inner)).1;
           closes =
               let last : get_or (map (draft_name d) nets) (length (map (draft_name d) nets) - 1) []
               ≡ draft_name d (get_or nets (length nets - 1) no_name) =
               ap (λ (n : ℕ). get_or (map (draft_name d) nets) (n - 1) []) count ∙ at (length nets - 1) (omega arith) in
               rw (last, at 0 some)
-              (feeds_by_name (get_or nets (length nets - 1) no_name) (get_or nets 0 no_name) cycle.closes).1;
+              (feeds_by_name (get_or nets (length nets - 1) no_name) (get_or nets 0 no_name) (cycle.closes no_name)).1;
           least = λ k lt.
               let inner : k < length nets = omega (arith, count, lt) in
               let first = ap (place_of is.statements) (at 0 some) ∙ place_is (get_or nets 0 no_name) (known_net 0 some)

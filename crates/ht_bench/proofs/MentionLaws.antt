@@ -5,10 +5,10 @@ use Rattle.std.proofs.lemmas.Bool.{cases_lt}
 use Rattle.std.proofs.lemmas.List.Elements.{All-nil, All-cons, All-head, All-tail}
 use Rattle.std.proofs.lemmas.List.{length-append, get_or_append_left}
 use Rattle.ht_net.specs.declared.names.NameId.{NameId}
-use Rattle.ht_net.specs.declared.draft.DffPart.{DffPart}
+use Rattle.ht_net.specs.declared.draft.DraftDff.{DraftDff}
 use Rattle.ht_net.specs.Names.{IsNewName}
 use Rattle.ht_net.specs.Named.{Name, NamedDff, NamedGate}
-use Rattle.ht_net.specs.Draft.{Draft, GatePart, IsDraft, IsDriven}
+use Rattle.ht_net.specs.Draft.{Draft, DraftGate, IsDraft, IsDriven}
 use Rattle.ht_bench.specs.Different.{different}
 use Rattle.ht_statement.specs.Statement.{Statement}
 use Rattle.ht_bench.specs.Contents.{driven_by}
@@ -25,12 +25,12 @@ number_stays names more id name at =
 abbrev pub KeepsNumbers : List Name → List Name → Type 0
 KeepsNumbers names new_names = (id : NameId) (name : Name) → IsNumberOf names id name → IsNumberOf new_names id name
 
-dff_stays : (names new_names : List Name) → KeepsNumbers names new_names → (part : DffPart) (dff : NamedDff)
+dff_stays : (names new_names : List Name) → KeepsNumbers names new_names → (part : DraftDff) (dff : NamedDff)
     → IsDffOf names part dff → IsDffOf new_names part dff
 dff_stays names new_names keeps part dff is = record
     { out = keeps part.out dff.out is.out; data_pin = keeps part.data_pin dff.data_pin is.data_pin }
 
-gate_stays : (names new_names : List Name) → KeepsNumbers names new_names → (part : GatePart) (gate : NamedGate)
+gate_stays : (names new_names : List Name) → KeepsNumbers names new_names → (part : DraftGate) (gate : NamedGate)
     → IsGateOf names part gate → IsGateOf new_names part gate
 gate_stays names new_names keeps part gate is = record {
   kind = is.kind;
@@ -106,10 +106,10 @@ pub one_number : (names : List Name) (a b : NameId) (name : Name) → NamesDiffe
     → IsNumberOf names b name → a ≡ b
 one_number names a b name differ at_a at_b =
     ⊎_elim
-    (λ (lt : a.0 < b.0). absurd (differ a.0 b.0 lt at_b.0 (at_a.1 ∙ sym at_b.1)))
+    (λ (lt : a.0 < b.0). absurd (differ a.0 b.0 [] lt at_b.0 (at_a.1 ∙ sym at_b.1)))
     (λ ge.
     ⊎_elim
-    (λ (lt : b.0 < a.0). absurd (differ b.0 a.0 lt at_a.0 (at_b.1 ∙ sym at_a.1)))
+    (λ (lt : b.0 < a.0). absurd (differ b.0 a.0 [] lt at_a.0 (at_b.1 ∙ sym at_a.1)))
     (λ le. let number : ℕ → NameId = λ n. record { 0 = n } in let e : a.0 ≡ b.0 = omega arith in ap number e)
     (cases_lt b.0 a.0))
     (cases_lt a.0 b.0)

@@ -136,12 +136,12 @@ module _ (c : Netlist) (is : IsCircuit c) where
       ∙ take_all (net_count c) c.names (omega arith)
 
   pub names_differ : AllDiffer c.names
-  names_differ = differ_by_place c.names is.names_differ
+  names_differ = differ_by_place c.names (λ x y. is.names_differ x y [])
 
   one_net : (x y : NetId) → x.0 < length c.names → y.0 < length c.names → x ≢ y → name_of c x ≢ name_of c y
   one_net x y below_x below_y other same = elim (cases_by_order x.0 y.0) [
-    | inl less ↦ is.names_differ x.0 y.0 less below_y same
-    | inr (inl more) ↦ is.names_differ y.0 x.0 more below_x (sym same)
+    | inl less ↦ is.names_differ x.0 y.0 [] less below_y same
+    | inr (inl more) ↦ is.names_differ y.0 x.0 [] more below_x (sym same)
     | inr (inr equal) ↦ other (ap (λ n. record { 0 = n }) equal)
   ]
 
@@ -152,7 +152,7 @@ module _ (c : Netlist) (is : IsCircuit c) where
       let x_known = is.outputs_known x (omega arith) in
       let y_known = is.outputs_known y (omega arith) in
       one_net (get_or c.outputs x no_net) (get_or c.outputs y no_net) (omega arith) (omega arith)
-      (is.outputs_differ x y before (omega arith))
+      (is.outputs_differ x y no_net before (omega arith))
       (sym (get_or-map (name_of c) c.outputs x no_net [] (omega arith)) ∙ same ∙ get_or-map (name_of c) c.outputs y
       no_net [] (omega arith)))
 

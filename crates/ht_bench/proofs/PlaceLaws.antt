@@ -16,6 +16,6 @@ pub place_at : (names : List Name) (k : ℕ) → NamesDiffer names → k < lengt
 place_at names k differ lt =
     position_or_len_is (λ other. bytes_eq other (get_or names k [])) names k [] (omega (arith, lt))
     (λ j less.
-    ⊎_elim (λ same. absurd (differ j k less lt same.1)) (λ other. other.0)
+    ⊎_elim (λ same. absurd (differ j k [] less lt same.1)) (λ other. other.0)
     (name_cases (get_or names j []) (get_or names k [])))
     (λ less. (bytes_eq-Decides (get_or names k []) (get_or names k [])).1 refl)

@@ -3,9 +3,9 @@ use Rattle.std.proofs.Common.{◌≡◌, ◌⊎◌, inl, inr, ⊎_elim, ℕ, ◌
 use Rattle.std.proofs.lemmas.List.{length-append, map_push}
 use Rattle.ht_ports.specs.Cutting.{lines_of}
 use Rattle.ht_tern.specs.declared.gate.Kind.{Kind}
-use Rattle.ht_net.specs.declared.draft.DffPart.{DffPart}
+use Rattle.ht_net.specs.declared.draft.DraftDff.{DraftDff}
 use Rattle.ht_net.specs.Named.{Name, NamedDff, NamedGate}
-use Rattle.ht_net.specs.Draft.{Draft, GatePart}
+use Rattle.ht_net.specs.Draft.{Draft, DraftGate}
 use Rattle.ht_net.specs.Built.{draft_name, named_draft}
 use Rattle.ht_statement.specs.Statement.{Statement}
 use Rattle.ht_statement.specs.Reading.{States, reading_of}
@@ -89,16 +89,16 @@ module _ (text rest line more : List ℕ) (count : ℕ) (old : Draft) (is : IsRe
 
 -- ---- the whole text
 
-abbrev named_dff : Draft → DffPart → NamedDff
+abbrev named_dff : Draft → DraftDff → NamedDff
 named_dff d f = record { out = draft_name d f.out; data_pin = draft_name d f.data_pin }
 
-abbrev named_gate : Draft → GatePart → NamedGate
+abbrev named_gate : Draft → DraftGate → NamedGate
 named_gate d g = record { kind = g.kind; out = draft_name d g.out; args = map (draft_name d) g.args }
 
 dff_by : Name → Name → NamedDff
 dff_by out pin = record { out = out; data_pin = pin }
 
-dff_named : (d : Draft) (part : DffPart) (dff : NamedDff) → IsDffOf d.names part dff → named_dff d part ≡ dff
+dff_named : (d : Draft) (part : DraftDff) (dff : NamedDff) → IsDffOf d.names part dff → named_dff d part ≡ dff
 unfolding dff_by
 dff_named d part dff is = ap (λ out. dff_by out (draft_name d part.data_pin)) is.out.1 ∙ ap (dff_by dff.out)
     is.data_pin.1
@@ -106,7 +106,7 @@ dff_named d part dff is = ap (λ out. dff_by out (draft_name d part.data_pin)) i
 gate_by : Kind → Name → List Name → NamedGate
 gate_by kind out args = record { kind = kind; out = out; args = args }
 
-gate_named : (d : Draft) (part : GatePart) (gate : NamedGate) → IsGateOf d.names part gate → named_gate d part ≡ gate
+gate_named : (d : Draft) (part : DraftGate) (gate : NamedGate) → IsGateOf d.names part gate → named_gate d part ≡ gate
 unfolding gate_by
 gate_named d part gate is =
     let args : map (draft_name d) part.args ≡ gate.args = AllZip-map (IsNumberOf d.names) (draft_name d)

@@ -6,23 +6,23 @@ use Rattle.ht_net.specs.Named.{Name}
 use Rattle.ht_statement.specs.Statement.{Statement}
 use Rattle.ht_statement.specs.Reading.{Reading, States}
 use Rattle.ht_bench.specs.Contents.{driven_in, driven_by, nets_of, pins_of, inputs_of, dffs_of}
-use Rattle.ht_net.specs.Netlist.{most_nets, most_pins, most_inputs, most_dffs}
+use Rattle.ht_net.specs.Netlist.{max_nets, max_pins, max_inputs, max_dffs}
 
 -- the limits of a netlist
 pub record IsWithinLimits (statements : List Statement) : Type 0 where
-  pub nets : length (nets_of statements) ≤ most_nets
-  pub pins : pins_of statements ≤ most_pins
-  pub inputs : length (inputs_of statements) ≤ most_inputs
-  pub dffs : length (dffs_of statements) ≤ most_dffs
+  pub nets : length (nets_of statements) ≤ max_nets
+  pub pins : pins_of statements ≤ max_pins
+  pub inputs : length (inputs_of statements) ≤ max_inputs
+  pub dffs : length (dffs_of statements) ≤ max_dffs
 
 -- the first limit that statements pass
 abbrev pub IsFirstPassed : List Statement → Limit → Type 0
-IsFirstPassed s Nets = most_nets < length (nets_of s)
-IsFirstPassed s Pins = (length (nets_of s) ≤ most_nets) × (most_pins < pins_of s)
-IsFirstPassed s Inputs = (length (nets_of s) ≤ most_nets) × (pins_of s ≤ most_pins)
-    × (most_inputs < length (inputs_of s))
-IsFirstPassed s Dffs = (length (nets_of s) ≤ most_nets) × (pins_of s ≤ most_pins) × (length (inputs_of s) ≤ most_inputs)
-    × (most_dffs < length (dffs_of s))
+IsFirstPassed s Nets = max_nets < length (nets_of s)
+IsFirstPassed s Pins = (length (nets_of s) ≤ max_nets) × (max_pins < pins_of s)
+IsFirstPassed s Inputs = (length (nets_of s) ≤ max_nets) × (pins_of s ≤ max_pins)
+    × (max_inputs < length (inputs_of s))
+IsFirstPassed s Dffs = (length (nets_of s) ≤ max_nets) × (pins_of s ≤ max_pins) × (length (inputs_of s) ≤ max_inputs)
+    × (max_dffs < length (dffs_of s))
 
 -- no earlier line drives the net that the statement drives
 abbrev pub HasNewDriver : List Statement → Statement → Type 0

@@ -3,11 +3,12 @@ use Rattle.std.specs.Prelude.{◌≡◌, ◌≢◌, ℕ, ◌<◌, ◌≤◌, Lis
 use Rattle.std.specs.List.{AllZip}
 use Rattle.ht_tern.specs.Gate.{HasArity}
 use Rattle.ht_net.specs.declared.names.NameId.{NameId}
-use Rattle.ht_net.specs.declared.draft.DffPart.{DffPart}
+use Rattle.ht_net.specs.declared.draft.DraftDff.{DraftDff}
 use Rattle.ht_net.specs.declared.error.Limit.TheVariants.{Nets}
+use Rattle.ht_net.specs.Lists.{AllDiffer}
 use Rattle.ht_net.specs.Names.{IsNewName, IsNameAt}
 use Rattle.ht_net.specs.Named.{Name, NamedDff, NamedGate}
-use Rattle.ht_net.specs.Draft.{Draft, GatePart, IsDraft, IsDriven}
+use Rattle.ht_net.specs.Draft.{Draft, DraftGate, IsDraft, IsDriven}
 use Rattle.ht_statement.specs.Statement.{Statement, Gate}
 use Rattle.ht_statement.specs.Reading.{States, reading_of}
 use Rattle.ht_bench.specs.Different.{different}
@@ -16,23 +17,23 @@ use Rattle.ht_bench.specs.Accepted.{IsWithinLimits, IsAccepted}
 use Rattle.ht_bench.specs.Cause.{IsCause}
 use Rattle.ht_bench.specs.declared.cause.Cause.{Cause}
 use Rattle.ht_bench.specs.declared.cause.Cause.TheVariants.{SecondDriver, Limit, NoMemory}
-use Rattle.ht_net.specs.Netlist.{most_nets}
+use Rattle.ht_net.specs.Netlist.{max_nets}
 
 -- a number, a flip-flop and a gate of a draft stand for these names
 abbrev pub IsNumberOf : List Name → NameId → Name → Type 0
 IsNumberOf names id name = IsNameAt names id.0 name
 
-pub record IsDffOf (names : List Name) (part : DffPart) (dff : NamedDff) : Type 0 where
+pub record IsDffOf (names : List Name) (part : DraftDff) (dff : NamedDff) : Type 0 where
   pub out : IsNumberOf names part.out dff.out
   pub data_pin : IsNumberOf names part.data_pin dff.data_pin
 
-pub record IsGateOf (names : List Name) (part : GatePart) (gate : NamedGate) : Type 0 where
+pub record IsGateOf (names : List Name) (part : DraftGate) (gate : NamedGate) : Type 0 where
   pub kind : part.kind ≡ gate.kind
   pub out : IsNumberOf names part.out gate.out
   pub args : AllZip (IsNumberOf names) part.args gate.args
 
 abbrev pub NamesDiffer : List Name → Type 0
-NamesDiffer names = (x y : ℕ) → x < y → y < length names → get_or names x [] ≢ get_or names y []
+NamesDiffer names = AllDiffer names
 
 -- a draft of these statements, in which these names are mentioned
 pub record IsDraftWith (mentioned : List Name) (statements : List Statement) (d : Draft) : Type 0 where
@@ -60,14 +61,14 @@ pub record Mentions (old : Draft) (names : List Name) (new : Draft) : Type 0 whe
 
 -- no name is left for a new one
 abbrev pub RefusesMention : Draft → Name → Cause → Type 0
-RefusesMention old name (Limit Nets) = IsNewName old.names name × (length old.names ≡ most_nets)
+RefusesMention old name (Limit Nets) = IsNewName old.names name × (length old.names ≡ max_nets)
 RefusesMention old name NoMemory = Unit {0}
 RefusesMention old name _ = ⊥
 
 -- the names are too many
 abbrev pub RefusesMentions : Draft → List Name → Cause → Type 0
 RefusesMentions old names (Limit Nets) = (mentioned : List Name) (statements : List Statement)
-    → IsDraftWith mentioned statements old → most_nets < length (different (mentioned ++ names))
+    → IsDraftWith mentioned statements old → max_nets < length (different (mentioned ++ names))
 RefusesMentions old names NoMemory = Unit {0}
 RefusesMentions old names _ = ⊥
 

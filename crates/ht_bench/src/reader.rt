@@ -69,7 +69,7 @@ fn end_refusal(
             Ok(BenchError::Undriven { line, name })
         }
         NetError::Loop { nets } => {
-            let names = names_of(alloc, &table.names, nets)?;
+            let names = names_of(alloc, &table.names, nets.as_slice())?;
             let line = first_line(alloc, text, Role::Driven, &names[0])?;
             Ok(BenchError::Loop { line, names })
         }

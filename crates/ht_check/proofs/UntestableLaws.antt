@@ -3,9 +3,10 @@ use Rattle.std.proofs.Common.{◌≡◌, ℕ, List, [], Bool, true, false, not, 
 use Rattle.std.proofs.lemmas.List.{length-replicate}
 use Rattle.ht_net.specs.declared.fault.Fault.{Fault}
 use Rattle.ht_net.specs.Netlist.{Netlist, IsCircuit}
-use Rattle.ht_net.specs.Silence.{IsState, Silent, bit_at}
+use Rattle.ht_net.specs.Detection.{IsState, bit_at}
+use Rattle.ht_net.specs.Silence.{Silent}
 use Rattle.ht_net.specs.Detection.{Detects}
-use Rattle.ht_serial.proofs.ApartLaws.{detected_apart}
+use Rattle.ht_net.proofs.ApartLaws.{detected_apart}
 use Rattle.ht_tree.specs.declared.token.Token.{Token}
 use Rattle.ht_tree.specs.Walks.{IsComplete}
 use Rattle.ht_tree.specs.Decisions.{is_in}

@@ -32,7 +32,7 @@ module _ (c : Netlist) (order : List ℕ) (circuit : IsCircuit c) (ordered : IsO
       go (inr p) =
           let before : p.0 < k = p.1 in
           let net : arg_at c (get_or order k 0) i ≡ first_gate_net c + get_or order p.0 0 = p.2 in
-          ordered.distinct p.0 j (omega arith) inside (omega arith)
+          ordered.each.distinct p.0 j 0 (omega arith) inside (omega arith)
 
   -- What a later gate joined stays joined when the gate at place k is taken.
   later_stays : (before after : List ℕ) (k j : ℕ) → k < j → j < length order
@@ -40,12 +40,12 @@ module _ (c : Netlist) (order : List ℕ) (circuit : IsCircuit c) (ordered : IsO
       → GateJoins c before (get_or order j 0) → GateJoins c after (get_or order j 0)
   later_stays before after k j less inside others old = λ i pin. record {
     joins = λ v w single values.
-        let alone = read_by c (arg_at c (get_or order j 0) i) (get_or order j 0) i single (ordered.within j inside) pin
+        let alone = read_by c (arg_at c (get_or order j 0) i) (get_or order j 0) i single (ordered.each.within j inside) pin
         refl in
         let input = others.stay (stem_number (arg_at c (get_or order j 0) i) v) (λ p u there same.
         let is = number_same (arg_at c (get_or order j 0) i) (arg_at c (get_or order k 0) p) v u same in
-        let gate = alone.gates (get_or order k 0) p (ordered.within k (omega arith)) there (sym is.0) in
-        absurd (ordered.distinct k j less inside gate)) in
+        let gate = alone.gates (get_or order k 0) p (ordered.each.within k (omega arith)) there (sym is.0) in
+        absurd (ordered.each.distinct k j 0 less inside gate)) in
         let output = others.stay (output_number c (get_or order j 0) w) (λ p u there same.
         let is = number_same (first_gate_net c + get_or order j 0) (arg_at c (get_or order k 0) p) w u same in
         absurd (not_later k j p less inside there is.0)) in
@@ -64,5 +64,5 @@ module _ (c : Netlist) (order : List ℕ) (circuit : IsCircuit c) (ordered : IsO
   pub all_gates : (ends : List ℕ) → ((j : ℕ) → 0 ≤ j → j < length order → GateJoins c ends (get_or order j 0)) → (g : ℕ)
       → g < length c.gates → GateJoins c ends g
   all_gates ends h g inside =
-      let at = ordered.covers g inside in
+      let at = ordered.each.covers g inside in
       subst (GateJoins c ends) at.2 (h at.0 (omega arith) at.1)

@@ -15,22 +15,26 @@ use Rattle.ht_net.specs.declared.builder.Driver.{Driver}
 use Rattle.ht_net.specs.declared.builder.Driver.TheVariants.{Free, Input, Dff, Gate}
 use Rattle.ht_tern.specs.declared.gate.Kind.{Kind}
 use Rattle.ht_tern.specs.Gate.{HasArity}
-use Rattle.ht_net.specs.declared.draft.DffPart.{DffPart}
+use Rattle.ht_net.specs.declared.draft.DraftDff.{DraftDff}
 use Rattle.ht_net.specs.Netlist.{Netlist, no_gate, no_net, gate_at, first_gate_net}
 use Rattle.ht_net.specs.GateLevels.{args_of, AreKnown}
-use Rattle.ht_net.specs.Cycle.{Reads, IsCycle}
+use Rattle.std.specs.List.{Contains}
+use Rattle.ht_net.specs.Lists.{AllDiffer}
+use Rattle.ht_net.specs.Cycle.{ReadsGate, IsGateCycle}
 use Rattle.ht_net.specs.CircuitOf.{IsUnranked}
-use Rattle.ht_net.specs.Draft.{Draft, GatePart, IsDraft, IsName, no_name, no_part, no_dff, latch_names, gate_names, driven_names}
+use Rattle.ht_net.specs.Draft.{Draft, DraftGate, IsDraft, IsName, no_name, no_part, no_dff, latch_names, gate_names, driven_names}
 use Rattle.ht_net.specs.DraftOf.{Agrees}
 use Rattle.ht_net.specs.Named.{name_of}
 use Rattle.ht_net.specs.Built.{net_of, draft_name, draft_gates, circuit_of, AllDriven}
-use Rattle.ht_net.specs.Finish.{Feeds, IsNameCycle}
+use Rattle.ht_net.specs.Finish.{FeedsName, IsNameCycle}
+use Rattle.ht_net.proofs.CycleLaws.{cycle_map}
+use Rattle.ht_net.proofs.RankLaws.{cycle_known}
 use Rattle.ht_net.proofs.NetLaws.{net_at, net_of_below, name_at_net, driver_net}
 
 pub gate_args : (d : Draft) (g : ℕ) → g < length d.gates → args_of (draft_gates d) g
     ≡ map (net_of d) (get_or d.gates g no_part).args
 gate_args d g h = ap (λ (x : Rattle.ht_net.specs.Netlist.Gate). x.args)
-    (get_or-map (λ (p : GatePart). record { kind = p.kind; args = map (net_of d) p.args }) d.gates g no_part no_gate h)
+    (get_or-map (λ (p : DraftGate). record { kind = p.kind; args = map (net_of d) p.args }) d.gates g no_part no_gate h)
 
 pub gate_arg : (d : Draft) (g i : ℕ) → g < length d.gates → i < length (get_or d.gates g no_part).args
     → get_or (args_of (draft_gates d) g) i no_net ≡ net_of d (get_or (get_or d.gates g no_part).args i no_name)
@@ -46,34 +50,34 @@ pub length_driven : (d : Draft) → length (driven_names d) ≡ length d.inputs 
 length_driven d =
     let a = length-append d.inputs (latch_names d ++ gate_names d) in
     let b = length-append (latch_names d) (gate_names d) in
-    let e = length-map d.dffs (λ (f : DffPart). f.out) in
-    let f = length-map d.gates (λ (g : GatePart). g.out) in
+    let e = length-map d.dffs (λ (f : DraftDff). f.out) in
+    let f = length-map d.gates (λ (g : DraftGate). g.out) in
     omega (arith, a, b, e, f)
 
 -- the name of a gate's net
 pub gate_name : (d : Draft) (h : ℕ) → h < length d.gates → get_or (driven_names d) (length d.inputs + length d.dffs + h)
     no_name ≡ (get_or d.gates h no_part).out
 gate_name d h l =
-    let e = length-map d.dffs (λ (f : DffPart). f.out) in
+    let e = length-map d.dffs (λ (f : DraftDff). f.out) in
     let k : ℕ = length d.inputs + length d.dffs + h in
     let z : k - length d.inputs - length (latch_names d) ≡ h = omega arith in
     get_or-append_right d.inputs (latch_names d ++ gate_names d) (length d.inputs) k no_name refl (omega arith)
     ∙ (get_or-append_right (latch_names d) (gate_names d) (length (latch_names d)) (k - length d.inputs) no_name refl
     (omega arith)
     ∙ (ap (λ (n : ℕ). get_or (gate_names d) n no_name) z
-    ∙ get_or-map (λ (p : GatePart). p.out) d.gates h no_part no_name l))
+    ∙ get_or-map (λ (p : DraftGate). p.out) d.gates h no_part no_name l))
 
 -- the name of a flip-flop's net
 pub latch_name : (d : Draft) (j : ℕ) → j < length d.dffs → get_or (driven_names d) (length d.inputs + j) no_name
     ≡ (get_or d.dffs j no_dff).out
 latch_name d j l =
-    let e = length-map d.dffs (λ (f : DffPart). f.out) in
+    let e = length-map d.dffs (λ (f : DraftDff). f.out) in
     let z : length d.inputs + j - length d.inputs ≡ j = omega arith in
     get_or-append_right d.inputs (latch_names d ++ gate_names d) (length d.inputs) (length d.inputs + j) no_name refl
     (omega arith)
     ∙ (ap (λ (n : ℕ). get_or (latch_names d ++ gate_names d) n no_name) z
     ∙ (get_or_append_left (latch_names d) (gate_names d) no_name j (omega arith)
-    ∙ get_or-map (λ (f : DffPart). f.out) d.dffs j no_dff no_name l))
+    ∙ get_or-map (λ (f : DraftDff). f.out) d.dffs j no_dff no_name l))
 
 -- what holds of each member of two lists holds of each member of both
 each_append : {A : Type 0} (P : A → Type 0) (xs ys : List A) (d : A) → ((i : ℕ) → i < length xs → P (get_or xs i d))
@@ -105,7 +109,7 @@ outputs_few d h =
     let distinct : IsDistinct eqb (map (λ (n : NameId). n.0) d.outputs) = IsDistinct-from_apart eqb
     (map (λ (n : NameId). n.0) d.outputs) (λ i j e less l.
     let l' : j < length d.outputs = omega arith in
-    other_test _ _ (λ same. h.outputs_differ i j less l' (ap make (sym (at i e (omega arith)) ∙ (same ∙ at j e l')))))
+    other_test _ _ (λ same. h.outputs_differ i j no_name less l' (ap make (sym (at i e (omega arith)) ∙ (same ∙ at j e l')))))
     in
     let below : (q : ℕ) → list_any (eqb q) (map (λ (n : NameId). n.0) d.outputs) ≡ true → q < length d.names = λ q any.
     let c = Contains-from_any {eq = eqb} tells_equal q (map (λ (n : NameId). n.0) d.outputs) any in
@@ -117,22 +121,22 @@ outputs_few d h =
     omega arith
 
 -- a gate's pins are as many in the circuit as in the draft
-gate_pins : (f : NameId → NetId) (gates : List GatePart)
+gate_pins : (f : NameId → NetId) (gates : List DraftGate)
     → sum_by (λ (g : Rattle.ht_net.specs.Netlist.Gate). length g.args)
-    (map (λ (p : GatePart). record { kind = p.kind; args = map f p.args }) gates)
-    ≡ sum_by (λ (p : GatePart). length p.args) gates
+    (map (λ (p : DraftGate). record { kind = p.kind; args = map f p.args }) gates)
+    ≡ sum_by (λ (p : DraftGate). length p.args) gates
 gate_pins f [] = refl
 gate_pins f (p ∷ gates) =
     let made : Rattle.ht_net.specs.Netlist.Gate = record { kind = p.kind; args = map f p.args } in
     let new = sum_by-cons (λ (g : Rattle.ht_net.specs.Netlist.Gate). length g.args) made
-    (map (λ (q : GatePart). record { kind = q.kind; args = map f q.args }) gates) in
-    let old = sum_by-cons (λ (q : GatePart). length q.args) p gates in
+    (map (λ (q : DraftGate). record { kind = q.kind; args = map f q.args }) gates) in
+    let old = sum_by-cons (λ (q : DraftGate). length q.args) p gates in
     omega (arith, new, old, length-map p.args f, gate_pins f gates)
 
 gate_kind : (d : Draft) (g : ℕ) → g < length d.gates → (get_or (draft_gates d) g no_gate).kind
     ≡ (get_or d.gates g no_part).kind
 gate_kind d g h = ap (λ (x : Rattle.ht_net.specs.Netlist.Gate). x.kind)
-    (get_or-map (λ (p : GatePart). record { kind = p.kind; args = map (net_of d) p.args }) d.gates g no_part no_gate h)
+    (get_or-map (λ (p : DraftGate). record { kind = p.kind; args = map (net_of d) p.args }) d.gates g no_part no_gate h)
 
 module _ (d : Draft) (drivers : List Driver) (a : Agrees d.inputs Input drivers)
     (b : Agrees (latch_names d) Dff drivers) (c : Agrees (gate_names d) Gate drivers)
@@ -141,7 +145,7 @@ module _ (d : Draft) (drivers : List Driver) (a : Agrees d.inputs Input drivers)
   known_gates = record {
     known = λ g i l m.
         let count : length (draft_gates d) ≡ length d.gates = length-map d.gates
-        (λ (p : GatePart). record { kind = p.kind; args = map (net_of d) p.args }) in
+        (λ (p : DraftGate). record { kind = p.kind; args = map (net_of d) p.args }) in
         let inside : g < length d.gates = omega arith in
         let pin : i < length (get_or d.gates g no_part).args = let r = gate_arity d g inside in omega arith in
         let name : NameId = get_or (get_or d.gates g no_part).args i no_name in
@@ -169,9 +173,8 @@ module _ (d : Draft) (drivers : List Driver) (a : Agrees d.inputs Input drivers)
       driven_name_at (net_of d n).0 (net_of_below d drivers a b c n (all n is)) ∙ ap (draft_name d)
       (name_at_net d drivers a b c n (all n is))
 
-  names_differ : length drivers ≡ length d.names → (x y : ℕ) → x < y → y < length (circuit_of d).names
-      → get_or (circuit_of d).names x [] ≢ get_or (circuit_of d).names y []
-  names_differ count x y less l same =
+  names_differ : length drivers ≡ length d.names → AllDiffer (circuit_of d).names
+  names_differ count x y z less l same =
       let long : length (circuit_of d).names ≡ length (driven_names d) = length-map (driven_names d) (draft_name d) in
       let l' : y < length (driven_names d) = omega arith in
       let k : x < length (driven_names d) = omega arith in
@@ -180,38 +183,38 @@ module _ (d : Draft) (drivers : List Driver) (a : Agrees d.inputs Input drivers)
       let p = driven_known x k in
       let q = driven_known y l' in
       let e : get_or d.names (get_or (driven_names d) x no_name).0 []
-      ≡ get_or d.names (get_or (driven_names d) y no_name).0 [] = sym (driven_name_at x k) ∙
-      (same ∙ driven_name_at y l') in
+      ≡ get_or d.names (get_or (driven_names d) y no_name).0 [] =
+      sym (get_or-map (draft_name d) (driven_names d) x no_name z k) ∙
+      (same ∙ get_or-map (draft_name d) (driven_names d) y no_name z l') in
       let net : ℕ → ℕ = λ n. driver_net d (get_or drivers n Free) in
       let apart : (get_or (driven_names d) x no_name).0 ≢ (get_or (driven_names d) y no_name).0 =
-      λ is. let z : x ≡ y = sym (net_at d drivers a b c x k) ∙ (ap net is ∙ net_at d drivers a b c y l')
+      λ is. let is_same : x ≡ y = sym (net_at d drivers a b c x k) ∙ (ap net is ∙ net_at d drivers a b c y l')
       in absurd (omega arith) in
       elim (cases_lt (get_or (driven_names d) x no_name).0 (get_or (driven_names d) y no_name).0) [
-        | inl low ↦ draft.names_differ _ _ low (omega arith) e
-        | inr high ↦ draft.names_differ _ _ (omega arith) (omega arith) (sym e)
+        | inl low ↦ draft.names_differ _ _ [] low (omega arith) e
+        | inr high ↦ draft.names_differ _ _ [] (omega arith) (omega arith) (sym e)
       ]
 
-  outputs_differ : (o p : ℕ) → o < p → p < length (circuit_of d).outputs → get_or (circuit_of d).outputs o no_net ≢
-      get_or (circuit_of d).outputs p no_net
-  outputs_differ o p less l same =
+  outputs_differ : AllDiffer (circuit_of d).outputs
+  outputs_differ o p z less l same =
       let outs : length (circuit_of d).outputs ≡ length d.outputs = length-map d.outputs (net_of d) in
       let inside : p < length d.outputs = omega arith in
       let before : o < length d.outputs = omega arith in
       let x : NameId = get_or d.outputs o no_name in
       let e : net_of d (get_or d.outputs o no_name) ≡ net_of d (get_or d.outputs p no_name) = sym
-      (get_or-map (net_of d) d.outputs o no_name no_net before) ∙
-      (same ∙ get_or-map (net_of d) d.outputs p no_name no_net inside) in
+      (get_or-map (net_of d) d.outputs o no_name z before) ∙
+      (same ∙ get_or-map (net_of d) d.outputs p no_name z inside) in
       let back : (n : NameId) → IsName d n → get_or (driven_names d) (net_of d n).0 no_name
       ≡ n = λ n is. name_at_net d drivers a b c n (all n is) in
-      draft.outputs_differ o p less inside
+      draft.outputs_differ o p no_name less inside
       (sym (back _ (draft.outputs_known o before)) ∙
       (ap (λ (n : NetId). get_or (driven_names d) n.0 no_name) e ∙ back _ (draft.outputs_known p inside)))
 
   pub unranked : length drivers ≡ length d.names → length (driven_names d) ≤ length d.names → IsUnranked (circuit_of d)
   unranked count fewer =
       let gates : length (draft_gates d) ≡ length d.gates = length-map d.gates
-      (λ (p : GatePart). record { kind = p.kind; args = map (net_of d) p.args }) in
-      let pins : length (circuit_of d).dffs ≡ length d.dffs = length-map d.dffs (λ (f : DffPart). net_of d f.data_pin)
+      (λ (p : DraftGate). record { kind = p.kind; args = map (net_of d) p.args }) in
+      let pins : length (circuit_of d).dffs ≡ length d.dffs = length-map d.dffs (λ (f : DraftDff). net_of d f.data_pin)
       in
       let outs : length (circuit_of d).outputs ≡ length d.outputs = length-map d.outputs (net_of d) in
       let names : length (circuit_of d).names ≡ length (driven_names d) = length-map (driven_names d) (draft_name d) in
@@ -240,7 +243,7 @@ module _ (d : Draft) (drivers : List Driver) (a : Agrees d.inputs Input drivers)
           data_known = λ j l.
               let inside : j < length d.dffs = omega (arith, l, pins) in
               let e : get_or (circuit_of d).dffs j no_net ≡ net_of d (get_or d.dffs j no_dff).data_pin = get_or-map
-              (λ (f : DffPart). net_of d f.data_pin) d.dffs j no_dff no_net inside in
+              (λ (f : DraftDff). net_of d f.data_pin) d.dffs j no_dff no_net inside in
               let below = net_of_below d drivers a b c _ (all _ (draft.data_known j inside)) in
               let e' = ap (λ (n : NetId). n.0) e in
               omega (arith, below, e', long, gates, pins);
@@ -258,9 +261,9 @@ module _ (d : Draft) (drivers : List Driver) (a : Agrees d.inputs Input drivers)
         };
       }
 
-  feeds : (g h : ℕ) → g < length d.gates → h < length d.gates → Reads (length d.inputs + length d.dffs) (draft_gates d)
+  feeds : (g h : ℕ) → g < length d.gates → h < length d.gates → ReadsGate (length d.inputs + length d.dffs) (draft_gates d)
       g h
-      → Feeds d (get_or d.gates h no_part).out (get_or d.gates g no_part).out
+      → FeedsName d (get_or d.gates h no_part).out (get_or d.gates g no_part).out
   feeds g h inside below r =
       let pin : r.pin < length (get_or d.gates g no_part).args = let n = gate_arity d g inside in let p = r.is_pin
       in omega arith in
@@ -291,34 +294,16 @@ module _ (d : Draft) (drivers : List Driver) (a : Agrees d.inputs Input drivers)
       (ap net names ∙ net_at d drivers a b c (length d.inputs + length d.dffs + h) (omega arith)) in
       omega arith
 
-  pub name_cycle : (cycle : List ℕ) → IsCycle (length d.inputs + length d.dffs) (draft_gates d) cycle
+  -- The gates of a cycle drive names that form a cycle.
+  pub name_cycle : (cycle : List ℕ) → IsGateCycle (length d.inputs + length d.dffs) (draft_gates d) cycle
       → IsNameCycle d (map (λ (g : ℕ). (get_or d.gates g no_part).out) cycle)
   name_cycle cycle h =
-      let out : ℕ → NameId = λ g. (get_or d.gates g no_part).out in
+      let first : ℕ = length d.inputs + length d.dffs in
       let count : length (draft_gates d) ≡ length d.gates = length-map d.gates
-      (λ (p : GatePart). record { kind = p.kind; args = map (net_of d) p.args }) in
-      let long : length (map (λ (g : ℕ). (get_or d.gates g no_part).out) cycle)
-      ≡ length cycle = length-map cycle (λ (g : ℕ). (get_or d.gates g no_part).out) in
-      let at : (k : ℕ) → k < length cycle → get_or (map (λ (g : ℕ). (get_or d.gates g no_part).out) cycle) k no_name
-      ≡ (get_or d.gates (get_or cycle k 0) no_part).out =
-      λ k l. get_or-map (λ (g : ℕ). (get_or d.gates g no_part).out) cycle k 0 no_name l in
-      let known : (k : ℕ) → k < length cycle → get_or cycle k 0 < length d.gates = λ k l. let x = h.known k l
-      in omega (arith, x, count) in
-      let some = h.some in
-      record {
-        some = omega arith;
-        distinct = λ j k less l same.
-            let l' : k < length cycle = omega arith in
-            let j' : j < length cycle = omega arith in
-            h.distinct j k less l' (gates_differ _ _ (known j j') (known k l') (sym (at j j') ∙ (same ∙ at k l')));
-        next = λ k l.
-            let l' : k + 1 < length cycle = omega arith in
-            rw (at k (omega arith), at (k + 1) l') (feeds _ _ (known (k + 1) l') (known k (omega arith)) (h.next k l'));
-        closes =
-            let z : get_or (map (λ (g : ℕ). (get_or d.gates g no_part).out) cycle)
-            (length (map (λ (g : ℕ). (get_or d.gates g no_part).out) cycle) - 1) no_name
-            ≡ (get_or d.gates (get_or cycle (length cycle - 1) 0) no_part).out =
-            ap (λ (n : ℕ). get_or (map (λ (g : ℕ). (get_or d.gates g no_part).out) cycle) (n - 1) no_name) long ∙ at
-            (length cycle - 1) (omega arith) in
-            rw (z, at 0 some) (feeds _ _ (known 0 some) (known (length cycle - 1) (omega arith)) h.closes);
-      }
+      (λ (p : DraftGate). record { kind = p.kind; args = map (net_of d) p.args }) in
+      let known : (g : ℕ) → Contains cycle g → g < length d.gates = λ g is.
+      omega (arith, cycle_known (length d.inputs + length d.dffs) (draft_gates d) cycle h g is, count) in
+      cycle_map (λ a b. ReadsGate (length d.inputs + length d.dffs) (draft_gates d) b a) (FeedsName d)
+      (λ (g : ℕ). (get_or d.gates g no_part).out) cycle 0
+      (λ g h in_g in_h same. gates_differ g h (known g in_g) (known h in_h) same)
+      (λ g h in_g in_h reads. feeds h g (known h in_h) (known g in_g) reads) h.cycle

@@ -3,12 +3,13 @@ use Rattle.std.proofs.Common.{◌≡◌, ◌≢◌, ◌<◌, ◌≤◌, ◌+◌,
 use Rattle.std.specs.List.{sum_by}
 use Rattle.std.proofs.lemmas.Bool.{cases_lt}
 use Rattle.std.proofs.lemmas.List.{get_or_append_left, get_or_push, get_or_default}
+use Rattle.std.proofs.lemmas.List.Quantifiers.{all_pairs_push}
 use Rattle.std.proofs.lemmas.List.Sums.{sum_by-append}
 use Rattle.ht_tern.specs.Gate.{HasArity}
 use Rattle.ht_net.specs.declared.names.NameId.{NameId}
-use Rattle.ht_net.specs.declared.draft.DffPart.{DffPart}
+use Rattle.ht_net.specs.declared.draft.DraftDff.{DraftDff}
 use Rattle.ht_net.specs.Names.{IsNewName}
-use Rattle.ht_net.specs.Draft.{Draft, GatePart, IsDraft, IsName, no_name, no_part, no_dff, draft_pins}
+use Rattle.ht_net.specs.Draft.{Draft, DraftGate, IsDraft, IsName, no_name, no_part, no_dff, draft_pins}
 
 -- what holds of each member holds with one more
 pub each_push : {A : Type 0} (P : A → Type 0) (list : List A) (x d : A)
@@ -21,21 +22,6 @@ each_push P list x d each new i l =
       | inr more ↦ let is : length list ≡ i = omega arith in rw (get_or_push list x d i is) new
     ]
 
--- different members and one that is none of them
-pub differ_push : {A : Type 0} (list : List A) (x d : A)
-    → ((i j : ℕ) → i < j → j < length list → get_or list i d ≢ get_or list j d)
-    → ((i : ℕ) → i < length list → get_or list i d ≢ x) → (i j : ℕ) → i < j → j < length (list ++ x ∷ [])
-    → get_or (list ++ x ∷ []) i d ≢ get_or (list ++ x ∷ []) j d
-differ_push list x d differ new i j less l =
-    let long = length-append list (x ∷ []) in
-    let low : i < length list = omega arith in
-    elim (cases_lt j (length list)) [
-      | inl inside ↦ rw (get_or_append_left list (x ∷ []) d i low, get_or_append_left list (x ∷ []) d j inside)
-          (differ i j less inside)
-      | inr more ↦ let is : length list ≡ j = omega arith
-          in rw (get_or_append_left list (x ∷ []) d i low, get_or_push list x d j is) (new i low)
-    ]
-
 pub draft_name_added : (d : Draft) (name : List ℕ) → IsDraft d → IsNewName d.names name → length d.names < 65535
     → IsDraft (record d { names = d.names ++ name ∷ [] })
 draft_name_added d name h fresh fits =
@@ -45,7 +31,8 @@ draft_name_added d name h fresh fits =
       few_inputs = h.few_inputs;
       few_dffs = h.few_dffs;
       few_pins = h.few_pins;
-      names_differ = differ_push d.names name [] h.names_differ fresh;
+      names_differ = all_pairs_push (λ x y. x ≢ y) d.names name h.names_differ
+          (λ k e l same. fresh k l (get_or_default d.names k [] e l ∙ same));
       outputs_differ = h.outputs_differ;
       outputs_known = λ o l. let k = h.outputs_known o l in omega arith;
       data_known = λ j l. let k = h.data_known j l in omega arith;
@@ -80,8 +67,8 @@ draft_output_added d name h is fresh = record {
   few_dffs = h.few_dffs;
   few_pins = h.few_pins;
   names_differ = h.names_differ;
-  outputs_differ = differ_push d.outputs name no_name h.outputs_differ
-      (λ i l e. fresh (i, l, get_or_default d.outputs i name no_name l ∙ e));
+  outputs_differ = all_pairs_push (λ x y. x ≢ y) d.outputs name h.outputs_differ
+      (λ i e l same. fresh (i, l, get_or_default d.outputs i name e l ∙ same));
   outputs_known = each_push (λ (n : NameId). IsName d n) d.outputs name no_name h.outputs_known is;
   data_known = h.data_known;
   args_known = h.args_known;
@@ -89,7 +76,7 @@ draft_output_added d name h is fresh = record {
   few_args = h.few_args;
 }
 
-pub draft_dff_added : (d : Draft) (dff : DffPart) → IsDraft d → IsName d dff.data_pin → draft_pins d < 262144
+pub draft_dff_added : (d : Draft) (dff : DraftDff) → IsDraft d → IsName d dff.data_pin → draft_pins d < 262144
     → length d.dffs < 16384 → IsDraft (record d { dffs = d.dffs ++ dff ∷ [] })
 draft_dff_added d dff h is pins fits =
     let long = length-append d.dffs (dff ∷ []) in
@@ -101,20 +88,20 @@ draft_dff_added d dff h is pins fits =
       names_differ = h.names_differ;
       outputs_differ = h.outputs_differ;
       outputs_known = h.outputs_known;
-      data_known = each_push (λ (f : DffPart). IsName d f.data_pin) d.dffs dff no_dff h.data_known is;
+      data_known = each_push (λ (f : DraftDff). IsName d f.data_pin) d.dffs dff no_dff h.data_known is;
       args_known = h.args_known;
       arities = h.arities;
       few_args = h.few_args;
     }
 
-pub pins_push : (gates : List GatePart) (p : GatePart) → sum_by (λ (g : GatePart). length g.args) (gates ++ p ∷ [])
-    ≡ sum_by (λ (g : GatePart). length g.args) gates + length p.args
+pub pins_push : (gates : List DraftGate) (p : DraftGate) → sum_by (λ (g : DraftGate). length g.args) (gates ++ p ∷ [])
+    ≡ sum_by (λ (g : DraftGate). length g.args) gates + length p.args
 pins_push gates p =
-    let e = sum_by-append (λ (g : GatePart). length g.args) gates (p ∷ []) in
-    let one : sum_by (λ (g : GatePart). length g.args) (p ∷ []) ≡ 0 + length p.args = refl in
+    let e = sum_by-append (λ (g : DraftGate). length g.args) gates (p ∷ []) in
+    let one : sum_by (λ (g : DraftGate). length g.args) (p ∷ []) ≡ 0 + length p.args = refl in
     omega (arith, e, one)
 
-pub draft_gate_added : (d : Draft) (p : GatePart) → IsDraft d
+pub draft_gate_added : (d : Draft) (p : DraftGate) → IsDraft d
     → ((i : ℕ) → i < length p.args → IsName d (get_or p.args i no_name)) → HasArity p.kind (length p.args)
     → length p.args ≤ 255 → draft_pins d + length p.args ≤ 262144 → IsDraft (record d { gates = d.gates ++ p ∷ [] })
 draft_gate_added d p h known arity few fits = record {
@@ -126,8 +113,8 @@ draft_gate_added d p h known arity few fits = record {
   outputs_differ = h.outputs_differ;
   outputs_known = h.outputs_known;
   data_known = h.data_known;
-  args_known = λ g i l m. each_push (λ (q : GatePart). (i : ℕ) → i < length q.args → IsName d (get_or q.args i no_name))
+  args_known = λ g i l m. each_push (λ (q : DraftGate). (i : ℕ) → i < length q.args → IsName d (get_or q.args i no_name))
       d.gates p no_part (λ k n j. h.args_known k j n) known g l i m;
-  arities = each_push (λ (q : GatePart). HasArity q.kind (length q.args)) d.gates p no_part h.arities arity;
-  few_args = each_push (λ (q : GatePart). length q.args ≤ 255) d.gates p no_part h.few_args few;
+  arities = each_push (λ (q : DraftGate). HasArity q.kind (length q.args)) d.gates p no_part h.arities arity;
+  few_args = each_push (λ (q : DraftGate). length q.args ≤ 255) d.gates p no_part h.few_args few;
 }

@@ -8,7 +8,7 @@ use Rattle.ht_net.specs.Frame.{pin_values, gate_output, driver_value, net_value_
 use Rattle.ht_net.specs.Levels.{highest, level_rules, level_of, level_below, highest_below, IsLevelOrder}
 use Rattle.ht_net.specs.GateLevels.{args_of, net_level, highest_level, IsLevelled}
 use Rattle.ht_net.specs.CircuitOf.{IsUnranked}
-use Rattle.ht_net.specs.Sorted.{IsRising}
+use Rattle.ht_net.specs.GateLevels.{IsRising}
 use Rattle.ht_net.proofs.RankLaws.{levels_rank}
 use Rattle.ht_net.proofs.WalkLaws.{level_gate, level_low}
 use Rattle.ht_net.proofs.FrameLaws.{driven_input, driven_latch, driven_gate, le_or_lt, settled_is_frame}
@@ -67,8 +67,8 @@ pub level_order_by : (c : Netlist) (levels order : List ℕ) → IsOrder c order
     → ((g : ℕ) → g < length c.gates → get_or levels g 0 ≡ level_of c g) → IsRising levels order → IsLevelOrder c order
 level_order_by c levels order ordered exact rising = record {
   rises = λ j k le l.
-      let a = exact (get_or order j 0) (ordered.within j (omega arith)) in
-      let b = exact (get_or order k 0) (ordered.within k l) in
+      let a = exact (get_or order j 0) (ordered.each.within j (omega arith)) in
+      let b = exact (get_or order k 0) (ordered.each.within k l) in
       omega (arith, rising j k le l, a, b);
 }
 

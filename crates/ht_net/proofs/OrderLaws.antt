@@ -45,14 +45,14 @@ pub order_ranks : (c : Netlist) (order : List ℕ) → IsCircuit c → IsOrder c
 order_ranks c order circuit ordered = record {
   small = λ x inside. elim (le_or_lt (first_gate_net c) x) [
     | inl at ↦
-        let q = ordered.covers (x - first_gate_net c) (omega arith) in
+        let q = ordered.each.covers (x - first_gate_net c) (omega arith) in
         let le : place_of (x - first_gate_net c) order ≤ q.0 = place_first (x - first_gate_net c) order q.0 q.1 q.2 in
-        rw (rank_high c order x at) (omega (arith, ordered.once, q.1))
+        rw (rank_high c order x at) (omega (arith, ordered.each.once, q.1))
     | inr low ↦ rw (rank_low c order x low) (omega arith)
   ];
   known = circuit.known;
   falls = λ g i inside at.
-      let q = ordered.covers g inside in
+      let q = ordered.each.covers g inside in
       let le : place_of g order ≤ q.0 = place_first g order q.0 q.1 q.2 in
       let is : get_or order (place_of g order) 0 ≡ g = place_holds g order q.0 q.1 q.2 in
       let P : ℕ → Type 0 = λ h. i < length (gate_at c h).args in

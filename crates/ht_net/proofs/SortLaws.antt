@@ -9,8 +9,8 @@ use Rattle.std.proofs.lemmas.List.{get_or_default}
 use Rattle.std.proofs.lemmas.List.Sorted.{All-permutation, Contains-permutation, length_permutation}
 use Rattle.ht_net.specs.declared.net.NetId.{NetId}
 use Rattle.ht_net.specs.Netlist.{Netlist, first_gate_net, no_net, IsOrder}
-use Rattle.ht_net.specs.GateLevels.{args_of, AreKnown, IsLevelled}
-use Rattle.ht_net.specs.Sorted.{IsEach, IsRising}
+use Rattle.ht_net.specs.Lists.{IsEach}
+use Rattle.ht_net.specs.GateLevels.{args_of, AreKnown, IsLevelled, IsRising}
 use Rattle.ht_net.proofs.RankLaws.{levels_rank}
 
 eqb_other : (x y : ℕ) → x ≢ y → eqb x y ≡ false
@@ -31,14 +31,14 @@ each_of_permutation n list order count same moved =
     record {
       once = long;
       within = λ k l. all k 0 l;
-      distinct = λ j k less l e.
+      distinct = λ j k d less l e.
           let start = IsDistinct-from_apart eqb list (λ a b d m h.
           eqb_other (get_or list a d) (get_or list b d) (λ q. let x = get_or_default list a d 0 (omega arith)
           in let y = get_or_default list b d 0 h in let u = same a (omega arith) in let v = same b (omega arith)
           in absurd (omega arith))) in
-          let after = apart_from_distinct eqb order j k 0
+          let after = apart_from_distinct eqb order j k d
           (IsDistinct-IsPermutation eqb eqb_flips list order moved start) less l in
-          let yes : eqb (get_or order j 0) (get_or order k 0) ≡ true = eq-eqb (get_or order j 0) (get_or order k 0) e in
+          let yes : eqb (get_or order j d) (get_or order k d) ≡ true = eq-eqb (get_or order j d) (get_or order k d) e in
           false≢true (sym after ∙ yes);
       covers = λ g l.
           let c = Contains-permutation list order g moved
@@ -55,10 +55,7 @@ pub order_by_levels : (c : Netlist) (levels order : List ℕ) → IsLevelled (fi
     → AreKnown (first_gate_net c) c.gates
     → IsEach (length c.gates) order → IsRising levels order → IsOrder c order
 order_by_levels c levels order levelled known each rising = record {
-  within = λ k l. each.within k l;
-  once = each.once;
-  distinct = each.distinct;
-  covers = each.covers;
+  each = each;
   earlier = λ k i l pin.
       let g : ℕ = get_or order k 0 in
       let a : NetId = get_or (args_of c.gates g) i no_net in

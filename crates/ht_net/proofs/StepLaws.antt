@@ -4,12 +4,13 @@ use Rattle.std.specs.Prelude.{eqb}
 use Rattle.std.proofs.Math.ListN.{set}
 use Rattle.std.proofs.lemmas.Bool.{cases_lt, cases_eq}
 use Rattle.std.proofs.lemmas.Bool.Decides.{nat_tests}
-use Rattle.std.proofs.lemmas.List.{get_or-take, length-take-le, get_or-set_same, get_or-set_other, length-set, get_or_append_left, get_or_push, get_or-reverse, get_or-drop, length-reverse, length-drop, get_or_past}
+use Rattle.std.proofs.lemmas.List.{get_or-take, length-take-le, get_or-set_same, get_or-set_other, length-set, get_or_append_left, get_or_push, get_or-reverse, get_or-drop, length-reverse, length-drop, get_or_past, get_or_default}
+use Rattle.std.proofs.lemmas.List.Quantifiers.{all_pairs_push}
 use Rattle.std.proofs.lemmas.List.Sums.{sum_by-set}
 use Rattle.ht_net.specs.declared.net.NetId.{NetId}
 use Rattle.ht_net.specs.Netlist.{Gate}
 use Rattle.ht_net.specs.GateLevels.{net_level, highest_level, args_of, IsLevelled}
-use Rattle.ht_net.specs.Cycle.{Reads, IsCycle}
+use Rattle.ht_net.specs.Cycle.{ReadsGate, IsGateCycle}
 use Rattle.ht_net.specs.Walk.{AreReady, IsPartly, IsPath, open_count, unseen_count, one_if_zero, one_if_false}
 use Rattle.ht_net.specs.Next.{HasLevel}
 use Rattle.ht_net.proofs.WalkLaws.{level_gate, level_low}
@@ -131,10 +132,11 @@ path_pop first gates levels seen path g level count some top nz before =
       known = λ k l. rw (at k l) (before.known k (omega arith));
       marked = λ k l. rw (at k l) (before.marked k (omega arith));
       unlevelled = λ k l.
-          let ne : get_or path k 0 ≢ g = λ e. before.distinct k n (omega arith) (omega arith) (e ∙ sym top) in
+          let ne : get_or path k 0 ≢ g = λ e. before.distinct k n 0 (omega arith) (omega arith) (e ∙ sym top) in
           rw (at k l) (get_or-set_other levels g (get_or path k 0) level 0 ne ∙ before.unlevelled k (omega arith));
-      distinct = λ j k less l. let l' : j < length (take n path) = omega arith
-          in rw (at j l', at k l) (before.distinct j k less (omega arith));
+      distinct = λ j k d less l. let l' : j < length (take n path) = omega arith
+          in rw (get_or-take n path j d (omega arith), get_or-take n path k d (omega arith))
+          (before.distinct j k d less (omega arith));
       reads = λ k l. let l' : k < length (take n path) = omega arith
           in rw (at k l', at (k + 1) l) (before.reads k (omega arith));
       unseen = λ k l new.
@@ -157,7 +159,7 @@ path_pop first gates levels seen path g level count some top nz before =
 -- a gate that the top of the path reads joins the path
 pub path_push : (first : ℕ) (gates : List Gate) (levels : List ℕ) (seen : List Bool) (path : List ℕ) (h : ℕ)
     → h < length gates
-    → get_or seen h false ≡ false → (0 < length path → Reads first gates (get_or path (length path - 1) 0) h)
+    → get_or seen h false ≡ false → (0 < length path → ReadsGate first gates (get_or path (length path - 1) 0) h)
     → IsPath first gates levels seen path
     → IsPath first gates levels (set seen h true) (path ++ h ∷ [])
 path_push first gates levels seen path h known new reads before =
@@ -185,10 +187,8 @@ path_push first gates levels seen path h known new reads before =
         | inl s ↦ rw (old k s) (before.unlevelled k s)
         | inr b ↦ let is : k ≡ n = omega arith in rw (is, last) (before.unseen h known new)
       ];
-      distinct = λ j k less l. let s' : j < n = omega arith in elim (cases_lt k n) [
-        | inl s ↦ rw (old j s', old k s) (before.distinct j k less s)
-        | inr b ↦ let is : k ≡ n = omega arith in rw (old j s', is, last) (apart j s')
-      ];
+      distinct = all_pairs_push (λ x y. x ≢ y) path h before.distinct
+          (λ k d l e. apart k l (get_or_default path k 0 d l ∙ e));
       reads = λ k l. let s' : k < n = omega arith in elim (cases_lt (k + 1) n) [
         | inl s ↦ rw (old k s', old (k + 1) s) (before.reads k s)
         | inr b ↦ let is : k + 1 ≡ n = omega arith in let top : k ≡ n - 1 = omega arith
@@ -209,8 +209,8 @@ path_push first gates levels seen path h known new reads before =
 -- the path from a gate on, when the top reads that gate
 pub cycle_found : (first : ℕ) (gates : List Gate) (levels : List ℕ) (seen : List Bool) (path : List ℕ) (place h : ℕ)
     → place < length path → get_or path place 0 ≡ h
-    → Reads first gates (get_or path (length path - 1) 0) h → IsPath first gates levels seen path
-    → IsCycle first gates (reverse (drop place path))
+    → ReadsGate first gates (get_or path (length path - 1) 0) h → IsPath first gates levels seen path
+    → IsGateCycle first gates (reverse (drop place path))
 cycle_found first gates levels seen path place h inside is reads before =
     let tail : List ℕ = drop place path in
     let n : ℕ = length path - place in
@@ -220,22 +220,40 @@ cycle_found first gates levels seen path place h inside is reads before =
     get_or-reverse tail k 0 (let e = length-drop place path in omega arith) ∙
     (get_or-drop place path (length tail - 1 - k) 0 ∙ ap (λ (x : ℕ). get_or path x 0) z) in
     record {
-      some = omega arith;
       known = λ k l. rw (at k (omega arith)) (before.known _ (omega arith));
-      distinct = λ j k less l. rw (at j (omega arith), at k (omega arith))
-          (λ e. before.distinct (length path - 1 - k) (length path - 1 - j) (omega arith) (omega arith) (sym e));
-      next = λ k l.
-          let z : length path - 1 - (k + 1) + 1 ≡ length path - 1 - k = omega arith in
-          let r = before.reads (length path - 1 - (k + 1)) (omega arith) in
-          rw (at k (omega arith), at (k + 1) (omega arith)) (rw z at r);
-      closes =
-          let a : get_or (reverse tail) (length (reverse tail) - 1) 0 ≡ h =
-          ap (λ (x : ℕ). get_or (reverse tail) (x - 1) 0) long ∙
-          (at (n - 1) (omega arith) ∙
-          ((let z : length path - 1 - (n - 1) ≡ place = omega arith in ap (λ (x : ℕ). get_or path x 0) z) ∙ is)) in
-          let b : get_or (reverse tail) 0 0 ≡ get_or path (length path - 1) 0 = at 0 (omega arith) ∙
-          (let z : length path - 1 - 0 ≡ length path - 1 = omega arith in ap (λ (x : ℕ). get_or path x 0) z) in
-          rw (a, b) reads;
+      cycle = record {
+        some = omega arith;
+        distinct = λ j k d less l same.
+            let k' : k < n = omega arith in
+            let j' : j < n = omega arith in
+            let here : (i : ℕ) → i < n → get_or (reverse tail) i d ≡ get_or path (length path - 1 - i) d = λ i m.
+            get_or_default (reverse tail) i d 0 (omega arith) ∙ (at i m ∙ get_or_default path (length path - 1 - i) 0 d
+            (omega arith)) in
+            before.distinct (length path - 1 - k) (length path - 1 - j) d (omega arith) (omega arith)
+            (sym (here k k') ∙ (sym same ∙ here j j'));
+        next = λ k d l.
+            let z : length path - 1 - (k + 1) + 1 ≡ length path - 1 - k = omega arith in
+            let r = before.reads (length path - 1 - (k + 1)) (omega arith) in
+            rw (
+              get_or_default (reverse tail) k d 0 (omega arith),
+              get_or_default (reverse tail) (k + 1) d 0 (omega arith),
+              at k (omega arith),
+              at (k + 1) (omega arith),
+            ) (rw z at r);
+        closes = λ d.
+            let a : get_or (reverse tail) (length (reverse tail) - 1) 0 ≡ h =
+            ap (λ (x : ℕ). get_or (reverse tail) (x - 1) 0) long ∙
+            (at (n - 1) (omega arith) ∙
+            ((let z : length path - 1 - (n - 1) ≡ place = omega arith in ap (λ (x : ℕ). get_or path x 0) z) ∙ is)) in
+            let b : get_or (reverse tail) 0 0 ≡ get_or path (length path - 1) 0 = at 0 (omega arith) ∙
+            (let z : length path - 1 - 0 ≡ length path - 1 = omega arith in ap (λ (x : ℕ). get_or path x 0) z) in
+            rw (
+              get_or_default (reverse tail) (length (reverse tail) - 1) d 0 (omega arith),
+              get_or_default (reverse tail) 0 d 0 (omega arith),
+              a,
+              b,
+            ) reads;
+      };
     }
 
 -- an empty path, with all gates seen

@@ -6,7 +6,7 @@ use Rattle.std.proofs.lemmas.List.{get_or-set_same, get_or-set_other}
 use Rattle.ht_net.specs.declared.net.NetId.{NetId}
 use Rattle.ht_net.specs.Netlist.{Gate, no_net}
 use Rattle.ht_net.specs.GateLevels.{args_of, AreKnown}
-use Rattle.ht_net.specs.Cycle.{Reads, IsCycle}
+use Rattle.ht_net.specs.Cycle.{ReadsGate, IsGateCycle}
 use Rattle.ht_net.specs.Walk.{IsPartly, IsPath, StaySeen, open_count}
 use Rattle.ht_net.specs.Next.{HasLevel, IsWaiting}
 use Rattle.ht_net.specs.Tail.{IsOnPath, IsTail}
@@ -59,7 +59,7 @@ turn_path first gates levels seen path gate level args partly walk top has =
 
 pub waits_reads : (first : ℕ) (levels : List ℕ) (gates : List Gate) (args : List NetId) (gate below : ℕ) → args
     ≡ args_of gates gate → IsWaiting first levels args below
-    → Reads first gates gate below
+    → ReadsGate first gates gate below
 waits_reads first levels gates args gate below e h =
     let r : IsWaiting first levels (args_of gates gate) below = subst
     (λ (a : List NetId). IsWaiting first levels a below) e h in
@@ -74,12 +74,12 @@ below_known first gates levels args below count known h = let b = known h.pin h.
 
 pub turn_push : (first : ℕ) (gates : List Gate) (levels : List ℕ) (seen : List Bool) (path : List ℕ) (gate below : ℕ)
     → below < length gates
-    → IsPath first gates levels seen path → IsTop path gate → Reads first gates gate below → get_or seen below false
+    → IsPath first gates levels seen path → IsTop path gate → ReadsGate first gates gate below → get_or seen below false
     ≡ false
     → IsPath first gates levels (set seen below true) (path ++ below ∷ [])
 turn_push first gates levels seen path gate below known walk top reads new =
     path_push first gates levels seen path below known new
-    (λ some. subst (λ (g : ℕ). Reads first gates g below) (sym top.is) reads) walk
+    (λ some. subst (λ (g : ℕ). ReadsGate first gates g below) (sym top.is) reads) walk
 
 pub start_path : (first : ℕ) (gates : List Gate) (levels : List ℕ) (seen : List Bool) (root : ℕ) → root < length gates
     → get_or seen root false ≡ false
@@ -108,12 +108,12 @@ on_path first gates levels seen path args below known walk waits old =
 
 pub turn_cycle : (first : ℕ) (gates : List Gate) (levels : List ℕ) (seen : List Bool) (path tail : List ℕ)
     (gate below : ℕ)
-    → IsPath first gates levels seen path → IsTop path gate → Reads first gates gate below → IsTail below path tail
-    → IsCycle first gates tail
+    → IsPath first gates levels seen path → IsTop path gate → ReadsGate first gates gate below → IsTail below path tail
+    → IsGateCycle first gates tail
 turn_cycle first gates levels seen path tail gate below walk top reads h =
-    subst (λ (t : List ℕ). IsCycle first gates t) (sym h.is_tail)
+    subst (λ (t : List ℕ). IsGateCycle first gates t) (sym h.is_tail)
     (cycle_found first gates levels seen path h.place below h.is_place h.is
-    (subst (λ (g : ℕ). Reads first gates g below) (sym top.is) reads) walk)
+    (subst (λ (g : ℕ). ReadsGate first gates g below) (sym top.is) reads) walk)
 
 pub args_known : (first : ℕ) (gates : List Gate) (levels : List ℕ) (args : List NetId) (gate : ℕ) → length levels
     ≡ length gates → AreKnown first gates

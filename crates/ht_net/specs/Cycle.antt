@@ -1,18 +1,23 @@
 -- Cycles of gates.
-use Rattle.std.specs.Prelude.{◌≡◌, ◌≢◌, ℕ, List, ◌-◌, ◌+◌, ◌<◌, length, get_or}
+use Rattle.std.specs.Prelude.{◌≡◌, ℕ, List, ◌+◌, ◌<◌, length, get_or}
+use Rattle.ht_net.specs.Lists.{IsCycle}
 use Rattle.ht_net.specs.Netlist.{Gate, no_net}
 use Rattle.ht_net.specs.GateLevels.{args_of}
+use Rattle.ht_net.specs.declared.levels.LevelError.{LevelError}
+use Rattle.ht_net.specs.declared.levels.LevelError.TheVariants.{Cycle, NoMemory}
 
 -- gate g reads the net of gate h
-pub record Reads (first : ℕ) (gates : List Gate) (g h : ℕ) : Type 0 where
+pub record ReadsGate (first : ℕ) (gates : List Gate) (g h : ℕ) : Type 0 where
   pub pin : ℕ
   pub is_pin : pin < length (args_of gates g)
   pub reads : (get_or (args_of gates g) pin no_net).0 ≡ first + h
 
 -- each gate reads the one before it, and the first reads the last
-pub record IsCycle (first : ℕ) (gates : List Gate) (cycle : List ℕ) : Type 0 where
-  pub some : 0 < length cycle
-  pub known : (k : ℕ) → k < length cycle → get_or cycle k 0 < length gates
-  pub distinct : (j k : ℕ) → j < k → k < length cycle → get_or cycle j 0 ≢ get_or cycle k 0
-  pub next : (k : ℕ) → k + 1 < length cycle → Reads first gates (get_or cycle (k + 1) 0) (get_or cycle k 0)
-  pub closes : Reads first gates (get_or cycle 0 0) (get_or cycle (length cycle - 1) 0)
+pub record IsGateCycle (first : ℕ) (gates : List Gate) (list : List ℕ) : Type 0 where
+  pub known : (k : ℕ) → k < length list → get_or list k 0 < length gates
+  pub cycle : IsCycle (λ h g. ReadsGate first gates g h) list
+
+-- why gates have no levels
+abbrev pub IsLevelError : ℕ → List Gate → LevelError → Type 0
+IsLevelError first gates (Cycle cycle) = IsGateCycle first gates cycle.items
+IsLevelError first gates NoMemory = Unit {0}

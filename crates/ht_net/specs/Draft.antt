@@ -1,15 +1,16 @@
 -- A netlist in the making: names, and what drives them.
-use Rattle.std.specs.Prelude.{◌≢◌, ℕ, List, [], ◌++◌, ◌+◌, ◌<◌, ◌≤◌, length, map, get_or}
+use Rattle.std.specs.Prelude.{ℕ, List, [], ◌++◌, ◌+◌, ◌<◌, ◌≤◌, length, map, get_or}
 use Rattle.std.specs.List.{Contains, sum_by}
 use Rattle.ht_tern.specs.declared.gate.Kind.{Kind}
 use Rattle.ht_tern.specs.declared.gate.Kind.TheVariants.{Buf}
 use Rattle.ht_tern.specs.Gate.{HasArity}
 use Rattle.ht_net.specs.declared.names.NameId.{NameId}
-use Rattle.ht_net.specs.declared.draft.DffPart.{DffPart}
-use Rattle.ht_net.specs.Netlist.{most_nets, most_pins, most_inputs, most_dffs}
+use Rattle.ht_net.specs.declared.draft.DraftDff.{DraftDff}
+use Rattle.ht_net.specs.Lists.{AllDiffer}
+use Rattle.ht_net.specs.Netlist.{max_nets, max_pins, max_inputs, max_dffs}
 
 -- a gate by the names at its output and its pins
-pub record GatePart : Type 0 where
+pub record DraftGate : Type 0 where
   pub kind : Kind
   pub out : NameId
   pub args : List NameId
@@ -18,25 +19,25 @@ pub record GatePart : Type 0 where
 pub record Draft : Type 0 where
   pub names : List (List ℕ)
   pub inputs : List NameId
-  pub dffs : List DffPart
-  pub gates : List GatePart
+  pub dffs : List DraftDff
+  pub gates : List DraftGate
   pub outputs : List NameId
 
 abbrev pub no_name : NameId
 no_name = record { 0 = 0 }
 
-abbrev pub no_part : GatePart
+abbrev pub no_part : DraftGate
 no_part = record { kind = Buf; out = no_name; args = [] }
 
-abbrev pub no_dff : DffPart
+abbrev pub no_dff : DraftDff
 no_dff = record { out = no_name; data_pin = no_name }
 
 -- the names that flip-flops and gates drive
 abbrev pub latch_names : Draft → List NameId
-latch_names d = map (λ (f : DffPart). f.out) d.dffs
+latch_names d = map (λ (f : DraftDff). f.out) d.dffs
 
 abbrev pub gate_names : Draft → List NameId
-gate_names d = map (λ (g : GatePart). g.out) d.gates
+gate_names d = map (λ (g : DraftGate). g.out) d.gates
 
 -- the names that have a driver, in the order of their nets
 abbrev pub driven_names : Draft → List NameId
@@ -48,23 +49,22 @@ IsDriven d name = Contains (driven_names d) name
 abbrev pub IsName : Draft → NameId → Type 0
 IsName d name = name.0 < length d.names
 
-abbrev pub part_at : Draft → ℕ → GatePart
+abbrev pub part_at : Draft → ℕ → DraftGate
 part_at d g = get_or d.gates g no_part
 
 -- data pins of flip-flops and pins of gates
 abbrev pub draft_pins : Draft → ℕ
-draft_pins d = length d.dffs + sum_by (λ (g : GatePart). length g.args) d.gates
+draft_pins d = length d.dffs + sum_by (λ (g : DraftGate). length g.args) d.gates
 
 -- What every draft keeps: names and outputs differ, each name that is used is there, gates have as many arguments as
 -- their kind may have, and the limits hold.
 pub record IsDraft (d : Draft) : Type 0 where
-  pub few_names : length d.names ≤ most_nets
-  pub few_inputs : length d.inputs ≤ most_inputs
-  pub few_dffs : length d.dffs ≤ most_dffs
-  pub few_pins : draft_pins d ≤ most_pins
-  pub names_differ : (x y : ℕ) → x < y → y < length d.names → get_or d.names x [] ≢ get_or d.names y []
-  pub outputs_differ : (o p : ℕ) → o < p → p < length d.outputs → get_or d.outputs o no_name ≢ get_or d.outputs p
-      no_name
+  pub few_names : length d.names ≤ max_nets
+  pub few_inputs : length d.inputs ≤ max_inputs
+  pub few_dffs : length d.dffs ≤ max_dffs
+  pub few_pins : draft_pins d ≤ max_pins
+  pub names_differ : AllDiffer d.names
+  pub outputs_differ : AllDiffer d.outputs
   pub outputs_known : (o : ℕ) → o < length d.outputs → IsName d (get_or d.outputs o no_name)
   pub data_known : (j : ℕ) → j < length d.dffs → IsName d (get_or d.dffs j no_dff).data_pin
   pub args_known : (g i : ℕ) → g < length d.gates → i < length (part_at d g).args

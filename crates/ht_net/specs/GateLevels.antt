@@ -29,3 +29,8 @@ pub record IsRanked (first : ℕ) (gates : List Gate) (rank : ℕ → ℕ) : Typ
   pub falls : (g i : ℕ) → g < length gates → i < length (args_of gates g)
       → first ≤ (get_or (args_of gates g) i no_net).0
       → rank ((get_or (args_of gates g) i no_net).0 - first) < rank g
+
+-- the levels do not fall along the list
+abbrev pub IsRising : List ℕ → List ℕ → Type 0
+IsRising levels order = (j k : ℕ) → j ≤ k → k < length order
+    → get_or levels (get_or order j 0) 0 ≤ get_or levels (get_or order k 0) 0

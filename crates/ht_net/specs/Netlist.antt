@@ -1,10 +1,11 @@
 -- A circuit as contracts see it, and what makes it well formed.
-use Rattle.std.specs.Prelude.{◌≡◌, ◌≢◌, ℕ, List, [], ◌+◌, ◌-◌, ◌<◌, ◌≤◌, ◌⊎◌, length, get_or}
+use Rattle.std.specs.Prelude.{◌≡◌, ℕ, List, [], ◌+◌, ◌-◌, ◌<◌, ◌≤◌, ◌⊎◌, length, get_or}
 use Rattle.std.specs.List.{sum_by}
 use Rattle.ht_tern.specs.declared.gate.Kind.{Kind}
 use Rattle.ht_tern.specs.declared.gate.Kind.TheVariants.{Buf}
 use Rattle.ht_tern.specs.Gate.{HasArity}
 use Rattle.ht_net.specs.declared.net.NetId.{NetId}
+use Rattle.ht_net.specs.Lists.{AllDiffer, IsEach}
 
 pub record Gate : Type 0 where
   pub kind : Kind
@@ -50,33 +51,33 @@ pub record IsRank (c : Netlist) (rank : ℕ → ℕ) : Type 0 where
       → rank (arg_at c g i - first_gate_net c) < rank g
 
 -- the most nets, pins, inputs and flip-flops that a circuit may have
-abbrev pub most_nets : ℕ
-most_nets = 65535
+abbrev pub max_nets : ℕ
+max_nets = 65535
 
-abbrev pub most_pins : ℕ
-most_pins = 262144
+abbrev pub max_pins : ℕ
+max_pins = 262144
 
-abbrev pub most_inputs : ℕ
-most_inputs = 4096
+abbrev pub max_inputs : ℕ
+max_inputs = 4096
 
-abbrev pub most_dffs : ℕ
-most_dffs = 16384
+abbrev pub max_dffs : ℕ
+max_dffs = 16384
 
 -- A well-formed circuit: what is read is there, names differ, no net is an output twice, the gates have a rank, and the
 -- limits are kept.
 pub record IsCircuit (c : Netlist) : Type 0 where
-  pub few_nets : net_count c ≤ most_nets
-  pub few_pins : pin_count c ≤ most_pins
-  pub few_inputs : c.inputs ≤ most_inputs
-  pub few_dffs : length c.dffs ≤ most_dffs
+  pub few_nets : net_count c ≤ max_nets
+  pub few_pins : pin_count c ≤ max_pins
+  pub few_inputs : c.inputs ≤ max_inputs
+  pub few_dffs : length c.dffs ≤ max_dffs
   pub arities : (g : ℕ) → g < length c.gates → HasArity (gate_at c g).kind (length (gate_at c g).args)
   pub few_args : (g : ℕ) → g < length c.gates → length (gate_at c g).args ≤ 255
   pub known : (g i : ℕ) → g < length c.gates → i < length (gate_at c g).args → arg_at c g i < net_count c
   pub data_known : (j : ℕ) → j < length c.dffs → (get_or c.dffs j no_net).0 < net_count c
   pub outputs_known : (o : ℕ) → o < length c.outputs → (get_or c.outputs o no_net).0 < net_count c
-  pub outputs_differ : (o p : ℕ) → o < p → p < length c.outputs → get_or c.outputs o no_net ≢ get_or c.outputs p no_net
+  pub outputs_differ : AllDiffer c.outputs
   pub named : length c.names ≡ net_count c
-  pub names_differ : (x y : ℕ) → x < y → y < length c.names → get_or c.names x [] ≢ get_or c.names y []
+  pub names_differ : AllDiffer c.names
   pub ranked : (rank : ℕ → ℕ) × IsRank c rank
 
 -- a net that has its value before the gate at place k of an order is evaluated
@@ -85,9 +86,6 @@ IsReady c order k x = (x < first_gate_net c) ⊎ ((j : ℕ) × (j < k) × (x ≡
 
 -- Each gate stands in the order once, after the gates that drive its arguments.
 pub record IsOrder (c : Netlist) (order : List ℕ) : Type 0 where
-  pub within : (k : ℕ) → k < length order → get_or order k 0 < length c.gates
-  pub once : length order ≡ length c.gates
-  pub distinct : (j k : ℕ) → j < k → k < length order → get_or order j 0 ≢ get_or order k 0
-  pub covers : (g : ℕ) → g < length c.gates → (k : ℕ) × (k < length order) × (get_or order k 0 ≡ g)
+  pub each : IsEach (length c.gates) order
   pub earlier : (k i : ℕ) → k < length order → i < length (gate_at c (get_or order k 0)).args
       → IsReady c order k (arg_at c (get_or order k 0) i)

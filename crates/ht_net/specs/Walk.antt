@@ -4,7 +4,8 @@ use Rattle.std.specs.List.{sum_by}
 use Rattle.ht_net.specs.declared.net.NetId.{NetId}
 use Rattle.ht_net.specs.Netlist.{Gate, no_net}
 use Rattle.ht_net.specs.GateLevels.{args_of, highest_level}
-use Rattle.ht_net.specs.Cycle.{Reads}
+use Rattle.ht_net.specs.Lists.{AllDiffer}
+use Rattle.ht_net.specs.Cycle.{ReadsGate}
 
 abbrev pub one_if_zero : ℕ → ℕ
 one_if_zero n = cond (eqb n 0) 1 0
@@ -37,8 +38,8 @@ pub record IsPath (first : ℕ) (gates : List Gate) (levels : List ℕ) (seen : 
   pub known : (k : ℕ) → k < length path → get_or path k 0 < length gates
   pub marked : (k : ℕ) → k < length path → get_or seen (get_or path k 0) false ≡ true
   pub unlevelled : (k : ℕ) → k < length path → get_or levels (get_or path k 0) 0 ≡ 0
-  pub distinct : (j k : ℕ) → j < k → k < length path → get_or path j 0 ≢ get_or path k 0
-  pub reads : (k : ℕ) → k + 1 < length path → Reads first gates (get_or path k 0) (get_or path (k + 1) 0)
+  pub distinct : AllDiffer path
+  pub reads : (k : ℕ) → k + 1 < length path → ReadsGate first gates (get_or path k 0) (get_or path (k + 1) 0)
   pub unseen : (g : ℕ) → g < length gates → get_or seen g false ≡ false → get_or levels g 0 ≡ 0
   pub on_path : (g : ℕ) → g < length gates → get_or seen g false ≡ true → get_or levels g 0 ≡ 0 → (k : ℕ)
       × (k < length path) × (get_or path k 0 ≡ g)

@@ -4,14 +4,14 @@ ghost use Rattle.std.specs.List.{Contains};
 ghost use Rattle.ht_tern.specs.Gate.{HasArity};
 ghost use Rattle.ht_net.specs.declared.names.NameId.{NameId};
 ghost use Rattle.ht_net.specs.Names.{IsNewName, IsNameAt};
-ghost use Rattle.ht_net.specs.Netlist.{most_nets};
+ghost use Rattle.ht_net.specs.Netlist.{max_nets};
 ghost use Rattle.ht_net.specs.Draft.{IsDraft, IsDriven, IsName, no_name};
 ghost use Rattle.ht_net.specs.Refusals.{RefusesName, RefusesInput, AcceptsInput, RefusesOutput, RefusesDff, AcceptsDff, RefusesGate, AcceptsGate};
 
 mod cycle;
 mod finish;
 
-use crate::draft::{DffPart, DraftGate};
+use crate::draft::{DraftDff, DraftGate};
 use crate::names::Names;
 use crate::{Limit, NameId, NetError};
 use ht_tern::Kind;
@@ -45,7 +45,7 @@ pub struct Builder {
     // one for each name
     drivers: Vec<Driver>,
     inputs: Vec<NameId>,
-    dffs: Vec<DffPart>,
+    dffs: Vec<DraftDff>,
     gates: Vec<DraftGate>,
     outputs: IndexSet<NameId>,
     // how many pins the gates and flip-flops have
@@ -90,7 +90,7 @@ impl Builder {
         ensures new { OnOk result (IsNewName self.old.names name.now → self.new
             ≡ record self.old { names = self.old.names ++ name.now ∷ [] }) }
         ensures fits { OnOk result
-            (IsNewName self.old.names name.now → length self.old.names < most_nets) }
+            (IsNewName self.old.names name.now → length self.old.names < max_nets) }
         ensures keeps { (id : NameId) → IsName self.old id → IsName self.new id }
         ensures err { OnErr result (self.new ≡ self.old) }
         ensures refusal { IfErr result (RefusesName self.old name.now) }
@@ -141,9 +141,7 @@ impl Builder {
                 what: Limit::Inputs,
             });
         }
-        if self.inputs.push(name).is_err() {
-            return Err(NetError::NoMemory);
-        }
+        self.inputs.push(name)?;
         self.drivers[name.0 as usize] = Driver::Input(place as u32);
         Ok(())
     }
@@ -160,10 +158,8 @@ impl Builder {
         ensures err { OnErr result (self.new ≡ self.old) }
         ensures refusal { IfErr result RefusesOutput }
     {
-        match self.outputs.insert(name) {
-            Ok(_) => Ok(()),
-            Err(_) => Err(NetError::NoMemory),
-        }
+        self.outputs.insert(name)?;
+        Ok(())
     }
 
     /// Adds a flip-flop.
@@ -190,9 +186,7 @@ impl Builder {
         if place == MAX_DFFS {
             return Err(NetError::TooMany { what: Limit::Dffs });
         }
-        if self.dffs.push(DffPart { out, data_pin: pin }).is_err() {
-            return Err(NetError::NoMemory);
-        }
+        self.dffs.push(DraftDff { out, data_pin: pin })?;
         self.drivers[out.0 as usize] = Driver::Dff(place as u32);
         self.pins += 1;
         Ok(())
@@ -221,13 +215,9 @@ impl Builder {
         if pins > MAX_PINS {
             return Err(NetError::TooMany { what: Limit::Pins });
         }
-        let Ok(args) = Vec::from_slice(self.alloc, args) else {
-            return Err(NetError::NoMemory);
-        };
+        let args = Vec::from_slice(self.alloc, args)?;
         let place = self.gates.len();
-        if self.gates.push(DraftGate { kind, out, args }).is_err() {
-            return Err(NetError::NoMemory);
-        }
+        self.gates.push(DraftGate { kind, out, args })?;
         self.drivers[out.0 as usize] = Driver::Gate(place as u32);
         self.pins = pins;
         Ok(())

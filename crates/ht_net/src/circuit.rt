@@ -3,11 +3,11 @@ ghost use Rattle.std.specs.Prelude.{◌≡◌, suc, ◌<◌, ◌+◌, [], length
 ghost use Rattle.ht_net.specs.Netlist.{first_gate_net, net_count, gate_at, no_net, IsCircuit, IsOrder};
 ghost use Rattle.ht_net.specs.Levels.{level_of, highest_below, loads_of, IsLevelOrder};
 ghost use Rattle.ht_net.specs.CircuitOf.{netlist_by, IsUnranked};
-ghost use Rattle.ht_net.specs.WalkFault.{IsWalkFault};
+ghost use Rattle.ht_net.specs.Cycle.{IsLevelError};
 
 use crate::NetId;
 use crate::gates::Gates;
-use crate::levels::{WalkError, find_levels};
+use crate::levels::{LevelError, find_levels};
 use crate::loads::count_loads;
 use crate::order::level_order;
 use ht_tern::Kind;
@@ -51,11 +51,11 @@ impl Circuit {
         gates: Gates,
         outputs: Vec<NetId>,
         names: Vec<Vec<u8>>,
-    ) -> Result<Circuit, WalkError>
+    ) -> Result<Circuit, LevelError>
         requires { IsUnranked (netlist_by inputs dffs.items gates outputs.items names.items) }
         ensures circuit { IfOk result
             (λ c. c ≡ netlist_by inputs dffs.items gates outputs.items names.items) }
-        ensures fault { IfErr result (IsWalkFault (inputs + length dffs.items) gates) }
+        ensures error { IfErr result (IsLevelError (inputs + length dffs.items) gates) }
     {
         let first = inputs + dffs.len() as u32;
         let levels = find_levels(alloc, first, &gates)?;

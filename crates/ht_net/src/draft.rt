@@ -5,7 +5,7 @@ use std::marker::Model;
 
 /// A flip-flop by the names at its output and its data pin.
 #[derive(Clone, Copy, PartialEq, Eq, Debug)]
-pub struct DffPart {
+pub struct DraftDff {
     pub out: NameId,
     pub data_pin: NameId,
 }
@@ -19,9 +19,9 @@ pub struct DraftGate {
 }
 
 impl Model for DraftGate {
-    ghost use Rattle.ht_net.specs.Draft.{GatePart};
+    ghost use Rattle.ht_net.specs.Draft.{DraftGate};
 
-    ghost Value = { GatePart };
+    ghost Value = { DraftGate };
 
     ghost use Rattle.ht_net.specs.PartOf.{part_of};
 

@@ -1,5 +1,7 @@
-// Why a netlist is refused.
+//! Why a netlist is refused.
 use crate::NameId;
+use ht_items::Items;
+use std::alloc::{AllocError, AllocFailed};
 
 /// What a circuit can have too many of: 65,535 nets, 262,144 pins (arguments of gates and data pins of flip-flops), 4,096
 /// inputs, 16,384 flip-flops.
@@ -22,7 +24,29 @@ pub enum NetError {
     Undriven { name: NameId },
     /// Gates form a cycle. These are different names: each is an argument of the gate that drives the next, and the last
     /// of the first's. The least name is first.
-    Loop { nets: Vec<NameId> },
-    /// There is no memory.
+    Loop { nets: Items<NameId> },
+    /// Out of memory.
     NoMemory,
+}
+
+impl From<AllocError> for NetError {
+    ghost use Rattle.std.specs.Prelude.{◌≡◌};
+    ghost use Rattle.ht_net.specs.declared.error.NetError.TheVariants.{NoMemory};
+
+    ghost from_gives = { λ _ e. e ≡ NoMemory };
+
+    fn from(_: AllocError) -> NetError {
+        NetError::NoMemory
+    }
+}
+
+impl<T: Drop> From<AllocFailed<T>> for NetError {
+    ghost use Rattle.std.specs.Prelude.{◌≡◌};
+    ghost use Rattle.ht_net.specs.declared.error.NetError.TheVariants.{NoMemory};
+
+    ghost from_gives = { λ _ e. e ≡ NoMemory };
+
+    fn from(_: AllocFailed<T>) -> NetError {
+        NetError::NoMemory
+    }
 }

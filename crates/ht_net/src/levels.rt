@@ -5,7 +5,7 @@ ghost use Rattle.ht_net.specs.Next.{IsNext};
 ghost use Rattle.std.specs.Prelude.{OnOk, IfErr, true, false, []};
 ghost use Rattle.ht_net.specs.GateLevels.{AreKnown, IsLevelled};
 ghost use Rattle.ht_net.specs.Walk.{IsPartly, IsPath, StaySeen};
-ghost use Rattle.ht_net.specs.WalkFault.{IsWalkFault};
+ghost use Rattle.ht_net.specs.Cycle.{IsLevelError};
 ghost use Rattle.ht_net.specs.Tail.{IsOnPath, IsTail};
 
 use crate::NetId;
@@ -14,31 +14,31 @@ use std::alloc::{AllocError, AllocFailed, Global};
 
 /// Why there are no levels.
 #[derive(Drop)]
-pub enum WalkError {
+pub enum LevelError {
     /// gates, each an argument of the next and the last an argument of the first
     Cycle(Vec<u32>),
     NoMemory,
 }
 
-impl From<AllocError> for WalkError {
+impl From<AllocError> for LevelError {
     ghost use Rattle.std.specs.Prelude.{◌≡◌};
-    ghost use Rattle.ht_net.specs.declared.levels.WalkError.TheVariants.{NoMemory};
+    ghost use Rattle.ht_net.specs.declared.levels.LevelError.TheVariants.{NoMemory};
 
     ghost from_gives = { λ _ e. e ≡ NoMemory };
 
-    fn from(_: AllocError) -> WalkError {
-        WalkError::NoMemory
+    fn from(_: AllocError) -> LevelError {
+        LevelError::NoMemory
     }
 }
 
-impl<T: Drop> From<AllocFailed<T>> for WalkError {
+impl<T: Drop> From<AllocFailed<T>> for LevelError {
     ghost use Rattle.std.specs.Prelude.{◌≡◌};
-    ghost use Rattle.ht_net.specs.declared.levels.WalkError.TheVariants.{NoMemory};
+    ghost use Rattle.ht_net.specs.declared.levels.LevelError.TheVariants.{NoMemory};
 
     ghost from_gives = { λ _ e. e ≡ NoMemory };
 
-    fn from(_: AllocFailed<T>) -> WalkError {
-        WalkError::NoMemory
+    fn from(_: AllocFailed<T>) -> LevelError {
+        LevelError::NoMemory
     }
 }
 
@@ -92,7 +92,7 @@ fn visit(
     root: usize,
     levels: &mut [u32],
     seen: &mut [bool],
-) -> Result<(), WalkError>
+) -> Result<(), LevelError>
     requires known { AreKnown first gates.now }
     requires few { first + length gates.now < 2 ^ 32 - 1 }
     requires root { root < length gates.now }
@@ -103,7 +103,7 @@ fn visit(
     ensures path { OnOk result (IsPath first gates.now levels.new seen.new []) }
     ensures stay { OnOk result (StaySeen seen.old seen.new) }
     ensures root { OnOk result (get_or seen.new root false ≡ true) }
-    ensures fault { IfErr result (IsWalkFault first gates.now) }
+    ensures error { IfErr result (IsLevelError first gates.now) }
 {
     let mut path = Vec::new(alloc);
     path.push(root as u32)?;
@@ -116,7 +116,7 @@ fn visit(
             }
             Next::Gate(below) => {
                 if seen[below as usize] {
-                    return Err(WalkError::Cycle(tail_from(alloc, &path, below)?));
+                    return Err(LevelError::Cycle(tail_from(alloc, &path, below)?));
                 }
                 path.push(below)?;
                 seen[below as usize] = true;
@@ -127,11 +127,11 @@ fn visit(
 }
 
 /// The level of each gate.
-pub fn find_levels(alloc: Global, first: u32, gates: &Gates) -> Result<Vec<u32>, WalkError>
+pub fn find_levels(alloc: Global, first: u32, gates: &Gates) -> Result<Vec<u32>, LevelError>
     requires known { AreKnown first gates.now }
     requires few { first + length gates.now < 2 ^ 32 - 1 }
     ensures levels { IfOk result (λ levels. IsLevelled first gates.now levels.items) }
-    ensures fault { IfErr result (IsWalkFault first gates.now) }
+    ensures error { IfErr result (IsLevelError first gates.now) }
 {
     let mut levels = vec![in alloc; 0; gates.len()]?;
     let mut seen = vec![in alloc; false; gates.len()]?;

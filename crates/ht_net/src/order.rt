@@ -1,6 +1,7 @@
 // The order of gates: by level.
 ghost use Rattle.std.specs.Prelude.{◌<◌, ◌^◌, length, IfOk};
-ghost use Rattle.ht_net.specs.Sorted.{IsEach, IsRising};
+ghost use Rattle.ht_net.specs.Lists.{IsEach};
+ghost use Rattle.ht_net.specs.GateLevels.{IsRising};
 
 use std::alloc::{AllocError, Global};
 

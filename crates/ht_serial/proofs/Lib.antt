@@ -1,4 +1,3 @@
 pub mod RunLaws
 pub mod StepLaws
 pub mod DetectionLaws
-pub mod ApartLaws

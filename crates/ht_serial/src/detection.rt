@@ -1,7 +1,7 @@
 //! The first place where a list of vectors detects a fault.
 ghost use Rattle.std.specs.Prelude.{◌≡◌, ℕ, ◌<◌, length, Option, IfOk, MatchOption, IsTrue, ◌↔◌};
 ghost use Rattle.ht_net.specs.Detection.{IsFirstDetection};
-ghost use Rattle.ht_net.specs.Silence.{Apart};
+ghost use Rattle.ht_net.specs.Detection.{Apart};
 ghost use Rattle.std.specs.Option.{ForSome};
 ghost use Rattle.ht_serial.specs.Opposites.{IsOppositeAt};
 ghost use Rattle.ht_serial.specs.Places.{IsWithin};

@@ -6,7 +6,7 @@ ghost use Rattle.ht_net.specs.declared.fault.Fault.{Fault};
 ghost use Rattle.ht_net.specs.Netlist.{Netlist};
 ghost use Rattle.ht_net.specs.Faults.{tern_rules, bool_rules};
 ghost use Rattle.ht_net.specs.Detection.{Detects};
-ghost use Rattle.ht_net.specs.Silence.{Apart};
+ghost use Rattle.ht_net.specs.Detection.{Apart};
 ghost use Rattle.ht_serial.specs.MachineState.{started, after, after_run};
 
 /// A machine that starts from any state and then steps through a list of vectors shows the outputs of the run's last frame,
@@ -22,7 +22,7 @@ pub fn machine_follows_run()
 
 /// Where a list detects a fault, the good and the faulty machine show opposite bits in two-valued runs too, from whatever
 /// states the two start in.
-#[tactic(auto, using(crate::proofs::ApartLaws::detected_apart))]
+#[tactic(auto, using(ht_net::proofs::ApartLaws::detected_apart))]
 pub fn detected_faults_are_apart()
     ensures { (c : Netlist) (fault : Fault) (list : List (List Bool)) (t o : ℕ)
         → Detects c fault list t o → Apart c fault list t o }

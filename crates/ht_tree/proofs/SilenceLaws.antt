@@ -6,7 +6,8 @@ use Rattle.ht_net.specs.declared.fault.Fault.{Fault}
 use Rattle.ht_net.specs.Netlist.{Netlist, first_gate_net}
 use Rattle.ht_net.specs.Frame.{Rules, net_value, net_value_over, net_value_within, driver_value, frame_outputs, next_state, run_outputs}
 use Rattle.ht_net.specs.Faults.{bool_rules}
-use Rattle.ht_net.specs.Silence.{IsState, AgreeOutside, Sealed, Silent}
+use Rattle.ht_net.specs.Detection.{IsState}
+use Rattle.ht_net.specs.Silence.{AgreeOutside, Sealed, Silent}
 use Rattle.ht_net.proofs.FrameLaws.{le_or_lt, driven_input, driven_latch, driven_gate, value_same}
 use Rattle.ht_net.proofs.ValueLaws.{seen_same, taken_same, taken_length}
 

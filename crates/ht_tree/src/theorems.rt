@@ -3,7 +3,8 @@ ghost use Rattle.std.specs.Prelude.{◌≡◌, ◌≢◌, ◌<◌, ◌≤◌, �
 ghost use Rattle.ht_tern.specs.declared.tern.Tern.{Tern};
 ghost use Rattle.ht_net.specs.declared.fault.Fault.{Fault};
 ghost use Rattle.ht_net.specs.Netlist.{Netlist, IsCircuit, net_count};
-ghost use Rattle.ht_net.specs.Silence.{IsState, Sealed, Silent};
+ghost use Rattle.ht_net.specs.Detection.{IsState};
+ghost use Rattle.ht_net.specs.Silence.{Sealed, Silent};
 ghost use Rattle.ht_tree.specs.declared.token.Assign3.{Assign3};
 ghost use Rattle.ht_tree.specs.declared.token.Token.{Token};
 ghost use Rattle.ht_tree.specs.declared.window.Status.TheVariants.{Open};

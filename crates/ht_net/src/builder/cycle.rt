@@ -1,7 +1,7 @@
 // The names of a cycle of gates.
 ghost use Rattle.std.specs.Prelude.{◌<◌, ◌+◌, length, IfOk};
 ghost use Rattle.ht_net.specs.Built.{draft_gates, AllDriven};
-ghost use Rattle.ht_net.specs.Cycle.{IsCycle};
+ghost use Rattle.ht_net.specs.Cycle.{IsGateCycle};
 ghost use Rattle.ht_net.specs.Rotate.{IsLeastFirst};
 ghost use Rattle.ht_net.specs.Finish.{IsNameCycle, BeginsWithLeast};
 
@@ -13,7 +13,7 @@ impl Builder {
     /// The names that the gates of a cycle drive, the least first.
     pub(super) fn cycle_names(&self, gates: &[u32]) -> Result<Vec<NameId>, AllocError>
         requires driven { AllDriven self.now }
-        requires cycle { IsCycle (length self.now.inputs + length self.now.dffs)
+        requires cycle { IsGateCycle (length self.now.inputs + length self.now.dffs)
             (draft_gates self.now) gates.now }
         ensures cycle { IfOk result (λ names. IsNameCycle self.now names.items) }
         ensures least { IfOk result (λ names. BeginsWithLeast names.items) }

@@ -5,14 +5,15 @@ ghost use Rattle.ht_net.specs.declared.names.NameId.{NameId};
 ghost use Rattle.ht_net.specs.Netlist.{IsCircuit};
 ghost use Rattle.ht_net.specs.Named.{named_of};
 ghost use Rattle.ht_net.specs.Draft.{IsDriven, IsName, no_name, driven_names, latch_names, gate_names};
-ghost use Rattle.ht_net.specs.Built.{net_of, draft_gates, circuit_of, named_draft, AllDriven, IsFirstUndriven};
-ghost use Rattle.ht_net.specs.WalkFault.{IsWalkFault};
+ghost use Rattle.ht_net.specs.Built.{net_of, draft_gates, circuit_of, named_draft, AllDriven, IsLeastUndriven};
+ghost use Rattle.ht_net.specs.Cycle.{IsLevelError};
 ghost use Rattle.ht_net.specs.Finish.{RefusesFinish};
 
 use super::{Builder, Driver};
 use crate::gates::Gates;
-use crate::levels::WalkError;
+use crate::levels::LevelError;
 use crate::{Circuit, NameId, NetError, NetId};
+use ht_items::Items;
 use std::alloc::{AllocError, AllocFailed, Global};
 
 impl Builder {
@@ -32,17 +33,17 @@ impl Builder {
         }
         match self.circuit() {
             Ok(circuit) => Ok(circuit),
-            Err(WalkError::NoMemory) => Err(NetError::NoMemory),
-            Err(WalkError::Cycle(gates)) => match self.cycle_names(&gates) {
-                Ok(nets) => Err(NetError::Loop { nets }),
-                Err(_) => Err(NetError::NoMemory),
-            },
+            Err(LevelError::NoMemory) => Err(NetError::NoMemory),
+            Err(LevelError::Cycle(gates)) => {
+                let nets = Items::from_vec(self.cycle_names(&gates)?);
+                Err(NetError::Loop { nets })
+            }
         }
     }
 
     /// The first name that nothing drives.
     fn first_undriven(&self) -> Option<NameId>
-        ensures found { IfSome result (IsFirstUndriven self.now) }
+        ensures found { IfSome result (IsLeastUndriven self.now) }
         ensures none { IfNone result (AllDriven self.now) }
     {
         for place in 0..self.names.len() as u32 {
@@ -55,13 +56,13 @@ impl Builder {
     }
 
     /// The circuit, or gates that form a cycle.
-    fn circuit(&self) -> Result<Circuit, WalkError>
+    fn circuit(&self) -> Result<Circuit, LevelError>
         requires driven { AllDriven self.now }
         ensures circuit { IfOk result (λ c. c ≡ circuit_of self.now) }
         ensures well_formed { IfOk result (λ c. IsCircuit c) }
         ensures named { IfOk result (λ c. named_of c ≡ named_draft self.now) }
-        ensures fault { IfErr result
-            (IsWalkFault (length self.now.inputs + length self.now.dffs) (draft_gates self.now)) }
+        ensures error { IfErr result
+            (IsLevelError (length self.now.inputs + length self.now.dffs) (draft_gates self.now)) }
     {
         let inputs = self.inputs.len() as u32;
         let dffs = self.data_nets()?;

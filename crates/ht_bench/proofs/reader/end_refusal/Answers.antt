@@ -27,27 +27,27 @@ returns-in_ok-name-in-Undriven c =
 pub names_of-requires : goal.names_of-requires
 names_of-requires c =
     let refused = rw c.in-Loop.is at c.requires.refused in
-    known_nets c.args.text.now c.args.table.now.builder c.requires.read c.in-Loop.nets.items refused.1
-    c.deref-in-Loop.result.now c.deref.result.now c.args.table.now.names.items
-    c.deref-in-Loop.ensures.value c.deref.ensures.value c.requires.names
+    known_nets c.args.text.now c.args.table.now.builder c.requires.read c.in-Loop.nets refused.1
+    c.as_slice.result.now c.deref.result.now c.args.table.now.names.items
+    c.as_slice.ensures c.deref.ensures.value c.requires.names
 
 pub first_line-requires-in-Loop-clause-has : goal.first_line-requires-in-Loop-clause-has
 first_line-requires-in-Loop-clause-has c =
     let refused = rw c.in-Loop.is at c.requires.refused in
     let names = copied_names c.args.table.now.builder c.deref.result.now c.args.table.now.names.items
-    c.in-Loop.nets.items c.deref-in-Loop.result.now (texts_in c.in_ok-names-in-Loop.names.items)
-    c.in_ok-names-in-Loop.ensures c.deref.ensures.value c.requires.names c.deref-in-Loop.ensures.value in
-    first_is_driven c.args.text.now c.args.table.now.builder c.requires.read c.in-Loop.nets.items refused.1
-    c.in_ok-names-in-Loop.names.items c.index.result.now c.deref-in-Loop-2.result.now refused.0 refused.2 names
-    c.index.ensures c.deref-in-Loop-2.ensures.value
+    c.in-Loop.nets c.as_slice.result.now (texts_in c.in_ok-names-in-Loop.names.items)
+    c.in_ok-names-in-Loop.ensures c.deref.ensures.value c.requires.names c.as_slice.ensures in
+    first_is_driven c.args.text.now c.args.table.now.builder c.requires.read c.in-Loop.nets refused.1
+    c.in_ok-names-in-Loop.names.items c.index.result.now c.deref-in-Loop.result.now refused.0 refused.2 names
+    c.index.ensures c.deref-in-Loop.ensures.value
 
 pub returns-in_ok-line-in-Loop : goal.returns-in_ok-line-in-Loop
 returns-in_ok-line-in-Loop c =
     let refused = rw c.in-Loop.is at c.requires.refused in
     let names = copied_names c.args.table.now.builder c.deref.result.now c.args.table.now.names.items
-    c.in-Loop.nets.items c.deref-in-Loop.result.now (texts_in c.in_ok-names-in-Loop.names.items)
-    c.in_ok-names-in-Loop.ensures c.deref.ensures.value c.requires.names c.deref-in-Loop.ensures.value in
-    loop_found c.args.text.now c.args.table.now.builder c.requires.read c.in-Loop.nets.items refused.1
-    c.in_ok-names-in-Loop.names.items c.index.result.now c.deref-in-Loop-2.result.now refused.0 refused.2 names
-    c.index.ensures c.deref-in-Loop-2.ensures.value
+    c.in-Loop.nets c.as_slice.result.now (texts_in c.in_ok-names-in-Loop.names.items)
+    c.in_ok-names-in-Loop.ensures c.deref.ensures.value c.requires.names c.as_slice.ensures in
+    loop_found c.args.text.now c.args.table.now.builder c.requires.read c.in-Loop.nets refused.1
+    c.in_ok-names-in-Loop.names.items c.index.result.now c.deref-in-Loop.result.now refused.0 refused.2 names
+    c.index.ensures c.deref-in-Loop.ensures.value
     c.in_ok-line-in-Loop.line c.in_ok-line-in-Loop.ensures

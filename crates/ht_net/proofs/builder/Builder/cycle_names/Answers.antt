@@ -4,7 +4,7 @@ use Rattle.ht_net.specs.declared.names.NameId.{NameId}
 use Rattle.ht_net.specs.Draft.{Draft, no_part}
 use Rattle.ht_net.specs.DraftOf.{draft_of}
 use Rattle.ht_net.specs.Built.{draft_gates, AllDriven}
-use Rattle.ht_net.specs.Cycle.{IsCycle}
+use Rattle.ht_net.specs.Cycle.{IsGateCycle}
 use Rattle.ht_net.specs.Finish.{IsNameCycle}
 use Rattle.ht_net.proofs.RotateLaws.{least_cycle_ok, least_begins_ok}
 use Rattle.ht_net.proofs.CircuitLaws.{name_cycle}
@@ -15,9 +15,9 @@ returns c =
     let i = c.self.invariant in
     let all : AllDriven (draft_of c.self.inside) = subst (λ (d : Draft). AllDriven d) (sym c.self.view_is)
     c.requires.driven in
-    let cycle : IsCycle (length c.self.inside.inputs.items + length c.self.inside.dffs.items)
+    let cycle : IsGateCycle (length c.self.inside.inputs.items + length c.self.inside.dffs.items)
     (draft_gates (draft_of c.self.inside)) c.args.gates.now =
-    subst (λ (d : Draft). IsCycle (length d.inputs + length d.dffs) (draft_gates d) c.args.gates.now)
+    subst (λ (d : Draft). IsGateCycle (length d.inputs + length d.dffs) (draft_gates d) c.args.gates.now)
     (sym c.self.view_is) c.requires.cycle in
     let whole : take c.loop-gate.gate-index c.args.gates.now ≡ c.args.gates.now = take_all c.loop-gate.gate-index
     c.args.gates.now (search rules) in

@@ -2,7 +2,7 @@ use Rattle.std.proofs.Common.{rules, ◌≡◌, ℕ, ◌<◌, ◌+◌, ◌++◌,
 use Rattle.std.proofs.Math.ListN.{set}
 use Rattle.std.proofs.lemmas.Bool.{false≢true}
 use Rattle.std.proofs.lemmas.List.{length_push, length-set, length-map, map-append}
-use Rattle.ht_net.specs.declared.draft.DffPart.{DffPart}
+use Rattle.ht_net.specs.declared.draft.DraftDff.{DraftDff}
 use Rattle.ht_net.specs.declared.builder.Driver.{Driver}
 use Rattle.ht_net.specs.declared.builder.Driver.TheVariants.{Free, Input, Dff, Gate}
 use Rattle.ht_net.specs.Draft.{Draft, IsDraft, IsDriven}
@@ -11,16 +11,16 @@ use Rattle.ht_net.proofs.DriverLaws.{not_driven_free, agrees_push, agrees_other,
 use Rattle.ht_net.proofs.DraftLaws.{draft_dff_added}
 use Rattle.ht_net.proofs.builder.Builder.dff.Goals as goal
 
-agrees_at : (dffs old : List DffPart) (f : DffPart) (place : ℕ) (drivers : List Driver) → dffs ≡ old ++ f ∷ [] → place
+agrees_at : (dffs old : List DraftDff) (f : DraftDff) (place : ℕ) (drivers : List Driver) → dffs ≡ old ++ f ∷ [] → place
     ≡ length old → f.out.0 < length drivers → get_or drivers f.out.0 Free ≡ Free
-    → Agrees (map (λ (g : DffPart). g.out) old) Dff drivers → Agrees (map (λ (g : DffPart). g.out) dffs) Dff
+    → Agrees (map (λ (g : DraftDff). g.out) old) Dff drivers → Agrees (map (λ (g : DraftDff). g.out) dffs) Dff
     (set drivers f.out.0 (Dff place))
 agrees_at dffs old f place drivers e at inside free h =
-    let outs : map (λ (g : DffPart). g.out) dffs ≡ map (λ (g : DffPart). g.out) old ++ f.out
-    ∷ [] = ap (λ (l : List DffPart). map (λ (g : DffPart). g.out) l) e ∙ map-append (λ (g : DffPart). g.out) old
+    let outs : map (λ (g : DraftDff). g.out) dffs ≡ map (λ (g : DraftDff). g.out) old ++ f.out
+    ∷ [] = ap (λ (l : List DraftDff). map (λ (g : DraftDff). g.out) l) e ∙ map-append (λ (g : DraftDff). g.out) old
     (f ∷ []) in
-    let same : place ≡ length (map (λ (g : DffPart). g.out) old) = at ∙ sym (length-map old (λ (g : DffPart). g.out)) in
-    rw (outs, same) (agrees_push (map (λ (g : DffPart). g.out) old) Dff drivers f.out inside free dff_some dff_one h)
+    let same : place ≡ length (map (λ (g : DraftDff). g.out) old) = at ∙ sym (length-map old (λ (g : DraftDff). g.out)) in
+    rw (outs, same) (agrees_push (map (λ (g : DraftDff). g.out) old) Dff drivers f.out inside free dff_some dff_one h)
 
 pub invariant_of-self-2 : goal.invariant_of-self-2
 invariant_of-self-2 c =
@@ -36,13 +36,13 @@ invariant_of-self-2 c =
     let free : get_or c.self.inside.drivers.items c.args.out.0 Free ≡ Free = not_driven_free (draft_of c.self.inside)
     c.self.inside.drivers.items c.args.out _ i.inputs i.dffs i.gates refl not_driven in
     let place : c.len-place.result ≡ length c.self.inside.dffs.items = search rules in
-    let part : DffPart = record { out = c.args.out; data_pin = c.args.pin } in
+    let part : DraftDff = record { out = c.args.out; data_pin = c.args.pin } in
     let dffs : c.push.new.self.items ≡ c.self.inside.dffs.items ++ record { out = c.args.out; data_pin = c.args.pin }
     ∷ [] = search rules in
-    let n : length c.push.new.self.items ≡ length c.self.inside.dffs.items + 1 = ap (λ (l : List DffPart). length l)
+    let n : length c.push.new.self.items ≡ length c.self.inside.dffs.items + 1 = ap (λ (l : List DraftDff). length l)
     dffs ∙ length_push c.self.inside.dffs.items part in
     record {
-      draft = subst (λ (l : List DffPart). IsDraft (record (draft_of c.self.inside) { dffs = l })) (sym dffs)
+      draft = subst (λ (l : List DraftDff). IsDraft (record (draft_of c.self.inside) { dffs = l })) (sym dffs)
           (draft_dff_added (draft_of c.self.inside) part i.draft pin
           (omega (arith, i.pins, i.draft.few_pins, c.if-self-eq-MAX_PINS.false))
           (omega (arith, i.draft.few_dffs, place, c.if-place-eq-MAX_DFFS.false)));

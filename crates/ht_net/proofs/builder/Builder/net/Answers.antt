@@ -3,11 +3,17 @@ use Rattle.std.proofs.lemmas.List.{length_push}
 use Rattle.ht_net.specs.declared.names.NameId.{NameId}
 use Rattle.ht_net.specs.declared.builder.Driver.{Driver}
 use Rattle.ht_net.specs.declared.builder.Driver.TheVariants.{Free}
-use Rattle.ht_net.specs.Draft.{IsDraft}
+use Rattle.ht_net.specs.Names.{IsNewName}
+use Rattle.ht_net.specs.Draft.{Draft, IsDraft}
 use Rattle.ht_net.specs.DraftOf.{Agrees, free_count, draft_of}
 use Rattle.ht_net.proofs.DriverLaws.{agrees_free, free_push}
 use Rattle.ht_net.proofs.DraftLaws.{draft_name_added}
 use Rattle.ht_net.proofs.builder.Builder.net.Goals as goal
+
+draft_with : (d : Draft) (names : List (List ℕ)) (name : List ℕ) → names ≡ d.names ++ name ∷ [] → IsDraft d
+    → IsNewName d.names name → length d.names < 65535 → IsDraft (record d { names = names })
+draft_with d names name e is new fits = subst (λ (l : List (List ℕ)). IsDraft (record d { names = l })) (sym e)
+    (draft_name_added d name is new fits)
 
 pub invariant_of-self-else-is_err-2 : goal.invariant_of-self-else-is_err-2
 invariant_of-self-else-is_err-2 c =
@@ -22,11 +28,9 @@ invariant_of-self-else-is_err-2 c =
     + 1 = ap (λ (l : List Driver). length l) drivers ∙ length_push c.self.inside.drivers.items Free in
     let longer : length c.push-2.new.self ≡ length c.self.inside.names + 1 = ap (λ (l : List (List ℕ)). length l) names
     ∙ length_push c.self.inside.names c.args.name.now in
-    let fits : length c.self.inside.names < 65535 = omega
-    (arith, i.draft.few_names, c.len-place.ensures, c.if-place-eq-MAX_NETS.false) in
     record {
-      draft = subst (λ (l : List (List ℕ)). IsDraft (record (draft_of c.self.inside) { names = l })) (sym names)
-          (draft_name_added (draft_of c.self.inside) c.args.name.now i.draft c.in_default.ensures.none fits);
+      draft = draft_with (draft_of c.self.inside) c.push-2.new.self c.args.name.now names i.draft
+          c.in_default.ensures.none (omega (arith, i.draft.few_names, c.len-place.ensures, c.if-place-eq-MAX_NETS.false));
       count = omega (arith, more, longer, i.count);
       pins = i.pins;
       all = omega (arith, ap free_count drivers, free_push c.self.inside.drivers.items, longer, i.all);
@@ -34,3 +38,10 @@ invariant_of-self-else-is_err-2 c =
       dffs = free _ _ i.dffs;
       gates = free _ _ i.gates;
     }
+
+pub returns-clause-draft : goal.returns-clause-draft
+returns-clause-draft c =
+    let i = c.self.invariant in
+    let names : c.push-2.new.self ≡ c.self.inside.names ++ c.args.name.now ∷ [] = search rules in
+    draft_with (draft_of c.self.inside) c.push-2.new.self c.args.name.now names i.draft c.in_default.ensures.none
+    (omega (arith, i.draft.few_names, c.len-place.ensures, c.if-place-eq-MAX_NETS.false))

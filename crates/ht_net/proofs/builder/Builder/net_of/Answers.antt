@@ -2,7 +2,7 @@ use Rattle.std.proofs.Common.{rules, ◌≡◌, ℕ, ◌<◌, ◌+◌, length, a
 use Rattle.std.proofs.lemmas.List.{get_or_read, length-map}
 use Rattle.ht_net.specs.declared.net.NetId.{NetId}
 use Rattle.ht_net.specs.declared.builder.Driver.TheVariants.{Free}
-use Rattle.ht_net.specs.declared.draft.DffPart.{DffPart}
+use Rattle.ht_net.specs.declared.draft.DraftDff.{DraftDff}
 use Rattle.ht_net.specs.Draft.{Draft, IsDriven}
 use Rattle.ht_net.specs.DraftOf.{draft_of}
 use Rattle.ht_net.specs.Built.{net_of}
@@ -56,7 +56,7 @@ returns-in-Gate c =
     driven in
     let inputs : c.len-inputs.result ≡ length c.self.inside.inputs.items = search rules in
     let dffs : c.len-dffs.result ≡ length c.self.inside.dffs.items = search rules in
-    let n = length-map c.self.inside.dffs.items (λ (f : DffPart). f.out) in
+    let n = length-map c.self.inside.dffs.items (λ (f : DraftDff). f.out) in
     let is : (net_of (draft_of c.self.inside) c.args.name).0 ≡ c.len-inputs.result + c.len-dffs.result + c.in-Gate.g =
     net ∙ (ap (driver_net (draft_of c.self.inside)) (sym read ∙ c.in-Gate.is) ∙ omega (arith, inputs, dffs, n)) in
     same_net _ (draft_of c.self.inside) _ is ∙ ap (λ (d : Draft). net_of d c.args.name) c.self.view_is

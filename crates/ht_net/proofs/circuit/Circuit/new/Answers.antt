@@ -4,7 +4,8 @@ use Rattle.ht_net.specs.Netlist.{Netlist, Gate, IsCircuit, IsOrder}
 use Rattle.ht_net.specs.Levels.{loads_among}
 use Rattle.ht_net.specs.GateLevels.{IsLevelled}
 use Rattle.ht_net.specs.Loads.{AreBelow}
-use Rattle.ht_net.specs.Sorted.{IsEach, IsRising}
+use Rattle.ht_net.specs.Lists.{IsEach}
+use Rattle.ht_net.specs.GateLevels.{IsRising}
 use Rattle.ht_net.specs.CircuitOf.{netlist_by}
 use Rattle.ht_net.proofs.LevelLaws.{circuit_by, levels_exact, level_order_by}
 use Rattle.ht_net.proofs.SortLaws.{order_by_levels}

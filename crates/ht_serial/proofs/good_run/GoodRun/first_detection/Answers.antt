@@ -3,8 +3,8 @@ use Rattle.std.specs.declared.alloc.Global.{Global}
 use Rattle.ht_tern.specs.declared.tern.Tern.{Tern}
 use Rattle.ht_net.specs.Detection.{tern_outputs}
 use Rattle.ht_net.specs.declared.place.Place.{Place}
-use Rattle.ht_net.specs.Silence.{Apart}
-use Rattle.ht_serial.proofs.ApartLaws.{detected_apart}
+use Rattle.ht_net.specs.Detection.{Apart}
+use Rattle.ht_net.proofs.ApartLaws.{detected_apart}
 use Rattle.ht_serial.specs.Places.{IsWithin}
 use Rattle.ht_serial.specs.GoodRunView.{GoodRunView}
 use Rattle.ht_serial.proofs.DetectionLaws.{next_is, shows, rows_count, row_at, frame_width, place_within, rows_detect, none_more, none_before, detects_inside}

@@ -8,8 +8,7 @@ use Rattle.ht_net.specs.Netlist.{Netlist}
 use Rattle.ht_net.specs.Frame.{run_outputs}
 use Rattle.ht_net.specs.Faults.{bool_rules}
 use Rattle.ht_tern.specs.Opposite.{Opposite}
-use Rattle.ht_net.specs.Detection.{terns_of, unknown_state, tern_outputs, output_at, Detects}
-use Rattle.ht_net.specs.Silence.{IsState, bit_at, Apart}
+use Rattle.ht_net.specs.Detection.{terns_of, unknown_state, tern_outputs, output_at, Detects, IsState, bit_at, Apart}
 use Rattle.ht_net.proofs.RelationLaws.{get_related}
 use Rattle.ht_net.proofs.FaultLaws.{run_bits}
 
