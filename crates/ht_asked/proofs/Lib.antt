@@ -1,8 +1,12 @@
+pub mod Uses
+pub mod Looks
 pub mod WalkIsRead
 pub mod Readable
-pub mod Operands
-pub mod Positionals
-pub mod SimByClap
-pub mod NormByClap
+pub mod PartLaws
+pub mod NameLaws
+pub mod UseLaws
+pub mod GivenLaws
+pub mod AppLaws
+pub mod FormByClap
 pub mod AskedByClap
 pub mod Answered

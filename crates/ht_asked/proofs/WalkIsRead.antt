@@ -16,15 +16,14 @@ use Rattle.clap.specs.declared.builder.value_parser.ValueParser.TheVariants as v
 use Rattle.clap.specs.declared.builder.value_parser.Reading.TheVariants as reading
 use Rattle.clap.specs.declared.parser.matches.ValueSource.TheVariants.{CommandLine}
 use Rattle.clap.specs.declared.error.kind.ErrorKind.TheVariants as kind
-use Rattle.ht_asked.specs.Uses.{Arguments, Use, add_use, has_use, Looks, looks, looks_by, read, read_option, read_positional, read_word}
-use Rattle.ht_asked.specs.Uses as look
+use Rattle.ht_asked.proofs.Uses.{Arguments, Use, add_use, has_use, Looks, looks, looks_by, read, read_option, read_positional, read_word}
+use Rattle.ht_asked.proofs.Uses as look
 
 -- what is free in an argument of ours
 pub record Param : Type 0 where
   pub id : Text
   pub long : Option Text
   pub index : Option ℕ
-  pub defaults : List Text
   pub required : Bool
 
 abbrev pub word : Param → Rule
@@ -33,7 +32,6 @@ word a = record (new_rule a.id) {
   index = a.index;
   action = Some Set;
   range = Some (record { start_inclusive = 1; end_inclusive = 1 });
-  defaults = a.defaults;
   parser = Some vp.String;
   required = a.required;
 }
@@ -59,6 +57,11 @@ has_row-rows id (u ∷ us) = ap (λ b. bytes_eq u.0 id || b) (has_row-rows id us
 
 true_is_false : true ≡ false → ⊥
 true_is_false h = cc
+
+-- what is refused stays so, whatever comes after
+pub still_refused : (k later : Kinds) → is_empty k ≡ false → is_empty (or_else k later) ≡ false
+still_refused [] later e = absurd (true_is_false e)
+still_refused (k ∷ ks) later e = e
 
 at_row_step : (b : Bool) (u : Use) (rest : List Row) (change : Row → List Row) (after missing : List Row) → b ≡ false
     → after ≡ rest ++ missing
@@ -203,18 +206,13 @@ module _ (name : Text) (c : List Rule) where
       (end_fault (fold (walked c []) (walked c [] w x) xs).held)))
       (Some (finished c (fold (walked c []) (walked c [] w x) xs).held)) None) none
 
-  fails_by : (k : Kinds) (a b : Kinds) (r : Option (List Row)) → is_empty k ≡ false
-      → cond (is_empty (or_else (or_else k a) b)) r None ≡ None
-  fails_by [] a b r e = absurd (true_is_false e)
-  fails_by (k ∷ ks) a b r e = ap (λ t. cond t r None) e
-
-  fails_late : (k a : Kinds) (r : Option (List Row)) → is_empty k ≡ false → cond (is_empty (or_else k a)) r None ≡ None
-  fails_late [] a r e = absurd (true_is_false e)
-  fails_late (k ∷ ks) a r e = ap (λ t. cond t r None) e
+  fails_late : (k later : Kinds) (r : Option (List Row)) → is_empty k ≡ false
+      → cond (is_empty (or_else k later)) r None ≡ None
+  fails_late k later r e = ap (λ t. cond t r None) (still_refused k later e)
 
   fails : (w : Walk) (x : Text) (xs : List Text) → is_empty (turn_fault s [] w x) ≡ false → answer w (x ∷ xs) ≡ None
   unfolding answer walk_fault
-  fails w x xs e = fails_by (turn_fault s [] w x) _ _ _ e
+  fails w x xs e = fails_late (or_else (turn_fault s [] w x) _) _ _ (still_refused (turn_fault s [] w x) _ e)
 
   -- ---- settling what is pending
 
@@ -296,11 +294,6 @@ module _ (name : Text) (c : List Rule) where
   and_then_none : (o : Option (List Use)) → option_and_then {U = List Use} (λ u. None) o ≡ None
   and_then_none None = refl
   and_then_none (Some u) = refl
-
-  and_then_twice : {X : Type 0} (f : List Use → Option (List Use)) (g : List Use → Option X) (o : Option (List Use))
-      → option_and_then (λ u. option_and_then g (f u)) o ≡ option_and_then g (option_and_then f o)
-  and_then_twice f g None = refl
-  and_then_twice f g (Some u) = refl
 
   min_is : (n : ℕ) → n ≤ usize_max → min n usize_max ≡ n
   min_is n fits = omega arith
@@ -430,15 +423,11 @@ module _ (name : Text) (c : List Rule) where
             ∙ ap (λ o. walk.after_step c x here (walk.short_or_plain c wt x o h).0 (walk.short_or_plain c wt x o h).1)
             no_short
 
-        late : (a b : Kinds) → is_empty a ≡ false → is_empty (or_else a b) ≡ false
-        late [] b e = absurd (true_is_false e)
-        late (y ∷ ys) b e = e
-
         turn_flags : (f : Text) → short_of x ≡ Some f → is_empty (bundle_fault c false f h) ≡ false
             → is_empty (turn_fault s [] here x) ≡ false
         turn_flags f short refused = ap is_empty turn_other ∙ ap
             (λ o. is_empty (or_else (option_map_or (λ flags. bundle_fault c false flags h) o [])
-            (step_fault s k (walk.short_or_plain c wt x o h).0 (walk.short_or_plain c wt x o h).1))) short ∙ late _ _
+            (step_fault s k (walk.short_or_plain c wt x o h).0 (walk.short_or_plain c wt x o h).1))) short ∙ still_refused _ _
             refused
 
   -- no option has a short name
@@ -577,10 +566,6 @@ module _ (name : Text) (c : List Rule) where
           (option_and_then (λ u. read_option o v k u (next args x xs us p k false)) (settle p us))) at ∙ ap
           (option_and_then finish) (and_then_none (settle p us)))
 
-    late_fault : (a b d : Kinds) → is_empty a ≡ false → is_empty (or_else (or_else a b) d) ≡ false
-    late_fault [] b d e = absurd (true_is_false e)
-    late_fault (y ∷ ys) b d e = e
-
     module _ (x : Text) (xs : List Text) (us : List Use) (p : Option Use) (k : ℕ)
         (no_end : bytes_eq x (45 ∷ 45 ∷ []) ≡ false) (n : Text) (a : Param)
         (found : arg_by_long c n ≡ Some (word a)) (at : args.option n ≡ Some a.id) where
@@ -590,8 +575,9 @@ module _ (name : Text) (c : List Rule) where
             → Reads x xs us p k no_end n (Some y) long
         refused none fault =
             fails (idle_at us p k false) x xs
-            (ap is_empty (option_turn x xs us p k no_end n (Some y) long (Some (word a)) found) ∙ late_fault
-            (settle_fault c false (held_at us p)) _ _ fault)
+            (ap is_empty (option_turn x xs us p k no_end n (Some y) long (Some (word a)) found) ∙ still_refused
+            (or_else (settle_fault c false (held_at us p)) _) _
+            (still_refused (settle_fault c false (held_at us p)) _ fault))
             ∙ sym (ap (λ o. option_and_then finish
             (option_and_then (λ u. read_option (args.option n) (Some y) k u (next args x xs us p k false)) o)) none)
 
@@ -637,14 +623,10 @@ module _ (name : Text) (c : List Rule) where
             → Reads x xs us p k no_end n None long
         late_refused none fault =
             fails (idle_at us p k false) x xs
-            (ap is_empty (option_turn x xs us p k no_end n None long (Some (word a)) found) ∙ late_one
-            (settle_fault c false (held_at us p)) fault)
+            (ap is_empty (option_turn x xs us p k no_end n None long (Some (word a)) found) ∙ still_refused
+            (settle_fault c false (held_at us p)) [] fault)
             ∙ sym (ap (λ o. option_and_then finish
             (option_and_then (λ u. read_option (args.option n) None k u (next args x xs us p k false)) o)) none)
-          where
-            late_one : (f : Kinds) → is_empty f ≡ false → is_empty (or_else f []) ≡ false
-            late_one [] e = absurd (true_is_false e)
-            late_one (z ∷ zs) e = e
 
         waits : (after : List Use) → settle p us ≡ Some after → settle_fault c false (held_at us p) ≡ []
             → (settled c (held_at us p)).rows ≡ rows after → IsKnown c a.id → Waits xs
@@ -728,10 +710,6 @@ module _ (name : Text) (c : List Rule) where
       wait_end x xs e = passes (waits_at id us k false) x xs (turn_end x wait_held (walk.option id) k refl e)
           ∙ ap (λ w. answer w xs) (walk_end x wait_held (walk.option id) k refl e) ∙ starved_ended xs
 
-      late_any : (a d : Kinds) → is_empty a ≡ false → is_empty (or_else a d) ≡ false
-      late_any [] d e = absurd (true_is_false e)
-      late_any (y ∷ ys) d e = e
-
       long_starves : (f : Option Rule) (v : Option Text) (id' : Option Text) → Finds c f id'
           → is_empty (long_fault c false f v wait_held) ≡ false
       long_starves f v id' finds = elim finds [
@@ -740,14 +718,14 @@ module _ (name : Text) (c : List Rule) where
       ]
         where
           by_value : (v : Option Text) (a : Param) → is_empty (long_fault c false (Some (word a)) v wait_held) ≡ false
-          by_value (Some y) a = late_any (settle_fault c false wait_held) _ starved
+          by_value (Some y) a = still_refused (settle_fault c false wait_held) _ starved
           by_value None a = starved
 
       wait_long : (x : Text) (xs : List Text) → bytes_eq x (45 ∷ 45 ∷ []) ≡ false → (q : Text × Option Text) → long_of x
           ≡ Some q → answer (waits_at id us k false) (x ∷ xs) ≡ None
       wait_long x xs e q long = fails (waits_at id us k false) x xs
           (ap is_empty (turn_long x wait_held (walk.option id) k refl e q long)
-          ∙ late_any (long_fault c false (arg_by_long c q.0) q.1 wait_held) _
+          ∙ still_refused (long_fault c false (arg_by_long c q.0) q.1 wait_held) _
           (long_starves (arg_by_long c q.0) q.1 (args.option q.0) (model.option q.0)))
 
       wait_flags : (x : Text) (xs : List Text) → IsReadable x → bytes_eq x (45 ∷ 45 ∷ []) ≡ false → long_of x ≡ None

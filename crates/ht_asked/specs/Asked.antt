@@ -1,9 +1,10 @@
 -- What the words of the command line ask for, in plain steps.
-use Rattle.std.specs.Prelude.{◌==◌, Bool, false, List, [], ◌∷◌, Option, Some, None, codes}
-use Rattle.std.specs.Prelude.{if◌then◌else◌, map, option_map, string_bytes, String}
+use Rattle.std.specs.Prelude.{List, [], ◌∷◌, Option, Some, None, codes, find, map, option_and_then}
+use Rattle.std.specs.Prelude.{String, string_bytes}
 use Rattle.std.specs.Global.{Global}
 use Rattle.std.specs.Str.{bytes_eq}
 use Rattle.clap.specs.Walk.{Text}
+use Rattle.ht_asked.specs.Forms.{Form, Given, given}
 
 -- the words as their bytes
 abbrev pub texts_of : List (String Global) → List Text
@@ -14,34 +15,51 @@ pub data Asked : Type 0 where
   sim : Text → Text → Text → Asked
   norm : Text → Text → Asked
 
--- the word would be an option: more stands behind a hyphen
-abbrev pub is_option : Text → Bool
-is_option (first ∷ second ∷ rest) = first == 45
-is_option _ = false
+-- a command: its name in lower case, the form of the words after it, and what they ask for
+pub record Command : Type 0 where
+  pub name : Text
+  pub form : Form
+  pub asks : Given → Option Asked
 
--- the operands of a command that has no options: all the words behind its name, none of them an option; the first `--`
--- is left out, and behind it each word is an operand
-unfoldable pub operands : List Text → Option (List Text)
-operands [] = Some []
-operands (word ∷ words) = if bytes_eq word (codes "--") then Some words
-    else (if is_option word then None else option_map (λ rest. word ∷ rest) (operands words))
-
--- `sim` has three operands: the netlist, the tests and the report
-abbrev pub sim_of : Option (List Text) → Option Asked
-sim_of (Some (netlist ∷ tests ∷ report ∷ [])) = Some (sim netlist tests report)
+-- `sim NETLIST TESTS REPORT`
+abbrev pub sim_of : List Text → Option Asked
+sim_of (netlist ∷ tests ∷ report ∷ []) = Some (sim netlist tests report)
 sim_of _ = None
 
--- `norm` has two: the netlist, and the normal netlist to write
-abbrev pub norm_of : Option (List Text) → Option Asked
-norm_of (Some (netlist ∷ out ∷ [])) = Some (norm netlist out)
+abbrev pub sim_command : Command
+sim_command = record {
+  name = codes "sim";
+  form = record {
+    positionals = codes "netlist" ∷ codes "tests" ∷ codes "report" ∷ [];
+    options = [];
+  };
+  asks = λ g. sim_of g.positionals;
+}
+
+-- `norm NETLIST OUT`
+abbrev pub norm_of : List Text → Option Asked
+norm_of (netlist ∷ out ∷ []) = Some (norm netlist out)
 norm_of _ = None
 
--- the first word names the command, in lower case
-abbrev pub asked_from : Text → List Text → Option Asked
-asked_from name words = if bytes_eq name (codes "sim") then sim_of (operands words)
-    else (if bytes_eq name (codes "norm") then norm_of (operands words) else None)
+abbrev pub norm_command : Command
+norm_command = record {
+  name = codes "norm";
+  form = record { positionals = codes "netlist" ∷ codes "out" ∷ []; options = [] };
+  asks = λ g. norm_of g.positionals;
+}
 
--- what the words ask for, where they have a command's form
+abbrev pub commands : List Command
+commands = sim_command ∷ norm_command ∷ []
+
+abbrev pub command_named : Text → Option Command
+command_named name = find (λ c. bytes_eq name c.name) commands
+
+-- what the words ask for, where the first names a command and each command's words are read so
+abbrev pub asked_in : (Command → List Text → Option Given) → List Text → Option Asked
+asked_in read [] = None
+asked_in read (name ∷ words) = option_and_then (λ c. option_and_then c.asks (read c words))
+    (command_named name)
+
+-- what the words ask for, where those after a command's name have its form
 unfoldable pub asked : List Text → Option Asked
-asked [] = None
-asked (name ∷ words) = asked_from name words
+asked words = asked_in (λ c. given c.form) words

@@ -1,11 +1,30 @@
 -- What the words of the command line ask for, by `clap`'s definition of each command.
-use Rattle.std.specs.Prelude.{Bool, List, [], ◌∷◌, Option, Some, None, codes, if◌then◌else◌, map, option_map}
-use Rattle.std.specs.Str.{bytes_eq}
-use Rattle.clap.specs.Walk.{Text, first_of, is_empty}
-use Rattle.clap.specs.Simple.{App, matches_of}
+use Rattle.std.specs.Prelude.{◌∷◌, ◌++◌, Bool, true, List, [], Option, Some, None, if◌then◌else◌}
+use Rattle.std.specs.Prelude.{map, option_and_then, option_map}
+use Rattle.clap.specs.Walk.{Rule, Text, first_of, is_empty}
+use Rattle.clap.specs.Simple.{App, matches_of, new_app, new_rule, on_top}
 use Rattle.clap.specs.Faults.{fault_of}
-use Rattle.ht_asked.specs.Definitions.{norm_app, norm_names, sim_app, sim_names}
-use Rattle.ht_asked.specs.Asked.{Asked, norm_of, sim_of}
+use Rattle.ht_asked.specs.Forms.{Form, Given}
+use Rattle.ht_asked.specs.Asked.{Asked, Command, asked_in}
+
+-- a command that takes no request for help or for a version
+abbrev pub app_named : Text → App
+app_named name =
+    on_top (λ s. record s { disable_help_flag = true; disable_version_flag = true }) (new_app name)
+
+-- a positional argument that has to be there
+abbrev pub wanted : Text → Rule
+wanted id = record (new_rule id) { required = true }
+
+-- an option of this name
+abbrev pub optional : Text → Rule
+optional id = record (new_rule id) { long = Some id }
+
+-- a command with these arguments: each by its own rule, the positionals first
+abbrev pub app_with : Text → Form → App
+app_with name form = on_top (λ s. record s {
+  rules = map wanted form.positionals ++ map optional form.options;
+}) (app_named name)
 
 -- `clap` takes the words
 abbrev pub is_taken : App → List Text → Bool
@@ -24,22 +43,23 @@ abbrev pub all_of : List (Option Text) → Option (List Text)
 all_of [] = Some []
 all_of (value ∷ rest) = all_with value (all_of rest)
 
--- the values of these arguments, where `clap` takes the words
-abbrev pub values_by_clap : App → List Text → List Text → Option (List Text)
-values_by_clap app ids words = if is_taken app words then all_of (map (value_of app words) ids) else None
+-- what these values give to the arguments of a form
+abbrev pub given_values : Form → (Text → Option Text) → Option Given
+given_values form value = option_map (λ texts. record {
+  positionals = texts;
+  options = map value form.options;
+}) (all_of (map value form.positionals))
 
--- what the words of a command ask for, by its definition
-unfoldable pub sim_by_clap : List Text → Option Asked
-sim_by_clap words = sim_of (values_by_clap sim_app sim_names words)
+-- what the words give to the form's arguments, where `clap` takes them; the first word is the command's name
+abbrev pub given_by_clap : App → Form → List Text → Option Given
+given_by_clap app form words =
+    if is_taken app words then given_values form (value_of app words) else None
 
-unfoldable pub norm_by_clap : List Text → Option Asked
-norm_by_clap words = norm_of (values_by_clap norm_app norm_names words)
-
-abbrev pub by_clap_from : Text → List Text → Option Asked
-by_clap_from name words = if bytes_eq name (codes "sim") then sim_by_clap words
-    else (if bytes_eq name (codes "norm") then norm_by_clap words else None)
+-- what the words ask for, where `clap` takes them by the definition of this command
+unfoldable pub command_by_clap : Command → List Text → Option Asked
+command_by_clap c words =
+    option_and_then c.asks (given_by_clap (app_with c.name c.form) c.form words)
 
 -- what all the words ask for: `clap` is given the command's name with them
 unfoldable pub asked_by_clap : List Text → Option Asked
-asked_by_clap [] = None
-asked_by_clap (name ∷ words) = by_clap_from name (name ∷ words)
+asked_by_clap words = asked_in (λ c rest. given_by_clap (app_with c.name c.form) c.form (c.name ∷ rest)) words

@@ -1,4 +1,4 @@
-pub mod Uses
-pub mod Definitions
+pub mod Forms
+pub mod Numbers
 pub mod Asked
 pub mod ByClap

@@ -1,16 +1,13 @@
 -- Jobs as what words ask for.
-use Rattle.std.specs.Prelude.{codes}
-use Rattle.clap.specs.Walk.{Text}
-use Rattle.ht_asked.specs.Asked.{Asked, norm, sim}
+use Rattle.ht_asked.specs.Asked.{Asked, Command, norm, norm_command, sim, sim_command}
 use Rattle.ht_words.specs.declared.job.Job.{Job}
 use Rattle.ht_words.specs.declared.job.Job.TheVariants as job
 use Rattle.ht_words.specs.declared.command_name.CommandName.{CommandName}
 use Rattle.ht_words.specs.declared.command_name.CommandName.TheVariants as name
 
--- the word that names the command
-abbrev pub spelling : CommandName → Text
-spelling name.Sim = codes "sim"
-spelling name.Norm = codes "norm"
+abbrev pub command_of : CommandName → Command
+command_of name.Sim = sim_command
+command_of name.Norm = norm_command
 
 -- what words ask for where they ask for the job
 abbrev pub asked_by : Job → Asked

@@ -1,20 +1,21 @@
-// The commands by their names.
-ghost use Rattle.std.specs.Prelude.{◌≡◌, ◌≢◌, IfSome, None};
-ghost use Rattle.ht_words.specs.Jobs.{spelling};
-ghost use Rattle.ht_words.specs.declared.command_name.CommandName.{CommandName};
+//! The commands by their names.
+ghost use Rattle.std.specs.Prelude.{◌≡◌, option_map};
+ghost use Rattle.ht_asked.specs.Asked.{command_named};
+ghost use Rattle.ht_words.specs.Jobs.{command_of};
 
 /// A command.
 #[derive(Clone, Copy, Debug, PartialEq, Eq)]
 pub enum CommandName {
+    /// `sim`.
     Sim,
+    /// `norm`.
     Norm,
 }
 
 impl CommandName {
     /// The command that the word names, in lower case.
     pub fn from_word(word: &str) -> Option<CommandName>
-        ensures named { IfSome result (λ name. word.now ≡ spelling name) }
-        ensures other { result ≡ None → (name : CommandName) → word.now ≢ spelling name }
+        ensures { option_map command_of result ≡ command_named word.now }
     {
         match word {
             "sim" => Some(CommandName::Sim),

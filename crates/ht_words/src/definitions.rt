@@ -1,12 +1,13 @@
-// One `clap` command for each command of the program.
+//! One `clap` command for each command of the program.
 ghost use Rattle.std.specs.Prelude.{◌≡◌, IfOk, false};
 ghost use Rattle.clap.specs.Words.{app_of, rule_of};
-ghost use Rattle.ht_asked.specs.Definitions.{app_named, norm_app, sim_app, wanted};
+ghost use Rattle.ht_asked.specs.Asked.{norm_command, sim_command};
+ghost use Rattle.ht_asked.specs.ByClap.{app_named, app_with, wanted};
 
 use clap::{Arg, Command};
 use std::alloc::{AllocError, Global};
 
-// A command that takes no request for help or for a version.
+/// A command that takes no request for help or for a version.
 fn plain_command<'a>(alloc: Global, name: &'a str) -> Command<'a>
     ensures { app_of result ≡ app_named name.entry.now }
 {
@@ -15,7 +16,7 @@ fn plain_command<'a>(alloc: Global, name: &'a str) -> Command<'a>
         .disable_version_flag(true)
 }
 
-// A positional argument that has to be there.
+/// A positional argument that has to be there.
 fn positional<'a>(alloc: Global, id: &'a str) -> Arg<'a>
     ensures rule { rule_of result ≡ wanted id.entry.now }
     ensures local { result.global ≡ false }
@@ -25,7 +26,7 @@ fn positional<'a>(alloc: Global, id: &'a str) -> Arg<'a>
 
 /// `sim NETLIST TESTS REPORT`.
 pub fn sim<'a>(alloc: Global) -> Result<Command<'a>, AllocError>
-    ensures { IfOk result (λ c. app_of c ≡ sim_app) }
+    ensures { IfOk result (λ c. app_of c ≡ app_with sim_command.name sim_command.form) }
 {
     plain_command(alloc, "sim")
         .arg(positional(alloc, "netlist"))?
@@ -35,7 +36,7 @@ pub fn sim<'a>(alloc: Global) -> Result<Command<'a>, AllocError>
 
 /// `norm NETLIST OUT`.
 pub fn norm<'a>(alloc: Global) -> Result<Command<'a>, AllocError>
-    ensures { IfOk result (λ c. app_of c ≡ norm_app) }
+    ensures { IfOk result (λ c. app_of c ≡ app_with norm_command.name norm_command.form) }
 {
     plain_command(alloc, "norm")
         .arg(positional(alloc, "netlist"))?

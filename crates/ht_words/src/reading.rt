@@ -1,8 +1,8 @@
-// From words to a job.
+//! From words to a job.
 ghost use Rattle.std.specs.Prelude.{◌≡◌, IfOk, None, Some, false, true};
 ghost use Rattle.clap.specs.Words.{app_of, first_of, found_of, is_simple_and_free, matches_of, rows_of};
-ghost use Rattle.ht_asked.specs.Asked.{asked, texts_of};
-ghost use Rattle.ht_asked.specs.ByClap.{asked_by_clap, is_taken, norm_by_clap, sim_by_clap};
+ghost use Rattle.ht_asked.specs.Asked.{asked, norm_command, sim_command, texts_of};
+ghost use Rattle.ht_asked.specs.ByClap.{asked_by_clap, command_by_clap, is_taken};
 ghost use Rattle.ht_words.specs.Jobs.{asked_by};
 ghost use Rattle.ht_words.specs.declared.job.WordsFault.TheVariants as fault;
 
@@ -14,11 +14,12 @@ use clap::error::ErrorKind;
 use clap::{ArgMatches, Command};
 use std::alloc::Global;
 
-/// The job that the words ask for: the words behind the program's name, of which the first names the command, in lower
+/// The job that the words ask for: the words after the program's name, of which the first names the command, in lower
 /// case.
 ///
 /// # Errors
-/// `Usage` only where the words have no command's form, and `NoMemory` for want of memory.
+/// - `Usage`: only where the words have no command's form.
+/// - `NoMemory`: out of memory.
 pub fn command(alloc: Global, words: &[String]) -> Result<Job, WordsFault>
     ensures usage { result ≡ Err fault.Usage → asked (texts_of words.now) ≡ None }
     ensures ok { IfOk result (λ job. asked (texts_of words.now) ≡ Some (asked_by job)) }
@@ -35,10 +36,12 @@ pub fn command(alloc: Global, words: &[String]) -> Result<Job, WordsFault>
     }
 }
 
-// The words of `sim`, with its name.
+/// The words of `sim`, with its name.
 fn sim(alloc: Global, words: &[String]) -> Result<Job, WordsFault>
-    ensures usage { result ≡ Err fault.Usage → sim_by_clap (texts_of words.now) ≡ None }
-    ensures ok { IfOk result (λ job. sim_by_clap (texts_of words.now) ≡ Some (asked_by job)) }
+    ensures usage { result ≡ Err fault.Usage
+        → command_by_clap sim_command (texts_of words.now) ≡ None }
+    ensures ok { IfOk result
+        (λ job. command_by_clap sim_command (texts_of words.now) ≡ Some (asked_by job)) }
 {
     let matches = matches_for(definitions::sim(alloc)?, words)?;
     Ok(Job::Sim {
@@ -48,10 +51,12 @@ fn sim(alloc: Global, words: &[String]) -> Result<Job, WordsFault>
     })
 }
 
-// The words of `norm`, with its name.
+/// The words of `norm`, with its name.
 fn norm(alloc: Global, words: &[String]) -> Result<Job, WordsFault>
-    ensures usage { result ≡ Err fault.Usage → norm_by_clap (texts_of words.now) ≡ None }
-    ensures ok { IfOk result (λ job. norm_by_clap (texts_of words.now) ≡ Some (asked_by job)) }
+    ensures usage { result ≡ Err fault.Usage
+        → command_by_clap norm_command (texts_of words.now) ≡ None }
+    ensures ok { IfOk result
+        (λ job. command_by_clap norm_command (texts_of words.now) ≡ Some (asked_by job)) }
 {
     let matches = matches_for(definitions::norm(alloc)?, words)?;
     Ok(Job::Norm {
@@ -60,7 +65,7 @@ fn norm(alloc: Global, words: &[String]) -> Result<Job, WordsFault>
     })
 }
 
-// What `clap` makes of the words.
+/// How `clap` reads the words.
 fn matches_for<'a>(command: Command<'a>, words: &'a [String]) -> Result<ArgMatches<'a>, WordsFault>
     requires { is_simple_and_free (app_of command) ≡ true }
     ensures usage { result ≡ Err fault.Usage → is_taken (app_of command.entry)
@@ -77,7 +82,7 @@ fn matches_for<'a>(command: Command<'a>, words: &'a [String]) -> Result<ArgMatch
     }
 }
 
-// The value of an argument.
+/// The value of an argument.
 fn value(alloc: Global, matches: &ArgMatches<'_>, id: &str) -> Result<FileName, WordsFault>
     ensures usage { result ≡ Err fault.Usage → first_of id.now (rows_of (found_of matches.now))
         ≡ None }

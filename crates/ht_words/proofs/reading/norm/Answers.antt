@@ -1,32 +1,34 @@
-use Rattle.std.proofs.Common.{◌∙◌, codes, rules}
+use Rattle.std.proofs.Common.{◌∙◌, ◌∷◌, [], codes, rules}
 use Rattle.clap.specs.Words.{app_of, first_of, found_of, rows_of}
-use Rattle.ht_asked.specs.Asked.{texts_of}
-use Rattle.ht_asked.proofs.Answered.{norm_answered, norm_from, norm_refused}
+use Rattle.ht_asked.specs.Asked.{norm_command, texts_of}
+use Rattle.ht_asked.proofs.Answered.{answered, asks_by, refused}
 use Rattle.ht_words.proofs.reading.norm.Goals as goal
 
 pub returns-in_err-matches-clause-usage : goal.returns-in_err-matches-clause-usage
 returns-in_err-matches-clause-usage c = λ e.
-    norm_refused (app_of c.in_ok-norm.field-0) (texts_of c.args.words.now) c.in_ok-norm.ensures
+    refused norm_command (app_of c.in_ok-norm.field-0) (texts_of c.args.words.now) c.in_ok-norm.ensures
     (c.matches_for.ensures.usage (search rules))
 
 pub returns-in_err-value-clause-usage : goal.returns-in_err-value-clause-usage
 returns-in_err-value-clause-usage c = λ e.
     let m = c.in_ok-matches in
     let rows = rows_of (found_of m.matches) in
-    norm_answered (app_of c.in_ok-norm.field-0) (texts_of c.args.words.now) c.in_ok-norm.ensures rows m.ensures.rows
+    answered norm_command (app_of c.in_ok-norm.field-0) (texts_of c.args.words.now) c.in_ok-norm.ensures rows m.ensures.rows
     m.ensures.taken
-    ∙ (λ i. norm_from (c.value.ensures.usage (search rules) i) (first_of (codes "out") rows))
+    ∙ (λ i. asks_by norm_command (c.value.ensures.usage (search rules) i ∷ first_of (codes "out") rows ∷ []) [])
 
 pub returns-in_err-value-2-clause-usage : goal.returns-in_err-value-2-clause-usage
 returns-in_err-value-2-clause-usage c = λ e.
     let m = c.in_ok-matches in
-    norm_answered (app_of c.in_ok-norm.field-0) (texts_of c.args.words.now) c.in_ok-norm.ensures
-    (rows_of (found_of m.matches)) m.ensures.rows m.ensures.taken
-    ∙ (λ i. norm_from (c.in_ok-value.ensures.ok i) (c.value-2.ensures.usage (search rules) i))
+    let rows = rows_of (found_of m.matches) in
+    answered norm_command (app_of c.in_ok-norm.field-0) (texts_of c.args.words.now) c.in_ok-norm.ensures rows m.ensures.rows
+    m.ensures.taken
+    ∙ (λ i. asks_by norm_command (c.in_ok-value.ensures.ok i ∷ c.value-2.ensures.usage (search rules) i ∷ []) [])
 
 pub returns-clause-ok : goal.returns-clause-ok
 returns-clause-ok c =
     let m = c.in_ok-matches in
-    norm_answered (app_of c.in_ok-norm.field-0) (texts_of c.args.words.now) c.in_ok-norm.ensures
-    (rows_of (found_of m.matches)) m.ensures.rows m.ensures.taken
-    ∙ (λ i. norm_from (c.in_ok-value.ensures.ok i) (c.in_ok-value-2.ensures.ok i))
+    let rows = rows_of (found_of m.matches) in
+    answered norm_command (app_of c.in_ok-norm.field-0) (texts_of c.args.words.now) c.in_ok-norm.ensures rows m.ensures.rows
+    m.ensures.taken
+    ∙ (λ i. asks_by norm_command (c.in_ok-value.ensures.ok i ∷ c.in_ok-value-2.ensures.ok i ∷ []) [])

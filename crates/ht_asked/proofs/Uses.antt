@@ -89,7 +89,3 @@ place_in ids (suc k) = slice_get ids k
 abbrev pub arguments : List Text → List Text → Arguments
 arguments ids options =
     record { at = place_in ids; option = λ name. find (λ n. bytes_eq n name) options }
-
--- the uses that the words behind the command's name make
-abbrev pub uses_of : List Text → List Text → List Text → Option (List Use)
-uses_of ids options words = read (arguments ids options) false None 1 [] words

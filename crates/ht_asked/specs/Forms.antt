@@ -1,0 +1,89 @@
+-- The form of a command's words, and what words of that form give.
+use Rattle.std.specs.Prelude.{◌==◌, ◌&&◌, ◌∷◌, Bool, true, false, not, List, [], map, length, find}
+use Rattle.std.specs.Prelude.{Option, Some, None, codes, if◌then◌else◌, option_and_then, option_map}
+use Rattle.std.specs.List.{list_all, list_any}
+use Rattle.std.specs.Str.{bytes_eq}
+use Rattle.clap.specs.Lexer.{long_of}
+use Rattle.clap.specs.Walk.{Text}
+
+-- the names of the positionals, in their order and each of them wanted, and those of the options, each with one value
+pub record Form : Type 0 where
+  pub positionals : List Text
+  pub options : List Text
+
+-- the text of each positional, and that of each option or none, in the form's order
+pub record Given : Type 0 where
+  pub positionals : List Text
+  pub options : List (Option Text)
+
+-- a word that is a positional, or an option's name and value
+pub data Part : Type 0 where
+  positional : Text → Part
+  option : Text → Text → Part
+
+-- the word begins with a hyphen and has more after it: `-` is none
+abbrev pub is_option : Text → Bool
+is_option (first ∷ second ∷ rest) = first == 45
+is_option _ = false
+
+abbrev pub with_part : Part → Option (List Part) → Option (List Part)
+with_part part = option_map (λ parts. part ∷ parts)
+
+-- `--name=value` is an option, and `--name` is one with the next word; `-n` is none
+abbrev pub with_value : Text → Option Text → (Option Text → Option (List Part))
+    → Option (List Part)
+with_value name (Some value) rest = with_part (option name value) (rest None)
+with_value name None rest = rest (Some name)
+
+abbrev pub with_option : Option (Text × Option Text) → (Option Text → Option (List Part))
+    → Option (List Part)
+with_option None rest = None
+with_option (Some named) rest = with_value named.0 named.1 rest
+
+-- the parts of the words, where the option of this name waits for its value: no value looks like an option, and after
+-- the first `--`, which is left out, each word is a positional
+unfoldable pub parts : Option Text → List Text → Option (List Part)
+parts None [] = Some []
+parts (Some name) [] = None
+parts None (word ∷ words) = if bytes_eq word (codes "--") then Some (map positional words)
+    else (if is_option word then with_option (long_of word) (λ waiting. parts waiting words)
+    else with_part (positional word) (parts None words))
+parts (Some name) (word ∷ words) = if is_option word then None
+    else with_part (option name word) (parts None words)
+
+abbrev pub positionals_of : List Part → List Text
+positionals_of [] = []
+positionals_of (positional word ∷ rest) = word ∷ positionals_of rest
+positionals_of (option name value ∷ rest) = positionals_of rest
+
+abbrev pub options_of : List Part → List (Text × Text)
+options_of [] = []
+options_of (positional word ∷ rest) = options_of rest
+options_of (option name value ∷ rest) = (name, value) ∷ options_of rest
+
+abbrev pub is_among : Text → List Text → Bool
+is_among name = list_any (λ other. bytes_eq other name)
+
+abbrev pub all_differ : List Text → Bool
+all_differ [] = true
+all_differ (name ∷ names) = not (is_among name names) && all_differ names
+
+-- the value after the name, where there is one
+abbrev pub text_of : Text → List (Text × Text) → Option Text
+text_of name options = option_map (λ o. o.1) (find (λ o. bytes_eq o.0 name) options)
+
+-- as many positionals as the form has, and options of its own alone, none of them twice
+abbrev pub has_form : Form → List Part → Bool
+has_form form parts = length (positionals_of parts) == length form.positionals
+    && (list_all (λ o. is_among o.0 form.options) (options_of parts)
+    && all_differ (map (λ o. o.0) (options_of parts)))
+
+abbrev pub given_by : Form → List Part → Option Given
+given_by form parts = if has_form form parts then Some (record {
+  positionals = positionals_of parts;
+  options = map (λ name. text_of name (options_of parts)) form.options;
+}) else None
+
+-- what the words after a command's name give, where they have the form
+unfoldable pub given : Form → List Text → Option Given
+given form words = option_and_then (given_by form) (parts None words)
