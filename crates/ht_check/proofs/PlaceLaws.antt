@@ -2,7 +2,7 @@
 use Rattle.std.proofs.Common.{◌≡◌, ◌<◌, ◌+◌, ℕ, suc, List, [], ◌∷◌, ◌++◌, map, Bool, true, false, not, ◌||◌, cond, Option, Some, None, length, get_or, refl, sym, ◌∙◌, ap, arith}
 use Rattle.std.specs.List.{find, filter, list_any, list_all, range_with_len}
 use Rattle.std.proofs.lemmas.List.{append-nil}
-use Rattle.ht_pairs.specs.Pairs.{Pair}
+use Rattle.ht_pairs.specs.Pairs.{differs, Pair}
 use Rattle.ht_net.specs.declared.net.NetId.{NetId}
 use Rattle.ht_net.specs.declared.fault.Fault.{Fault}
 use Rattle.ht_net.specs.Netlist.{Netlist, no_net}
@@ -12,7 +12,7 @@ use Rattle.ht_tree.specs.declared.window.Spot.TheVariants.{Output, State}
 use Rattle.ht_tree.specs.declared.window.WindowPlace.{WindowPlace}
 use Rattle.ht_tree.specs.Decisions.{is_in}
 use Rattle.ht_tree.specs.Windows.{one_frame, one_frame_window, pair_set_rules, cell_at}
-use Rattle.ht_tree.specs.Places.{differs, set_at, output_places, state_places, places_of, must_differ_at, may_differ_at}
+use Rattle.ht_tree.specs.Places.{set_at, output_places, state_places, places_of, must_differ_at, may_differ_at}
 use Rattle.ht_tree.specs.WindowStatus.{sure_or, status_at, without_place}
 use Rattle.ht_check.specs.Shown.{shown_by, shown_status, outside_marks}
 

@@ -1,10 +1,9 @@
 -- What places show: whether one must differ, and whether one may.
 use Rattle.std.specs.Prelude.{List, [], ◌∷◌, Bool, true, false, ◌||◌, if◌then◌else◌}
 use Rattle.std.specs.List.{list_any, list_all}
-use Rattle.ht_pairs.specs.Pairs.{Pair}
+use Rattle.ht_pairs.specs.Pairs.{differs, Pair}
 use Rattle.ht_tree.specs.declared.token.Status3.{Status3}
 use Rattle.ht_tree.specs.declared.token.Status3.TheVariants.{Dead, Sure, Open}
-use Rattle.ht_tree.specs.Places.{differs}
 use Rattle.ht_check.specs.declared.places.Shown.{Shown}
 
 abbrev pub shown_by : List (List Pair) → Shown

@@ -2,11 +2,10 @@
 ghost use Rattle.std.specs.Prelude.{◌≡◌, [], ◌∷◌, length};
 ghost use Rattle.std.specs.List.{list_any, list_all};
 ghost use Rattle.ht_tern.specs.declared.tern.Tern.TheVariants.{Unk};
-ghost use Rattle.ht_pairs.specs.Pairs.{pair};
+ghost use Rattle.ht_pairs.specs.Pairs.{differs, pair};
 ghost use Rattle.ht_net.specs.Netlist.{net_count};
 ghost use Rattle.ht_net.specs.Frame.{values_at};
 ghost use Rattle.ht_frame.specs.Values.{env_of};
-ghost use Rattle.ht_tree.specs.Places.{differs};
 ghost use Rattle.ht_check.specs.Shown.{either, outside_marks, shown_by, shown_status};
 
 use ht_net::Circuit;
@@ -36,8 +35,8 @@ impl Shown {
         ensures { result ≡ either self (shown_by (set ∷ [])) }
     {
         Shown {
-            must: self.must || must_differ(set),
-            may: self.may || may_differ(set),
+            must: self.must || set.must_differ(),
+            may: self.may || set.may_differ(),
         }
     }
 
@@ -63,20 +62,6 @@ impl Shown {
             Status3::Dead
         }
     }
-}
-
-/// Whether each member of a set differs.
-fn must_differ(set: PairSet) -> bool
-    ensures { result ≡ list_all differs set }
-{
-    set.must_differ()
-}
-
-/// Whether some member of a set differs.
-fn may_differ(set: PairSet) -> bool
-    ensures { result ≡ list_any differs set }
-{
-    set.may_differ()
 }
 
 /// What the outputs show.

@@ -5,3 +5,4 @@ pub mod OperationLaws
 pub mod FoldLaws
 pub mod SetLaws
 pub mod QueryLaws
+pub mod DifferLaws

@@ -4,9 +4,8 @@ use Rattle.std.proofs.lemmas.Bool.{agree_below_at, and_parts, or_cases, or_left,
 use Rattle.std.proofs.lemmas.Nat.Bits.{shr_and_one}
 use Rattle.ht_tern.specs.declared.tern.Tern.{Tern}
 use Rattle.ht_tern.specs.declared.tern.Tern.TheVariants.{Zero, One, Unk}
-use Rattle.ht_pairs.specs.Pairs.{Pair, pair, IsMember, MayDiffer, MustDiffer}
+use Rattle.ht_pairs.specs.Pairs.{Pair, pair, IsMember, differs, MayDiffer, MustDiffer}
 use Rattle.ht_pairs.specs.Decided.{each_pair}
-use Rattle.ht_tern.specs.Opposite.{are_opposite}
 use Rattle.ht_tern.proofs.OppositeLaws.{opposite_tested}
 use Rattle.ht_pairs.specs.Members.{holds, members_of, bits_of, bits_of-members_of, bit_of, tern_index}
 use Rattle.ht_pairs.proofs.PairTests.{each, each_gives, each_from, eq_bool, eq_bool-true}
@@ -87,9 +86,6 @@ may_tells n k =
         | inr e ↦ or_right (holds n (pair Zero One)) (holds n (pair One Zero)) (member_holds n (pair One Zero) e)
       ],
     )
-
-abbrev differs : Pair → Bool
-differs p = are_opposite p.good p.faulty
 
 implied : (b c : Bool) → (not b || c) ≡ true → b ≡ true → c ≡ true
 implied true c h k = h

@@ -1,7 +1,8 @@
 //! Sets of pairs: how one is made, what it may be asked, and the stuck line.
 ghost use Rattle.std.specs.Prelude.{◌≡◌, ◌+◌, ◌*◌, ◌<◌, ◌↔◌, IsTrue, [], ◌∷◌, length, Some, None};
+ghost use Rattle.std.specs.List.{list_all, list_any};
 ghost use Rattle.ht_tern.specs.declared.tern.Tern.TheVariants.{Zero, One, Unk};
-ghost use Rattle.ht_pairs.specs.Pairs.{IsMember, MayDiffer, MustDiffer, pair, stuck_set};
+ghost use Rattle.ht_pairs.specs.Pairs.{IsMember, MayDiffer, MustDiffer, differs, pair, stuck_set};
 ghost use Rattle.ht_pairs.specs.Members.{bit_of, tern_index};
 ghost use Rattle.ht_pairs.specs.Decided.{each_pair, same_pairs};
 
@@ -199,7 +200,8 @@ impl PairSet {
     /// Whether some member has opposite definite values.
     #[tactic(auto, using(crate::proofs::QueryLaws::may_differ_tells))]
     pub fn may_differ(self) -> bool
-        ensures { IsTrue result ↔ MayDiffer self }
+        ensures some { IsTrue result ↔ MayDiffer self }
+        ensures value { result ≡ list_any differs self }
     {
         self.bits & OPPOSITE != 0
     }
@@ -208,6 +210,7 @@ impl PairSet {
     #[tactic(auto, using(crate::proofs::QueryLaws::must_differ_tells))]
     pub fn must_differ(self) -> bool
         ensures each { IsTrue result ↔ MustDiffer self }
+        ensures value { result ≡ list_all differs self }
         ensures nonempty { 0 < length self }
     {
         self.bits | OPPOSITE == OPPOSITE

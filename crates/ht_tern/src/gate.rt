@@ -65,31 +65,3 @@ pub fn eval(kind: Kind, args: &[Tern]) -> Tern
 {
     eval_over(kind, args)
 }
-
-#[cfg(test)]
-mod tests {
-    use super::*;
-    use crate::refines;
-    use Tern::{One, Unk, Zero};
-
-    /// Each kind with the arguments One and Unk, and with Zero and Unk (Kleene logic).
-    #[test]
-    fn tables(rt: HostRuntime) {
-        let rows = [
-            (Kind::And, Unk, Zero),
-            (Kind::Nand, Unk, One),
-            (Kind::Or, One, Unk),
-            (Kind::Nor, Zero, Unk),
-            (Kind::Xor, Unk, Unk),
-            (Kind::Xnor, Unk, Unk),
-        ];
-        for (kind, with_one, with_zero) in rows {
-            assert_eq!(&rt; eval(kind, &[One, Unk]), with_one);
-            assert_eq!(&rt; eval(kind, &[Zero, Unk]), with_zero);
-        }
-        assert_eq!(&rt; eval(Kind::Xor, &[One, One, One]), One);
-        assert_eq!(&rt; eval(Kind::Not, &[Unk]), Unk);
-        assert_eq!(&rt; eval(Kind::Buf, &[One]), One);
-        assert!(&rt; refines(One, Unk) && !refines(Unk, One));
-    }
-}

@@ -3,7 +3,7 @@ use Rattle.std.proofs.Common.{◌≡◌, ◌<◌, ◌+◌, ℕ, suc, zero, List,
 use Rattle.std.specs.Prelude.{flat_map}
 use Rattle.std.specs.List.{find, filter, list_any, list_all, range_with_len}
 use Rattle.std.proofs.lemmas.Bool.{ltb-true}
-use Rattle.ht_pairs.specs.Pairs.{Pair}
+use Rattle.ht_pairs.specs.Pairs.{differs, Pair}
 use Rattle.ht_tern.specs.declared.tern.Tern.{Tern}
 use Rattle.ht_net.specs.Netlist.{Netlist, IsCircuit, net_count}
 use Rattle.ht_net.specs.Faults.{is_data_pin}
@@ -17,7 +17,7 @@ use Rattle.ht_tree.specs.declared.token.Choice.{Choice}
 use Rattle.ht_tree.specs.declared.token.Choice.TheVariants.{Two, Three}
 use Rattle.ht_tree.specs.Decisions.{is_in}
 use Rattle.ht_tree.specs.Windows.{Start, one_frame, unknown, state_pair, back, SearchWindow, IsWindow, IsStart, cell_at, is_open_set}
-use Rattle.ht_tree.specs.Places.{differs, IsSpot, spot_net, set_at, output_places, state_places, places_of, must_differ_at, may_differ_at}
+use Rattle.ht_tree.specs.Places.{IsSpot, spot_net, set_at, output_places, state_places, places_of, must_differ_at, may_differ_at}
 use Rattle.ht_tree.specs.WindowStatus.{sure_or, difference_status, is_definite, value_at, cube_latches, must_meet, may_meet, cube_status, status_from, status_at}
 use Rattle.ht_tree.specs.Variables.{IsLegalChoice, DecidesAll}
 use Rattle.ht_tree.specs.WalkBack.{walk_back, from_place, from_latch, wants_one, pick_from, pick_of, CanWalk}

@@ -1,8 +1,7 @@
 -- The places of a window: where a difference of the two machines counts, in order.
 use Rattle.std.specs.Prelude.{◌<◌, ℕ, List, [], ◌++◌, map, flat_map, filter, Bool, not, length, get_or}
 use Rattle.std.specs.List.{list_any, list_all, range_with_len}
-use Rattle.ht_tern.specs.Opposite.{are_opposite}
-use Rattle.ht_pairs.specs.Pairs.{Pair}
+use Rattle.ht_pairs.specs.Pairs.{Pair, differs}
 use Rattle.ht_net.specs.Netlist.{Netlist, no_net}
 use Rattle.ht_tree.specs.declared.token.Assign3.{Assign3}
 use Rattle.ht_tree.specs.declared.window.Spot.{Spot}
@@ -45,10 +44,6 @@ abbrev pub set_at : SearchWindow → List Assign3 → ℕ → Spot → List Pair
 set_at w path f (Output o) = cell_at w path f (spot_net w.circuit (Output o))
 set_at w path f (State j) = (pair_set_rules w.fault).data_pin j (cell_at w path f (spot_net w.circuit (State j)))
 set_at w path f Cube = []
-
--- the two halves of a pair are definite and opposite
-abbrev pub differs : Pair → Bool
-differs p = are_opposite p.good p.faulty
 
 -- a place holds only 01 and 10; a place holds 01 or 10
 abbrev pub must_differ_at : SearchWindow → List Assign3 → WindowPlace → Bool
