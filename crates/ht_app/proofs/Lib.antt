@@ -1,7 +1,9 @@
-pub mod TestLines
-pub mod Places
-pub mod OneReading
-pub mod Refusals
+pub mod VectorLineLaws
+pub mod ReportLaws
+pub mod OneReadingLaws
+pub mod RefusalLaws
+pub mod ChangedLaws
+pub mod PortsLaws
 pub mod CauseLaws
-pub mod CutLaws
+pub mod OutputLaws
 pub mod StatusLaws

@@ -4,7 +4,8 @@ use Rattle.std.specs.Option.{option_map}
 use Rattle.std.specs.Io.KnownBytes.{append_known}
 use Rattle.ht_ports.specs.Desk.{DeskView}
 use Rattle.ht_ports.specs.declared.ports.InPort.TheVariants.{Netlist}
-use Rattle.ht_ports.specs.declared.ports.OutPort.TheVariants.{Report, Out, Err}
+use Rattle.ht_ports.specs.declared.ports.OutPort.{OutPort}
+use Rattle.ht_ports.specs.declared.ports.OutPort.TheVariants.{Report, Out}
 use Rattle.ht_net.specs.declared.place.Place.{Place}
 use Rattle.ht_net.specs.Netlist as net
 use Rattle.ht_collapse.specs.Classes.{AreClasses}
@@ -15,7 +16,8 @@ use Rattle.ht_texts.specs.Tests.{IsTestText}
 use Rattle.ht_texts.specs.Verdicts.{saids_of}
 use Rattle.ht_texts.specs.Reports.{report_text, report_sums, total_line}
 use Rattle.ht_asked.specs.Asked.{Asked, sim, norm}
-use Rattle.ht_app.specs.Inputs.{IsInput, IsAccepted, AreInputs, AcceptsNetlist, AcceptsTests}
+use Rattle.ht_app.specs.Inputs.{IsInput, IsGoodNetlist, AreInputs, AcceptsInputs}
+use Rattle.ht_app.specs.Jobs.{output_name}
 
 -- ---- `sim`
 
@@ -26,42 +28,45 @@ pub record IsSimulated (netlist tests report total : List ℕ) : Type 0 where
   pub list : List (List Bool)
   pub representatives : List ℕ
   pub places : List (Option Place)
-  pub accepted : IsAccepted netlist circuit
+  pub accepted : IsGoodNetlist netlist circuit
   pub vectors : IsTestText circuit tests list
   pub classes : AreClasses circuit representatives
   pub detections : AreFirstDetections circuit representatives list places
   pub report_is : report ≡ report_text circuit representatives None (saids_of places)
   pub total_is : total ≡ with_lf (total_line (report_sums representatives None (saids_of places)))
 
--- The report stands under its name, the total line was added to Out, and Err is as it was.
-pub record SimDone (netlist_name tests_name report_name : List ℕ) (old new : DeskView) : Type 0 where
-  pub is_created : IsTrue (new.is_created Report)
-  pub named : new.named Report ≡ option_map (λ _. report_name) (old.named Report)
-  pub quiet : new.written Err ≡ old.written Err
-  pub inputs : AcceptsTests netlist_name tests_name old
-  pub texts : (netlist tests : List ℕ) → AreInputs netlist_name tests_name netlist tests old
-      → (report total : List ℕ) × IsSimulated netlist tests report total
-      × (new.written Report ≡ option_map (λ _. report) (old.written Report))
-      × (new.written Out ≡ append_known (old.written Out) total)
+-- ---- the output
 
--- ---- `norm`
+-- the report of the two files stands, and its total line was added to Out
+pub record HasReport (netlist tests : List ℕ) (old new : DeskView) : Type 0 where
+  pub report : List ℕ
+  pub total : List ℕ
+  pub simulated : IsSimulated netlist tests report total
+  pub stands : new.written Report ≡ option_map (λ _. report) (old.written Report)
+  pub said : new.written Out ≡ append_known (old.written Out) total
 
--- The normal text of the netlist's circuit stands under its name, nothing came out on Out, and Err is as it was.
-pub record NormDone (netlist_name out_name : List ℕ) (old new : DeskView) : Type 0 where
-  pub is_created : IsTrue (new.is_created Report)
-  pub named : new.named Report ≡ option_map (λ _. out_name) (old.named Report)
-  pub quiet : new.written Err ≡ old.written Err
-  pub nothing_out : new.written Out ≡ old.written Out
-  pub input : AcceptsNetlist netlist_name old
-  pub text : (netlist : List ℕ) → IsInput Netlist netlist_name netlist old
-      → (c : net.Netlist) × IsAccepted netlist c
-      × (new.written Report ≡ option_map (λ _. normal_text c) (old.written Report))
+-- the normal text of the netlist's circuit stands
+pub record HasNormalText (netlist : List ℕ) (old new : DeskView) : Type 0 where
+  pub circuit : net.Netlist
+  pub good : IsGoodNetlist netlist circuit
+  pub stands : new.written Report ≡ option_map (λ _. normal_text circuit) (old.written Report)
 
--- ---- each command
+abbrev pub HasOutput : Asked → DeskView → DeskView → Type 0
+HasOutput (sim netlist_name tests_name report_name) old new = (netlist tests : List ℕ)
+    → AreInputs netlist_name tests_name netlist tests old → HasReport netlist tests old new
+HasOutput (norm netlist_name out_name) old new = (netlist : List ℕ) → IsInput Netlist netlist_name netlist old
+    → HasNormalText netlist old new
 
-abbrev pub IsDone : Asked → DeskView → DeskView → Type 0
-IsDone (sim netlist tests report) old new = SimDone netlist tests report old new
-IsDone (norm netlist out) old new = NormDone netlist out old new
+-- the port was created under this name
+pub record IsCreatedAs (port : OutPort) (name : List ℕ) (old new : DeskView) : Type 0 where
+  pub is_created : IsTrue (new.is_created port)
+  pub named : new.named port ≡ option_map (λ _. name) (old.named port)
+
+-- The inputs were accepted, and the output stands under the names that the job gives it.
+pub record IsDone (job : Asked) (old new : DeskView) : Type 0 where
+  pub inputs : AcceptsInputs job old
+  pub created : (port : OutPort) (name : List ℕ) → output_name job port ≡ Some name → IsCreatedAs port name old new
+  pub output : HasOutput job old new
 
 -- the words ask for a job, and it is done
 abbrev pub AskedIsDone : Option Asked → DeskView → DeskView → Type 0

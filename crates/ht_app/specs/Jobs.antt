@@ -1,30 +1,25 @@
--- The files of a job.
-use Rattle.std.specs.Prelude.{ℕ, List, [], Option, Some, None}
+-- The files of a job, port by port.
+use Rattle.std.specs.Prelude.{◌≡◌, ℕ, List, Option, Some, None}
 use Rattle.ht_ports.specs.Desk.{DeskView, Holds}
+use Rattle.ht_ports.specs.declared.ports.InPort.{InPort}
+use Rattle.ht_ports.specs.declared.ports.InPort.TheVariants.{Netlist, Tests}
+use Rattle.ht_ports.specs.declared.ports.OutPort.{OutPort}
+use Rattle.ht_ports.specs.declared.ports.OutPort.TheVariants.{Report}
 use Rattle.ht_asked.specs.Asked.{Asked, sim, norm}
-use Rattle.ht_app.specs.Inputs.{AcceptsNetlist, AcceptsTests}
 
--- the netlist to read
-abbrev pub netlist_name_of : Asked → List ℕ
-netlist_name_of (sim netlist tests report) = netlist
-netlist_name_of (norm netlist out) = netlist
+-- the file that the job reads from the port
+abbrev pub input_name : Asked → InPort → Option (List ℕ)
+input_name (sim netlist tests report) Netlist = Some netlist
+input_name (sim netlist tests report) Tests = Some tests
+input_name (norm netlist out) Netlist = Some netlist
+input_name _ _ = None
 
--- the file to write
-abbrev pub output_name_of : Asked → List ℕ
-output_name_of (sim netlist tests report) = report
-output_name_of (norm netlist out) = out
-
--- the same of what words ask for; without a job nothing is written
-abbrev pub output_name : Option Asked → List ℕ
-output_name None = []
-output_name (Some job) = output_name_of job
+-- the file that it writes at the port
+abbrev pub output_name : Asked → OutPort → Option (List ℕ)
+output_name (sim netlist tests report) Report = Some report
+output_name (norm netlist out) Report = Some out
+output_name _ _ = None
 
 -- the desk holds the files that the job reads
 abbrev pub HoldsInputs : Asked → DeskView → Type 0
-HoldsInputs (sim netlist tests report) desk = Holds desk netlist × Holds desk tests
-HoldsInputs (norm netlist out) desk = Holds desk netlist
-
--- they are there, and accepted
-abbrev pub AcceptsInputs : Asked → DeskView → Type 0
-AcceptsInputs (sim netlist tests report) desk = AcceptsTests netlist tests desk
-AcceptsInputs (norm netlist out) desk = AcceptsNetlist netlist desk
+HoldsInputs job desk = (port : InPort) (name : List ℕ) → input_name job port ≡ Some name → Holds desk name

@@ -1,8 +1,9 @@
 pub mod Inputs
 pub mod Jobs
+pub mod Changed
 pub mod Done
-pub mod ErrLines
+pub mod Truncated
+pub mod Errors
 pub mod Run
-pub mod After
-pub mod Causes
+pub mod Steps
 pub mod Simulation

@@ -1,11 +1,11 @@
-// The line on Err.
+//! The line on Err.
 ghost use Rattle.std.specs.Prelude.{◌++◌, is_ok};
 ghost use Rattle.ht_ports.specs.Desk.{Wrote};
 ghost use Rattle.ht_ports.specs.declared.ports.OutPort.TheVariants as out_port;
-ghost use Rattle.ht_app.specs.ErrLines.{line_of, numbered};
+ghost use Rattle.ht_app.specs.Errors.{err_line, numbered};
 
 use crate::refusal::write_refusal;
-use crate::trouble::Trouble;
+use crate::run_error::RunError;
 use ht_ports::{Desk, Failed, OutPort, write_all};
 use itoa::Buffer;
 
@@ -34,21 +34,21 @@ pub fn write_numbered<D: Desk>(
 }
 
 /// Says on Err why a run ends, in one line. It takes no memory.
-pub fn write_line<D: Desk>(desk: &mut D, trouble: &Trouble) -> Result<(), Failed>
-    ensures { Wrote out_port.Err (line_of trouble.now) (is_ok result) (D.view desk.old)
+pub fn write_line<D: Desk>(desk: &mut D, error: &RunError) -> Result<(), Failed>
+    ensures { Wrote out_port.Err (err_line error.now) (is_ok result) (D.view desk.old)
         (D.view desk.new) }
 {
-    match trouble {
-        Trouble::Usage => write_all(
+    match error {
+        RunError::Usage => write_all(
             desk,
             OutPort::Err,
             b"usage: sim NETLIST TESTS REPORT, norm NETLIST OUT\n",
         ),
-        Trouble::TooLong => write_all(desk, OutPort::Err, b"netlist: too long\n"),
-        Trouble::Refused(error) => write_refusal(desk, error),
-        Trouble::ReadFault => write_all(desk, OutPort::Err, b"read fault\n"),
-        Trouble::WriteFault => write_all(desk, OutPort::Err, b"write fault\n"),
-        Trouble::NoMemory => write_all(desk, OutPort::Err, b"no memory\n"),
-        Trouble::BadTests { line } => write_numbered(desk, b"tests: line ", *line, b"\n"),
+        RunError::TooLong => write_all(desk, OutPort::Err, b"netlist: too long\n"),
+        RunError::Refused(error) => write_refusal(desk, error),
+        RunError::ReadFault => write_all(desk, OutPort::Err, b"read fault\n"),
+        RunError::WriteFault => write_all(desk, OutPort::Err, b"write fault\n"),
+        RunError::NoMemory => write_all(desk, OutPort::Err, b"no memory\n"),
+        RunError::BadTests { line } => write_numbered(desk, b"tests: line ", *line, b"\n"),
     }
 }

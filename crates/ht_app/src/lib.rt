@@ -9,13 +9,11 @@ mod commands;
 mod err_line;
 mod netlist;
 mod norm;
+mod output;
 mod refusal;
-mod report;
+mod run_error;
 mod sim;
-mod tests;
-mod trouble;
+mod vectors_file;
 
 pub use commands::run;
-
-#[cfg(test)]
-mod examples;
+pub use ht_words::{Job, WordsFault, command};

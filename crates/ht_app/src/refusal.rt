@@ -1,9 +1,9 @@
-// Why a netlist is refused, as the line on Err says it.
+//! Why a netlist is refused, as the line on Err says it.
 ghost use Rattle.std.specs.Prelude.{◌≡◌, ◌++◌, is_ok, codes};
 ghost use Rattle.ht_ports.specs.Desk.{Wrote};
 ghost use Rattle.ht_ports.specs.declared.ports.OutPort.TheVariants as out_port;
-ghost use Rattle.ht_app.specs.ErrLines.{limit_text, loop_text, cause_text, line_number, line_of};
-ghost use Rattle.ht_app.specs.declared.trouble.Trouble.TheVariants as trouble;
+ghost use Rattle.ht_app.specs.Errors.{limit_text, loop_text, cause_text, line_number, err_line};
+ghost use Rattle.ht_app.specs.declared.run_error.RunError.TheVariants as run_error;
 
 use crate::err_line::{write_numbered, write_pair};
 use ht_bench::BenchError;
@@ -77,7 +77,7 @@ fn write_cause<D: Desk>(desk: &mut D, error: &BenchError) -> Result<(), Failed>
 
 /// Says on Err why the netlist is refused, in one line.
 pub fn write_refusal<D: Desk>(desk: &mut D, error: &BenchError) -> Result<(), Failed>
-    ensures { Wrote out_port.Err (line_of (trouble.Refused error.now)) (is_ok result)
+    ensures { Wrote out_port.Err (err_line (run_error.Refused error.now)) (is_ok result)
         (D.view desk.old) (D.view desk.new) }
 {
     write_numbered(

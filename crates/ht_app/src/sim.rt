@@ -1,18 +1,21 @@
-// The command `sim`.
-ghost use Rattle.std.specs.Prelude.{◌≡◌, ◌≢◌, ◌<◌, ◌≤◌, ◌^◌, length, IfOk, IfErr, OnOk};
+//! The command `sim`.
+ghost use Rattle.std.specs.Prelude.{◌≡◌, ◌≤◌, ◌^◌, List, ℕ, length, IfOk, IfErr, OnOk};
+ghost use Rattle.ht_ports.specs.declared.ports.InPort.TheVariants as in_port;
+ghost use Rattle.ht_ports.specs.declared.ports.OutPort.TheVariants as out_port;
 ghost use Rattle.ht_net.specs.Netlist.{IsCircuit};
 ghost use Rattle.ht_asked.specs.Asked as asked;
 ghost use Rattle.ht_app.specs.Inputs.{AcceptsTests};
-ghost use Rattle.ht_app.specs.Done.{SimDone};
+ghost use Rattle.ht_app.specs.Changed.{ChangedOnly, job_ports};
+ghost use Rattle.ht_app.specs.Done.{IsDone};
+ghost use Rattle.ht_app.specs.Errors.{exit_status};
 ghost use Rattle.ht_app.specs.Run.{HasCause};
 ghost use Rattle.ht_app.specs.Simulation.{IsReportOf};
-ghost use Rattle.ht_app.specs.Causes.{NothingOut, OnlyWork, SimulateCause, AreWorkedInto};
-ghost use Rattle.ht_app.specs.declared.trouble.Trouble.TheVariants as trouble;
+ghost use Rattle.ht_app.specs.Steps.{reading, IsUnread, SimulateCause, AreWorkedInto, status_after};
 
 use crate::netlist::read_netlist;
-use crate::report::write_report;
-use crate::tests::read_tests;
-use crate::trouble::Trouble;
+use crate::output::write_report;
+use crate::run_error::RunError;
+use crate::vectors_file::read_tests;
 use ht_collapse::collapse;
 use ht_grade::first_detections;
 use ht_net::{Circuit, Vectors};
@@ -20,7 +23,7 @@ use ht_ports::Desk;
 use ht_texts::{Sums, saids_of, write_body, write_total};
 use std::alloc::{AllocError, Global};
 
-/// The report without its last line, and that line.
+// The report without its last line, and that line.
 #[derive(Drop)]
 struct Texts {
     body: Vec<u8>,
@@ -43,16 +46,19 @@ fn texts_of(alloc: Global, circuit: &Circuit, list: &Vectors) -> Result<Texts, A
     Ok(Texts { body, total })
 }
 
-// Reads the netlist and the tests, and simulates.
+// Reads the netlist and then the tests, and simulates.
 fn simulate<D: Desk>(
     alloc: Global,
     netlist: &str,
     tests: &str,
     desk: &mut D,
-) -> Result<Texts, Trouble>
-    ensures frame { NothingOut (D.view desk.old) (D.view desk.new) }
+) -> Result<Texts, RunError>
+    ensures reads { (report : List ℕ)
+        → ChangedOnly (reading (asked.sim netlist.now tests.now report)) (D.view desk.old)
+        (D.view desk.new) }
+    ensures unread { IfErr result (λ e. exit_status e ≡ 3
+        → IsUnread in_port.Tests (D.view desk.old) (D.view desk.new)) }
     ensures inputs { OnOk result (AcceptsTests netlist.now tests.now (D.view desk.old)) }
-    ensures some { IfOk result (λ texts. 0 < length texts.total.items) }
     ensures texts { IfOk result
         (λ texts. AreWorkedInto netlist.now tests.now (D.view desk.old) texts.body.items
         texts.total.items) }
@@ -66,20 +72,25 @@ fn simulate<D: Desk>(
 }
 
 /// Runs `sim`: reads, simulates, and writes the report.
+///
+/// # Errors
+/// Those of the run.
 pub fn sim<D: Desk>(
     alloc: Global,
     netlist: &str,
     tests: &str,
     report: &str,
     desk: &mut D,
-) -> Result<(), Trouble>
-    ensures frame { OnlyWork report.now (D.view desk.old) (D.view desk.new) }
+) -> Result<(), RunError>
+    ensures changed { ChangedOnly
+        (job_ports (asked.sim netlist.now tests.now report.now) (status_after result))
+        (D.view desk.old) (D.view desk.new) }
+    ensures quiet { (D.view desk.new).written out_port.Err
+        ≡ (D.view desk.old).written out_port.Err }
     ensures done { OnOk result
-        (SimDone netlist.now tests.now report.now (D.view desk.old) (D.view desk.new)) }
+        (IsDone (asked.sim netlist.now tests.now report.now) (D.view desk.old) (D.view desk.new)) }
     ensures cause { IfErr result
         (HasCause (asked.sim netlist.now tests.now report.now) (D.view desk.old) (D.view desk.new)) }
-    ensures nothing { IfErr result
-        (λ e. e ≢ trouble.WriteFault → NothingOut (D.view desk.old) (D.view desk.new)) }
 {
     let texts = simulate(alloc, netlist, tests, desk)?;
     write_report(desk, report, &texts.body, &texts.total)?;

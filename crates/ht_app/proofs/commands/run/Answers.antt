@@ -1,122 +1,112 @@
-use Rattle.std.proofs.Common.{◌≡◌, ◌⊎◌, ◌≢◌, ℕ, sym, ◌∙◌, subst}
-use Rattle.ht_asked.specs.Asked.{asked, texts_of, sim, norm}
-use Rattle.ht_app.specs.Jobs.{output_name}
-use Rattle.ht_app.specs.ErrLines.{status_of, line_of}
-use Rattle.ht_app.proofs.CauseLaws.{says, only_err, only_report, says_nothing_later, cause_of_job, job_done}
-use Rattle.ht_app.proofs.StatusLaws.{finished_not_refused, finished_not_malformed, usage_status, asked_status, refused_status, malformed_status, good_sim_status, good_norm_status, steady_status, quiet_status, faultless_before}
+use Rattle.std.proofs.Common.{◌≡◌, ◌⊎◌, ◌≢◌, ℕ, List, Bool, true, false, length, inl, inr, refl, sym, ◌∙◌, ap, subst, take_all, le_refl}
+use Rattle.std.specs.Io.KnownBytes.{append_known}
+use Rattle.ht_ports.specs.Desk.{DeskView, Wrote}
+use Rattle.ht_ports.specs.declared.ports.OutPort.TheVariants as out_port
+use Rattle.ht_asked.specs.Asked.{asked, texts_of, sim}
+use Rattle.ht_app.specs.Errors.{exit_status, err_line}
+use Rattle.ht_app.specs.Changed.{ChangedOnly, ports_at}
+use Rattle.ht_app.specs.Run.{SaysOnErr}
+use Rattle.ht_app.proofs.PortsLaws.{changed_by_line}
+use Rattle.ht_app.proofs.StatusLaws.{finished_not_refused, finished_not_malformed, usage_status, asked_status, refused_status, malformed_status, good_status, steady_status, faultless_before, cause_of_job, job_done}
 use Rattle.ht_app.proofs.commands.run.Goals as goal
 
 -- ---- after a finished run
 
 pub returns-in-Ok-clause-refused : goal.returns-in-Ok-clause-refused
-returns-in-Ok-clause-refused g c = λ job is text input none.
+returns-in-Ok-clause-refused g c = λ job name is reads bad.
     let a = g.D.Desk.view c.args.desk.now in
     let b = g.D.Desk.view c.work.new.desk in
-    absurd (finished_not_refused job a b (job_done (asked (texts_of c.args.words.now)) job a b is c.in-Ok.ensures.done)
-    text input none)
+    absurd (finished_not_refused job name a b
+    (job_done (asked (texts_of c.args.words.now)) job a b is c.in-Ok.ensures.done) reads bad)
 
 pub returns-in-Ok-clause-malformed : goal.returns-in-Ok-clause-malformed
-returns-in-Ok-clause-malformed g c = λ nn tn rn is netlist tests d line inputs accepted bad.
+returns-in-Ok-clause-malformed g c = λ netlist tests report is bad.
     let a = g.D.Desk.view c.args.desk.now in
     let b = g.D.Desk.view c.work.new.desk in
-    absurd (finished_not_malformed nn tn rn a b
-    (job_done (asked (texts_of c.args.words.now)) (sim nn tn rn) a b is c.in-Ok.ensures.done) netlist tests d line
-    inputs accepted bad)
+    absurd (finished_not_malformed netlist tests report a b
+    (job_done (asked (texts_of c.args.words.now)) (sim netlist tests report) a b is c.in-Ok.ensures.done) bad)
 
--- ---- after a trouble
+-- ---- after an error
 
-pub returns-in-Err-clause-trouble : goal.returns-in-Err-clause-trouble
-returns-in-Err-clause-trouble g c = λ ne.
+-- the line, as far as it was written
+says : (line : List ℕ) (ok : Bool) (m b : DeskView) → Wrote out_port.Err line ok m b → SaysOnErr line m b
+says line true m b wrote = record {
+  count = length line;
+  added = wrote.outcome.written ∙ ap (λ (l : List ℕ). append_known (m.written out_port.Err) l)
+      (sym (take_all _ line (le_refl _)));
+  whole = inl refl;
+}
+says line false m b wrote =
+    record { count = wrote.outcome.count; added = wrote.outcome.part.written; whole = inr wrote.outcome.cause }
+
+pub returns-in-Err-clause-error : goal.returns-in-Err-clause-error
+returns-in-Err-clause-error g c = λ ne.
+    let m = g.D.Desk.view c.work.new.desk in
+    let b = g.D.Desk.view c.write_line.new.desk in
+    let e = c.in-Err.error in
+    record {
+      error = e;
+      is = c.status.ensures;
+      worked = m;
+      in_later = c.in-Err.ensures.changed.in_later;
+      out_later = c.in-Err.ensures.changed.out_later;
+      quiet = c.in-Err.ensures.quiet;
+      cause = c.in-Err.ensures.cause;
+      line = c.write_line.ensures.frame;
+      says = says (err_line e) _ m b c.write_line.ensures;
+    }
+
+pub returns-in-Err-clause-changed : goal.returns-in-Err-clause-changed
+returns-in-Err-clause-changed g c =
     let a = g.D.Desk.view c.args.desk.now in
     let m = g.D.Desk.view c.work.new.desk in
     let b = g.D.Desk.view c.write_line.new.desk in
-    let t = c.in-Err.trouble in
-    record {
-      trouble = t;
-      is = c.status.ensures;
-      worked = m;
-      in_later = c.in-Err.ensures.frame.only.in_later;
-      out_later = c.in-Err.ensures.frame.only.out_later;
-      line = c.write_line.ensures.frame;
-      cause = c.in-Err.ensures.cause;
-      says = says (line_of t) (output_name (asked (texts_of c.args.words.now))) _ a m b
-          c.in-Err.ensures.frame c.write_line.ensures;
-    }
+    let words = asked (texts_of c.args.words.now) in
+    subst (λ (s : ℕ). ChangedOnly (ports_at words s) a b) (sym c.status.ensures)
+    (changed_by_line words c.in-Err.error a m b c.in-Err.ensures.changed c.write_line.ensures.frame)
 
 pub returns-in-Err-clause-usage : goal.returns-in-Err-clause-usage
 returns-in-Err-clause-usage g c = λ two.
     usage_status (asked (texts_of c.args.words.now)) (g.D.Desk.view c.args.desk.now) (g.D.Desk.view c.work.new.desk)
-    c.in-Err.trouble c.in-Err.ensures.cause (sym c.status.ensures ∙ two)
+    c.in-Err.error c.in-Err.ensures.cause (sym c.status.ensures ∙ two)
 
 pub returns-in-Err-clause-asked : goal.returns-in-Err-clause-asked
 returns-in-Err-clause-asked g c = λ two six.
     asked_status (asked (texts_of c.args.words.now)) (g.D.Desk.view c.args.desk.now) (g.D.Desk.view c.work.new.desk)
-    c.in-Err.trouble c.in-Err.ensures.cause
+    c.in-Err.error c.in-Err.ensures.cause
     (λ e. two (c.status.ensures ∙ e)) (λ e. six (c.status.ensures ∙ e))
 
 pub returns-in-Err-clause-refused : goal.returns-in-Err-clause-refused
-returns-in-Err-clause-refused g c = λ job is text input none.
+returns-in-Err-clause-refused g c = λ job name is reads bad.
     let a = g.D.Desk.view c.args.desk.now in
     let m = g.D.Desk.view c.work.new.desk in
-    let cause = cause_of_job (asked (texts_of c.args.words.now)) job a m c.in-Err.trouble is c.in-Err.ensures.cause in
+    let cause = cause_of_job (asked (texts_of c.args.words.now)) job a m c.in-Err.error is c.in-Err.ensures.cause in
     subst (λ (s : ℕ). (s ≡ 3) ⊎ (s ≡ 4) ⊎ (s ≡ 6)) (sym c.status.ensures)
-    (refused_status job a m c.in-Err.trouble cause text input none)
+    (refused_status job name a m c.in-Err.error cause reads bad)
 
 pub returns-in-Err-clause-malformed : goal.returns-in-Err-clause-malformed
-returns-in-Err-clause-malformed g c = λ nn tn rn is netlist tests d line inputs accepted bad.
+returns-in-Err-clause-malformed g c = λ netlist tests report is bad.
     let a = g.D.Desk.view c.args.desk.now in
     let m = g.D.Desk.view c.work.new.desk in
-    let cause = cause_of_job (asked (texts_of c.args.words.now)) (sim nn tn rn) a m c.in-Err.trouble is
+    let cause = cause_of_job (asked (texts_of c.args.words.now)) (sim netlist tests report) a m c.in-Err.error is
     c.in-Err.ensures.cause in
     subst (λ (s : ℕ). (s ≡ 7) ⊎ (s ≡ 4) ⊎ (s ≡ 6)) (sym c.status.ensures)
-    (malformed_status nn tn rn a m c.in-Err.trouble cause netlist tests d line inputs accepted bad)
+    (malformed_status netlist tests report a m c.in-Err.error cause bad)
 
-pub returns-in-Err-clause-complete_sim : goal.returns-in-Err-clause-complete_sim
-returns-in-Err-clause-complete_sim g c = λ nn tn rn is netlist tests d list inputs accepted good none.
+pub returns-in-Err-clause-complete : goal.returns-in-Err-clause-complete
+returns-in-Err-clause-complete g c = λ job is are none.
     let a = g.D.Desk.view c.args.desk.now in
     let m = g.D.Desk.view c.work.new.desk in
-    let frame = c.write_line.ensures.frame.call in
-    let cause = cause_of_job (asked (texts_of c.args.words.now)) (sim nn tn rn) a m c.in-Err.trouble is
-    c.in-Err.ensures.cause in
+    let b = g.D.Desk.view c.write_line.new.desk in
+    let call = c.write_line.ensures.frame.call in
+    let cause = cause_of_job (asked (texts_of c.args.words.now)) job a m c.in-Err.error is c.in-Err.ensures.cause in
     subst (λ (s : ℕ). (s ≡ 0) ⊎ (s ≡ 6)) (sym c.status.ensures)
-    (good_sim_status nn tn rn a m c.in-Err.trouble cause netlist tests d list inputs accepted good
-    (faultless_before a m (g.D.Desk.view c.write_line.new.desk) frame.in_later frame.out_later none))
-
-pub returns-in-Err-clause-complete_norm : goal.returns-in-Err-clause-complete_norm
-returns-in-Err-clause-complete_norm g c = λ nn on is netlist d input accepted none.
-    let a = g.D.Desk.view c.args.desk.now in
-    let m = g.D.Desk.view c.work.new.desk in
-    let frame = c.write_line.ensures.frame.call in
-    let cause = cause_of_job (asked (texts_of c.args.words.now)) (norm nn on) a m c.in-Err.trouble is
-    c.in-Err.ensures.cause in
-    subst (λ (s : ℕ). (s ≡ 0) ⊎ (s ≡ 6)) (sym c.status.ensures)
-    (good_norm_status nn on a m c.in-Err.trouble cause netlist d input accepted
-    (faultless_before a m (g.D.Desk.view c.write_line.new.desk) frame.in_later frame.out_later none))
+    (good_status job a m c.in-Err.error cause are (faultless_before a m b call.in_later call.out_later none))
 
 pub returns-in-Err-clause-steady : goal.returns-in-Err-clause-steady
 returns-in-Err-clause-steady g c = λ job is steady holds.
     let a = g.D.Desk.view c.args.desk.now in
     let m = g.D.Desk.view c.work.new.desk in
-    let cause = cause_of_job (asked (texts_of c.args.words.now)) job a m c.in-Err.trouble is c.in-Err.ensures.cause in
+    let cause = cause_of_job (asked (texts_of c.args.words.now)) job a m c.in-Err.error is c.in-Err.ensures.cause in
     subst (λ (s : ℕ). (s ≢ 4) × (s ≢ 5)) (sym c.status.ensures)
-    (steady_status job a m c.in-Err.trouble cause steady holds)
-
-pub returns-in-Err-clause-nothing : goal.returns-in-Err-clause-nothing
-returns-in-Err-clause-nothing g c = λ some other.
-    let a = g.D.Desk.view c.args.desk.now in
-    let m = g.D.Desk.view c.work.new.desk in
-    let b = g.D.Desk.view c.write_line.new.desk in
-    let t = c.in-Err.trouble in
-    let not_five : status_of t ≢ 5 = λ five. other (c.status.ensures ∙ five) in
-    only_err a m b (c.in-Err.ensures.nothing (quiet_status t not_five)) c.write_line.ensures.frame
-
-pub returns-in-Err-clause-nothing_out : goal.returns-in-Err-clause-nothing_out
-returns-in-Err-clause-nothing_out g c = λ job is.
-    says_nothing_later job (g.D.Desk.view c.args.desk.now) (g.D.Desk.view c.work.new.desk)
-    (g.D.Desk.view c.write_line.new.desk) (c.in-Err.ensures.nothing_out job is) c.write_line.ensures.frame
-
-pub returns-in-Err-clause-files : goal.returns-in-Err-clause-files
-returns-in-Err-clause-files g c =
-    only_report (output_name (asked (texts_of c.args.words.now))) (g.D.Desk.view c.args.desk.now)
-    (g.D.Desk.view c.work.new.desk) (g.D.Desk.view c.write_line.new.desk) c.in-Err.ensures.frame
-    c.write_line.ensures.frame
+    (steady_status job a m c.in-Err.error cause steady holds)

@@ -1,8 +1,8 @@
 use Rattle.std.proofs.Common.{◌≤◌, List, ℕ, length, subst, rules}
 use Rattle.ht_bench.specs.Text.{Refuses, IsOfNoCircuit, IsNetlistOf}
-use Rattle.ht_app.specs.ErrLines.{trouble_of}
-use Rattle.ht_app.specs.Causes.{NetlistCause}
-use Rattle.ht_app.proofs.Refusals.{bench_cause}
+use Rattle.ht_app.specs.Errors.{run_error_of}
+use Rattle.ht_app.specs.Steps.{NetlistCause}
+use Rattle.ht_app.proofs.RefusalLaws.{bench_cause}
 use Rattle.ht_app.proofs.netlist.read_netlist.Goals as goal
 
 pub returns-in_err-circuit-clause-cause : goal.returns-in_err-circuit-clause-cause
@@ -12,7 +12,7 @@ returns-in_err-circuit-clause-cause g c =
     let refused = subst (λ (t : List ℕ). Refuses t error) c.deref.ensures.value c.in_err-circuit.ensures.refusal in
     let none = subst (λ (t : List ℕ). IsOfNoCircuit t error) c.deref.ensures.value c.in_err-circuit.ensures.excludes in
     let cause : NetlistCause c.args.name.now (g.D.Desk.view c.args.desk.now) (g.D.Desk.view c.read_text.new.desk)
-    (trouble_of error) =
+    (run_error_of error) =
     bench_cause c.args.name.now (g.D.Desk.view c.args.desk.now) (g.D.Desk.view c.read_text.new.desk)
     c.in_ok-text.text.items error
     (record { there = read.there; is_text = read.text; short = read.within; refused = refused; none = none }) in

@@ -1,7 +1,7 @@
 use Rattle.std.proofs.Common.{◌≡◌, ◌++◌, codes, List, ℕ, is_ok, subst, sym, ◌∙◌, ap}
 use Rattle.ht_ports.specs.Desk.{Wrote}
 use Rattle.ht_ports.specs.declared.ports.OutPort.TheVariants.{Err}
-use Rattle.ht_app.specs.ErrLines.{cause_text}
+use Rattle.ht_app.specs.Errors.{cause_text}
 use Rattle.ht_app.proofs.refusal.write_cause.Goals as goal
 
 pub returns-in-Twice : goal.returns-in-Twice

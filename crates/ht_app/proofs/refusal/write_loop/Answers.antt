@@ -1,6 +1,6 @@
 use Rattle.std.proofs.Common.{rules, codes}
 use Rattle.ht_ports.proofs.WroteLaws.{wrote_then, wrote_failed}
-use Rattle.ht_app.specs.ErrLines.{loop_text}
+use Rattle.ht_app.specs.Errors.{loop_text}
 use Rattle.ht_app.proofs.refusal.write_loop.Goals as goal
 
 pub returns-in_err-write_all : goal.returns-in_err-write_all

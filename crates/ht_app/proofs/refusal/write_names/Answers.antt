@@ -4,7 +4,7 @@ use Rattle.std.specs.declared.alloc.Global.{Global}
 use Rattle.ht_ports.specs.Desk.{Wrote}
 use Rattle.ht_ports.specs.declared.ports.OutPort.TheVariants.{Err}
 use Rattle.ht_ports.proofs.WroteLaws.{wrote_then, wrote_failed}
-use Rattle.ht_app.specs.ErrLines.{loop_text}
+use Rattle.ht_app.specs.Errors.{loop_text}
 use Rattle.ht_app.proofs.refusal.write_names.Goals as goal
 
 -- the names up to one, that name, and the names behind it

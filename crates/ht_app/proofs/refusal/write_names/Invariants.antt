@@ -1,7 +1,7 @@
 use Rattle.std.proofs.Common.{take, true}
 use Rattle.ht_ports.specs.Desk.{Wrote}
 use Rattle.ht_ports.specs.declared.ports.OutPort.TheVariants.{Err}
-use Rattle.ht_app.specs.ErrLines.{loop_text}
+use Rattle.ht_app.specs.Errors.{loop_text}
 use Rattle.ht_app.proofs.refusal.write_names.Given as goal
 
 abbrev pub invariant-loop-name : goal.invariant-loop-name

@@ -2,7 +2,7 @@ use Rattle.std.proofs.Common.{◌≡◌, ◌++◌, codes, ℕ, Bool, rules, subs
 use Rattle.ht_ports.specs.Desk.{DeskView, Wrote}
 use Rattle.ht_ports.specs.declared.ports.OutPort.TheVariants.{Err}
 use Rattle.ht_bench.specs.declared.error.BenchError.{BenchError}
-use Rattle.ht_app.specs.ErrLines.{cause_text, numbered, line_number}
+use Rattle.ht_app.specs.Errors.{cause_text, numbered, line_number}
 use Rattle.ht_ports.proofs.WroteLaws.{wrote_then, wrote_failed}
 use Rattle.ht_app.proofs.refusal.write_refusal.Goals as goal
 

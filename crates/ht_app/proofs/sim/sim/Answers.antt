@@ -1,48 +1,92 @@
-use Rattle.std.proofs.Common.{List, ℕ, ◌++◌, sym, subst, rules}
+use Rattle.std.proofs.Common.{◌≡◌, List, ℕ, ◌++◌, refl, sym, ◌∙◌, subst, rules}
+use Rattle.ht_ports.specs.declared.ports.OutPort.TheVariants as out_port
 use Rattle.ht_asked.specs.Asked.{sim}
-use Rattle.ht_app.specs.Run.{HasCause}
-use Rattle.ht_app.specs.declared.trouble.Trouble.{Trouble}
-use Rattle.ht_app.specs.Causes.{IsReported}
-use Rattle.ht_ports.specs.declared.ports.OutPort.TheVariants.{Out}
-use Rattle.ht_app.specs.Run.{IsBegunOn, IsCutShort}
-use Rattle.ht_app.proofs.CauseLaws.{write_cause, sim_done}
-use Rattle.ht_app.proofs.CutLaws.{sim_cut}
+use Rattle.ht_app.specs.declared.run_error.RunError.{RunError}
+use Rattle.ht_app.specs.Errors.{exit_status}
+use Rattle.ht_app.specs.Changed.{ChangedOnly, job_ports}
+use Rattle.ht_app.specs.Truncated.{StopsInReport}
+use Rattle.ht_app.specs.Steps.{IsReported, status_after}
+use Rattle.ht_app.proofs.PortsLaws.{ends_reading, ends_writing, fails_writing}
+use Rattle.ht_app.proofs.CauseLaws.{write_cause}
+use Rattle.ht_app.proofs.OutputLaws.{sim_done, sim_truncated}
 use Rattle.ht_app.proofs.sim.sim.Goals as goal
+
+-- ---- the inputs are refused, or can't be read
+
+pub returns-in_err-texts-clause-changed : goal.returns-in_err-texts-clause-changed
+returns-in_err-texts-clause-changed g c =
+    let job = sim c.args.netlist.now c.args.tests.now c.args.report.now in
+    let failed = c.in_err-texts.ensures in
+    let changed = ends_reading job c.in_err-texts.field-0.0 (g.D.Desk.view c.args.desk.now)
+    (g.D.Desk.view c.simulate.new.desk) (failed.reads c.args.report.now) failed.unread in
+    search (rules, changed)
+
+pub returns-in_err-texts-clause-quiet : goal.returns-in_err-texts-clause-quiet
+returns-in_err-texts-clause-quiet g c = (c.in_err-texts.ensures.reads c.args.report.now).written out_port.Err refl
 
 pub returns-in_err-texts-clause-cause : goal.returns-in_err-texts-clause-cause
 returns-in_err-texts-clause-cause g c =
     let cause = c.in_err-texts.ensures.cause.cause c.args.report.now in
     search (rules, cause)
 
+-- ---- a write fails
+
+pub returns-in_err-write_report-clause-changed : goal.returns-in_err-write_report-clause-changed
+returns-in_err-write_report-clause-changed g c =
+    let job = sim c.args.netlist.now c.args.tests.now c.args.report.now in
+    let a = g.D.Desk.view c.args.desk.now in
+    let m = g.D.Desk.view c.simulate.new.desk in
+    let b = g.D.Desk.view c.write_report.new.desk in
+    let changed = fails_writing job c.in_err-write_report.field-0.0 c.args.report.now a m b
+    c.in_err-write_report.ensures.error refl refl (c.in_ok-texts.ensures.reads c.args.report.now)
+    c.in_err-write_report.ensures.changed in
+    let status : status_after c.from_residual-in_err-write_report.result
+    ≡ exit_status c.in_err-write_report.field-0.0 = search rules in
+    subst (λ (s : ℕ). ChangedOnly (job_ports job s) a b) (sym status) changed
+
+pub returns-in_err-write_report-clause-quiet : goal.returns-in_err-write_report-clause-quiet
+returns-in_err-write_report-clause-quiet g c = c.in_err-write_report.ensures.changed.written out_port.Err refl
+    ∙ (c.in_ok-texts.ensures.reads c.args.report.now).written out_port.Err refl
+
 pub returns-in_err-write_report-clause-cause : goal.returns-in_err-write_report-clause-cause
 returns-in_err-write_report-clause-cause g c =
     let job = sim c.args.netlist.now c.args.tests.now c.args.report.now in
     let texts = c.in_ok-texts.ensures in
+    let failed = c.in_err-write_report.ensures in
+    let body = c.in_ok-texts.texts.body.items in
+    let total = c.in_ok-texts.texts.total.items in
     let a = g.D.Desk.view c.args.desk.now in
     let m = g.D.Desk.view c.simulate.new.desk in
     let b = g.D.Desk.view c.write_report.new.desk in
-    let begun : IsBegunOn Out c.in_ok-texts.texts.total.items m b = subst (λ (l : List ℕ). IsBegunOn Out l m b)
-    c.deref-2.ensures.value c.in_err-write_report.ensures.begun in
-    let cut : IsCutShort (c.in_ok-texts.texts.body.items ++ c.in_ok-texts.texts.total.items) m b = subst
-    (λ (l : List ℕ). IsCutShort (c.in_ok-texts.texts.body.items ++ l) m b) c.deref-2.ensures.value
-    (subst (λ (l : List ℕ). IsCutShort (l ++ c.deref-2.result.now) m b) c.deref.ensures.value
-    c.in_err-write_report.ensures.cut) in
-    let leaves = sim_cut c.args.netlist.now c.args.tests.now c.args.report.now c.in_ok-texts.texts.body.items
-    c.in_ok-texts.texts.total.items a m b texts.frame texts.texts begun cut in
-    let cause = write_cause job a m b texts.frame c.in_err-write_report.ensures.cause texts.inputs leaves in
-    let whole : HasCause job a b c.in_err-write_report.field-0.0 = subst (λ (t : Trouble). HasCause job a b t)
-    (sym c.in_err-write_report.ensures.error) cause in
-    search (rules, whole)
+    let read = texts.reads c.args.report.now in
+    let stops : StopsInReport body total m b = subst (λ (l : List ℕ). StopsInReport body l m b) c.deref-2.ensures.value
+    (subst (λ (l : List ℕ). StopsInReport l c.deref-2.result.now m b) c.deref.ensures.value failed.stops) in
+    let leaves = sim_truncated c.args.netlist.now c.args.tests.now c.args.report.now body total a m b read texts.texts
+    stops in
+    let cause = write_cause job a m b c.in_err-write_report.field-0.0 failed.error read failed.fault texts.inputs leaves in
+    search (rules, cause)
+
+-- ---- the report stands
+
+pub returns-clause-changed : goal.returns-clause-changed
+returns-clause-changed g c = ends_writing (sim c.args.netlist.now c.args.tests.now c.args.report.now) 0 c.args.report.now
+    (g.D.Desk.view c.args.desk.now) (g.D.Desk.view c.simulate.new.desk) (g.D.Desk.view c.write_report.new.desk) refl refl
+    refl (c.in_ok-texts.ensures.reads c.args.report.now) c.in_ok-write_report.ensures.changed
+
+pub returns-clause-quiet : goal.returns-clause-quiet
+returns-clause-quiet g c = c.in_ok-write_report.ensures.changed.written out_port.Err refl
+    ∙ (c.in_ok-texts.ensures.reads c.args.report.now).written out_port.Err refl
 
 pub returns-clause-done : goal.returns-clause-done
 returns-clause-done g c =
     let texts = c.in_ok-texts.ensures in
+    let body = c.in_ok-texts.texts.body.items in
+    let total = c.in_ok-texts.texts.total.items in
     let m = g.D.Desk.view c.simulate.new.desk in
     let b = g.D.Desk.view c.write_report.new.desk in
-    let report : IsReported c.args.report.now c.in_ok-texts.texts.body.items c.in_ok-texts.texts.total.items m b =
-    subst (λ (l : List ℕ). IsReported c.args.report.now c.in_ok-texts.texts.body.items l m b) c.deref-2.ensures.value
+    let report : IsReported c.args.report.now body total m b =
+    subst (λ (l : List ℕ). IsReported c.args.report.now body l m b) c.deref-2.ensures.value
     (subst (λ (l : List ℕ). IsReported c.args.report.now l c.deref-2.result.now m b) c.deref.ensures.value
     c.in_ok-write_report.ensures.report) in
-    sim_done c.args.netlist.now c.args.tests.now c.args.report.now c.in_ok-texts.texts.body.items
-    c.in_ok-texts.texts.total.items (g.D.Desk.view c.args.desk.now) m b
-    texts.frame c.in_ok-write_report.ensures.frame report texts.inputs texts.texts
+    sim_done c.args.netlist.now c.args.tests.now c.args.report.now body total (g.D.Desk.view c.args.desk.now) m b
+    (texts.reads c.args.report.now) report texts.inputs texts.texts

@@ -1,21 +1,19 @@
-use Rattle.std.proofs.Common.{◌<◌, ℕ, List, length, None, sym, subst, rules}
-use Rattle.ht_texts.specs.Verdicts.{saids_of}
-use Rattle.ht_texts.specs.Reports.{report_sums}
+use Rattle.std.proofs.Common.{List, ℕ, ◌++◌, refl, IsTrue, rules}
+use Rattle.std.specs.Prelude.{IsSome}
 use Rattle.ht_asked.specs.Asked.{sim}
-use Rattle.ht_app.specs.Causes.{SimulateCause}
+use Rattle.ht_texts.specs.Verdicts.{saids_of}
+use Rattle.ht_app.specs.Steps.{SimulateCause}
 use Rattle.ht_app.proofs.CauseLaws.{netlist_cause, tests_cause, accepts_netlist, may_hold_before, input_later}
-use Rattle.ht_app.proofs.CutLaws.{total_some}
-use Rattle.ht_app.proofs.Places.{whole_report}
+use Rattle.ht_app.proofs.ReportLaws.{whole_report}
 use Rattle.ht_app.proofs.sim.simulate.Goals as goal
 
 pub returns-in_err-circuit-clause-cause : goal.returns-in_err-circuit-clause-cause
 returns-in_err-circuit-clause-cause g c =
     let a = g.D.Desk.view c.args.desk.now in
     let m = g.D.Desk.view c.read_netlist.new.desk in
-    let cause : SimulateCause c.args.netlist.now c.args.tests.now a m c.in_err-circuit.field-0.0 =
-    record {
-      cause = λ report. netlist_cause (sim c.args.netlist.now c.args.tests.now report) a m
-          c.in_err-circuit.field-0.0 c.in_err-circuit.ensures.cause;
+    let cause : SimulateCause c.args.netlist.now c.args.tests.now a m c.in_err-circuit.field-0.0 = record {
+      cause = λ report. netlist_cause (sim c.args.netlist.now c.args.tests.now report) c.args.netlist.now a m
+          c.in_err-circuit.field-0.0 refl c.in_err-circuit.ensures.cause;
     } in
     search (rules, cause)
 
@@ -24,13 +22,12 @@ returns-in_err-list-clause-cause g c =
     let a = g.D.Desk.view c.args.desk.now in
     let m = g.D.Desk.view c.read_netlist.new.desk in
     let b = g.D.Desk.view c.read_tests.new.desk in
-    let circuit = c.in_ok-circuit.circuit in
     let read = c.in_ok-circuit.ensures in
-    let accepts = accepts_netlist c.args.netlist.now circuit a read.there read.circuit in
-    let cause : SimulateCause c.args.netlist.now c.args.tests.now a b c.in_err-list.field-0.0 =
-    record {
-      cause = λ report. tests_cause c.args.netlist.now c.args.tests.now report circuit a m b
-          c.in_err-list.field-0.0 read.frame read.circuit accepts c.in_err-list.ensures.cause;
+    let known : IsTrue a.steady → IsSome (a.file c.args.netlist.now) =
+    g.met.D.Desk.steady_tells c.args.desk.now c.args.netlist.now in
+    let cause : SimulateCause c.args.netlist.now c.args.tests.now a b c.in_err-list.field-0.0 = record {
+      cause = λ report. tests_cause c.args.netlist.now c.args.tests.now report c.in_ok-circuit.circuit a m b
+          c.in_err-list.field-0.0 read.frame known read.circuit read.there c.in_err-list.ensures.cause;
     } in
     search (rules, cause)
 
@@ -53,11 +50,6 @@ returns-clause-inputs g c =
         ),
       );
     }
-
-pub returns-clause-some : goal.returns-clause-some
-returns-clause-some g c =
-    let made = c.in_ok-texts.ensures in
-    subst (λ (l : List ℕ). 0 < length l) (sym made.total_is) (total_some (report_sums made.representatives None (saids_of made.places)))
 
 pub returns-clause-texts : goal.returns-clause-texts
 returns-clause-texts g c =

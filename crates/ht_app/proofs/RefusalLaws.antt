@@ -6,10 +6,10 @@ use Rattle.ht_net.specs.Netlist as net
 use Rattle.ht_bench.specs.Text.{IsNetlistOf, Refuses, IsOfNoCircuit}
 use Rattle.ht_bench.specs.declared.error.BenchError.{BenchError}
 use Rattle.ht_bench.specs.declared.error.BenchError.TheVariants.{BadLine, BadName, BadKind, BadCount, Twice, TooMany, Undriven, Loop, NoMemory}
-use Rattle.ht_app.specs.Inputs.{most_bytes, IsInput, MayHold}
-use Rattle.ht_app.specs.ErrLines.{trouble_of}
-use Rattle.ht_app.specs.Run.{RefusesNetlist, IsRefused}
-use Rattle.ht_app.specs.Causes.{NetlistCause}
+use Rattle.ht_app.specs.Inputs.{max_netlist_bytes, IsInput, MayHold}
+use Rattle.ht_app.specs.Errors.{run_error_of}
+use Rattle.ht_app.specs.Run.{IsRefused}
+use Rattle.ht_app.specs.Steps.{NetlistCause, RefusesText}
 
 no_circuit : (text : List ℕ) (error : BenchError) → error ≢ NoMemory → IsOfNoCircuit text error → (c : net.Netlist)
     → ¬ IsNetlistOf text c
@@ -23,7 +23,7 @@ no_circuit text (Undriven line name) other none = none
 no_circuit text (Loop line names) other none = none
 no_circuit text NoMemory other none = absurd (other refl)
 
-is_refused : (text : List ℕ) (error : BenchError) → error ≢ NoMemory → length text ≤ most_bytes → Refuses text error
+is_refused : (text : List ℕ) (error : BenchError) → error ≢ NoMemory → length text ≤ max_netlist_bytes → Refuses text error
     → IsOfNoCircuit text error → IsRefused error text
 is_refused text error other short refused none = record {
   short = short;
@@ -36,12 +36,12 @@ is_refused text error other short refused none = record {
 pub record IsReadInVain (name : List ℕ) (a : DeskView) (text : List ℕ) (error : BenchError) : Type 0 where
   pub there : MayHold a name
   pub is_text : (t : List ℕ) → IsInput Netlist name t a → text ≡ t
-  pub short : length text ≤ most_bytes
+  pub short : length text ≤ max_netlist_bytes
   pub refused : Refuses text error
   pub none : IsOfNoCircuit text error
 
 refuses : (name : List ℕ) (a : DeskView) (text : List ℕ) (error : BenchError) → error ≢ NoMemory
-    → IsReadInVain name a text error → RefusesNetlist name a (IsRefused error)
+    → IsReadInVain name a text error → RefusesText name a (IsRefused error)
 refuses name a text error other vain = record {
   there = vain.there;
   cause = λ t is. subst (IsRefused error) (vain.is_text t is)
@@ -49,7 +49,7 @@ refuses name a text error other vain = record {
 }
 
 pub bench_cause : (name : List ℕ) (a b : DeskView) (text : List ℕ) (error : BenchError) → IsReadInVain name a text error
-    → NetlistCause name a b (trouble_of error)
+    → NetlistCause name a b (run_error_of error)
 bench_cause name a b text (BadLine line) vain = refuses name a text (BadLine line) (λ e. cc) vain
 bench_cause name a b text (BadName line) vain = refuses name a text (BadName line) (λ e. cc) vain
 bench_cause name a b text (BadKind line) vain = refuses name a text (BadKind line) (λ e. cc) vain

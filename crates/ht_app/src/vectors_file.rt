@@ -1,20 +1,20 @@
-// The tests: a list of vectors.
+//! The tests, from their file to a list of vectors.
 ghost use Rattle.std.specs.Prelude.{◌≡◌, ◌≤◌, ◌^◌, ◌++◌, ◌∷◌, [], length, List, Bool, ℕ, IfOk, IfErr, OnOk, MatchBool};
 ghost use Rattle.ht_ports.specs.Desk.{InCall};
 ghost use Rattle.ht_ports.specs.declared.ports.InPort.TheVariants as in_port;
 ghost use Rattle.ht_net.specs.Netlist.{IsCircuit};
 ghost use Rattle.ht_texts.specs.Tests.{IsTestText, IsTextOf};
 ghost use Rattle.ht_app.specs.Inputs.{IsInput, MayHold};
-ghost use Rattle.ht_app.specs.Causes.{TestsCause};
+ghost use Rattle.ht_app.specs.Steps.{TestsCause};
 
-use crate::trouble::Trouble;
+use crate::run_error::RunError;
 use ht_net::{Circuit, Vectors};
 use ht_ports::{Desk, Failed, InPort, LineFault, Lines};
 use ht_texts::read_vector;
 use std::alloc::{AllocError, Global};
 
 /// The most bytes of a vector's line, since a circuit has at most 4,096 inputs. A longer line is malformed.
-const MOST_BYTES: u32 = 4_096;
+const MAX_LINE_BYTES: u32 = 4_096;
 
 // Adds the vector whose text the line is; false where no vector has it.
 fn push_line(alloc: Global, list: &mut Vectors, width: u32, line: &[u8]) -> Result<bool, AllocError>
@@ -39,7 +39,7 @@ pub fn read_tests<D: Desk>(
     desk: &mut D,
     name: &str,
     circuit: &Circuit,
-) -> Result<Vectors, Trouble>
+) -> Result<Vectors, RunError>
     requires { IsCircuit circuit.now }
     ensures frame { InCall in_port.Tests (D.view desk.old) (D.view desk.new) }
     ensures there { OnOk result (MayHold (D.view desk.old) name.now) }
@@ -52,22 +52,22 @@ pub fn read_tests<D: Desk>(
         (TestsCause circuit.now name.now (D.view desk.old) (D.view desk.new)) }
 {
     if let Err(Failed) = desk.open(InPort::Tests, name) {
-        return Err(Trouble::ReadFault);
+        return Err(RunError::ReadFault);
     }
-    let mut lines = Lines::new(alloc, InPort::Tests, MOST_BYTES)?;
+    let mut lines = Lines::new(alloc, InPort::Tests, MAX_LINE_BYTES)?;
     let mut list = Vectors::new(alloc, circuit.inputs());
     'lines: loop {
         match lines.next(desk) {
             Ok(Some(line)) => {
                 if !push_line(alloc, &mut list, circuit.inputs(), line)? {
-                    return Err(Trouble::BadTests {
+                    return Err(RunError::BadTests {
                         line: list.len() + 1,
                     });
                 }
             }
             Ok(None) => return Ok(list),
-            Err(LineFault::Failed) => return Err(Trouble::ReadFault),
-            Err(LineFault::TooLong { line }) => return Err(Trouble::BadTests { line }),
+            Err(LineFault::Failed) => return Err(RunError::ReadFault),
+            Err(LineFault::TooLong { line }) => return Err(RunError::BadTests { line }),
         }
     }
 }

@@ -12,8 +12,8 @@ use Rattle.ht_ports.proofs.Calls.{in_call_trans}
 use Rattle.ht_net.specs.Netlist.{Netlist}
 use Rattle.ht_texts.specs.Tests.{IsTextOf, IsMalformedTest}
 use Rattle.ht_app.specs.Inputs.{IsInput}
-use Rattle.ht_app.proofs.TestLines.{SoFar, so_far_start, so_far_next, so_far_end, bad_line, too_long}
-use Rattle.ht_app.proofs.tests.read_tests.Goals as goal
+use Rattle.ht_app.proofs.VectorLineLaws.{SoFar, so_far_start, so_far_next, so_far_end, bad_line, too_long}
+use Rattle.ht_app.proofs.vectors_file.read_tests.Goals as goal
 
 pub lines-init : goal.lines-init
 lines-init g c =
@@ -39,7 +39,7 @@ lines-init g c =
       counted = ap length none ∙ sym (ap (λ l. l.given) made);
       below = search rules;
       width = search rules;
-      so_far = λ text is. (text, rest text (c.in_default.ensures.opened.bytes text is.file is.told), start text);
+      so_far = λ text is. (text, rest text (c.in_default.ensures.opened.bytes text is.file is.known), start text);
     }
 
 pub overflow_add-result : goal.overflow_add-result

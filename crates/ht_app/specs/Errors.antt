@@ -1,4 +1,4 @@
--- Each trouble, its status and its line on Err.
+-- Why a run ends without its work: each error, its status and its line on Err.
 use Rattle.std.specs.Prelude.{ℕ, List, [], ◌++◌, Vec, codes, flat_map}
 use Rattle.std.specs.Fmt.{decimal}
 use Rattle.std.specs.declared.alloc.Global.{Global}
@@ -6,22 +6,22 @@ use Rattle.ht_net.specs.declared.error.Limit.{Limit}
 use Rattle.ht_net.specs.declared.error.Limit.TheVariants as limit
 use Rattle.ht_bench.specs.declared.error.BenchError.{BenchError}
 use Rattle.ht_bench.specs.declared.error.BenchError.TheVariants as bench
-use Rattle.ht_app.specs.declared.trouble.Trouble.{Trouble}
-use Rattle.ht_app.specs.declared.trouble.Trouble.TheVariants.{Usage, TooLong, Refused, ReadFault, WriteFault, NoMemory, BadTests}
+use Rattle.ht_app.specs.declared.run_error.RunError.{RunError}
+use Rattle.ht_app.specs.declared.run_error.RunError.TheVariants.{Usage, TooLong, Refused, ReadFault, WriteFault, NoMemory, BadTests}
 
 -- why a netlist that isn't read ends a run
-abbrev pub trouble_of : BenchError → Trouble
-trouble_of bench.NoMemory = NoMemory
-trouble_of error = Refused error
+abbrev pub run_error_of : BenchError → RunError
+run_error_of bench.NoMemory = NoMemory
+run_error_of error = Refused error
 
-abbrev pub status_of : Trouble → ℕ
-status_of Usage = 2
-status_of TooLong = 3
-status_of (Refused error) = 3
-status_of ReadFault = 4
-status_of WriteFault = 5
-status_of NoMemory = 6
-status_of (BadTests line) = 7
+abbrev pub exit_status : RunError → ℕ
+exit_status Usage = 2
+exit_status TooLong = 3
+exit_status (Refused error) = 3
+exit_status ReadFault = 4
+exit_status WriteFault = 5
+exit_status NoMemory = 6
+exit_status (BadTests line) = 7
 
 abbrev pub limit_text : Limit → List ℕ
 limit_text limit.Nets = codes "too many nets"
@@ -61,12 +61,12 @@ line_number bench.NoMemory = 0
 abbrev pub numbered : List ℕ → ℕ → List ℕ → List ℕ
 numbered front number back = front ++ (decimal number ++ back)
 
-abbrev pub line_of : Trouble → List ℕ
-line_of Usage = codes "usage: sim NETLIST TESTS REPORT, norm NETLIST OUT\n"
-line_of TooLong = codes "netlist: too long\n"
-line_of (Refused error) = numbered (codes "netlist: line ") (line_number error) (codes ": ")
+abbrev pub err_line : RunError → List ℕ
+err_line Usage = codes "usage: sim NETLIST TESTS REPORT, norm NETLIST OUT\n"
+err_line TooLong = codes "netlist: too long\n"
+err_line (Refused error) = numbered (codes "netlist: line ") (line_number error) (codes ": ")
     ++ (cause_text error ++ codes "\n")
-line_of ReadFault = codes "read fault\n"
-line_of WriteFault = codes "write fault\n"
-line_of NoMemory = codes "no memory\n"
-line_of (BadTests line) = numbered (codes "tests: line ") line (codes "\n")
+err_line ReadFault = codes "read fault\n"
+err_line WriteFault = codes "write fault\n"
+err_line NoMemory = codes "no memory\n"
+err_line (BadTests line) = numbered (codes "tests: line ") line (codes "\n")

@@ -1,0 +1,168 @@
+-- What calls leave as it was.
+use Rattle.std.proofs.Common.{◌≡◌, ◌≢◌, ◌⊎◌, inl, inr, ℕ, List, Bool, true, false, IsTrue, refl, sym, ◌∙◌, ap, subst, arith, le_refl}
+use Rattle.std.specs.Prelude.{Option, Some, None, IsSome}
+use Rattle.std.specs.Option.{option_map}
+use Rattle.ht_ports.specs.Desk.{DeskView, InCall, OutCall, Writes, Created, NotCreated, IsFilePort, IsOtherName}
+use Rattle.ht_ports.specs.declared.ports.InPort.{InPort}
+use Rattle.ht_ports.specs.declared.ports.OutPort.{OutPort}
+use Rattle.ht_ports.specs.declared.ports.OutPort.TheVariants.{Tests, Report, Proofs, Out, Err}
+use Rattle.ht_app.specs.Changed.{Ports, ChangedOnly, IsNotCreated, IsCreatedOnly, IsOtherFile}
+
+-- ---- the file of one port
+
+-- a port that is as it was
+kept : (created : Option (List ℕ)) (p : OutPort) (a b : DeskView) → IsNotCreated p a b → IsCreatedOnly created p a b
+kept None p a b same = same
+kept (Some name) p a b same = inl same
+
+named_again : (name : List ℕ) (known : Option (List ℕ))
+    → option_map (λ (_ : List ℕ). name) (option_map (λ (_ : List ℕ). name) known) ≡ option_map (λ (_ : List ℕ). name) known
+named_again name None = refl
+named_again name (Some old) = refl
+
+created_trans : (created : Option (List ℕ)) (p : OutPort) (a m b : DeskView) → IsCreatedOnly created p a m
+    → IsCreatedOnly created p m b → IsCreatedOnly created p a b
+created_trans None p a m b x y = (y.0 ∙ x.0, y.1 ∙ x.1)
+created_trans (Some name) p a m b (inl x) (inl y) = inl (y.0 ∙ x.0, y.1 ∙ x.1)
+created_trans (Some name) p a m b (inr x) (inl y) = inr (y.0 ∙ x)
+created_trans (Some name) p a m b (inl x) (inr y) = inr (y ∙ ap (λ known. option_map (λ (_ : List ℕ). name) known) x.0)
+created_trans (Some name) p a m b (inr x) (inr y) =
+    inr (y ∙ ap (λ known. option_map (λ (_ : List ℕ). name) known) x ∙ named_again name (a.named p))
+
+some_named : (name : List ℕ) (known : Option (List ℕ)) → IsSome known → IsSome (option_map (λ (_ : List ℕ). name) known)
+some_named name None is = is
+some_named name (Some old) is = refl
+
+-- another file stays another one
+other_later : (created : Option (List ℕ)) (p : OutPort) (a m : DeskView) (n : List ℕ) → IsCreatedOnly created p a m
+    → IsOtherFile created (a.named p) n → IsOtherFile created (m.named p) n
+other_later None p a m n x other = tt
+other_later (Some name) p a m n (inl x) other = (subst IsSome (sym x.0) other.0, other.1)
+other_later (Some name) p a m n (inr x) other = (subst IsSome (sym x) (some_named name (a.named p) other.0), other.1)
+
+-- ---- runs of calls
+
+pub changed_refl : (ports : Ports) (a : DeskView) → ChangedOnly ports a a
+changed_refl ports a = record {
+  in_later = le_refl _;
+  out_later = le_refl _;
+  steady = refl;
+  left = λ p off. refl;
+  is_open = λ p off. refl;
+  written = λ p off. refl;
+  created = λ p. kept (ports.creates p) p a a (refl, refl);
+  file = λ n other. refl;
+}
+
+pub changed_trans : (ports : Ports) (a m b : DeskView) → ChangedOnly ports a m → ChangedOnly ports m b
+    → ChangedOnly ports a b
+changed_trans ports a m b x y = record {
+  in_later = omega (arith, x.in_later, y.in_later);
+  out_later = omega (arith, x.out_later, y.out_later);
+  steady = y.steady ∙ x.steady;
+  left = λ p off. y.left p off ∙ x.left p off;
+  is_open = λ p off. y.is_open p off ∙ x.is_open p off;
+  written = λ p off. y.written p off ∙ x.written p off;
+  created = λ p. created_trans (ports.creates p) p a m b (x.created p) (y.created p);
+  file = λ n other. y.file n (λ p. other_later (ports.creates p) p a m n (x.created p) (other p)) ∙ x.file n other;
+}
+
+-- the first ports are among the second
+pub record IsWithin (small large : Ports) : Type 0 where
+  pub reads : (p : InPort) → large.reads p ≡ false → small.reads p ≡ false
+  pub creates : (p : OutPort) → (small.creates p ≡ None) ⊎ (small.creates p ≡ large.creates p)
+  pub writes : (p : OutPort) → large.writes p ≡ false → small.writes p ≡ false
+
+pub changed_within : (small large : Ports) (a b : DeskView) → IsWithin small large → ChangedOnly small a b
+    → ChangedOnly large a b
+changed_within small large a b within x = record {
+  in_later = x.in_later;
+  out_later = x.out_later;
+  steady = x.steady;
+  left = λ p off. x.left p (within.reads p off);
+  is_open = λ p off. x.is_open p (within.reads p off);
+  written = λ p off. x.written p (within.writes p off);
+  created = λ p. elim (within.creates p) [
+    | inl none ↦ kept (large.creates p) p a b (subst (λ (o : Option (List ℕ)). IsCreatedOnly o p a b) none (x.created p))
+    | inr same ↦ subst (λ (o : Option (List ℕ)). IsCreatedOnly o p a b) same (x.created p)
+  ];
+  file = λ n other. x.file n (λ p. elim (within.creates p) [
+    | inl none ↦ subst (λ (o : Option (List ℕ)). IsOtherFile o (a.named p) n) (sym none) tt
+    | inr same ↦ subst (λ (o : Option (List ℕ)). IsOtherFile o (a.named p) n) (sym same) (other p)
+  ]);
+}
+
+-- ---- one call
+
+other_in : (ports : Ports) (port p : InPort) → ports.reads port ≡ true → ports.reads p ≡ false → p ≢ port
+other_in ports port p on off e = let t : ports.reads p ≡ true = ap ports.reads e ∙ on in cc
+
+other_out : (ports : Ports) (port p : OutPort) → ports.writes port ≡ true → ports.writes p ≡ false → p ≢ port
+other_out ports port p on off e = let t : ports.writes p ≡ true = ap ports.writes e ∙ on in cc
+
+pub changed_by_reading : (ports : Ports) (port : InPort) (a b : DeskView) → ports.reads port ≡ true → InCall port a b
+    → ChangedOnly ports a b
+changed_by_reading ports port a b on x = record {
+  in_later = x.in_later;
+  out_later = x.out_later;
+  steady = x.steady;
+  left = λ p off. x.others_left p (other_in ports port p on off);
+  is_open = λ p off. x.others_open p (other_in ports port p on off);
+  written = λ p off. ap (λ f. f p) x.written;
+  created = λ p. kept (ports.creates p) p a b (ap (λ f. f p) x.named, ap (λ f. f p) x.is_created);
+  file = λ n other. ap (λ f. f n) x.file;
+}
+
+pub changed_by_writing : (ports : Ports) (port : OutPort) (a b : DeskView) → ports.writes port ≡ true
+    → ((n : List ℕ) → IsOtherFile (ports.creates port) (a.named port) n → IsFilePort port → IsOtherName (a.named port) n)
+    → Writes port a b → ChangedOnly ports a b
+changed_by_writing ports port a b on others x = record {
+  in_later = x.call.in_later;
+  out_later = x.call.out_later;
+  steady = x.call.steady;
+  left = λ p off. ap (λ f. f p) x.call.left;
+  is_open = λ p off. ap (λ f. f p) x.call.is_open;
+  written = λ p off. x.call.others_written p (other_out ports port p on off);
+  created = λ p. kept (ports.creates p) p a b (ap (λ f. f p) x.named, ap (λ f. f p) x.is_created);
+  file = λ n other. x.call.other_files n (λ file. subst (λ (known : Option (List ℕ)). IsOtherName known n)
+      (sym (ap (λ f. f port) x.named)) (others n (other port) file));
+}
+
+-- a port that was created under its name has no other file
+pub created_others : (name : List ℕ) (known before : Option (List ℕ)) (n : List ℕ)
+    → known ≡ option_map (λ (_ : List ℕ). name) before → IsOtherFile (Some name) known n → IsOtherName known n
+created_others name known None n is other = let e : false ≡ true = subst IsSome is other.0 in cc
+created_others name known (Some old) n is other = subst (λ (o : Option (List ℕ)). IsOtherName o n) (sym is) other.1
+
+-- Report is created, or not
+pub changed_by_creating : (ports : Ports) (name : List ℕ) (a b : DeskView) → ports.creates Report ≡ Some name
+    → ports.writes Report ≡ true → OutCall Report a b → Created Report name a b ⊎ NotCreated Report a b
+    → ChangedOnly ports a b
+changed_by_creating ports name a b creates on x how = record {
+  in_later = x.in_later;
+  out_later = x.out_later;
+  steady = x.steady;
+  left = λ p off. ap (λ f. f p) x.left;
+  is_open = λ p off. ap (λ f. f p) x.is_open;
+  written = λ p off. x.others_written p (other_out ports Report p on off);
+  created = created;
+  file = file how;
+}
+  where
+    at : Created Report name a b ⊎ NotCreated Report a b → IsCreatedOnly (Some name) Report a b
+    at (inl is) = inr is.named
+    at (inr not) = inl (ap (λ f. f Report) not.named, ap (λ f. f Report) not.is_created)
+
+    created : (p : OutPort) → IsCreatedOnly (ports.creates p) p a b
+    created Tests = kept (ports.creates Tests) Tests a b (x.others_named Tests (λ e. cc), x.others_created Tests (λ e. cc))
+    created Report = subst (λ (o : Option (List ℕ)). IsCreatedOnly o Report a b) (sym creates) (at how)
+    created Proofs =
+        kept (ports.creates Proofs) Proofs a b (x.others_named Proofs (λ e. cc), x.others_created Proofs (λ e. cc))
+    created Out = kept (ports.creates Out) Out a b (x.others_named Out (λ e. cc), x.others_created Out (λ e. cc))
+    created Err = kept (ports.creates Err) Err a b (x.others_named Err (λ e. cc), x.others_created Err (λ e. cc))
+
+    file : Created Report name a b ⊎ NotCreated Report a b → (n : List ℕ)
+        → ((p : OutPort) → IsOtherFile (ports.creates p) (a.named p) n) → b.file n ≡ a.file n
+    file (inl is) n other = is.others n
+        (λ file. (subst (λ (o : Option (List ℕ)). IsOtherFile o (a.named Report) n) creates (other Report)).1)
+    file (inr not) n other = ap (λ f. f n) not.file

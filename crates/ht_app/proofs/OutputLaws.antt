@@ -1,0 +1,162 @@
+-- What the steps leave, carried to the run: the whole output, or what a failed write leaves of it.
+use Rattle.std.proofs.Common.{◌≡◌, ◌<◌, ◌+◌, inl, inr, ℕ, List, [], ◌++◌, length, take, refl, sym, ◌∙◌, ap, subst, arith}
+use Rattle.std.specs.Prelude.{Option, Some, None}
+use Rattle.std.specs.Option.{option_map}
+use Rattle.std.specs.Io.KnownBytes.{append_known}
+use Rattle.ht_ports.specs.Desk.{DeskView, Writes, Added, AddedPart}
+use Rattle.ht_ports.specs.declared.ports.OutPort.{OutPort}
+use Rattle.ht_ports.specs.declared.ports.OutPort.TheVariants.{Tests, Report, Proofs, Out, Err}
+use Rattle.ht_asked.specs.Asked.{Asked, sim, norm}
+use Rattle.ht_app.specs.Inputs.{AcceptsTests, AcceptsNetlist}
+use Rattle.ht_app.specs.Jobs.{output_name}
+use Rattle.ht_app.specs.Changed.{ChangedOnly}
+use Rattle.ht_app.specs.Done.{IsDone, IsCreatedAs}
+use Rattle.ht_app.specs.Truncated.{IsShort, StopsInReport, IsTruncated}
+use Rattle.ht_app.specs.Steps.{reading, IsBegun, IsReported, AreWorkedInto, IsNormalTextOf}
+
+-- ---- the writing of a report
+
+-- bytes after those that were written since the port was created
+pub stands_more : (known : Option (List ℕ)) (xs ys : List ℕ) → append_known (option_map (λ (_ : List ℕ). xs) known) ys
+    ≡ option_map (λ (_ : List ℕ). xs ++ ys) known
+stands_more None xs ys = refl
+stands_more (Some old) xs ys = refl
+
+-- nothing stands, and a part of the text was added
+pub short_now : (text : List ℕ) (a m b : DeskView) → m.written Report ≡ option_map (λ (_ : List ℕ). []) (a.written Report)
+    → AddedPart Report text m b → IsShort text a b
+short_now text a m b stands p = inr (
+  p.count,
+  p.proper,
+  p.part.written ∙ (ap (λ known. append_known known (take p.count text)) stands
+      ∙ stands_more (a.written Report) [] (take p.count text)),
+)
+
+pub stops_in_body : (body total : List ℕ) (a b : DeskView) → IsShort body a b → b.written Out ≡ a.written Out
+    → StopsInReport body total a b
+stops_in_body body total a b short out = inl (record { report = short; out = out })
+
+pub stops_in_total : (body total : List ℕ) (a m b : DeskView)
+    → m.written Report ≡ option_map (λ (_ : List ℕ). body) (a.written Report) → m.written Out ≡ a.written Out
+    → Writes Out m b → AddedPart Out total m b → StopsInReport body total a b
+stops_in_total body total a m b stands out p part = inr (inl (record {
+  count = part.count;
+  short = part.proper;
+  report = p.call.others_written Report (λ e. cc) ∙ stands;
+  out = part.part.written ∙ ap (λ known. append_known known (take part.count total)) out;
+}))
+
+pub stops_in_last_line : (body total : List ℕ) (a m n b : DeskView)
+    → m.written Report ≡ option_map (λ (_ : List ℕ). body) (a.written Report) → m.written Out ≡ a.written Out
+    → Writes Out m n → Added Out total m n → Writes Report n b → AddedPart Report total n b
+    → StopsInReport body total a b
+stops_in_last_line body total a m n b stands out p added q part = inr (inr (record {
+  count = part.count;
+  short = part.proper;
+  report = part.part.written
+      ∙ (ap (λ known. append_known known (take part.count total)) (p.call.others_written Report (λ e. cc) ∙ stands)
+      ∙ stands_more (a.written Report) body (take part.count total));
+  out = q.call.others_written Out (λ e. cc)
+      ∙ (added.written ∙ ap (λ known. append_known known total) out);
+}))
+
+-- ---- a finished run
+
+created_as : (name n : List ℕ) (a m b : DeskView) → m.named Report ≡ a.named Report → IsCreatedAs Report name m b
+    → name ≡ n → IsCreatedAs Report n a b
+created_as name n a m b same is e = subst (λ (l : List ℕ). IsCreatedAs Report l a b) e (record {
+  is_created = is.is_created;
+  named = is.named ∙ ap (λ known. option_map (λ (_ : List ℕ). name) known) same;
+})
+
+-- the one file of the job is that of Report
+created_only : (job : Asked) (name : List ℕ) (a m b : DeskView) → output_name job Report ≡ Some name
+    → m.named Report ≡ a.named Report → IsCreatedAs Report name m b
+    → (port : OutPort) (n : List ℕ) → output_name job port ≡ Some n → IsCreatedAs port n a b
+created_only job name a m b of same is Report n e = created_as name n a m b same is
+    (let s : Some name ≡ Some n = sym of ∙ e in cc)
+created_only (sim _ _ _) name a m b of same is Tests n e = let s : Some n ≡ None = sym e in cc
+created_only (sim _ _ _) name a m b of same is Proofs n e = let s : Some n ≡ None = sym e in cc
+created_only (sim _ _ _) name a m b of same is Out n e = let s : Some n ≡ None = sym e in cc
+created_only (sim _ _ _) name a m b of same is Err n e = let s : Some n ≡ None = sym e in cc
+created_only (norm _ _) name a m b of same is Tests n e = let s : Some n ≡ None = sym e in cc
+created_only (norm _ _) name a m b of same is Proofs n e = let s : Some n ≡ None = sym e in cc
+created_only (norm _ _) name a m b of same is Out n e = let s : Some n ≡ None = sym e in cc
+created_only (norm _ _) name a m b of same is Err n e = let s : Some n ≡ None = sym e in cc
+
+pub sim_done : (netlist tests name body total : List ℕ) (a m b : DeskView)
+    → ChangedOnly (reading (sim netlist tests name)) a m → IsReported name body total m b
+    → AcceptsTests netlist tests a → AreWorkedInto netlist tests a body total → IsDone (sim netlist tests name) a b
+sim_done netlist tests name body total a m b p reported inputs texts = record {
+  inputs = inputs;
+  created = created_only (sim netlist tests name) name a m b refl (p.created Report).0 reported.begun.created;
+  output = λ n t both. record {
+    report = body ++ total;
+    total = total;
+    simulated = texts.simulated n t both;
+    stands = reported.begun.written
+        ∙ ap (λ known. option_map (λ (_ : List ℕ). body ++ total) known) (p.written Report refl);
+    said = reported.said ∙ ap (λ known. append_known known total) (p.written Out refl);
+  };
+}
+
+pub norm_done : (netlist name text : List ℕ) (a m b : DeskView) → ChangedOnly (reading (norm netlist name)) a m
+    → IsBegun name text m b → AcceptsNetlist netlist a → IsNormalTextOf netlist a text → IsDone (norm netlist name) a b
+norm_done netlist name text a m b p begun input normal = record {
+  inputs = input;
+  created = created_only (norm netlist name) name a m b refl (p.created Report).0 begun.created;
+  output = λ n is.
+      let made = normal.normal n is in
+      record {
+        circuit = made.0;
+        good = made.1;
+        stands = begun.written ∙ ap (λ known. option_map (λ (_ : List ℕ). text) known) (p.written Report refl)
+            ∙ ap (λ l. option_map (λ (_ : List ℕ). l) (a.written Report)) made.2;
+      };
+}
+
+-- ---- a run that failed in writing
+
+-- nothing came out before
+short_earlier : (text : List ℕ) (a m b : DeskView) → m.written Report ≡ a.written Report → IsShort text m b
+    → IsShort text a b
+short_earlier text a m b same (inl is) = inl (is ∙ same)
+short_earlier text a m b same (inr is) =
+    inr (is.0, is.1, is.2 ∙ ap (λ known. option_map (λ (_ : List ℕ). take is.0 text) known) same)
+
+stops_earlier : (body total : List ℕ) (a m b : DeskView) → m.written Report ≡ a.written Report
+    → m.written Out ≡ a.written Out → StopsInReport body total m b → StopsInReport body total a b
+stops_earlier body total a m b report out (inl s) =
+    inl (record { report = short_earlier body a m b report s.report; out = s.out ∙ out })
+stops_earlier body total a m b report out (inr (inl s)) = inr (inl (record {
+  count = s.count;
+  short = s.short;
+  report = s.report ∙ ap (λ known. option_map (λ (_ : List ℕ). body) known) report;
+  out = s.out ∙ ap (λ known. append_known known (take s.count total)) out;
+}))
+stops_earlier body total a m b report out (inr (inr s)) = inr (inr (record {
+  count = s.count;
+  short = s.short;
+  report = s.report ∙ ap (λ known. option_map (λ (_ : List ℕ). body ++ take s.count total) known) report;
+  out = s.out ∙ ap (λ known. append_known known total) out;
+}))
+
+pub sim_truncated : (netlist tests name body total : List ℕ) (a m b : DeskView)
+    → ChangedOnly (reading (sim netlist tests name)) a m → AreWorkedInto netlist tests a body total
+    → StopsInReport body total m b → IsTruncated (sim netlist tests name) a b
+sim_truncated netlist tests name body total a m b p texts stops = λ n t inputs. record {
+  body = body;
+  total = total;
+  simulated = texts.simulated n t inputs;
+  stops = stops_earlier body total a m b (p.written Report refl) (p.written Out refl) stops;
+}
+
+pub norm_truncated : (netlist name text : List ℕ) (a m b : DeskView) → ChangedOnly (reading (norm netlist name)) a m
+    → IsNormalTextOf netlist a text → IsShort text m b → IsTruncated (norm netlist name) a b
+norm_truncated netlist name text a m b p normal stops = λ n is.
+    let made = normal.normal n is in
+    record {
+      circuit = made.0;
+      good = made.1;
+      stops = subst (λ (l : List ℕ). IsShort l a b) made.2 (short_earlier text a m b (p.written Report refl) stops);
+    }

@@ -1,0 +1,140 @@
+-- What the steps of a job touch is what a run of the job may touch.
+use Rattle.std.proofs.Common.{◌≡◌, ◌≢◌, ◌⊎◌, inl, inr, ℕ, List, Bool, true, false, refl, sym, ◌∙◌, ap, subst}
+use Rattle.std.specs.Prelude.{Option, Some, None, is_some, not, ◌&&◌, ◌==◌, if◌then◌else◌}
+use Rattle.ht_ports.specs.Desk.{DeskView, Writes}
+use Rattle.ht_ports.specs.declared.ports.InPort.{InPort}
+use Rattle.ht_ports.specs.declared.ports.InPort.TheVariants as in_port
+use Rattle.ht_ports.specs.declared.ports.OutPort.{OutPort}
+use Rattle.ht_ports.specs.declared.ports.OutPort.TheVariants.{Tests, Report, Proofs, Out, Err}
+use Rattle.ht_asked.specs.Asked.{Asked, sim, norm}
+use Rattle.ht_app.specs.declared.run_error.RunError.{RunError}
+use Rattle.ht_app.specs.declared.run_error.RunError.TheVariants.{Usage, TooLong, Refused, ReadFault, WriteFault, NoMemory, BadTests}
+use Rattle.ht_app.specs.Errors.{exit_status}
+use Rattle.ht_app.specs.Jobs.{input_name, output_name}
+use Rattle.ht_app.specs.Changed.{Ports, ChangedOnly, job_ports, ports_at, may_write, says_on_out}
+use Rattle.ht_app.specs.Steps.{reading, writing, IsUnread}
+use Rattle.ht_app.proofs.ChangedLaws.{IsWithin, changed_within, changed_trans, changed_by_writing}
+
+-- ---- reading
+
+reads_within : (job : Asked) (status : ℕ) → (status == 3) ≡ false → (p : InPort) → (job_ports job status).reads p ≡ false
+    → is_some (input_name job p) ≡ false
+reads_within job status ne in_port.Netlist off = off
+reads_within job status ne in_port.Tests off =
+    subst (λ (b : Bool). (not b && is_some (input_name job in_port.Tests)) ≡ false) ne off
+reads_within job status ne in_port.Report off =
+    subst (λ (b : Bool). (not b && is_some (input_name job in_port.Report)) ≡ false) ne off
+reads_within job status ne in_port.Proofs off =
+    subst (λ (b : Bool). (not b && is_some (input_name job in_port.Proofs)) ≡ false) ne off
+reads_within job status ne in_port.Extra off =
+    subst (λ (b : Bool). (not b && is_some (input_name job in_port.Extra)) ≡ false) ne off
+
+reading_within : (job : Asked) (status : ℕ) → (status == 3) ≡ false → IsWithin (reading job) (job_ports job status)
+reading_within job status ne =
+    record { reads = reads_within job status ne; creates = λ p. inl refl; writes = λ p off. refl }
+
+-- `sim` reads the tests only after a good netlist
+not_read : (job : Asked) (a b : DeskView) → ChangedOnly (reading job) a b → IsUnread in_port.Tests a b
+    → ChangedOnly (job_ports job 3) a b
+not_read job a b x unread = record {
+  in_later = x.in_later;
+  out_later = x.out_later;
+  steady = x.steady;
+  left = left;
+  is_open = is_open;
+  written = λ p off. x.written p refl;
+  created = λ p. x.created p;
+  file = λ n other. x.file n (λ p. tt);
+}
+  where
+    none : (j : Asked) (p : InPort) → p ≢ in_port.Netlist → p ≢ in_port.Tests → is_some (input_name j p) ≡ false
+    none j in_port.Netlist n t = absurd (n refl)
+    none j in_port.Tests n t = absurd (t refl)
+    none (sim netlist tests report) in_port.Report n t = refl
+    none (sim netlist tests report) in_port.Proofs n t = refl
+    none (sim netlist tests report) in_port.Extra n t = refl
+    none (norm netlist out) in_port.Report n t = refl
+    none (norm netlist out) in_port.Proofs n t = refl
+    none (norm netlist out) in_port.Extra n t = refl
+
+    left : (p : InPort) → (job_ports job 3).reads p ≡ false → b.left p ≡ a.left p
+    left in_port.Netlist off = x.left in_port.Netlist off
+    left in_port.Tests off = unread.left
+    left in_port.Report off = x.left in_port.Report (none job in_port.Report (λ e. cc) (λ e. cc))
+    left in_port.Proofs off = x.left in_port.Proofs (none job in_port.Proofs (λ e. cc) (λ e. cc))
+    left in_port.Extra off = x.left in_port.Extra (none job in_port.Extra (λ e. cc) (λ e. cc))
+
+    is_open : (p : InPort) → (job_ports job 3).reads p ≡ false → b.is_open p ≡ a.is_open p
+    is_open in_port.Netlist off = x.is_open in_port.Netlist off
+    is_open in_port.Tests off = unread.is_open
+    is_open in_port.Report off = x.is_open in_port.Report (none job in_port.Report (λ e. cc) (λ e. cc))
+    is_open in_port.Proofs off = x.is_open in_port.Proofs (none job in_port.Proofs (λ e. cc) (λ e. cc))
+    is_open in_port.Extra off = x.is_open in_port.Extra (none job in_port.Extra (λ e. cc) (λ e. cc))
+
+pub ends_reading : (job : Asked) (e : RunError) (a b : DeskView) → ChangedOnly (reading job) a b
+    → (exit_status e ≡ 3 → IsUnread in_port.Tests a b) → ChangedOnly (job_ports job (exit_status e)) a b
+ends_reading job Usage a b x unread = changed_within (reading job) (job_ports job 2) a b (reading_within job 2 refl) x
+ends_reading job TooLong a b x unread = not_read job a b x (unread refl)
+ends_reading job (Refused error) a b x unread = not_read job a b x (unread refl)
+ends_reading job ReadFault a b x unread = changed_within (reading job) (job_ports job 4) a b (reading_within job 4 refl) x
+ends_reading job WriteFault a b x unread =
+    changed_within (reading job) (job_ports job 5) a b (reading_within job 5 refl) x
+ends_reading job NoMemory a b x unread = changed_within (reading job) (job_ports job 6) a b (reading_within job 6 refl) x
+ends_reading job (BadTests line) a b x unread =
+    changed_within (reading job) (job_ports job 7) a b (reading_within job 7 refl) x
+
+-- ---- writing
+
+-- a run that finishes, or fails in writing
+writing_within : (job : Asked) (status : ℕ) (name : List ℕ) → may_write job status ≡ true
+    → output_name job Report ≡ Some name → IsWithin (writing name (says_on_out job)) (job_ports job status)
+writing_within job status name may is = record { reads = λ p off. refl; creates = creates; writes = writes }
+  where
+    creates : (p : OutPort) → ((writing name (says_on_out job)).creates p ≡ None)
+        ⊎ ((writing name (says_on_out job)).creates p ≡ (job_ports job status).creates p)
+    creates Tests = inl refl
+    creates Report = inr (sym (ap (λ b. if b then output_name job Report else None) may ∙ is))
+    creates Proofs = inl refl
+    creates Out = inl refl
+    creates Err = inl refl
+
+    writes : (p : OutPort) → (job_ports job status).writes p ≡ false → (writing name (says_on_out job)).writes p ≡ false
+    writes Tests off = refl
+    writes Report off =
+        let on : (job_ports job status).writes Report ≡ true =
+        ap (λ b. is_some (if b then output_name job Report else None)) may ∙ ap is_some is in
+        cc
+    writes Proofs off = refl
+    writes Out off = subst (λ (b : Bool). (b && says_on_out job) ≡ false) may off
+    writes Err off = refl
+
+pub ends_writing : (job : Asked) (status : ℕ) (name : List ℕ) (a m b : DeskView) → (status == 3) ≡ false
+    → may_write job status ≡ true → output_name job Report ≡ Some name → ChangedOnly (reading job) a m
+    → ChangedOnly (writing name (says_on_out job)) m b → ChangedOnly (job_ports job status) a b
+ends_writing job status name a m b ne may is x y = changed_trans (job_ports job status) a m b
+    (changed_within (reading job) (job_ports job status) a m (reading_within job status ne) x)
+    (changed_within (writing name (says_on_out job)) (job_ports job status) m b (writing_within job status name may is) y)
+
+pub fails_writing : (job : Asked) (e : RunError) (name : List ℕ) (a m b : DeskView) → e ≡ WriteFault
+    → may_write job 5 ≡ true → output_name job Report ≡ Some name → ChangedOnly (reading job) a m
+    → ChangedOnly (writing name (says_on_out job)) m b → ChangedOnly (job_ports job (exit_status e)) a b
+fails_writing job e name a m b is may of x y = subst (λ (t : RunError). ChangedOnly (job_ports job (exit_status t)) a b)
+    (sym is) (ends_writing job 5 name a m b refl may of x y)
+
+-- ---- the line on Err
+
+err_may : (asked : Option Asked) (e : RunError) → (ports_at asked (exit_status e)).writes Err ≡ true
+err_may None e = refl
+err_may (Some job) Usage = refl
+err_may (Some job) TooLong = refl
+err_may (Some job) (Refused error) = refl
+err_may (Some job) ReadFault = refl
+err_may (Some job) WriteFault = refl
+err_may (Some job) NoMemory = refl
+err_may (Some job) (BadTests line) = refl
+
+pub changed_by_line : (asked : Option Asked) (e : RunError) (a m b : DeskView)
+    → ChangedOnly (ports_at asked (exit_status e)) a m → Writes Err m b
+    → ChangedOnly (ports_at asked (exit_status e)) a b
+changed_by_line asked e a m b x line = changed_trans (ports_at asked (exit_status e)) a m b x
+    (changed_by_writing (ports_at asked (exit_status e)) Err m b (err_may asked e) (λ n other file. absurd file) line)

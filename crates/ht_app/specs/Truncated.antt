@@ -1,0 +1,63 @@
+-- What a failed write leaves of the output.
+use Rattle.std.specs.Prelude.{◌≡◌, ◌⊎◌, ℕ, ◌<◌, ◌++◌, List, length, take}
+use Rattle.std.specs.Option.{option_map}
+use Rattle.std.specs.Io.KnownBytes.{append_known}
+use Rattle.ht_ports.specs.Desk.{DeskView}
+use Rattle.ht_ports.specs.declared.ports.InPort.TheVariants.{Netlist}
+use Rattle.ht_ports.specs.declared.ports.OutPort.TheVariants.{Report, Out}
+use Rattle.ht_net.specs.Netlist as net
+use Rattle.ht_bench.specs.Normal.{normal_text}
+use Rattle.ht_asked.specs.Asked.{Asked, sim, norm}
+use Rattle.ht_app.specs.Inputs.{IsInput, IsGoodNetlist, AreInputs}
+use Rattle.ht_app.specs.Done.{IsSimulated}
+
+-- Report is as it was, or has a proper front of this text
+abbrev pub IsShort : List ℕ → DeskView → DeskView → Type 0
+IsShort text old new = (new.written Report ≡ old.written Report)
+    ⊎ ((count : ℕ) × (count < length text) × (new.written Report ≡ option_map (λ _. take count text) (old.written Report)))
+
+-- ---- the three places at which the writing of a report stops: its body, the total line on Out, its last line
+
+-- the body is short, and nothing is said on Out
+pub record StopsInBody (body : List ℕ) (old new : DeskView) : Type 0 where
+  pub report : IsShort body old new
+  pub out : new.written Out ≡ old.written Out
+
+-- the whole body stands, and a proper front of the total line is on Out
+pub record StopsInTotal (body total : List ℕ) (old new : DeskView) : Type 0 where
+  pub count : ℕ
+  pub short : count < length total
+  pub report : new.written Report ≡ option_map (λ _. body) (old.written Report)
+  pub out : new.written Out ≡ append_known (old.written Out) (take count total)
+
+-- the whole total line is on Out, and a proper front of it ends the report
+pub record StopsInLastLine (body total : List ℕ) (old new : DeskView) : Type 0 where
+  pub count : ℕ
+  pub short : count < length total
+  pub report : new.written Report ≡ option_map (λ _. body ++ take count total) (old.written Report)
+  pub out : new.written Out ≡ append_known (old.written Out) total
+
+abbrev pub StopsInReport : List ℕ → List ℕ → DeskView → DeskView → Type 0
+StopsInReport body total old new =
+    StopsInBody body old new ⊎ StopsInTotal body total old new ⊎ StopsInLastLine body total old new
+
+-- ---- each command
+
+-- The report isn't whole. What is on Out isn't without the whole body before it, nor without it the report's last line.
+pub record SimIsTruncated (netlist tests : List ℕ) (old new : DeskView) : Type 0 where
+  pub body : List ℕ
+  pub total : List ℕ
+  pub simulated : IsSimulated netlist tests (body ++ total) total
+  pub stops : StopsInReport body total old new
+
+-- the normal text isn't whole
+pub record NormIsTruncated (netlist : List ℕ) (old new : DeskView) : Type 0 where
+  pub circuit : net.Netlist
+  pub good : IsGoodNetlist netlist circuit
+  pub stops : IsShort (normal_text circuit) old new
+
+abbrev pub IsTruncated : Asked → DeskView → DeskView → Type 0
+IsTruncated (sim netlist_name tests_name report_name) old new = (netlist tests : List ℕ)
+    → AreInputs netlist_name tests_name netlist tests old → SimIsTruncated netlist tests old new
+IsTruncated (norm netlist_name out_name) old new = (netlist : List ℕ) → IsInput Netlist netlist_name netlist old
+    → NormIsTruncated netlist old new

@@ -1,0 +1,70 @@
+//! The file that a command writes, and its total line on Out.
+ghost use Rattle.std.specs.Prelude.{◌≡◌, true, false, is_ok, IfErr, OnOk, OnErr};
+ghost use Rattle.ht_ports.specs.Desk.{IsWritable, OutCall, Wrote};
+ghost use Rattle.ht_ports.specs.declared.ports.OutPort.TheVariants as out_port;
+ghost use Rattle.ht_app.specs.Changed.{ChangedOnly};
+ghost use Rattle.ht_app.specs.Truncated.{IsShort, StopsInReport};
+ghost use Rattle.ht_app.specs.Run.{IsWriteFault};
+ghost use Rattle.ht_app.specs.Steps.{writing, IsBegun, IsReported};
+ghost use Rattle.ht_app.specs.declared.run_error.RunError.TheVariants as error;
+
+use crate::run_error::RunError;
+use ht_ports::{Desk, Failed, OutPort, write_all};
+
+// Writes bytes on a port that may be written.
+fn write_text<D: Desk>(desk: &mut D, port: OutPort, text: &[u8]) -> Result<(), RunError>
+    requires { IsWritable (D.view desk.old) port }
+    ensures wrote { Wrote port text.now (is_ok result) (D.view desk.old) (D.view desk.new) }
+    ensures error { IfErr result (λ e. e ≡ error.WriteFault) }
+    ensures fault { OnErr result (IsWriteFault (D.view desk.old) (D.view desk.new)) }
+{
+    match write_all(desk, port, text) {
+        Ok(()) => Ok(()),
+        Err(Failed) => Err(RunError::WriteFault),
+    }
+}
+
+/// Creates Report under this name, and begins it with this text.
+///
+/// # Errors
+/// `WriteFault`: the desk counted a fault, and the text isn't whole.
+pub fn begin_report<D: Desk>(desk: &mut D, name: &str, text: &[u8]) -> Result<(), RunError>
+    ensures frame { OutCall out_port.Report (D.view desk.old) (D.view desk.new) }
+    ensures changed { ChangedOnly (writing name.now false) (D.view desk.old) (D.view desk.new) }
+    ensures begun { OnOk result (IsBegun name.now text.now (D.view desk.old) (D.view desk.new)) }
+    ensures stops { OnErr result (IsShort text.now (D.view desk.old) (D.view desk.new)) }
+    ensures error { IfErr result (λ e. e ≡ error.WriteFault) }
+    ensures fault { OnErr result (IsWriteFault (D.view desk.old) (D.view desk.new)) }
+{
+    if let Err(Failed) = desk.create(OutPort::Report, name) {
+        return Err(RunError::WriteFault);
+    }
+    write_text(desk, OutPort::Report, text)?;
+    // for the proof: a tail call would lose what the branch above says of the desk
+    Ok(())
+}
+
+/// Creates the report and writes it. The total line goes to Out before it ends the report, so that a report that ends with
+/// its total line is whole.
+///
+/// # Errors
+/// `WriteFault`: the desk counted a fault, and the report isn't whole.
+pub fn write_report<D: Desk>(
+    desk: &mut D,
+    name: &str,
+    body: &[u8],
+    total: &[u8],
+) -> Result<(), RunError>
+    ensures changed { ChangedOnly (writing name.now true) (D.view desk.old) (D.view desk.new) }
+    ensures report { OnOk result
+        (IsReported name.now body.now total.now (D.view desk.old) (D.view desk.new)) }
+    ensures stops { OnErr result
+        (StopsInReport body.now total.now (D.view desk.old) (D.view desk.new)) }
+    ensures error { IfErr result (λ e. e ≡ error.WriteFault) }
+    ensures fault { OnErr result (IsWriteFault (D.view desk.old) (D.view desk.new)) }
+{
+    begin_report(desk, name, body)?;
+    write_text(desk, OutPort::Out, total)?;
+    write_text(desk, OutPort::Report, total)?;
+    Ok(())
+}

@@ -1,0 +1,82 @@
+//! Why a run ends without its work.
+ghost use Rattle.std.specs.Prelude.{◌≡◌};
+ghost use Rattle.ht_app.specs.Errors.{exit_status, run_error_of};
+ghost use Rattle.ht_app.specs.declared.run_error.RunError.TheVariants as error;
+
+use ht_bench::BenchError;
+use std::alloc::{AllocError, AllocFailed};
+
+/// Why a run ends without its work. Lines count from 1.
+///
+/// | Error | Status | Line on Err |
+/// |---|---|---|
+/// | `Usage` | 2 | `usage: sim NETLIST TESTS REPORT, norm NETLIST OUT` |
+/// | `TooLong` | 3 | `netlist: too long` |
+/// | `Refused` | 3 | `netlist: line 2: undriven b` |
+/// | `ReadFault` | 4 | `read fault` |
+/// | `WriteFault` | 5 | `write fault` |
+/// | `NoMemory` | 6 | `no memory` |
+/// | `BadTests` | 7 | `tests: line 2` |
+#[derive(Debug, Drop)]
+pub enum RunError {
+    /// The words have no command's form.
+    Usage,
+    /// The netlist has too many bytes.
+    TooLong,
+    /// The netlist is refused; never because memory ran out.
+    Refused(BenchError),
+    /// The desk counted a fault of reading.
+    ReadFault,
+    /// The desk counted a fault of writing.
+    WriteFault,
+    /// Out of memory.
+    NoMemory,
+    /// A line of the tests is no vector of the circuit.
+    BadTests {
+        /// The first such line.
+        line: u64,
+    },
+}
+
+impl From<AllocError> for RunError {
+    ghost from_gives = { λ _ e. e ≡ error.NoMemory };
+
+    fn from(_: AllocError) -> Self {
+        RunError::NoMemory
+    }
+}
+
+impl<T: Drop> From<AllocFailed<T>> for RunError {
+    ghost from_gives = { λ _ e. e ≡ error.NoMemory };
+
+    fn from(_: AllocFailed<T>) -> Self {
+        RunError::NoMemory
+    }
+}
+
+impl From<BenchError> for RunError {
+    ghost from_gives = { λ error e. e ≡ run_error_of error };
+
+    fn from(error: BenchError) -> Self {
+        match error {
+            BenchError::NoMemory => RunError::NoMemory,
+            error => RunError::Refused(error),
+        }
+    }
+}
+
+impl RunError {
+    /// The status that the run ends with.
+    pub fn status(&self) -> u8
+        ensures { result ≡ exit_status self.now }
+    {
+        match self {
+            RunError::Usage => 2,
+            RunError::TooLong | RunError::Refused(_) => 3,
+            RunError::ReadFault => 4,
+            RunError::WriteFault => 5,
+            RunError::NoMemory => 6,
+            RunError::BadTests { .. } => 7,
+        }
+    }
+}
