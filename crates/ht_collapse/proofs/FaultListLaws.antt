@@ -14,7 +14,7 @@ use Rattle.ht_faults.specs.FaultList.{no_fault}
 use Rattle.ht_faults.proofs.ListLaws as by_site
 use Rattle.ht_faults.proofs.DistinctLaws.{faults_differ}
 use Rattle.ht_collapse.specs.Classes.{fault_at}
-use Rattle.ht_collapse.specs.Ends.{stem_number}
+use Rattle.ht_collapse.specs.Leaders.{stem_number}
 
 -- No fault stands at two places of the list.
 pub listed_once : (c : Netlist) (i j : ℕ) → i < length (faults_of c) → j < length (faults_of c) → fault_at c i

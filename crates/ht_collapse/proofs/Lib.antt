@@ -4,8 +4,8 @@ mod LineLaws
 mod PairLaws
 pub mod RunLaws
 mod FaultListLaws
-mod LeadLaws
+mod UnionLaws
 mod OrderLaws
-mod EndLaws
+mod LeaderLaws
 pub mod ClassLaws
 pub mod OwnLaws

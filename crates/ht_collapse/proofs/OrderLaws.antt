@@ -3,14 +3,14 @@ use Rattle.std.proofs.Common.{◌≡◌, ◌≢◌, ◌<◌, ◌≤◌, ◌+◌,
 use Rattle.std.proofs.lemmas.Bool.{cases_eq}
 use Rattle.ht_net.specs.Netlist.{Netlist, first_gate_net, net_count, gate_at, arg_at, IsCircuit, IsOrder, IsReady}
 use Rattle.ht_collapse.specs.Classes.{SameClass, itself, fault_at}
-use Rattle.ht_collapse.specs.Ends.{stem_number, output_number, StayInClass, GateJoins, OthersStay}
+use Rattle.ht_collapse.specs.Leaders.{stem_number, output_number, StayInClass, GateJoins, OthersStay}
 use Rattle.ht_collapse.proofs.LoadLaws.{read_by}
-use Rattle.ht_collapse.proofs.LeadLaws.{number_same}
+use Rattle.ht_collapse.proofs.UnionLaws.{number_same}
 
 -- every fault leads to itself
-pub own_stay : (c : Netlist) (ends : List ℕ) → length ends ≡ 2 * net_count c
-    → ((k : ℕ) → k < 2 * net_count c → get_or ends k 0 ≡ k) → StayInClass c ends
-own_stay c ends long own = record {
+pub own_stay : (c : Netlist) (leaders : List ℕ) → length leaders ≡ 2 * net_count c
+    → ((k : ℕ) → k < 2 * net_count c → get_or leaders k 0 ≡ k) → StayInClass c leaders
+own_stay c leaders long own = record {
   every = long;
   known = λ k l. let e = own k (omega arith) in omega arith;
   member = λ k l. subst (λ (n : ℕ). SameClass c (fault_at c k) (fault_at c n)) (sym (own k (omega arith)))
@@ -61,8 +61,8 @@ module _ (c : Netlist) (order : List ℕ) (circuit : IsCircuit c) (ordered : IsO
     | inr ne ↦ later_stays before after k j (omega arith) inside others (old j (omega arith) inside)
   ]
 
-  pub all_gates : (ends : List ℕ) → ((j : ℕ) → 0 ≤ j → j < length order → GateJoins c ends (get_or order j 0)) → (g : ℕ)
-      → g < length c.gates → GateJoins c ends g
-  all_gates ends h g inside =
+  pub all_gates : (leaders : List ℕ) → ((j : ℕ) → 0 ≤ j → j < length order → GateJoins c leaders (get_or order j 0)) → (g : ℕ)
+      → g < length c.gates → GateJoins c leaders g
+  all_gates leaders h g inside =
       let at = ordered.each.covers g inside in
-      subst (GateJoins c ends) at.2 (h at.0 (omega arith) at.1)
+      subst (GateJoins c leaders) at.2 (h at.0 (omega arith) at.1)

@@ -1,6 +1,7 @@
 -- The two faults of an equivalent pair give equal outputs and equal next states in a frame.
 use Rattle.std.proofs.Common.{◌≡◌, ◌≢◌, ◌<◌, ◌≤◌, ◌+◌, ◌-◌, ℕ, List, Bool, cond, length, get_or, Some, refl, sym, ◌∙◌, ap, arith, inl, inr}
 use Rattle.std.specs.Prelude.{eqb}
+use Rattle.std.proofs.lemmas.Bool.{eq-eqb, ne_eqb}
 use Rattle.std.proofs.lemmas.Bool.Decides.{eqb_tells}
 use Rattle.ht_tern.specs.declared.gate.Kind.{Kind}
 use Rattle.ht_net.specs.declared.fault.Site.TheVariants.{GatePin}
@@ -12,7 +13,7 @@ use Rattle.ht_net.proofs.FrameLaws.{frame_settled, settled_is_frame, value_same,
 use Rattle.ht_net.proofs.ValueLaws.{seen_same, taken_same}
 use Rattle.ht_collapse.specs.Table.{equivalent_output}
 use Rattle.ht_collapse.proofs.LoadLaws.{IsReadBy}
-use Rattle.ht_collapse.proofs.LineLaws.{stuck, good, stem_site, equal_test, other_test, pins_get, stem_stuck, stem_free, good_gate, pin_stuck, pin_gate, pin_free}
+use Rattle.ht_collapse.proofs.LineLaws.{stuck, good, stem_site, pins_get, stem_stuck, stem_free, good_gate, pin_stuck, pin_gate, pin_free}
 
 -- A domain where the table of equivalent faults holds of every gate.
 pub record HasTable {V : Type 0} (blank : V) (gate : Kind → List V → V) (at : Bool → V) : Type 0 where
@@ -29,10 +30,10 @@ abbrev but : {V : Type 0} → ℕ → V → (ℕ → V) → ℕ → V
 but a v e x = cond (eqb x a) v (e x)
 
 but_other : {V : Type 0} → (a : ℕ) (v : V) (e : ℕ → V) (x : ℕ) → x ≢ a → but a v e x ≡ e x
-but_other a v e x ne = rw (other_test x a ne) refl
+but_other a v e x ne = rw (ne_eqb x a ne) refl
 
 but_same : {V : Type 0} → (a : ℕ) (v : V) (e : ℕ → V) (x : ℕ) → x ≡ a → but a v e x ≡ v
-but_same a v e x is = rw (equal_test x a is) refl
+but_same a v e x is = rw (eq-eqb x a is) refl
 
 module _ {V : Type 0} (blank : V) (gate : Kind → List V → V) (at : Bool → V) (table : HasTable blank gate at)
     (c : Netlist) where

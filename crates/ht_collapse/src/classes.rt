@@ -1,10 +1,10 @@
-// Classes of equivalent faults.
+//! Classes of equivalent faults.
 ghost use Rattle.std.specs.Prelude.{◌≡◌, ◌<◌, ◌^◌, length, get_or, IfOk};
 ghost use Rattle.ht_faults.specs.Sites.{faults_of};
 ghost use Rattle.ht_collapse.specs.Classes.{AreClasses, own_representatives};
 
-use crate::ends::find_ends;
-use crate::places::first_places;
+use crate::first_index::first_indices;
+use crate::leaders::find_leaders;
 use ht_faults::FaultList;
 use ht_net::Circuit;
 use std::alloc::{AllocError, Global};
@@ -30,7 +30,7 @@ impl Model for Classes {
     ghost invariant = { AreListed };
 }
 
-/// The numbers that are their own representative.
+// The numbers that are their own representative.
 fn own_representatives(alloc: Global, by_fault: &[u32]) -> Result<Vec<u32>, AllocError>
     requires { length by_fault.now < 2 ^ 32 }
     ensures { IfOk result (λ own. own.items ≡ own_representatives by_fault.now) }
@@ -44,15 +44,19 @@ fn own_representatives(alloc: Global, by_fault: &[u32]) -> Result<Vec<u32>, Allo
     Ok(own)
 }
 
-/// The classes of a circuit's fault list, structurally collapsed: an input fault and an output fault of a gate are
-/// equivalent where the input's stuck value decides the output, nothing collapses across a flip-flop, and classes are the
-/// closure of these pairs. Errs where memory runs out.
+/// The classes of a circuit's fault list by structural equivalence (McCluskey and Clegg 1971): an input fault and an output
+/// fault of a gate are equivalent where the input's stuck value decides the output, nothing collapses across a flip-flop,
+/// and classes are the closure of these pairs. Its time is linear in the pins and faults of the circuit.
+///
+/// # Errors
+///
+/// `AllocError`: out of memory.
 pub fn collapse(alloc: Global, circuit: &Circuit, faults: &FaultList) -> Result<Classes, AllocError>
     requires { faults.now ≡ faults_of circuit.now }
     ensures { IfOk result (λ classes. AreClasses circuit.now classes) }
 {
-    let ends = find_ends(alloc, circuit, faults)?;
-    let by_fault = first_places(alloc, &ends)?;
+    let leaders = find_leaders(alloc, circuit, faults)?;
+    let by_fault = first_indices(alloc, &leaders)?;
     let own = own_representatives(alloc, &by_fault)?;
     Ok(Classes { by_fault, own })
 }
@@ -65,7 +69,7 @@ impl Classes {
         self.by_fault.len() as u32
     }
 
-    /// The number of a fault's representative: the least number in the class of fault i.
+    /// The representative of fault `i`: the least number in its class.
     pub fn of(&self, i: u32) -> u32
         requires { i < length self.now }
         ensures { result ≡ get_or self.now i 0 }
@@ -73,7 +77,7 @@ impl Classes {
         self.by_fault[i as usize]
     }
 
-    /// The numbers that are their own representative, rising: one for each class.
+    /// The representatives of all classes, rising: the numbers that are their own representative.
     pub fn representatives(&self) -> &[u32]
         ensures { result.now ≡ own_representatives self.now }
     {

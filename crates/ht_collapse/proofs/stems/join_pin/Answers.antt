@@ -2,8 +2,8 @@ use Rattle.std.proofs.Common.{◌≡◌, ◌<◌, ℕ, List, Bool, true, false, 
 use Rattle.ht_net.specs.declared.net.NetId.{NetId}
 use Rattle.ht_net.specs.Netlist.{Netlist, arg_at, gate_at, no_net, IsCircuit}
 use Rattle.ht_faults.specs.Sites.{is_fanout}
-use Rattle.ht_collapse.specs.Ends.{stem_number, output_value, led, StayInClass, PinJoins, OthersStay}
-use Rattle.ht_collapse.proofs.LeadLaws.{led_both, both_stay, both_join, both_keep, both_others}
+use Rattle.ht_collapse.specs.Leaders.{stem_number, output_value, united, StayInClass, PinJoins, OthersStay}
+use Rattle.ht_collapse.proofs.UnionLaws.{united_both, both_stay, both_join, both_keep, both_others}
 use Rattle.ht_collapse.proofs.stems.join_pin.Goals as goal
 
 pub returns-then-has_fanout-clause-this : goal.returns-then-has_fanout-clause-this
@@ -26,14 +26,14 @@ one_load n args g i fanout is test single = ap (λ (l : List NetId). is_fanout n
 
 all_is : (n : Netlist) (circuit : IsCircuit n) (g i : ℕ) (inside : g < length n.gates)
     (pin : i < length (gate_at n g).args) (single : is_fanout n (arg_at n g i) ≡ false)
-    (args : List NetId) → args ≡ (gate_at n g).args → (ends some all : List ℕ)
-    → some ≡ led n g (stem_number (get_or args i no_net).0 false) (output_value n g false) ends → all
-    ≡ led n g (stem_number (get_or args i no_net).0 true) (output_value n g true) some
-    → all ≡ led n g (stem_number (arg_at n g i) true) (output_value n g true)
-    (led n g (stem_number (arg_at n g i) false) (output_value n g false) ends)
-all_is n circuit g i inside pin single args is ends some all first second =
-    led_both n circuit g i inside pin single (get_or args i no_net).0
-    (ap (λ (l : List NetId). (get_or l i no_net).0) is) ends some all first second
+    (args : List NetId) → args ≡ (gate_at n g).args → (leaders some all : List ℕ)
+    → some ≡ united n g (stem_number (get_or args i no_net).0 false) (output_value n g false) leaders → all
+    ≡ united n g (stem_number (get_or args i no_net).0 true) (output_value n g true) some
+    → all ≡ united n g (stem_number (arg_at n g i) true) (output_value n g true)
+    (united n g (stem_number (arg_at n g i) false) (output_value n g false) leaders)
+all_is n circuit g i inside pin single args is leaders some all first second =
+    united_both n circuit g i inside pin single (get_or args i no_net).0
+    (ap (λ (l : List NetId). (get_or l i no_net).0) is) leaders some all first second
 
 pub returns-clause-after : goal.returns-clause-after
 returns-clause-after c =
@@ -42,9 +42,9 @@ returns-clause-after c =
     c.has_fanout.ensures c.if-has_fanout.false in
     let is = all_is n c.gate_args.ensures.circuit c.args.g c.args.i c.requires.gate c.requires.pin single
     c.gate_args.result.now c.gate_args.ensures.args
-    c.args.ends.now c.lead_on.new.ends c.lead_on-2.new.ends c.lead_on.ensures c.lead_on-2.ensures in
+    c.args.leaders.now c.unite.new.leaders c.unite-2.new.leaders c.unite.ensures c.unite-2.ensures in
     subst (StayInClass n) (sym is)
-    (both_stay n c.gate_args.ensures.circuit c.args.g c.args.i c.requires.gate c.requires.pin single c.args.ends.now
+    (both_stay n c.gate_args.ensures.circuit c.args.g c.args.i c.requires.gate c.requires.pin single c.args.leaders.now
     c.requires.before)
 
 pub returns-clause-this : goal.returns-clause-this
@@ -54,9 +54,9 @@ returns-clause-this c =
     c.has_fanout.ensures c.if-has_fanout.false in
     let is = all_is n c.gate_args.ensures.circuit c.args.g c.args.i c.requires.gate c.requires.pin single
     c.gate_args.result.now c.gate_args.ensures.args
-    c.args.ends.now c.lead_on.new.ends c.lead_on-2.new.ends c.lead_on.ensures c.lead_on-2.ensures in
+    c.args.leaders.now c.unite.new.leaders c.unite-2.new.leaders c.unite.ensures c.unite-2.ensures in
     subst (λ (l : List ℕ). PinJoins n l c.args.g c.args.i) (sym is)
-    (both_join n c.gate_args.ensures.circuit c.args.g c.args.i c.requires.gate c.requires.pin single c.args.ends.now
+    (both_join n c.gate_args.ensures.circuit c.args.g c.args.i c.requires.gate c.requires.pin single c.args.leaders.now
     c.requires.before.every)
 
 pub returns-clause-pins : goal.returns-clause-pins
@@ -66,9 +66,9 @@ returns-clause-pins c = λ k inside old.
     c.has_fanout.ensures c.if-has_fanout.false in
     let is = all_is n c.gate_args.ensures.circuit c.args.g c.args.i c.requires.gate c.requires.pin single
     c.gate_args.result.now c.gate_args.ensures.args
-    c.args.ends.now c.lead_on.new.ends c.lead_on-2.new.ends c.lead_on.ensures c.lead_on-2.ensures in
+    c.args.leaders.now c.unite.new.leaders c.unite-2.new.leaders c.unite.ensures c.unite-2.ensures in
     subst (λ (l : List ℕ). PinJoins n l c.args.g k) (sym is)
-    (both_keep n c.gate_args.ensures.circuit c.args.g c.args.i c.requires.gate c.requires.pin single c.args.ends.now
+    (both_keep n c.gate_args.ensures.circuit c.args.g c.args.i c.requires.gate c.requires.pin single c.args.leaders.now
     c.requires.before.every k old)
 
 pub returns-clause-others : goal.returns-clause-others
@@ -78,6 +78,6 @@ returns-clause-others c =
     c.has_fanout.ensures c.if-has_fanout.false in
     let is = all_is n c.gate_args.ensures.circuit c.args.g c.args.i c.requires.gate c.requires.pin single
     c.gate_args.result.now c.gate_args.ensures.args
-    c.args.ends.now c.lead_on.new.ends c.lead_on-2.new.ends c.lead_on.ensures c.lead_on-2.ensures in
-    subst (λ (l : List ℕ). OthersStay n c.args.ends.now l c.args.g) (sym is)
-    (both_others n c.gate_args.ensures.circuit c.args.g c.args.i c.requires.gate c.requires.pin single c.args.ends.now)
+    c.args.leaders.now c.unite.new.leaders c.unite-2.new.leaders c.unite.ensures c.unite-2.ensures in
+    subst (λ (l : List ℕ). OthersStay n c.args.leaders.now l c.args.g) (sym is)
+    (both_others n c.gate_args.ensures.circuit c.args.g c.args.i c.requires.gate c.requires.pin single c.args.leaders.now)

@@ -1,4 +1,4 @@
-// What members of a class have in common. Each law is the contract of a function that does nothing.
+//! What members of a class have in common. Each theorem is the contract of a function that does nothing.
 ghost use Rattle.std.specs.Prelude.{◌≡◌, ◌<◌, ℕ, List, Bool, Option, Some, ◌↔◌, length, get_or};
 ghost use Rattle.ht_net.specs.declared.fault.Fault.{Fault};
 ghost use Rattle.ht_net.specs.declared.place.Place.{Place};
