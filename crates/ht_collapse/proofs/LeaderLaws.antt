@@ -24,7 +24,8 @@ module _ (c : Netlist) (circuit : IsCircuit c) (stems : List ℕ) (stay : StayIn
   Meets f g = (f ≡ g) ⊎ ((i j : ℕ) → leader_at c stems i f ≡ leader_at c stems j g)
 
   -- an input fault has the leader of the output fault
-  input_leader : (g p : ℕ) (v w : Bool) → g < length c.gates → p < length (gate_at c g).args → output_value c g v ≡ Some w
+  input_leader : (g p : ℕ) (v w : Bool) → g < length c.gates → p < length (gate_at c g).args → output_value c g v
+      ≡ Some w
       → (i : ℕ)
       → (fanout : Bool) → is_fanout c (arg_at c g p) ≡ fanout
       → leader_by c stems i (cond fanout (GatePin g p) (Stem (record { 0 = arg_at c g p }))) v
@@ -35,7 +36,8 @@ module _ (c : Netlist) (circuit : IsCircuit c) (stems : List ℕ) (stay : StayIn
   pair_meets : (f g : Fault) → EquivalentPair c f g → (i j : ℕ) → leader_at c stems i f ≡ leader_at c stems j g
   pair_meets f g h i j =
       ap (λ (s : Site). leader_by c stems i s f.value) h.at_input
-      ∙ (input_leader h.gate h.pin f.value g.value h.is_gate h.is_pin h.values i (is_fanout c (arg_at c h.gate h.pin)) refl
+      ∙ (input_leader h.gate h.pin f.value g.value h.is_gate h.is_pin h.values i (is_fanout c (arg_at c h.gate h.pin))
+      refl
       ∙ sym (ap (λ (s : Site). leader_by c stems j s g.value) h.at_output))
 
   turn : (f g : Fault) → Meets f g → Meets g f
@@ -57,7 +59,8 @@ module _ (c : Netlist) (circuit : IsCircuit c) (stems : List ℕ) (stay : StayIn
   abbrev LeadsToMember : ℕ → Fault → ℕ → Type 0
   LeadsToMember i f e = (e < length (faults_of c)) × SameClass c f (fault_at c e)
 
-  stem_leads_to_member : (i x : ℕ) (v : Bool) (f : Fault) → x < net_count c → SameClass c f (fault_at c (stem_number x v))
+  stem_leads_to_member : (i x : ℕ) (v : Bool) (f : Fault) → x < net_count c
+      → SameClass c f (fault_at c (stem_number x v))
       → LeadsToMember i f (get_or stems (stem_number x v) 0)
   stem_leads_to_member i x v f inside h =
       let at : stem_number x v < length stems = let b = number_below x (net_count c) v inside in let e = stay.every
@@ -105,8 +108,10 @@ module _ (c : Netlist) (circuit : IsCircuit c) (stems : List ℕ) (stay : StayIn
       pin_leads_to_member i g p v f listed at is site.0 site.1 (many_loads c (arg_at c g p) (omega arith))
       (output_value c g v) refl
 
-  leads_to_member : (i : ℕ) → i < length (faults_of c) → LeadsToMember i (fault_at c i) (leader_at c stems i (fault_at c i))
-  leads_to_member i listed = leads_to_member_by i (fault_at c i) listed refl (fault_at c i).site (fault_at c i).value refl
+  leads_to_member : (i : ℕ) → i < length (faults_of c)
+      → LeadsToMember i (fault_at c i) (leader_at c stems i (fault_at c i))
+  leads_to_member i listed = leads_to_member_by i (fault_at c i) listed refl (fault_at c i).site (fault_at c i).value
+      refl
       (fault_site c i listed)
 
   -- what faults lead to, by number, are leaders

@@ -40,7 +40,8 @@ module _ (c : Netlist) (order : List ℕ) (circuit : IsCircuit c) (ordered : IsO
       → GateJoins c before (get_or order j 0) → GateJoins c after (get_or order j 0)
   later_stays before after k j less inside others old = λ i pin. record {
     joins = λ v w single values.
-        let alone = read_by c (arg_at c (get_or order j 0) i) (get_or order j 0) i single (ordered.each.within j inside) pin
+        let alone = read_by c (arg_at c (get_or order j 0) i) (get_or order j 0) i single (ordered.each.within j inside)
+        pin
         refl in
         let input = others.stay (stem_number (arg_at c (get_or order j 0) i) v) (λ p u there same.
         let is = number_same (arg_at c (get_or order j 0) i) (arg_at c (get_or order k 0) p) v u same in
@@ -61,7 +62,8 @@ module _ (c : Netlist) (order : List ℕ) (circuit : IsCircuit c) (ordered : IsO
     | inr ne ↦ later_stays before after k j (omega arith) inside others (old j (omega arith) inside)
   ]
 
-  pub all_gates : (leaders : List ℕ) → ((j : ℕ) → 0 ≤ j → j < length order → GateJoins c leaders (get_or order j 0)) → (g : ℕ)
+  pub all_gates : (leaders : List ℕ) → ((j : ℕ) → 0 ≤ j → j < length order → GateJoins c leaders (get_or order j 0))
+      → (g : ℕ)
       → g < length c.gates → GateJoins c leaders g
   all_gates leaders h g inside =
       let at = ordered.each.covers g inside in

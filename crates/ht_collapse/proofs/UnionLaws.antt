@@ -70,13 +70,15 @@ module _ (c : Netlist) (circuit : IsCircuit c) (g i : ℕ) (inside : g < length 
   abbrev unites : Bool → List ℕ → List ℕ
   unites v leaders = united c g (stem_number (arg_at c g i) v) (output_value c g v) leaders
 
-  unites_others : (v : Bool) (leaders : List ℕ) (k : ℕ) → k ≢ stem_number (arg_at c g i) v → get_or (unites v leaders) k 0
+  unites_others : (v : Bool) (leaders : List ℕ) (k : ℕ) → k ≢ stem_number (arg_at c g i) v
+      → get_or (unites v leaders) k 0
       ≡ get_or leaders k 0
   unites_others v leaders k ne = go (output_value c g v)
     where
       go : (o : Option Bool) → get_or (united c g (stem_number (arg_at c g i) v) o leaders) k 0 ≡ get_or leaders k 0
       go None = refl
-      go (Some w) = get_or-set_other leaders (stem_number (arg_at c g i) v) k (get_or leaders (output_number c g w) 0) 0 ne
+      go (Some w) = get_or-set_other leaders (stem_number (arg_at c g i) v) k (get_or leaders (output_number c g w) 0) 0
+          ne
 
   outputs_stay : (v : Bool) (leaders : List ℕ) (w : Bool) → get_or (unites v leaders) (output_number c g w) 0
       ≡ get_or leaders (output_number c g w) 0
@@ -86,7 +88,8 @@ module _ (c : Netlist) (circuit : IsCircuit c) (g i : ℕ) (inside : g < length 
   unites_stay : (v : Bool) (leaders : List ℕ) → StayInClass c leaders → StayInClass c (unites v leaders)
   unites_stay v leaders h = go (output_value c g v) refl
     where
-      go : (o : Option Bool) → output_value c g v ≡ o → StayInClass c (united c g (stem_number (arg_at c g i) v) o leaders)
+      go : (o : Option Bool) → output_value c g v ≡ o
+          → StayInClass c (united c g (stem_number (arg_at c g i) v) o leaders)
       go None values = h
       go (Some w) values =
           let input : ℕ = stem_number (arg_at c g i) v in
@@ -98,7 +101,8 @@ module _ (c : Netlist) (circuit : IsCircuit c) (g i : ℕ) (inside : g < length 
             every = long ∙ h.every;
             known = λ j l.
                 let inside : j < length leaders = omega arith in
-                let low = set_keeps (λ n m. m < length leaders) leaders input leader (h.known (output_number c g w) out) h.known
+                let low = set_keeps (λ n m. m < length leaders) leaders input leader (h.known (output_number c g w) out)
+                h.known
                 j inside in
                 omega (arith, low, long);
             member = λ j l.
@@ -123,10 +127,12 @@ module _ (c : Netlist) (circuit : IsCircuit c) (g i : ℕ) (inside : g < length 
       go (Some u) is =
           let room = number_below (arg_at c g i) (net_count c) v (circuit.known g i inside pin) in
           let same : u ≡ w = same_Some u w (sym is ∙ values) in
-          get_or-set_same leaders (stem_number (arg_at c g i) v) (get_or leaders (output_number c g u) 0) 0 (omega arith)
+          get_or-set_same leaders (stem_number (arg_at c g i) v) (get_or leaders (output_number c g u) 0) 0
+          (omega arith)
           ∙ ap (λ (b : Bool). get_or leaders (output_number c g b) 0) same
 
-  unites_keep : (v : Bool) (leaders : List ℕ) → length leaders ≡ 2 * net_count c → (k : ℕ) (u : Bool) → ValueJoins leaders k u
+  unites_keep : (v : Bool) (leaders : List ℕ) → length leaders ≡ 2 * net_count c → (k : ℕ) (u : Bool)
+      → ValueJoins leaders k u
       → ValueJoins (unites v leaders) k u
   unites_keep v leaders long k u old w alone values = elim
       (cases_eq (stem_number (arg_at c g k) u) (stem_number (arg_at c g i) v)) [
@@ -159,7 +165,8 @@ module _ (c : Netlist) (circuit : IsCircuit c) (g i : ℕ) (inside : g < length 
   pub both_stay : (leaders : List ℕ) → StayInClass c leaders → StayInClass c (both leaders)
   both_stay leaders h = unites_stay true (unites false leaders) (unites_stay false leaders h)
 
-  by_value : (leaders : List ℕ) (k : ℕ) → ValueJoins leaders k false → ValueJoins leaders k true → PinJoins c leaders g k
+  by_value : (leaders : List ℕ) (k : ℕ) → ValueJoins leaders k false → ValueJoins leaders k true
+      → PinJoins c leaders g k
   by_value leaders k low high = record { joins = go }
     where
       go : (v w : Bool) → is_fanout c (arg_at c g k) ≡ false → output_value c g v ≡ Some w
@@ -178,8 +185,10 @@ module _ (c : Netlist) (circuit : IsCircuit c) (g i : ℕ) (inside : g < length 
   both_keep leaders long k old =
       let long' : length (unites false leaders) ≡ 2 * net_count c = unites_length false leaders ∙ long in
       by_value (both leaders) k
-      (unites_keep true (unites false leaders) long' k false (unites_keep false leaders long k false (λ w. old.joins false w)))
-      (unites_keep true (unites false leaders) long' k true (unites_keep false leaders long k true (λ w. old.joins true w)))
+      (unites_keep true (unites false leaders) long' k false
+      (unites_keep false leaders long k false (λ w. old.joins false w)))
+      (unites_keep true (unites false leaders) long' k true
+      (unites_keep false leaders long k true (λ w. old.joins true w)))
 
   pub both_others : (leaders : List ℕ) → OthersStay c leaders (both leaders) g
   both_others leaders = record {

@@ -44,7 +44,8 @@ one_more c representatives list places place k i so_far is inside first within =
     | inr other ↦ elim (cases_eq j k) [
       | inl last ↦ absurd (other (ap own last ∙ sym is))
       | inr before ↦
-          subst (IsFirstDetection c (fault_at c (own j)) list) (sym (get_or-set_other places i (own j) place None other))
+          subst (IsFirstDetection c (fault_at c (own j)) list)
+          (sym (get_or-set_other places i (own j) place None other))
           (so_far.first j (omega arith))
     ]
   ];
@@ -64,7 +65,8 @@ one_more c representatives list places place k i so_far is inside first within =
     written = get_or-set_same places i place None inside
 
 -- all classes
-pub all_first : (c : Netlist) (representatives : List ℕ) (list : List (List Bool)) (places : List (Option Place)) (k : ℕ)
+pub all_first : (c : Netlist) (representatives : List ℕ) (list : List (List Bool)) (places : List (Option Place))
+    (k : ℕ)
     → length representatives ≡ length (faults_of c) → AreFirstSoFar c representatives list k places
     → length (own_representatives representatives) ≤ k → AreFirstDetections c representatives list places
 all_first c representatives list places k every so_far done = record {

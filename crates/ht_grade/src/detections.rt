@@ -10,9 +10,9 @@ use ht_net::{Circuit, Place, Vectors};
 use ht_serial::GoodRun;
 use std::alloc::{AllocError, Global};
 
-/// The first place where the vectors detect the representative of each class, or none, at the number of that fault, from 0.
-/// There are as many entries as faults; what stands at another fault's number has no meaning. Each representative is
-/// simulated from the first vector to its detection.
+/// The first place where the vectors detect the representative of each class, or none, at the number of that fault,
+/// from 0. There are as many entries as faults; what stands at another fault's number has no meaning. Each
+/// representative is simulated from the first vector to its detection.
 ///
 /// # Errors
 ///

@@ -4,3 +4,4 @@ pub mod CountLaws
 pub mod LineLaws
 pub mod TestLaws
 pub mod VectorLaws
+pub mod WrittenLaws

@@ -38,7 +38,8 @@ pub first_lines_more : (c : Netlist) (representatives : List ℕ) (budget : Opti
     ++ with_lf (fault_line c representatives n (said_at saids n))
 first_lines_more c representatives budget saids n =
     let line : ℕ → List ℕ = λ i. fault_line c representatives i (said_at saids i) in
-    ap (λ lines. with_lfs (head_line c representatives budget ∷ lines)) (map-range_with_len_more line 0 n n (omega arith))
+    ap (λ lines. with_lfs (head_line c representatives budget ∷ lines))
+    (map-range_with_len_more line 0 n n (omega arith))
     ∙ with_lfs-push (first_lines c representatives budget saids n) (line n)
 
 -- the report is its body and its total line

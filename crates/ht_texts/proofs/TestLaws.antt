@@ -8,68 +8,9 @@ use Rattle.ht_net.specs.Netlist.{Netlist}
 use Rattle.ht_ports.specs.Cutting.{lines_of, without_cr}
 use Rattle.ht_texts.specs.Tests.{bit_code, vector_text, line_of_byte, IsTextOf, IsTestText, IsNoVector, IsMalformedTest, test_text}
 use Rattle.ht_texts.proofs.LineLaws.{IsClean, AreClean, lines_are_lines}
-use Rattle.ht_texts.proofs.VectorLaws.{no_vector_has, no_vector_fits, length-vector_text, get_or-vector_text}
+use Rattle.ht_texts.proofs.VectorLaws.{vector_or_none, map_injective, vector_text_injective, length-vector_text}
 
--- ---- a line is the text of one vector or of none
-
-bit_code_injective : (a b : Bool) → bit_code a ≡ bit_code b → a ≡ b
-bit_code_injective false false e = refl
-bit_code_injective false true e = absurd (omega (arith, e))
-bit_code_injective true false e = absurd (omega (arith, e))
-bit_code_injective true true e = refl
-
-map_injective : {A B : Type 0} (f : A → B) → ((x y : A) → f x ≡ f y → x ≡ y) → (xs ys : List A) → map f xs ≡ map f ys
-    → xs ≡ ys
-map_injective f injective [] [] e = refl
-map_injective f injective [] (y ∷ ys) e = cc
-map_injective f injective (x ∷ xs) [] e = cc
-map_injective f injective (x ∷ xs) (y ∷ ys) e =
-    let here : f x ≡ f y = cc in
-    let more : map f xs ≡ map f ys = cc in
-    let first : x ≡ y = injective x y here in
-    let rest : xs ≡ ys = map_injective f injective xs ys more in
-    cc
-
-pub vector_text_injective : (a b : List Bool) → vector_text a ≡ vector_text b → a ≡ b
-vector_text_injective = map_injective bit_code bit_code_injective
-
--- a character is a bit's or no bit's
-bit_or_none : (x : ℕ) → ((bit : Bool) × (x ≡ bit_code bit)) ⊎ ((bit : Bool) → x ≢ bit_code bit)
-bit_or_none x = elim (cases_eq x 48) [
-  | inl is_0 ↦ inl (false, is_0)
-  | inr not_0 ↦ elim (cases_eq x 49) [
-    | inl is_1 ↦ inl (true, is_1)
-    | inr not_1 ↦ inr (λ bit. elim bit as (λ b. x ≢ bit_code b) [ false ↦ not_0 | true ↦ not_1 ])
-  ]
-]
-
--- each character of the line is a bit's, or one is no bit's
-bits_or_none : (line : List ℕ) → ((vector : List Bool) × (line ≡ vector_text vector))
-    ⊎ ((k : ℕ) × (k < length line) × ((bit : Bool) → get_or line k 0 ≢ bit_code bit))
-bits_or_none [] = inl ([], refl)
-bits_or_none (x ∷ line) = elim (bit_or_none x) [
-  | inr none ↦ inr (0, omega arith, none)
-  | inl here ↦ elim (bits_or_none line) [
-    | inl rest ↦ inl (here.0 ∷ rest.0, let e = here.1 in let f = rest.1 in cc)
-    | inr bad ↦ inr (suc bad.0, omega arith, bad.2)
-  ]
-]
-
-vector_or_none : (width : ℕ) (line : List ℕ) → ((vector : List Bool) × IsTextOf width line vector)
-    ⊎ ((vector : List Bool) → ¬ IsTextOf width line vector)
-vector_or_none width line = elim (cases_eq (length line) width) [
-  | inr differs ↦ inr (no_vector_fits width line differs)
-  | inl same ↦ elim (bits_or_none line) [
-    | inr bad ↦ inr (no_vector_has width line bad.0 bad.1 bad.2)
-    | inl read ↦ inl (
-      read.0,
-      record
-          { characters = read.1; bits = sym (length-vector_text read.0) ∙ sym (ap length read.1) ∙ same },
-    )
-  ]
-]
-
--- ---- so are lines, up to the first that is the text of none
+-- ---- lines are the texts of vectors, up to the first that is the text of none
 
 pub record AreVectors (width : ℕ) (lines : List (List ℕ)) (list : List (List Bool)) : Type 0 where
   pub texts : lines ≡ map vector_text list
@@ -215,43 +156,3 @@ by_length c text (inr (k, stop)) (inl long) = elim (cases_lt (line_of_byte text 
 pub list_or_line : (c : Netlist) (text : List ℕ) → ((list : List (List Bool)) × IsTestText c text list)
     ⊎ ((n : ℕ) × IsMalformedTest c text n)
 list_or_line c text = by_length c text (vectors_or_stop c.inputs (lines_of text)) (cases_lt (2 ^ 62) (length text))
-
--- ---- what is written
-
-bit_clean : (bit : Bool) → (bit_code bit ≢ 10) × (bit_code bit ≢ 13)
-bit_clean false = (λ e. absurd (omega (arith, e)), λ e. absurd (omega (arith, e)))
-bit_clean true = (λ e. absurd (omega (arith, e)), λ e. absurd (omega (arith, e)))
-
-vector_clean : (vector : List Bool) → IsClean (vector_text vector)
-vector_clean vector = record {
-  no_lf = λ k less e.
-      let found = get_or-vector_text vector k (omega (arith, less, length-vector_text vector)) in
-      (bit_clean found.0).0 (sym found.1 ∙ e);
-  no_cr = no_cr (vector_text vector) (λ k less e.
-      let found = get_or-vector_text vector k (omega (arith, less, length-vector_text vector)) in
-      (bit_clean found.0).1 (sym found.1 ∙ e));
-}
-  where
-    no_cr : (line : List ℕ) → ((k : ℕ) → k < length line → get_or line k 0 ≢ 13) → without_cr line ≡ line
-    no_cr [] none = refl
-    no_cr (x ∷ line) none = rw (ne_eqb (get_or (x ∷ line) (length (x ∷ line) - 1) 0) 13
-        (none (length (x ∷ line) - 1) (omega arith))) refl
-
-vectors_clean : (list : List (List Bool)) → AreClean (map vector_text list)
-vectors_clean [] = tt
-vectors_clean (vector ∷ list) = (vector_clean vector, vectors_clean list)
-
-pub written_is_test_text : (c : Netlist) (list : List (List Bool))
-    → All (λ (vector : List Bool). length vector ≡ c.inputs) list
-    → length (test_text list) ≤ 2 ^ 62 → IsTestText c (test_text list) list
-written_is_test_text c list widths short = record {
-  lines = lines_are_lines (map vector_text list) (vectors_clean list);
-  widths = widths;
-  short = short;
-}
-
-pub written_is_not_malformed : (c : Netlist) (list : List (List Bool)) (n : ℕ)
-    → All (λ (vector : List Bool). length vector ≡ c.inputs) list
-    → length (test_text list) ≤ 2 ^ 62 → ¬ IsMalformedTest c (test_text list) n
-written_is_not_malformed c list n widths short =
-    never_both c (test_text list) list n (written_is_test_text c list widths short)

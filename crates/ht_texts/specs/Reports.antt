@@ -1,6 +1,6 @@
 -- A report: a head line, a line for each fault, and the total. Lines are without their LF. A list of representatives
--- has the number of each fault's representative, from 0. The report of a search has a budget, that of a simulation has
--- none.
+-- has the number of each fault's representative, from 0. The report of a search has a budget, that of a simulation
+-- has none.
 use Rattle.std.specs.Prelude.{ℕ, ◌+◌, List, [], ◌∷◌, ◌++◌, if◌then◌else◌, length, get_or, map, Option, Some, None, is_some, codes}
 use Rattle.std.specs.Fmt.{decimal}
 use Rattle.std.specs.List.{range_with_len}

@@ -23,8 +23,8 @@ pub record IsTextOf (width : ℕ) (line : List ℕ) (vector : List Bool) : Type 
   pub characters : line ≡ vector_text vector
   pub bits : length vector ≡ width
 
--- The lines of the text are those of this list, each vector has one bit for each input of the circuit, and the text is
--- no longer than a text may be.
+-- The lines of the text are those of this list, each vector has one bit for each input of the circuit, and the text
+-- is no longer than a text may be.
 pub record IsTestText (c : Netlist) (text : List ℕ) (list : List (List Bool)) : Type 0 where
   pub lines : lines_of text ≡ map vector_text list
   pub widths : All (λ (vector : List Bool). length vector ≡ c.inputs) list

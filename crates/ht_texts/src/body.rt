@@ -13,8 +13,8 @@ use ht_faults::FaultList;
 use ht_net::Circuit;
 use std::alloc::{AllocError, Global};
 
-/// The report without its total line, where `saids` has what is said of each fault, by its number from 0. What is said of a
-/// fault that isn't its own representative has no effect.
+/// The report without its total line, where `saids` has what is said of each fault, by its number from 0. What is
+/// said of a fault that isn't its own representative has no effect.
 ///
 /// # Errors
 ///

@@ -18,8 +18,8 @@ pub fn count_classes(classes: &Classes) -> u32
 }
 
 impl Sums {
-    /// The sums of a report where this is said of each fault. What is said of a fault that isn't its own representative
-    /// has no effect.
+    /// The sums of a report where this is said of each fault. What is said of a fault that isn't its own
+    /// representative has no effect.
     pub fn of(classes: &Classes, saids: &[Said], search: bool) -> Sums
         requires { length saids.now ≡ length classes.now }
         ensures { result ≡ sums_of classes.now saids.now search }

@@ -10,9 +10,9 @@ use ht_collapse::Classes;
 use ht_net::Circuit;
 use std::alloc::{AllocError, Global};
 
-/// The first line of a report, with its LF: the sizes of the circuit, of its fault list and of the list's classes, and of
-/// a search the budget. Of s27, simulated:
-/// `circuit inputs 4 outputs 1 flip-flops 3 gates 10 faults 52 classes 32`; searched, it ends with ` budget 1000`.
+/// The first line of a report, with its LF: the sizes of the circuit, of its fault list and of the list's classes,
+/// and of a search the budget. Of s27, simulated: `circuit inputs 4 outputs 1 flip-flops 3 gates 10 faults 52 classes
+/// 32`; searched, it ends with ` budget 1000`.
 ///
 /// # Errors
 ///

@@ -1,8 +1,9 @@
-//! The texts of vectors and of reports: what they are, as definitions over bytes, and the calls that write and read them.
+//! The texts of vectors and of reports: what they are, as definitions over bytes, and the calls that write and read
+//! them.
 //!
-//! `specs/Tests` says which bytes are a list of vectors, and at which line a text that is none goes wrong; `specs/Sites`
-//! names the lines of a circuit; `specs/Verdicts` has what is said of a class, `specs/Counts` of how many classes, and
-//! `specs/Reports` a report, line for line.
+//! `specs/Tests` says which bytes are a list of vectors, and at which line a text that is none goes wrong;
+//! `specs/Sites` names the lines of a circuit; `specs/Verdicts` has what is said of a class, `specs/Counts` of how
+//! many classes, and `specs/Reports` a report, line for line.
 #![tactic(auto)]
 
 mod body;

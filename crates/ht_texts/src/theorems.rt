@@ -4,8 +4,8 @@ ghost use Rattle.std.specs.List.{All};
 ghost use Rattle.ht_net.specs.Netlist.{Netlist};
 ghost use Rattle.ht_texts.specs.Tests.{test_text, IsTestText, IsMalformedTest};
 
-/// The lines of vectors, each with its LF, are the test text of these vectors, and none of them is malformed: so a reader
-/// takes them. A text is at most 2^62 bytes long.
+/// The lines of vectors, each with its LF, are the test text of these vectors, and none of them is malformed: so a
+/// reader takes them. A text is at most 2^62 bytes long.
 pub fn tests_are_read()
     ensures list { (c : Netlist) (list : List (List Bool))
         → All (λ (vector : List Bool). length vector ≡ c.inputs) list

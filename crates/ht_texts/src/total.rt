@@ -13,8 +13,8 @@ pub struct Sums {
     pub detected: u32,
     pub untestable: u32,
     pub aborted: u32,
-    /// Whether faults were searched for, and not only simulated: only then the total says how many classes are untestable
-    /// and how many were given up.
+    /// Whether faults were searched for, and not only simulated: only then the total says how many classes are
+    /// untestable and how many were given up.
     pub search: bool,
 }
 

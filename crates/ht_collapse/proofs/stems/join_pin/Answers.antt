@@ -80,4 +80,5 @@ returns-clause-others c =
     c.gate_args.result.now c.gate_args.ensures.args
     c.args.leaders.now c.unite.new.leaders c.unite-2.new.leaders c.unite.ensures c.unite-2.ensures in
     subst (λ (l : List ℕ). OthersStay n c.args.leaders.now l c.args.g) (sym is)
-    (both_others n c.gate_args.ensures.circuit c.args.g c.args.i c.requires.gate c.requires.pin single c.args.leaders.now)
+    (both_others n c.gate_args.ensures.circuit c.args.g c.args.i c.requires.gate c.requires.pin single
+    c.args.leaders.now)

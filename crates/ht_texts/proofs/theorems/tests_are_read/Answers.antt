@@ -1,4 +1,4 @@
-use Rattle.ht_texts.proofs.TestLaws.{written_is_test_text, written_is_not_malformed}
+use Rattle.ht_texts.proofs.WrittenLaws.{written_is_test_text, written_is_not_malformed}
 use Rattle.ht_texts.proofs.theorems.tests_are_read.Goals as goal
 
 pub returns-clause-list : goal.returns-clause-list
