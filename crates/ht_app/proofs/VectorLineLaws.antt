@@ -9,8 +9,8 @@ use Rattle.std.proofs.Math.ListN.{get_or-append}
 use Rattle.std.proofs.lemmas.Bool.{cases_eq}
 use Rattle.std.proofs.lemmas.Bool.Decides.{nat_tests}
 use Rattle.std.specs.Io.KnownBytes.{IsAtEnd}
-use Rattle.ht_ports.specs.Cutting.{NextLine, HasNoLf, IsTooLongLine, lines_of, without_cr, first_piece, first_through}
-use Rattle.ht_ports.proofs.Texts.{next_cuts, first_line, length-first_through}
+use Rattle.ht_ports.specs.LineRule.{NextLine, HasNoLf, IsTooLongLine, lines_of, without_cr, first_piece, first_through}
+use Rattle.ht_ports.proofs.TextLaws.{next_splits, first_line, length-first_through}
 use Rattle.ht_net.specs.Netlist.{Netlist}
 use Rattle.ht_texts.specs.Tests.{bit_code, vector_text, IsTextOf, IsTestText, IsMalformedTest, IsWrongLine, line_at, line_of_byte}
 
@@ -88,7 +88,7 @@ pub so_far_next : (c : Netlist) (text : List ℕ) (passed : ℕ) (list : List (L
     → (after : List ℕ) × (new ≡ Some after) × SoFar c text (passed + count) (list ++ vector ∷ []) after
 so_far_next c text passed list rest line count None vector so next is = let e : Some rest ≡ None = next.next.took in cc
 so_far_next c text passed list rest line count (Some after) vector so next is =
-    let cut = next_cuts line count rest (Some after) next in
+    let cut = next_splits line count rest (Some after) next in
     let same : cut.0 ≡ after = let e = cut.1 in cc in
     let taken = line_taken line count rest after next in
     let now : lines_of rest ≡ line ∷ lines_of after = cut.2.lines ∙ ap (λ l. line ∷ lines_of l) same in (
@@ -185,7 +185,7 @@ pub bad_line : (c : Netlist) (text : List ℕ) (passed : ℕ) (list : List (List
     → ((vector : List Bool) → ¬ IsTextOf c.inputs line vector)
     → IsMalformedTest c text (length list + 1)
 bad_line c text passed list rest line count new so fits some next none =
-    let cut = next_cuts line count rest new next in
+    let cut = next_splits line count rest new next in
     no_vector c text passed list rest so (omega (arith, cut.2.size, some)) fits line (lines_of cut.0) cut.2.lines none
 
 pub too_long : (c : Netlist) (text : List ℕ) (passed : ℕ) (list : List (List Bool)) (rest : List ℕ)

@@ -5,7 +5,7 @@ use Rattle.std.specs.List.{All}
 use Rattle.std.proofs.lemmas.List.Elements.{All-nil, All-cons, All-head, All-append, All-map, All-weaker}
 use Rattle.ht_net.specs.Netlist.{Netlist, IsCircuit}
 use Rattle.ht_net.specs.Named.{Name, NamedDff, NamedGate, NamedNetlist, named_of}
-use Rattle.ht_ports.specs.Cutting.{lines_of}
+use Rattle.ht_ports.specs.LineRule.{lines_of}
 use Rattle.ht_statement.specs.Name.{is_name}
 use Rattle.ht_statement.specs.Statement.{Statement, Nothing, Input, Output, Dff, Gate, names_in}
 use Rattle.ht_statement.specs.Reading.{States, reading_of}

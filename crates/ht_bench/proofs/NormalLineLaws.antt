@@ -3,8 +3,8 @@ use Rattle.std.proofs.Common.{◌≡◌, ◌≢◌, ℕ, ◌-◌, ◌≤◌, Lis
 use Rattle.std.specs.List.{All}
 use Rattle.std.proofs.lemmas.Bool.Decides.{nat_tests}
 use Rattle.std.proofs.lemmas.List.Elements.{All-head, All-tail}
-use Rattle.ht_ports.specs.Cutting.{HasNoLf, lines_of, without_cr}
-use Rattle.ht_ports.proofs.Texts.{lines-lf}
+use Rattle.ht_ports.specs.LineRule.{HasNoLf, lines_of, without_cr}
+use Rattle.ht_ports.proofs.TextLaws.{lines-lf}
 use Rattle.ht_statement.specs.Statement.{Statement}
 use Rattle.ht_statement.specs.Normal.{statement_text, CanBeStated, is_printable}
 use Rattle.ht_statement.proofs.PrintLaws.{normal_is_one_line}

@@ -1,7 +1,7 @@
 -- Which text is the netlist of which circuit, and how every other text is refused (ISCAS-89 format).
 use Rattle.std.specs.Prelude.{◌≡◌, ℕ, ◌+◌, List, ◌∷◌, ◌++◌, length, map, get_or, [], Vec}
 use Rattle.std.specs.declared.alloc.Global.{Global}
-use Rattle.ht_ports.specs.Cutting.{lines_of}
+use Rattle.ht_ports.specs.LineRule.{lines_of}
 use Rattle.ht_net.specs.Netlist.{Netlist, IsCircuit}
 use Rattle.ht_net.specs.Named.{Name, named_of}
 use Rattle.ht_statement.specs.Statement.{Statement}

@@ -1,6 +1,6 @@
 // Lines of a text.
 ghost use Rattle.std.specs.Prelude.{◌≡◌, ◌∷◌, ◌<◌, [], length, IfSome, IfNone};
-ghost use Rattle.ht_ports.specs.Cutting.{lines_of, without_cr};
+ghost use Rattle.ht_ports.specs.LineRule.{lines_of, without_cr};
 
 use crate::cut::{before_last, cut};
 

@@ -14,7 +14,7 @@ text_named [] name = None
 text_named (t ∷ texts) name = option_or (text_named texts name)
     (if bytes_eq (string_bytes t.name) name then Some t.bytes.items else None)
 
--- the bytes of the text at an index; none behind the last text
+-- the bytes of the text at an index; none after the last text
 abbrev pub bytes_at : List Text → ℕ → List ℕ
 bytes_at [] k = []
 bytes_at (t ∷ texts) zero = t.bytes.items

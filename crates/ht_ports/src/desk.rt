@@ -7,7 +7,7 @@ use crate::{Failed, InPort, OutPort};
 
 /// The files and streams that a command may touch.
 ///
-/// Its contracts speak of one record, the desk's view: the bytes behind the
+/// Its contracts speak of one record, the desk's view: the bytes of the
 /// names and the ports where the desk tells them, which ports are open or
 /// created, two counts of faults, and whether the desk is steady. A steady desk
 /// tells which names it holds, and fails only at the opening of another name.

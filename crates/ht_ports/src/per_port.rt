@@ -48,6 +48,7 @@ impl<T> PerInPort<Option<T>> {
 }
 
 impl<T> PerInPort<T> {
+    /// The port's value.
     pub fn get(&self, port: InPort) -> &T
         ensures { result.now ≡ at_in_port self.now port }
     {
@@ -102,6 +103,7 @@ impl<T> PerOutPort<Option<T>> {
 }
 
 impl<T> PerOutPort<T> {
+    /// The port's value.
     pub fn get(&self, port: OutPort) -> &T
         ensures { result.now ≡ at_out_port self.now port }
     {

@@ -5,6 +5,7 @@ ghost use Rattle.ht_ports.specs.Memory.{file_of};
 use std::alloc::{AllocError, Global};
 use std::collections::BTreeMap;
 
+/// The bytes of files by their names.
 pub type FileMap = BTreeMap<String, Vec<u8>>;
 
 /// A copy of a file; `None` where there is none of this name, or no memory.
@@ -35,7 +36,7 @@ pub fn put_file(
 }
 
 /// The bytes of `front`, and then those of `back`.
-pub fn joined(alloc: Global, front: &[u8], back: &[u8]) -> Result<Vec<u8>, AllocError>
+pub fn concat(alloc: Global, front: &[u8], back: &[u8]) -> Result<Vec<u8>, AllocError>
     ensures { IfOk result (λ v. v.items ≡ front.now ++ back.now) }
 {
     let mut bytes = front.to_vec(alloc)?;

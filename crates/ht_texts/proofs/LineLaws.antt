@@ -3,8 +3,8 @@ use Rattle.std.proofs.Common.{◌≡◌, ℕ, List, [], ◌∷◌, refl, ap, ◌
 use Rattle.std.specs.Prelude.{codes}
 use Rattle.std.proofs.lemmas.List.{append_assoc}
 use Rattle.std.proofs.lemmas.List.Concat.{flat_map-cons}
-use Rattle.ht_ports.specs.Cutting.{lines_of, without_cr, HasNoLf}
-use Rattle.ht_ports.proofs.Texts.{lines-lf}
+use Rattle.ht_ports.specs.LineRule.{lines_of, without_cr, HasNoLf}
+use Rattle.ht_ports.proofs.TextLaws.{lines-lf}
 use Rattle.ht_texts.specs.Lines.{with_lf, with_lfs}
 
 -- no LF, and no CR at the end

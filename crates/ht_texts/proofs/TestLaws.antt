@@ -5,7 +5,7 @@ use Rattle.std.proofs.lemmas.Bool.{cases_eq, cases_lt, ne_eqb}
 use Rattle.std.proofs.lemmas.List.{length-map, get_or-map}
 use Rattle.std.proofs.lemmas.List.Elements.{All-nil, All-cons}
 use Rattle.ht_net.specs.Netlist.{Netlist}
-use Rattle.ht_ports.specs.Cutting.{lines_of, without_cr}
+use Rattle.ht_ports.specs.LineRule.{lines_of, without_cr}
 use Rattle.ht_texts.specs.Tests.{bit_code, vector_text, line_of_byte, IsTextOf, IsTestText, IsNoVector, IsMalformedTest, test_text}
 use Rattle.ht_texts.proofs.LineLaws.{IsClean, AreClean, lines_are_lines}
 use Rattle.ht_texts.proofs.VectorLaws.{vector_or_none, map_injective, vector_text_injective, length-vector_text}

@@ -2,7 +2,7 @@
 use Rattle.std.specs.Prelude.{◌≡◌, ◌==◌, ◌⊎◌, ◌<◌, ◌≤◌, ◌+◌, ◌-◌, ◌^◌, ℕ, List, [], Bool, true, false, length, take, map, get_or}
 use Rattle.std.specs.List.{All, count_by}
 use Rattle.ht_net.specs.Netlist.{Netlist}
-use Rattle.ht_ports.specs.Cutting.{lines_of}
+use Rattle.ht_ports.specs.LineRule.{lines_of}
 use Rattle.ht_texts.specs.Lines.{with_lfs}
 
 -- the character of a bit, `0` or `1`

@@ -4,11 +4,11 @@ use Rattle.std.proofs.lemmas.List.{length-append}
 use Rattle.std.specs.Io.KnownBytes.{prepend_known, IsAtEnd}
 use Rattle.ht_ports.specs.Desk.{InCall, Reads, DeskView}
 use Rattle.ht_ports.specs.Lines.{rest_of, LinesView, Next, Gives}
-use Rattle.ht_ports.specs.Cutting.{NextLine, IsTooLongLine}
+use Rattle.ht_ports.specs.LineRule.{NextLine, IsTooLongLine}
 use Rattle.ht_ports.specs.declared.ports.InPort.{InPort}
 use Rattle.ht_ports.specs.declared.ports.InPort.TheVariants.{Tests}
-use Rattle.ht_ports.proofs.NextLemmas.{next_some, next_none}
-use Rattle.ht_ports.proofs.Calls.{in_call_trans}
+use Rattle.ht_ports.proofs.NextLaws.{next_some, next_none}
+use Rattle.ht_ports.proofs.CallLaws.{in_call_trans}
 use Rattle.ht_net.specs.Netlist.{Netlist}
 use Rattle.ht_texts.specs.Tests.{IsTextOf, IsMalformedTest}
 use Rattle.ht_app.specs.Inputs.{IsInput}
@@ -23,20 +23,20 @@ lines-init g c =
     let rest : (text : List ℕ) → desk.left Tests ≡ Some text → rest_of lines desk
     ≡ Some text = λ text is. ap (λ l. rest_of l desk) made ∙ ap (prepend_known []) is in
     let none : c.new-list.result.list ≡ [] = ap (λ v. v.list) c.new-list.ensures in
-    let start : (text : List ℕ) → SoFar c.args.circuit.now text lines.passed c.new-list.result.list text =
+    let start : (text : List ℕ) → SoFar c.args.circuit.now text lines.bytes_read c.new-list.result.list text =
     λ text. subst (λ (n : ℕ). SoFar c.args.circuit.now text n c.new-list.result.list text)
-    (sym (ap (λ l. l.passed) made))
+    (sym (ap (λ l. l.bytes_read) made))
     (subst (λ (d : List (List Bool)). SoFar c.args.circuit.now text 0 d text) (sym none)
     (so_far_start c.args.circuit.now text)) in
     record {
       port = ap (λ l. l.port) made;
-      most = ap (λ l. l.most) made;
+      max_len = ap (λ l. l.max_len) made;
       live = search rules;
       open_now = c.in_default.ensures.opened.is_open;
       frame = c.in_default.ensures.frame;
       there = c.in_default.ensures.opened.there;
       fits = search rules;
-      counted = ap length none ∙ sym (ap (λ l. l.given) made);
+      counted = ap length none ∙ sym (ap (λ l. l.lines_read) made);
       below = search rules;
       width = search rules;
       so_far = λ text is. (text, rest text (c.in_default.ensures.opened.bytes text is.file is.known), start text);
@@ -56,14 +56,14 @@ read_call port a b c same p q = in_call_trans Tests a b c p (subst (λ (o : InPo
 more : (c : Netlist) (name line : List ℕ) (list : List (List Bool)) (vector : List Bool) (first a b : DeskView)
     (old new : LinesView)
     → ((text : List ℕ) → IsInput Tests name text first → (rest : List ℕ) × (rest_of old a ≡ Some rest)
-    × SoFar c text old.passed list rest)
+    × SoFar c text old.bytes_read list rest)
     → Gives line old new a b → IsTextOf c.inputs line vector → (text : List ℕ) → IsInput Tests name text first
-    → (rest : List ℕ) × (rest_of new b ≡ Some rest) × SoFar c text new.passed (list ++ vector ∷ []) rest
+    → (rest : List ℕ) × (rest_of new b ≡ Some rest) × SoFar c text new.bytes_read (list ++ vector ∷ []) rest
 more c name line list vector first a b old new so gives of text is =
     let before = so text is in
-    let after = so_far_next c text old.passed list before.0 line gives.count (rest_of new b) vector before.2
+    let after = so_far_next c text old.bytes_read list before.0 line gives.count (rest_of new b) vector before.2
     (subst (λ (r : Option (List ℕ)). NextLine line gives.count r (rest_of new b)) before.1 gives.next) of in
-    (after.0, after.1, subst (λ (n : ℕ). SoFar c text n (list ++ vector ∷ []) after.0) (sym gives.passed) after.2)
+    (after.0, after.1, subst (λ (n : ℕ). SoFar c text n (list ++ vector ∷ []) after.0) (sym gives.bytes_read) after.2)
 
 pub lines-preserved : goal.lines-preserved
 lines-preserved g c =
@@ -84,7 +84,7 @@ lines-preserved g c =
     × (c.push_line.new.list.list ≡ c.lines.list.list ++ vector ∷ []) = search rules in
     record {
       port = port;
-      most = next.most ∙ before.most;
+      max_len = next.max_len ∙ before.max_len;
       live = live;
       open_now = open_now;
       frame = read_call c.lines.lines.port _ a b before.port before.frame reads;
@@ -95,9 +95,9 @@ lines-preserved g c =
         ap length taken.2,
         length-append c.lines.list.list (taken.0 ∷ []),
         before.counted,
-        gives.given,
+        gives.lines_read,
       );
-      below = omega (arith, gives.given, gives.passed, gives.some, before.below);
+      below = omega (arith, gives.lines_read, gives.bytes_read, gives.some, before.below);
       width = search (rules, before.width);
       so_far = λ text is.
           let of : IsTextOf c.args.circuit.now.inputs c.in-Ok-Some.line.now taken.0 = subst
@@ -106,7 +106,7 @@ lines-preserved g c =
           (g.D.Desk.view c.args.desk.now) a b c.lines.lines after before.so_far gives of text is in (
             all.0,
             all.1,
-            subst (λ (l : List (List Bool)). SoFar c.args.circuit.now text after.passed l all.0)
+            subst (λ (l : List (List Bool)). SoFar c.args.circuit.now text after.bytes_read l all.0)
                 (sym taken.2) all.2,
           );
     }
@@ -132,7 +132,7 @@ returns-then-not-branch-clause-cause g c =
           let none : (vector : List Bool) → ¬ IsTextOf c.args.circuit.now.inputs c.in-Ok-Some.line.now vector =
           subst (λ (w : ℕ). (vector : List Bool) → ¬ IsTextOf w c.in-Ok-Some.line.now vector) before.width refused.1 in
           subst (λ (n : ℕ). IsMalformedTest c.args.circuit.now text (n + 1)) (sym at)
-          (bad_line c.args.circuit.now text c.lines.lines.passed c.lines.list.list so.0 c.in-Ok-Some.line.now
+          (bad_line c.args.circuit.now text c.lines.lines.bytes_read c.lines.list.list so.0 c.in-Ok-Some.line.now
           gives.count (rest_of after b) so.2 before.fits gives.some step none);
     }
 
@@ -147,7 +147,7 @@ returns-in-Ok-None-clause-list g c =
     λ text is.
     let so = before.so_far text is in
     let end : so.0 ≡ [] = subst IsAtEnd (none.rest ∙ so.1) none.at_end in
-    so_far_end c.args.circuit.now text c.lines.lines.passed c.lines.list.list so.0 so.2 end before.fits
+    so_far_end c.args.circuit.now text c.lines.lines.bytes_read c.lines.list.list so.0 so.2 end before.fits
 
 pub returns-in-Err-TooLong-clause-cause : goal.returns-in-Err-TooLong-clause-cause
 returns-in-Err-TooLong-clause-cause g c =
@@ -158,10 +158,10 @@ returns-in-Err-TooLong-clause-cause g c =
       there = before.there;
       cause = λ text is.
           let so = before.so_far text is in
-          let long : IsTooLongLine 4096 c.lines.lines.passed so.0 = subst
-          (λ (m : ℕ). IsTooLongLine m c.lines.lines.passed so.0) before.most (cause.1 so.0 so.1) in
+          let long : IsTooLongLine 4096 c.lines.lines.bytes_read so.0 = subst
+          (λ (m : ℕ). IsTooLongLine m c.lines.lines.bytes_read so.0) before.max_len (cause.1 so.0 so.1) in
           subst (λ (n : ℕ). IsMalformedTest c.args.circuit.now text n) (omega (arith, cause.0, before.counted))
-          (too_long c.args.circuit.now text c.lines.lines.passed c.lines.list.list so.0 so.2 before.fits few long);
+          (too_long c.args.circuit.now text c.lines.lines.bytes_read c.lines.list.list so.0 so.2 before.fits few long);
     }
 
 pub returns-in-Ok-None-clause-few : goal.returns-in-Ok-None-clause-few

@@ -9,18 +9,18 @@ use Rattle.ht_app.proofs.vectors_file.read_tests.Given as goal
 abbrev pub invariant-lines : goal.invariant-lines
 invariant-lines g l = record {
   port : l.lines.port ≡ Tests;
-  most : l.lines.most ≡ 4096;
+  max_len : l.lines.max_len ≡ 4096;
   live : IsTrue l.lines.live;
   open_now : IsTrue ((g.D.Desk.view l.desk).is_open Tests);
   frame : InCall Tests (g.D.Desk.view l.fn.desk) (g.D.Desk.view l.desk);
   there : MayHold (g.D.Desk.view l.fn.desk) l.name;
-  fits : l.lines.passed ≤ 2 ^ 62;
-  counted : length l.list.list ≡ l.lines.given;
-  below : l.lines.given ≤ l.lines.passed;
+  fits : l.lines.bytes_read ≤ 2 ^ 62;
+  counted : length l.list.list ≡ l.lines.lines_read;
+  below : l.lines.lines_read ≤ l.lines.bytes_read;
   width : l.list.width ≡ l.circuit.inputs;
   so_far : (text : List ℕ) → IsInput Tests l.name text (g.D.Desk.view l.fn.desk) → (rest : List ℕ)
-      × (rest_of l.lines (g.D.Desk.view l.desk) ≡ Some rest) × SoFar l.circuit text l.lines.passed l.list.list rest;
+      × (rest_of l.lines (g.D.Desk.view l.desk) ≡ Some rest) × SoFar l.circuit text l.lines.bytes_read l.list.list rest;
 }
 
 abbrev pub decreases-lines : goal.decreases-lines
-decreases-lines g l = 2 ^ 62 + 1 - l.lines.passed
+decreases-lines g l = 2 ^ 62 + 1 - l.lines.bytes_read

@@ -1,5 +1,5 @@
 use Rattle.std.proofs.Common.{◌∷◌, [], ◌∙◌, sym, ap, rules}
-use Rattle.ht_ports.specs.Cutting.{lines_of}
+use Rattle.ht_ports.specs.LineRule.{lines_of}
 use Rattle.ht_bench.proofs.LineLaws.{lines_cut, lines_last}
 use Rattle.ht_bench.proofs.lines.next_line.Goals as goal
 

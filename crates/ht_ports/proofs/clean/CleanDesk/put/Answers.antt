@@ -3,7 +3,7 @@ use Rattle.std.specs.Prelude.{string_bytes}
 use Rattle.ht_ports.specs.declared.clean.Text.{Text}
 use Rattle.ht_ports.specs.NamedTexts.{text_named, opened_in}
 use Rattle.ht_ports.specs.PerPort.{at_in_port}
-use Rattle.ht_ports.proofs.NamedTextLemmas.{named_put, named_kept, opened_push}
+use Rattle.ht_ports.proofs.NamedTextLaws.{named_put, named_kept, opened_push}
 use Rattle.ht_ports.proofs.clean.CleanDesk.put.Goals as goal
 
 pub returns-clause-put : goal.returns-clause-put

@@ -1,0 +1,20 @@
+//! Taking bytes from the front of what is left of a text.
+ghost use Rattle.std.specs.Prelude.{◌≡◌, ◌<◌, ◌≤◌, ◌+◌, ◌^◌, ◌++◌, [], length, take, drop, min};
+
+/// Copies what stands in `from` after its first `taken` bytes, as much as fits
+/// into `buf`, and says how many bytes these were.
+pub fn copy_front(from: &[u8], taken: usize, buf: &mut [u8]) -> usize
+    ensures bound { result ≤ length buf.new }
+    ensures fits { taken + result < 2 ^ 64 }
+    ensures copied { drop taken from.now ≡ take result buf.new ++ drop (taken + result) from.now }
+    ensures all { result ≡ min (length (drop taken from.now)) (length buf.old) }
+    ensures none { result ≡ 0 → 0 < length buf.old → drop taken from.now ≡ [] }
+{
+    if taken >= from.len() {
+        return 0;
+    }
+    let rest = &from[taken..];
+    let count = rest.len().min(buf.len());
+    buf[..count].copy_from_slice(&rest[..count]);
+    count
+}
