@@ -73,7 +73,7 @@ line_taken : (line : List ℕ) (count : ℕ) (rest after : List ℕ) → NextLin
     → (taken : List ℕ) × (rest ≡ taken ++ after) × (count ≡ length taken) × (0 < length after → lf_count taken ≡ 1)
 line_taken line count rest after next =
     let is : rest ≡ next.taken ++ after = let e = next.next.took in cc in
-    (next.taken, is, next.size, λ more. one next.next.cut more)
+    (next.taken, is, next.size, λ more. one next.next.ends more)
   where
     one : (next.taken ≡ next.piece ++ 10 ∷ [])
         ⊎ ((next.taken ≡ next.piece) × (0 < length next.piece) × IsAtEnd (Some after)) → 0 < length after
