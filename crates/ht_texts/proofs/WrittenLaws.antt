@@ -3,7 +3,7 @@ use Rattle.std.proofs.Common.{◌≡◌, ◌≢◌, ℕ, ◌-◌, ◌^◌, ◌<�
 use Rattle.std.specs.List.{All}
 use Rattle.std.proofs.lemmas.Bool.{ne_eqb}
 use Rattle.ht_net.specs.Netlist.{Netlist}
-use Rattle.ht_ports.specs.Cutting.{without_cr}
+use Rattle.ht_ports.specs.LineRule.{without_cr}
 use Rattle.ht_texts.specs.Tests.{bit_code, vector_text, test_text, IsTestText, IsMalformedTest}
 use Rattle.ht_texts.proofs.LineLaws.{IsClean, AreClean, lines_are_lines}
 use Rattle.ht_texts.proofs.VectorLaws.{length-vector_text, get_or-vector_text}
