@@ -1,6 +1,7 @@
 pub mod PairTests
 pub mod MemberLaws
 pub mod MoveLaws
+pub mod MetLaws
 pub mod OperationLaws
 pub mod FoldLaws
 pub mod SetLaws

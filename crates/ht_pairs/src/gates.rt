@@ -21,12 +21,12 @@ pub fn lift(kind: Kind, args: &[PairSet]) -> PairSet
         set = combined(kind, set, *arg);
     }
     let value = with_polarity(kind, set);
-    // The bits say in which order the members stand.
+    // for the proof: the bits say in which order the members stand
     let _ = &value.bits;
     value
 }
 
-/// The results of the operation that a kind folds over its arguments.
+// The results of the operation that a kind folds over its arguments.
 fn combined(kind: Kind, set: PairSet, arg: PairSet) -> PairSet
     ensures { IsImageOfTwo (operation_of pair_operations kind) set arg result }
 {
@@ -34,21 +34,21 @@ fn combined(kind: Kind, set: PairSet, arg: PairSet) -> PairSet
         Kind::And | Kind::Nand => set.conjunction(arg),
         Kind::Or | Kind::Nor => set.disjunction(arg),
         Kind::Xor | Kind::Xnor => set.parity(arg),
-        Kind::Not | Kind::Buf => beside(set, arg),
+        Kind::Not | Kind::Buf => first_of(set, arg),
     }
 }
 
-/// The set itself: a second one, which is not empty, makes no difference.
+// The set itself: a second one, which is not empty, makes no difference.
 #[tactic(auto, using(crate::proofs::OperationLaws::image_of_first))]
-fn beside(set: PairSet, arg: PairSet) -> PairSet
+fn first_of(set: PairSet, arg: PairSet) -> PairSet
     ensures { IsImageOfTwo (λ p q. p) set arg result }
 {
-    // The bits say that `arg` has a member.
+    // for the proof: the bits say that `arg` has a member
     let _ = &arg.bits;
     set
 }
 
-/// The folded set, or its complement where the kind inverts.
+// The folded set, or its complement where the kind inverts.
 #[tactic(auto, using(crate::proofs::OperationLaws::image_of_itself))]
 fn with_polarity(kind: Kind, set: PairSet) -> PairSet
     ensures { IsImage (polarity_of pair_operations kind) set result }

@@ -2,7 +2,6 @@
 use Rattle.std.proofs.Common.{◌≡◌, ◌≢◌, ◌<◌, ◌+◌, ℕ, suc, List, [], ◌∷◌, ◌++◌, Bool, Option, Some, None, length, get_or, take, map, Vec, refl, sym, ◌∙◌, ap, arith, subst, inl, inr}
 use Rattle.std.proofs.lemmas.Bool.Decides.{eqb_tells}
 use Rattle.std.proofs.lemmas.List.{get_or-map, get_or_past, take-map, take_more, map-append, length-map}
-use Rattle.std.specs.declared.alloc.Global.{Global}
 use Rattle.ht_tern.specs.declared.tern.Tern.{Tern}
 use Rattle.ht_tern.specs.declared.tern.Tern.TheVariants.{Zero, One, Unk}
 use Rattle.ht_net.specs.declared.fault.Fault.{Fault}
@@ -17,7 +16,6 @@ use Rattle.ht_net.proofs.ValueLaws.{seen_length}
 use Rattle.ht_serial.specs.MachineState.{MachineState, stepped, after_run, after_list}
 use Rattle.ht_serial.specs.Opposites.{IsOppositeAt}
 use Rattle.ht_serial.specs.Places.{IsWithin}
-use Rattle.ht_serial.specs.GoodRunOf.{value_rows}
 use Rattle.ht_serial.proofs.RunLaws.{run_output_at, step_is_run}
 
 -- A machine that has run t vectors of a list, and then the next one.
@@ -146,29 +144,3 @@ place_within c list p good faulty inside g h =
     let width : length good ≡ length c.outputs = ap (λ (l : List Tern). length l) g ∙ frame_width c None list p.vector
     inside in
     record { vector = inside; output = omega (arith, width, opposite_inside good faulty p.output h) }
-
--- The rows of a recorded run.
-pub rows_count : (c : Netlist) (list : List (List Bool)) (rows : List (Vec Tern Global)) → value_rows rows
-    ≡ tern_outputs c None list → length rows ≡ length list
-rows_count c list rows is = sym (length-map rows (λ (row : Vec Tern Global). row.items)) ∙
-    (ap (λ (l : List (List Tern)). length l) is ∙ frames_count c None list)
-
-pub row_at : (c : Netlist) (list : List (List Bool)) (rows : List (Vec Tern Global)) (t : ℕ) (row : Vec Tern Global)
-    → value_rows rows ≡ tern_outputs c None list
-    → t < length rows → row ≡ get_or rows t row → row.items ≡ get_or (tern_outputs c None list) t []
-row_at c list rows t row is inside at =
-    ap (λ (r : Vec Tern Global). r.items) at ∙ (sym (get_or-map (λ (r : Vec Tern Global). r.items) rows t row [] inside)
-    ∙ ap (λ (l : List (List Tern)). get_or l t []) is)
-
--- One more row is recorded.
-pub rows_more : (c : Netlist) (list : List (List Bool)) (rows more : List (Vec Tern Global)) (t : ℕ)
-    (row : Vec Tern Global) → t < length list
-    → value_rows rows ≡ take t (tern_outputs c None list) → more ≡ rows ++ row ∷ [] → row.items
-    ≡ get_or (tern_outputs c None list) t []
-    → value_rows more ≡ take (t + 1) (tern_outputs c None list)
-rows_more c list rows more t row inside is pushed shown =
-    let there : t < length (tern_outputs c None list) = omega (arith, frames_count c None list) in
-    ap value_rows pushed ∙ (map-append (λ (r : Vec Tern Global). r.items) rows (row ∷ [])
-    ∙ (ap (λ (l : List (List Tern)). l ++ row.items ∷ []) is ∙
-    (ap (λ (r : List Tern). take t (tern_outputs c None list) ++ r ∷ []) shown
-    ∙ sym (take_more (tern_outputs c None list) t [] there))))

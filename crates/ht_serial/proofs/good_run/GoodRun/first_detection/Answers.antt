@@ -7,7 +7,8 @@ use Rattle.ht_net.specs.Detection.{Apart}
 use Rattle.ht_net.proofs.ApartLaws.{detected_apart}
 use Rattle.ht_serial.specs.Places.{IsWithin}
 use Rattle.ht_serial.specs.GoodRunView.{GoodRunView}
-use Rattle.ht_serial.proofs.DetectionLaws.{next_is, shows, rows_count, row_at, frame_width, place_within, rows_detect, none_more, none_before, detects_inside}
+use Rattle.ht_serial.proofs.DetectionLaws.{next_is, shows, frame_width, place_within, rows_detect, none_more, none_before, detects_inside}
+use Rattle.ht_serial.proofs.GoodRunLaws.{rows_count, row_at}
 use Rattle.ht_serial.proofs.good_run.GoodRun.first_detection.Goals as goal
 
 pub get-requires : goal.get-requires
