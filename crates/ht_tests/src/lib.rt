@@ -26,6 +26,8 @@ mod serial;
 #[cfg(test)]
 mod statement;
 #[cfg(test)]
+mod tern;
+#[cfg(test)]
 mod texts;
 #[cfg(test)]
 mod trail;

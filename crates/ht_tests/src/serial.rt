@@ -1,1 +1,235 @@
-//! Tests of ht_serial.
+//! Tests of ht_serial and of ht_frame: machines, and first detections by hand.
+ghost use Rattle.std.specs.Prelude.{◌≡◌};
+
+use ht_bench::read;
+use ht_frame::{MAX_GATE_PINS, settle};
+use ht_net::{Circuit, Fault, NetId, Place, Site, Vectors};
+use ht_serial::{BoolMachine, GoodRun, Machine, first};
+use ht_tern::Tern::{self, One, Unk, Zero};
+use std::alloc::{AllocError, Global};
+use std::test::Fail;
+
+const SHIFT_REGISTER: &[u8] = b"INPUT(a)\nOUTPUT(r)\nq = DFF(a)\nr = DFF(q)\n";
+
+const AND_GATE: &[u8] = b"INPUT(a)\nINPUT(b)\nOUTPUT(a)\nOUTPUT(z)\nz = AND(a, b)\n";
+
+const TOGGLE: &[u8] = b"OUTPUT(q)\nq = DFF(n)\nn = NOT(q)\n";
+
+/// Adds the vectors 1, 0 and 0.
+fn fill(list: &mut Vectors) -> Result<(), AllocError>
+    requires { list.old.width ≡ 1 }
+    ensures { list.new.width ≡ 1 }
+{
+    list.push(&[true])?;
+    list.push(&[false])?;
+    list.push(&[false])?;
+    Ok(())
+}
+
+/// Whether each fault of a table has its first detection.
+fn are_detected(
+    alloc: Global,
+    good: &GoodRun,
+    table: &[(Site, bool, Option<Place>)],
+) -> Result<bool, AllocError> {
+    for (site, value, place) in table {
+        let fault = Fault {
+            site: *site,
+            value: *value,
+        };
+        if good.first_detection(alloc, fault)? != *place {
+            return Ok(false);
+        }
+    }
+    Ok(true)
+}
+
+/// Whether vectors 1, 0 and 0 detect the faults of the shift register as by hand: the good machine shows unknown, unknown
+/// and 1.
+fn detects_by_hand(alloc: Global, circuit: &Circuit) -> Result<bool, AllocError> {
+    if circuit.inputs() != 1 {
+        return Ok(false);
+    }
+    let mut list = Vectors::new(alloc, 1);
+    fill(&mut list)?;
+    let detected = Some(Place {
+        vector: 2,
+        output: 0,
+    });
+    let good = GoodRun::record(alloc, circuit, &list)?;
+    are_detected(
+        alloc,
+        &good,
+        &[
+            (Site::Stem(NetId(0)), false, detected),
+            (Site::Stem(NetId(0)), true, None),
+            (Site::Stem(NetId(1)), false, detected),
+            (Site::Stem(NetId(2)), false, detected),
+            (Site::Stem(NetId(2)), true, None),
+            (Site::DffPin { dff: 1 }, false, detected),
+            (Site::DffPin { dff: 1 }, true, None),
+        ],
+    )
+}
+
+#[test]
+fn detects_at_the_third_vector(rt: HostRuntime) -> Result<(), Fail> {
+    let circuit = read(rt.alloc(), SHIFT_REGISTER)?;
+    assert!(rt; detects_by_hand(rt.alloc(), &circuit)?);
+    Ok(())
+}
+
+/// What the shift register shows before its first frame and after vector 1: the output, and what the flip-flops hold.
+fn shifted(
+    alloc: Global,
+    circuit: &Circuit,
+    fault: Fault,
+) -> Result<Option<[Tern; 6]>, AllocError> {
+    if circuit.inputs() != 1 || circuit.outputs() != 1 || circuit.dffs() != 2 {
+        return Ok(None);
+    }
+    let mut machine = Machine::start(alloc, circuit, Some(fault))?;
+    let before = (machine.output(0), machine.state(0), machine.state(1));
+    machine.step(&[true]);
+    let after = (machine.output(0), machine.state(0), machine.state(1));
+    Ok(Some([before.0, before.1, before.2, after.0, after.1, after.2]))
+}
+
+/// A stuck stem of the first flip-flop's output forces what the second one takes, and not the latch before it.
+#[test]
+fn stem_fault_leaves_the_latch(rt: HostRuntime) -> Result<(), Fail> {
+    let circuit = read(rt.alloc(), SHIFT_REGISTER)?;
+    let fault = Fault {
+        site: Site::Stem(NetId(1)),
+        value: false,
+    };
+    assert!(rt; shifted(rt.alloc(), &circuit, fault)? == Some([Unk, Unk, Unk, Unk, One, Zero]));
+    Ok(())
+}
+
+/// Whether vector 11 detects at its output each line of the AND gate that is stuck at 0: a stem shows at the input's own
+/// output, a pin after it at the gate only.
+fn detects_pins(alloc: Global, circuit: &Circuit) -> Result<bool, AllocError> {
+    if circuit.inputs() != 2 {
+        return Ok(false);
+    }
+    let mut list = Vectors::new(alloc, 2);
+    list.push(&[true, true])?;
+    for (site, output) in [
+        (Site::Stem(NetId(0)), 0),
+        (Site::GatePin { gate: 0, pin: 0 }, 1),
+        (Site::GatePin { gate: 0, pin: 1 }, 1),
+    ] {
+        let place = first(alloc, circuit, Fault { site, value: false }, &list)?;
+        if place != Some(Place { vector: 0, output }) {
+            return Ok(false);
+        }
+    }
+    Ok(true)
+}
+
+/// Whether a machine has an output row.
+fn has_row(alloc: Global, machine: &Machine, row: &[Tern]) -> Result<bool, AllocError> {
+    Ok(machine.output_row(alloc)?.as_slice() == row)
+}
+
+/// Whether the AND gate shows nothing before its first frame, and then its inputs' values.
+fn shows_rows(alloc: Global, circuit: &Circuit) -> Result<bool, AllocError> {
+    if circuit.inputs() != 2 {
+        return Ok(false);
+    }
+    let mut machine = Machine::start(alloc, circuit, None)?;
+    let before = has_row(alloc, &machine, &[Unk, Unk])?;
+    machine.step(&[true, false]);
+    Ok(before && has_row(alloc, &machine, &[One, Zero])?)
+}
+
+/// Whether a pin's fault leaves its net, and an output row has the order of the outputs.
+fn pins_and_rows(alloc: Global, circuit: &Circuit) -> Result<bool, AllocError> {
+    Ok(detects_pins(alloc, circuit)? && shows_rows(alloc, circuit)?)
+}
+
+#[test]
+fn pin_fault_leaves_the_net_and_rows_are_in_order(rt: HostRuntime) -> Result<(), Fail> {
+    let circuit = read(rt.alloc(), AND_GATE)?;
+    assert!(rt; pins_and_rows(rt.alloc(), &circuit)?);
+    Ok(())
+}
+
+/// The values of the AND gate's nets over bits, for inputs 0 and 1.
+fn settled(circuit: &Circuit, fault: Option<Fault>) -> Option<[bool; 3]> {
+    if circuit.inputs() != 2 || circuit.dffs() != 0 || circuit.nets() != 3 {
+        return None;
+    }
+    let mut values = [false; 3];
+    let mut pins = [false; MAX_GATE_PINS];
+    settle(circuit, fault, &[false, true], &[], &mut values, &mut pins);
+    Some(values)
+}
+
+#[test]
+fn settles_bits(rt: HostRuntime) -> Result<(), Fail> {
+    let circuit = read(rt.alloc(), AND_GATE)?;
+    let pin = Fault {
+        site: Site::GatePin { gate: 0, pin: 0 },
+        value: true,
+    };
+    let shown = (settled(&circuit, None), settled(&circuit, Some(pin)));
+    assert!(rt; shown == (Some([false, true, false]), Some([false, true, true])));
+    Ok(())
+}
+
+/// The toggle over two values, from 0: its output in two frames, and what the flip-flop then holds.
+fn toggled(alloc: Global, circuit: &Circuit) -> Result<Option<[bool; 3]>, AllocError> {
+    if circuit.inputs() != 0 || circuit.outputs() != 1 || circuit.dffs() != 1 {
+        return Ok(None);
+    }
+    let mut machine = BoolMachine::start_from(alloc, circuit, None, &[false])?;
+    machine.step(&[]);
+    let shown = machine.output(0);
+    machine.step(&[]);
+    Ok(Some([shown, machine.output(0), machine.state(0)]))
+}
+
+/// The output and the flip-flop of the toggle after one frame from 0, over three values.
+fn after_one_frame(
+    alloc: Global,
+    circuit: &Circuit,
+    fault: Option<Fault>,
+) -> Result<Option<[Tern; 2]>, AllocError> {
+    if circuit.inputs() != 0 || circuit.outputs() != 1 || circuit.dffs() != 1 {
+        return Ok(None);
+    }
+    let mut machine = Machine::start_from(alloc, circuit, fault, &[Zero])?;
+    machine.step(&[]);
+    Ok(Some([machine.output(0), machine.state(0)]))
+}
+
+/// Whether the flip-flop of the toggle stays at 0 with n stuck at 0, and goes to 1 without.
+fn stays_with_its_fault(alloc: Global, circuit: &Circuit) -> Result<bool, AllocError> {
+    let stuck = Fault {
+        site: Site::Stem(NetId(1)),
+        value: false,
+    };
+    for (fault, latch) in [(Some(stuck), Zero), (None, One)] {
+        if after_one_frame(alloc, circuit, fault)? != Some([Zero, latch]) {
+            return Ok(false);
+        }
+    }
+    Ok(true)
+}
+
+/// Whether the toggle shows 0 and then 1, and stays at 0 with its fault.
+fn turns_unless_stuck(alloc: Global, circuit: &Circuit) -> Result<bool, AllocError> {
+    Ok(
+        toggled(alloc, circuit)? == Some([false, true, false])
+            && stays_with_its_fault(alloc, circuit)?,
+    )
+}
+
+#[test]
+fn toggle_turns_unless_n_is_stuck(rt: HostRuntime) -> Result<(), Fail> {
+    let circuit = read(rt.alloc(), TOGGLE)?;
+    assert!(rt; turns_unless_stuck(rt.alloc(), &circuit)?);
+    Ok(())
+}
