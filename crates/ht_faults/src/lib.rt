@@ -16,6 +16,3 @@ pub use laws::{
     listed_faults_stand_on_sites,
 };
 pub use sites::has_fanout;
-
-#[cfg(test)]
-mod tests;
