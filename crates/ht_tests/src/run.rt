@@ -1,1 +1,10 @@
-//! Tests of ht_app.
+//! Tests of `run`: the worked examples, over desks in memory, byte for byte.
+
+mod cases;
+mod faults;
+mod memory;
+mod mute;
+mod norm;
+mod refusals;
+mod sim;
+mod words;

@@ -1,0 +1,168 @@
+//! A run, and what it must leave.
+
+use ht_app::run;
+use ht_ports::{Fail, MemoryDesk};
+use std::alloc::{AllocError, Global};
+
+/// The words of the two commands over the files `n` and `t`; they write the file `r`.
+pub const SIM: &[&str] = &["sim", "n", "t", "r"];
+
+pub const NORM: &[&str] = &["norm", "n", "r"];
+
+/// The shift register: two flip-flops between an input and an output. The stored run of the program has it too, with the
+/// vectors 1, 0, 0.
+pub const SHIFT_REGISTER: &[u8] = b"INPUT(a)\nOUTPUT(r)\nq = DFF(a)\nr = DFF(q)\n";
+
+/// Its report under those vectors.
+pub const SHIFT_REGISTER_REPORT: &[u8] =
+    b"circuit inputs 1 outputs 1 flip-flops 2 gates 0 faults 6 classes 6
+1 a s-a-0 detected 3 r
+2 a s-a-1 undetected
+3 q s-a-0 detected 3 r
+4 q s-a-1 undetected
+5 r s-a-0 detected 3 r
+6 r s-a-1 undetected
+total 6 detected 3
+";
+
+/// s27 as it is known, with its header.
+pub const S27: &[u8] = b"# s27
+# 4 inputs
+# 1 outputs
+# 3 D-type flipflops
+# 2 inverters
+# 8 gates (1 ANDs + 1 NANDs + 2 ORs + 4 NORs)
+
+INPUT(G0)
+INPUT(G1)
+INPUT(G2)
+INPUT(G3)
+
+OUTPUT(G17)
+
+G5 = DFF(G10)
+G6 = DFF(G11)
+G7 = DFF(G13)
+
+G14 = NOT(G0)
+G17 = NOT(G11)
+
+G8 = AND(G14, G6)
+
+G15 = OR(G12, G8)
+G16 = OR(G3, G8)
+
+G9 = NAND(G16, G15)
+
+G10 = NOR(G14, G11)
+G11 = NOR(G5, G9)
+G12 = NOR(G1, G7)
+G13 = NOR(G2, G12)
+";
+
+/// What goes in: the words, the files `n` and `t` where they are there, and a call that fails.
+#[derive(Clone, Copy)]
+pub struct Start<'a> {
+    pub words: &'a [&'a str],
+    pub netlist: Option<&'a [u8]>,
+    pub tests: Option<&'a [u8]>,
+    pub fails: Option<Fail>,
+}
+
+/// What must come out: the status, the file `r` where it is there, and what is on Out and on Err.
+#[derive(Clone, Copy)]
+pub struct End<'a> {
+    pub status: u8,
+    pub file: Option<&'a [u8]>,
+    pub out: &'a [u8],
+    pub err: &'a [u8],
+}
+
+/// A run that has both files, and no call that fails.
+pub fn given<'a>(words: &'a [&'a str], netlist: &'a [u8], tests: &'a [u8]) -> Start<'a> {
+    Start {
+        words,
+        netlist: Some(netlist),
+        tests: Some(tests),
+        fails: None,
+    }
+}
+
+/// A run that ends with this status and this line on Err, and leaves nothing else.
+pub fn refused(status: u8, line: &[u8]) -> End<'_> {
+    End {
+        status,
+        file: None,
+        out: b"",
+        err: line,
+    }
+}
+
+/// A run that finishes with this file, and with this on Out.
+pub fn finished<'a>(file: &'a [u8], out: &'a [u8]) -> End<'a> {
+    End {
+        status: 0,
+        file: Some(file),
+        out,
+        err: b"",
+    }
+}
+
+/// The words, each a `String`.
+pub fn words_of(alloc: Global, words: &[&str]) -> Result<Vec<String>, AllocError> {
+    let mut list = Vec::new(alloc);
+    for word in words {
+        list.push(String::from_str(alloc, word)?)?;
+    }
+    Ok(list)
+}
+
+/// Puts the files on the desk, and plans the failure.
+pub fn load(desk: &mut MemoryDesk, start: &Start<'_>) -> Result<(), AllocError> {
+    if let Some(netlist) = start.netlist {
+        desk.put("n", netlist)?;
+    }
+    if let Some(tests) = start.tests {
+        desk.put("t", tests)?;
+    }
+    if let Some(fail) = start.fails {
+        desk.fail(fail)?;
+    }
+    Ok(())
+}
+
+// Whether the desk is left as it must be.
+fn is_left(desk: &MemoryDesk, end: &End<'_>) -> bool {
+    desk.file("r") == end.file && desk.out() == end.out && desk.err() == end.err
+}
+
+/// Whether the run comes out as it must.
+pub fn holds(alloc: Global, start: &Start<'_>, end: &End<'_>) -> Result<bool, AllocError> {
+    let words = words_of(alloc, start.words)?;
+    let mut desk = MemoryDesk::new(alloc);
+    load(&mut desk, start)?;
+    let status = run(alloc, &words, &mut desk);
+    Ok(status == end.status && is_left(&desk, end))
+}
+
+/// Whether both commands come out so over these files.
+pub fn both_hold<'a>(
+    alloc: Global,
+    netlist: Option<&'a [u8]>,
+    tests: Option<&'a [u8]>,
+    fails: Option<Fail>,
+    end: &End<'_>,
+) -> Result<bool, AllocError> {
+    for words in [SIM, NORM] {
+        let start = Start {
+            words,
+            netlist,
+            tests,
+            fails,
+        };
+        if !holds(alloc, &start, end)? {
+            return Ok(false);
+        }
+    }
+    Ok(true)
+}

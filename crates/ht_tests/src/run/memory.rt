@@ -1,0 +1,61 @@
+//! Refused memory. In the gate no allocation is refused; outside it these tests run with each of their allocations refused
+//! in turn (`rt try --test --fail-alloc N`).
+
+use super::cases::{SHIFT_REGISTER, SHIFT_REGISTER_REPORT, SIM, Start, load, words_of};
+use super::mute::MuteDesk;
+use ht_app::run;
+use ht_ports::MemoryDesk;
+use std::alloc::{AllocError, Global};
+use std::test::Fail;
+
+const START: Start<'static> = Start {
+    words: SIM,
+    netlist: Some(SHIFT_REGISTER),
+    tests: Some(b"1\n0\n0\n"),
+    fails: None,
+};
+
+// The line on Err where memory may be refused; a desk in memory counts a refused growth as a fault.
+fn line_at(status: u8) -> Option<&'static [u8]> {
+    match status {
+        0 => Some(b""),
+        4 => Some(b"read fault\n"),
+        5 => Some(b"write fault\n"),
+        6 => Some(b"no memory\n"),
+        _ => None,
+    }
+}
+
+// Whether the run says its status in its line, and leaves the report where it finishes.
+fn status_is_said(alloc: Global) -> Result<bool, AllocError> {
+    let words = words_of(alloc, START.words)?;
+    let mut desk = MemoryDesk::new(alloc);
+    load(&mut desk, &START)?;
+    let status = run(alloc, &words, &mut desk);
+    Ok(
+        line_at(status) == Some(desk.err())
+            && (status != 0 || desk.file("r") == Some(SHIFT_REGISTER_REPORT)),
+    )
+}
+
+#[test]
+fn refused_memory_has_its_status(rt: HostRuntime) -> Result<(), Fail> {
+    assert!(rt; status_is_said(rt.alloc())?);
+    Ok(())
+}
+
+// Whether the status is that of a failed write exactly where a write of the output failed, and not where that of the line
+// on Err did.
+fn status_stays(alloc: Global) -> Result<bool, AllocError> {
+    let words = words_of(alloc, START.words)?;
+    let mut desk = MuteDesk::new(alloc);
+    load(&mut desk.inner, &START)?;
+    let status = run(alloc, &words, &mut desk);
+    Ok((status == 5) == desk.output_failed && line_at(status).is_some())
+}
+
+#[test]
+fn refused_memory_on_a_mute_desk_keeps_its_status(rt: HostRuntime) -> Result<(), Fail> {
+    assert!(rt; status_stays(rt.alloc())?);
+    Ok(())
+}

@@ -1,0 +1,113 @@
+//! A standard error that takes nothing.
+ghost use Rattle.ht_ports.specs.Memory.{memory_view};
+
+use super::cases::{NORM, SHIFT_REGISTER, SIM, Start, load, words_of};
+use ht_app::run;
+use ht_ports::{Desk, Fail as Plan, Failed, InPort, MemoryDesk, OutPort};
+use std::alloc::{AllocError, Global};
+use std::test::Fail;
+
+/// A memory desk whose standard error takes nothing: each write to it is a counted fault.
+#[derive(Drop)]
+pub struct MuteDesk {
+    pub inner: MemoryDesk,
+    pub out_faults: u64,
+    /// A call on another out-port failed.
+    pub output_failed: bool,
+}
+
+impl MuteDesk {
+    /// A desk without files.
+    pub fn new(alloc: Global) -> MuteDesk {
+        MuteDesk {
+            inner: MemoryDesk::new(alloc),
+            out_faults: 0,
+            output_failed: false,
+        }
+    }
+}
+
+impl Desk for MuteDesk {
+    ghost use Rattle.std.proofs.Common.{rules};
+
+    ghost view = { λ d. record (memory_view d.inner) { out_faults = d.out_faults } };
+
+    ghost steady_tells = { λ desk name steady. Prim.search rules };
+
+    fn open(&mut self, port: InPort, name: &str) -> Result<(), Failed> {
+        self.inner.open(port, name)
+    }
+
+    fn create(&mut self, port: OutPort, name: &str) -> Result<(), Failed> {
+        match self.inner.create(port, name) {
+            Ok(()) => Ok(()),
+            Err(Failed) => {
+                self.out_faults = self.out_faults.saturating_add(1);
+                self.output_failed = true;
+                Err(Failed)
+            }
+        }
+    }
+
+    fn read(&mut self, port: InPort, buf: &mut [u8]) -> Result<usize, Failed> {
+        self.inner.read(port, buf)
+    }
+
+    fn write(&mut self, port: OutPort, bytes: &[u8]) -> Result<usize, Failed> {
+        if port != OutPort::Err {
+            if let Ok(count) = self.inner.write(port, bytes) {
+                return Ok(count);
+            }
+            self.output_failed = true;
+        }
+        self.out_faults = self.out_faults.saturating_add(1);
+        Err(Failed)
+    }
+}
+
+// Whether only the line was tried on the mute port, and nothing came out.
+fn is_silent(desk: &MuteDesk) -> bool {
+    desk.out_faults == 1
+        && !desk.output_failed
+        && desk.inner.err().is_empty()
+        && desk.inner.out().is_empty()
+        && desk.inner.file("r").is_none()
+}
+
+// Whether the run has this status over the mute desk, and leaves nothing.
+fn ends_with(alloc: Global, start: &Start<'_>, status: u8) -> Result<bool, AllocError> {
+    let words = words_of(alloc, start.words)?;
+    let mut desk = MuteDesk::new(alloc);
+    load(&mut desk.inner, start)?;
+    Ok(run(alloc, &words, &mut desk) == status && is_silent(&desk))
+}
+
+#[test]
+fn a_failing_standard_error_leaves_the_status(rt: HostRuntime) -> Result<(), Fail> {
+    let alloc = rt.alloc();
+    let table: [(&[&str], Option<&[u8]>, Option<&[u8]>, Option<Plan>, u8); 6] = [
+        (&["sim"], Some(SHIFT_REGISTER), Some(b"1\n"), None, 2),
+        (SIM, Some(b"INPUT(=)\n"), Some(b"1\n"), None, 3),
+        (NORM, None, None, None, 4),
+        // the netlist is accepted, and then the tests can't be read
+        (SIM, Some(SHIFT_REGISTER), None, None, 4),
+        (
+            SIM,
+            Some(SHIFT_REGISTER),
+            Some(b"1\n"),
+            Some(Plan::Open(InPort::Tests)),
+            4,
+        ),
+        (SIM, Some(SHIFT_REGISTER), Some(b"x\n"), None, 7),
+    ];
+    for (words, netlist, tests, fails, status) in table {
+        let start = Start {
+            words,
+            netlist,
+            tests,
+            fails,
+        };
+        assert!(rt; ends_with(alloc, &start, status)?);
+    }
+    Ok(())
+}
