@@ -1,6 +1,5 @@
 pub mod DecisionLaws
-pub mod ShownLaws
+pub mod DifferenceLaws
 pub mod StatusLaws
 pub mod PlaceLaws
 pub mod TakeLaws
-pub mod UntestableLaws

@@ -1,8 +1,9 @@
 -- What the places of a one-frame window show, output by output and flip-flop by flip-flop.
 use Rattle.std.proofs.Common.{◌≡◌, ◌<◌, ◌+◌, ℕ, suc, List, [], ◌∷◌, ◌++◌, map, Bool, true, false, not, ◌||◌, cond, Option, Some, None, length, get_or, refl, sym, ◌∙◌, ap, arith}
 use Rattle.std.specs.List.{find, filter, list_any, list_all, range_with_len}
-use Rattle.std.proofs.lemmas.List.{append-nil}
-use Rattle.ht_pairs.specs.Pairs.{differs, Pair}
+use Rattle.std.proofs.lemmas.List.{append-nil, map-append}
+use Rattle.std.proofs.lemmas.Simd.{map-map}
+use Rattle.ht_pairs.specs.Pairs.{Pair, differs}
 use Rattle.ht_net.specs.declared.net.NetId.{NetId}
 use Rattle.ht_net.specs.declared.fault.Fault.{Fault}
 use Rattle.ht_net.specs.Netlist.{Netlist, no_net}
@@ -14,20 +15,20 @@ use Rattle.ht_tree.specs.Decisions.{is_in}
 use Rattle.ht_tree.specs.Windows.{one_frame, one_frame_window, pair_set_rules, cell_at}
 use Rattle.ht_tree.specs.Places.{set_at, output_places, state_places, places_of, must_differ_at, may_differ_at}
 use Rattle.ht_tree.specs.WindowStatus.{sure_or, status_at, without_place}
-use Rattle.ht_check.specs.Shown.{shown_by, shown_status, outside_marks}
+use Rattle.ht_check.specs.Differences.{differences_in, status_by, outside_marks}
 
 first_sure : (b : Bool) (p : WindowPlace) (more : Option WindowPlace) (rest some : Bool)
-    → without_place (sure_or more some) ≡ shown_status (record { must = rest; may = some })
-    → without_place (sure_or (cond b (Some p) more) some) ≡ shown_status (record { must = b || rest; may = some })
+    → without_place (sure_or more some) ≡ status_by (record { must = rest; may = some })
+    → without_place (sure_or (cond b (Some p) more) some) ≡ status_by (record { must = b || rest; may = some })
 first_sure true p more rest some h = refl
 first_sure false p more rest some h = h
 
-none_sure : (some : Bool) → without_place (sure_or None some) ≡ shown_status (record { must = false; may = some })
+none_sure : (some : Bool) → without_place (sure_or None some) ≡ status_by (record { must = false; may = some })
 none_sure true = refl
 none_sure false = refl
 
 find_any : (test : WindowPlace → Bool) (ps : List WindowPlace) (some : Bool)
-    → without_place (sure_or (find test ps) some) ≡ shown_status (record { must = list_any test ps; may = some })
+    → without_place (sure_or (find test ps) some) ≡ status_by (record { must = list_any test ps; may = some })
 find_any test [] some = none_sure some
 find_any test (p ∷ ps) some =
     first_sure (test p) p (find test ps) (list_any test ps) some (find_any test ps some)
@@ -36,14 +37,6 @@ any_map : {X Y : Type 0} → (test : Y → Bool) (f : X → Y) (xs : List X)
     → list_any (λ x. test (f x)) xs ≡ list_any test (map f xs)
 any_map test f [] = refl
 any_map test f (x ∷ xs) = ap (λ (b : Bool). test (f x) || b) (any_map test f xs)
-
-map_append : {X Y : Type 0} → (f : X → Y) (xs ys : List X) → map f (xs ++ ys) ≡ map f xs ++ map f ys
-map_append f [] ys = refl
-map_append f (x ∷ xs) ys = ap (λ t. f x ∷ t) (map_append f xs ys)
-
-map_map : {X Y Z : Type 0} → (g : Y → Z) (f : X → Y) (xs : List X) → map g (map f xs) ≡ map (λ x. g (f x)) xs
-map_map g f [] = refl
-map_map g f (x ∷ xs) = ap (λ t. g (f x) ∷ t) (map_map g f xs)
 
 -- the sets at the outputs, by number
 outputs_by : (env f : ℕ → List Pair) (i : ℕ) (xs : List NetId)
@@ -93,7 +86,7 @@ module _ (c : Netlist) (fault : Fault) (z : List ℕ) (path : List Assign3) wher
   output_sets : map set_of_place (output_places c 0) ≡ values_at (cell_at (one_frame_window c fault z) path 0) c.outputs
   output_sets =
       let w = one_frame_window c fault z in
-      map_map set_of_place (λ o. record { frame = 0; spot = Output o }) (range_with_len 0 (length c.outputs))
+      map-map set_of_place (λ o. record { frame = 0; spot = Output o }) (range_with_len 0 (length c.outputs))
       ∙ outputs_by (cell_at w path 0) (λ o. set_at w path 0 (Output o)) 0 c.outputs
       (λ k l. let at : 0 + k ≡ k = omega arith in ap (λ (n : ℕ). set_at w path 0 (Output n)) at)
 
@@ -103,7 +96,7 @@ module _ (c : Netlist) (fault : Fault) (z : List ℕ) (path : List Assign3) wher
       (data_values (pair_set_rules (Some fault)) (cell_at (one_frame_window c fault z) path 0) 0 c.dffs)
   state_sets marks count marked =
       let w = one_frame_window c fault z in
-      map_map set_of_place (λ j. record { frame = 0; spot = State j })
+      map-map set_of_place (λ j. record { frame = 0; spot = State j })
       (filter (λ j. not (is_in z j)) (range_with_len 0 (length c.dffs)))
       ∙ states_by (pair_set_rules (Some fault)) (cell_at w path 0) (λ j. set_at w path 0 (State j)) z 0 marks c.dffs
       count
@@ -115,18 +108,18 @@ module _ (c : Netlist) (fault : Fault) (z : List ℕ) (path : List Assign3) wher
   -- the status by what the outputs show, and the next states of the flip-flops that are not marked
   pub status_shown : (marks : List Bool) → length marks ≡ length c.dffs
       → ((j : ℕ) → get_or marks j false ≡ is_in z j)
-      → shown_status (shown_by (values_at (cell_at (one_frame_window c fault z) path 0) c.outputs
+      → status_by (differences_in (values_at (cell_at (one_frame_window c fault z) path 0) c.outputs
       ++ outside_marks marks
       (data_values (pair_set_rules (Some fault)) (cell_at (one_frame_window c fault z) path 0) 0 c.dffs)))
       ≡ without_place (status_at (one_frame_window c fault z) path)
   status_shown marks count marked =
       let w = one_frame_window c fault z in
       let ps = places_of w in
-      let sets = map_append set_of_place (output_places c 0 ++ []) (state_places c (one_frame z))
+      let sets = map-append set_of_place (output_places c 0 ++ []) (state_places c (one_frame z))
       ∙ (ap (λ (t : List WindowPlace). map set_of_place t ++ map set_of_place (state_places c (one_frame z)))
       (append-nil (output_places c 0))
       ∙ (λ k. output_sets k ++ state_sets marks count marked k)) in
       let must = any_map (list_all differs) set_of_place ps ∙ ap (list_any (list_all differs)) sets in
       let may = any_map (list_any differs) set_of_place ps ∙ ap (list_any (list_any differs)) sets in
       sym (find_any (must_differ_at w path) ps (list_any (may_differ_at w path) ps)
-      ∙ (λ k. shown_status (record { must = must k; may = may k })))
+      ∙ (λ k. status_by (record { must = must k; may = may k })))

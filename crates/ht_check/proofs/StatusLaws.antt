@@ -13,11 +13,11 @@ use Rattle.ht_pairs.specs.Decided.{same_pairs}
 use Rattle.ht_tree.specs.Decisions.{is_in, decided_value, latch_pairs}
 use Rattle.ht_tree.specs.Windows.{one_frame, one_frame_window, pair_set_rules, input_set, frame_inputs, first_latch, latches_at, cell_at}
 use Rattle.ht_tree.specs.WindowStatus.{status_at, without_place}
-use Rattle.ht_check.specs.declared.places.Shown.{Shown}
-use Rattle.ht_check.specs.Shown.{shown_by, shown_status, either, outside_marks}
+use Rattle.ht_check.specs.declared.differences.Differences.{Differences}
+use Rattle.ht_check.specs.Differences.{differences_in, status_by, in_either, outside_marks}
 use Rattle.ht_check.specs.Paths.{latch_by}
 use Rattle.ht_check.proofs.DecisionLaws.{listed_by}
-use Rattle.ht_check.proofs.ShownLaws.{shown_append}
+use Rattle.ht_check.proofs.DifferenceLaws.{differences_append}
 use Rattle.ht_check.proofs.PlaceLaws.{status_shown}
 
 -- The sets of inputs and latches.
@@ -55,10 +55,10 @@ pub status_is : (c : Netlist) (fault : Fault) (z : List ℕ) (path : List Assign
     → ((x : ℕ) → x < net_count c
     → env_of (pair Unk Unk ∷ []) values x ≡ net_value c (pair_set_rules (Some fault)) vector latches x)
     → next ≡ data_values (pair_set_rules (Some fault)) (env_of (pair Unk Unk ∷ []) values) 0 c.dffs
-    → (shown : Shown)
-    → shown ≡ either (shown_by (values_at (env_of (pair Unk Unk ∷ []) values) c.outputs))
-    (shown_by (outside_marks marks next))
-    → shown_status shown ≡ without_place (status_at (one_frame_window c fault z) path)
+    → (shown : Differences)
+    → shown ≡ in_either (differences_in (values_at (env_of (pair Unk Unk ∷ []) values) c.outputs))
+    (differences_in (outside_marks marks next))
+    → status_by shown ≡ without_place (status_at (one_frame_window c fault z) path)
 status_is c fault z path marks vector latches values next circuit count marked v l settled taken shown is =
     let w = one_frame_window c fault z in
     let env : ℕ → List Pair = env_of (pair Unk Unk ∷ []) values in
@@ -71,8 +71,8 @@ status_is c fault z path marks vector latches values next circuit count marked v
     let b : next ≡ data_values r (cell_at w path 0) 0 c.dffs =
     taken ∙ taken_same r env (cell_at w path 0) 0 c.dffs
     (λ o l. cells (get_or c.dffs o no_net).0 (circuit.data_known o l)) in
-    let whole : shown ≡ shown_by (values_at (cell_at w path 0) c.outputs
+    let whole : shown ≡ differences_in (values_at (cell_at w path 0) c.outputs
     ++ outside_marks marks (data_values r (cell_at w path 0) 0 c.dffs)) =
-    is ∙ (shown_append (values_at env c.outputs) (outside_marks marks next)
-    ∙ (λ i. shown_by (a i ++ outside_marks marks (b i)))) in
-    ap shown_status whole ∙ status_shown c fault z path marks count marked
+    is ∙ (differences_append (values_at env c.outputs) (outside_marks marks next)
+    ∙ (λ i. differences_in (a i ++ outside_marks marks (b i)))) in
+    ap status_by whole ∙ status_shown c fault z path marks count marked

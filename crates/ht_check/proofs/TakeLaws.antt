@@ -1,11 +1,11 @@
 -- One token of a walk, and a whole walk.
-use Rattle.std.proofs.Common.{◌≡◌, ◌≢◌, ◌<◌, ◌↔◌, ℕ, suc, zero, List, [], ◌∷◌, ◌++◌, Bool, true, false, not, length, drop, refl, sym, ◌∙◌, ap, arith}
+use Rattle.std.proofs.Common.{◌≡◌, ◌<◌, ◌↔◌, ℕ, List, [], ◌∷◌, ◌++◌, Bool, true, false, not, length, refl, sym, ◌∙◌, ap, arith}
 use Rattle.std.specs.Prelude.{IsTrue}
 use Rattle.std.proofs.lemmas.Bool.{or_left}
+use Rattle.std.proofs.lemmas.List.Elements.{All-nil, All-drop, All-push}
 use Rattle.ht_tree.proofs.VariableLaws.{variable_below}
-use Rattle.ht_tern.specs.declared.tern.Tern.TheVariants.{Unk}
+use Rattle.ht_tern.specs.declared.tern.Tern.{Tern}
 use Rattle.ht_tern.specs.Gate.{tern_of}
-use Rattle.ht_tree.specs.declared.token.Assign3.{Assign3}
 use Rattle.ht_tree.specs.declared.token.Token.{Token}
 use Rattle.ht_tree.specs.declared.token.Token.TheVariants as token
 use Rattle.ht_tree.specs.declared.token.Status3.{Status3}
@@ -15,52 +15,35 @@ use Rattle.ht_tree.specs.WindowStatus.{status_at, without_place}
 use Rattle.ht_tree.specs.Variables.{may_two, may_three, variable_bound}
 use Rattle.ht_tree.specs.Nodes.{window_at, judge_of}
 use Rattle.ht_tree.specs.Counts.{seeks_difference}
-use Rattle.ht_tree.proofs.NodeLaws.{window_stays, no_three, no_before}
-use Rattle.ht_check.specs.Paths.{IsPlain, AreAllPlain, FitsAt, FitsOnTop}
+use Rattle.ht_tree.proofs.DifferenceLaws.{window_stays, no_three, no_before}
+use Rattle.ht_check.specs.Paths.{AreBelow, AreAllBelow, FitsAt, FitsOnTop}
 
-plain_drop : (count k : ℕ) (path : List Assign3) → IsPlain count path → IsPlain count (drop k path)
-plain_drop count zero path h = h
-plain_drop count (suc k) [] h = tt
-plain_drop count (suc k) (d ∷ path) h = plain_drop count k path h.2
-
-pub plain_top : (count : ℕ) (stack : List Node) → AreAllPlain count stack → IsPlain count (top_path stack)
-plain_top count [] h = tt
-plain_top count (n ∷ rest) h = plain_drop count _ n.decisions h.0
-
-plain_more : (count : ℕ) (path : List Assign3) (d : Assign3) → IsPlain count path → d.var < count → d.value ≢ Unk
-    → IsPlain count (path ++ d ∷ [])
-plain_more count [] d h k l = (k, l, tt)
-plain_more count (x ∷ path) d h k l = (h.0, h.1, plain_more count path d h.2 k l)
+pub below_top : (count : ℕ) (stack : List Node) → AreAllBelow count stack → AreBelow count (top_path stack)
+below_top count [] h = All-nil (λ d. d.var < count)
+below_top count (n ∷ rest) h = All-drop (λ d. d.var < count) _ n.decisions h.0
 
 untrue : (b : Bool) → b ≡ false → IsTrue b → ⊥
 untrue true e h = cc
 untrue false e h = cc
 
-bit_definite : (b : Bool) → tern_of b ≢ Unk
-bit_definite true = λ e. cc
-bit_definite false = λ e. cc
-
 legal_below : (w : SearchWindow) (var : ℕ) → IsWindow w → IsTrue (may_two w var) → var < variable_bound w
 legal_below w var valid h = variable_below w var valid (or_left (may_two w var) (may_three w var) h)
 
--- a token that fits keeps to the window's variables, and to two values
-pub plain_next : (w : SearchWindow) (valid : IsWindow w) (s : Status3) (stack : List Node) (t : Token)
-    → FitsAt (may_two w) s t
-    → AreAllPlain (variable_bound w) stack → AreAllPlain (variable_bound w) (next_stack stack t)
-plain_next w valid s [] t fit h = tt
-plain_next w valid s (n ∷ rest) token.Dead fit h = h.1
-plain_next w valid s (n ∷ rest) token.Before fit h = absurd fit
-plain_next w valid s (n ∷ rest) (token.Three var) fit h = absurd fit
-plain_next w valid s (n ∷ rest) (token.Two var first) fit h =
+-- a token that fits keeps to the window's variables
+pub below_next : (w : SearchWindow) (valid : IsWindow w) (s : Status3) (stack : List Node) (t : Token)
+    → FitsAt (may_two w) s t → AreAllBelow (variable_bound w) stack
+    → AreAllBelow (variable_bound w) (next_stack stack t)
+below_next w valid s [] t fit h = tt
+below_next w valid s (n ∷ rest) token.Dead fit h = h.1
+below_next w valid s (n ∷ rest) token.Before fit h = absurd fit
+below_next w valid s (n ∷ rest) (token.Three var) fit h = absurd fit
+below_next w valid s (n ∷ rest) (token.Two var first) fit h =
     let below = legal_below w var valid fit.1 in
-    let other = plain_more (variable_bound w) n.decisions (record { var = var; value = tern_of (not first) }) h.0 below
-    (bit_definite (not first)) in
-    let both : IsPlain (variable_bound w) (n.decisions ++ record { var = var; value = tern_of (not first) } ∷ [])
-    × AreAllPlain (variable_bound w) rest = (other, h.1) in (
-      plain_more (variable_bound w) n.decisions (record { var = var; value = tern_of first }) h.0 below
-          (bit_definite first),
-      both,
-    )
+    let more : (value : Tern) → AreBelow (variable_bound w) (n.decisions ++ record { var = var; value = value } ∷ []) =
+    λ value. All-push (λ d. d.var < variable_bound w) n.decisions (record { var = var; value = value }) h.0 below in
+    let both : AreBelow (variable_bound w) (n.decisions ++ record { var = var; value = tern_of (not first) } ∷ [])
+    × AreAllBelow (variable_bound w) rest = (more (tern_of (not first)), h.1) in
+    (more (tern_of first), both)
 
 -- What is judged at a node of a window in which a difference is looked for.
 module _ (w : SearchWindow) (seeks : seeks_difference w.start ≡ true) where

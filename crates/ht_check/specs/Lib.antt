@@ -1,3 +1,3 @@
 pub mod Paths
-pub mod Shown
+pub mod Differences
 pub mod WindowOf

@@ -1,4 +1,4 @@
-// The one-frame window, evaluated afresh at each path.
+//! The one-frame window, evaluated afresh at each path.
 ghost use Rattle.std.specs.Prelude.{◌≡◌, ◌<◌, ◌+◌, ℕ, [], ◌∷◌, length, get_or, true, false, Some, IfOk};
 ghost use Rattle.ht_tern.specs.declared.tern.Tern.TheVariants.{Unk};
 ghost use Rattle.ht_pairs.specs.Pairs.{pair};
@@ -10,10 +10,10 @@ ghost use Rattle.ht_tree.specs.Decisions.{is_in};
 ghost use Rattle.ht_tree.specs.Variables.{may_two, variable_bound};
 ghost use Rattle.ht_tree.specs.Windows.{IsWindow, one_frame_window, pair_set_rules};
 ghost use Rattle.ht_tree.specs.WindowStatus.{status_at, without_place};
-ghost use Rattle.ht_check.specs.Paths.{IsPlain};
+ghost use Rattle.ht_check.specs.Paths.{AreBelow};
 
 use crate::decisions::{write_decisions, write_inputs, write_latches};
-use crate::places::{next_states, outputs};
+use crate::differences::{output_differences, state_differences};
 use ht_frame::{MAX_GATE_PINS, capture, settle};
 use ht_net::{Circuit, Fault};
 use ht_pairs::PairSet;
@@ -22,8 +22,8 @@ use ht_tree::{Assign3, Status3};
 use std::alloc::{AllocError, Global};
 use std::marker::Model;
 
-/// One frame of the good and of the faulty machine, over sets of pairs, from states that may differ at the flip-flops of
-/// z alone. All room is taken once, when it is made.
+/// One frame of the good and of the faulty machine, over sets of pairs, from states that may differ only at the
+/// flip-flops of z. All room is taken once, when it is made.
 #[derive(Drop)]
 pub struct OneFrame<'c> {
     circuit: &'c Circuit,
@@ -54,7 +54,7 @@ impl<'c> Model for OneFrame<'c> {
     ghost invariant = { IsSized };
 }
 
-/// A mark for each flip-flop that is in z, of so many flip-flops.
+// A mark for each of so many flip-flops: whether it is in z.
 fn marks_of(alloc: Global, z: &[u32], count: usize) -> Result<Vec<bool>, AllocError>
     requires { (i : ℕ) → i < length z.now → get_or z.now i 0 < count }
     ensures count { IfOk result (λ marks. length marks.items ≡ count) }
@@ -67,15 +67,18 @@ fn marks_of(alloc: Global, z: &[u32], count: usize) -> Result<Vec<bool>, AllocEr
     Ok(marks)
 }
 
-/// Room for so many sets.
-fn sets(alloc: Global, count: usize) -> Result<Vec<PairSet>, AllocError>
+// Room for so many sets.
+fn room_for(alloc: Global, count: usize) -> Result<Vec<PairSet>, AllocError>
     ensures { IfOk result (λ sets. length sets.items ≡ count) }
 {
     vec![in alloc; PairSet::both_same(); count]
 }
 
 impl<'c> OneFrame<'c> {
-    /// The window of a fault and a set of flip-flops. Errs where memory runs out.
+    /// The window of a fault and a set of flip-flops.
+    ///
+    /// # Errors
+    /// Out of memory.
     pub fn new(
         alloc: Global,
         circuit: &'c Circuit,
@@ -92,11 +95,11 @@ impl<'c> OneFrame<'c> {
         let dffs = circuit.dffs() as usize;
         let in_z = marks_of(alloc, z, dffs)?;
         let decisions = vec![in alloc; None; inputs + dffs + dffs]?;
-        let vector = sets(alloc, inputs)?;
-        let latches = sets(alloc, dffs)?;
-        let values = sets(alloc, nets)?;
-        let next = sets(alloc, dffs)?;
-        let pins = sets(alloc, MAX_GATE_PINS)?;
+        let vector = room_for(alloc, inputs)?;
+        let latches = room_for(alloc, dffs)?;
+        let values = room_for(alloc, nets)?;
+        let next = room_for(alloc, dffs)?;
+        let pins = room_for(alloc, MAX_GATE_PINS)?;
         Ok(OneFrame {
             circuit,
             fault,
@@ -125,7 +128,7 @@ impl<'c> OneFrame<'c> {
 
     /// The status at a path, by one evaluation of the frame. It allocates nothing.
     pub fn status(&mut self, path: &[Assign3]) -> Status3
-        requires { IsPlain (variable_bound self.old) path.now }
+        requires { AreBelow (variable_bound self.old) path.now }
         ensures status { result ≡ without_place (status_at self.old path.now) }
         ensures window { IsWindow self.old }
         ensures seeks { seeks_difference self.old.start ≡ true }
@@ -144,12 +147,14 @@ impl<'c> OneFrame<'c> {
             &mut self.next,
             &mut self.pins,
         );
-        let shown = outputs(self.circuit, &self.values);
-        shown.and(next_states(&self.in_z, &self.next)).status()
+        let shown = output_differences(self.circuit, &self.values);
+        shown
+            .and(state_differences(&self.in_z, &self.next))
+            .status()
     }
 }
 
-/// Gives every net its set, and each flip-flop what it takes.
+// Gives every net its set, and each flip-flop what it takes.
 fn evaluate(
     circuit: &Circuit,
     fault: Fault,
@@ -166,8 +171,8 @@ fn evaluate(
     requires room { length pins.old ≡ MAX_GATE_PINS }
     ensures values { (x : ℕ) → x < net_count circuit.now → env_of (pair Unk Unk ∷ []) values.new x
         ≡ net_value circuit.now (pair_set_rules (Some fault)) vector.now latches.now x }
-    ensures next { next.new ≡ data_values (pair_set_rules (Some fault)) (env_of (pair Unk Unk ∷ []) values.new)
-        0 circuit.now.dffs }
+    ensures next { next.new ≡ data_values (pair_set_rules (Some fault))
+        (env_of (pair Unk Unk ∷ []) values.new) 0 circuit.now.dffs }
 {
     settle(circuit, Some(fault), vector, latches, values, pins);
     capture(circuit, Some(fault), values, next);

@@ -1,7 +1,8 @@
 -- An open set of an input or of a latch of the first frame has an undecided variable.
-use Rattle.std.proofs.Common.{◌≡◌, ◌<◌, ◌≤◌, ◌+◌, ◌-◌, ◌*◌, ℕ, suc, List, [], ◌∷◌, map, Bool, true, false, ◌||◌, cond, Option, Some, None, length, refl, sym, ◌∙◌, ap, arith, IsTrue}
+use Rattle.std.proofs.Common.{◌≡◌, ◌<◌, ◌≤◌, ◌+◌, ◌-◌, ◌*◌, ℕ, suc, List, [], ◌∷◌, ◌++◌, map, Bool, true, false, ◌||◌, cond, Option, Some, None, length, refl, sym, ◌∙◌, ap, arith, IsTrue}
 use Rattle.std.specs.Prelude.{eqb, leb, is_some}
 use Rattle.std.proofs.lemmas.Bool.{lt-ltb, or_left, or_right, and_from}
+use Rattle.std.proofs.Math.Bool.{or_assoc, or_comm}
 use Rattle.std.proofs.lemmas.Bool.Decides.{nat_tests}
 use Rattle.std.proofs.Math.Nat.{suc-mul, mul-le-mul_right}
 use Rattle.ht_tern.specs.declared.tern.Tern.{Tern}
@@ -27,6 +28,13 @@ pub decides_value : (path : List Assign3) (var : ℕ) → decides path var ≡ i
 decides_value [] var = refl
 decides_value (a ∷ path) var = ap (λ (t : Bool). eqb a.var var || t) (decides_value path var) ∙ newer_decided
     (eqb a.var var) (decided_value path var) a.value
+
+-- a path after one more decision
+pub decides_more : (path : List Assign3) (d : Assign3) (var : ℕ) → decides (path ++ d ∷ []) var
+    ≡ (decides path var || eqb d.var var)
+decides_more [] d var = or_comm (eqb d.var var) false
+decides_more (x ∷ path) d var = ap (λ (b : Bool). eqb x.var var || b) (decides_more path d var)
+    ∙ sym (or_assoc (eqb x.var var) (decides path var) (eqb d.var var))
 
 same_undecided : (value : Option Tern) → 1 < length (same_pairs value) → is_some value ≡ false
 same_undecided None h = refl

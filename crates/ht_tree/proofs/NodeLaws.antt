@@ -9,13 +9,10 @@ use Rattle.ht_net.specs.declared.fault.Fault.{Fault}
 use Rattle.ht_net.specs.Netlist.{Netlist}
 use Rattle.ht_tree.specs.Decisions.{decided_value}
 use Rattle.ht_tree.specs.Windows.{Start, one_frame, unknown, state_pair, back, SearchWindow, IsStart, IsWindow}
-use Rattle.ht_tree.specs.Variables.{three_of_start, may_three}
-use Rattle.ht_tree.specs.Counts.{seeks_difference}
-use Rattle.ht_tree.specs.Nodes.{before_of_start, may_go_before, or_unknown, window_begin, path_above, cube_of, cube_at, start_at, start_below, window_at, window_below, IsNode}
+use Rattle.ht_tree.specs.Nodes.{or_unknown, window_begin, path_above, cube_of, cube_at, start_at, start_below, window_at, window_below, IsNode}
 use Rattle.ht_tree.specs.Walks.{Node, decide, path_of, under}
-use Rattle.ht_tree.specs.declared.token.Assign3.{Assign3}
 
--- where a node's own window window_begin
+-- where a node's own window begins
 begin_same : (windows : List ℕ) → get_or windows (length windows - 1) 0 ≡ get_or (0 ∷ windows) (length windows) 0
 begin_same [] = refl
 begin_same (x ∷ windows) = let e : suc (length windows) - 1 ≡ length windows = omega arith
@@ -54,7 +51,7 @@ path_grows n var value is = path_pushed n var value is
 pub node_kept : (n : Node) (var : ℕ) (value : Tern) → IsNode n → IsNode (decide n var value)
 node_kept n var value is = let e = length_push n.decisions (record { var = var; value = value }) in omega (arith, e, is)
 
--- behind one more `Before`
+-- after one more `Before`
 module _ (n : Node) where
   abbrev pub opened : Node
   opened = under n
@@ -117,37 +114,3 @@ start_is c fault k n (back cube limit) h = (h.0, long (eqb (length n.windows) 0)
 
 pub node_window : (w : SearchWindow) (n : Node) → IsWindow w → IsWindow (window_at w n)
 node_window w n is = record { circuit = is.circuit; start = start_is w.circuit w.fault w.frames n w.start is.start }
-
--- A window in which a difference is looked for stays one window: no `Three`, no `Before`.
-start_stays : (c : Netlist) (n : Node) (s : Start) → seeks_difference s ≡ true → start_at c n s ≡ s
-start_stays c n (one_frame z) h = refl
-start_stays c n unknown h = refl
-start_stays c n (state_pair good faulty) h = refl
-start_stays c n (back cube limit) h = cc
-
-pub window_stays : (w : SearchWindow) (n : Node) → seeks_difference w.start ≡ true → window_at w n ≡ w
-window_stays w n h = ap (λ (s : Start). record w { start = s }) (start_stays w.circuit n w.start h)
-
-three_by : (c : Netlist) (s : Start) (var : ℕ) → seeks_difference s ≡ true → three_of_start c s var ≡ false
-three_by c (one_frame z) var h = refl
-three_by c unknown var h = refl
-three_by c (state_pair good faulty) var h = refl
-three_by c (back cube limit) var h = cc
-
-before_by : (c : Netlist) (s : Start) (path : List Assign3) → seeks_difference s ≡ true → before_of_start c s path
-    ≡ false
-before_by c (one_frame z) path h = refl
-before_by c unknown path h = refl
-before_by c (state_pair good faulty) path h = refl
-before_by c (back cube limit) path h = cc
-
-pub no_three : (w : SearchWindow) (n : Node) (var : ℕ) → seeks_difference w.start ≡ true
-    → may_three (window_at w n) var ≡ false
-no_three w n var h =
-    ap (λ (v : SearchWindow). may_three v var) (window_stays w n h) ∙ three_by w.circuit w.start var h
-
-pub no_before : (w : SearchWindow) (n : Node) → seeks_difference w.start ≡ true
-    → may_go_before (window_at w n) (path_of n) ≡ false
-no_before w n h =
-    ap (λ (v : SearchWindow). may_go_before v (path_of n)) (window_stays w n h)
-    ∙ before_by w.circuit w.start (path_of n) h

@@ -3,15 +3,15 @@
 --
 -- With n inputs and m flip-flops, variable f * n + i is input i of frame f, and these are the starts:
 --
--- | start                    | frames | latches of the first frame | their variables             | places               |
--- |--------------------------|--------|----------------------------|-----------------------------|----------------------|
--- | `one_frame z`            | 1      | {00,11}, and in z all four | n + j: latch j, or its good | outputs, then next   |
--- |                          |        | pairs of bits              | half in z; n + m + j: its   | states of flip-flops |
--- |                          |        |                            | faulty half, in z           | outside z            |
--- | `unknown`                | k      | {XX}                       | none                        | outputs, by frames   |
--- | `state_pair good faulty` | k      | a given value of each      | none                        | outputs, by frames   |
--- | `back cube limit`        | 1      | {00,11,XX}: the good       | n + j: latch j, to 0, 1 or  | next states of the   |
--- |                          |        | machine alone              | X                           | cube's latches       |
+-- | start                    | frames | latches of frame 0     | their variables            | places             |
+-- |--------------------------|--------|------------------------|----------------------------|--------------------|
+-- | `one_frame z`            | 1      | {00,11}; in z all four | n + j: latch j, or its     | outputs, then next |
+-- |                          |        | pairs of bits          | good half in z; n + m + j: | states of flip-    |
+-- |                          |        |                        | its faulty half, in z      | flops outside z    |
+-- | `unknown`                | k      | {XX}                   | none                       | outputs, by frames |
+-- | `state_pair good faulty` | k      | a given pair of each   | none                       | outputs, by frames |
+-- | `back cube limit`        | 1      | {00,11,XX}, in the     | n + j: latch j, to 0, 1    | next states of the |
+-- |                          |        | good machine alone     | or X                       | cube's latches     |
 --
 -- An input that is undecided is {00,11}. In later frames a latch has the set that its data pin had one frame before.
 use Rattle.std.specs.Prelude.{◌≡◌, ◌<◌, ◌+◌, ◌*◌, ℕ, suc, zero, List, [], ◌∷◌, map, Bool, nat_lt, length, get_or, Option, Some, None}

@@ -7,7 +7,8 @@
 //! The definitions that search and checker share stand in `specs/`: `Walks` (nodes, tokens, complete and open walks),
 //! `Windows` (the four windows and their cells), `Places`, `WindowStatus` and `Variables` (where a window shows what is
 //! looked for, and what is left to decide), `Nodes` (the window of a node), `WalkBack` (the choice of variable),
-//! `Searches` (how a search ends), `Counts` (how many tokens it can take) and `Entries` (what an entry says of a fault).
+//! `Searches` (how a search ends), `Counts` (how many tokens it can take) and `Entries` (what an entry says). What they
+//! are good for stands in `theorems`.
 #![tactic(auto)]
 
 mod entry;
@@ -22,8 +23,8 @@ pub use theorems::{
     before_opens_the_window_below, complete_walk_seals, decided_window_is_not_open,
     decision_keeps_the_window, decision_leaves_one_variable_less, difference_search_is_never_spent,
     enough_budget_is_never_spent, latches_count_two, nodes_have_windows, open_net_has_a_choice,
-    open_status_has_a_choice, sealed_is_silent, sizes_measure, tokens_are_bounded,
-    variables_count_one,
+    open_status_has_a_choice, passing_entry_holds, sealed_is_silent, sizes_measure,
+    tokens_are_bounded, variables_count_one,
 };
 pub use token::{Assign3, Choice, Status3, Token};
 pub use walk::Walk;

@@ -16,6 +16,8 @@ ghost use Rattle.ht_tree.specs.Variables.{DecidesAll, IsLegalChoice, is_undecide
 ghost use Rattle.ht_tree.specs.Nodes.{IsNode, judge_of, window_at, window_below};
 ghost use Rattle.ht_tree.specs.WalkBack.{pick_of, walk_back};
 ghost use Rattle.ht_tree.specs.Searches.{Guide, SpendsAt, guide_of};
+ghost use Rattle.ht_tree.specs.declared.entry.Entry.{Entry};
+ghost use Rattle.ht_tree.specs.Entries.{Holds, Passes};
 ghost use Rattle.ht_tree.specs.Counts.{Measures, Sizes, left_at, left_below, most_from, most_tokens, seeks_difference};
 
 /// A complete walk of the one-frame window of a fault and a set of flip-flops seals the fault in the set.
@@ -28,6 +30,12 @@ pub fn complete_walk_seals()
 pub fn sealed_is_silent()
     ensures { (c : Netlist) (fault : Fault) (z : ℕ → Bool) → Sealed c fault z
         → (state : List Bool) → IsState c state → Silent c fault state }
+{}
+
+/// What an entry says of its fault holds where the entry passes.
+pub fn passing_entry_holds()
+    ensures { (c : Netlist) (fault : Fault) (budget : ℕ) (entry : Entry) → IsCircuit c
+        → Passes c fault budget entry → Holds c fault entry }
 {}
 
 /// Where the status is open, the chosen variable is legal in its kind, and the path doesn't decide it.

@@ -1,20 +1,18 @@
-use Rattle.std.proofs.Common.{length, get_or, Some, refl, arith}
+use Rattle.std.proofs.Common.{get_or, Some, refl, arith}
 use Rattle.std.proofs.lemmas.List.{length-set}
-use Rattle.ht_check.proofs.DecisionLaws.{no_decision, plain_at, written_more}
+use Rattle.ht_check.proofs.DecisionLaws.{no_decision, written_more}
 use Rattle.ht_check.proofs.decisions.write_decisions.Goals as goal
 
 pub bounds-decisions-decision : goal.bounds-decisions-decision
 bounds-decisions-decision c =
-    let p = plain_at (length c.args.decisions.now) c.args.path.now c.loop-decision.decision-index c.requires
-    c.loop-decision-test.true in
+    let p = c.requires c.loop-decision.decision-index no_decision c.loop-decision-test.true in
     let a = c.loop-decision.auto.decisions in
     let f = c.fill.ensures.len in
     omega (arith, p, a, f)
 
 pub loop-decision-preserved : goal.loop-decision-preserved
 loop-decision-preserved c =
-    let p = plain_at (length c.args.decisions.now) c.args.path.now c.loop-decision.decision-index c.requires
-    c.loop-decision-test.true in
+    let p = c.requires c.loop-decision.decision-index no_decision c.loop-decision-test.true in
     let a = c.loop-decision.auto.decisions in
     let f = c.fill.ensures.len in
     let d = get_or c.args.path.now c.loop-decision.decision-index no_decision in

@@ -11,14 +11,14 @@ use Rattle.ht_tree.specs.WindowStatus.{status_at, without_place}
 use Rattle.ht_tree.specs.Windows.{SearchWindow}
 use Rattle.ht_tree.specs.Variables.{may_two, variable_bound}
 use Rattle.ht_tree.specs.WalkOf.{WalkState, fed}
-use Rattle.ht_check.specs.Paths.{IsPlain, AreAllPlain, FitsAt, FitsOnTop}
-use Rattle.ht_check.proofs.TakeLaws.{plain_top, plain_next, fits_on_top, fits_there}
+use Rattle.ht_check.specs.Paths.{AreBelow, AreAllBelow, FitsAt, FitsOnTop}
+use Rattle.ht_check.proofs.TakeLaws.{below_top, below_next, fits_on_top, fits_there}
 use Rattle.ht_check.proofs.walks.take.Goals as goal
 
 pub status-status-requires : goal.status-status-requires
 status-status-requires c =
-    subst (λ (path : List Assign3). IsPlain (variable_bound c.args.window.now) path) (sym c.pending.ensures)
-    (plain_top (variable_bound c.args.window.now) c.args.walk.now.stack c.requires)
+    subst (λ (path : List Assign3). AreBelow (variable_bound c.args.window.now) path) (sym c.pending.ensures)
+    (below_top (variable_bound c.args.window.now) c.args.walk.now.stack c.requires)
 
 taken_true : (b : Bool) (new old more : WalkState) → new ≡ cond b more old → b ≡ true → new.stack ≡ more.stack
 taken_true true new old more e is = ap (λ (w : WalkState). w.stack) e
@@ -65,14 +65,14 @@ returns-clause-fits c =
     c.status-status.result c.args.token c.status-status.ensures.seeks c.status-status.ensures.status c.pending.ensures
     fit taken h) c.feed.ensures.taken
 
-pub returns-clause-plain : goal.returns-clause-plain
-returns-clause-plain c =
+pub returns-clause-below : goal.returns-clause-below
+returns-clause-below c =
     let w = c.args.window.now in
     let walk = c.args.walk.now in
     let fit = subst (λ (w : SearchWindow). FitsAt (may_two w) c.status-status.result c.args.token)
     c.status-status.ensures.same (c.fits.ensures.0 c.if-not-fits.false) in
     IfOk-weaker c.feed.result _ _ (λ b h t.
-    subst (λ (stack : List Node). AreAllPlain (variable_bound w) stack)
+    subst (λ (stack : List Node). AreAllBelow (variable_bound w) stack)
     (sym (taken_true b c.feed.new.self walk (fed walk c.args.token) h t))
-    (plain_next w c.status-status.ensures.window c.status-status.result walk.stack c.args.token fit c.requires))
+    (below_next w c.status-status.ensures.window c.status-status.result walk.stack c.args.token fit c.requires))
     c.feed.ensures.ok

@@ -1,4 +1,4 @@
-use Rattle.std.proofs.Common.{◌≡◌, ◌<◌, ◌+◌, ◌∷◌, [], ◌≢◌, subst, refl, ℕ, List, Option, None, Some, Bool, length, get_or, ap, sym, ◌∙◌, arith}
+use Rattle.std.proofs.Common.{◌≡◌, ◌<◌, ◌+◌, ◌∷◌, [], subst, refl, ℕ, List, Option, None, Some, Bool, length, get_or, ap, sym, ◌∙◌, arith}
 use Rattle.std.proofs.lemmas.List.{with_items_is}
 use Rattle.ht_tern.specs.declared.tern.Tern.{Tern}
 use Rattle.ht_tern.specs.declared.tern.Tern.TheVariants.{Unk}
@@ -11,25 +11,12 @@ use Rattle.ht_tree.specs.Decisions.{decided_value}
 use Rattle.ht_tree.specs.Windows.{SearchWindow, IsWindow, pair_set_rules, frame_inputs, latches_at}
 use Rattle.ht_tree.specs.WindowStatus.{status_at, without_place}
 use Rattle.ht_tree.specs.Counts.{seeks_difference}
-use Rattle.ht_tree.specs.Variables.{variable_bound}
-use Rattle.ht_check.specs.declared.places.Shown.{Shown}
-use Rattle.ht_check.specs.Shown.{shown_by, either, outside_marks}
+use Rattle.ht_check.specs.declared.differences.Differences.{Differences}
+use Rattle.ht_check.specs.Differences.{differences_in, in_either, outside_marks}
 use Rattle.ht_check.specs.WindowOf.{window_of}
-use Rattle.ht_check.specs.Paths.{IsPlain, latch_by}
-use Rattle.ht_check.proofs.DecisionLaws.{written_definite}
+use Rattle.ht_check.specs.Paths.{latch_by}
 use Rattle.ht_check.proofs.StatusLaws.{inputs_are, latches_are, status_is}
 use Rattle.ht_check.proofs.one_frame.OneFrame.status.Goals as goal
-
-pub write_latches-requires-clause-definite : goal.write_latches-requires-clause-definite
-write_latches-requires-clause-definite c =
-    let a = c.self.inside in
-    let D = c.write_decisions.new.decisions in
-    let d2 : c.deref-2.result.now ≡ D = c.deref-2.ensures.value ∙ with_items_is a.decisions D (omega arith) in
-    let same : variable_bound c.args.self.now ≡ variable_bound (window_of a) = ap variable_bound (sym c.self.view_is) in
-    let room : variable_bound c.args.self.now ≡ length D = let s = c.self.invariant.decisions in omega arith in
-    let plain : IsPlain (length D) c.args.path.now = subst (λ (n : ℕ). IsPlain n c.args.path.now) room c.requires in
-    subst (λ (t : List (Option Tern)). (var : ℕ) → get_or t var None ≢ Some Unk) (sym d2)
-    (written_definite D c.args.path.now plain (λ var below. c.write_decisions.ensures var (omega arith)))
 
 pub returns-clause-status : goal.returns-clause-status
 returns-clause-status c =
@@ -71,15 +58,15 @@ returns-clause-status c =
     ∙ ap (λ (t : List (List Pair)). net_value w.circuit (pair_set_rules (Some a.fault)) V t x) l) in
     let taken : N ≡ data_values (pair_set_rules (Some a.fault)) (env_of blank S) 0 w.circuit.dffs =
     c.evaluate.ensures.next in
-    let shown : c.and.result ≡ either (shown_by (values_at (env_of blank S) w.circuit.outputs))
-    (shown_by (outside_marks a.in_z.items N)) =
-    c.and.ensures ∙ (ap (λ (t : Shown). either t c.next_states.result)
-    (c.outputs-shown.ensures ∙ ap
-    (λ (t : List (List Pair)). shown_by (values_at (env_of blank t) w.circuit.outputs)) s)
-    ∙ ap (λ (t : Shown). either (shown_by (values_at (env_of blank S) w.circuit.outputs)) t)
-    (c.next_states.ensures ∙
-    (ap (λ (m : List Bool). shown_by (outside_marks m c.deref-8.result.now)) c.deref-7.ensures.value
-    ∙ ap (λ (t : List (List Pair)). shown_by (outside_marks a.in_z.items t)) n))) in
+    let shown : c.and.result ≡ in_either (differences_in (values_at (env_of blank S) w.circuit.outputs))
+    (differences_in (outside_marks a.in_z.items N)) =
+    c.and.ensures ∙ (ap (λ (t : Differences). in_either t c.state_differences.result)
+    (c.output_differences-shown.ensures ∙ ap
+    (λ (t : List (List Pair)). differences_in (values_at (env_of blank t) w.circuit.outputs)) s)
+    ∙ ap (λ (t : Differences). in_either (differences_in (values_at (env_of blank S) w.circuit.outputs)) t)
+    (c.state_differences.ensures ∙
+    (ap (λ (m : List Bool). differences_in (outside_marks m c.deref-8.result.now)) c.deref-7.ensures.value
+    ∙ ap (λ (t : List (List Pair)). differences_in (outside_marks a.in_z.items t)) n))) in
     c.status.ensures ∙ (status_is w.circuit a.fault a.z.now path a.in_z.items V L S N i.circuit i.mark_count i.marks
     inputs latches settled
     taken c.and.result shown

@@ -1,12 +1,11 @@
-// What the places of a window show.
+//! What the places of a window show.
 ghost use Rattle.std.specs.Prelude.{◌≡◌, [], ◌∷◌, length};
-ghost use Rattle.std.specs.List.{list_any, list_all};
 ghost use Rattle.ht_tern.specs.declared.tern.Tern.TheVariants.{Unk};
-ghost use Rattle.ht_pairs.specs.Pairs.{differs, pair};
+ghost use Rattle.ht_pairs.specs.Pairs.{pair};
 ghost use Rattle.ht_net.specs.Netlist.{net_count};
 ghost use Rattle.ht_net.specs.Frame.{values_at};
 ghost use Rattle.ht_frame.specs.Values.{env_of};
-ghost use Rattle.ht_check.specs.Shown.{either, outside_marks, shown_by, shown_status};
+ghost use Rattle.ht_check.specs.Differences.{differences_in, in_either, outside_marks, status_by};
 
 use ht_net::Circuit;
 use ht_pairs::PairSet;
@@ -14,37 +13,37 @@ use ht_tree::Status3;
 
 /// What some places show: whether one must differ, and whether one may.
 #[derive(Clone, Copy)]
-pub struct Shown {
+pub struct Differences {
     must: bool,
     may: bool,
 }
 
-impl Shown {
-    /// What no place shows.
-    fn nothing() -> Shown
-        ensures { result ≡ shown_by [] }
+impl Differences {
+    // No place shows a difference.
+    fn none() -> Differences
+        ensures { result ≡ differences_in [] }
     {
-        Shown {
+        Differences {
             must: false,
             may: false,
         }
     }
 
-    /// What these places and one more show.
-    fn with(self, set: PairSet) -> Shown
-        ensures { result ≡ either self (shown_by (set ∷ [])) }
+    // What these places and one more show.
+    fn and_set(self, set: PairSet) -> Differences
+        ensures { result ≡ in_either self (differences_in (set ∷ [])) }
     {
-        Shown {
+        Differences {
             must: self.must || set.must_differ(),
             may: self.may || set.may_differ(),
         }
     }
 
     /// What these places and others show.
-    pub fn and(self, others: Shown) -> Shown
-        ensures { result ≡ either self others }
+    pub fn and(self, others: Differences) -> Differences
+        ensures { result ≡ in_either self others }
     {
-        Shown {
+        Differences {
             must: self.must || others.must,
             may: self.may || others.may,
         }
@@ -52,7 +51,7 @@ impl Shown {
 
     /// The status of a window whose places show this.
     pub fn status(self) -> Status3
-        ensures { result ≡ shown_status self }
+        ensures { result ≡ status_by self }
     {
         if self.must {
             Status3::Sure
@@ -65,28 +64,29 @@ impl Shown {
 }
 
 /// What the outputs show.
-pub fn outputs(circuit: &Circuit, values: &[PairSet]) -> Shown
+pub fn output_differences(circuit: &Circuit, values: &[PairSet]) -> Differences
     requires { length values.now ≡ net_count circuit.now }
-    ensures { result ≡ shown_by
+    ensures { result ≡ differences_in
         (values_at (env_of (pair Unk Unk ∷ []) values.now) circuit.now.outputs) }
 {
+    // for the proof: each net has a set
     prove_eq!(values.len(), circuit.nets() as usize);
-    let mut shown = Shown::nothing();
+    let mut shown = Differences::none();
     for o in 0..circuit.outputs() {
-        shown = shown.with(values[circuit.output(o).index()]);
+        shown = shown.and_set(values[circuit.output(o).index()]);
     }
     shown
 }
 
 /// What the next states show, but for the flip-flops that are marked.
-pub fn next_states(marks: &[bool], next: &[PairSet]) -> Shown
+pub fn state_differences(marks: &[bool], next: &[PairSet]) -> Differences
     requires { length marks.now ≡ length next.now }
-    ensures { result ≡ shown_by (outside_marks marks.now next.now) }
+    ensures { result ≡ differences_in (outside_marks marks.now next.now) }
 {
-    let mut shown = Shown::nothing();
+    let mut shown = Differences::none();
     for (j, set) in next.iter().enumerate() {
         if !marks[j] {
-            shown = shown.with(*set);
+            shown = shown.and_set(*set);
         }
     }
     shown

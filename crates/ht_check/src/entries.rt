@@ -1,4 +1,4 @@
-// Entries that pass.
+//! Entries that pass.
 ghost use Rattle.std.specs.Prelude.{◌<◌, ◌↔◌, ℕ, length, get_or, IfOk, IsTrue};
 ghost use Rattle.ht_tree.specs.Entries.{Holds, IsUntestable, Passes, Refutes, Rises};
 
@@ -8,14 +8,17 @@ use ht_net::{Circuit, Fault};
 use ht_tree::{Entry, Token};
 use std::alloc::{AllocError, Global};
 
-/// Whether an entry passes for a fault. An untestable entry passes where its flip-flops rise and are the circuit's, and its
-/// tokens are a complete walk of the one-frame window of the fault and these flip-flops; its walk may have any length, so
-/// the budget of the run plays no part.
+/// Whether an entry passes for a fault. An untestable entry passes where its flip-flops rise and are the circuit's, and
+/// its tokens are a complete walk of the one-frame window of the fault and these flip-flops; its walk may have any
+/// length, so the budget of the run plays no part.
 ///
-/// Where an untestable entry passes, a difference can't leave the set, both machines give equal outputs from every common
-/// state, and no list of vectors detects the fault from all-unknown (`IsUntestable`). Flip-flops count from 0.
+/// Where an untestable entry passes, a difference can't leave the set, both machines give equal outputs from every
+/// common state, and no list of vectors detects the fault from all-unknown (`IsUntestable`). Flip-flops count from 0.
 ///
-/// It evaluates a frame once for each token and keeps the longest path. Errs where memory runs out.
+/// It evaluates a frame once for each token and keeps the longest path.
+///
+/// # Errors
+/// Out of memory.
 pub fn entry(
     alloc: Global,
     circuit: &Circuit,
@@ -39,7 +42,7 @@ pub fn entry(
     }
 }
 
-/// Whether a set of flip-flops and a walk refute a fault.
+// Whether a set of flip-flops and a walk refute a fault.
 fn refutes(
     alloc: Global,
     circuit: &Circuit,
@@ -58,7 +61,7 @@ fn refutes(
     is_complete(alloc, &mut window, tokens)
 }
 
-/// Whether numbers rise and are below a count.
+// Whether numbers rise and are below a count.
 fn names_flip_flops(z: &[u32], count: u32) -> bool
     ensures { IsTrue result
         ↔ (Rises z.now × ((i : ℕ) → i < length z.now → get_or z.now i 0 < count)) }
