@@ -14,6 +14,8 @@ mod collapse;
 #[cfg(test)]
 mod faults;
 #[cfg(test)]
+mod grade;
+#[cfg(test)]
 mod net;
 #[cfg(test)]
 mod pairs;

@@ -1,1 +1,117 @@
-//! Tests of ht_texts.
+//! Tests of ht_texts: lines byte for byte.
+ghost use Rattle.ht_texts.specs.Verdicts.{IsSayable};
+
+use ht_bench::read;
+use ht_collapse::collapse;
+use ht_faults::list;
+use ht_net::{Circuit, Place};
+use ht_texts::{Said, Sums, read_vector, write_fault, write_head, write_total, write_vector};
+use std::alloc::{AllocError, Global};
+use std::test::Fail;
+
+#[test]
+fn a_vector_is_read_by_its_line(rt: HostRuntime) -> Result<(), Fail> {
+    let table: [(&[u8], u32, Option<&[bool]>); 7] = [
+        (b"10", 2, Some(&[true, false])),
+        (b"", 0, Some(&[])),
+        (b"10", 3, None),
+        (b"10", 1, None),
+        (b"1x", 2, None),
+        (b"1X", 2, None),
+        (b"1 ", 2, None),
+    ];
+    for (line, width, bits) in table {
+        assert!(rt; read_vector(rt.alloc(), line, width)?.as_deref() == bits);
+    }
+    Ok(())
+}
+
+#[test]
+fn a_vector_is_written_as_its_line(rt: HostRuntime) -> Result<(), Fail> {
+    let wanted: &[u8] = b"10\n";
+    assert!(rt; write_vector(rt.alloc(), &[true, false])?.as_slice() == wanted);
+    Ok(())
+}
+
+const CONSTANT: &[u8] = b"INPUT(a)\nOUTPUT(z)\nn = NOT(a)\nz = AND(a, n)\n";
+
+// What is said of fault `i` of this circuit, from 0, after the vectors 1 and 0.
+fn said(circuit: &Circuit, i: u32) -> Said
+    ensures { IsSayable circuit.now result }
+{
+    if circuit.outputs() == 0 {
+        return Said::Undetected;
+    }
+    match i {
+        3 | 5 => Said::Detected(Place {
+            vector: 0,
+            output: 0,
+        }),
+        9 => Said::Detected(Place {
+            vector: 1,
+            output: 0,
+        }),
+        8 => Said::Aborted,
+        _ => Said::Untestable,
+    }
+}
+
+/// Whether this is the line of fault `i`, from 0.
+fn is_line(alloc: Global, circuit: &Circuit, i: u32, wanted: &[u8]) -> Result<bool, AllocError> {
+    let faults = list(alloc, circuit)?;
+    let classes = collapse(alloc, circuit, &faults)?;
+    if i >= faults.len() {
+        return Ok(false);
+    }
+    let line = write_fault(alloc, circuit, &faults, &classes, i, said(circuit, i))?;
+    Ok(line.as_slice() == wanted)
+}
+
+// A gate whose output can't be 1: half of its classes are untestable. What is said of a member has no effect.
+#[test]
+fn lines_of_faults(rt: HostRuntime) -> Result<(), Fail> {
+    let circuit = read(rt.alloc(), CONSTANT)?;
+    let table: [(u32, &[u8]); 6] = [
+        (0, b"1 a s-a-0 untestable\n"),
+        (3, b"4 n s-a-1 detected 1 z\n"),
+        (4, b"5 z s-a-0 as 3\n"),
+        (6, b"7 n(1) s-a-0 as 4\n"),
+        (8, b"9 z(1) s-a-0 as 3\n"),
+        (9, b"10 z(1) s-a-1 detected 2 z\n"),
+    ];
+    for (i, wanted) in table {
+        assert!(rt; is_line(rt.alloc(), &circuit, i, wanted)?);
+    }
+    Ok(())
+}
+
+/// The head line of the circuit's report.
+fn head(alloc: Global, circuit: &Circuit, budget: Option<u64>) -> Result<Vec<u8>, AllocError> {
+    let faults = list(alloc, circuit)?;
+    let classes = collapse(alloc, circuit, &faults)?;
+    write_head(alloc, circuit, &classes, budget)
+}
+
+const SEARCHED: &[u8] =
+    b"circuit inputs 1 outputs 1 flip-flops 0 gates 2 faults 10 classes 6 budget 1000\n";
+
+#[test]
+fn head_of_a_search(rt: HostRuntime) -> Result<(), Fail> {
+    let circuit = read(rt.alloc(), CONSTANT)?;
+    assert!(rt; head(rt.alloc(), &circuit, Some(1000))?.as_slice() == SEARCHED);
+    Ok(())
+}
+
+#[test]
+fn total_of_a_search(rt: HostRuntime) -> Result<(), Fail> {
+    let sums = Sums {
+        classes: 6,
+        detected: 3,
+        untestable: 2,
+        aborted: 1,
+        search: true,
+    };
+    let wanted: &[u8] = b"total 6 detected 3 untestable 2 aborted 1\n";
+    assert!(rt; write_total(rt.alloc(), sums)?.as_slice() == wanted);
+    Ok(())
+}
