@@ -13,6 +13,9 @@ fn undone(cells: &mut Cells<u64>) -> Result<Option<[u64; 3]>, AllocError> {
     cells.set(1, 7)?;
     cells.set(0, 9)?;
     cells.undo(mark);
+    if cells.len() != 3 {
+        return Ok(None);
+    }
     Ok(Some([cells.get(0), cells.get(1), cells.get(2)]))
 }
 
