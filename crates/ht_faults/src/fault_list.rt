@@ -1,4 +1,4 @@
-// The fault list.
+//! The fault list.
 ghost use Rattle.std.specs.Prelude.{◌≡◌, ◌<◌, length, get_or, IfOk};
 ghost use Rattle.ht_faults.specs.Sites.{site_faults};
 ghost use Rattle.ht_faults.specs.Sites.{faults_of};

@@ -1,4 +1,4 @@
-// The fault sites of a circuit, from its counts of loads.
+//! The fault sites of a circuit, from its counts of loads.
 ghost use Rattle.std.specs.Prelude.{◌≡◌, ◌<◌, ◌++◌, length, IfOk, OnOk};
 ghost use Rattle.std.specs.List.{filter};
 ghost use Rattle.ht_net.specs.Netlist.{net_count, IsCircuit};

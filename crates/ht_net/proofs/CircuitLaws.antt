@@ -1,8 +1,8 @@
 -- From a draft to its circuit.
-use Rattle.std.proofs.Common.{◌≡◌, ◌<◌, ◌≤◌, ◌+◌, ◌-◌, ◌++◌, ℕ, List, length, get_or, map, refl, sym, ◌∙◌, ap, arith, inl, inr, subst, length-append, ◌≢◌, true, false, [], ◌∷◌}
+use Rattle.std.proofs.Common.{◌≡◌, ◌<◌, ◌≤◌, ◌+◌, ◌-◌, ◌++◌, ℕ, List, length, get_or, map, refl, sym, ◌∙◌, ap, arith, inl, inr, subst, length-append, ◌≢◌, true, [], ◌∷◌}
 use Rattle.std.specs.List.{sum_by, list_any, IsDistinct}
 use Rattle.std.specs.Prelude.{eqb}
-use Rattle.std.proofs.lemmas.Bool.{cases_lt}
+use Rattle.std.proofs.lemmas.Bool.{cases_lt, ne_eqb}
 use Rattle.std.proofs.lemmas.Bool.Decides.{nat_tests}
 use Rattle.std.proofs.lemmas.List.Sums.{sum_by-cons}
 use Rattle.std.proofs.lemmas.Map.Keys.{IsDistinct-from_apart}
@@ -90,9 +90,6 @@ each_append P xs ys d first second i l =
       | inr high ↦ rw (get_or-append_right xs ys (length xs) i d refl high) (second (i - length xs) (omega arith))
     ]
 
-other_test : (x y : ℕ) → x ≢ y → eqb x y ≡ false
-other_test x y ne = grind (arith, nat_tests)
-
 tells_equal : (x y : ℕ) → eqb x y ≡ true → x ≡ y
 tells_equal x y e = grind (arith, nat_tests)
 
@@ -109,7 +106,7 @@ outputs_few d h =
     let distinct : IsDistinct eqb (map (λ (n : NameId). n.0) d.outputs) = IsDistinct-from_apart eqb
     (map (λ (n : NameId). n.0) d.outputs) (λ i j e less l.
     let l' : j < length d.outputs = omega arith in
-    other_test _ _ (λ same. h.outputs_differ i j no_name less l' (ap make (sym (at i e (omega arith)) ∙ (same ∙ at j e l')))))
+    ne_eqb _ _ (λ same. h.outputs_differ i j no_name less l' (ap make (sym (at i e (omega arith)) ∙ (same ∙ at j e l')))))
     in
     let below : (q : ℕ) → list_any (eqb q) (map (λ (n : NameId). n.0) d.outputs) ≡ true → q < length d.names = λ q any.
     let c = Contains-from_any {eq = eqb} tells_equal q (map (λ (n : NameId). n.0) d.outputs) any in

@@ -1,5 +1,5 @@
 -- What every machine keeps, with or without a stuck line: refinement, and bits that stand for three-valued runs.
-use Rattle.std.proofs.Common.{ℕ, List, Bool, false, Option, Some, None, inl, inr, refl}
+use Rattle.std.proofs.Common.{List, Bool, false, Option, Some, None, inl, inr, refl}
 use Rattle.ht_tern.specs.declared.tern.Tern.{Tern}
 use Rattle.ht_tern.specs.declared.tern.Tern.TheVariants.{Unk}
 use Rattle.ht_tern.specs.declared.gate.Kind.{Kind}
@@ -8,9 +8,9 @@ use Rattle.ht_tern.proofs.GateLaws.{gate_refines, gate_bits}
 use Rattle.ht_net.specs.declared.fault.Fault.{Fault}
 use Rattle.ht_net.specs.declared.fault.Site.{Site}
 use Rattle.ht_net.specs.Netlist.{Netlist}
-use Rattle.ht_net.specs.Frame.{Preserves, net_value, run_outputs}
+use Rattle.ht_net.specs.Frame.{Preserves, run_outputs}
 use Rattle.ht_net.specs.Faults.{rules_of, forced, tern_rules, bool_rules, is_stem, is_pin, is_data_pin}
-use Rattle.ht_net.proofs.RelationLaws.{cond_related, frame_related, run_related}
+use Rattle.ht_net.proofs.RelationLaws.{cond_related, run_related}
 
 pub forced_related : {V W : Type 0} → (R : V → W → Type 0) (stick : Bool → V → V) (stick' : Bool → W → W)
     → ((b : Bool) (x : V) (y : W) → R x y → R (stick b x) (stick' b y))
@@ -43,15 +43,7 @@ pub machine_bits : (fault : Option Fault) → Preserves StandsFor (tern_rules fa
 machine_bits fault = rules_keep StandsFor Unk false gate_value bool_gate_value (λ b v. tern_of b) (λ b v. b) (inl refl)
     gate_bits (λ b x y r. inr refl) fault
 
--- A net_value from values that say more gives values that say no less, in any circuit, with or without a rank.
-pub frame_refines : (c : Netlist) (fault : Option Fault) (vector vector' latches latches' : List Tern)
-    → AllRelated Refines vector vector' → AllRelated Refines latches latches' → (x : ℕ)
-    → Refines (net_value c (tern_rules fault) vector latches x) (net_value c (tern_rules fault) vector' latches' x)
-frame_refines c fault vector vector' latches latches' h k x =
-    frame_related Refines c (tern_rules fault) (tern_rules fault) (machine_refines fault) vector latches vector'
-    latches' h k x
-
--- Every two-valued run_outputs stands for the three-valued one.
+-- Every three-valued run stands for the two-valued one.
 pub run_bits : (c : Netlist) (fault : Option Fault) (latches : List Tern) (state : List Bool)
     (vectors : List (List Tern)) (bits : List (List Bool))
     → AllRelated StandsFor latches state → AllRelated (AllRelated StandsFor) vectors bits

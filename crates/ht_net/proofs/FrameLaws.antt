@@ -1,5 +1,5 @@
-use Rattle.std.proofs.Common.{◌≡◌, ◌<◌, ◌≤◌, ◌+◌, ◌-◌, ℕ, suc, zero, List, [], ◌∷◌, length, get_or, refl, sym, ◌∙◌, ap, arith, inl, inr, ◌⊎◌, take, drop, set, ◌++◌, append_assoc}
-use Rattle.std.proofs.lemmas.List.{take_more_set, drop_more, drop_all, append-nil}
+use Rattle.std.proofs.Common.{◌≡◌, ◌<◌, ◌≤◌, ◌+◌, ◌-◌, ℕ, suc, zero, List, [], ◌∷◌, length, get_or, refl, sym, ◌∙◌, ap, arith, inl, inr, ◌⊎◌, take, drop, ◌++◌}
+use Rattle.std.proofs.lemmas.List.{drop_all, append-nil}
 use Rattle.std.proofs.lemmas.Bool.Decides.{nat_tests}
 use Rattle.ht_net.specs.declared.net.NetId.{NetId}
 use Rattle.ht_tern.specs.declared.gate.Kind.{Kind}
@@ -26,7 +26,7 @@ driven_gate c r vector latches e x h = grind (arith, nat_tests)
 pub le_or_lt : (a b : ℕ) → (a ≤ b) ⊎ (b < a)
 le_or_lt a b = grind (arith, nat_tests)
 
--- Two lists of net_count' values that agree on what is read give the same.
+-- Values of nets that agree on what is read give the same.
 pub pins_same : {V : Type 0} → (r : Rules V) (g : ℕ) (e f : ℕ → V) (i : ℕ) (args : List NetId)
     → ((j : ℕ) → j < length args → e (get_or args j no_net).0 ≡ f (get_or args j no_net).0)
     → pin_values r g e i args ≡ pin_values r g f i args
@@ -115,19 +115,6 @@ unfolding net_value
 settled_is_frame c rank ranked r vector latches e settled x inside =
     settled_within c rank ranked r vector latches e settled (suc (length c.gates)) x inside
     (let s : rank x ≤ length c.gates = ranked.small x inside in omega arith)
-
--- One more pin is filled in.
-pub pins_step : {V : Type 0} → (r : Rules V) (g : ℕ) (e : ℕ → V) (args : List NetId) (pins : List V) (i : ℕ) (value : V)
-    (all : List V)
-    → i < length args → i < length pins → value ≡ r.pin g i (e (get_or args i no_net).0)
-    → take i pins ++ pin_values r g e i (drop i args) ≡ all
-    → take (i + 1) (set pins i value) ++ pin_values r g e (i + 1) (drop (i + 1) args) ≡ all
-pins_step r g e args pins i value all inside room is before =
-    let a = take_more_set pins i value room in
-    let b = drop_more args i no_net inside in
-    let c : take i pins ++ pin_values r g e i (get_or args i no_net ∷ drop (i + 1) args)
-    ≡ all = ap (λ (t : List NetId). take i pins ++ pin_values r g e i t) (sym b) ∙ before in
-    rw (a, append_assoc, is) c
 
 pub pins_length : {V : Type 0} → (r : Rules V) (g : ℕ) (e : ℕ → V) (i : ℕ) (args : List NetId)
     → length (pin_values r g e i args) ≡ length args

@@ -1,4 +1,4 @@
--- A relation that the gates and lines of two machines keep holds of every net in a net_value, and over whole runs. It
+-- A relation that the gates and lines of two machines keep holds of every net of a frame, and over whole runs. It
 -- needs no rank.
 use Rattle.std.proofs.Common.{◌+◌, ◌-◌, ℕ, suc, zero, List, [], ◌∷◌, length, get_or, cond, true, false, Bool}
 use Rattle.std.specs.Prelude.{ltb}

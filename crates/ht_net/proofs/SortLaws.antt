@@ -1,9 +1,8 @@
 -- Orders of gates by level.
-use Rattle.std.proofs.Common.{◌≡◌, ◌≢◌, ◌<◌, ◌+◌, ◌-◌, ℕ, List, length, get_or, sym, ◌∙◌, ap, arith, inl, inr}
+use Rattle.std.proofs.Common.{◌≡◌, ◌<◌, ◌+◌, ◌-◌, ℕ, List, length, get_or, sym, ◌∙◌, ap, arith, inl, inr}
 use Rattle.std.specs.List.Sorted.{IsPermutation, IsNonDecreasingBy}
-use Rattle.std.specs.Prelude.{eqb, true, false}
-use Rattle.std.proofs.lemmas.Bool.{cases_lt, cases_eq, eq-eqb, false≢true}
-use Rattle.std.proofs.lemmas.Bool.Decides.{nat_tests}
+use Rattle.std.specs.Prelude.{eqb, true}
+use Rattle.std.proofs.lemmas.Bool.{cases_lt, cases_eq, eq-eqb, false≢true, ne_eqb}
 use Rattle.std.proofs.lemmas.Map.Keys.{IsDistinct-from_apart, apart_from_distinct, IsDistinct-IsPermutation}
 use Rattle.std.proofs.lemmas.List.{get_or_default}
 use Rattle.std.proofs.lemmas.List.Sorted.{All-permutation, Contains-permutation, length_permutation}
@@ -13,13 +12,10 @@ use Rattle.ht_net.specs.Lists.{IsEach}
 use Rattle.ht_net.specs.GateLevels.{args_of, AreKnown, IsLevelled, IsRising}
 use Rattle.ht_net.proofs.RankLaws.{levels_rank}
 
-eqb_other : (x y : ℕ) → x ≢ y → eqb x y ≡ false
-eqb_other x y ne = grind (arith, nat_tests)
-
 eqb_flips : (x y : ℕ) → eqb x y ≡ eqb y x
 eqb_flips x y = elim (cases_eq x y) [
   | inl e ↦ eq-eqb x y e ∙ sym (eq-eqb y x (sym e))
-  | inr ne ↦ eqb_other x y ne ∙ sym (eqb_other y x (λ e. ne (sym e)))
+  | inr ne ↦ ne_eqb x y ne ∙ sym (ne_eqb y x (λ e. ne (sym e)))
 ]
 
 pub each_of_permutation : (n : ℕ) (list order : List ℕ) → length list ≡ n → ((k : ℕ) → k < n → get_or list k 0 ≡ k)
@@ -33,7 +29,7 @@ each_of_permutation n list order count same moved =
       within = λ k l. all k 0 l;
       distinct = λ j k d less l e.
           let start = IsDistinct-from_apart eqb list (λ a b d m h.
-          eqb_other (get_or list a d) (get_or list b d) (λ q. let x = get_or_default list a d 0 (omega arith)
+          ne_eqb (get_or list a d) (get_or list b d) (λ q. let x = get_or_default list a d 0 (omega arith)
           in let y = get_or_default list b d 0 h in let u = same a (omega arith) in let v = same b (omega arith)
           in absurd (omega arith))) in
           let after = apart_from_distinct eqb order j k d

@@ -9,9 +9,9 @@ use Rattle.std.proofs.lemmas.List.Quantifiers.{all_pairs_push}
 use Rattle.std.proofs.lemmas.List.Sums.{sum_by-set}
 use Rattle.ht_net.specs.declared.net.NetId.{NetId}
 use Rattle.ht_net.specs.Netlist.{Gate}
-use Rattle.ht_net.specs.GateLevels.{net_level, highest_level, args_of, IsLevelled}
+use Rattle.ht_net.specs.GateLevels.{net_level, highest_level, args_of}
 use Rattle.ht_net.specs.Cycle.{ReadsGate, IsGateCycle}
-use Rattle.ht_net.specs.Walk.{AreReady, IsPartly, IsPath, open_count, unseen_count, one_if_zero, one_if_false}
+use Rattle.ht_net.specs.Walk.{AreReady, IsPartly, IsPath, open_count, one_if_zero}
 use Rattle.ht_net.specs.Next.{HasLevel}
 use Rattle.ht_net.proofs.WalkLaws.{level_gate, level_low}
 
@@ -21,12 +21,6 @@ open_set levels g v h z nz =
     let a : one_if_zero (get_or levels g 0) ≡ 1 = rw z refl in
     let b : one_if_zero v ≡ 0 = let q : eqb v 0 ≡ false = grind (arith, nat_tests) in rw q refl in
     omega (arith, sum_by-set one_if_zero levels g v 0 h, a, b)
-
-pub unseen_set : (seen : List Bool) (g : ℕ) → g < length seen → get_or seen g false ≡ false
-    → unseen_count (set seen g true) + 1 ≡ unseen_count seen
-unseen_set seen g h z =
-    let a : one_if_false (get_or seen g false) ≡ 1 = rw z refl in
-    omega (arith, sum_by-set one_if_false seen g true false h, a)
 
 level_same : (first : ℕ) (levels : List ℕ) (a : NetId) (g v : ℕ) → get_or levels g 0 ≡ 0
     → (first ≤ a.0 → get_or levels (a.0 - first) 0 ≢ 0)
@@ -254,17 +248,4 @@ cycle_found first gates levels seen path place h inside is reads before =
               b,
             ) reads;
       };
-    }
-
--- an empty path, with all gates seen
-pub walk_done : (first : ℕ) (gates : List Gate) (levels : List ℕ) (seen : List Bool) → IsPartly first gates levels
-    → IsPath first gates levels seen []
-    → ((g : ℕ) → g < length gates → get_or seen g false ≡ true) → IsLevelled first gates levels
-walk_done first gates levels seen partly path all =
-    let some : (g : ℕ) → g < length gates → get_or levels g 0 ≢ 0 = λ g h e. let p = path.on_path g h (all g h) e
-    in absurd (omega (arith, p.1)) in
-    record {
-      count = partly.count;
-      exact = λ g h. partly.exact g h (some g h);
-      bounded = λ g h. let b = partly.bounded g h in omega arith;
     }

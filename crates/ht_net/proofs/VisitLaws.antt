@@ -81,12 +81,6 @@ turn_push first gates levels seen path gate below known walk top reads new =
     path_push first gates levels seen path below known new
     (λ some. subst (λ (g : ℕ). ReadsGate first gates g below) (sym top.is) reads) walk
 
-pub start_path : (first : ℕ) (gates : List Gate) (levels : List ℕ) (seen : List Bool) (root : ℕ) → root < length gates
-    → get_or seen root false ≡ false
-    → IsPath first gates levels seen [] → IsPath first gates levels (set seen root true) (root ∷ [])
-start_path first gates levels seen root known new walk = path_push first gates levels seen [] root known new
-    (λ some. absurd (omega arith)) walk
-
 pub stay_set : (before seen : List Bool) (g : ℕ) → g < length seen → StaySeen before seen
     → StaySeen before (set seen g true)
 stay_set before seen g h stay = λ k was. elim (cases_eq k g) [

@@ -26,9 +26,6 @@ highest_more first levels (a ∷ args) (suc i) h =
     let z : suc i + 1 ≡ suc (i + 1) = omega arith in
     rw z (let more = highest_more first levels args i (omega arith) in omega arith)
 
-pub has_level_none : (first : ℕ) (levels : List ℕ) (args : List NetId) → HasLevel first levels (take 0 args) 1
-has_level_none first levels args = record { ready = record { ready = λ i h. absurd (omega arith) }; exact = refl }
-
 pub cases_last : (j i : ℕ) → j < i + 1 → (j < i) ⊎ (j ≡ i)
 cases_last j i h = grind arith
 

@@ -1,4 +1,4 @@
-// A netlist in the making.
+//! A netlist in the making.
 ghost use Rattle.std.specs.Prelude.{◌≡◌, ℕ, ◌<◌, ◌≤◌, ◌+◌, ◌++◌, ◌∷◌, [], length, get_or, IfOk, IfErr, OnOk, OnErr, IsTrue, ◌↔◌};
 ghost use Rattle.std.specs.List.{Contains};
 ghost use Rattle.ht_tern.specs.Gate.{HasArity};
@@ -83,7 +83,8 @@ impl Builder {
 
     /// The number of a name; a new name gets the next number.
     ///
-    /// `TooMany` of `Nets` where the name is new and there are 65,535; `NoMemory` where memory runs out.
+    /// # Errors
+    /// `TooMany` of `Nets`: the name is new and there are 65,535. `NoMemory`: out of memory.
     pub fn net(&mut self, name: &[u8]) -> Result<NameId, NetError>
         ensures named { IfOk result (λ id. IsNameAt self.new.names id.0 name.now) }
         ensures known { OnOk result (¬ IsNewName self.old.names name.now → self.new ≡ self.old) }
@@ -123,7 +124,8 @@ impl Builder {
 
     /// Adds an input.
     ///
-    /// `Twice` where the name is driven; else `TooMany` of `Inputs` where there are 4,096; `NoMemory` where memory runs out.
+    /// # Errors
+    /// `Twice`: the name is driven. `TooMany` of `Inputs`: it isn't, and there are 4,096. `NoMemory`: out of memory.
     pub fn input(&mut self, name: NameId) -> Result<(), NetError>
         requires { IsName self.old name }
         ensures ok { OnOk result
@@ -148,7 +150,8 @@ impl Builder {
 
     /// Adds an output, or nothing if the name is one.
     ///
-    /// `NoMemory` where memory runs out.
+    /// # Errors
+    /// `NoMemory`: out of memory.
     pub fn output(&mut self, name: NameId) -> Result<(), NetError>
         requires { IsName self.old name }
         ensures known { OnOk result (Contains self.old.outputs name → self.new ≡ self.old) }
@@ -164,8 +167,9 @@ impl Builder {
 
     /// Adds a flip-flop.
     ///
-    /// `Twice` where its output is driven; else `TooMany` of `Pins` where there are 262,144 pins, and of `Dffs` where there
-    /// are 16,384 flip-flops; `NoMemory` where memory runs out.
+    /// # Errors
+    /// `Twice`: its output is driven. Else `TooMany` of `Pins`: there are 262,144 pins; of `Dffs`: there are 16,384
+    /// flip-flops. `NoMemory`: out of memory.
     pub fn dff(&mut self, out: NameId, pin: NameId) -> Result<(), NetError>
         requires out { IsName self.old out }
         requires pin { IsName self.old pin }
@@ -194,8 +198,9 @@ impl Builder {
 
     /// Adds a gate with 1 to 255 arguments, one for NOT and BUFF.
     ///
-    /// `Twice` where its output is driven; else `TooMany` of `Pins` where there would be more than 262,144 pins;
-    /// `NoMemory` where memory runs out.
+    /// # Errors
+    /// `Twice`: its output is driven. `TooMany` of `Pins`: it isn't, and there would be more than 262,144 pins. `NoMemory`:
+    /// out of memory.
     pub fn gate(&mut self, kind: Kind, out: NameId, args: &[NameId]) -> Result<(), NetError>
         requires out { IsName self.old out }
         requires args { (i : ℕ) → i < length args.now → IsName self.old (get_or args.now i no_name) }

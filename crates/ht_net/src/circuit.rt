@@ -1,4 +1,4 @@
-// A circuit, with the order and the counts that simulation reads.
+//! A circuit, with the order and the counts that simulation reads.
 ghost use Rattle.std.specs.Prelude.{◌≡◌, suc, ◌<◌, ◌+◌, [], length, get_or, IfOk, IfErr};
 ghost use Rattle.ht_net.specs.Netlist.{first_gate_net, net_count, gate_at, no_net, IsCircuit, IsOrder};
 ghost use Rattle.ht_net.specs.Levels.{level_of, highest_below, loads_of, IsLevelOrder};

@@ -1,4 +1,4 @@
-// The flip-flops and gates of a netlist in the making.
+//! The flip-flops and gates of a netlist in the making.
 use crate::NameId;
 use ht_tern::Kind;
 use std::marker::Model;

@@ -1,4 +1,4 @@
-// Stuck-at faults, and the lines that they stand on.
+//! Stuck-at faults, and the lines that they stand on.
 use crate::NetId;
 
 /// A line that a fault can stand on: the stem of a net, the data pin of a flip-flop, or a pin of a gate. Flip-flops, gates

@@ -1,4 +1,4 @@
-// The gates of a circuit in flat arrays.
+//! The gates of a circuit in flat arrays.
 ghost use Rattle.std.specs.Prelude.{◌≡◌, ◌<◌, ◌+◌, ◌-◌, ◌++◌, ◌∷◌, [], length, get_or, OnOk, IfOk};
 ghost use Rattle.ht_net.specs.Netlist.{no_gate};
 

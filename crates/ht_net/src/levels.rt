@@ -1,4 +1,4 @@
-// The levels of gates, by a walk down their arguments.
+//! The levels of gates, by a walk down their arguments.
 ghost use Rattle.std.specs.Prelude.{◌≡◌, ℕ, ◌<◌, ◌+◌, ◌-◌, ◌^◌, length, get_or, IfOk};
 ghost use Rattle.ht_net.specs.Netlist.{no_net};
 ghost use Rattle.ht_net.specs.Next.{IsNext};

@@ -1,4 +1,4 @@
-// The names of a cycle of gates.
+//! The names of a cycle of gates.
 ghost use Rattle.std.specs.Prelude.{◌<◌, ◌+◌, length, IfOk};
 ghost use Rattle.ht_net.specs.Built.{draft_gates, AllDriven};
 ghost use Rattle.ht_net.specs.Cycle.{IsGateCycle};

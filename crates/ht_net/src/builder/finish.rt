@@ -1,4 +1,4 @@
-// From a draft to its circuit.
+//! From a draft to its circuit.
 ghost use Rattle.std.specs.Prelude.{◌≡◌, ℕ, ◌<◌, ◌+◌, ◌++◌, length, get_or, map, IfOk, IfErr, OnOk, IfSome, IfNone, Vec};
 ghost use Rattle.std.specs.declared.alloc.Global.{Global};
 ghost use Rattle.ht_net.specs.declared.names.NameId.{NameId};
@@ -19,8 +19,9 @@ use std::alloc::{AllocError, AllocFailed, Global};
 impl Builder {
     /// The circuit.
     ///
-    /// `Undriven` with the least name that nothing drives; `Loop` where all are driven and gates form a cycle; `NoMemory`
-    /// where memory runs out.
+    /// # Errors
+    /// `Undriven`: the least name that nothing drives. `Loop`: all are driven, and gates form a cycle. `NoMemory`: out of
+    /// memory.
     pub fn finish(&self) -> Result<Circuit, NetError>
         ensures circuit { IfOk result (λ c. c ≡ circuit_of self.now) }
         ensures well_formed { IfOk result (λ c. IsCircuit c) }

@@ -1,4 +1,4 @@
-use Rattle.std.proofs.Common.{◌≡◌, ◌<◌, suc, length, arith, subst, sym, ap, ◌∙◌}
+use Rattle.std.proofs.Common.{◌<◌, suc, length, arith, subst, sym, ap, ◌∙◌}
 use Rattle.std.proofs.lemmas.List.{get_or_read}
 use Rattle.ht_net.specs.Netlist.{Netlist, gate_at}
 use Rattle.ht_net.specs.Levels.{highest_below}
