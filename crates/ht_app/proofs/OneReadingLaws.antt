@@ -4,17 +4,17 @@ use Rattle.std.proofs.lemmas.List.{length-take-le}
 use Rattle.ht_net.specs.Netlist.{Netlist, IsCircuit}
 use Rattle.ht_net.specs.Named.{NamedNetlist, named_of}
 use Rattle.ht_statement.specs.Statement.{Statement}
-use Rattle.ht_statement.specs.Reading.{States}
+use Rattle.ht_statement.specs.Reading.{stated}
 use Rattle.ht_bench.specs.Contents.{named_of_statements}
 use Rattle.ht_bench.specs.Text.{IsNetlistOf}
 
-one_reading : (s t : List Statement) → map States s ≡ map States t → s ≡ t
+one_reading : (s t : List Statement) → map stated s ≡ map stated t → s ≡ t
 one_reading [] [] same = refl
 one_reading [] (y ∷ t) same = cc
 one_reading (x ∷ s) [] same = cc
 one_reading (x ∷ s) (y ∷ t) same =
-    let first : States x ≡ States y = cc in
-    let more : map States s ≡ map States t = cc in
+    let first : stated x ≡ stated y = cc in
+    let more : map stated s ≡ map stated t = cc in
     let one : x ≡ y = cc in
     let rest : s ≡ t = one_reading s t more in
     cc

@@ -14,15 +14,15 @@ use Rattle.ht_net.specs.Names.{IsNewName}
 use Rattle.ht_net.specs.Named.{Name, NamedGate}
 use Rattle.ht_net.specs.Draft.{Draft, DraftGate, IsDriven, draft_pins}
 use Rattle.ht_net.specs.Refusals.{RefusesInput, AcceptsInput, RefusesDff, AcceptsDff, RefusesGate, AcceptsGate, RefusesOutput}
-use Rattle.ht_statement.specs.Statement.{Statement, Nothing, Input, Output, Dff, Gate, names_in}
-use Rattle.ht_statement.specs.Reading.{States}
+use Rattle.ht_statement.specs.Statement.{Statement, blank_line, input_line, output_line, dff_line, gate_line, names_in}
+use Rattle.ht_statement.specs.Reading.{stated}
 use Rattle.ht_bench.specs.Different.{different}
 use Rattle.ht_bench.specs.Contents.{inputs_in, dffs_in, gates_in, driven_in, inputs_of, dffs_of, gates_of, driven_by, mentions_of, nets_of}
 use Rattle.ht_bench.specs.Accepted.{HasNewDriver, PassesLimit}
 use Rattle.ht_bench.specs.Added.{IsNumberOf, IsDraftWith, IsDraftOf, Mentions, Accepts, RefusesStatement, RefusesMention, RefusesMentions, RefusesDriver}
-use Rattle.ht_bench.specs.Cause.{cause_of}
-use Rattle.ht_bench.specs.declared.cause.Cause.{Cause}
-use Rattle.ht_bench.specs.declared.cause.Cause.TheVariants.{RefusedAlone, SecondDriver, Limit, NoMemory as CauseNoMemory}
+use Rattle.ht_bench.specs.AddErrors.{add_error_of}
+use Rattle.ht_bench.specs.declared.add_error.AddError.{AddError}
+use Rattle.ht_bench.specs.declared.add_error.AddError.TheVariants.{Refused, SecondDriver, Limit, NoMemory as AddNoMemory}
 use Rattle.ht_bench.proofs.ListLaws.{contains_none, contains_head, contains_tail, contains_cases, flat_map-push, AllZip-length}
 use Rattle.ht_bench.proofs.MentionLaws.{is_driven}
 use Rattle.ht_bench.proofs.ContentLaws.{with_nothing, with_input, with_output, with_dff, with_gate, limits_of_draft, too_many_nets, inputs_same, dffs_same, pins_same}
@@ -77,7 +77,7 @@ module _ (before : List Statement) (s : Statement) where
 
   -- names too many
   pub nets_pass : HasNewDriver before s → 65535 < length (different (mentions_of before ++ names_in s))
-      → PassesLimit Nets before (States s)
+      → PassesLimit Nets before (stated s)
   nets_pass new many = record {
     statement = s;
     states = refl;
@@ -108,7 +108,7 @@ new_is_free : (mentioned : List Name) (before : List Statement) (d : Draft) (nam
 new_is_free mentioned before d name is new c = let r = is.driven name c in new r.0.0 r.2.0 r.2.1
 
 -- the net that a statement drives is driven already, or finds no room
-pub driver_refused : (old : Draft) (s : Statement) (name : Name) (more : List Name) (cause : Cause) → names_in s ≡ name
+pub driver_refused : (old : Draft) (s : Statement) (name : Name) (more : List Name) (cause : AddError) → names_in s ≡ name
     ∷ more → driven_in s ≡ name ∷ []
     → RefusesDriver old name cause → RefusesStatement old s cause
 driver_refused old s name more (SecondDriver net) names drives refused = λ before is. record {
@@ -125,14 +125,14 @@ driver_refused old s name more (Limit Nets) names drives refused = λ before is.
 driver_refused old s name more (Limit Pins) names drives refused = absurd refused
 driver_refused old s name more (Limit Inputs) names drives refused = absurd refused
 driver_refused old s name more (Limit Dffs) names drives refused = absurd refused
-driver_refused old s name more (RefusedAlone refusal) names drives refused = absurd refused
-driver_refused old s name more CauseNoMemory names drives refused = λ before is. tt
+driver_refused old s name more (Refused refusal) names drives refused = absurd refused
+driver_refused old s name more AddNoMemory names drives refused = λ before is. tt
 
 -- ---- nothing
 
-pub nothing_accepted : (old : Draft) → Accepts old Nothing old
+pub nothing_accepted : (old : Draft) → Accepts old blank_line old
 nothing_accepted old before is within =
-    let s = Nothing in
+    let s = blank_line in
     let none : IsDraftWith (mentions_of before ++ []) before old = subst (λ l. IsDraftWith l before old)
     (sym (append-nil (mentions_of before))) is in
     let same : mentions_of (before ++ s ∷ []) ≡ mentions_of before = mentions-push before s ∙ append-nil
@@ -154,9 +154,9 @@ nothing_accepted old before is within =
 module _ (old d new : Draft) (id : NameId) (name : Name) (mentions : Mentions old (name ∷ []) d)
     (at : IsNumberOf d.names id name) where
   pub input_accepted : new ≡ record d { inputs = d.inputs ++ id ∷ [] } → AcceptsInput d id
-      → Accepts old (Input name) new
+      → Accepts old (input_line name) new
   input_accepted e (free, few) before is within =
-      let s = Input name in
+      let s = input_line name in
       let with_name = mentions.with_names (mentions_of before) before is in
       let draft = mentions.is_draft in
       let made : IsDraftOf (before ++ s ∷ []) new = subst (IsDraftOf (before ++ s ∷ [])) (sym e)
@@ -175,9 +175,9 @@ module _ (old d new : Draft) (id : NameId) (name : Name) (mentions : Mentions ol
       )
 
   pub input_refused : (error : NetError) → ¬ IsDriven d id → RefusesInput d id error
-      → RefusesStatement old (Input name) (cause_of error)
+      → RefusesStatement old (input_line name) (add_error_of error)
   input_refused (TooMany Inputs) free refused = λ before is.
-      let s = Input name in
+      let s = input_line name in
       let with_name = mentions.with_names (mentions_of before) before is in
       let draft = mentions.is_draft in
       record {
@@ -213,9 +213,9 @@ module _ (old d new : Draft) (id : NameId) (name : Name) (mentions : Mentions ol
   input_refused NoMemory free refused = λ before is. tt
 
   pub output_accepted : (Contains d.outputs id → new ≡ d)
-      → (¬ Contains d.outputs id → new ≡ record d { outputs = d.outputs ++ id ∷ [] }) → Accepts old (Output name) new
+      → (¬ Contains d.outputs id → new ≡ record d { outputs = d.outputs ++ id ∷ [] }) → Accepts old (output_line name) new
   output_accepted known added before is within =
-      let s = Output name in
+      let s = output_line name in
       let e = only_outputs d new id known added in
       let with_name = mentions.with_names (mentions_of before) before is in
       let draft = mentions.is_draft in
@@ -233,20 +233,20 @@ module _ (old d new : Draft) (id : NameId) (name : Name) (mentions : Mentions ol
       )
 
 -- an output's net finds no room
-pub output_refused : (old : Draft) (name : Name) (cause : Cause) → RefusesMention old name cause
-    → RefusesStatement old (Output name) cause
+pub output_refused : (old : Draft) (name : Name) (cause : AddError) → RefusesMention old name cause
+    → RefusesStatement old (output_line name) cause
 output_refused old name (Limit Nets) refused = λ before is.
-    nets_pass before (Output name) (All-nil (λ n. ¬ Contains (driven_by before) n))
+    nets_pass before (output_line name) (All-nil (λ n. ¬ Contains (driven_by before) n))
     (too_many_nets (mentions_of before) [] before old name is refused.0 refused.1)
 output_refused old name (Limit Pins) refused = absurd refused
 output_refused old name (Limit Inputs) refused = absurd refused
 output_refused old name (Limit Dffs) refused = absurd refused
-output_refused old name (RefusedAlone refusal) refused = absurd refused
+output_refused old name (Refused refusal) refused = absurd refused
 output_refused old name (SecondDriver net) refused = absurd refused
-output_refused old name CauseNoMemory refused = λ before is. tt
+output_refused old name AddNoMemory refused = λ before is. tt
 
 pub only_memory : (old : Draft) (s : Statement) (error : NetError) → RefusesOutput error
-    → RefusesStatement old s (cause_of error)
+    → RefusesStatement old s (add_error_of error)
 only_memory old s NoMemory refused = λ before is. tt
 only_memory old s (Twice other) refused = absurd refused
 only_memory old s (TooMany what) refused = absurd refused
@@ -263,7 +263,7 @@ module _ (old first : Draft) (out : NameId) (name : Name) (first_mentions : Ment
       (first_mentions.with_names (mentions_of before) before is) first_at c)
 
   -- the arguments find no room
-  pub arguments_refused : (s : Statement) (args : List Name) (cause : Cause) → names_in s ≡ name ∷ args → driven_in s
+  pub arguments_refused : (s : Statement) (args : List Name) (cause : AddError) → names_in s ≡ name ∷ args → driven_in s
       ≡ name ∷ []
       → RefusesMentions first args cause → RefusesStatement old s cause
   arguments_refused s args (Limit Nets) names drives refused = λ before is.
@@ -275,9 +275,9 @@ module _ (old first : Draft) (out : NameId) (name : Name) (first_mentions : Ment
   arguments_refused s args (Limit Pins) names drives refused = absurd refused
   arguments_refused s args (Limit Inputs) names drives refused = absurd refused
   arguments_refused s args (Limit Dffs) names drives refused = absurd refused
-  arguments_refused s args (RefusedAlone refusal) names drives refused = absurd refused
+  arguments_refused s args (Refused refusal) names drives refused = absurd refused
   arguments_refused s args (SecondDriver net) names drives refused = absurd refused
-  arguments_refused s args CauseNoMemory names drives refused = λ before is. tt
+  arguments_refused s args AddNoMemory names drives refused = λ before is. tt
 
   module _ (d : Draft) (args : List Name) (mentions : Mentions first args d) where
     pub out_at : IsNumberOf d.names out name
@@ -302,9 +302,9 @@ module _ (old first : Draft) (out : NameId) (name : Name) (first_mentions : Ment
       pub gate_accepted : (new : Draft) → new
           ≡ record d { gates = d.gates ++ record { kind = kind; out = out; args = ids } ∷ [] }
           → AcceptsGate d out (length ids)
-          → Accepts old (Gate name kind args) new
+          → Accepts old (gate_line name kind args) new
       gate_accepted new e accepts before is within =
-          let s = Gate name kind args in
+          let s = gate_line name kind args in
           let draft = mentions.is_draft in
           let part : DraftGate = record { kind = kind; out = out; args = ids } in
           let made : IsDraftOf (before ++ s ∷ []) new = subst (IsDraftOf (before ++ s ∷ [])) (sym e)
@@ -329,9 +329,9 @@ module _ (old first : Draft) (out : NameId) (name : Name) (first_mentions : Ment
           )
 
       pub gate_refused : (error : NetError) → RefusesGate d out (length ids) error
-          → RefusesStatement old (Gate name kind args) (cause_of error)
+          → RefusesStatement old (gate_line name kind args) (add_error_of error)
       gate_refused (TooMany Pins) refused = λ before is.
-          let s = Gate name kind args in
+          let s = gate_line name kind args in
           record {
             statement = s;
             states = refl;
@@ -360,10 +360,10 @@ module _ (old first : Draft) (out : NameId) (name : Name) (first_mentions : Ment
   -- ---- flip-flops
 
   -- the net at the data pin finds no room
-  pub data_pin_refused : (data_pin : Name) (cause : Cause) → RefusesMention first data_pin cause
-      → RefusesStatement old (Dff name data_pin) cause
+  pub data_pin_refused : (data_pin : Name) (cause : AddError) → RefusesMention first data_pin cause
+      → RefusesStatement old (dff_line name data_pin) cause
   data_pin_refused data_pin (Limit Nets) refused = λ before is.
-      let s = Dff name data_pin in
+      let s = dff_line name data_pin in
       let with_name = first_mentions.with_names (mentions_of before) before is in
       nets_pass before s (new_driver_of before s name refl (out_is_free before is))
       (subst (λ l. 65535 < length (different l)) (append_assoc (mentions_of before) (name ∷ []) (data_pin ∷ []))
@@ -371,16 +371,16 @@ module _ (old first : Draft) (out : NameId) (name : Name) (first_mentions : Ment
   data_pin_refused data_pin (Limit Pins) refused = absurd refused
   data_pin_refused data_pin (Limit Inputs) refused = absurd refused
   data_pin_refused data_pin (Limit Dffs) refused = absurd refused
-  data_pin_refused data_pin (RefusedAlone refusal) refused = absurd refused
+  data_pin_refused data_pin (Refused refusal) refused = absurd refused
   data_pin_refused data_pin (SecondDriver net) refused = absurd refused
-  data_pin_refused data_pin CauseNoMemory refused = λ before is. tt
+  data_pin_refused data_pin AddNoMemory refused = λ before is. tt
 
   module _ (d : Draft) (data_pin : Name) (mentions : Mentions first (data_pin ∷ []) d) (pin : NameId)
       (pin_at : IsNumberOf d.names pin data_pin) where
     pub dff_accepted : (new : Draft) → new ≡ record d { dffs = d.dffs ++ record { out = out; data_pin = pin } ∷ [] }
-        → AcceptsDff d out → Accepts old (Dff name data_pin) new
+        → AcceptsDff d out → Accepts old (dff_line name data_pin) new
     dff_accepted new e (still, few_pins, few) before is within =
-        let s = Dff name data_pin in
+        let s = dff_line name data_pin in
         let both = with_all d (data_pin ∷ []) mentions before is in
         let draft = mentions.is_draft in
         let made : IsDraftOf (before ++ s ∷ []) new = subst (IsDraftOf (before ++ s ∷ [])) (sym e)
@@ -399,10 +399,10 @@ module _ (old first : Draft) (out : NameId) (name : Name) (first_mentions : Ment
           made,
         )
 
-    pub dff_refused : (error : NetError) → RefusesDff d out error → RefusesStatement old (Dff name data_pin)
-        (cause_of error)
+    pub dff_refused : (error : NetError) → RefusesDff d out error → RefusesStatement old (dff_line name data_pin)
+        (add_error_of error)
     dff_refused (TooMany Pins) refused = λ before is.
-        let s = Dff name data_pin in
+        let s = dff_line name data_pin in
         let both = with_all d (data_pin ∷ []) mentions before is in
         record {
           statement = s;
@@ -421,7 +421,7 @@ module _ (old first : Draft) (out : NameId) (name : Name) (first_mentions : Ment
           );
         }
     dff_refused (TooMany Dffs) refused = λ before is.
-        let s = Dff name data_pin in
+        let s = dff_line name data_pin in
         let both = with_all d (data_pin ∷ []) mentions before is in
         let mentioned = mentions_of before ++ name ∷ data_pin ∷ [] in
         record {

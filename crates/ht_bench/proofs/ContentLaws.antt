@@ -10,7 +10,7 @@ use Rattle.ht_net.specs.Names.{IsNewName}
 use Rattle.ht_net.specs.Named.{Name, NamedDff, NamedGate}
 use Rattle.ht_net.specs.Draft.{Draft, DraftGate, driven_names, latch_names, gate_names, draft_pins}
 use Rattle.ht_bench.specs.Different.{different}
-use Rattle.ht_statement.specs.Statement.{Statement, Nothing, Input, Output, Dff, Gate}
+use Rattle.ht_statement.specs.Statement.{Statement, blank_line, input_line, output_line, dff_line, gate_line}
 use Rattle.ht_bench.specs.Contents.{inputs_in, outputs_in, dffs_in, gates_in, driven_in, inputs_of, outputs_of, dffs_of, gates_of, driven_by, mentions_of, pins_of}
 use Rattle.ht_bench.specs.Accepted.{IsWithinLimits}
 use Rattle.ht_bench.specs.Added.{IsNumberOf, IsDffOf, IsGateOf, IsDraftWith, IsDraftOf}
@@ -109,9 +109,9 @@ module _ (mentioned : List Name) (statements : List Statement) (d : Draft) (is :
 
 pub with_input : (mentioned : List Name) (statements : List Statement) (d : Draft) (id : NameId) (name : Name)
     → IsDraftWith mentioned statements d → IsNumberOf d.names id name
-    → IsDraftWith mentioned (statements ++ Input name ∷ []) (record d { inputs = d.inputs ++ id ∷ [] })
+    → IsDraftWith mentioned (statements ++ input_line name ∷ []) (record d { inputs = d.inputs ++ id ∷ [] })
 with_input mentioned statements d id name is at =
-    let s = Input name in
+    let s = input_line name in
     let adds = adds_left d.inputs (d.inputs ++ id ∷ []) (latch_names d ++ gate_names d) id (adds_push d.inputs id) in
     let new = (d.inputs ++ id ∷ []) ++ (latch_names d ++ gate_names d) in
     record {
@@ -129,10 +129,10 @@ with_input mentioned statements d id name is at =
 pub with_dff : (mentioned : List Name) (statements : List Statement) (d : Draft) (out pin : NameId)
     (name data_pin : Name)
     → IsDraftWith mentioned statements d → IsNumberOf d.names out name → IsNumberOf d.names pin data_pin
-    → IsDraftWith mentioned (statements ++ Dff name data_pin ∷ [])
+    → IsDraftWith mentioned (statements ++ dff_line name data_pin ∷ [])
     (record d { dffs = d.dffs ++ record { out = out; data_pin = pin } ∷ [] })
 with_dff mentioned statements d out pin name data_pin is at pin_at =
-    let s = Dff name data_pin in
+    let s = dff_line name data_pin in
     let part : DraftDff = record { out = out; data_pin = pin } in
     let latches : map (λ (f : DraftDff). f.out) (d.dffs ++ part ∷ []) ≡ latch_names d ++ out
     ∷ [] = map_push (λ (f : DraftDff). f.out) d.dffs part in
@@ -158,10 +158,10 @@ with_dff mentioned statements d out pin name data_pin is at pin_at =
 pub with_gate : (mentioned : List Name) (statements : List Statement) (d : Draft) (kind : Kind) (out : NameId)
     (ids : List NameId) (name : Name) (args : List Name)
     → IsDraftWith mentioned statements d → IsNumberOf d.names out name → AllZip (IsNumberOf d.names) ids args
-    → IsDraftWith mentioned (statements ++ Gate name kind args ∷ [])
+    → IsDraftWith mentioned (statements ++ gate_line name kind args ∷ [])
     (record d { gates = d.gates ++ record { kind = kind; out = out; args = ids } ∷ [] })
 with_gate mentioned statements d kind out ids name args is at args_at =
-    let s = Gate name kind args in
+    let s = gate_line name kind args in
     let part : DraftGate = record { kind = kind; out = out; args = ids } in
     let gates_are : map (λ (g : DraftGate). g.out) (d.gates ++ part ∷ []) ≡ gate_names d ++ out
     ∷ [] = map_push (λ (g : DraftGate). g.out) d.gates part in
@@ -187,10 +187,10 @@ with_gate mentioned statements d kind out ids name args is at args_at =
 module _ (mentioned : List Name) (statements : List Statement) (d : Draft) (id : NameId) (name : Name)
     (is : IsDraftWith mentioned statements d) (at : IsNumberOf d.names id name) where
   with_outputs : (outputs : List NameId) → AllZip (IsNumberOf d.names) outputs
-      (outputs_of (statements ++ Output name ∷ []))
-      → IsDraftWith mentioned (statements ++ Output name ∷ []) (record d { outputs = outputs })
+      (outputs_of (statements ++ output_line name ∷ []))
+      → IsDraftWith mentioned (statements ++ output_line name ∷ []) (record d { outputs = outputs })
   with_outputs outputs are =
-      let s = Output name in
+      let s = output_line name in
       let same = flat_map-push_none driven_in statements s refl in
       record {
         names = is.names;
@@ -205,9 +205,9 @@ module _ (mentioned : List Name) (statements : List Statement) (d : Draft) (id :
 
   pub with_output : (new : Draft) → (Contains d.outputs id → new ≡ d)
       → (¬ Contains d.outputs id → new ≡ record d { outputs = d.outputs ++ id ∷ [] })
-      → IsDraftWith mentioned (statements ++ Output name ∷ []) new
+      → IsDraftWith mentioned (statements ++ output_line name ∷ []) new
   with_output new known added =
-      let s = Output name in
+      let s = output_line name in
       let all = flat_map-push outputs_in statements s in
       ⊎_elim
       (λ (old : Contains (outputs_of statements) name × (outputs_of (statements ++ s ∷ []) ≡ outputs_of statements)).
@@ -231,9 +231,9 @@ module _ (mentioned : List Name) (statements : List Statement) (d : Draft) (id :
 
 -- an empty line
 pub with_nothing : (mentioned : List Name) (statements : List Statement) (d : Draft)
-    → IsDraftWith mentioned statements d → IsDraftWith mentioned (statements ++ Nothing ∷ []) d
+    → IsDraftWith mentioned statements d → IsDraftWith mentioned (statements ++ blank_line ∷ []) d
 with_nothing mentioned statements d is =
-    let s = Nothing in
+    let s = blank_line in
     let same = flat_map-push_none driven_in statements s refl in
     record {
       names = is.names;

@@ -6,7 +6,7 @@ use Rattle.ht_net.specs.Netlist.{Netlist, Gate, IsCircuit, first_gate_net, gate_
 use Rattle.ht_net.specs.Named.{Name, NamedGate, NamedNetlist, name_of, named_gates, named_of}
 use Rattle.ht_statement.specs.Statement.{Statement}
 use Rattle.ht_bench.specs.Contents.{gates_of, named_of_statements}
-use Rattle.ht_bench.specs.Ends.{Feeds, IsCycle}
+use Rattle.ht_bench.specs.EndOfText.{Feeds, IsCycle}
 use Rattle.ht_bench.proofs.ListLaws.{contains_none, contains_cases}
 use Rattle.ht_bench.proofs.PlaceLaws.{place_in, place_at}
 

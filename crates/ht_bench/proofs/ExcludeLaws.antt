@@ -9,50 +9,50 @@ use Rattle.ht_net.specs.declared.error.Limit.TheVariants.{Nets, Pins, Inputs, Df
 use Rattle.ht_net.specs.Netlist.{Netlist}
 use Rattle.ht_net.specs.Named.{Name}
 use Rattle.ht_statement.specs.Statement.{Statement, names_in}
-use Rattle.ht_statement.specs.Reading.{Reading, States, IsRefused}
-use Rattle.ht_statement.specs.declared.fault.LineRefusal.{LineRefusal}
+use Rattle.ht_statement.specs.Reading.{Reading, stated, unreadable}
+use Rattle.ht_statement.specs.declared.error.LineRefusal.{LineRefusal}
 use Rattle.ht_bench.specs.Contents.{driven_in, driven_by, mentions_of}
-use Rattle.ht_bench.specs.Accepted.{IsAccepted, IsWithinLimits, IsFirstPassed, IsSecondDriver, PassesLimit}
-use Rattle.ht_bench.specs.Ends.{AreDriven}
-use Rattle.ht_bench.specs.Text.{IsNetlistOf, IsFirstRefused, IsRefusedAlone, IsUndriven, IsLoop, Refuses, IsOfNoCircuit, texts_in}
+use Rattle.ht_bench.specs.Accepted.{IsAcceptedAfter, IsWithinLimits, IsFirstPassed, IsSecondDriver, PassesLimit}
+use Rattle.ht_bench.specs.EndOfText.{AreDriven}
+use Rattle.ht_bench.specs.Text.{IsNetlistOf, IsFirstRefused, IsUnreadable, IsUndriven, IsLoop, Refuses, IsOfNoCircuit}
 use Rattle.ht_bench.specs.declared.error.BenchError.{BenchError}
 use Rattle.ht_bench.specs.declared.error.BenchError.TheVariants.{BadLine, BadName, BadKind, BadCount, Twice, TooMany, Undriven, Loop, NoMemory}
 use Rattle.ht_bench.proofs.ListLaws.{contains_head}
-use Rattle.ht_bench.proofs.AgainLaws.{first_stated, states_one}
-use Rattle.ht_bench.proofs.EndLaws.{same_statements}
+use Rattle.ht_bench.proofs.FindLineLaws.{first_stated, states_one}
+use Rattle.ht_bench.proofs.EndOfTextLaws.{same_statements}
 use Rattle.ht_bench.proofs.CycleLaws.{no_circuit}
 
 -- readings of which some begin with what these statements state
 pub begins : (before : List Statement) (reading : Reading) (after : List Reading) (statements : List Statement)
-    → map States before ++ reading ∷ after ≡ map States statements
-    → (s : Statement) × (rest : List Statement) × (statements ≡ before ++ s ∷ rest) × (reading ≡ States s)
+    → map stated before ++ reading ∷ after ≡ map stated statements
+    → (s : Statement) × (rest : List Statement) × (statements ≡ before ++ s ∷ rest) × (reading ≡ stated s)
 begins [] reading after statements e = let r = first_stated reading after statements e in (r.0, r.1, r.2, r.3)
 begins (b ∷ before) reading after statements e =
-    let r = first_stated (States b) (map States before ++ reading ∷ after) statements e in
+    let r = first_stated (stated b) (map stated before ++ reading ∷ after) statements e in
     let same : b ≡ r.0 = states_one b r.0 r.3 in
     let on = begins before reading after r.1 r.4 in
     (on.0, on.1, r.2 ∙ ap (λ s. s ∷ r.1) (sym same) ∙ ap (λ l. b ∷ l) on.2, on.3)
 
 -- where a cause goes against acceptance, a text that is refused for it is no netlist
-module _ (text : List ℕ) (IsCause : List Statement → Reading → Type 0)
-    (against : (before : List Statement) (s : Statement) → IsCause before (States s) → ¬ IsAccepted before s) where
-  refused_is_no_netlist : (number : ℕ) → IsFirstRefused text number IsCause → (circuit : Netlist)
+module _ (text : List ℕ) (IsAddError : List Statement → Reading → Type 0)
+    (against : (before : List Statement) (s : Statement) → IsAddError before (stated s) → ¬ IsAcceptedAfter before s) where
+  refused_is_no_netlist : (number : ℕ) → IsFirstRefused text number IsAddError → (circuit : Netlist)
       → ¬ IsNetlistOf text circuit
   refused_is_no_netlist number first circuit is =
-      let r = begins first.before first.reading first.after is.statements (sym first.cut ∙ is.read.lines) in
-      against first.before r.0 (subst (IsCause first.before) r.3 first.cause)
+      let r = begins first.before first.reading first.after is.statements (sym first.split ∙ is.read.lines) in
+      against first.before r.0 (subst (IsAddError first.before) r.3 first.cause)
       (is.read.accepted first.before r.1 r.0 r.2)
 
 abbrev pub is_stated : Reading → Bool
-is_stated (States statement) = true
-is_stated (IsRefused refusal) = false
+is_stated (stated statement) = true
+is_stated (unreadable refusal) = false
 
 pub unread_against : (refusal : LineRefusal) (before : List Statement) (s : Statement)
-    → IsRefusedAlone refusal before (States s) → ¬ IsAccepted before s
+    → IsUnreadable refusal before (stated s) → ¬ IsAcceptedAfter before s
 unread_against refusal before s e accepted = false≢true (sym (ap is_stated e))
 
-pub second_against : (name : Name) (before : List Statement) (s : Statement) → IsSecondDriver name before (States s)
-    → ¬ IsAccepted before s
+pub second_against : (name : Name) (before : List Statement) (s : Statement) → IsSecondDriver name before (stated s)
+    → ¬ IsAcceptedAfter before s
 second_against name before s second accepted =
     let drives : driven_in s ≡ name ∷ [] = subst (λ t. driven_in t ≡ name ∷ [])
     (sym (states_one s second.statement second.states)) second.drives in
@@ -66,8 +66,8 @@ passed_limit Pins statements passed within = omega (arith, passed.1, within.pins
 passed_limit Inputs statements passed within = omega (arith, passed.2, within.inputs)
 passed_limit Dffs statements passed within = omega (arith, passed.3, within.dffs)
 
-pub limit_against : (what : Limit) (before : List Statement) (s : Statement) → PassesLimit what before (States s)
-    → ¬ IsAccepted before s
+pub limit_against : (what : Limit) (before : List Statement) (s : Statement) → PassesLimit what before (stated s)
+    → ¬ IsAcceptedAfter before s
 limit_against what before s passes accepted =
     passed_limit what (before ++ s ∷ [])
     (subst (λ t. IsFirstPassed (before ++ t ∷ []) what) (sym (states_one s passes.statement passes.states))
@@ -84,7 +84,7 @@ undriven_is_no_netlist text number name u circuit is =
     let on_line : Contains (names_in f.statement) name = subst (λ l. Contains l name) (sym f.names)
     (Contains-append_right f.left (name ∷ f.right) name (contains_head name f.right)) in
     let mentions : mentions_of u.statements ≡ mentions_of f.before ++ (names_in f.statement ++ mentions_of f.after) = ap
-    mentions_of f.cut ∙ flat_map-append names_in f.before (f.statement ∷ f.after) in
+    mentions_of f.split ∙ flat_map-append names_in f.before (f.statement ∷ f.after) in
     let mentioned : Contains (mentions_of u.statements) name =
     subst (λ l. Contains l name) (sym mentions)
     (Contains-append_right (mentions_of f.before) (names_in f.statement ++ mentions_of f.after) name
@@ -100,18 +100,18 @@ loop_is_no_netlist text number cycle l circuit is =
     (is.named ∙ sym (ap Rattle.ht_bench.specs.Contents.named_of_statements same)) cycle l.is_cycle
 
 pub refused_is_of_no_circuit : (text : List ℕ) (error : BenchError) → Refuses text error → IsOfNoCircuit text error
-refused_is_of_no_circuit text (BadLine line) refused = refused_is_no_netlist text (IsRefusedAlone _) (unread_against _)
+refused_is_of_no_circuit text (BadLine line) refused = refused_is_no_netlist text (IsUnreadable _) (unread_against _)
     line refused
-refused_is_of_no_circuit text (BadName line) refused = refused_is_no_netlist text (IsRefusedAlone _) (unread_against _)
+refused_is_of_no_circuit text (BadName line) refused = refused_is_no_netlist text (IsUnreadable _) (unread_against _)
     line refused
-refused_is_of_no_circuit text (BadKind line) refused = refused_is_no_netlist text (IsRefusedAlone _) (unread_against _)
+refused_is_of_no_circuit text (BadKind line) refused = refused_is_no_netlist text (IsUnreadable _) (unread_against _)
     line refused
-refused_is_of_no_circuit text (BadCount line) refused = refused_is_no_netlist text (IsRefusedAlone _) (unread_against _)
+refused_is_of_no_circuit text (BadCount line) refused = refused_is_no_netlist text (IsUnreadable _) (unread_against _)
     line refused
-refused_is_of_no_circuit text (Twice line name) refused = refused_is_no_netlist text (IsSecondDriver name.items)
-    (second_against name.items) line refused
+refused_is_of_no_circuit text (Twice line name) refused = refused_is_no_netlist text (IsSecondDriver name)
+    (second_against name) line refused
 refused_is_of_no_circuit text (TooMany line what) refused = refused_is_no_netlist text (PassesLimit what)
     (limit_against what) line refused
-refused_is_of_no_circuit text (Undriven line name) refused = undriven_is_no_netlist text line name.items refused
-refused_is_of_no_circuit text (Loop line names) refused = loop_is_no_netlist text line (texts_in names.items) refused
+refused_is_of_no_circuit text (Undriven line name) refused = undriven_is_no_netlist text line name refused
+refused_is_of_no_circuit text (Loop line names) refused = loop_is_no_netlist text line names refused
 refused_is_of_no_circuit text NoMemory refused = tt

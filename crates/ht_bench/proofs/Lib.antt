@@ -5,11 +5,11 @@ pub mod MentionLaws
 pub mod ContentLaws
 pub mod AcceptedLaws
 pub mod PlaceLaws
-pub mod TableLaws
+pub mod MentionAllLaws
 pub mod CountLaws
 pub mod ProgressLaws
-pub mod AgainLaws
-pub mod EndLaws
+pub mod FindLineLaws
+pub mod EndOfTextLaws
 pub mod CycleLaws
 pub mod ExcludeLaws
 pub mod OneLaws

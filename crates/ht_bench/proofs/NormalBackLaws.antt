@@ -7,9 +7,9 @@ use Rattle.ht_net.specs.Netlist.{Netlist, IsCircuit}
 use Rattle.ht_net.specs.Named.{Name, NamedDff, NamedGate, NamedNetlist, named_of}
 use Rattle.ht_ports.specs.LineRule.{lines_of}
 use Rattle.ht_statement.specs.Name.{is_name}
-use Rattle.ht_statement.specs.Statement.{Statement, Nothing, Input, Output, Dff, Gate, names_in}
-use Rattle.ht_statement.specs.Reading.{States, reading_of}
-use Rattle.ht_statement.specs.Normal.{CanBeStated}
+use Rattle.ht_statement.specs.Statement.{Statement, blank_line, input_line, output_line, dff_line, gate_line, names_in}
+use Rattle.ht_statement.specs.Reading.{stated, reading_of}
+use Rattle.ht_statement.specs.StatementText.{CanBeStated}
 use Rattle.ht_statement.proofs.StatedLaws.{stated_sound}
 use Rattle.ht_bench.specs.Contents.{inputs_in, dffs_in, gates_in, inputs_of, dffs_of, gates_of, named_of_statements}
 use Rattle.ht_bench.specs.Text.{IsNetlistOf, IsOfNoCircuit}
@@ -26,42 +26,42 @@ use Rattle.ht_bench.proofs.OneLaws.{one_circuit}
 abbrev IsGood : Name → Type 0
 IsGood name = is_name name ≡ true
 
-can_be_stated : (lines : List (List ℕ)) (statements : List Statement) → map reading_of lines ≡ map States statements
+can_be_stated : (lines : List (List ℕ)) (statements : List Statement) → map reading_of lines ≡ map stated statements
     → All CanBeStated statements
 can_be_stated lines [] read = All-nil CanBeStated
 can_be_stated [] (s ∷ statements) read = absurd (cc)
 can_be_stated (line ∷ lines) (s ∷ statements) read =
-    let here : reading_of line ≡ States s = cc in
-    let rest : map reading_of lines ≡ map States statements = cc in
+    let here : reading_of line ≡ stated s = cc in
+    let rest : map reading_of lines ≡ map stated statements = cc in
     All-cons CanBeStated s statements (stated_sound line s here) (can_be_stated lines statements rest)
 
 inputs_are_names : (s : Statement) → AreNames (names_in s) → AreNames (inputs_in s)
-inputs_are_names Nothing are = All-nil IsGood
-inputs_are_names (Input name) are = are
-inputs_are_names (Output name) are = All-nil IsGood
-inputs_are_names (Dff out data_pin) are = All-nil IsGood
-inputs_are_names (Gate out kind args) are = All-nil IsGood
+inputs_are_names blank_line are = All-nil IsGood
+inputs_are_names (input_line name) are = are
+inputs_are_names (output_line name) are = All-nil IsGood
+inputs_are_names (dff_line out data_pin) are = All-nil IsGood
+inputs_are_names (gate_line out kind args) are = All-nil IsGood
 
 abbrev DffIsNamed : NamedDff → Type 0
 DffIsNamed d = IsGood d.out
 
 dffs_are_named : (s : Statement) → AreNames (names_in s) → All DffIsNamed (dffs_in s)
-dffs_are_named Nothing are = All-nil DffIsNamed
-dffs_are_named (Input name) are = All-nil DffIsNamed
-dffs_are_named (Output name) are = All-nil DffIsNamed
-dffs_are_named (Dff out data_pin) are = All-cons DffIsNamed (record { out = out; data_pin = data_pin }) []
+dffs_are_named blank_line are = All-nil DffIsNamed
+dffs_are_named (input_line name) are = All-nil DffIsNamed
+dffs_are_named (output_line name) are = All-nil DffIsNamed
+dffs_are_named (dff_line out data_pin) are = All-cons DffIsNamed (record { out = out; data_pin = data_pin }) []
     (All-head IsGood out (data_pin ∷ []) are) (All-nil DffIsNamed)
-dffs_are_named (Gate out kind args) are = All-nil DffIsNamed
+dffs_are_named (gate_line out kind args) are = All-nil DffIsNamed
 
 abbrev GateIsNamed : NamedGate → Type 0
 GateIsNamed g = IsGood g.out
 
 gates_are_named : (s : Statement) → AreNames (names_in s) → All GateIsNamed (gates_in s)
-gates_are_named Nothing are = All-nil GateIsNamed
-gates_are_named (Input name) are = All-nil GateIsNamed
-gates_are_named (Output name) are = All-nil GateIsNamed
-gates_are_named (Dff out data_pin) are = All-nil GateIsNamed
-gates_are_named (Gate out kind args) are = All-cons GateIsNamed (record { kind = kind; out = out; args = args }) []
+gates_are_named blank_line are = All-nil GateIsNamed
+gates_are_named (input_line name) are = All-nil GateIsNamed
+gates_are_named (output_line name) are = All-nil GateIsNamed
+gates_are_named (dff_line out data_pin) are = All-nil GateIsNamed
+gates_are_named (gate_line out kind args) are = All-cons GateIsNamed (record { kind = kind; out = out; args = args }) []
     (All-head IsGood out args are) (All-nil GateIsNamed)
 
 -- the names of all nets, from what a circuit says

@@ -10,7 +10,7 @@ use Rattle.ht_tern.specs.Gate.{HasArity}
 use Rattle.ht_net.specs.declared.net.NetId.{NetId}
 use Rattle.ht_net.specs.Netlist.{Netlist, Gate, IsCircuit, first_gate_net, net_count, pin_count, gate_at, no_net}
 use Rattle.ht_net.specs.Named.{Name, NamedDff, NamedGate, NamedNetlist, name_of, named_dffs, named_gates, named_of}
-use Rattle.ht_statement.specs.Statement.{Statement, Input, Output, names_in}
+use Rattle.ht_statement.specs.Statement.{Statement, input_line, output_line, names_in}
 use Rattle.ht_bench.specs.Different.{different}
 use Rattle.ht_bench.specs.Contents.{inputs_in, outputs_in, dffs_in, gates_in, driven_in, inputs_of, outputs_of, dffs_of, gates_of, driven_by, pins_of, named_of_statements}
 use Rattle.ht_bench.specs.Normal.{dff_statement, gate_statement, named_statements, statements_of}
@@ -32,13 +32,13 @@ four_parts : {A : Type 0} (a b d e a' b' d' e' : List A) → a ≡ a' → b ≡ 
 four_parts a b d e a' b' d' e' p q r s = cc
 
 module _ {B : Type 0} (f : Statement → List B) (n : NamedNetlist) where
-  pub content : (a b d e : List B) → flat_map (λ x. f (Input x)) n.inputs ≡ a → flat_map (λ x. f (Output x)) n.outputs
+  pub content : (a b d e : List B) → flat_map (λ x. f (input_line x)) n.inputs ≡ a → flat_map (λ x. f (output_line x)) n.outputs
       ≡ b
       → flat_map (λ x. f (dff_statement x)) n.dffs ≡ d → flat_map (λ x. f (gate_statement x)) n.gates ≡ e
       → flat_map f (named_statements n) ≡ ((a ++ b) ++ d) ++ e
   content a b d e is_a is_b is_d is_e =
-      let inputs = map Input n.inputs in
-      let outputs = map Output n.outputs in
+      let inputs = map input_line n.inputs in
+      let outputs = map output_line n.outputs in
       let dffs = map dff_statement n.dffs in
       let gates = map gate_statement n.gates in
       flat_map-append f ((inputs ++ outputs) ++ dffs) gates
@@ -46,7 +46,7 @@ module _ {B : Type 0} (f : Statement → List B) (n : NamedNetlist) where
       (flat_map-append f (inputs ++ outputs) dffs ∙ ap (λ l. l ++ flat_map f dffs)
       (flat_map-append f inputs outputs))
       ∙ four_parts (flat_map f inputs) (flat_map f outputs) (flat_map f dffs) (flat_map f gates) a b d e
-      (flat_map-map f Input n.inputs ∙ is_a) (flat_map-map f Output n.outputs ∙ is_b)
+      (flat_map-map f input_line n.inputs ∙ is_a) (flat_map-map f output_line n.outputs ∙ is_b)
       (flat_map-map f dff_statement n.dffs ∙ is_d) (flat_map-map f gate_statement n.gates ∙ is_e)
 
 first_part : {A : Type 0} (xs : List A) → ((xs ++ []) ++ []) ++ [] ≡ xs
@@ -189,17 +189,17 @@ module _ (c : Netlist) (is : IsCircuit c) where
   only_one : (name : Name) → Contains c.names name → All (Contains c.names) (name ∷ [])
   only_one name has = All-cons (Contains c.names) name [] has (All-nil (Contains c.names))
 
-  inputs_made : All IsMade (map Input (named_of c).inputs)
+  inputs_made : All IsMade (map input_line (named_of c).inputs)
   inputs_made =
-      All-map IsMade Input (named_of c).inputs
-      (All-weaker (Contains c.names) (λ name. IsMade (Input name)) only_one (named_of c).inputs
+      All-map IsMade input_line (named_of c).inputs
+      (All-weaker (Contains c.names) (λ name. IsMade (input_line name)) only_one (named_of c).inputs
       (All-take (Contains c.names) c.inputs c.names (All-contains_itself c.names)))
 
-  outputs_made : All IsMade (map Output (named_of c).outputs)
+  outputs_made : All IsMade (map output_line (named_of c).outputs)
   outputs_made =
-      All-map IsMade Output (named_of c).outputs
-      (All-map (λ name. IsMade (Output name)) (name_of c) c.outputs
-      (All-from_get_or (λ net. IsMade (Output (name_of c net))) c.outputs no_net
+      All-map IsMade output_line (named_of c).outputs
+      (All-map (λ name. IsMade (output_line name)) (name_of c) c.outputs
+      (All-from_get_or (λ net. IsMade (output_line (name_of c net))) c.outputs no_net
       (λ o below. only_one (name_of c (get_or c.outputs o no_net))
       (net_has_name (get_or c.outputs o no_net) (is.outputs_known o below)))))
 
@@ -234,10 +234,10 @@ module _ (c : Netlist) (is : IsCircuit c) where
   pub statements_made : All (λ s. All (Contains c.names) (names_in s)) (statements_of c)
   statements_made =
       let n = named_of c in
-      All-append IsMade ((map Input n.inputs ++ map Output n.outputs) ++ map dff_statement n.dffs)
+      All-append IsMade ((map input_line n.inputs ++ map output_line n.outputs) ++ map dff_statement n.dffs)
       (map gate_statement n.gates)
-      (All-append IsMade (map Input n.inputs ++ map Output n.outputs) (map dff_statement n.dffs)
-      (All-append IsMade (map Input n.inputs) (map Output n.outputs) inputs_made outputs_made) dffs_made)
+      (All-append IsMade (map input_line n.inputs ++ map output_line n.outputs) (map dff_statement n.dffs)
+      (All-append IsMade (map input_line n.inputs) (map output_line n.outputs) inputs_made outputs_made) dffs_made)
       gates_made
 
   -- each gate has as many arguments as its kind may have

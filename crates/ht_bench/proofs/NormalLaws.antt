@@ -8,7 +8,7 @@ use Rattle.ht_net.specs.declared.net.NetId.{NetId}
 use Rattle.ht_net.specs.Netlist.{Netlist, Gate, no_net, no_gate}
 use Rattle.ht_net.specs.Named.{Name, NamedDff, NamedGate, name_of, named_dffs, named_gates}
 use Rattle.ht_statement.specs.Statement.{Statement}
-use Rattle.ht_statement.specs.Normal.{arguments_text}
+use Rattle.ht_statement.specs.StatementText.{arguments_text}
 use Rattle.ht_bench.specs.Normal.{statement_line, statement_lines}
 
 -- ---- one more argument

@@ -6,7 +6,7 @@ use Rattle.std.proofs.lemmas.List.Elements.{All-head, All-tail}
 use Rattle.ht_ports.specs.LineRule.{HasNoLf, lines_of, without_cr}
 use Rattle.ht_ports.proofs.TextLaws.{lines-lf}
 use Rattle.ht_statement.specs.Statement.{Statement}
-use Rattle.ht_statement.specs.Normal.{statement_text, CanBeStated, is_printable}
+use Rattle.ht_statement.specs.StatementText.{statement_text, CanBeStated, is_printable}
 use Rattle.ht_statement.proofs.PrintLaws.{normal_is_one_line}
 use Rattle.ht_bench.specs.Normal.{statement_lines}
 use Rattle.ht_bench.proofs.NormalListLaws.{all_from_test}

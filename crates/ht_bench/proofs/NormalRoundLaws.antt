@@ -13,14 +13,14 @@ use Rattle.ht_tern.specs.Gate.{HasArity}
 use Rattle.ht_net.specs.Netlist.{Netlist, IsCircuit}
 use Rattle.ht_net.specs.Named.{NamedGate, named_of}
 use Rattle.ht_statement.specs.Name.{is_name}
-use Rattle.ht_statement.specs.Element.{GateOf, has_count}
-use Rattle.ht_statement.specs.Statement.{Statement, Input, Output, names_in}
-use Rattle.ht_statement.specs.Reading.{States, reading_of}
-use Rattle.ht_statement.specs.Normal.{statement_text, has_its_count, CanBeStated}
-use Rattle.ht_statement.proofs.NormalLaws.{normal_reads}
+use Rattle.ht_statement.specs.Element.{gate_of, has_count}
+use Rattle.ht_statement.specs.Statement.{Statement, input_line, output_line, names_in}
+use Rattle.ht_statement.specs.Reading.{stated, reading_of}
+use Rattle.ht_statement.specs.StatementText.{statement_text, has_its_count, CanBeStated}
+use Rattle.ht_statement.proofs.StatementTextLaws.{normal_reads}
 use Rattle.ht_bench.specs.Contents.{inputs_in, dffs_in, gates_in, driven_in, inputs_of, dffs_of, gates_of, driven_by, mentions_of, nets_of, pins_of}
 use Rattle.ht_bench.specs.Accepted.{IsWithinLimits, HasNewDriver, AreAccepted}
-use Rattle.ht_bench.specs.Ends.{AreDriven}
+use Rattle.ht_bench.specs.EndOfText.{AreDriven}
 use Rattle.ht_bench.specs.Text.{IsNetlistOf}
 use Rattle.ht_bench.specs.Normal.{dff_statement, gate_statement, statements_of, normal_text, HasFormatNames}
 use Rattle.ht_bench.proofs.NormalLaws.{named_dffs_count}
@@ -33,7 +33,7 @@ use Rattle.ht_bench.proofs.NormalContentLaws.{inputs_are, dffs_are, driven_are_n
 some_are_tested : (count : ℕ) → ltb 0 count ≡ true → count ≤ 255 → (leb 1 count && leb count 255) ≡ true
 some_are_tested count some few = grind (arith, nat_tests)
 
-count_is_tested : (kind : Kind) (count : ℕ) → HasArity kind count → count ≤ 255 → has_count (GateOf kind) count ≡ true
+count_is_tested : (kind : Kind) (count : ℕ) → HasArity kind count → count ≤ 255 → has_count (gate_of kind) count ≡ true
 count_is_tested And count arity few = some_are_tested count arity few
 count_is_tested Nand count arity few = some_are_tested count arity few
 count_is_tested Or count arity few = some_are_tested count arity few
@@ -44,10 +44,10 @@ count_is_tested Not count arity few = arity
 count_is_tested Buf count arity few = arity
 
 texts_read : (statements : List Statement) → All CanBeStated statements → map reading_of (map statement_text statements)
-    ≡ map States statements
+    ≡ map stated statements
 texts_read [] can = refl
 texts_read (s ∷ statements) can =
-    let here : reading_of (statement_text s) ≡ States s = normal_reads s (All-head CanBeStated s statements can) in
+    let here : reading_of (statement_text s) ≡ stated s = normal_reads s (All-head CanBeStated s statements can) in
     let rest = texts_read statements (All-tail CanBeStated s statements can) in
     cc
 
@@ -70,10 +70,10 @@ module _ (c : Netlist) (is : IsCircuit c) where
   -- ---- the statements are accepted
 
   within_limits : (first rest : List Statement) → statements_of c ≡ first ++ rest → IsWithinLimits first
-  within_limits first rest cut =
+  within_limits first rest split =
       let made : All (Contains c.names) (mentions_of (statements_of c)) = All-flat_map (Contains c.names) names_in
       (statements_of c) (statements_made c is) in
-      let parts : mentions_of (statements_of c) ≡ mentions_of first ++ mentions_of rest = ap mentions_of cut ∙
+      let parts : mentions_of (statements_of c) ≡ mentions_of first ++ mentions_of rest = ap mentions_of split ∙
       flat_map-append names_in first rest in
       let mentioned : All (Contains c.names) (mentions_of first) = All-left (Contains c.names) (mentions_of first)
       (mentions_of rest) (subst (All (Contains c.names)) parts made) in
@@ -85,11 +85,11 @@ module _ (c : Netlist) (is : IsCircuit c) where
       let few_dffs = is.few_dffs in
       record {
         nets = omega arith;
-        pins = omega (arith, fewer_pins first rest, ap pins_of cut, pins_are c is);
+        pins = omega (arith, fewer_pins first rest, ap pins_of split, pins_are c is);
         inputs = omega (
           arith,
           first_say_less inputs_in first rest,
-          ap (λ s. length (inputs_of s)) cut,
+          ap (λ s. length (inputs_of s)) split,
           ap length
               (inputs_are (named_of c)),
           length-take c.inputs c.names,
@@ -97,7 +97,7 @@ module _ (c : Netlist) (is : IsCircuit c) where
         dffs = omega (
           arith,
           first_say_less dffs_in first rest,
-          ap (λ s. length (dffs_of s)) cut,
+          ap (λ s. length (dffs_of s)) split,
           ap length
               (dffs_are (named_of c)),
           named_dffs_count c c.inputs c.dffs,
@@ -106,18 +106,18 @@ module _ (c : Netlist) (is : IsCircuit c) where
 
   new_driver : (before after : List Statement) (s : Statement) → statements_of c ≡ before ++ s ∷ after
       → HasNewDriver before s
-  new_driver before after s cut k d below driven =
+  new_driver before after s split k d below driven =
       let parts : c.names ≡ driven_by before ++ (driven_in s ++ driven_by after) = sym (driven_are_names c is) ∙ ap
-      driven_by cut ∙ flat_map-append driven_in before (s ∷ after) in
+      driven_by split ∙ flat_map-append driven_in before (s ∷ after) in
       differ_apart (driven_by before) (driven_in s ++ driven_by after) (get_or (driven_in s) k d)
       (subst AllDiffer parts (names_differ c is)) driven
       (Contains-append_left (driven_in s) (driven_by after) (get_or (driven_in s) k d)
       (Contains-get_or (driven_in s) k d below))
 
   accepted : AreAccepted (statements_of c)
-  accepted before after s cut = record {
-    new_driver = new_driver before after s cut;
-    limits = within_limits (before ++ s ∷ []) after (cut ∙ sym (append_assoc before (s ∷ []) after));
+  accepted before after s split = record {
+    new_driver = new_driver before after s split;
+    limits = within_limits (before ++ s ∷ []) after (split ∙ sym (append_assoc before (s ∷ []) after));
   }
 
   all_driven : AreDriven (statements_of c) (mentions_of (statements_of c))
@@ -136,11 +136,11 @@ module _ (c : Netlist) (is : IsCircuit c) where
       (All-weaker (λ (g : NamedGate). HasArity g.kind (length g.args) × (length g.args ≤ 255))
       (λ g. HasIts (gate_statement g))
       (λ g has. count_is_tested g.kind (length g.args) has.0 has.1) n.gates (gates_have_counts c is)) in
-      All-append HasIts ((map Input n.inputs ++ map Output n.outputs) ++ map dff_statement n.dffs)
+      All-append HasIts ((map input_line n.inputs ++ map output_line n.outputs) ++ map dff_statement n.dffs)
       (map gate_statement n.gates)
-      (All-append HasIts (map Input n.inputs ++ map Output n.outputs) (map dff_statement n.dffs)
-      (All-append HasIts (map Input n.inputs) (map Output n.outputs) (All-map HasIts Input n.inputs (λ k d below. refl))
-      (All-map HasIts Output n.outputs (λ k d below. refl)))
+      (All-append HasIts (map input_line n.inputs ++ map output_line n.outputs) (map dff_statement n.dffs)
+      (All-append HasIts (map input_line n.inputs) (map output_line n.outputs) (All-map HasIts input_line n.inputs (λ k d below. refl))
+      (All-map HasIts output_line n.outputs (λ k d below. refl)))
       (All-map HasIts dff_statement n.dffs (λ k d below. refl)))
       gates
 

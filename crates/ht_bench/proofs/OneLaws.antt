@@ -10,7 +10,7 @@ use Rattle.ht_bench.specs.Contents.{named_of_statements}
 use Rattle.ht_bench.specs.Text.{IsNetlistOf}
 use Rattle.ht_bench.specs.Added.{NamesDiffer}
 use Rattle.ht_bench.proofs.PlaceLaws.{place_in, place_at}
-use Rattle.ht_bench.proofs.EndLaws.{same_statements}
+use Rattle.ht_bench.proofs.EndOfTextLaws.{same_statements}
 
 same_lists : {A : Type 0} (xs ys : List A) (d : A) → length xs ≡ length ys
     → ((k : ℕ) → k < length xs → get_or xs k d ≡ get_or ys k d) → xs ≡ ys

@@ -8,9 +8,9 @@ use Rattle.ht_net.specs.Named.{Name, NamedDff, NamedGate}
 use Rattle.ht_net.specs.Draft.{Draft, DraftGate}
 use Rattle.ht_net.specs.Built.{draft_name, named_draft}
 use Rattle.ht_statement.specs.Statement.{Statement}
-use Rattle.ht_statement.specs.Reading.{States, reading_of}
+use Rattle.ht_statement.specs.Reading.{stated, reading_of}
 use Rattle.ht_bench.specs.Contents.{inputs_of, outputs_of, dffs_of, gates_of, named_of_statements}
-use Rattle.ht_bench.specs.Accepted.{IsAccepted, AreAccepted}
+use Rattle.ht_bench.specs.Accepted.{IsAcceptedAfter, AreAccepted}
 use Rattle.ht_bench.specs.Text.{readings_of}
 use Rattle.ht_bench.specs.Added.{IsNumberOf, IsDffOf, IsGateOf, IsDraftWith, IsDraftOf, AddsLine}
 use Rattle.ht_bench.specs.Progress.{IsReading}
@@ -18,35 +18,35 @@ use Rattle.ht_bench.proofs.ListLaws.{AllZip-map}
 
 -- ---- one more accepted statement
 
--- a cut of a list with one more: at the last, or before it
+-- a split of a list with one more: at the last, or before it
 abbrev PushCut : {A : Type 0} → List A → A → List A → A → List A → Type 0
 PushCut xs s before x after = ((xs ≡ before) × (s ≡ x)) ⊎ ((rest : List _) × (xs ≡ before ++ x ∷ rest))
 
-push_cut : {A : Type 0} (xs : List A) (s : A) (before : List A) (x : A) (after : List A) → xs ++ s ∷ [] ≡ before ++ x
+push_split : {A : Type 0} (xs : List A) (s : A) (before : List A) (x : A) (after : List A) → xs ++ s ∷ [] ≡ before ++ x
     ∷ after → PushCut xs s before x after
-push_cut [] s [] x after e = inl (refl, cc)
-push_cut (y ∷ ys) s [] x after e = inr (ys, cc)
-push_cut [] s (c ∷ before) x after e = absurd (omega (arith, ap length e, length-append before (x ∷ after)))
-push_cut (y ∷ ys) s (c ∷ before) x after e =
+push_split [] s [] x after e = inl (refl, cc)
+push_split (y ∷ ys) s [] x after e = inr (ys, cc)
+push_split [] s (c ∷ before) x after e = absurd (omega (arith, ap length e, length-append before (x ∷ after)))
+push_split (y ∷ ys) s (c ∷ before) x after e =
     let heads : y ≡ c = cc in
     let tails : ys ++ s ∷ [] ≡ before ++ x ∷ after = cc in
     ⊎_elim
     (λ (last : (ys ≡ before) × (s ≡ x)). let b : ys ≡ before = last.0 in inl ((cc), last.1))
     (λ (earlier : (rest : List _) × (ys ≡ before ++ x ∷ rest)). let b : ys ≡ before ++ x ∷ earlier.0 = earlier.1
     in inr (earlier.0, (cc)))
-    (push_cut ys s before x after tails)
+    (push_split ys s before x after tails)
 
 accepted_none : AreAccepted []
 accepted_none before after s e = absurd (omega (arith, ap length e, length-append before (s ∷ after)))
 
-accepted_push : (statements : List Statement) (s : Statement) → AreAccepted statements → IsAccepted statements s
+accepted_push : (statements : List Statement) (s : Statement) → AreAccepted statements → IsAcceptedAfter statements s
     → AreAccepted (statements ++ s ∷ [])
 accepted_push statements s are is before after x e =
     ⊎_elim
-    (λ (last : (statements ≡ before) × (s ≡ x)). subst (IsAccepted before) last.1
-    (subst (λ l. IsAccepted l s) last.0 is))
+    (λ (last : (statements ≡ before) × (s ≡ x)). subst (IsAcceptedAfter before) last.1
+    (subst (λ l. IsAcceptedAfter l s) last.0 is))
     (λ (earlier : (rest : List Statement) × (statements ≡ before ++ x ∷ rest)). are before earlier.0 x earlier.1)
-    (push_cut statements s before x after e)
+    (push_split statements s before x after e)
 
 -- ---- the text so far
 
@@ -78,10 +78,10 @@ module _ (text rest line more : List ℕ) (count : ℕ) (old : Draft) (is : IsRe
         limits = r.0.limits;
         lines =
             is.lines
-            ∙ ap (λ l. map States is.before ++ l)
+            ∙ ap (λ l. map stated is.before ++ l)
             (readings_from rest line more first ∙ ap (λ t. t ∷ readings_of more) adds.states)
-            ∙ sym (ap (λ l. l ++ readings_of more) (map_push States is.before s) ∙ append_assoc (map States is.before)
-            (States s ∷ []) (readings_of more));
+            ∙ sym (ap (λ l. l ++ readings_of more) (map_push stated is.before s) ∙ append_assoc (map stated is.before)
+            (stated s ∷ []) (readings_of more));
         is_count = omega (arith, is.is_count, length-append is.before (s ∷ []));
         short = omega (arith, is.short, shorter);
         draft = r.1;

@@ -8,34 +8,34 @@ use Rattle.ht_net.specs.declared.error.Limit.{Limit}
 use Rattle.ht_net.specs.declared.error.Limit.TheVariants.{Nets, Pins, Inputs, Dffs}
 use Rattle.ht_net.specs.Named.{Name}
 use Rattle.ht_statement.specs.Statement.{Statement, names_in}
-use Rattle.ht_statement.specs.Reading.{Reading, States, IsRefused}
-use Rattle.ht_statement.specs.declared.fault.LineRefusal.{LineRefusal}
-use Rattle.ht_statement.specs.declared.fault.LineRefusal.TheVariants.{BadLine as LineIsBad}
+use Rattle.ht_statement.specs.Reading.{Reading, stated, unreadable}
+use Rattle.ht_statement.specs.declared.error.LineRefusal.{LineRefusal}
+use Rattle.ht_statement.specs.declared.error.LineRefusal.TheVariants.{BadLine as LineIsBad}
 use Rattle.ht_bench.specs.Contents.{driven_in, driven_by, mentions_of}
-use Rattle.ht_bench.specs.Accepted.{IsAccepted, IsFirstPassed, IsSecondDriver, PassesLimit}
-use Rattle.ht_bench.specs.Ends.{AreDriven, IsFirstUndriven}
-use Rattle.ht_bench.specs.Text.{IsAcceptedText, IsFirstRefused, IsRefusedAlone, IsUndriven, IsLoop, Refuses, texts_in}
-use Rattle.ht_bench.specs.Verdict.{Verdict, UnreadAt, SecondAt, PassedAt, UndrivenAt, InCycle, verdict_of}
+use Rattle.ht_bench.specs.Accepted.{IsAcceptedAfter, IsFirstPassed, IsSecondDriver, PassesLimit}
+use Rattle.ht_bench.specs.EndOfText.{AreDriven, IsFirstUndriven}
+use Rattle.ht_bench.specs.Text.{IsAcceptedText, IsFirstRefused, IsUnreadable, IsUndriven, IsLoop, Refuses}
+use Rattle.ht_bench.specs.Verdict.{Verdict, unread_at, second_driver_at, limit_passed_at, undriven_at, in_cycle, verdict_of}
 use Rattle.ht_bench.specs.declared.error.BenchError.{BenchError}
 use Rattle.ht_bench.specs.declared.error.BenchError.TheVariants.{BadLine, BadName, BadKind, BadCount, Twice, TooMany, Undriven, Loop, NoMemory}
 use Rattle.ht_bench.proofs.ListLaws.{contains_head}
-use Rattle.ht_bench.proofs.AgainLaws.{states_one}
-use Rattle.ht_bench.proofs.EndLaws.{same_statements}
+use Rattle.ht_bench.proofs.FindLineLaws.{states_one}
+use Rattle.ht_bench.proofs.EndOfTextLaws.{same_statements}
 use Rattle.ht_bench.proofs.ExcludeLaws.{begins, is_stated, unread_against, second_against, limit_against}
 
--- ---- two cuts of one list
+-- ---- two splits of one list
 
 -- the same, or the first within the front of the second, or the other way
 abbrev CutCases : {A : Type 0} → List A → A → List A → A → Type 0
 CutCases b x c y = ((b ≡ c) × (x ≡ y))
     ⊎ (((rest : List _) × (c ≡ b ++ x ∷ rest)) ⊎ ((rest : List _) × (b ≡ c ++ y ∷ rest)))
 
-cut_cases : {A : Type 0} (b : List A) (x : A) (a : List A) (c : List A) (y : A) (d : List A) → b ++ x ∷ a ≡ c ++ y ∷ d
+split_cases : {A : Type 0} (b : List A) (x : A) (a : List A) (c : List A) (y : A) (d : List A) → b ++ x ∷ a ≡ c ++ y ∷ d
     → CutCases b x c y
-cut_cases [] x a [] y d e = inl (refl, cc)
-cut_cases [] x a (z ∷ c) y d e = let heads : x ≡ z = cc in inr (inl (c, ap (λ n. n ∷ c) (sym heads)))
-cut_cases (z ∷ b) x a [] y d e = let heads : z ≡ y = cc in inr (inr (b, ap (λ n. n ∷ b) heads))
-cut_cases (z ∷ b) x a (w ∷ c) y d e =
+split_cases [] x a [] y d e = inl (refl, cc)
+split_cases [] x a (z ∷ c) y d e = let heads : x ≡ z = cc in inr (inl (c, ap (λ n. n ∷ c) (sym heads)))
+split_cases (z ∷ b) x a [] y d e = let heads : z ≡ y = cc in inr (inr (b, ap (λ n. n ∷ b) heads))
+split_cases (z ∷ b) x a (w ∷ c) y d e =
     let heads : z ≡ w = cc in
     let tails : b ++ x ∷ a ≡ c ++ y ∷ d = cc in
     ⊎_elim
@@ -46,51 +46,51 @@ cut_cases (z ∷ b) x a (w ∷ c) y d e =
     in inr (inl (first.0, (cc))))
     (λ (second : (rest : List _) × (b ≡ c ++ y ∷ rest)). let f : b ≡ c ++ y ∷ second.0 = second.1
     in inr (inr (second.0, (cc)))) other)
-    (cut_cases b x a c y d tails)
+    (split_cases b x a c y d tails)
 
 -- ---- the first refused line
 
 module _ (text : List ℕ) (C D : List Statement → Reading → Type 0)
-    (c_against : (before : List Statement) (s : Statement) → C before (States s) → ¬ IsAccepted before s)
-    (d_against : (before : List Statement) (s : Statement) → D before (States s) → ¬ IsAccepted before s) where
+    (c_against : (before : List Statement) (s : Statement) → C before (stated s) → ¬ IsAcceptedAfter before s)
+    (d_against : (before : List Statement) (s : Statement) → D before (stated s) → ¬ IsAcceptedAfter before s) where
   same_first : (n m : ℕ) (f : IsFirstRefused text n C) (g : IsFirstRefused text m D) → (n ≡ m) × D f.before f.reading
   same_first n m f g =
       ⊎_elim
-      (λ (same : (map States f.before ≡ map States g.before) × (f.reading ≡ g.reading)).
+      (λ (same : (map stated f.before ≡ map stated g.before) × (f.reading ≡ g.reading)).
       let before : f.before ≡ g.before = same_statements f.before g.before same.0 in (
         omega (arith, f.is_number, g.is_number, ap length before),
         subst (λ b. D b f.reading) (sym before) (subst (D g.before) (sym same.1) g.cause),
       ))
-      (λ (other : ((rest : List Reading) × (map States g.before ≡ map States f.before ++ f.reading ∷ rest))
-      ⊎ ((rest : List Reading) × (map States f.before ≡ map States g.before ++ g.reading ∷ rest))).
+      (λ (other : ((rest : List Reading) × (map stated g.before ≡ map stated f.before ++ f.reading ∷ rest))
+      ⊎ ((rest : List Reading) × (map stated f.before ≡ map stated g.before ++ g.reading ∷ rest))).
       ⊎_elim
-      (λ (first : (rest : List Reading) × (map States g.before ≡ map States f.before ++ f.reading ∷ rest)).
+      (λ (first : (rest : List Reading) × (map stated g.before ≡ map stated f.before ++ f.reading ∷ rest)).
       let r = begins f.before f.reading first.0 g.before (sym first.1) in
       absurd (c_against f.before r.0 (subst (C f.before) r.3 f.cause) (g.accepted f.before r.1 r.0 r.2)))
-      (λ (second : (rest : List Reading) × (map States f.before ≡ map States g.before ++ g.reading ∷ rest)).
+      (λ (second : (rest : List Reading) × (map stated f.before ≡ map stated g.before ++ g.reading ∷ rest)).
       let r = begins g.before g.reading second.0 f.before (sym second.1) in
       absurd (d_against g.before r.0 (subst (D g.before) r.3 g.cause) (f.accepted g.before r.1 r.0 r.2))) other)
-      (cut_cases (map States f.before) f.reading f.after (map States g.before) g.reading g.after (sym f.cut ∙ g.cut))
+      (split_cases (map stated f.before) f.reading f.after (map stated g.before) g.reading g.after (sym f.split ∙ g.split))
 
 module _ (text : List ℕ) (C : List Statement → Reading → Type 0)
-    (against : (before : List Statement) (s : Statement) → C before (States s) → ¬ IsAccepted before s) where
+    (against : (before : List Statement) (s : Statement) → C before (stated s) → ¬ IsAcceptedAfter before s) where
   refused_not_accepted : (n : ℕ) → IsFirstRefused text n C → (statements : List Statement)
       → ¬ IsAcceptedText text statements
   refused_not_accepted n first statements is =
-      let r = begins first.before first.reading first.after statements (sym first.cut ∙ is.lines) in
+      let r = begins first.before first.reading first.after statements (sym first.split ∙ is.lines) in
       against first.before r.0 (subst (C first.before) r.3 first.cause) (is.accepted first.before r.1 r.0 r.2)
 
 -- ---- causes at one line
 
 abbrev refusal_in : Reading → LineRefusal
-refusal_in (IsRefused refusal) = refusal
-refusal_in (States statement) = LineIsBad
+refusal_in (unreadable refusal) = refusal
+refusal_in (stated statement) = LineIsBad
 
 module _ (before : List Statement) (reading : Reading) where
-  unread_unread : (a b : LineRefusal) → IsRefusedAlone a before reading → IsRefusedAlone b before reading → a ≡ b
+  unread_unread : (a b : LineRefusal) → IsUnreadable a before reading → IsUnreadable b before reading → a ≡ b
   unread_unread a b e f = ap refusal_in (sym e ∙ f)
 
-  unread_states : (a : LineRefusal) (s : Statement) → IsRefusedAlone a before reading → reading ≡ States s → ⊥
+  unread_states : (a : LineRefusal) (s : Statement) → IsUnreadable a before reading → reading ≡ stated s → ⊥
   unread_states a s e f = false≢true (ap is_stated (sym e ∙ f))
 
   second_second : (a b : Name) → IsSecondDriver a before reading → IsSecondDriver b before reading → a ≡ b
@@ -137,26 +137,26 @@ module _ (before : List Statement) (reading : Reading) where
 mentioned_in : (statements before : List Statement) (s : Statement) (after : List Statement) (left : List Name)
     (name : Name) (right : List Name)
     → statements ≡ before ++ s ∷ after → names_in s ≡ left ++ name ∷ right → Contains (mentions_of statements) name
-mentioned_in statements before s after left name right cut names =
+mentioned_in statements before s after left name right split names =
     let on_line : Contains (names_in s) name = subst (λ l. Contains l name) (sym names)
     (Contains-append_right left (name ∷ right) name (contains_head name right)) in
-    subst (λ l. Contains l name) (sym (ap mentions_of cut ∙ flat_map-append names_in before (s ∷ after)))
+    subst (λ l. Contains l name) (sym (ap mentions_of split ∙ flat_map-append names_in before (s ∷ after)))
     (Contains-append_right (mentions_of before) (names_in s ++ mentions_of after) name
     (Contains-append_left (names_in s) (mentions_of after) name on_line))
 
 first_is_not_earlier : (statements : List Statement) (n m : ℕ) (a b : Name) (f : IsFirstUndriven statements n a)
     (g : IsFirstUndriven statements m b) (rest : List Statement)
     → g.before ≡ f.before ++ f.statement ∷ rest → ⊥
-first_is_not_earlier statements n m a b f g rest cut =
+first_is_not_earlier statements n m a b f g rest split =
     f.undriven (All-contains (Contains (driven_by statements)) (mentions_of g.before) a g.earlier
-    (mentioned_in g.before f.before f.statement rest f.left a f.right cut f.names))
+    (mentioned_in g.before f.before f.statement rest f.left a f.right split f.names))
 
 left_is_not_earlier : (statements : List Statement) (n m : ℕ) (a b : Name) (f : IsFirstUndriven statements n a)
     (g : IsFirstUndriven statements m b) (rest : List Name)
     → g.left ≡ f.left ++ a ∷ rest → ⊥
-left_is_not_earlier statements n m a b f g rest cut =
+left_is_not_earlier statements n m a b f g rest split =
     f.undriven (All-contains (Contains (driven_by statements)) g.left a g.leftmost
-    (subst (λ l. Contains l a) (sym cut) (Contains-append_right f.left (a ∷ rest) a (contains_head a rest))))
+    (subst (λ l. Contains l a) (sym split) (Contains-append_right f.left (a ∷ rest) a (contains_head a rest))))
 
 one_undriven : (statements : List Statement) (n m : ℕ) (a b : Name) → IsFirstUndriven statements n a
     → IsFirstUndriven statements m b → (n ≡ m) × (a ≡ b)
@@ -171,14 +171,14 @@ one_undriven statements n m a b f g =
           r.0 r.1)
           (λ (r : (rest : List Name) × (f.left ≡ g.left ++ b ∷ rest)). left_is_not_earlier statements m n b a g f r.0
           r.1) other))
-          (cut_cases f.left a f.right g.left b g.right (sym f.names ∙ ap names_in same.1 ∙ g.names)),
+          (split_cases f.left a f.right g.left b g.right (sym f.names ∙ ap names_in same.1 ∙ g.names)),
     ))
     (λ other. absurd (⊎_elim
     (λ (r : (rest : List Statement) × (g.before ≡ f.before ++ f.statement ∷ rest)). first_is_not_earlier statements
     n m a b f g r.0 r.1)
     (λ (r : (rest : List Statement) × (f.before ≡ g.before ++ g.statement ∷ rest)). first_is_not_earlier statements m n
     b a g f r.0 r.1) other))
-    (cut_cases f.before f.statement f.after g.before g.statement g.after (sym f.cut ∙ g.cut))
+    (split_cases f.before f.statement f.after g.before g.statement g.after (sym f.split ∙ g.split))
 
 not_all_driven : (text : List ℕ) (n : ℕ) (a : Name) (f : IsUndriven text n a) (statements : List Statement)
     → IsAcceptedText text statements → AreDriven statements (mentions_of statements) → ⊥
@@ -188,16 +188,16 @@ not_all_driven text n a f statements read driven =
     in
     let u = f.first in
     u.undriven (All-contains (Contains (driven_by f.statements)) (mentions_of f.statements) a all
-    (mentioned_in f.statements u.before u.statement u.after u.left a u.right u.cut u.names))
+    (mentioned_in f.statements u.before u.statement u.after u.left a u.right u.split u.names))
 
 -- ---- verdicts
 
 abbrev IsVerdict : List ℕ → Verdict → Type 0
-IsVerdict text (UnreadAt n refusal) = IsFirstRefused text n (IsRefusedAlone refusal)
-IsVerdict text (SecondAt n name) = IsFirstRefused text n (IsSecondDriver name)
-IsVerdict text (PassedAt n what) = IsFirstRefused text n (PassesLimit what)
-IsVerdict text (UndrivenAt n name) = IsUndriven text n name
-IsVerdict text InCycle = (n : ℕ) × (cycle : List Name) × IsLoop text n cycle
+IsVerdict text (unread_at n refusal) = IsFirstRefused text n (IsUnreadable refusal)
+IsVerdict text (second_driver_at n name) = IsFirstRefused text n (IsSecondDriver name)
+IsVerdict text (limit_passed_at n what) = IsFirstRefused text n (PassesLimit what)
+IsVerdict text (undriven_at n name) = IsUndriven text n name
+IsVerdict text in_cycle = (n : ℕ) × (cycle : List Name) × IsLoop text n cycle
 
 told : {A : Type 0} (x y : A) → Some x ≡ Some y → x ≡ y
 told x y e = cc
@@ -211,8 +211,8 @@ verdict_is text (BadCount line) v refused e = subst (IsVerdict text) (told _ v e
 verdict_is text (Twice line name) v refused e = subst (IsVerdict text) (told _ v e) refused
 verdict_is text (TooMany line what) v refused e = subst (IsVerdict text) (told _ v e) refused
 verdict_is text (Undriven line name) v refused e = subst (IsVerdict text) (told _ v e) refused
-verdict_is text (Loop line names) v refused e = subst (IsVerdict text) (told InCycle v e)
-    (line, texts_in names.items, refused)
+verdict_is text (Loop line names) v refused e = subst (IsVerdict text) (told in_cycle v e)
+    (line, names, refused)
 verdict_is text NoMemory v refused e = absurd (none_is_not_some v e)
   where
     none_is_not_some : (v : Verdict) → None ≡ Some v → ⊥
@@ -220,65 +220,65 @@ verdict_is text NoMemory v refused e = absurd (none_is_not_some v e)
 
 module _ (text : List ℕ) where
   one_verdict : (v w : Verdict) → IsVerdict text v → IsVerdict text w → v ≡ w
-  one_verdict (UnreadAt n a) (UnreadAt m b) f g =
-      let s = same_first text (IsRefusedAlone a) (IsRefusedAlone b) (unread_against a) (unread_against b) n m f g in
-      ap (λ k. UnreadAt k a) s.0 ∙ ap (UnreadAt m) (unread_unread f.before f.reading a b f.cause s.1)
-  one_verdict (UnreadAt n a) (SecondAt m b) f g =
-      let s = same_first text (IsRefusedAlone a) (IsSecondDriver b) (unread_against a) (second_against b) n m f g
+  one_verdict (unread_at n a) (unread_at m b) f g =
+      let s = same_first text (IsUnreadable a) (IsUnreadable b) (unread_against a) (unread_against b) n m f g in
+      ap (λ k. unread_at k a) s.0 ∙ ap (unread_at m) (unread_unread f.before f.reading a b f.cause s.1)
+  one_verdict (unread_at n a) (second_driver_at m b) f g =
+      let s = same_first text (IsUnreadable a) (IsSecondDriver b) (unread_against a) (second_against b) n m f g
       in absurd (unread_states f.before f.reading a s.1.statement f.cause s.1.states)
-  one_verdict (UnreadAt n a) (PassedAt m b) f g =
-      let s = same_first text (IsRefusedAlone a) (PassesLimit b) (unread_against a) (limit_against b) n m f g
+  one_verdict (unread_at n a) (limit_passed_at m b) f g =
+      let s = same_first text (IsUnreadable a) (PassesLimit b) (unread_against a) (limit_against b) n m f g
       in absurd (unread_states f.before f.reading a s.1.statement f.cause s.1.states)
-  one_verdict (UnreadAt n a) (UndrivenAt m b) f g = absurd
-      (refused_not_accepted text (IsRefusedAlone a) (unread_against a) n f g.statements g.read)
-  one_verdict (UnreadAt n a) InCycle f g = absurd
-      (refused_not_accepted text (IsRefusedAlone a) (unread_against a) n f g.2.statements g.2.read)
-  one_verdict (SecondAt n a) (UnreadAt m b) f g =
-      let s = same_first text (IsRefusedAlone b) (IsSecondDriver a) (unread_against b) (second_against a) m n g f
+  one_verdict (unread_at n a) (undriven_at m b) f g = absurd
+      (refused_not_accepted text (IsUnreadable a) (unread_against a) n f g.statements g.read)
+  one_verdict (unread_at n a) in_cycle f g = absurd
+      (refused_not_accepted text (IsUnreadable a) (unread_against a) n f g.2.statements g.2.read)
+  one_verdict (second_driver_at n a) (unread_at m b) f g =
+      let s = same_first text (IsUnreadable b) (IsSecondDriver a) (unread_against b) (second_against a) m n g f
       in absurd (unread_states g.before g.reading b s.1.statement g.cause s.1.states)
-  one_verdict (SecondAt n a) (SecondAt m b) f g =
+  one_verdict (second_driver_at n a) (second_driver_at m b) f g =
       let s = same_first text (IsSecondDriver a) (IsSecondDriver b) (second_against a) (second_against b) n m f g in
-      ap (λ k. SecondAt k a) s.0 ∙ ap (SecondAt m) (second_second f.before f.reading a b f.cause s.1)
-  one_verdict (SecondAt n a) (PassedAt m b) f g =
+      ap (λ k. second_driver_at k a) s.0 ∙ ap (second_driver_at m) (second_second f.before f.reading a b f.cause s.1)
+  one_verdict (second_driver_at n a) (limit_passed_at m b) f g =
       let s = same_first text (IsSecondDriver a) (PassesLimit b) (second_against a) (limit_against b) n m f g
       in absurd (second_passed f.before f.reading a b f.cause s.1)
-  one_verdict (SecondAt n a) (UndrivenAt m b) f g = absurd
+  one_verdict (second_driver_at n a) (undriven_at m b) f g = absurd
       (refused_not_accepted text (IsSecondDriver a) (second_against a) n f g.statements g.read)
-  one_verdict (SecondAt n a) InCycle f g = absurd
+  one_verdict (second_driver_at n a) in_cycle f g = absurd
       (refused_not_accepted text (IsSecondDriver a) (second_against a) n f g.2.statements g.2.read)
-  one_verdict (PassedAt n a) (UnreadAt m b) f g =
-      let s = same_first text (IsRefusedAlone b) (PassesLimit a) (unread_against b) (limit_against a) m n g f
+  one_verdict (limit_passed_at n a) (unread_at m b) f g =
+      let s = same_first text (IsUnreadable b) (PassesLimit a) (unread_against b) (limit_against a) m n g f
       in absurd (unread_states g.before g.reading b s.1.statement g.cause s.1.states)
-  one_verdict (PassedAt n a) (SecondAt m b) f g =
+  one_verdict (limit_passed_at n a) (second_driver_at m b) f g =
       let s = same_first text (IsSecondDriver b) (PassesLimit a) (second_against b) (limit_against a) m n g f
       in absurd (second_passed g.before g.reading b a g.cause s.1)
-  one_verdict (PassedAt n a) (PassedAt m b) f g =
+  one_verdict (limit_passed_at n a) (limit_passed_at m b) f g =
       let s = same_first text (PassesLimit a) (PassesLimit b) (limit_against a) (limit_against b) n m f g in
-      ap (λ k. PassedAt k a) s.0 ∙ ap (PassedAt m) (passed_passed f.before f.reading a b f.cause s.1)
-  one_verdict (PassedAt n a) (UndrivenAt m b) f g = absurd
+      ap (λ k. limit_passed_at k a) s.0 ∙ ap (limit_passed_at m) (passed_passed f.before f.reading a b f.cause s.1)
+  one_verdict (limit_passed_at n a) (undriven_at m b) f g = absurd
       (refused_not_accepted text (PassesLimit a) (limit_against a) n f g.statements g.read)
-  one_verdict (PassedAt n a) InCycle f g = absurd
+  one_verdict (limit_passed_at n a) in_cycle f g = absurd
       (refused_not_accepted text (PassesLimit a) (limit_against a) n f g.2.statements g.2.read)
-  one_verdict (UndrivenAt n a) (UnreadAt m b) f g = absurd
-      (refused_not_accepted text (IsRefusedAlone b) (unread_against b) m g f.statements f.read)
-  one_verdict (UndrivenAt n a) (SecondAt m b) f g = absurd
+  one_verdict (undriven_at n a) (unread_at m b) f g = absurd
+      (refused_not_accepted text (IsUnreadable b) (unread_against b) m g f.statements f.read)
+  one_verdict (undriven_at n a) (second_driver_at m b) f g = absurd
       (refused_not_accepted text (IsSecondDriver b) (second_against b) m g f.statements f.read)
-  one_verdict (UndrivenAt n a) (PassedAt m b) f g = absurd
+  one_verdict (undriven_at n a) (limit_passed_at m b) f g = absurd
       (refused_not_accepted text (PassesLimit b) (limit_against b) m g f.statements f.read)
-  one_verdict (UndrivenAt n a) (UndrivenAt m b) f g =
+  one_verdict (undriven_at n a) (undriven_at m b) f g =
       let same : g.statements ≡ f.statements = same_statements g.statements f.statements
       (sym g.read.lines ∙ f.read.lines) in
       let one = one_undriven f.statements n m a b f.first (subst (λ s. IsFirstUndriven s m b) same g.first) in
-      ap (λ k. UndrivenAt k a) one.0 ∙ ap (UndrivenAt m) one.1
-  one_verdict (UndrivenAt n a) InCycle f g = absurd (not_all_driven text n a f g.2.statements g.2.read g.2.driven)
-  one_verdict InCycle (UnreadAt m b) f g = absurd
-      (refused_not_accepted text (IsRefusedAlone b) (unread_against b) m g f.2.statements f.2.read)
-  one_verdict InCycle (SecondAt m b) f g = absurd
+      ap (λ k. undriven_at k a) one.0 ∙ ap (undriven_at m) one.1
+  one_verdict (undriven_at n a) in_cycle f g = absurd (not_all_driven text n a f g.2.statements g.2.read g.2.driven)
+  one_verdict in_cycle (unread_at m b) f g = absurd
+      (refused_not_accepted text (IsUnreadable b) (unread_against b) m g f.2.statements f.2.read)
+  one_verdict in_cycle (second_driver_at m b) f g = absurd
       (refused_not_accepted text (IsSecondDriver b) (second_against b) m g f.2.statements f.2.read)
-  one_verdict InCycle (PassedAt m b) f g = absurd
+  one_verdict in_cycle (limit_passed_at m b) f g = absurd
       (refused_not_accepted text (PassesLimit b) (limit_against b) m g f.2.statements f.2.read)
-  one_verdict InCycle (UndrivenAt m b) f g = absurd (not_all_driven text m b g f.2.statements f.2.read f.2.driven)
-  one_verdict InCycle InCycle f g = refl
+  one_verdict in_cycle (undriven_at m b) f g = absurd (not_all_driven text m b g f.2.statements f.2.read f.2.driven)
+  one_verdict in_cycle in_cycle f g = refl
 
 pub one_refusal : (text : List ℕ) (error other : BenchError) (v w : Verdict) → Refuses text error → Refuses text other
     → verdict_of error ≡ Some v → verdict_of other ≡ Some w → v ≡ w

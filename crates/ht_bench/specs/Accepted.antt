@@ -4,7 +4,7 @@ use Rattle.ht_net.specs.declared.error.Limit.{Limit}
 use Rattle.ht_net.specs.declared.error.Limit.TheVariants.{Nets, Pins, Inputs, Dffs}
 use Rattle.ht_net.specs.Named.{Name}
 use Rattle.ht_statement.specs.Statement.{Statement}
-use Rattle.ht_statement.specs.Reading.{Reading, States}
+use Rattle.ht_statement.specs.Reading.{Reading, stated}
 use Rattle.ht_bench.specs.Contents.{driven_in, driven_by, nets_of, pins_of, inputs_of, dffs_of}
 use Rattle.ht_net.specs.Netlist.{max_nets, max_pins, max_inputs, max_dffs}
 
@@ -29,7 +29,7 @@ abbrev pub HasNewDriver : List Statement → Statement → Type 0
 HasNewDriver before statement = All (λ net. ¬ Contains (driven_by before) net) (driven_in statement)
 
 -- a statement after those before it
-pub record IsAccepted (before : List Statement) (statement : Statement) : Type 0 where
+pub record IsAcceptedAfter (before : List Statement) (statement : Statement) : Type 0 where
   pub new_driver : HasNewDriver before statement
   pub limits : IsWithinLimits (before ++ statement ∷ [])
 
@@ -37,18 +37,18 @@ pub record IsAccepted (before : List Statement) (statement : Statement) : Type 0
 abbrev pub AreAccepted : List Statement → Type 0
 AreAccepted statements =
     (before after : List Statement) (statement : Statement) → statements ≡ before ++ statement ∷ after
-    → IsAccepted before statement
+    → IsAcceptedAfter before statement
 
 -- a line drives a net that an earlier line drives
 pub record IsSecondDriver (name : Name) (before : List Statement) (reading : Reading) : Type 0 where
   pub statement : Statement
-  pub states : reading ≡ States statement
+  pub states : reading ≡ stated statement
   pub drives : driven_in statement ≡ name ∷ []
   pub driven : Contains (driven_by before) name
 
 -- a line that is no second driver makes a count pass its limit
 pub record PassesLimit (what : Limit) (before : List Statement) (reading : Reading) : Type 0 where
   pub statement : Statement
-  pub states : reading ≡ States statement
+  pub states : reading ≡ stated statement
   pub new_driver : HasNewDriver before statement
   pub passed : IsFirstPassed (before ++ statement ∷ []) what

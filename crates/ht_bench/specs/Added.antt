@@ -9,14 +9,14 @@ use Rattle.ht_net.specs.Lists.{AllDiffer}
 use Rattle.ht_net.specs.Names.{IsNewName, IsNameAt}
 use Rattle.ht_net.specs.Named.{Name, NamedDff, NamedGate}
 use Rattle.ht_net.specs.Draft.{Draft, DraftGate, IsDraft, IsDriven}
-use Rattle.ht_statement.specs.Statement.{Statement, Gate}
-use Rattle.ht_statement.specs.Reading.{States, reading_of}
+use Rattle.ht_statement.specs.Statement.{Statement, gate_line}
+use Rattle.ht_statement.specs.Reading.{stated, reading_of}
 use Rattle.ht_bench.specs.Different.{different}
 use Rattle.ht_bench.specs.Contents.{inputs_of, outputs_of, dffs_of, gates_of, driven_by, mentions_of}
-use Rattle.ht_bench.specs.Accepted.{IsWithinLimits, IsAccepted}
-use Rattle.ht_bench.specs.Cause.{IsCause}
-use Rattle.ht_bench.specs.declared.cause.Cause.{Cause}
-use Rattle.ht_bench.specs.declared.cause.Cause.TheVariants.{SecondDriver, Limit, NoMemory}
+use Rattle.ht_bench.specs.Accepted.{IsWithinLimits, IsAcceptedAfter}
+use Rattle.ht_bench.specs.AddErrors.{IsAddError}
+use Rattle.ht_bench.specs.declared.add_error.AddError.{AddError}
+use Rattle.ht_bench.specs.declared.add_error.AddError.TheVariants.{SecondDriver, Limit, NoMemory}
 use Rattle.ht_net.specs.Netlist.{max_nets}
 
 -- a number, a flip-flop and a gate of a draft stand for these names
@@ -60,45 +60,45 @@ pub record Mentions (old : Draft) (names : List Name) (new : Draft) : Type 0 whe
   pub is_draft : IsDraft new
 
 -- no name is left for a new one
-abbrev pub RefusesMention : Draft → Name → Cause → Type 0
+abbrev pub RefusesMention : Draft → Name → AddError → Type 0
 RefusesMention old name (Limit Nets) = IsNewName old.names name × (length old.names ≡ max_nets)
 RefusesMention old name NoMemory = Unit {0}
 RefusesMention old name _ = ⊥
 
 -- the names are too many
-abbrev pub RefusesMentions : Draft → List Name → Cause → Type 0
+abbrev pub RefusesMentions : Draft → List Name → AddError → Type 0
 RefusesMentions old names (Limit Nets) = (mentioned : List Name) (statements : List Statement)
     → IsDraftWith mentioned statements old → max_nets < length (different (mentioned ++ names))
 RefusesMentions old names NoMemory = Unit {0}
 RefusesMentions old names _ = ⊥
 
 -- the net is driven already, or no name is left for it
-abbrev pub RefusesDriver : Draft → Name → Cause → Type 0
-RefusesDriver old name (SecondDriver net) = (net.items ≡ name)
+abbrev pub RefusesDriver : Draft → Name → AddError → Type 0
+RefusesDriver old name (SecondDriver net) = (net ≡ name)
     × ((before : List Statement) → IsDraftOf before old → Contains (driven_by before) name)
 RefusesDriver old name cause = RefusesMention old name cause
 
 -- the statement is accepted after those of the old draft, and the new draft is theirs and its
 abbrev pub Accepts : Draft → Statement → Draft → Type 0
 Accepts old statement new =
-    (before : List Statement) → IsDraftOf before old → IsWithinLimits before → IsAccepted before statement
+    (before : List Statement) → IsDraftOf before old → IsWithinLimits before → IsAcceptedAfter before statement
     × IsDraftOf (before ++ statement ∷ []) new
 
 -- it is refused after them
-abbrev pub RefusesStatement : Draft → Statement → Cause → Type 0
+abbrev pub RefusesStatement : Draft → Statement → AddError → Type 0
 RefusesStatement old statement cause = (before : List Statement) → IsDraftOf before old
-    → IsCause cause before (States statement)
+    → IsAddError cause before (stated statement)
 
 -- one argument for NOT and BUFF, 1 to 255 for the other gates
 abbrev pub HasArguments : Statement → Type 0
-HasArguments (Gate out kind args) = HasArity kind (length args) × (length args ≤ 255)
+HasArguments (gate_line out kind args) = HasArity kind (length args) × (length args ≤ 255)
 HasArguments _ = Unit {0}
 
 -- a line adds what it states, or is refused
 pub record AddsLine (old : Draft) (line : List ℕ) (new : Draft) : Type 0 where
   pub statement : Statement
-  pub states : reading_of line ≡ States statement
+  pub states : reading_of line ≡ stated statement
   pub accepts : Accepts old statement new
 
-abbrev pub RefusesLine : Draft → List ℕ → Cause → Type 0
-RefusesLine old line cause = (before : List Statement) → IsDraftOf before old → IsCause cause before (reading_of line)
+abbrev pub RefusesLine : Draft → List ℕ → AddError → Type 0
+RefusesLine old line cause = (before : List Statement) → IsDraftOf before old → IsAddError cause before (reading_of line)

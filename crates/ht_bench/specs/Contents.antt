@@ -5,30 +5,30 @@ use Rattle.std.specs.Prelude.{ℕ, ◌+◌, List, [], ◌∷◌, length, flat_ma
 use Rattle.std.specs.List.{position_or_len}
 use Rattle.std.specs.Str.{bytes_eq}
 use Rattle.ht_net.specs.Named.{Name, NamedDff, NamedGate, NamedNetlist}
-use Rattle.ht_statement.specs.Statement.{Statement, Input, Output, Dff, Gate, names_in}
+use Rattle.ht_statement.specs.Statement.{Statement, input_line, output_line, dff_line, gate_line, names_in}
 use Rattle.ht_bench.specs.Different.{different}
 
 abbrev pub inputs_in : Statement → List Name
-inputs_in (Input name) = name ∷ []
+inputs_in (input_line name) = name ∷ []
 inputs_in _ = []
 
 abbrev pub outputs_in : Statement → List Name
-outputs_in (Output name) = name ∷ []
+outputs_in (output_line name) = name ∷ []
 outputs_in _ = []
 
 abbrev pub dffs_in : Statement → List NamedDff
-dffs_in (Dff out data_pin) = record { out = out; data_pin = data_pin } ∷ []
+dffs_in (dff_line out data_pin) = record { out = out; data_pin = data_pin } ∷ []
 dffs_in _ = []
 
 abbrev pub gates_in : Statement → List NamedGate
-gates_in (Gate out kind args) = record { kind = kind; out = out; args = args } ∷ []
+gates_in (gate_line out kind args) = record { kind = kind; out = out; args = args } ∷ []
 gates_in _ = []
 
 -- the net that a statement drives, if it drives one: an input's, or that of a definition
 abbrev pub driven_in : Statement → List Name
-driven_in (Input name) = name ∷ []
-driven_in (Dff out data_pin) = out ∷ []
-driven_in (Gate out kind args) = out ∷ []
+driven_in (input_line name) = name ∷ []
+driven_in (dff_line out data_pin) = out ∷ []
+driven_in (gate_line out kind args) = out ∷ []
 driven_in _ = []
 
 -- the same of all statements, in their order
@@ -56,8 +56,8 @@ abbrev pub nets_of : List Statement → List Name
 nets_of statements = different (mentions_of statements)
 
 -- the place of a net in the order of first mention
-abbrev pub place_of : List Statement → Name → ℕ
-place_of statements name = position_or_len (λ other. bytes_eq other name) (nets_of statements)
+abbrev pub mention_rank : List Statement → Name → ℕ
+mention_rank statements name = position_or_len (λ other. bytes_eq other name) (nets_of statements)
 
 -- pins are the data pins of flip-flops and the arguments of gates
 abbrev pub pins_of : List Statement → ℕ

@@ -1,13 +1,12 @@
-pub mod Cut
+pub mod Split
 pub mod Different
 pub mod Contents
 pub mod Accepted
-pub mod Ends
+pub mod EndOfText
 pub mod Text
-pub mod Cause
+pub mod AddErrors
 pub mod Added
 pub mod Progress
 pub mod Role
-pub mod Names
 pub mod Normal
 pub mod Verdict

@@ -4,8 +4,8 @@ use Rattle.std.specs.List.{flat_map, list_all}
 use Rattle.ht_net.specs.Netlist.{Netlist}
 use Rattle.ht_net.specs.Named.{NamedDff, NamedGate, NamedNetlist, named_of}
 use Rattle.ht_statement.specs.Name.{is_name}
-use Rattle.ht_statement.specs.Statement.{Statement, Input, Output, Dff, Gate}
-use Rattle.ht_statement.specs.Normal.{statement_text}
+use Rattle.ht_statement.specs.Statement.{Statement, input_line, output_line, dff_line, gate_line}
+use Rattle.ht_statement.specs.StatementText.{statement_text}
 
 -- a line with its LF
 abbrev pub statement_line : Statement → List ℕ
@@ -15,14 +15,14 @@ abbrev pub statement_lines : List Statement → List ℕ
 statement_lines statements = flat_map statement_line statements
 
 abbrev pub dff_statement : NamedDff → Statement
-dff_statement d = Dff d.out d.data_pin
+dff_statement d = dff_line d.out d.data_pin
 
 abbrev pub gate_statement : NamedGate → Statement
-gate_statement g = Gate g.out g.kind g.args
+gate_statement g = gate_line g.out g.kind g.args
 
 -- inputs, then outputs, then flip-flops, then gates, each in the order of the circuit
 abbrev pub named_statements : NamedNetlist → List Statement
-named_statements n = map Input n.inputs ++ map Output n.outputs ++ map dff_statement n.dffs
+named_statements n = map input_line n.inputs ++ map output_line n.outputs ++ map dff_statement n.dffs
     ++ map gate_statement n.gates
 
 abbrev pub statements_of : Netlist → List Statement

@@ -2,7 +2,7 @@
 use Rattle.std.specs.Prelude.{◌≡◌, ℕ, ◌+◌, ◌≤◌, List, ◌++◌, length, map}
 use Rattle.ht_net.specs.Draft.{Draft}
 use Rattle.ht_statement.specs.Statement.{Statement}
-use Rattle.ht_statement.specs.Reading.{States}
+use Rattle.ht_statement.specs.Reading.{stated}
 use Rattle.ht_bench.specs.Accepted.{IsWithinLimits, AreAccepted}
 use Rattle.ht_bench.specs.Text.{readings_of, IsAcceptedText}
 use Rattle.ht_bench.specs.Added.{IsDraftOf}
@@ -12,7 +12,7 @@ pub record IsReading (text rest : List ℕ) (count : ℕ) (d : Draft) : Type 0 w
   pub before : List Statement
   pub accepted : AreAccepted before
   pub limits : IsWithinLimits before
-  pub lines : readings_of text ≡ map States before ++ readings_of rest
+  pub lines : readings_of text ≡ map stated before ++ readings_of rest
   pub is_count : count ≡ length before
   pub short : count + length rest ≤ length text
   pub draft : IsDraftOf before d

@@ -2,11 +2,11 @@
 use Rattle.std.specs.Prelude.{◌≡◌, ℕ, ◌+◌, ◌≤◌, List, ◌∷◌, ◌++◌, length, map, flat_map, Contains}
 use Rattle.ht_net.specs.Named.{Name}
 use Rattle.ht_statement.specs.Statement.{Statement, names_in}
-use Rattle.ht_statement.specs.Reading.{States}
+use Rattle.ht_statement.specs.Reading.{stated}
 use Rattle.ht_bench.specs.Contents.{driven_in}
 use Rattle.ht_bench.specs.Text.{readings_of}
-use Rattle.ht_bench.specs.declared.again.Role.{Role}
-use Rattle.ht_bench.specs.declared.again.Role.TheVariants.{Mentioned, Driven}
+use Rattle.ht_bench.specs.declared.find_line.Role.{Role}
+use Rattle.ht_bench.specs.declared.find_line.Role.TheVariants.{Mentioned, Driven}
 
 abbrev pub nets_in : Role → Statement → List Name
 nets_in Mentioned statement = names_in statement
@@ -15,7 +15,7 @@ nets_in Driven statement = driven_in statement
 -- each line states something, and one has this net in this role
 pub record HasNet (text : List ℕ) (role : Role) (name : Name) : Type 0 where
   pub statements : List Statement
-  pub lines : readings_of text ≡ map States statements
+  pub lines : readings_of text ≡ map stated statements
   pub has : Contains (flat_map (nets_in role) statements) name
 
 -- the first line that has it; lines count from 1
@@ -23,17 +23,17 @@ pub record IsFirstLine (text : List ℕ) (role : Role) (name : Name) (number : �
   pub before : List Statement
   pub statement : Statement
   pub after : List Statement
-  pub lines : readings_of text ≡ map States (before ++ statement ∷ after)
+  pub lines : readings_of text ≡ map stated (before ++ statement ∷ after)
   pub is_number : number ≡ length before + 1
   pub has : Contains (nets_in role statement) name
   pub earlier : ¬ Contains (flat_map (nets_in role) before) name
 
 -- some lines don't have it, and some of the rest does
-pub record IsBefore (text rest : List ℕ) (count : ℕ) (role : Role) (name : Name) : Type 0 where
+pub record IsAhead (text rest : List ℕ) (count : ℕ) (role : Role) (name : Name) : Type 0 where
   pub before : List Statement
   pub after : List Statement
-  pub lines : readings_of text ≡ map States (before ++ after)
-  pub rest_lines : readings_of rest ≡ map States after
+  pub lines : readings_of text ≡ map stated (before ++ after)
+  pub rest_lines : readings_of rest ≡ map stated after
   pub is_count : count ≡ length before
   pub short : count + length rest ≤ length text
   pub earlier : ¬ Contains (flat_map (nets_in role) before) name

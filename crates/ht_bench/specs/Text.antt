@@ -1,16 +1,15 @@
 -- Which text is the netlist of which circuit, and how every other text is refused (ISCAS-89 format).
-use Rattle.std.specs.Prelude.{◌≡◌, ℕ, ◌+◌, List, ◌∷◌, ◌++◌, length, map, get_or, [], Vec}
-use Rattle.std.specs.declared.alloc.Global.{Global}
+use Rattle.std.specs.Prelude.{◌≡◌, ℕ, ◌+◌, List, ◌∷◌, ◌++◌, length, map, get_or, []}
 use Rattle.ht_ports.specs.LineRule.{lines_of}
 use Rattle.ht_net.specs.Netlist.{Netlist, IsCircuit}
 use Rattle.ht_net.specs.Named.{Name, named_of}
 use Rattle.ht_statement.specs.Statement.{Statement}
-use Rattle.ht_statement.specs.Reading.{Reading, States, IsRefused, reading_of}
-use Rattle.ht_statement.specs.declared.fault.LineRefusal.{LineRefusal}
-use Rattle.ht_statement.specs.declared.fault.LineRefusal.TheVariants.{BadLine as LineIsBad, BadName as NameIsBad, BadKind as KindIsBad, BadCount as CountIsBad}
+use Rattle.ht_statement.specs.Reading.{Reading, stated, unreadable, reading_of}
+use Rattle.ht_statement.specs.declared.error.LineRefusal.{LineRefusal}
+use Rattle.ht_statement.specs.declared.error.LineRefusal.TheVariants.{BadLine as LineIsBad, BadName as NameIsBad, BadKind as KindIsBad, BadCount as CountIsBad}
 use Rattle.ht_bench.specs.Contents.{mentions_of, named_of_statements}
 use Rattle.ht_bench.specs.Accepted.{AreAccepted, IsSecondDriver, PassesLimit}
-use Rattle.ht_bench.specs.Ends.{AreDriven, IsFirstUndriven, IsCycle, IsDriverLine}
+use Rattle.ht_bench.specs.EndOfText.{AreDriven, IsFirstUndriven, IsCycle, IsDriverLine}
 use Rattle.ht_bench.specs.declared.error.BenchError.{BenchError}
 use Rattle.ht_bench.specs.declared.error.BenchError.TheVariants.{BadLine, BadName, BadKind, BadCount, Twice, TooMany, Undriven, Loop, NoMemory}
 
@@ -19,7 +18,7 @@ readings_of text = map reading_of (lines_of text)
 
 -- each line of the text is a statement that is accepted after those before it
 pub record IsAcceptedText (text : List ℕ) (statements : List Statement) : Type 0 where
-  pub lines : readings_of text ≡ map States statements
+  pub lines : readings_of text ≡ map stated statements
   pub accepted : AreAccepted statements
 
 -- A netlist and its circuit: the lines are accepted, each net that is mentioned is driven, the circuit is well formed,
@@ -33,18 +32,18 @@ pub record IsNetlistOf (text : List ℕ) (circuit : Netlist) : Type 0 where
   pub named : named_of circuit ≡ named_of_statements statements
 
 -- The first line that isn't accepted after the statements before it, with its cause. Lines count from 1.
-pub record IsFirstRefused (text : List ℕ) (number : ℕ) (IsCause : List Statement → Reading → Type 0) : Type 0 where
+pub record IsFirstRefused (text : List ℕ) (number : ℕ) (IsAddError : List Statement → Reading → Type 0) : Type 0 where
   pub before : List Statement
   pub reading : Reading
   pub after : List Reading
-  pub cut : readings_of text ≡ map States before ++ reading ∷ after
+  pub split : readings_of text ≡ map stated before ++ reading ∷ after
   pub is_number : number ≡ length before + 1
   pub accepted : AreAccepted before
-  pub cause : IsCause before reading
+  pub cause : IsAddError before reading
 
 -- a line that is refused by itself
-abbrev pub IsRefusedAlone : LineRefusal → List Statement → Reading → Type 0
-IsRefusedAlone refusal before reading = reading ≡ IsRefused refusal
+abbrev pub IsUnreadable : LineRefusal → List Statement → Reading → Type 0
+IsUnreadable refusal before reading = reading ≡ unreadable refusal
 
 -- all lines are accepted, and some net has no driver
 pub record IsUndriven (text : List ℕ) (number : ℕ) (name : Name) : Type 0 where
@@ -60,19 +59,16 @@ pub record IsLoop (text : List ℕ) (number : ℕ) (cycle : List Name) : Type 0 
   pub is_cycle : IsCycle statements cycle
   pub line : IsDriverLine statements (get_or cycle 0 []) number
 
-abbrev pub texts_in : List (Vec ℕ Global) → List Name
-texts_in names = map (λ (v : Vec ℕ Global). v.items) names
-
 -- the refusal of a text that is no netlist; memory may run out at any text
 abbrev pub Refuses : List ℕ → BenchError → Type 0
-Refuses text (BadLine line) = IsFirstRefused text line (IsRefusedAlone LineIsBad)
-Refuses text (BadName line) = IsFirstRefused text line (IsRefusedAlone NameIsBad)
-Refuses text (BadKind line) = IsFirstRefused text line (IsRefusedAlone KindIsBad)
-Refuses text (BadCount line) = IsFirstRefused text line (IsRefusedAlone CountIsBad)
-Refuses text (Twice line name) = IsFirstRefused text line (IsSecondDriver name.items)
+Refuses text (BadLine line) = IsFirstRefused text line (IsUnreadable LineIsBad)
+Refuses text (BadName line) = IsFirstRefused text line (IsUnreadable NameIsBad)
+Refuses text (BadKind line) = IsFirstRefused text line (IsUnreadable KindIsBad)
+Refuses text (BadCount line) = IsFirstRefused text line (IsUnreadable CountIsBad)
+Refuses text (Twice line name) = IsFirstRefused text line (IsSecondDriver name)
 Refuses text (TooMany line what) = IsFirstRefused text line (PassesLimit what)
-Refuses text (Undriven line name) = IsUndriven text line name.items
-Refuses text (Loop line names) = IsLoop text line (texts_in names.items)
+Refuses text (Undriven line name) = IsUndriven text line name
+Refuses text (Loop line names) = IsLoop text line names
 Refuses text NoMemory = Unit {0}
 
 -- a text that is refused for another cause than memory is no circuit's netlist

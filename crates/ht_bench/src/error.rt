@@ -1,42 +1,33 @@
 // Why a text is no netlist.
 ghost use Rattle.std.specs.Prelude.{◌≡◌};
 
+use ht_items::Items;
 use ht_net::Limit;
 use std::alloc::{AllocError, AllocFailed};
-use thiserror::Error;
 
 /// Why a text is no netlist (ISCAS-89 format). Lines count from 1. The first line that is refused gives the cause, and on
 /// it the least of those from `BadLine` to `TooMany`; where no line is refused it is `Undriven`, and where all nets are
 /// driven `Loop`.
-#[derive(Debug, PartialEq, Eq, Drop, Error)]
+#[derive(Debug, Drop)]
 pub enum BenchError {
     /// The line has none of the forms.
-    #[error("line {line}: bad line")]
     BadLine { line: u32 },
     /// A name has a byte outside 33 to 126, or more than 255 bytes.
-    #[error("line {line}: bad name")]
     BadName { line: u32 },
     /// The kind of a definition is none of the format's.
-    #[error("line {line}: bad kind")]
     BadKind { line: u32 },
     /// A definition has too few or too many arguments for its kind.
-    #[error("line {line}: bad count")]
     BadCount { line: u32 },
     /// The line drives a net that an earlier line drives.
-    #[error("line {line}: second driver")]
-    Twice { line: u32, name: Vec<u8> },
+    Twice { line: u32, name: Items<u8> },
     /// With this line there are more than the limit allows; nets, pins, inputs and flip-flops are tested in this order.
-    #[error("line {line}: too many")]
     TooMany { line: u32, what: Limit },
     /// No line drives this net: the leftmost such net on the first line that mentions one.
-    #[error("line {line}: undriven")]
-    Undriven { line: u32, name: Vec<u8> },
+    Undriven { line: u32, name: Items<u8> },
     /// Gates form a cycle. These are different nets: each is an argument of the gate that drives the next, and the last of
     /// the gate that drives the first. The net that is mentioned first in the text is first, and the line is the one that
     /// drives it.
-    #[error("line {line}: loop")]
-    Loop { line: u32, names: Vec<Vec<u8>> },
-    #[error("out of memory")]
+    Loop { line: u32, names: Items<Items<u8>> },
     NoMemory,
 }
 

@@ -6,26 +6,24 @@
 //! `write` gives the normal text of a circuit, which `read` reads as that circuit. `specs/Normal.antt` has that text.
 #![tactic(auto)]
 
-mod adding;
-mod again;
-mod cause;
-mod cut;
+mod add_line;
+mod find_line;
+mod add_error;
+mod split;
 mod error;
-mod laws;
+mod theorems;
 mod lines;
-mod normal;
+mod writer;
 mod reader;
-mod round_trip;
 mod spell;
-mod table;
+mod mention;
 
 pub use error::BenchError;
-pub use laws::{one_circuit_per_text, one_refusal_per_text};
-pub use normal::write;
+pub use writer::write;
 pub use reader::read;
-pub use round_trip::{
+pub use theorems::{
     a_circuit_that_was_read_has_names_of_the_format, normal_text_is_a_netlist_of_its_circuit,
-    normal_text_is_read_as_its_circuit,
+    normal_text_is_read_as_its_circuit, one_circuit_per_text, one_refusal_per_text,
 };
 
 #[cfg(test)]

@@ -2,7 +2,7 @@
 ghost use Rattle.std.specs.Prelude.{◌≡◌, ◌∷◌, ◌<◌, [], length, IfSome, IfNone};
 ghost use Rattle.ht_ports.specs.LineRule.{lines_of, without_cr};
 
-use crate::cut::{before_last, cut};
+use crate::split::{before_last, split_at_byte};
 
 /// A piece without one CR at its end.
 fn without_return(piece: &[u8]) -> &[u8]
@@ -20,7 +20,7 @@ pub(crate) fn next_line(text: &[u8]) -> Option<(&[u8], &[u8])>
     if text.is_empty() {
         return None;
     }
-    match cut(text, b'\n') {
+    match split_at_byte(text, b'\n') {
         Some((piece, rest)) => Some((without_return(piece), rest)),
         None => Some((without_return(text), &[])),
     }

@@ -3,8 +3,8 @@ ghost use Rattle.std.specs.Prelude.{◌≡◌, ◌<◌, ◌++◌, map, codes, Al
 ghost use Rattle.ht_net.specs.declared.net.NetId.{NetId};
 ghost use Rattle.ht_net.specs.Netlist.{net_count};
 ghost use Rattle.ht_net.specs.Named.{name_of};
-ghost use Rattle.ht_statement.specs.Statement.{Input, Output, Dff, Gate};
-ghost use Rattle.ht_statement.specs.Normal.{kind_text, arguments_text};
+ghost use Rattle.ht_statement.specs.Statement.{input_line, output_line, dff_line, gate_line};
+ghost use Rattle.ht_statement.specs.StatementText.{kind_text, arguments_text};
 ghost use Rattle.ht_bench.specs.Normal.{statement_line};
 
 use ht_net::{Circuit, NetId};
@@ -13,7 +13,7 @@ use std::alloc::AllocError;
 
 // Appends the line of an input.
 pub(crate) fn push_input(text: &mut Vec<u8>, name: &[u8]) -> Result<(), AllocError>
-    ensures { OnOk result (text.new.items ≡ text.old.items ++ statement_line (Input name.now)) }
+    ensures { OnOk result (text.new.items ≡ text.old.items ++ statement_line (input_line name.now)) }
 {
     text.extend_from_slice(b"INPUT(")?;
     text.extend_from_slice(name)?;
@@ -22,7 +22,7 @@ pub(crate) fn push_input(text: &mut Vec<u8>, name: &[u8]) -> Result<(), AllocErr
 
 // Appends the line of an output.
 pub(crate) fn push_output(text: &mut Vec<u8>, name: &[u8]) -> Result<(), AllocError>
-    ensures { OnOk result (text.new.items ≡ text.old.items ++ statement_line (Output name.now)) }
+    ensures { OnOk result (text.new.items ≡ text.old.items ++ statement_line (output_line name.now)) }
 {
     text.extend_from_slice(b"OUTPUT(")?;
     text.extend_from_slice(name)?;
@@ -32,7 +32,7 @@ pub(crate) fn push_output(text: &mut Vec<u8>, name: &[u8]) -> Result<(), AllocEr
 // Appends the line of a flip-flop, by its net and the net at its data pin.
 pub(crate) fn push_dff(text: &mut Vec<u8>, out: &[u8], data_pin: &[u8]) -> Result<(), AllocError>
     ensures { OnOk result
-        (text.new.items ≡ text.old.items ++ statement_line (Dff out.now data_pin.now)) }
+        (text.new.items ≡ text.old.items ++ statement_line (dff_line out.now data_pin.now)) }
 {
     push_definition(text, out, b"DFF")?;
     text.extend_from_slice(data_pin)?;
@@ -50,7 +50,7 @@ pub(crate) fn push_gate(
     requires { All (λ (net : NetId). net.0 < net_count circuit.now) args.now }
     ensures { OnOk result
         (text.new.items ≡ text.old.items
-        ++ statement_line (Gate out.now kind (map (name_of circuit.now) args.now))) }
+        ++ statement_line (gate_line out.now kind (map (name_of circuit.now) args.now))) }
 {
     push_definition(text, out, word_of(kind))?;
     push_arguments(text, circuit, args)?;

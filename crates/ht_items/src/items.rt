@@ -1,5 +1,5 @@
 //! A list that contracts see as a list.
-ghost use Rattle.std.specs.Prelude.{◌≡◌, ◌++◌, ◌∷◌, [], OnOk, OnErr};
+ghost use Rattle.std.specs.Prelude.{◌≡◌, ◌++◌, ◌∷◌, [], IfOk, OnOk, OnErr};
 
 use std::alloc::{AllocError, Global};
 use std::marker::Model;
@@ -51,6 +51,17 @@ impl<T> Items<T> {
 }
 
 impl<T: Copy> Items<T> {
+    /// A copy of these items.
+    ///
+    /// # Errors
+    /// Out of memory.
+    pub fn from_slice(alloc: Global, items: &[T]) -> Result<Items<T>, AllocError>
+        ensures { IfOk result (λ copy. copy ≡ items.now) }
+    {
+        let items = Vec::from_slice(alloc, items)?;
+        Ok(Items { items })
+    }
+
     /// Adds an item at the end.
     ///
     /// # Errors

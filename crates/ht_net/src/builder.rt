@@ -5,6 +5,7 @@ ghost use Rattle.ht_tern.specs.Gate.{HasArity};
 ghost use Rattle.ht_net.specs.declared.names.NameId.{NameId};
 ghost use Rattle.ht_net.specs.Names.{IsNewName, IsNameAt};
 ghost use Rattle.ht_net.specs.Netlist.{max_nets};
+ghost use Rattle.ht_net.specs.Built.{draft_name};
 ghost use Rattle.ht_net.specs.Draft.{IsDraft, IsDriven, IsName, no_name};
 ghost use Rattle.ht_net.specs.Refusals.{RefusesName, RefusesInput, AcceptsInput, RefusesOutput, RefusesDff, AcceptsDff, RefusesGate, AcceptsGate};
 
@@ -53,7 +54,8 @@ pub struct Builder {
 }
 
 impl Model for Builder {
-    ghost use Rattle.ht_net.specs.Draft.{Draft};
+    ghost use Rattle.ht_net.specs.Built.{draft_name};
+ghost use Rattle.ht_net.specs.Draft.{Draft};
 
     ghost Value = { Draft };
 
@@ -112,6 +114,14 @@ impl Builder {
             return Err(NetError::NoMemory);
         }
         Ok(NameId(place as u32))
+    }
+
+    /// The name of a number.
+    pub fn name(&self, id: NameId) -> &[u8]
+        requires { IsName self.now id }
+        ensures { result.now ≡ draft_name self.now id }
+    {
+        self.names.get(id.0 as usize)
     }
 
     /// Whether an input, a flip-flop or a gate drives a name.

@@ -1,4 +1,4 @@
 pub mod TokenLaws
-pub mod NormalLaws
+pub mod StatementTextLaws
 pub mod StatedLaws
 pub mod PrintLaws

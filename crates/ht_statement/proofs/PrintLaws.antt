@@ -8,8 +8,8 @@ use Rattle.ht_tern.specs.declared.gate.Kind.{Kind}
 use Rattle.ht_tern.specs.declared.gate.Kind.TheVariants.{And, Nand, Or, Nor, Xor, Xnor, Not, Buf}
 use Rattle.ht_net.specs.Named.{Name}
 use Rattle.ht_statement.specs.Name.{is_name, is_name_byte}
-use Rattle.ht_statement.specs.Statement.{Nothing, Input, Output, Dff, Gate}
-use Rattle.ht_statement.specs.Normal.{kind_text, arguments_text, is_printable, NormalTextIsOneLine}
+use Rattle.ht_statement.specs.Statement.{blank_line, input_line, output_line, dff_line, gate_line}
+use Rattle.ht_statement.specs.StatementText.{kind_text, arguments_text, is_printable, NormalTextIsOneLine}
 
 abbrev ArePrintable : List ℕ → Type 0
 ArePrintable text = list_all is_printable text ≡ true
@@ -53,17 +53,17 @@ arguments_print (name ∷ next ∷ more) e =
     (both (codes ", ") (arguments_text (next ∷ more)) refl (arguments_print (next ∷ more) parts.1))
 
 pub normal_is_one_line : NormalTextIsOneLine
-normal_is_one_line Nothing can = refl
-normal_is_one_line (Input name) can = both (codes "INPUT(" ++ name) (codes ")")
+normal_is_one_line blank_line can = refl
+normal_is_one_line (input_line name) can = both (codes "INPUT(" ++ name) (codes ")")
     (both (codes "INPUT(") name refl (head_prints name [] can.names)) refl
-normal_is_one_line (Output name) can = both (codes "OUTPUT(" ++ name) (codes ")")
+normal_is_one_line (output_line name) can = both (codes "OUTPUT(" ++ name) (codes ")")
     (both (codes "OUTPUT(") name refl (head_prints name [] can.names)) refl
-normal_is_one_line (Dff out data_pin) can =
+normal_is_one_line (dff_line out data_pin) can =
     let parts = and_parts (is_name out) (list_all is_name (data_pin ∷ [])) can.names in
     let front = both out (codes " = DFF(") (name_prints out parts.0) refl in
     both (out ++ codes " = DFF(" ++ data_pin) (codes ")")
     (both (out ++ codes " = DFF(") data_pin front (head_prints data_pin [] parts.1)) refl
-normal_is_one_line (Gate out kind args) can =
+normal_is_one_line (gate_line out kind args) can =
     let parts = and_parts (is_name out) (list_all is_name args) can.names in
     let one = both out (codes " = ") (name_prints out parts.0) refl in
     let two = both (out ++ codes " = ") (kind_text kind) one (kind_prints kind) in

@@ -9,21 +9,21 @@ use Rattle.ht_tern.specs.declared.gate.Kind.TheVariants.{And, Nand, Or, Nor, Xor
 use Rattle.ht_net.specs.Named.{Name}
 use Rattle.ht_statement.specs.Token.{tokens_of}
 use Rattle.ht_statement.specs.Name.{is_name}
-use Rattle.ht_statement.specs.Form.{Form, Blank, InputForm, OutputForm, Definition, form_of}
-use Rattle.ht_statement.specs.Element.{Element, FlipFlop, GateOf, element_named, has_count}
-use Rattle.ht_statement.specs.Statement.{Input, Output}
-use Rattle.ht_statement.specs.Reading.{Reading, States, IsRefused, defined, form_reading, definition_reading, tokens_reading}
-use Rattle.ht_statement.specs.declared.fault.LineRefusal.{LineRefusal}
-use Rattle.ht_statement.specs.declared.fault.LineRefusal.TheVariants.{BadName, BadCount}
-use Rattle.ht_statement.specs.Normal.{CanBeStated, StatedIsSound}
+use Rattle.ht_statement.specs.Form.{Form, blank_form, input_form, output_form, definition_form, form_of}
+use Rattle.ht_statement.specs.Element.{Element, flip_flop, gate_of, element_named, has_count}
+use Rattle.ht_statement.specs.Statement.{input_line, output_line}
+use Rattle.ht_statement.specs.Reading.{Reading, stated, unreadable, defined, form_reading, definition_reading, tokens_reading}
+use Rattle.ht_statement.specs.declared.error.LineRefusal.{LineRefusal}
+use Rattle.ht_statement.specs.declared.error.LineRefusal.TheVariants.{BadName, BadCount}
+use Rattle.ht_statement.specs.StatementText.{CanBeStated, StatedIsSound}
 
 -- a reading that states nothing wrong
 abbrev IsSound : Reading → Type 0
-IsSound (States statement) = CanBeStated statement
-IsSound (IsRefused refusal) = Unit {0}
+IsSound (stated statement) = CanBeStated statement
+IsSound (unreadable refusal) = Unit {0}
 
 tested : (test : Bool) (reading : Reading) (refusal : LineRefusal) → (test ≡ true → IsSound reading)
-    → IsSound (cond test reading (IsRefused refusal))
+    → IsSound (cond test reading (unreadable refusal))
 tested true reading refusal sound = sound refl
 tested false reading refusal sound = tt
 
@@ -33,30 +33,30 @@ names_of_one name is = and_from (is_name name) true is refl
 element_sound : (out : Name) (args : List Name) (element : Element) → list_all is_name (out ∷ args) ≡ true
     → has_count element (length args) ≡ true
     → CanBeStated (defined out args element)
-element_sound out [] FlipFlop are count = absurd (grind (arith, nat_tests))
-element_sound out (arg ∷ more) FlipFlop are count =
+element_sound out [] flip_flop are count = absurd (grind (arith, nat_tests))
+element_sound out (arg ∷ more) flip_flop are count =
     let parts = and_parts (is_name out) (list_all is_name (arg ∷ more)) are in
     let first = (and_parts (is_name arg) (list_all is_name more) parts.1).0 in
     record {
       names = and_from (is_name out) (list_all is_name (arg ∷ [])) parts.0 (names_of_one arg first);
       count = refl;
     }
-element_sound out args (GateOf kind) are count = record { names = are; count = count }
+element_sound out args (gate_of kind) are count = record { names = are; count = count }
 
 definition_sound : (out : Name) (args : List Name) (found : Option Element) → list_all is_name (out ∷ args) ≡ true
     → IsSound (definition_reading out args found)
 definition_sound out args None are = tt
 definition_sound out args (Some element) are =
-    tested (has_count element (length args)) (States (defined out args element)) BadCount
+    tested (has_count element (length args)) (stated (defined out args element)) BadCount
     (λ count. element_sound out args element are count)
 
 form_sound : (form : Form) → IsSound (form_reading form)
-form_sound Blank = record { names = refl; count = refl }
-form_sound (InputForm name) = tested (is_name name) (States (Input name)) BadName
+form_sound blank_form = record { names = refl; count = refl }
+form_sound (input_form name) = tested (is_name name) (stated (input_line name)) BadName
     (λ is. record { names = names_of_one name is; count = refl })
-form_sound (OutputForm name) = tested (is_name name) (States (Output name)) BadName
+form_sound (output_form name) = tested (is_name name) (stated (output_line name)) BadName
     (λ is. record { names = names_of_one name is; count = refl })
-form_sound (Definition out kind args) =
+form_sound (definition_form out kind args) =
     tested (list_all is_name (out ∷ args)) (definition_reading out args (element_named kind)) BadName
     (λ are. definition_sound out args (element_named kind) are)
 
@@ -68,7 +68,7 @@ pub stated_sound : StatedIsSound
 stated_sound line statement e = subst IsSound e (reading_sound (form_of (tokens_of line)))
 
 -- a count that a gate's kind may have is an arity of the kind
-pub count_is_arity : (kind : Kind) (n : ℕ) → has_count (GateOf kind) n ≡ true → HasArity kind n × (n ≤ 255)
+pub count_is_arity : (kind : Kind) (n : ℕ) → has_count (gate_of kind) n ≡ true → HasArity kind n × (n ≤ 255)
 count_is_arity And n e = (grind (arith, nat_tests), grind (arith, nat_tests))
 count_is_arity Nand n e = (grind (arith, nat_tests), grind (arith, nat_tests))
 count_is_arity Or n e = (grind (arith, nat_tests), grind (arith, nat_tests))

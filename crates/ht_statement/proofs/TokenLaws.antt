@@ -3,8 +3,8 @@ use Rattle.std.proofs.Common.{◌≡◌, ℕ, suc, ◌<◌, ◌≤◌, Bool, tru
 use Rattle.std.specs.Option.{option_map_or, option_map}
 use Rattle.std.proofs.lemmas.Bool.Decides.{nat_tests}
 use Rattle.std.proofs.lemmas.List.Sums.{take_while-cons}
-use Rattle.ht_statement.specs.Token.{Token, Word, is_blank, mark_of, begins_comment, without_comment, ended, tokens_behind, tokens_of}
-use Rattle.ht_statement.specs.Word.{is_word_byte, BeginsNoBlank, BeginsNoWord, IsWordCut}
+use Rattle.ht_statement.specs.Token.{Token, word_token, is_blank, mark_of, begins_comment, without_comment, ended, tokens_after, tokens_of}
+use Rattle.ht_statement.specs.Word.{is_word_byte, BeginsNoBlank, BeginsNoWord, IsWordSplit}
 use Rattle.ht_statement.specs.declared.token.Token.{Token as Borrowed}
 use Rattle.ht_statement.specs.TokenOf.{token_of}
 
@@ -39,40 +39,40 @@ mark_is_no_comment byte mark e = grind (arith, nat_tests)
 mark_is_no_blank : (byte : ℕ) (mark : Token) → mark_of byte ≡ Some mark → is_blank byte ≡ false
 mark_is_no_blank byte mark e = grind (arith, nat_tests)
 
--- the tokens of a text with a comment, behind a word
-abbrev pub tokens_after : List ℕ → List ℕ → List Token
-tokens_after word text = tokens_behind word (without_comment text)
+-- the tokens of a text with a comment, after a word
+abbrev pub rest_tokens : List ℕ → List ℕ → List Token
+rest_tokens word text = tokens_after word (without_comment text)
 
 -- what follows the blank test
-abbrev behind_mark : List ℕ → ℕ → List ℕ → Option Token → List Token
-behind_mark word byte text mark = option_map_or (λ m. ended word ++ m ∷ tokens_behind [] text) mark
-    (tokens_behind (word ++ byte ∷ []) text)
+abbrev after_mark : List ℕ → ℕ → List ℕ → Option Token → List Token
+after_mark word byte text mark = option_map_or (λ m. ended word ++ m ∷ tokens_after [] text) mark
+    (tokens_after (word ++ byte ∷ []) text)
 
-pub blank_ends : (word : List ℕ) (byte : ℕ) (text : List ℕ) → is_blank byte ≡ true → tokens_after word (byte ∷ text)
+pub blank_ends : (word : List ℕ) (byte : ℕ) (text : List ℕ) → is_blank byte ≡ true → rest_tokens word (byte ∷ text)
     ≡ ended word ++ tokens_of text
 blank_ends word byte text e =
-    ap (tokens_behind word) (comment_none byte text (blank_is_no_comment byte e))
-    ∙ ap (λ r. cond r (ended word ++ tokens_of text) (behind_mark word byte (without_comment text) (mark_of byte))) e
+    ap (tokens_after word) (comment_none byte text (blank_is_no_comment byte e))
+    ∙ ap (λ r. cond r (ended word ++ tokens_of text) (after_mark word byte (without_comment text) (mark_of byte))) e
 
 pub mark_ends : (word : List ℕ) (byte : ℕ) (text : List ℕ) (mark : Token) → mark_of byte ≡ Some mark
-    → tokens_after word (byte ∷ text) ≡ ended word ++ mark ∷ tokens_of text
+    → rest_tokens word (byte ∷ text) ≡ ended word ++ mark ∷ tokens_of text
 mark_ends word byte text mark e =
-    ap (tokens_behind word) (comment_none byte text (mark_is_no_comment byte mark e))
-    ∙ ap (λ r. cond r (ended word ++ tokens_of text) (behind_mark word byte (without_comment text) (mark_of byte)))
+    ap (tokens_after word) (comment_none byte text (mark_is_no_comment byte mark e))
+    ∙ ap (λ r. cond r (ended word ++ tokens_of text) (after_mark word byte (without_comment text) (mark_of byte)))
     (mark_is_no_blank byte mark e)
-    ∙ ap (behind_mark word byte (without_comment text)) e
+    ∙ ap (after_mark word byte (without_comment text)) e
 
 pub comment_ends : (word : List ℕ) (byte : ℕ) (text : List ℕ) → begins_comment byte ≡ true
-    → tokens_after word (byte ∷ text) ≡ ended word
-comment_ends word byte text e = ap (tokens_behind word) (comment_all byte text e)
+    → rest_tokens word (byte ∷ text) ≡ ended word
+comment_ends word byte text e = ap (tokens_after word) (comment_all byte text e)
 
 pub word_goes_on : (word : List ℕ) (byte : ℕ) (text : List ℕ) → is_word_byte byte ≡ true
-    → tokens_after word (byte ∷ text) ≡ tokens_after (word ++ byte ∷ []) text
+    → rest_tokens word (byte ∷ text) ≡ rest_tokens (word ++ byte ∷ []) text
 word_goes_on word byte text e =
-    ap (tokens_behind word) (comment_none byte text (word_is_no_comment byte e))
-    ∙ ap (λ r. cond r (ended word ++ tokens_of text) (behind_mark word byte (without_comment text) (mark_of byte)))
+    ap (tokens_after word) (comment_none byte text (word_is_no_comment byte e))
+    ∙ ap (λ r. cond r (ended word ++ tokens_of text) (after_mark word byte (without_comment text) (mark_of byte)))
     (word_is_no_blank byte e)
-    ∙ ap (behind_mark word byte (without_comment text)) (word_is_no_mark byte e)
+    ∙ ap (after_mark word byte (without_comment text)) (word_is_no_mark byte e)
 
 -- ---- a whole word
 
@@ -92,7 +92,7 @@ mark_cases byte false false None em ec eh e = absurd (grind (arith, nat_tests))
 ends : (byte : ℕ) → is_word_byte byte ≡ false → Ends byte
 ends byte e = mark_cases byte (begins_comment byte) (is_blank byte) (mark_of byte) refl refl refl e
 
-ending : (word : List ℕ) (byte : ℕ) (text : List ℕ) → Ends byte → tokens_after word (byte ∷ text) ≡ ended word
+ending : (word : List ℕ) (byte : ℕ) (text : List ℕ) → Ends byte → rest_tokens word (byte ∷ text) ≡ ended word
     ++ tokens_of (byte ∷ text)
 ending word byte text (BlankEnds e) = blank_ends word byte text e ∙ ap (λ l. ended word ++ l)
     (sym (blank_ends [] byte text e))
@@ -102,14 +102,14 @@ ending word byte text (CommentEnds e) =
     comment_ends word byte text e ∙ sym (append-nil (ended word)) ∙ ap (λ l. ended word ++ l)
     (sym (comment_ends [] byte text e))
 
-word_ends : (word rest : List ℕ) → BeginsNoWord rest → tokens_after word rest ≡ ended word ++ tokens_of rest
+word_ends : (word rest : List ℕ) → BeginsNoWord rest → rest_tokens word rest ≡ ended word ++ tokens_of rest
 word_ends word [] stops = sym (append-nil (ended word))
 word_ends word (byte ∷ text) stops = ending word byte text (ends byte stops)
 
 abbrev pub AreWordBytes : List ℕ → Type 0
 AreWordBytes text = (k : ℕ) → k < length text → is_word_byte (get_or text k 0) ≡ true
 
-pub run_ends : (word run rest : List ℕ) → AreWordBytes run → BeginsNoWord rest → tokens_after word (run ++ rest)
+pub run_ends : (word run rest : List ℕ) → AreWordBytes run → BeginsNoWord rest → rest_tokens word (run ++ rest)
     ≡ ended (word ++ run) ++ tokens_of rest
 run_ends word [] rest are stops = word_ends word rest stops ∙ ap (λ w. ended w ++ tokens_of rest)
     (sym (append-nil word))
@@ -131,7 +131,7 @@ pub tokens_mark : (byte : ℕ) (text : List ℕ) (mark : Token) → mark_of byte
 tokens_mark byte text mark e = mark_ends [] byte text mark e
 
 pub tokens_word : (byte : ℕ) (run rest : List ℕ) → AreWordBytes (byte ∷ run) → BeginsNoWord rest
-    → tokens_of (byte ∷ run ++ rest) ≡ Word (byte ∷ run) ∷ tokens_of rest
+    → tokens_of (byte ∷ run ++ rest) ≡ word_token (byte ∷ run) ∷ tokens_of rest
 tokens_word byte run rest are stops = run_ends [] (byte ∷ run) rest are stops
 
 is_word : (byte : ℕ) → begins_comment byte ≡ false → is_blank byte ≡ false → mark_of byte ≡ None → is_word_byte byte
@@ -139,26 +139,26 @@ is_word : (byte : ℕ) → begins_comment byte ≡ false → is_blank byte ≡ f
 is_word byte no_hash no_blank no_mark = grind (arith, nat_tests)
 
 -- the word that a text begins with
-pub cut_is_word : (byte : ℕ) (behind text word rest : List ℕ) → text ≡ byte ∷ behind → begins_comment byte ≡ false
+pub split_is_word : (byte : ℕ) (after text word rest : List ℕ) → text ≡ byte ∷ after → begins_comment byte ≡ false
     → is_blank byte ≡ false → mark_of byte ≡ None
-    → IsWordCut text word rest → tokens_of text ≡ Word word ∷ tokens_of rest
-cut_is_word byte behind text [] [] e no_hash no_blank no_mark cut =
-    let wrong : [] ≡ byte ∷ behind = sym cut.whole ∙ e in absurd (cc)
-cut_is_word byte behind text [] (other ∷ rest) e no_hash no_blank no_mark cut =
-    let same : other ∷ rest ≡ byte ∷ behind = sym cut.whole ∙ e in
+    → IsWordSplit text word rest → tokens_of text ≡ word_token word ∷ tokens_of rest
+split_is_word byte after text [] [] e no_hash no_blank no_mark split =
+    let wrong : [] ≡ byte ∷ after = sym split.whole ∙ e in absurd (cc)
+split_is_word byte after text [] (other ∷ rest) e no_hash no_blank no_mark split =
+    let same : other ∷ rest ≡ byte ∷ after = sym split.whole ∙ e in
     let heads : other ≡ byte = cc in
     let yes : is_word_byte other ≡ true = ap is_word_byte heads ∙ is_word byte no_hash no_blank no_mark in
-    let stops : is_word_byte other ≡ false = cut.longest in
+    let stops : is_word_byte other ≡ false = split.longest in
     absurd (cc)
-cut_is_word byte behind text (first ∷ run) rest e no_hash no_blank no_mark cut =
-    ap tokens_of cut.whole ∙ tokens_word first run rest cut.bytes cut.longest
+split_is_word byte after text (first ∷ run) rest e no_hash no_blank no_mark split =
+    ap tokens_of split.whole ∙ tokens_word first run rest split.bytes split.longest
 
 pub first_word : (text word rest : List ℕ) → 1 ≤ length text → begins_comment (get_or text 0 0) ≡ false
     → BeginsNoBlank text → mark_of (get_or text 0 0) ≡ None
-    → IsWordCut text word rest → tokens_of text ≡ Word word ∷ tokens_of rest
-first_word [] word rest some no_hash no_blank no_mark cut = absurd (omega arith)
-first_word (byte ∷ behind) word rest some no_hash no_blank no_mark cut =
-    cut_is_word byte behind (byte ∷ behind) word rest refl no_hash no_blank no_mark cut
+    → IsWordSplit text word rest → tokens_of text ≡ word_token word ∷ tokens_of rest
+first_word [] word rest some no_hash no_blank no_mark split = absurd (omega arith)
+first_word (byte ∷ after) word rest some no_hash no_blank no_mark split =
+    split_is_word byte after (byte ∷ after) word rest refl no_hash no_blank no_mark split
 
 pub no_mark : (found : Option Borrowed) (mark : Option Token) → option_map token_of found ≡ mark → found ≡ None → mark
     ≡ None

@@ -7,15 +7,15 @@ use Rattle.ht_tern.specs.declared.gate.Kind.TheVariants.{And, Nand, Or, Nor, Xor
 
 -- a flip-flop, or a gate of a kind
 pub data Element : Type 0 where
-  FlipFlop : Element
-  GateOf : Kind → Element
+  flip_flop : Element
+  gate_of : Kind → Element
 
 -- the words of kinds, in capitals
 abbrev pub kind_words : List (List ℕ × Element)
-kind_words = (codes "AND", GateOf And) ∷ (codes "NAND", GateOf Nand) ∷ (codes "OR", GateOf Or)
-    ∷ (codes "NOR", GateOf Nor)
-    ∷ (codes "XOR", GateOf Xor) ∷ (codes "XNOR", GateOf Xnor) ∷ (codes "NOT", GateOf Not)
-    ∷ (codes "BUFF", GateOf Buf) ∷ (codes "BUF", GateOf Buf) ∷ (codes "DFF", FlipFlop) ∷ []
+kind_words = (codes "AND", gate_of And) ∷ (codes "NAND", gate_of Nand) ∷ (codes "OR", gate_of Or)
+    ∷ (codes "NOR", gate_of Nor)
+    ∷ (codes "XOR", gate_of Xor) ∷ (codes "XNOR", gate_of Xnor) ∷ (codes "NOT", gate_of Not)
+    ∷ (codes "BUFF", gate_of Buf) ∷ (codes "BUF", gate_of Buf) ∷ (codes "DFF", flip_flop) ∷ []
 
 -- what a word names, in any letter case
 abbrev pub element_named : List ℕ → Option Element
@@ -23,7 +23,7 @@ element_named word = lookup (λ known. str_eq_ignore_ascii_case word known) kind
 
 -- whether it may have so many arguments: one for DFF, NOT and BUFF, else 1 to 255
 abbrev pub has_count : Element → ℕ → Bool
-has_count FlipFlop count = eqb count 1
-has_count (GateOf Not) count = eqb count 1
-has_count (GateOf Buf) count = eqb count 1
-has_count (GateOf kind) count = leb 1 count && leb count 255
+has_count flip_flop count = eqb count 1
+has_count (gate_of Not) count = eqb count 1
+has_count (gate_of Buf) count = eqb count 1
+has_count (gate_of kind) count = leb 1 count && leb count 255

@@ -1,8 +1,8 @@
 -- How the element of the code stands for the element.
 use Rattle.ht_statement.specs.declared.element.Element.{Element as Coded}
 use Rattle.ht_statement.specs.declared.element.Element.TheVariants.{FlipFlop as CodedFlipFlop, Gate as CodedGate}
-use Rattle.ht_statement.specs.Element.{Element, FlipFlop, GateOf}
+use Rattle.ht_statement.specs.Element.{Element, flip_flop, gate_of}
 
 abbrev pub element_of : Coded → Element
-element_of CodedFlipFlop = FlipFlop
-element_of (CodedGate kind) = GateOf kind
+element_of CodedFlipFlop = flip_flop
+element_of (CodedGate kind) = gate_of kind

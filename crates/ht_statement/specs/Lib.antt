@@ -3,11 +3,11 @@ pub mod TokenOf
 pub mod Word
 pub mod Form
 pub mod FormOf
-pub mod Next
+pub mod FirstToken
 pub mod Name
 pub mod Element
 pub mod ElementOf
 pub mod Statement
 pub mod Reading
 pub mod StatementOf
-pub mod Normal
+pub mod StatementText

@@ -3,47 +3,47 @@ use Rattle.std.specs.Prelude.{◌≡◌, ℕ, List, [], ◌∷◌, cond, length,
 use Rattle.std.specs.List.{list_all}
 use Rattle.ht_net.specs.Named.{Name}
 use Rattle.ht_statement.specs.Token.{tokens_of}
-use Rattle.ht_statement.specs.Form.{Form, Blank, InputForm, OutputForm, Definition, form_of}
+use Rattle.ht_statement.specs.Form.{Form, blank_form, input_form, output_form, definition_form, form_of}
 use Rattle.ht_statement.specs.Name.{is_name}
-use Rattle.ht_statement.specs.Element.{Element, FlipFlop, GateOf, element_named, has_count}
-use Rattle.ht_statement.specs.Statement.{Statement, Nothing, Input, Output, Dff, Gate}
-use Rattle.ht_statement.specs.declared.fault.LineRefusal.{LineRefusal}
-use Rattle.ht_statement.specs.declared.fault.LineRefusal.TheVariants.{BadLine, BadName, BadKind, BadCount}
-use Rattle.ht_statement.specs.declared.fault.StatementFault.{StatementFault}
-use Rattle.ht_statement.specs.declared.fault.StatementFault.TheVariants.{Refused, NoMemory}
+use Rattle.ht_statement.specs.Element.{Element, flip_flop, gate_of, element_named, has_count}
+use Rattle.ht_statement.specs.Statement.{Statement, blank_line, input_line, output_line, dff_line, gate_line}
+use Rattle.ht_statement.specs.declared.error.LineRefusal.{LineRefusal}
+use Rattle.ht_statement.specs.declared.error.LineRefusal.TheVariants.{BadLine, BadName, BadKind, BadCount}
+use Rattle.ht_statement.specs.declared.error.StatementError.{StatementError}
+use Rattle.ht_statement.specs.declared.error.StatementError.TheVariants.{Refused, NoMemory}
 
 pub data Reading : Type 0 where
-  States : Statement → Reading
-  IsRefused : LineRefusal → Reading
+  stated : Statement → Reading
+  unreadable : LineRefusal → Reading
 
 -- a definition of an element, by its net and its arguments
 abbrev pub defined : Name → List Name → Element → Statement
-defined out args FlipFlop = Dff out (get_or args 0 [])
-defined out args (GateOf kind) = Gate out kind args
+defined out args flip_flop = dff_line out (get_or args 0 [])
+defined out args (gate_of kind) = gate_line out kind args
 
 -- a definition by the element that its kind names, whose count of arguments is judged last
 abbrev pub definition_reading : Name → List Name → Option Element → Reading
-definition_reading out args None = IsRefused BadKind
-definition_reading out args (Some element) = cond (has_count element (length args)) (States (defined out args element))
-    (IsRefused BadCount)
+definition_reading out args None = unreadable BadKind
+definition_reading out args (Some element) = cond (has_count element (length args)) (stated (defined out args element))
+    (unreadable BadCount)
 
 -- names are judged first, then the kind, then the count
 abbrev pub form_reading : Form → Reading
-form_reading Blank = States Nothing
-form_reading (InputForm name) = cond (is_name name) (States (Input name)) (IsRefused BadName)
-form_reading (OutputForm name) = cond (is_name name) (States (Output name)) (IsRefused BadName)
-form_reading (Definition out kind args) = cond (list_all is_name (out ∷ args))
-    (definition_reading out args (element_named kind)) (IsRefused BadName)
+form_reading blank_form = stated blank_line
+form_reading (input_form name) = cond (is_name name) (stated (input_line name)) (unreadable BadName)
+form_reading (output_form name) = cond (is_name name) (stated (output_line name)) (unreadable BadName)
+form_reading (definition_form out kind args) = cond (list_all is_name (out ∷ args))
+    (definition_reading out args (element_named kind)) (unreadable BadName)
 
 -- a line whose tokens have no form is a bad line
 abbrev pub tokens_reading : Option Form → Reading
-tokens_reading None = IsRefused BadLine
+tokens_reading None = unreadable BadLine
 tokens_reading (Some form) = form_reading form
 
 abbrev pub reading_of : List ℕ → Reading
 reading_of line = tokens_reading (form_of (tokens_of line))
 
 -- why a line isn't read; memory may run out at any line
-abbrev pub IsRefusalOf : List ℕ → StatementFault → Type 0
-IsRefusalOf line (Refused refusal) = reading_of line ≡ IsRefused refusal
+abbrev pub IsRefusalOf : List ℕ → StatementError → Type 0
+IsRefusalOf line (Refused refusal) = reading_of line ≡ unreadable refusal
 IsRefusalOf line NoMemory = Unit {0}

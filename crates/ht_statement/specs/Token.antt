@@ -5,11 +5,11 @@ use Rattle.std.specs.Option.{option_map_or}
 
 -- a word, or one of the four marks `(`, `)`, `,` and `=`
 pub data Token : Type 0 where
-  Word : List ℕ → Token
-  Open : Token
-  Close : Token
-  Comma : Token
-  Equals : Token
+  word_token : List ℕ → Token
+  open_token : Token
+  close_token : Token
+  comma_token : Token
+  equals_token : Token
 
 -- a space or a tab
 abbrev pub is_blank : ℕ → Bool
@@ -17,8 +17,8 @@ is_blank byte = eqb byte 32 || eqb byte 9
 
 -- the token of a mark
 abbrev pub mark_of : ℕ → Option Token
-mark_of byte = cond (eqb byte 40) (Some Open)
-    (cond (eqb byte 41) (Some Close) (cond (eqb byte 44) (Some Comma) (cond (eqb byte 61) (Some Equals) None)))
+mark_of byte = cond (eqb byte 40) (Some open_token)
+    (cond (eqb byte 41) (Some close_token) (cond (eqb byte 44) (Some comma_token) (cond (eqb byte 61) (Some equals_token) None)))
 
 -- `#`
 abbrev pub begins_comment : ℕ → Bool
@@ -31,16 +31,16 @@ without_comment line = take_while (λ byte. not (begins_comment byte)) line
 -- a word that has ended, if it has any byte
 abbrev pub ended : List ℕ → List Token
 ended [] = []
-ended (byte ∷ word) = Word (byte ∷ word) ∷ []
+ended (byte ∷ word) = word_token (byte ∷ word) ∷ []
 
 -- The tokens of a text in front of which a word has begun: a blank ends the word, a mark ends it and is a token, any
 -- other byte belongs to it.
-abbrev pub tokens_behind : List ℕ → List ℕ → List Token
-tokens_behind word [] = ended word
-tokens_behind word (byte ∷ text) = cond (is_blank byte) (ended word ++ tokens_behind [] text)
-    (option_map_or (λ mark. ended word ++ mark ∷ tokens_behind [] text) (mark_of byte)
-    (tokens_behind (word ++ byte ∷ []) text))
+abbrev pub tokens_after : List ℕ → List ℕ → List Token
+tokens_after word [] = ended word
+tokens_after word (byte ∷ text) = cond (is_blank byte) (ended word ++ tokens_after [] text)
+    (option_map_or (λ mark. ended word ++ mark ∷ tokens_after [] text) (mark_of byte)
+    (tokens_after (word ++ byte ∷ []) text))
 
 -- the tokens of a line, from the left
 abbrev pub tokens_of : List ℕ → List Token
-tokens_of line = tokens_behind [] (without_comment line)
+tokens_of line = tokens_after [] (without_comment line)

@@ -1,11 +1,11 @@
 -- How a token that borrows its word stands for the token.
 use Rattle.ht_statement.specs.declared.token.Token.{Token as Borrowed}
 use Rattle.ht_statement.specs.declared.token.Token.TheVariants.{Word as BorrowedWord, Open as BorrowedOpen, Close as BorrowedClose, Comma as BorrowedComma, Equals as BorrowedEquals}
-use Rattle.ht_statement.specs.Token.{Token, Word, Open, Close, Comma, Equals}
+use Rattle.ht_statement.specs.Token.{Token, word_token, open_token, close_token, comma_token, equals_token}
 
 abbrev pub token_of : Borrowed → Token
-token_of (BorrowedWord word) = Word word.now
-token_of BorrowedOpen = Open
-token_of BorrowedClose = Close
-token_of BorrowedComma = Comma
-token_of BorrowedEquals = Equals
+token_of (BorrowedWord word) = word_token word.now
+token_of BorrowedOpen = open_token
+token_of BorrowedClose = close_token
+token_of BorrowedComma = comma_token
+token_of BorrowedEquals = equals_token

@@ -1,4 +1,4 @@
--- Words cut out of a text.
+-- Words split from a text.
 use Rattle.std.specs.Prelude.{◌≡◌, ℕ, ◌<◌, List, [], ◌∷◌, ◌++◌, Bool, true, false, ◌||◌, not, length, slice_index}
 use Rattle.ht_statement.specs.Token.{is_blank}
 use Rattle.ht_statement.specs.Name.{ends_word}
@@ -17,8 +17,8 @@ abbrev pub BeginsNoWord : List ℕ → Type 0
 BeginsNoWord [] = Unit {0}
 BeginsNoWord (byte ∷ text) = is_word_byte byte ≡ false
 
--- the longest run of a word's bytes that a text begins with, and the text behind it
-pub record IsWordCut (text word rest : List ℕ) : Type 0 where
+-- the longest run of a word's bytes that a text begins with, and the text after it
+pub record IsWordSplit (text word rest : List ℕ) : Type 0 where
   pub whole : text ≡ word ++ rest
   pub bytes : (k : ℕ) → k < length word → is_word_byte (slice_index word k) ≡ true
   pub longest : BeginsNoWord rest

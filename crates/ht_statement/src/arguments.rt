@@ -4,10 +4,10 @@ ghost use Rattle.ht_statement.specs.Token.{tokens_of};
 ghost use Rattle.ht_statement.specs.Form.{arguments_of};
 ghost use Rattle.ht_statement.specs.StatementOf.{texts_of};
 
-use crate::next::{behind_comma, closes, first_word};
+use crate::first_token::{after_comma, closes, first_word};
 use std::alloc::{AllocError, Global};
 
-/// The arguments behind `(`, up to the `)` that ends the line, or `None` where that is not their form.
+/// The arguments after `(`, up to the `)` that ends the line, or `None` where that is not their form.
 pub(crate) fn arguments<'a>(
     alloc: Global,
     text: &'a [u8],
@@ -23,8 +23,8 @@ pub(crate) fn arguments<'a>(
         return Ok(None);
     };
     args.push(first)?;
-    while let Some(behind) = behind_comma(rest) {
-        let Some((arg, more)) = first_word(behind) else {
+    while let Some(after) = after_comma(rest) {
+        let Some((arg, more)) = first_word(after) else {
             return Ok(None);
         };
         args.push(arg)?;

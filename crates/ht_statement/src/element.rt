@@ -3,7 +3,6 @@ ghost use Rattle.std.specs.Prelude.{◌≡◌, option_map};
 ghost use Rattle.ht_statement.specs.Element.{element_named, has_count};
 ghost use Rattle.ht_statement.specs.ElementOf.{element_of};
 
-use crate::keyword::spells;
 use ht_tern::Kind;
 
 /// A flip-flop, or a gate of a kind.
@@ -18,16 +17,16 @@ pub(crate) fn element_named(word: &[u8]) -> Option<Element>
     ensures { option_map element_of result ≡ element_named word.now }
 {
     match word {
-        _ if spells(word, b"AND") => Some(Element::Gate(Kind::And)),
-        _ if spells(word, b"NAND") => Some(Element::Gate(Kind::Nand)),
-        _ if spells(word, b"OR") => Some(Element::Gate(Kind::Or)),
-        _ if spells(word, b"NOR") => Some(Element::Gate(Kind::Nor)),
-        _ if spells(word, b"XOR") => Some(Element::Gate(Kind::Xor)),
-        _ if spells(word, b"XNOR") => Some(Element::Gate(Kind::Xnor)),
-        _ if spells(word, b"NOT") => Some(Element::Gate(Kind::Not)),
-        _ if spells(word, b"BUFF") => Some(Element::Gate(Kind::Buf)),
-        _ if spells(word, b"BUF") => Some(Element::Gate(Kind::Buf)),
-        _ if spells(word, b"DFF") => Some(Element::FlipFlop),
+        _ if word.eq_ignore_ascii_case(b"AND") => Some(Element::Gate(Kind::And)),
+        _ if word.eq_ignore_ascii_case(b"NAND") => Some(Element::Gate(Kind::Nand)),
+        _ if word.eq_ignore_ascii_case(b"OR") => Some(Element::Gate(Kind::Or)),
+        _ if word.eq_ignore_ascii_case(b"NOR") => Some(Element::Gate(Kind::Nor)),
+        _ if word.eq_ignore_ascii_case(b"XOR") => Some(Element::Gate(Kind::Xor)),
+        _ if word.eq_ignore_ascii_case(b"XNOR") => Some(Element::Gate(Kind::Xnor)),
+        _ if word.eq_ignore_ascii_case(b"NOT") => Some(Element::Gate(Kind::Not)),
+        _ if word.eq_ignore_ascii_case(b"BUFF") => Some(Element::Gate(Kind::Buf)),
+        _ if word.eq_ignore_ascii_case(b"BUF") => Some(Element::Gate(Kind::Buf)),
+        _ if word.eq_ignore_ascii_case(b"DFF") => Some(Element::FlipFlop),
         _ => None,
     }
 }

@@ -1,13 +1,12 @@
 // The form of a line.
 ghost use Rattle.std.specs.Prelude.{◌≡◌, ◌∷◌, option_map, IfOk};
-ghost use Rattle.ht_statement.specs.Token.{Word, Open, Equals, tokens_of};
+ghost use Rattle.ht_statement.specs.Token.{word_token, open_token, equals_token, tokens_of};
 ghost use Rattle.ht_statement.specs.Form.{form_of};
 ghost use Rattle.ht_statement.specs.FormOf.{form_meant};
 
 use crate::arguments::arguments;
-use crate::keyword::spells;
-use crate::next::{closes, first_word};
-use crate::token::{Token, next_token};
+use crate::first_token::{closes, first_word};
+use crate::token::{Token, first_token};
 use std::alloc::{AllocError, Global};
 
 /// What the tokens of a line show: nothing, INPUT or OUTPUT with a name, or a definition by its net, the word of its
@@ -24,36 +23,36 @@ pub(crate) enum Form<'a> {
     },
 }
 
-/// The form of a line that begins with a keyword and `(`, by the text behind these.
+/// The form of a line that begins with a keyword and `(`, by the text after these.
 fn port<'a>(keyword: &[u8], text: &'a [u8]) -> Option<Form<'a>>
-    ensures { option_map form_meant result ≡ form_of (Word keyword.now ∷ Open ∷ tokens_of text.now) }
+    ensures { option_map form_meant result ≡ form_of (word_token keyword.now ∷ open_token ∷ tokens_of text.now) }
 {
     let (name, rest) = first_word(text)?;
     if !closes(rest) {
         return None;
     }
-    if spells(keyword, b"INPUT") {
+    if keyword.eq_ignore_ascii_case(b"INPUT") {
         return Some(Form::Input(name));
     }
-    if spells(keyword, b"OUTPUT") {
+    if keyword.eq_ignore_ascii_case(b"OUTPUT") {
         return Some(Form::Output(name));
     }
     None
 }
 
-/// The form of a line that begins with a net and `=`, by the text behind these.
+/// The form of a line that begins with a net and `=`, by the text after these.
 fn definition<'a>(
     alloc: Global,
     out: &'a [u8],
     text: &'a [u8],
 ) -> Result<Option<Form<'a>>, AllocError>
     ensures { IfOk result
-        (λ read. option_map form_meant read ≡ form_of (Word out.now ∷ Equals ∷ tokens_of text.now)) }
+        (λ read. option_map form_meant read ≡ form_of (word_token out.now ∷ equals_token ∷ tokens_of text.now)) }
 {
     let Some((kind, rest)) = first_word(text) else {
         return Ok(None);
     };
-    let Some((Token::Open, inside)) = next_token(rest) else {
+    let Some((Token::Open, inside)) = first_token(rest) else {
         return Ok(None);
     };
     let args = arguments(alloc, inside)?;
@@ -64,13 +63,13 @@ fn definition<'a>(
 pub(crate) fn read_form<'a>(alloc: Global, line: &'a [u8]) -> Result<Option<Form<'a>>, AllocError>
     ensures { IfOk result (λ read. option_map form_meant read ≡ form_of (tokens_of line.now)) }
 {
-    let Some((first, behind)) = next_token(line) else {
+    let Some((first, after)) = first_token(line) else {
         return Ok(Some(Form::Blank));
     };
     let Token::Word(word) = first else {
         return Ok(None);
     };
-    match next_token(behind) {
+    match first_token(after) {
         Some((Token::Equals, rest)) => definition(alloc, word, rest),
         Some((Token::Open, rest)) => Ok(port(word, rest)),
         _ => Ok(None),

@@ -9,19 +9,18 @@
 
 mod arguments;
 mod element;
-mod fault;
+mod error;
 mod form;
-mod keyword;
 mod name;
-mod next;
-mod normal;
+mod first_token;
+mod theorems;
 mod reading;
 mod statement;
 #[cfg(test)]
 mod tests;
 mod token;
 
-pub use fault::{LineRefusal, StatementFault};
-pub use normal::{normal_text_is_read, stated_is_sound};
+pub use error::{LineRefusal, StatementError};
+pub use theorems::{normal_text_is_read, stated_is_sound};
 pub use reading::read_line;
 pub use statement::Statement;

@@ -4,11 +4,11 @@ ghost use Rattle.std.specs.List.{list_all};
 ghost use Rattle.ht_statement.specs.FormOf.{form_meant};
 ghost use Rattle.ht_statement.specs.Name.{is_name};
 ghost use Rattle.ht_statement.specs.Element.{element_named};
-ghost use Rattle.ht_statement.specs.Reading.{States, IsRefused, form_reading, definition_reading, reading_of, IsRefusalOf};
+ghost use Rattle.ht_statement.specs.Reading.{stated, unreadable, form_reading, definition_reading, reading_of, IsRefusalOf};
 ghost use Rattle.ht_statement.specs.StatementOf.{texts_of, statement_of};
 
 use crate::element::{Element, element_named, has_count};
-use crate::fault::{LineRefusal, StatementFault};
+use crate::error::{LineRefusal, StatementError};
 use crate::form::{Form, read_form};
 use crate::name::is_name;
 use crate::statement::Statement;
@@ -29,10 +29,10 @@ fn defined<'a>(
 ) -> Result<Statement<'a>, LineRefusal>
     ensures states { IfOk result
         (λ statement. definition_reading out.now (texts_of args.entry.items)
-        (element_named kind.now) ≡ States (statement_of statement)) }
+        (element_named kind.now) ≡ stated (statement_of statement)) }
     ensures refusal { IfErr result
         (λ refusal. definition_reading out.now (texts_of args.entry.items) (element_named kind.now)
-        ≡ IsRefused refusal) }
+        ≡ unreadable refusal) }
 {
     let Some(element) = element_named(kind) else {
         return Err(LineRefusal::BadKind);
@@ -52,9 +52,9 @@ fn defined<'a>(
 /// What a line of a form states.
 fn stated<'a>(form: Form<'a>) -> Result<Statement<'a>, LineRefusal>
     ensures states { IfOk result (λ statement. form_reading (form_meant form.entry)
-        ≡ States (statement_of statement)) }
+        ≡ stated (statement_of statement)) }
     ensures refusal { IfErr result (λ refusal. form_reading (form_meant form.entry)
-        ≡ IsRefused refusal) }
+        ≡ unreadable refusal) }
 {
     match form {
         Form::Blank => Ok(Statement::Nothing),
@@ -71,13 +71,13 @@ fn stated<'a>(form: Form<'a>) -> Result<Statement<'a>, LineRefusal>
 ///
 /// # Errors
 /// `Refused` with the first cause, in the order of `LineRefusal`; `NoMemory` where memory runs out.
-pub fn read_line<'a>(alloc: Global, line: &'a [u8]) -> Result<Statement<'a>, StatementFault>
+pub fn read_line<'a>(alloc: Global, line: &'a [u8]) -> Result<Statement<'a>, StatementError>
     ensures states { IfOk result
-        (λ statement. reading_of line.now ≡ States (statement_of statement)) }
+        (λ statement. reading_of line.now ≡ stated (statement_of statement)) }
     ensures refusal { IfErr result (IsRefusalOf line.now) }
 {
     let Some(form) = read_form(alloc, line)? else {
-        return Err(StatementFault::Refused(LineRefusal::BadLine));
+        return Err(StatementError::Refused(LineRefusal::BadLine));
     };
     Ok(stated(form)?)
 }

@@ -1,12 +1,12 @@
 // Lines, and what they state.
-use crate::{LineRefusal, Statement, StatementFault, read_line};
+use crate::{LineRefusal, Statement, StatementError, read_line};
 use LineRefusal::{BadCount, BadKind, BadLine, BadName};
 use ht_tern::Kind;
 use std::alloc::Global;
 
 fn refusal(alloc: Global, line: &[u8]) -> Option<LineRefusal> {
     match read_line(alloc, line) {
-        Err(StatementFault::Refused(refusal)) => Some(refusal),
+        Err(StatementError::Refused(refusal)) => Some(refusal),
         _ => None,
     }
 }

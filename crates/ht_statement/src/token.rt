@@ -2,7 +2,7 @@
 ghost use Rattle.std.specs.Prelude.{◌≡◌, ◌∷◌, ◌<◌, ◌≤◌, [], length, option_map, IfSome, IfNone};
 ghost use Rattle.ht_statement.specs.Token.{begins_comment, mark_of, tokens_of};
 ghost use Rattle.ht_statement.specs.TokenOf.{token_of};
-ghost use Rattle.ht_statement.specs.Word.{IsWordCut, is_word_byte, BeginsNoBlank};
+ghost use Rattle.ht_statement.specs.Word.{IsWordSplit, is_word_byte, BeginsNoBlank};
 
 /// A word, or one of the four marks (ISCAS-89 format).
 #[derive(Clone, Copy)]
@@ -42,21 +42,21 @@ fn is_word_byte(byte: u8) -> bool
 }
 
 /// A text without the blanks that it begins with.
-fn behind_blanks(text: &[u8]) -> &[u8]
+fn after_blanks(text: &[u8]) -> &[u8]
     ensures tokens { tokens_of result.now ≡ tokens_of text.now }
     ensures no_blank { BeginsNoBlank result.now }
     ensures length { length result.now ≤ length text.now }
 {
     let mut rest = text;
-    while let [b' ' | b'\t', behind @ ..] = rest {
-        rest = behind;
+    while let [b' ' | b'\t', after @ ..] = rest {
+        rest = after;
     }
     rest
 }
 
 /// The bytes before the first that belongs to no word, and the text from there on.
-fn cut_word(text: &[u8]) -> (&[u8], &[u8])
-    ensures { IsWordCut text.now result.0.now result.1.now }
+fn split_word(text: &[u8]) -> (&[u8], &[u8])
+    ensures { IsWordSplit text.now result.0.now result.1.now }
 {
     for (place, byte) in text.iter().enumerate() {
         if !is_word_byte(*byte) {
@@ -66,23 +66,23 @@ fn cut_word(text: &[u8]) -> (&[u8], &[u8])
     (text, &[])
 }
 
-/// The first token of a text and the text behind it, or `None` where the text has no token.
-pub(crate) fn next_token(text: &[u8]) -> Option<(Token<'_>, &[u8])>
+/// The first token of a text and the text after it, or `None` where the text has no token.
+pub(crate) fn first_token(text: &[u8]) -> Option<(Token<'_>, &[u8])>
     ensures first { IfSome result (λ parts. tokens_of text.now ≡ token_of parts.0
         ∷ tokens_of parts.1.now) }
     ensures shorter { IfSome result (λ parts. length parts.1.now < length text.now) }
     ensures none { IfNone result (tokens_of text.now ≡ []) }
 {
-    let begun = behind_blanks(text);
-    let [first, behind @ ..] = begun else {
+    let begun = after_blanks(text);
+    let [first, after @ ..] = begun else {
         return None;
     };
     if begins_comment(*first) {
         return None;
     }
     if let Some(mark) = mark_of(*first) {
-        return Some((mark, behind));
+        return Some((mark, after));
     }
-    let (word, rest) = cut_word(begun);
+    let (word, rest) = split_word(begun);
     Some((Token::Word(word), rest))
 }

@@ -2,15 +2,10 @@ use Rattle.ht_bench.proofs.ProgressLaws.{reading_none, reading_more}
 use Rattle.ht_bench.proofs.reader.add_lines.Goals as goal
 
 pub loop-line-init : goal.loop-line-init
-loop-line-init c = record {
-  reading = reading_none c.args.text.now c.args.table.now.builder c.requires.new;
-  names = c.requires.names;
-}
+loop-line-init c = reading_none c.args.text.now c.args.builder.now c.requires.new
 
 pub loop-line-preserved : goal.loop-line-preserved
-loop-line-preserved c = record {
-  reading = reading_more c.args.text.now c.loop-line.rest.now c.in-Some.line.now c.in-Some.more.now c.loop-line.number
-      c.loop-line.table.builder c.loop-line.invariant.reading c.in-Some.ensures.first c.in-Some.ensures.shorter
-      c.add_line.new.table.builder c.in_default-add_line.ensures.adds;
-  names = c.in_default-add_line.ensures.names c.loop-line.invariant.names;
-}
+loop-line-preserved c =
+    reading_more c.args.text.now c.loop-line.rest.now c.in-Some.line.now c.in-Some.more.now c.loop-line.number
+    c.loop-line.builder c.loop-line.invariant c.in-Some.ensures.first c.in-Some.ensures.shorter
+    c.add_line.new.builder c.in_default-add_line.ensures.adds

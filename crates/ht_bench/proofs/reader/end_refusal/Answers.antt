@@ -1,53 +1,71 @@
-use Rattle.std.proofs.Common.{sym, ◌∙◌, subst}
+use Rattle.std.proofs.Common.{◌≡◌, ◌<◌, List, length, get_or, map, sym, ◌∙◌, ap, subst}
+use Rattle.ht_net.specs.declared.names.NameId.{NameId}
+use Rattle.ht_net.specs.Draft.{Draft, IsName, no_name}
+use Rattle.ht_net.specs.Named.{Name}
+use Rattle.ht_net.specs.Built.{draft_name}
+use Rattle.std.specs.List.{All}
+use Rattle.std.proofs.lemmas.List.{get_or_default}
 use Rattle.ht_bench.specs.Role.{HasNet, IsFirstLine}
-use Rattle.ht_bench.specs.Text.{IsUndriven, texts_in}
-use Rattle.ht_bench.specs.declared.again.Role.TheVariants.{Mentioned}
-use Rattle.ht_bench.proofs.EndLaws.{name_read, copied_names, net_is_mentioned, undriven_is, known_nets, first_is_driven, loop_found}
+use Rattle.ht_bench.specs.Text.{IsUndriven, IsLoop}
+use Rattle.ht_bench.specs.declared.find_line.Role.TheVariants.{Mentioned, Driven}
+use Rattle.ht_bench.proofs.EndOfTextLaws.{net_is_mentioned, undriven_is, known_net, known_nets, first_is_driven, loop_found}
 use Rattle.ht_bench.proofs.reader.end_refusal.Goals as goal
 
 pub first_line-requires-clause-has : goal.first_line-requires-clause-has
 first_line-requires-clause-has c =
     let free = rw c.in-Undriven.is at c.requires.refused in
-    let is = name_read c.args.table.now.names.items c.args.table.now.builder.names c.in-Undriven.name.0
-    c.index-name.result.now c.requires.names free.0 c.index-name.ensures in
-    subst (HasNet c.args.text.now Mentioned) (sym is)
-    (net_is_mentioned c.args.text.now c.args.table.now.builder c.requires.read c.in-Undriven.name free.0)
+    subst (HasNet c.args.text.now Mentioned) (sym c.name-name.ensures)
+    (net_is_mentioned c.args.text.now c.args.builder.now c.requires.read c.in-Undriven.name free.0)
 
 pub returns-in_ok-name-in-Undriven : goal.returns-in_ok-name-in-Undriven
 returns-in_ok-name-in-Undriven c =
     let free = rw c.in-Undriven.is at c.requires.refused in
-    let is = name_read c.args.table.now.names.items c.args.table.now.builder.names c.in-Undriven.name.0
-    c.index-name.result.now c.requires.names free.0 c.index-name.ensures in
-    let first = subst (λ n. IsFirstLine c.args.text.now Mentioned n c.in_ok-line-in-Undriven.line) is
+    let first = subst (λ n. IsFirstLine c.args.text.now Mentioned n c.in_ok-line-in-Undriven.line) c.name-name.ensures
     c.in_ok-line-in-Undriven.ensures in
-    subst (IsUndriven c.args.text.now c.in_ok-line-in-Undriven.line) (sym (c.in_ok-name-in-Undriven.ensures.items ∙ is))
-    (undriven_is c.args.text.now c.args.table.now.builder c.requires.read c.in-Undriven.name free
+    subst (IsUndriven c.args.text.now c.in_ok-line-in-Undriven.line)
+    (sym (c.in_ok-name-in-Undriven.ensures ∙ c.name-name.ensures))
+    (undriven_is c.args.text.now c.args.builder.now c.requires.read c.in-Undriven.name free
     c.in_ok-line-in-Undriven.line first)
 
-pub names_of-requires : goal.names_of-requires
-names_of-requires c =
+-- the first net of a list that has some
+first_net : (nets : List NameId) (first : NameId) → 0 < length nets → first ≡ get_or nets 0 first
+    → first ≡ get_or nets 0 no_name
+first_net nets first some e = e ∙ sym (get_or_default nets 0 no_name first some)
+
+pub name-requires : goal.name-requires
+name-requires c =
     let refused = rw c.in-Loop.is at c.requires.refused in
-    known_nets c.args.text.now c.args.table.now.builder c.requires.read c.in-Loop.nets refused.1
-    c.as_slice.result.now c.deref.result.now c.args.table.now.names.items
-    c.as_slice.ensures c.deref.ensures.value c.requires.names
+    subst (IsName c.args.builder.now)
+    (sym (first_net c.in-Loop.nets c.index.result.now refused.1.some c.index.ensures))
+    (known_net c.args.text.now c.args.builder.now c.requires.read c.in-Loop.nets refused.1 0 refused.1.some)
+
+-- the name that is looked for is that of the cycle's first net
+name_is_first : (d : Draft) (nets : List NameId) (first : NameId) (name : Name) → 0 < length nets
+    → first ≡ get_or nets 0 first → name ≡ draft_name d first → name ≡ draft_name d (get_or nets 0 no_name)
+name_is_first d nets first name some e is = is ∙ ap (draft_name d) (first_net nets first some e)
 
 pub first_line-requires-in-Loop-clause-has : goal.first_line-requires-in-Loop-clause-has
 first_line-requires-in-Loop-clause-has c =
     let refused = rw c.in-Loop.is at c.requires.refused in
-    let names = copied_names c.args.table.now.builder c.deref.result.now c.args.table.now.names.items
-    c.in-Loop.nets c.as_slice.result.now (texts_in c.in_ok-names-in-Loop.names.items)
-    c.in_ok-names-in-Loop.ensures c.deref.ensures.value c.requires.names c.as_slice.ensures in
-    first_is_driven c.args.text.now c.args.table.now.builder c.requires.read c.in-Loop.nets refused.1
-    c.in_ok-names-in-Loop.names.items c.index.result.now c.deref-in-Loop.result.now refused.0 refused.2 names
-    c.index.ensures c.deref-in-Loop.ensures.value
+    let is = name_is_first c.args.builder.now c.in-Loop.nets c.index.result.now c.name.result.now refused.1.some
+    c.index.ensures c.name.ensures in
+    subst (HasNet c.args.text.now Driven) (sym is)
+    (first_is_driven c.args.text.now c.args.builder.now c.requires.read c.in-Loop.nets refused.1 refused.0)
 
-pub returns-in_ok-line-in-Loop : goal.returns-in_ok-line-in-Loop
-returns-in_ok-line-in-Loop c =
+pub names_of-requires : goal.names_of-requires
+names_of-requires c =
     let refused = rw c.in-Loop.is at c.requires.refused in
-    let names = copied_names c.args.table.now.builder c.deref.result.now c.args.table.now.names.items
-    c.in-Loop.nets c.as_slice.result.now (texts_in c.in_ok-names-in-Loop.names.items)
-    c.in_ok-names-in-Loop.ensures c.deref.ensures.value c.requires.names c.as_slice.ensures in
-    loop_found c.args.text.now c.args.table.now.builder c.requires.read c.in-Loop.nets refused.1
-    c.in_ok-names-in-Loop.names.items c.index.result.now c.deref-in-Loop.result.now refused.0 refused.2 names
-    c.index.ensures c.deref-in-Loop.ensures.value
-    c.in_ok-line-in-Loop.line c.in_ok-line-in-Loop.ensures
+    subst (All (IsName c.args.builder.now)) (sym c.deref.ensures.value)
+    (known_nets c.args.text.now c.args.builder.now c.requires.read c.in-Loop.nets refused.1)
+
+pub returns-in_ok-names-in-Loop : goal.returns-in_ok-names-in-Loop
+returns-in_ok-names-in-Loop c =
+    let refused = rw c.in-Loop.is at c.requires.refused in
+    let is = name_is_first c.args.builder.now c.in-Loop.nets c.index.result.now c.name.result.now refused.1.some
+    c.index.ensures c.name.ensures in
+    let line = subst (λ n. IsFirstLine c.args.text.now Driven n c.in_ok-line-in-Loop.line) is
+    c.in_ok-line-in-Loop.ensures in
+    subst (IsLoop c.args.text.now c.in_ok-line-in-Loop.line)
+    (sym (c.in_ok-names-in-Loop.ensures ∙ ap (map (draft_name c.args.builder.now)) c.deref.ensures.value))
+    (loop_found c.args.text.now c.args.builder.now c.requires.read c.in-Loop.nets refused.1 refused.0 refused.2
+    c.in_ok-line-in-Loop.line line)

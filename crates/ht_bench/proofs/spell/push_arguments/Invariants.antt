@@ -1,6 +1,6 @@
 use Rattle.std.proofs.Common.{◌≡◌, ◌++◌, map, take}
 use Rattle.ht_net.specs.Named.{name_of}
-use Rattle.ht_statement.specs.Normal.{arguments_text}
+use Rattle.ht_statement.specs.StatementText.{arguments_text}
 use Rattle.ht_bench.proofs.spell.push_arguments.Given as goal
 
 abbrev pub invariant-loop-place : goal.invariant-loop-place

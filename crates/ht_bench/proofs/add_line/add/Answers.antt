@@ -1,0 +1,16 @@
+use Rattle.std.proofs.Common.{OnOk, subst}
+use Rattle.ht_statement.specs.Statement.{gate_line}
+use Rattle.ht_statement.specs.StatementOf.{texts_of}
+use Rattle.ht_bench.specs.Added.{Accepts}
+use Rattle.ht_bench.proofs.AcceptedLaws.{nothing_accepted}
+use Rattle.ht_bench.proofs.add_line.add.Goals as goal
+
+pub returns-in-Nothing-clause-accepts : goal.returns-in-Nothing-clause-accepts
+returns-in-Nothing-clause-accepts c = rw c.in-Nothing.is (nothing_accepted c.args.builder.now)
+
+pub returns-in-Gate-clause-accepts : goal.returns-in-Gate-clause-accepts
+returns-in-Gate-clause-accepts c =
+    rw c.in-Gate.is
+    (subst (λ args. OnOk c.add_gate.result
+    (Accepts c.args.builder.now (gate_line c.in-Gate.out.now c.in-Gate.kind (texts_of args))
+    c.add_gate.new.builder)) c.deref.ensures.value c.add_gate.ensures.accepts)

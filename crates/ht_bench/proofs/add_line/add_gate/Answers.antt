@@ -1,0 +1,71 @@
+use Rattle.std.proofs.Common.{◌≡◌, length, refl, sym, ◌∙◌, subst, arith}
+use Rattle.std.specs.List.{AllZip}
+use Rattle.std.proofs.lemmas.Result.{err_from_is_err_and}
+use Rattle.ht_tern.specs.Gate.{HasArity}
+use Rattle.ht_statement.specs.Statement.{gate_line}
+use Rattle.ht_statement.specs.StatementOf.{texts_of}
+use Rattle.ht_bench.specs.Added.{IsNumberOf}
+use Rattle.ht_bench.proofs.ListLaws.{AllZip-length}
+use Rattle.ht_bench.proofs.MentionAllLaws.{known_numbers, length-texts_of}
+use Rattle.ht_bench.proofs.AcceptedLaws.{driver_refused, arguments_refused, gate_accepted, gate_refused}
+use Rattle.ht_bench.proofs.add_line.add_gate.Goals as goal
+
+pub returns-in_err-out_id-clause-refusal : goal.returns-in_err-out_id-clause-refusal
+returns-in_err-out_id-clause-refusal c =
+    let p = err_from_is_err_and c.from_residual.result c.from_residual.ensures.1 in
+    rw (p.1, p.2)
+    (driver_refused c.args.builder.now (gate_line c.args.out.now c.args.kind (texts_of c.args.args.now)) c.args.out.now
+    (texts_of c.args.args.now) c.in_err-out_id.field-0.0 refl refl c.in_err-out_id.ensures.refusal)
+
+pub returns-in_err-arg_ids-clause-refusal : goal.returns-in_err-arg_ids-clause-refusal
+returns-in_err-arg_ids-clause-refusal c =
+    let p = err_from_is_err_and c.from_residual-in_err-arg_ids.result c.from_residual-in_err-arg_ids.ensures.1 in
+    rw (p.1, p.2)
+    (arguments_refused c.args.builder.now c.mention_driven.new.builder c.in_ok-out_id.out_id c.args.out.now
+    c.in_ok-out_id.ensures.mentions c.in_ok-out_id.ensures.number c.in_ok-out_id.ensures.free
+    (gate_line c.args.out.now c.args.kind (texts_of c.args.args.now)) (texts_of c.args.args.now) c.in_err-arg_ids.field-0.0
+    refl refl c.in_err-arg_ids.ensures.refusal)
+
+pub gate-requires-clause-out : goal.gate-requires-clause-out
+gate-requires-clause-out c =
+    (c.in_ok-arg_ids.ensures.mentions.grows c.in_ok-out_id.out_id c.args.out.now c.in_ok-out_id.ensures.number).0
+
+-- the numbers as they are lent to the builder
+lent : (c : goal.After-deref) → AllZip (IsNumberOf c.mention_all.new.builder.names) c.deref.result.now
+    (texts_of c.args.args.now)
+lent c = subst (λ ids. AllZip (IsNumberOf c.mention_all.new.builder.names) ids (texts_of c.args.args.now))
+    (sym c.deref.ensures.value) c.in_ok-arg_ids.ensures.numbers
+
+lent_count : (c : goal.After-deref) → length c.deref.result.now ≡ length c.args.args.now
+lent_count c = AllZip-length (IsNumberOf c.mention_all.new.builder.names) c.deref.result.now
+    (texts_of c.args.args.now) (lent c) ∙ length-texts_of c.args.args.now
+
+pub gate-requires-clause-args : goal.gate-requires-clause-args
+gate-requires-clause-args c = known_numbers (texts_of c.args.args.now) c.mention_all.new.builder
+    c.deref.result.now (lent c)
+
+pub gate-requires-clause-arity : goal.gate-requires-clause-arity
+gate-requires-clause-arity c = subst (HasArity c.args.kind) (sym (lent_count c)) c.requires.arity
+
+pub gate-requires-clause-few : goal.gate-requires-clause-few
+gate-requires-clause-few c = omega (arith, c.requires.few, lent_count c)
+
+pub returns-in_err-gate-clause-refusal : goal.returns-in_err-gate-clause-refusal
+returns-in_err-gate-clause-refusal c =
+    let are = subst (λ ids. AllZip (IsNumberOf c.mention_all.new.builder.names) ids (texts_of c.args.args.now))
+    (sym c.deref.ensures.value) c.in_ok-arg_ids.ensures.numbers in
+    let p = err_from_is_err_and c.from_residual-in_err-gate.result c.from_residual-in_err-gate.ensures.1 in
+    rw (p.1, p.2)
+    (gate_refused c.args.builder.now c.mention_driven.new.builder c.in_ok-out_id.out_id c.args.out.now
+    c.in_ok-out_id.ensures.mentions c.in_ok-out_id.ensures.number c.in_ok-out_id.ensures.free
+    c.mention_all.new.builder (texts_of c.args.args.now) c.in_ok-arg_ids.ensures.mentions c.args.kind
+    c.deref.result.now are c.in_err-gate.field-0.0 c.in_err-gate.ensures.refusal)
+
+pub returns-clause-accepts : goal.returns-clause-accepts
+returns-clause-accepts c =
+    let are = subst (λ ids. AllZip (IsNumberOf c.mention_all.new.builder.names) ids (texts_of c.args.args.now))
+    (sym c.deref.ensures.value) c.in_ok-arg_ids.ensures.numbers in
+    gate_accepted c.args.builder.now c.mention_driven.new.builder c.in_ok-out_id.out_id c.args.out.now
+    c.in_ok-out_id.ensures.mentions c.in_ok-out_id.ensures.number c.in_ok-out_id.ensures.free
+    c.mention_all.new.builder (texts_of c.args.args.now) c.in_ok-arg_ids.ensures.mentions c.args.kind
+    c.deref.result.now are c.gate.new.self c.in_ok-gate.ensures.ok c.in_ok-gate.ensures.accepts

@@ -1,5 +1,0 @@
-use Rattle.ht_bench.proofs.OneLaws.{one_circuit}
-use Rattle.ht_bench.proofs.laws.one_circuit_per_text.Goals as goal
-
-pub returns : goal.returns
-returns c = one_circuit

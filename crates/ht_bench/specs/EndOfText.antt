@@ -1,0 +1,49 @@
+-- What is judged behind the last line: nets that no line drives, and cycles of gates.
+use Rattle.std.specs.Prelude.{◌≡◌, ◌≢◌, ℕ, ◌+◌, ◌-◌, ◌<◌, ◌≤◌, List, [], ◌∷◌, ◌++◌, length, get_or, All, Contains}
+use Rattle.ht_net.specs.Named.{Name, NamedGate}
+use Rattle.ht_statement.specs.Statement.{Statement, names_in}
+use Rattle.ht_bench.specs.Contents.{driven_in, driven_by, mentions_of, gates_of, mention_rank}
+
+-- all the nets are driven by some line
+abbrev pub AreDriven : List Statement → List Name → Type 0
+AreDriven statements names = All (Contains (driven_by statements)) names
+
+-- The first line that mentions a net that no line drives, and the leftmost such net on it. Lines count from 1.
+pub record IsFirstUndriven (statements : List Statement) (number : ℕ) (name : Name) : Type 0 where
+  pub before : List Statement
+  pub statement : Statement
+  pub after : List Statement
+  pub split : statements ≡ before ++ statement ∷ after
+  pub is_number : number ≡ length before + 1
+  pub earlier : AreDriven statements (mentions_of before)
+  pub left : List Name
+  pub right : List Name
+  pub names : names_in statement ≡ left ++ name ∷ right
+  pub leftmost : AreDriven statements left
+  pub undriven : ¬ Contains (driven_by statements) name
+
+-- a is an argument of the gate that drives b
+pub record Feeds (statements : List Statement) (a b : Name) : Type 0 where
+  pub gate : NamedGate
+  pub is_gate : Contains (gates_of statements) gate
+  pub out : gate.out ≡ b
+  pub arg : Contains gate.args a
+
+-- different nets: each is an argument of the gate that drives the next, and the last of the gate that drives the first;
+-- the first is the least by first mention
+pub record IsCycle (statements : List Statement) (cycle : List Name) : Type 0 where
+  pub some : 0 < length cycle
+  pub distinct : (j k : ℕ) → j < k → k < length cycle → get_or cycle j [] ≢ get_or cycle k []
+  pub next : (k : ℕ) → k + 1 < length cycle → Feeds statements (get_or cycle k []) (get_or cycle (k + 1) [])
+  pub closes : Feeds statements (get_or cycle (length cycle - 1) []) (get_or cycle 0 [])
+  pub least : (k : ℕ) → k < length cycle → mention_rank statements (get_or cycle 0 []) ≤ mention_rank statements
+      (get_or cycle k [])
+
+-- the line that drives a net
+pub record IsDriverLine (statements : List Statement) (name : Name) (number : ℕ) : Type 0 where
+  pub before : List Statement
+  pub statement : Statement
+  pub after : List Statement
+  pub split : statements ≡ before ++ statement ∷ after
+  pub is_number : number ≡ length before + 1
+  pub drives : driven_in statement ≡ name ∷ []

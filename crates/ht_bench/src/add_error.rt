@@ -1,0 +1,85 @@
+// Why a line isn't added.
+ghost use Rattle.std.specs.Prelude.{◌≡◌};
+ghost use Rattle.ht_bench.specs.AddErrors.{error_at};
+
+use crate::BenchError;
+use ht_items::Items;
+use ht_net::NetError;
+use ht_statement::{LineRefusal, StatementError};
+use std::alloc::{AllocError, AllocFailed};
+
+/// Why a line isn't added to a netlist in the making.
+#[derive(Drop)]
+pub(crate) enum AddError {
+    /// It is refused by itself.
+    Refused(LineRefusal),
+    /// It drives this net, which an earlier line drives.
+    SecondDriver(Items<u8>),
+    /// With it there are more than the limit allows.
+    Limit(ht_net::Limit),
+    NoMemory,
+}
+
+impl AddError {
+    /// The refusal of a line, which counts from 1, for this cause.
+    pub(crate) fn at(self, line: u32) -> BenchError
+        ensures { result ≡ error_at self line }
+    {
+        match self {
+            AddError::Refused(LineRefusal::BadLine) => BenchError::BadLine { line },
+            AddError::Refused(LineRefusal::BadName) => BenchError::BadName { line },
+            AddError::Refused(LineRefusal::BadKind) => BenchError::BadKind { line },
+            AddError::Refused(LineRefusal::BadCount) => BenchError::BadCount { line },
+            AddError::SecondDriver(name) => BenchError::Twice { line, name },
+            AddError::Limit(what) => BenchError::TooMany { line, what },
+            AddError::NoMemory => BenchError::NoMemory,
+        }
+    }
+}
+
+impl From<AllocError> for AddError {
+    ghost use Rattle.ht_bench.specs.declared.add_error.AddError.TheVariants.{NoMemory};
+
+    ghost from_gives = { λ _ cause. cause ≡ NoMemory };
+
+    fn from(_error: AllocError) -> AddError {
+        AddError::NoMemory
+    }
+}
+
+impl<T: Drop> From<AllocFailed<T>> for AddError {
+    ghost use Rattle.ht_bench.specs.declared.add_error.AddError.TheVariants.{NoMemory};
+
+    ghost from_gives = { λ _ cause. cause ≡ NoMemory };
+
+    fn from(_error: AllocFailed<T>) -> AddError {
+        AddError::NoMemory
+    }
+}
+
+impl From<StatementError> for AddError {
+    ghost use Rattle.ht_bench.specs.AddErrors.{line_error_of};
+
+    ghost from_gives = { λ fault cause. cause ≡ line_error_of fault };
+
+    fn from(fault: StatementError) -> AddError {
+        match fault {
+            StatementError::Refused(refusal) => AddError::Refused(refusal),
+            StatementError::NoMemory => AddError::NoMemory,
+        }
+    }
+}
+
+// a net that is driven is told before a builder is asked to drive it
+impl From<NetError> for AddError {
+    ghost use Rattle.ht_bench.specs.AddErrors.{add_error_of};
+
+    ghost from_gives = { λ error cause. cause ≡ add_error_of error };
+
+    fn from(error: NetError) -> AddError {
+        match error {
+            NetError::TooMany { what } => AddError::Limit(what),
+            _ => AddError::NoMemory,
+        }
+    }
+}

@@ -1,0 +1,58 @@
+//! Names that lines mention, and their numbers.
+ghost use Rattle.std.specs.Prelude.{◌≡◌, [], ◌∷◌, IfOk, OnOk, IfErr};
+ghost use Rattle.std.specs.List.{AllZip};
+ghost use Rattle.ht_net.specs.Draft.{IsDraft, IsDriven};
+ghost use Rattle.ht_statement.specs.StatementOf.{texts_of};
+ghost use Rattle.ht_bench.specs.Added.{IsNumberOf, Mentions, RefusesMention, RefusesMentions, RefusesDriver};
+
+use crate::add_error::AddError;
+use ht_items::Items;
+use ht_net::{Builder, NameId};
+use std::alloc::Global;
+
+/// The number of a name, which is mentioned from here on.
+pub(crate) fn mention(builder: &mut Builder, name: &[u8]) -> Result<NameId, AddError>
+    ensures number { IfOk result (λ id. IsNumberOf builder.new.names id name.now) }
+    ensures mentions { OnOk result (Mentions builder.old (name.now ∷ []) builder.new) }
+    ensures refusal { IfErr result (RefusesMention builder.old name.now) }
+{
+    Ok(builder.net(name)?)
+}
+
+/// The numbers of names, which are mentioned from here on.
+pub(crate) fn mention_all(
+    alloc: Global,
+    builder: &mut Builder,
+    names: &[&[u8]],
+) -> Result<Vec<NameId>, AddError>
+    requires { IsDraft builder.old }
+    ensures numbers { IfOk result
+        (λ ids. AllZip (IsNumberOf builder.new.names) ids.items (texts_of names.now)) }
+    ensures mentions { OnOk result
+        (Mentions builder.old (texts_of names.now) builder.new) }
+    ensures refusal { IfErr result (RefusesMentions builder.old (texts_of names.now)) }
+{
+    let mut ids = Vec::new(alloc);
+    for name in names {
+        ids.push(mention(builder, name)?)?;
+    }
+    Ok(ids)
+}
+
+/// The number of a net that a line drives, where no earlier line drives it.
+pub(crate) fn mention_driven(
+    alloc: Global,
+    builder: &mut Builder,
+    name: &[u8],
+) -> Result<NameId, AddError>
+    ensures number { IfOk result (λ id. IsNumberOf builder.new.names id name.now) }
+    ensures free { IfOk result (λ id. ¬ IsDriven builder.new id) }
+    ensures mentions { OnOk result (Mentions builder.old (name.now ∷ []) builder.new) }
+    ensures refusal { IfErr result (RefusesDriver builder.old name.now) }
+{
+    let id = mention(builder, name)?;
+    if builder.driven(id) {
+        return Err(AddError::SecondDriver(Items::from_slice(alloc, name)?));
+    }
+    Ok(id)
+}

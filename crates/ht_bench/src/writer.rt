@@ -1,0 +1,161 @@
+// The writer of normal text.
+ghost use Rattle.std.specs.Prelude.{◌≡◌, ◌++◌, map, IfOk, OnOk};
+ghost use Rattle.ht_net.specs.Named.{named_of};
+ghost use Rattle.ht_statement.specs.Statement.{input_line, output_line};
+ghost use Rattle.ht_bench.specs.Normal.{statement_lines, dff_statement, gate_statement, normal_text};
+
+use crate::spell::{push_dff, push_gate, push_input, push_output};
+use ht_net::{Circuit, NetId};
+use std::alloc::{AllocError, Global};
+
+/// The normal text of a circuit (ISCAS-89 format): INPUT lines by input, OUTPUT lines by output, flip-flop lines by
+/// flip-flop and gate lines by gate, each with its LF, and nothing else. Names are written as the circuit has them.
+///
+/// # Errors
+/// `AllocError` where memory runs out.
+pub fn write(alloc: Global, circuit: &Circuit) -> Result<Vec<u8>, AllocError>
+    ensures { IfOk result (λ text. text.items ≡ normal_text circuit.now) }
+{
+    let mut text = Vec::new(alloc);
+    push_inputs(&mut text, circuit)?;
+    push_outputs(&mut text, circuit)?;
+    push_dffs(&mut text, circuit)?;
+    push_gates(&mut text, circuit)?;
+    Ok(text)
+}
+
+// Appends the lines of the inputs.
+fn push_inputs(text: &mut Vec<u8>, circuit: &Circuit) -> Result<(), AllocError>
+    ensures { OnOk result
+        (text.new.items ≡ text.old.items
+        ++ statement_lines (map input_line (named_of circuit.now).inputs)) }
+{
+    let nets = circuit.nets();
+    for input in 0..circuit.inputs() {
+        prove!(input < nets);
+        push_input(text, circuit.name(NetId(input)))?;
+    }
+    Ok(())
+}
+
+// Appends the lines of the outputs.
+fn push_outputs(text: &mut Vec<u8>, circuit: &Circuit) -> Result<(), AllocError>
+    ensures { OnOk result
+        (text.new.items ≡ text.old.items
+        ++ statement_lines (map output_line (named_of circuit.now).outputs)) }
+{
+    let nets = circuit.nets();
+    for output in 0..circuit.outputs() {
+        let net = circuit.output(output);
+        prove!(net.0 < nets);
+        push_output(text, circuit.name(net))?;
+    }
+    Ok(())
+}
+
+// Appends the lines of the flip-flops.
+#[tactic(auto, using(crate::proofs::NormalLaws::named_dffs_count, crate::proofs::NormalLaws::added_lines))]
+fn push_dffs(text: &mut Vec<u8>, circuit: &Circuit) -> Result<(), AllocError>
+    ensures { OnOk result
+        (text.new.items ≡ text.old.items
+        ++ statement_lines (map dff_statement (named_of circuit.now).dffs)) }
+{
+    let nets = circuit.nets();
+    for dff in 0..circuit.dffs() {
+        let out = circuit.dff_net(dff);
+        let data_pin = circuit.dff_data(dff);
+        prove!(data_pin.0 < nets);
+        push_dff(text, circuit.name(out), circuit.name(data_pin))?;
+    }
+    Ok(())
+}
+
+// Appends the lines of the gates.
+#[tactic(auto, using(crate::proofs::NormalLaws::named_gates_count, crate::proofs::NormalLaws::added_lines))]
+fn push_gates(text: &mut Vec<u8>, circuit: &Circuit) -> Result<(), AllocError>
+    ensures { OnOk result
+        (text.new.items ≡ text.old.items
+        ++ statement_lines (map gate_statement (named_of circuit.now).gates)) }
+{
+    for gate in 0..circuit.gates() {
+        let out = circuit.gate_net(gate);
+        let args = circuit.gate_args(gate);
+        push_gate(
+            text,
+            circuit,
+            circuit.name(out),
+            circuit.gate_kind(gate),
+            args,
+        )?;
+    }
+    Ok(())
+}
+
+#[cfg(test)]
+mod tests {
+    use super::*;
+    use ht_net::{Builder, NetError};
+    use ht_tern::Kind;
+    use std::test::Fail;
+
+    /// Adds `out = NAND(a, b)`.
+    fn nand(builder: &mut Builder, out: &[u8], a: &[u8], b: &[u8]) -> Result<(), NetError> {
+        let out = builder.net(out)?;
+        let a = builder.net(a)?;
+        let b = builder.net(b)?;
+        builder.gate(Kind::Nand, out, &[a, b])
+    }
+
+    /// Adds `out = BUFF(arg)` and makes it an output.
+    fn buff_output(builder: &mut Builder, out: &[u8], arg: &[u8]) -> Result<(), NetError> {
+        let out = builder.net(out)?;
+        let arg = builder.net(arg)?;
+        builder.gate(Kind::Buf, out, &[arg])?;
+        builder.output(out)
+    }
+
+    /// Adds an input and a flip-flop `out = DFF(pin)`.
+    fn input_and_dff(
+        builder: &mut Builder,
+        input: &[u8],
+        out: &[u8],
+        pin: &[u8],
+    ) -> Result<(), NetError> {
+        let input = builder.net(input)?;
+        let out = builder.net(out)?;
+        let pin = builder.net(pin)?;
+        builder.dff(out, pin)?;
+        builder.input(input)
+    }
+
+    fn toggle(alloc: Global) -> Result<Circuit, NetError> {
+        let mut builder = Builder::new(alloc);
+        nand(&mut builder, b"t", b"en", b"q")?;
+        buff_output(&mut builder, b"z", b"t")?;
+        input_and_dff(&mut builder, b"en", b"q", b"t")?;
+        builder.finish()
+    }
+
+    const TOGGLE: &[u8] = b"INPUT(en)
+OUTPUT(z)
+q = DFF(t)
+t = NAND(en, q)
+z = BUFF(t)
+";
+
+    #[test]
+    fn each_line_is_spelt(rt: HostRuntime) -> Result<(), Fail> {
+        let circuit = toggle(rt.alloc())?;
+        let text = write(rt.alloc(), &circuit)?;
+        assert_eq!(rt; text.as_slice(), TOGGLE);
+        Ok(())
+    }
+
+    #[test]
+    fn no_net_gives_no_line(rt: HostRuntime) -> Result<(), Fail> {
+        let circuit = Builder::new(rt.alloc()).finish()?;
+        let text = write(rt.alloc(), &circuit)?;
+        assert_eq!(rt; text.len(), 0);
+        Ok(())
+    }
+}

@@ -1,5 +1,0 @@
-use Rattle.ht_statement.proofs.StatedLaws.{stated_sound}
-use Rattle.ht_statement.proofs.normal.stated_is_sound.Goals as goal
-
-pub returns : goal.returns
-returns c = stated_sound
