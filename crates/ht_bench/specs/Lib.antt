@@ -4,6 +4,7 @@ pub mod Contents
 pub mod Accepted
 pub mod EndOfText
 pub mod Text
+pub mod RefusalText
 pub mod AddErrors
 pub mod Added
 pub mod Progress

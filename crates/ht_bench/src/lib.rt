@@ -15,12 +15,14 @@ mod theorems;
 mod lines;
 mod writer;
 mod reader;
+mod refusal_text;
 mod spell;
 mod mention;
 
 pub use error::BenchError;
 pub use writer::write;
 pub use reader::read;
+pub use refusal_text::write_refusal;
 pub use theorems::{
     a_circuit_that_was_read_has_names_of_the_format, normal_text_is_a_netlist_of_its_circuit,
     normal_text_is_read_as_its_circuit, one_circuit_per_text, one_refusal_per_text,
