@@ -10,7 +10,6 @@ mod err_line;
 mod netlist;
 mod norm;
 mod output;
-mod refusal;
 mod run_error;
 mod sim;
 mod vectors_file;

@@ -6,27 +6,27 @@
 //! `write` gives the normal text of a circuit, which `read` reads as that circuit. `specs/Normal.antt` has that text.
 #![tactic(auto)]
 
-mod add_line;
-mod find_line;
 mod add_error;
-mod split;
+mod add_line;
 mod error;
-mod theorems;
+mod find_line;
 mod lines;
-mod writer;
+mod mention;
 mod reader;
 mod refusal_text;
 mod spell;
-mod mention;
+mod split;
+mod theorems;
+mod writer;
 
 pub use error::BenchError;
-pub use writer::write;
 pub use reader::read;
 pub use refusal_text::write_refusal;
 pub use theorems::{
     a_circuit_that_was_read_has_names_of_the_format, normal_text_is_a_netlist_of_its_circuit,
     normal_text_is_read_as_its_circuit, one_circuit_per_text, one_refusal_per_text,
 };
+pub use writer::write;
 
 #[cfg(test)]
 mod tests;

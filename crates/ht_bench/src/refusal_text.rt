@@ -39,12 +39,7 @@ fn write_cause<D: Desk>(desk: &mut D, line: u32, cause: &[u8]) -> Result<(), Fai
 }
 
 // Writes a line and a cause that ends with the name of a net.
-fn write_named<D: Desk>(
-    desk: &mut D,
-    line: u32,
-    cause: &[u8],
-    name: &[u8],
-) -> Result<(), Failed>
+fn write_named<D: Desk>(desk: &mut D, line: u32, cause: &[u8], name: &[u8]) -> Result<(), Failed>
     ensures { Wrote out_port.Err (at_line line (cause.now ++ name.now)) (is_ok result)
         (D.view desk.old) (D.view desk.new) }
 {

@@ -10,17 +10,17 @@
 mod arguments;
 mod element;
 mod error;
+mod first_token;
 mod form;
 mod name;
-mod first_token;
-mod theorems;
 mod reading;
 mod statement;
 #[cfg(test)]
 mod tests;
+mod theorems;
 mod token;
 
 pub use error::{LineRefusal, StatementError};
-pub use theorems::{normal_text_is_read, stated_is_sound};
 pub use reading::read_line;
 pub use statement::Statement;
+pub use theorems::{normal_text_is_read, stated_is_sound};
