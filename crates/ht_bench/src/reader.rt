@@ -70,8 +70,10 @@ fn end_refusal(
             Ok(BenchError::Undriven { line, name })
         }
         NetError::Loop { nets } => {
-            let line = first_line(alloc, text, Role::Driven, builder.name(nets.as_slice()[0]))?;
-            let names = names_of(alloc, builder, nets.as_slice())?;
+            let nets = nets.as_slice();
+            let first = nets[0];
+            let line = first_line(alloc, text, Role::Driven, builder.name(first))?;
+            let names = names_of(alloc, builder, nets)?;
             Ok(BenchError::Loop { line, names })
         }
         _ => Err(AllocError),

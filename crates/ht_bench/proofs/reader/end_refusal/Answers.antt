@@ -1,10 +1,9 @@
-use Rattle.std.proofs.Common.{◌≡◌, ◌<◌, List, length, get_or, map, sym, ◌∙◌, ap, subst}
+use Rattle.std.proofs.Common.{◌≡◌, List, get_or, map, sym, ◌∙◌, ap, subst}
 use Rattle.ht_net.specs.declared.names.NameId.{NameId}
 use Rattle.ht_net.specs.Draft.{Draft, IsName, no_name}
 use Rattle.ht_net.specs.Named.{Name}
 use Rattle.ht_net.specs.Built.{draft_name}
 use Rattle.std.specs.List.{All}
-use Rattle.std.proofs.lemmas.List.{get_or_default}
 use Rattle.ht_bench.specs.Role.{HasNet, IsFirstLine}
 use Rattle.ht_bench.specs.Text.{IsUndriven, IsLoop}
 use Rattle.ht_bench.specs.declared.find_line.Role.TheVariants.{Mentioned, Driven}
@@ -27,45 +26,38 @@ returns-in_ok-name-in-Undriven c =
     (undriven_is c.args.text.now c.args.builder.now c.requires.read c.in-Undriven.name free
     c.in_ok-line-in-Undriven.line first)
 
--- the first net of a list that has some
-first_net : (nets : List NameId) (first : NameId) → 0 < length nets → first ≡ get_or nets 0 first
-    → first ≡ get_or nets 0 no_name
-first_net nets first some e = e ∙ sym (get_or_default nets 0 no_name first some)
-
 pub name-requires : goal.name-requires
 name-requires c =
     let refused = rw c.in-Loop.is at c.requires.refused in
-    subst (IsName c.args.builder.now)
-    (sym (first_net c.in-Loop.nets c.index.result.now refused.1.some c.index.ensures))
+    subst (λ nets. IsName c.args.builder.now (get_or nets 0 no_name)) (sym c.as_slice-nets.ensures)
     (known_net c.args.text.now c.args.builder.now c.requires.read c.in-Loop.nets refused.1 0 refused.1.some)
 
 -- the name that is looked for is that of the cycle's first net
-name_is_first : (d : Draft) (nets : List NameId) (first : NameId) (name : Name) → 0 < length nets
-    → first ≡ get_or nets 0 first → name ≡ draft_name d first → name ≡ draft_name d (get_or nets 0 no_name)
-name_is_first d nets first name some e is = is ∙ ap (draft_name d) (first_net nets first some e)
+name_is_first : (d : Draft) (nets lent : List NameId) (name : Name) → lent ≡ nets
+    → name ≡ draft_name d (get_or lent 0 no_name) → name ≡ draft_name d (get_or nets 0 no_name)
+name_is_first d nets lent name same is = is ∙ ap (λ (l : List NameId). draft_name d (get_or l 0 no_name)) same
 
 pub first_line-requires-in-Loop-clause-has : goal.first_line-requires-in-Loop-clause-has
 first_line-requires-in-Loop-clause-has c =
     let refused = rw c.in-Loop.is at c.requires.refused in
-    let is = name_is_first c.args.builder.now c.in-Loop.nets c.index.result.now c.name.result.now refused.1.some
-    c.index.ensures c.name.ensures in
-    subst (HasNet c.args.text.now Driven) (sym is)
+    subst (HasNet c.args.text.now Driven)
+    (sym (name_is_first c.args.builder.now c.in-Loop.nets c.as_slice-nets.result.now c.name.result.now
+    c.as_slice-nets.ensures c.name.ensures))
     (first_is_driven c.args.text.now c.args.builder.now c.requires.read c.in-Loop.nets refused.1 refused.0)
 
 pub names_of-requires : goal.names_of-requires
 names_of-requires c =
     let refused = rw c.in-Loop.is at c.requires.refused in
-    subst (All (IsName c.args.builder.now)) (sym c.deref.ensures.value)
+    subst (All (IsName c.args.builder.now)) (sym c.as_slice-nets.ensures)
     (known_nets c.args.text.now c.args.builder.now c.requires.read c.in-Loop.nets refused.1)
 
 pub returns-in_ok-names-in-Loop : goal.returns-in_ok-names-in-Loop
 returns-in_ok-names-in-Loop c =
     let refused = rw c.in-Loop.is at c.requires.refused in
-    let is = name_is_first c.args.builder.now c.in-Loop.nets c.index.result.now c.name.result.now refused.1.some
-    c.index.ensures c.name.ensures in
-    let line = subst (λ n. IsFirstLine c.args.text.now Driven n c.in_ok-line-in-Loop.line) is
-    c.in_ok-line-in-Loop.ensures in
+    let line = subst (λ n. IsFirstLine c.args.text.now Driven n c.in_ok-line-in-Loop.line)
+    (name_is_first c.args.builder.now c.in-Loop.nets c.as_slice-nets.result.now c.name.result.now
+    c.as_slice-nets.ensures c.name.ensures) c.in_ok-line-in-Loop.ensures in
     subst (IsLoop c.args.text.now c.in_ok-line-in-Loop.line)
-    (sym (c.in_ok-names-in-Loop.ensures ∙ ap (map (draft_name c.args.builder.now)) c.deref.ensures.value))
+    (sym (c.in_ok-names-in-Loop.ensures ∙ ap (map (draft_name c.args.builder.now)) c.as_slice-nets.ensures))
     (loop_found c.args.text.now c.args.builder.now c.requires.read c.in-Loop.nets refused.1 refused.0 refused.2
     c.in_ok-line-in-Loop.line line)
