@@ -1,69 +1,18 @@
 -- What the uses of the parts give to the arguments of a form is what the parts give.
-use Rattle.std.proofs.Common.{◌≡◌, ◌∙◌, ◌+◌, ◌∷◌, ◌++◌, ◌||◌, ◌&&◌, ◌==◌, ℕ, Bool, true, false, not, cond, List, [], map, length, suc, Option, Some, None, refl, sym, ap, arith, ne_eqb, option_map}
+use Rattle.std.proofs.Common.{◌≡◌, ◌∙◌, ◌+◌, ◌∷◌, ◌++◌, ◌||◌, ◌&&◌, ◌==◌, ℕ, Bool, true, false, cond, List, [], length, suc, Option, Some, None, refl, sym, ap, arith, ne_eqb, option_map}
 use Rattle.std.specs.Prelude.{find, option_and_then, slice_get}
-use Rattle.std.specs.List.{list_all}
 use Rattle.std.specs.Str.{bytes_eq}
 use Rattle.std.proofs.Math.Bool.{and-false}
-use Rattle.std.proofs.lemmas.Bool.Decides.{Decides-eqb}
 use Rattle.clap.specs.Walk.{Text}
 use Rattle.ht_asked.specs.Forms.{Form, Given, Part, all_differ, given_by, is_among, option, options_of, positional, positionals_of, text_of}
 use Rattle.ht_asked.specs.ByClap.{all_of, all_with, given_values}
-use Rattle.ht_asked.proofs.Uses.{Use, arguments, has_use, place_in}
+use Rattle.ht_asked.proofs.Uses.{Use, arguments, place_in}
 use Rattle.ht_asked.proofs.Looks.{true_is_false}
-use Rattle.ht_asked.proofs.NameLaws.{apart, first_differs, left_false, left_true, not_in_first, others_differ, right_false, right_true, same_name, turned}
-use Rattle.ht_asked.proofs.PartLaws.{place}
-use Rattle.ht_asked.proofs.UseLaws.{AreFree, Places, are_known, has_room, names, place_is, zipped}
-
-abbrev texts : List Text → List Use → List (Option Text)
-texts ids us = map (λ id. text_of id us) ids
-
-skip : (id x v : Text) (us : List Use) → bytes_eq x id ≡ false → text_of id ((x, v) ∷ us) ≡ text_of id us
-skip id x v us other = ap (λ b. option_map (λ (u : Use). u.1)
-    (cond b (Some (x, v)) (find (λ u. bytes_eq u.0 id) us))) other
-
-skip_all : (x v : Text) (us : List Use) (ids : List Text) → is_among x ids ≡ false
-    → texts ids ((x, v) ∷ us) ≡ texts ids us
-skip_all x v us [] other = refl
-skip_all x v us (id ∷ ids) other = λ i.
-    skip id x v us (turned id x (left_false _ (is_among x ids) other)) i
-    ∷ skip_all x v us ids (right_false (bytes_eq id x) _ other) i
-
-mapped : {X Y : Type 0} (f : X → Y) (b : Bool) (x : X)
-    → option_map f (cond b (Some x) None) ≡ cond b (Some (f x)) None
-mapped f true x = refl
-mapped f false x = refl
-
-same_later : (b : Bool) (u : Use) (x y : Option Use) → option_map (λ (w : Use). w.1) x ≡ option_map (λ (w : Use). w.1) y
-    → option_map (λ (w : Use). w.1) (cond b (Some u) x) ≡ option_map (λ (w : Use). w.1) (cond b (Some u) y)
-same_later true u x y e = refl
-same_later false u x y e = e
-
--- one more on both sides is equal as often
-one_more : (a b : ℕ) → (suc a == suc b) ≡ (a == b)
-one_more a b = go (a == b) refl
-  where
-    go : (r : Bool) → (a == b) ≡ r → (suc a == suc b) ≡ (a == b)
-    go true e = (Decides-eqb (suc a) (suc b)).1 (ap (λ (n : ℕ). suc n) ((Decides-eqb a b).0 e)) ∙ sym e
-    go false e = ne_eqb (suc a) (suc b) (λ h. differ (pred_eq h)) ∙ sym e
-      where
-        differ : a ≡ b → ⊥
-        differ h = true_is_false (sym ((Decides-eqb a b).1 h) ∙ e)
-
-        pred_eq : suc a ≡ suc b → a ≡ b
-        pred_eq h = omega (arith, h)
-
--- without room there are more positionals than names
-crowded : (ps : List Part) (ids : List Text) → has_room ps ids ≡ false
-    → (length (positionals_of ps) == length ids) ≡ false
-crowded [] ids e = absurd (true_is_false e)
-crowded (option name value ∷ ps) ids e = crowded ps ids e
-crowded (positional word ∷ ps) [] e = ne_eqb (suc (length (positionals_of ps))) 0 (λ h. omega (arith, h))
-crowded (positional word ∷ ps) (id ∷ ids) e =
-    one_more (length (positionals_of ps)) (length ids) ∙ crowded ps ids e
-
-all_new : (os : List Use) → list_all (λ o. not (has_use o.0 [])) os ≡ true
-all_new [] = refl
-all_new (o ∷ os) = all_new os
+use Rattle.ht_asked.proofs.NameLaws.{apart, first_differs, left_false, left_true, not_in_first, others_differ, right_false, right_true, same_name}
+use Rattle.ht_asked.proofs.PlaceLaws.{place}
+use Rattle.ht_asked.proofs.NewLaws.{AreFree, has_room, names, zipped}
+use Rattle.ht_asked.proofs.UseLaws.{Places, are_known, place_is}
+use Rattle.ht_asked.proofs.TextLaws.{texts, skip, skip_all, mapped, same_later, one_more, crowded, crowded, crowded, crowded, all_new, all_new}
 
 module _ (positionals options : List Text) where
   -- each positional has its text, where there are as many as names
@@ -86,7 +35,8 @@ module _ (positionals options : List Text) where
       (not_in_first id ids options (first_differs id (ids ++ options) differ)) i)))
       ∙ ap (option_map (λ vs. word ∷ vs)) (texts_are ps ids known room (others_differ id (ids ++ options) differ))
       ∙ mapped (λ vs. word ∷ vs) (length (positionals_of ps) == length ids) (positionals_of ps)
-      ∙ sym (ap (λ b. cond b (Some (word ∷ positionals_of ps)) None) (one_more (length (positionals_of ps)) (length ids)))
+      ∙ sym (ap (λ b. cond b (Some (word ∷ positionals_of ps)) None)
+      (one_more (length (positionals_of ps)) (length ids)))
 
   option_text : (name : Text) (ps : List Part) (ids : List Text) → is_among name ids ≡ false
       → text_of name (zipped ps ids) ≡ text_of name (options_of ps)
@@ -152,9 +102,11 @@ module _ (positionals options : List Text) where
           → option_and_then given_uses (cond (known && (new && room)) (Some (zipped ps positionals)) None)
           ≡ cond ((length (positionals_of ps) == length positionals) && (known && new))
           (Some (told (positionals_of ps) (texts options (options_of ps)))) None
-      go false new room e f = sym (ap (λ b. cond b (Some (told (positionals_of ps) (texts options (options_of ps)))) None)
+      go false new room e f = sym
+          (ap (λ b. cond b (Some (told (positionals_of ps) (texts options (options_of ps)))) None)
           (and-false (length (positionals_of ps) == length positionals)))
-      go true false room e f = sym (ap (λ b. cond b (Some (told (positionals_of ps) (texts options (options_of ps)))) None)
+      go true false room e f = sym
+          (ap (λ b. cond b (Some (told (positionals_of ps) (texts options (options_of ps)))) None)
           (and-false (length (positionals_of ps) == length positionals)))
       go true true false e f =
           sym (ap (λ b. cond (b && true) (Some (told (positionals_of ps) (texts options (options_of ps)))) None)

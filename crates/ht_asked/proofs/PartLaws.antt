@@ -8,42 +8,9 @@ use Rattle.ht_asked.specs.Forms.{Part, is_option, option, parts, positional, wit
 use Rattle.ht_asked.proofs.Uses.{Arguments, Looks, Use, add_use, looks_by, read, read_option, read_positional, read_word}
 use Rattle.ht_asked.proofs.Uses as look
 use Rattle.ht_asked.proofs.Looks.{dashes, is_end, is_flags, is_long, is_plain, view}
-
--- one more use, of the argument that is found, where there is one
-abbrev pub add_at : Option Text → Text → List Use → Option (List Use)
-add_at None value uses = None
-add_at (Some id) value uses = add_use id value uses
+use Rattle.ht_asked.proofs.PlaceLaws.{add_at, place, placed, placed_positional, placed_option}
 
 module _ (args : Arguments) where
-  -- the uses with those of these parts, from this place on
-  unfoldable pub place : ℕ → List Use → List Part → Option (List Use)
-  place k uses [] = Some uses
-  place k uses (positional word ∷ rest) =
-      option_and_then (λ u. place (k + 1) u rest) (add_at (args.at k) word uses)
-  place k uses (option name value ∷ rest) =
-      option_and_then (λ u. place k u rest) (add_at (args.option name) value uses)
-
-  abbrev pub placed : ℕ → List Use → Option (List Part) → Option (List Use)
-  placed k uses = option_and_then (place k uses)
-
-  none_then : (o : Option (List Use)) → option_and_then {U = List Use} (λ u. None) o ≡ None
-  none_then None = refl
-  none_then (Some u) = refl
-
-  placed_positional : (k : ℕ) (uses : List Use) (word : Text) (o : Option (List Part))
-      → option_and_then (λ u. placed (k + 1) u o) (add_at (args.at k) word uses)
-      ≡ placed k uses (with_part (positional word) o)
-  unfolding place
-  placed_positional k uses word None = none_then (add_at (args.at k) word uses)
-  placed_positional k uses word (Some ps) = refl
-
-  placed_option : (k : ℕ) (uses : List Use) (name value : Text) (o : Option (List Part))
-      → option_and_then (λ u. placed k u o) (add_at (args.option name) value uses)
-      ≡ placed k uses (with_part (option name value) o)
-  unfolding place
-  placed_option k uses name value None = none_then (add_at (args.option name) value uses)
-  placed_option k uses name value (Some ps) = refl
-
   abbrev next : List Text → Bool → Option Text → ℕ → List Use → Option (List Use)
   next words e w k u = read args e w k u words
 
@@ -55,50 +22,51 @@ module _ (args : Arguments) where
   to_positional ended k uses word words (Some id) = refl
 
   ended : (words : List Text) (k : ℕ) (uses : List Use)
-      → read args true None k uses words ≡ place k uses (map positional words)
+      → read args true None k uses words ≡ place args k uses (map positional words)
   unfolding read place
   ended [] k uses = refl
   ended (x ∷ xs) k uses = to_positional true k uses x xs (args.at k)
       ∙ ap (λ f. option_and_then f (add_at (args.at k) x uses)) (λ i u. ended xs (k + 1) u i)
 
   abbrev Idle : List Text → Type 0
-  Idle words = (k : ℕ) (uses : List Use) → read args false None k uses words ≡ placed k uses (parts None words)
+  Idle words = (k : ℕ) (uses : List Use) → read args false None k uses words ≡ placed args k uses (parts None words)
 
   abbrev Waits : List Text → Type 0
   Waits words = (k : ℕ) (uses : List Use) (name id : Text) → args.option name ≡ Some id
-      → read args false (Some id) k uses words ≡ placed k uses (parts (Some name) words)
+      → read args false (Some id) k uses words ≡ placed args k uses (parts (Some name) words)
 
   -- an option that the command lacks
   lacks : (k : ℕ) (uses : List Use) (name value : Text) (o : Option (List Part)) → args.option name ≡ None
-      → placed k uses (with_part (option name value) o) ≡ None
-  lacks k uses name value o none = sym (placed_option k uses name value o)
-      ∙ ap (λ a. option_and_then (λ u. placed k u o) (add_at a value uses)) none
+      → placed args k uses (with_part (option name value) o) ≡ None
+  lacks k uses name value o none = sym (placed_option args k uses name value o)
+      ∙ ap (λ a. option_and_then (λ u. placed args k u o) (add_at a value uses)) none
 
   lacks_waiting : (k : ℕ) (uses : List Use) (name : Text) (words : List Text) → args.option name ≡ None
-      → placed k uses (parts (Some name) words) ≡ None
+      → placed args k uses (parts (Some name) words) ≡ None
   unfolding parts
   lacks_waiting k uses name [] none = refl
   lacks_waiting k uses name (x ∷ xs) none = go (is_option x)
     where
-      go : (b : Bool) → placed k uses (cond b None (with_part (option name x) (parts None xs))) ≡ None
+      go : (b : Bool) → placed args k uses (cond b None (with_part (option name x) (parts None xs))) ≡ None
       go true = refl
       go false = lacks k uses name x (parts None xs) none
 
   positional_word : (x : Text) (xs : List Text) (k : ℕ) (uses : List Use) → Idle xs
-      → read_positional (args.at k) false x k uses (next xs) ≡ placed k uses (with_part (positional x) (parts None xs))
+      → read_positional (args.at k) false x k uses (next xs)
+      ≡ placed args k uses (with_part (positional x) (parts None xs))
   positional_word x xs k uses later = to_positional false k uses x xs (args.at k)
       ∙ ap (λ f. option_and_then f (add_at (args.at k) x uses)) (λ i u. later (k + 1) u i)
-      ∙ placed_positional k uses x (parts None xs)
+      ∙ placed_positional args k uses x (parts None xs)
 
   option_word : (name : Text) (v : Option Text) (xs : List Text) (k : ℕ) (uses : List Use) → Idle xs → Waits xs
       → (o : Option Text) → args.option name ≡ o
-      → read_option o v k uses (next xs) ≡ placed k uses (with_value name v (λ waiting. parts waiting xs))
+      → read_option o v k uses (next xs) ≡ placed args k uses (with_value name v (λ waiting. parts waiting xs))
   option_word name (Some value) xs k uses later waits None e = sym (lacks k uses name value (parts None xs) e)
   option_word name None xs k uses later waits None e = sym (lacks_waiting k uses name xs e)
   option_word name (Some value) xs k uses later waits (Some id) e =
       ap (λ f. option_and_then f (add_use id value uses)) (λ i u. later k u i)
-      ∙ ap (λ o. option_and_then (λ u. placed k u (parts None xs)) (add_at o value uses)) (sym e)
-      ∙ placed_option k uses name value (parts None xs)
+      ∙ ap (λ o. option_and_then (λ u. placed args k u (parts None xs)) (add_at o value uses)) (sym e)
+      ∙ placed_option args k uses name value (parts None xs)
   option_word name None xs k uses later waits (Some id) e = waits k uses name id e
 
   abbrev look_by : Bool → Option (Text × Option Text) → Option Text → Looks
@@ -114,23 +82,23 @@ module _ (args : Arguments) where
 
   idle_word : (x : Text) (xs : List Text) (k : ℕ) (uses : List Use) → Idle xs → Waits xs
       → reads_by (bytes_eq x dashes) (long_of x) (short_of x) None x xs k uses
-      ≡ placed k uses (parts_by (bytes_eq x dashes) (is_option x) (long_of x) x xs)
+      ≡ placed args k uses (parts_by (bytes_eq x dashes) (is_option x) (long_of x) x xs)
   idle_word x xs k uses later waits = elim (view x) [
     | is_end e f ↦
         ap (λ b. reads_by b (long_of x) (short_of x) None x xs k uses) e
         ∙ ended xs k uses
-        ∙ sym (ap (λ b. placed k uses (parts_by b (is_option x) (long_of x) x xs)) e)
+        ∙ sym (ap (λ b. placed args k uses (parts_by b (is_option x) (long_of x) x xs)) e)
     | is_long e f q l ↦
         ap₂ (λ b m. reads_by b m (short_of x) None x xs k uses) e l
         ∙ option_word q.0 q.1 xs k uses later waits (args.option q.0) refl
-        ∙ sym (λ i. placed k uses (parts_by (e i) (f i) (l i) x xs))
+        ∙ sym (λ i. placed args k uses (parts_by (e i) (f i) (l i) x xs))
     | is_flags e f l g s ↦
         (λ i. reads_by (e i) (l i) (s i) None x xs k uses)
-        ∙ sym (λ i. placed k uses (parts_by (e i) (f i) (l i) x xs))
+        ∙ sym (λ i. placed args k uses (parts_by (e i) (f i) (l i) x xs))
     | is_plain e f l s ↦
         (λ i. reads_by (e i) (l i) (s i) None x xs k uses)
         ∙ positional_word x xs k uses later
-        ∙ sym (λ i. placed k uses (parts_by (e i) (f i) (l i) x xs))
+        ∙ sym (λ i. placed args k uses (parts_by (e i) (f i) (l i) x xs))
   ]
 
   abbrev waiting_parts : Bool → Text → Text → List Text → Option (List Part)
@@ -139,23 +107,23 @@ module _ (args : Arguments) where
   waiting_word : (x : Text) (xs : List Text) (k : ℕ) (uses : List Use) (name id : Text) → args.option name ≡ Some id
       → Idle xs
       → reads_by (bytes_eq x dashes) (long_of x) (short_of x) (Some id) x xs k uses
-      ≡ placed k uses (waiting_parts (is_option x) name x xs)
+      ≡ placed args k uses (waiting_parts (is_option x) name x xs)
   waiting_word x xs k uses name id is later = elim (view x) [
     | is_end e f ↦
         ap (λ b. reads_by b (long_of x) (short_of x) (Some id) x xs k uses) e
-        ∙ sym (ap (λ b. placed k uses (waiting_parts b name x xs)) f)
+        ∙ sym (ap (λ b. placed args k uses (waiting_parts b name x xs)) f)
     | is_long e f q l ↦
         ap₂ (λ b m. reads_by b m (short_of x) (Some id) x xs k uses) e l
-        ∙ sym (ap (λ b. placed k uses (waiting_parts b name x xs)) f)
+        ∙ sym (ap (λ b. placed args k uses (waiting_parts b name x xs)) f)
     | is_flags e f l g s ↦
         (λ i. reads_by (e i) (l i) (s i) (Some id) x xs k uses)
-        ∙ sym (ap (λ b. placed k uses (waiting_parts b name x xs)) f)
+        ∙ sym (ap (λ b. placed args k uses (waiting_parts b name x xs)) f)
     | is_plain e f l s ↦
         (λ i. reads_by (e i) (l i) (s i) (Some id) x xs k uses)
         ∙ ap (λ g. option_and_then g (add_use id x uses)) (λ i u. later k u i)
-        ∙ ap (λ o. option_and_then (λ u. placed k u (parts None xs)) (add_at o x uses)) (sym is)
-        ∙ placed_option k uses name x (parts None xs)
-        ∙ sym (ap (λ b. placed k uses (waiting_parts b name x xs)) f)
+        ∙ ap (λ o. option_and_then (λ u. placed args k u (parts None xs)) (add_at o x uses)) (sym is)
+        ∙ placed_option args k uses name x (parts None xs)
+        ∙ sym (ap (λ b. placed args k uses (waiting_parts b name x xs)) f)
   ]
 
   pub reads_parts : (words : List Text) → Idle words × Waits words

@@ -8,7 +8,7 @@ use Rattle.std.proofs.lemmas.Bool.Decides.{Decides-eqb}
 use Rattle.clap.specs.Lexer.{short_of_rest}
 use Rattle.clap.specs.Walk.{Text}
 use Rattle.ht_asked.specs.Asked.{texts_of}
-use Rattle.ht_asked.proofs.WalkIsRead.{AreReadable, IsReadable}
+use Rattle.ht_asked.proofs.States.{AreReadable, IsReadable}
 
 first_char : (y : ℕ) (ys : Text) → IsUtf8 (y ∷ ys) → (z : ℕ) × (slice_get (chars (y ∷ ys)) 0 ≡ Some z)
 first_char y ys u = go (chars (y ∷ ys)) refl

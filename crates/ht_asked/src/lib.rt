@@ -1,6 +1,7 @@
-//! What the words of a command line ask for: definitions and their laws, without code.
+//! What the words of a command line ask for: the definitions that the top call's contract cites, and their laws.
 //!
-//! `specs/Asked` says in plain steps which words ask for which command; `specs/ByClap` says it by `clap`'s own
-//! definitions, one for each command; `proofs/AskedByClap` proves that both say the same. They stand apart from the crate
-//! that reads the words, so that its check is short.
+//! `specs/Forms` says which words have a command's form, and what they give to its positionals and options;
+//! `specs/Asked` is the table of the commands; `specs/Numbers` is how a number in a range is read. `specs/ByClap` says
+//! the same by `clap`'s own definitions, and `proofs/FormByClap` proves for any form that both are one. There is no
+//! code: ht_words reads the words, and its check is short so.
 #![tactic(auto)]

@@ -33,8 +33,8 @@ pub enum WordsFault {
     /// The words have no command's form.
     #[error("the words have no command's form")]
     Usage,
-    /// Want of memory.
-    #[error("no memory")]
+    /// Out of memory.
+    #[error("out of memory")]
     NoMemory,
 }
 

@@ -1,8 +1,11 @@
 //! The words of the command line, read by `clap`: which of them ask for which job.
 //!
-//! `sim NETLIST TESTS REPORT` and `norm NETLIST OUT`. The first word names the command, in lower case. A word that begins
-//! with a hyphen and is longer is refused, as is a request for help or for a version; `-` alone is a name like any other.
-//! The first `--` is left out, and behind it each word is a name.
+//! `sim NETLIST TESTS REPORT` and `norm NETLIST OUT`. The first word names the command, in lower case. A word that
+//! begins with a hyphen and has more after it is refused, as is a request for help or for a version; `-` alone is a name
+//! like any other. The first `--` is left out, and after it each word is a name.
+//!
+//! The contract of `command` cites `asked` (ht_asked), which says the same in plain steps and is proved to be `clap`'s
+//! own reading.
 #![tactic(auto)]
 
 mod command_name;
@@ -10,8 +13,6 @@ mod definitions;
 mod file_name;
 mod job;
 mod reading;
-#[cfg(test)]
-mod tests;
 
 pub use file_name::FileName;
 pub use job::{Job, WordsFault};

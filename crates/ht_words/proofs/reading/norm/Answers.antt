@@ -13,7 +13,8 @@ pub returns-in_err-value-clause-usage : goal.returns-in_err-value-clause-usage
 returns-in_err-value-clause-usage c = λ e.
     let m = c.in_ok-matches in
     let rows = rows_of (found_of m.matches) in
-    answered norm_command (app_of c.in_ok-norm.field-0) (texts_of c.args.words.now) c.in_ok-norm.ensures rows m.ensures.rows
+    answered norm_command (app_of c.in_ok-norm.field-0) (texts_of c.args.words.now) c.in_ok-norm.ensures rows
+    m.ensures.rows
     m.ensures.taken
     ∙ (λ i. asks_by norm_command (c.value.ensures.usage (search rules) i ∷ first_of (codes "out") rows ∷ []) [])
 
@@ -21,7 +22,8 @@ pub returns-in_err-value-2-clause-usage : goal.returns-in_err-value-2-clause-usa
 returns-in_err-value-2-clause-usage c = λ e.
     let m = c.in_ok-matches in
     let rows = rows_of (found_of m.matches) in
-    answered norm_command (app_of c.in_ok-norm.field-0) (texts_of c.args.words.now) c.in_ok-norm.ensures rows m.ensures.rows
+    answered norm_command (app_of c.in_ok-norm.field-0) (texts_of c.args.words.now) c.in_ok-norm.ensures rows
+    m.ensures.rows
     m.ensures.taken
     ∙ (λ i. asks_by norm_command (c.in_ok-value.ensures.ok i ∷ c.value-2.ensures.usage (search rules) i ∷ []) [])
 
@@ -29,6 +31,7 @@ pub returns-clause-ok : goal.returns-clause-ok
 returns-clause-ok c =
     let m = c.in_ok-matches in
     let rows = rows_of (found_of m.matches) in
-    answered norm_command (app_of c.in_ok-norm.field-0) (texts_of c.args.words.now) c.in_ok-norm.ensures rows m.ensures.rows
+    answered norm_command (app_of c.in_ok-norm.field-0) (texts_of c.args.words.now) c.in_ok-norm.ensures rows
+    m.ensures.rows
     m.ensures.taken
     ∙ (λ i. asks_by norm_command (c.in_ok-value.ensures.ok i ∷ c.in_ok-value-2.ensures.ok i ∷ []) [])
