@@ -17,10 +17,6 @@ own_stay c leaders long own = record {
       (itself (fault_at c k));
 }
 
-pub others_join : (c : Netlist) (before between after : List ℕ) (g : ℕ) → OthersStay c before between g
-    → OthersStay c between after g → OthersStay c before after g
-others_join c before between after g h l = record { stay = λ k ne. l.stay k ne ∙ h.stay k ne }
-
 module _ (c : Netlist) (order : List ℕ) (circuit : IsCircuit c) (ordered : IsOrder c order) where
   -- No later gate of the order drives an argument of the gate at place k.
   not_later : (k j i : ℕ) → k < j → j < length order → i < length (gate_at c (get_or order k 0)).args → first_gate_net c

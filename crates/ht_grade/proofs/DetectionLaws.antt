@@ -12,23 +12,6 @@ use Rattle.ht_collapse.proofs.OwnLaws.{representative_is_own}
 use Rattle.ht_serial.specs.Places.{IsWithin}
 use Rattle.ht_grade.specs.Detections.{place_at, AreFirstDetections, AreFirstSoFar}
 
--- no class yet: every entry is none
-pub none_so_far : (c : Netlist) (representatives : List ℕ) (list : List (List Bool)) (places : List (Option Place))
-    → length places ≡ length (faults_of c) → places ≡ replicate (length places) None
-    → AreFirstSoFar c representatives list 0 places
-none_so_far c representatives list places each is = record {
-  each = each;
-  first = λ j less. absurd (omega arith);
-  within = λ i. elim (cases_lt i (length places)) [
-    | inl inside ↦
-        no_place (place_at places i) (ap (λ l. place_at l i) is ∙ get_or-replicate (length places) i None None inside)
-    | inr past ↦ no_place (place_at places i) (get_or_past places i None past)
-  ];
-}
-  where
-    no_place : (place : Option Place) → place ≡ None → ForSome place (IsWithin c list)
-    no_place place none = λ p some. let e : None ≡ Some p = sym none ∙ some in cc
-
 -- one class more: its representative's entry is written
 pub one_more : (c : Netlist) (representatives : List ℕ) (list : List (List Bool)) (places : List (Option Place))
     (place : Option Place) (k i : ℕ)

@@ -1,9 +1,10 @@
 -- What a report says of the representatives of classes. A list has what is said of each fault, by number from 0; of a
 -- fault that isn't its own representative it has no effect.
-use Rattle.std.specs.Prelude.{◌≡◌, ℕ, ◌+◌, ◌-◌, ◌^◌, ◌<◌, List, ◌++◌, Bool, true, false, length, get_or, map, Option, Some, None, codes}
+use Rattle.std.specs.Prelude.{◌≡◌, ℕ, ◌+◌, ◌<◌, List, ◌++◌, Bool, true, false, length, get_or, map, Option, Some, None, codes}
 use Rattle.std.specs.Fmt.{decimal}
 use Rattle.ht_net.specs.declared.place.Place.{Place}
 use Rattle.ht_net.specs.Netlist.{Netlist}
+use Rattle.ht_net.specs.Detection.{IsPlace}
 use Rattle.ht_faults.specs.Sites.{faults_of}
 use Rattle.ht_collapse.specs.Classes.{is_representative}
 use Rattle.ht_texts.specs.declared.said.Said.{Said}
@@ -14,11 +15,6 @@ abbrev pub said_at : List Said → ℕ → Said
 said_at saids i = get_or saids i Undetected
 
 -- ---- what may be said
-
--- an output of the circuit, at a vector whose number from 1 fits 64 bits
-pub record IsPlace (c : Netlist) (place : Place) : Type 0 where
-  pub output : place.output < length c.outputs
-  pub vector : place.vector < 2 ^ 64 - 1
 
 -- a detection is said to be at a place of the circuit
 abbrev pub IsSayable : Netlist → Said → Type 0

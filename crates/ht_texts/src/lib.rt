@@ -21,6 +21,6 @@ pub use body::write_body;
 pub use fault_line::write_fault;
 pub use head::write_head;
 pub use said::{Said, saids_of};
-pub use theorems::tests_are_read;
+pub use theorems::{tests_are_read, texts_are_tests_or_malformed};
 pub use total::{Sums, write_total};
 pub use vector::{read_vector, write_vector};

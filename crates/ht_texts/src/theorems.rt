@@ -1,5 +1,5 @@
-//! What is written is read. The law is the contract of a function that does nothing.
-ghost use Rattle.std.specs.Prelude.{◌≡◌, ◌≤◌, ◌^◌, ℕ, List, Bool, length};
+//! Which texts are tests. Each theorem is the contract of a function that does nothing.
+ghost use Rattle.std.specs.Prelude.{◌≡◌, ◌⊎◌, ◌≤◌, ◌^◌, ℕ, List, Bool, length};
 ghost use Rattle.std.specs.List.{All};
 ghost use Rattle.ht_net.specs.Netlist.{Netlist};
 ghost use Rattle.ht_texts.specs.Tests.{test_text, IsTestText, IsMalformedTest};
@@ -13,4 +13,17 @@ pub fn tests_are_read()
     ensures no_line { (c : Netlist) (list : List (List Bool)) (n : ℕ)
         → All (λ (vector : List Bool). length vector ≡ c.inputs) list
         → length (test_text list) ≤ 2 ^ 62 → ¬ IsMalformedTest c (test_text list) n }
+{}
+
+/// A text is the test text of one list of vectors, or malformed at one line: never both, and never neither.
+pub fn texts_are_tests_or_malformed()
+    ensures either { (c : Netlist) (text : List ℕ)
+        → ((list : List (List Bool)) × IsTestText c text list)
+        ⊎ ((n : ℕ) × IsMalformedTest c text n) }
+    ensures never_both { (c : Netlist) (text : List ℕ) (list : List (List Bool)) (n : ℕ)
+        → IsTestText c text list → ¬ IsMalformedTest c text n }
+    ensures one_list { (c : Netlist) (text : List ℕ) (a b : List (List Bool))
+        → IsTestText c text a → IsTestText c text b → a ≡ b }
+    ensures one_line { (c : Netlist) (text : List ℕ) (m n : ℕ)
+        → IsMalformedTest c text m → IsMalformedTest c text n → m ≡ n }
 {}
