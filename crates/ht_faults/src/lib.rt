@@ -7,12 +7,12 @@
 #![tactic(auto)]
 
 mod fault_list;
-mod laws;
 mod sites;
+mod theorems;
 
 pub use fault_list::{FaultList, list};
-pub use laws::{
+pub use sites::has_fanout;
+pub use theorems::{
     each_fault_is_listed_once, exactly_the_sites_are_listed, fault_list_is_short,
     listed_faults_stand_on_sites,
 };
-pub use sites::has_fanout;

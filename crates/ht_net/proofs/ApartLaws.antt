@@ -50,7 +50,8 @@ is_one false (inl h) = cc
 is_one false (inr h) = cc
 
 -- Bits that opposite values stand for are opposite.
-opposite_bits : (good faulty : Tern) (b d : Bool) → StandsFor good b → StandsFor faulty d → Opposite good faulty → d ≡ not b
+opposite_bits : (good faulty : Tern) (b d : Bool) → StandsFor good b → StandsFor faulty d → Opposite good faulty → d
+    ≡ not b
 opposite_bits Zero One b d g h o = rw (is_zero b g) (is_one d h)
 opposite_bits One Zero b d g h o = rw (is_one b g) (is_zero d h)
 opposite_bits Zero Zero b d g h o = absurd o

@@ -106,7 +106,8 @@ outputs_few d h =
     let distinct : IsDistinct eqb (map (λ (n : NameId). n.0) d.outputs) = IsDistinct-from_apart eqb
     (map (λ (n : NameId). n.0) d.outputs) (λ i j e less l.
     let l' : j < length d.outputs = omega arith in
-    ne_eqb _ _ (λ same. h.outputs_differ i j no_name less l' (ap make (sym (at i e (omega arith)) ∙ (same ∙ at j e l')))))
+    ne_eqb _ _ (λ same. h.outputs_differ i j no_name less l'
+    (ap make (sym (at i e (omega arith)) ∙ (same ∙ at j e l')))))
     in
     let below : (q : ℕ) → list_any (eqb q) (map (λ (n : NameId). n.0) d.outputs) ≡ true → q < length d.names = λ q any.
     let c = Contains-from_any {eq = eqb} tells_equal q (map (λ (n : NameId). n.0) d.outputs) any in
@@ -258,7 +259,8 @@ module _ (d : Draft) (drivers : List Driver) (a : Agrees d.inputs Input drivers)
         };
       }
 
-  feeds : (g h : ℕ) → g < length d.gates → h < length d.gates → ReadsGate (length d.inputs + length d.dffs) (draft_gates d)
+  feeds : (g h : ℕ) → g < length d.gates → h < length d.gates → ReadsGate (length d.inputs + length d.dffs)
+      (draft_gates d)
       g h
       → FeedsName d (get_or d.gates h no_part).out (get_or d.gates g no_part).out
   feeds g h inside below r =

@@ -113,7 +113,8 @@ draft_gate_added d p h known arity few fits = record {
   outputs_differ = h.outputs_differ;
   outputs_known = h.outputs_known;
   data_known = h.data_known;
-  args_known = λ g i l m. each_push (λ (q : DraftGate). (i : ℕ) → i < length q.args → IsName d (get_or q.args i no_name))
+  args_known = λ g i l m. each_push
+      (λ (q : DraftGate). (i : ℕ) → i < length q.args → IsName d (get_or q.args i no_name))
       d.gates p no_part (λ k n j. h.args_known k j n) known g l i m;
   arities = each_push (λ (q : DraftGate). HasArity q.kind (length q.args)) d.gates p no_part h.arities arity;
   few_args = each_push (λ (q : DraftGate). length q.args ≤ 255) d.gates p no_part h.few_args few;

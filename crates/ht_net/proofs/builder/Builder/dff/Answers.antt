@@ -19,7 +19,8 @@ agrees_at dffs old f place drivers e at inside free h =
     let outs : map (λ (g : DraftDff). g.out) dffs ≡ map (λ (g : DraftDff). g.out) old ++ f.out
     ∷ [] = ap (λ (l : List DraftDff). map (λ (g : DraftDff). g.out) l) e ∙ map-append (λ (g : DraftDff). g.out) old
     (f ∷ []) in
-    let same : place ≡ length (map (λ (g : DraftDff). g.out) old) = at ∙ sym (length-map old (λ (g : DraftDff). g.out)) in
+    let same : place ≡ length (map (λ (g : DraftDff). g.out) old) = at ∙ sym (length-map old (λ (g : DraftDff). g.out))
+    in
     rw (outs, same) (agrees_push (map (λ (g : DraftDff). g.out) old) Dff drivers f.out inside free dff_some dff_one h)
 
 pub invariant_of-self-2 : goal.invariant_of-self-2

@@ -10,7 +10,8 @@ use Rattle.ht_net.specs.Finish.{HasNoRank}
 use Rattle.ht_net.proofs.RankLaws.{cycle_has_no_rank}
 use Rattle.ht_net.proofs.builder.Builder.finish.Goals as goal
 
-no_rank : (d : Draft) (cycle : List ℕ) → IsGateCycle (length d.inputs + length d.dffs) (draft_gates d) cycle → HasNoRank d
+no_rank : (d : Draft) (cycle : List ℕ) → IsGateCycle (length d.inputs + length d.dffs) (draft_gates d) cycle
+    → HasNoRank d
 no_rank d cycle h = λ rank ranked.
     let first : first_gate_net (circuit_of d) ≡ length d.inputs + length d.dffs = ap (λ (n : ℕ). length d.inputs + n)
     (length-map d.dffs (λ (f : DraftDff). net_of d f.data_pin)) in

@@ -21,7 +21,8 @@ agrees_at gates old p place drivers e at inside free h =
     let outs : map (λ (g : DraftGate). g.out) gates ≡ map (λ (g : DraftGate). g.out) old ++ p.out
     ∷ [] = ap (λ (l : List DraftGate). map (λ (g : DraftGate). g.out) l) e ∙ map-append (λ (g : DraftGate). g.out) old
     (p ∷ []) in
-    let same : place ≡ length (map (λ (g : DraftGate). g.out) old) = at ∙ sym (length-map old (λ (g : DraftGate). g.out))
+    let same : place ≡ length (map (λ (g : DraftGate). g.out) old) = at ∙ sym
+    (length-map old (λ (g : DraftGate). g.out))
     in
     rw (outs, same) (agrees_push (map (λ (g : DraftGate). g.out) old) Gate drivers p.out inside free gate_some gate_one
     h)
@@ -44,7 +45,8 @@ invariant_of-self-2 c =
     ++ record { kind = c.args.kind; out = c.args.out; args = c.in_ok-args.args.items } ∷ [] = search rules in
     let n : length c.push.new.self.items ≡ length c.self.inside.gates.items + 1 = ap (λ (l : List DraftGate). length l)
     gates ∙ length_push c.self.inside.gates.items part in
-    let sum : sum_by (λ (g : DraftGate). length g.args) c.push.new.self.items ≡ sum_by (λ (g : DraftGate). length g.args)
+    let sum : sum_by (λ (g : DraftGate). length g.args) c.push.new.self.items
+    ≡ sum_by (λ (g : DraftGate). length g.args)
     c.self.inside.gates.items + length c.args.args.now =
     ap (λ (l : List DraftGate). sum_by (λ (g : DraftGate). length g.args) l) gates ∙
     (pins_push c.self.inside.gates.items part

@@ -30,7 +30,8 @@ invariant_of-self-else-is_err-2 c =
     ∙ length_push c.self.inside.names c.args.name.now in
     record {
       draft = draft_with (draft_of c.self.inside) c.push-2.new.self c.args.name.now names i.draft
-          c.in_default.ensures.none (omega (arith, i.draft.few_names, c.len-place.ensures, c.if-place-eq-MAX_NETS.false));
+          c.in_default.ensures.none
+          (omega (arith, i.draft.few_names, c.len-place.ensures, c.if-place-eq-MAX_NETS.false));
       count = omega (arith, more, longer, i.count);
       pins = i.pins;
       all = omega (arith, ap free_count drivers, free_push c.self.inside.drivers.items, longer, i.all);

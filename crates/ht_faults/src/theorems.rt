@@ -1,4 +1,4 @@
-//! What stands in the fault list. Each law is the contract of a function that does nothing.
+//! What stands in the fault list. Each theorem is the contract of a function that does nothing.
 ghost use Rattle.std.specs.Prelude.{◌≡◌, ◌≢◌, ◌<◌, ◌≤◌, ◌*◌, ◌↔◌, ℕ, length, get_or};
 ghost use Rattle.std.specs.List.{Contains};
 ghost use Rattle.ht_net.specs.declared.fault.Site.{Site};
