@@ -29,9 +29,12 @@ impl Model for FaultList {
     ghost invariant = { IsShort };
 }
 
-/// The whole fault list of a circuit: stems by net, then data pins by flip-flop, then gate pins by gate and pin, where a
-/// pin is listed if the net that drives it has two or more loads. Each site has stuck-at-0 and then stuck-at-1. Errs where
-/// memory runs out.
+/// The whole fault list of a circuit: stems by net, then data pins by flip-flop, then gate pins by gate and pin,
+/// where a pin is listed if the net that drives it has two or more loads. Each site has stuck-at-0 and then
+/// stuck-at-1.
+///
+/// # Errors
+/// Out of memory.
 #[tactic(auto, using(crate::proofs::ListLaws::faults_count, crate::proofs::SiteLaws::sites_few))]
 pub fn list(alloc: Global, circuit: &Circuit) -> Result<FaultList, AllocError>
     ensures { IfOk result (λ faults. faults ≡ faults_of circuit.now) }

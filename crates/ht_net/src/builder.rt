@@ -209,11 +209,12 @@ impl Builder {
     /// Adds a gate with 1 to 255 arguments, one for NOT and BUFF.
     ///
     /// # Errors
-    /// `Twice`: its output is driven. `TooMany` of `Pins`: it isn't, and there would be more than 262,144 pins. `NoMemory`:
-    /// out of memory.
+    /// `Twice`: its output is driven. `TooMany` of `Pins`: it isn't, and there would be more than 262,144 pins.
+    /// `NoMemory`: out of memory.
     pub fn gate(&mut self, kind: Kind, out: NameId, args: &[NameId]) -> Result<(), NetError>
         requires out { IsName self.old out }
-        requires args { (i : ℕ) → i < length args.now → IsName self.old (get_or args.now i no_name) }
+        requires args { (i : ℕ) → i < length args.now
+            → IsName self.old (get_or args.now i no_name) }
         requires arity { HasArity kind (length args.now) }
         requires few { length args.now ≤ 255 }
         ensures ok { OnOk result

@@ -14,7 +14,8 @@ use ht_tern::Kind;
 use std::alloc::Global;
 use std::marker::Model;
 
-/// A well-formed circuit (ISCAS-89): inputs, flip-flops, gates, outputs and the names of its nets. Indices count from 0.
+/// A well-formed circuit (ISCAS-89): inputs, flip-flops, gates, outputs and the names of its nets. Indices count from
+/// 0.
 #[derive(Drop)]
 pub struct Circuit {
     inputs: u32,
@@ -190,8 +191,8 @@ impl Circuit {
         self.levels[g as usize]
     }
 
-    /// The loads of a net: the pins of gates and the data pins of flip-flops that it drives, each once, and one more if it is
-    /// an output.
+    /// The loads of a net: the pins of gates and the data pins of flip-flops that it drives, each once, and one more
+    /// if it is an output.
     pub fn loads(&self, net: NetId) -> u32
         requires { net.0 < net_count self.now }
         ensures { result ≡ loads_of self.now net.0 }

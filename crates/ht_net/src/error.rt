@@ -3,8 +3,8 @@ use crate::NameId;
 use ht_items::Items;
 use std::alloc::{AllocError, AllocFailed};
 
-/// What a circuit can have too many of: 65,535 nets, 262,144 pins (arguments of gates and data pins of flip-flops), 4,096
-/// inputs, 16,384 flip-flops.
+/// What a circuit can have too many of: 65,535 nets, 262,144 pins (arguments of gates and data pins of flip-flops),
+/// 4,096 inputs, 16,384 flip-flops.
 #[derive(Clone, Copy, PartialEq, Eq, Debug)]
 pub enum Limit {
     Nets,
@@ -22,8 +22,8 @@ pub enum NetError {
     TooMany { what: Limit },
     /// Nothing drives the name, which is the least of these.
     Undriven { name: NameId },
-    /// Gates form a cycle. These are different names: each is an argument of the gate that drives the next, and the last
-    /// of the first's. The least name is first.
+    /// Gates form a cycle. These are different names: each is an argument of the gate that drives the next, and the
+    /// last of the first's. The least name is first.
     Loop { nets: Items<NameId> },
     /// Out of memory.
     NoMemory,

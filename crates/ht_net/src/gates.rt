@@ -73,7 +73,8 @@ impl Gates {
 
     /// Adds a gate. An `Err` also comes where the arguments would be 2^32 or more.
     pub fn push(&mut self, kind: Kind, args: &[NetId]) -> Result<(), AllocError>
-        ensures { OnOk result (self.new ≡ self.old ++ record { kind = kind; args = args.now } ∷ []) }
+        ensures { OnOk result (self.new
+            ≡ self.old ++ record { kind = kind; args = args.now } ∷ []) }
     {
         let Ok(end) = u32::try_from(self.args.len() + args.len()) else {
             return Err(AllocError);

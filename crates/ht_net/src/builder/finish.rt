@@ -20,8 +20,8 @@ impl Builder {
     /// The circuit.
     ///
     /// # Errors
-    /// `Undriven`: the least name that nothing drives. `Loop`: all are driven, and gates form a cycle. `NoMemory`: out of
-    /// memory.
+    /// `Undriven`: the least name that nothing drives. `Loop`: all are driven, and gates form a cycle. `NoMemory`:
+    /// out of memory.
     pub fn finish(&self) -> Result<Circuit, NetError>
         ensures circuit { IfOk result (λ c. c ≡ circuit_of self.now) }
         ensures well_formed { IfOk result (λ c. IsCircuit c) }
