@@ -1,5 +1,5 @@
 -- One token of a walk, and a whole walk.
-use Rattle.std.proofs.Common.{◌≡◌, ◌<◌, ◌↔◌, ℕ, List, [], ◌∷◌, ◌++◌, Bool, true, false, not, length, refl, sym, ◌∙◌, ap, arith}
+use Rattle.std.proofs.Common.{◌≡◌, ◌<◌, ℕ, List, [], ◌∷◌, ◌++◌, Bool, true, false, not, refl, sym, ◌∙◌, ap}
 use Rattle.std.specs.Prelude.{IsTrue}
 use Rattle.std.proofs.lemmas.Bool.{or_left}
 use Rattle.std.proofs.lemmas.List.Elements.{All-nil, All-drop, All-push}
@@ -9,7 +9,7 @@ use Rattle.ht_tern.specs.Gate.{tern_of}
 use Rattle.ht_tree.specs.declared.token.Token.{Token}
 use Rattle.ht_tree.specs.declared.token.Token.TheVariants as token
 use Rattle.ht_tree.specs.declared.token.Status3.{Status3}
-use Rattle.ht_tree.specs.Walks.{Node, Judge, Completes, path_of, top_path, refuses, next_stack}
+use Rattle.ht_tree.specs.Walks.{Node, path_of, top_path, refuses, next_stack}
 use Rattle.ht_tree.specs.Windows.{SearchWindow, IsWindow}
 use Rattle.ht_tree.specs.WindowStatus.{status_at, without_place}
 use Rattle.ht_tree.specs.Variables.{may_two, may_three, variable_bound}
@@ -72,16 +72,3 @@ module _ (w : SearchWindow) (seeks : seeks_difference w.start ≡ true) where
   fits_there s (n ∷ rest) (token.Three var) is fit = absurd (untrue _ (no_three w n var seeks) fit.1)
   fits_there s (n ∷ rest) (token.Two var first) is fit =
       ((is ∙ (sym (status_there n) ∙ fit.0), sym (two_there n var) ∙ fit.1), fit.2)
-
-pub completes_more : (j : Judge) (stack : List Node) (t : Token) (tokens : List Token) → Completes j stack (t ∷ tokens)
-    ↔ (FitsOnTop j stack t × Completes j (next_stack stack t) tokens)
-completes_more j [] t tokens = (λ h. absurd h.fit, λ h. absurd h.0)
-completes_more j (n ∷ rest) t tokens = (
-  λ h. (h.fit.0, record { fit = h.fit.1; finished = h.finished }),
-  λ h. record
-      { fit = (h.0, h.1.fit); finished = h.1.finished },
-)
-
-pub completes_none : (j : Judge) (stack : List Node) → Completes j stack [] ↔ (length stack ≡ 0)
-completes_none j [] = (λ h. refl, λ e. record { fit = tt; finished = refl })
-completes_none j (n ∷ rest) = (λ h. ap length h.finished, λ e. absurd (omega arith))

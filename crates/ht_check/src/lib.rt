@@ -15,6 +15,3 @@ mod one_frame;
 mod walks;
 
 pub use entries::entry;
-
-#[cfg(test)]
-mod tests;

@@ -29,6 +29,3 @@ pub use theorems::{
 pub use token::{Assign3, Choice, Status3, Token};
 pub use walk::Walk;
 pub use window::{Spot, Status, WindowPlace};
-
-#[cfg(test)]
-mod tests;
