@@ -75,7 +75,8 @@ tests_cause netlist tests report c a m b ReadFault p known good there h = record
     name = tests;
     reads = refl;
     lacks = λ holds. h.lacks (subst IsTrue (sym p.steady) steady) (holds_later tests a m p holds);
-    reached = λ name is. subst (λ (n : List ℕ). Holds a n × AcceptsNetlist n a) (let e : Some netlist ≡ Some name = is in cc)
+    reached = λ name is. subst (λ (n : List ℕ). Holds a n × AcceptsNetlist n a)
+        (let e : Some netlist ≡ Some name = is in cc)
         (known_holds (a.file netlist) (known steady) there, accepts_netlist netlist c a there good);
   };
 }

@@ -6,39 +6,8 @@ use Rattle.ht_ports.specs.Desk.{DeskView, InCall, OutCall, Writes, Created, NotC
 use Rattle.ht_ports.specs.declared.ports.InPort.{InPort}
 use Rattle.ht_ports.specs.declared.ports.OutPort.{OutPort}
 use Rattle.ht_ports.specs.declared.ports.OutPort.TheVariants.{Tests, Report, Proofs, Out, Err}
-use Rattle.ht_app.specs.Changed.{Ports, ChangedOnly, IsNotCreated, IsCreatedOnly, IsOtherFile}
-
--- ---- the file of one port
-
--- a port that is as it was
-kept : (created : Option (List ℕ)) (p : OutPort) (a b : DeskView) → IsNotCreated p a b → IsCreatedOnly created p a b
-kept None p a b same = same
-kept (Some name) p a b same = inl same
-
-named_again : (name : List ℕ) (known : Option (List ℕ))
-    → option_map (λ (_ : List ℕ). name) (option_map (λ (_ : List ℕ). name) known) ≡ option_map (λ (_ : List ℕ). name) known
-named_again name None = refl
-named_again name (Some old) = refl
-
-created_trans : (created : Option (List ℕ)) (p : OutPort) (a m b : DeskView) → IsCreatedOnly created p a m
-    → IsCreatedOnly created p m b → IsCreatedOnly created p a b
-created_trans None p a m b x y = (y.0 ∙ x.0, y.1 ∙ x.1)
-created_trans (Some name) p a m b (inl x) (inl y) = inl (y.0 ∙ x.0, y.1 ∙ x.1)
-created_trans (Some name) p a m b (inr x) (inl y) = inr (y.0 ∙ x)
-created_trans (Some name) p a m b (inl x) (inr y) = inr (y ∙ ap (λ known. option_map (λ (_ : List ℕ). name) known) x.0)
-created_trans (Some name) p a m b (inr x) (inr y) =
-    inr (y ∙ ap (λ known. option_map (λ (_ : List ℕ). name) known) x ∙ named_again name (a.named p))
-
-some_named : (name : List ℕ) (known : Option (List ℕ)) → IsSome known → IsSome (option_map (λ (_ : List ℕ). name) known)
-some_named name None is = is
-some_named name (Some old) is = refl
-
--- another file stays another one
-other_later : (created : Option (List ℕ)) (p : OutPort) (a m : DeskView) (n : List ℕ) → IsCreatedOnly created p a m
-    → IsOtherFile created (a.named p) n → IsOtherFile created (m.named p) n
-other_later None p a m n x other = tt
-other_later (Some name) p a m n (inl x) other = (subst IsSome (sym x.0) other.0, other.1)
-other_later (Some name) p a m n (inr x) other = (subst IsSome (sym x) (some_named name (a.named p) other.0), other.1)
+use Rattle.ht_app.specs.Changed.{Ports, ChangedOnly, IsCreatedOnly, IsOtherFile}
+use Rattle.ht_app.proofs.CreatedLaws.{kept, created_trans, other_later}
 
 -- ---- runs of calls
 
@@ -83,7 +52,8 @@ changed_within small large a b within x = record {
   is_open = λ p off. x.is_open p (within.reads p off);
   written = λ p off. x.written p (within.writes p off);
   created = λ p. elim (within.creates p) [
-    | inl none ↦ kept (large.creates p) p a b (subst (λ (o : Option (List ℕ)). IsCreatedOnly o p a b) none (x.created p))
+    | inl none ↦ kept (large.creates p) p a b
+        (subst (λ (o : Option (List ℕ)). IsCreatedOnly o p a b) none (x.created p))
     | inr same ↦ subst (λ (o : Option (List ℕ)). IsCreatedOnly o p a b) same (x.created p)
   ];
   file = λ n other. x.file n (λ p. elim (within.creates p) [
@@ -114,7 +84,8 @@ changed_by_reading ports port a b on x = record {
 }
 
 pub changed_by_writing : (ports : Ports) (port : OutPort) (a b : DeskView) → ports.writes port ≡ true
-    → ((n : List ℕ) → IsOtherFile (ports.creates port) (a.named port) n → IsFilePort port → IsOtherName (a.named port) n)
+    → ((n : List ℕ) → IsOtherFile (ports.creates port) (a.named port) n → IsFilePort port
+    → IsOtherName (a.named port) n)
     → Writes port a b → ChangedOnly ports a b
 changed_by_writing ports port a b on others x = record {
   in_later = x.call.in_later;
@@ -127,12 +98,6 @@ changed_by_writing ports port a b on others x = record {
   file = λ n other. x.call.other_files n (λ file. subst (λ (known : Option (List ℕ)). IsOtherName known n)
       (sym (ap (λ f. f port) x.named)) (others n (other port) file));
 }
-
--- a port that was created under its name has no other file
-pub created_others : (name : List ℕ) (known before : Option (List ℕ)) (n : List ℕ)
-    → known ≡ option_map (λ (_ : List ℕ). name) before → IsOtherFile (Some name) known n → IsOtherName known n
-created_others name known None n is other = let e : false ≡ true = subst IsSome is other.0 in cc
-created_others name known (Some old) n is other = subst (λ (o : Option (List ℕ)). IsOtherName o n) (sym is) other.1
 
 -- Report is created, or not
 pub changed_by_creating : (ports : Ports) (name : List ℕ) (a b : DeskView) → ports.creates Report ≡ Some name
@@ -154,7 +119,8 @@ changed_by_creating ports name a b creates on x how = record {
     at (inr not) = inl (ap (λ f. f Report) not.named, ap (λ f. f Report) not.is_created)
 
     created : (p : OutPort) → IsCreatedOnly (ports.creates p) p a b
-    created Tests = kept (ports.creates Tests) Tests a b (x.others_named Tests (λ e. cc), x.others_created Tests (λ e. cc))
+    created Tests = kept (ports.creates Tests) Tests a b
+        (x.others_named Tests (λ e. cc), x.others_created Tests (λ e. cc))
     created Report = subst (λ (o : Option (List ℕ)). IsCreatedOnly o Report a b) (sym creates) (at how)
     created Proofs =
         kept (ports.creates Proofs) Proofs a b (x.others_named Proofs (λ e. cc), x.others_created Proofs (λ e. cc))

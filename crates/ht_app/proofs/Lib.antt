@@ -1,9 +1,14 @@
-pub mod VectorLineLaws
+pub mod LfLaws
+pub mod SoFarLaws
+pub mod WrongLineLaws
 pub mod ReportLaws
 pub mod OneReadingLaws
 pub mod RefusalLaws
+pub mod CreatedLaws
 pub mod ChangedLaws
 pub mod PortsLaws
 pub mod CauseLaws
 pub mod OutputLaws
+pub mod AskedLaws
+pub mod InputLaws
 pub mod StatusLaws

@@ -1,9 +1,9 @@
 -- What the steps leave, carried to the run: the whole output, or what a failed write leaves of it.
-use Rattle.std.proofs.Common.{◌≡◌, ◌<◌, ◌+◌, inl, inr, ℕ, List, [], ◌++◌, length, take, refl, sym, ◌∙◌, ap, subst, arith}
+use Rattle.std.proofs.Common.{◌≡◌, inl, inr, ℕ, List, ◌++◌, take, refl, sym, ◌∙◌, ap, subst}
 use Rattle.std.specs.Prelude.{Option, Some, None}
 use Rattle.std.specs.Option.{option_map}
 use Rattle.std.specs.Io.KnownBytes.{append_known}
-use Rattle.ht_ports.specs.Desk.{DeskView, Writes, Added, AddedPart}
+use Rattle.ht_ports.specs.Desk.{DeskView}
 use Rattle.ht_ports.specs.declared.ports.OutPort.{OutPort}
 use Rattle.ht_ports.specs.declared.ports.OutPort.TheVariants.{Tests, Report, Proofs, Out, Err}
 use Rattle.ht_asked.specs.Asked.{Asked, sim, norm}
@@ -13,52 +13,6 @@ use Rattle.ht_app.specs.Changed.{ChangedOnly}
 use Rattle.ht_app.specs.Done.{IsDone, IsCreatedAs}
 use Rattle.ht_app.specs.Truncated.{IsShort, StopsInReport, IsTruncated}
 use Rattle.ht_app.specs.Steps.{reading, IsBegun, IsReported, AreWorkedInto, IsNormalTextOf}
-
--- ---- the writing of a report
-
--- bytes after those that were written since the port was created
-pub stands_more : (known : Option (List ℕ)) (xs ys : List ℕ) → append_known (option_map (λ (_ : List ℕ). xs) known) ys
-    ≡ option_map (λ (_ : List ℕ). xs ++ ys) known
-stands_more None xs ys = refl
-stands_more (Some old) xs ys = refl
-
--- nothing stands, and a part of the text was added
-pub short_now : (text : List ℕ) (a m b : DeskView) → m.written Report ≡ option_map (λ (_ : List ℕ). []) (a.written Report)
-    → AddedPart Report text m b → IsShort text a b
-short_now text a m b stands p = inr (
-  p.count,
-  p.proper,
-  p.part.written ∙ (ap (λ known. append_known known (take p.count text)) stands
-      ∙ stands_more (a.written Report) [] (take p.count text)),
-)
-
-pub stops_in_body : (body total : List ℕ) (a b : DeskView) → IsShort body a b → b.written Out ≡ a.written Out
-    → StopsInReport body total a b
-stops_in_body body total a b short out = inl (record { report = short; out = out })
-
-pub stops_in_total : (body total : List ℕ) (a m b : DeskView)
-    → m.written Report ≡ option_map (λ (_ : List ℕ). body) (a.written Report) → m.written Out ≡ a.written Out
-    → Writes Out m b → AddedPart Out total m b → StopsInReport body total a b
-stops_in_total body total a m b stands out p part = inr (inl (record {
-  count = part.count;
-  short = part.proper;
-  report = p.call.others_written Report (λ e. cc) ∙ stands;
-  out = part.part.written ∙ ap (λ known. append_known known (take part.count total)) out;
-}))
-
-pub stops_in_last_line : (body total : List ℕ) (a m n b : DeskView)
-    → m.written Report ≡ option_map (λ (_ : List ℕ). body) (a.written Report) → m.written Out ≡ a.written Out
-    → Writes Out m n → Added Out total m n → Writes Report n b → AddedPart Report total n b
-    → StopsInReport body total a b
-stops_in_last_line body total a m n b stands out p added q part = inr (inr (record {
-  count = part.count;
-  short = part.proper;
-  report = part.part.written
-      ∙ (ap (λ known. append_known known (take part.count total)) (p.call.others_written Report (λ e. cc) ∙ stands)
-      ∙ stands_more (a.written Report) body (take part.count total));
-  out = q.call.others_written Out (λ e. cc)
-      ∙ (added.written ∙ ap (λ known. append_known known total) out);
-}))
 
 -- ---- a finished run
 

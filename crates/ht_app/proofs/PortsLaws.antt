@@ -17,7 +17,8 @@ use Rattle.ht_app.proofs.ChangedLaws.{IsWithin, changed_within, changed_trans, c
 
 -- ---- reading
 
-reads_within : (job : Asked) (status : ℕ) → (status == 3) ≡ false → (p : InPort) → (job_ports job status).reads p ≡ false
+reads_within : (job : Asked) (status : ℕ) → (status == 3) ≡ false → (p : InPort) → (job_ports job status).reads p
+    ≡ false
     → is_some (input_name job p) ≡ false
 reads_within job status ne in_port.Netlist off = off
 reads_within job status ne in_port.Tests off =
@@ -76,10 +77,12 @@ pub ends_reading : (job : Asked) (e : RunError) (a b : DeskView) → ChangedOnly
 ends_reading job Usage a b x unread = changed_within (reading job) (job_ports job 2) a b (reading_within job 2 refl) x
 ends_reading job TooLong a b x unread = not_read job a b x (unread refl)
 ends_reading job (Refused error) a b x unread = not_read job a b x (unread refl)
-ends_reading job ReadFault a b x unread = changed_within (reading job) (job_ports job 4) a b (reading_within job 4 refl) x
+ends_reading job ReadFault a b x unread = changed_within (reading job) (job_ports job 4) a b (reading_within job 4 refl)
+    x
 ends_reading job WriteFault a b x unread =
     changed_within (reading job) (job_ports job 5) a b (reading_within job 5 refl) x
-ends_reading job NoMemory a b x unread = changed_within (reading job) (job_ports job 6) a b (reading_within job 6 refl) x
+ends_reading job NoMemory a b x unread = changed_within (reading job) (job_ports job 6) a b (reading_within job 6 refl)
+    x
 ends_reading job (BadTests line) a b x unread =
     changed_within (reading job) (job_ports job 7) a b (reading_within job 7 refl) x
 
@@ -113,7 +116,8 @@ pub ends_writing : (job : Asked) (status : ℕ) (name : List ℕ) (a m b : DeskV
     → ChangedOnly (writing name (says_on_out job)) m b → ChangedOnly (job_ports job status) a b
 ends_writing job status name a m b ne may is x y = changed_trans (job_ports job status) a m b
     (changed_within (reading job) (job_ports job status) a m (reading_within job status ne) x)
-    (changed_within (writing name (says_on_out job)) (job_ports job status) m b (writing_within job status name may is) y)
+    (changed_within (writing name (says_on_out job)) (job_ports job status) m b (writing_within job status name may is)
+    y)
 
 pub fails_writing : (job : Asked) (e : RunError) (name : List ℕ) (a m b : DeskView) → e ≡ WriteFault
     → may_write job 5 ≡ true → output_name job Report ≡ Some name → ChangedOnly (reading job) a m

@@ -23,7 +23,8 @@ no_circuit text (Undriven line name) other none = none
 no_circuit text (Loop line names) other none = none
 no_circuit text NoMemory other none = absurd (other refl)
 
-is_refused : (text : List ℕ) (error : BenchError) → error ≢ NoMemory → length text ≤ max_netlist_bytes → Refuses text error
+is_refused : (text : List ℕ) (error : BenchError) → error ≢ NoMemory → length text ≤ max_netlist_bytes
+    → Refuses text error
     → IsOfNoCircuit text error → IsRefused error text
 is_refused text error other short refused none = record {
   short = short;

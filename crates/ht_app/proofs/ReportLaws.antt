@@ -32,7 +32,8 @@ are_sayable c representatives list places few first within = record {
 
 -- the body and the total line are the report
 pub whole_report : (c : Netlist) (representatives : List ℕ) (saids : List Said) (body total : List ℕ)
-    → body ≡ report_body c representatives None saids → total ≡ with_lf (total_line (report_sums representatives None saids))
+    → body ≡ report_body c representatives None saids → total
+    ≡ with_lf (total_line (report_sums representatives None saids))
     → body ++ total ≡ report_text c representatives None saids
 whole_report c representatives saids body total body_is total_is =
     ap (λ (l : List ℕ). l ++ total) body_is

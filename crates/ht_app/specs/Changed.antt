@@ -33,8 +33,8 @@ abbrev pub IsOtherFile : Option (List ℕ) → Option (List ℕ) → List ℕ �
 IsOtherFile None known name = Unit {0}
 IsOtherFile (Some created) known name = IsSome known × (name ≢ created)
 
--- Nothing changed but at these ports; no other file changed; the counts of faults didn't fall, and the desk stays steady
--- or not.
+-- Nothing changed but at these ports; no other file changed; the counts of faults didn't fall, and the desk stays
+-- steady or not.
 pub record ChangedOnly (ports : Ports) (old new : DeskView) : Type 0 where
   pub in_later : old.in_faults ≤ new.in_faults
   pub out_later : old.out_faults ≤ new.out_faults

@@ -14,7 +14,8 @@ use Rattle.ht_app.specs.Done.{IsSimulated}
 -- Report is as it was, or has a proper front of this text
 abbrev pub IsShort : List ℕ → DeskView → DeskView → Type 0
 IsShort text old new = (new.written Report ≡ old.written Report)
-    ⊎ ((count : ℕ) × (count < length text) × (new.written Report ≡ option_map (λ _. take count text) (old.written Report)))
+    ⊎ ((count : ℕ) × (count < length text)
+    × (new.written Report ≡ option_map (λ _. take count text) (old.written Report)))
 
 -- ---- the three places at which the writing of a report stops: its body, the total line on Out, its last line
 

@@ -1,8 +1,11 @@
 //! The commands, over a desk.
 //!
-//! `run` is the one public call: it takes the words of the command line and a desk, does the work, and answers the
-//! status. A module has one step of it: the commands, the netlist, the tests, the simulation, what is written, and what is
-//! said on Err. `specs/Run.antt` says why a run ends without its work, `specs/Done.antt` what a finished one leaves.
+//! `run` is the top call: it takes the words of the command line and a desk, does the work, and answers the status. A
+//! module has one step of it: the top call (`commands`), `sim`, `norm`, the inputs (`netlist`, `vectors_file`), what is
+//! written (`output`), why a run ends without its work (`run_error`) and what it says of that on Err (`err_line`).
+//!
+//! `specs/Run.antt` says why a run ends without its work, `specs/Done.antt` what a finished one leaves,
+//! `specs/Truncated.antt` what a failed write leaves, and `specs/Changed.antt` what each run leaves as it was.
 #![tactic(auto)]
 
 mod commands;

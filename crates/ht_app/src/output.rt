@@ -44,8 +44,8 @@ pub fn begin_report<D: Desk>(desk: &mut D, name: &str, text: &[u8]) -> Result<()
     Ok(())
 }
 
-/// Creates the report and writes it. The total line goes to Out before it ends the report, so that a report that ends with
-/// its total line is whole.
+/// Creates the report and writes it. The total line goes to Out before it ends the report, so that a report that ends
+/// with its total line is whole.
 ///
 /// # Errors
 /// `WriteFault`: the desk counted a fault, and the report isn't whole.

@@ -7,7 +7,8 @@ use Rattle.ht_app.specs.Errors.{exit_status, err_line}
 use Rattle.ht_app.specs.Changed.{ChangedOnly, ports_at}
 use Rattle.ht_app.specs.Run.{SaysOnErr}
 use Rattle.ht_app.proofs.PortsLaws.{changed_by_line}
-use Rattle.ht_app.proofs.StatusLaws.{finished_not_refused, finished_not_malformed, usage_status, asked_status, refused_status, malformed_status, good_status, steady_status, faultless_before, cause_of_job, job_done}
+use Rattle.ht_app.proofs.AskedLaws.{cause_of_job, job_done, usage_status, asked_status}
+use Rattle.ht_app.proofs.StatusLaws.{finished_not_refused, finished_not_malformed, refused_status, malformed_status, good_status, steady_status, faultless_before}
 use Rattle.ht_app.proofs.commands.run.Goals as goal
 
 -- ---- after a finished run

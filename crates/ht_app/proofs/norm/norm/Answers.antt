@@ -49,7 +49,8 @@ returns-in_err-begin_report-clause-cause g c =
     let short : IsShort c.in_ok-text.text.items m b = subst (λ (l : List ℕ). IsShort l m b) c.deref.ensures.value
     failed.stops in
     let leaves = norm_truncated c.args.netlist.now c.args.out.now c.in_ok-text.text.items a m b read text.text short in
-    let cause = write_cause job a m b c.in_err-begin_report.field-0.0 failed.error read failed.fault text.input leaves in
+    let cause = write_cause job a m b c.in_err-begin_report.field-0.0 failed.error read failed.fault text.input leaves
+    in
     search (rules, cause)
 
 pub returns-clause-changed : goal.returns-clause-changed

@@ -63,14 +63,17 @@ returns-in_err-write_report-clause-cause g c =
     (subst (λ (l : List ℕ). StopsInReport l c.deref-2.result.now m b) c.deref.ensures.value failed.stops) in
     let leaves = sim_truncated c.args.netlist.now c.args.tests.now c.args.report.now body total a m b read texts.texts
     stops in
-    let cause = write_cause job a m b c.in_err-write_report.field-0.0 failed.error read failed.fault texts.inputs leaves in
+    let cause = write_cause job a m b c.in_err-write_report.field-0.0 failed.error read failed.fault texts.inputs leaves
+    in
     search (rules, cause)
 
 -- ---- the report stands
 
 pub returns-clause-changed : goal.returns-clause-changed
-returns-clause-changed g c = ends_writing (sim c.args.netlist.now c.args.tests.now c.args.report.now) 0 c.args.report.now
-    (g.D.Desk.view c.args.desk.now) (g.D.Desk.view c.simulate.new.desk) (g.D.Desk.view c.write_report.new.desk) refl refl
+returns-clause-changed g c = ends_writing (sim c.args.netlist.now c.args.tests.now c.args.report.now) 0
+    c.args.report.now
+    (g.D.Desk.view c.args.desk.now) (g.D.Desk.view c.simulate.new.desk) (g.D.Desk.view c.write_report.new.desk) refl
+    refl
     refl (c.in_ok-texts.ensures.reads c.args.report.now) c.in_ok-write_report.ensures.changed
 
 pub returns-clause-quiet : goal.returns-clause-quiet

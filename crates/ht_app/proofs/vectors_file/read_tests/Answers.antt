@@ -12,7 +12,8 @@ use Rattle.ht_ports.proofs.CallLaws.{in_call_trans}
 use Rattle.ht_net.specs.Netlist.{Netlist}
 use Rattle.ht_texts.specs.Tests.{IsTextOf, IsMalformedTest}
 use Rattle.ht_app.specs.Inputs.{IsInput}
-use Rattle.ht_app.proofs.VectorLineLaws.{SoFar, so_far_start, so_far_next, so_far_end, bad_line, too_long}
+use Rattle.ht_app.proofs.SoFarLaws.{SoFar, so_far_start, so_far_next, so_far_end}
+use Rattle.ht_app.proofs.WrongLineLaws.{bad_line, too_long}
 use Rattle.ht_app.proofs.vectors_file.read_tests.Goals as goal
 
 pub lines-init : goal.lines-init

@@ -3,7 +3,7 @@ use Rattle.ht_ports.specs.Desk.{InCall}
 use Rattle.ht_ports.specs.Lines.{rest_of}
 use Rattle.ht_ports.specs.declared.ports.InPort.TheVariants.{Tests}
 use Rattle.ht_app.specs.Inputs.{IsInput, MayHold}
-use Rattle.ht_app.proofs.VectorLineLaws.{SoFar}
+use Rattle.ht_app.proofs.SoFarLaws.{SoFar}
 use Rattle.ht_app.proofs.vectors_file.read_tests.Given as goal
 
 abbrev pub invariant-lines : goal.invariant-lines
