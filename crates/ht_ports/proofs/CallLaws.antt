@@ -1,5 +1,5 @@
 -- Runs of calls.
-use Rattle.std.proofs.Common.{◌≡◌, ℕ, ◌+◌, List, [], ◌++◌, take, drop, refl, sym, ◌∙◌, ap, subst, arith, append_assoc, append-nil, Some, None, IsTrue}
+use Rattle.std.proofs.Common.{◌≡◌, ℕ, ◌+◌, List, [], ◌++◌, take, drop, refl, sym, ◌∙◌, ap, subst, arith, append_assoc, Some, None, IsTrue}
 use lib.Seq.{take-add}
 use Rattle.std.specs.declared.option.Option.{Option}
 use Rattle.std.specs.Io.KnownBytes.{append_known, prepend_known}
@@ -20,24 +20,6 @@ in_call_trans port a b c p q = record {
   others_left = λ o ne. q.others_left o ne ∙ p.others_left o ne;
   others_open = λ o ne. q.others_open o ne ∙ p.others_open o ne;
   stays_open = λ h. q.stays_open (p.stays_open h);
-}
-
-pub out_call_refl : (port : OutPort) (a : DeskView) → OutCall port a a
-out_call_refl port a = record {
-  in_later = omega arith;
-  out_later = omega arith;
-  steady = refl;
-  left = refl;
-  is_open = refl;
-  tells_written = refl;
-  tells_name = refl;
-  others_written = λ p ne. refl;
-  others_named = λ p ne. refl;
-  others_created = λ p ne. refl;
-  stays_created = λ h. h;
-  tells_files = λ n. refl;
-  keeps_files = λ s n h. h;
-  other_files = λ n other. refl;
 }
 
 -- the second call keeps the port's name
@@ -61,9 +43,6 @@ out_call_trans port a b c p q same = record {
       (λ file. subst (λ (o : Option (List ℕ)). IsOtherName o n) same (other file));
 }
 
-pub writes_refl : (port : OutPort) (a : DeskView) → Writes port a a
-writes_refl port a = record { call = out_call_refl port a; named = refl; is_created = refl }
-
 pub writes_trans : (port : OutPort) (a b c : DeskView) → Writes port a b → Writes port b c → Writes port a c
 writes_trans port a b c p q = record {
   call = out_call_trans port a b c p.call q.call (ap (λ f. f port) q.named);
@@ -71,17 +50,10 @@ writes_trans port a b c p q = record {
   is_created = q.is_created ∙ p.is_created;
 }
 
-pub append_known_nil : (known : Option (List ℕ)) → append_known known [] ≡ known
-append_known_nil None = refl
-append_known_nil (Some xs) = ap Some (append-nil xs)
-
 pub append_known_more : (known : Option (List ℕ)) (xs ys : List ℕ) → append_known (append_known known xs) ys
     ≡ append_known known (xs ++ ys)
 append_known_more None xs ys = refl
 append_known_more (Some known) xs ys = ap Some (append_assoc known xs ys)
-
-pub added_nil : (port : OutPort) (a : DeskView) → Added port [] a a
-added_nil port a = record { written = sym (append_known_nil (a.written port)) }
 
 pub added_more : (port : OutPort) (a b c : DeskView) (xs ys : List ℕ) → Added port xs a b → Added port ys b c
     → Added port (xs ++ ys) a c

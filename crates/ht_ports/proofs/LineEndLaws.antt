@@ -110,7 +110,8 @@ ends_at_lf max_len bytes_read bytes i (Line line taken) lf (end, j) = record {
 }
 
 -- more bytes than the limit are too many, however the text goes on
-over : (max_len bytes_read : ℕ) (bytes more : List ℕ) → HasNoLf bytes → limit_of max_len bytes_read < length bytes → bytes_read ≤ 2 ^ 62
+over : (max_len bytes_read : ℕ) (bytes more : List ℕ) → HasNoLf bytes → limit_of max_len bytes_read < length bytes
+    → bytes_read ≤ 2 ^ 62
     → IsTooLongLine max_len bytes_read (bytes ++ more)
 over max_len bytes_read bytes more none lt le =
     let piece : length (first_piece (bytes ++ more)) ≡ length bytes + length (first_piece more) = ap length
@@ -129,16 +130,18 @@ whole_piece bytes none = first_piece-none bytes [] none ∙ append-nil bytes
 pub whole_through : (bytes : List ℕ) → HasNoLf bytes → first_through (bytes ++ []) ≡ bytes
 whole_through bytes none = first_through-none bytes [] none ∙ append-nil bytes
 
-pub ends_with_text : (max_len bytes_read : ℕ) (bytes : List ℕ) (r : LineEnd) → HasNoLf bytes → 0 < length bytes → bytes_read ≤ 2 ^ 62
+pub ends_with_text : (max_len bytes_read : ℕ) (bytes : List ℕ) (r : LineEnd) → HasNoLf bytes → 0 < length bytes
+    → bytes_read ≤ 2 ^ 62
     → IsJudged max_len bytes_read bytes (length bytes) (length bytes) r → IsLineEnd max_len bytes_read bytes None r
 ends_with_text max_len bytes_read bytes NoLine none some le j = absurd j
-ends_with_text max_len bytes_read bytes TooLong none some le j = λ more last. elim (cases_lt (limit_of max_len bytes_read) (length bytes)) [
-  | inr few ↦ subst (λ m. IsTooLongLine max_len bytes_read (bytes ++ m)) (sym (last few)) (⊎_elim
-      (λ long. inl (subst (λ p. max_len < length (without_cr p))
-      (take_all (length bytes) bytes (le_refl _) ∙ sym (whole_piece bytes none)) long))
-      (λ late. inr (subst (λ p. 2 ^ 62 < bytes_read + length p) (sym (whole_through bytes none)) late)) j)
-  | inl many ↦ over max_len bytes_read bytes more none many le
-]
+ends_with_text max_len bytes_read bytes TooLong none some le j = λ more last. elim
+    (cases_lt (limit_of max_len bytes_read) (length bytes)) [
+      | inr few ↦ subst (λ m. IsTooLongLine max_len bytes_read (bytes ++ m)) (sym (last few)) (⊎_elim
+          (λ long. inl (subst (λ p. max_len < length (without_cr p))
+          (take_all (length bytes) bytes (le_refl _) ∙ sym (whole_piece bytes none)) long))
+          (λ late. inr (subst (λ p. 2 ^ 62 < bytes_read + length p) (sym (whole_through bytes none)) late)) j)
+      | inl many ↦ over max_len bytes_read bytes more none many le
+    ]
 ends_with_text max_len bytes_read bytes (Line line taken) none some le (end, j) = record {
   piece = bytes;
   no_lf = none;

@@ -1,11 +1,11 @@
 -- A text that is written in pieces.
-use Rattle.std.proofs.Common.{◌+◌, ℕ, List, [], ◌++◌, length, take, Bool, true, false, IsTrue, sym, ◌∙◌, ap, subst, arith}
+use Rattle.std.proofs.Common.{◌+◌, ℕ, List, ◌++◌, length, take, Bool, true, false, IsTrue, sym, ◌∙◌, ap, subst, arith}
 use Rattle.std.proofs.lemmas.List.{take-append-le, length-append}
 use Rattle.std.proofs.Math.Seq.{take-append-add}
 use Rattle.std.specs.Io.KnownBytes.{append_known}
 use Rattle.ht_ports.specs.Desk.{DeskView, Writes, Added, AddedPart, Wrote}
 use Rattle.ht_ports.specs.declared.ports.OutPort.{OutPort}
-use Rattle.ht_ports.proofs.CallLaws.{append_known_more, added_more, writes_refl, added_nil, writes_trans}
+use Rattle.ht_ports.proofs.CallLaws.{append_known_more, added_more, writes_trans}
 
 -- the first piece failed
 part_before : (port : OutPort) (xs ys : List ℕ) (a b : DeskView) → AddedPart port xs a b
@@ -36,10 +36,6 @@ part_after port xs ys a b c before added p = record {
   cause = omega (arith, before.call.out_later, p.cause);
   steady = λ s. p.steady (subst IsTrue (sym before.call.steady) s);
 }
-
--- no piece
-pub wrote_nothing : (port : OutPort) (a : DeskView) → Wrote port [] true a a
-wrote_nothing port a = record { frame = writes_refl port a; outcome = added_nil port a }
 
 -- xs and then ys
 pub wrote_then : {port : OutPort} {xs ys : List ℕ} {ok : Bool} {a b c : DeskView}

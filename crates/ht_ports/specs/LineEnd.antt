@@ -26,7 +26,8 @@ pub record EndsLine (max_len bytes_read : ℕ) (bytes : List ℕ) (line taken : 
 
 -- the next line is too long, however the text goes on
 abbrev pub IsSurelyTooLong : ℕ → ℕ → List ℕ → Option ℕ → Type 0
-IsSurelyTooLong max_len bytes_read bytes found = (more : List ℕ) → IfNone found (length bytes ≤ limit_of max_len bytes_read → more ≡ [])
+IsSurelyTooLong max_len bytes_read bytes found = (more : List ℕ)
+    → IfNone found (length bytes ≤ limit_of max_len bytes_read → more ≡ [])
     → IsTooLongLine max_len bytes_read (bytes ++ more)
 
 -- what `find_line_end` answers
@@ -46,5 +47,7 @@ pub record IsLine (max_len bytes_read : ℕ) (bytes : List ℕ) (len taken line 
 -- what is answered on that piece
 abbrev pub IsJudged : ℕ → ℕ → List ℕ → ℕ → ℕ → LineEnd → Type 0
 IsJudged max_len bytes_read bytes len taken NoLine = ⊥
-IsJudged max_len bytes_read bytes len taken TooLong = (max_len < length (without_cr (take len bytes))) ⊎ (2 ^ 62 < bytes_read + taken)
-IsJudged max_len bytes_read bytes len taken (Line line end) = (end ≡ taken) × IsLine max_len bytes_read bytes len taken line
+IsJudged max_len bytes_read bytes len taken TooLong = (max_len < length (without_cr (take len bytes)))
+    ⊎ (2 ^ 62 < bytes_read + taken)
+IsJudged max_len bytes_read bytes len taken (Line line end) = (end ≡ taken) × IsLine max_len bytes_read bytes len taken
+    line

@@ -3,7 +3,8 @@ use Rattle.ht_ports.proofs.LineEndLaws.{ends_at_lf, ends_with_text}
 use Rattle.ht_ports.proofs.line_end.find_line_end.Goals as goal
 
 pub returns-in-Some : goal.returns-in-Some
-returns-in-Some c = rw c.in-Some.is (ends_at_lf _ _ _ c.in-Some.i _ (rw c.in-Some.is at c.requires.found) c.judge_line.ensures)
+returns-in-Some c = rw c.in-Some.is
+    (ends_at_lf _ _ _ c.in-Some.i _ (rw c.in-Some.is at c.requires.found) c.judge_line.ensures)
 
 pub returns-else-is_empty : goal.returns-else-is_empty
 returns-else-is_empty c =
