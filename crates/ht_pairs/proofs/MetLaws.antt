@@ -1,14 +1,12 @@
 -- Moves in a row, and moves of two sets that meet.
-use Rattle.std.proofs.Common.{◌≡◌, ◌<◌, ◌↔◌, ℕ, Bool, true, List, refl, sym, ◌∙◌, ◌&&◌, ◌||◌, bit_or, bit_and, inl, inr, IsTrue, lt_of_le_of_lt}
+use Rattle.std.proofs.Common.{◌<◌, ◌↔◌, ℕ, Bool, refl, sym, ◌∙◌, ◌&&◌, ◌||◌, bit_or, bit_and, inl, inr, IsTrue, lt_of_le_of_lt}
 use Rattle.std.proofs.lemmas.Bool.{and_parts, and_from, or_cases, or_left, or_right}
 use Rattle.std.proofs.lemmas.Nat.{or_lt, and_le_l}
-use Rattle.ht_pairs.specs.Pairs.{Pair, same_pair, pair_operations}
-use Rattle.ht_pairs.specs.Members.{holds, members_of}
-use Rattle.ht_pairs.specs.Results.{IsImage, IsImageOfTwo}
-use Rattle.ht_pairs.specs.declared.moves.Half.TheVariants.{Good, Faulty}
-use Rattle.ht_pairs.specs.Moves.{IsMoved, along, becomes, lowers, raises, blurs, complements, passes, flips}
-use Rattle.ht_pairs.proofs.PairTests.{each, any, each_gives, any_gives, any_from, same_pair-true, same_pair-from, eq_bool, eq_bool-true}
-use Rattle.ht_pairs.proofs.MemberLaws.{holds-or, holds-and, member_holds, holds_member, some_member, member_some}
+use Rattle.ht_pairs.specs.Pairs.{Pair, same_pair}
+use Rattle.ht_pairs.specs.Members.{holds}
+use Rattle.ht_pairs.specs.Moves.{IsMoved}
+use Rattle.ht_pairs.proofs.PairTests.{any, any_gives, any_from, same_pair-true, same_pair-from}
+use Rattle.ht_pairs.proofs.MemberLaws.{holds-or, holds-and}
 
 -- the bits of a set
 abbrev pub IsValid : ℕ → Type 0

@@ -1,14 +1,12 @@
 -- What the operations on sets hold.
-use Rattle.std.proofs.Common.{◌≡◌, ◌<◌, ◌↔◌, ℕ, Bool, true, List, refl, sym, ◌∙◌, ◌&&◌, ◌||◌, bit_or, bit_and, inl, inr, IsTrue, lt_of_le_of_lt}
-use Rattle.std.proofs.lemmas.Bool.{and_parts, and_from, or_cases, or_left, or_right}
-use Rattle.std.proofs.lemmas.Nat.{or_lt, and_le_l}
+use Rattle.std.proofs.Common.{◌≡◌, ℕ, Bool, true, List, refl, sym, ◌∙◌, ◌&&◌, ◌||◌, bit_and}
 use Rattle.ht_pairs.specs.Pairs.{Pair, same_pair, pair_operations}
 use Rattle.ht_pairs.specs.Members.{holds, members_of}
 use Rattle.ht_pairs.specs.Results.{IsImage, IsImageOfTwo}
 use Rattle.ht_pairs.specs.declared.moves.Half.TheVariants.{Good, Faulty}
 use Rattle.ht_pairs.specs.Moves.{IsMoved, along, becomes, lowers, raises, blurs, complements, passes, flips}
-use Rattle.ht_pairs.proofs.PairTests.{each, any, each_gives, any_gives, any_from, same_pair-true, same_pair-from, eq_bool, eq_bool-true}
-use Rattle.ht_pairs.proofs.MemberLaws.{holds-or, holds-and, member_holds, holds_member, some_member, member_some}
+use Rattle.ht_pairs.proofs.PairTests.{each, each_gives, same_pair-true, same_pair-from, eq_bool, eq_bool-true}
+use Rattle.ht_pairs.proofs.MemberLaws.{member_holds, holds_member, some_member, member_some}
 use Rattle.ht_pairs.proofs.MetLaws.{IsValid, IsMoved-same, followed, IsMoved-followed, IsMet, IsMet-and, any_of, IsMet-any_of}
 
 -- moves that meet lead to r exactly where r is the operation's result

@@ -1,4 +1,4 @@
-use Rattle.std.proofs.Common.{◌≡◌, ◌<◌, ◌∙◌, ap, List, [], None, Some, length, get_or, sym, arith, subst, Vec}
+use Rattle.std.proofs.Common.{◌≡◌, ◌∙◌, ap, List, None, Some, length, get_or, sym, arith, subst, Vec}
 use Rattle.std.specs.declared.alloc.Global.{Global}
 use Rattle.ht_tern.specs.declared.tern.Tern.{Tern}
 use Rattle.ht_net.specs.Detection.{tern_outputs}
