@@ -108,7 +108,8 @@ new_is_free : (mentioned : List Name) (before : List Statement) (d : Draft) (nam
 new_is_free mentioned before d name is new c = let r = is.driven name c in new r.0.0 r.2.0 r.2.1
 
 -- the net that a statement drives is driven already, or finds no room
-pub driver_refused : (old : Draft) (s : Statement) (name : Name) (more : List Name) (cause : AddError) → names_in s ≡ name
+pub driver_refused : (old : Draft) (s : Statement) (name : Name) (more : List Name) (cause : AddError) → names_in s
+    ≡ name
     ∷ more → driven_in s ≡ name ∷ []
     → RefusesDriver old name cause → RefusesStatement old s cause
 driver_refused old s name more (SecondDriver net) names drives refused = λ before is. record {
@@ -213,7 +214,8 @@ module _ (old d new : Draft) (id : NameId) (name : Name) (mentions : Mentions ol
   input_refused NoMemory free refused = λ before is. tt
 
   pub output_accepted : (Contains d.outputs id → new ≡ d)
-      → (¬ Contains d.outputs id → new ≡ record d { outputs = d.outputs ++ id ∷ [] }) → Accepts old (output_line name) new
+      → (¬ Contains d.outputs id → new ≡ record d { outputs = d.outputs ++ id ∷ [] })
+          → Accepts old (output_line name) new
   output_accepted known added before is within =
       let s = output_line name in
       let e = only_outputs d new id known added in

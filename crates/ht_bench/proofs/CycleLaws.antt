@@ -1,12 +1,14 @@
 -- Gates that form a cycle are those of no circuit.
 use Rattle.std.proofs.Common.{◌≡◌, ⊎_elim, ℕ, zero, suc, ◌<◌, ◌≤◌, ◌+◌, ◌-◌, List, [], ◌∷◌, length, get_or, map, sym, ◌∙◌, ap, subst, arith}
 use Rattle.std.specs.List.{Contains}
-use Rattle.std.proofs.lemmas.List.{length-map, get_or-map}
+use Rattle.std.proofs.lemmas.List.{length-map, get_or-map, get_or_default}
+use Rattle.ht_net.specs.Lists.{IsCycle}
 use Rattle.ht_net.specs.Netlist.{Netlist, Gate, IsCircuit, first_gate_net, gate_at, arg_at, no_gate, no_net}
 use Rattle.ht_net.specs.Named.{Name, NamedGate, NamedNetlist, name_of, named_gates, named_of}
+use Rattle.ht_net.proofs.CycleLaws.{no_cycle}
 use Rattle.ht_statement.specs.Statement.{Statement}
 use Rattle.ht_bench.specs.Contents.{gates_of, named_of_statements}
-use Rattle.ht_bench.specs.EndOfText.{Feeds, IsCycle}
+use Rattle.ht_bench.specs.EndOfText.{Feeds}
 use Rattle.ht_bench.proofs.ListLaws.{contains_none, contains_cases}
 use Rattle.ht_bench.proofs.PlaceLaws.{place_in, place_at}
 
@@ -89,33 +91,22 @@ module _ (c : Netlist) (is : IsCircuit c) (statements : List Statement)
       subst (λ n. is.ranked.0 n < is.ranked.0 (place_in c.names b - first_gate_net c)) (sym from)
       (subst (λ n. is.ranked.0 (arg_at c pin.gate pin.pin - first_gate_net c) < is.ranked.0 n) (sym to) up)
 
-  module _ (cycle : List Name) (h : IsCycle statements cycle) where
+  module _ (cycle : List Name) (h : IsCycle (Feeds statements) cycle) where
     -- each net of the cycle is driven by a gate
-    is_driven_by_gate : (k : ℕ) → k < length cycle → first_gate_net c ≤ place_in c.names (get_or cycle k [])
-    is_driven_by_gate zero lt =
-        let pin = pin_of (get_or cycle (length cycle - 1) []) (get_or cycle 0 []) h.closes in omega (arith, pin.out)
-    is_driven_by_gate (suc k) lt =
+    driven_at : (k : ℕ) → k < length cycle → first_gate_net c ≤ place_in c.names (get_or cycle k [])
+    driven_at zero lt =
+        let pin = pin_of (get_or cycle (length cycle - 1) []) (get_or cycle 0 []) (h.closes [])
+            in omega (arith, pin.out)
+    driven_at (suc k) lt =
         let z : k + 1 ≡ suc k = omega arith in
         let pin = subst (λ n. IsPin c (get_or cycle k []) (get_or cycle n [])) z
-        (pin_of (get_or cycle k []) (get_or cycle (k + 1) []) (h.next k (omega arith))) in
+        (pin_of (get_or cycle k []) (get_or cycle (k + 1) []) (h.next k [] (omega arith))) in
         omega (arith, pin.out)
 
-    climb : (k : ℕ) → k < length cycle → rank_at (get_or cycle 0 []) + k ≤ rank_at (get_or cycle k [])
-    climb zero lt = omega arith
-    climb (suc k) lt =
-        let before = climb k (omega arith) in
-        let z : k + 1 ≡ suc k = omega arith in
-        let pin = subst (λ n. IsPin c (get_or cycle k []) (get_or cycle n [])) z
-        (pin_of (get_or cycle k []) (get_or cycle (k + 1) []) (h.next k (omega arith))) in
-        let up = rises (get_or cycle k []) (get_or cycle (suc k) []) pin (is_driven_by_gate k (omega arith)) in
-        omega (arith, before, up)
+    is_driven : (a : Name) → Contains cycle a → first_gate_net c ≤ place_in c.names a
+    is_driven a at = subst (λ n. first_gate_net c ≤ place_in c.names n) (get_or_default cycle at.0 [] a at.1 ∙ at.2)
+        (driven_at at.0 at.1)
 
     pub no_circuit : ⊥
-    no_circuit =
-        let last = length cycle - 1 in
-        let some = h.some in
-        let up = climb (length cycle - 1) (omega arith) in
-        let down = rises (get_or cycle (length cycle - 1) []) (get_or cycle 0 [])
-        (pin_of (get_or cycle (length cycle - 1) []) (get_or cycle 0 []) h.closes)
-        (is_driven_by_gate (length cycle - 1) (omega arith)) in
-        omega (arith, up, down)
+    no_circuit = no_cycle (Feeds statements) rank_at cycle [] (λ a b at _ feeds. rises a b (pin_of a b feeds)
+        (is_driven a at)) h

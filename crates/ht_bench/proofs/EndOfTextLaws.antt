@@ -13,12 +13,13 @@ use Rattle.ht_net.specs.Named.{Name, named_of}
 use Rattle.ht_net.specs.Draft.{Draft, IsDriven, IsName, part_at, no_name, no_part}
 use Rattle.ht_net.specs.Built.{AllDriven, IsLeastUndriven, draft_name, named_draft}
 use Rattle.ht_net.specs.Finish.{IsNameCycle, BeginsWithLeast, FeedsName}
+use Rattle.ht_net.proofs.CycleLaws.{cycle_map}
 use Rattle.ht_statement.specs.Statement.{Statement, blank_line, input_line, output_line, dff_line, gate_line, names_in}
 use Rattle.ht_statement.specs.StatementOf.{texts_of}
 use Rattle.ht_statement.specs.Reading.{stated}
 use Rattle.ht_bench.specs.Different.{different}
 use Rattle.ht_bench.specs.Contents.{driven_in, driven_by, mentions_of, gates_of, mention_rank}
-use Rattle.ht_bench.specs.EndOfText.{AreDriven, Feeds, IsCycle, IsDriverLine}
+use Rattle.ht_bench.specs.EndOfText.{AreDriven, Feeds, IsNetCycle, IsDriverLine}
 use Rattle.ht_bench.specs.Text.{IsNetlistOf, IsUndriven, IsLoop}
 use Rattle.ht_bench.specs.Added.{IsNumberOf, IsGateOf}
 use Rattle.ht_bench.specs.Progress.{IsRead}
@@ -50,10 +51,11 @@ same_statements (b ∷ some) (s ∷ others) e =
     cc
 
 -- a list that has a name, split before the first
-abbrev FirstCut : List Name → Name → Type 0
-FirstCut names name = (left : List Name) × (right : List Name) × (names ≡ left ++ name ∷ right) × (¬ Contains left name)
+abbrev FirstSplit : List Name → Name → Type 0
+FirstSplit names name = (left : List Name) × (right : List Name) × (names ≡ left ++ name ∷ right)
+    × (¬ Contains left name)
 
-first_split : (names : List Name) (name : Name) → Contains names name → FirstCut names name
+first_split : (names : List Name) (name : Name) → Contains names name → FirstSplit names name
 first_split [] name c = absurd (contains_none name c)
 first_split (x ∷ names) name c =
     ⊎_elim
@@ -147,7 +149,8 @@ module _ (text : List ℕ) (d : Draft) (is : IsRead text d) where
         ∙ sym (append_assoc (mentions_of first.before) split.0
         (get_or d.names id.0 [] ∷ (split.1 ++ mentions_of first.after))) in
         let absent : ¬ Contains (mentions_of first.before ++ split.0) (get_or d.names id.0 []) = λ c.
-        ⊎_elim first.earlier split.3 (Contains-append_cases (mentions_of first.before) split.0 (get_or d.names id.0 []) c)
+        ⊎_elim first.earlier split.3
+            (Contains-append_cases (mentions_of first.before) split.0 (get_or d.names id.0 []) c)
         in
         let driven = earlier_driven (mentions_of first.before ++ split.0)
         (get_or d.names id.0 [] ∷ (split.1 ++ mentions_of first.after)) through absent in
@@ -211,37 +214,29 @@ module _ (text : List ℕ) (d : Draft) (is : IsRead text d) where
     pub known_nets : All (IsName d) nets
     known_nets k other lt = subst (IsName d) (get_or_default nets k no_name other lt) (known_net k lt)
 
-    pub cycle_is : BeginsWithLeast nets → IsCycle is.statements (map (draft_name d) nets)
+    known : (a : NameId) → Contains nets a → IsName d a
+    known a at = subst (IsName d) (get_or_default nets at.0 no_name a at.1 ∙ at.2) (known_net at.0 at.1)
+
+    apart : (a b : NameId) → Contains nets a → Contains nets b → draft_name d a ≡ draft_name d b → a ≡ b
+    apart a b here there same =
+        let numbers : a.0 ≡ b.0 = sym (place_is a (known a here))
+        ∙ (ap (mention_rank is.statements) same ∙ place_is b (known b there)) in
+        let named : ℕ → NameId = λ n. record { 0 = n } in
+        ap named numbers
+
+    pub cycle_is : BeginsWithLeast nets → IsNetCycle is.statements (map (draft_name d) nets)
     cycle_is least =
         let count : length (map (draft_name d) nets) ≡ length nets = length-map nets (draft_name d) in
         let at : (k : ℕ) → k < length nets → get_or (map (draft_name d) nets) k []
         ≡ draft_name d (get_or nets k no_name) = λ k lt. get_or-map (draft_name d) nets k no_name [] lt in
         let some = cycle.some in
         record {
-          some = omega (arith, count, some);
-          distinct = λ j k less lt same.
-              let inner : k < length nets = omega (arith, count, lt) in
-              let before : j < length nets = omega (arith, less, inner) in
-              let texts : draft_name d (get_or nets j no_name) ≡ draft_name d (get_or nets k no_name) = sym
-              (at j before) ∙ (same ∙ at k inner) in
-              let numbers : (get_or nets j no_name).0 ≡ (get_or nets k no_name).0 =
-              sym (place_is (get_or nets j no_name) (known_net j before)) ∙
-              (ap (mention_rank is.statements) texts ∙ place_is (get_or nets k no_name) (known_net k inner)) in
-              let named : ℕ → NameId = λ n. record { 0 = n } in
-              cycle.distinct j k no_name less inner (ap named numbers);
-          next = λ k lt.
-              let inner : k + 1 < length nets = omega (arith, count, lt) in
-              rw (at k (omega arith), at (k + 1) inner)
-              (feeds_by_name (get_or nets k no_name) (get_or nets (k + 1) no_name) (cycle.next k no_name inner)).1;
-          closes =
-              let last : get_or (map (draft_name d) nets) (length (map (draft_name d) nets) - 1) []
-              ≡ draft_name d (get_or nets (length nets - 1) no_name) =
-              ap (λ (n : ℕ). get_or (map (draft_name d) nets) (n - 1) []) count ∙ at (length nets - 1) (omega arith) in
-              rw (last, at 0 some)
-              (feeds_by_name (get_or nets (length nets - 1) no_name) (get_or nets 0 no_name) (cycle.closes no_name)).1;
+          is_cycle = cycle_map (FeedsName d) (Feeds is.statements) (draft_name d) nets no_name apart
+              (λ a b _ _ feeds. (feeds_by_name a b feeds).1) cycle;
           least = λ k lt.
               let inner : k < length nets = omega (arith, count, lt) in
-              let first = ap (mention_rank is.statements) (at 0 some) ∙ place_is (get_or nets 0 no_name) (known_net 0 some)
+              let first = ap (mention_rank is.statements) (at 0 some) ∙ place_is (get_or nets 0 no_name)
+                  (known_net 0 some)
               in
               let other = ap (mention_rank is.statements) (at k inner) ∙ place_is (get_or nets k no_name)
               (known_net k inner) in

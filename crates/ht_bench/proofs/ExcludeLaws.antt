@@ -35,7 +35,8 @@ begins (b ∷ before) reading after statements e =
 
 -- where a cause goes against acceptance, a text that is refused for it is no netlist
 module _ (text : List ℕ) (IsAddError : List Statement → Reading → Type 0)
-    (against : (before : List Statement) (s : Statement) → IsAddError before (stated s) → ¬ IsAcceptedAfter before s) where
+    (against : (before : List Statement) (s : Statement) → IsAddError before (stated s) → ¬ IsAcceptedAfter before s)
+        where
   refused_is_no_netlist : (number : ℕ) → IsFirstRefused text number IsAddError → (circuit : Netlist)
       → ¬ IsNetlistOf text circuit
   refused_is_no_netlist number first circuit is =
@@ -97,7 +98,7 @@ loop_is_no_netlist text number cycle l circuit is =
     let same : l.statements ≡ is.statements = same_statements l.statements is.statements
     (sym l.read.lines ∙ is.read.lines) in
     no_circuit circuit is.is_circuit l.statements
-    (is.named ∙ sym (ap Rattle.ht_bench.specs.Contents.named_of_statements same)) cycle l.is_cycle
+    (is.named ∙ sym (ap Rattle.ht_bench.specs.Contents.named_of_statements same)) cycle l.is_cycle.is_cycle
 
 pub refused_is_of_no_circuit : (text : List ℕ) (error : BenchError) → Refuses text error → IsOfNoCircuit text error
 refused_is_of_no_circuit text (BadLine line) refused = refused_is_no_netlist text (IsUnreadable _) (unread_against _)

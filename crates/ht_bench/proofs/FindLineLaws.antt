@@ -44,13 +44,13 @@ pub gate_mentions : (is : Bool) (statement : Statement) (out : Name) (kind : Kin
     (name : Name) → statement ≡ gate_line out kind args → names ≡ args → out ≢ name
     → (IsTrue is ↔ Contains names name) → IsTrue is ↔ Contains (names_in statement) name
 gate_mentions is statement out kind args names name e same other tells =
-    let behind : Contains (names_in statement) name → Contains names name = λ c.
+    let later : Contains (names_in statement) name → Contains names name = λ c.
     ⊎_elim (λ (o : out ≡ name). absurd (other o))
-    (λ (later : Contains args name). subst (λ l. Contains l name) (sym same) later)
+    (λ (one : Contains args name). subst (λ l. Contains l name) (sym same) one)
     (contains_cases out args name (subst (λ (s : Statement). Contains (names_in s) name) e c)) in (
       λ yes. subst (λ (s : Statement). Contains (names_in s) name) (sym e)
           (contains_tail out args name (subst (λ l. Contains l name) same (tells.0 yes))),
-      λ c. tells.1 (behind c),
+      λ c. tells.1 (later c),
     )
 
 -- ---- lines that were read

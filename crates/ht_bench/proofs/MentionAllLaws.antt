@@ -81,7 +81,8 @@ module _ (a b : Draft) (texts : List (Bor (List ℕ))) (i : ℕ) (d : Bor (List 
       (drop_more (texts_of texts) i d.now (omega (arith, lt, length-texts_of texts)) ∙ ap
       (λ t. t ∷ drop (i + 1) (texts_of texts)) (text_at texts i d lt))
 
-  pub step_refuses : (cause : AddError) → Mentions a (take i (texts_of texts)) b → RefusesMention b (get_or texts i d).now
+  pub step_refuses : (cause : AddError) → Mentions a (take i (texts_of texts)) b
+      → RefusesMention b (get_or texts i d).now
       cause → RefusesMentions a (texts_of texts) cause
   step_refuses (Limit Nets) first refused = λ mentioned statements h.
       let name = (get_or texts i d).now in

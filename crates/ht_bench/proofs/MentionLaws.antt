@@ -7,12 +7,13 @@ use Rattle.std.proofs.lemmas.List.{length-append, get_or_append_left}
 use Rattle.ht_net.specs.declared.names.NameId.{NameId}
 use Rattle.ht_net.specs.declared.draft.DraftDff.{DraftDff}
 use Rattle.ht_net.specs.Names.{IsNewName}
+use Rattle.ht_net.specs.Lists.{AllDiffer}
 use Rattle.ht_net.specs.Named.{Name, NamedDff, NamedGate}
 use Rattle.ht_net.specs.Draft.{Draft, DraftGate, IsDraft, IsDriven}
 use Rattle.ht_bench.specs.Different.{different}
 use Rattle.ht_statement.specs.Statement.{Statement}
 use Rattle.ht_bench.specs.Contents.{driven_by}
-use Rattle.ht_bench.specs.Added.{NamesDiffer, IsNumberOf, IsDffOf, IsGateOf, IsDraftWith, Mentions}
+use Rattle.ht_bench.specs.Added.{IsNumberOf, IsDffOf, IsGateOf, IsDraftWith, Mentions}
 use Rattle.ht_bench.proofs.ListLaws.{AllZip-weaker}
 use Rattle.ht_bench.proofs.DifferentLaws.{different-push, new_or_contained, contains_not_new}
 
@@ -40,7 +41,7 @@ gate_stays names new_names keeps part gate is = record {
 
 -- a draft with other names that keep the numbers
 pub with_other_names : (mentioned more : List Name) (statements : List Statement) (d : Draft) (names : List Name)
-    → IsDraftWith mentioned statements d → names ≡ different more → NamesDiffer names → KeepsNumbers d.names names
+    → IsDraftWith mentioned statements d → names ≡ different more → AllDiffer names → KeepsNumbers d.names names
     → IsDraftWith more statements (record d { names = names })
 with_other_names mentioned more statements d names is e differ keeps = record {
   names = e;
@@ -90,7 +91,7 @@ module _ (d new : Draft) (name : Name)
       subst (IsDraftWith (mentioned ++ name ∷ []) statements) (sym e)
       (with_other_names mentioned (mentioned ++ name ∷ []) statements d (d.names ++ name ∷ []) is
       (ap (λ l. l ++ name ∷ []) is.names ∙ sym fresh.1)
-      (subst (λ (x : Draft). NamesDiffer x.names) e is_draft.names_differ) (number_stays d.names (name ∷ []))))
+      (subst (λ (x : Draft). AllDiffer x.names) e is_draft.names_differ) (number_stays d.names (name ∷ []))))
       (different-push mentioned name)
 
   pub net_mentions : IsDraft new → Mentions d (name ∷ []) new
@@ -102,7 +103,7 @@ module _ (d new : Draft) (name : Name)
   }
 
 -- names that differ have one number each
-pub one_number : (names : List Name) (a b : NameId) (name : Name) → NamesDiffer names → IsNumberOf names a name
+pub one_number : (names : List Name) (a b : NameId) (name : Name) → AllDiffer names → IsNumberOf names a name
     → IsNumberOf names b name → a ≡ b
 one_number names a b name differ at_a at_b =
     ⊎_elim

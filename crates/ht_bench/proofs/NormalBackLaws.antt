@@ -1,5 +1,5 @@
--- What is read has names of the format, so its normal text is read as the same circuit, and is refused for want of
--- memory alone.
+-- What is read has names of the format, so its normal text is read as the same circuit, and refused only where memory
+-- runs out.
 use Rattle.std.proofs.Common.{◌≡◌, ℕ, List, [], ◌∷◌, ◌++◌, true, map, refl, sym, ap, subst, ◌∙◌}
 use Rattle.std.specs.List.{All}
 use Rattle.std.proofs.lemmas.List.Elements.{All-nil, All-cons, All-head, All-append, All-map, All-weaker}

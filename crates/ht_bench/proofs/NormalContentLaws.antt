@@ -15,7 +15,7 @@ use Rattle.ht_bench.specs.Different.{different}
 use Rattle.ht_bench.specs.Contents.{inputs_in, outputs_in, dffs_in, gates_in, driven_in, inputs_of, outputs_of, dffs_of, gates_of, driven_by, pins_of, named_of_statements}
 use Rattle.ht_bench.specs.Normal.{dff_statement, gate_statement, named_statements, statements_of}
 use Rattle.ht_bench.proofs.NormalLaws.{take_more, no_named_dff, no_named_gate, gate_named, named_dffs_count, named_gates_count, get_or-named_dffs, get_or-named_gates}
-use Rattle.ht_bench.proofs.NormalListLaws.{AllDiffer, differ_by_place, different_is}
+use Rattle.ht_bench.proofs.NormalListLaws.{EachDiffers, differ_by_place, different_is}
 
 -- ---- parts of statements
 
@@ -32,7 +32,8 @@ four_parts : {A : Type 0} (a b d e a' b' d' e' : List A) → a ≡ a' → b ≡ 
 four_parts a b d e a' b' d' e' p q r s = cc
 
 module _ {B : Type 0} (f : Statement → List B) (n : NamedNetlist) where
-  pub content : (a b d e : List B) → flat_map (λ x. f (input_line x)) n.inputs ≡ a → flat_map (λ x. f (output_line x)) n.outputs
+  pub content : (a b d e : List B) → flat_map (λ x. f (input_line x)) n.inputs ≡ a
+      → flat_map (λ x. f (output_line x)) n.outputs
       ≡ b
       → flat_map (λ x. f (dff_statement x)) n.dffs ≡ d → flat_map (λ x. f (gate_statement x)) n.gates ≡ e
       → flat_map f (named_statements n) ≡ ((a ++ b) ++ d) ++ e
@@ -135,7 +136,7 @@ module _ (c : Netlist) (is : IsCircuit c) where
       ∙ names_of_gates c (first_gate_net c) c.gates (omega arith)
       ∙ take_all (net_count c) c.names (omega arith)
 
-  pub names_differ : AllDiffer c.names
+  pub names_differ : EachDiffers c.names
   names_differ = differ_by_place c.names (λ x y. is.names_differ x y [])
 
   one_net : (x y : NetId) → x.0 < length c.names → y.0 < length c.names → x ≢ y → name_of c x ≢ name_of c y
@@ -145,7 +146,7 @@ module _ (c : Netlist) (is : IsCircuit c) where
     | inr (inr equal) ↦ other (ap (λ n. record { 0 = n }) equal)
   ]
 
-  outputs_differ : AllDiffer (map (name_of c) c.outputs)
+  outputs_differ : EachDiffers (map (name_of c) c.outputs)
   outputs_differ = differ_by_place (map (name_of c) c.outputs) (λ x y before below same.
       let count = length-map c.outputs (name_of c) in
       let named = is.named in

@@ -46,20 +46,20 @@ All-flat_map P f (x ∷ xs) all =
 
 -- ---- no two names are the same
 
-abbrev pub AllDiffer : List Name → Type 0
-AllDiffer [] = Unit {0}
-AllDiffer (name ∷ names) = All (λ other. other ≢ name) names × AllDiffer names
+abbrev pub EachDiffers : List Name → Type 0
+EachDiffers [] = Unit {0}
+EachDiffers (name ∷ names) = All (λ other. other ≢ name) names × EachDiffers names
 
 pub differ_by_place : (names : List Name)
-    → ((x y : ℕ) → x < y → y < length names → get_or names x [] ≢ get_or names y []) → AllDiffer names
+    → ((x y : ℕ) → x < y → y < length names → get_or names x [] ≢ get_or names y []) → EachDiffers names
 differ_by_place [] differ = tt
 differ_by_place (name ∷ names) differ = (
   (λ k d below same. differ 0 (suc k) (omega arith) (omega arith) (sym same ∙ get_or_default names k d [] below)),
   differ_by_place names (λ x y before below. differ (suc x) (suc y) (omega arith) (omega arith)),
 )
 
--- a name stands in one of two parts alone
-pub differ_apart : (xs ys : List Name) (name : Name) → AllDiffer (xs ++ ys) → Contains xs name → ¬ Contains ys name
+-- a name stands in only one of two parts
+pub differ_apart : (xs ys : List Name) (name : Name) → EachDiffers (xs ++ ys) → Contains xs name → ¬ Contains ys name
 differ_apart [] ys name differ here there = contains_none name here
 differ_apart (x ∷ xs) ys name differ here there =
     ⊎_elim
@@ -87,14 +87,14 @@ filter_all p (x ∷ xs) all =
     filter_yes p x xs (All-head (λ y. p y ≡ true) x xs all) ∙ ap (λ l. x ∷ l)
     (filter_all p xs (All-tail (λ y. p y ≡ true) x xs all))
 
-filtered_differ : (p : Name → Bool) (names : List Name) → AllDiffer names → AllDiffer (filter p names)
+filtered_differ : (p : Name → Bool) (names : List Name) → EachDiffers names → EachDiffers (filter p names)
 filtered_differ p [] differ = tt
 filtered_differ p (name ∷ names) differ =
     ⊎_elim
     (λ (yes : p name ≡ true).
-    subst AllDiffer (sym (filter_yes p name names yes))
+    subst EachDiffers (sym (filter_yes p name names yes))
     (All-filter p (λ other. other ≢ name) names differ.0, filtered_differ p names differ.1))
-    (λ (no : p name ≡ false). subst AllDiffer (sym (filter_no p name names no)) (filtered_differ p names differ.1))
+    (λ (no : p name ≡ false). subst EachDiffers (sym (filter_no p name names no)) (filtered_differ p names differ.1))
     (bool_cases (p name))
 
 filtered_other : (name : Name) (names : List Name) → All (λ other. other ≢ name) (filter (is_not name) names)
@@ -109,13 +109,13 @@ filtered_other name (x ∷ names) =
     (filtered_other name names))
     (bool_cases (is_not name x))
 
-different_differ : (names : List Name) → AllDiffer (different names)
+different_differ : (names : List Name) → EachDiffers (different names)
 different_differ [] = tt
 different_differ (name ∷ names) =
     (filtered_other name (different names), filtered_differ (is_not name) (different names) (different_differ names))
 
 -- names that differ are their own different names
-pub different_is : (names : List Name) → AllDiffer names → different names ≡ names
+pub different_is : (names : List Name) → EachDiffers names → different names ≡ names
 different_is [] differ = refl
 different_is (name ∷ names) differ =
     ap (λ l. name ∷ filter (is_not name) l) (different_is names differ.1)
@@ -154,7 +154,7 @@ one_fewer name (x ∷ names) has =
     (bool_cases (is_not name x))
 
 -- names that differ are no more than those of which they are
-no_more : (names others : List Name) → AllDiffer names → All (Contains others) names → length names ≤ length others
+no_more : (names others : List Name) → EachDiffers names → All (Contains others) names → length names ≤ length others
 no_more [] others differ all = omega arith
 no_more (name ∷ names) others differ all =
     let fewer = one_fewer name others (All-head (Contains others) name names all) in

@@ -17,6 +17,7 @@ use Rattle.ht_statement.specs.Element.{gate_of, has_count}
 use Rattle.ht_statement.specs.Statement.{Statement, input_line, output_line, names_in}
 use Rattle.ht_statement.specs.Reading.{stated, reading_of}
 use Rattle.ht_statement.specs.StatementText.{statement_text, has_its_count, CanBeStated}
+use Rattle.ht_statement.proofs.StatedLaws.{arity_is_count}
 use Rattle.ht_statement.proofs.StatementTextLaws.{normal_reads}
 use Rattle.ht_bench.specs.Contents.{inputs_in, dffs_in, gates_in, driven_in, inputs_of, dffs_of, gates_of, driven_by, mentions_of, nets_of, pins_of}
 use Rattle.ht_bench.specs.Accepted.{IsWithinLimits, HasNewDriver, AreAccepted}
@@ -25,23 +26,10 @@ use Rattle.ht_bench.specs.Text.{IsNetlistOf}
 use Rattle.ht_bench.specs.Normal.{dff_statement, gate_statement, statements_of, normal_text, HasFormatNames}
 use Rattle.ht_bench.proofs.NormalLaws.{named_dffs_count}
 use Rattle.ht_bench.proofs.NormalLineLaws.{lines_of_statements}
-use Rattle.ht_bench.proofs.NormalListLaws.{all_from_test, test_from_all, AreNames, AllDiffer, All-left, All-flat_map, differ_apart, length-different}
+use Rattle.ht_bench.proofs.NormalListLaws.{all_from_test, test_from_all, AreNames, EachDiffers, All-left, All-flat_map, differ_apart, length-different}
 use Rattle.ht_bench.proofs.NormalContentLaws.{inputs_are, dffs_are, driven_are_names, names_differ, statements_say, pins_are, statements_made, gates_have_counts}
 
 -- ---- each line is read
-
-some_are_tested : (count : ℕ) → ltb 0 count ≡ true → count ≤ 255 → (leb 1 count && leb count 255) ≡ true
-some_are_tested count some few = grind (arith, nat_tests)
-
-count_is_tested : (kind : Kind) (count : ℕ) → HasArity kind count → count ≤ 255 → has_count (gate_of kind) count ≡ true
-count_is_tested And count arity few = some_are_tested count arity few
-count_is_tested Nand count arity few = some_are_tested count arity few
-count_is_tested Or count arity few = some_are_tested count arity few
-count_is_tested Nor count arity few = some_are_tested count arity few
-count_is_tested Xor count arity few = some_are_tested count arity few
-count_is_tested Xnor count arity few = some_are_tested count arity few
-count_is_tested Not count arity few = arity
-count_is_tested Buf count arity few = arity
 
 texts_read : (statements : List Statement) → All CanBeStated statements → map reading_of (map statement_text statements)
     ≡ map stated statements
@@ -110,7 +98,7 @@ module _ (c : Netlist) (is : IsCircuit c) where
       let parts : c.names ≡ driven_by before ++ (driven_in s ++ driven_by after) = sym (driven_are_names c is) ∙ ap
       driven_by split ∙ flat_map-append driven_in before (s ∷ after) in
       differ_apart (driven_by before) (driven_in s ++ driven_by after) (get_or (driven_in s) k d)
-      (subst AllDiffer parts (names_differ c is)) driven
+      (subst EachDiffers parts (names_differ c is)) driven
       (Contains-append_left (driven_in s) (driven_by after) (get_or (driven_in s) k d)
       (Contains-get_or (driven_in s) k d below))
 
@@ -135,11 +123,12 @@ module _ (c : Netlist) (is : IsCircuit c) where
       All-map HasIts gate_statement n.gates
       (All-weaker (λ (g : NamedGate). HasArity g.kind (length g.args) × (length g.args ≤ 255))
       (λ g. HasIts (gate_statement g))
-      (λ g has. count_is_tested g.kind (length g.args) has.0 has.1) n.gates (gates_have_counts c is)) in
+      (λ g has. arity_is_count g.kind (length g.args) has.0 has.1) n.gates (gates_have_counts c is)) in
       All-append HasIts ((map input_line n.inputs ++ map output_line n.outputs) ++ map dff_statement n.dffs)
       (map gate_statement n.gates)
       (All-append HasIts (map input_line n.inputs ++ map output_line n.outputs) (map dff_statement n.dffs)
-      (All-append HasIts (map input_line n.inputs) (map output_line n.outputs) (All-map HasIts input_line n.inputs (λ k d below. refl))
+      (All-append HasIts (map input_line n.inputs) (map output_line n.outputs)
+          (All-map HasIts input_line n.inputs (λ k d below. refl))
       (All-map HasIts output_line n.outputs (λ k d below. refl)))
       (All-map HasIts dff_statement n.dffs (λ k d below. refl)))
       gates

@@ -6,9 +6,10 @@ use Rattle.ht_tern.specs.declared.gate.Kind.{Kind}
 use Rattle.ht_net.specs.declared.net.NetId.{NetId}
 use Rattle.ht_net.specs.Netlist.{Netlist, Gate, IsCircuit, first_gate_net, no_gate, no_net}
 use Rattle.ht_net.specs.Named.{Name, NamedDff, NamedGate, NamedNetlist, name_of, named_dffs, named_gates, named_of}
+use Rattle.ht_bench.proofs.NormalLaws.{named_dffs_count, named_gates_count}
 use Rattle.ht_bench.specs.Contents.{named_of_statements}
 use Rattle.ht_bench.specs.Text.{IsNetlistOf}
-use Rattle.ht_bench.specs.Added.{NamesDiffer}
+use Rattle.ht_net.specs.Lists.{AllDiffer}
 use Rattle.ht_bench.proofs.PlaceLaws.{place_in, place_at}
 use Rattle.ht_bench.proofs.EndOfTextLaws.{same_statements}
 
@@ -23,14 +24,6 @@ same_lists (x ∷ xs) (y ∷ ys) d e h =
     cc
 
 -- ---- the parts of a circuit by names
-
-length-named_dffs : (c : Netlist) (x : ℕ) (dffs : List NetId) → length (named_dffs c x dffs) ≡ length dffs
-length-named_dffs c x [] = refl
-length-named_dffs c x (d ∷ dffs) = omega (arith, length-named_dffs c (x + 1) dffs)
-
-length-named_gates : (c : Netlist) (x : ℕ) (gates : List Gate) → length (named_gates c x gates) ≡ length gates
-length-named_gates c x [] = refl
-length-named_gates c x (g ∷ gates) = omega (arith, length-named_gates c (x + 1) gates)
 
 dff_net : (c e : Netlist) (x : ℕ) (dffs others : List NetId) → named_dffs c x dffs ≡ named_dffs e x others → (j : ℕ)
     → j < length dffs → get_or c.names (x + j) [] ≡ get_or e.names (x + j) []
@@ -72,7 +65,7 @@ AreKnownNets names nets = (k : ℕ) → k < length nets → (get_or nets k no_ne
 abbrev named_net : List Name → NetId → Name
 named_net names net = get_or names net.0 []
 
-module _ (names : List Name) (differ : NamesDiffer names) where
+module _ (names : List Name) (differ : AllDiffer names) where
   same_net : (a b : NetId) → a.0 < length names → b.0 < length names → named_net names a ≡ named_net names b → a ≡ b
   same_net a b in_a in_b e =
       let number : ℕ → NetId = λ n. record { 0 = n } in
@@ -147,12 +140,12 @@ module _ (c e : Netlist) (is_c : IsCircuit c) (is_e : IsCircuit e) (same : named
       omega (arith, first, second, ap (λ (n : NamedNetlist). length n.inputs) same)
 
   dff_count : length c.dffs ≡ length e.dffs
-  dff_count = sym (length-named_dffs c c.inputs c.dffs) ∙ ap (λ (n : NamedNetlist). length n.dffs) same ∙
-      length-named_dffs e e.inputs e.dffs
+  dff_count = sym (named_dffs_count c c.inputs c.dffs) ∙ ap (λ (n : NamedNetlist). length n.dffs) same ∙
+      named_dffs_count e e.inputs e.dffs
 
   gate_count : length c.gates ≡ length e.gates
-  gate_count = sym (length-named_gates c (first_gate_net c) c.gates) ∙ ap (λ (n : NamedNetlist). length n.gates) same ∙
-      length-named_gates e (first_gate_net e) e.gates
+  gate_count = sym (named_gates_count c (first_gate_net c) c.gates) ∙ ap (λ (n : NamedNetlist). length n.gates) same ∙
+      named_gates_count e (first_gate_net e) e.gates
 
   first_gates : first_gate_net c ≡ first_gate_net e
   first_gates = omega (arith, same_inputs, dff_count)

@@ -5,13 +5,13 @@ use Rattle.std.specs.Str.{bytes_eq}
 use Rattle.std.proofs.lemmas.List.Sums.{position_or_len_is}
 use Rattle.std.proofs.lemmas.Slice.Eq.{bytes_eq-Decides}
 use Rattle.ht_net.specs.Named.{Name}
-use Rattle.ht_bench.specs.Added.{NamesDiffer}
+use Rattle.ht_net.specs.Lists.{AllDiffer}
 use Rattle.ht_bench.proofs.DifferentLaws.{name_cases}
 
 abbrev pub place_in : List Name → Name → ℕ
 place_in names name = position_or_len (λ other. bytes_eq other name) names
 
-pub place_at : (names : List Name) (k : ℕ) → NamesDiffer names → k < length names → place_in names (get_or names k [])
+pub place_at : (names : List Name) (k : ℕ) → AllDiffer names → k < length names → place_in names (get_or names k [])
     ≡ k
 place_at names k differ lt =
     position_or_len_is (λ other. bytes_eq other (get_or names k [])) names k [] (omega (arith, lt))

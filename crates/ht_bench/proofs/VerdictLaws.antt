@@ -70,7 +70,8 @@ module _ (text : List ℕ) (C D : List Statement → Reading → Type 0)
       (λ (second : (rest : List Reading) × (map stated f.before ≡ map stated g.before ++ g.reading ∷ rest)).
       let r = begins g.before g.reading second.0 f.before (sym second.1) in
       absurd (d_against g.before r.0 (subst (D g.before) r.3 g.cause) (f.accepted g.before r.1 r.0 r.2))) other)
-      (split_cases (map stated f.before) f.reading f.after (map stated g.before) g.reading g.after (sym f.split ∙ g.split))
+      (split_cases (map stated f.before) f.reading f.after (map stated g.before) g.reading g.after
+          (sym f.split ∙ g.split))
 
 module _ (text : List ℕ) (C : List Statement → Reading → Type 0)
     (against : (before : List Statement) (s : Statement) → C before (stated s) → ¬ IsAcceptedAfter before s) where
@@ -131,7 +132,7 @@ module _ (before : List Statement) (reading : Reading) where
       one_limit (before ++ f.statement ∷ []) a b f.passed
       (subst (λ s. IsFirstPassed (before ++ s ∷ []) b) (sym same) g.passed)
 
--- ---- behind the last line
+-- ---- after the last line
 
 -- a net in a statement is mentioned
 mentioned_in : (statements before : List Statement) (s : Statement) (after : List Statement) (left : List Name)
@@ -199,19 +200,16 @@ IsVerdict text (limit_passed_at n what) = IsFirstRefused text n (PassesLimit wha
 IsVerdict text (undriven_at n name) = IsUndriven text n name
 IsVerdict text in_cycle = (n : ℕ) × (cycle : List Name) × IsLoop text n cycle
 
-told : {A : Type 0} (x y : A) → Some x ≡ Some y → x ≡ y
-told x y e = cc
-
 verdict_is : (text : List ℕ) (error : BenchError) (v : Verdict) → Refuses text error → verdict_of error ≡ Some v
     → IsVerdict text v
-verdict_is text (BadLine line) v refused e = subst (IsVerdict text) (told _ v e) refused
-verdict_is text (BadName line) v refused e = subst (IsVerdict text) (told _ v e) refused
-verdict_is text (BadKind line) v refused e = subst (IsVerdict text) (told _ v e) refused
-verdict_is text (BadCount line) v refused e = subst (IsVerdict text) (told _ v e) refused
-verdict_is text (Twice line name) v refused e = subst (IsVerdict text) (told _ v e) refused
-verdict_is text (TooMany line what) v refused e = subst (IsVerdict text) (told _ v e) refused
-verdict_is text (Undriven line name) v refused e = subst (IsVerdict text) (told _ v e) refused
-verdict_is text (Loop line names) v refused e = subst (IsVerdict text) (told in_cycle v e)
+verdict_is text (BadLine line) v refused e = subst (IsVerdict text) (same_Some _ v e) refused
+verdict_is text (BadName line) v refused e = subst (IsVerdict text) (same_Some _ v e) refused
+verdict_is text (BadKind line) v refused e = subst (IsVerdict text) (same_Some _ v e) refused
+verdict_is text (BadCount line) v refused e = subst (IsVerdict text) (same_Some _ v e) refused
+verdict_is text (Twice line name) v refused e = subst (IsVerdict text) (same_Some _ v e) refused
+verdict_is text (TooMany line what) v refused e = subst (IsVerdict text) (same_Some _ v e) refused
+verdict_is text (Undriven line name) v refused e = subst (IsVerdict text) (same_Some _ v e) refused
+verdict_is text (Loop line names) v refused e = subst (IsVerdict text) (same_Some in_cycle v e)
     (line, names, refused)
 verdict_is text NoMemory v refused e = absurd (none_is_not_some v e)
   where

@@ -32,13 +32,10 @@ pub record IsGateOf (names : List Name) (part : DraftGate) (gate : NamedGate) : 
   pub out : IsNumberOf names part.out gate.out
   pub args : AllZip (IsNumberOf names) part.args gate.args
 
-abbrev pub NamesDiffer : List Name → Type 0
-NamesDiffer names = AllDiffer names
-
 -- a draft of these statements, in which these names are mentioned
 pub record IsDraftWith (mentioned : List Name) (statements : List Statement) (d : Draft) : Type 0 where
   pub names : d.names ≡ different mentioned
-  pub names_differ : NamesDiffer d.names
+  pub names_differ : AllDiffer d.names
   pub inputs : AllZip (IsNumberOf d.names) d.inputs (inputs_of statements)
   pub outputs : AllZip (IsNumberOf d.names) d.outputs (outputs_of statements)
   pub dffs : AllZip (IsDffOf d.names) d.dffs (dffs_of statements)
@@ -101,4 +98,5 @@ pub record AddsLine (old : Draft) (line : List ℕ) (new : Draft) : Type 0 where
   pub accepts : Accepts old statement new
 
 abbrev pub RefusesLine : Draft → List ℕ → AddError → Type 0
-RefusesLine old line cause = (before : List Statement) → IsDraftOf before old → IsAddError cause before (reading_of line)
+RefusesLine old line cause = (before : List Statement) → IsDraftOf before old
+    → IsAddError cause before (reading_of line)

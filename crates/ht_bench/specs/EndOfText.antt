@@ -1,5 +1,6 @@
--- What is judged behind the last line: nets that no line drives, and cycles of gates.
+-- What is judged after the last line: nets that no line drives, and cycles of gates.
 use Rattle.std.specs.Prelude.{◌≡◌, ◌≢◌, ℕ, ◌+◌, ◌-◌, ◌<◌, ◌≤◌, List, [], ◌∷◌, ◌++◌, length, get_or, All, Contains}
+use Rattle.ht_net.specs.Lists.{IsCycle}
 use Rattle.ht_net.specs.Named.{Name, NamedGate}
 use Rattle.ht_statement.specs.Statement.{Statement, names_in}
 use Rattle.ht_bench.specs.Contents.{driven_in, driven_by, mentions_of, gates_of, mention_rank}
@@ -29,13 +30,10 @@ pub record Feeds (statements : List Statement) (a b : Name) : Type 0 where
   pub out : gate.out ≡ b
   pub arg : Contains gate.args a
 
--- different nets: each is an argument of the gate that drives the next, and the last of the gate that drives the first;
--- the first is the least by first mention
-pub record IsCycle (statements : List Statement) (cycle : List Name) : Type 0 where
-  pub some : 0 < length cycle
-  pub distinct : (j k : ℕ) → j < k → k < length cycle → get_or cycle j [] ≢ get_or cycle k []
-  pub next : (k : ℕ) → k + 1 < length cycle → Feeds statements (get_or cycle k []) (get_or cycle (k + 1) [])
-  pub closes : Feeds statements (get_or cycle (length cycle - 1) []) (get_or cycle 0 [])
+-- A cycle of gates: different nets, each an argument of the gate that drives the next, and the last one of the gate
+-- that drives the first; the first is the one that is mentioned first.
+pub record IsNetCycle (statements : List Statement) (cycle : List Name) : Type 0 where
+  pub is_cycle : IsCycle (Feeds statements) cycle
   pub least : (k : ℕ) → k < length cycle → mention_rank statements (get_or cycle 0 []) ≤ mention_rank statements
       (get_or cycle k [])
 

@@ -5,11 +5,7 @@ use Rattle.ht_net.specs.Netlist.{Netlist}
 use Rattle.ht_net.specs.Named.{NamedDff, NamedGate, NamedNetlist, named_of}
 use Rattle.ht_statement.specs.Name.{is_name}
 use Rattle.ht_statement.specs.Statement.{Statement, input_line, output_line, dff_line, gate_line}
-use Rattle.ht_statement.specs.StatementText.{statement_text}
-
--- a line with its LF
-abbrev pub statement_line : Statement → List ℕ
-statement_line statement = statement_text statement ++ codes "\n"
+use Rattle.ht_statement.specs.StatementText.{statement_line}
 
 abbrev pub statement_lines : List Statement → List ℕ
 statement_lines statements = flat_map statement_line statements

@@ -28,7 +28,7 @@ pub record IsFirstLine (text : List ℕ) (role : Role) (name : Name) (number : �
   pub has : Contains (nets_in role statement) name
   pub earlier : ¬ Contains (flat_map (nets_in role) before) name
 
--- some lines don't have it, and some of the rest does
+-- The lines read so far don't have the net in this role, and a line of the rest has it.
 pub record IsAhead (text rest : List ℕ) (count : ℕ) (role : Role) (name : Name) : Type 0 where
   pub before : List Statement
   pub after : List Statement

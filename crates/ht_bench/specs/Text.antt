@@ -9,7 +9,7 @@ use Rattle.ht_statement.specs.declared.error.LineRefusal.{LineRefusal}
 use Rattle.ht_statement.specs.declared.error.LineRefusal.TheVariants.{BadLine as LineIsBad, BadName as NameIsBad, BadKind as KindIsBad, BadCount as CountIsBad}
 use Rattle.ht_bench.specs.Contents.{mentions_of, named_of_statements}
 use Rattle.ht_bench.specs.Accepted.{AreAccepted, IsSecondDriver, PassesLimit}
-use Rattle.ht_bench.specs.EndOfText.{AreDriven, IsFirstUndriven, IsCycle, IsDriverLine}
+use Rattle.ht_bench.specs.EndOfText.{AreDriven, IsFirstUndriven, IsNetCycle, IsDriverLine}
 use Rattle.ht_bench.specs.declared.error.BenchError.{BenchError}
 use Rattle.ht_bench.specs.declared.error.BenchError.TheVariants.{BadLine, BadName, BadKind, BadCount, Twice, TooMany, Undriven, Loop, NoMemory}
 
@@ -56,7 +56,7 @@ pub record IsLoop (text : List ℕ) (number : ℕ) (cycle : List Name) : Type 0 
   pub statements : List Statement
   pub read : IsAcceptedText text statements
   pub driven : AreDriven statements (mentions_of statements)
-  pub is_cycle : IsCycle statements cycle
+  pub is_cycle : IsNetCycle statements cycle
   pub line : IsDriverLine statements (get_or cycle 0 []) number
 
 -- the refusal of a text that is no netlist; memory may run out at any text

@@ -15,7 +15,7 @@ pub data Verdict : Type 0 where
   undriven_at : ℕ → Name → Verdict
   in_cycle : Verdict
 
--- want of memory says nothing of the text
+-- out of memory says nothing of the text
 abbrev pub verdict_of : BenchError → Option Verdict
 verdict_of (BadLine line) = Some (unread_at line LineIsBad)
 verdict_of (BadName line) = Some (unread_at line NameIsBad)

@@ -1,4 +1,4 @@
-// Why a line isn't added.
+//! Why a line isn't added.
 ghost use Rattle.std.specs.Prelude.{◌≡◌};
 ghost use Rattle.ht_bench.specs.AddErrors.{error_at};
 
@@ -11,17 +11,18 @@ use std::alloc::{AllocError, AllocFailed};
 /// Why a line isn't added to a netlist in the making.
 #[derive(Drop)]
 pub(crate) enum AddError {
-    /// It is refused by itself.
+    /// The line is refused, whatever stands before it.
     Refused(LineRefusal),
     /// It drives this net, which an earlier line drives.
     SecondDriver(Items<u8>),
     /// With it there are more than the limit allows.
     Limit(ht_net::Limit),
+    /// Out of memory.
     NoMemory,
 }
 
 impl AddError {
-    /// The refusal of a line, which counts from 1, for this cause.
+    /// The refusal of a text at this line, which counts from 1.
     pub(crate) fn at(self, line: u32) -> BenchError
         ensures { result ≡ error_at self line }
     {
@@ -40,7 +41,7 @@ impl AddError {
 impl From<AllocError> for AddError {
     ghost use Rattle.ht_bench.specs.declared.add_error.AddError.TheVariants.{NoMemory};
 
-    ghost from_gives = { λ _ cause. cause ≡ NoMemory };
+    ghost from_gives = { λ _ error. error ≡ NoMemory };
 
     fn from(_error: AllocError) -> AddError {
         AddError::NoMemory
@@ -50,7 +51,7 @@ impl From<AllocError> for AddError {
 impl<T: Drop> From<AllocFailed<T>> for AddError {
     ghost use Rattle.ht_bench.specs.declared.add_error.AddError.TheVariants.{NoMemory};
 
-    ghost from_gives = { λ _ cause. cause ≡ NoMemory };
+    ghost from_gives = { λ _ error. error ≡ NoMemory };
 
     fn from(_error: AllocFailed<T>) -> AddError {
         AddError::NoMemory
@@ -60,21 +61,21 @@ impl<T: Drop> From<AllocFailed<T>> for AddError {
 impl From<StatementError> for AddError {
     ghost use Rattle.ht_bench.specs.AddErrors.{line_error_of};
 
-    ghost from_gives = { λ fault cause. cause ≡ line_error_of fault };
+    ghost from_gives = { λ error result. result ≡ line_error_of error };
 
-    fn from(fault: StatementError) -> AddError {
-        match fault {
+    fn from(error: StatementError) -> AddError {
+        match error {
             StatementError::Refused(refusal) => AddError::Refused(refusal),
             StatementError::NoMemory => AddError::NoMemory,
         }
     }
 }
 
-// a net that is driven is told before a builder is asked to drive it
+// `Twice` can't come here: `mention_driven` has refused a second driver before the builder is asked to drive the net.
 impl From<NetError> for AddError {
     ghost use Rattle.ht_bench.specs.AddErrors.{add_error_of};
 
-    ghost from_gives = { λ error cause. cause ≡ add_error_of error };
+    ghost from_gives = { λ error result. result ≡ add_error_of error };
 
     fn from(error: NetError) -> AddError {
         match error {

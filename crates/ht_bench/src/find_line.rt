@@ -1,4 +1,4 @@
-// Finding a line of a text that was read before.
+//! The first line that mentions or drives a net, in a text whose lines were all read.
 ghost use Rattle.std.specs.Prelude.{◌≡◌, ◌≤◌, ◌↔◌, IsTrue, IfOk, length, Contains};
 ghost use Rattle.ht_statement.specs.Statement.{Statement as Stated, names_in};
 ghost use Rattle.ht_statement.specs.Reading.{stated, reading_of};
@@ -63,7 +63,7 @@ fn has_net(statement: &Statement<'_>, role: Role, name: &[u8]) -> bool
     }
 }
 
-/// What a line states that was read before.
+/// What a line states that was read before. For the proof: it can't be refused now.
 fn read_again<'a>(alloc: Global, line: &'a [u8]) -> Result<Statement<'a>, AllocError>
     requires { (statement : Stated) × (reading_of line.now ≡ stated statement) }
     ensures { IfOk result (λ statement. reading_of line.now ≡ stated (statement_of statement)) }

@@ -3,6 +3,8 @@
 //! `read` gives the circuit of a netlist, or the one refusal of a text that is none. `specs/Text.antt` says which texts
 //! are netlists of which circuits, and how every other text is refused. What one line states is ht_statement's.
 //!
+//! `write_refusal` writes a refusal's words on the port Err; `specs/RefusalText.antt` has them.
+//!
 //! `write` gives the normal text of a circuit, which `read` reads as that circuit. `specs/Normal.antt` has that text.
 #![tactic(auto)]
 
@@ -14,7 +16,6 @@ mod lines;
 mod mention;
 mod reader;
 mod refusal_text;
-mod spell;
 mod split;
 mod theorems;
 mod writer;
@@ -27,6 +28,3 @@ pub use theorems::{
     normal_text_is_read_as_its_circuit, one_circuit_per_text, one_refusal_per_text,
 };
 pub use writer::write;
-
-#[cfg(test)]
-mod tests;

@@ -50,7 +50,7 @@ fn names_of(
     Ok(Items::from_vec(names))
 }
 
-/// The refusal of a text whose lines are read and whose nets make no circuit.
+/// The refusal of a text whose lines are all read and whose nets make no circuit.
 fn end_refusal(
     alloc: Global,
     builder: &Builder,
@@ -83,8 +83,8 @@ fn end_refusal(
 /// The circuit of a netlist of at most 16,777,216 bytes (ISCAS-89 format).
 ///
 /// # Errors
-/// The text's one refusal, in the order of `BenchError`; which cycle `Loop` names is free. `NoMemory` where memory runs
-/// out.
+/// The text's one refusal, by the rules of `BenchError`; which cycle `Loop` names is free. `NoMemory` may come at any
+/// text.
 #[tactic(auto, using(crate::proofs::ExcludeLaws::refused_is_of_no_circuit, crate::proofs::EndOfTextLaws::netlist_is))]
 pub fn read(alloc: Global, text: &[u8]) -> Result<Circuit, BenchError>
     requires { length text.now ≤ 16777216 }

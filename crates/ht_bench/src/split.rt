@@ -1,8 +1,8 @@
-// Cutting bytes at a mark.
+//! Splits of a text at a byte.
 ghost use Rattle.std.specs.Prelude.{◌≡◌, ◌≢◌, ℕ, List, [], ◌∷◌, ◌++◌, IfSome, IfNone};
 ghost use Rattle.ht_bench.specs.Split.{Lacks, IsSplit};
 
-/// The bytes before the first `mark` and the bytes behind it, or `None` where there is no `mark`.
+/// The bytes before the first `mark` and those after it, or `None` where there is no `mark`.
 pub(crate) fn split_at_byte(text: &[u8], mark: u8) -> Option<(&[u8], &[u8])>
     ensures found { IfSome result (λ parts. IsSplit text.now mark parts.0.now parts.1.now) }
     ensures none { IfNone result (Lacks text.now mark) }

@@ -1,18 +1,18 @@
-// The writer of normal text.
+//! The writer of normal text.
 ghost use Rattle.std.specs.Prelude.{◌≡◌, ◌++◌, map, IfOk, OnOk};
 ghost use Rattle.ht_net.specs.Named.{named_of};
 ghost use Rattle.ht_statement.specs.Statement.{input_line, output_line};
 ghost use Rattle.ht_bench.specs.Normal.{statement_lines, dff_statement, gate_statement, normal_text};
 
-use crate::spell::{push_dff, push_gate, push_input, push_output};
 use ht_net::{Circuit, NetId};
+use ht_statement::{push_dff, push_gate, push_input, push_output};
 use std::alloc::{AllocError, Global};
 
 /// The normal text of a circuit (ISCAS-89 format): INPUT lines by input, OUTPUT lines by output, flip-flop lines by
 /// flip-flop and gate lines by gate, each with its LF, and nothing else. Names are written as the circuit has them.
 ///
 /// # Errors
-/// `AllocError` where memory runs out.
+/// Out of memory.
 pub fn write(alloc: Global, circuit: &Circuit) -> Result<Vec<u8>, AllocError>
     ensures { IfOk result (λ text. text.items ≡ normal_text circuit.now) }
 {
@@ -24,7 +24,7 @@ pub fn write(alloc: Global, circuit: &Circuit) -> Result<Vec<u8>, AllocError>
     Ok(text)
 }
 
-// Appends the lines of the inputs.
+/// Appends the lines of the inputs.
 fn push_inputs(text: &mut Vec<u8>, circuit: &Circuit) -> Result<(), AllocError>
     ensures { OnOk result
         (text.new.items ≡ text.old.items
@@ -38,7 +38,7 @@ fn push_inputs(text: &mut Vec<u8>, circuit: &Circuit) -> Result<(), AllocError>
     Ok(())
 }
 
-// Appends the lines of the outputs.
+/// Appends the lines of the outputs.
 fn push_outputs(text: &mut Vec<u8>, circuit: &Circuit) -> Result<(), AllocError>
     ensures { OnOk result
         (text.new.items ≡ text.old.items
@@ -53,7 +53,7 @@ fn push_outputs(text: &mut Vec<u8>, circuit: &Circuit) -> Result<(), AllocError>
     Ok(())
 }
 
-// Appends the lines of the flip-flops.
+/// Appends the lines of the flip-flops.
 #[tactic(auto, using(crate::proofs::NormalLaws::named_dffs_count, crate::proofs::NormalLaws::added_lines))]
 fn push_dffs(text: &mut Vec<u8>, circuit: &Circuit) -> Result<(), AllocError>
     ensures { OnOk result
@@ -70,7 +70,7 @@ fn push_dffs(text: &mut Vec<u8>, circuit: &Circuit) -> Result<(), AllocError>
     Ok(())
 }
 
-// Appends the lines of the gates.
+/// Appends the lines of the gates.
 #[tactic(auto, using(crate::proofs::NormalLaws::named_gates_count, crate::proofs::NormalLaws::added_lines))]
 fn push_gates(text: &mut Vec<u8>, circuit: &Circuit) -> Result<(), AllocError>
     ensures { OnOk result
@@ -89,73 +89,4 @@ fn push_gates(text: &mut Vec<u8>, circuit: &Circuit) -> Result<(), AllocError>
         )?;
     }
     Ok(())
-}
-
-#[cfg(test)]
-mod tests {
-    use super::*;
-    use ht_net::{Builder, NetError};
-    use ht_tern::Kind;
-    use std::test::Fail;
-
-    /// Adds `out = NAND(a, b)`.
-    fn nand(builder: &mut Builder, out: &[u8], a: &[u8], b: &[u8]) -> Result<(), NetError> {
-        let out = builder.net(out)?;
-        let a = builder.net(a)?;
-        let b = builder.net(b)?;
-        builder.gate(Kind::Nand, out, &[a, b])
-    }
-
-    /// Adds `out = BUFF(arg)` and makes it an output.
-    fn buff_output(builder: &mut Builder, out: &[u8], arg: &[u8]) -> Result<(), NetError> {
-        let out = builder.net(out)?;
-        let arg = builder.net(arg)?;
-        builder.gate(Kind::Buf, out, &[arg])?;
-        builder.output(out)
-    }
-
-    /// Adds an input and a flip-flop `out = DFF(pin)`.
-    fn input_and_dff(
-        builder: &mut Builder,
-        input: &[u8],
-        out: &[u8],
-        pin: &[u8],
-    ) -> Result<(), NetError> {
-        let input = builder.net(input)?;
-        let out = builder.net(out)?;
-        let pin = builder.net(pin)?;
-        builder.dff(out, pin)?;
-        builder.input(input)
-    }
-
-    fn toggle(alloc: Global) -> Result<Circuit, NetError> {
-        let mut builder = Builder::new(alloc);
-        nand(&mut builder, b"t", b"en", b"q")?;
-        buff_output(&mut builder, b"z", b"t")?;
-        input_and_dff(&mut builder, b"en", b"q", b"t")?;
-        builder.finish()
-    }
-
-    const TOGGLE: &[u8] = b"INPUT(en)
-OUTPUT(z)
-q = DFF(t)
-t = NAND(en, q)
-z = BUFF(t)
-";
-
-    #[test]
-    fn each_line_is_spelt(rt: HostRuntime) -> Result<(), Fail> {
-        let circuit = toggle(rt.alloc())?;
-        let text = write(rt.alloc(), &circuit)?;
-        assert_eq!(rt; text.as_slice(), TOGGLE);
-        Ok(())
-    }
-
-    #[test]
-    fn no_net_gives_no_line(rt: HostRuntime) -> Result<(), Fail> {
-        let circuit = Builder::new(rt.alloc()).finish()?;
-        let text = write(rt.alloc(), &circuit)?;
-        assert_eq!(rt; text.len(), 0);
-        Ok(())
-    }
 }

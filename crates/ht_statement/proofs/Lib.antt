@@ -1,4 +1,5 @@
 pub mod TokenLaws
 pub mod StatementTextLaws
+pub mod ArgumentLaws
 pub mod StatedLaws
 pub mod PrintLaws

@@ -1,4 +1,4 @@
--- A normal text has printable bytes and blanks alone.
+-- All bytes of a normal text are printable or spaces.
 use Rattle.std.proofs.Common.{◌≡◌, ℕ, true, List, [], ◌∷◌, ◌++◌, refl, ◌∙◌, arith, codes}
 use Rattle.std.specs.List.{list_all}
 use Rattle.std.proofs.lemmas.Bool.{and_parts, and_from}

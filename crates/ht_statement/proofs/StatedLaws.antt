@@ -1,11 +1,10 @@
 -- What a line states has names and a count of arguments that may be.
-use Rattle.std.proofs.Common.{◌≡◌, ℕ, ◌≤◌, Bool, true, false, cond, List, [], ◌∷◌, length, Option, Some, None, refl, subst, arith}
+use Rattle.std.proofs.Common.{◌≡◌, ℕ, ◌≤◌, leb, Bool, true, false, cond, List, [], ◌∷◌, length, Option, Some, None, refl, subst, arith}
 use Rattle.std.specs.List.{list_all}
-use Rattle.std.proofs.lemmas.Bool.{and_parts, and_from}
+use Rattle.std.proofs.lemmas.Bool.{and_parts, and_from, leb-true, le-leb}
 use Rattle.std.proofs.lemmas.Bool.Decides.{nat_tests}
-use Rattle.ht_tern.specs.Gate.{HasArity}
+use Rattle.ht_tern.specs.Gate.{HasArity, has_arity}
 use Rattle.ht_tern.specs.declared.gate.Kind.{Kind}
-use Rattle.ht_tern.specs.declared.gate.Kind.TheVariants.{And, Nand, Or, Nor, Xor, Xnor, Not, Buf}
 use Rattle.ht_net.specs.Named.{Name}
 use Rattle.ht_statement.specs.Token.{tokens_of}
 use Rattle.ht_statement.specs.Name.{is_name}
@@ -67,13 +66,11 @@ reading_sound (Some form) = form_sound form
 pub stated_sound : StatedIsSound
 stated_sound line statement e = subst IsSound e (reading_sound (form_of (tokens_of line)))
 
--- a count that a gate's kind may have is an arity of the kind
+-- a count that a gate may have is an arity of its kind, and at most 255
 pub count_is_arity : (kind : Kind) (n : ℕ) → has_count (gate_of kind) n ≡ true → HasArity kind n × (n ≤ 255)
-count_is_arity And n e = (grind (arith, nat_tests), grind (arith, nat_tests))
-count_is_arity Nand n e = (grind (arith, nat_tests), grind (arith, nat_tests))
-count_is_arity Or n e = (grind (arith, nat_tests), grind (arith, nat_tests))
-count_is_arity Nor n e = (grind (arith, nat_tests), grind (arith, nat_tests))
-count_is_arity Xor n e = (grind (arith, nat_tests), grind (arith, nat_tests))
-count_is_arity Xnor n e = (grind (arith, nat_tests), grind (arith, nat_tests))
-count_is_arity Not n e = (grind (arith, nat_tests), grind (arith, nat_tests))
-count_is_arity Buf n e = (grind (arith, nat_tests), grind (arith, nat_tests))
+count_is_arity kind n e =
+    let parts = and_parts (has_arity kind n) (leb n 255) e in
+    (parts.0, leb-true n 255 parts.1)
+
+pub arity_is_count : (kind : Kind) (n : ℕ) → HasArity kind n → n ≤ 255 → has_count (gate_of kind) n ≡ true
+arity_is_count kind n arity few = and_from (has_arity kind n) (leb n 255) arity (le-leb n 255 few)

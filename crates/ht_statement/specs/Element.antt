@@ -2,6 +2,7 @@
 use Rattle.std.specs.Prelude.{ℕ, List, [], ◌∷◌, Bool, ◌&&◌, eqb, leb, Option, codes}
 use Rattle.std.specs.Map.{lookup}
 use Rattle.std.specs.Str.{str_eq_ignore_ascii_case}
+use Rattle.ht_tern.specs.Gate.{has_arity}
 use Rattle.ht_tern.specs.declared.gate.Kind.{Kind}
 use Rattle.ht_tern.specs.declared.gate.Kind.TheVariants.{And, Nand, Or, Nor, Xor, Xnor, Not, Buf}
 
@@ -21,9 +22,8 @@ kind_words = (codes "AND", gate_of And) ∷ (codes "NAND", gate_of Nand) ∷ (co
 abbrev pub element_named : List ℕ → Option Element
 element_named word = lookup (λ known. str_eq_ignore_ascii_case word known) kind_words
 
--- whether it may have so many arguments: one for DFF, NOT and BUFF, else 1 to 255
+-- whether it may have this number of arguments: one for DFF, as many as its kind takes for a gate, and never more than
+-- 255
 abbrev pub has_count : Element → ℕ → Bool
 has_count flip_flop count = eqb count 1
-has_count (gate_of Not) count = eqb count 1
-has_count (gate_of Buf) count = eqb count 1
-has_count (gate_of kind) count = leb 1 count && leb count 255
+has_count (gate_of kind) count = has_arity kind count && leb count 255

@@ -30,6 +30,7 @@ port_form keyword name = cond (str_eq_ignore_ascii_case keyword (codes "INPUT"))
 -- a line whose second token is `=` is a definition or has no form, so a net may be called INPUT
 abbrev pub form_of : List Token → Option Form
 form_of [] = Some blank_form
-form_of (word_token out ∷ equals_token ∷ word_token kind ∷ open_token ∷ rest) = option_map (definition_form out kind) (arguments_of rest)
+form_of (word_token out ∷ equals_token ∷ word_token kind ∷ open_token ∷ rest) = option_map (definition_form out kind)
+    (arguments_of rest)
 form_of (word_token keyword ∷ open_token ∷ word_token name ∷ close_token ∷ []) = port_form keyword name
 form_of _ = None

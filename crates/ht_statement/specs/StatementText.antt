@@ -35,7 +35,11 @@ statement_text (dff_line out data_pin) = out ++ codes " = DFF(" ++ data_pin ++ c
 statement_text (gate_line out kind args) = out ++ codes " = " ++ kind_text kind ++ codes "(" ++ arguments_text args
     ++ codes ")"
 
--- a gate of its kind may have so many arguments
+-- the line with its LF
+abbrev pub statement_line : Statement → List ℕ
+statement_line statement = statement_text statement ++ codes "\n"
+
+-- a gate of its kind may have this number of arguments
 abbrev pub has_its_count : Statement → Bool
 has_its_count (gate_line out kind args) = has_count (gate_of kind) (length args)
 has_its_count statement = true
@@ -54,7 +58,7 @@ NormalTextIsRead = (statement : Statement) → CanBeStated statement → reading
 abbrev pub is_printable : ℕ → Bool
 is_printable byte = leb 32 byte && leb byte 126
 
--- a normal text has such bytes alone: it is one line, with no LF and no CR in it
+-- a normal text has only such bytes: it is one line, with no LF and no CR in it
 abbrev pub NormalTextIsOneLine : Type 0
 NormalTextIsOneLine = (statement : Statement) → CanBeStated statement → list_all is_printable (statement_text statement)
     ≡ true

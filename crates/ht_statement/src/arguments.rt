@@ -1,4 +1,4 @@
-// The arguments of a definition.
+//! The arguments of a definition.
 ghost use Rattle.std.specs.Prelude.{◌≡◌, option_map, IfOk};
 ghost use Rattle.ht_statement.specs.Token.{tokens_of};
 ghost use Rattle.ht_statement.specs.Form.{arguments_of};

@@ -1,4 +1,4 @@
-// What a definition's kind names.
+//! What a definition's kind names.
 ghost use Rattle.std.specs.Prelude.{◌≡◌, option_map};
 ghost use Rattle.ht_statement.specs.Element.{element_named, has_count};
 ghost use Rattle.ht_statement.specs.ElementOf.{element_of};
@@ -31,12 +31,12 @@ pub(crate) fn element_named(word: &[u8]) -> Option<Element>
     }
 }
 
-/// Whether an element may have so many arguments: one for DFF, NOT and BUFF, else 1 to 255.
+/// Whether an element may have this number of arguments: one for DFF, NOT and BUFF, else 1 to 255.
 pub(crate) fn has_count(element: Element, count: usize) -> bool
     ensures { result ≡ has_count (element_of element) count }
 {
     match element {
-        Element::FlipFlop | Element::Gate(Kind::Not | Kind::Buf) => count == 1,
-        Element::Gate(_) => matches!(count, 1..=255),
+        Element::FlipFlop => count == 1,
+        Element::Gate(kind) => kind.has_arity(count) && count <= 255,
     }
 }

@@ -1,4 +1,4 @@
-// Why a line isn't read.
+//! Why a line isn't read.
 ghost use Rattle.std.specs.Prelude.{◌≡◌};
 
 use std::alloc::{AllocError, AllocFailed};

@@ -1,4 +1,4 @@
-// What a text begins with.
+//! What a text begins with.
 ghost use Rattle.std.specs.Prelude.{◌≡◌, ◌↔◌, ◌∷◌, ◌<◌, [], length, IsTrue, IfSome, IfNone};
 ghost use Rattle.ht_statement.specs.Token.{word_token, close_token, comma_token, tokens_of};
 ghost use Rattle.ht_statement.specs.FirstToken.{FirstIsNoWord, FirstIsNoComma};

@@ -1,4 +1,4 @@
-// The form of a line.
+//! The form of a line.
 ghost use Rattle.std.specs.Prelude.{◌≡◌, ◌∷◌, option_map, IfOk};
 ghost use Rattle.ht_statement.specs.Token.{word_token, open_token, equals_token, tokens_of};
 ghost use Rattle.ht_statement.specs.Form.{form_of};
@@ -25,7 +25,8 @@ pub(crate) enum Form<'a> {
 
 /// The form of a line that begins with a keyword and `(`, by the text after these.
 fn port<'a>(keyword: &[u8], text: &'a [u8]) -> Option<Form<'a>>
-    ensures { option_map form_meant result ≡ form_of (word_token keyword.now ∷ open_token ∷ tokens_of text.now) }
+    ensures { option_map form_meant result
+        ≡ form_of (word_token keyword.now ∷ open_token ∷ tokens_of text.now) }
 {
     let (name, rest) = first_word(text)?;
     if !closes(rest) {
@@ -47,7 +48,8 @@ fn definition<'a>(
     text: &'a [u8],
 ) -> Result<Option<Form<'a>>, AllocError>
     ensures { IfOk result
-        (λ read. option_map form_meant read ≡ form_of (word_token out.now ∷ equals_token ∷ tokens_of text.now)) }
+        (λ read. option_map form_meant read
+        ≡ form_of (word_token out.now ∷ equals_token ∷ tokens_of text.now)) }
 {
     let Some((kind, rest)) = first_word(text) else {
         return Ok(None);

@@ -1,4 +1,4 @@
-// Names of nets.
+//! Names of nets.
 ghost use Rattle.std.specs.Prelude.{◌≡◌};
 ghost use Rattle.std.specs.List.{list_all};
 ghost use Rattle.ht_statement.specs.Name.{is_name, is_name_byte};

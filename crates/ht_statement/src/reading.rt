@@ -1,4 +1,4 @@
-// The reading of a line.
+//! The reading of a line.
 ghost use Rattle.std.specs.Prelude.{◌≡◌, IfOk, IfErr};
 ghost use Rattle.std.specs.List.{list_all};
 ghost use Rattle.ht_statement.specs.FormOf.{form_meant};
@@ -70,7 +70,8 @@ fn stated<'a>(form: Form<'a>) -> Result<Statement<'a>, LineRefusal>
 /// What a line states.
 ///
 /// # Errors
-/// `Refused` with the first cause, in the order of `LineRefusal`; `NoMemory` where memory runs out.
+/// - `Refused` with the first cause, in the order of `LineRefusal`.
+/// - `NoMemory`: it may come at any line.
 pub fn read_line<'a>(alloc: Global, line: &'a [u8]) -> Result<Statement<'a>, StatementError>
     ensures states { IfOk result
         (λ statement. reading_of line.now ≡ stated (statement_of statement)) }

@@ -1,4 +1,4 @@
-// What one line states.
+//! What one line states.
 use ht_tern::Kind;
 
 /// What one line of a netlist states: nothing, an input, an output, a flip-flop by its net and the net at its data pin,

@@ -1,8 +1,8 @@
-// Laws of reading: what is written is read, and what is read can be written.
+//! Theorems of reading: what is written is read, and what is read can be written.
 ghost use Rattle.ht_statement.specs.StatementText.{NormalTextIsRead, NormalTextIsOneLine, StatedIsSound};
 
-/// The normal text of a statement, as a writer of netlists gives it, is a line that states it. It has printable bytes
-/// and blanks alone.
+/// The normal text of a statement, as a writer of netlists gives it, is a line that states it. All its bytes are
+/// printable or spaces.
 pub fn normal_text_is_read()
     ensures states { NormalTextIsRead }
     ensures one_line { NormalTextIsOneLine }

@@ -1,4 +1,4 @@
-// The tokens of a line.
+//! The tokens of a line.
 ghost use Rattle.std.specs.Prelude.{◌≡◌, ◌∷◌, ◌<◌, ◌≤◌, [], length, option_map, IfSome, IfNone};
 ghost use Rattle.ht_statement.specs.Token.{begins_comment, mark_of, tokens_of};
 ghost use Rattle.ht_statement.specs.TokenOf.{token_of};

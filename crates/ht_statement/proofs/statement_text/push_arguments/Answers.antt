@@ -1,7 +1,7 @@
 use Rattle.std.proofs.Common.{◌++◌, inl, inr, ap, ◌∙◌, arith}
-use Rattle.ht_bench.proofs.NormalLaws.{adds_argument}
-use Rattle.ht_bench.proofs.spell.push_arguments.Goals as goal
-use Rattle.ht_bench.proofs.spell.push_arguments.Goals.{then-place-gt0+in_ok-push_separator, else-place-gt0}
+use Rattle.ht_statement.proofs.ArgumentLaws.{adds_argument}
+use Rattle.ht_statement.proofs.statement_text.push_arguments.Goals as goal
+use Rattle.ht_statement.proofs.statement_text.push_arguments.Goals.{then-place-gt0+in_ok-push_separator, else-place-gt0}
 
 pub loop-place-preserved : goal.loop-place-preserved
 loop-place-preserved c =

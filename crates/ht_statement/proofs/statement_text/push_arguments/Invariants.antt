@@ -1,7 +1,7 @@
 use Rattle.std.proofs.Common.{◌≡◌, ◌++◌, map, take}
 use Rattle.ht_net.specs.Named.{name_of}
 use Rattle.ht_statement.specs.StatementText.{arguments_text}
-use Rattle.ht_bench.proofs.spell.push_arguments.Given as goal
+use Rattle.ht_statement.proofs.statement_text.push_arguments.Given as goal
 
 abbrev pub invariant-loop-place : goal.invariant-loop-place
 invariant-loop-place l = l.text.items ≡ l.initial.text.items

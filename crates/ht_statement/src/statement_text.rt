@@ -1,36 +1,46 @@
-// The lines of normal text.
+//! The text of a statement: the line that a writer gives for it.
 ghost use Rattle.std.specs.Prelude.{◌≡◌, ◌<◌, ◌++◌, map, codes, All, OnOk};
 ghost use Rattle.ht_net.specs.declared.net.NetId.{NetId};
 ghost use Rattle.ht_net.specs.Netlist.{net_count};
 ghost use Rattle.ht_net.specs.Named.{name_of};
 ghost use Rattle.ht_statement.specs.Statement.{input_line, output_line, dff_line, gate_line};
-ghost use Rattle.ht_statement.specs.StatementText.{kind_text, arguments_text};
-ghost use Rattle.ht_bench.specs.Normal.{statement_line};
+ghost use Rattle.ht_statement.specs.StatementText.{kind_text, arguments_text, statement_line};
 
 use ht_net::{Circuit, NetId};
 use ht_tern::Kind;
 use std::alloc::AllocError;
 
-// Appends the line of an input.
-pub(crate) fn push_input(text: &mut Vec<u8>, name: &[u8]) -> Result<(), AllocError>
-    ensures { OnOk result (text.new.items ≡ text.old.items ++ statement_line (input_line name.now)) }
+/// Appends the line of an input, as `INPUT(a)`, with its LF.
+///
+/// # Errors
+/// Out of memory; the text may have a front of the line then.
+pub fn push_input(text: &mut Vec<u8>, name: &[u8]) -> Result<(), AllocError>
+    ensures { OnOk result
+        (text.new.items ≡ text.old.items ++ statement_line (input_line name.now)) }
 {
     text.extend_from_slice(b"INPUT(")?;
     text.extend_from_slice(name)?;
     push_end(text)
 }
 
-// Appends the line of an output.
-pub(crate) fn push_output(text: &mut Vec<u8>, name: &[u8]) -> Result<(), AllocError>
-    ensures { OnOk result (text.new.items ≡ text.old.items ++ statement_line (output_line name.now)) }
+/// Appends the line of an output, as `OUTPUT(z)`, with its LF.
+///
+/// # Errors
+/// Out of memory; the text may have a front of the line then.
+pub fn push_output(text: &mut Vec<u8>, name: &[u8]) -> Result<(), AllocError>
+    ensures { OnOk result
+        (text.new.items ≡ text.old.items ++ statement_line (output_line name.now)) }
 {
     text.extend_from_slice(b"OUTPUT(")?;
     text.extend_from_slice(name)?;
     push_end(text)
 }
 
-// Appends the line of a flip-flop, by its net and the net at its data pin.
-pub(crate) fn push_dff(text: &mut Vec<u8>, out: &[u8], data_pin: &[u8]) -> Result<(), AllocError>
+/// Appends the line of a flip-flop by its net and the net at its data pin, as `q = DFF(t)`, with its LF.
+///
+/// # Errors
+/// Out of memory; the text may have a front of the line then.
+pub fn push_dff(text: &mut Vec<u8>, out: &[u8], data_pin: &[u8]) -> Result<(), AllocError>
     ensures { OnOk result
         (text.new.items ≡ text.old.items ++ statement_line (dff_line out.now data_pin.now)) }
 {
@@ -39,8 +49,12 @@ pub(crate) fn push_dff(text: &mut Vec<u8>, out: &[u8], data_pin: &[u8]) -> Resul
     push_end(text)
 }
 
-// Appends the line of a gate, by the name of its net, its kind and the nets of its arguments.
-pub(crate) fn push_gate(
+/// Appends the line of a gate by the name of its net, its kind and the nets of its arguments, as `t = NAND(en, q)`,
+/// with its LF.
+///
+/// # Errors
+/// Out of memory; the text may have a front of the line then.
+pub fn push_gate(
     text: &mut Vec<u8>,
     circuit: &Circuit,
     out: &[u8],
