@@ -215,7 +215,7 @@ module _ (old d new : Draft) (id : NameId) (name : Name) (mentions : Mentions ol
 
   pub output_accepted : (Contains d.outputs id → new ≡ d)
       → (¬ Contains d.outputs id → new ≡ record d { outputs = d.outputs ++ id ∷ [] })
-          → Accepts old (output_line name) new
+      → Accepts old (output_line name) new
   output_accepted known added before is within =
       let s = output_line name in
       let e = only_outputs d new id known added in

@@ -96,7 +96,7 @@ module _ (c : Netlist) (is : IsCircuit c) (statements : List Statement)
     driven_at : (k : ℕ) → k < length cycle → first_gate_net c ≤ place_in c.names (get_or cycle k [])
     driven_at zero lt =
         let pin = pin_of (get_or cycle (length cycle - 1) []) (get_or cycle 0 []) (h.closes [])
-            in omega (arith, pin.out)
+        in omega (arith, pin.out)
     driven_at (suc k) lt =
         let z : k + 1 ≡ suc k = omega arith in
         let pin = subst (λ n. IsPin c (get_or cycle k []) (get_or cycle n [])) z

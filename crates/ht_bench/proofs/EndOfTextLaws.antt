@@ -150,7 +150,7 @@ module _ (text : List ℕ) (d : Draft) (is : IsRead text d) where
         (get_or d.names id.0 [] ∷ (split.1 ++ mentions_of first.after))) in
         let absent : ¬ Contains (mentions_of first.before ++ split.0) (get_or d.names id.0 []) = λ c.
         ⊎_elim first.earlier split.3
-            (Contains-append_cases (mentions_of first.before) split.0 (get_or d.names id.0 []) c)
+        (Contains-append_cases (mentions_of first.before) split.0 (get_or d.names id.0 []) c)
         in
         let driven = earlier_driven (mentions_of first.before ++ split.0)
         (get_or d.names id.0 [] ∷ (split.1 ++ mentions_of first.after)) through absent in
@@ -236,7 +236,7 @@ module _ (text : List ℕ) (d : Draft) (is : IsRead text d) where
           least = λ k lt.
               let inner : k < length nets = omega (arith, count, lt) in
               let first = ap (mention_rank is.statements) (at 0 some) ∙ place_is (get_or nets 0 no_name)
-                  (known_net 0 some)
+              (known_net 0 some)
               in
               let other = ap (mention_rank is.statements) (at k inner) ∙ place_is (get_or nets k no_name)
               (known_net k inner) in

@@ -36,13 +36,13 @@ begins (b ∷ before) reading after statements e =
 -- where a cause goes against acceptance, a text that is refused for it is no netlist
 module _ (text : List ℕ) (IsAddError : List Statement → Reading → Type 0)
     (against : (before : List Statement) (s : Statement) → IsAddError before (stated s) → ¬ IsAcceptedAfter before s)
-        where
-  refused_is_no_netlist : (number : ℕ) → IsFirstRefused text number IsAddError → (circuit : Netlist)
-      → ¬ IsNetlistOf text circuit
-  refused_is_no_netlist number first circuit is =
-      let r = begins first.before first.reading first.after is.statements (sym first.split ∙ is.read.lines) in
-      against first.before r.0 (subst (IsAddError first.before) r.3 first.cause)
-      (is.read.accepted first.before r.1 r.0 r.2)
+  where
+    refused_is_no_netlist : (number : ℕ) → IsFirstRefused text number IsAddError → (circuit : Netlist)
+        → ¬ IsNetlistOf text circuit
+    refused_is_no_netlist number first circuit is =
+        let r = begins first.before first.reading first.after is.statements (sym first.split ∙ is.read.lines) in
+        against first.before r.0 (subst (IsAddError first.before) r.3 first.cause)
+        (is.read.accepted first.before r.1 r.0 r.2)
 
 abbrev pub is_stated : Reading → Bool
 is_stated (stated statement) = true

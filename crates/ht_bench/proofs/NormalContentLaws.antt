@@ -14,7 +14,8 @@ use Rattle.ht_statement.specs.Statement.{Statement, input_line, output_line, nam
 use Rattle.ht_bench.specs.Different.{different}
 use Rattle.ht_bench.specs.Contents.{inputs_in, outputs_in, dffs_in, gates_in, driven_in, inputs_of, outputs_of, dffs_of, gates_of, driven_by, pins_of, named_of_statements}
 use Rattle.ht_bench.specs.Normal.{dff_statement, gate_statement, named_statements, statements_of}
-use Rattle.ht_bench.proofs.NormalLaws.{take_more, no_named_dff, no_named_gate, gate_named, named_dffs_count, named_gates_count, get_or-named_dffs, get_or-named_gates}
+use Rattle.ht_bench.proofs.NormalLaws.{no_named_dff, no_named_gate, gate_named, named_dffs_count, named_gates_count, get_or-named_dffs, get_or-named_gates}
+use Rattle.std.proofs.lemmas.List.{take_more}
 use Rattle.ht_bench.proofs.NormalListLaws.{EachDiffers, differ_by_place, different_is}
 
 -- ---- parts of statements

@@ -128,7 +128,7 @@ module _ (c : Netlist) (is : IsCircuit c) where
       (map gate_statement n.gates)
       (All-append HasIts (map input_line n.inputs ++ map output_line n.outputs) (map dff_statement n.dffs)
       (All-append HasIts (map input_line n.inputs) (map output_line n.outputs)
-          (All-map HasIts input_line n.inputs (λ k d below. refl))
+      (All-map HasIts input_line n.inputs (λ k d below. refl))
       (All-map HasIts output_line n.outputs (λ k d below. refl)))
       (All-map HasIts dff_statement n.dffs (λ k d below. refl)))
       gates

@@ -2,6 +2,7 @@
 use Rattle.std.proofs.Common.{◌≡◌, ◌⊎◌, inl, inr, ⊎_elim, ℕ, List, [], ◌∷◌, ◌++◌, length, map, Some, None, refl, sym, ◌∙◌, ap, subst, arith}
 use Rattle.std.specs.List.{All, Contains}
 use Rattle.std.proofs.lemmas.Bool.{false≢true}
+use Rattle.std.proofs.lemmas.Option.{same_Some}
 use Rattle.std.proofs.lemmas.List.Concat.{flat_map-append}
 use Rattle.std.proofs.lemmas.List.Elements.{All-head, All-contains, Contains-append_left, Contains-append_right}
 use Rattle.ht_net.specs.declared.error.Limit.{Limit}
@@ -71,7 +72,7 @@ module _ (text : List ℕ) (C D : List Statement → Reading → Type 0)
       let r = begins g.before g.reading second.0 f.before (sym second.1) in
       absurd (d_against g.before r.0 (subst (D g.before) r.3 g.cause) (f.accepted g.before r.1 r.0 r.2))) other)
       (split_cases (map stated f.before) f.reading f.after (map stated g.before) g.reading g.after
-          (sym f.split ∙ g.split))
+      (sym f.split ∙ g.split))
 
 module _ (text : List ℕ) (C : List Statement → Reading → Type 0)
     (against : (before : List Statement) (s : Statement) → C before (stated s) → ¬ IsAcceptedAfter before s) where

@@ -91,7 +91,7 @@ arguments_tokens (name ∷ next ∷ more) are =
 port_tokens : (keyword : List ℕ) (name : Name) → 1 ≤ length keyword → list_all is_word_byte keyword ≡ true
     → is_name name ≡ true
     → tokens_of (keyword ++ 40 ∷ (name ++ 41 ∷ [])) ≡ word_token keyword ∷ open_token ∷ word_token name ∷ close_token
-        ∷ []
+    ∷ []
 port_tokens keyword name some all is =
     literal_then keyword (40 ∷ (name ++ 41 ∷ [])) some all refl
     ∙ ap (λ l. word_token keyword ∷ l) (tokens_mark 40 (name ++ 41 ∷ []) open_token refl)
@@ -100,7 +100,7 @@ port_tokens keyword name some all is =
 definition_tokens : (out : Name) (kind inside : List ℕ) → is_name out ≡ true → 1 ≤ length kind
     → list_all is_word_byte kind ≡ true
     → tokens_of (out ++ 32 ∷ 61 ∷ 32 ∷ (kind ++ 40 ∷ inside)) ≡ word_token out ∷ equals_token ∷ word_token kind
-        ∷ open_token ∷ tokens_of inside
+    ∷ open_token ∷ tokens_of inside
 definition_tokens out kind inside is some all =
     name_then out (32 ∷ 61 ∷ 32 ∷ (kind ++ 40 ∷ inside)) is refl
     ∙ ap (λ l. word_token out ∷ l)
@@ -120,7 +120,7 @@ definition_read : (out : Name) (kind : List ℕ) (args : List Name) (element : E
     → form_reading (definition_form out kind args) ≡ definition_reading out args (Some element)
 definition_read out kind args element are named =
     cond_true (list_all is_name (out ∷ args)) (definition_reading out args (element_named kind)) (unreadable BadName)
-        are
+    are
     ∙ ap (definition_reading out args) named
 
 -- the line of a definition
@@ -133,7 +133,7 @@ definition_line out kind args element are some all named =
     ap (λ t. tokens_reading (form_of t))
     (definition_tokens out kind (arguments_text args ++ 41 ∷ []) (all_head out args are) some all
     ∙ ap (λ l. word_token out ∷ equals_token ∷ word_token kind ∷ open_token ∷ l)
-        (arguments_tokens args (all_tail out args are)))
+    (arguments_tokens args (all_tail out args are)))
     ∙ ap (λ a. tokens_reading (option_map (definition_form out kind) a)) (arguments_are args)
     ∙ definition_read out kind args element are named
 
@@ -194,4 +194,4 @@ normal_reads (gate_line out kind args) can =
     ap reading_of (gate_text out kind args) ∙ definition_line out (kind_text kind) args (gate_of kind) can.names
     (kind_is_some kind) (kind_is_word kind) (kind_named kind)
     ∙ cond_true (has_count (gate_of kind) (length args)) (stated (gate_line out kind args)) (unreadable BadCount)
-        can.count
+    can.count

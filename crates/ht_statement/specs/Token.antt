@@ -19,7 +19,7 @@ is_blank byte = eqb byte 32 || eqb byte 9
 abbrev pub mark_of : ℕ → Option Token
 mark_of byte = cond (eqb byte 40) (Some open_token)
     (cond (eqb byte 41) (Some close_token)
-        (cond (eqb byte 44) (Some comma_token) (cond (eqb byte 61) (Some equals_token) None)))
+    (cond (eqb byte 44) (Some comma_token) (cond (eqb byte 61) (Some equals_token) None)))
 
 -- `#`
 abbrev pub begins_comment : ℕ → Bool

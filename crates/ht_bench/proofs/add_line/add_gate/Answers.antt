@@ -24,7 +24,7 @@ returns-in_err-arg_ids-clause-refusal c =
     (arguments_refused c.args.builder.now c.mention_driven.new.builder c.in_ok-out_id.out_id c.args.out.now
     c.in_ok-out_id.ensures.mentions c.in_ok-out_id.ensures.number c.in_ok-out_id.ensures.free
     (gate_line c.args.out.now c.args.kind (texts_of c.args.args.now)) (texts_of c.args.args.now)
-        c.in_err-arg_ids.field-0.0
+    c.in_err-arg_ids.field-0.0
     refl refl c.in_err-arg_ids.ensures.refusal)
 
 pub gate-requires-clause-out : goal.gate-requires-clause-out

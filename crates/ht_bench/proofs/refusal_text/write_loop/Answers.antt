@@ -11,7 +11,7 @@ returns-in_err-write_line g c =
 pub returns-in_err-write_all : goal.returns-in_err-write_all
 returns-in_err-write_all g c =
     let wrote = wrote_then c.in_ok-write_line.ensures
-        (wrote_failed {xs = codes "loop"} (loop_text c.args.names.now) c.in_err-write_all.ensures) in
+    (wrote_failed {xs = codes "loop"} (loop_text c.args.names.now) c.in_err-write_all.ensures) in
     search (rules, wrote)
 
 pub returns : goal.returns

@@ -7,7 +7,7 @@ use Rattle.ht_bench.proofs.refusal_text.write_refusal.Goals as goal
 pub returns-in-Twice : goal.returns-in-Twice
 returns-in-Twice g c =
     let text : at_line c.in-Twice.line (codes "second driver " ++ c.as_slice.result.now)
-        ≡ refusal_text c.args.error.now =
+    ≡ refusal_text c.args.error.now =
     ap (λ l. at_line c.in-Twice.line (codes "second driver " ++ l)) c.as_slice.ensures
     ∙ sym (ap refusal_text c.in-Twice.is) in
     subst (λ (l : List ℕ). Wrote Err l (is_ok c.write_named.result) (g.D.Desk.view c.args.desk.now)
