@@ -42,13 +42,14 @@ unfolding latches_at next_state net_value net_value_within net_value_over driver
     stuck_set set_of
 toggle_is_open = refl
 
--- The NOT turns the wanted bit: latch q is decided to 0 first, and the next state differs then; with q at 1 all is lost.
+-- The NOT turns the wanted bit: latch q is decided to 0 first, and the next state differs then; with q at 1 it is dead.
 toggle_choice : pick_of (one_frame_window toggle n_stuck []) [] ≡ choice.Two 0 false
 unfolding latches_at next_state net_value net_value_within net_value_over driver_value gate_output forced lifted_set
     stuck_set set_of back_over choice_at
 toggle_choice = refl
 
-toggle_is_sure : status_at (one_frame_window toggle n_stuck []) (record { var = 0; value = Zero } ∷ []) ≡ Sure 0 (State 0)
+toggle_is_sure : status_at (one_frame_window toggle n_stuck []) (record { var = 0; value = Zero } ∷ [])
+    ≡ Sure 0 (State 0)
 unfolding latches_at next_state net_value net_value_within net_value_over driver_value gate_output forced lifted_set
     stuck_set set_of
 toggle_is_sure = refl
@@ -70,7 +71,7 @@ unfolding latches_at next_state net_value net_value_within net_value_over driver
     stuck_set set_of back_over choice_at
 toggle_faulty_half = refl
 
--- From an unknown state n is X in the good machine and 0 in the faulty one, and so is q a frame later: nothing is shown.
+-- From an unknown state n is X in the good machine and 0 in the faulty one, and q a frame later: nothing is shown.
 toggle_later : cell_at (sweep_window toggle n_stuck 2) [] 1 0 ≡ pair Unk Zero ∷ []
 unfolding latches_at next_state net_value net_value_within net_value_over driver_value gate_output forced lifted_set
     stuck_set set_of
@@ -111,7 +112,8 @@ abbrev a_stuck : Fault
 a_stuck = record { site = Stem (record { 0 = 0 }); value = false }
 
 -- A told chain: state q at a = 1; then state r at q = 1 in the good machine and 0 in the faulty one; then the output.
-shift_tells_q : status_at (one_frame_window shift a_stuck []) (record { var = 0; value = One } ∷ []) ≡ Sure 0 (State 0)
+shift_tells_q : status_at (one_frame_window shift a_stuck []) (record { var = 0; value = One } ∷ [])
+    ≡ Sure 0 (State 0)
 unfolding latches_at next_state net_value net_value_within net_value_over driver_value gate_output forced lifted_set
     stuck_set set_of
 shift_tells_q = refl
