@@ -1,21 +1,20 @@
--- What one more statement adds to a draft.
-use Rattle.std.proofs.Common.{◌≡◌, ◌⊎◌, inl, inr, ⊎_elim, ℕ, ◌<◌, ◌≤◌, ◌+◌, List, [], ◌∷◌, ◌++◌, length, map, refl, sym, ◌∙◌, ap, subst, append_assoc, arith}
-use Rattle.std.specs.List.{AllZip, Contains, fold, flat_map}
-use Rattle.std.proofs.lemmas.List.{length-append, map_push}
+-- What the statements of a draft say together, as it grows by one driver or one statement.
+use Rattle.std.proofs.Common.{◌≡◌, ◌⊎◌, inl, inr, ⊎_elim, ◌+◌, List, [], ◌∷◌, ◌++◌, map, refl, sym, ◌∙◌, ap, subst, arith}
+use Rattle.std.specs.List.{AllZip, Contains, flat_map}
+use Rattle.std.proofs.lemmas.List.{map_push}
 use Rattle.std.proofs.lemmas.List.Elements.{Contains-append_left, Contains-append_right, Contains-append_cases, Contains-push, Contains-push_cases}
 use Rattle.ht_net.specs.declared.names.NameId.{NameId}
 use Rattle.ht_net.specs.declared.draft.DraftDff.{DraftDff}
 use Rattle.ht_tern.specs.declared.gate.Kind.{Kind}
 use Rattle.ht_net.specs.Names.{IsNewName}
 use Rattle.ht_net.specs.Named.{Name, NamedDff, NamedGate}
-use Rattle.ht_net.specs.Draft.{Draft, DraftGate, driven_names, latch_names, gate_names, draft_pins}
+use Rattle.ht_net.specs.Draft.{Draft, DraftGate, driven_names, latch_names, gate_names}
 use Rattle.ht_bench.specs.Different.{different}
 use Rattle.ht_statement.specs.Statement.{Statement, blank_line, input_line, output_line, dff_line, gate_line}
-use Rattle.ht_bench.specs.Contents.{inputs_in, outputs_in, dffs_in, gates_in, driven_in, inputs_of, outputs_of, dffs_of, gates_of, driven_by, mentions_of, pins_of}
-use Rattle.ht_bench.specs.Accepted.{IsWithinLimits}
-use Rattle.ht_bench.specs.Added.{IsNumberOf, IsDffOf, IsGateOf, IsDraftWith, IsDraftOf}
-use Rattle.ht_bench.proofs.ListLaws.{AllZip-add, AllZip-length, AllZip-left, AllZip-right, flat_map-push, flat_map-push_none}
-use Rattle.ht_bench.proofs.DifferentLaws.{different-push, different-append_grows, contains_not_new}
+use Rattle.ht_bench.specs.Contents.{inputs_in, outputs_in, dffs_in, gates_in, driven_in, inputs_of, outputs_of, dffs_of, gates_of, driven_by}
+use Rattle.ht_bench.specs.Added.{IsNumberOf, IsDffOf, IsGateOf, IsDraftWith}
+use Rattle.ht_bench.proofs.ListLaws.{AllZip-add, AllZip-left, AllZip-right, flat_map-push, flat_map-push_none}
+use Rattle.ht_bench.proofs.DifferentLaws.{different-push, contains_not_new}
 use Rattle.ht_bench.proofs.MentionLaws.{one_number}
 
 -- ---- one more driver
@@ -245,63 +244,3 @@ with_nothing mentioned statements d is =
       driven = λ n c. is.driven n (subst (λ l. Contains l n) same c);
       drives = λ x c. let r = is.drives x c in (r.0, r.1, subst (λ l. Contains l r.0) (sym same) r.2);
     }
-
--- ---- counts
-
-sums_same : (names : List Name) (parts : List DraftGate) (gates : List NamedGate) (a : ℕ)
-    → AllZip (IsGateOf names) parts gates
-    → fold (λ n (g : DraftGate). n + length g.args) a parts ≡ fold (λ n (g : NamedGate). n + length g.args) a gates
-sums_same names [] [] a h = refl
-sums_same names [] (y ∷ ys) a h = absurd h
-sums_same names (x ∷ xs) [] a h = absurd h
-sums_same names (x ∷ xs) (y ∷ ys) a h =
-    let same : length x.args ≡ length y.args = AllZip-length (IsNumberOf names) x.args y.args h.0.args in
-    sums_same names xs ys (a + length x.args) h.1 ∙ ap (λ n. fold (λ n (g : NamedGate). n + length g.args) (a + n) ys)
-    same
-
-pub pins_same : (mentioned : List Name) (statements : List Statement) (d : Draft) → IsDraftWith mentioned statements d
-    → draft_pins d ≡ pins_of statements
-pins_same mentioned statements d is =
-    let dffs_same = AllZip-length (IsDffOf d.names) d.dffs (dffs_of statements) is.dffs in
-    let gates_same = sums_same d.names d.gates (gates_of statements) 0 is.gates in
-    omega (arith, dffs_same, gates_same)
-
-pub inputs_same : (mentioned : List Name) (statements : List Statement) (d : Draft) → IsDraftWith mentioned statements d
-    → length d.inputs ≡ length (inputs_of statements)
-inputs_same mentioned statements d is = AllZip-length (IsNumberOf d.names) d.inputs (inputs_of statements) is.inputs
-
-pub dffs_same : (mentioned : List Name) (statements : List Statement) (d : Draft) → IsDraftWith mentioned statements d
-    → length d.dffs ≡ length (dffs_of statements)
-dffs_same mentioned statements d is = AllZip-length (IsDffOf d.names) d.dffs (dffs_of statements) is.dffs
-
-pub limits_of_draft : (statements : List Statement) (d : Draft) → IsDraftOf statements d → length d.names ≤ 65535
-    → draft_pins d ≤ 262144 → length d.inputs ≤ 4096 → length d.dffs ≤ 16384
-    → IsWithinLimits statements
-limits_of_draft statements d is nets pins inputs dffs = record {
-  nets = omega (arith, ap length is.names);
-  pins = omega (arith, pins_same (mentions_of statements) statements d is);
-  inputs = omega (arith, inputs_same (mentions_of statements) statements d is);
-  dffs = omega (arith, dffs_same (mentions_of statements) statements d is);
-}
-
-pub too_many_nets : (mentioned more : List Name) (statements : List Statement) (d : Draft) (name : Name)
-    → IsDraftWith mentioned statements d
-    → IsNewName d.names name → length d.names ≡ 65535 → 65535 < length (different (mentioned ++ name ∷ more))
-too_many_nets mentioned more statements d name is new full =
-    ⊎_elim
-    (λ (old : Contains (different mentioned) name × (different (mentioned ++ name ∷ []) ≡ different mentioned)).
-    absurd (contains_not_new d.names name (subst (λ l. Contains l name) (sym is.names) old.0) new))
-    (λ (fresh : IsNewName (different mentioned) name
-    × (different (mentioned ++ name ∷ []) ≡ different mentioned ++ name ∷ [])).
-    let there : length (different ((mentioned ++ name ∷ []) ++ more)) ≡ length (different (mentioned ++ name ∷ more)) =
-    ap (λ l. length (different l)) (append_assoc mentioned (name ∷ []) more) in
-    omega (
-      arith,
-      different-append_grows (mentioned ++ name ∷ []) more,
-      there,
-      ap length fresh.1,
-      length-append
-          (different mentioned) (name ∷ []),
-      ap length is.names,
-    ))
-    (different-push mentioned name)

@@ -3,7 +3,10 @@ pub mod ListLaws
 pub mod DifferentLaws
 pub mod MentionLaws
 pub mod ContentLaws
+pub mod LimitLaws
 pub mod AcceptedLaws
+pub mod PortStatementLaws
+pub mod DefinitionLaws
 pub mod PlaceLaws
 pub mod MentionAllLaws
 pub mod CountLaws
@@ -19,4 +22,5 @@ pub mod NormalLineLaws
 pub mod NormalContentLaws
 pub mod NormalRoundLaws
 pub mod NormalBackLaws
+pub mod FirstRefusedLaws
 pub mod VerdictLaws

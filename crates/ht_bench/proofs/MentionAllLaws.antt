@@ -19,7 +19,7 @@ use Rattle.ht_bench.specs.declared.add_error.AddError.TheVariants.{Refused, Seco
 use Rattle.ht_bench.proofs.ListLaws.{AllZip-weaker, AllZip-add}
 use Rattle.ht_bench.proofs.DifferentLaws.{new_or_contained, contains_not_new}
 use Rattle.ht_bench.proofs.MentionLaws.{driven_is}
-use Rattle.ht_bench.proofs.ContentLaws.{too_many_nets}
+use Rattle.ht_bench.proofs.LimitLaws.{too_many_nets}
 
 -- a net that is driven after its mention was driven before
 pub second_driver : (old new : Draft) (id : NameId) (name : Name) → Mentions old (name ∷ []) new

@@ -1,7 +1,8 @@
 use Rattle.std.proofs.Common.{[], ◌∷◌, refl}
 use Rattle.std.proofs.lemmas.Result.{err_from_is_err_and}
 use Rattle.ht_statement.specs.Statement.{dff_line}
-use Rattle.ht_bench.proofs.AcceptedLaws.{driver_refused, data_pin_refused, dff_accepted, dff_refused}
+use Rattle.ht_bench.proofs.AcceptedLaws.{driver_refused}
+use Rattle.ht_bench.proofs.DefinitionLaws.{data_pin_refused, dff_accepted, dff_refused}
 use Rattle.ht_bench.proofs.add_line.add_dff.Goals as goal
 
 pub returns-in_err-out_id-clause-refusal : goal.returns-in_err-out_id-clause-refusal

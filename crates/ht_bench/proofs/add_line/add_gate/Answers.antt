@@ -7,7 +7,8 @@ use Rattle.ht_statement.specs.StatementOf.{texts_of}
 use Rattle.ht_bench.specs.Added.{IsNumberOf}
 use Rattle.ht_bench.proofs.ListLaws.{AllZip-length}
 use Rattle.ht_bench.proofs.MentionAllLaws.{known_numbers, length-texts_of}
-use Rattle.ht_bench.proofs.AcceptedLaws.{driver_refused, arguments_refused, gate_accepted, gate_refused}
+use Rattle.ht_bench.proofs.AcceptedLaws.{driver_refused}
+use Rattle.ht_bench.proofs.DefinitionLaws.{arguments_refused, gate_accepted, gate_refused}
 use Rattle.ht_bench.proofs.add_line.add_gate.Goals as goal
 
 pub returns-in_err-out_id-clause-refusal : goal.returns-in_err-out_id-clause-refusal

@@ -1,7 +1,8 @@
 use Rattle.std.proofs.Common.{[], refl}
 use Rattle.std.proofs.lemmas.Result.{err_from_is_err_and}
 use Rattle.ht_statement.specs.Statement.{input_line}
-use Rattle.ht_bench.proofs.AcceptedLaws.{driver_refused, input_accepted, input_refused}
+use Rattle.ht_bench.proofs.AcceptedLaws.{driver_refused}
+use Rattle.ht_bench.proofs.PortStatementLaws.{input_accepted, input_refused}
 use Rattle.ht_bench.proofs.add_line.add_input.Goals as goal
 
 pub returns-in_err-id-clause-refusal : goal.returns-in_err-id-clause-refusal

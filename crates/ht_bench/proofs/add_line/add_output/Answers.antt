@@ -1,6 +1,6 @@
 use Rattle.std.proofs.lemmas.Result.{err_from_is_err_and}
 use Rattle.ht_statement.specs.Statement.{output_line}
-use Rattle.ht_bench.proofs.AcceptedLaws.{output_refused, only_memory, output_accepted}
+use Rattle.ht_bench.proofs.PortStatementLaws.{output_refused, only_memory, output_accepted}
 use Rattle.ht_bench.proofs.add_line.add_output.Goals as goal
 
 pub returns-in_err-id-clause-refusal : goal.returns-in_err-id-clause-refusal
