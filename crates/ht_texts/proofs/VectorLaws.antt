@@ -35,8 +35,8 @@ bit_code_injective false true e = absurd (omega (arith, e))
 bit_code_injective true false e = absurd (omega (arith, e))
 bit_code_injective true true e = refl
 
-pub map_injective : {A B : Type 0} (f : A → B) → ((x y : A) → f x ≡ f y → x ≡ y) → (xs ys : List A) → map f xs ≡ map f ys
-    → xs ≡ ys
+pub map_injective : {A B : Type 0} (f : A → B) → ((x y : A) → f x ≡ f y → x ≡ y) → (xs ys : List A)
+    → map f xs ≡ map f ys → xs ≡ ys
 map_injective f injective [] [] e = refl
 map_injective f injective [] (y ∷ ys) e = cc
 map_injective f injective (x ∷ xs) [] e = cc
