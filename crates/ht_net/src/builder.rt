@@ -54,8 +54,7 @@ pub struct Builder {
 }
 
 impl Model for Builder {
-    ghost use Rattle.ht_net.specs.Built.{draft_name};
-ghost use Rattle.ht_net.specs.Draft.{Draft};
+    ghost use Rattle.ht_net.specs.Draft.{Draft};
 
     ghost Value = { Draft };
 

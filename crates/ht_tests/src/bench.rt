@@ -44,7 +44,10 @@ const REFUSED: [(&str, &str); 13] = [
 #[test]
 fn texts_are_refused_with_their_line_and_nets(rt: HostRuntime) -> Result<(), Fail> {
     for (text, want) in REFUSED {
-        assert!(rt; gives(rt.alloc(), text.as_bytes(), want.as_bytes())?, "{text}");
+        assert!(rt;
+            gives(rt.alloc(), text.as_bytes(), want.as_bytes())?,
+            "{text}"
+        );
     }
     Ok(())
 }
@@ -68,7 +71,10 @@ const READ: [(&str, &str); 4] = [
 #[test]
 fn netlists_are_written_in_normal_form(rt: HostRuntime) -> Result<(), Fail> {
     for (text, want) in READ {
-        assert!(rt; gives(rt.alloc(), text.as_bytes(), want.as_bytes())?, "{text}");
+        assert!(rt;
+            gives(rt.alloc(), text.as_bytes(), want.as_bytes())?,
+            "{text}"
+        );
     }
     Ok(())
 }

@@ -1,6 +1,6 @@
 //! Tests of ht_statement: lines, and what they state.
-use ht_statement::{LineRefusal, Statement, StatementError, read_line};
 use LineRefusal::{BadCount, BadKind, BadLine, BadName};
+use ht_statement::{LineRefusal, Statement, StatementError, read_line};
 use ht_tern::Kind;
 use std::alloc::Global;
 
