@@ -75,11 +75,21 @@ fn is_silent(desk: &MuteDesk) -> bool {
 }
 
 // Whether the run has this status over the mute desk, and leaves nothing.
+fn ends_on(
+    alloc: Global,
+    words: &[String],
+    desk: &mut MuteDesk,
+    start: &Start<'_>,
+    status: u8,
+) -> Result<bool, AllocError> {
+    load(&mut desk.inner, start)?;
+    Ok(run(alloc, words, desk) == status && is_silent(desk))
+}
+
 fn ends_with(alloc: Global, start: &Start<'_>, status: u8) -> Result<bool, AllocError> {
     let words = words_of(alloc, start.words)?;
     let mut desk = MuteDesk::new(alloc);
-    load(&mut desk.inner, start)?;
-    Ok(run(alloc, &words, &mut desk) == status && is_silent(&desk))
+    ends_on(alloc, &words, &mut desk, start, status)
 }
 
 #[test]
