@@ -17,7 +17,7 @@ module _ (c : Netlist) (gates order : List ℕ) (sorted : IsOrder c gates) (coun
         ap (λ (i : ℕ). get_or order i 0) (sym at) ∙ gates_are k (omega (arith, low, h))
 
     gate_known : (k : ℕ) → k < length c.gates → get_or gates k 0 < length c.gates
-    gate_known k h = let n = sorted.once in sorted.within k (omega (arith, h, n))
+    gate_known k h = let n = sorted.each.once in sorted.each.within k (omega (arith, h, n))
 
     pub known : (r : ℕ) → r < frame_items c → get_or order r 0 < frame_items c
     known r h = elim (le_or_lt (length c.dffs) r) [
@@ -33,8 +33,8 @@ module _ (c : Netlist) (gates order : List ℕ) (sorted : IsOrder c gates) (coun
           elim (le_or_lt (length c.dffs) q) [
             | inl low2 ↦
                 let d = gate_is q low2 (omega (arith, less, h)) in
-                let n = sorted.once in
-                sorted.distinct (q - length c.dffs) (r - length c.dffs) (omega (arith, low2, less))
+                let n = sorted.each.once in
+                sorted.each.distinct (q - length c.dffs) (r - length c.dffs) 0 (omega (arith, low2, less))
                 (omega (arith, low, h, n)) (omega (arith, d, e, same))
             | inr less2 ↦ let d = dffs_are q less2 in absurd (omega (arith, d, e, same, less2))
           ]
@@ -45,9 +45,9 @@ module _ (c : Netlist) (gates order : List ℕ) (sorted : IsOrder c gates) (coun
     covers : (l : ℕ) → l < frame_items c → (r : ℕ) × (r < frame_items c) × (get_or order r 0 ≡ l)
     covers l h = elim (le_or_lt (length c.dffs) l) [
       | inl low ↦
-          let g = sorted.covers (l - length c.dffs) (omega (arith, low, h)) in
+          let g = sorted.each.covers (l - length c.dffs) (omega (arith, low, h)) in
           let k = g.0 in
-          let n = sorted.once in
+          let n = sorted.each.once in
           let inside = g.1 in
           let is = g.2 in
           let e = gates_are k (omega (arith, inside, n)) in
@@ -81,7 +81,7 @@ module _ (c : Netlist) (gates order : List ℕ) (sorted : IsOrder c gates) (coun
                 let k = r - length c.dffs in
                 let e = gate_is r low rs in
                 let g : l - length c.dffs ≡ get_or gates k 0 = omega (arith, e, rl, is) in
-                let n = sorted.once in
+                let n = sorted.each.once in
                 let pin : on.pin < length (gate_at c (get_or gates k 0)).args =
                 (let h = on.is_pin in let q = ap (λ (h : ℕ). length (gate_at c h).args) g in omega (arith, h, q)) in
                 let reads : arg_at c (get_or gates k 0) on.pin ≡ driven_net c m = ap (λ (h : ℕ). arg_at c h on.pin)
