@@ -24,7 +24,8 @@ abbrev CutCases : {A : Type 0} → List A → A → List A → A → Type 0
 CutCases b x c y = ((b ≡ c) × (x ≡ y))
     ⊎ (((rest : List _) × (c ≡ b ++ x ∷ rest)) ⊎ ((rest : List _) × (b ≡ c ++ y ∷ rest)))
 
-pub split_cases : {A : Type 0} (b : List A) (x : A) (a : List A) (c : List A) (y : A) (d : List A) → b ++ x ∷ a ≡ c ++ y ∷ d
+pub split_cases : {A : Type 0} (b : List A) (x : A) (a : List A) (c : List A) (y : A) (d : List A)
+    → b ++ x ∷ a ≡ c ++ y ∷ d
     → CutCases b x c y
 split_cases [] x a [] y d e = inl (refl, cc)
 split_cases [] x a (z ∷ c) y d e = let heads : x ≡ z = cc in inr (inl (c, ap (λ n. n ∷ c) (sym heads)))
@@ -47,7 +48,8 @@ split_cases (z ∷ b) x a (w ∷ c) y d e =
 module _ (text : List ℕ) (C D : List Statement → Reading → Type 0)
     (c_against : (before : List Statement) (s : Statement) → C before (stated s) → ¬ IsAcceptedAfter before s)
     (d_against : (before : List Statement) (s : Statement) → D before (stated s) → ¬ IsAcceptedAfter before s) where
-  pub same_first : (n m : ℕ) (f : IsFirstRefused text n C) (g : IsFirstRefused text m D) → (n ≡ m) × D f.before f.reading
+  pub same_first : (n m : ℕ) (f : IsFirstRefused text n C) (g : IsFirstRefused text m D) → (n ≡ m)
+      × D f.before f.reading
   same_first n m f g =
       ⊎_elim
       (λ (same : (map stated f.before ≡ map stated g.before) × (f.reading ≡ g.reading)).

@@ -108,7 +108,8 @@ must_tells n k =
             (member_holds n p i));
       },
       λ w. d ∙ each_from (λ p. not (holds n p) || differs p)
-          (λ p. implies (holds n p) (differs p) (λ e. (opposite_tested p.good p.faulty).1 (w.each p (holds_member n p e)))),
+          (λ p. implies (holds n p) (differs p)
+          (λ e. (opposite_tested p.good p.faulty).1 (w.each p (holds_member n p e)))),
     )
 
 pub same_tells : (m n : ℕ) → m < 512 → n < 512 → IsTrue (eqb m n) ↔ (members_of m ≡ members_of n)

@@ -138,7 +138,8 @@ frame_width c fault list t inside =
     ∙ seen_length (net_value c r (get_or vectors t []) state) c.outputs
 
 -- What is opposite at a vector of the list stands at an output of the circuit.
-pub place_within : (c : Netlist) (list : List (List Bool)) (p : Place) (good faulty : List Tern) → p.vector < length list
+pub place_within : (c : Netlist) (list : List (List Bool)) (p : Place) (good faulty : List Tern)
+    → p.vector < length list
     → good ≡ get_or (tern_outputs c None list) p.vector [] → IsOppositeAt good faulty p.output → IsWithin c list p
 place_within c list p good faulty inside g h =
     let width : length good ≡ length c.outputs = ap (λ (l : List Tern). length l) g ∙ frame_width c None list p.vector

@@ -8,8 +8,8 @@ use ht_net::{Circuit, Fault};
 use std::alloc::{AllocError, Global};
 use std::marker::Model;
 
-/// A circuit with at most one stuck line over two values: each flip-flop holds a bit from the start. Outputs and flip-flops
-/// count from 0.
+/// A circuit with at most one stuck line over two values: each flip-flop holds a bit from the start. Outputs and
+/// flip-flops count from 0.
 #[derive(Drop)]
 pub struct BoolMachine<'c> {
     simulator: Simulator<'c, bool>,

@@ -7,8 +7,8 @@ use ht_tern::Tern;
 use std::alloc::{AllocError, Global};
 use std::marker::Model;
 
-/// A circuit and a list of vectors, with the good machine's outputs at each vector: it runs once for all faults. It keeps
-/// a value for each vector and output, one byte each.
+/// A circuit and a list of vectors, with the good machine's outputs at each vector: it runs once for all faults. It
+/// keeps a value for each vector and output, one byte each.
 #[derive(Drop)]
 pub struct GoodRun<'a> {
     pub(crate) circuit: &'a Circuit,

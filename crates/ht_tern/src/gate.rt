@@ -36,8 +36,8 @@ impl Kind {
     }
 }
 
-/// The value of a gate over any domain, from the values at its pins, in the order of the pins: AND, OR and XOR fold their
-/// operation over the arguments, and NAND, NOR, XNOR and NOT are the complements of AND, OR, XOR and BUFF.
+/// The value of a gate over any domain, from the values at its pins, in the order of the pins: AND, OR and XOR fold
+/// their operation over the arguments, and NAND, NOR, XNOR and NOT are the complements of AND, OR, XOR and BUFF.
 pub fn eval_over<V: GateOperations>(kind: Kind, args: &[V]) -> V
     requires { HasArity kind (length args.now) }
     ensures { (blank : V) → result ≡ gate_value_over V.operations blank kind args.now }

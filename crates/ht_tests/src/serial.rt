@@ -44,8 +44,8 @@ fn are_detected(
     Ok(true)
 }
 
-/// Whether vectors 1, 0 and 0 detect the faults of the shift register as by hand: the good machine shows unknown, unknown
-/// and 1.
+/// Whether vectors 1, 0 and 0 detect the faults of the shift register as by hand: the good machine shows unknown,
+/// unknown and 1.
 fn detects_by_hand(alloc: Global, circuit: &Circuit) -> Result<bool, AllocError> {
     if circuit.inputs() != 1 {
         return Ok(false);
@@ -107,8 +107,8 @@ fn stem_fault_leaves_the_latch(rt: HostRuntime) -> Result<(), Fail> {
     Ok(())
 }
 
-/// Whether vector 11 detects at its output each line of the AND gate that is stuck at 0: a stem shows at the input's own
-/// output, a pin after it at the gate only.
+/// Whether vector 11 detects at its output each line of the AND gate that is stuck at 0: a stem shows at the input's
+/// own output, a pin after it at the gate only.
 fn detects_pins(alloc: Global, circuit: &Circuit) -> Result<bool, AllocError> {
     if circuit.inputs() != 2 {
         return Ok(false);

@@ -9,8 +9,8 @@ pub const SIM: &[&str] = &["sim", "n", "t", "r"];
 
 pub const NORM: &[&str] = &["norm", "n", "r"];
 
-/// The shift register: two flip-flops between an input and an output. The stored run of the program has it too, with the
-/// vectors 1, 0, 0.
+/// The shift register: two flip-flops between an input and an output. The stored run of the program has it too, with
+/// the vectors 1, 0, 0.
 pub const SHIFT_REGISTER: &[u8] = b"INPUT(a)\nOUTPUT(r)\nq = DFF(a)\nr = DFF(q)\n";
 
 /// Its report under those vectors.

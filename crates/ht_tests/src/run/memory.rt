@@ -1,5 +1,5 @@
-//! Refused memory. In the gate no allocation is refused; outside it these tests run with each of their allocations refused
-//! in turn (`rt try --test --fail-alloc N`).
+//! Refused memory. In the gate no allocation is refused; outside it these tests run with each of their allocations
+//! refused in turn (`rt try --test --fail-alloc N`).
 
 use super::cases::{SHIFT_REGISTER, SHIFT_REGISTER_REPORT, SIM, Start, load, words_of};
 use super::mute::MuteDesk;
@@ -46,8 +46,8 @@ fn refused_memory_has_its_status(rt: HostRuntime) -> Result<(), Fail> {
     Ok(())
 }
 
-// Whether the status is that of a failed write exactly where a write of the output failed, and not where that of the line
-// on Err did.
+// Whether the status is that of a failed write exactly where a write of the output failed, and not where that of the
+// line on Err did.
 fn keeps_status(alloc: Global, words: &[String], desk: &mut MuteDesk) -> Result<bool, AllocError> {
     load(&mut desk.inner, &START)?;
     let status = run(alloc, words, desk);
