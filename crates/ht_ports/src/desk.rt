@@ -65,5 +65,6 @@ pub trait Desk {
         ensures quiet { OnOk result (KeepsCounts (view self.old) (view self.new)) }
         ensures failed { OnErr result (NotWritten (view self.old) (view self.new)) };
 
-    ghost steady_tells: { (desk : Self) (name : List ℕ) → IsTrue (view desk).steady → IsSome ((view desk).file name) };
+    ghost steady_tells: { (desk : Self) (name : List ℕ) → IsTrue (view desk).steady
+        → IsSome ((view desk).file name) };
 }
