@@ -22,7 +22,7 @@ use Rattle.ht_app.specs.Jobs.{output_name}
 -- ---- `sim`
 
 -- The report and the total line of a circuit over the vectors of a tests text. A fault that represents its class has
--- its own verdict, and every other names its representative, which has the same first detection.
+-- its own verdict, and every other names its representative.
 pub record IsSimulated (netlist tests report total : List ℕ) : Type 0 where
   pub circuit : net.Netlist
   pub list : List (List Bool)

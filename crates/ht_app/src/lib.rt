@@ -18,4 +18,4 @@ mod sim;
 mod vectors_file;
 
 pub use commands::run;
-pub use ht_words::{Job, WordsFault, command};
+pub use ht_words::{FileName, Job, WordsFault, command};

@@ -1,7 +1,7 @@
 //! A standard error that takes nothing.
 ghost use Rattle.ht_ports.specs.Memory.{memory_view};
 
-use super::cases::{NORM, SHIFT_REGISTER, SIM, Start, load, words_of};
+use super::cases::{NORM, SHIFT_REGISTER, SHIFT_REGISTER_REPORT, SIM, Start, load, words_of};
 use ht_app::run;
 use ht_ports::{Desk, Fail as Plan, Failed, InPort, MemoryDesk, OutPort};
 use std::alloc::{AllocError, Global};
@@ -65,16 +65,18 @@ impl Desk for MuteDesk {
     }
 }
 
-// Whether only the line was tried on the mute port, and nothing came out.
-fn is_silent(desk: &MuteDesk) -> bool {
-    desk.out_faults == 1
-        && !desk.output_failed
-        && desk.inner.err().is_empty()
-        && desk.inner.out().is_empty()
-        && desk.inner.file("r").is_none()
+// Whether the desk has what a run of this status leaves: nothing and one failed line, after 5 also the failed output; after
+// 0 the report, and no line was tried.
+fn is_left(desk: &MuteDesk, status: u8) -> bool {
+    let (faults, report) = match status {
+        0 => (0, Some(SHIFT_REGISTER_REPORT)),
+        5 => (2, None),
+        _ => (1, None),
+    };
+    desk.out_faults == faults && desk.inner.err().is_empty() && desk.inner.file("r") == report
 }
 
-// Whether the run has this status over the mute desk, and leaves nothing.
+// Whether the run has this status over the mute desk, and leaves what it may.
 fn ends_on(
     alloc: Global,
     words: &[String],
@@ -83,7 +85,7 @@ fn ends_on(
     status: u8,
 ) -> Result<bool, AllocError> {
     load(&mut desk.inner, start)?;
-    Ok(run(alloc, words, desk) == status && is_silent(desk))
+    Ok(run(alloc, words, desk) == status && is_left(desk, status))
 }
 
 fn ends_with(alloc: Global, start: &Start<'_>, status: u8) -> Result<bool, AllocError> {
@@ -95,7 +97,7 @@ fn ends_with(alloc: Global, start: &Start<'_>, status: u8) -> Result<bool, Alloc
 #[test]
 fn a_failing_standard_error_leaves_the_status(rt: HostRuntime) -> Result<(), Fail> {
     let alloc = rt.alloc();
-    let table: [(&[&str], Option<&[u8]>, Option<&[u8]>, Option<Plan>, u8); 6] = [
+    let table: [(&[&str], Option<&[u8]>, Option<&[u8]>, Option<Plan>, u8); 8] = [
         (&["sim"], Some(SHIFT_REGISTER), Some(b"1\n"), None, 2),
         (SIM, Some(b"INPUT(=)\n"), Some(b"1\n"), None, 3),
         (NORM, None, None, None, 4),
@@ -108,7 +110,15 @@ fn a_failing_standard_error_leaves_the_status(rt: HostRuntime) -> Result<(), Fai
             Some(Plan::Open(InPort::Tests)),
             4,
         ),
+        (
+            SIM,
+            Some(SHIFT_REGISTER),
+            Some(b"1\n0\n0\n"),
+            Some(Plan::Create(OutPort::Report)),
+            5,
+        ),
         (SIM, Some(SHIFT_REGISTER), Some(b"x\n"), None, 7),
+        (SIM, Some(SHIFT_REGISTER), Some(b"1\n0\n0\n"), None, 0),
     ];
     for (words, netlist, tests, fails, status) in table {
         let start = Start {
