@@ -84,7 +84,8 @@ fn work<D: Desk>(alloc: Global, words: &[String], desk: &mut D) -> Result<(), Ru
 /// | 7 | only for `sim`, exactly where the netlist is accepted and the tests are malformed |
 ///
 /// "Exactly where" yields in 2 to a lack of memory, and in 3 and 7 to a lack of memory and to a counted fault of
-/// reading. A status other than 0 says why in one line on Err; where that write fails the status stays.
+/// reading. A status other than 0 says why in one line on Err. Where that write fails the status stays, which tests show:
+/// with one count of faults for all out-ports no clause can say it.
 pub fn run<D: Desk>(alloc: Global, words: &[String], desk: &mut D) -> u8
     // What a status says, and what it leaves.
     ensures done { result ≡ 0 → AskedIsDone (asked (texts_of words.now)) (D.view desk.old)
