@@ -1,0 +1,69 @@
+-- The first open argument, pin by pin.
+use Rattle.std.proofs.Common.{◌≡◌, ◌<◌, ◌+◌, ◌∙◌, ℕ, List, Bool, true, false, cond, Option, length, get_or, drop, ap, sym, inl, inr, arith, ◌↔◌, IsTrue}
+use Rattle.std.proofs.lemmas.List.{drop_more}
+use Rattle.std.proofs.lemmas.Bool.Decides.{leb_tells}
+use Rattle.ht_pairs.specs.Pairs.{Pair}
+use Rattle.ht_net.specs.declared.net.NetId.{NetId}
+use Rattle.ht_net.specs.declared.fault.Fault.{Fault}
+use Rattle.ht_net.specs.Netlist.{Netlist, IsCircuit, gate_at, net_count, no_net}
+use Rattle.ht_tree.specs.Windows.{pair_set_rules, is_open_set}
+use Rattle.ht_tree.specs.WalkBack.{open_argument}
+use Rattle.ht_net.specs.Frame.{Rules}
+
+module _ (r : Rules (List Pair)) (g : ℕ) (env : ℕ → List Pair) (args : List NetId) (i : ℕ) (here : i < length args)
+    (set : List Pair)
+    (is : set ≡ r.pin g i (env (get_or args i no_net).0))
+    (before : open_argument r g env i (drop i args) ≡ open_argument r g env 0 args) where
+  step : open_argument r g env 0 args ≡ cond (is_open_set set) (get_or args i no_net).0
+      (open_argument r g env (i + 1) (drop (i + 1) args))
+  step =
+      sym before ∙ (ap (open_argument r g env i) (drop_more args i no_net here)
+      ∙ ap (λ (s : List Pair). cond (is_open_set s) (get_or args i no_net).0
+      (open_argument r g env (i + 1) (drop (i + 1) args))) (sym is))
+
+  pub argument_open : is_open_set set ≡ true → (get_or args i no_net).0 ≡ open_argument r g env 0 args
+  argument_open e = sym
+      (step ∙ ap (λ (b : Bool). cond b (get_or args i no_net).0 (open_argument r g env (i + 1) (drop (i + 1) args))) e)
+
+  pub argument_passed : is_open_set set ≡ false → open_argument r g env (i + 1) (drop (i + 1) args)
+      ≡ open_argument r g env 0 args
+  argument_passed e = sym
+      (step ∙ ap (λ (b : Bool). cond b (get_or args i no_net).0 (open_argument r g env (i + 1) (drop (i + 1) args))) e)
+
+-- a set that isn't single is open
+pub open_single : (set : List Pair) (single : Bool) → IsTrue single ↔ (length set ≡ 1) → 0 < length set → single ≡ false
+    → is_open_set set ≡ true
+open_single set single tells some differs = elim (leb_tells 2 (length set)) [
+  | inl p ↦ p.0
+  | inr p ↦
+      let l = p.1 in
+      let one : length set ≡ 1 = omega (arith, l, some) in
+      let same : single ≡ true = tells.1 one in
+      let clash : true ≡ false = sym same ∙ differs in
+      cc
+]
+
+pub closed_single : (set : List Pair) (single : Bool) → IsTrue single ↔ (length set ≡ 1) → single ≡ true
+    → is_open_set set ≡ false
+closed_single set single tells same = elim (leb_tells 2 (length set)) [
+  | inl p ↦ let l = p.1 in let one : length set ≡ 1 = tells.0 same in absurd (omega (arith, l, one))
+  | inr p ↦ p.0
+]
+
+-- the set at a pin, from the parts that a program reads
+pub pin_is : (fault fault' : Option Fault) (args args' : List NetId) (g i : ℕ) (cell set : List Pair)
+    (env : ℕ → List Pair) → fault ≡ fault' → args ≡ args'
+    → cell ≡ env (get_or args i no_net).0 → set ≡ (pair_set_rules fault).pin g i cell → set
+    ≡ (pair_set_rules fault').pin g i (env (get_or args' i no_net).0)
+pin_is fault fault' args args' g i cell set env f a c s =
+    s ∙ (ap (λ (x : Option Fault). (pair_set_rules x).pin g i cell) f ∙ ap ((pair_set_rules fault').pin g i)
+    (c ∙ ap (λ (t : List NetId). env (get_or t i no_net).0) a))
+
+-- each argument of a gate is a net
+pub argument_known : (c : Netlist) (circuit : IsCircuit c) (g i : ℕ) (args : List NetId) → g < length c.gates → args
+    ≡ (gate_at c g).args → i < length args → (get_or args i no_net).0 < net_count c
+argument_known c circuit g i args inside is here =
+    let l = ap length is in
+    let e = ap (λ (t : List NetId). (get_or t i no_net).0) is in
+    let k = circuit.known g i inside (omega (arith, l, here)) in
+    omega (arith, e, k)

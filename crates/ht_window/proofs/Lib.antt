@@ -1,0 +1,14 @@
+pub mod DecisionLaws
+pub mod PlaceLaws
+pub mod HoldLaws
+pub mod ArgumentLaws
+pub mod WalkLaws
+pub mod SeenLaws
+pub mod CubeLaws
+pub mod HistoryLaws
+pub mod AgreeLaws
+pub mod VariableLaws
+pub mod DriverLaws
+pub mod DecideLaws
+pub mod MarkLaws
+pub mod FollowLaws

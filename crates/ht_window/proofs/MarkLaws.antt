@@ -1,0 +1,74 @@
+-- Going back to a mark.
+use Rattle.std.proofs.Common.{◌≡◌, ◌≢◌, ◌<◌, ◌≤◌, ◌-◌, ◌⊎◌, inl, inr, ℕ, List, length, get_or, take, sym, ◌∙◌, ap, arith}
+use Rattle.std.proofs.lemmas.List.{length-take-le}
+use Rattle.std.proofs.lemmas.Bool.Decides.{eqb_tells}
+use Rattle.ht_net.proofs.FrameLaws.{le_or_lt}
+use Rattle.ht_pairs.specs.Pairs.{Pair}
+use Rattle.ht_trail.specs.declared.cells.Saved.{Saved}
+use Rattle.ht_trail.specs.Trails.{CellsState}
+use Rattle.ht_tree.specs.declared.token.Assign3.{Assign3}
+use Rattle.ht_tree.specs.Windows.{SearchWindow}
+use Rattle.ht_window.specs.Cells.{IsHistory, mark_of}
+use Rattle.ht_window.specs.States.{WindowState, mark_before, undone}
+use Rattle.ht_window.proofs.HistoryLaws.{mark_old, mark_small}
+
+module _ (s : WindowState) (w : SearchWindow) (path : List Assign3) (marks : List ℕ) (cells : CellsState (List Pair))
+    (h : IsHistory w path marks cells)
+    (is : record { window = w; decisions = path; marks = marks; mark = length cells.trail } ≡ s) where
+  pub mark_is : (k : ℕ) → mark_before s k ≡ mark_of marks cells k
+  mark_is k = sym (ap (λ (t : WindowState). mark_before t k) is)
+
+  pub few_marks : (k : ℕ) → k ≤ length s.decisions → k ≤ length marks
+  few_marks k few = let n = ap (λ (t : WindowState). length t.decisions) is in let c = h.count
+      in omega (arith, n, c, few)
+
+  pub count_is : (m n : ℕ) → n ≤ length marks → ((j : ℕ) → n ≤ j → j < length marks → m ≤ get_or marks j 0) → (n ≡ 0)
+      ⊎ (get_or marks (n - 1) 0 < m)
+      → (k : ℕ) → k ≤ length s.decisions → m ≡ mark_before s k → n ≡ k
+  count_is m n inside later end k few at =
+      let ks = few_marks k few in
+      let mk = mark_is k in
+      elim (le_or_lt n k) [
+        | inr less ↦ elim end [
+          | inl z ↦ absurd (omega (arith, z, less))
+          | inr low ↦
+              let o = mark_old marks cells (n - 1) (omega (arith, inside, less)) in
+              elim (eqb_tells k (n - 1)) [
+                | inl p ↦ let e = ap (mark_of marks cells) p.1 in absurd (omega (arith, e, o, low, at, mk))
+                | inr p ↦ let ne : k ≢ n - 1 = p.1 in let r = h.rising k (n - 1) (omega (arith, less, ne))
+                    (omega (arith, inside)) in absurd (omega (arith, r, o, low, at, mk))
+              ]
+        ]
+        | inl le ↦ elim (eqb_tells n k) [
+          | inl p ↦ p.1
+          | inr p ↦
+              let ne : n ≢ k = p.1 in
+              let o = mark_old marks cells (k - 1) (omega (arith, ks, le, ne)) in
+              let l = later (k - 1) (omega (arith, le, ne)) (omega (arith, ks, le, ne)) in
+              let r = h.rising (k - 1) k (omega (arith, le, ne)) ks in
+              absurd (omega (arith, o, l, r, at, mk))
+        ]
+      ]
+
+  pub undone_is : (v : SearchWindow) (after : List Assign3) (fewer : List ℕ) (trail : List (Saved (List Pair)))
+      (m n k : ℕ)
+      → v ≡ w → after ≡ take n path → fewer ≡ take n marks → trail ≡ take m cells.trail → n ≡ k → k ≤ length s.decisions
+      → m ≡ mark_before s k
+      → record { window = v; decisions = after; marks = fewer; mark = length trail } ≡ undone s k
+  undone_is v after fewer trail m n k vs ps ms ts nk few at =
+      let small = mark_small w path marks cells h k (few_marks k few) in
+      let mk = mark_is k in
+      let long : length trail
+      ≡ mark_before s k = ap length ts ∙ (length-take-le m cells.trail (omega (arith, small, at, mk)) ∙ at) in
+      (λ i. record {
+        window = vs i;
+        decisions = (ps ∙ ap (λ (j : ℕ). take j path) nk) i;
+        marks = (ms ∙ ap (λ (j : ℕ). take j marks) nk) i;
+        mark = long i;
+      })
+      ∙ (λ i. record {
+        window = (is i).window;
+        decisions = take k (is i).decisions;
+        marks = take k (is i).marks;
+        mark = mark_before s k;
+      })

@@ -1,0 +1,60 @@
+use Rattle.std.proofs.Common.{◌≡◌, ◌≤◌, ◌+◌, ◌-◌, ◌∙◌, ℕ, List, ap, sym, arith}
+use Rattle.ht_tern.specs.declared.gate.Kind.{Kind}
+use Rattle.ht_pairs.specs.Pairs.{Pair}
+use Rattle.ht_net.specs.Netlist.{IsCircuit, first_gate_net, gate_at}
+use Rattle.ht_tree.specs.Windows.{cell_at, pair_set_rules}
+use Rattle.ht_tree.specs.WalkBack.{open_argument, bit_before}
+use Rattle.ht_window.proofs.WalkLaws.{back_step, back_none, back_low, open_argument_known}
+use Rattle.ht_window.proofs.window.Window.end_in_frame.Goals as goal
+
+pub loop-left-preserved : goal.loop-left-preserved
+loop-left-preserved c =
+    let s = c.args.self.now in
+    let n = s.window.circuit in
+    let r = pair_set_rules s.window.fault in
+    let env : ℕ → List Pair = cell_at s.window s.decisions c.args.frame in
+    let net = c.loop-left.net in
+    let circuit : c.circuit-circuit.result.now ≡ n = c.circuit-circuit.ensures.circuit in
+    let valid : IsCircuit n = c.circuit-circuit.ensures.valid.circuit in
+    let first : c.inputs.result + c.dffs.result ≡ first_gate_net n = (λ k. c.inputs.ensures k + c.dffs.ensures k) ∙ ap
+    first_gate_net circuit in
+    let gate : net - (c.inputs.result + c.dffs.result) ≡ net - first_gate_net n = ap (λ (x : ℕ). net - x) first in
+    let t = c.if-net-first_gate_net.true in
+    let l = c.loop-left-test.true in
+    let known = c.loop-left.invariant.known in
+    let high : first_gate_net n ≤ net = omega (arith, first, t) in
+    let kind : c.gate_kind.result ≡ (gate_at n (net - first_gate_net n)).kind = c.gate_kind.ensures ∙
+    (λ k. (gate_at (circuit k) (gate k)).kind) in
+    let is_net : c.open_argument-net.result ≡ open_argument r (net - first_gate_net n) env 0
+    (gate_at n (net - first_gate_net n)).args =
+    c.open_argument-net.ensures ∙ ap (λ (x : ℕ). open_argument r x env 0 (gate_at n x).args) gate in
+    let is_bit : c.turn-bit.result ≡ bit_before (gate_at n (net - first_gate_net n)).kind c.loop-left.bit =
+    c.turn-bit.ensures ∙ ap (λ (k : Kind). bit_before k c.loop-left.bit) kind in
+    let inside = open_argument_known n r env (net - first_gate_net n) valid (omega (arith, known, high)) in
+    record {
+      known = omega (arith, is_net, inside);
+      same = back_step n r env c.loop-left.left (record { net = net; bit = c.loop-left.bit })
+          (record { net = c.open_argument-net.result; bit = c.turn-bit.result }) (omega (arith, l)) high
+          (λ k. record { net = is_net k; bit = is_bit k })
+          ∙ c.loop-left.invariant.same;
+    }
+
+pub returns-else-net-first_gate_net : goal.returns-else-net-first_gate_net
+returns-else-net-first_gate_net c =
+    let s = c.args.self.now in
+    let n = s.window.circuit in
+    let circuit : c.circuit-circuit.result.now ≡ n = c.circuit-circuit.ensures.circuit in
+    let first : c.inputs.result + c.dffs.result ≡ first_gate_net n = (λ k. c.inputs.ensures k + c.dffs.ensures k) ∙ ap
+    first_gate_net circuit in
+    let t = c.if-net-first_gate_net.false in
+    sym (back_low n (pair_set_rules s.window.fault) (cell_at s.window s.decisions c.args.frame) c.loop-left.left
+    (record { net = c.loop-left.net; bit = c.loop-left.bit }) (omega (arith, first, t)))
+    ∙ c.loop-left.invariant.same
+
+pub returns-after-loop-left : goal.returns-after-loop-left
+returns-after-loop-left c =
+    let s = c.args.self.now in
+    let l = c.loop-left-test.false in
+    sym (back_none s.window.circuit (pair_set_rules s.window.fault) (cell_at s.window s.decisions c.args.frame)
+    c.loop-left.left (record { net = c.loop-left.net; bit = c.loop-left.bit }) (omega (arith, l)))
+    ∙ c.loop-left.invariant.same

@@ -1,0 +1,91 @@
+use Rattle.std.proofs.Common.{◌≡◌, ◌<◌, ◌≤◌, ◌+◌, ◌-◌, ◌∙◌, ℕ, length, get_or, ap, sym, subst, arith}
+use Rattle.ht_net.specs.declared.net.NetId.{NetId}
+use Rattle.ht_net.specs.Netlist.{Netlist, IsCircuit, net_count, no_net}
+use Rattle.ht_tree.specs.declared.window.Spot.TheVariants.{State}
+use Rattle.ht_tree.specs.declared.token.Choice.TheVariants.{Two}
+use Rattle.ht_tree.specs.Windows.{cell_at, first_input}
+use Rattle.ht_tree.specs.Places.{spot_net}
+use Rattle.ht_tree.specs.WalkBack.{Wanted, choice_at, end_in_frame}
+use Rattle.ht_window.specs.Lines.{wanted_of}
+use Rattle.ht_window.proofs.WalkLaws.{ends_low, ends_wide, choice_input, choice_latch, choice_back, data_wide}
+use Rattle.ht_window.proofs.window.Window.walk_back.Goals.{then-loop-frame-test+else-at-inputs, else-loop-frame-test}
+use Rattle.ht_window.proofs.window.Window.walk_back.Goals as goal
+
+pub loop-frame-init : goal.loop-frame-init
+loop-frame-init c =
+    let s = c.args.self.now in
+    let valid : IsCircuit s.window.circuit = c.circuit-circuit.ensures.valid.circuit in
+    let at : Wanted = record { net = c.args.net.0; bit = c.args.wanted } in
+    let e = c.end_in_frame-at.ensures in
+    record {
+      frame = c.requires.frame;
+      low = let l = ends_low s.window s.decisions valid c.args.frame at c.requires.net c.requires.wide
+          in let n = ap (λ (x : Wanted). x.net) e in omega (arith, l, n);
+      wide = subst (λ (x : Wanted). 1 < length (cell_at s.window s.decisions c.args.frame x.net)) (sym e)
+          (ends_wide s.window s.decisions valid c.args.frame at c.requires.net c.requires.wide);
+      same = ap (choice_at s.window s.decisions c.args.frame) e;
+    }
+
+pub loop-frame-preserved : goal.loop-frame-preserved
+loop-frame-preserved c =
+    let s = c.args.self.now in
+    let n = s.window.circuit in
+    let valid : IsCircuit n = c.circuit-circuit.ensures.valid.circuit in
+    let circuit : c.circuit-circuit.result.now ≡ n = c.circuit-circuit.ensures.circuit in
+    let inputs : c.inputs-inputs.result ≡ n.inputs = c.inputs-inputs.ensures ∙ ap (λ (n : Netlist). n.inputs) circuit in
+    let i = c.loop-frame.invariant in
+    let frame = c.loop-frame.frame in
+    let here = c.loop-frame.at.net in
+    let t = c.if-at-inputs.true in
+    let l = c.loop-frame-test.true in
+    let low = i.low in
+    let f = i.frame in
+    let high : n.inputs ≤ here = omega (arith, inputs, t) in
+    let source : c.dff_data.result.0 ≡ spot_net n (State (here - n.inputs)) =
+    ap (λ (x : NetId). x.0) (c.dff_data.ensures ∙ (λ k. get_or (circuit k).dffs (here - inputs k) no_net)) in
+    let at : Wanted = record { net = spot_net n (State (here - n.inputs)); bit = c.loop-frame.at.bit } in
+    let e : wanted_of c.end_in_frame-at-in-loop-frame.result ≡ end_in_frame s.window s.decisions (frame - 1) at =
+    c.end_in_frame-at-in-loop-frame.ensures ∙ ap
+    (λ (x : ℕ). end_in_frame s.window s.decisions (frame - 1) (record { net = x; bit = c.loop-frame.at.bit }))
+    source in
+    let known : at.net < net_count n = valid.data_known (here - n.inputs) (omega (arith, high, low)) in
+    let wide = data_wide s.window s.decisions valid frame here (omega (arith, l)) high low i.wide in
+    record {
+      frame = omega (arith, f);
+      low = let l = ends_low s.window s.decisions valid (frame - 1) at known wide
+          in let n = ap (λ (x : Wanted). x.net) e in omega (arith, l, n);
+      wide = subst (λ (x : Wanted). 1 < length (cell_at s.window s.decisions (frame - 1) x.net)) (sym e)
+          (ends_wide s.window s.decisions valid (frame - 1) at known wide);
+      same = ap (choice_at s.window s.decisions (frame - 1)) e ∙
+          (choice_back s.window s.decisions valid frame (wanted_of c.loop-frame.at) (omega (arith, l)) high ∙ i.same);
+    }
+
+pub returns-then-at-inputs-2 : goal.returns-then-at-inputs-2
+returns-then-at-inputs-2 c =
+    let s = c.args.self.now in
+    let n = s.window.circuit in
+    let valid : IsCircuit n = c.circuit-circuit.ensures.valid.circuit in
+    let circuit : c.circuit-circuit.result.now ≡ n = c.circuit-circuit.ensures.circuit in
+    let inputs : c.inputs-inputs.result ≡ n.inputs = c.inputs-inputs.ensures ∙ ap (λ (n : Netlist). n.inputs) circuit in
+    let t = c.if-at-inputs-2.true in
+    let is : c.input_var.result ≡ first_input s.window c.loop-frame.frame + c.loop-frame.at.net =
+    c.input_var.ensures in
+    ap (λ (x : ℕ). Two x c.loop-frame.at.bit) is
+    ∙ (sym (choice_input s.window s.decisions valid c.loop-frame.frame (wanted_of c.loop-frame.at)
+    (omega (arith, inputs, t))) ∙ c.loop-frame.invariant.same)
+
+pub returns-else-at-inputs-2 : goal.returns-else-at-inputs-2
+returns-else-at-inputs-2 c =
+    let s = c.args.self.now in
+    let n = s.window.circuit in
+    let valid : IsCircuit n = c.circuit-circuit.ensures.valid.circuit in
+    let circuit : c.circuit-circuit.result.now ≡ n = c.circuit-circuit.ensures.circuit in
+    let inputs : c.inputs-inputs.result ≡ n.inputs = c.inputs-inputs.ensures ∙ ap (λ (n : Netlist). n.inputs) circuit in
+    let t = c.if-at-inputs-2.false in
+    let last : c.loop-frame.frame ≡ 0 = elim c.loop-frame-test.branch [
+      | then-loop-frame-test+else-at-inputs w ↦ let u = w.if-at-inputs.false in absurd (omega (arith, t, u))
+      | else-loop-frame-test w ↦ let u = w.loop-frame-test.false in omega (arith, u)
+    ] in
+    c.latch_choice.ensures
+    ∙ (sym (choice_latch s.window s.decisions valid c.loop-frame.frame (wanted_of c.loop-frame.at) last
+    (omega (arith, inputs, t))) ∙ c.loop-frame.invariant.same)

@@ -1,0 +1,19 @@
+-- What stays the same stays the same.
+use Rattle.std.proofs.Common.{◌≡◌, ◌<◌, refl, ◌∙◌, subst}
+use Rattle.ht_trail.proofs.TrailLaws.{later_now, later_more}
+use Rattle.ht_window.specs.Standing.{Standing}
+use Rattle.ht_window.specs.Cells.{env_at}
+use Rattle.ht_window.specs.Holding.{HeldState, IsKept}
+
+pub kept_same : (a : HeldState) → IsKept a a
+kept_same a = record { standing = refl; later = later_now a.cells; inputs = λ f i fs is. refl }
+
+pub kept_more : (a b c : HeldState) → IsKept a b → IsKept b c → IsKept a c
+kept_more a b c h k = record {
+  standing = k.standing ∙ h.standing;
+  later = later_more a.cells b.cells c.cells h.later k.later;
+  inputs = λ f i fs is.
+      subst (λ (s : Standing). f < s.window.frames → i < s.window.circuit.inputs → env_at s.window c.cells.values f i
+      ≡ env_at s.window b.cells.values f i) h.standing (k.inputs f i) fs is
+      ∙ h.inputs f i fs is;
+}

@@ -1,0 +1,56 @@
+-- The first place that must differ, and the first that may, among some places.
+use Rattle.std.specs.Prelude.{ℕ, List, Option, Some, None, true, not, ◌&&◌, cond, ltb, eqb, length}
+use Rattle.std.specs.List.{find, list_any, list_all}
+use Rattle.ht_tern.specs.declared.tern.Tern.{Tern}
+use Rattle.ht_pairs.specs.Pairs.{Pair, pair, is_member, differs}
+use Rattle.ht_tree.specs.declared.token.Assign3.{Assign3}
+use Rattle.ht_tree.specs.declared.window.WindowPlace.{WindowPlace}
+use Rattle.ht_tree.specs.Windows.{SearchWindow, is_open_set}
+use Rattle.ht_tree.specs.Places.{must_differ_at, may_differ_at, set_at}
+use Rattle.ht_tree.specs.WindowStatus.{must_meet, may_meet}
+use Rattle.ht_tree.specs.declared.window.Spot.TheVariants.{State, Cube}
+use Rattle.ht_tree.specs.declared.window.Status.{Status}
+use Rattle.ht_tree.specs.declared.window.Status.TheVariants.{Dead, Sure, Open}
+use Rattle.ht_window.specs.declared.places.Seen.{Seen}
+use Rattle.ht_window.specs.declared.cube.CubeSeen.{CubeSeen}
+
+abbrev pub seen_of : SearchWindow → List Assign3 → List WindowPlace → Seen
+seen_of w path places = record
+    { sure = find (must_differ_at w path) places; open_place = find (may_differ_at w path) places }
+
+abbrev pub first_or : Option WindowPlace → Option WindowPlace → Option WindowPlace
+first_or None other = other
+first_or (Some place) other = Some place
+
+-- one more cell_index with its set
+abbrev pub seen_with : Seen → WindowPlace → List Pair → Seen
+seen_with s place set = record {
+  sure = first_or s.sure (cond (list_all differs set) (Some place) None);
+  open_place = first_or s.open_place (cond (list_any differs set) (Some place) None);
+}
+
+-- the same of the latches of a cube
+abbrev pub cube_seen_of : SearchWindow → List Assign3 → List Tern → List ℕ → CubeSeen
+cube_seen_of w path cube latches = record {
+  some = ltb 0 (length latches);
+  must = list_all (must_meet w path cube) latches;
+  may = list_all (may_meet w path cube) latches;
+  open_latch = find (λ j. is_open_set (set_at w path 0 (State j))) latches;
+}
+
+abbrev pub latch_or : Option ℕ → Option ℕ → Option ℕ
+latch_or None other = other
+latch_or (Some j) other = Some j
+
+-- one more latch that has a wanted value
+abbrev pub cube_seen_with : CubeSeen → ℕ → Tern → List Pair → CubeSeen
+cube_seen_with s j value set = record {
+  some = true;
+  must = s.must && (is_member (pair value value) set && not (is_open_set set));
+  may = s.may && is_member (pair value value) set;
+  open_latch = latch_or s.open_latch (cond (is_open_set set) (Some j) None);
+}
+
+abbrev pub cube_status_by : CubeSeen → ℕ → Status
+cube_status_by s limit = cond s.some (cond (eqb limit 0) Dead (cond s.must (Sure 0 Cube) (cond s.may Open Dead)))
+    (Sure 0 Cube)

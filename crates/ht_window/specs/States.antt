@@ -1,0 +1,41 @@
+-- A window as contracts see it: its decisions in order, the mark before each of them, and the present mark.
+use Rattle.std.specs.Prelude.{◌≡◌, ◌≢◌, ◌⊎◌, ℕ, List, [], ◌∷◌, ◌++◌, IsTrue, length, get_or, take}
+use Rattle.ht_tern.specs.declared.tern.Tern.{Tern}
+use Rattle.ht_tern.specs.declared.tern.Tern.TheVariants.{Unk}
+use Rattle.ht_tree.specs.declared.token.Assign3.{Assign3}
+use Rattle.ht_tree.specs.Windows.{SearchWindow}
+use Rattle.ht_tree.specs.Variables.{may_two, may_three}
+use Rattle.ht_window.specs.Cells.{IsHistory}
+use Rattle.ht_window.specs.declared.window.Window.TheInside.{Inside}
+
+pub record WindowState : Type 0 where
+  pub window : SearchWindow
+  pub decisions : List Assign3
+  pub marks : List ℕ
+  pub mark : ℕ
+
+abbrev pub state_of : Inside → WindowState
+state_of a = record {
+  window = a.held.standing.window;
+  decisions = a.held.standing.path;
+  marks = a.marks.items;
+  mark = length a.held.cells.trail;
+}
+
+-- every cell is that of the decisions that stand, at every mark
+pub record IsEvaluated (a : Inside) : Type 0 where
+  pub circuit : a.core.plan.circuit ≡ a.held.standing.window.circuit
+  pub frames : a.core.plan.frames ≡ a.held.standing.window.frames
+  pub history : IsHistory a.held.standing.window a.held.standing.path a.marks.items a.held.cells
+
+-- a decision that the window allows
+abbrev pub IsLegalDecision : SearchWindow → ℕ → Tern → Type 0
+IsLegalDecision w var value = (IsTrue (may_two w var) × (value ≢ Unk)) ⊎ IsTrue (may_three w var)
+
+-- the mark before decision k, or the present one
+abbrev pub mark_before : WindowState → ℕ → ℕ
+mark_before s k = get_or (s.marks ++ s.mark ∷ []) k 0
+
+-- the first k decisions alone
+abbrev pub undone : WindowState → ℕ → WindowState
+undone s k = record s { decisions = take k s.decisions; marks = take k s.marks; mark = mark_before s k }

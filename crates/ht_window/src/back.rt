@@ -1,0 +1,136 @@
+//! The walk back from a net to an undecided variable.
+ghost use Rattle.std.specs.Prelude.{◌≡◌, ◌<◌, ◌≤◌, ℕ, length};
+ghost use Rattle.ht_net.specs.Netlist.{first_gate_net, gate_at, net_count};
+ghost use Rattle.ht_tree.specs.Windows.{cell_at, pair_set_rules};
+ghost use Rattle.ht_tree.specs.Variables.{IsLegalChoice};
+ghost use Rattle.ht_tree.specs.WalkBack.{Wanted, choice_at, end_in_frame, latch_choice, open_argument, bit_before, walk_back};
+ghost use Rattle.ht_tree.specs.Walks.{decides};
+ghost use Rattle.ht_window.specs.Lines.{wanted_of};
+
+use crate::start::Start;
+use crate::window::Window;
+use ht_frame::gate_pin;
+use ht_net::NetId;
+use ht_tern::Kind;
+use ht_tree::Choice;
+
+/// A net, and the bit that is wanted there.
+#[derive(Clone, Copy)]
+pub struct Line {
+    net: u32,
+    bit: bool,
+}
+
+/// The bit that is wanted at the arguments of a gate: the kinds that give the complement turn it.
+fn turn(kind: Kind, bit: bool) -> bool
+    ensures { result ≡ bit_before kind bit }
+{
+    match kind {
+        Kind::Nand | Kind::Nor | Kind::Xnor | Kind::Not => !bit,
+        Kind::And | Kind::Or | Kind::Xor | Kind::Buf => bit,
+    }
+}
+
+impl<'c> Window<'c> {
+    /// The first argument of a gate whose set at the pin has two or more members.
+    fn open_argument(&self, frame: u32, g: u32) -> u32
+        requires frame { frame < self.now.window.frames }
+        requires gate { g < length self.now.window.circuit.gates }
+        ensures { result ≡ open_argument (pair_set_rules self.now.window.fault) g
+            (cell_at self.now.window self.now.decisions frame) 0
+            (gate_at self.now.window.circuit g).args }
+    {
+        let fault = self.fault();
+        let args = self.circuit().gate_args(g);
+        for (i, arg) in args.iter().enumerate() {
+            let set = gate_pin(fault, g, i as u8, self.cell(frame, *arg));
+            if !set.is_single() {
+                return arg.0;
+            }
+        }
+        0
+    }
+
+    /// Where the walk back ends within a frame.
+    fn end_in_frame(&self, frame: u32, at: Line) -> Line
+        requires frame { frame < self.now.window.frames }
+        requires net { at.net < net_count self.now.window.circuit }
+        ensures { wanted_of result ≡ end_in_frame self.now.window self.now.decisions frame
+            (wanted_of at) }
+    {
+        let circuit = self.circuit();
+        let first_gate_net = circuit.inputs() + circuit.dffs();
+        let mut net = at.net;
+        let mut bit = at.bit;
+        let mut left = circuit.gates();
+        while left > 0 && net >= first_gate_net {
+            let g = net - first_gate_net;
+            bit = turn(circuit.gate_kind(g), bit);
+            net = self.open_argument(frame, g);
+            left -= 1;
+        }
+        Line { net, bit }
+    }
+
+    /// The choice at a latch of the first frame: its good half before its faulty one.
+    fn latch_choice(&self, at: Line) -> Choice
+        requires { at.net < first_gate_net self.now.window.circuit }
+        ensures { result ≡ latch_choice self.now.window self.now.decisions self.now.window.start
+            (wanted_of at) }
+    {
+        let _ = self.circuit();
+        match self.start() {
+            Start::OneFrame { z: _ } => {
+                let var = if self.is_decided(at.net) {
+                    at.net + self.dffs()
+                } else {
+                    at.net
+                };
+                Choice::Two { var, first: at.bit }
+            },
+            Start::Unknown | Start::Pair { state: _ } => Choice::Two {
+                var: at.net,
+                first: at.bit,
+            },
+            Start::Back { cube: _, limit: _ } => Choice::Three { var: at.net },
+        }
+    }
+
+    /// The walk back from a net that has two or more members in a frame, with a wanted bit, to a variable that is legal
+    /// and undecided.
+    pub fn walk_back(&self, frame: u32, net: NetId, wanted: bool) -> Choice
+        requires frame { frame < self.now.window.frames }
+        requires net { net.0 < net_count self.now.window.circuit }
+        requires wide { 1 < length (cell_at self.now.window self.now.decisions frame net.0) }
+        ensures { result ≡ walk_back self.now.window self.now.decisions frame net.0 wanted }
+    {
+        let circuit = self.circuit();
+        let inputs = circuit.inputs();
+        let mut frame = frame;
+        let mut at = self.end_in_frame(
+            frame,
+            Line {
+                net: net.0,
+                bit: wanted,
+            },
+        );
+        while frame > 0 && at.net >= inputs {
+            frame -= 1;
+            at = self.end_in_frame(
+                frame,
+                Line {
+                    net: circuit.dff_data(at.net - inputs).0,
+                    bit: at.bit,
+                },
+            );
+        }
+        if at.net < inputs {
+            Choice::Two {
+                var: self.input_var(frame, at.net),
+                first: at.bit,
+            }
+        } else {
+            self.latch_choice(at)
+        }
+    }
+}

@@ -1,0 +1,315 @@
+//! The decisions and the cells of a window.
+ghost use Rattle.std.specs.Prelude.{◌≡◌, ◌<◌, ◌≤◌, ◌+◌, ◌++◌, ◌∷◌, ℕ, List, [], take, drop, set, length, get_or, IfOk, OnOk, OnErr};
+ghost use Rattle.ht_tern.specs.declared.tern.Tern.TheVariants.{Unk};
+ghost use Rattle.ht_pairs.specs.Pairs.{Pair, pair};
+ghost use Rattle.ht_net.specs.Netlist.{net_count, first_gate_net};
+ghost use Rattle.ht_net.specs.Frame.{driver_value};
+ghost use Rattle.ht_trail.specs.Trails.{CellsState, IsLater, restored};
+ghost use Rattle.ht_events.specs.Items.{item_count, frame_of, local_of, driven_net};
+ghost use Rattle.ht_tree.specs.Windows.{IsWindow, first_input, frame_inputs, pair_set_rules};
+ghost use Rattle.ht_window.specs.Standing.{variable_room};
+ghost use Rattle.ht_window.specs.Cells.{cell_index, cell_count, env_at, latches_over, value_over, var_frame, var_net};
+ghost use Rattle.ht_window.specs.Holding.{HeldState};
+
+use crate::decided::{Decided, MAX_FRAMES};
+use ht_events::Plant;
+use ht_frame::{MAX_GATE_PINS, data_pin, gate_output, stem};
+use ht_pairs::PairSet;
+use ht_tern::Tern;
+use ht_trail::{Cells, Mark};
+use std::alloc::{AllocError, Global};
+use std::marker::Model;
+
+/// The decisions of a window, and one cell for each net of each frame.
+#[derive(Drop)]
+pub struct Held<'c> {
+    decided: Decided<'c>,
+    cells: Cells<PairSet>,
+    // room for the pins of one gate
+    pins: Vec<PairSet>,
+}
+
+impl<'c> Model for Held<'c> {
+    ghost use Rattle.ht_window.specs.Holding.{HeldState};
+
+    ghost Value = { HeldState };
+
+    ghost use Rattle.ht_window.specs.Holding.{held_of, IsHeld};
+
+    ghost view = { held_of };
+
+    ghost invariant = { IsHeld };
+}
+
+impl<'c> Held<'c> {
+    /// Cells before they are given their sets.
+    ///
+    /// # Errors
+    /// Out of memory.
+    pub fn new(alloc: Global, decided: Decided<'c>) -> Result<Held<'c>, AllocError>
+        requires { decided.window.frames ≤ MAX_FRAMES }
+        ensures window { IfOk result (λ h. h.standing.window ≡ decided.entry.window) }
+        ensures path { IfOk result (λ h. h.standing.path ≡ decided.entry.path) }
+    {
+        let circuit = decided.circuit();
+        let count = decided.frames() * circuit.nets();
+        let cells = Cells::new(alloc, count, PairSet::both_same())?;
+        let pins = vec![in alloc; PairSet::both_same(); MAX_GATE_PINS]?;
+        Ok(Held {
+            decided,
+            cells,
+            pins,
+        })
+    }
+
+    /// The window and its decisions.
+    pub fn decided(&self) -> &Decided<'c>
+        ensures standing { result.now ≡ self.now.standing }
+        ensures window { IsWindow self.now.standing.window }
+        ensures few { self.now.standing.window.frames ≤ MAX_FRAMES }
+        ensures count { length self.now.cells.values ≡ cell_count self.now.standing.window }
+    {
+        let _ = &self.cells;
+        &self.decided
+    }
+
+    /// Makes the present cells those before any mark.
+    pub fn forget(&mut self)
+        ensures standing { self.new.standing ≡ self.old.standing }
+        ensures values { self.new.cells.values ≡ self.old.cells.values }
+        ensures trail { self.new.cells.trail ≡ [] }
+    {
+        self.cells.forget();
+    }
+
+    /// The present mark.
+    pub fn mark(&self) -> Mark
+        ensures { result.0 ≡ length self.now.cells.trail }
+    {
+        self.cells.mark()
+    }
+
+    // The index of a net's cell in the one array of all frames.
+    fn place(&self, frame: u32, net: u32) -> u32
+        requires frame { frame < self.now.standing.window.frames }
+        requires net { net < net_count self.now.standing.window.circuit }
+        ensures place { result ≡ cell_index self.now.standing.window frame net }
+        ensures inside { result < length self.now.cells.values }
+    {
+        let nets = self.decided.circuit().nets();
+        frame * nets + net
+    }
+
+    /// What a net of a frame holds.
+    pub fn cell(&self, frame: u32, net: u32) -> PairSet
+        requires frame { frame < self.now.standing.window.frames }
+        requires net { net < net_count self.now.standing.window.circuit }
+        ensures { result ≡ env_at self.now.standing.window self.now.cells.values frame net }
+    {
+        self.cells.get(self.place(frame, net))
+    }
+
+    /// What latch j gets for a frame.
+    fn latch(&self, frame: u32, j: u32) -> PairSet
+        requires frame { frame < self.now.standing.window.frames }
+        requires dff { j < length self.now.standing.window.circuit.dffs }
+        ensures { result ≡ get_or
+            (latches_over self.now.standing.window self.now.standing.path self.now.cells.values
+            frame) j (pair Unk Unk ∷ []) }
+    {
+        if frame == 0 {
+            return self.decided.first_latch(j);
+        }
+        let circuit = self.decided.circuit();
+        let _ = circuit.nets();
+        let net = circuit.dff_data(j);
+        data_pin(self.decided.fault(), j, self.cell(frame - 1, net.0))
+    }
+
+    /// What a net of a frame gets, before its line.
+    fn driver(&mut self, frame: u32, net: u32) -> PairSet
+        requires frame { frame < self.old.standing.window.frames }
+        requires net { net < net_count self.old.standing.window.circuit }
+        ensures same { self.new ≡ self.old }
+        ensures value { result ≡ driver_value self.old.standing.window.circuit
+            (pair_set_rules self.old.standing.window.fault)
+            (frame_inputs self.old.standing.window self.old.standing.path frame)
+            (latches_over self.old.standing.window self.old.standing.path self.old.cells.values
+            frame) (env_at self.old.standing.window self.old.cells.values frame) net }
+    {
+        let circuit = self.decided.circuit();
+        let nets = circuit.nets();
+        let inputs = circuit.inputs();
+        let first_gate = inputs + circuit.dffs();
+        if net < inputs {
+            return self.decided.input(frame, net);
+        }
+        if net < first_gate {
+            return self.latch(frame, net - inputs);
+        }
+        let start = self.place(frame, 0) as usize;
+        let row = &self.cells.values()[start..start + nets as usize];
+        gate_output(
+            circuit,
+            self.decided.fault(),
+            row,
+            &mut self.pins,
+            net - first_gate,
+        )
+    }
+
+    /// What a net of a frame gets from the decisions and from what its driver reads.
+    #[tactic(auto, unfolding(ht_net::specs::Frame::net_value_over))]
+    fn evaluate(&mut self, frame: u32, net: u32) -> PairSet
+        requires frame { frame < self.old.standing.window.frames }
+        requires net { net < net_count self.old.standing.window.circuit }
+        ensures same { self.new ≡ self.old }
+        ensures value { result ≡ value_over self.old.standing.window self.old.standing.path
+            self.old.cells.values frame net }
+    {
+        let value = self.driver(frame, net);
+        stem(self.decided.fault(), net, value)
+    }
+
+    /// Changes a cell.
+    ///
+    /// # Errors
+    /// Out of memory; nothing is changed.
+    fn set(&mut self, frame: u32, net: u32, value: PairSet) -> Result<(), AllocError>
+        requires frame { frame < self.old.standing.window.frames }
+        requires net { net < net_count self.old.standing.window.circuit }
+        ensures standing { self.new.standing ≡ self.old.standing }
+        ensures later { IsLater self.old.cells self.new.cells }
+        ensures values { OnOk result
+            (self.new.cells.values
+            ≡ set self.old.cells.values (cell_index self.old.standing.window frame net) value) }
+        ensures trail { OnOk result (length self.new.cells.trail ≡ length self.old.cells.trail + 1) }
+        ensures err { OnErr result (self.new ≡ self.old) }
+    {
+        let place = self.place(frame, net);
+        self.cells.set(place, value)?;
+        Ok(())
+    }
+
+    /// Gives a net its set, whether it changes or not.
+    ///
+    /// # Errors
+    /// Out of memory; nothing is changed.
+    pub fn write(&mut self, frame: u32, net: u32) -> Result<(), AllocError>
+        requires frame { frame < self.old.standing.window.frames }
+        requires net { net < net_count self.old.standing.window.circuit }
+        ensures standing { self.new.standing ≡ self.old.standing }
+        ensures later { IsLater self.old.cells self.new.cells }
+        ensures values { OnOk result
+            (self.new.cells.values
+            ≡ set self.old.cells.values (cell_index self.old.standing.window frame net)
+            (value_over self.old.standing.window self.old.standing.path self.old.cells.values frame
+            net)) }
+        ensures trail { OnOk result (length self.new.cells.trail ≡ length self.old.cells.trail + 1) }
+        ensures err { OnErr result (self.new ≡ self.old) }
+        ensures window { IsWindow self.old.standing.window }
+        ensures count { length self.old.cells.values ≡ cell_count self.old.standing.window }
+    {
+        let _ = self.decided();
+        let value = self.evaluate(frame, net);
+        self.set(frame, net, value)
+    }
+
+    /// The frame and the net of an item.
+    fn item_place(&self, item: u32) -> (u32, u32)
+        requires { item < item_count self.now.standing.window.circuit
+            self.now.standing.window.frames }
+        ensures frame { result.0 ≡ frame_of self.now.standing.window.circuit item }
+        ensures net { result.1 ≡ driven_net self.now.standing.window.circuit
+            (local_of self.now.standing.window.circuit item) }
+        ensures frame_inside { result.0 < self.now.standing.window.frames }
+        ensures net_inside { result.1 < net_count self.now.standing.window.circuit }
+        ensures window { IsWindow self.now.standing.window }
+        ensures count { length self.now.cells.values ≡ cell_count self.now.standing.window }
+    {
+        let circuit = self.decided.circuit();
+        let _ = circuit.nets();
+        let items = circuit.dffs() + circuit.gates();
+        (item / items, circuit.inputs() + item % items)
+    }
+
+    /// The frame and the net that a variable decides.
+    pub fn var_place(&self, var: u32) -> (u32, u32)
+        ensures frame { result.0 ≡ var_frame self.now.standing.window var }
+        ensures net { result.1 ≡ var_net self.now.standing.window var }
+    {
+        let inputs = self.decided.inputs();
+        let dffs = self.decided.dffs();
+        let _ = self.decided.circuit().nets();
+        if var < self.decided.frames() * inputs {
+            (var / inputs, var % inputs)
+        } else if var < inputs + dffs {
+            (0, var)
+        } else {
+            (0, var - dffs)
+        }
+    }
+
+    /// One more decision, before any cell follows it.
+    ///
+    /// # Errors
+    /// Out of memory; nothing is changed.
+    pub fn push(&mut self, var: u32, value: Tern) -> Result<(), AllocError>
+        requires { var < variable_room self.old.standing.window }
+        ensures window { self.new.standing.window ≡ self.old.standing.window }
+        ensures cells { self.new.cells ≡ self.old.cells }
+        ensures ok { OnOk result (self.new.standing.path ≡ self.old.standing.path
+            ++ record { var = var; value = value } ∷ []) }
+        ensures err { OnErr result (self.new ≡ self.old) }
+    {
+        self.decided.push(var, value)
+    }
+
+    /// The first `count` decisions alone, and the cells as at a mark.
+    pub fn undo(&mut self, count: usize, mark: Mark)
+        requires count { count ≤ length self.old.standing.path }
+        requires mark { mark.0 ≤ length self.old.cells.trail }
+        ensures window { self.new.standing.window ≡ self.old.standing.window }
+        ensures path { self.new.standing.path ≡ take count self.old.standing.path }
+        ensures values { self.new.cells.values ≡ restored self.old.cells.values
+            (drop mark.0 self.old.cells.trail) }
+        ensures trail { self.new.cells.trail ≡ take mark.0 self.old.cells.trail }
+        ensures exact { (a : CellsState (List Pair)) → IsLater a self.old.cells → mark.0
+            ≡ length a.trail → self.new.cells ≡ a }
+    {
+        self.decided.truncate(count);
+        self.cells.undo(mark);
+    }
+}
+
+/// An item agrees where its cell is what its arguments give.
+impl<'c> Plant for Held<'c> {
+    ghost use Rattle.ht_window.specs.Holding.{item_agrees, IsKept};
+    ghost use Rattle.ht_window.specs.Kept.{kept_same, kept_more};
+
+    ghost circuit = { λ h. h.standing.window.circuit };
+
+    ghost frames = { λ h. h.standing.window.frames };
+
+    ghost agrees = { item_agrees };
+
+    ghost keeps = { IsKept };
+
+    ghost price = { λ h. 0 };
+
+    ghost spent = { λ h. 0 };
+
+    fn recompute(&mut self, item: u32) -> Result<bool, AllocError> {
+        let (frame, net) = self.item_place(item);
+        let value = self.evaluate(frame, net);
+        if self.cell(frame, net) == value {
+            return Ok(false);
+        }
+        self.set(frame, net, value)?;
+        Ok(true)
+    }
+
+    ghost reflexive = { kept_same };
+
+    ghost transitive = { kept_more };
+}

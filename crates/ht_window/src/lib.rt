@@ -1,0 +1,31 @@
+//! The windows of the search: some frames of the good and of the faulty machine over sets of pairs, under the decisions
+//! that stand.
+//!
+//! A `Window` holds its decisions in order and the set of each net in each frame, in one array that is changed in
+//! place: `decide` lets the cells follow by events (ht_events), and `undo` takes back exactly what was changed since a
+//! mark (ht_trail). `status`, `pick` and `walk_back` read it. The definitions are ht_tree's: `specs/Windows.antt`,
+//! `WindowStatus.antt` and `WalkBack.antt`.
+//!
+//! | File | Holds |
+//! |---|---|
+//! | start | what the latches of the first frame are |
+//! | decided | the decisions, and the value of each variable |
+//! | held | the decisions and the cells: the plant of the events |
+//! | window | `decide`, `mark`, `undo`, `cell`, `next_state` |
+//! | places, cube, status | what the places and the latches of a cube show; `status`, `pick` |
+//! | back | `walk_back` |
+#![tactic(auto)]
+
+mod back;
+mod cube;
+mod decided;
+mod held;
+mod places;
+mod sets;
+mod start;
+mod status;
+mod window;
+
+pub use ht_trail::Mark;
+pub use start::{PairState, Start};
+pub use window::Window;

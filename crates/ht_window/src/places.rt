@@ -1,0 +1,113 @@
+//! What the places of a window show.
+ghost use Rattle.std.specs.Prelude.{◌≡◌, ◌<◌, ◌++◌, List, Some, None, cond, length};
+ghost use Rattle.std.specs.Prelude.{ℕ, flat_map};
+ghost use Rattle.std.specs.List.{range_with_len};
+ghost use Rattle.ht_tree.specs.declared.window.WindowPlace.{WindowPlace};
+ghost use Rattle.ht_tree.specs.Windows.{one_frame};
+ghost use Rattle.ht_tree.specs.Places.{output_places, places_of, state_places};
+ghost use Rattle.ht_window.specs.Starts.{marked};
+ghost use Rattle.ht_window.specs.Seen.{first_or, seen_of, seen_with};
+
+use crate::decided::mark;
+use crate::start::Start;
+use crate::window::Window;
+use ht_pairs::PairSet;
+use ht_tree::{Spot, WindowPlace};
+
+/// The first place that must differ, and the first that may, among those that were looked at.
+#[derive(Clone, Copy)]
+pub struct Seen {
+    pub sure: Option<WindowPlace>,
+    pub open_place: Option<WindowPlace>,
+}
+
+fn first(found: Option<WindowPlace>, here: bool, place: WindowPlace) -> Option<WindowPlace>
+    ensures { result ≡ first_or found (cond here (Some place) None) }
+{
+    match found {
+        Some(found) => Some(found),
+        None => { if here { Some(place) } else { None } },
+    }
+}
+
+impl Seen {
+    /// The same after one more place.
+    fn with(self, place: WindowPlace, set: PairSet) -> Seen
+        ensures { result ≡ seen_with self place set }
+    {
+        Seen {
+            sure: first(self.sure, set.must_differ(), place),
+            open_place: first(self.open_place, set.may_differ(), place),
+        }
+    }
+}
+
+impl<'c> Window<'c> {
+    /// After the outputs of one more frame.
+    fn see_outputs(&self, seen: Seen, frame: u32) -> Seen
+        requires { frame < self.now.window.frames }
+        ensures { (places : List WindowPlace) → seen ≡ seen_of self.now.window self.now.decisions
+            places → result ≡ seen_of self.now.window self.now.decisions
+            (places ++ output_places self.now.window.circuit frame) }
+    {
+        let circuit = self.circuit();
+        let mut seen = seen;
+        for o in 0..circuit.outputs() {
+            let place = WindowPlace {
+                frame,
+                spot: Spot::Output(o),
+            };
+            seen = seen.with(place, self.cell(frame, circuit.output(o)));
+        }
+        seen
+    }
+
+    /// After the outputs of all frames.
+    fn see_frames(&self) -> Seen
+        ensures { result ≡ seen_of self.now.window self.now.decisions
+            (flat_map (output_places self.now.window.circuit)
+            (range_with_len 0 self.now.window.frames)) }
+    {
+        let mut seen = Seen {
+            sure: None,
+            open_place: None,
+        };
+        for frame in 0..self.frames() {
+            seen = self.see_outputs(seen, frame);
+        }
+        seen
+    }
+
+    /// After the next states of the flip-flops outside a set.
+    fn see_states(&self, seen: Seen, z: &[bool]) -> Seen
+        requires { self.now.window.frames ≡ 1 }
+        ensures { (places : List WindowPlace) → seen ≡ seen_of self.now.window self.now.decisions
+            places → result ≡ seen_of self.now.window self.now.decisions
+            (places ++ state_places self.now.window.circuit (one_frame (marked 0 z.now))) }
+    {
+        let mut seen = seen;
+        for j in 0..self.dffs() {
+            if !mark(z, j) {
+                let place = WindowPlace {
+                    frame: 0,
+                    spot: Spot::State(j),
+                };
+                seen = seen.with(place, self.next_state(j));
+            }
+        }
+        seen
+    }
+
+    /// The first place that must differ, and the first that may.
+    pub fn seen(&self) -> Seen
+        ensures { result ≡ seen_of self.now.window self.now.decisions (places_of self.now.window) }
+    {
+        let _ = self.circuit();
+        let seen = self.see_frames();
+        match self.start() {
+            Start::OneFrame { z } => self.see_states(seen, z.as_slice()),
+            Start::Unknown | Start::Pair { state: _ } => seen,
+            Start::Back { cube: _, limit: _ } => seen,
+        }
+    }
+}

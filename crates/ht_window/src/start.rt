@@ -1,0 +1,72 @@
+//! What the latches of a window's first frame are.
+ghost use Rattle.std.specs.Prelude.{◌≡◌, IfOk};
+ghost use Rattle.ht_window.specs.Starts.{start_of};
+
+use ht_items::Items;
+use ht_tern::Tern;
+use std::alloc::{AllocError, Global};
+
+/// A three-valued state of the good machine and one of the faulty machine, with a value for each flip-flop in order.
+#[derive(Drop)]
+pub struct PairState {
+    /// The good machine's state.
+    pub good: Items<Tern>,
+    /// The faulty machine's state.
+    pub bad: Items<Tern>,
+}
+
+/// What the latches of a window's first frame are. Each list has an entry for each flip-flop, in order.
+///
+/// | Start | Latches of the first frame | Frames |
+/// |---|---|---|
+/// | `OneFrame` | outside the set `{00,11}`, in it all four two-valued pairs | 1 |
+/// | `Unknown` | `{XX}` | any number |
+/// | `Pair` | the given pair | any number |
+/// | `Back` | `{00,11,XX}`, of the good machine only | 1 |
+#[derive(Drop)]
+pub enum Start {
+    /// Two states that may differ at the flip-flops that are marked and nowhere else.
+    OneFrame { z: Items<bool> },
+    /// Every latch is unknown.
+    Unknown,
+    /// The given states.
+    Pair { state: PairState },
+    /// Any state of the good machine, for a cube of latch values that is wanted after the frame: it wants nothing of a
+    /// latch where it is unknown. At most `limit` frames may lead to it.
+    Back { cube: Items<Tern>, limit: u32 },
+}
+
+// The same list, in memory of its own.
+fn copied<T: Copy>(alloc: Global, items: &Items<T>) -> Result<Items<T>, AllocError>
+    ensures { IfOk result (λ copy. copy ≡ items.now) }
+{
+    let copy = Vec::from_slice(alloc, items.as_slice())?;
+    Ok(Items::from_vec(copy))
+}
+
+impl Start {
+    /// The same start, in memory of its own.
+    ///
+    /// # Errors
+    /// Out of memory.
+    pub fn copied(&self, alloc: Global) -> Result<Start, AllocError>
+        ensures { IfOk result (λ start. start_of start ≡ start_of self.now) }
+    {
+        Ok(match self {
+            Start::OneFrame { z } => Start::OneFrame {
+                z: copied(alloc, z)?,
+            },
+            Start::Unknown => Start::Unknown,
+            Start::Pair { state } => Start::Pair {
+                state: PairState {
+                    good: copied(alloc, &state.good)?,
+                    bad: copied(alloc, &state.bad)?,
+                },
+            },
+            Start::Back { cube, limit } => Start::Back {
+                cube: copied(alloc, cube)?,
+                limit: *limit,
+            },
+        })
+    }
+}

@@ -1,0 +1,291 @@
+//! A window under the decisions that stand.
+ghost use Rattle.std.specs.Prelude.{◌≡◌, ◌<◌, ◌≤◌, ◌+◌, ◌++◌, ◌∷◌, ℕ, [], length, get_or, take, false, IfOk, OnOk, OnErr};
+ghost use Rattle.ht_tern.specs.declared.tern.Tern.TheVariants.{Unk};
+ghost use Rattle.ht_pairs.specs.Pairs.{Pair, pair};
+ghost use Rattle.ht_net.specs.Netlist.{net_count};
+ghost use Rattle.ht_trail.specs.Trails.{CellsState, IsLater};
+ghost use Rattle.ht_tree.specs.Decisions.{decided_value};
+ghost use Rattle.ht_tree.specs.Windows.{IsStart, IsWindow, cell_at, first_input, latches_at};
+ghost use Rattle.ht_tree.specs.Walks.{decides};
+ghost use Rattle.ht_window.specs.Starts.{start_of};
+ghost use Rattle.ht_window.specs.Cells.{AreCells, Holds};
+ghost use Rattle.ht_window.specs.Holding.{HeldState};
+ghost use Rattle.ht_window.specs.States.{IsLegalDecision, WindowState, mark_before, undone};
+
+use crate::decided::{Decided, MAX_FRAMES};
+use crate::held::Held;
+use crate::start::Start;
+use ht_events::Core;
+use ht_frame::data_pin;
+use ht_net::{Circuit, Fault, NetId};
+use ht_pairs::PairSet;
+use ht_tern::Tern;
+use ht_trail::Mark;
+use std::alloc::{AllocError, Global};
+use std::marker::Model;
+
+/// Some frames of the good and of the faulty machine over sets of pairs, under the decisions that stand.
+#[derive(Drop)]
+pub struct Window<'c> {
+    pub(crate) held: Held<'c>,
+    core: Core<'c>,
+    // the mark before each decision
+    marks: Vec<u64>,
+}
+
+impl<'c> Model for Window<'c> {
+    ghost use Rattle.ht_window.specs.States.{WindowState};
+
+    ghost Value = { WindowState };
+
+    ghost use Rattle.ht_window.specs.States.{state_of, IsEvaluated};
+
+    ghost view = { state_of };
+
+    ghost invariant = { IsEvaluated };
+}
+
+// Gives the inputs of a frame their sets.
+fn write_inputs(held: &mut Held, frame: u32) -> Result<(), AllocError>
+    requires frame { frame < held.old.standing.window.frames }
+    ensures standing { held.new.standing ≡ held.old.standing }
+    ensures inputs { OnOk result ((i : ℕ) → i < held.old.standing.window.circuit.inputs
+        → Holds held.old.standing.window held.old.standing.path held.new.cells.values frame i) }
+    ensures before { OnOk result
+        ((f i : ℕ) → f < frame → i < held.old.standing.window.circuit.inputs
+        → Holds held.old.standing.window held.old.standing.path held.old.cells.values f i
+        → Holds held.old.standing.window held.old.standing.path held.new.cells.values f i) }
+{
+    let inputs = held.decided().inputs();
+    let _ = held.decided().circuit().nets();
+    for i in 0..inputs {
+        held.write(frame, i)?;
+    }
+    Ok(())
+}
+
+// Gives all nets their sets: the inputs by the decisions, and all else by events.
+fn fill(held: &mut Held, core: &mut Core) -> Result<(), AllocError>
+    requires circuit { core.old.plan.circuit ≡ held.old.standing.window.circuit }
+    requires frames { core.old.plan.frames ≡ held.old.standing.window.frames }
+    ensures plan { core.new.plan ≡ core.old.plan }
+    ensures standing { held.new.standing ≡ held.old.standing }
+    ensures cells { OnOk result
+        (AreCells held.old.standing.window held.old.standing.path held.new.cells.values) }
+{
+    let frames = held.decided().frames();
+    for frame in 0..frames {
+        write_inputs(held, frame)?;
+    }
+    core.touch_all();
+    core.settle(held)?;
+    Ok(())
+}
+
+// One more decision, which the cells follow. Where memory runs out the decision and some cells may be there already.
+fn follow(held: &mut Held, core: &mut Core, var: u32, choice: Tern) -> Result<(), AllocError>
+    requires circuit { core.old.plan.circuit ≡ held.old.standing.window.circuit }
+    requires frames { core.old.plan.frames ≡ held.old.standing.window.frames }
+    requires legal { IsLegalDecision held.old.standing.window var choice }
+    requires cells { AreCells held.old.standing.window held.old.standing.path held.old.cells.values }
+    ensures plan { core.new.plan ≡ core.old.plan }
+    ensures window { held.new.standing.window ≡ held.old.standing.window }
+    ensures path { OnOk result (held.new.standing.path ≡ held.old.standing.path
+        ++ record { var = var; value = choice } ∷ []) }
+    ensures before { take (length held.old.standing.path) held.new.standing.path
+        ≡ held.old.standing.path }
+    ensures later { IsLater held.old.cells held.new.cells }
+    ensures trail { OnOk result (length held.old.cells.trail < length held.new.cells.trail) }
+    ensures cells { OnOk result
+        (AreCells held.old.standing.window held.new.standing.path held.new.cells.values) }
+{
+    let _ = held.decided();
+    held.push(var, choice)?;
+    let (frame, net) = held.var_place(var);
+    held.write(frame, net)?;
+    core.touch_loads(frame, NetId(net));
+    core.settle(held)?;
+    Ok(())
+}
+
+impl<'c> Window<'c> {
+    /// A window of `frames` frames from a start, before its first decision. All room for its cells is taken here.
+    ///
+    /// # Errors
+    /// Out of memory.
+    pub fn new(
+        alloc: Global,
+        circuit: &'c Circuit,
+        fault: Option<Fault>,
+        frames: u32,
+        start: &Start,
+    ) -> Result<Window<'c>, AllocError>
+        requires frames { frames ≤ MAX_FRAMES }
+        requires start { IsStart circuit.now fault frames (start_of start.now) }
+        ensures window { IfOk result
+            (λ w. w.window ≡ record {
+              circuit = circuit.now;
+              fault = fault;
+              frames = frames;
+              start = start_of start.now;
+            }) }
+        ensures decisions { IfOk result (λ w. w.decisions ≡ []) }
+        ensures marks { IfOk result (λ w. w.marks ≡ []) }
+    {
+        let decided = Decided::new(alloc, circuit, fault, frames, start)?;
+        let mut held = Held::new(alloc, decided)?;
+        let mut core = Core::new(alloc, circuit, frames)?;
+        fill(&mut held, &mut core)?;
+        held.forget();
+        Ok(Window {
+            held,
+            core,
+            marks: Vec::new(alloc),
+        })
+    }
+
+    /// One more decision: of a legal variable, numbered from 0, that is undecided. The cells follow it by events, each
+    /// change on the trail.
+    ///
+    /// # Errors
+    /// Out of memory; nothing is changed.
+    pub fn decide(&mut self, var: u32, choice: Tern) -> Result<(), AllocError>
+        requires legal { IsLegalDecision self.old.window var choice }
+        requires undecided { decides self.old.decisions var ≡ false }
+        ensures window { self.new.window ≡ self.old.window }
+        ensures ok { OnOk result
+            (self.new.decisions ≡ self.old.decisions ++ record { var = var; value = choice } ∷ []) }
+        ensures marks { OnOk result (self.new.marks ≡ self.old.marks ++ self.old.mark ∷ []) }
+        ensures greater { OnOk result (self.old.mark < self.new.mark) }
+        ensures err { OnErr result (self.new ≡ self.old) }
+    {
+        let mark = self.held.mark();
+        let count = self.marks.len();
+        self.marks.push(mark.0)?;
+        match follow(&mut self.held, &mut self.core, var, choice) {
+            Ok(()) => Ok(()),
+            Err(error) => {
+                self.held.undo(count, mark);
+                self.marks.truncate(count);
+                Err(error)
+            },
+        }
+    }
+
+    /// The present mark.
+    pub fn mark(&self) -> Mark
+        ensures { result.0 ≡ self.now.mark }
+    {
+        self.held.mark()
+    }
+
+    /// Takes back the decisions that were made at a mark or later.
+    pub fn undo(&mut self, mark: Mark)
+        requires { (k : ℕ) × (k ≤ length self.old.decisions) × (mark.0 ≡ mark_before self.old k) }
+        ensures { (k : ℕ) → k ≤ length self.old.decisions → mark.0 ≡ mark_before self.old k
+            → self.new ≡ undone self.old k }
+    {
+        let count = self.count_before(mark);
+        self.held.undo(count, mark);
+        self.marks.truncate(count);
+    }
+
+    // How many decisions were made before a mark.
+    fn count_before(&self, mark: Mark) -> usize
+        ensures { (k : ℕ) → k ≤ length self.now.decisions → mark.0 ≡ mark_before self.now k → result
+            ≡ k }
+    {
+        let mut count = self.marks.len();
+        while count > 0 {
+            if self.marks[count - 1] < mark.0 {
+                return count;
+            }
+            count -= 1;
+        }
+        0
+    }
+
+    // The window's circuit.
+    pub(crate) fn circuit(&self) -> &'c Circuit
+        ensures circuit { result.now ≡ self.now.window.circuit }
+        ensures valid { IsWindow self.now.window }
+    {
+        let decided = self.held.decided();
+        decided.circuit()
+    }
+
+    // How many flip-flops the circuit has.
+    pub(crate) fn dffs(&self) -> u32
+        ensures { result ≡ length self.now.window.circuit.dffs }
+    {
+        self.held.decided().dffs()
+    }
+
+    // The window's fault.
+    pub(crate) fn fault(&self) -> Option<Fault>
+        ensures { result ≡ self.now.window.fault }
+    {
+        self.held.decided().fault()
+    }
+
+    // How many frames the window has.
+    pub(crate) fn frames(&self) -> u32
+        ensures frames { result ≡ self.now.window.frames }
+        ensures few { self.now.window.frames ≤ MAX_FRAMES }
+    {
+        self.held.decided().frames()
+    }
+
+    // How the window starts.
+    pub(crate) fn start(&self) -> &Start
+        ensures { start_of result.now ≡ self.now.window.start }
+    {
+        self.held.decided().start()
+    }
+
+    // Whether the decisions give a variable a value.
+    pub(crate) fn is_decided(&self, var: u32) -> bool
+        ensures { result ≡ decides self.now.decisions var }
+    {
+        self.held.decided().is_decided(var)
+    }
+
+    // The variable of input i of a frame.
+    pub(crate) fn input_var(&self, frame: u32, i: u32) -> u32
+        requires frame { frame < self.now.window.frames }
+        requires input { i < self.now.window.circuit.inputs }
+        ensures { result ≡ first_input self.now.window frame + i }
+    {
+        self.held.decided().input_var(frame, i)
+    }
+
+    /// The set of a net in a frame.
+    pub fn cell(&self, frame: u32, net: NetId) -> PairSet
+        requires frame { frame < self.now.window.frames }
+        requires net { net.0 < net_count self.now.window.circuit }
+        ensures { result ≡ cell_at self.now.window self.now.decisions frame net.0 }
+    {
+        self.held.cell(frame, net.0)
+    }
+
+    /// The next state of a latch after the last frame.
+    pub fn next_state(&self, j: u32) -> PairSet
+        requires { j < length self.now.window.circuit.dffs }
+        ensures { result ≡ get_or
+            (latches_at self.now.window self.now.decisions self.now.window.frames) j
+            (pair Unk Unk ∷ []) }
+    {
+        let decided = self.held.decided();
+        let circuit = decided.circuit();
+        let _ = circuit.nets();
+        let last = decided.frames() - 1;
+        data_pin(decided.fault(), j, self.cell(last, circuit.dff_data(j)))
+    }
+
+    /// The value that the decisions give a variable; none where it is undecided.
+    pub fn decided(&self, var: u32) -> Option<Tern>
+        ensures { result ≡ decided_value self.now.decisions var }
+    {
+        self.held.decided().value(var)
+    }
+}
