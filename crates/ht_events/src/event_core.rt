@@ -167,6 +167,27 @@ impl<'c> Core<'c> {
         }
     }
 
+    // What a firing leaves: the item is pending no more, and its loads are pending if its value changed, and only then.
+    fn finish(&mut self, item: u32, changed: bool)
+        requires { item < core_items self.old }
+        ensures plan { self.new.plan ≡ self.old.plan }
+        ensures taken { ¬ Pends self.new item }
+        ensures kept { (y : ℕ) → y < core_items self.old → Pends self.old y
+            → Pends self.new y ⊎ (y ≡ item) }
+        ensures loads { changed ≡ true → (y : ℕ)
+            → IsLoad self.old.plan.circuit self.old.plan.frames item y → Pends self.new y }
+        ensures only { (y : ℕ) → y < core_items self.old → Pends self.new y → Pends self.old y
+            ⊎ ((changed ≡ true) × IsLoad self.old.plan.circuit self.old.plan.frames item y) }
+    {
+        let _ = self.plan.position(item);
+        self.remove(item);
+        if changed {
+            let frame = self.plan.frame(item);
+            let net = self.plan.net(item);
+            self.touch_loads(frame, net);
+        }
+    }
+
     /// Fires one pending item, any one: makes it agree, and its loads pending if its value changed.
     ///
     /// # Errors
@@ -183,6 +204,7 @@ impl<'c> Core<'c> {
         ensures frames { P.frames plant.new ≡ P.frames plant.old }
         ensures price { P.price plant.new ≡ P.price plant.old }
         ensures keeps { P.keeps plant.old plant.new }
+        ensures rises { P.spent plant.old ≤ P.spent plant.new }
         ensures spent { P.spent plant.new ≤ P.spent plant.old + P.price plant.old }
         ensures agree { (x : ℕ) → x < core_items self.old → ¬ Pends self.new x
             → P.agrees plant.new x }
@@ -193,12 +215,7 @@ impl<'c> Core<'c> {
     {
         let _ = self.plan.position(item);
         let changed = plant.recompute(item)?;
-        self.remove(item);
-        if changed {
-            let frame = self.plan.frame(item);
-            let net = self.plan.net(item);
-            self.touch_loads(frame, net);
-        }
+        self.finish(item, changed);
         Ok(())
     }
 

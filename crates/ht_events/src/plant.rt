@@ -33,6 +33,7 @@ pub trait Plant {
         ensures frames { frames self.new ≡ frames self.old }
         ensures price { price self.new ≡ price self.old }
         ensures keeps { keeps self.old self.new }
+        ensures rises { spent self.old ≤ spent self.new }
         ensures spent { spent self.new ≤ spent self.old + price self.old }
         ensures agrees { OnOk result (agrees self.new item) }
         ensures others { OnOk result ((x : ℕ) → x < item_count (circuit self.old) (frames self.old)
