@@ -36,4 +36,6 @@ mod trail;
 #[cfg(test)]
 mod tree;
 #[cfg(test)]
+mod window;
+#[cfg(test)]
 mod words;

@@ -6,7 +6,7 @@ use std::alloc::{AllocError, Global};
 use std::marker::Model;
 
 /// A moment to which cells can be taken back: how many old values were on the trail then. It is valid until the cells
-/// are taken back to an earlier one.
+/// are taken back to an earlier one, or `forget` is called.
 #[derive(Clone, Copy, PartialEq, Eq, Debug)]
 pub struct Mark(pub u64);
 

@@ -19,7 +19,7 @@ use Rattle.ht_tree.specs.Nodes.{judge_of}
 use Rattle.ht_tree.specs.WalkBack.{back_over, choice_at, pick_of}
 
 -- The toggle: OUTPUT(q), q = DFF(n), n = NOT(q). Its fault is n stuck at 0.
-abbrev toggle : Netlist
+abbrev pub toggle : Netlist
 toggle = record {
   inputs = 0;
   dffs = record { 0 = 1 } ∷ [];
@@ -99,7 +99,7 @@ toggle_no_cube : status_at (back_window toggle (Unk ∷ []) 0) [] ≡ Sure 0 Cub
 toggle_no_cube = refl
 
 -- The shift register: INPUT(a), OUTPUT(r), q = DFF(a), r = DFF(q). Its fault is a stuck at 0.
-abbrev shift : Netlist
+abbrev pub shift : Netlist
 shift = record {
   inputs = 1;
   dffs = record { 0 = 0 } ∷ record { 0 = 1 } ∷ [];

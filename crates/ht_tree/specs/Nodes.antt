@@ -11,7 +11,7 @@ use Rattle.ht_tree.specs.Windows.{Start, one_frame, unknown, state_pair, back, S
 use Rattle.ht_tree.specs.WindowStatus.{is_definite, status_at, without_place}
 use Rattle.ht_tree.specs.Variables.{may_two, may_three}
 
--- how many decisions of a node came before its window number k, the first one's number being 0
+-- where window k on the way to a node begins among its decisions; window 0 is the root's
 abbrev pub window_begin : Node → ℕ → ℕ
 window_begin n k = get_or (0 ∷ n.windows) k 0
 

@@ -22,7 +22,8 @@ state_places c unknown = []
 state_places c (state_pair good faulty) = []
 state_places c (back cube limit) = []
 
--- the places of a window: the outputs frame by frame, and then the next states
+-- the places of a window in which a difference is looked for: the outputs frame by frame, and then the next states. A
+-- back window looks at the latches of its cube, and not here.
 abbrev pub places_of : SearchWindow → List WindowPlace
 places_of w =
     flat_map (output_places w.circuit) (range_with_len 0 w.frames) ++ state_places w.circuit w.start

@@ -1,7 +1,7 @@
 -- The choice of the next variable: back from a place that may still show what is looked for, along open nets.
 use Rattle.std.specs.Prelude.{◌<◌, ◌+◌, ◌-◌, ℕ, suc, zero, List, [], ◌∷◌, find, Bool, true, false, not, if◌then◌else◌, nat_lt, length, Option, Some, None}
 use Rattle.ht_tern.specs.declared.gate.Kind.{Kind}
-use Rattle.ht_tern.specs.declared.gate.Kind.TheVariants.{And, Nand, Or, Nor, Xor, Xnor, Not, Buf}
+use Rattle.ht_tern.specs.Gate.{inverts}
 use Rattle.ht_tern.specs.declared.tern.Tern.{Tern}
 use Rattle.ht_tern.specs.declared.tern.Tern.TheVariants.{Zero, One, Unk}
 use Rattle.ht_pairs.specs.Pairs.{Pair}
@@ -25,14 +25,7 @@ pub record Wanted : Type 0 where
 
 -- what is wanted at a gate's arguments: the kinds that give a complement turn the bit
 abbrev pub bit_before : Kind → Bool → Bool
-bit_before And bit = bit
-bit_before Nand bit = not bit
-bit_before Or bit = bit
-bit_before Nor bit = not bit
-bit_before Xor bit = bit
-bit_before Xnor bit = not bit
-bit_before Not bit = not bit
-bit_before Buf bit = bit
+bit_before kind bit = if inverts kind then not bit else bit
 
 -- the net of the first argument of gate g, from pin i on, whose set at the pin is open
 abbrev pub open_argument : Rules (List Pair) → ℕ → (ℕ → List Pair) → ℕ → List NetId → ℕ

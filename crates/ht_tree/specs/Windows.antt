@@ -27,10 +27,11 @@ use Rattle.ht_tree.specs.declared.token.Assign3.{Assign3}
 use Rattle.ht_pairs.specs.Decided.{same_pairs}
 use Rattle.ht_tree.specs.Decisions.{is_in, decided_value, latch_values_left, latch_pairs}
 
--- What is known of the latches in front of the first frame: the two machines may differ at the flip-flops of a set and
--- nowhere else; nothing; a state of each machine; or nothing of the good machine alone, of which latch values are
--- wanted
--- after the frame, with so many frames left that may lead to them. A cube wants nothing of a latch where it is unknown.
+-- What is known of the latches of the first frame.
+-- `one_frame z`: the two machines may differ at the flip-flops of z and nowhere else.
+-- `unknown`: nothing. `state_pair good faulty`: a state of each machine.
+-- `back cube limit`: of the good machine's latches nothing; after the frame they are to have the cube's values, where it
+-- wants one, and at most so many frames, this one among them, may lead there.
 pub data Start : Type 0 where
   one_frame : List ℕ → Start
   unknown : Start

@@ -25,10 +25,7 @@ pub struct Line {
 fn turn(kind: Kind, bit: bool) -> bool
     ensures { result ≡ bit_before kind bit }
 {
-    match kind {
-        Kind::Nand | Kind::Nor | Kind::Xnor | Kind::Not => !bit,
-        Kind::And | Kind::Or | Kind::Xor | Kind::Buf => bit,
-    }
+    if kind.inverts() { !bit } else { bit }
 }
 
 impl<'c> Window<'c> {
