@@ -45,8 +45,8 @@ may_meet w path cube j = is_member (pair (value_at cube j) (value_at cube j)) (s
 abbrev pub must_meet : SearchWindow → List Assign3 → List Tern → ℕ → Bool
 must_meet w path cube j = may_meet w path cube j && not (is_open_set (set_at w path 0 (State j)))
 
--- Where a cube is looked for: Sure where it wants nothing. Else Dead where no frame is left or some next state can't be as
--- wanted, Sure where each must be as wanted, and Open otherwise.
+-- Where a cube is looked for: Sure where it wants nothing. Else Dead where no frame is left or some next state can't be
+-- as wanted, Sure where each must be as wanted, and Open otherwise.
 abbrev pub cube_status : SearchWindow → List Assign3 → List Tern → ℕ → List ℕ → Status
 cube_status w path cube limit [] = Sure 0 Cube
 cube_status w path cube zero (j ∷ latches) = Dead

@@ -65,8 +65,8 @@ impl Desk for MuteDesk {
     }
 }
 
-// Whether the desk has what a run of this status leaves: nothing and one failed line, after 5 also the failed output; after
-// 0 the report, and no line was tried.
+// Whether the desk has what a run of this status leaves: nothing and one failed line, after 5 also the failed output;
+// after 0 the report, and no line was tried.
 fn is_left(desk: &MuteDesk, status: u8) -> bool {
     let (faults, report) = match status {
         0 => (0, Some(SHIFT_REGISTER_REPORT)),
