@@ -30,8 +30,8 @@ use Rattle.ht_tree.specs.Decisions.{is_in, decided_value, latch_values_left, lat
 -- What is known of the latches of the first frame.
 -- `one_frame z`: the two machines may differ at the flip-flops of z and nowhere else.
 -- `unknown`: nothing. `state_pair good faulty`: a state of each machine.
--- `back cube limit`: of the good machine's latches nothing. After the frame they are to have the cube's values, where it
--- wants one, and at most `limit` frames, this one among them, may lead there.
+-- `back cube limit`: of the good machine's latches nothing. After the frame they are to have the cube's values, where
+-- it wants one, and at most `limit` frames, this one among them, may lead there.
 pub data Start : Type 0 where
   one_frame : List ℕ → Start
   unknown : Start
