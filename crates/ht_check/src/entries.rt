@@ -1,6 +1,7 @@
 //! Entries that pass.
 ghost use Rattle.std.specs.Prelude.{◌<◌, ◌↔◌, ℕ, length, get_or, IfOk, IsTrue};
-ghost use Rattle.ht_tree.specs.Entries.{Holds, IsUntestable, Passes, Refutes, Rises};
+ghost use Rattle.ht_tree.specs.Rising.{Rises};
+ghost use Rattle.ht_tree.specs.Entries.{Holds, IsUntestable, Passes, Refutes};
 
 use crate::one_frame::OneFrame;
 use crate::walks::is_complete;

@@ -11,12 +11,12 @@ use Rattle.ht_pairs.specs.Results.{IsImage}
 use Rattle.ht_pairs.proofs.PairTests.{same_pair-true, same_pair-from, in_all}
 use Rattle.ht_pairs.proofs.MemberLaws.{member_holds, holds_member, filter_passes, filter_keeps}
 
-is_member-true : (p : Pair) (ps : List Pair) → is_member p ps ≡ true → IsMember p ps
+pub is_member-true : (p : Pair) (ps : List Pair) → is_member p ps ≡ true → IsMember p ps
 is_member-true p [] h = cc
 is_member-true p (q ∷ ps) h = elim (or_cases (same_pair p q) (is_member p ps) h)
     [ inl e ↦ inl (same_pair-true p q e) | inr e ↦ inr (is_member-true p ps e) ]
 
-is_member-from : (p : Pair) (ps : List Pair) → IsMember p ps → is_member p ps ≡ true
+pub is_member-from : (p : Pair) (ps : List Pair) → IsMember p ps → is_member p ps ≡ true
 is_member-from p [] h = absurd h
 is_member-from p (q ∷ ps) (inl e) = or_left (same_pair p q) (is_member p ps) (same_pair-from p q e)
 is_member-from p (q ∷ ps) (inr h) = or_right (same_pair p q) (is_member p ps) (is_member-from p ps h)
@@ -63,7 +63,7 @@ pub member_right : {X : Type 0} → (x : X) (s t : List X) → IsMember x t → 
 member_right x [] t h = h
 member_right x (y ∷ s) t h = inr (member_right x s t h)
 
-member_either : {X : Type 0} → (x : X) (s t : List X) → IsMember x (s ++ t) → IsMember x s ⊎ IsMember x t
+pub member_either : {X : Type 0} → (x : X) (s t : List X) → IsMember x (s ++ t) → IsMember x s ⊎ IsMember x t
 member_either x [] t h = inr h
 member_either x (y ∷ s) t (inl e) = inl (inl e)
 member_either x (y ∷ s) t (inr h) = elim (member_either x s t h) [ inl k ↦ inl (inr k) | inr k ↦ inr k ]
@@ -74,7 +74,7 @@ member_flat_map f [] x y h k = absurd h
 member_flat_map f (z ∷ xs) x y (inl e) k = member_left y (f z) (flat_map f xs) (rw (sym e) k)
 member_flat_map f (z ∷ xs) x y (inr h) k = member_right y (f z) (flat_map f xs) (member_flat_map f xs x y h k)
 
-flat_map_member : {X Y : Type 0} → (f : X → List Y) (xs : List X) (y : Y) → IsMember y (flat_map f xs) → (x : X)
+pub flat_map_member : {X Y : Type 0} → (f : X → List Y) (xs : List X) (y : Y) → IsMember y (flat_map f xs) → (x : X)
     × IsMember x xs × IsMember y (f x)
 flat_map_member f [] y h = absurd h
 flat_map_member f (z ∷ xs) y h = elim (member_either y (f z) (flat_map f xs) h)

@@ -1,5 +1,5 @@
 -- The definitions at small circuits: which place comes first, which argument, and how the wanted bit is turned.
-use Rattle.std.proofs.Common.{◌≡◌, ℕ, List, [], ◌∷◌, true, false, refl}
+use Rattle.std.proofs.Common.{◌≡◌, [], ◌∷◌, true, false, refl}
 use Rattle.ht_tern.specs.declared.tern.Tern.TheVariants.{Zero, One, Unk}
 use Rattle.ht_tern.specs.declared.gate.Kind.TheVariants.{And, Nand, Nor, Xor}
 use Rattle.ht_pairs.specs.Pairs.{lifted_set, stuck_set, set_of}

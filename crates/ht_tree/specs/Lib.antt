@@ -11,3 +11,9 @@ pub mod WalkBack
 pub mod Searches
 pub mod Counts
 pub mod Entries
+pub mod Rising
+pub mod ToldChains
+pub mod Reached
+pub mod FoundLists
+pub mod SearchRecords
+pub mod Budgets

@@ -1,0 +1,12 @@
+pub mod ListLaws
+pub mod RunStateLaws
+pub mod PairRunLaws
+pub mod RunLaws
+pub mod ClosedLaws
+pub mod ShownLaws
+pub mod ListBitLaws
+pub mod DifferenceLaws
+pub mod WidthLaws
+pub mod BackFrameLaws
+pub mod BackLaws
+pub mod CompleteLaws

@@ -1,0 +1,2 @@
+//! The laws, by idea.
+pub mod complete;

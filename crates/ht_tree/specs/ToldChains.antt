@@ -1,0 +1,74 @@
+-- Told chains: frames in which the two machines differ for certain, each from states that may differ at the flip-flops
+-- that earlier frames told.
+use Rattle.std.specs.Prelude.{◌≡◌, ◌<◌, ℕ, List, [], ◌∷◌, ◌++◌, map, flat_map, Bool, true, false, ◌||◌, length}
+use Rattle.std.specs.List.{list_all}
+use Rattle.ht_tern.specs.Gate.{tern_of}
+use Rattle.ht_pairs.specs.Pairs.{differs}
+use Rattle.ht_net.specs.declared.fault.Fault.{Fault}
+use Rattle.ht_net.specs.Netlist.{Netlist}
+use Rattle.ht_tree.specs.declared.token.Assign3.{Assign3}
+use Rattle.ht_tree.specs.declared.told.Assign.{Assign}
+use Rattle.ht_tree.specs.declared.told.Told.{Told}
+use Rattle.ht_tree.specs.declared.window.Spot.{Spot}
+use Rattle.ht_tree.specs.declared.window.Spot.TheVariants.{Output, State, Cube}
+use Rattle.ht_tree.specs.Rising.{Rises}
+use Rattle.ht_tree.specs.Decisions.{is_in}
+use Rattle.ht_tree.specs.Windows.{one_frame_window}
+use Rattle.ht_tree.specs.Places.{set_at}
+use Rattle.ht_tree.specs.Variables.{may_two}
+
+-- the decisions of a told frame as a path, and their variables
+abbrev pub path_by : List Assign → List Assign3
+path_by sets = map (λ (a : Assign). record { var = a.var; value = tern_of a.value }) sets
+
+abbrev pub told_path : Told → List Assign3
+told_path told = path_by told.sets
+
+abbrev pub vars_of : List Assign → List ℕ
+vars_of sets = map (λ (a : Assign). a.var) sets
+
+-- a place of the one-frame window of a set: an output, or the next state of a flip-flop outside the set
+abbrev pub IsToldPlace : Netlist → List ℕ → Spot → Type 0
+IsToldPlace c z (Output o) = o < length c.outputs
+IsToldPlace c z (State j) = (j < length c.dffs) × (is_in z j ≡ false)
+IsToldPlace c z Cube = ⊥
+
+-- A told frame: its variables are legal and rise, and under its decisions its place holds only 01 and 10.
+pub record Tells (c : Netlist) (fault : Fault) (z : List ℕ) (told : Told) : Type 0 where
+  pub rises : Rises (vars_of told.sets)
+  pub legal : list_all (may_two (one_frame_window c fault z)) (vars_of told.sets) ≡ true
+  pub place : IsToldPlace c z told.place
+  pub differs : list_all differs (set_at (one_frame_window c fault z) (told_path told) 0 told.place) ≡ true
+
+-- the flip-flop of a place that is a next state
+abbrev pub state_of_spot : Spot → List ℕ
+state_of_spot (State j) = j ∷ []
+state_of_spot (Output o) = []
+state_of_spot Cube = []
+
+-- the place is an output
+abbrev pub is_output : Spot → Bool
+is_output (Output o) = true
+is_output (State j) = false
+is_output Cube = false
+
+-- the flip-flops that a chain tells, in its order, and whether it comes to an output
+abbrev pub states_of : List Told → List ℕ
+states_of chain = flat_map (λ (told : Told). state_of_spot told.place) chain
+
+abbrev pub ends_at_output : List Told → Bool
+ends_at_output [] = false
+ends_at_output (told ∷ chain) = is_output told.place || ends_at_output chain
+
+-- A chain from a set of flip-flops on: each frame is told where the states may differ at the set and at what was told
+-- before it, and none comes after an output.
+abbrev pub IsToldChainFrom : Netlist → Fault → List ℕ → List Told → Type 0
+IsToldChainFrom c fault z [] = Unit {0}
+IsToldChainFrom c fault z (told ∷ chain) =
+    Tells c fault z told
+    × (is_output told.place ≡ true → chain ≡ [])
+    × IsToldChainFrom c fault (z ++ state_of_spot told.place) chain
+
+-- a told chain: it begins with two machines in one state
+abbrev pub IsToldChain : Netlist → Fault → List Told → Type 0
+IsToldChain c fault chain = IsToldChainFrom c fault [] chain
