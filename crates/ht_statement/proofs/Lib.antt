@@ -1,4 +1,6 @@
 pub mod TokenLaws
+pub mod WordLaws
+pub mod NameLaws
 pub mod StatementTextLaws
 pub mod ArgumentLaws
 pub mod StatedLaws

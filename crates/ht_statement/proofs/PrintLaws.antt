@@ -4,12 +4,11 @@ use Rattle.std.specs.List.{list_all}
 use Rattle.std.proofs.lemmas.Bool.{and_parts, and_from}
 use Rattle.std.proofs.lemmas.Bool.Decides.{nat_tests}
 use Rattle.std.proofs.lemmas.List.Folds.{list_all-append}
-use Rattle.ht_tern.specs.declared.gate.Kind.{Kind}
-use Rattle.ht_tern.specs.declared.gate.Kind.TheVariants.{And, Nand, Or, Nor, Xor, Xnor, Not, Buf}
 use Rattle.ht_net.specs.Named.{Name}
 use Rattle.ht_statement.specs.Name.{is_name, is_name_byte}
 use Rattle.ht_statement.specs.Statement.{blank_line, input_line, output_line, dff_line, gate_line}
 use Rattle.ht_statement.specs.StatementText.{kind_text, arguments_text, is_printable, NormalTextIsOneLine}
+use Rattle.ht_statement.proofs.NameLaws.{all_head, kind_reads}
 
 abbrev ArePrintable : List ℕ → Type 0
 ArePrintable text = list_all is_printable text ≡ true
@@ -31,22 +30,9 @@ bytes_print (byte ∷ text) e =
 name_prints : (name : Name) → is_name name ≡ true → ArePrintable name
 name_prints name e = bytes_print name (grind (arith, nat_tests))
 
-head_prints : (name : Name) (names : List Name) → list_all is_name (name ∷ names) ≡ true → ArePrintable name
-head_prints name names e = name_prints name (and_parts (is_name name) (list_all is_name names) e).0
-
-kind_prints : (kind : Kind) → ArePrintable (kind_text kind)
-kind_prints And = refl
-kind_prints Nand = refl
-kind_prints Or = refl
-kind_prints Nor = refl
-kind_prints Xor = refl
-kind_prints Xnor = refl
-kind_prints Not = refl
-kind_prints Buf = refl
-
 arguments_print : (names : List Name) → list_all is_name names ≡ true → ArePrintable (arguments_text names)
 arguments_print [] e = refl
-arguments_print (name ∷ []) e = head_prints name [] e
+arguments_print (name ∷ []) e = name_prints name (all_head name [] e)
 arguments_print (name ∷ next ∷ more) e =
     let parts = and_parts (is_name name) (list_all is_name (next ∷ more)) e in
     both name (codes ", " ++ arguments_text (next ∷ more)) (name_prints name parts.0)
@@ -55,18 +41,18 @@ arguments_print (name ∷ next ∷ more) e =
 pub normal_is_one_line : NormalTextIsOneLine
 normal_is_one_line blank_line can = refl
 normal_is_one_line (input_line name) can = both (codes "INPUT(" ++ name) (codes ")")
-    (both (codes "INPUT(") name refl (head_prints name [] can.names)) refl
+    (both (codes "INPUT(") name refl (name_prints name (all_head name [] can.names))) refl
 normal_is_one_line (output_line name) can = both (codes "OUTPUT(" ++ name) (codes ")")
-    (both (codes "OUTPUT(") name refl (head_prints name [] can.names)) refl
+    (both (codes "OUTPUT(") name refl (name_prints name (all_head name [] can.names))) refl
 normal_is_one_line (dff_line out data_pin) can =
     let parts = and_parts (is_name out) (list_all is_name (data_pin ∷ [])) can.names in
     let front = both out (codes " = DFF(") (name_prints out parts.0) refl in
     both (out ++ codes " = DFF(" ++ data_pin) (codes ")")
-    (both (out ++ codes " = DFF(") data_pin front (head_prints data_pin [] parts.1)) refl
+    (both (out ++ codes " = DFF(") data_pin front (name_prints data_pin (all_head data_pin [] parts.1))) refl
 normal_is_one_line (gate_line out kind args) can =
     let parts = and_parts (is_name out) (list_all is_name args) can.names in
     let one = both out (codes " = ") (name_prints out parts.0) refl in
-    let two = both (out ++ codes " = ") (kind_text kind) one (kind_prints kind) in
+    let two = both (out ++ codes " = ") (kind_text kind) one (name_prints (kind_text kind) (kind_reads kind).0) in
     let three = both (out ++ codes " = " ++ kind_text kind) (codes "(") two refl in
     let four = both (out ++ codes " = " ++ kind_text kind ++ codes "(") (arguments_text args) three
     (arguments_print args parts.1) in

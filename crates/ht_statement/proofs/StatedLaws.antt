@@ -6,10 +6,10 @@ use Rattle.std.proofs.lemmas.Bool.Decides.{nat_tests}
 use Rattle.ht_tern.specs.Gate.{HasArity, has_arity}
 use Rattle.ht_tern.specs.declared.gate.Kind.{Kind}
 use Rattle.ht_net.specs.Named.{Name}
-use Rattle.ht_statement.specs.Token.{tokens_of}
+use Rattle.ht_statement.specs.LineToken.{tokens_of}
 use Rattle.ht_statement.specs.Name.{is_name}
-use Rattle.ht_statement.specs.Form.{Form, blank_form, input_form, output_form, definition_form, form_of}
-use Rattle.ht_statement.specs.Element.{Element, flip_flop, gate_of, element_named, has_count}
+use Rattle.ht_statement.specs.LineForm.{LineForm, blank_form, input_form, output_form, definition_form, form_of}
+use Rattle.ht_statement.specs.Element.{Element, flip_flop, gate_of, element_named, has_count, max_arguments}
 use Rattle.ht_statement.specs.Statement.{input_line, output_line}
 use Rattle.ht_statement.specs.Reading.{Reading, stated, unreadable, defined, form_reading, definition_reading, tokens_reading}
 use Rattle.ht_statement.specs.declared.error.LineRefusal.{LineRefusal}
@@ -49,7 +49,7 @@ definition_sound out args (Some element) are =
     tested (has_count element (length args)) (stated (defined out args element)) BadCount
     (λ count. element_sound out args element are count)
 
-form_sound : (form : Form) → IsSound (form_reading form)
+form_sound : (form : LineForm) → IsSound (form_reading form)
 form_sound blank_form = record { names = refl; count = refl }
 form_sound (input_form name) = tested (is_name name) (stated (input_line name)) BadName
     (λ is. record { names = names_of_one name is; count = refl })
@@ -59,18 +59,18 @@ form_sound (definition_form out kind args) =
     tested (list_all is_name (out ∷ args)) (definition_reading out args (element_named kind)) BadName
     (λ are. definition_sound out args (element_named kind) are)
 
-reading_sound : (form : Option Form) → IsSound (tokens_reading form)
+reading_sound : (form : Option LineForm) → IsSound (tokens_reading form)
 reading_sound None = tt
 reading_sound (Some form) = form_sound form
 
 pub stated_sound : StatedIsSound
 stated_sound line statement e = subst IsSound e (reading_sound (form_of (tokens_of line)))
 
--- a count that a gate may have is an arity of its kind, and at most 255
-pub count_is_arity : (kind : Kind) (n : ℕ) → has_count (gate_of kind) n ≡ true → HasArity kind n × (n ≤ 255)
+-- a count that a gate may have is an arity of its kind, and within the limit
+pub count_is_arity : (kind : Kind) (n : ℕ) → has_count (gate_of kind) n ≡ true → HasArity kind n × (n ≤ max_arguments)
 count_is_arity kind n e =
-    let parts = and_parts (has_arity kind n) (leb n 255) e in
-    (parts.0, leb-true n 255 parts.1)
+    let parts = and_parts (has_arity kind n) (leb n max_arguments) e in
+    (parts.0, leb-true n max_arguments parts.1)
 
-pub arity_is_count : (kind : Kind) (n : ℕ) → HasArity kind n → n ≤ 255 → has_count (gate_of kind) n ≡ true
-arity_is_count kind n arity few = and_from (has_arity kind n) (leb n 255) arity (le-leb n 255 few)
+pub arity_is_count : (kind : Kind) (n : ℕ) → HasArity kind n → n ≤ max_arguments → has_count (gate_of kind) n ≡ true
+arity_is_count kind n arity few = and_from (has_arity kind n) (leb n max_arguments) arity (le-leb n max_arguments few)

@@ -22,8 +22,12 @@ kind_words = (codes "AND", gate_of And) ∷ (codes "NAND", gate_of Nand) ∷ (co
 abbrev pub element_named : List ℕ → Option Element
 element_named word = lookup (λ known. str_eq_ignore_ascii_case word known) kind_words
 
+-- the most arguments that a gate may have
+abbrev pub max_arguments : ℕ
+max_arguments = 255
+
 -- whether it may have this number of arguments: one for DFF, as many as its kind takes for a gate, and never more than
--- 255
+-- the limit
 abbrev pub has_count : Element → ℕ → Bool
 has_count flip_flop count = eqb count 1
-has_count (gate_of kind) count = has_arity kind count && leb count 255
+has_count (gate_of kind) count = has_arity kind count && leb count max_arguments

@@ -1,8 +1,8 @@
-pub mod Token
-pub mod TokenOf
+pub mod LineToken
+pub mod LineTokenOf
 pub mod Word
-pub mod Form
-pub mod FormOf
+pub mod LineForm
+pub mod LineFormOf
 pub mod FirstToken
 pub mod Name
 pub mod Element

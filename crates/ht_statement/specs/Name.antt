@@ -11,6 +11,10 @@ ends_word byte = eqb byte 35 || (eqb byte 40 || (eqb byte 41 || (eqb byte 44 || 
 abbrev pub is_name_byte : ℕ → Bool
 is_name_byte byte = leb 33 byte && leb byte 126 && not (ends_word byte)
 
--- 1 to 255 such bytes
+-- the most bytes that a name may have
+abbrev pub max_name_bytes : ℕ
+max_name_bytes = 255
+
+-- at least one such byte and at most 255
 abbrev pub is_name : Name → Bool
-is_name name = leb 1 (length name) && leb (length name) 255 && list_all is_name_byte name
+is_name name = leb 1 (length name) && leb (length name) max_name_bytes && list_all is_name_byte name

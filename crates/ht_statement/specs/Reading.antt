@@ -2,8 +2,8 @@
 use Rattle.std.specs.Prelude.{◌≡◌, ℕ, List, [], ◌∷◌, cond, length, get_or, Option, Some, None}
 use Rattle.std.specs.List.{list_all}
 use Rattle.ht_net.specs.Named.{Name}
-use Rattle.ht_statement.specs.Token.{tokens_of}
-use Rattle.ht_statement.specs.Form.{Form, blank_form, input_form, output_form, definition_form, form_of}
+use Rattle.ht_statement.specs.LineToken.{tokens_of}
+use Rattle.ht_statement.specs.LineForm.{LineForm, blank_form, input_form, output_form, definition_form, form_of}
 use Rattle.ht_statement.specs.Name.{is_name}
 use Rattle.ht_statement.specs.Element.{Element, flip_flop, gate_of, element_named, has_count}
 use Rattle.ht_statement.specs.Statement.{Statement, blank_line, input_line, output_line, dff_line, gate_line}
@@ -28,7 +28,7 @@ definition_reading out args (Some element) = cond (has_count element (length arg
     (unreadable BadCount)
 
 -- names are judged first, then the kind, then the count
-abbrev pub form_reading : Form → Reading
+abbrev pub form_reading : LineForm → Reading
 form_reading blank_form = stated blank_line
 form_reading (input_form name) = cond (is_name name) (stated (input_line name)) (unreadable BadName)
 form_reading (output_form name) = cond (is_name name) (stated (output_line name)) (unreadable BadName)
@@ -36,7 +36,7 @@ form_reading (definition_form out kind args) = cond (list_all is_name (out ∷ a
     (definition_reading out args (element_named kind)) (unreadable BadName)
 
 -- a line whose tokens have no form is a bad line
-abbrev pub tokens_reading : Option Form → Reading
+abbrev pub tokens_reading : Option LineForm → Reading
 tokens_reading None = unreadable BadLine
 tokens_reading (Some form) = form_reading form
 

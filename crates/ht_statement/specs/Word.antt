@@ -1,6 +1,6 @@
 -- Words split from a text.
 use Rattle.std.specs.Prelude.{◌≡◌, ℕ, ◌<◌, List, [], ◌∷◌, ◌++◌, Bool, true, false, ◌||◌, not, length, slice_index}
-use Rattle.ht_statement.specs.Token.{is_blank}
+use Rattle.ht_statement.specs.LineToken.{is_blank}
 use Rattle.ht_statement.specs.Name.{ends_word}
 
 -- no blank, no mark, and no begin of a comment

@@ -1,7 +1,7 @@
 //! The arguments of a definition.
 ghost use Rattle.std.specs.Prelude.{◌≡◌, option_map, IfOk};
-ghost use Rattle.ht_statement.specs.Token.{tokens_of};
-ghost use Rattle.ht_statement.specs.Form.{arguments_of};
+ghost use Rattle.ht_statement.specs.LineToken.{tokens_of};
+ghost use Rattle.ht_statement.specs.LineForm.{arguments_of};
 ghost use Rattle.ht_statement.specs.StatementOf.{texts_of};
 
 use crate::first_token::{after_comma, closes, first_word};

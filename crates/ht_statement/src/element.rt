@@ -31,12 +31,15 @@ pub(crate) fn element_named(word: &[u8]) -> Option<Element>
     }
 }
 
+/// The most arguments that a gate may have.
+const MAX_ARGUMENTS: usize = 255;
+
 /// Whether an element may have this number of arguments: one for DFF, NOT and BUFF, else 1 to 255.
 pub(crate) fn has_count(element: Element, count: usize) -> bool
     ensures { result ≡ has_count (element_of element) count }
 {
     match element {
         Element::FlipFlop => count == 1,
-        Element::Gate(kind) => kind.has_arity(count) && count <= 255,
+        Element::Gate(kind) => kind.has_arity(count) && count <= MAX_ARGUMENTS,
     }
 }

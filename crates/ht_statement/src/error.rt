@@ -1,7 +1,7 @@
 //! Why a line isn't read.
 ghost use Rattle.std.specs.Prelude.{◌≡◌};
 
-use std::alloc::{AllocError, AllocFailed};
+use std::alloc::AllocError;
 
 /// Why a line is refused, in the order in which the causes are judged.
 #[derive(Debug, Clone, Copy, PartialEq, Eq)]
@@ -30,25 +30,5 @@ impl From<AllocError> for StatementError {
 
     fn from(_error: AllocError) -> StatementError {
         StatementError::NoMemory
-    }
-}
-
-impl<T: Drop> From<AllocFailed<T>> for StatementError {
-    ghost use Rattle.ht_statement.specs.declared.error.StatementError.TheVariants.{NoMemory};
-
-    ghost from_gives = { λ _ error. error ≡ NoMemory };
-
-    fn from(_error: AllocFailed<T>) -> StatementError {
-        StatementError::NoMemory
-    }
-}
-
-impl From<LineRefusal> for StatementError {
-    ghost use Rattle.ht_statement.specs.declared.error.StatementError.TheVariants.{Refused};
-
-    ghost from_gives = { λ refusal error. error ≡ Refused refusal };
-
-    fn from(refusal: LineRefusal) -> StatementError {
-        StatementError::Refused(refusal)
     }
 }

@@ -1,9 +1,9 @@
 //! What a text begins with.
 ghost use Rattle.std.specs.Prelude.{◌≡◌, ◌↔◌, ◌∷◌, ◌<◌, [], length, IsTrue, IfSome, IfNone};
-ghost use Rattle.ht_statement.specs.Token.{word_token, close_token, comma_token, tokens_of};
+ghost use Rattle.ht_statement.specs.LineToken.{word_token, close_token, comma_token, tokens_of};
 ghost use Rattle.ht_statement.specs.FirstToken.{FirstIsNoWord, FirstIsNoComma};
 
-use crate::token::{Token, first_token};
+use crate::token::{LineToken, first_token};
 
 /// The word that a text begins with, and the text after it.
 pub(crate) fn first_word(text: &[u8]) -> Option<(&[u8], &[u8])>
@@ -13,7 +13,7 @@ pub(crate) fn first_word(text: &[u8]) -> Option<(&[u8], &[u8])>
     ensures none { IfNone result (FirstIsNoWord text.now) }
 {
     match first_token(text) {
-        Some((Token::Word(word), rest)) => Some((word, rest)),
+        Some((LineToken::Word(word), rest)) => Some((word, rest)),
         _ => None,
     }
 }
@@ -25,7 +25,7 @@ pub(crate) fn after_comma(text: &[u8]) -> Option<&[u8]>
     ensures none { IfNone result (FirstIsNoComma text.now) }
 {
     match first_token(text) {
-        Some((Token::Comma, rest)) => Some(rest),
+        Some((LineToken::Comma, rest)) => Some(rest),
         _ => None,
     }
 }
@@ -35,7 +35,7 @@ pub(crate) fn closes(text: &[u8]) -> bool
     ensures { IsTrue result ↔ (tokens_of text.now ≡ close_token ∷ []) }
 {
     match first_token(text) {
-        Some((Token::Close, rest)) => first_token(rest).is_none(),
+        Some((LineToken::Close, rest)) => first_token(rest).is_none(),
         _ => false,
     }
 }

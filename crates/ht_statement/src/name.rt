@@ -17,9 +17,12 @@ fn are_name_bytes(text: &[u8]) -> bool
     text.iter().all(|byte| is_name_byte(*byte))
 }
 
+/// The most bytes that a name may have.
+const MAX_NAME_BYTES: usize = 255;
+
 /// Whether a text is a name: 1 to 255 bytes that may stand in one.
 pub(crate) fn is_name(text: &[u8]) -> bool
     ensures { result ≡ is_name text.now }
 {
-    matches!(text.len(), 1..=255) && are_name_bytes(text)
+    matches!(text.len(), 1..=MAX_NAME_BYTES) && are_name_bytes(text)
 }

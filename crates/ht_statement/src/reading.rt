@@ -1,7 +1,7 @@
 //! The reading of a line.
 ghost use Rattle.std.specs.Prelude.{◌≡◌, IfOk, IfErr};
 ghost use Rattle.std.specs.List.{list_all};
-ghost use Rattle.ht_statement.specs.FormOf.{form_meant};
+ghost use Rattle.ht_statement.specs.LineFormOf.{form_meant};
 ghost use Rattle.ht_statement.specs.Name.{is_name};
 ghost use Rattle.ht_statement.specs.Element.{element_named};
 ghost use Rattle.ht_statement.specs.Reading.{stated, unreadable, form_reading, definition_reading, reading_of, IsRefusalOf};
@@ -9,7 +9,7 @@ ghost use Rattle.ht_statement.specs.StatementOf.{texts_of, statement_of};
 
 use crate::element::{Element, element_named, has_count};
 use crate::error::{LineRefusal, StatementError};
-use crate::form::{Form, read_form};
+use crate::form::{LineForm, read_form};
 use crate::name::is_name;
 use crate::statement::Statement;
 use std::alloc::Global;
@@ -50,17 +50,17 @@ fn defined<'a>(
 }
 
 /// What a line of a form states.
-fn stated<'a>(form: Form<'a>) -> Result<Statement<'a>, LineRefusal>
+fn stated<'a>(form: LineForm<'a>) -> Result<Statement<'a>, LineRefusal>
     ensures states { IfOk result (λ statement. form_reading (form_meant form.entry)
         ≡ stated (statement_of statement)) }
     ensures refusal { IfErr result (λ refusal. form_reading (form_meant form.entry)
         ≡ unreadable refusal) }
 {
     match form {
-        Form::Blank => Ok(Statement::Nothing),
-        Form::Input(name) if is_name(name) => Ok(Statement::Input(name)),
-        Form::Output(name) if is_name(name) => Ok(Statement::Output(name)),
-        Form::Definition { out, kind, args } if is_name(out) && are_names(&args) => {
+        LineForm::Blank => Ok(Statement::Nothing),
+        LineForm::Input(name) if is_name(name) => Ok(Statement::Input(name)),
+        LineForm::Output(name) if is_name(name) => Ok(Statement::Output(name)),
+        LineForm::Definition { out, kind, args } if is_name(out) && are_names(&args) => {
             defined(out, kind, args)
         }
         _ => Err(LineRefusal::BadName),
@@ -80,5 +80,5 @@ pub fn read_line<'a>(alloc: Global, line: &'a [u8]) -> Result<Statement<'a>, Sta
     let Some(form) = read_form(alloc, line)? else {
         return Err(StatementError::Refused(LineRefusal::BadLine));
     };
-    Ok(stated(form)?)
+    stated(form).map_err(StatementError::Refused)
 }

@@ -18,9 +18,7 @@ pub fn push_input(text: &mut Vec<u8>, name: &[u8]) -> Result<(), AllocError>
     ensures { OnOk result
         (text.new.items ≡ text.old.items ++ statement_line (input_line name.now)) }
 {
-    text.extend_from_slice(b"INPUT(")?;
-    text.extend_from_slice(name)?;
-    push_end(text)
+    push_port(text, b"INPUT(", name)
 }
 
 /// Appends the line of an output, as `OUTPUT(z)`, with its LF.
@@ -31,9 +29,7 @@ pub fn push_output(text: &mut Vec<u8>, name: &[u8]) -> Result<(), AllocError>
     ensures { OnOk result
         (text.new.items ≡ text.old.items ++ statement_line (output_line name.now)) }
 {
-    text.extend_from_slice(b"OUTPUT(")?;
-    text.extend_from_slice(name)?;
-    push_end(text)
+    push_port(text, b"OUTPUT(", name)
 }
 
 /// Appends the line of a flip-flop by its net and the net at its data pin, as `q = DFF(t)`, with its LF.
@@ -68,6 +64,16 @@ pub fn push_gate(
 {
     push_definition(text, out, word_of(kind))?;
     push_arguments(text, circuit, args)?;
+    push_end(text)
+}
+
+// Appends the line of an input or an output, by its keyword with `(`.
+fn push_port(text: &mut Vec<u8>, opening: &[u8], name: &[u8]) -> Result<(), AllocError>
+    ensures { OnOk result
+        (text.new.items ≡ text.old.items ++ (opening.now ++ name.now ++ codes ")\n")) }
+{
+    text.extend_from_slice(opening)?;
+    text.extend_from_slice(name)?;
     push_end(text)
 }
 

@@ -1,12 +1,12 @@
 //! The tokens of a line.
 ghost use Rattle.std.specs.Prelude.{◌≡◌, ◌∷◌, ◌<◌, ◌≤◌, [], length, option_map, IfSome, IfNone};
-ghost use Rattle.ht_statement.specs.Token.{begins_comment, mark_of, tokens_of};
-ghost use Rattle.ht_statement.specs.TokenOf.{token_of};
+ghost use Rattle.ht_statement.specs.LineToken.{begins_comment, mark_of, tokens_of};
+ghost use Rattle.ht_statement.specs.LineTokenOf.{token_of};
 ghost use Rattle.ht_statement.specs.Word.{IsWordSplit, is_word_byte, BeginsNoBlank};
 
 /// A word, or one of the four marks (ISCAS-89 format).
 #[derive(Clone, Copy)]
-pub(crate) enum Token<'a> {
+pub(crate) enum LineToken<'a> {
     Word(&'a [u8]),
     Open,
     Close,
@@ -15,14 +15,14 @@ pub(crate) enum Token<'a> {
 }
 
 /// The token of a mark.
-fn mark_of<'a>(byte: u8) -> Option<Token<'a>>
+fn mark_of<'a>(byte: u8) -> Option<LineToken<'a>>
     ensures { option_map token_of result ≡ mark_of byte }
 {
     match byte {
-        b'(' => Some(Token::Open),
-        b')' => Some(Token::Close),
-        b',' => Some(Token::Comma),
-        b'=' => Some(Token::Equals),
+        b'(' => Some(LineToken::Open),
+        b')' => Some(LineToken::Close),
+        b',' => Some(LineToken::Comma),
+        b'=' => Some(LineToken::Equals),
         _ => None,
     }
 }
@@ -67,7 +67,7 @@ fn split_word(text: &[u8]) -> (&[u8], &[u8])
 }
 
 /// The first token of a text and the text after it, or `None` where the text has no token.
-pub(crate) fn first_token(text: &[u8]) -> Option<(Token<'_>, &[u8])>
+pub(crate) fn first_token(text: &[u8]) -> Option<(LineToken<'_>, &[u8])>
     ensures first { IfSome result (λ parts. tokens_of text.now ≡ token_of parts.0
         ∷ tokens_of parts.1.now) }
     ensures shorter { IfSome result (λ parts. length parts.1.now < length text.now) }
@@ -84,5 +84,5 @@ pub(crate) fn first_token(text: &[u8]) -> Option<(Token<'_>, &[u8])>
         return Some((mark, after));
     }
     let (word, rest) = split_word(begun);
-    Some((Token::Word(word), rest))
+    Some((LineToken::Word(word), rest))
 }

@@ -1,6 +1,6 @@
 use Rattle.std.proofs.Common.{◌≡◌, ◌++◌, length, option_map}
-use Rattle.ht_statement.specs.Token.{tokens_of}
-use Rattle.ht_statement.specs.Form.{arguments_of, further_arguments}
+use Rattle.ht_statement.specs.LineToken.{tokens_of}
+use Rattle.ht_statement.specs.LineForm.{arguments_of, further_arguments}
 use Rattle.ht_statement.specs.StatementOf.{texts_of}
 use Rattle.ht_statement.proofs.arguments.arguments.Given as goal
 

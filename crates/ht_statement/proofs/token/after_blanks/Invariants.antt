@@ -1,5 +1,5 @@
 use Rattle.std.proofs.Common.{◌≡◌, ◌≤◌, length}
-use Rattle.ht_statement.specs.Token.{tokens_of}
+use Rattle.ht_statement.specs.LineToken.{tokens_of}
 use Rattle.ht_statement.proofs.token.after_blanks.Given as goal
 
 abbrev pub invariant-loop-rest : goal.invariant-loop-rest

@@ -1,6 +1,6 @@
 use Rattle.std.proofs.Common.{rules, false, get_or, ◌≡◌, ◌∙◌, sym}
-use Rattle.ht_statement.specs.Token.{begins_comment}
-use Rattle.ht_statement.proofs.TokenLaws.{first_word, no_mark}
+use Rattle.ht_statement.specs.LineToken.{begins_comment}
+use Rattle.ht_statement.proofs.WordLaws.{first_word, no_mark}
 use Rattle.ht_statement.proofs.token.first_token.Goals as goal
 
 pub returns-clause-first : goal.returns-clause-first
