@@ -3,18 +3,16 @@ use Rattle.std.specs.List.{list_all, list_any, range_with_len}
 use Rattle.std.specs.Prelude.{ltb}
 use Rattle.std.proofs.Common.{◌≡◌, ◌<◌, ◌≤◌, ◌+◌, ◌-◌, ℕ, suc, zero, List, [], ◌∷◌, Bool, true, false, cond, None, length, refl, sym, ◌∙◌, ap, inl, inr, arith, subst}
 use Rattle.std.proofs.lemmas.Bool.{and_parts, both_ways}
-use Rattle.std.proofs.lemmas.List.{length-replicate}
 use Rattle.ht_tern.specs.Gate.{Refines}
 use Rattle.ht_tern.specs.declared.tern.Tern.{Tern}
 use Rattle.ht_tern.specs.declared.tern.Tern.TheVariants.{One, Unk, Zero}
 use Rattle.ht_pairs.specs.Pairs.{IsMember}
 use Rattle.ht_pairs.proofs.SetLaws.{map_member}
-use Rattle.ht_net.specs.Detection.{terns_of, unknown_state}
-use Rattle.ht_net.specs.Faults.{tern_rules}
+use Rattle.ht_net.specs.Detection.{unknown_state}
 use Rattle.ht_net.specs.Netlist.{Netlist}
 use Rattle.ht_tree.specs.Decisions.{decided_value}
 use Rattle.ht_tree.specs.Nodes.{cube_of, judge_of, or_unknown}
-use Rattle.ht_tree.specs.Reached.{AreVectors, HasCube, IsTernState, Reaches}
+use Rattle.ht_tree.specs.Reached.{AreVectors, HasCube, Reaches}
 use Rattle.ht_tree.specs.Walks.{IsComplete}
 use Rattle.ht_tree.specs.WindowStatus.{cube_latches, cube_status, is_definite, may_meet, must_meet, value_at, without_place}
 use Rattle.ht_tree.specs.Windows.{SearchWindow, back_window}
@@ -23,11 +21,10 @@ use Rattle.ht_tree.specs.declared.token.Status3.TheVariants as status3
 use Rattle.ht_tree.specs.declared.token.Token.{Token}
 use Rattle.ht_tree.specs.declared.window.Spot.TheVariants.{Cube}
 use Rattle.ht_tree.specs.declared.window.Status.TheVariants.{Dead, Open, Sure}
-use Rattle.ht_tree.proofs.SilenceLaws.{next_long}
 use Rattle.ht_records.proofs.BackFrameLaws.{cube_value, frame_bits_of, frame_values, next_may, prev_has_cube}
 use Rattle.ht_records.proofs.ClosedLaws.{IsClosedWindow, complete_closes, window_leaf}
 use Rattle.ht_records.proofs.ListLaws.{all_pass, filter_member, no_members, none_pass, range_member}
-use Rattle.ht_records.proofs.RunStateLaws.{end_state, nth, state_in}
+use Rattle.ht_records.proofs.RunStateLaws.{end_state, nth, state_held, state_in, unknown_held}
 use Rattle.ht_records.proofs.ShownLaws.{unknown_at}
 
 open_or_sure : (sure may : Bool) → may ≡ true
@@ -87,10 +84,6 @@ unknown_wants c cube has j l =
 abbrev pub good_state : Netlist → List (List Bool) → ℕ → List Tern
 good_state c list f = state_in c None (unknown_state c) list f
 
-state_length : (c : Netlist) (list : List (List Bool)) (f : ℕ) → IsTernState c (good_state c list f)
-state_length c list zero = length-replicate (length c.dffs) Unk
-state_length c list (suc f) = next_long c (tern_rules None) (terns_of (nth list f)) (good_state c list f)
-
 -- the cube of a closed window isn't met after f frames, f at most its limit
 closed_unmet : (w0 : SearchWindow) (c : Netlist) (list : List (List Bool)) → AreVectors c list → (f : ℕ)
     → f ≤ length list → (cube : List Tern) (limit : ℕ) → f ≤ limit
@@ -118,7 +111,7 @@ closed_unmet w0 c list wide (suc f) inside cube limit few closed has =
       | inl dead ↦ not_dead w leaf.path cube limit (cube_latches c cube) (omega arith)
           (all_pass (may_meet w leaf.path cube) (cube_latches c cube) (λ j h.
           let wanted = latch_wanted c cube j h in
-          next_may c vector prev leaf.path leaf.along cube limit (wide f [] (omega arith)) (state_length c list f) has j
+          next_may c vector prev leaf.path leaf.along cube limit (wide f [] (omega arith)) (state_held c None (unknown_state c) list f (unknown_held c)) has j
           wanted.0 wanted.1)) dead
       | inr on ↦ closed_unmet w0 c list wide f (omega arith) (cube_of c leaf.path) (limit - 1) (omega arith) on.closed
           (prev_has_cube c vector prev leaf.path leaf.along)

@@ -1,14 +1,17 @@
 -- Runs state by state.
 use Rattle.std.proofs.Common.{◌≡◌, ◌<◌, ◌≤◌, ℕ, suc, zero, List, [], ◌∷◌, map, Bool, Option, length, get_or, refl, ◌∙◌, ap, arith}
-use Rattle.std.proofs.lemmas.List.{length-map}
+use Rattle.std.proofs.lemmas.List.{length-map, length-replicate}
 use Rattle.ht_tern.specs.Gate.{AllRelated}
 use Rattle.ht_tern.specs.declared.tern.Tern.{Tern}
-use Rattle.ht_net.specs.Detection.{terns_of}
+use Rattle.ht_tern.specs.declared.tern.Tern.TheVariants.{Unk}
+use Rattle.ht_net.specs.Detection.{terns_of, unknown_state}
 use Rattle.ht_net.specs.Faults.{tern_rules}
 use Rattle.ht_net.specs.Frame.{Preserves, Rules, frame_outputs, next_state, run_outputs, run_state}
 use Rattle.ht_net.specs.Netlist.{Netlist}
 use Rattle.ht_net.specs.declared.fault.Fault.{Fault}
 use Rattle.ht_net.proofs.RelationLaws.{next_related}
+use Rattle.ht_tree.specs.Reached.{IsTernState}
+use Rattle.ht_tree.proofs.SilenceLaws.{next_long}
 
 -- the state before frame f, under vectors by number
 abbrev pub state_by : {V : Type 0} → Netlist → Rules V → List V → (ℕ → List V) → ℕ → List V
@@ -79,3 +82,18 @@ end_state c fault start list =
     let n = terns_length list in
     run_state_by c (tern_rules fault) start (map terns_of list)
     ∙ (λ i. state_by c (tern_rules fault) start (terns_by list i) (n i))
+
+-- a state stays one
+pub state_held : (c : Netlist) (fault : Option Fault) (start : List Tern) (list : List (List Bool)) (f : ℕ)
+    → IsTernState c start → IsTernState c (state_in c fault start list f)
+state_held c fault start list zero h = h
+state_held c fault start list (suc f) h =
+    next_long c (tern_rules fault) (terns_of (nth list f)) (state_in c fault start list f)
+
+pub run_held : (c : Netlist) (fault : Option Fault) (start : List Tern) (list : List (List Bool))
+    → IsTernState c start → IsTernState c (run_state c (tern_rules fault) start (map terns_of list))
+run_held c fault start list h =
+    ap (λ (s : List Tern). length s) (end_state c fault start list) ∙ state_held c fault start list (length list) h
+
+pub unknown_held : (c : Netlist) → IsTernState c (unknown_state c)
+unknown_held c = length-replicate (length c.dffs) Unk

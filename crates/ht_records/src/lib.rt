@@ -9,7 +9,15 @@
 
 mod theorems;
 
+pub use theorems::alike::{guide_depends_on_the_members, status_depends_on_the_values};
 pub use theorems::complete::{
     complete_back_tree_reaches_nothing, complete_forward_shows_nothing,
     complete_sweep_detects_nothing,
+};
+pub use theorems::found::{
+    detection_stays_after_a_list, found_back_list_reaches, found_forward_list_shows,
+    found_lists_have_the_width, found_sweep_list_detects,
+};
+pub use theorems::told::{
+    sure_window_tells, told_chain_grows, told_chain_lies_in_every_seal, told_output_leaves_no_seal,
 };
