@@ -185,9 +185,35 @@ impl<'c> Window<'c> {
         ensures { (k : ℕ) → k ≤ length self.old.decisions → mark.0 ≡ mark_before self.old k
             → self.new ≡ undone self.old k }
     {
-        let count = self.count_before(mark);
+        self.undo_to(self.count_before(mark));
+    }
+
+    /// How many decisions stand.
+    pub fn decision_count(&self) -> usize
+        ensures { result ≡ length self.now.decisions }
+    {
+        self.marks.len()
+    }
+
+    /// Leaves the first `count` decisions, and takes back the others.
+    pub fn undo_to(&mut self, count: usize)
+        requires { count ≤ length self.old.decisions }
+        ensures { self.new ≡ undone self.old count }
+    {
+        let mark = self.mark_before(count);
         self.held.undo(count, mark);
         self.marks.truncate(count);
+    }
+
+    // The mark before decision `count`, or the present one.
+    fn mark_before(&self, count: usize) -> Mark
+        requires { count ≤ length self.now.decisions }
+        ensures { result.0 ≡ mark_before self.now count }
+    {
+        match self.marks.get(count) {
+            Some(mark) => Mark(*mark),
+            None => self.held.mark(),
+        }
     }
 
     // How many decisions were made before a mark.

@@ -1,42 +1,11 @@
-use Rattle.std.proofs.Common.{◌∙◌, ap, sym, subst, arith, length}
-use Rattle.ht_tree.specs.Windows.{SearchWindow}
-use Rattle.ht_window.specs.Cells.{IsHistory, mark_of}
-use Rattle.ht_window.specs.States.{WindowState}
-use Rattle.ht_window.proofs.HistoryLaws.{history_undo}
-use Rattle.ht_window.proofs.MarkLaws.{mark_is, undone_is}
+use Rattle.std.proofs.Common.{◌∙◌, ap, subst, sym, ◌≤◌, ℕ, length}
+use Rattle.ht_window.specs.States.{undone}
 use Rattle.ht_window.proofs.window.Window.undo.Goals as goal
 
-pub invariant_of-self : goal.invariant_of-self
-invariant_of-self c =
-    let a = c.self.inside in
-    let w = a.held.standing.window in
-    let i = c.self.invariant in
-    let u = c.undo.ensures in
-    let k = c.requires.0 in
-    let few = c.requires.1 in
-    let at = c.requires.2 in
-    let n = c.count_before-count.ensures k few at in
-    let s = ap (λ (s : WindowState). length s.decisions) c.self.view_is in
-    record {
-      circuit = i.circuit ∙ sym (ap (λ (w : SearchWindow). w.circuit) u.window);
-      frames = i.frames ∙ sym (ap (λ (w : SearchWindow). w.frames) u.window);
-      history = subst (λ (v : SearchWindow). IsHistory v c.undo.new.self.standing.path c.truncate.new.self.items
-          c.undo.new.self.cells) (sym u.window)
-          (history_undo w a.held.standing.path c.undo.new.self.standing.path a.marks.items c.truncate.new.self.items
-          a.held.cells c.undo.new.self.cells c.count_before-count.result c.args.mark.0
-          (omega (arith, n, few, s)) u.path c.truncate.ensures.items
-          (at ∙ (mark_is c.args.self.now w a.held.standing.path a.marks.items a.held.cells i.history c.self.view_is k ∙
-          ap (mark_of a.marks.items a.held.cells) (sym n)))
-          u.values u.trail i.history);
-    }
+pub undo_to-requires : goal.undo_to-requires
+undo_to-requires c =
+    let r = c.requires in
+    subst (λ (n : ℕ). n ≤ length c.args.self.now.decisions) (sym (c.count_before.ensures r.0 r.1 r.2)) r.1
 
 pub returns : goal.returns
-returns c = λ k few at.
-    let a = c.self.inside in
-    let u = c.undo.ensures in
-    let n = c.count_before-count.ensures k few at in
-    undone_is c.args.self.now a.held.standing.window a.held.standing.path a.marks.items a.held.cells
-    c.self.invariant.history c.self.view_is
-    c.undo.new.self.standing.window c.undo.new.self.standing.path c.truncate.new.self.items c.undo.new.self.cells.trail
-    c.args.mark.0 c.count_before-count.result k
-    u.window u.path c.truncate.ensures.items u.trail n few at
+returns c = λ k few at. c.undo_to.ensures ∙ ap (undone c.args.self.now) (c.count_before.ensures k few at)
