@@ -1,7 +1,7 @@
 //! Entries that pass.
 ghost use Rattle.std.specs.Prelude.{◌<◌, ◌↔◌, ℕ, length, get_or, IfOk, IsTrue};
 ghost use Rattle.ht_tree.specs.Rising.{Rises};
-ghost use Rattle.ht_tree.specs.Entries.{Holds, IsUntestable, Passes, Refutes};
+ghost use Rattle.ht_tree.specs.Entries.{Means, IsUntestable, Passes, Refutes};
 
 use crate::one_frame::OneFrame;
 use crate::walks::is_complete;
@@ -29,7 +29,7 @@ pub fn entry(
 ) -> Result<bool, AllocError>
     ensures exact { IfOk result
         (λ passes. IsTrue passes ↔ Passes circuit.now fault budget entry.now) }
-    ensures sound { IfOk result (λ passes. IsTrue passes → Holds circuit.now fault entry.now) }
+    ensures sound { IfOk result (λ passes. IsTrue passes → Means circuit.now fault entry.now) }
 {
     let _ = budget;
     match entry {

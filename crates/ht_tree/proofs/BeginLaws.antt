@@ -12,13 +12,13 @@ use Rattle.ht_tree.specs.declared.token.Assign3.{Assign3}
 use Rattle.ht_tree.specs.declared.window.Spot.{Spot}
 use Rattle.ht_tree.specs.declared.window.Spot.TheVariants.{Output, State, Cube}
 use Rattle.ht_tree.specs.declared.window.Status.TheVariants.{Dead, Sure, Open}
-use Rattle.ht_tree.specs.Windows.{Start, one_frame, unknown, state_pair, back, SearchWindow, IsWindow, IsStart, cell_at, is_open_set}
+use Rattle.ht_tree.specs.Windows.{Start, one_frame, unknown, state_pair, back, SearchWindow, IsWindow, IsStart, cell_at, is_undetermined}
 use Rattle.ht_tree.specs.Places.{IsSpot, spot_net, set_at, places_of, must_differ_at, may_differ_at}
 use Rattle.ht_tree.specs.WindowStatus.{sure_or, difference_status, is_definite, value_at, cube_latches, must_meet, may_meet, cube_status}
 use Rattle.ht_tree.specs.WalkBack.{CanWalk}
 use Rattle.ht_tree.specs.declared.window.WindowPlace.{WindowPlace}
-use Rattle.ht_tree.proofs.OpenLaws.{forced_open}
-use Rattle.ht_tree.proofs.FirstLaws.{All-range_with_len, FoundFirst, find_first, FoundOpen, find_open}
+use Rattle.ht_tree.proofs.UndeterminedLaws.{forced_undetermined}
+use Rattle.ht_tree.proofs.FirstLaws.{All-range_with_len, FoundFirst, find_first, FoundPassing, find_passing}
 use Rattle.ht_tree.proofs.PlaceLaws.{IsWindowPlace, places_are}
 
 -- A set with a member that passes a test and one that doesn't has two members.
@@ -26,20 +26,20 @@ one_test : (b : Bool) → (b || false) ≡ true → (b && true) ≡ false → �
 one_test true h k = cc
 one_test false h k = cc
 
-mixed_open : (test : Pair → Bool) (s : List Pair) → list_any test s ≡ true → list_all test s ≡ false → 1 < length s
-mixed_open test [] h k = cc
-mixed_open test (p ∷ []) h k = absurd (one_test (test p) h k)
-mixed_open test (p ∷ q ∷ s) h k = omega arith
+mixed_undetermined : (test : Pair → Bool) (s : List Pair) → list_any test s ≡ true → list_all test s ≡ false → 1 < length s
+mixed_undetermined test [] h k = cc
+mixed_undetermined test (p ∷ []) h k = absurd (one_test (test p) h k)
+mixed_undetermined test (p ∷ q ∷ s) h k = omega arith
 
 sure_open : (must : Option WindowPlace) (some : Bool) → sure_or must some ≡ Open → (must ≡ None) × (some ≡ true)
 sure_open (Some p) some h = cc
 sure_open None true h = (refl, refl)
 sure_open None false h = cc
 
-open_meets : (may wide : Bool) → (may && not wide) ≡ false → may ≡ true → wide ≡ true
-open_meets true true h k = refl
-open_meets true false h k = cc
-open_meets false wide h k = cc
+undetermined_meets : (may wide : Bool) → (may && not wide) ≡ false → may ≡ true → wide ≡ true
+undetermined_meets true true h k = refl
+undetermined_meets true false h k = cc
+undetermined_meets false wide h k = cc
 
 cond_status : (all may : Bool) → cond all (Sure 0 Cube) (cond may Open Dead) ≡ Open → (all ≡ false) × (may ≡ true)
 cond_status true may h = cc
@@ -55,12 +55,12 @@ cube_open w path cube (suc limit) (j ∷ latches) h = cond_status (list_all (mus
     (list_all (may_meet w path cube) (j ∷ latches)) h
 
 module _ (w : SearchWindow) (path : List Assign3) (circuit : IsCircuit w.circuit) (some : 0 < w.frames) where
-  -- a set that is open at a spot is open at its net
-  spot_open : (f : ℕ) (s : Spot) → 1 < length (set_at w path f s) → 1 < length (cell_at w path f (spot_net w.circuit s))
-  spot_open f (Output o) h = h
-  spot_open f (State j) h = forced_open w.fault (λ site. is_data_pin site j)
+  -- a set that is undetermined at a spot is so at its net
+  spot_undetermined : (f : ℕ) (s : Spot) → 1 < length (set_at w path f s) → 1 < length (cell_at w path f (spot_net w.circuit s))
+  spot_undetermined f (Output o) h = h
+  spot_undetermined f (State j) h = forced_undetermined w.fault (λ site. is_data_pin site j)
       (cell_at w path f (spot_net w.circuit (State j))) h
-  spot_open f Cube h = absurd (omega arith)
+  spot_undetermined f Cube h = absurd (omega arith)
 
   -- the first place that may differ
   pub first_place : difference_status w path ≡ Open → FoundFirst (IsWindowPlace w) (must_differ_at w path)
@@ -79,32 +79,32 @@ module _ (w : SearchWindow) (path : List Assign3) (circuit : IsCircuit w.circuit
       record {
         frame = found.known.frame;
         net = found.known.net;
-        wide = spot_open found.member.frame found.member.spot
-            (mixed_open differs (set_at w path found.member.frame found.member.spot) found.may_is found.must_is);
+        wide = spot_undetermined found.member.frame found.member.spot
+            (mixed_undetermined differs (set_at w path found.member.frame found.member.spot) found.may_is found.must_is);
       }
 
-  -- the lowest latch of a cube whose next state is open
-  pub open_latch : (cube : List Tern) (limit : ℕ) → cube_status w path cube limit (cube_latches w.circuit cube) ≡ Open
-      → FoundOpen (λ j. j < length w.circuit.dffs) (λ j. is_open_set (set_at w path 0 (State j)))
+  -- the lowest latch of a cube whose next state is undetermined
+  pub undetermined_latch : (cube : List Tern) (limit : ℕ) → cube_status w path cube limit (cube_latches w.circuit cube) ≡ Open
+      → FoundPassing (λ j. j < length w.circuit.dffs) (λ j. is_undetermined (set_at w path 0 (State j)))
       (cube_latches w.circuit cube)
-  open_latch cube limit h =
+  undetermined_latch cube limit h =
       let o = cube_open w path cube limit (cube_latches w.circuit cube) h in
       let inside : ℕ → Type 0 = λ j. j < length w.circuit.dffs in
       let each = All-filter (λ j. is_definite (value_at cube j)) inside (range_with_len 0 (length w.circuit.dffs))
       (All-range_with_len inside 0 (length w.circuit.dffs) (λ j l. omega (arith, l))) in
-      find_open (λ j. j < length w.circuit.dffs) (must_meet w path cube) (may_meet w path cube)
-      (λ j. is_open_set (set_at w path 0 (State j))) (cube_latches w.circuit cube) each
-      (λ j a b. open_meets (may_meet w path cube j) (is_open_set (set_at w path 0 (State j))) a b) o.0 o.1
+      find_passing (λ j. j < length w.circuit.dffs) (must_meet w path cube) (may_meet w path cube)
+      (λ j. is_undetermined (set_at w path 0 (State j))) (cube_latches w.circuit cube) each
+      (λ j a b. undetermined_meets (may_meet w path cube j) (is_undetermined (set_at w path 0 (State j))) a b) o.0 o.1
 
   pub latch_walks : (cube : List Tern) (limit : ℕ) (h : cube_status w path cube limit (cube_latches w.circuit cube)
       ≡ Open)
-      → CanWalk w path 0 (spot_net w.circuit (State (open_latch cube limit h).member))
+      → CanWalk w path 0 (spot_net w.circuit (State (undetermined_latch cube limit h).member))
   latch_walks cube limit h =
-      let found = open_latch cube limit h in
+      let found = undetermined_latch cube limit h in
       record {
         frame = some;
         net = circuit.data_known found.member found.known;
-        wide = spot_open 0 (State found.member)
+        wide = spot_undetermined 0 (State found.member)
             (ltb-true _ _ found.passes);
       }
 
@@ -128,11 +128,11 @@ found_place_walks w path valid h p is =
 
 pub found_latch_walks : (w : SearchWindow) (path : List Assign3) → IsWindow w → (cube : List Tern) (limit : ℕ)
     → cube_status w path cube limit (cube_latches w.circuit cube) ≡ Open → (j : ℕ)
-    → find (λ j. is_open_set (set_at w path 0 (State j))) (cube_latches w.circuit cube) ≡ Some j
+    → find (λ j. is_undetermined (set_at w path 0 (State j))) (cube_latches w.circuit cube) ≡ Some j
     → (j < length w.circuit.dffs) × CanWalk w path 0 (spot_net w.circuit (State j))
 found_latch_walks w path valid cube limit h j is =
     let some = some_frame w.circuit w.fault w.frames w.start valid.start in
-    let found = open_latch w path valid.circuit some cube limit h in
+    let found = undetermined_latch w path valid.circuit some cube limit h in
     let same = same_Some _ _ (sym found.is ∙ is) in
     subst (λ (k : ℕ). (k < length w.circuit.dffs) × CanWalk w path 0 (spot_net w.circuit (State k))) same
     (found.known, latch_walks w path valid.circuit some cube limit h)

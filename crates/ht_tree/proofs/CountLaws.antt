@@ -9,15 +9,20 @@ use Rattle.ht_tern.specs.Gate.{tern_of}
 use Rattle.ht_tree.specs.declared.token.Token.{Token}
 use Rattle.ht_tree.specs.declared.token.Token.TheVariants as token
 use Rattle.ht_tree.specs.Searches.{Guide, guide_of, SpendsAt, IsOnTop}
-use Rattle.ht_tree.specs.Counts.{Measures, Sizes, most_tokens, most_from, left_at, seeks_difference}
-use Rattle.ht_tree.specs.Walks.{Node, Judge, Fits, AllFit, root, root_stack, decide, children, stack_after}
-use Rattle.ht_tree.specs.Windows.{SearchWindow, IsWindow}
-use Rattle.ht_tree.specs.Variables.{may_two, may_three, variable_bound}
-use Rattle.ht_tree.specs.Nodes.{window_at, judge_of}
-use Rattle.std.proofs.lemmas.Bool.{or_left}
+use Rattle.ht_tree.specs.Counts.{Measures, most_tokens, most_from, seeks_difference, undecided_at}
+use Rattle.ht_tree.specs.Walks.{Node, Judge, Fits, AllFit, root, root_stack, decide, decides, path_of, children, stack_after}
+use Rattle.ht_tree.specs.Windows.{SearchWindow, IsWindow, token_weight}
+use Rattle.ht_tree.specs.Variables.{may_two, may_three, variable_bound, variable_count, is_undecided, undecided_count}
+use Rattle.ht_tree.specs.Nodes.{judge_of}
+use Rattle.std.specs.List.{range_with_len}
+use Rattle.std.proofs.lemmas.Bool.{or_left, and_from}
+use Rattle.std.proofs.lemmas.List.Sums.{count_by-le-length}
+use Rattle.std.proofs.lemmas.List.FromFn.{length-range_with_len}
+use Rattle.ht_tree.specs.declared.token.Assign3.{Assign3}
+use Rattle.ht_tern.specs.declared.tern.Tern.{Tern}
 use Rattle.ht_tree.proofs.DifferenceLaws.{window_stays, no_three, no_before}
-use Rattle.ht_tree.proofs.VariableLaws.{variable_below}
-use Rattle.ht_tree.proofs.LeftLaws.{sizes_measure, few_left}
+use Rattle.ht_tree.proofs.VariableLaws.{decision_counts}
+use Rattle.ht_tree.proofs.NodeLaws.{first_node, path_grows}
 
 -- every node of a stack is in the first window
 abbrev pub InFirst : List Node → Type 0
@@ -115,27 +120,38 @@ enough g left budget unit tokens n m h spends =
     let product = length tokens * unit in
     omega (arith, weigh, spent, h)
 
--- each variable of a window that looks for a difference counts one
-pub difference_sizes : (w : SearchWindow) → IsWindow w → seeks_difference w.start ≡ true
-    → Sizes (judge_of w) (λ var. 1) (variable_bound w)
-difference_sizes w valid seeks = record {
-  two = λ n var h.
-      let same = ap (λ (v : SearchWindow). may_two v var || may_three v var) (window_stays w n seeks) in (
-        variable_below w var valid (sym same ∙ or_left (may_two (window_at w n) var) (may_three (window_at w n) var) h),
-        omega arith,
-      );
-  three = λ n var h. absurd (untrue (may_three (window_at w n) var) (no_three w n var seeks) h);
-  before = λ n. no_before w n seeks;
-}
+-- In a window that looks for a difference, the number of undecided variables measures what is left.
+module _ (w : SearchWindow) (valid : IsWindow w) (seeks : seeks_difference w.start ≡ true) where
+  undecided_less : (n : Node) (var : ℕ) (value : Tern) → n.windows ≡ [] → may_two w var ≡ true
+      → decides (path_of n) var ≡ false → undecided_at w (decide n var value) + 1 ≤ undecided_at w n
+  undecided_less n var value first legal free =
+      let d : Assign3 = record { var = var; value = value } in
+      let fresh : is_undecided w (path_of n) var ≡ true =
+      and_from _ _ (or_left (may_two w var) (may_three w var) legal) (ap not free) in
+      let one = decision_counts w (path_of n) d valid fresh in
+      let e = ap (undecided_count w) (path_grows n var value (first_node n first)) in
+      omega (arith, one, e)
 
-pub difference_enough : (w : SearchWindow) (budget unit : ℕ) (tokens : List Token) (n : Node) → IsWindow w
-    → seeks_difference w.start ≡ true → 2 ^ (variable_bound w + 1) * unit ≤ budget
-    → ¬ SpendsAt (guide_of w) budget unit tokens n
-difference_enough w budget unit tokens n valid seeks h =
-    let v = variable_bound w in
-    let measures = sizes_measure (judge_of w) (λ var. 1) v (difference_sizes w valid seeks) in
-    let few : left_at (λ var. 1) v root ≤ v = few_left (λ var. 1) v [] (λ var l. omega arith) in
-    let less : 2 ^ (left_at (λ var. 1) v root + 1) ≤ 2 ^ (v + 1) = pow_mono (omega (arith, few)) in
-    let weigh : most_tokens (left_at (λ var. 1) v root) * unit ≤ 2 ^ (v + 1) * unit =
-    mul-le-mul_right unit (omega (arith, less)) in
-    enough (guide_of w) (left_at (λ var. 1) v) budget unit tokens n measures (omega (arith, weigh, h))
+  pub undecided_measures : Measures (judge_of w) (undecided_at w)
+  undecided_measures = record {
+    two = λ n var first value plain fit.
+        let legal = sym (ap (λ (v : SearchWindow). may_two v var) (window_stays w n seeks)) ∙ fit.1 in
+        undecided_less n var value plain legal fit.2;
+    three = λ n var value plain fit. absurd (untrue _ (no_three w n var seeks) fit.1);
+    before = λ n. no_before w n seeks;
+  }
+
+pub difference_enough : (w : SearchWindow) (budget : ℕ) (tokens : List Token) (n : Node) → IsWindow w
+    → seeks_difference w.start ≡ true → 2 ^ (variable_count w + 1) * token_weight w ≤ budget
+    → ¬ SpendsAt (guide_of w) budget (token_weight w) tokens n
+difference_enough w budget tokens n valid seeks h =
+    let weigh : most_tokens (variable_count w) * w.frames ≤ 2 ^ (variable_count w + 1) * w.frames =
+    mul-le-mul_right w.frames (omega arith) in
+    enough (guide_of w) (undecided_at w) budget w.frames tokens n (undecided_measures w valid seeks)
+    (omega (arith, weigh, h))
+
+pub few_variables : (w : SearchWindow) → variable_count w ≤ variable_bound w
+few_variables w =
+    let few = count_by-le-length (is_undecided w []) (range_with_len 0 (variable_bound w)) in
+    let all = length-range_with_len 0 (variable_bound w) in
+    omega (arith, few, all)

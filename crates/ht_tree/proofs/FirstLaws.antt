@@ -53,25 +53,25 @@ find_first P must may [] each h k = cc
 find_first P must may (x ∷ xs) each h k = found_by P must may x xs (must x) (may x) refl refl (All-head P x xs each)
     (λ a b. find_first P must may xs (All-tail P x xs each) b a) h k
 
--- The first member that is open, where some member isn't as wanted and each may be.
-pub record FoundOpen {X : Type 0} (P : X → Type 0) (test : X → Bool) (xs : List X) : Type 0 where
+-- The first member that passes a test, where some member isn't as wanted and each may be.
+pub record FoundPassing {X : Type 0} (P : X → Type 0) (test : X → Bool) (xs : List X) : Type 0 where
   pub member : X
   pub is : find test xs ≡ Some member
   pub known : P member
   pub passes : test member ≡ true
 
-open_by : {X : Type 0} → (P : X → Type 0) (must may test : X → Bool) (x : X) (xs : List X) (m y t : Bool) → must x ≡ m
+passing_by : {X : Type 0} → (P : X → Type 0) (must may test : X → Bool) (x : X) (xs : List X) (m y t : Bool) → must x ≡ m
     → may x ≡ y → test x ≡ t → P x
     → (must x ≡ false → may x ≡ true → test x ≡ true)
-    → (list_all must xs ≡ false → list_all may xs ≡ true → FoundOpen P test xs)
-    → (m && list_all must xs) ≡ false → (y && list_all may xs) ≡ true → FoundOpen P test (x ∷ xs)
-open_by P must may test x xs m y true em ey et p mixed rest h k = record {
+    → (list_all must xs ≡ false → list_all may xs ≡ true → FoundPassing P test xs)
+    → (m && list_all must xs) ≡ false → (y && list_all may xs) ≡ true → FoundPassing P test (x ∷ xs)
+passing_by P must may test x xs m y true em ey et p mixed rest h k = record {
   member = x;
   is = ap (λ (b : Bool). cond b (Some x) (find test xs)) et;
   known = p;
   passes = et;
 }
-open_by P must may test x xs true true false em ey et p mixed rest h k =
+passing_by P must may test x xs true true false em ey et p mixed rest h k =
     let r = rest h k in
     record {
       member = r.member;
@@ -79,15 +79,15 @@ open_by P must may test x xs true true false em ey et p mixed rest h k =
       known = r.known;
       passes = r.passes;
     }
-open_by P must may test x xs true false false em ey et p mixed rest h k = cc
-open_by P must may test x xs false true false em ey et p mixed rest h k = let no : true ≡ false = sym (mixed em ey) ∙ et
+passing_by P must may test x xs true false false em ey et p mixed rest h k = cc
+passing_by P must may test x xs false true false em ey et p mixed rest h k = let no : true ≡ false = sym (mixed em ey) ∙ et
     in cc
-open_by P must may test x xs false false false em ey et p mixed rest h k = cc
+passing_by P must may test x xs false false false em ey et p mixed rest h k = cc
 
-pub find_open : {X : Type 0} → (P : X → Type 0) (must may test : X → Bool) (xs : List X) → All P xs
+pub find_passing : {X : Type 0} → (P : X → Type 0) (must may test : X → Bool) (xs : List X) → All P xs
     → ((x : X) → must x ≡ false → may x ≡ true → test x ≡ true)
-    → list_all must xs ≡ false → list_all may xs ≡ true → FoundOpen P test xs
-find_open P must may test [] each mixed h k = cc
-find_open P must may test (x ∷ xs) each mixed h k =
-    open_by P must may test x xs (must x) (may x) (test x) refl refl refl (All-head P x xs each) (mixed x)
-    (λ a b. find_open P must may test xs (All-tail P x xs each) mixed a b) h k
+    → list_all must xs ≡ false → list_all may xs ≡ true → FoundPassing P test xs
+find_passing P must may test [] each mixed h k = cc
+find_passing P must may test (x ∷ xs) each mixed h k =
+    passing_by P must may test x xs (must x) (may x) (test x) refl refl refl (All-head P x xs each) (mixed x)
+    (λ a b. find_passing P must may test xs (All-tail P x xs each) mixed a b) h k

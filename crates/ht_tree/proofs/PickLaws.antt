@@ -10,14 +10,14 @@ use Rattle.ht_tree.specs.declared.window.Spot.TheVariants.{State}
 use Rattle.ht_tree.specs.declared.window.Status.TheVariants.{Open}
 use Rattle.ht_tree.specs.declared.token.Choice.{Choice}
 use Rattle.ht_tree.specs.declared.token.Choice.TheVariants.{Two, Three}
-use Rattle.ht_tree.specs.Windows.{Start, one_frame, unknown, state_pair, back, SearchWindow, IsWindow, cell_at, is_open_set}
+use Rattle.ht_tree.specs.Windows.{Start, one_frame, unknown, state_pair, back, SearchWindow, IsWindow, cell_at, is_undetermined}
 use Rattle.ht_tree.specs.Places.{spot_net, set_at, places_of, may_differ_at}
 use Rattle.ht_tree.specs.WindowStatus.{difference_status, value_at, cube_latches, cube_status, status_from, status_at}
 use Rattle.ht_tree.specs.Variables.{IsLegalChoice, DecidesAll}
 use Rattle.ht_tree.specs.WalkBack.{walk_back, from_place, from_latch, wants_one, pick_from, pick_of, CanWalk}
 use Rattle.ht_tree.specs.declared.window.WindowPlace.{WindowPlace}
 use Rattle.ht_tree.proofs.ChoiceLaws.{walk_back_legal}
-use Rattle.ht_tree.proofs.BeginLaws.{first_place, place_walks, open_latch, latch_walks, some_frame}
+use Rattle.ht_tree.proofs.BeginLaws.{first_place, place_walks, undetermined_latch, latch_walks, some_frame}
 
 module _ (w : SearchWindow) (path : List Assign3) (circuit : IsCircuit w.circuit) (some : 0 < w.frames) where
   module _ (depth : ℕ → ℕ) (ranked : IsDepth w.circuit depth) where
@@ -33,9 +33,9 @@ module _ (w : SearchWindow) (path : List Assign3) (circuit : IsCircuit w.circuit
 
     cube_legal : (cube : List Tern) (limit : ℕ) → cube_status w path cube limit (cube_latches w.circuit cube) ≡ Open
         → IsLegalChoice w path
-        (from_latch w path cube (find (λ j. is_open_set (set_at w path 0 (State j))) (cube_latches w.circuit cube)))
+        (from_latch w path cube (find (λ j. is_undetermined (set_at w path 0 (State j))) (cube_latches w.circuit cube)))
     cube_legal cube limit h =
-        let found = open_latch w path circuit some cube limit h in
+        let found = undetermined_latch w path circuit some cube limit h in
         subst (λ (p : Option ℕ). IsLegalChoice w path (from_latch w path cube p)) (sym found.is)
         (walk_legal 0 (spot_net w.circuit (State found.member))
         (wants_one (value_at cube found.member)) (latch_walks w path circuit some cube limit h))

@@ -13,7 +13,7 @@ use Rattle.ht_tree.specs.Walks.{IsComplete}
 use Rattle.ht_tree.specs.Decisions.{is_in}
 use Rattle.ht_tree.specs.Windows.{one_frame_window}
 use Rattle.ht_tree.specs.Nodes.{judge_of}
-use Rattle.ht_tree.specs.Entries.{IsUntestable, Passes, Holds}
+use Rattle.ht_tree.specs.Entries.{IsUntestable, Passes, Means}
 use Rattle.ht_tree.proofs.SealLaws.{walk_seals}
 use Rattle.ht_tree.proofs.SilenceLaws.{sealed_silent}
 
@@ -40,5 +40,5 @@ untestable c fault z tokens circuit complete =
     record { sealed = seal; silent = silent; undetected = silent_undetected c fault zeros is (silent zeros is) }
 
 pub passing_holds : (c : Netlist) (fault : Fault) (budget : ℕ) (entry : Entry) → IsCircuit c
-    → Passes c fault budget entry → Holds c fault entry
+    → Passes c fault budget entry → Means c fault entry
 passing_holds c fault budget (Untestable z tokens) circuit passes = untestable c fault z tokens circuit passes.complete

@@ -1,19 +1,15 @@
 -- The windows of a walk: each node is judged by its own window and by its path there.
-use Rattle.std.specs.Prelude.{◌≤◌, ◌+◌, ◌-◌, ℕ, List, ◌∷◌, map, Bool, false, ◌&&◌, if◌then◌else◌, ◌==◌, nat_lt, length, get_or, drop, take, Option, Some, None}
+use Rattle.std.specs.Prelude.{◌≤◌, ◌+◌, ◌-◌, ℕ, List, ◌∷◌, map, Bool, false, ◌&&◌, if◌then◌else◌, ◌==◌, nat_lt, length, drop, take, Option, Some, None}
 use Rattle.std.specs.List.{list_any, range_with_len}
 use Rattle.ht_tern.specs.declared.tern.Tern.{Tern}
 use Rattle.ht_tern.specs.declared.tern.Tern.TheVariants.{Unk}
 use Rattle.ht_net.specs.Netlist.{Netlist}
 use Rattle.ht_tree.specs.declared.token.Assign3.{Assign3}
-use Rattle.ht_tree.specs.Walks.{Node, Judge, path_of}
+use Rattle.ht_tree.specs.Walks.{Node, Judge, window_begin, path_of}
 use Rattle.ht_tree.specs.Decisions.{decided_value}
 use Rattle.ht_tree.specs.Windows.{Start, one_frame, unknown, state_pair, back, SearchWindow}
 use Rattle.ht_tree.specs.WindowStatus.{is_definite, status_at, without_place}
 use Rattle.ht_tree.specs.Variables.{may_two, may_three}
-
--- where window k on the way to a node begins among its decisions; window 0 is the root's
-abbrev pub window_begin : Node → ℕ → ℕ
-window_begin n k = get_or (0 ∷ n.windows) k 0
 
 -- a node's own window begins within its decisions
 abbrev pub IsNode : Node → Type 0

@@ -1,5 +1,5 @@
 -- The variables of a window, the kind that decides each, and how many a path leaves undecided.
-use Rattle.std.specs.Prelude.{◌≡◌, ◌+◌, ◌-◌, ℕ, List, Bool, true, false, not, ◌&&◌, ◌||◌, nat_lt, nat_le, length, count_by, IsTrue}
+use Rattle.std.specs.Prelude.{◌≡◌, ◌+◌, ◌-◌, ℕ, List, [], Bool, true, false, not, ◌&&◌, ◌||◌, nat_lt, nat_le, length, count_by, IsTrue}
 use Rattle.std.specs.List.{range_with_len}
 use Rattle.ht_net.specs.Netlist.{Netlist, first_gate_net}
 use Rattle.ht_tree.specs.declared.token.Assign3.{Assign3}
@@ -48,7 +48,7 @@ pub record DecidesAll (w : SearchWindow) (path : List Assign3) : Type 0 where
   pub two : (var : ℕ) → IsTrue (may_two w var) → decides path var ≡ true
   pub three : (var : ℕ) → IsTrue (may_three w var) → decides path var ≡ true
 
--- every variable is below this number
+-- each variable of the window is below this number
 abbrev pub latch_bound : Netlist → Start → ℕ
 latch_bound c (one_frame z) = length c.dffs + length c.dffs
 latch_bound c unknown = 0
@@ -58,9 +58,12 @@ latch_bound c (back cube limit) = length c.dffs
 abbrev pub variable_bound : SearchWindow → ℕ
 variable_bound w = first_input w w.frames + latch_bound w.circuit w.start
 
--- how many variables of the window a path leaves undecided
+-- how many variables of the window a path leaves undecided, and how many there are
 abbrev pub is_undecided : SearchWindow → List Assign3 → ℕ → Bool
 is_undecided w path var = (may_two w var || may_three w var) && not (decides path var)
 
 abbrev pub undecided_count : SearchWindow → List Assign3 → ℕ
 undecided_count w path = count_by (is_undecided w path) (range_with_len 0 (variable_bound w))
+
+abbrev pub variable_count : SearchWindow → ℕ
+variable_count w = undecided_count w []

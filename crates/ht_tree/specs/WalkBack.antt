@@ -1,4 +1,4 @@
--- The choice of the next variable: back from a place that may still show what is looked for, along open nets.
+-- The choice of the next variable: back from a place that may still show what is looked for, along undetermined nets.
 use Rattle.std.specs.Prelude.{◌<◌, ◌+◌, ◌-◌, ℕ, suc, zero, List, [], ◌∷◌, find, Bool, true, false, not, if◌then◌else◌, nat_lt, length, Option, Some, None}
 use Rattle.ht_tern.specs.declared.gate.Kind.{Kind}
 use Rattle.ht_tern.specs.Gate.{inverts}
@@ -14,7 +14,7 @@ use Rattle.ht_tree.specs.declared.token.Choice.TheVariants.{Two, Three}
 use Rattle.ht_tree.specs.declared.window.Spot.TheVariants.{State}
 use Rattle.ht_tree.specs.declared.window.WindowPlace.{WindowPlace}
 use Rattle.ht_tree.specs.Walks.{decides}
-use Rattle.ht_tree.specs.Windows.{Start, one_frame, unknown, state_pair, back, SearchWindow, first_input, pair_set_rules, cell_at, is_open_set}
+use Rattle.ht_tree.specs.Windows.{Start, one_frame, unknown, state_pair, back, SearchWindow, first_input, pair_set_rules, cell_at, is_undetermined}
 use Rattle.ht_tree.specs.Places.{places_of, spot_net, set_at, may_differ_at}
 use Rattle.ht_tree.specs.WindowStatus.{value_at, cube_latches}
 
@@ -27,11 +27,11 @@ pub record Wanted : Type 0 where
 abbrev pub bit_before : Kind → Bool → Bool
 bit_before kind bit = if inverts kind then not bit else bit
 
--- the net of the first argument of gate g, from pin i on, whose set at the pin is open
-abbrev pub open_argument : Rules (List Pair) → ℕ → (ℕ → List Pair) → ℕ → List NetId → ℕ
-open_argument r g env i [] = 0
-open_argument r g env i (a ∷ args) =
-    if is_open_set (r.pin g i (env a.0)) then a.0 else open_argument r g env (i + 1) args
+-- the net of the first argument of gate g, from pin i on, whose set at the pin is undetermined
+abbrev pub undetermined_argument : Rules (List Pair) → ℕ → (ℕ → List Pair) → ℕ → List NetId → ℕ
+undetermined_argument r g env i [] = 0
+undetermined_argument r g env i (a ∷ args) =
+    if is_undetermined (r.pin g i (env a.0)) then a.0 else undetermined_argument r g env (i + 1) args
 
 -- from a net back over at most k gates of one frame, to an input or a latch
 unfoldable pub back_over : Netlist → Rules (List Pair) → (ℕ → List Pair) → ℕ → Wanted → Wanted
@@ -40,7 +40,7 @@ back_over c r env (suc k) at =
     if nat_lt at.net (first_gate_net c) then at
     else (let g = at.net - first_gate_net c in
     back_over c r env k (record {
-      net = open_argument r g env 0 (gate_at c g).args;
+      net = undetermined_argument r g env 0 (gate_at c g).args;
       bit = bit_before (gate_at c g).kind at.bit;
     }))
 
@@ -57,9 +57,8 @@ latch_choice w path unknown at = Two at.net at.bit
 latch_choice w path (state_pair good faulty) at = Two at.net at.bit
 latch_choice w path (back cube limit) at = Three at.net
 
--- the choice where the walk back has come to an input or a latch of frame f: there, or further back from the latch's
--- data
--- pin in the frame before
+-- the choice where the walk back has come to an input or a latch of frame f: there, or further back from the data pin
+-- of the latch in the frame before
 unfoldable pub choice_at : SearchWindow → List Assign3 → ℕ → Wanted → Choice
 choice_at w path zero at =
     if nat_lt at.net w.circuit.inputs then Two (first_input w 0 + at.net) at.bit
@@ -69,13 +68,12 @@ choice_at w path (suc f) at =
     else choice_at w path f (end_in_frame w path f
     (record { net = spot_net w.circuit (State (at.net - w.circuit.inputs)); bit = at.bit }))
 
--- The walk back from net x of frame f with a wanted bit: at a gate to its first open argument, at a latch to its data
--- pin
--- in the frame before, to an input or to a latch of the first frame.
+-- The walk back from net x of frame f with a wanted bit: at a gate to its first undetermined argument, at a latch to
+-- its data pin in the frame before, to an input or to a latch of the first frame.
 abbrev pub walk_back : SearchWindow → List Assign3 → ℕ → ℕ → Bool → Choice
 walk_back w path f x bit = choice_at w path f (end_in_frame w path f (record { net = x; bit = bit }))
 
--- A net from which the walk back may begin: its cell is open.
+-- A net from which the walk back may begin: its cell is undetermined.
 pub record CanWalk (w : SearchWindow) (path : List Assign3) (f x : ℕ) : Type 0 where
   pub frame : f < w.frames
   pub net : x < net_count w.circuit
@@ -86,7 +84,7 @@ abbrev pub from_place : SearchWindow → List Assign3 → Option WindowPlace →
 from_place w path None = Two 0 true
 from_place w path (Some p) = walk_back w path p.frame (spot_net w.circuit p.spot) true
 
--- In a back window it begins at the lowest latch of the cube whose next state is open and wants the cube's value there.
+-- In a back window it begins at the lowest latch of the cube whose next state is undetermined and wants the cube's value there.
 abbrev pub wants_one : Tern → Bool
 wants_one Zero = false
 wants_one One = true
@@ -101,7 +99,7 @@ pick_from w path (one_frame z) = from_place w path (find (may_differ_at w path) 
 pick_from w path unknown = from_place w path (find (may_differ_at w path) (places_of w))
 pick_from w path (state_pair good faulty) = from_place w path (find (may_differ_at w path) (places_of w))
 pick_from w path (back cube limit) =
-    from_latch w path cube (find (λ j. is_open_set (set_at w path 0 (State j))) (cube_latches w.circuit cube))
+    from_latch w path cube (find (λ j. is_undetermined (set_at w path 0 (State j))) (cube_latches w.circuit cube))
 
 -- the choice of variable
 abbrev pub pick_of : SearchWindow → List Assign3 → Choice

@@ -12,7 +12,7 @@ use Rattle.ht_tree.specs.declared.window.Spot.TheVariants.{State, Cube}
 use Rattle.ht_tree.specs.declared.window.WindowPlace.{WindowPlace}
 use Rattle.ht_tree.specs.declared.window.Status.{Status}
 use Rattle.ht_tree.specs.declared.window.Status.TheVariants.{Dead, Sure, Open}
-use Rattle.ht_tree.specs.Windows.{Start, one_frame, unknown, state_pair, back, SearchWindow, is_open_set}
+use Rattle.ht_tree.specs.Windows.{Start, one_frame, unknown, state_pair, back, SearchWindow, is_undetermined}
 use Rattle.ht_tree.specs.Places.{places_of, set_at, must_differ_at, may_differ_at}
 
 -- Where a difference is looked for: Sure at the first place that holds only 01 and 10, Dead where no place holds 01 or
@@ -43,7 +43,7 @@ may_meet w path cube j = is_member (pair (value_at cube j) (value_at cube j)) (s
 
 -- it holds that value and no other
 abbrev pub must_meet : SearchWindow → List Assign3 → List Tern → ℕ → Bool
-must_meet w path cube j = may_meet w path cube j && not (is_open_set (set_at w path 0 (State j)))
+must_meet w path cube j = may_meet w path cube j && not (is_undetermined (set_at w path 0 (State j)))
 
 -- Where a cube is looked for: Sure where it wants nothing. Else Dead where no frame is left or some next state can't be
 -- as wanted, Sure where each must be as wanted, and Open otherwise.

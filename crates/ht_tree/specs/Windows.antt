@@ -1,5 +1,5 @@
 -- Windows: some frames of the good and of the faulty machine over sets of pairs, from a stated start. A search decides
--- the inputs of each frame and, where the start leaves them open, the latches of the first frame.
+-- the inputs of each frame and, where the start leaves them a choice, the latches of the first frame.
 --
 -- With n inputs and m flip-flops, variable f * n + i is input i of frame f, and these are the starts:
 --
@@ -68,6 +68,14 @@ IsStart c fault frames (state_pair good faulty) =
     (0 < frames) × (length good ≡ length c.dffs) × (length faulty ≡ length c.dffs)
 IsStart c fault frames (back cube limit) = (frames ≡ 1) × (length cube ≡ length c.dffs) × (fault ≡ None)
 
+-- what a token weighs in a window: the number of its frames
+abbrev pub token_weight : SearchWindow → ℕ
+token_weight w = w.frames
+
+-- so many frames has the window of a search forward from a pair of states
+abbrev pub forward_frames : ℕ
+forward_frames = 16
+
 -- A window of a well-formed circuit, with a start that fits it.
 pub record IsWindow (w : SearchWindow) : Type 0 where
   pub circuit : IsCircuit w.circuit
@@ -110,6 +118,6 @@ latches_at w path (suc f) =
 abbrev pub cell_at : SearchWindow → List Assign3 → ℕ → ℕ → List Pair
 cell_at w path f = net_value w.circuit (pair_set_rules w.fault) (frame_inputs w path f) (latches_at w path f)
 
--- a set is open: it has two or more members
-abbrev pub is_open_set : List Pair → Bool
-is_open_set set = nat_lt 1 (length set)
+-- a set is undetermined: it has two or more pairs
+abbrev pub is_undetermined : List Pair → Bool
+is_undetermined set = nat_lt 1 (length set)

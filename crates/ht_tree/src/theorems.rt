@@ -10,15 +10,15 @@ ghost use Rattle.ht_tree.specs.declared.token.Token.{Token};
 ghost use Rattle.ht_tree.specs.declared.window.Status.TheVariants.{Open};
 ghost use Rattle.ht_tree.specs.Walks.{AllFit, IsComplete, Judge, Node, decide, path_of, root, root_stack, stack_after, under};
 ghost use Rattle.ht_tree.specs.Decisions.{is_in};
-ghost use Rattle.ht_tree.specs.Windows.{IsWindow, SearchWindow, cell_at, one_frame_window};
+ghost use Rattle.ht_tree.specs.Windows.{IsWindow, SearchWindow, cell_at, one_frame_window, token_weight};
 ghost use Rattle.ht_tree.specs.WindowStatus.{status_at};
-ghost use Rattle.ht_tree.specs.Variables.{DecidesAll, IsLegalChoice, is_undecided, may_three, may_two, undecided_count, variable_bound};
+ghost use Rattle.ht_tree.specs.Variables.{DecidesAll, IsLegalChoice, is_undecided, may_three, may_two, undecided_count, variable_bound, variable_count};
 ghost use Rattle.ht_tree.specs.Nodes.{IsNode, judge_of, window_at, window_below};
 ghost use Rattle.ht_tree.specs.WalkBack.{pick_of, walk_back};
 ghost use Rattle.ht_tree.specs.Searches.{Guide, SpendsAt, guide_of};
 ghost use Rattle.ht_tree.specs.declared.entry.Entry.{Entry};
-ghost use Rattle.ht_tree.specs.Entries.{Holds, Passes};
-ghost use Rattle.ht_tree.specs.Counts.{Measures, Sizes, left_at, left_below, most_from, most_tokens, seeks_difference};
+ghost use Rattle.ht_tree.specs.Entries.{Means, Passes};
+ghost use Rattle.ht_tree.specs.Counts.{Measures, Sizes, left_at, left_below, most_from, most_tokens, seeks_difference, undecided_at};
 
 /// A complete walk of the one-frame window of a fault and a set of flip-flops seals the fault in the set.
 pub fn complete_walk_seals()
@@ -35,7 +35,7 @@ pub fn sealed_is_silent()
 /// What an entry says of its fault holds where the entry passes.
 pub fn passing_entry_holds()
     ensures { (c : Netlist) (fault : Fault) (budget : ℕ) (entry : Entry) → IsCircuit c
-        → Passes c fault budget entry → Holds c fault entry }
+        → Passes c fault budget entry → Means c fault entry }
 {}
 
 /// Where the status is open, the chosen variable is legal in its kind, and the path doesn't decide it.
@@ -45,7 +45,7 @@ pub fn open_status_has_a_choice()
 {}
 
 /// The walk back from a net with two or more pairs ends at such a variable.
-pub fn open_net_has_a_choice()
+pub fn undetermined_net_has_a_choice()
     ensures { (w : SearchWindow) (path : List Assign3) (f x : ℕ) (bit : Bool) → IsWindow w
         → f < w.frames → x < net_count w.circuit → 1 < length (cell_at w path f x)
         → IsLegalChoice w path (walk_back w path f x bit) }
@@ -102,10 +102,10 @@ pub fn sizes_measure()
         → Measures j (left_at size count) }
 {}
 
-/// Each variable of a window in which a difference is looked for counts one.
-pub fn variables_count_one()
+/// In a window in which a difference is looked for, what is left to decide is the number of undecided variables.
+pub fn undecided_variables_are_left()
     ensures { (w : SearchWindow) → IsWindow w → seeks_difference w.start ≡ true
-        → Sizes (judge_of w) (λ var. 1) (variable_bound w) }
+        → Measures (judge_of w) (undecided_at w) }
 {}
 
 /// Of inputs that count 1 and latches that count 2, no more is left than they count together.
@@ -122,9 +122,12 @@ pub fn enough_budget_is_never_spent()
         → ¬ SpendsAt g budget unit tokens n }
 {}
 
-/// A search for a difference, in a window of v variables, is never spent where its budget is at least 2^(v+1) units.
+/// A search for a difference in a window of v variables is never spent where its budget has room for 2^(v+1) tokens, and
+/// v is at most the window's bound.
 pub fn difference_search_is_never_spent()
-    ensures { (w : SearchWindow) (budget unit : ℕ) (tokens : List Token) (n : Node) → IsWindow w
-        → seeks_difference w.start ≡ true → 2 ^ (variable_bound w + 1) * unit ≤ budget
-        → ¬ SpendsAt (guide_of w) budget unit tokens n }
+    ensures never { (w : SearchWindow) (budget : ℕ) (tokens : List Token) (n : Node) → IsWindow w
+        → seeks_difference w.start ≡ true
+        → 2 ^ (variable_count w + 1) * token_weight w ≤ budget
+        → ¬ SpendsAt (guide_of w) budget (token_weight w) tokens n }
+    ensures bound { (w : SearchWindow) → variable_count w ≤ variable_bound w }
 {}

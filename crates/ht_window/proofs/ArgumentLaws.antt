@@ -1,4 +1,4 @@
--- The first open argument, pin by pin.
+-- The first undetermined argument, pin by pin.
 use Rattle.std.proofs.Common.{◌≡◌, ◌<◌, ◌+◌, ◌∙◌, ℕ, List, Bool, true, false, cond, Option, length, get_or, drop, ap, sym, inl, inr, arith, ◌↔◌, IsTrue}
 use Rattle.std.proofs.lemmas.List.{drop_more}
 use Rattle.std.proofs.lemmas.Bool.Decides.{leb_tells}
@@ -6,33 +6,33 @@ use Rattle.ht_pairs.specs.Pairs.{Pair}
 use Rattle.ht_net.specs.declared.net.NetId.{NetId}
 use Rattle.ht_net.specs.declared.fault.Fault.{Fault}
 use Rattle.ht_net.specs.Netlist.{Netlist, IsCircuit, gate_at, net_count, no_net}
-use Rattle.ht_tree.specs.Windows.{pair_set_rules, is_open_set}
-use Rattle.ht_tree.specs.WalkBack.{open_argument}
+use Rattle.ht_tree.specs.Windows.{pair_set_rules, is_undetermined}
+use Rattle.ht_tree.specs.WalkBack.{undetermined_argument}
 use Rattle.ht_net.specs.Frame.{Rules}
 
 module _ (r : Rules (List Pair)) (g : ℕ) (env : ℕ → List Pair) (args : List NetId) (i : ℕ) (here : i < length args)
     (set : List Pair)
     (is : set ≡ r.pin g i (env (get_or args i no_net).0))
-    (before : open_argument r g env i (drop i args) ≡ open_argument r g env 0 args) where
-  step : open_argument r g env 0 args ≡ cond (is_open_set set) (get_or args i no_net).0
-      (open_argument r g env (i + 1) (drop (i + 1) args))
+    (before : undetermined_argument r g env i (drop i args) ≡ undetermined_argument r g env 0 args) where
+  step : undetermined_argument r g env 0 args ≡ cond (is_undetermined set) (get_or args i no_net).0
+      (undetermined_argument r g env (i + 1) (drop (i + 1) args))
   step =
-      sym before ∙ (ap (open_argument r g env i) (drop_more args i no_net here)
-      ∙ ap (λ (s : List Pair). cond (is_open_set s) (get_or args i no_net).0
-      (open_argument r g env (i + 1) (drop (i + 1) args))) (sym is))
+      sym before ∙ (ap (undetermined_argument r g env i) (drop_more args i no_net here)
+      ∙ ap (λ (s : List Pair). cond (is_undetermined s) (get_or args i no_net).0
+      (undetermined_argument r g env (i + 1) (drop (i + 1) args))) (sym is))
 
-  pub argument_open : is_open_set set ≡ true → (get_or args i no_net).0 ≡ open_argument r g env 0 args
+  pub argument_open : is_undetermined set ≡ true → (get_or args i no_net).0 ≡ undetermined_argument r g env 0 args
   argument_open e = sym
-      (step ∙ ap (λ (b : Bool). cond b (get_or args i no_net).0 (open_argument r g env (i + 1) (drop (i + 1) args))) e)
+      (step ∙ ap (λ (b : Bool). cond b (get_or args i no_net).0 (undetermined_argument r g env (i + 1) (drop (i + 1) args))) e)
 
-  pub argument_passed : is_open_set set ≡ false → open_argument r g env (i + 1) (drop (i + 1) args)
-      ≡ open_argument r g env 0 args
+  pub argument_passed : is_undetermined set ≡ false → undetermined_argument r g env (i + 1) (drop (i + 1) args)
+      ≡ undetermined_argument r g env 0 args
   argument_passed e = sym
-      (step ∙ ap (λ (b : Bool). cond b (get_or args i no_net).0 (open_argument r g env (i + 1) (drop (i + 1) args))) e)
+      (step ∙ ap (λ (b : Bool). cond b (get_or args i no_net).0 (undetermined_argument r g env (i + 1) (drop (i + 1) args))) e)
 
--- a set that isn't single is open
+-- a set that isn't single is undetermined
 pub open_single : (set : List Pair) (single : Bool) → IsTrue single ↔ (length set ≡ 1) → 0 < length set → single ≡ false
-    → is_open_set set ≡ true
+    → is_undetermined set ≡ true
 open_single set single tells some differs = elim (leb_tells 2 (length set)) [
   | inl p ↦ p.0
   | inr p ↦
@@ -44,7 +44,7 @@ open_single set single tells some differs = elim (leb_tells 2 (length set)) [
 ]
 
 pub closed_single : (set : List Pair) (single : Bool) → IsTrue single ↔ (length set ≡ 1) → single ≡ true
-    → is_open_set set ≡ false
+    → is_undetermined set ≡ false
 closed_single set single tells same = elim (leb_tells 2 (length set)) [
   | inl p ↦ let l = p.1 in let one : length set ≡ 1 = tells.0 same in absurd (omega (arith, l, one))
   | inr p ↦ p.0

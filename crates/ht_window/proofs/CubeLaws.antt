@@ -11,7 +11,7 @@ use Rattle.ht_tree.specs.declared.token.Assign3.{Assign3}
 use Rattle.ht_tree.specs.declared.window.Spot.TheVariants.{State, Cube}
 use Rattle.ht_tree.specs.declared.window.Status.{Status}
 use Rattle.ht_tree.specs.declared.window.Status.TheVariants.{Dead, Sure, Open}
-use Rattle.ht_tree.specs.Windows.{SearchWindow, is_open_set}
+use Rattle.ht_tree.specs.Windows.{SearchWindow, is_undetermined}
 use Rattle.ht_tree.specs.Places.{set_at}
 use Rattle.ht_tree.specs.WindowStatus.{is_definite, value_at, must_meet, may_meet, cube_status}
 use Rattle.ht_window.specs.declared.cube.CubeSeen.{CubeSeen}
@@ -83,7 +83,7 @@ module _ (w : SearchWindow) (path : List Assign3) (cube : List Tern) where
       let some = sym (some_push latches j) in
       let must = sym (all_push (must_meet w path cube) latches j) in
       let may = sym (all_push (may_meet w path cube) latches j) in
-      let wide = sym (find_latch (λ j. is_open_set (set_at w path 0 (State j))) latches j) in
+      let wide = sym (find_latch (λ j. is_undetermined (set_at w path 0 (State j))) latches j) in
       (λ k. cube_seen_with (is k) j (wanted k) (here k)) ∙
       (λ k. record { some = some k; must = must k; may = may k; open_latch = wide k })
 

@@ -10,10 +10,10 @@ use Rattle.ht_net.proofs.DepthLaws.{circuit_depth}
 use Rattle.ht_tree.specs.declared.token.Assign3.{Assign3}
 use Rattle.ht_tree.specs.declared.window.Spot.TheVariants.{State}
 use Rattle.ht_tree.specs.declared.token.Choice.TheVariants.{Two}
-use Rattle.ht_tree.specs.Windows.{SearchWindow, first_input, cell_at, is_open_set}
+use Rattle.ht_tree.specs.Windows.{SearchWindow, first_input, cell_at, is_undetermined}
 use Rattle.ht_tree.specs.Places.{spot_net}
-use Rattle.ht_tree.specs.WalkBack.{Wanted, open_argument, bit_before, back_over, end_in_frame, latch_choice, choice_at}
-use Rattle.ht_tree.proofs.ChoiceLaws.{ends_open, latch_open, before_open}
+use Rattle.ht_tree.specs.WalkBack.{Wanted, undetermined_argument, bit_before, back_over, end_in_frame, latch_choice, choice_at}
+use Rattle.ht_tree.proofs.ChoiceLaws.{ends_undetermined, latch_undetermined, before_undetermined}
 
 cond_no : {X : Type 0} → (b : Bool) (x y : X) → b ≡ false → cond b x y ≡ y
 cond_no false x y e = refl
@@ -33,7 +33,7 @@ below a b h = elim (leb_tells (suc a) b) [ inl p ↦ p.0 | inr p ↦ let l = p.1
 pub back_step : (c : Netlist) (r : Rules (List Pair)) (env : ℕ → List Pair) (k : ℕ) (at next : Wanted) → 0 < k
     → first_gate_net c ≤ at.net
     → next ≡ record {
-      net = open_argument r (at.net - first_gate_net c) env 0
+      net = undetermined_argument r (at.net - first_gate_net c) env 0
           (gate_at c (at.net - first_gate_net c)).args;
       bit = bit_before (gate_at c (at.net - first_gate_net c)).kind
           at.bit;
@@ -61,30 +61,30 @@ back_low c r env (suc k) at low = cond_yes (ltb at.net (first_gate_net c)) at _ 
 
 -- an argument, or net 0, is a net
 argument_in : (r : Rules (List Pair)) (g : ℕ) (env : ℕ → List Pair) (i : ℕ) (args : List NetId) (n : ℕ) → 0 < n
-    → ((j : ℕ) → j < length args → (get_or args j no_net).0 < n) → open_argument r g env i args < n
+    → ((j : ℕ) → j < length args → (get_or args j no_net).0 < n) → undetermined_argument r g env i args < n
 argument_in r g env i [] n some h = some
-argument_in r g env i (a ∷ args) n some h = either (is_open_set (r.pin g i (env a.0))) (h 0 (omega arith))
+argument_in r g env i (a ∷ args) n some h = either (is_undetermined (r.pin g i (env a.0))) (h 0 (omega arith))
     (argument_in r g env (i + 1) args n some (λ j l. h (suc j) (omega (arith, l))))
   where
     either : (b : Bool) {x y m : ℕ} → x < m → y < m → cond b x y < m
     either true h k = h
     either false h k = k
 
-pub open_argument_known : (c : Netlist) (r : Rules (List Pair)) (env : ℕ → List Pair) (g : ℕ) → IsCircuit c
-    → g < length c.gates → open_argument r g env 0 (gate_at c g).args < net_count c
-open_argument_known c r env g circuit inside = argument_in r g env 0 (gate_at c g).args (net_count c) (omega arith)
+pub undetermined_argument_known : (c : Netlist) (r : Rules (List Pair)) (env : ℕ → List Pair) (g : ℕ) → IsCircuit c
+    → g < length c.gates → undetermined_argument r g env 0 (gate_at c g).args < net_count c
+undetermined_argument_known c r env g circuit inside = argument_in r g env 0 (gate_at c g).args (net_count c) (omega arith)
     (λ j l. circuit.known g j inside l)
 
 -- across frames
 module _ (w : SearchWindow) (path : List Assign3) (circuit : IsCircuit w.circuit) where
   pub ends_low : (f : ℕ) (at : Wanted) → at.net < net_count w.circuit → 1 < length (cell_at w path f at.net)
       → (end_in_frame w path f at).net < first_gate_net w.circuit
-  ends_low f at known h = let d = circuit_depth w.circuit circuit in (ends_open w path circuit d.0 d.1 f at known h).low
+  ends_low f at known h = let d = circuit_depth w.circuit circuit in (ends_undetermined w path circuit d.0 d.1 f at known h).low
 
   pub ends_wide : (f : ℕ) (at : Wanted) → at.net < net_count w.circuit → 1 < length (cell_at w path f at.net)
       → 1 < length (cell_at w path f (end_in_frame w path f at).net)
   ends_wide f at known h = let d = circuit_depth w.circuit circuit
-      in (ends_open w path circuit d.0 d.1 f at known h).is_open
+      in (ends_undetermined w path circuit d.0 d.1 f at known h).undetermined
 
   pub choice_input : (f : ℕ) (at : Wanted) → at.net < w.circuit.inputs → choice_at w path f at
       ≡ Two (first_input w f + at.net) at.bit
@@ -120,5 +120,5 @@ module _ (w : SearchWindow) (path : List Assign3) (circuit : IsCircuit w.circuit
   data_wide (suc f) x some high low h =
       let e : suc f - 1 ≡ f = omega arith in
       let d = circuit_depth w.circuit circuit in
-      rw e (before_open w path circuit d.0 d.1 f (x - w.circuit.inputs) (omega arith)
-      (latch_open w path circuit d.0 d.1 (suc f) x high low h))
+      rw e (before_undetermined w path circuit d.0 d.1 f (x - w.circuit.inputs) (omega arith)
+      (latch_undetermined w path circuit d.0 d.1 (suc f) x high low h))

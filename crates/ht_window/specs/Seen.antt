@@ -5,7 +5,7 @@ use Rattle.ht_tern.specs.declared.tern.Tern.{Tern}
 use Rattle.ht_pairs.specs.Pairs.{Pair, pair, is_member, differs}
 use Rattle.ht_tree.specs.declared.token.Assign3.{Assign3}
 use Rattle.ht_tree.specs.declared.window.WindowPlace.{WindowPlace}
-use Rattle.ht_tree.specs.Windows.{SearchWindow, is_open_set}
+use Rattle.ht_tree.specs.Windows.{SearchWindow, is_undetermined}
 use Rattle.ht_tree.specs.Places.{must_differ_at, may_differ_at, set_at}
 use Rattle.ht_tree.specs.WindowStatus.{must_meet, may_meet}
 use Rattle.ht_tree.specs.declared.window.Spot.TheVariants.{State, Cube}
@@ -35,7 +35,7 @@ cube_seen_of w path cube latches = record {
   some = ltb 0 (length latches);
   must = list_all (must_meet w path cube) latches;
   may = list_all (may_meet w path cube) latches;
-  open_latch = find (λ j. is_open_set (set_at w path 0 (State j))) latches;
+  open_latch = find (λ j. is_undetermined (set_at w path 0 (State j))) latches;
 }
 
 abbrev pub latch_or : Option ℕ → Option ℕ → Option ℕ
@@ -46,9 +46,9 @@ latch_or (Some j) other = Some j
 abbrev pub cube_seen_with : CubeSeen → ℕ → Tern → List Pair → CubeSeen
 cube_seen_with s j value set = record {
   some = true;
-  must = s.must && (is_member (pair value value) set && not (is_open_set set));
+  must = s.must && (is_member (pair value value) set && not (is_undetermined set));
   may = s.may && is_member (pair value value) set;
-  open_latch = latch_or s.open_latch (cond (is_open_set set) (Some j) None);
+  open_latch = latch_or s.open_latch (cond (is_undetermined set) (Some j) None);
 }
 
 abbrev pub cube_status_by : CubeSeen → ℕ → Status

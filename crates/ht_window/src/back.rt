@@ -3,7 +3,7 @@ ghost use Rattle.std.specs.Prelude.{◌≡◌, ◌<◌, ◌≤◌, ℕ, length};
 ghost use Rattle.ht_net.specs.Netlist.{first_gate_net, gate_at, net_count};
 ghost use Rattle.ht_tree.specs.Windows.{cell_at, pair_set_rules};
 ghost use Rattle.ht_tree.specs.Variables.{IsLegalChoice};
-ghost use Rattle.ht_tree.specs.WalkBack.{Wanted, choice_at, end_in_frame, latch_choice, open_argument, bit_before, walk_back};
+ghost use Rattle.ht_tree.specs.WalkBack.{Wanted, choice_at, end_in_frame, latch_choice, undetermined_argument, bit_before, walk_back};
 ghost use Rattle.ht_tree.specs.Walks.{decides};
 ghost use Rattle.ht_window.specs.Lines.{wanted_of};
 
@@ -30,10 +30,10 @@ fn turn(kind: Kind, bit: bool) -> bool
 
 impl<'c> Window<'c> {
     /// The first argument of a gate whose set at the pin has two or more members.
-    fn open_argument(&self, frame: u32, g: u32) -> u32
+    fn undetermined_argument(&self, frame: u32, g: u32) -> u32
         requires frame { frame < self.now.window.frames }
         requires gate { g < length self.now.window.circuit.gates }
-        ensures { result ≡ open_argument (pair_set_rules self.now.window.fault) g
+        ensures { result ≡ undetermined_argument (pair_set_rules self.now.window.fault) g
             (cell_at self.now.window self.now.decisions frame) 0
             (gate_at self.now.window.circuit g).args }
     {
@@ -63,7 +63,7 @@ impl<'c> Window<'c> {
         while left > 0 && net >= first_gate_net {
             let g = net - first_gate_net;
             bit = turn(circuit.gate_kind(g), bit);
-            net = self.open_argument(frame, g);
+            net = self.undetermined_argument(frame, g);
             left -= 1;
         }
         Line { net, bit }

@@ -1,7 +1,7 @@
 //! What the next states of the latches of a cube show.
 ghost use Rattle.std.specs.Prelude.{◌≡◌, ◌<◌, ℕ, Some, None, cond, length};
 ghost use Rattle.ht_pairs.specs.Pairs.{is_member, pair};
-ghost use Rattle.ht_tree.specs.Windows.{is_open_set};
+ghost use Rattle.ht_tree.specs.Windows.{is_undetermined};
 ghost use Rattle.ht_tree.specs.WindowStatus.{cube_latches, is_definite};
 ghost use Rattle.ht_window.specs.Seen.{cube_seen_of, cube_seen_with, cube_status_by, latch_or};
 
@@ -40,7 +40,7 @@ fn is_definite(value: Tern) -> bool
 
 /// Whether a set has two or more members.
 fn is_wide(set: PairSet) -> bool
-    ensures { result ≡ is_open_set set }
+    ensures { result ≡ is_undetermined set }
 {
     !set.is_single()
 }

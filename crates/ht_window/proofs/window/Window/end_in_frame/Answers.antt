@@ -3,8 +3,8 @@ use Rattle.ht_tern.specs.declared.gate.Kind.{Kind}
 use Rattle.ht_pairs.specs.Pairs.{Pair}
 use Rattle.ht_net.specs.Netlist.{IsCircuit, first_gate_net, gate_at}
 use Rattle.ht_tree.specs.Windows.{cell_at, pair_set_rules}
-use Rattle.ht_tree.specs.WalkBack.{open_argument, bit_before}
-use Rattle.ht_window.proofs.WalkLaws.{back_step, back_none, back_low, open_argument_known}
+use Rattle.ht_tree.specs.WalkBack.{undetermined_argument, bit_before}
+use Rattle.ht_window.proofs.WalkLaws.{back_step, back_none, back_low, undetermined_argument_known}
 use Rattle.ht_window.proofs.window.Window.end_in_frame.Goals as goal
 
 pub loop-left-preserved : goal.loop-left-preserved
@@ -25,16 +25,16 @@ loop-left-preserved c =
     let high : first_gate_net n ≤ net = omega (arith, first, t) in
     let kind : c.gate_kind.result ≡ (gate_at n (net - first_gate_net n)).kind = c.gate_kind.ensures ∙
     (λ k. (gate_at (circuit k) (gate k)).kind) in
-    let is_net : c.open_argument-net.result ≡ open_argument r (net - first_gate_net n) env 0
+    let is_net : c.undetermined_argument-net.result ≡ undetermined_argument r (net - first_gate_net n) env 0
     (gate_at n (net - first_gate_net n)).args =
-    c.open_argument-net.ensures ∙ ap (λ (x : ℕ). open_argument r x env 0 (gate_at n x).args) gate in
+    c.undetermined_argument-net.ensures ∙ ap (λ (x : ℕ). undetermined_argument r x env 0 (gate_at n x).args) gate in
     let is_bit : c.turn-bit.result ≡ bit_before (gate_at n (net - first_gate_net n)).kind c.loop-left.bit =
     c.turn-bit.ensures ∙ ap (λ (k : Kind). bit_before k c.loop-left.bit) kind in
-    let inside = open_argument_known n r env (net - first_gate_net n) valid (omega (arith, known, high)) in
+    let inside = undetermined_argument_known n r env (net - first_gate_net n) valid (omega (arith, known, high)) in
     record {
       known = omega (arith, is_net, inside);
       same = back_step n r env c.loop-left.left (record { net = net; bit = c.loop-left.bit })
-          (record { net = c.open_argument-net.result; bit = c.turn-bit.result }) (omega (arith, l)) high
+          (record { net = c.undetermined_argument-net.result; bit = c.turn-bit.result }) (omega (arith, l)) high
           (λ k. record { net = is_net k; bit = is_bit k })
           ∙ c.loop-left.invariant.same;
     }

@@ -3,7 +3,7 @@ use Rattle.ht_net.specs.declared.net.NetId.{NetId}
 use Rattle.ht_net.specs.Netlist.{Netlist, gate_at, no_net}
 use Rattle.ht_tree.specs.Windows.{cell_at, pair_set_rules}
 use Rattle.ht_window.proofs.ArgumentLaws.{argument_open, argument_passed, open_single, closed_single, pin_is}
-use Rattle.ht_window.proofs.window.Window.open_argument.Goals as goal
+use Rattle.ht_window.proofs.window.Window.undetermined_argument.Goals as goal
 
 pub returns-then-not-is_single : goal.returns-then-not-is_single
 returns-then-not-is_single c =
