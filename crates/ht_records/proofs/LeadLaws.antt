@@ -21,7 +21,7 @@ use Rattle.ht_tree.specs.Nodes.{cube_of, or_unknown}
 use Rattle.ht_tree.specs.Places.{set_at}
 use Rattle.ht_tree.specs.Reached.{HasCube, IsTernState, Reaches}
 use Rattle.ht_tree.specs.WindowStatus.{cube_latches, is_definite, must_meet, status_at, value_at}
-use Rattle.ht_tree.specs.Windows.{SearchWindow, back_window, first_input, is_open_set}
+use Rattle.ht_tree.specs.Windows.{SearchWindow, back_window, first_input, is_undetermined}
 use Rattle.ht_tree.specs.declared.token.Assign3.{Assign3}
 use Rattle.ht_tree.specs.declared.window.Spot.TheVariants.{Cube, State}
 use Rattle.ht_tree.specs.declared.window.Status.TheVariants.{Sure}
@@ -39,7 +39,7 @@ use Rattle.ht_records.proofs.SureLaws.{list_allowed, list_length}
 use Rattle.ht_records.proofs.WidthLaws.{refines_more, same_refines}
 
 -- a set that has a pair and no second one
-only_member : (p : Pair) (s : List Pair) → (is_member p s && not (is_open_set s)) ≡ true → (q : Pair) → IsMember q s
+only_member : (p : Pair) (s : List Pair) → (is_member p s && not (is_undetermined s)) ≡ true → (q : Pair) → IsMember q s
     → q ≡ p
 only_member p [] h q k = absurd k
 only_member p (x ∷ []) h q (inr k) = absurd k
@@ -48,7 +48,7 @@ only_member p (x ∷ []) h q (inl e) = elim (is_member-true p (x ∷ []) (and_pa
   | inr d ↦ absurd d
 ]
 only_member p (x ∷ y ∷ s) h q k =
-    let many : is_open_set (x ∷ y ∷ s) ≡ true = grind (arith, nat_tests) in
+    let many : is_undetermined (x ∷ y ∷ s) ≡ true = grind (arith, nat_tests) in
     absurd (both_ways _ (not_from_true _ many) (and_parts _ _ h).1)
 
 wants : (want v : Tern) → (is_definite want ≡ true → v ≡ want) → Refines v want

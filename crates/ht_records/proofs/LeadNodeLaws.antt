@@ -7,16 +7,16 @@ use Rattle.std.proofs.lemmas.List.{append_assoc, length-append, take_all}
 use Rattle.ht_tern.specs.declared.tern.Tern.{Tern}
 use Rattle.ht_net.specs.Netlist.{Netlist}
 use Rattle.ht_tree.specs.FoundLists.{back_list, vector_of, vectors_above}
-use Rattle.ht_tree.specs.Nodes.{IsNode, cube_at, cube_of, judge_of, window_begin}
+use Rattle.ht_tree.specs.Nodes.{IsNode, cube_at, cube_of, judge_of}
 use Rattle.ht_tree.specs.Reached.{Reaches}
-use Rattle.ht_tree.specs.Walks.{Judge, Node, decide, path_of, under}
+use Rattle.ht_tree.specs.Walks.{Judge, Node, decide, path_of, under, window_begin}
 use Rattle.ht_tree.specs.WindowStatus.{cube_latches, is_definite, status_at}
 use Rattle.ht_tree.specs.Windows.{SearchWindow, Start, back, back_window, one_frame, state_pair, unknown}
 use Rattle.ht_tree.specs.declared.token.Assign3.{Assign3}
 use Rattle.ht_tree.specs.declared.token.Status3.TheVariants as status3
 use Rattle.ht_tree.specs.declared.window.Spot.TheVariants.{Cube}
 use Rattle.ht_tree.specs.declared.window.Status.TheVariants.{Sure}
-use Rattle.ht_tree.proofs.NodeLaws.{node_kept, node_opened, path_grows, path_opened, path_own, window_kept, window_opened}
+use Rattle.ht_tree.proofs.NodeLaws.{node_kept, node_opened, path_grows, path_opened, window_kept, window_opened}
 use Rattle.ht_records.proofs.BitPathLaws.{AreBitsAt, bits_more}
 use Rattle.ht_records.proofs.LeadLaws.{IsInput, leads_on}
 use Rattle.ht_records.proofs.SureCubeLaws.{some_wanted, sure_cube, sure_left}
@@ -101,7 +101,7 @@ module _ (c : Netlist) (cube0 : List Tern) (limit0 : ℕ) where
       let k = length ds in
       let begin = window_begin n (length n.windows) in
       let own : drop begin (take k ds) ≡ path_of n =
-      ap (drop begin) (take_all k ds (omega arith)) ∙ sym (path_own n) in
+      ap (drop begin) (take_all k ds (omega arith)) in
       let above : vectors_above c 0 (n.windows ++ k ∷ []) ds ≡ back_list c n =
       above_under c 0 n.windows ds k
       ∙ ap (λ (path : List Assign3). vector_of c path 0 ∷ vectors_above c 0 n.windows ds) own in

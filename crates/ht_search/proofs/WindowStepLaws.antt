@@ -1,5 +1,5 @@
 -- The steps of a problem that keeps the decisions of each window.
-use Rattle.std.proofs.Common.{◌≡◌, ◌+◌, ◌-◌, ℕ, List, [], ◌∷◌, ◌++◌, length, map, reverse, drop, get_or, refl, sym, ap, ◌∙◌, subst, arith, append_assoc}
+use Rattle.std.proofs.Common.{◌≡◌, ◌+◌, ℕ, suc, List, [], ◌∷◌, ◌++◌, length, map, reverse, drop, get_or, refl, sym, ap, ◌∙◌, subst, arith, append_assoc}
 use Rattle.std.proofs.lemmas.List.{reverse-append, reverse-reverse, length_push, length-reverse, get_or_push, append-nil}
 use Rattle.std.proofs.Math.Seq.{drop-append_seam}
 use Rattle.ht_tree.specs.declared.token.Assign3.{Assign3}
@@ -97,9 +97,9 @@ last_window n more =
     let k = length n.decisions in
     let all = ws ++ k ∷ [] in
     let l = length_push ws k in
-    let at : length all - 1 ≡ length ws = omega (arith, l) in
-    let e : get_or all (length all - 1) 0 ≡ k =
-    ap (λ (i : ℕ). get_or all i 0) at ∙ get_or_push ws k 0 (length ws) refl in
+    let at : length all ≡ suc (length ws) = omega (arith, l) in
+    let e : get_or (0 ∷ all) (length all) 0 ≡ k =
+    ap (λ (i : ℕ). get_or (0 ∷ all) i 0) at ∙ get_or_push ws k 0 (length ws) refl in
     ap (λ (i : ℕ). drop i (n.decisions ++ more)) e ∙ drop-append_seam n.decisions more
 
 path_below : (above : List (List Assign3)) (more : List Assign3)
