@@ -106,13 +106,14 @@ closed_unmet w0 c list wide (suc f) inside cube limit few closed has =
     let w = back_window c cube limit in
     let vector = nth list f in
     let prev = good_state c list f in
+    let held = state_held c None (unknown_state c) list f (unknown_held c) in
     let leaf = window_leaf w0 w (frame_values c vector prev) (frame_bits_of c cube limit vector prev) closed in
     elim (leaf.ends) [
       | inl dead ↦ not_dead w leaf.path cube limit (cube_latches c cube) (omega arith)
           (all_pass (may_meet w leaf.path cube) (cube_latches c cube) (λ j h.
           let wanted = latch_wanted c cube j h in
-          next_may c vector prev leaf.path leaf.along cube limit (wide f [] (omega arith)) (state_held c None (unknown_state c) list f (unknown_held c)) has j
-          wanted.0 wanted.1)) dead
+          next_may c vector prev leaf.path leaf.along cube limit (wide f [] (omega arith)) held has j wanted.0
+          wanted.1)) dead
       | inr on ↦ closed_unmet w0 c list wide f (omega arith) (cube_of c leaf.path) (limit - 1) (omega arith) on.closed
           (prev_has_cube c vector prev leaf.path leaf.along)
     ]

@@ -37,7 +37,8 @@ module _ (c : Netlist) (cube0 : List Tern) (limit0 : ℕ) where
   abbrev j : Judge
   j = judge_of (back_window c cube0 limit0)
 
-  lead_children : (n : Node) (t : Token) → Fits j n t → Leads c cube0 limit0 n → EachNode (Leads c cube0 limit0) (children n t)
+  lead_children : (n : Node) (t : Token) → Fits j n t → Leads c cube0 limit0 n
+      → EachNode (Leads c cube0 limit0) (children n t)
   lead_children n token.Dead fit h = tt
   lead_children n token.Before fit h = (lead_under c cube0 limit0 n h fit.0 fit.1, tt)
   lead_children n (token.Two var first) fit h = (
@@ -47,7 +48,10 @@ module _ (c : Netlist) (cube0 : List Tern) (limit0 : ℕ) where
   lead_children n (token.Three var) fit h =
       let latch = not_input c var (leb c.inputs var) (ltb var (first_gate_net c)) refl fit.1 in (
         lead_decide c cube0 limit0 n var Zero h (λ l. refl),
-        (lead_decide c cube0 limit0 n var One h (λ l. refl), (lead_decide c cube0 limit0 n var Unk h (λ l. absurd (latch l)), tt)),
+        (
+          lead_decide c cube0 limit0 n var One h (λ l. refl),
+          (lead_decide c cube0 limit0 n var Unk h (λ l. absurd (latch l)), tt),
+        ),
       )
 
   root_leads : cube_latches c cube0 ≢ [] → Leads c cube0 limit0 root

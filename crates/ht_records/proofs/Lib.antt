@@ -26,3 +26,7 @@ pub mod ChainLaws
 pub mod SetLaws
 pub mod ValuesLaws
 pub mod GrowLaws
+pub mod ShortWalkLaws
+pub mod SweepLaws
+pub mod AbortLaws
+pub mod ExampleLaws

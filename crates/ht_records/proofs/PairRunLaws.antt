@@ -30,7 +30,8 @@ halves_are half (p ∷ pairs) [] h = absurd h
 halves_are half (p ∷ pairs) (v ∷ values) h = let rest = halves_are half pairs values h.1 in (λ k. h.0 k ∷ rest k)
 
 -- a stuck line leaves the good half
-stuck_good : (here : Bool) (value : Bool) (p : Pair) (v : Tern) → GoodIs p v → GoodIs (cond here (stuck_pair value p) p) v
+stuck_good : (here : Bool) (value : Bool) (p : Pair) (v : Tern) → GoodIs p v
+    → GoodIs (cond here (stuck_pair value p) p) v
 stuck_good true value p v h = h
 stuck_good false value p v h = h
 

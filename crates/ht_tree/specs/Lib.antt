@@ -17,3 +17,5 @@ pub mod Reached
 pub mod FoundLists
 pub mod SearchRecords
 pub mod Budgets
+pub mod AimedAttempts
+pub mod AbortRecords

@@ -3,8 +3,8 @@ use crate::token::Token;
 use ht_items::Items;
 use ht_net::Vectors;
 
-/// How the attempt at the first told frame of a fault ended: forward from the states that the frame leaves to an output,
-/// back from all-unknown to the latches that it needs, and both with the frame between them.
+/// How the attempt at the first told frame of a fault ended: forward from the states that the frame leaves to an
+/// output, back from all-unknown to the latches that it needs, and both with the frame between them.
 #[derive(Drop)]
 pub enum Aim {
     /// No list of as many vectors as the forward window has frames shows the difference that the frame leaves.

@@ -1,17 +1,17 @@
 //! Windows, walks and entries: what a search looks at and writes down, and what a checker judges.
 //!
 //! A search decides one variable of a window after the other and writes each step as a `Token`. The tokens are judged
-//! from the left against a stack of nodes, each with the decisions that lead to it: `Walk` keeps that stack. A `Told` is a
-//! frame in which the two machines differ for certain, an `Aim` says how the attempt at one ended, and an `Entry` is the
-//! record of one fault.
+//! from the left against a stack of nodes, each with the decisions that lead to it: `Walk` keeps that stack. A `Told`
+//! is a frame in which the two machines differ for certain, an `Aim` says how the attempt at one ended, and an
+//! `Entry` is the record of one fault.
 //!
 //! The definitions that search and checker share stand in `specs/`: `Walks` (nodes, tokens, complete and open walks),
-//! `Windows` (the four windows and their cells), `Places`, `WindowStatus` and `Variables` (where a window shows what is
-//! looked for, and what is left to decide), `Nodes` (the window of a node), `WalkBack` (the choice of variable),
-//! `Searches` (how a search ends), `Counts` (how many tokens it can take), `FoundLists` and `Reached` (the lists that a
-//! search finds, and what lists do), `ToldChains` and `SearchRecords` (what is left where none is found), `Budgets` (which
-//! are enough) and `Entries` (what an entry says). What they are good for stands in `theorems`, and in ht_records what
-//! follows for every list of vectors.
+//! `Windows` (the four windows and their cells), `Places`, `WindowStatus` and `Variables` (where a window shows what
+//! is looked for, and what is left to decide), `Nodes` (the window of a node), `WalkBack` (the choice of variable),
+//! `Searches` (how a search ends), `Counts` (how many tokens it can take), `FoundLists` and `Reached` (the lists that
+//! a search finds, and what lists do), `ToldChains`, `SearchRecords`, `AimedAttempts` and `AbortRecords` (what is left
+//! where none is found), `Budgets` (which are enough) and `Entries` (what an entry says). What they are good for stands
+//! in `theorems`, and in ht_records what follows for every list of vectors.
 #![tactic(auto)]
 
 mod aim;

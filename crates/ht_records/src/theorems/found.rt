@@ -16,11 +16,11 @@ ghost use Rattle.ht_tree.specs.Searches.{FindsAt, guide_of};
 ghost use Rattle.ht_tree.specs.FoundLists.{back_list, list_of};
 ghost use Rattle.ht_tree.specs.Reached.{AreVectors, IsTernState, Reaches, ShowsFrom};
 
-/// Where the search of a sweep window finds a node, the list of its decisions, up to the first sure frame, detects the
-/// fault there.
+/// Where the search of a sweep window finds a node, the list of its decisions, up to the first sure frame, detects
+/// the fault there.
 pub fn found_sweep_list_detects()
-    ensures { (c : Netlist) (fault : Fault) (frames budget unit : ℕ) (tokens : List Token) (n : Node)
-        (frame : ℕ) (spot : Spot)
+    ensures { (c : Netlist) (fault : Fault) (frames budget unit : ℕ) (tokens : List Token)
+        (n : Node) (frame : ℕ) (spot : Spot)
         → FindsAt (guide_of (sweep_window c fault frames)) budget unit tokens n
         → status_at (sweep_window c fault frames) (path_of n) ≡ Sure frame spot
         → (o : ℕ) × (spot ≡ Output o)
