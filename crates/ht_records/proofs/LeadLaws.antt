@@ -1,14 +1,12 @@
 -- A sure back window leads from the cube that its path decided to its own.
-use Rattle.std.specs.List.{list_any, range_with_len}
-use Rattle.std.proofs.Common.{◌≡◌, ◌<◌, ◌+◌, ◌*◌, ℕ, suc, zero, List, [], ◌∷◌, ◌++◌, map, Bool, true, false, not, ◌&&◌, Option, Some, None, length, get_or, refl, sym, ◌∙◌, ap, inl, inr, arith, subst}
+use Rattle.std.proofs.Common.{◌≡◌, ◌<◌, ◌+◌, ◌*◌, ℕ, suc, zero, List, [], ◌∷◌, ◌++◌, map, Bool, true, not, ◌&&◌, Option, Some, None, length, get_or, refl, sym, ◌∙◌, ap, inl, inr, arith, subst}
 use Rattle.std.proofs.lemmas.Bool.{and_parts, both_ways, not_from_true}
 use Rattle.std.proofs.lemmas.Bool.Decides.{nat_tests}
-use Rattle.std.proofs.lemmas.List.FromFn.{length-map-range_with_len}
 use Rattle.ht_tern.specs.Gate.{AllRelated, Refines}
 use Rattle.ht_tern.specs.declared.tern.Tern.{Tern}
 use Rattle.ht_tern.specs.declared.tern.Tern.TheVariants.{One, Unk, Zero}
 use Rattle.ht_pairs.specs.Pairs.{IsMember, Pair, is_member, pair}
-use Rattle.ht_pairs.proofs.SetLaws.{is_member-true, member_map}
+use Rattle.ht_pairs.proofs.SetLaws.{is_member-true}
 use Rattle.ht_net.specs.Detection.{terns_of, unknown_state}
 use Rattle.ht_net.specs.Faults.{tern_rules}
 use Rattle.ht_net.specs.Frame.{next_state, run_state}
@@ -19,16 +17,16 @@ use Rattle.ht_tree.specs.Decisions.{decided_value, latch_values_left}
 use Rattle.ht_tree.specs.FoundLists.{list_of, vector_of}
 use Rattle.ht_tree.specs.Nodes.{cube_of, or_unknown}
 use Rattle.ht_tree.specs.Places.{set_at}
-use Rattle.ht_tree.specs.Reached.{HasCube, IsTernState, Reaches}
+use Rattle.ht_tree.specs.Reached.{HasCube, Reaches}
 use Rattle.ht_tree.specs.WindowStatus.{cube_latches, is_definite, must_meet, status_at, value_at}
 use Rattle.ht_tree.specs.Windows.{SearchWindow, back_window, first_input, is_undetermined}
 use Rattle.ht_tree.specs.declared.token.Assign3.{Assign3}
 use Rattle.ht_tree.specs.declared.window.Spot.TheVariants.{Cube, State}
 use Rattle.ht_tree.specs.declared.window.Status.TheVariants.{Sure}
-use Rattle.ht_tree.proofs.MemberLaws.{member_filter, member_range, none_passes}
 use Rattle.ht_tree.proofs.PathLaws.{listed_related, same_has}
 use Rattle.ht_records.proofs.BackFrameLaws.{cube_value}
 use Rattle.ht_records.proofs.BitPathLaws.{AreBitsAt, IsBitOrNone, bits_decided}
+use Rattle.ht_records.proofs.CubeLaws.{cube_held, wanted_latch}
 use Rattle.ht_records.proofs.LaterLaws.{run_more}
 use Rattle.ht_records.proofs.ListLaws.{all_passed}
 use Rattle.ht_records.proofs.RunLaws.{AllowsRun, next_has}
@@ -89,14 +87,11 @@ module _ (c : Netlist) (cube : List Tern) (limit : ℕ) (path : List Assign3) (b
   abbrev decision : ℕ → Option Tern
   decision j = decided_value path (c.inputs + j)
 
-  prev_held : IsTernState c prev
-  prev_held = length-map-range_with_len (λ j. or_unknown (decision j)) 0 (length c.dffs)
-
   frame_allowed : AllowsRun w path (list_of c path 1) prev prev
   frame_allowed = list_allowed w path 1 prev prev
       (λ f i l k. let at : i ≡ first_input w f + i = frame_zero c f i l in
       subst (λ (n : ℕ). IsBitOrNone (decided_value path n)) at (bits_decided (IsInput c) path bits i k))
-      prev_held prev_held
+      (cube_held c path) (cube_held c path)
       (λ j l. same_has (latch_values_left (decision j)) (get_or prev j Unk)
       (subst (λ (v : Tern). IsMember v (latch_values_left (decision j))) (sym (cube_value c path j l))
       (unknown_left (decision j))))
@@ -111,8 +106,7 @@ module _ (c : Netlist) (cube : List Tern) (limit : ℕ) (path : List Assign3) (b
       subst (λ (v : Tern). IsMember (pair v v) set) (sym (next_at c (tern_rules None) (terns_of v) prev j Unk l))
       (next_has w path (list_of c path 1) prev prev frame_allowed 0 j (omega (arith, n))) in
       wants want value (λ definite.
-      let listed = member_filter (λ j. is_definite (value_at cube j)) (range_with_len 0 (length c.dffs)) j
-      (member_range j 0 (length c.dffs) (omega arith) (omega (arith, l))) definite in
+      let listed = wanted_latch c cube j l definite in
       let must = all_passed (must_meet w path cube) (cube_latches c cube)
       (sure_must w path cube limit (cube_latches c cube) sure) j listed in
       ap (λ (p : Pair). p.good) (only_member (pair want want) set must (pair value value) here))
@@ -135,19 +129,3 @@ module _ (c : Netlist) (cube : List Tern) (limit : ℕ) (path : List Assign3) (b
       (refines_more (get_or (next_state c r (terns_of v) s) j Unk)
       (get_or (next_state c r (terns_of v) prev) j Unk) (value_at cube j)
       (get_related Refines _ _ j Unk Unk after (inr refl)) (next_has_cube j l))
-
-not_definite : (v : Tern) → is_definite v ≡ false → v ≡ Unk
-not_definite Zero h = cc
-not_definite One h = cc
-not_definite Unk h = refl
-
--- where a path decided no latch to 0 or 1, the empty list leads to its cube
-pub nothing_wanted : (c : Netlist) (path : List Assign3) → list_any is_definite (cube_of c path) ≡ false
-    → Reaches c [] (cube_of c path)
-nothing_wanted c path none j l =
-    let decision : ℕ → Option Tern = λ j. decided_value path (c.inputs + j) in
-    let listed = member_map (λ j. or_unknown (decision j)) (range_with_len 0 (length c.dffs)) j
-    (member_range j 0 (length c.dffs) (omega arith) (omega (arith, l))) in
-    inl (cube_value c path j l
-    ∙ not_definite (or_unknown (decision j)) (none_passes is_definite (cube_of c path) (or_unknown (decision j)) listed
-    none))

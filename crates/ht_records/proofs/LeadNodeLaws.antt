@@ -18,8 +18,9 @@ use Rattle.ht_tree.specs.declared.window.Spot.TheVariants.{Cube}
 use Rattle.ht_tree.specs.declared.window.Status.TheVariants.{Sure}
 use Rattle.ht_tree.proofs.NodeLaws.{node_kept, node_opened, path_grows, path_opened, window_kept, window_opened}
 use Rattle.ht_records.proofs.BitPathLaws.{AreBitsAt, bits_more}
+use Rattle.ht_records.proofs.CubeLaws.{cube_held, wanting_latches}
 use Rattle.ht_records.proofs.LeadLaws.{IsInput, leads_on}
-use Rattle.ht_records.proofs.SureCubeLaws.{some_wanted, sure_cube, sure_left}
+use Rattle.ht_records.proofs.SureCubeLaws.{sure_cube, sure_left}
 use Rattle.ht_records.proofs.WindowVectorLaws.{AreAtMost, above_decide, above_under, at_most_more, at_most_push}
 
 -- the cube of a start
@@ -114,7 +115,7 @@ module _ (c : Netlist) (cube0 : List Tern) (limit0 : ℕ) where
         bits = subst (λ (path : List Assign3). AreBitsAt (IsInput c) path) (sym (path_opened n)) tt;
         left = omega (arith, m, some);
         wants = subst (λ (cube : List Tern). cube_latches c cube ≢ []) (sym (cube_opened n))
-            (some_wanted c (path_of n) both.1);
+            ((wanting_latches c (cube_of c (path_of n)) (cube_held c (path_of n))).0 both.1);
         leads = λ list reaches.
             subst (λ (vs : List (List Bool)). Reaches c (list ++ vs) cube0) (sym above)
             (one_more n h sure list (subst (λ (cube : List Tern). Reaches c list cube) (cube_opened n) reaches));

@@ -7,6 +7,7 @@ pub mod ShownLaws
 pub mod ListBitLaws
 pub mod DifferenceLaws
 pub mod WidthLaws
+pub mod CubeLaws
 pub mod BackFrameLaws
 pub mod BackLaws
 pub mod CompleteLaws

@@ -20,8 +20,8 @@ pub use theorems::complete::{
     complete_sweep_detects_nothing,
 };
 pub use theorems::found::{
-    detection_stays_after_a_list, found_back_list_reaches, found_forward_list_shows,
-    found_lists_have_the_width, found_sweep_list_detects,
+    cube_without_latches_is_reached, detection_stays_after_a_list, found_back_list_reaches,
+    found_forward_list_shows, found_lists_have_the_width, found_sweep_list_detects,
 };
 pub use theorems::told::{
     sure_window_tells, told_chain_grows, told_chain_lies_in_every_seal, told_output_leaves_no_seal,
