@@ -60,15 +60,14 @@ abbrev pub ends_at_output : List Told → Bool
 ends_at_output [] = false
 ends_at_output (told ∷ chain) = is_output told.place || ends_at_output chain
 
--- A chain from a set of flip-flops on: each frame is told where the states may differ at the set and at what was told
--- before it, and none comes after an output.
-abbrev pub IsToldChainFrom : Netlist → Fault → List ℕ → List Told → Type 0
-IsToldChainFrom c fault z [] = Unit {0}
-IsToldChainFrom c fault z (told ∷ chain) =
-    Tells c fault z told
-    × (is_output told.place ≡ true → chain ≡ [])
-    × IsToldChainFrom c fault (z ++ state_of_spot told.place) chain
+-- A chain of frames from a set of flip-flops on: each frame has a property at the set, then the flip-flop that it tells
+-- joins the set, and none comes after an output.
+abbrev pub AreChained : (List ℕ → Told → Type 0) → List ℕ → List Told → Type 0
+AreChained P z [] = Unit {0}
+AreChained P z (told ∷ chain) =
+    P z told × (is_output told.place ≡ true → chain ≡ []) × AreChained P (z ++ state_of_spot told.place) chain
 
--- a told chain: it begins with two machines in one state
+-- a told chain: it begins with two machines in one state, and each frame is told where the states may differ at what was
+-- told before it
 abbrev pub IsToldChain : Netlist → Fault → List Told → Type 0
-IsToldChain c fault chain = IsToldChainFrom c fault [] chain
+IsToldChain c fault chain = AreChained (Tells c fault) [] chain
