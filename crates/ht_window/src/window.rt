@@ -231,8 +231,8 @@ impl<'c> Window<'c> {
         0
     }
 
-    // The window's circuit.
-    pub(crate) fn circuit(&self) -> &'c Circuit
+    /// The window's circuit.
+    pub fn circuit(&self) -> &'c Circuit
         ensures circuit { result.now ≡ self.now.window.circuit }
         ensures valid { IsWindow self.now.window }
     {
@@ -276,8 +276,8 @@ impl<'c> Window<'c> {
         self.held.decided().is_decided(var)
     }
 
-    // The variable of input i of a frame.
-    pub(crate) fn input_var(&self, frame: u32, i: u32) -> u32
+    /// The variable of input i of a frame. Frames and inputs count from 0.
+    pub fn input_var(&self, frame: u32, i: u32) -> u32
         requires frame { frame < self.now.window.frames }
         requires input { i < self.now.window.circuit.inputs }
         ensures { result ≡ first_input self.now.window frame + i }

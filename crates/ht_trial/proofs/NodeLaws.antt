@@ -1,0 +1,78 @@
+-- What a window says of the node where its decisions stand.
+use Rattle.std.proofs.Common.{◌≡◌, ◌≢◌, ◌||◌, ◌⊎◌, ℕ, List, Bool, true, false, IsTrue, refl, sym, ◌∙◌, ap, subst, inl, inr}
+use Rattle.ht_tern.specs.declared.tern.Tern.{Tern}
+use Rattle.ht_tern.specs.declared.tern.Tern.TheVariants.{Zero, One, Unk}
+use Rattle.ht_tree.specs.declared.token.Assign3.{Assign3}
+use Rattle.ht_tree.specs.declared.token.Choice.{Choice}
+use Rattle.ht_tree.specs.declared.token.Choice.TheVariants as choice
+use Rattle.ht_tree.specs.declared.token.Status3.TheVariants as status3
+use Rattle.ht_tree.specs.declared.window.Spot.{Spot}
+use Rattle.ht_tree.specs.declared.window.Status.{Status}
+use Rattle.ht_tree.specs.declared.window.Status.TheVariants.{Dead, Sure, Open}
+use Rattle.ht_tree.specs.Walks.{Node, Fits, decides, path_of}
+use Rattle.ht_tree.specs.Searches.{guide_of, deciding_token}
+use Rattle.ht_tree.specs.Windows.{SearchWindow}
+use Rattle.ht_tree.specs.WindowStatus.{status_at, without_place}
+use Rattle.ht_tree.specs.Variables.{IsLegalChoice, may_two, may_three}
+use Rattle.ht_tree.specs.Nodes.{window_at, may_go_before}
+use Rattle.ht_tree.specs.WalkBack.{pick_of}
+use Rattle.ht_search.specs.Legal.{MayDecide}
+use Rattle.ht_window.specs.States.{IsLegalDecision}
+
+either : (a b : Bool) → IsTrue (a || b) → IsTrue a ⊎ IsTrue b
+either true b h = inl refl
+either false b h = inr h
+
+-- a window with its decisions stands at a node of the first window
+module _ (first w : SearchWindow) (n : Node) (ds : List Assign3) (at : window_at first n ≡ w) (is : path_of n ≡ ds)
+  where
+    pub status_is : without_place (status_at w ds) ≡ (guide_of first).judge.status n
+    status_is = λ k. without_place (status_at (sym at k) (sym is k))
+
+    pub choice_is : pick_of w ds ≡ (guide_of first).choice n
+    choice_is = λ k. pick_of (sym at k) (sym is k)
+
+    pub before_is : may_go_before w ds ≡ (guide_of first).judge.before n
+    before_is = λ k. may_go_before (sym at k) (sym is k)
+
+    two_is : (var : ℕ) → may_two w var ≡ (guide_of first).judge.two n var
+    two_is var = λ k. may_two (sym at k) var
+
+    three_is : (var : ℕ) → may_three w var ≡ (guide_of first).judge.three n var
+    three_is var = λ k. may_three (sym at k) var
+
+    pub choice_fits : (chosen : Choice) → (guide_of first).judge.status n ≡ status3.Open → IsLegalChoice w ds chosen
+        → Fits (guide_of first).judge n (deciding_token chosen)
+    choice_fits (choice.Two var bit) opens h =
+        (opens, subst IsTrue (two_is var) h.0, ap (λ (p : List Assign3). decides p var) is ∙ h.1)
+    choice_fits (choice.Three var) opens h =
+        (opens, subst IsTrue (three_is var) h.0, ap (λ (p : List Assign3). decides p var) is ∙ h.1)
+
+    pub decision_undecided : (var : ℕ) (value : Tern) → MayDecide (guide_of first).judge n var value
+        → decides ds var ≡ false
+    decision_undecided var value may = ap (λ (p : List Assign3). decides p var) (sym is) ∙ may.undecided
+
+    legal_by : (var : ℕ) (value : Tern) → value ≢ Unk
+        → IsTrue ((guide_of first).judge.two n var || (guide_of first).judge.three n var) → IsLegalDecision w var value
+    legal_by var value known h =
+        elim (either ((guide_of first).judge.two n var) ((guide_of first).judge.three n var) h) [
+          | inl two ↦ inl (subst IsTrue (sym (two_is var)) two, known)
+          | inr three ↦ inr (subst IsTrue (sym (three_is var)) three)
+        ]
+
+    pub decision_legal : (var : ℕ) (value : Tern) → MayDecide (guide_of first).judge n var value
+        → IsLegalDecision w var value
+    decision_legal var Zero may = legal_by var Zero (λ e. cc) may.legal
+    decision_legal var One may = legal_by var One (λ e. cc) may.legal
+    decision_legal var Unk may = inr (subst IsTrue (sym (three_is var)) may.legal)
+
+-- a status by itself without its place
+pub open_alone : (s : Status) → without_place s ≡ status3.Open → s ≡ Open
+open_alone Dead h = cc
+open_alone (Sure frame place) h = cc
+open_alone Open h = refl
+
+pub sure_alone : (s : Status) → without_place s ≡ status3.Sure → (frame : ℕ) × (place : Spot) × (s ≡ Sure frame place)
+sure_alone Dead h = cc
+sure_alone (Sure frame place) h = (frame, place, refl)
+sure_alone Open h = cc

@@ -1,0 +1,35 @@
+-- How many windows may stand one under the other.
+use Rattle.std.specs.Prelude.{◌≡◌, ◌<◌, ◌-◌, ◌&&◌, ℕ, Bool, true, false, IsTrue, nat_lt, length}
+use Rattle.std.specs.List.{list_any}
+use Rattle.std.proofs.Common.{arith, refl}
+use Rattle.std.proofs.lemmas.Bool.Decides.{nat_tests}
+use Rattle.ht_net.specs.Netlist.{Netlist}
+use Rattle.ht_tree.specs.Walks.{Node, path_of}
+use Rattle.ht_tree.specs.Windows.{SearchWindow, Start, one_frame, unknown, state_pair, back}
+use Rattle.ht_tree.specs.WindowStatus.{is_definite}
+use Rattle.ht_tree.specs.Nodes.{before_of_start, cube_of, start_at, judge_of}
+
+left_true : (a b : Bool) → IsTrue (a && b) → a ≡ true
+left_true true b h = refl
+left_true false b h = cc
+
+below : (limit k : ℕ) (b : Bool) → IsTrue (nat_lt 0 (limit - k) && b) → k < limit
+below limit k b h = let some = left_true (nat_lt 0 (limit - k)) b h in grind (arith, nat_tests)
+
+-- as many windows come under the first as frames are left to a back window, and none under another
+abbrev pub most_windows : Start → ℕ
+most_windows (one_frame z) = 0
+most_windows unknown = 0
+most_windows (state_pair good faulty) = 0
+most_windows (back cube limit) = limit
+
+few_of : (c : Netlist) (s : Start) (n : Node) → IsTrue (before_of_start c (start_at c n s) (path_of n))
+    → length n.windows < most_windows s
+few_of c (one_frame z) n h = cc
+few_of c unknown n h = cc
+few_of c (state_pair good faulty) n h = cc
+few_of c (back cube limit) n h = below limit (length n.windows) (list_any is_definite (cube_of c (path_of n))) h
+
+pub window_shallow : (w : SearchWindow)
+    → (most : ℕ) × ((n : Node) → IsTrue ((judge_of w).before n) → length n.windows < most)
+window_shallow w = (most_windows w.start, few_of w.circuit w.start)
