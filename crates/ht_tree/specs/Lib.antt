@@ -1,4 +1,5 @@
 pub mod Walks
+pub mod NodeOf
 pub mod WalkOf
 pub mod StackOf
 pub mod Decisions

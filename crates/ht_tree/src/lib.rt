@@ -16,6 +16,7 @@
 
 mod aim;
 mod entry;
+mod node;
 mod stack;
 mod theorems;
 mod token;
@@ -25,6 +26,7 @@ mod window;
 
 pub use aim::Aim;
 pub use entry::Entry;
+pub use node::WalkNode;
 pub use theorems::{
     before_opens_the_window_below, complete_walk_seals, decided_window_is_not_open,
     decision_keeps_the_window, decision_leaves_one_variable_less, difference_search_is_never_spent,
