@@ -5,7 +5,7 @@ use Rattle.ht_net.specs.Netlist.{Netlist, IsCircuit}
 use Rattle.ht_net.specs.Named.{NamedNetlist, named_of}
 use Rattle.ht_bench.specs.Contents.{named_of_statements}
 use Rattle.ht_bench.specs.Text.{IsNetlistOf}
-use Rattle.ht_bench.proofs.EndOfTextLaws.{same_statements}
+use Rattle.ht_bench.proofs.StatedLaws.{same_statements}
 
 -- the inputs have the first names
 inputs_count : (c : Netlist) → IsCircuit c → length (named_of c).inputs ≡ c.inputs

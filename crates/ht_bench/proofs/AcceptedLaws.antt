@@ -6,16 +6,18 @@ use Rattle.std.proofs.lemmas.List.{length-append}
 use Rattle.std.proofs.lemmas.List.Sums.{sum_by-append}
 use Rattle.std.proofs.lemmas.List.Elements.{All-nil, All-cons}
 use Rattle.ht_net.specs.declared.names.NameId.{NameId}
+use Rattle.ht_net.specs.declared.error.Limit.{Limit as NetLimit}
 use Rattle.ht_net.specs.declared.error.Limit.TheVariants.{Nets, Pins, Inputs, Dffs}
+use Rattle.ht_net.specs.Netlist.{max_nets}
 use Rattle.ht_net.specs.Names.{IsNewName}
 use Rattle.ht_net.specs.Named.{Name, NamedGate}
 use Rattle.ht_net.specs.Draft.{Draft}
 use Rattle.ht_statement.specs.Statement.{Statement, blank_line, names_in}
 use Rattle.ht_statement.specs.Reading.{stated}
 use Rattle.ht_bench.specs.Different.{different}
-use Rattle.ht_bench.specs.Contents.{inputs_in, dffs_in, gates_in, driven_in, inputs_of, dffs_of, gates_of, driven_by, mentions_of, nets_of}
-use Rattle.ht_bench.specs.Accepted.{HasNewDriver, PassesLimit}
-use Rattle.ht_bench.specs.Added.{IsDraftWith, IsDraftOf, Accepts, RefusesStatement, RefusesDriver}
+use Rattle.ht_bench.specs.Contents.{inputs_in, dffs_in, gates_in, driven_in, stated_inputs, stated_dffs, stated_gates, driven_by, mentions_of, stated_nets}
+use Rattle.ht_bench.specs.Accepted.{HasNewDriver, IsFirstPassed, PassesLimit}
+use Rattle.ht_bench.specs.Drafts.{IsDraftWith, IsDraftOf, Accepts, RefusesStatement, RefusesDriver}
 use Rattle.ht_bench.specs.declared.add_error.AddError.{AddError}
 use Rattle.ht_bench.specs.declared.add_error.AddError.TheVariants.{Refused, SecondDriver, Limit, NoMemory as AddNoMemory}
 use Rattle.ht_bench.proofs.ListLaws.{contains_none, contains_head, contains_tail, contains_cases, flat_map-push}
@@ -66,32 +68,33 @@ module _ (before : List Statement) (s : Statement) where
       (All-cons (λ n. ¬ Contains (driven_by before) n) net [] absent
       (All-nil (λ n. ¬ Contains (driven_by before) n)))
 
+  -- a statement that makes a count pass its limit
+  pub passes_limit : (what : NetLimit) → HasNewDriver before s → IsFirstPassed (before ++ s ∷ []) what
+      → PassesLimit what before (stated s)
+  passes_limit what new passed = record { statement = s; states = refl; new_driver = new; passed = passed }
+
   -- names too many
-  pub nets_pass : HasNewDriver before s → 65535 < length (different (mentions_of before ++ names_in s))
+  pub nets_pass : HasNewDriver before s → max_nets < length (different (mentions_of before ++ names_in s))
       → PassesLimit Nets before (stated s)
-  nets_pass new many = record {
-    statement = s;
-    states = refl;
-    new_driver = new;
-    passed = omega (arith, many, ap (λ l. length (different l)) (mentions-push before s));
-  }
+  nets_pass new many = passes_limit Nets new
+      (omega (arith, many, ap (λ l. length (different l)) (mentions-push before s)))
 
   -- where a draft has the names, there is room for them
-  pub nets_fit : (d : Draft) → IsDraftWith (mentions_of before ++ names_in s) before d → length d.names ≤ 65535
-      → length (nets_of (before ++ s ∷ [])) ≤ 65535
+  pub nets_fit : (d : Draft) → IsDraftWith (mentions_of before ++ names_in s) before d → length d.names ≤ max_nets
+      → length (stated_nets (before ++ s ∷ [])) ≤ max_nets
   nets_fit d is few = omega (arith, few, ap length is.names, ap (λ l. length (different l)) (mentions-push before s))
 
-  pub inputs_more : length (inputs_of (before ++ s ∷ [])) ≡ length (inputs_of before) + length (inputs_in s)
-  inputs_more = ap length (flat_map-push inputs_in before s) ∙ length-append (inputs_of before) (inputs_in s)
+  pub inputs_more : length (stated_inputs (before ++ s ∷ [])) ≡ length (stated_inputs before) + length (inputs_in s)
+  inputs_more = ap length (flat_map-push inputs_in before s) ∙ length-append (stated_inputs before) (inputs_in s)
 
-  pub dffs_more : length (dffs_of (before ++ s ∷ [])) ≡ length (dffs_of before) + length (dffs_in s)
-  dffs_more = ap length (flat_map-push dffs_in before s) ∙ length-append (dffs_of before) (dffs_in s)
+  pub dffs_more : length (stated_dffs (before ++ s ∷ [])) ≡ length (stated_dffs before) + length (dffs_in s)
+  dffs_more = ap length (flat_map-push dffs_in before s) ∙ length-append (stated_dffs before) (dffs_in s)
 
-  pub gate_pins_more : sum_by (λ (g : NamedGate). length g.args) (gates_of (before ++ s ∷ []))
-      ≡ sum_by (λ (g : NamedGate). length g.args) (gates_of before) + sum_by (λ (g : NamedGate). length g.args)
+  pub gate_pins_more : sum_by (λ (g : NamedGate). length g.args) (stated_gates (before ++ s ∷ []))
+      ≡ sum_by (λ (g : NamedGate). length g.args) (stated_gates before) + sum_by (λ (g : NamedGate). length g.args)
       (gates_in s)
   gate_pins_more = ap (sum_by (λ (g : NamedGate). length g.args)) (flat_map-push gates_in before s) ∙ sum_by-append
-      (λ (g : NamedGate). length g.args) (gates_of before) (gates_in s)
+      (λ (g : NamedGate). length g.args) (stated_gates before) (gates_in s)
 
 -- a new name isn't driven
 new_is_free : (mentioned : List Name) (before : List Statement) (d : Draft) (name : Name)
@@ -112,7 +115,7 @@ driver_refused old s name more (SecondDriver net) names drives refused = λ befo
 driver_refused old s name more (Limit Nets) names drives refused = λ before is.
     nets_pass before s (new_driver_of before s name drives
     (new_is_free (mentions_of before) before old name is refused.0))
-    (subst (λ l. 65535 < length (different (mentions_of before ++ l))) (sym names)
+    (subst (λ l. max_nets < length (different (mentions_of before ++ l))) (sym names)
     (too_many_nets (mentions_of before) more before old name is refused.0 refused.1))
 driver_refused old s name more (Limit Pins) names drives refused = absurd refused
 driver_refused old s name more (Limit Inputs) names drives refused = absurd refused

@@ -4,7 +4,7 @@ use Rattle.ht_statement.specs.Statement.{Statement, blank_line, input_line, outp
 use Rattle.ht_statement.specs.Reading.{stated, reading_of}
 use Rattle.ht_statement.specs.StatementText.{has_its_count}
 use Rattle.ht_statement.proofs.StatedLaws.{count_is_arity, stated_sound}
-use Rattle.ht_bench.specs.Added.{HasArguments}
+use Rattle.ht_bench.specs.Drafts.{HasArguments}
 
 has_arguments : (s : Statement) → has_its_count s ≡ true → HasArguments s
 has_arguments blank_line count = tt

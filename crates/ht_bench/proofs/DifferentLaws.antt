@@ -9,7 +9,7 @@ use Rattle.std.proofs.lemmas.List.Elements.{All-cons, All-filter, All-contains, 
 use Rattle.ht_net.specs.Names.{IsNewName, IsNameAt}
 use Rattle.ht_net.specs.Named.{Name}
 use Rattle.ht_bench.specs.Different.{different}
-use Rattle.ht_bench.proofs.ListLaws.{contains_head, contains_tail, contains_cases, contains_none, filter_yes, filter_no, bool_cases, contains_filter}
+use Rattle.ht_bench.proofs.ListLaws.{contains_head, contains_tail, filter_yes, filter_no, bool_cases, contains_filter}
 
 pub name_cases : (a b : Name) → ((bytes_eq a b ≡ true) × (a ≡ b)) ⊎ ((bytes_eq a b ≡ false) × (a ≢ b))
 name_cases a b =
@@ -46,7 +46,8 @@ new_or_contained (x ∷ names) name =
     (λ (old : Contains names name). inr (contains_tail x names name old)) (new_or_contained names name))
     (name_cases x name)
 
-abbrev is_not : Name → Name → Bool
+-- whether a name is another
+abbrev pub is_not : Name → Name → Bool
 is_not name other = not (bytes_eq other name)
 
 -- one more name adds nothing where it is there, and stands last where it is new
@@ -136,37 +137,3 @@ different-append names (name ∷ more) =
     (λ (new : IsNewName (different names) name × (different (names ++ name ∷ []) ≡ different names ++ name ∷ [])).
     (name ∷ on.0, all ∙ ap (λ l. l ++ on.0) new.1 ∙ append_assoc (different names) (name ∷ []) on.0))
     (different-push names name)
-
-pub contains_different : (names : List Name) (name : Name) → Contains names name → Contains (different names) name
-contains_different [] name c = absurd (contains_none name c)
-contains_different (x ∷ names) name c =
-    ⊎_elim
-    (λ (same : (bytes_eq name x ≡ true) × (name ≡ x)). subst (Contains (different (x ∷ names))) (sym same.1)
-    (contains_head x (filter (is_not x) (different names))))
-    (λ (other : (bytes_eq name x ≡ false) × (name ≢ x)).
-    ⊎_elim (λ (e : x ≡ name). absurd (other.1 (sym e)))
-    (λ (rest : Contains names name).
-    contains_tail x (filter (is_not x) (different names)) name
-    (contains_filter (is_not x) (different names) name (ap not other.0) (contains_different names name rest)))
-    (contains_cases x names name c))
-    (name_cases name x)
-
-contained_by_filter : (p : Name → Bool) (xs : List Name) (y : Name) → Contains (filter p xs) y → Contains xs y
-contained_by_filter p [] y c = c
-contained_by_filter p (x ∷ xs) y c =
-    ⊎_elim
-    (λ (yes : p x ≡ true).
-    ⊎_elim (λ (e : x ≡ y). subst (Contains (x ∷ xs)) e (contains_head x xs))
-    (λ (rest : Contains (filter p xs) y). contains_tail x xs y (contained_by_filter p xs y rest))
-    (contains_cases x (filter p xs) y (subst (λ l. Contains l y) (filter_yes p x xs yes) c)))
-    (λ (no : p x ≡ false). contains_tail x xs y
-    (contained_by_filter p xs y (subst (λ l. Contains l y) (filter_no p x xs no) c)))
-    (bool_cases (p x))
-
-pub contains_in_different : (names : List Name) (name : Name) → Contains (different names) name → Contains names name
-contains_in_different [] name c = c
-contains_in_different (x ∷ names) name c =
-    ⊎_elim (λ (e : x ≡ name). subst (Contains (x ∷ names)) e (contains_head x names))
-    (λ (rest : Contains (filter (is_not x) (different names)) name). contains_tail x names name
-    (contains_in_different names name (contained_by_filter (is_not x) (different names) name rest)))
-    (contains_cases x (filter (is_not x) (different names)) name c)

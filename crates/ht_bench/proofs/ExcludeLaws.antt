@@ -14,12 +14,12 @@ use Rattle.ht_statement.specs.declared.error.LineRefusal.{LineRefusal}
 use Rattle.ht_bench.specs.Contents.{driven_in, driven_by, mentions_of}
 use Rattle.ht_bench.specs.Accepted.{IsAcceptedAfter, IsWithinLimits, IsFirstPassed, IsSecondDriver, PassesLimit}
 use Rattle.ht_bench.specs.EndOfText.{AreDriven}
-use Rattle.ht_bench.specs.Text.{IsNetlistOf, IsFirstRefused, IsUnreadable, IsUndriven, IsLoop, Refuses, IsOfNoCircuit}
+use Rattle.ht_bench.specs.Text.{IsAcceptedText, IsNetlistOf, IsFirstRefused, IsUnreadable, IsUndriven, IsLoop, Refuses, IsOfNoCircuit}
 use Rattle.ht_bench.specs.declared.error.BenchError.{BenchError}
 use Rattle.ht_bench.specs.declared.error.BenchError.TheVariants.{BadLine, BadName, BadKind, BadCount, Twice, TooMany, Undriven, Loop, NoMemory}
 use Rattle.ht_bench.proofs.ListLaws.{contains_head}
-use Rattle.ht_bench.proofs.FindLineLaws.{first_stated, states_one}
-use Rattle.ht_bench.proofs.EndOfTextLaws.{same_statements}
+use Rattle.ht_bench.proofs.FindLineLaws.{first_stated}
+use Rattle.ht_bench.proofs.StatedLaws.{states_one, same_statements}
 use Rattle.ht_bench.proofs.CycleLaws.{no_circuit}
 
 -- readings of which some begin with what these statements state
@@ -33,16 +33,19 @@ begins (b ∷ before) reading after statements e =
     let on = begins before reading after r.1 r.4 in
     (on.0, on.1, r.2 ∙ ap (λ s. s ∷ r.1) (sym same) ∙ ap (λ l. b ∷ l) on.2, on.3)
 
--- where a cause goes against acceptance, a text that is refused for it is no netlist
+-- where a cause goes against acceptance, a text that is refused for it has no accepted lines, so it is no netlist
 module _ (text : List ℕ) (IsAddError : List Statement → Reading → Type 0)
     (against : (before : List Statement) (s : Statement) → IsAddError before (stated s) → ¬ IsAcceptedAfter before s)
   where
+    pub refused_not_accepted : (number : ℕ) → IsFirstRefused text number IsAddError → (statements : List Statement)
+        → ¬ IsAcceptedText text statements
+    refused_not_accepted number first statements is =
+        let r = begins first.before first.reading first.after statements (sym first.split ∙ is.lines) in
+        against first.before r.0 (subst (IsAddError first.before) r.3 first.cause) (is.accepted first.before r.1 r.0 r.2)
+
     refused_is_no_netlist : (number : ℕ) → IsFirstRefused text number IsAddError → (circuit : Netlist)
         → ¬ IsNetlistOf text circuit
-    refused_is_no_netlist number first circuit is =
-        let r = begins first.before first.reading first.after is.statements (sym first.split ∙ is.read.lines) in
-        against first.before r.0 (subst (IsAddError first.before) r.3 first.cause)
-        (is.read.accepted first.before r.1 r.0 r.2)
+    refused_is_no_netlist number first circuit is = refused_not_accepted number first is.statements is.read
 
 abbrev pub is_stated : Reading → Bool
 is_stated (stated statement) = true
@@ -74,23 +77,31 @@ limit_against what before s passes accepted =
     (subst (λ t. IsFirstPassed (before ++ t ∷ []) what) (sym (states_one s passes.statement passes.states))
     passes.passed) accepted.limits
 
+-- a net in a statement is mentioned
+pub mentioned_in : (statements before : List Statement) (s : Statement) (after : List Statement) (left : List Name)
+    (name : Name) (right : List Name)
+    → statements ≡ before ++ s ∷ after → names_in s ≡ left ++ name ∷ right → Contains (mentions_of statements) name
+mentioned_in statements before s after left name right split names =
+    let on_line : Contains (names_in s) name = subst (λ l. Contains l name) (sym names)
+    (Contains-append_right left (name ∷ right) name (contains_head name right)) in
+    subst (λ l. Contains l name) (sym (ap mentions_of split ∙ flat_map-append names_in before (s ∷ after)))
+    (Contains-append_right (mentions_of before) (names_in s ++ mentions_of after) name
+    (Contains-append_left (names_in s) (mentions_of after) name on_line))
+
+-- where a net has no driver, not all nets are driven
+pub not_all_driven : (text : List ℕ) (n : ℕ) (a : Name) (f : IsUndriven text n a) (statements : List Statement)
+    → IsAcceptedText text statements → AreDriven statements (mentions_of statements) → ⊥
+not_all_driven text n a f statements read driven =
+    let same : statements ≡ f.statements = same_statements statements f.statements (sym read.lines ∙ f.read.lines) in
+    let all : AreDriven f.statements (mentions_of f.statements) = subst (λ l. AreDriven l (mentions_of l)) same driven
+    in
+    let u = f.first in
+    u.undriven (All-contains (Contains (driven_by f.statements)) (mentions_of f.statements) a all
+    (mentioned_in f.statements u.before u.statement u.after u.left a u.right u.split u.names))
+
 undriven_is_no_netlist : (text : List ℕ) (number : ℕ) (name : Name) → IsUndriven text number name → (circuit : Netlist)
     → ¬ IsNetlistOf text circuit
-undriven_is_no_netlist text number name u circuit is =
-    let same : is.statements ≡ u.statements = same_statements is.statements u.statements
-    (sym is.read.lines ∙ u.read.lines) in
-    let all : AreDriven u.statements (mentions_of u.statements) = subst (λ l. AreDriven l (mentions_of l)) same
-    is.driven in
-    let f = u.first in
-    let on_line : Contains (names_in f.statement) name = subst (λ l. Contains l name) (sym f.names)
-    (Contains-append_right f.left (name ∷ f.right) name (contains_head name f.right)) in
-    let mentions : mentions_of u.statements ≡ mentions_of f.before ++ (names_in f.statement ++ mentions_of f.after) = ap
-    mentions_of f.split ∙ flat_map-append names_in f.before (f.statement ∷ f.after) in
-    let mentioned : Contains (mentions_of u.statements) name =
-    subst (λ l. Contains l name) (sym mentions)
-    (Contains-append_right (mentions_of f.before) (names_in f.statement ++ mentions_of f.after) name
-    (Contains-append_left (names_in f.statement) (mentions_of f.after) name on_line)) in
-    f.undriven (All-contains (Contains (driven_by u.statements)) (mentions_of u.statements) name all mentioned)
+undriven_is_no_netlist text number name u circuit is = not_all_driven text number name u is.statements is.read is.driven
 
 loop_is_no_netlist : (text : List ℕ) (number : ℕ) (cycle : List Name) → IsLoop text number cycle → (circuit : Netlist)
     → ¬ IsNetlistOf text circuit

@@ -1,21 +1,11 @@
 -- The first refused line of a text is one, and so is its cause.
 use Rattle.std.proofs.Common.{◌≡◌, ◌⊎◌, inl, inr, ⊎_elim, ℕ, List, [], ◌∷◌, ◌++◌, length, map, refl, sym, ◌∙◌, ap, subst, arith}
-use Rattle.std.specs.List.{All, Contains}
-use Rattle.std.proofs.lemmas.Bool.{false≢true}
-use Rattle.std.proofs.lemmas.List.Elements.{All-head}
-use Rattle.ht_net.specs.declared.error.Limit.{Limit}
-use Rattle.ht_net.specs.declared.error.Limit.TheVariants.{Nets, Pins, Inputs, Dffs}
-use Rattle.ht_net.specs.Named.{Name}
 use Rattle.ht_statement.specs.Statement.{Statement}
-use Rattle.ht_statement.specs.Reading.{Reading, stated, unreadable}
-use Rattle.ht_statement.specs.declared.error.LineRefusal.{LineRefusal}
-use Rattle.ht_statement.specs.declared.error.LineRefusal.TheVariants.{BadLine as LineIsBad}
-use Rattle.ht_bench.specs.Contents.{driven_in, driven_by}
-use Rattle.ht_bench.specs.Accepted.{IsAcceptedAfter, IsFirstPassed, IsSecondDriver, PassesLimit}
-use Rattle.ht_bench.specs.Text.{IsAcceptedText, IsFirstRefused, IsUnreadable}
-use Rattle.ht_bench.proofs.FindLineLaws.{states_one}
-use Rattle.ht_bench.proofs.EndOfTextLaws.{same_statements}
-use Rattle.ht_bench.proofs.ExcludeLaws.{begins, is_stated}
+use Rattle.ht_statement.specs.Reading.{Reading, stated}
+use Rattle.ht_bench.specs.Accepted.{IsAcceptedAfter}
+use Rattle.ht_bench.specs.Text.{IsFirstRefused}
+use Rattle.ht_bench.proofs.StatedLaws.{same_statements}
+use Rattle.ht_bench.proofs.ExcludeLaws.{begins}
 
 -- ---- two splits of one list
 
@@ -68,62 +58,3 @@ module _ (text : List ℕ) (C D : List Statement → Reading → Type 0)
       absurd (d_against g.before r.0 (subst (D g.before) r.3 g.cause) (f.accepted g.before r.1 r.0 r.2))) other)
       (split_cases (map stated f.before) f.reading f.after (map stated g.before) g.reading g.after
       (sym f.split ∙ g.split))
-
-module _ (text : List ℕ) (C : List Statement → Reading → Type 0)
-    (against : (before : List Statement) (s : Statement) → C before (stated s) → ¬ IsAcceptedAfter before s) where
-  pub refused_not_accepted : (n : ℕ) → IsFirstRefused text n C → (statements : List Statement)
-      → ¬ IsAcceptedText text statements
-  refused_not_accepted n first statements is =
-      let r = begins first.before first.reading first.after statements (sym first.split ∙ is.lines) in
-      against first.before r.0 (subst (C first.before) r.3 first.cause) (is.accepted first.before r.1 r.0 r.2)
-
--- ---- causes at one line
-
-abbrev refusal_in : Reading → LineRefusal
-refusal_in (unreadable refusal) = refusal
-refusal_in (stated statement) = LineIsBad
-
-module _ (before : List Statement) (reading : Reading) where
-  pub unread_unread : (a b : LineRefusal) → IsUnreadable a before reading → IsUnreadable b before reading → a ≡ b
-  unread_unread a b e f = ap refusal_in (sym e ∙ f)
-
-  pub unread_states : (a : LineRefusal) (s : Statement) → IsUnreadable a before reading → reading ≡ stated s → ⊥
-  unread_states a s e f = false≢true (ap is_stated (sym e ∙ f))
-
-  pub second_second : (a b : Name) → IsSecondDriver a before reading → IsSecondDriver b before reading → a ≡ b
-  second_second a b f g =
-      let same = states_one f.statement g.statement (sym f.states ∙ g.states) in
-      let nets : a ∷ [] ≡ b ∷ [] = sym f.drives ∙ ap driven_in same ∙ g.drives in
-      cc
-
-  pub second_passed : (a : Name) (what : Limit) → IsSecondDriver a before reading → PassesLimit what before reading → ⊥
-  second_passed a what f g =
-      let same = states_one f.statement g.statement (sym f.states ∙ g.states) in
-      All-head (λ n. ¬ Contains (driven_by before) n) a []
-      (subst (All (λ n. ¬ Contains (driven_by before) n)) (ap driven_in (sym same) ∙ f.drives) g.new_driver)
-      f.driven
-
-  one_limit : (statements : List Statement) (a b : Limit) → IsFirstPassed statements a → IsFirstPassed statements b → a
-      ≡ b
-  one_limit s Nets Nets p q = refl
-  one_limit s Nets Pins p q = absurd (omega (arith, p, q.0))
-  one_limit s Nets Inputs p q = absurd (omega (arith, p, q.0))
-  one_limit s Nets Dffs p q = absurd (omega (arith, p, q.0))
-  one_limit s Pins Nets p q = absurd (omega (arith, p.0, q))
-  one_limit s Pins Pins p q = refl
-  one_limit s Pins Inputs p q = absurd (omega (arith, p.1, q.1))
-  one_limit s Pins Dffs p q = absurd (omega (arith, p.1, q.1))
-  one_limit s Inputs Nets p q = absurd (omega (arith, p.0, q))
-  one_limit s Inputs Pins p q = absurd (omega (arith, p.1, q.1))
-  one_limit s Inputs Inputs p q = refl
-  one_limit s Inputs Dffs p q = absurd (omega (arith, p.2, q.2))
-  one_limit s Dffs Nets p q = absurd (omega (arith, p.0, q))
-  one_limit s Dffs Pins p q = absurd (omega (arith, p.1, q.1))
-  one_limit s Dffs Inputs p q = absurd (omega (arith, p.2, q.2))
-  one_limit s Dffs Dffs p q = refl
-
-  pub passed_passed : (a b : Limit) → PassesLimit a before reading → PassesLimit b before reading → a ≡ b
-  passed_passed a b f g =
-      let same = states_one f.statement g.statement (sym f.states ∙ g.states) in
-      one_limit (before ++ f.statement ∷ []) a b f.passed
-      (subst (λ s. IsFirstPassed (before ++ s ∷ []) b) (sym same) g.passed)

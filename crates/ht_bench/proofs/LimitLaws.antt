@@ -3,13 +3,14 @@ use Rattle.std.proofs.Common.{◌≡◌, ◌⊎◌, ⊎_elim, ℕ, ◌<◌, ◌�
 use Rattle.std.specs.List.{AllZip, Contains, fold}
 use Rattle.std.proofs.lemmas.List.{length-append}
 use Rattle.ht_net.specs.Names.{IsNewName}
+use Rattle.ht_net.specs.Netlist.{max_nets, max_pins, max_inputs, max_dffs}
 use Rattle.ht_net.specs.Named.{Name, NamedGate}
 use Rattle.ht_net.specs.Draft.{Draft, DraftGate, draft_pins}
 use Rattle.ht_bench.specs.Different.{different}
 use Rattle.ht_statement.specs.Statement.{Statement}
-use Rattle.ht_bench.specs.Contents.{inputs_of, dffs_of, gates_of, mentions_of, pins_of}
+use Rattle.ht_bench.specs.Contents.{stated_inputs, stated_dffs, stated_gates, mentions_of, stated_pins}
 use Rattle.ht_bench.specs.Accepted.{IsWithinLimits}
-use Rattle.ht_bench.specs.Added.{IsNumberOf, IsDffOf, IsGateOf, IsDraftWith, IsDraftOf}
+use Rattle.ht_bench.specs.Drafts.{IsNumberOf, IsDffOf, IsGateOf, IsDraftWith, IsDraftOf}
 use Rattle.ht_bench.proofs.ListLaws.{AllZip-length}
 use Rattle.ht_bench.proofs.DifferentLaws.{different-push, different-append_grows, contains_not_new}
 
@@ -27,22 +28,22 @@ sums_same names (x ∷ xs) (y ∷ ys) a h =
     same
 
 pub pins_same : (mentioned : List Name) (statements : List Statement) (d : Draft) → IsDraftWith mentioned statements d
-    → draft_pins d ≡ pins_of statements
+    → draft_pins d ≡ stated_pins statements
 pins_same mentioned statements d is =
-    let dffs_same = AllZip-length (IsDffOf d.names) d.dffs (dffs_of statements) is.dffs in
-    let gates_same = sums_same d.names d.gates (gates_of statements) 0 is.gates in
+    let dffs_same = AllZip-length (IsDffOf d.names) d.dffs (stated_dffs statements) is.dffs in
+    let gates_same = sums_same d.names d.gates (stated_gates statements) 0 is.gates in
     omega (arith, dffs_same, gates_same)
 
 pub inputs_same : (mentioned : List Name) (statements : List Statement) (d : Draft) → IsDraftWith mentioned statements d
-    → length d.inputs ≡ length (inputs_of statements)
-inputs_same mentioned statements d is = AllZip-length (IsNumberOf d.names) d.inputs (inputs_of statements) is.inputs
+    → length d.inputs ≡ length (stated_inputs statements)
+inputs_same mentioned statements d is = AllZip-length (IsNumberOf d.names) d.inputs (stated_inputs statements) is.inputs
 
 pub dffs_same : (mentioned : List Name) (statements : List Statement) (d : Draft) → IsDraftWith mentioned statements d
-    → length d.dffs ≡ length (dffs_of statements)
-dffs_same mentioned statements d is = AllZip-length (IsDffOf d.names) d.dffs (dffs_of statements) is.dffs
+    → length d.dffs ≡ length (stated_dffs statements)
+dffs_same mentioned statements d is = AllZip-length (IsDffOf d.names) d.dffs (stated_dffs statements) is.dffs
 
-pub limits_of_draft : (statements : List Statement) (d : Draft) → IsDraftOf statements d → length d.names ≤ 65535
-    → draft_pins d ≤ 262144 → length d.inputs ≤ 4096 → length d.dffs ≤ 16384
+pub limits_of_draft : (statements : List Statement) (d : Draft) → IsDraftOf statements d → length d.names ≤ max_nets
+    → draft_pins d ≤ max_pins → length d.inputs ≤ max_inputs → length d.dffs ≤ max_dffs
     → IsWithinLimits statements
 limits_of_draft statements d is nets pins inputs dffs = record {
   nets = omega (arith, ap length is.names);
@@ -53,7 +54,7 @@ limits_of_draft statements d is nets pins inputs dffs = record {
 
 pub too_many_nets : (mentioned more : List Name) (statements : List Statement) (d : Draft) (name : Name)
     → IsDraftWith mentioned statements d
-    → IsNewName d.names name → length d.names ≡ 65535 → 65535 < length (different (mentioned ++ name ∷ more))
+    → IsNewName d.names name → length d.names ≡ max_nets → max_nets < length (different (mentioned ++ name ∷ more))
 too_many_nets mentioned more statements d name is new full =
     ⊎_elim
     (λ (old : Contains (different mentioned) name × (different (mentioned ++ name ∷ []) ≡ different mentioned)).

@@ -1,8 +1,7 @@
 -- Members of lists, and lists that are related member by member.
 use Rattle.std.proofs.Common.{◌≡◌, ◌⊎◌, inl, inr, ⊎_elim, Bool, true, false, cond, List, [], ◌∷◌, ◌++◌, length, map, refl, sym, ◌∙◌, ap, subst, append-nil, arith}
-use Rattle.std.specs.List.{AllZip, Contains, filter}
+use Rattle.std.specs.List.{AllZip, Contains, filter, flat_map}
 use Rattle.std.proofs.lemmas.List.Concat.{flat_map-append}
-use Rattle.std.specs.List.{flat_map}
 use Rattle.std.proofs.lemmas.List.Elements.{Contains-append_left, Contains-append_right, Contains-append_cases, Contains-push, Contains-push_cases}
 
 -- ---- members
@@ -93,16 +92,17 @@ module _ {A B : Type 0} where
       (λ (rest : Contains xs x). let r = AllZip-right R xs ys x h.1 rest in (r.0, r.1, contains_tail w ys r.0 r.2))
       (contains_cases v xs x c)
 
+-- the same from the other side
+module _ {A B : Type 0} where
+  AllZip-flip : (R : A → B → Type 0) (xs : List A) (ys : List B) → AllZip R xs ys → AllZip (λ y x. R x y) ys xs
+  AllZip-flip R [] [] h = tt
+  AllZip-flip R [] (y ∷ ys) h = absurd h
+  AllZip-flip R (x ∷ xs) [] h = absurd h
+  AllZip-flip R (x ∷ xs) (y ∷ ys) h = (h.0, AllZip-flip R xs ys h.1)
+
   pub AllZip-left : (R : A → B → Type 0) (xs : List A) (ys : List B) (y : B) → AllZip R xs ys → Contains ys y → (x : A)
       × R x y × Contains xs x
-  AllZip-left R [] [] y h c = absurd (contains_none y c)
-  AllZip-left R [] (w ∷ ys) y h c = absurd h
-  AllZip-left R (v ∷ xs) [] y h c = absurd h
-  AllZip-left R (v ∷ xs) (w ∷ ys) y h c =
-      ⊎_elim
-      (λ (e : w ≡ y). (v, subst (λ z. R v z) e h.0, contains_head v xs))
-      (λ (rest : Contains ys y). let r = AllZip-left R xs ys y h.1 rest in (r.0, r.1, contains_tail v xs r.0 r.2))
-      (contains_cases w ys y c)
+  AllZip-left R xs ys y h c = AllZip-right (λ z x. R x z) ys xs y (AllZip-flip R xs ys h) c
 
 -- ---- what one more member adds
 

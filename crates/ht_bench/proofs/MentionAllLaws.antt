@@ -1,23 +1,21 @@
 -- Names that are mentioned one by one.
-use Rattle.std.proofs.Common.{◌≡◌, ◌≢◌, ⊎_elim, ℕ, zero, suc, ◌<◌, ◌+◌, List, [], ◌∷◌, ◌++◌, length, get_or, take, sym, ◌∙◌, ap, subst, append_assoc, take-append-drop, arith, ◌≤◌, drop}
+use Rattle.std.proofs.Common.{◌≡◌, ℕ, zero, suc, ◌<◌, ◌+◌, List, [], ◌∷◌, ◌++◌, length, get_or, take, sym, ◌∙◌, ap, subst, append_assoc, take-append-drop, arith, drop}
 use Rattle.std.specs.List.{AllZip, Contains}
 use Rattle.std.specs.Borrow.{Bor}
-use Rattle.std.proofs.lemmas.Bool.{cases_lt}
-use Rattle.std.proofs.lemmas.List.{get_or-map, take_more, drop_more, length-map, length-append, map_push, get_or_append_left}
+use Rattle.std.proofs.lemmas.List.{get_or-map, take_more, drop_more, length-map}
 use Rattle.ht_net.specs.declared.names.NameId.{NameId}
 use Rattle.ht_net.specs.declared.error.Limit.TheVariants.{Nets, Pins, Inputs, Dffs}
-use Rattle.ht_net.specs.Names.{IsNewName}
+use Rattle.ht_net.specs.Netlist.{max_nets}
 use Rattle.ht_net.specs.Named.{Name}
 use Rattle.ht_net.specs.Draft.{Draft, IsDriven, IsName, no_name}
 use Rattle.ht_statement.specs.Statement.{Statement}
 use Rattle.ht_statement.specs.StatementOf.{texts_of}
 use Rattle.ht_bench.specs.Different.{different}
 use Rattle.ht_bench.specs.Contents.{driven_by, mentions_of}
-use Rattle.ht_bench.specs.Added.{IsNumberOf, IsDraftWith, IsDraftOf, Mentions, RefusesMention, RefusesMentions}
+use Rattle.ht_bench.specs.Drafts.{IsNumberOf, IsDraftWith, IsDraftOf, Mentions, RefusesMention, RefusesMentions}
 use Rattle.ht_bench.specs.declared.add_error.AddError.{AddError}
 use Rattle.ht_bench.specs.declared.add_error.AddError.TheVariants.{Refused, SecondDriver, Limit, NoMemory}
 use Rattle.ht_bench.proofs.ListLaws.{AllZip-weaker, AllZip-add}
-use Rattle.ht_bench.proofs.DifferentLaws.{new_or_contained, contains_not_new}
 use Rattle.ht_bench.proofs.MentionLaws.{driven_is}
 use Rattle.ht_bench.proofs.LimitLaws.{too_many_nets}
 
@@ -89,7 +87,7 @@ module _ (a b : Draft) (texts : List (Bor (List ℕ))) (i : ℕ) (d : Bor (List 
       let rest = drop (i + 1) (texts_of texts) in
       let many = too_many_nets (mentioned ++ take i (texts_of texts)) rest statements b name
       (first.with_names mentioned statements h) refused.0 refused.1 in
-      subst (λ l. 65535 < length (different l))
+      subst (λ l. max_nets < length (different l))
       (append_assoc mentioned (take i (texts_of texts)) (name ∷ rest) ∙ ap (λ l. mentioned ++ l) (sym texts_split))
       many
   step_refuses (Limit Pins) first refused = absurd refused

@@ -1,8 +1,7 @@
 -- Numbers of names in a draft, and what one more name changes.
 use Rattle.std.proofs.Common.{◌≡◌, ◌⊎◌, inl, inr, ⊎_elim, ℕ, ◌<◌, List, [], ◌∷◌, ◌++◌, sym, ◌∙◌, ap, subst, arith}
-use Rattle.std.specs.List.{All, AllZip, Contains}
+use Rattle.std.specs.List.{Contains}
 use Rattle.std.proofs.lemmas.Bool.{cases_lt}
-use Rattle.std.proofs.lemmas.List.Elements.{All-nil, All-cons, All-head, All-tail}
 use Rattle.std.proofs.lemmas.List.{length-append, get_or_append_left}
 use Rattle.ht_net.specs.declared.names.NameId.{NameId}
 use Rattle.ht_net.specs.declared.draft.DraftDff.{DraftDff}
@@ -12,8 +11,8 @@ use Rattle.ht_net.specs.Named.{Name, NamedDff, NamedGate}
 use Rattle.ht_net.specs.Draft.{Draft, DraftGate, IsDraft, IsDriven}
 use Rattle.ht_bench.specs.Different.{different}
 use Rattle.ht_statement.specs.Statement.{Statement}
-use Rattle.ht_bench.specs.Contents.{driven_by}
-use Rattle.ht_bench.specs.Added.{IsNumberOf, IsDffOf, IsGateOf, IsDraftWith, Mentions}
+use Rattle.ht_bench.specs.Contents.{driven_by, mentions_of}
+use Rattle.ht_bench.specs.Drafts.{IsNumberOf, IsDffOf, IsGateOf, IsDraftWith, IsDraftOf, Mentions, MentionsFree}
 use Rattle.ht_bench.proofs.ListLaws.{AllZip-weaker}
 use Rattle.ht_bench.proofs.DifferentLaws.{different-push, new_or_contained, contains_not_new}
 
@@ -130,27 +129,9 @@ is_driven mentioned statements d id name is at contains =
     let r = is.driven name contains in
     subst (IsDriven d) (one_number d.names r.0 id name is.names_differ r.2 at) r.1
 
--- the same of lists of names
-pub drivers_contained : (mentioned : List Name) (statements : List Statement) (d : Draft)
-    → IsDraftWith mentioned statements d
-    → (ids : List NameId) (names : List Name) → AllZip (IsNumberOf d.names) ids names → All (IsDriven d) ids
-    → All (Contains (driven_by statements)) names
-drivers_contained mentioned statements d is [] [] h driven = All-nil (Contains (driven_by statements))
-drivers_contained mentioned statements d is [] (y ∷ ys) h driven = absurd h
-drivers_contained mentioned statements d is (x ∷ xs) [] h driven = absurd h
-drivers_contained mentioned statements d is (x ∷ xs) (y ∷ ys) h driven =
-    All-cons (Contains (driven_by statements)) y ys
-    (driven_is mentioned statements d x y is h.0 (All-head (IsDriven d) x xs driven))
-    (drivers_contained mentioned statements d is xs ys h.1 (All-tail (IsDriven d) x xs driven))
-
-pub contained_drivers : (mentioned : List Name) (statements : List Statement) (d : Draft)
-    → IsDraftWith mentioned statements d
-    → (ids : List NameId) (names : List Name) → AllZip (IsNumberOf d.names) ids names
-    → All (Contains (driven_by statements)) names → All (IsDriven d) ids
-contained_drivers mentioned statements d is [] [] h contained = All-nil (IsDriven d)
-contained_drivers mentioned statements d is [] (y ∷ ys) h contained = absurd h
-contained_drivers mentioned statements d is (x ∷ xs) [] h contained = absurd h
-contained_drivers mentioned statements d is (x ∷ xs) (y ∷ ys) h contained =
-    All-cons (IsDriven d) x xs
-    (is_driven mentioned statements d x y is h.0 (All-head (Contains (driven_by statements)) y ys contained))
-    (contained_drivers mentioned statements d is xs ys h.1 (All-tail (Contains (driven_by statements)) y ys contained))
+-- a net that is free after its mention was free before
+pub free_before : (old first : Draft) (out : NameId) (name : Name) → MentionsFree old name out first
+    → (before : List Statement) → IsDraftOf before old → ¬ Contains (driven_by before) name
+free_before old first out name found before is c =
+    found.free (is_driven (mentions_of before ++ name ∷ []) before first out name
+    (found.mentions.with_names (mentions_of before) before is) found.number c)

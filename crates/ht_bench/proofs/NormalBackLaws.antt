@@ -11,14 +11,16 @@ use Rattle.ht_statement.specs.Statement.{Statement, blank_line, input_line, outp
 use Rattle.ht_statement.specs.Reading.{stated, reading_of}
 use Rattle.ht_statement.specs.StatementText.{CanBeStated}
 use Rattle.ht_statement.proofs.StatedLaws.{stated_sound}
-use Rattle.ht_bench.specs.Contents.{inputs_in, dffs_in, gates_in, inputs_of, dffs_of, gates_of, named_of_statements}
+use Rattle.ht_bench.specs.Contents.{inputs_in, dffs_in, gates_in, stated_inputs, stated_dffs, stated_gates, named_of_statements}
 use Rattle.ht_bench.specs.Text.{IsNetlistOf, IsOfNoCircuit}
 use Rattle.ht_bench.specs.Normal.{normal_text, HasFormatNames}
 use Rattle.ht_bench.specs.declared.error.BenchError.{BenchError}
 use Rattle.ht_bench.specs.declared.error.BenchError.TheVariants.{BadLine, BadName, BadKind, BadCount, Twice, TooMany, Undriven, Loop, NoMemory}
-use Rattle.ht_bench.proofs.NormalListLaws.{all_from_test, test_from_all, AreNames, All-flat_map}
+use Rattle.ht_bench.proofs.AllLaws.{all_from_test, test_from_all, AreNames, All-flat_map}
 use Rattle.ht_bench.proofs.NormalRoundLaws.{normal_is_netlist}
-use Rattle.ht_bench.proofs.NormalContentLaws.{driven_are, driven_are_names}
+use Rattle.ht_bench.proofs.NormalContentLaws.{driven_are}
+use Rattle.ht_bench.proofs.NormalNameLaws.{driven_are_names}
+use Rattle.ht_bench.proofs.NamedPartLaws.{dff_outs, gate_outs}
 use Rattle.ht_bench.proofs.OneLaws.{one_circuit}
 
 -- ---- the names of a circuit that was read
@@ -35,38 +37,39 @@ can_be_stated (line ∷ lines) (s ∷ statements) read =
     let rest : map reading_of lines ≡ map stated statements = cc in
     All-cons CanBeStated s statements (stated_sound line s here) (can_be_stated lines statements rest)
 
-inputs_are_names : (s : Statement) → AreNames (names_in s) → AreNames (inputs_in s)
-inputs_are_names blank_line are = All-nil IsGood
-inputs_are_names (input_line name) are = are
-inputs_are_names (output_line name) are = All-nil IsGood
-inputs_are_names (dff_line out data_pin) are = All-nil IsGood
-inputs_are_names (gate_line out kind args) are = All-nil IsGood
-
 abbrev DffIsNamed : NamedDff → Type 0
 DffIsNamed d = IsGood d.out
-
-dffs_are_named : (s : Statement) → AreNames (names_in s) → All DffIsNamed (dffs_in s)
-dffs_are_named blank_line are = All-nil DffIsNamed
-dffs_are_named (input_line name) are = All-nil DffIsNamed
-dffs_are_named (output_line name) are = All-nil DffIsNamed
-dffs_are_named (dff_line out data_pin) are = All-cons DffIsNamed (record { out = out; data_pin = data_pin }) []
-    (All-head IsGood out (data_pin ∷ []) are) (All-nil DffIsNamed)
-dffs_are_named (gate_line out kind args) are = All-nil DffIsNamed
 
 abbrev GateIsNamed : NamedGate → Type 0
 GateIsNamed g = IsGood g.out
 
-gates_are_named : (s : Statement) → AreNames (names_in s) → All GateIsNamed (gates_in s)
-gates_are_named blank_line are = All-nil GateIsNamed
-gates_are_named (input_line name) are = All-nil GateIsNamed
-gates_are_named (output_line name) are = All-nil GateIsNamed
-gates_are_named (dff_line out data_pin) are = All-nil GateIsNamed
-gates_are_named (gate_line out kind args) are = All-cons GateIsNamed (record { kind = kind; out = out; args = args }) []
-    (All-head IsGood out args are) (All-nil GateIsNamed)
+-- the inputs, flip-flops and gates of a statement whose names are names
+record AreNamed (s : Statement) : Type 0 where
+  inputs : AreNames (inputs_in s)
+  dffs : All DffIsNamed (dffs_in s)
+  gates : All GateIsNamed (gates_in s)
+
+are_named : (s : Statement) → AreNames (names_in s) → AreNamed s
+are_named blank_line are = record { inputs = are; dffs = All-nil DffIsNamed; gates = All-nil GateIsNamed }
+are_named (input_line name) are = record { inputs = are; dffs = All-nil DffIsNamed; gates = All-nil GateIsNamed }
+are_named (output_line name) are = record
+    { inputs = All-nil IsGood; dffs = All-nil DffIsNamed; gates = All-nil GateIsNamed }
+are_named (dff_line out data_pin) are = record {
+  inputs = All-nil IsGood;
+  dffs = All-cons DffIsNamed (record { out = out; data_pin = data_pin }) [] (All-head IsGood out (data_pin ∷ []) are)
+      (All-nil DffIsNamed);
+  gates = All-nil GateIsNamed;
+}
+are_named (gate_line out kind args) are = record {
+  inputs = All-nil IsGood;
+  dffs = All-nil DffIsNamed;
+  gates = All-cons GateIsNamed (record { kind = kind; out = out; args = args }) [] (All-head IsGood out args are)
+      (All-nil GateIsNamed);
+}
 
 -- the names of all nets, from what a circuit says
 abbrev all_names : NamedNetlist → List Name
-all_names n = (n.inputs ++ map (λ (d : NamedDff). d.out) n.dffs) ++ map (λ (g : NamedGate). g.out) n.gates
+all_names n = (n.inputs ++ dff_outs n.dffs) ++ gate_outs n.gates
 
 names_are : (c : Netlist) → IsCircuit c → all_names (named_of c) ≡ c.names
 names_are c is = sym (driven_are (named_of c)) ∙ driven_are_names c is
@@ -74,19 +77,17 @@ names_are c is = sym (driven_are (named_of c)) ∙ driven_are_names c is
 driven_are_good : (statements : List Statement) → All (λ s. AreNames (names_in s)) statements
     → AreNames (all_names (named_of_statements statements))
 driven_are_good statements are =
-    let inputs = inputs_of statements in
-    let dffs = dffs_of statements in
-    let gates = gates_of statements in
-    let good_inputs : AreNames inputs = All-flat_map IsGood inputs_in statements
-    (All-weaker (λ s. AreNames (names_in s)) (λ s. AreNames (inputs_in s)) inputs_are_names statements are) in
-    let good_dffs : All DffIsNamed dffs = All-flat_map DffIsNamed dffs_in statements
-    (All-weaker (λ s. AreNames (names_in s)) (λ s. All DffIsNamed (dffs_in s)) dffs_are_named statements are) in
-    let good_gates : All GateIsNamed gates = All-flat_map GateIsNamed gates_in statements
-    (All-weaker (λ s. AreNames (names_in s)) (λ s. All GateIsNamed (gates_in s)) gates_are_named statements are) in
-    All-append IsGood (inputs ++ map (λ (d : NamedDff). d.out) dffs) (map (λ (g : NamedGate). g.out) gates)
-    (All-append IsGood inputs (map (λ (d : NamedDff). d.out) dffs) good_inputs
-    (All-map IsGood (λ (d : NamedDff). d.out) dffs good_dffs))
-    (All-map IsGood (λ (g : NamedGate). g.out) gates good_gates)
+    let dffs = stated_dffs statements in
+    let gates = stated_gates statements in
+    let named = All-weaker (λ s. AreNames (names_in s)) AreNamed are_named statements are in
+    All-append IsGood (stated_inputs statements ++ dff_outs dffs) (gate_outs gates)
+    (All-append IsGood (stated_inputs statements) (dff_outs dffs)
+    (All-flat_map IsGood inputs_in statements
+    (All-weaker AreNamed (λ s. AreNames (inputs_in s)) (λ s n. n.inputs) statements named))
+    (All-map IsGood (λ (d : NamedDff). d.out) dffs (All-flat_map DffIsNamed dffs_in statements
+    (All-weaker AreNamed (λ s. All DffIsNamed (dffs_in s)) (λ s n. n.dffs) statements named))))
+    (All-map IsGood (λ (g : NamedGate). g.out) gates (All-flat_map GateIsNamed gates_in statements
+    (All-weaker AreNamed (λ s. All GateIsNamed (gates_in s)) (λ s n. n.gates) statements named)))
 
 pub names_were_read : (text : List ℕ) (c : Netlist) → IsNetlistOf text c → HasFormatNames c
 names_were_read text c is =

@@ -9,7 +9,7 @@ use Rattle.ht_statement.specs.Statement.{Statement}
 use Rattle.ht_statement.specs.StatementText.{statement_text, CanBeStated, is_printable}
 use Rattle.ht_statement.proofs.PrintLaws.{normal_is_one_line}
 use Rattle.ht_bench.specs.Normal.{statement_lines}
-use Rattle.ht_bench.proofs.NormalListLaws.{all_from_test}
+use Rattle.ht_bench.proofs.AllLaws.{all_from_test}
 
 -- bytes from the blank on, so neither LF nor CR
 abbrev IsPrintable : List ℕ → Type 0

@@ -1,33 +1,33 @@
 -- The normal text of a circuit is a netlist of that circuit.
-use Rattle.std.specs.Prelude.{leb, ltb}
-use Rattle.std.proofs.Common.{◌≡◌, ℕ, ◌<◌, ◌≤◌, List, [], ◌∷◌, ◌++◌, true, ◌&&◌, length, get_or, map, sum_by, append_assoc, refl, sym, ap, subst, ◌∙◌, arith}
+use Rattle.std.proofs.Common.{◌≡◌, ℕ, ◌≤◌, List, [], ◌∷◌, ◌++◌, true, length, get_or, map, sum_by, append_assoc, refl, sym, ap, subst, ◌∙◌, arith}
 use Rattle.std.specs.List.{All, Contains, flat_map}
-use Rattle.std.proofs.lemmas.Bool.Decides.{nat_tests}
 use Rattle.std.proofs.lemmas.List.{length-append, length-take}
 use Rattle.std.proofs.lemmas.List.Concat.{flat_map-append}
 use Rattle.std.proofs.lemmas.List.Sums.{sum_by-append}
 use Rattle.std.proofs.lemmas.List.Elements.{All-append, All-head, All-tail, All-map, All-weaker, All-contains, Contains-append_left, Contains-get_or}
-use Rattle.ht_tern.specs.declared.gate.Kind.{Kind}
-use Rattle.ht_tern.specs.declared.gate.Kind.TheVariants.{And, Nand, Or, Nor, Xor, Xnor, Not, Buf}
 use Rattle.ht_tern.specs.Gate.{HasArity}
 use Rattle.ht_net.specs.Netlist.{Netlist, IsCircuit}
 use Rattle.ht_net.specs.Named.{NamedGate, named_of}
 use Rattle.ht_statement.specs.Name.{is_name}
-use Rattle.ht_statement.specs.Element.{gate_of, has_count}
+use Rattle.ht_statement.specs.Element.{max_arguments}
 use Rattle.ht_statement.specs.Statement.{Statement, input_line, output_line, names_in}
 use Rattle.ht_statement.specs.Reading.{stated, reading_of}
 use Rattle.ht_statement.specs.StatementText.{statement_text, has_its_count, CanBeStated}
 use Rattle.ht_statement.proofs.StatedLaws.{arity_is_count}
 use Rattle.ht_statement.proofs.StatementTextLaws.{normal_reads}
-use Rattle.ht_bench.specs.Contents.{inputs_in, dffs_in, gates_in, driven_in, inputs_of, dffs_of, gates_of, driven_by, mentions_of, nets_of, pins_of}
+use Rattle.ht_bench.specs.Contents.{inputs_in, dffs_in, gates_in, driven_in, stated_gates, driven_by, mentions_of, stated_nets, stated_pins}
 use Rattle.ht_bench.specs.Accepted.{IsWithinLimits, HasNewDriver, AreAccepted}
 use Rattle.ht_bench.specs.EndOfText.{AreDriven}
 use Rattle.ht_bench.specs.Text.{IsNetlistOf}
 use Rattle.ht_bench.specs.Normal.{dff_statement, gate_statement, statements_of, normal_text, HasFormatNames}
-use Rattle.ht_bench.proofs.NormalLaws.{named_dffs_count}
+use Rattle.ht_bench.proofs.NamedPartLaws.{named_dffs_count}
 use Rattle.ht_bench.proofs.NormalLineLaws.{lines_of_statements}
-use Rattle.ht_bench.proofs.NormalListLaws.{all_from_test, test_from_all, AreNames, EachDiffers, All-left, All-flat_map, differ_apart, length-different}
-use Rattle.ht_bench.proofs.NormalContentLaws.{inputs_are, dffs_are, driven_are_names, names_differ, statements_say, pins_are, statements_made, gates_have_counts}
+use Rattle.ht_bench.proofs.AllLaws.{all_from_test, test_from_all, AreNames, All-left, All-flat_map}
+use Rattle.ht_bench.proofs.DifferLaws.{differ_apart, length-different}
+use Rattle.ht_net.specs.Lists.{AllDiffer}
+use Rattle.ht_bench.proofs.NormalContentLaws.{inputs_are, dffs_are}
+use Rattle.ht_bench.proofs.NormalNameLaws.{driven_are_names, statements_say, pins_are}
+use Rattle.ht_bench.proofs.NormalMentionLaws.{statements_made, gates_have_counts}
 
 -- ---- each line is read
 
@@ -46,16 +46,20 @@ first_say_less : {B : Type 0} (f : Statement → List B) (first rest : List Stat
 first_say_less f first rest = omega
     (arith, ap length (flat_map-append f first rest), length-append (flat_map f first) (flat_map f rest))
 
-fewer_pins : (first rest : List Statement) → pins_of first ≤ pins_of (first ++ rest)
+fewer_pins : (first rest : List Statement) → stated_pins first ≤ stated_pins (first ++ rest)
 fewer_pins first rest =
     let args : NamedGate → ℕ = λ g. length g.args in
     let dffs = first_say_less dffs_in first rest in
     let gates = ap (sum_by args) (flat_map-append gates_in first rest) in
-    let sums = sum_by-append args (gates_of first) (gates_of rest) in
+    let sums = sum_by-append args (stated_gates first) (stated_gates rest) in
     omega arith
 
 module _ (c : Netlist) (is : IsCircuit c) where
   -- ---- the statements are accepted
+
+  say_no_more : {B : Type 0} (f : Statement → List B) (first rest : List Statement) → statements_of c ≡ first ++ rest
+      → length (flat_map f first) ≤ length (flat_map f (statements_of c))
+  say_no_more f first rest split = omega (arith, first_say_less f first rest, ap (λ s. length (flat_map f s)) split)
 
   within_limits : (first rest : List Statement) → statements_of c ≡ first ++ rest → IsWithinLimits first
   within_limits first rest split =
@@ -65,31 +69,19 @@ module _ (c : Netlist) (is : IsCircuit c) where
       flat_map-append names_in first rest in
       let mentioned : All (Contains c.names) (mentions_of first) = All-left (Contains c.names) (mentions_of first)
       (mentions_of rest) (subst (All (Contains c.names)) parts made) in
-      let nets : length (nets_of first) ≤ length c.names = length-different (mentions_of first) c.names mentioned in
+      let nets : length (stated_nets first) ≤ length c.names = length-different (mentions_of first) c.names mentioned in
       let named = is.named in
       let few_nets = is.few_nets in
       let few_pins = is.few_pins in
       let few_inputs = is.few_inputs in
       let few_dffs = is.few_dffs in
+      let inputs = say_no_more inputs_in first rest split in
+      let dffs = say_no_more dffs_in first rest split in
       record {
         nets = omega arith;
-        pins = omega (arith, fewer_pins first rest, ap pins_of split, pins_are c is);
-        inputs = omega (
-          arith,
-          first_say_less inputs_in first rest,
-          ap (λ s. length (inputs_of s)) split,
-          ap length
-              (inputs_are (named_of c)),
-          length-take c.inputs c.names,
-        );
-        dffs = omega (
-          arith,
-          first_say_less dffs_in first rest,
-          ap (λ s. length (dffs_of s)) split,
-          ap length
-              (dffs_are (named_of c)),
-          named_dffs_count c c.inputs c.dffs,
-        );
+        pins = omega (arith, fewer_pins first rest, ap stated_pins split, pins_are c is);
+        inputs = omega (arith, inputs, ap length (inputs_are (named_of c)), length-take c.inputs c.names);
+        dffs = omega (arith, dffs, ap length (dffs_are (named_of c)), named_dffs_count c c.inputs c.dffs);
       }
 
   new_driver : (before after : List Statement) (s : Statement) → statements_of c ≡ before ++ s ∷ after
@@ -98,7 +90,7 @@ module _ (c : Netlist) (is : IsCircuit c) where
       let parts : c.names ≡ driven_by before ++ (driven_in s ++ driven_by after) = sym (driven_are_names c is) ∙ ap
       driven_by split ∙ flat_map-append driven_in before (s ∷ after) in
       differ_apart (driven_by before) (driven_in s ++ driven_by after) (get_or (driven_in s) k d)
-      (subst EachDiffers parts (names_differ c is)) driven
+      (subst AllDiffer parts is.names_differ) driven
       (Contains-append_left (driven_in s) (driven_by after) (get_or (driven_in s) k d)
       (Contains-get_or (driven_in s) k d below))
 
@@ -121,7 +113,7 @@ module _ (c : Netlist) (is : IsCircuit c) where
       let HasIts : Statement → Type 0 = λ s. has_its_count s ≡ true in
       let gates : All HasIts (map gate_statement n.gates) =
       All-map HasIts gate_statement n.gates
-      (All-weaker (λ (g : NamedGate). HasArity g.kind (length g.args) × (length g.args ≤ 255))
+      (All-weaker (λ (g : NamedGate). HasArity g.kind (length g.args) × (length g.args ≤ max_arguments))
       (λ g. HasIts (gate_statement g))
       (λ g has. arity_is_count g.kind (length g.args) has.0 has.1) n.gates (gates_have_counts c is)) in
       All-append HasIts ((map input_line n.inputs ++ map output_line n.outputs) ++ map dff_statement n.dffs)

@@ -1,17 +1,15 @@
 -- A circuit is told by the names of its nets, so a text is the netlist of one circuit.
-use Rattle.std.proofs.Common.{◌≡◌, ⊎_elim, ℕ, zero, suc, ◌<◌, ◌≤◌, ◌+◌, ◌-◌, List, [], ◌∷◌, length, get_or, map, refl, sym, ◌∙◌, ap, subst, arith}
+use Rattle.std.proofs.Common.{◌≡◌, ⊎_elim, ℕ, suc, ◌<◌, ◌≤◌, ◌+◌, ◌-◌, List, [], ◌∷◌, length, get_or, map, refl, sym, ◌∙◌, ap, subst, arith}
 use Rattle.std.proofs.lemmas.Bool.{cases_lt}
 use Rattle.std.proofs.lemmas.List.{length-take-le, get_or-take}
-use Rattle.ht_tern.specs.declared.gate.Kind.{Kind}
 use Rattle.ht_net.specs.declared.net.NetId.{NetId}
-use Rattle.ht_net.specs.Netlist.{Netlist, Gate, IsCircuit, first_gate_net, no_gate, no_net}
-use Rattle.ht_net.specs.Named.{Name, NamedDff, NamedGate, NamedNetlist, name_of, named_dffs, named_gates, named_of}
-use Rattle.ht_bench.proofs.NormalLaws.{named_dffs_count, named_gates_count}
+use Rattle.ht_net.specs.Netlist.{Netlist, Gate, IsCircuit, first_gate_net}
+use Rattle.ht_net.specs.Named.{Name, NamedNetlist, named_dffs, named_gates, named_of}
+use Rattle.ht_bench.proofs.NamedPartLaws.{named_dffs_count, named_gates_count, dff_outs, gate_outs, dff_out, gate_out}
 use Rattle.ht_bench.specs.Contents.{named_of_statements}
 use Rattle.ht_bench.specs.Text.{IsNetlistOf}
-use Rattle.ht_net.specs.Lists.{AllDiffer}
-use Rattle.ht_bench.proofs.PlaceLaws.{place_in, place_at}
-use Rattle.ht_bench.proofs.EndOfTextLaws.{same_statements}
+use Rattle.ht_bench.proofs.StatedLaws.{same_statements}
+use Rattle.ht_bench.proofs.NetsByNameLaws.{named_net, same_nets, same_data, same_gates}
 
 same_lists : {A : Type 0} (xs ys : List A) (d : A) → length xs ≡ length ys
     → ((k : ℕ) → k < length xs → get_or xs k d ≡ get_or ys k d) → xs ≡ ys
@@ -22,113 +20,6 @@ same_lists (x ∷ xs) (y ∷ ys) d e h =
     let heads : x ≡ y = h 0 (omega arith) in
     let tails : xs ≡ ys = same_lists xs ys d (omega (arith, e)) (λ k lt. h (suc k) (omega (arith, lt))) in
     cc
-
--- ---- the parts of a circuit by names
-
-dff_net : (c e : Netlist) (x : ℕ) (dffs others : List NetId) → named_dffs c x dffs ≡ named_dffs e x others → (j : ℕ)
-    → j < length dffs → get_or c.names (x + j) [] ≡ get_or e.names (x + j) []
-dff_net c e x [] others same j lt = absurd (omega (arith, lt))
-dff_net c e x (d ∷ dffs) [] same j lt = absurd (omega (arith, ap length same))
-dff_net c e x (d ∷ dffs) (o ∷ others) same zero lt =
-    let z : x ≡ x + 0 = omega arith in
-    let head : get_or c.names x []
-    ≡ get_or e.names x [] = ap (λ (l : List NamedDff). (get_or l 0 (record { out = []; data_pin = [] })).out) same
-    in
-    subst (λ n. get_or c.names n [] ≡ get_or e.names n []) z head
-dff_net c e x (d ∷ dffs) (o ∷ others) same (suc j) lt =
-    let z : x + 1 + j ≡ x + suc j = omega arith in
-    let rest : named_dffs c (x + 1) dffs ≡ named_dffs e (x + 1) others = cc in
-    subst (λ n. get_or c.names n [] ≡ get_or e.names n []) z
-    (dff_net c e (x + 1) dffs others rest j (omega (arith, lt)))
-
-gate_net : (c e : Netlist) (x : ℕ) (gates others : List Gate) → named_gates c x gates ≡ named_gates e x others → (j : ℕ)
-    → j < length gates → get_or c.names (x + j) [] ≡ get_or e.names (x + j) []
-gate_net c e x [] others same j lt = absurd (omega (arith, lt))
-gate_net c e x (d ∷ gates) [] same j lt = absurd (omega (arith, ap length same))
-gate_net c e x (d ∷ gates) (o ∷ others) same zero lt =
-    let z : x ≡ x + 0 = omega arith in
-    let head : get_or c.names x []
-    ≡ get_or e.names x [] = ap
-    (λ (l : List NamedGate). (get_or l 0 (record { kind = d.kind; out = []; args = [] })).out) same in
-    subst (λ n. get_or c.names n [] ≡ get_or e.names n []) z head
-gate_net c e x (d ∷ gates) (o ∷ others) same (suc j) lt =
-    let z : x + 1 + j ≡ x + suc j = omega arith in
-    let rest : named_gates c (x + 1) gates ≡ named_gates e (x + 1) others = cc in
-    subst (λ n. get_or c.names n [] ≡ get_or e.names n []) z
-    (gate_net c e (x + 1) gates others rest j (omega (arith, lt)))
-
--- ---- nets by their names, where names differ
-
-abbrev AreKnownNets : List Name → List NetId → Type 0
-AreKnownNets names nets = (k : ℕ) → k < length nets → (get_or nets k no_net).0 < length names
-
-abbrev named_net : List Name → NetId → Name
-named_net names net = get_or names net.0 []
-
-module _ (names : List Name) (differ : AllDiffer names) where
-  same_net : (a b : NetId) → a.0 < length names → b.0 < length names → named_net names a ≡ named_net names b → a ≡ b
-  same_net a b in_a in_b e =
-      let number : ℕ → NetId = λ n. record { 0 = n } in
-      ap number (sym (place_at names a.0 differ in_a) ∙ ap (place_in names) e ∙ place_at names b.0 differ in_b)
-
-  same_nets : (xs ys : List NetId) → AreKnownNets names xs → AreKnownNets names ys → map (named_net names) xs
-      ≡ map (named_net names) ys → xs ≡ ys
-  same_nets [] [] in_x in_y e = refl
-  same_nets [] (y ∷ ys) in_x in_y e = absurd (omega (arith, ap length e))
-  same_nets (x ∷ xs) [] in_x in_y e = absurd (omega (arith, ap length e))
-  same_nets (x ∷ xs) (y ∷ ys) in_x in_y e =
-      let heads : named_net names x ≡ named_net names y = cc in
-      let tails : map (named_net names) xs ≡ map (named_net names) ys = cc in
-      let head : x ≡ y = same_net x y (in_x 0 (omega arith)) (in_y 0 (omega arith)) heads in
-      let rest : xs ≡ ys = same_nets xs ys (λ k lt. in_x (suc k) (omega (arith, lt)))
-      (λ k lt. in_y (suc k) (omega (arith, lt))) tails in
-      cc
-
-  module _ (c e : Netlist) (is_c : c.names ≡ names) (is_e : e.names ≡ names) where
-    name_in_c : (net : NetId) → name_of c net ≡ named_net names net
-    name_in_c net = ap (λ l. get_or l net.0 []) is_c
-
-    name_in_e : (net : NetId) → name_of e net ≡ named_net names net
-    name_in_e net = ap (λ l. get_or l net.0 []) is_e
-
-    same_data : (x : ℕ) (dffs others : List NetId) → AreKnownNets names dffs → AreKnownNets names others
-        → named_dffs c x dffs ≡ named_dffs e x others → dffs ≡ others
-    same_data x [] [] in_c in_e same = refl
-    same_data x [] (o ∷ others) in_c in_e same = absurd (omega (arith, ap length same))
-    same_data x (d ∷ dffs) [] in_c in_e same = absurd (omega (arith, ap length same))
-    same_data x (d ∷ dffs) (o ∷ others) in_c in_e same =
-        let pin : name_of c d
-        ≡ name_of e o = ap (λ (l : List NamedDff). (get_or l 0 (record { out = []; data_pin = [] })).data_pin) same
-        in
-        let tails : named_dffs c (x + 1) dffs ≡ named_dffs e (x + 1) others = cc in
-        let head : d ≡ o = same_net d o (in_c 0 (omega arith)) (in_e 0 (omega arith))
-        (sym (name_in_c d) ∙ pin ∙ name_in_e o) in
-        let rest : dffs ≡ others = same_data (x + 1) dffs others (λ k lt. in_c (suc k) (omega (arith, lt)))
-        (λ k lt. in_e (suc k) (omega (arith, lt))) tails in
-        cc
-
-    same_gates : (x : ℕ) (gates others : List Gate)
-        → ((k : ℕ) → k < length gates → AreKnownNets names (get_or gates k no_gate).args)
-        → ((k : ℕ) → k < length others → AreKnownNets names (get_or others k no_gate).args)
-        → named_gates c x gates ≡ named_gates e x others → gates ≡ others
-    same_gates x [] [] in_c in_e same = refl
-    same_gates x [] (o ∷ others) in_c in_e same = absurd (omega (arith, ap length same))
-    same_gates x (g ∷ gates) [] in_c in_e same = absurd (omega (arith, ap length same))
-    same_gates x (g ∷ gates) (o ∷ others) in_c in_e same =
-        let kinds : g.kind ≡ o.kind = ap
-        (λ (l : List NamedGate). (get_or l 0 (record { kind = g.kind; out = []; args = [] })).kind) same in
-        let args : map (name_of c) g.args
-        ≡ map (name_of e) o.args = ap
-        (λ (l : List NamedGate). (get_or l 0 (record { kind = g.kind; out = []; args = [] })).args) same in
-        let tails : named_gates c (x + 1) gates ≡ named_gates e (x + 1) others = cc in
-        let by_names : map (named_net names) g.args ≡ map (named_net names) o.args =
-        ap (λ l. map (named_net l) g.args) (sym is_c) ∙ args ∙ ap (λ l. map (named_net l) o.args) is_e in
-        let nets : g.args ≡ o.args = same_nets g.args o.args (in_c 0 (omega arith)) (in_e 0 (omega arith)) by_names in
-        let made : Kind → List NetId → Gate = λ kind l. record { kind = kind; args = l } in
-        let head : g ≡ o = ap (λ kind. made kind g.args) kinds ∙ ap (made o.kind) nets in
-        let rest : gates ≡ others = same_gates (x + 1) gates others (λ k lt. in_c (suc k) (omega (arith, lt)))
-        (λ k lt. in_e (suc k) (omega (arith, lt))) tails in
-        cc
 
 -- ---- two circuits with the same names
 
@@ -156,6 +47,15 @@ module _ (c e : Netlist) (is_c : IsCircuit c) (is_e : IsCircuit e) (same : named
   gates_at : named_gates c (first_gate_net c) c.gates ≡ named_gates e (first_gate_net c) e.gates
   gates_at = ap (λ (n : NamedNetlist). n.gates) same ∙ ap (λ x. named_gates e x e.gates) (sym first_gates)
 
+  dff_net : (j : ℕ) → j < length c.dffs → get_or c.names (c.inputs + j) [] ≡ get_or e.names (c.inputs + j) []
+  dff_net j lt = sym (dff_out c c.inputs c.dffs j lt) ∙ ap (λ l. get_or (dff_outs l) j []) dffs_at ∙
+      dff_out e c.inputs e.dffs j (omega (arith, lt, dff_count))
+
+  gate_net : (j : ℕ) → j < length c.gates
+      → get_or c.names (first_gate_net c + j) [] ≡ get_or e.names (first_gate_net c + j) []
+  gate_net j lt = sym (gate_out c (first_gate_net c) c.gates j lt) ∙ ap (λ l. get_or (gate_outs l) j []) gates_at ∙
+      gate_out e (first_gate_net c) e.gates j (omega (arith, lt, gate_count))
+
   same_name : (k : ℕ) → k < length c.names → get_or c.names k [] ≡ get_or e.names k []
   same_name k lt =
       ⊎_elim
@@ -167,12 +67,11 @@ module _ (c e : Netlist) (is_c : IsCircuit c) (is_e : IsCircuit e) (same : named
       (λ (latch : k < first_gate_net c).
       let z : c.inputs + (k - c.inputs) ≡ k = omega (arith, above) in
       subst (λ n. get_or c.names n [] ≡ get_or e.names n []) z
-      (dff_net c e c.inputs c.dffs e.dffs dffs_at (k - c.inputs) (omega (arith, latch, above))))
+      (dff_net (k - c.inputs) (omega (arith, latch, above))))
       (λ (gate : first_gate_net c ≤ k).
       let z : first_gate_net c + (k - first_gate_net c) ≡ k = omega (arith, gate) in
       subst (λ n. get_or c.names n [] ≡ get_or e.names n []) z
-      (gate_net c e (first_gate_net c) c.gates e.gates gates_at (k - first_gate_net c)
-      (omega (arith, gate, lt, is_c.named))))
+      (gate_net (k - first_gate_net c) (omega (arith, gate, lt, is_c.named))))
       (cases_lt k (first_gate_net c)))
       (cases_lt k c.inputs)
 

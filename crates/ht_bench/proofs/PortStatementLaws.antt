@@ -8,35 +8,33 @@ use Rattle.ht_net.specs.declared.error.NetError.{NetError}
 use Rattle.ht_net.specs.declared.error.NetError.TheVariants.{Twice, TooMany, Undriven, Loop, NoMemory}
 use Rattle.ht_net.specs.declared.error.Limit.TheVariants.{Nets, Pins, Inputs, Dffs}
 use Rattle.ht_net.specs.Named.{Name}
-use Rattle.ht_net.specs.Draft.{Draft, IsDriven, draft_pins}
+use Rattle.ht_net.specs.Draft.{Draft, draft_pins}
 use Rattle.ht_net.specs.Refusals.{RefusesInput, AcceptsInput, RefusesOutput}
 use Rattle.ht_statement.specs.Statement.{Statement, input_line, output_line}
 use Rattle.ht_bench.specs.Contents.{driven_by, mentions_of}
-use Rattle.ht_bench.specs.Added.{IsNumberOf, IsDraftOf, Mentions, Accepts, RefusesStatement, RefusesMention}
+use Rattle.ht_bench.specs.Drafts.{IsNumberOf, IsDraftOf, Mentions, MentionsFree, Accepts, RefusesStatement, RefusesMention}
 use Rattle.ht_bench.specs.AddErrors.{add_error_of}
 use Rattle.ht_bench.specs.declared.add_error.AddError.{AddError}
 use Rattle.ht_bench.specs.declared.add_error.AddError.TheVariants.{Refused, SecondDriver, Limit, NoMemory as AddNoMemory}
-use Rattle.ht_bench.proofs.MentionLaws.{is_driven}
+use Rattle.ht_bench.proofs.MentionLaws.{free_before}
 use Rattle.ht_bench.proofs.ContentLaws.{with_input, with_output}
 use Rattle.ht_bench.proofs.LimitLaws.{limits_of_draft, too_many_nets, inputs_same, pins_same}
-use Rattle.ht_bench.proofs.AcceptedLaws.{draft_with_mentions, only_outputs, new_driver_of, nets_pass, nets_fit, inputs_more, dffs_more, gate_pins_more}
+use Rattle.ht_bench.proofs.AcceptedLaws.{draft_with_mentions, only_outputs, new_driver_of, passes_limit, nets_pass, nets_fit, inputs_more, dffs_more, gate_pins_more}
 
 -- ---- inputs and outputs
 
-module _ (old d new : Draft) (id : NameId) (name : Name) (mentions : Mentions old (name ∷ []) d)
-    (at : IsNumberOf d.names id name) where
-  pub input_accepted : new ≡ record d { inputs = d.inputs ++ id ∷ [] } → AcceptsInput d id
+module _ (old d : Draft) (id : NameId) (name : Name) (found : MentionsFree old name id d) where
+  pub input_accepted : (new : Draft) → new ≡ record d { inputs = d.inputs ++ id ∷ [] } → AcceptsInput d id
       → Accepts old (input_line name) new
-  input_accepted e (free, few) before is within =
+  input_accepted new e (still, few) before is within =
       let s = input_line name in
-      let with_name = mentions.with_names (mentions_of before) before is in
-      let draft = mentions.is_draft in
+      let with_name = found.mentions.with_names (mentions_of before) before is in
+      let draft = found.mentions.is_draft in
       let made : IsDraftOf (before ++ s ∷ []) new = subst (IsDraftOf (before ++ s ∷ [])) (sym e)
       (draft_with_mentions before s (record d { inputs = d.inputs ++ id ∷ [] })
-      (with_input (mentions_of before ++ name ∷ []) before d id name with_name at)) in (
+      (with_input (mentions_of before ++ name ∷ []) before d id name with_name found.number)) in (
         record {
-          new_driver = new_driver_of before s name refl
-              (λ c. free (is_driven (mentions_of before ++ name ∷ []) before d id name with_name at c));
+          new_driver = new_driver_of before s name refl (free_before old d id name found before is);
           limits = limits_of_draft (before ++ s ∷ []) new made
               (omega (arith, draft.few_names, ap (λ (x : Draft). length x.names) e))
               (omega (arith, draft.few_pins, ap draft_pins e))
@@ -46,44 +44,29 @@ module _ (old d new : Draft) (id : NameId) (name : Name) (mentions : Mentions ol
         made,
       )
 
-  pub input_refused : (error : NetError) → ¬ IsDriven d id → RefusesInput d id error
+  pub input_refused : (error : NetError) → RefusesInput d id error
       → RefusesStatement old (input_line name) (add_error_of error)
-  input_refused (TooMany Inputs) free refused = λ before is.
+  input_refused (TooMany Inputs) refused = λ before is.
       let s = input_line name in
-      let with_name = mentions.with_names (mentions_of before) before is in
-      let draft = mentions.is_draft in
-      record {
-        statement = s;
-        states = refl;
-        new_driver = new_driver_of before s name refl
-            (λ c. free (is_driven (mentions_of before ++ name ∷ []) before d id name with_name at c));
-        passed = (
-          nets_fit before s d with_name draft.few_names,
-          omega (
-            arith,
-            draft.few_pins,
-            pins_same (mentions_of before ++ name ∷ []) before d with_name,
-            dffs_more before
-                s,
-            gate_pins_more before s,
-          ),
-          omega (
-            arith,
-            refused.1,
-            inputs_same (mentions_of before ++ name ∷ []) before d with_name,
-            inputs_more before
-                s,
-          ),
-        );
-      }
-  input_refused (Twice other) free refused = absurd (free refused.1)
-  input_refused (TooMany Nets) free refused = absurd refused
-  input_refused (TooMany Pins) free refused = absurd refused
-  input_refused (TooMany Dffs) free refused = absurd refused
-  input_refused (Undriven other) free refused = absurd refused
-  input_refused (Loop nets) free refused = absurd refused
-  input_refused NoMemory free refused = λ before is. tt
+      let mentioned = mentions_of before ++ name ∷ [] in
+      let with_name = found.mentions.with_names (mentions_of before) before is in
+      let draft = found.mentions.is_draft in
+      let pins = pins_same mentioned before d with_name in
+      passes_limit before s Inputs (new_driver_of before s name refl (free_before old d id name found before is)) (
+        nets_fit before s d with_name draft.few_names,
+        omega (arith, draft.few_pins, pins, dffs_more before s, gate_pins_more before s),
+        omega (arith, refused.1, inputs_same mentioned before d with_name, inputs_more before s),
+      )
+  input_refused (Twice other) refused = absurd (found.free refused.1)
+  input_refused (TooMany Nets) refused = absurd refused
+  input_refused (TooMany Pins) refused = absurd refused
+  input_refused (TooMany Dffs) refused = absurd refused
+  input_refused (Undriven other) refused = absurd refused
+  input_refused (Loop nets) refused = absurd refused
+  input_refused NoMemory refused = λ before is. tt
 
+module _ (old d new : Draft) (id : NameId) (name : Name) (mentions : Mentions old (name ∷ []) d)
+    (at : IsNumberOf d.names id name) where
   pub output_accepted : (Contains d.outputs id → new ≡ d)
       → (¬ Contains d.outputs id → new ≡ record d { outputs = d.outputs ++ id ∷ [] })
       → Accepts old (output_line name) new

@@ -1,5 +1,5 @@
 -- Reading a text line by line.
-use Rattle.std.proofs.Common.{◌≡◌, ◌⊎◌, inl, inr, ⊎_elim, ℕ, ◌<◌, ◌+◌, List, [], ◌∷◌, ◌++◌, length, map, refl, sym, ◌∙◌, ap, subst, append_assoc, arith}
+use Rattle.std.proofs.Common.{◌≡◌, ◌⊎◌, inl, inr, ⊎_elim, ℕ, ◌<◌, ◌≤◌, ◌+◌, List, [], ◌∷◌, ◌++◌, length, map, refl, sym, ◌∙◌, ap, subst, append_assoc, arith}
 use Rattle.std.proofs.lemmas.List.{length-append, map_push}
 use Rattle.ht_ports.specs.LineRule.{lines_of}
 use Rattle.ht_tern.specs.declared.gate.Kind.{Kind}
@@ -9,12 +9,21 @@ use Rattle.ht_net.specs.Draft.{Draft, DraftGate}
 use Rattle.ht_net.specs.Built.{draft_name, named_draft}
 use Rattle.ht_statement.specs.Statement.{Statement}
 use Rattle.ht_statement.specs.Reading.{stated, reading_of}
-use Rattle.ht_bench.specs.Contents.{inputs_of, outputs_of, dffs_of, gates_of, named_of_statements}
-use Rattle.ht_bench.specs.Accepted.{IsAcceptedAfter, AreAccepted}
+use Rattle.ht_bench.specs.Contents.{stated_inputs, stated_outputs, stated_dffs, stated_gates, named_of_statements}
+use Rattle.ht_bench.specs.Accepted.{IsWithinLimits, IsAcceptedAfter, AreAccepted}
 use Rattle.ht_bench.specs.Text.{readings_of}
-use Rattle.ht_bench.specs.Added.{IsNumberOf, IsDffOf, IsGateOf, IsDraftWith, IsDraftOf, AddsLine}
-use Rattle.ht_bench.specs.Progress.{IsReading}
+use Rattle.ht_bench.specs.Drafts.{IsNumberOf, IsDffOf, IsGateOf, IsDraftWith, IsDraftOf, AddsLine}
 use Rattle.ht_bench.proofs.ListLaws.{AllZip-map}
+
+-- some lines are read and the rest is not; the draft is that of the statements so far
+pub record IsReading (text rest : List ℕ) (count : ℕ) (d : Draft) : Type 0 where
+  pub before : List Statement
+  pub accepted : AreAccepted before
+  pub limits : IsWithinLimits before
+  pub lines : readings_of text ≡ map stated before ++ readings_of rest
+  pub is_count : count ≡ length before
+  pub short : count + length rest ≤ length text
+  pub draft : IsDraftOf before d
 
 -- ---- one more accepted statement
 
@@ -119,12 +128,12 @@ gate_named d part gate is =
 pub named_draft_is : (mentioned : List Name) (statements : List Statement) (d : Draft)
     → IsDraftWith mentioned statements d → named_draft d ≡ named_of_statements statements
 named_draft_is mentioned statements d is =
-    let inputs : map (draft_name d) d.inputs ≡ inputs_of statements = AllZip-map (IsNumberOf d.names) (draft_name d)
-    (λ id name at. at.1) d.inputs (inputs_of statements) is.inputs in
-    let outputs : map (draft_name d) d.outputs ≡ outputs_of statements = AllZip-map (IsNumberOf d.names) (draft_name d)
-    (λ id name at. at.1) d.outputs (outputs_of statements) is.outputs in
-    let dffs : map (named_dff d) d.dffs ≡ dffs_of statements = AllZip-map (IsDffOf d.names) (named_dff d) (dff_named d)
-    d.dffs (dffs_of statements) is.dffs in
-    let gates : map (named_gate d) d.gates ≡ gates_of statements = AllZip-map (IsGateOf d.names) (named_gate d)
-    (gate_named d) d.gates (gates_of statements) is.gates in
+    let inputs : map (draft_name d) d.inputs ≡ stated_inputs statements = AllZip-map (IsNumberOf d.names) (draft_name d)
+    (λ id name at. at.1) d.inputs (stated_inputs statements) is.inputs in
+    let outputs : map (draft_name d) d.outputs ≡ stated_outputs statements = AllZip-map (IsNumberOf d.names) (draft_name d)
+    (λ id name at. at.1) d.outputs (stated_outputs statements) is.outputs in
+    let dffs : map (named_dff d) d.dffs ≡ stated_dffs statements = AllZip-map (IsDffOf d.names) (named_dff d) (dff_named d)
+    d.dffs (stated_dffs statements) is.dffs in
+    let gates : map (named_gate d) d.gates ≡ stated_gates statements = AllZip-map (IsGateOf d.names) (named_gate d)
+    (gate_named d) d.gates (stated_gates statements) is.gates in
     cc

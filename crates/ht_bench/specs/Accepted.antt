@@ -5,24 +5,24 @@ use Rattle.ht_net.specs.declared.error.Limit.TheVariants.{Nets, Pins, Inputs, Df
 use Rattle.ht_net.specs.Named.{Name}
 use Rattle.ht_statement.specs.Statement.{Statement}
 use Rattle.ht_statement.specs.Reading.{Reading, stated}
-use Rattle.ht_bench.specs.Contents.{driven_in, driven_by, nets_of, pins_of, inputs_of, dffs_of}
+use Rattle.ht_bench.specs.Contents.{driven_in, driven_by, stated_nets, stated_pins, stated_inputs, stated_dffs}
 use Rattle.ht_net.specs.Netlist.{max_nets, max_pins, max_inputs, max_dffs}
 
 -- the limits of a netlist
 pub record IsWithinLimits (statements : List Statement) : Type 0 where
-  pub nets : length (nets_of statements) ≤ max_nets
-  pub pins : pins_of statements ≤ max_pins
-  pub inputs : length (inputs_of statements) ≤ max_inputs
-  pub dffs : length (dffs_of statements) ≤ max_dffs
+  pub nets : length (stated_nets statements) ≤ max_nets
+  pub pins : stated_pins statements ≤ max_pins
+  pub inputs : length (stated_inputs statements) ≤ max_inputs
+  pub dffs : length (stated_dffs statements) ≤ max_dffs
 
 -- the first limit that statements pass
 abbrev pub IsFirstPassed : List Statement → Limit → Type 0
-IsFirstPassed s Nets = max_nets < length (nets_of s)
-IsFirstPassed s Pins = (length (nets_of s) ≤ max_nets) × (max_pins < pins_of s)
-IsFirstPassed s Inputs = (length (nets_of s) ≤ max_nets) × (pins_of s ≤ max_pins)
-    × (max_inputs < length (inputs_of s))
-IsFirstPassed s Dffs = (length (nets_of s) ≤ max_nets) × (pins_of s ≤ max_pins) × (length (inputs_of s) ≤ max_inputs)
-    × (max_dffs < length (dffs_of s))
+IsFirstPassed s Nets = max_nets < length (stated_nets s)
+IsFirstPassed s Pins = (length (stated_nets s) ≤ max_nets) × (max_pins < stated_pins s)
+IsFirstPassed s Inputs = (length (stated_nets s) ≤ max_nets) × (stated_pins s ≤ max_pins)
+    × (max_inputs < length (stated_inputs s))
+IsFirstPassed s Dffs = (length (stated_nets s) ≤ max_nets) × (stated_pins s ≤ max_pins) × (length (stated_inputs s) ≤ max_inputs)
+    × (max_dffs < length (stated_dffs s))
 
 -- no earlier line drives the net that the statement drives
 abbrev pub HasNewDriver : List Statement → Statement → Type 0

@@ -32,18 +32,18 @@ driven_in (gate_line out kind args) = out ∷ []
 driven_in _ = []
 
 -- the same of all statements, in their order
-abbrev pub inputs_of : List Statement → List Name
-inputs_of statements = flat_map inputs_in statements
+abbrev pub stated_inputs : List Statement → List Name
+stated_inputs statements = flat_map inputs_in statements
 
 -- a repeated OUTPUT line adds nothing
-abbrev pub outputs_of : List Statement → List Name
-outputs_of statements = different (flat_map outputs_in statements)
+abbrev pub stated_outputs : List Statement → List Name
+stated_outputs statements = different (flat_map outputs_in statements)
 
-abbrev pub dffs_of : List Statement → List NamedDff
-dffs_of statements = flat_map dffs_in statements
+abbrev pub stated_dffs : List Statement → List NamedDff
+stated_dffs statements = flat_map dffs_in statements
 
-abbrev pub gates_of : List Statement → List NamedGate
-gates_of statements = flat_map gates_in statements
+abbrev pub stated_gates : List Statement → List NamedGate
+stated_gates statements = flat_map gates_in statements
 
 abbrev pub driven_by : List Statement → List Name
 driven_by statements = flat_map driven_in statements
@@ -52,21 +52,21 @@ abbrev pub mentions_of : List Statement → List Name
 mentions_of statements = flat_map names_in statements
 
 -- the nets: the different names that are mentioned, in the order of first mention
-abbrev pub nets_of : List Statement → List Name
-nets_of statements = different (mentions_of statements)
+abbrev pub stated_nets : List Statement → List Name
+stated_nets statements = different (mentions_of statements)
 
 -- the place of a net in the order of first mention
 abbrev pub mention_rank : List Statement → Name → ℕ
-mention_rank statements name = position_or_len (λ other. bytes_eq other name) (nets_of statements)
+mention_rank statements name = position_or_len (λ other. bytes_eq other name) (stated_nets statements)
 
 -- pins are the data pins of flip-flops and the arguments of gates
-abbrev pub pins_of : List Statement → ℕ
-pins_of statements = length (dffs_of statements) + sum_by (λ (g : NamedGate). length g.args) (gates_of statements)
+abbrev pub stated_pins : List Statement → ℕ
+stated_pins statements = length (stated_dffs statements) + sum_by (λ (g : NamedGate). length g.args) (stated_gates statements)
 
 abbrev pub named_of_statements : List Statement → NamedNetlist
 named_of_statements statements = record {
-  inputs = inputs_of statements;
-  outputs = outputs_of statements;
-  dffs = dffs_of statements;
-  gates = gates_of statements;
+  inputs = stated_inputs statements;
+  outputs = stated_outputs statements;
+  dffs = stated_dffs statements;
+  gates = stated_gates statements;
 }

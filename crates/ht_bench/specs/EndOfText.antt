@@ -1,9 +1,9 @@
 -- What is judged after the last line: nets that no line drives, and cycles of gates.
-use Rattle.std.specs.Prelude.{◌≡◌, ◌≢◌, ℕ, ◌+◌, ◌-◌, ◌<◌, ◌≤◌, List, [], ◌∷◌, ◌++◌, length, get_or, All, Contains}
+use Rattle.std.specs.Prelude.{◌≡◌, ℕ, ◌+◌, ◌<◌, ◌≤◌, List, [], ◌∷◌, ◌++◌, length, get_or, All, Contains}
 use Rattle.ht_net.specs.Lists.{IsCycle}
 use Rattle.ht_net.specs.Named.{Name, NamedGate}
 use Rattle.ht_statement.specs.Statement.{Statement, names_in}
-use Rattle.ht_bench.specs.Contents.{driven_in, driven_by, mentions_of, gates_of, mention_rank}
+use Rattle.ht_bench.specs.Contents.{driven_in, driven_by, mentions_of, stated_gates, mention_rank}
 
 -- all the nets are driven by some line
 abbrev pub AreDriven : List Statement → List Name → Type 0
@@ -26,7 +26,7 @@ pub record IsFirstUndriven (statements : List Statement) (number : ℕ) (name : 
 -- a is an argument of the gate that drives b
 pub record Feeds (statements : List Statement) (a b : Name) : Type 0 where
   pub gate : NamedGate
-  pub is_gate : Contains (gates_of statements) gate
+  pub is_gate : Contains (stated_gates statements) gate
   pub out : gate.out ≡ b
   pub arg : Contains gate.args a
 

@@ -6,8 +6,8 @@ pub mod EndOfText
 pub mod Text
 pub mod RefusalText
 pub mod AddErrors
-pub mod Added
+pub mod Drafts
 pub mod Progress
 pub mod Role
 pub mod Normal
-pub mod Verdict
+pub mod TextRefusal

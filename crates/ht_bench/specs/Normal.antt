@@ -1,5 +1,5 @@
 -- The normal text of a circuit (ISCAS-89 format).
-use Rattle.std.specs.Prelude.{◌≡◌, ℕ, true, List, ◌++◌, map, codes}
+use Rattle.std.specs.Prelude.{◌≡◌, ℕ, true, List, ◌++◌, map}
 use Rattle.std.specs.List.{flat_map, list_all}
 use Rattle.ht_net.specs.Netlist.{Netlist}
 use Rattle.ht_net.specs.Named.{NamedDff, NamedGate, NamedNetlist, named_of}
@@ -15,6 +15,19 @@ dff_statement d = dff_line d.out d.data_pin
 
 abbrev pub gate_statement : NamedGate → Statement
 gate_statement g = gate_line g.out g.kind g.args
+
+-- the lines of the inputs, the outputs, the flip-flops and the gates
+abbrev pub input_lines : NamedNetlist → List ℕ
+input_lines n = statement_lines (map input_line n.inputs)
+
+abbrev pub output_lines : NamedNetlist → List ℕ
+output_lines n = statement_lines (map output_line n.outputs)
+
+abbrev pub dff_lines : NamedNetlist → List ℕ
+dff_lines n = statement_lines (map dff_statement n.dffs)
+
+abbrev pub gate_lines : NamedNetlist → List ℕ
+gate_lines n = statement_lines (map gate_statement n.gates)
 
 -- inputs, then outputs, then flip-flops, then gates, each in the order of the circuit
 abbrev pub named_statements : NamedNetlist → List Statement

@@ -1,5 +1,5 @@
 -- Nets in a statement by their role, and the first line that has a net in a role.
-use Rattle.std.specs.Prelude.{◌≡◌, ℕ, ◌+◌, ◌≤◌, List, ◌∷◌, ◌++◌, length, map, flat_map, Contains}
+use Rattle.std.specs.Prelude.{◌≡◌, ℕ, ◌+◌, List, ◌∷◌, ◌++◌, length, map, flat_map, Contains}
 use Rattle.ht_net.specs.Named.{Name}
 use Rattle.ht_statement.specs.Statement.{Statement, names_in}
 use Rattle.ht_statement.specs.Reading.{stated}
@@ -27,14 +27,3 @@ pub record IsFirstLine (text : List ℕ) (role : Role) (name : Name) (number : �
   pub is_number : number ≡ length before + 1
   pub has : Contains (nets_in role statement) name
   pub earlier : ¬ Contains (flat_map (nets_in role) before) name
-
--- The lines read so far don't have the net in this role, and a line of the rest has it.
-pub record IsAhead (text rest : List ℕ) (count : ℕ) (role : Role) (name : Name) : Type 0 where
-  pub before : List Statement
-  pub after : List Statement
-  pub lines : readings_of text ≡ map stated (before ++ after)
-  pub rest_lines : readings_of rest ≡ map stated after
-  pub is_count : count ≡ length before
-  pub short : count + length rest ≤ length text
-  pub earlier : ¬ Contains (flat_map (nets_in role) before) name
-  pub has : Contains (flat_map (nets_in role) after) name

@@ -13,6 +13,11 @@ use Rattle.ht_bench.specs.EndOfText.{AreDriven, IsFirstUndriven, IsNetCycle, IsD
 use Rattle.ht_bench.specs.declared.error.BenchError.{BenchError}
 use Rattle.ht_bench.specs.declared.error.BenchError.TheVariants.{BadLine, BadName, BadKind, BadCount, Twice, TooMany, Undriven, Loop, NoMemory}
 
+-- the greatest number of bytes of a netlist
+abbrev pub max_netlist_bytes : ℕ
+max_netlist_bytes = 16777216
+
+-- what each line of a text states, or why it is refused
 abbrev pub readings_of : List ℕ → List Reading
 readings_of text = map reading_of (lines_of text)
 
@@ -22,8 +27,7 @@ pub record IsAcceptedText (text : List ℕ) (statements : List Statement) : Type
   pub accepted : AreAccepted statements
 
 -- A netlist and its circuit: the lines are accepted, each net that is mentioned is driven, the circuit is well formed,
--- and
--- its inputs, outputs, flip-flops and gates are those of the lines in their order.
+-- and its inputs, outputs, flip-flops and gates are those of the lines in their order.
 pub record IsNetlistOf (text : List ℕ) (circuit : Netlist) : Type 0 where
   pub statements : List Statement
   pub read : IsAcceptedText text statements

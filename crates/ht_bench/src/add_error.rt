@@ -6,7 +6,7 @@ use crate::BenchError;
 use ht_items::Items;
 use ht_net::NetError;
 use ht_statement::{LineRefusal, StatementError};
-use std::alloc::{AllocError, AllocFailed};
+use std::alloc::AllocError;
 
 /// Why a line isn't added to a netlist in the making.
 #[derive(Drop)]
@@ -44,16 +44,6 @@ impl From<AllocError> for AddError {
     ghost from_gives = { λ _ error. error ≡ NoMemory };
 
     fn from(_error: AllocError) -> AddError {
-        AddError::NoMemory
-    }
-}
-
-impl<T: Drop> From<AllocFailed<T>> for AddError {
-    ghost use Rattle.ht_bench.specs.declared.add_error.AddError.TheVariants.{NoMemory};
-
-    ghost from_gives = { λ _ error. error ≡ NoMemory };
-
-    fn from(_error: AllocFailed<T>) -> AddError {
         AddError::NoMemory
     }
 }

@@ -1,9 +1,10 @@
 //! Adding what a line states.
 ghost use Rattle.std.specs.Prelude.{◌≡◌, ◌≤◌, length, OnOk, IfErr};
 ghost use Rattle.ht_tern.specs.Gate.{HasArity};
+ghost use Rattle.ht_statement.specs.Element.{max_arguments};
 ghost use Rattle.ht_statement.specs.Statement.{blank_line, input_line, output_line, dff_line, gate_line};
 ghost use Rattle.ht_statement.specs.StatementOf.{statement_of, texts_of};
-ghost use Rattle.ht_bench.specs.Added.{Accepts, RefusesStatement, HasArguments, AddsLine, RefusesLine};
+ghost use Rattle.ht_bench.specs.Drafts.{Accepts, RefusesStatement, HasArguments, AddsLine, RefusesLine};
 
 use crate::add_error::AddError;
 use crate::mention::{mention, mention_all, mention_driven};
@@ -55,7 +56,7 @@ fn add_gate(
     args: &[&[u8]],
 ) -> Result<(), AddError>
     requires arity { HasArity kind (length args.now) }
-    requires few { length args.now ≤ 255 }
+    requires few { length args.now ≤ max_arguments }
     ensures accepts { OnOk result
         (Accepts builder.old (gate_line out.now kind (texts_of args.now)) builder.new) }
     ensures refusal { IfErr result

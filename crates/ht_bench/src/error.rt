@@ -3,7 +3,7 @@ ghost use Rattle.std.specs.Prelude.{◌≡◌};
 
 use ht_items::Items;
 use ht_net::Limit;
-use std::alloc::{AllocError, AllocFailed};
+use std::alloc::AllocError;
 
 /// Why a text is no netlist (ISCAS-89 format). Lines count from 1.
 ///
@@ -38,16 +38,6 @@ impl From<AllocError> for BenchError {
     ghost from_gives = { λ _ error. error ≡ NoMemory };
 
     fn from(_error: AllocError) -> BenchError {
-        BenchError::NoMemory
-    }
-}
-
-impl<T: Drop> From<AllocFailed<T>> for BenchError {
-    ghost use Rattle.ht_bench.specs.declared.error.BenchError.TheVariants.{NoMemory};
-
-    ghost from_gives = { λ _ error. error ≡ NoMemory };
-
-    fn from(_error: AllocFailed<T>) -> BenchError {
         BenchError::NoMemory
     }
 }

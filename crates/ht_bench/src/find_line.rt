@@ -4,6 +4,7 @@ ghost use Rattle.ht_statement.specs.Statement.{Statement as Stated, names_in};
 ghost use Rattle.ht_statement.specs.Reading.{stated, reading_of};
 ghost use Rattle.ht_statement.specs.StatementOf.{statement_of, texts_of};
 ghost use Rattle.ht_bench.specs.Contents.{driven_in};
+ghost use Rattle.ht_bench.specs.Text.{max_netlist_bytes};
 ghost use Rattle.ht_bench.specs.Role.{nets_in, HasNet, IsFirstLine};
 
 use crate::lines::next_line;
@@ -82,7 +83,7 @@ pub(crate) fn first_line(
     role: Role,
     name: &[u8],
 ) -> Result<u32, AllocError>
-    requires short { length text.now ≤ 16777216 }
+    requires short { length text.now ≤ max_netlist_bytes }
     requires has { HasNet text.now role name.now }
     ensures { IfOk result (IsFirstLine text.now role name.now) }
 {

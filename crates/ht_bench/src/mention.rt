@@ -1,14 +1,14 @@
 //! Names that lines mention, and their numbers.
-ghost use Rattle.std.specs.Prelude.{◌≡◌, [], ◌∷◌, IfOk, OnOk, IfErr};
+ghost use Rattle.std.specs.Prelude.{◌≡◌, [], ◌∷◌, ◌++◌, IfOk, OnOk, IfErr};
 ghost use Rattle.std.specs.List.{AllZip};
-ghost use Rattle.ht_net.specs.Draft.{IsDraft, IsDriven};
+ghost use Rattle.ht_net.specs.Draft.{IsDraft};
 ghost use Rattle.ht_statement.specs.StatementOf.{texts_of};
-ghost use Rattle.ht_bench.specs.Added.{IsNumberOf, Mentions, RefusesMention, RefusesMentions, RefusesDriver};
+ghost use Rattle.ht_bench.specs.Drafts.{IsNumberOf, Mentions, MentionsFree, RefusesMention, RefusesMentions, RefusesDriver};
 
 use crate::add_error::AddError;
 use ht_items::Items;
 use ht_net::{Builder, NameId};
-use std::alloc::Global;
+use std::alloc::{AllocError, Global};
 
 /// The number of a name, which is mentioned from here on.
 pub(crate) fn mention(builder: &mut Builder, name: &[u8]) -> Result<NameId, AddError>
@@ -17,6 +17,13 @@ pub(crate) fn mention(builder: &mut Builder, name: &[u8]) -> Result<NameId, AddE
     ensures refusal { IfErr result (RefusesMention builder.old name.now) }
 {
     Ok(builder.net(name)?)
+}
+
+/// Adds a number at the end.
+fn push_number(ids: &mut Vec<NameId>, id: NameId) -> Result<(), AllocError>
+    ensures { OnOk result (ids.new.items ≡ ids.old.items ++ id ∷ []) }
+{
+    Ok(ids.push(id)?)
 }
 
 /// The numbers of names, which are mentioned from here on.
@@ -34,7 +41,8 @@ pub(crate) fn mention_all(
 {
     let mut ids = Vec::new(alloc);
     for name in names {
-        ids.push(mention(builder, name)?)?;
+        let id = mention(builder, name)?;
+        push_number(&mut ids, id)?;
     }
     Ok(ids)
 }
@@ -45,9 +53,7 @@ pub(crate) fn mention_driven(
     builder: &mut Builder,
     name: &[u8],
 ) -> Result<NameId, AddError>
-    ensures number { IfOk result (λ id. IsNumberOf builder.new.names id name.now) }
-    ensures free { IfOk result (λ id. ¬ IsDriven builder.new id) }
-    ensures mentions { OnOk result (Mentions builder.old (name.now ∷ []) builder.new) }
+    ensures found { IfOk result (λ id. MentionsFree builder.old name.now id builder.new) }
     ensures refusal { IfErr result (RefusesDriver builder.old name.now) }
 {
     let id = mention(builder, name)?;

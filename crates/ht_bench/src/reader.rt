@@ -3,9 +3,9 @@ ghost use Rattle.std.specs.Prelude.{◌≡◌, ◌≤◌, [], length, map, All, 
 ghost use Rattle.ht_net.specs.Built.{draft_name};
 ghost use Rattle.ht_net.specs.Draft.{IsName};
 ghost use Rattle.ht_net.specs.Finish.{RefusesFinish};
-ghost use Rattle.ht_bench.specs.Added.{IsDraftOf};
+ghost use Rattle.ht_bench.specs.Drafts.{IsDraftOf};
 ghost use Rattle.ht_bench.specs.Progress.{IsRead};
-ghost use Rattle.ht_bench.specs.Text.{IsNetlistOf, Refuses, IsOfNoCircuit};
+ghost use Rattle.ht_bench.specs.Text.{max_netlist_bytes, IsNetlistOf, Refuses, IsOfNoCircuit};
 
 use crate::BenchError;
 use crate::add_line::add_line;
@@ -17,7 +17,7 @@ use std::alloc::{AllocError, Global};
 
 /// Adds what each line states.
 fn add_lines(alloc: Global, builder: &mut Builder, text: &[u8]) -> Result<(), BenchError>
-    requires short { length text.now ≤ 16777216 }
+    requires short { length text.now ≤ max_netlist_bytes }
     requires new { IsDraftOf [] builder.old }
     ensures read { OnOk result (IsRead text.now builder.new) }
     ensures refusal { IfErr result (Refuses text.now) }
@@ -57,7 +57,7 @@ fn end_refusal(
     text: &[u8],
     error: &NetError,
 ) -> Result<BenchError, AllocError>
-    requires short { length text.now ≤ 16777216 }
+    requires short { length text.now ≤ max_netlist_bytes }
     requires read { IsRead text.now builder.now }
     requires refused { RefusesFinish builder.now error.now }
     ensures { IfOk result (Refuses text.now) }
@@ -87,7 +87,7 @@ fn end_refusal(
 /// text.
 #[tactic(auto, using(crate::proofs::ExcludeLaws::refused_is_of_no_circuit, crate::proofs::EndOfTextLaws::netlist_is))]
 pub fn read(alloc: Global, text: &[u8]) -> Result<Circuit, BenchError>
-    requires { length text.now ≤ 16777216 }
+    requires { length text.now ≤ max_netlist_bytes }
     ensures circuit { IfOk result (λ c. IsNetlistOf text.now c) }
     ensures refusal { IfErr result (Refuses text.now) }
     ensures excludes { IfErr result (IsOfNoCircuit text.now) }

@@ -3,7 +3,7 @@ ghost use Rattle.std.specs.Prelude.{◌≡◌, ℕ, List, Some};
 ghost use Rattle.ht_net.specs.Netlist.{Netlist, IsCircuit};
 ghost use Rattle.ht_bench.specs.Normal.{normal_text, HasFormatNames};
 ghost use Rattle.ht_bench.specs.Text.{IsNetlistOf, Refuses, IsOfNoCircuit};
-ghost use Rattle.ht_bench.specs.Verdict.{Verdict, verdict_of};
+ghost use Rattle.ht_bench.specs.TextRefusal.{TextRefusal, text_refusal_of};
 ghost use Rattle.ht_bench.specs.declared.error.BenchError.{BenchError};
 ghost use Rattle.ht_bench.specs.declared.error.BenchError.TheVariants.{NoMemory};
 
@@ -15,8 +15,8 @@ pub fn one_circuit_per_text()
 
 /// A text has at most one refusal, up to the choice of a cycle.
 pub fn one_refusal_per_text()
-    ensures { (text : List ℕ) (error other : BenchError) (v w : Verdict) → Refuses text error
-        → Refuses text other → verdict_of error ≡ Some v → verdict_of other ≡ Some w → v ≡ w }
+    ensures { (text : List ℕ) (error other : BenchError) (v w : TextRefusal) → Refuses text error
+        → Refuses text other → text_refusal_of error ≡ Some v → text_refusal_of other ≡ Some w → v ≡ w }
 {}
 
 /// The normal text of a well-formed circuit whose names are names of the format is a netlist of that circuit.

@@ -1,8 +1,7 @@
 //! The writer of normal text.
-ghost use Rattle.std.specs.Prelude.{◌≡◌, ◌++◌, map, IfOk, OnOk};
+ghost use Rattle.std.specs.Prelude.{◌≡◌, ◌++◌, IfOk, OnOk};
 ghost use Rattle.ht_net.specs.Named.{named_of};
-ghost use Rattle.ht_statement.specs.Statement.{input_line, output_line};
-ghost use Rattle.ht_bench.specs.Normal.{statement_lines, dff_statement, gate_statement, normal_text};
+ghost use Rattle.ht_bench.specs.Normal.{input_lines, output_lines, dff_lines, gate_lines, normal_text};
 
 use ht_net::{Circuit, NetId};
 use ht_statement::{push_dff, push_gate, push_input, push_output};
@@ -26,9 +25,7 @@ pub fn write(alloc: Global, circuit: &Circuit) -> Result<Vec<u8>, AllocError>
 
 /// Appends the lines of the inputs.
 fn push_inputs(text: &mut Vec<u8>, circuit: &Circuit) -> Result<(), AllocError>
-    ensures { OnOk result
-        (text.new.items ≡ text.old.items
-        ++ statement_lines (map input_line (named_of circuit.now).inputs)) }
+    ensures { OnOk result (text.new.items ≡ text.old.items ++ input_lines (named_of circuit.now)) }
 {
     let nets = circuit.nets();
     for input in 0..circuit.inputs() {
@@ -40,9 +37,7 @@ fn push_inputs(text: &mut Vec<u8>, circuit: &Circuit) -> Result<(), AllocError>
 
 /// Appends the lines of the outputs.
 fn push_outputs(text: &mut Vec<u8>, circuit: &Circuit) -> Result<(), AllocError>
-    ensures { OnOk result
-        (text.new.items ≡ text.old.items
-        ++ statement_lines (map output_line (named_of circuit.now).outputs)) }
+    ensures { OnOk result (text.new.items ≡ text.old.items ++ output_lines (named_of circuit.now)) }
 {
     let nets = circuit.nets();
     for output in 0..circuit.outputs() {
@@ -54,11 +49,9 @@ fn push_outputs(text: &mut Vec<u8>, circuit: &Circuit) -> Result<(), AllocError>
 }
 
 /// Appends the lines of the flip-flops.
-#[tactic(auto, using(crate::proofs::NormalLaws::named_dffs_count, crate::proofs::NormalLaws::added_lines))]
+#[tactic(auto, using(crate::proofs::NamedPartLaws::named_dffs_count, crate::proofs::NormalLaws::added_lines))]
 fn push_dffs(text: &mut Vec<u8>, circuit: &Circuit) -> Result<(), AllocError>
-    ensures { OnOk result
-        (text.new.items ≡ text.old.items
-        ++ statement_lines (map dff_statement (named_of circuit.now).dffs)) }
+    ensures { OnOk result (text.new.items ≡ text.old.items ++ dff_lines (named_of circuit.now)) }
 {
     let nets = circuit.nets();
     for dff in 0..circuit.dffs() {
@@ -71,11 +64,9 @@ fn push_dffs(text: &mut Vec<u8>, circuit: &Circuit) -> Result<(), AllocError>
 }
 
 /// Appends the lines of the gates.
-#[tactic(auto, using(crate::proofs::NormalLaws::named_gates_count, crate::proofs::NormalLaws::added_lines))]
+#[tactic(auto, using(crate::proofs::NamedPartLaws::named_gates_count, crate::proofs::NormalLaws::added_lines))]
 fn push_gates(text: &mut Vec<u8>, circuit: &Circuit) -> Result<(), AllocError>
-    ensures { OnOk result
-        (text.new.items ≡ text.old.items
-        ++ statement_lines (map gate_statement (named_of circuit.now).gates)) }
+    ensures { OnOk result (text.new.items ≡ text.old.items ++ gate_lines (named_of circuit.now)) }
 {
     for gate in 0..circuit.gates() {
         let out = circuit.gate_net(gate);

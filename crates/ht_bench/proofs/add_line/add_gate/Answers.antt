@@ -4,11 +4,12 @@ use Rattle.std.proofs.lemmas.Result.{err_from_is_err_and}
 use Rattle.ht_tern.specs.Gate.{HasArity}
 use Rattle.ht_statement.specs.Statement.{gate_line}
 use Rattle.ht_statement.specs.StatementOf.{texts_of}
-use Rattle.ht_bench.specs.Added.{IsNumberOf}
+use Rattle.ht_bench.specs.Drafts.{IsNumberOf}
 use Rattle.ht_bench.proofs.ListLaws.{AllZip-length}
 use Rattle.ht_bench.proofs.MentionAllLaws.{known_numbers, length-texts_of}
 use Rattle.ht_bench.proofs.AcceptedLaws.{driver_refused}
-use Rattle.ht_bench.proofs.DefinitionLaws.{arguments_refused, gate_accepted, gate_refused}
+use Rattle.ht_bench.proofs.DefinitionLaws.{arguments_refused}
+use Rattle.ht_bench.proofs.GateStatementLaws.{gate_accepted, gate_refused}
 use Rattle.ht_bench.proofs.add_line.add_gate.Goals as goal
 
 pub returns-in_err-out_id-clause-refusal : goal.returns-in_err-out_id-clause-refusal
@@ -23,14 +24,14 @@ returns-in_err-arg_ids-clause-refusal c =
     let p = err_from_is_err_and c.from_residual-in_err-arg_ids.result c.from_residual-in_err-arg_ids.ensures.1 in
     rw (p.1, p.2)
     (arguments_refused c.args.builder.now c.mention_driven.new.builder c.in_ok-out_id.out_id c.args.out.now
-    c.in_ok-out_id.ensures.mentions c.in_ok-out_id.ensures.number c.in_ok-out_id.ensures.free
+    c.in_ok-out_id.ensures.found
     (gate_line c.args.out.now c.args.kind (texts_of c.args.args.now)) (texts_of c.args.args.now)
     c.in_err-arg_ids.field-0.0
     refl refl c.in_err-arg_ids.ensures.refusal)
 
 pub gate-requires-clause-out : goal.gate-requires-clause-out
 gate-requires-clause-out c =
-    (c.in_ok-arg_ids.ensures.mentions.grows c.in_ok-out_id.out_id c.args.out.now c.in_ok-out_id.ensures.number).0
+    (c.in_ok-arg_ids.ensures.mentions.grows c.in_ok-out_id.out_id c.args.out.now c.in_ok-out_id.ensures.found.number).0
 
 -- the numbers as they are lent to the builder
 lent : (c : goal.After-deref) → AllZip (IsNumberOf c.mention_all.new.builder.names) c.deref.result.now
@@ -59,7 +60,7 @@ returns-in_err-gate-clause-refusal c =
     let p = err_from_is_err_and c.from_residual-in_err-gate.result c.from_residual-in_err-gate.ensures.1 in
     rw (p.1, p.2)
     (gate_refused c.args.builder.now c.mention_driven.new.builder c.in_ok-out_id.out_id c.args.out.now
-    c.in_ok-out_id.ensures.mentions c.in_ok-out_id.ensures.number c.in_ok-out_id.ensures.free
+    c.in_ok-out_id.ensures.found
     c.mention_all.new.builder (texts_of c.args.args.now) c.in_ok-arg_ids.ensures.mentions c.args.kind
     c.deref.result.now are c.in_err-gate.field-0.0 c.in_err-gate.ensures.refusal)
 
@@ -68,6 +69,6 @@ returns-clause-accepts c =
     let are = subst (λ ids. AllZip (IsNumberOf c.mention_all.new.builder.names) ids (texts_of c.args.args.now))
     (sym c.deref.ensures.value) c.in_ok-arg_ids.ensures.numbers in
     gate_accepted c.args.builder.now c.mention_driven.new.builder c.in_ok-out_id.out_id c.args.out.now
-    c.in_ok-out_id.ensures.mentions c.in_ok-out_id.ensures.number c.in_ok-out_id.ensures.free
+    c.in_ok-out_id.ensures.found
     c.mention_all.new.builder (texts_of c.args.args.now) c.in_ok-arg_ids.ensures.mentions c.args.kind
     c.deref.result.now are c.gate.new.self c.in_ok-gate.ensures.ok c.in_ok-gate.ensures.accepts

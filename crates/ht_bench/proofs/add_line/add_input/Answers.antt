@@ -15,12 +15,10 @@ pub returns-in_err-input-clause-refusal : goal.returns-in_err-input-clause-refus
 returns-in_err-input-clause-refusal c =
     let p = err_from_is_err_and c.from_residual-in_err-input.result c.from_residual-in_err-input.ensures.1 in
     rw (p.1, p.2)
-    (input_refused c.args.builder.now c.mention_driven.new.builder c.mention_driven.new.builder
-    c.in_ok-id.id c.args.name.now c.in_ok-id.ensures.mentions c.in_ok-id.ensures.number c.in_err-input.field-0.0
-    c.in_ok-id.ensures.free c.in_err-input.ensures.refusal)
+    (input_refused c.args.builder.now c.mention_driven.new.builder c.in_ok-id.id c.args.name.now c.in_ok-id.ensures.found
+    c.in_err-input.field-0.0 c.in_err-input.ensures.refusal)
 
 pub returns-clause-accepts : goal.returns-clause-accepts
 returns-clause-accepts c =
-    input_accepted c.args.builder.now c.mention_driven.new.builder c.input.new.self c.in_ok-id.id
-    c.args.name.now c.in_ok-id.ensures.mentions c.in_ok-id.ensures.number c.in_ok-input.ensures.ok
-    c.in_ok-input.ensures.accepts
+    input_accepted c.args.builder.now c.mention_driven.new.builder c.in_ok-id.id c.args.name.now c.in_ok-id.ensures.found
+    c.input.new.self c.in_ok-input.ensures.ok c.in_ok-input.ensures.accepts

@@ -1,5 +1,5 @@
 use Rattle.std.proofs.Common.{length}
-use Rattle.ht_bench.specs.Role.{IsAhead}
+use Rattle.ht_bench.proofs.FindLineLaws.{IsAhead}
 use Rattle.ht_bench.proofs.find_line.first_line.Given as goal
 
 abbrev pub invariant-loop-line : goal.invariant-loop-line

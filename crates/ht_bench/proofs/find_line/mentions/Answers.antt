@@ -1,6 +1,6 @@
 use Rattle.std.proofs.Common.{rules, ap}
 use Rattle.ht_statement.specs.StatementOf.{statement_of, texts_of}
-use Rattle.ht_bench.proofs.FindLineLaws.{gate_mentions}
+use Rattle.ht_bench.proofs.OneOfLaws.{gate_mentions}
 use Rattle.ht_bench.proofs.find_line.mentions.Goals as goal
 
 pub returns-else-eq-2 : goal.returns-else-eq-2

@@ -3,14 +3,14 @@ use Rattle.std.proofs.lemmas.Result.{err_from_is_err_and}
 use Rattle.ht_bench.proofs.MentionAllLaws.{step_mentions, step_numbers, step_refuses}
 use Rattle.ht_bench.proofs.mention.mention_all.Goals as goal
 
-pub returns-in_err-mention-clause-refusal : goal.returns-in_err-mention-clause-refusal
-returns-in_err-mention-clause-refusal c =
+pub returns-in_err-id-clause-refusal : goal.returns-in_err-id-clause-refusal
+returns-in_err-id-clause-refusal c =
     let within : c.loop-name.name-index < length c.args.names.now = omega arith in
     let p = err_from_is_err_and c.from_residual.result c.from_residual.ensures.1 in
     rw (p.1, p.2)
     (step_refuses c.args.builder.now c.loop-name.builder c.args.names.now c.loop-name.name-index
     (record { ref_ptr = (0, 0); now = [] }) within
-    c.in_err-mention.field-0.0 c.loop-name.invariant.mentions c.in_err-mention.ensures.refusal)
+    c.in_err-id.field-0.0 c.loop-name.invariant.mentions c.in_err-id.ensures.refusal)
 
 pub loop-name-preserved : goal.loop-name-preserved
 loop-name-preserved c =
@@ -18,9 +18,9 @@ loop-name-preserved c =
     record {
       mentions = step_mentions c.args.builder.now c.loop-name.builder c.mention.new.builder
           c.args.names.now c.loop-name.name-index (record { ref_ptr = (0, 0); now = [] }) within
-          c.loop-name.invariant.mentions c.in_ok-mention.ensures.mentions;
+          c.loop-name.invariant.mentions c.in_ok-id.ensures.mentions;
       numbers = step_numbers c.args.builder.now c.loop-name.builder c.mention.new.builder
           c.args.names.now c.loop-name.name-index (record { ref_ptr = (0, 0); now = [] }) within
-          c.loop-name.ids.items c.push.new.self.items c.in_ok-mention.field-0 c.in_ok-push.ensures.items
-          c.loop-name.invariant.numbers c.in_ok-mention.ensures.mentions c.in_ok-mention.ensures.number;
+          c.loop-name.ids.items c.push_number.new.ids.items c.in_ok-id.id c.in_ok-push_number.ensures
+          c.loop-name.invariant.numbers c.in_ok-id.ensures.mentions c.in_ok-id.ensures.number;
     }

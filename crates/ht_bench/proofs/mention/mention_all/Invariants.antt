@@ -1,7 +1,7 @@
 use Rattle.std.proofs.Common.{take}
 use Rattle.std.specs.List.{AllZip}
 use Rattle.ht_statement.specs.StatementOf.{texts_of}
-use Rattle.ht_bench.specs.Added.{IsNumberOf, Mentions}
+use Rattle.ht_bench.specs.Drafts.{IsNumberOf, Mentions}
 use Rattle.ht_bench.proofs.mention.mention_all.Given as goal
 
 abbrev pub invariant-loop-name : goal.invariant-loop-name

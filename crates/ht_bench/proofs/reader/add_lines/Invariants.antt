@@ -1,5 +1,5 @@
 use Rattle.std.proofs.Common.{length}
-use Rattle.ht_bench.specs.Progress.{IsReading}
+use Rattle.ht_bench.proofs.ProgressLaws.{IsReading}
 use Rattle.ht_bench.proofs.reader.add_lines.Given as goal
 
 abbrev pub invariant-loop-line : goal.invariant-loop-line

@@ -7,7 +7,9 @@ use Rattle.std.specs.List.{All}
 use Rattle.ht_bench.specs.Role.{HasNet, IsFirstLine}
 use Rattle.ht_bench.specs.Text.{IsUndriven, IsLoop}
 use Rattle.ht_bench.specs.declared.find_line.Role.TheVariants.{Mentioned, Driven}
-use Rattle.ht_bench.proofs.EndOfTextLaws.{net_is_mentioned, undriven_is, known_net, known_nets, first_is_driven, loop_found}
+use Rattle.ht_bench.proofs.EndOfTextLaws.{net_is_mentioned}
+use Rattle.ht_bench.proofs.UndrivenLaws.{undriven_is}
+use Rattle.ht_bench.proofs.NetCycleLaws.{known_net, known_nets, first_is_driven, loop_found}
 use Rattle.ht_bench.proofs.reader.end_refusal.Goals as goal
 
 pub first_line-requires-clause-has : goal.first_line-requires-clause-has

@@ -1,7 +1,8 @@
 use Rattle.std.proofs.Common.{◌≡◌, get_or, arith}
 use Rattle.ht_net.specs.Named.{NamedDff, named_dffs}
 use Rattle.ht_bench.specs.Normal.{dff_statement}
-use Rattle.ht_bench.proofs.NormalLaws.{adds_line, no_named_dff, named_dffs_count, get_or-named_dffs}
+use Rattle.ht_bench.proofs.NormalLaws.{adds_line}
+use Rattle.ht_bench.proofs.NamedPartLaws.{no_named_dff, named_dffs_count, get_or-named_dffs}
 use Rattle.ht_bench.proofs.writer.push_dffs.Goals as goal
 
 pub loop-dff-preserved : goal.loop-dff-preserved

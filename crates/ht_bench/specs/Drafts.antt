@@ -1,5 +1,5 @@
 -- How a builder's draft stands for the statements that were added to it.
-use Rattle.std.specs.Prelude.{◌≡◌, ◌≢◌, ℕ, ◌<◌, ◌≤◌, List, [], ◌∷◌, ◌++◌, length, get_or, Contains}
+use Rattle.std.specs.Prelude.{◌≡◌, ℕ, ◌<◌, ◌≤◌, List, [], ◌∷◌, ◌++◌, length, Contains}
 use Rattle.std.specs.List.{AllZip}
 use Rattle.ht_tern.specs.Gate.{HasArity}
 use Rattle.ht_net.specs.declared.names.NameId.{NameId}
@@ -9,10 +9,11 @@ use Rattle.ht_net.specs.Lists.{AllDiffer}
 use Rattle.ht_net.specs.Names.{IsNewName, IsNameAt}
 use Rattle.ht_net.specs.Named.{Name, NamedDff, NamedGate}
 use Rattle.ht_net.specs.Draft.{Draft, DraftGate, IsDraft, IsDriven}
+use Rattle.ht_statement.specs.Element.{max_arguments}
 use Rattle.ht_statement.specs.Statement.{Statement, gate_line}
 use Rattle.ht_statement.specs.Reading.{stated, reading_of}
 use Rattle.ht_bench.specs.Different.{different}
-use Rattle.ht_bench.specs.Contents.{inputs_of, outputs_of, dffs_of, gates_of, driven_by, mentions_of}
+use Rattle.ht_bench.specs.Contents.{stated_inputs, stated_outputs, stated_dffs, stated_gates, driven_by, mentions_of}
 use Rattle.ht_bench.specs.Accepted.{IsWithinLimits, IsAcceptedAfter}
 use Rattle.ht_bench.specs.AddErrors.{IsAddError}
 use Rattle.ht_bench.specs.declared.add_error.AddError.{AddError}
@@ -36,10 +37,10 @@ pub record IsGateOf (names : List Name) (part : DraftGate) (gate : NamedGate) : 
 pub record IsDraftWith (mentioned : List Name) (statements : List Statement) (d : Draft) : Type 0 where
   pub names : d.names ≡ different mentioned
   pub names_differ : AllDiffer d.names
-  pub inputs : AllZip (IsNumberOf d.names) d.inputs (inputs_of statements)
-  pub outputs : AllZip (IsNumberOf d.names) d.outputs (outputs_of statements)
-  pub dffs : AllZip (IsDffOf d.names) d.dffs (dffs_of statements)
-  pub gates : AllZip (IsGateOf d.names) d.gates (gates_of statements)
+  pub inputs : AllZip (IsNumberOf d.names) d.inputs (stated_inputs statements)
+  pub outputs : AllZip (IsNumberOf d.names) d.outputs (stated_outputs statements)
+  pub dffs : AllZip (IsDffOf d.names) d.dffs (stated_dffs statements)
+  pub gates : AllZip (IsGateOf d.names) d.gates (stated_gates statements)
   pub driven : (name : Name) → Contains (driven_by statements) name → (id : NameId) × IsDriven d id
       × IsNumberOf d.names id name
   pub drives : (id : NameId) → IsDriven d id → (name : Name) × IsNumberOf d.names id name
@@ -55,6 +56,12 @@ pub record Mentions (old : Draft) (names : List Name) (new : Draft) : Type 0 whe
   pub keeps : new ≡ record old { names = new.names }
   pub grows : (id : NameId) (name : Name) → IsNumberOf old.names id name → IsNumberOf new.names id name
   pub is_draft : IsDraft new
+
+-- a draft in which a net is mentioned, by its number, that no line drives so far
+pub record MentionsFree (old : Draft) (name : Name) (id : NameId) (new : Draft) : Type 0 where
+  pub mentions : Mentions old (name ∷ []) new
+  pub number : IsNumberOf new.names id name
+  pub free : ¬ IsDriven new id
 
 -- no name is left for a new one
 abbrev pub RefusesMention : Draft → Name → AddError → Type 0
@@ -86,9 +93,9 @@ abbrev pub RefusesStatement : Draft → Statement → AddError → Type 0
 RefusesStatement old statement cause = (before : List Statement) → IsDraftOf before old
     → IsAddError cause before (stated statement)
 
--- one argument for NOT and BUFF, 1 to 255 for the other gates
+-- one argument for NOT and BUFF, at least one for the other gates, and no more than the limit
 abbrev pub HasArguments : Statement → Type 0
-HasArguments (gate_line out kind args) = HasArity kind (length args) × (length args ≤ 255)
+HasArguments (gate_line out kind args) = HasArity kind (length args) × (length args ≤ max_arguments)
 HasArguments _ = Unit {0}
 
 -- a line adds what it states, or is refused
