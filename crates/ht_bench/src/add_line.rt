@@ -64,7 +64,7 @@ fn add_gate(
 {
     let out_id = mention_driven(alloc, builder, out)?;
     let arg_ids = mention_all(alloc, builder, args)?;
-    builder.gate(kind, out_id, &arg_ids)?;
+    builder.gate(kind, out_id, arg_ids.as_slice())?;
     Ok(())
 }
 

@@ -1,5 +1,5 @@
 //! Names that lines mention, and their numbers.
-ghost use Rattle.std.specs.Prelude.{◌≡◌, [], ◌∷◌, ◌++◌, IfOk, OnOk, IfErr};
+ghost use Rattle.std.specs.Prelude.{[], ◌∷◌, IfOk, OnOk, IfErr};
 ghost use Rattle.std.specs.List.{AllZip};
 ghost use Rattle.ht_net.specs.Draft.{IsDraft};
 ghost use Rattle.ht_statement.specs.StatementOf.{texts_of};
@@ -8,7 +8,7 @@ ghost use Rattle.ht_bench.specs.Drafts.{IsNumberOf, Mentions, MentionsFree, Refu
 use crate::add_error::AddError;
 use ht_items::Items;
 use ht_net::{Builder, NameId};
-use std::alloc::{AllocError, Global};
+use std::alloc::Global;
 
 /// The number of a name, which is mentioned from here on.
 pub(crate) fn mention(builder: &mut Builder, name: &[u8]) -> Result<NameId, AddError>
@@ -19,30 +19,23 @@ pub(crate) fn mention(builder: &mut Builder, name: &[u8]) -> Result<NameId, AddE
     Ok(builder.net(name)?)
 }
 
-/// Adds a number at the end.
-fn push_number(ids: &mut Vec<NameId>, id: NameId) -> Result<(), AllocError>
-    ensures { OnOk result (ids.new.items ≡ ids.old.items ++ id ∷ []) }
-{
-    Ok(ids.push(id)?)
-}
-
 /// The numbers of names, which are mentioned from here on.
 pub(crate) fn mention_all(
     alloc: Global,
     builder: &mut Builder,
     names: &[&[u8]],
-) -> Result<Vec<NameId>, AddError>
+) -> Result<Items<NameId>, AddError>
     requires { IsDraft builder.old }
     ensures numbers { IfOk result
-        (λ ids. AllZip (IsNumberOf builder.new.names) ids.items (texts_of names.now)) }
+        (λ ids. AllZip (IsNumberOf builder.new.names) ids (texts_of names.now)) }
     ensures mentions { OnOk result
         (Mentions builder.old (texts_of names.now) builder.new) }
     ensures refusal { IfErr result (RefusesMentions builder.old (texts_of names.now)) }
 {
-    let mut ids = Vec::new(alloc);
+    let mut ids = Items::new(alloc);
     for name in names {
         let id = mention(builder, name)?;
-        push_number(&mut ids, id)?;
+        ids.push(id)?;
     }
     Ok(ids)
 }

@@ -34,18 +34,18 @@ gate-requires-clause-out c =
     (c.in_ok-arg_ids.ensures.mentions.grows c.in_ok-out_id.out_id c.args.out.now c.in_ok-out_id.ensures.found.number).0
 
 -- the numbers as they are lent to the builder
-lent : (c : goal.After-deref) → AllZip (IsNumberOf c.mention_all.new.builder.names) c.deref.result.now
+lent : (c : goal.After-as_slice) → AllZip (IsNumberOf c.mention_all.new.builder.names) c.as_slice.result.now
     (texts_of c.args.args.now)
 lent c = subst (λ ids. AllZip (IsNumberOf c.mention_all.new.builder.names) ids (texts_of c.args.args.now))
-    (sym c.deref.ensures.value) c.in_ok-arg_ids.ensures.numbers
+    (sym c.as_slice.ensures) c.in_ok-arg_ids.ensures.numbers
 
-lent_count : (c : goal.After-deref) → length c.deref.result.now ≡ length c.args.args.now
-lent_count c = AllZip-length (IsNumberOf c.mention_all.new.builder.names) c.deref.result.now
+lent_count : (c : goal.After-as_slice) → length c.as_slice.result.now ≡ length c.args.args.now
+lent_count c = AllZip-length (IsNumberOf c.mention_all.new.builder.names) c.as_slice.result.now
     (texts_of c.args.args.now) (lent c) ∙ length-texts_of c.args.args.now
 
 pub gate-requires-clause-args : goal.gate-requires-clause-args
 gate-requires-clause-args c = known_numbers (texts_of c.args.args.now) c.mention_all.new.builder
-    c.deref.result.now (lent c)
+    c.as_slice.result.now (lent c)
 
 pub gate-requires-clause-arity : goal.gate-requires-clause-arity
 gate-requires-clause-arity c = subst (HasArity c.args.kind) (sym (lent_count c)) c.requires.arity
@@ -56,19 +56,19 @@ gate-requires-clause-few c = omega (arith, c.requires.few, lent_count c)
 pub returns-in_err-gate-clause-refusal : goal.returns-in_err-gate-clause-refusal
 returns-in_err-gate-clause-refusal c =
     let are = subst (λ ids. AllZip (IsNumberOf c.mention_all.new.builder.names) ids (texts_of c.args.args.now))
-    (sym c.deref.ensures.value) c.in_ok-arg_ids.ensures.numbers in
+    (sym c.as_slice.ensures) c.in_ok-arg_ids.ensures.numbers in
     let p = err_from_is_err_and c.from_residual-in_err-gate.result c.from_residual-in_err-gate.ensures.1 in
     rw (p.1, p.2)
     (gate_refused c.args.builder.now c.mention_driven.new.builder c.in_ok-out_id.out_id c.args.out.now
     c.in_ok-out_id.ensures.found
     c.mention_all.new.builder (texts_of c.args.args.now) c.in_ok-arg_ids.ensures.mentions c.args.kind
-    c.deref.result.now are c.in_err-gate.field-0.0 c.in_err-gate.ensures.refusal)
+    c.as_slice.result.now are c.in_err-gate.field-0.0 c.in_err-gate.ensures.refusal)
 
 pub returns-clause-accepts : goal.returns-clause-accepts
 returns-clause-accepts c =
     let are = subst (λ ids. AllZip (IsNumberOf c.mention_all.new.builder.names) ids (texts_of c.args.args.now))
-    (sym c.deref.ensures.value) c.in_ok-arg_ids.ensures.numbers in
+    (sym c.as_slice.ensures) c.in_ok-arg_ids.ensures.numbers in
     gate_accepted c.args.builder.now c.mention_driven.new.builder c.in_ok-out_id.out_id c.args.out.now
     c.in_ok-out_id.ensures.found
     c.mention_all.new.builder (texts_of c.args.args.now) c.in_ok-arg_ids.ensures.mentions c.args.kind
-    c.deref.result.now are c.gate.new.self c.in_ok-gate.ensures.ok c.in_ok-gate.ensures.accepts
+    c.as_slice.result.now are c.gate.new.self c.in_ok-gate.ensures.ok c.in_ok-gate.ensures.accepts

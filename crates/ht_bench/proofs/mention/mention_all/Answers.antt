@@ -21,6 +21,6 @@ loop-name-preserved c =
           c.loop-name.invariant.mentions c.in_ok-id.ensures.mentions;
       numbers = step_numbers c.args.builder.now c.loop-name.builder c.mention.new.builder
           c.args.names.now c.loop-name.name-index (record { ref_ptr = (0, 0); now = [] }) within
-          c.loop-name.ids.items c.push_number.new.ids.items c.in_ok-id.id c.in_ok-push_number.ensures
+          c.loop-name.ids c.push.new.self c.in_ok-id.id c.in_ok-push.ensures.ok
           c.loop-name.invariant.numbers c.in_ok-id.ensures.mentions c.in_ok-id.ensures.number;
     }

@@ -7,5 +7,5 @@ use Rattle.ht_bench.proofs.mention.mention_all.Given as goal
 abbrev pub invariant-loop-name : goal.invariant-loop-name
 invariant-loop-name l = record {
   mentions : Mentions l.initial.builder (take l.name-index (texts_of l.names)) l.builder;
-  numbers : AllZip (IsNumberOf l.builder.names) l.ids.items (take l.name-index (texts_of l.names));
+  numbers : AllZip (IsNumberOf l.builder.names) l.ids (take l.name-index (texts_of l.names));
 }
