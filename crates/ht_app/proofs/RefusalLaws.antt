@@ -3,10 +3,10 @@ use Rattle.std.proofs.Common.{◌≡◌, ◌≢◌, ◌≤◌, ℕ, List, length
 use Rattle.ht_ports.specs.Desk.{DeskView}
 use Rattle.ht_ports.specs.declared.ports.InPort.TheVariants.{Netlist}
 use Rattle.ht_net.specs.Netlist as net
-use Rattle.ht_bench.specs.Text.{IsNetlistOf, Refuses, IsOfNoCircuit}
+use Rattle.ht_bench.specs.Text.{max_netlist_bytes, IsNetlistOf, Refuses, IsOfNoCircuit}
 use Rattle.ht_bench.specs.declared.error.BenchError.{BenchError}
 use Rattle.ht_bench.specs.declared.error.BenchError.TheVariants.{BadLine, BadName, BadKind, BadCount, Twice, TooMany, Undriven, Loop, NoMemory}
-use Rattle.ht_app.specs.Inputs.{max_netlist_bytes, IsInput, MayHold}
+use Rattle.ht_app.specs.Inputs.{IsInput, MayHold}
 use Rattle.ht_app.specs.Errors.{run_error_of}
 use Rattle.ht_app.specs.Run.{IsRefused}
 use Rattle.ht_app.specs.Steps.{NetlistCause, RefusesText}

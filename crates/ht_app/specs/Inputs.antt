@@ -4,13 +4,9 @@ use Rattle.ht_ports.specs.Desk.{DeskView}
 use Rattle.ht_ports.specs.declared.ports.InPort.{InPort}
 use Rattle.ht_ports.specs.declared.ports.InPort.TheVariants.{Netlist, Tests}
 use Rattle.ht_net.specs.Netlist as net
-use Rattle.ht_bench.specs.Text.{IsNetlistOf}
+use Rattle.ht_bench.specs.Text.{max_netlist_bytes, IsNetlistOf}
 use Rattle.ht_texts.specs.Tests.{IsTestText, IsMalformedTest}
 use Rattle.ht_asked.specs.Asked.{Asked, sim, norm}
-
--- the greatest number of bytes of a netlist
-abbrev pub max_netlist_bytes : ℕ
-max_netlist_bytes = 16777216
 
 -- the desk knows that the file of this name holds this text, and knows what is left of the port
 pub record IsInput (port : InPort) (name text : List ℕ) (desk : DeskView) : Type 0 where

@@ -7,14 +7,14 @@ use Rattle.ht_ports.specs.declared.ports.InPort.{InPort}
 use Rattle.ht_ports.specs.declared.ports.InPort.TheVariants.{Netlist, Tests}
 use Rattle.ht_ports.specs.declared.ports.OutPort.TheVariants.{Err}
 use Rattle.ht_net.specs.Netlist as net
-use Rattle.ht_bench.specs.Text.{IsNetlistOf, Refuses}
+use Rattle.ht_bench.specs.Text.{max_netlist_bytes, IsNetlistOf, Refuses}
 use Rattle.ht_bench.specs.declared.error.BenchError.{BenchError}
 use Rattle.ht_bench.specs.declared.error.BenchError.TheVariants as bench
 use Rattle.ht_texts.specs.Tests.{IsMalformedTest}
 use Rattle.ht_asked.specs.Asked.{Asked}
 use Rattle.ht_app.specs.declared.run_error.RunError.{RunError}
 use Rattle.ht_app.specs.declared.run_error.RunError.TheVariants.{Usage, TooLong, Refused, ReadFault, WriteFault, NoMemory, BadTests}
-use Rattle.ht_app.specs.Inputs.{max_netlist_bytes, IsInput, IsGoodNetlist, MayHold, AreInputs, AcceptsNetlist, AcceptsInputs}
+use Rattle.ht_app.specs.Inputs.{IsInput, IsGoodNetlist, MayHold, AreInputs, AcceptsNetlist, AcceptsInputs}
 use Rattle.ht_app.specs.Jobs.{input_name}
 use Rattle.ht_app.specs.Truncated.{IsTruncated}
 use Rattle.ht_app.specs.Errors.{exit_status, err_line}

@@ -122,17 +122,20 @@ module _ (mentioned : List Name) (statements : List Statement) (d : Draft) (id :
       let s = output_line name in
       let all = flat_map-push outputs_in statements s in
       ⊎_elim
-      (λ (old : Contains (stated_outputs statements) name × (stated_outputs (statements ++ s ∷ []) ≡ stated_outputs statements)).
+      (λ (old : Contains (stated_outputs statements) name
+      × (stated_outputs (statements ++ s ∷ []) ≡ stated_outputs statements)).
       let r = AllZip-left (IsNumberOf d.names) d.outputs (stated_outputs statements) name is.outputs old.0 in
       let same : r.0 ≡ id = one_number d.names r.0 id name is.names_differ r.1 at in
       subst (IsDraftWith mentioned (statements ++ s ∷ [])) (sym (known (subst (Contains d.outputs) same r.2)))
-      (with_outputs mentioned statements d is s refl refl refl refl d.outputs (subst (AllZip (IsNumberOf d.names) d.outputs) (sym old.1) is.outputs)))
+      (with_outputs mentioned statements d is s refl refl refl refl d.outputs
+      (subst (AllZip (IsNumberOf d.names) d.outputs) (sym old.1) is.outputs)))
       (λ (fresh : IsNewName (stated_outputs statements) name
       × (stated_outputs (statements ++ s ∷ []) ≡ stated_outputs statements ++ name ∷ [])).
       let absent : ¬ Contains d.outputs id = λ c.
       let r = AllZip-right (IsNumberOf d.names) d.outputs (stated_outputs statements) id is.outputs c in
       let same : r.0 ≡ name = sym r.1.1 ∙ at.1 in
-      contains_not_new (stated_outputs statements) name (subst (Contains (stated_outputs statements)) same r.2) fresh.0 in
+      contains_not_new (stated_outputs statements) name (subst (Contains (stated_outputs statements)) same r.2) fresh.0
+      in
       subst (IsDraftWith mentioned (statements ++ s ∷ [])) (sym (added absent))
       (with_outputs mentioned statements d is s refl refl refl refl (d.outputs ++ id ∷ [])
       (subst (AllZip (IsNumberOf d.names) (d.outputs ++ id ∷ [])) (sym fresh.1)

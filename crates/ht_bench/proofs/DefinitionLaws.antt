@@ -1,6 +1,7 @@
--- Definitions: the net that is driven is mentioned first, then the arguments.
+-- Lines that drive a net: it is mentioned first, then the arguments of a definition.
 use Rattle.std.proofs.Common.{◌≡◌, ◌<◌, List, [], ◌∷◌, ◌++◌, length, refl, sym, ◌∙◌, ap, subst, append_assoc}
 use Rattle.ht_net.specs.declared.names.NameId.{NameId}
+use Rattle.ht_net.specs.declared.error.Limit.{Limit as NetLimit}
 use Rattle.ht_net.specs.declared.error.Limit.TheVariants.{Nets, Pins, Inputs, Dffs}
 use Rattle.ht_net.specs.Netlist.{max_nets}
 use Rattle.ht_net.specs.Named.{Name}
@@ -8,14 +9,23 @@ use Rattle.ht_net.specs.Draft.{Draft, IsDriven}
 use Rattle.ht_statement.specs.Statement.{Statement, dff_line, names_in}
 use Rattle.ht_bench.specs.Different.{different}
 use Rattle.ht_bench.specs.Contents.{driven_in, mentions_of}
+use Rattle.ht_bench.specs.Accepted.{IsFirstPassed}
 use Rattle.ht_bench.specs.Drafts.{IsNumberOf, IsDraftWith, IsDraftOf, Mentions, MentionsFree, RefusesStatement, RefusesMention, RefusesMentions}
 use Rattle.ht_bench.specs.declared.add_error.AddError.{AddError}
 use Rattle.ht_bench.specs.declared.add_error.AddError.TheVariants.{Refused, SecondDriver, Limit, NoMemory as AddNoMemory}
 use Rattle.ht_bench.proofs.MentionLaws.{free_before}
 use Rattle.ht_bench.proofs.LimitLaws.{too_many_nets}
-use Rattle.ht_bench.proofs.AcceptedLaws.{new_driver_of, nets_pass}
+use Rattle.ht_bench.proofs.AcceptedLaws.{new_driver_of, passes_limit, nets_pass}
 
 module _ (old first : Draft) (out : NameId) (name : Name) (found : MentionsFree old name out first) where
+  -- a line that makes a count pass its limit
+  pub limit_refuses : (s : Statement) (what : NetLimit) → driven_in s ≡ name ∷ []
+      → ((before : List Statement) → IsDraftOf before old → IsFirstPassed (before ++ s ∷ []) what)
+      → RefusesStatement old s (Limit what)
+  limit_refuses s what drives passed = λ before is.
+      passes_limit before s what (new_driver_of before s name drives (free_before old first out name found before is))
+      (passed before is)
+
   -- the arguments find no room
   pub arguments_refused : (s : Statement) (args : List Name) (cause : AddError) → names_in s ≡ name ∷ args → driven_in s
       ≡ name ∷ []
@@ -56,8 +66,8 @@ module _ (old first : Draft) (out : NameId) (name : Name) (found : MentionsFree 
     pub still_free : ¬ IsDriven d out
     still_free driven = found.free (subst (λ (x : Draft). IsDriven x out) mentions.keeps driven)
 
-    pub with_all : (before : List Statement) → IsDraftOf before old → IsDraftWith (mentions_of before ++ name ∷ args) before
-        d
+    pub with_all : (before : List Statement) → IsDraftOf before old
+        → IsDraftWith (mentions_of before ++ name ∷ args) before d
     with_all before is =
         subst (λ l. IsDraftWith l before d) (append_assoc (mentions_of before) (name ∷ []) args)
         (mentions.with_names (mentions_of before ++ name ∷ []) before

@@ -66,7 +66,8 @@ different_differ (name ∷ names) =
     (AllPairs-filter (λ x y. x ≢ y) (is_not name) (different names) (different_differ names))
 
 -- a name is none of those that differ from it
-others_pass : (name : Name) (names : List Name) → AllDiffer (name ∷ names) → All (λ other. is_not name other ≡ true) names
+others_pass : (name : Name) (names : List Name) → AllDiffer (name ∷ names)
+    → All (λ other. is_not name other ≡ true) names
 others_pass name names differ k d below = is_not_same name (get_or names k d)
     (λ same. differ_head name names differ k d below (sym same))
 

@@ -37,7 +37,8 @@ adds_left xs ys rest id adds = record {
       (λ (r : Contains rest x). inl (Contains-append_right xs rest x r)) (Contains-append_cases ys rest x c);
 }
 
-pub adds_right : (first xs ys : List NameId) (id : NameId) → AddsMember xs ys id → AddsMember (first ++ xs) (first ++ ys) id
+pub adds_right : (first xs ys : List NameId) (id : NameId) → AddsMember xs ys id
+    → AddsMember (first ++ xs) (first ++ ys) id
 adds_right first xs ys id adds = record {
   stays = λ x c. ⊎_elim
       (λ (l : Contains first x). Contains-append_left first ys x l)

@@ -41,7 +41,8 @@ module _ (text : List ℕ) (IsAddError : List Statement → Reading → Type 0)
         → ¬ IsAcceptedText text statements
     refused_not_accepted number first statements is =
         let r = begins first.before first.reading first.after statements (sym first.split ∙ is.lines) in
-        against first.before r.0 (subst (IsAddError first.before) r.3 first.cause) (is.accepted first.before r.1 r.0 r.2)
+        against first.before r.0 (subst (IsAddError first.before) r.3 first.cause)
+        (is.accepted first.before r.1 r.0 r.2)
 
     refused_is_no_netlist : (number : ℕ) → IsFirstRefused text number IsAddError → (circuit : Netlist)
         → ¬ IsNetlistOf text circuit

@@ -18,8 +18,8 @@ use Rattle.ht_bench.proofs.ListLaws.{AllZip-length}
 use Rattle.ht_bench.proofs.MentionLaws.{free_before}
 use Rattle.ht_bench.proofs.ContentLaws.{with_gate}
 use Rattle.ht_bench.proofs.LimitLaws.{limits_of_draft, pins_same}
-use Rattle.ht_bench.proofs.AcceptedLaws.{draft_with_mentions, new_driver_of, passes_limit, nets_fit, dffs_more, gate_pins_more}
-use Rattle.ht_bench.proofs.DefinitionLaws.{out_at, still_free, with_all}
+use Rattle.ht_bench.proofs.AcceptedLaws.{draft_with_mentions, new_driver_of, nets_fit, dffs_more, gate_pins_more}
+use Rattle.ht_bench.proofs.DefinitionLaws.{limit_refuses, out_at, still_free, with_all}
 
 module _ (old first : Draft) (out : NameId) (name : Name) (found : MentionsFree old name out first) where
   module _ (d : Draft) (args : List Name) (mentions : Mentions first args d)
@@ -54,14 +54,14 @@ module _ (old first : Draft) (out : NameId) (name : Name) (found : MentionsFree 
 
     pub gate_refused : (error : NetError) → RefusesGate d out (length ids) error
         → RefusesStatement old (gate_line name kind args) (add_error_of error)
-    gate_refused (TooMany Pins) refused = λ before is.
+    gate_refused (TooMany Pins) refused =
+        limit_refuses old first out name found (gate_line name kind args) Pins refl (λ before is.
         let s = gate_line name kind args in
         let all = with_all old first out name found d args mentions before is in
-        let same = pins_same (mentions_of before ++ name ∷ args) before d all in
-        passes_limit before s Pins (new_driver_of before s name refl (free_before old first out name found before is)) (
+        let same = pins_same (mentions_of before ++ name ∷ args) before d all in (
           nets_fit before s d all mentions.is_draft.few_names,
           omega (arith, refused.1, same_count, same, dffs_more before s, gate_pins_more before s),
-        )
+        ))
     gate_refused (Twice other) refused = absurd (still_free old first out name found d args mentions refused.1)
     gate_refused (TooMany Nets) refused = absurd refused
     gate_refused (TooMany Inputs) refused = absurd refused

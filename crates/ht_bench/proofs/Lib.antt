@@ -6,6 +6,7 @@ pub mod MentionLaws
 pub mod DriverLaws
 pub mod ContentLaws
 pub mod LimitLaws
+pub mod AddErrorLaws
 pub mod AcceptedLaws
 pub mod PortStatementLaws
 pub mod DefinitionLaws

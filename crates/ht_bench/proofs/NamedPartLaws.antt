@@ -82,7 +82,8 @@ module _ (c : Netlist) (n : ℕ) where
   pub dff_out : (dffs : List NetId) (k : ℕ) → k < length dffs
       → get_or (dff_outs (named_dffs c n dffs)) k [] ≡ get_or c.names (n + k) []
   dff_out dffs k below =
-      get_or-map (λ (d : NamedDff). d.out) (named_dffs c n dffs) k no_named_dff [] (omega (arith, named_dffs_count dffs))
+      get_or-map (λ (d : NamedDff). d.out) (named_dffs c n dffs) k no_named_dff []
+      (omega (arith, named_dffs_count dffs))
       ∙ ap (λ (d : NamedDff). d.out) (get_or-named_dffs dffs k below)
 
   pub gate_out : (gates : List Gate) (k : ℕ) → k < length gates

@@ -42,8 +42,8 @@ module _ (text : List ℕ) (d : Draft) (is : IsRead text d) where
   -- a number that feeds another is that of a name, and the name feeds the other name
   feeds_by_name : (a b : NameId) → FeedsName d a b → IsName d a × Feeds is.statements (draft_name d a) (draft_name d b)
   feeds_by_name a b feeds =
-      let gate = AllZip-right (IsGateOf d.names) d.gates (stated_gates is.statements) (part_at d feeds.gate) is.draft.gates
-      (at_place d.gates feeds.gate no_part feeds.is_gate) in
+      let gate = AllZip-right (IsGateOf d.names) d.gates (stated_gates is.statements) (part_at d feeds.gate)
+      is.draft.gates (at_place d.gates feeds.gate no_part feeds.is_gate) in
       let arg = AllZip-right (IsNumberOf d.names) (part_at d feeds.gate).args gate.0.args a gate.1.args
       (subst (Contains (part_at d feeds.gate).args) feeds.arg
       (at_place (part_at d feeds.gate).args feeds.pin no_name feeds.is_pin)) in (

@@ -62,8 +62,8 @@ IsTextRefusal text (refused_at n cause) = IsFirstRefused text n (IsCause cause)
 IsTextRefusal text (undriven_at n name) = IsUndriven text n name
 IsTextRefusal text in_cycle = (n : ℕ) × (cycle : List Name) × IsLoop text n cycle
 
-text_refusal_is : (text : List ℕ) (error : BenchError) (v : TextRefusal) → Refuses text error → text_refusal_of error ≡ Some v
-    → IsTextRefusal text v
+text_refusal_is : (text : List ℕ) (error : BenchError) (v : TextRefusal) → Refuses text error
+    → text_refusal_of error ≡ Some v → IsTextRefusal text v
 text_refusal_is text (BadLine line) v refused e = subst (IsTextRefusal text) (same_Some _ v e) refused
 text_refusal_is text (BadName line) v refused e = subst (IsTextRefusal text) (same_Some _ v e) refused
 text_refusal_is text (BadKind line) v refused e = subst (IsTextRefusal text) (same_Some _ v e) refused
@@ -91,13 +91,15 @@ module _ (text : List ℕ) where
       (sym g.read.lines ∙ f.read.lines) in
       let one = one_undriven f.statements n m a b f.first (subst (λ s. IsFirstUndriven s m b) same g.first) in
       ap (λ k. undriven_at k a) one.0 ∙ ap (undriven_at m) one.1
-  one_text_refusal (undriven_at n a) in_cycle f g = absurd (not_all_driven text n a f g.2.statements g.2.read g.2.driven)
+  one_text_refusal (undriven_at n a) in_cycle f g = absurd
+      (not_all_driven text n a f g.2.statements g.2.read g.2.driven)
   one_text_refusal in_cycle (refused_at m b) f g = absurd
       (refused_not_accepted text (IsCause b) (cause_against b) m g f.2.statements f.2.read)
-  one_text_refusal in_cycle (undriven_at m b) f g = absurd (not_all_driven text m b g f.2.statements f.2.read f.2.driven)
+  one_text_refusal in_cycle (undriven_at m b) f g = absurd
+      (not_all_driven text m b g f.2.statements f.2.read f.2.driven)
   one_text_refusal in_cycle in_cycle f g = refl
 
-pub one_refusal : (text : List ℕ) (error other : BenchError) (v w : TextRefusal) → Refuses text error → Refuses text other
-    → text_refusal_of error ≡ Some v → text_refusal_of other ≡ Some w → v ≡ w
+pub one_refusal : (text : List ℕ) (error other : BenchError) (v w : TextRefusal) → Refuses text error
+    → Refuses text other → text_refusal_of error ≡ Some v → text_refusal_of other ≡ Some w → v ≡ w
 one_refusal text error other v w refused also e f = one_text_refusal text v w (text_refusal_is text error v refused e)
     (text_refusal_is text other w also f)

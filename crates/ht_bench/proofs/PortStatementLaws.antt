@@ -19,7 +19,8 @@ use Rattle.ht_bench.specs.declared.add_error.AddError.TheVariants.{Refused, Seco
 use Rattle.ht_bench.proofs.MentionLaws.{free_before}
 use Rattle.ht_bench.proofs.ContentLaws.{with_input, with_output}
 use Rattle.ht_bench.proofs.LimitLaws.{limits_of_draft, too_many_nets, inputs_same, pins_same}
-use Rattle.ht_bench.proofs.AcceptedLaws.{draft_with_mentions, only_outputs, new_driver_of, passes_limit, nets_pass, nets_fit, inputs_more, dffs_more, gate_pins_more}
+use Rattle.ht_bench.proofs.AcceptedLaws.{draft_with_mentions, only_outputs, new_driver_of, nets_pass, nets_fit, inputs_more, dffs_more, gate_pins_more}
+use Rattle.ht_bench.proofs.DefinitionLaws.{limit_refuses}
 
 -- ---- inputs and outputs
 
@@ -46,17 +47,16 @@ module _ (old d : Draft) (id : NameId) (name : Name) (found : MentionsFree old n
 
   pub input_refused : (error : NetError) → RefusesInput d id error
       → RefusesStatement old (input_line name) (add_error_of error)
-  input_refused (TooMany Inputs) refused = λ before is.
+  input_refused (TooMany Inputs) refused = limit_refuses old d id name found (input_line name) Inputs refl (λ before is.
       let s = input_line name in
       let mentioned = mentions_of before ++ name ∷ [] in
       let with_name = found.mentions.with_names (mentions_of before) before is in
       let draft = found.mentions.is_draft in
-      let pins = pins_same mentioned before d with_name in
-      passes_limit before s Inputs (new_driver_of before s name refl (free_before old d id name found before is)) (
+      let pins = pins_same mentioned before d with_name in (
         nets_fit before s d with_name draft.few_names,
         omega (arith, draft.few_pins, pins, dffs_more before s, gate_pins_more before s),
         omega (arith, refused.1, inputs_same mentioned before d with_name, inputs_more before s),
-      )
+      ))
   input_refused (Twice other) refused = absurd (found.free refused.1)
   input_refused (TooMany Nets) refused = absurd refused
   input_refused (TooMany Pins) refused = absurd refused

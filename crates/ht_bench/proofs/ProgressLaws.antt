@@ -130,10 +130,10 @@ pub named_draft_is : (mentioned : List Name) (statements : List Statement) (d : 
 named_draft_is mentioned statements d is =
     let inputs : map (draft_name d) d.inputs ≡ stated_inputs statements = AllZip-map (IsNumberOf d.names) (draft_name d)
     (λ id name at. at.1) d.inputs (stated_inputs statements) is.inputs in
-    let outputs : map (draft_name d) d.outputs ≡ stated_outputs statements = AllZip-map (IsNumberOf d.names) (draft_name d)
-    (λ id name at. at.1) d.outputs (stated_outputs statements) is.outputs in
-    let dffs : map (named_dff d) d.dffs ≡ stated_dffs statements = AllZip-map (IsDffOf d.names) (named_dff d) (dff_named d)
-    d.dffs (stated_dffs statements) is.dffs in
+    let outputs : map (draft_name d) d.outputs ≡ stated_outputs statements = AllZip-map (IsNumberOf d.names)
+    (draft_name d) (λ id name at. at.1) d.outputs (stated_outputs statements) is.outputs in
+    let dffs : map (named_dff d) d.dffs ≡ stated_dffs statements = AllZip-map (IsDffOf d.names) (named_dff d)
+    (dff_named d) d.dffs (stated_dffs statements) is.dffs in
     let gates : map (named_gate d) d.gates ≡ stated_gates statements = AllZip-map (IsGateOf d.names) (named_gate d)
     (gate_named d) d.gates (stated_gates statements) is.gates in
     cc

@@ -21,8 +21,8 @@ IsFirstPassed s Nets = max_nets < length (stated_nets s)
 IsFirstPassed s Pins = (length (stated_nets s) ≤ max_nets) × (max_pins < stated_pins s)
 IsFirstPassed s Inputs = (length (stated_nets s) ≤ max_nets) × (stated_pins s ≤ max_pins)
     × (max_inputs < length (stated_inputs s))
-IsFirstPassed s Dffs = (length (stated_nets s) ≤ max_nets) × (stated_pins s ≤ max_pins) × (length (stated_inputs s) ≤ max_inputs)
-    × (max_dffs < length (stated_dffs s))
+IsFirstPassed s Dffs = (length (stated_nets s) ≤ max_nets) × (stated_pins s ≤ max_pins)
+    × (length (stated_inputs s) ≤ max_inputs) × (max_dffs < length (stated_dffs s))
 
 -- no earlier line drives the net that the statement drives
 abbrev pub HasNewDriver : List Statement → Statement → Type 0

@@ -1,6 +1,5 @@
 -- What the statements of a netlist say together (ISCAS-89 format): inputs, outputs, flip-flops, gates, and which nets
--- are
--- driven and mentioned.
+-- are driven and mentioned.
 use Rattle.std.specs.Prelude.{ℕ, ◌+◌, List, [], ◌∷◌, length, flat_map, sum_by}
 use Rattle.std.specs.List.{position_or_len}
 use Rattle.std.specs.Str.{bytes_eq}
@@ -61,7 +60,8 @@ mention_rank statements name = position_or_len (λ other. bytes_eq other name) (
 
 -- pins are the data pins of flip-flops and the arguments of gates
 abbrev pub stated_pins : List Statement → ℕ
-stated_pins statements = length (stated_dffs statements) + sum_by (λ (g : NamedGate). length g.args) (stated_gates statements)
+stated_pins statements = length (stated_dffs statements)
+    + sum_by (λ (g : NamedGate). length g.args) (stated_gates statements)
 
 abbrev pub named_of_statements : List Statement → NamedNetlist
 named_of_statements statements = record {

@@ -15,8 +15,9 @@ pub fn one_circuit_per_text()
 
 /// A text has at most one refusal, up to the choice of a cycle.
 pub fn one_refusal_per_text()
-    ensures { (text : List ℕ) (error other : BenchError) (v w : TextRefusal) → Refuses text error
-        → Refuses text other → text_refusal_of error ≡ Some v → text_refusal_of other ≡ Some w → v ≡ w }
+    ensures { (text : List ℕ) (error other : BenchError) (v w : TextRefusal)
+        → Refuses text error → Refuses text other
+        → text_refusal_of error ≡ Some v → text_refusal_of other ≡ Some w → v ≡ w }
 {}
 
 /// The normal text of a well-formed circuit whose names are names of the format is a netlist of that circuit.

@@ -1,6 +1,6 @@
 use Rattle.std.proofs.Common.{[], ◌∷◌, refl}
-use Rattle.std.proofs.lemmas.Result.{err_from_is_err_and}
 use Rattle.ht_statement.specs.Statement.{dff_line}
+use Rattle.ht_bench.proofs.AddErrorLaws.{passes_on}
 use Rattle.ht_bench.proofs.AcceptedLaws.{driver_refused}
 use Rattle.ht_bench.proofs.DefinitionLaws.{data_pin_refused}
 use Rattle.ht_bench.proofs.DffStatementLaws.{dff_accepted, dff_refused}
@@ -8,14 +8,13 @@ use Rattle.ht_bench.proofs.add_line.add_dff.Goals as goal
 
 pub returns-in_err-out_id-clause-refusal : goal.returns-in_err-out_id-clause-refusal
 returns-in_err-out_id-clause-refusal c =
-    let p = err_from_is_err_and c.from_residual.result c.from_residual.ensures.1 in
-    rw (p.1, p.2) (driver_refused c.args.builder.now (dff_line c.args.out.now c.args.data_pin.now) c.args.out.now
+    passes_on _ c.from_residual.result c.from_residual.ensures.1
+    (driver_refused c.args.builder.now (dff_line c.args.out.now c.args.data_pin.now) c.args.out.now
     (c.args.data_pin.now ∷ []) c.in_err-out_id.field-0.0 refl refl c.in_err-out_id.ensures.refusal)
 
 pub returns-in_err-pin_id-clause-refusal : goal.returns-in_err-pin_id-clause-refusal
 returns-in_err-pin_id-clause-refusal c =
-    let p = err_from_is_err_and c.from_residual-in_err-pin_id.result c.from_residual-in_err-pin_id.ensures.1 in
-    rw (p.1, p.2)
+    passes_on _ c.from_residual-in_err-pin_id.result c.from_residual-in_err-pin_id.ensures.1
     (data_pin_refused c.args.builder.now c.mention_driven.new.builder c.in_ok-out_id.out_id c.args.out.now
     c.in_ok-out_id.ensures.found
     c.args.data_pin.now c.in_err-pin_id.field-0.0 c.in_err-pin_id.ensures.refusal)
@@ -26,8 +25,7 @@ dff-requires-clause-out c =
 
 pub returns-in_err-dff-clause-refusal : goal.returns-in_err-dff-clause-refusal
 returns-in_err-dff-clause-refusal c =
-    let p = err_from_is_err_and c.from_residual-in_err-dff.result c.from_residual-in_err-dff.ensures.1 in
-    rw (p.1, p.2)
+    passes_on _ c.from_residual-in_err-dff.result c.from_residual-in_err-dff.ensures.1
     (dff_refused c.args.builder.now c.mention_driven.new.builder c.in_ok-out_id.out_id c.args.out.now
     c.in_ok-out_id.ensures.found
     c.mention.new.builder c.args.data_pin.now c.in_ok-pin_id.ensures.mentions c.in_ok-pin_id.pin_id

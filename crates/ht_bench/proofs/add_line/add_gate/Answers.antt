@@ -1,10 +1,10 @@
 use Rattle.std.proofs.Common.{◌≡◌, length, refl, sym, ◌∙◌, subst, arith}
 use Rattle.std.specs.List.{AllZip}
-use Rattle.std.proofs.lemmas.Result.{err_from_is_err_and}
 use Rattle.ht_tern.specs.Gate.{HasArity}
 use Rattle.ht_statement.specs.Statement.{gate_line}
 use Rattle.ht_statement.specs.StatementOf.{texts_of}
 use Rattle.ht_bench.specs.Drafts.{IsNumberOf}
+use Rattle.ht_bench.proofs.AddErrorLaws.{passes_on}
 use Rattle.ht_bench.proofs.ListLaws.{AllZip-length}
 use Rattle.ht_bench.proofs.MentionAllLaws.{known_numbers, length-texts_of}
 use Rattle.ht_bench.proofs.AcceptedLaws.{driver_refused}
@@ -14,15 +14,13 @@ use Rattle.ht_bench.proofs.add_line.add_gate.Goals as goal
 
 pub returns-in_err-out_id-clause-refusal : goal.returns-in_err-out_id-clause-refusal
 returns-in_err-out_id-clause-refusal c =
-    let p = err_from_is_err_and c.from_residual.result c.from_residual.ensures.1 in
-    rw (p.1, p.2)
+    passes_on _ c.from_residual.result c.from_residual.ensures.1
     (driver_refused c.args.builder.now (gate_line c.args.out.now c.args.kind (texts_of c.args.args.now)) c.args.out.now
     (texts_of c.args.args.now) c.in_err-out_id.field-0.0 refl refl c.in_err-out_id.ensures.refusal)
 
 pub returns-in_err-arg_ids-clause-refusal : goal.returns-in_err-arg_ids-clause-refusal
 returns-in_err-arg_ids-clause-refusal c =
-    let p = err_from_is_err_and c.from_residual-in_err-arg_ids.result c.from_residual-in_err-arg_ids.ensures.1 in
-    rw (p.1, p.2)
+    passes_on _ c.from_residual-in_err-arg_ids.result c.from_residual-in_err-arg_ids.ensures.1
     (arguments_refused c.args.builder.now c.mention_driven.new.builder c.in_ok-out_id.out_id c.args.out.now
     c.in_ok-out_id.ensures.found
     (gate_line c.args.out.now c.args.kind (texts_of c.args.args.now)) (texts_of c.args.args.now)
@@ -57,8 +55,7 @@ pub returns-in_err-gate-clause-refusal : goal.returns-in_err-gate-clause-refusal
 returns-in_err-gate-clause-refusal c =
     let are = subst (λ ids. AllZip (IsNumberOf c.mention_all.new.builder.names) ids (texts_of c.args.args.now))
     (sym c.as_slice.ensures) c.in_ok-arg_ids.ensures.numbers in
-    let p = err_from_is_err_and c.from_residual-in_err-gate.result c.from_residual-in_err-gate.ensures.1 in
-    rw (p.1, p.2)
+    passes_on _ c.from_residual-in_err-gate.result c.from_residual-in_err-gate.ensures.1
     (gate_refused c.args.builder.now c.mention_driven.new.builder c.in_ok-out_id.out_id c.args.out.now
     c.in_ok-out_id.ensures.found
     c.mention_all.new.builder (texts_of c.args.args.now) c.in_ok-arg_ids.ensures.mentions c.args.kind

@@ -1,13 +1,12 @@
 use Rattle.std.proofs.Common.{arith, [], ◌<◌, length}
-use Rattle.std.proofs.lemmas.Result.{err_from_is_err_and}
+use Rattle.ht_bench.proofs.AddErrorLaws.{passes_on}
 use Rattle.ht_bench.proofs.MentionAllLaws.{step_mentions, step_numbers, step_refuses}
 use Rattle.ht_bench.proofs.mention.mention_all.Goals as goal
 
 pub returns-in_err-id-clause-refusal : goal.returns-in_err-id-clause-refusal
 returns-in_err-id-clause-refusal c =
     let within : c.loop-name.name-index < length c.args.names.now = omega arith in
-    let p = err_from_is_err_and c.from_residual.result c.from_residual.ensures.1 in
-    rw (p.1, p.2)
+    passes_on _ c.from_residual.result c.from_residual.ensures.1
     (step_refuses c.args.builder.now c.loop-name.builder c.args.names.now c.loop-name.name-index
     (record { ref_ptr = (0, 0); now = [] }) within
     c.in_err-id.field-0.0 c.loop-name.invariant.mentions c.in_err-id.ensures.refusal)
