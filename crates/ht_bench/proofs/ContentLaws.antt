@@ -1,5 +1,5 @@
 -- What the statements of a draft say together, with one more statement.
-use Rattle.std.proofs.Common.{◌≡◌, ◌⊎◌, ⊎_elim, ◌+◌, List, [], ◌∷◌, ◌++◌, map, refl, sym, ◌∙◌, subst}
+use Rattle.std.proofs.Common.{◌≡◌, ◌⊎◌, ⊎_elim, List, [], ◌∷◌, ◌++◌, map, refl, sym, ◌∙◌, subst}
 use Rattle.std.specs.List.{AllZip, Contains, flat_map}
 use Rattle.std.proofs.lemmas.List.{map_push}
 use Rattle.ht_net.specs.declared.names.NameId.{NameId}

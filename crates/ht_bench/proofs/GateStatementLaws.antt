@@ -1,5 +1,5 @@
 -- A gate after the statements of a draft: when it is accepted, and why it is refused.
-use Rattle.std.proofs.Common.{◌≡◌, ◌+◌, List, [], ◌∷◌, ◌++◌, length, refl, sym, ap, subst, arith}
+use Rattle.std.proofs.Common.{◌≡◌, List, [], ◌∷◌, ◌++◌, length, refl, sym, ap, subst, arith}
 use Rattle.std.specs.List.{AllZip}
 use Rattle.std.proofs.lemmas.List.Sums.{sum_by-append}
 use Rattle.ht_tern.specs.declared.gate.Kind.{Kind}
