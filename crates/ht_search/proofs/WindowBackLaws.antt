@@ -1,5 +1,6 @@
 -- Going back over the decisions of windows that stand one under the other.
-use Rattle.std.proofs.Common.{◌≡◌, ◌≢◌, ◌<◌, ◌≤◌, ◌+◌, ◌⊎◌, List, [], ◌∷◌, ◌++◌, Bool, true, false, ltb, length, map, reverse, take, refl, sym, ap, ◌∙◌, inl, inr, arith, append_assoc}
+use Rattle.std.proofs.Common.{◌≡◌, ◌≢◌, ◌<◌, ◌≤◌, ◌+◌, List, [], ◌∷◌, ◌++◌, ltb, length, map, reverse, take, refl, sym, ap, ◌∙◌, inl, inr, arith, append_assoc}
+use Rattle.std.proofs.lemmas.Bool.{cases_Bool}
 use Rattle.std.proofs.lemmas.Bool.Decides.{nat_tests}
 use Rattle.std.proofs.lemmas.List.{reverse-append, reverse-reverse, length_push, map-append, length-reverse, length-append}
 use Rattle.std.proofs.Math.Seq.{take-append_seam}
@@ -10,10 +11,6 @@ use Rattle.ht_search.specs.WindowSteps.{Step, Decides, Enters, windows_entered, 
 use Rattle.ht_search.proofs.RouteLaws.{same_point}
 use Rattle.ht_search.proofs.LaterLaws.{apart, back_older, later_fresh}
 use Rattle.ht_search.proofs.WindowStepLaws.{windows_decided, decisions_decided, entered_above, none_above, entered_under}
-
-tell : (b : Bool) → (b ≡ true) ⊎ (b ≡ false)
-tell true = inl refl
-tell false = inr refl
 
 -- a point of another level stands above the last window
 back_skips : (xs : List Assign3) (t : List Step) (p : Point) → p.level ≢ windows_entered t + 1
@@ -37,11 +34,11 @@ window_leaves above all last ds p is below =
 -- what stands in the last window is a count of its decisions
 above_stands : (above : List (List Assign3)) (p : Point) → Stands (route_of (steps_above above)) p
     → p.level ≡ length above → p ≡ point_of (steps_above above)
-above_stands [] p h e = elim (tell (is_same_point (point_of []) p)) [
+above_stands [] p h e = elim (cases_Bool (is_same_point (point_of []) p)) [
   | inl s ↦ sym (same_point (point_of []) p s)
   | inr s ↦ absurd (h (rw s refl))
 ]
-above_stands (ds ∷ above) p h e = elim (tell (is_same_point (point_of (steps_above (ds ∷ above))) p)) [
+above_stands (ds ∷ above) p h e = elim (cases_Bool (is_same_point (point_of (steps_above (ds ∷ above))) p)) [
   | inl s ↦ sym (same_point (point_of (steps_above (ds ∷ above))) p s)
   | inr s ↦
       let l = windows_decided (reverse ds) (steps_above above) in
@@ -60,7 +57,7 @@ stands_after : (xs : List Assign3) (above : List (List Assign3)) (p : Point)
     → Stands (route_of (map Decides xs ++ steps_above above)) p → p.level ≡ length above → StandsAfter xs above p
 stands_after [] above p h e = record { more = []; first = []; whole = refl; point = above_stands above p h e }
 stands_after (a ∷ xs) above p h e =
-    elim (tell (is_same_point (point_of (map Decides (a ∷ xs) ++ steps_above above)) p)) [
+    elim (cases_Bool (is_same_point (point_of (map Decides (a ∷ xs) ++ steps_above above)) p)) [
       | inl s ↦ record {
         more = [];
         first = a ∷ xs;
@@ -127,7 +124,7 @@ pub stands_level : (above : List (List Assign3)) (ds : List Assign3) (p : Point)
     → Stands (route_of (steps_under above ds)) p → p.level ≤ length above
 stands_level above ds p h =
     let l = entered_under above ds in
-    elim (tell (ltb (length above) p.level)) [
+    elim (cases_Bool (ltb (length above) p.level)) [
       | inl e ↦
           let below : length above < p.level = grind (arith, nat_tests) in
           absurd (h (later_fresh p (steps_under above ds) (inl (omega (arith, l, below)))))

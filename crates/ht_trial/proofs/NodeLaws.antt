@@ -1,5 +1,6 @@
 -- What a window says of the node where its decisions stand.
-use Rattle.std.proofs.Common.{◌≡◌, ◌≢◌, ◌||◌, ◌⊎◌, ℕ, List, Bool, true, false, IsTrue, refl, sym, ◌∙◌, ap, subst, inl, inr}
+use Rattle.std.proofs.Common.{◌≡◌, ◌≢◌, ◌||◌, ℕ, List, false, IsTrue, refl, sym, ◌∙◌, ap, subst, inl, inr}
+use Rattle.std.proofs.lemmas.Bool.{or_cases}
 use Rattle.ht_tern.specs.declared.tern.Tern.{Tern}
 use Rattle.ht_tern.specs.declared.tern.Tern.TheVariants.{Zero, One, Unk}
 use Rattle.ht_tree.specs.declared.token.Assign3.{Assign3}
@@ -18,10 +19,6 @@ use Rattle.ht_tree.specs.Nodes.{window_at, may_go_before}
 use Rattle.ht_tree.specs.WalkBack.{pick_of}
 use Rattle.ht_search.specs.Legal.{MayDecide}
 use Rattle.ht_window.specs.States.{IsLegalDecision}
-
-either : (a b : Bool) → IsTrue (a || b) → IsTrue a ⊎ IsTrue b
-either true b h = inl refl
-either false b h = inr h
 
 -- a window with its decisions stands at a node of the first window
 module _ (first w : SearchWindow) (n : Node) (ds : List Assign3) (at : window_at first n ≡ w) (is : path_of n ≡ ds)
@@ -55,7 +52,7 @@ module _ (first w : SearchWindow) (n : Node) (ds : List Assign3) (at : window_at
     legal_by : (var : ℕ) (value : Tern) → value ≢ Unk
         → IsTrue ((guide_of first).judge.two n var || (guide_of first).judge.three n var) → IsLegalDecision w var value
     legal_by var value known h =
-        elim (either ((guide_of first).judge.two n var) ((guide_of first).judge.three n var) h) [
+        elim (or_cases ((guide_of first).judge.two n var) ((guide_of first).judge.three n var) h) [
           | inl two ↦ inl (subst IsTrue (sym (two_is var)) two, known)
           | inr three ↦ inr (subst IsTrue (sym (three_is var)) three)
         ]

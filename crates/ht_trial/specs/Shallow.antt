@@ -1,7 +1,8 @@
 -- How many windows may stand one under the other.
-use Rattle.std.specs.Prelude.{◌≡◌, ◌<◌, ◌-◌, ◌&&◌, ℕ, Bool, true, false, IsTrue, nat_lt, length}
+use Rattle.std.specs.Prelude.{◌<◌, ◌-◌, ◌&&◌, ℕ, Bool, IsTrue, nat_lt, length}
 use Rattle.std.specs.List.{list_any}
-use Rattle.std.proofs.Common.{arith, refl}
+use Rattle.std.proofs.Common.{arith}
+use Rattle.std.proofs.lemmas.Bool.{and_parts}
 use Rattle.std.proofs.lemmas.Bool.Decides.{nat_tests}
 use Rattle.ht_net.specs.Netlist.{Netlist}
 use Rattle.ht_tree.specs.Walks.{Node, path_of}
@@ -9,12 +10,8 @@ use Rattle.ht_tree.specs.Windows.{SearchWindow, Start, one_frame, unknown, state
 use Rattle.ht_tree.specs.WindowStatus.{is_definite}
 use Rattle.ht_tree.specs.Nodes.{before_of_start, cube_of, start_at, judge_of}
 
-left_true : (a b : Bool) → IsTrue (a && b) → a ≡ true
-left_true true b h = refl
-left_true false b h = cc
-
 below : (limit k : ℕ) (b : Bool) → IsTrue (nat_lt 0 (limit - k) && b) → k < limit
-below limit k b h = let some = left_true (nat_lt 0 (limit - k)) b h in grind (arith, nat_tests)
+below limit k b h = let some = (and_parts (nat_lt 0 (limit - k)) b h).0 in grind (arith, nat_tests)
 
 -- as many windows come under the first as frames are left to a back window, and none under another
 abbrev pub most_windows : Start → ℕ
