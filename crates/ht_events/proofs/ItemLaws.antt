@@ -4,7 +4,7 @@ use Rattle.std.proofs.lemmas.Nat.{div-mul-add, mod-mul-add, div-add-mod'}
 use Rattle.std.proofs.Math.Nat.{mul-le-mul_right, div-lt_iff_lt-mul, mod-lt, suc-mul, mul-zero}
 use Rattle.std.proofs.lemmas.Bool.Decides.{nat_tests}
 use Rattle.ht_net.specs.Netlist.{Netlist}
-use Rattle.ht_events.specs.Items.{frame_items, item_count, item_at, frame_of, local_of, driven_net, Reads, reader_frame, IsReader, IsLoad}
+use Rattle.ht_events.specs.Items.{frame_items, item_count, item_at, frame_of, local_of, driven_net, ReadsNet, reader_frame, IsReader, IsLoad}
 use Rattle.ht_events.specs.Plans.{IsRanking}
 
 pub item_frame : (c : Netlist) (f l : ℕ) → l < frame_items c → frame_of c (item_at c f l) ≡ f
@@ -39,7 +39,7 @@ pub local_inside : (c : Netlist) (k item : ℕ) → item < item_count c k → lo
 local_inside c k item h = mod-lt item (some_items c k item h)
 
 -- a reader is in the first frames, and is an item of its frame
-pub reads_known : (c : Netlist) (l x : ℕ) → Reads c l x → l < frame_items c
+pub reads_known : (c : Netlist) (l x : ℕ) → ReadsNet c l x → l < frame_items c
 reads_known c l x (inl g) = g.known
 reads_known c l x (inr d) = let h = d.is_dff in omega (arith, h)
 
@@ -106,7 +106,7 @@ module _ (c : Netlist) (order ranks : List ℕ) (ranking : IsRanking c order ran
       let py : position_of y ≡ reader_frame c f m * n + get_or ranks m 0 = (λ i. fy i * n + get_or ranks (ly i) 0) in
       later f l m n rl (local_inside c k item inside) refl load.reads py where
         later : (f l m n : ℕ) → get_or ranks l 0 < n → l < frame_items c → n ≡ frame_items c
-            → Reads c m (driven_net c l) → position_of y ≡ reader_frame c f m * n + get_or ranks m 0 → f * n
+            → ReadsNet c m (driven_net c l) → position_of y ≡ reader_frame c f m * n + get_or ranks m 0 → f * n
             + get_or ranks l 0 < position_of y
         later f l m n rl known same (inl g) py =
             let h = g.is_gate in

@@ -5,8 +5,8 @@ use Rattle.std.proofs.lemmas.Bool.Decides.{eqb_tells}
 use Rattle.std.proofs.lemmas.List.Elements.{Contains-push, Contains-push_cases, Contains-append_left}
 use Rattle.std.proofs.lemmas.List.{length-map}
 use Rattle.ht_net.specs.Netlist.{Netlist, net_count, gate_at, arg_at, no_net}
-use Rattle.ht_events.specs.Items.{IsDffOn, IsGateOn, Reads}
-use Rattle.ht_events.specs.Plans.{Row, row_at, rows_of, IsTable}
+use Rattle.ht_events.specs.Items.{IsDffOn, IsGateOn, ReadsNet}
+use Rattle.ht_events.specs.Plans.{Row, row_at, row_lists, IsTable}
 
 pub row_is : (rows : List Row) (x : ℕ) (d : Row) → x < length rows → row_at rows x ≡ (get_or rows x d).items
 row_is [] x d h = absurd (omega arith)
@@ -62,16 +62,23 @@ module _ (rows : List Row) (n local : ℕ) (r : Row) (inside : n < length rows)
 
 -- a table that is filled
 abbrev pub IsSound : Netlist → List Row → Type 0
-IsSound c rows = (x k : ℕ) → Contains (row_at rows x) k → Reads c k x
+IsSound c rows = (x k : ℕ) → Contains (row_at rows x) k → ReadsNet c k x
+
+-- a table with the flip-flops and the first g gates
+pub record IsPartTable (c : Netlist) (rows : List Row) (g : ℕ) : Type 0 where
+  pub count : length rows ≡ net_count c
+  pub sound : IsSound c rows
+  pub dffs : (x k : ℕ) → IsDffOn c k x → Contains (row_at rows x) k
+  pub gates : (x k : ℕ) → k < length c.dffs + g → IsGateOn c k x → Contains (row_at rows x) k
 
 module _ (c : Netlist) (rows new : List Row) (n local : ℕ)
     (keeps : (x l : ℕ) → Contains (row_at rows x) l → Contains (row_at new x) l)
     (has : Contains (row_at new n) local)
     (only : (x l : ℕ) → Contains (row_at new x) l → Contains (row_at rows x) l ⊎ ((x ≡ n) × (l ≡ local))) where
-  pub sound_more : Reads c local n → IsSound c rows → IsSound c new
+  pub sound_more : ReadsNet c local n → IsSound c rows → IsSound c new
   sound_more reads sound x k h = elim (only x k h) [
     | inl old ↦ sound x k old
-    | inr e ↦ subst (λ (y : ℕ). Reads c k y) (sym e.0) (subst (λ (l : ℕ). Reads c l n) (sym e.1) reads)
+    | inr e ↦ subst (λ (y : ℕ). ReadsNet c k y) (sym e.0) (subst (λ (l : ℕ). ReadsNet c l n) (sym e.1) reads)
   ]
 
   pub dffs_more : (get_or c.dffs local no_net).0 ≡ n
@@ -95,8 +102,16 @@ module _ (c : Netlist) (rows new : List Row) (n local : ℕ)
     | inr p ↦ let ne : j ≢ i = p.1 in keeps (arg_at c g j) (length c.dffs + g) (pins j (omega (arith, less, ne)))
   ]
 
+  pub part_kept : (g : ℕ) → length new ≡ length rows → ReadsNet c local n → IsPartTable c rows g → IsPartTable c new g
+  part_kept g same reads t = record {
+    count = same ∙ t.count;
+    sound = sound_more reads t.sound;
+    dffs = λ x k d. keeps x k (t.dffs x k d);
+    gates = λ x k less on. keeps x k (t.gates x k less on);
+  }
+
 -- all pins of a gate are there
-pub gates_more : (c : Netlist) (rows : List Row) (g n : ℕ) → n ≡ length (gate_at c g).args
+gates_more : (c : Netlist) (rows : List Row) (g n : ℕ) → n ≡ length (gate_at c g).args
     → ((j : ℕ) → j < n → Contains (row_at rows (arg_at c g j)) (length c.dffs + g))
     → ((x k : ℕ) → k < length c.dffs + g → IsGateOn c k x → Contains (row_at rows x) k)
     → (x k : ℕ) → k < length c.dffs + (g + 1) → IsGateOn c k x → Contains (row_at rows x) k
@@ -112,15 +127,22 @@ gates_more c rows g n all pins gates x k less on = elim (eqb_tells k (length c.d
   | inr p ↦ let ne : k ≢ length c.dffs + g = p.1 in gates x k (omega (arith, less, ne)) on
 ]
 
-pub table_is : (c : Netlist) (rows : List Row) → length rows ≡ net_count c → IsSound c rows
-    → ((x k : ℕ) → IsDffOn c k x → Contains (row_at rows x) k)
-    → ((x k : ℕ) → k < length c.dffs + length c.gates → IsGateOn c k x → Contains (row_at rows x) k)
-    → IsTable c (rows_of rows)
-table_is c rows count sound dffs gates = record {
-  count = length-map rows (λ (r : Row). r.items) ∙ count;
-  sound = sound;
+pub part_more : (c : Netlist) (rows : List Row) (g n : ℕ) → n ≡ length (gate_at c g).args
+    → ((j : ℕ) → j < n → Contains (row_at rows (arg_at c g j)) (length c.dffs + g))
+    → IsPartTable c rows g → IsPartTable c rows (g + 1)
+part_more c rows g n all pins t = record {
+  count = t.count;
+  sound = t.sound;
+  dffs = t.dffs;
+  gates = gates_more c rows g n all pins t.gates;
+}
+
+pub table_is : (c : Netlist) (rows : List Row) → IsPartTable c rows (length c.gates) → IsTable c (row_lists rows)
+table_is c rows t = record {
+  count = length-map rows (λ (r : Row). r.items) ∙ t.count;
+  sound = t.sound;
   complete = all;
 } where
-  all : (x l : ℕ) → Reads c l x → Contains (row_at rows x) l
-  all x l (inl g) = gates x l g.known g
-  all x l (inr d) = dffs x l d
+  all : (x l : ℕ) → ReadsNet c l x → Contains (row_at rows x) l
+  all x l (inl g) = t.gates x l g.known g
+  all x l (inr d) = t.dffs x l d

@@ -35,8 +35,8 @@ pub record IsDffOn (c : Netlist) (l x : ℕ) : Type 0 where
   pub is_dff : l < length c.dffs
   pub reads : (get_or c.dffs l no_net).0 ≡ x
 
-abbrev pub Reads : Netlist → ℕ → ℕ → Type 0
-Reads c l x = IsGateOn c l x ⊎ IsDffOn c l x
+abbrev pub ReadsNet : Netlist → ℕ → ℕ → Type 0
+ReadsNet c l x = IsGateOn c l x ⊎ IsDffOn c l x
 
 -- a gate reads nets of its own frame, a flip-flop those of the frame before
 abbrev pub reader_frame : Netlist → ℕ → ℕ → ℕ
@@ -45,7 +45,7 @@ reader_frame c f l = cond (ltb l (length c.dffs)) (f + 1) f
 -- an item that reads net x of frame f
 pub record IsReader (c : Netlist) (frames f x item : ℕ) : Type 0 where
   pub local : ℕ
-  pub reads : Reads c local x
+  pub reads : ReadsNet c local x
   pub inside : reader_frame c f local < frames
   pub at : item ≡ item_at c (reader_frame c f local) local
 

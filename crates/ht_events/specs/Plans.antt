@@ -3,24 +3,28 @@ use Rattle.std.specs.Prelude.{◌≡◌, ◌<◌, ◌≤◌, ◌+◌, ◌*◌, �
 use Rattle.std.specs.List.{Contains}
 use Rattle.std.specs.declared.alloc.Global.{Global}
 use Rattle.ht_net.specs.Netlist.{Netlist, IsCircuit, net_count}
-use Rattle.ht_events.specs.Items.{frame_items, frame_of, local_of, driven_net, IsGateOn, Reads}
+use Rattle.ht_events.specs.Items.{frame_items, frame_of, local_of, driven_net, IsGateOn, ReadsNet}
 use Rattle.ht_events.specs.declared.plan.Plan.TheInside.{Inside}
+
+-- the most frames: the longest window of a search
+abbrev pub max_frames : ℕ
+max_frames = 447
 
 abbrev pub Row : Type 0
 Row = Vec ℕ Global
 
 -- the rows as lists
-abbrev pub rows_of : List Row → List (List ℕ)
-rows_of rows = map (λ (r : Row). r.items) rows
+abbrev pub row_lists : List Row → List (List ℕ)
+row_lists rows = map (λ (r : Row). r.items) rows
 
 abbrev pub row_at : List Row → ℕ → List ℕ
-row_at rows x = get_or (rows_of rows) x []
+row_at rows x = get_or (row_lists rows) x []
 
 -- each net's row has the items of a frame that read it
 pub record IsTable (c : Netlist) (rows : List (List ℕ)) : Type 0 where
   pub count : length rows ≡ net_count c
-  pub sound : (x l : ℕ) → Contains (get_or rows x []) l → Reads c l x
-  pub complete : (x l : ℕ) → Reads c l x → Contains (get_or rows x []) l
+  pub sound : (x l : ℕ) → Contains (get_or rows x []) l → ReadsNet c l x
+  pub complete : (x l : ℕ) → ReadsNet c l x → Contains (get_or rows x []) l
 
 -- ranks gives the rank of each item of a frame in the order; a gate comes after what it reads
 pub record IsRanking (c : Netlist) (order ranks : List ℕ) : Type 0 where
@@ -43,12 +47,10 @@ pub record PlanState : Type 0 where
 abbrev pub position_at : PlanState → ℕ → ℕ
 position_at s item = frame_of s.circuit item * frame_items s.circuit + get_or s.ranks (local_of s.circuit item) 0
 
-abbrev pub plan_of : Inside → PlanState
-plan_of a = record { circuit = a.circuit.now; frames = a.frames; readers = a.readers; ranks = a.ranks.items }
-
+-- the parts of a plan belong to its circuit
 pub record IsPlan (a : Inside) : Type 0 where
   pub circuit : IsCircuit a.circuit.now
   pub some : 0 < a.frames
-  pub few : a.frames ≤ 447
+  pub few : a.frames ≤ max_frames
   pub table : IsTable a.circuit.now a.readers
   pub ranking : IsRanking a.circuit.now a.order.items a.ranks.items

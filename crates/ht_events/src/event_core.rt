@@ -1,10 +1,9 @@
 //! The items that are pending, and what fires them.
 ghost use Rattle.std.specs.Prelude.{◌≡◌, ℕ, ◌<◌, ◌≤◌, ◌+◌, true, false, length, get_or, set, IfOk, OnOk, OnErr, IfSome, IfNone, ◌⊎◌};
-ghost use Rattle.std.specs.List.{count_by};
 ghost use Rattle.ht_net.specs.Netlist.{net_count};
 ghost use Rattle.ht_events.specs.Items.{IsLoad, IsReader, item_count, item_at, reader_frame, frame_items};
 ghost use Rattle.ht_events.specs.Plans.{position_at};
-ghost use Rattle.ht_events.specs.Pending.{CoreState, Pends, IsMarked, core_items};
+ghost use Rattle.ht_events.specs.Pending.{CoreState, IsPending, IsPendingAt, QuietAgree, core_items, pending_count, pends};
 
 use crate::plan::{MAX_FRAMES, Plan};
 use crate::plant::Plant;
@@ -44,7 +43,7 @@ impl<'c> Core<'c> {
         requires few { frames ≤ MAX_FRAMES }
         ensures circuit { IfOk result (λ core. core.plan.circuit ≡ circuit.now) }
         ensures frames { IfOk result (λ core. core.plan.frames ≡ frames) }
-        ensures none { IfOk result (λ core. (x : ℕ) → ¬ Pends core x) }
+        ensures none { IfOk result (λ core. (x : ℕ) → ¬ IsPending core x) }
     {
         let plan = Plan::new(alloc, circuit, frames)?;
         let items = frames as usize * plan.frame_items() as usize;
@@ -67,16 +66,21 @@ impl<'c> Core<'c> {
 
     /// How many items are pending.
     pub fn pending(&self) -> u32
-        ensures { result ≡ count_by (λ m. m) self.now.marks }
+        ensures { result ≡ pending_count self.now }
     {
-        let _ = self.items();
-        self.marks.iter().filter(|mark| **mark).count() as u32
+        let mut count = 0;
+        for item in 0..self.items() {
+            if self.is_pending(item) {
+                count += 1;
+            }
+        }
+        count
     }
 
     /// Makes all items pending.
     pub fn touch_all(&mut self)
         ensures plan { self.new.plan ≡ self.old.plan }
-        ensures all { (y : ℕ) → y < core_items self.old → Pends self.new y }
+        ensures all { (y : ℕ) → y < core_items self.old → IsPending self.new y }
     {
         for item in 0..self.items() {
             self.touch(item);
@@ -86,8 +90,7 @@ impl<'c> Core<'c> {
     /// Whether an item is pending.
     pub fn is_pending(&self, item: u32) -> bool
         requires { item < core_items self.now }
-        ensures yes { result ≡ true → Pends self.now item }
-        ensures no { result ≡ false → ¬ Pends self.now item }
+        ensures { result ≡ pends self.now item }
     {
         self.marks[self.plan.position(item) as usize]
     }
@@ -96,9 +99,9 @@ impl<'c> Core<'c> {
     pub fn touch(&mut self, item: u32)
         requires { item < core_items self.old }
         ensures plan { self.new.plan ≡ self.old.plan }
-        ensures more { (y : ℕ) → Pends self.old y → Pends self.new y }
-        ensures has { Pends self.new item }
-        ensures only { (y : ℕ) → y < core_items self.old → Pends self.new y → Pends self.old y
+        ensures more { (y : ℕ) → IsPending self.old y → IsPending self.new y }
+        ensures has { IsPending self.new item }
+        ensures only { (y : ℕ) → y < core_items self.old → IsPending self.new y → IsPending self.old y
             ⊎ (y ≡ item) }
     {
         let position = self.plan.position(item);
@@ -111,9 +114,9 @@ impl<'c> Core<'c> {
     fn remove(&mut self, item: u32)
         requires { item < core_items self.old }
         ensures plan { self.new.plan ≡ self.old.plan }
-        ensures taken { ¬ Pends self.new item }
-        ensures fewer { (y : ℕ) → Pends self.new y → Pends self.old y }
-        ensures only { (y : ℕ) → y < core_items self.old → Pends self.old y → Pends self.new y
+        ensures taken { ¬ IsPending self.new item }
+        ensures fewer { (y : ℕ) → IsPending self.new y → IsPending self.old y }
+        ensures only { (y : ℕ) → y < core_items self.old → IsPending self.old y → IsPending self.new y
             ⊎ (y ≡ item) }
     {
         let position = self.plan.position(item);
@@ -128,11 +131,11 @@ impl<'c> Core<'c> {
         requires frame { frame < self.old.plan.frames }
         requires local { local < frame_items self.old.plan.circuit }
         ensures plan { self.new.plan ≡ self.old.plan }
-        ensures more { (y : ℕ) → Pends self.old y → Pends self.new y }
+        ensures more { (y : ℕ) → IsPending self.old y → IsPending self.new y }
         ensures has { reader_frame self.old.plan.circuit frame local < self.old.plan.frames
-            → Pends self.new (item_at self.old.plan.circuit
+            → IsPending self.new (item_at self.old.plan.circuit
             (reader_frame self.old.plan.circuit frame local) local) }
-        ensures only { (y : ℕ) → y < core_items self.old → Pends self.new y → Pends self.old y
+        ensures only { (y : ℕ) → y < core_items self.old → IsPending self.new y → IsPending self.old y
             ⊎ ((reader_frame self.old.plan.circuit frame local < self.old.plan.frames)
             × (y ≡ item_at self.old.plan.circuit (reader_frame self.old.plan.circuit frame local)
             local)) }
@@ -154,10 +157,10 @@ impl<'c> Core<'c> {
         requires frame { frame < self.old.plan.frames }
         requires net { net.0 < net_count self.old.plan.circuit }
         ensures plan { self.new.plan ≡ self.old.plan }
-        ensures more { (y : ℕ) → Pends self.old y → Pends self.new y }
+        ensures more { (y : ℕ) → IsPending self.old y → IsPending self.new y }
         ensures loads { (y : ℕ) → IsReader self.old.plan.circuit self.old.plan.frames frame net.0 y
-            → Pends self.new y }
-        ensures only { (y : ℕ) → y < core_items self.old → Pends self.new y → Pends self.old y
+            → IsPending self.new y }
+        ensures only { (y : ℕ) → y < core_items self.old → IsPending self.new y → IsPending self.old y
             ⊎ IsReader self.old.plan.circuit self.old.plan.frames frame net.0 y }
     {
         let count = self.plan.readers(net).len();
@@ -171,12 +174,12 @@ impl<'c> Core<'c> {
     fn finish(&mut self, item: u32, changed: bool)
         requires { item < core_items self.old }
         ensures plan { self.new.plan ≡ self.old.plan }
-        ensures taken { ¬ Pends self.new item }
-        ensures kept { (y : ℕ) → y < core_items self.old → Pends self.old y
-            → Pends self.new y ⊎ (y ≡ item) }
+        ensures taken { ¬ IsPending self.new item }
+        ensures kept { (y : ℕ) → y < core_items self.old → IsPending self.old y
+            → IsPending self.new y ⊎ (y ≡ item) }
         ensures loads { changed ≡ true → (y : ℕ)
-            → IsLoad self.old.plan.circuit self.old.plan.frames item y → Pends self.new y }
-        ensures only { (y : ℕ) → y < core_items self.old → Pends self.new y → Pends self.old y
+            → IsLoad self.old.plan.circuit self.old.plan.frames item y → IsPending self.new y }
+        ensures only { (y : ℕ) → y < core_items self.old → IsPending self.new y → IsPending self.old y
             ⊎ ((changed ≡ true) × IsLoad self.old.plan.circuit self.old.plan.frames item y) }
     {
         let _ = self.plan.position(item);
@@ -188,7 +191,8 @@ impl<'c> Core<'c> {
         }
     }
 
-    /// Fires one pending item, any one: makes it agree, and its loads pending if its value changed.
+    /// Fires one pending item, any one: makes it agree, and its loads pending if its value changed. Where every item that
+    /// isn't pending agreed, it does afterwards.
     ///
     /// # Errors
     /// Out of memory; the item is still pending.
@@ -196,9 +200,7 @@ impl<'c> Core<'c> {
         requires circuit { P.circuit plant.old ≡ self.old.plan.circuit }
         requires frames { P.frames plant.old ≡ self.old.plan.frames }
         requires item { item < core_items self.old }
-        requires pending { Pends self.old item }
-        requires agree { (x : ℕ) → x < core_items self.old → ¬ Pends self.old x
-            → P.agrees plant.old x }
+        requires pending { IsPending self.old item }
         ensures plan { self.new.plan ≡ self.old.plan }
         ensures circuit { P.circuit plant.new ≡ P.circuit plant.old }
         ensures frames { P.frames plant.new ≡ P.frames plant.old }
@@ -206,11 +208,12 @@ impl<'c> Core<'c> {
         ensures keeps { P.keeps plant.old plant.new }
         ensures rises { P.spent plant.old ≤ P.spent plant.new }
         ensures spent { P.spent plant.new ≤ P.spent plant.old + P.price plant.old }
-        ensures agree { (x : ℕ) → x < core_items self.old → ¬ Pends self.new x
-            → P.agrees plant.new x }
-        ensures taken { OnOk result (¬ Pends self.new item) }
-        ensures only { OnOk result ((x : ℕ) → x < core_items self.old → Pends self.new x
-            → Pends self.old x ⊎ IsLoad self.old.plan.circuit self.old.plan.frames item x) }
+        ensures agree { QuietAgree self.old (P.agrees plant.old)
+            → QuietAgree self.new (P.agrees plant.new) }
+        ensures fired { OnOk result (P.agrees plant.new item) }
+        ensures taken { OnOk result (¬ IsPending self.new item) }
+        ensures only { OnOk result ((x : ℕ) → x < core_items self.old → IsPending self.new x
+            → IsPending self.old x ⊎ IsLoad self.old.plan.circuit self.old.plan.frames item x) }
         ensures err { OnErr result (self.new ≡ self.old) }
     {
         let _ = self.plan.position(item);
@@ -222,10 +225,10 @@ impl<'c> Core<'c> {
     // The first position from `from` on that is marked.
     fn next_mark(&self, from: u32) -> Option<u32>
         ensures inside { IfSome result (λ p. p < core_items self.now) }
-        ensures marked { IfSome result (λ p. IsMarked self.now p) }
+        ensures marked { IfSome result (λ p. IsPendingAt self.now p) }
         ensures first { IfSome result
-            (λ p. (from ≤ p) × ((q : ℕ) → from ≤ q → q < p → ¬ IsMarked self.now q)) }
-        ensures none { IfNone result ((q : ℕ) → from ≤ q → ¬ IsMarked self.now q) }
+            (λ p. (from ≤ p) × ((q : ℕ) → from ≤ q → q < p → ¬ IsPendingAt self.now q)) }
+        ensures none { IfNone result ((q : ℕ) → from ≤ q → ¬ IsPendingAt self.now q) }
     {
         for position in from..self.high {
             if self.marks[position as usize] {
@@ -238,15 +241,15 @@ impl<'c> Core<'c> {
     // The pending item that stands first in the order of all.
     fn first(&mut self, from: u32) -> Option<u32>
         requires { (y : ℕ) → y < core_items self.old → position_at self.old.plan y < from
-            → ¬ Pends self.old y }
+            → ¬ IsPending self.old y }
         ensures same { self.new ≡ self.old }
         ensures inside { IfSome result (λ item. item < core_items self.old) }
-        ensures pending { IfSome result (λ item. Pends self.old item) }
+        ensures pending { IfSome result (λ item. IsPending self.old item) }
         ensures from { IfSome result (λ item. from ≤ position_at self.old.plan item) }
         ensures first { IfSome result
             (λ item. (y : ℕ) → y < core_items self.old → position_at self.old.plan y < position_at
-            self.old.plan item → ¬ Pends self.old y) }
-        ensures none { IfNone result ((y : ℕ) → y < core_items self.old → ¬ Pends self.old y) }
+            self.old.plan item → ¬ IsPending self.old y) }
+        ensures none { IfNone result ((y : ℕ) → y < core_items self.old → ¬ IsPending self.old y) }
     {
         let start = self.low.max(from);
         match self.next_mark(start) {
@@ -270,19 +273,18 @@ impl<'c> Core<'c> {
     /// for each event, and a look at each position between the first and the last.
     ///
     /// # Errors
-    /// Out of memory; an item that is not pending agrees.
+    /// Out of memory; some items may be pending. Here too, where every item that isn't pending agreed, it does
+    /// afterwards.
     pub fn settle<P: Plant>(&mut self, plant: &mut P) -> Result<(), AllocError>
         requires circuit { P.circuit plant.old ≡ self.old.plan.circuit }
         requires frames { P.frames plant.old ≡ self.old.plan.frames }
-        requires agree { (x : ℕ) → x < core_items self.old → ¬ Pends self.old x
-            → P.agrees plant.old x }
         ensures plan { self.new.plan ≡ self.old.plan }
         ensures circuit { P.circuit plant.new ≡ P.circuit plant.old }
         ensures frames { P.frames plant.new ≡ P.frames plant.old }
         ensures keeps { P.keeps plant.old plant.new }
-        ensures agree { (x : ℕ) → x < core_items self.old → ¬ Pends self.new x
-            → P.agrees plant.new x }
-        ensures none { OnOk result ((x : ℕ) → x < core_items self.old → ¬ Pends self.new x) }
+        ensures agree { QuietAgree self.old (P.agrees plant.old)
+            → QuietAgree self.new (P.agrees plant.new) }
+        ensures none { OnOk result ((x : ℕ) → x < core_items self.old → ¬ IsPending self.new x) }
     {
         let mut from = 0;
         while let Some(item) = self.first(from) {

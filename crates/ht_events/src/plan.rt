@@ -2,7 +2,7 @@
 ghost use Rattle.std.specs.Prelude.{◌≡◌, ℕ, ◌<◌, ◌≤◌, ◌+◌, ◌-◌, ◌^◌, [], IfOk, length, get_or};
 ghost use Rattle.std.specs.List.{Contains};
 ghost use Rattle.ht_net.specs.Netlist.{IsCircuit, net_count};
-ghost use Rattle.ht_events.specs.Items.{Reads, IsLoad, frame_items, item_at, item_count, frame_of, local_of, driven_net};
+ghost use Rattle.ht_events.specs.Items.{ReadsNet, IsLoad, frame_items, item_at, item_count, frame_of, local_of, driven_net};
 ghost use Rattle.ht_events.specs.Plans.{position_at, PlanState, IsTable};
 
 use crate::ranking::ranking;
@@ -33,9 +33,14 @@ impl<'c> Model for Plan<'c> {
 
     ghost Value = { PlanState };
 
-    ghost use Rattle.ht_events.specs.Plans.{plan_of, IsPlan};
+    ghost use Rattle.ht_events.specs.Plans.{IsPlan};
 
-    ghost view = { plan_of };
+    ghost view = { λ a. record {
+      circuit = a.circuit.now;
+      frames = a.frames;
+      readers = a.readers;
+      ranks = a.ranks.items;
+    } };
 
     ghost invariant = { IsPlan };
 }
@@ -52,12 +57,11 @@ impl<'c> Plan<'c> {
         ensures frames { IfOk result (λ plan. plan.frames ≡ frames) }
     {
         let _ = circuit.nets();
-        let readers = readers(alloc, circuit)?;
         let (order, ranks) = ranking(alloc, circuit)?;
         Ok(Plan {
             circuit,
             frames,
-            readers,
+            readers: readers(alloc, circuit)?,
             order,
             ranks,
         })

@@ -1,5 +1,5 @@
 //! What is kept up to date, item by item.
-ghost use Rattle.std.specs.Prelude.{◌≡◌, ℕ, ◌<◌, ◌≤◌, ◌+◌, false, OnOk, OnErr, Ok};
+ghost use Rattle.std.specs.Prelude.{◌≡◌, ◌↔◌, ℕ, ◌<◌, ◌≤◌, ◌+◌, false, OnOk, OnErr, Ok};
 ghost use Rattle.ht_net.specs.Netlist.{Netlist};
 ghost use Rattle.ht_events.specs.Items.{IsLoad, item_count};
 
@@ -23,10 +23,11 @@ pub trait Plant {
 
     ghost spent: { Self → ℕ };
 
-    /// Makes an item agree with what it reads, and says whether its value changed.
+    /// Makes an item agree with what it reads, and says whether its value changed. What agreed and isn't its load still
+    /// agrees, and where nothing changed its loads do too.
     ///
     /// # Errors
-    /// Out of memory; the items that agreed still do.
+    /// Out of memory; the same items agree as before.
     fn recompute(&mut self, item: u32) -> Result<bool, AllocError>
         requires { item < item_count (circuit self.old) (frames self.old) }
         ensures circuit { circuit self.new ≡ circuit self.old }
@@ -39,8 +40,10 @@ pub trait Plant {
         ensures others { OnOk result ((x : ℕ) → x < item_count (circuit self.old) (frames self.old)
             → ¬ IsLoad (circuit self.old) (frames self.old) item x → agrees self.old x
             → agrees self.new x) }
-        ensures loads { result ≡ Ok false → (x : ℕ) → agrees self.old x → agrees self.new x }
-        ensures err { OnErr result ((x : ℕ) → agrees self.old x → agrees self.new x) };
+        ensures loads { result ≡ Ok false → (x : ℕ) → x < item_count (circuit self.old) (frames self.old)
+            → agrees self.old x → agrees self.new x }
+        ensures err { OnErr result ((x : ℕ) → x < item_count (circuit self.old) (frames self.old)
+            → agrees self.old x ↔ agrees self.new x) };
 
     ghost reflexive: { (a : Self) → keeps a a };
 

@@ -1,7 +1,7 @@
 //! What reads each net.
 ghost use Rattle.std.specs.Prelude.{◌≡◌, ℕ, ◌<◌, ◌⊎◌, [], length, IfOk, OnOk};
 ghost use Rattle.std.specs.List.{Contains};
-ghost use Rattle.ht_events.specs.Plans.{row_at, rows_of, IsTable};
+ghost use Rattle.ht_events.specs.Plans.{row_at, row_lists, IsTable};
 
 use ht_items::FlatRows;
 use ht_net::{Circuit, NetId};
@@ -36,7 +36,7 @@ fn empty_rows(alloc: Global, nets: u32) -> Result<Vec<Vec<u32>>, AllocError>
 
 // For each net the items of a frame that read it, row by row.
 fn reader_rows(alloc: Global, circuit: &Circuit) -> Result<Vec<Vec<u32>>, AllocError>
-    ensures { IfOk result (λ rows. IsTable circuit.now (rows_of rows.items)) }
+    ensures { IfOk result (λ rows. IsTable circuit.now (row_lists rows.items)) }
 {
     let mut rows = empty_rows(alloc, circuit.nets())?;
     for j in 0..circuit.dffs() {
@@ -52,7 +52,7 @@ fn reader_rows(alloc: Global, circuit: &Circuit) -> Result<Vec<Vec<u32>>, AllocE
 
 // The same rows in one.
 fn flattened(alloc: Global, rows: &[Vec<u32>]) -> Result<FlatRows<u32>, AllocError>
-    ensures { IfOk result (λ flat. flat ≡ rows_of rows.now) }
+    ensures { IfOk result (λ flat. flat ≡ row_lists rows.now) }
 {
     let mut flat = FlatRows::new(alloc);
     for row in rows {

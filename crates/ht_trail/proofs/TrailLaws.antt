@@ -3,7 +3,7 @@ use Rattle.std.proofs.Common.{◌≡◌, ◌<◌, ◌≤◌, ◌+◌, ℕ, suc, 
 use Rattle.std.proofs.lemmas.List.{append-nil, take_all, take-append-le, drop-append-le, length-append, drop_all, length_push, get_or_append_left, length-set, length-take-le, take-append-drop}
 use Rattle.std.proofs.Math.Seq.{take-append_seam, drop-append_seam}
 use Rattle.ht_trail.specs.declared.cells.Saved.{Saved}
-use Rattle.ht_trail.specs.Trails.{CellsState, restored, IsLater, IsWithin, at_mark}
+use Rattle.ht_trail.specs.Trails.{CellsState, restored, IsLater, IsTrailBelow, at_mark}
 
 -- a write is taken back
 pub set_back : {V : Type 0} → (xs : List V) (i : ℕ) (v d : V) → i < length xs → set (set xs i v) i (get_or xs i d) ≡ xs
@@ -53,7 +53,7 @@ part_pop {X} (x ∷ xs) (t ∷ all) s h =
     (λ i. here i ∷ rest i)
 
 pub within_pop : {V : Type 0} → (n m : ℕ) (xs old : List (Saved V)) (s : Saved V) → old ≡ xs ++ s ∷ [] → m ≡ n
-    → IsWithin n old → IsWithin m xs
+    → IsTrailBelow n old → IsTrailBelow m xs
 within_pop {V} n m xs old s is same h = λ k d less.
     let long : length old ≡ length xs + 1 = ap length is ∙ length_push xs s in
     let at : get_or xs k d ≡ get_or old k d = sym (get_or_append_left xs (s ∷ []) d k less) ∙ ap

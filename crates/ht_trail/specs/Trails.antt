@@ -14,8 +14,8 @@ restored values [] = values
 restored values (s ∷ trail) = set (restored values trail) s.index s.value
 
 -- the indices on a trail are below n
-abbrev pub IsWithin : {V : Type 0} → ℕ → List (Saved V) → Type 0
-IsWithin {V} n trail = All (λ (s : Saved V). s.index < n) trail
+abbrev pub IsTrailBelow : {V : Type 0} → ℕ → List (Saved V) → Type 0
+IsTrailBelow {V} n trail = All (λ (s : Saved V). s.index < n) trail
 
 -- what the cells held when the trail had m changes
 abbrev pub at_mark : {V : Type 0} → CellsState V → ℕ → List V

@@ -32,11 +32,11 @@ impl<T> Model for Cells<T> {
 
     ghost Value = { CellsState T };
 
-    ghost use Rattle.ht_trail.specs.Trails.{IsWithin};
+    ghost use Rattle.ht_trail.specs.Trails.{IsTrailBelow};
 
     ghost view = { λ a. record { values = a.values.items; trail = a.trail.items } };
 
-    ghost invariant = { λ a. IsWithin (length a.values.items) a.trail.items };
+    ghost invariant = { λ a. IsTrailBelow (length a.values.items) a.trail.items };
 }
 
 impl<T: Copy> Cells<T> {

@@ -4,35 +4,23 @@ use Rattle.ht_pairs.specs.Pairs.{Pair}
 use Rattle.ht_net.specs.Netlist.{Netlist, net_count}
 use Rattle.ht_net.proofs.FrameLaws.{le_or_lt}
 use Rattle.ht_trail.specs.Trails.{IsLater}
-use Rattle.ht_events.specs.Items.{item_count, item_at, frame_items, frame_of, local_of, driven_net, IsReader, IsLoad}
-use Rattle.ht_events.proofs.ItemLaws.{item_is, item_frame, item_local, item_inside, frame_inside, local_inside}
+use Rattle.ht_events.specs.Items.{item_count, item_at, frame_of, local_of, driven_net, IsReader, IsLoad}
+use Rattle.ht_events.proofs.ItemLaws.{item_inside}
 use Rattle.ht_tree.specs.declared.token.Assign3.{Assign3}
 use Rattle.ht_tree.specs.Windows.{SearchWindow, IsWindow, pair_set_rules, frame_inputs}
 use Rattle.ht_window.specs.Standing.{Standing}
-use Rattle.ht_window.specs.Cells.{cell_index, cell_count, env_at, latches_over, value_over, Holds, AreCells}
-use Rattle.ht_window.specs.Holding.{HeldState, item_agrees, IsKept}
+use Rattle.ht_window.specs.Cells.{cell_index, cell_count, env_at, latches_over, value_over, HoldsValue, AreCells}
+use Rattle.ht_window.specs.Holding.{HeldState, item_agrees, KeepsHeld}
 use Rattle.ht_window.proofs.PlaceLaws.{unwritten, this_or_other}
-use Rattle.ht_window.proofs.HoldLaws.{over_same, others_hold, self_holds, same_holds, holds_cells}
+use Rattle.ht_window.proofs.ReaderLaws.{over_same}
+use Rattle.ht_window.proofs.ItemNetLaws.{item_net, agrees_net}
+use Rattle.ht_window.proofs.HoldLaws.{others_hold, self_holds, same_holds, holds_cells}
 
--- the item of a net
-net_of : (c : Netlist) (y : ℕ) → c.inputs ≤ y → driven_net c (y - c.inputs) ≡ y
-net_of c y at = omega (arith, at)
-
-pub agrees_net : (h : HeldState) (g y : ℕ) → h.standing.window.circuit.inputs ≤ y
-    → y < net_count h.standing.window.circuit
-    → item_agrees h (item_at h.standing.window.circuit g (y - h.standing.window.circuit.inputs))
-    → Holds h.standing.window h.standing.path h.cells.values g y
-agrees_net h g y at ys agree =
-    let w = h.standing.window in
-    let c = w.circuit in
-    let l = y - c.inputs in
-    let known : l < frame_items c = omega (arith, at, ys) in
-    let f = item_frame c g l known in
-    let n : driven_net c (local_of c (item_at c g l)) ≡ y = ap (driven_net c) (item_local c g l known) ∙ net_of c y at
-    in
-    subst (λ (x : ℕ). Holds w h.standing.path h.cells.values g x) n
-    (subst (λ (m : ℕ). Holds w h.standing.path h.cells.values m (driven_net c (local_of c (item_at c g l)))) f
-    agree)
+pub record IsRecomputed (a b : HeldState) (item : ℕ) : Type 0 where
+  pub keeps : KeepsHeld a b
+  pub agrees : item_agrees b item
+  pub others : (y : ℕ) → y < item_count a.standing.window.circuit a.standing.window.frames
+      → ¬ IsLoad a.standing.window.circuit a.standing.window.frames item y → item_agrees a y → item_agrees b y
 
 module _ (a b : HeldState) (valid : IsWindow a.standing.window)
     (count : length a.cells.values ≡ cell_count a.standing.window)
@@ -42,46 +30,41 @@ module _ (a b : HeldState) (valid : IsWindow a.standing.window)
     (item : ℕ) (inside : item < item_count a.standing.window.circuit a.standing.window.frames)
     (fe : f ≡ frame_of a.standing.window.circuit item)
     (xe : x ≡ driven_net a.standing.window.circuit (local_of a.standing.window.circuit item)) where
-  move : (g y : ℕ) → Holds a.standing.window a.standing.path (set a.cells.values (cell_index a.standing.window f x) v) g
+  move : (g y : ℕ) → HoldsValue a.standing.window a.standing.path (set a.cells.values (cell_index a.standing.window f x) v) g
       y
-      → Holds b.standing.window b.standing.path b.cells.values g y
-  move g y h = subst (λ (s : Standing). Holds s.window s.path b.cells.values g y) (sym same)
-      (subst (λ (t : List (List Pair)). Holds a.standing.window a.standing.path t g y) (sym now) h)
+      → HoldsValue b.standing.window b.standing.path b.cells.values g y
+  move g y h = subst (λ (s : Standing). HoldsValue s.window s.path b.cells.values g y) (sym same)
+      (subst (λ (t : List (List Pair)). HoldsValue a.standing.window a.standing.path t g y) (sym now) h)
 
-  pub agrees_self : item_agrees b item
+  agrees_self : item_agrees b item
   agrees_self =
       let c = a.standing.window.circuit in
-      subst (λ (s : Standing). Holds b.standing.window b.standing.path b.cells.values (frame_of s.window.circuit item)
+      subst (λ (s : Standing). HoldsValue b.standing.window b.standing.path b.cells.values (frame_of s.window.circuit item)
       (driven_net s.window.circuit (local_of s.window.circuit item))) (sym same)
-      (subst (λ (g : ℕ). Holds b.standing.window b.standing.path b.cells.values g (driven_net c (local_of c item))) fe
-      (subst (λ (y : ℕ). Holds b.standing.window b.standing.path b.cells.values f y) xe
+      (subst (λ (g : ℕ). HoldsValue b.standing.window b.standing.path b.cells.values g (driven_net c (local_of c item))) fe
+      (subst (λ (y : ℕ). HoldsValue b.standing.window b.standing.path b.cells.values f y) xe
       (move f x (self_holds a.standing.window valid a.standing.path a.cells.values count f x v fs xs value))))
 
-  pub agrees_others : (y : ℕ) → y < item_count a.standing.window.circuit a.standing.window.frames
+  agrees_others : (y : ℕ) → y < item_count a.standing.window.circuit a.standing.window.frames
       → ¬ IsLoad a.standing.window.circuit a.standing.window.frames item y → item_agrees a y → item_agrees b y
   agrees_others y known free agree =
       let w = a.standing.window in
       let c = w.circuit in
       let g = frame_of c y in
-      let l = local_of c y in
-      let z = driven_net c l in
-      let gs = frame_inside c w.frames y known in
-      let ls = local_inside c w.frames y known in
-      let zs : z < net_count c = omega (arith, ls) in
-      let el : z - c.inputs ≡ l = omega arith in
-      let is : item_at c g (z - c.inputs) ≡ y = ap (item_at c g) el ∙ item_is c y in
-      subst (λ (s : Standing). Holds b.standing.window b.standing.path b.cells.values (frame_of s.window.circuit y)
+      let z = driven_net c (local_of c y) in
+      let n = item_net c w.frames y known in
+      subst (λ (s : Standing). HoldsValue b.standing.window b.standing.path b.cells.values (frame_of s.window.circuit y)
       (driven_net s.window.circuit (local_of s.window.circuit y))) (sym same)
       (move g z (elim (this_or_other w a.cells.values count f x v fs xs g z) [
-        | inl e ↦ same_holds w valid a.standing.path a.cells.values count f x v fs xs g z zs e value
-        | inr ne ↦ others_hold w valid a.standing.path a.cells.values count f x v fs xs g z gs zs
+        | inl e ↦ same_holds w valid a.standing.path a.cells.values count f x v fs xs g z n.net e value
+        | inr ne ↦ others_hold w valid a.standing.path a.cells.values count f x v fs xs g z n.frame n.net
             (λ at r. free (subst (λ (i : ℕ). IsReader c w.frames (frame_of c item) (driven_net c (local_of c item)) i)
-            is
+            n.is
             (subst (λ (n : ℕ). IsReader c w.frames (frame_of c item) n (item_at c g (z - c.inputs))) xe
             (subst (λ (m : ℕ). IsReader c w.frames m x (item_at c g (z - c.inputs))) fe r)))) ne agree
       ]))
 
-  pub kept_set : IsLater a.cells b.cells → IsKept a b
+  kept_set : IsLater a.cells b.cells → KeepsHeld a b
   kept_set later = record {
     standing = same;
     later = later;
@@ -92,6 +75,10 @@ module _ (a b : HeldState) (valid : IsWindow a.standing.window)
         (omega (arith, is)) (inr low);
   }
 
+  -- what the write of an item's value leaves
+  pub recomputed : IsLater a.cells b.cells → IsRecomputed a b item
+  recomputed later = record { keeps = kept_set later; agrees = agrees_self; others = agrees_others }
+
 -- what an input holds doesn't rest on other cells
 pub input_over : (w : SearchWindow) (path : List Assign3) (values more : List (List Pair)) (g i : ℕ)
     → i < w.circuit.inputs → value_over w path values g i ≡ value_over w path more g i
@@ -101,14 +88,14 @@ input_over w path values more g i is =
     (λ l. refl) (λ at low. absurd (omega (arith, at, is))) (λ j at pin. absurd (omega (arith, at, is)))
 
 -- where the inputs hold what they get and then all items agree, every cell is that of the decisions
-pub settled_cells : (a b : HeldState) → IsWindow a.standing.window → IsKept a b
+pub settled_cells : (a b : HeldState) → IsWindow a.standing.window → KeepsHeld a b
     → ((f i : ℕ) → f < a.standing.window.frames → i < a.standing.window.circuit.inputs
-    → Holds a.standing.window a.standing.path a.cells.values f i)
+    → HoldsValue a.standing.window a.standing.path a.cells.values f i)
     → ((y : ℕ) → y < item_count a.standing.window.circuit a.standing.window.frames → item_agrees b y)
     → AreCells a.standing.window a.standing.path b.cells.values
 settled_cells a b valid kept inputs agree = holds_cells w valid a.standing.path b.cells.values
     (λ f x fs xs. elim (le_or_lt w.circuit.inputs x) [
-      | inl at ↦ subst (λ (s : Standing). Holds s.window s.path b.cells.values f x) kept.standing
+      | inl at ↦ subst (λ (s : Standing). HoldsValue s.window s.path b.cells.values f x) kept.standing
           (item f x at xs fs)
       | inr low ↦ kept.inputs f x fs low ∙
           (inputs f x fs low ∙ input_over w a.standing.path a.cells.values b.cells.values f x low)
@@ -117,7 +104,7 @@ settled_cells a b valid kept inputs agree = holds_cells w valid a.standing.path 
       w = a.standing.window
 
       item : (f x : ℕ) → a.standing.window.circuit.inputs ≤ x → x < net_count a.standing.window.circuit
-          → f < a.standing.window.frames → Holds b.standing.window b.standing.path b.cells.values f x
+          → f < a.standing.window.frames → HoldsValue b.standing.window b.standing.path b.cells.values f x
       item f x at xs fs =
           let c = a.standing.window.circuit in
           let e = ap (λ (s : Standing). s.window.circuit) kept.standing in

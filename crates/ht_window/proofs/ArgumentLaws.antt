@@ -21,19 +21,19 @@ module _ (r : Rules (List Pair)) (g : ℕ) (env : ℕ → List Pair) (args : Lis
       ∙ ap (λ (s : List Pair). cond (is_undetermined s) (get_or args i no_net).0
       (undetermined_argument r g env (i + 1) (drop (i + 1) args))) (sym is))
 
-  pub argument_open : is_undetermined set ≡ true → (get_or args i no_net).0 ≡ undetermined_argument r g env 0 args
-  argument_open e = sym
+  argument_undetermined : is_undetermined set ≡ true → (get_or args i no_net).0 ≡ undetermined_argument r g env 0 args
+  argument_undetermined e = sym
       (step ∙ ap (λ (b : Bool). cond b (get_or args i no_net).0 (undetermined_argument r g env (i + 1) (drop (i + 1) args))) e)
 
-  pub argument_passed : is_undetermined set ≡ false → undetermined_argument r g env (i + 1) (drop (i + 1) args)
+  argument_passed : is_undetermined set ≡ false → undetermined_argument r g env (i + 1) (drop (i + 1) args)
       ≡ undetermined_argument r g env 0 args
   argument_passed e = sym
       (step ∙ ap (λ (b : Bool). cond b (get_or args i no_net).0 (undetermined_argument r g env (i + 1) (drop (i + 1) args))) e)
 
 -- a set that isn't single is undetermined
-pub open_single : (set : List Pair) (single : Bool) → IsTrue single ↔ (length set ≡ 1) → 0 < length set → single ≡ false
+pub undetermined_single : (set : List Pair) (single : Bool) → IsTrue single ↔ (length set ≡ 1) → 0 < length set → single ≡ false
     → is_undetermined set ≡ true
-open_single set single tells some differs = elim (leb_tells 2 (length set)) [
+undetermined_single set single tells some differs = elim (leb_tells 2 (length set)) [
   | inl p ↦ p.0
   | inr p ↦
       let l = p.1 in
@@ -43,21 +43,39 @@ open_single set single tells some differs = elim (leb_tells 2 (length set)) [
       cc
 ]
 
-pub closed_single : (set : List Pair) (single : Bool) → IsTrue single ↔ (length set ≡ 1) → single ≡ true
+pub determined_single : (set : List Pair) (single : Bool) → IsTrue single ↔ (length set ≡ 1) → single ≡ true
     → is_undetermined set ≡ false
-closed_single set single tells same = elim (leb_tells 2 (length set)) [
+determined_single set single tells same = elim (leb_tells 2 (length set)) [
   | inl p ↦ let l = p.1 in let one : length set ≡ 1 = tells.0 same in absurd (omega (arith, l, one))
   | inr p ↦ p.0
 ]
 
--- the set at a pin, from the parts that a program reads
-pub pin_is : (fault fault' : Option Fault) (args args' : List NetId) (g i : ℕ) (cell set : List Pair)
-    (env : ℕ → List Pair) → fault ≡ fault' → args ≡ args'
-    → cell ≡ env (get_or args i no_net).0 → set ≡ (pair_set_rules fault).pin g i cell → set
-    ≡ (pair_set_rules fault').pin g i (env (get_or args' i no_net).0)
-pin_is fault fault' args args' g i cell set env f a c s =
-    s ∙ (ap (λ (x : Option Fault). (pair_set_rules x).pin g i cell) f ∙ ap ((pair_set_rules fault').pin g i)
-    (c ∙ ap (λ (t : List NetId). env (get_or t i no_net).0) a))
+-- what the set at a pin tells of the first open argument
+pub record IsPinStep (r : Rules (List Pair)) (g : ℕ) (env : ℕ → List Pair) (all args : List NetId) (i : ℕ) (set : List Pair) :
+    Type 0 where
+  pub ends : is_undetermined set ≡ true → (get_or args i no_net).0 ≡ undetermined_argument r g env 0 all
+  pub goes_on : is_undetermined set ≡ false → undetermined_argument r g env (i + 1) (drop (i + 1) all) ≡ undetermined_argument r g env 0 all
+
+-- the same from the parts that a program reads
+pub pin_step : (read c : Netlist) (fault fault' : Option Fault) (args : List NetId) (g i : ℕ) (cell set : List Pair)
+    (env : ℕ → List Pair) → read ≡ c → fault ≡ fault' → args ≡ (gate_at read g).args → i < length args
+    → cell ≡ env (get_or args i no_net).0 → set ≡ (pair_set_rules fault).pin g i cell
+    → undetermined_argument (pair_set_rules fault') g env i (drop i (gate_at c g).args)
+    ≡ undetermined_argument (pair_set_rules fault') g env 0 (gate_at c g).args
+    → IsPinStep (pair_set_rules fault') g env (gate_at c g).args args i set
+pin_step read c fault fault' args g i cell set env cs fs ats inside here_is is before =
+    let all = (gate_at c g).args in
+    let same : args ≡ all = ats ∙ ap (λ (n : Netlist). (gate_at n g).args) cs in
+    let n = ap length same in
+    let here : i < length all = omega (arith, n, inside) in
+    let set_is : set ≡ (pair_set_rules fault').pin g i (env (get_or all i no_net).0) = is
+    ∙ (ap (λ (x : Option Fault). (pair_set_rules x).pin g i cell) fs ∙ ap ((pair_set_rules fault').pin g i)
+    (here_is ∙ ap (λ (t : List NetId). env (get_or t i no_net).0) same)) in
+    record {
+      ends = λ e. ap (λ (t : List NetId). (get_or t i no_net).0) same
+          ∙ argument_undetermined (pair_set_rules fault') g env all i here set set_is before e;
+      goes_on = argument_passed (pair_set_rules fault') g env all i here set set_is before;
+    }
 
 -- each argument of a gate is a net
 pub argument_known : (c : Netlist) (circuit : IsCircuit c) (g i : ℕ) (args : List NetId) → g < length c.gates → args

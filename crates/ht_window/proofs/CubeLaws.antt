@@ -1,8 +1,9 @@
 -- The latches of a cube, one by one.
-use Rattle.std.proofs.Common.{◌≡◌, ◌+◌, ◌∙◌, ◌↔◌, ℕ, suc, zero, List, [], ◌∷◌, ◌++◌, Bool, true, false, ◌&&◌, ◌||◌, cond, Option, Some, None, length, refl, ap, sym, inl, inr, arith, IsTrue}
+use Rattle.std.proofs.Common.{◌≡◌, ◌+◌, ◌∙◌, ◌↔◌, ℕ, suc, zero, List, [], ◌∷◌, ◌++◌, Bool, true, false, ◌&&◌, ◌||◌, cond, length, refl, ap, sym, inl, inr, arith, IsTrue}
 use Rattle.std.specs.Prelude.{ltb, eqb}
-use Rattle.std.specs.List.{find, filter, list_all, range_with_len}
+use Rattle.std.specs.List.{filter, list_all, range_with_len}
 use Rattle.std.proofs.lemmas.List.{append-nil}
+use Rattle.std.proofs.lemmas.List.Folds.{list_all-append}
 use Rattle.std.proofs.lemmas.Bool.Decides.{leb_tells, eqb_tells}
 use Rattle.ht_tern.specs.declared.tern.Tern.{Tern}
 use Rattle.ht_pairs.specs.Pairs.{Pair, IsMember, is_member, same_pair}
@@ -15,8 +16,8 @@ use Rattle.ht_tree.specs.Windows.{SearchWindow, is_undetermined}
 use Rattle.ht_tree.specs.Places.{set_at}
 use Rattle.ht_tree.specs.WindowStatus.{is_definite, value_at, must_meet, may_meet, cube_status}
 use Rattle.ht_window.specs.declared.cube.CubeSeen.{CubeSeen}
-use Rattle.ht_window.specs.Seen.{cube_seen_of, cube_seen_with, cube_status_by, latch_or}
-use Rattle.ht_window.proofs.SeenLaws.{range_push, filter_append}
+use Rattle.ht_window.specs.Seen.{cube_seen_of, cube_seen_with, cube_status_by}
+use Rattle.ht_window.proofs.SeenLaws.{find_push, filter_push}
 
 agree : (a b : Bool) → (a ≡ true → b ≡ true) → (b ≡ true → a ≡ true) → a ≡ b
 agree true b h k = sym (h refl)
@@ -45,30 +46,14 @@ pub member_is : (p : Pair) (s : List Pair) (b : Bool) → IsTrue b ↔ IsMember 
 member_is p s b h = agree b (is_member p s) (λ e. member_true p s (h.0 e)) (λ e. h.1 (true_member p s e))
 
 -- one more latch
-and_more : (a b c : Bool) → ((a && b) && c) ≡ (a && (b && c))
-and_more true b c = refl
-and_more false b c = refl
-
 all_push : (test : ℕ → Bool) (latches : List ℕ) (j : ℕ) → list_all test (latches ++ j ∷ [])
     ≡ (list_all test latches && test j)
-all_push test [] j = by (test j)
+all_push test latches j = list_all-append test latches (j ∷ []) ∙ ap (λ (b : Bool). list_all test latches && b)
+    (by (test j))
   where
     by : (b : Bool) → (b && true) ≡ b
     by true = refl
     by false = refl
-all_push test (k ∷ latches) j = ap (λ (b : Bool). test k && b) (all_push test latches j) ∙ sym
-    (and_more (test k) (list_all test latches) (test j))
-
-latch_cond : (b : Bool) (j : ℕ) (rest other : Option ℕ) → cond b (Some j) (latch_or rest other)
-    ≡ latch_or (cond b (Some j) rest) other
-latch_cond true j rest other = refl
-latch_cond false j rest other = refl
-
-find_latch : (test : ℕ → Bool) (latches : List ℕ) (j : ℕ) → find test (latches ++ j ∷ [])
-    ≡ latch_or (find test latches) (cond (test j) (Some j) None)
-find_latch test [] j = refl
-find_latch test (k ∷ latches) j = ap (λ (o : Option ℕ). cond (test k) (Some k) o) (find_latch test latches j) ∙
-    latch_cond (test k) k (find test latches) (cond (test j) (Some j) None)
 
 some_push : (latches : List ℕ) (j : ℕ) → ltb 0 (length (latches ++ j ∷ [])) ≡ true
 some_push [] j = refl
@@ -83,7 +68,7 @@ module _ (w : SearchWindow) (path : List Assign3) (cube : List Tern) where
       let some = sym (some_push latches j) in
       let must = sym (all_push (must_meet w path cube) latches j) in
       let may = sym (all_push (may_meet w path cube) latches j) in
-      let wide = sym (find_latch (λ j. is_undetermined (set_at w path 0 (State j))) latches j) in
+      let wide = sym (find_push (λ j. is_undetermined (set_at w path 0 (State j))) latches j) in
       (λ k. cube_seen_with (is k) j (wanted k) (here k)) ∙
       (λ k. record { some = some k; must = must k; may = may k; open_latch = wide k })
 
@@ -94,13 +79,9 @@ module _ (w : SearchWindow) (path : List Assign3) (cube : List Tern) where
       ≡ cube_seen_of w path cube (filter (λ j. is_definite (value_at cube j)) (range_with_len 0 (n + 1)))
   latch_kept n value set s is wanted kept here =
       let test : ℕ → Bool = λ j. is_definite (value_at cube j) in
-      let at : 0 + n ≡ n = omega arith in
       let yes_here : test n ≡ true = ap is_definite (sym wanted) ∙ kept in
       let more : filter test (range_with_len 0 (n + 1)) ≡ filter test (range_with_len 0 n) ++ n ∷ [] =
-      ap (filter test) (range_push 0 n) ∙
-      (filter_append test (range_with_len 0 n) (0 + n) ∙
-      (ap (λ (k : ℕ). filter test (range_with_len 0 n) ++ cond (test k) (k ∷ []) []) at
-      ∙ ap (λ (b : Bool). filter test (range_with_len 0 n) ++ cond b (n ∷ []) []) yes_here)) in
+      filter_push test n ∙ ap (λ (b : Bool). filter test (range_with_len 0 n) ++ cond b (n ∷ []) []) yes_here in
       cube_push (filter test (range_with_len 0 n)) n value set s is wanted here ∙ ap (cube_seen_of w path cube)
       (sym more)
 
@@ -110,14 +91,10 @@ module _ (w : SearchWindow) (path : List Assign3) (cube : List Tern) where
       ≡ cube_seen_of w path cube (filter (λ j. is_definite (value_at cube j)) (range_with_len 0 (n + 1)))
   latch_passed n value s is wanted passed =
       let test : ℕ → Bool = λ j. is_definite (value_at cube j) in
-      let at : 0 + n ≡ n = omega arith in
       let no_here : test n ≡ false = ap is_definite (sym wanted) ∙ passed in
       let more : filter test (range_with_len 0 (n + 1)) ≡ filter test (range_with_len 0 n) =
-      ap (filter test) (range_push 0 n) ∙
-      (filter_append test (range_with_len 0 n) (0 + n) ∙
-      (ap (λ (k : ℕ). filter test (range_with_len 0 n) ++ cond (test k) (k ∷ []) []) at
-      ∙ (ap (λ (b : Bool). filter test (range_with_len 0 n) ++ cond b (n ∷ []) []) no_here ∙ append-nil
-      (filter test (range_with_len 0 n))))) in
+      filter_push test n ∙ (ap (λ (b : Bool). filter test (range_with_len 0 n) ++ cond b (n ∷ []) []) no_here
+      ∙ append-nil (filter test (range_with_len 0 n))) in
       is ∙ ap (cube_seen_of w path cube) (sym more)
 
   -- what was seen tells the status

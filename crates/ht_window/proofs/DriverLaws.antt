@@ -1,5 +1,7 @@
 -- What an input, a latch and a gate get from the decisions and from a row of the cells.
-use Rattle.std.proofs.Common.{◌≡◌, ◌<◌, ◌≤◌, ◌+◌, ◌-◌, ℕ, suc, zero, List, [], ◌∷◌, Option, length, get_or, take, drop, refl, sym, ◌∙◌, ap, arith}
+use Rattle.std.proofs.Common.{◌≡◌, ◌<◌, ◌≤◌, ◌+◌, ◌-◌, ℕ, suc, List, Option, length, get_or, take, drop, refl, sym, ◌∙◌, ap, arith}
+use Rattle.std.proofs.lemmas.List.{get_or-take, get_or-drop}
+use Rattle.std.proofs.lemmas.List.FromFn.{get_or-map-range_with_len}
 use Rattle.ht_pairs.specs.Pairs.{Pair}
 use Rattle.ht_net.specs.declared.fault.Fault.{Fault}
 use Rattle.ht_net.specs.declared.net.NetId.{NetId}
@@ -14,7 +16,6 @@ use Rattle.ht_pairs.specs.Decided.{same_pairs}
 use Rattle.ht_tree.specs.Decisions.{decided_value}
 use Rattle.ht_tree.specs.Windows.{input_set, SearchWindow, IsWindow, first_input, first_latch, frame_inputs, pair_set_rules}
 use Rattle.ht_window.specs.Cells.{cell_index, env_at, blank, latches_over}
-use Rattle.ht_window.proofs.VariableLaws.{get_map_range}
 
 -- a latch of the first frame, and of a later one
 pub latch_first : (w : SearchWindow) (path : List Assign3) (values : List (List Pair)) (f j : ℕ) → f ≡ 0
@@ -24,8 +25,7 @@ unfolding latches_over
 latch_first w path values f j at js =
     let e : 0 + j ≡ j = omega arith in
     sym (ap (λ (g : ℕ). get_or (latches_over w path values g) j blank) at ∙
-    (get_map_range (first_latch w w.start path) 0 (length w.circuit.dffs) j blank js ∙ ap
-    (first_latch w w.start path) e))
+    get_or-map-range_with_len (first_latch w w.start path) 0 (length w.circuit.dffs) j j blank js e)
 
 pub latch_next : (w : SearchWindow) (path : List Assign3) (values : List (List Pair)) (f g j : ℕ) → f ≡ suc g
     → j < length w.circuit.dffs
@@ -47,7 +47,7 @@ pub driver_input : (w : SearchWindow) (path : List Assign3) (values : List (List
     → result ≡ driver_value w.circuit (pair_set_rules w.fault) (frame_inputs w path f) (latches_over w path values f)
     (env_at w values f) x
 driver_input w path values f x result xs is =
-    is ∙ (sym (get_map_range (input_set path) (first_input w f) w.circuit.inputs x blank xs)
+    is ∙ (sym (get_or-map-range_with_len (input_set path) (first_input w f) w.circuit.inputs x (first_input w f + x) blank xs refl)
     ∙ sym (driven_input w.circuit (pair_set_rules w.fault) (frame_inputs w path f) (latches_over w path values f)
     (env_at w values f) x xs))
 
@@ -76,17 +76,7 @@ driver_gate w valid path values row f x result at xs same is =
 -- a row of the cells
 pub row_cells : (w : SearchWindow) (values : List (List Pair)) (f y : ℕ) → y < net_count w.circuit
     → get_or (take (net_count w.circuit) (drop (cell_index w f 0) values)) y blank ≡ env_at w values f y
-row_cells w values f y ys = get_take (drop (cell_index w f 0) values) (net_count w.circuit) y ys ∙
-    (get_drop values (cell_index w f 0) y ∙ (let at : cell_index w f 0 + y ≡ cell_index w f y = omega arith
-    in ap (λ (p : ℕ). get_or values p blank) at)) where
-      get_take : (xs : List (List Pair)) (n k : ℕ) → k < n → get_or (take n xs) k blank ≡ get_or xs k blank
-      get_take xs zero k h = absurd (omega arith)
-      get_take [] (suc n) k h = refl
-      get_take (x ∷ xs) (suc n) zero h = refl
-      get_take (x ∷ xs) (suc n) (suc k) h = get_take xs n k (omega arith)
-
-      get_drop : (xs : List (List Pair)) (n k : ℕ) → get_or (drop n xs) k blank ≡ get_or xs (n + k) blank
-      get_drop xs zero k = let e : k ≡ 0 + k = omega arith in ap (λ (p : ℕ). get_or xs p blank) e
-      get_drop [] (suc n) k = refl
-      get_drop (x ∷ xs) (suc n) k = get_drop xs n k ∙
-          (let e : suc (n + k) ≡ suc n + k = omega arith in ap (λ (p : ℕ). get_or (x ∷ xs) p blank) e)
+row_cells w values f y ys =
+    let at : cell_index w f 0 + y ≡ cell_index w f y = omega arith in
+    get_or-take (net_count w.circuit) (drop (cell_index w f 0) values) y blank ys ∙
+    (get_or-drop (cell_index w f 0) values y blank ∙ ap (λ (p : ℕ). get_or values p blank) at)

@@ -7,14 +7,26 @@ use Rattle.ht_net.specs.Netlist.{net_count, no_net}
 use Rattle.ht_net.specs.Frame.{next_state}
 use Rattle.ht_tree.proofs.PlaceLaws.{taken_at}
 use Rattle.ht_events.specs.Items.{item_count, IsReader}
+use Rattle.ht_events.specs.Plans.{PlanState}
+use Rattle.ht_events.specs.Pending.{CoreState, IsPending, QuietAgree, core_items}
 use Rattle.ht_net.specs.declared.fault.Fault.{Fault}
 use Rattle.ht_tree.specs.declared.token.Assign3.{Assign3}
 use Rattle.ht_tree.specs.Windows.{SearchWindow, IsWindow, cell_at, latches_at, pair_set_rules}
 use Rattle.ht_window.specs.Standing.{Standing}
 use Rattle.ht_window.specs.Cells.{cell_index, cell_count, blank, value_over, AreCells, var_frame, var_net}
-use Rattle.ht_window.specs.Holding.{HeldState, item_agrees, IsKept}
+use Rattle.ht_window.specs.Holding.{HeldState, item_agrees, KeepsHeld}
 use Rattle.ht_window.proofs.AgreeLaws.{settled_cells}
 use Rattle.ht_window.proofs.DecideLaws.{decided_agrees, decided_inputs}
+
+-- where all that wasn't pending agreed, and after settling none is pending, all items agree
+pub settled_all : (s t : CoreState) (w : SearchWindow) (a b : HeldState) → t.plan ≡ s.plan → s.plan.circuit ≡ w.circuit
+    → s.plan.frames ≡ w.frames → QuietAgree s (item_agrees a)
+    → (QuietAgree s (item_agrees a) → QuietAgree t (item_agrees b))
+    → ((y : ℕ) → y < core_items s → ¬ IsPending t y)
+    → (y : ℕ) → y < item_count w.circuit w.frames → item_agrees b y
+settled_all s t w a b plan circuit frames quiet settled none y known =
+    let here : y < core_items s = subst (λ (n : ℕ). y < n) (sym (λ i. item_count (circuit i) (frames i))) known in
+    settled quiet y (subst (λ (p : PlanState). y < item_count p.circuit p.frames) (sym plan) here) (none y here)
 
 -- a is before the decision, p has the decision, and q also the set of its net
 module _ (a p q : HeldState) (d : Assign3) (valid : IsWindow a.standing.window)
@@ -55,7 +67,7 @@ module _ (a p q : HeldState) (d : Assign3) (valid : IsWindow a.standing.window)
       (subst (λ (n : ℕ). IsReader a.standing.window.circuit a.standing.window.frames
       (var_frame a.standing.window d.var) n y) (sym net_is) r)))
 
-  pub follow_cells : (r : HeldState) → IsKept q r
+  pub follow_cells : (r : HeldState) → KeepsHeld q r
       → ((y : ℕ) → y < item_count a.standing.window.circuit a.standing.window.frames → item_agrees r y)
       → AreCells a.standing.window r.standing.path r.cells.values
   follow_cells r kept agree =

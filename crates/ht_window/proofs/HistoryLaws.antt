@@ -1,88 +1,30 @@
--- Values and cells as at each mark.
-use Rattle.std.proofs.Common.{◌≡◌, ◌<◌, ◌≤◌, ◌+◌, inl, inr, ℕ, suc, zero, List, [], ◌∷◌, ◌++◌, Option, None, Some, length, get_or, take, drop, set, refl, sym, ◌∙◌, ap, arith, subst}
-use Rattle.std.proofs.lemmas.List.{take_all, take-append-le, length_push, length-take-le, get_or_append_left, get_or_push}
+-- The cells as at the mark before each decision.
+use Rattle.std.proofs.Common.{◌≡◌, ◌<◌, ◌≤◌, ◌+◌, inl, inr, ℕ, List, [], ◌∷◌, ◌++◌, length, get_or, take, drop, refl, sym, ◌∙◌, ap, arith, subst}
+use Rattle.std.proofs.lemmas.List.{take_all, take-append-le, take-take, get_or-take, length_push, length-take-le, get_or_append_left, get_or_push}
 use Rattle.ht_net.proofs.FrameLaws.{le_or_lt}
-use Rattle.ht_tern.specs.declared.tern.Tern.{Tern}
 use Rattle.ht_pairs.specs.Pairs.{Pair}
 use Rattle.ht_trail.specs.Trails.{CellsState, IsLater, at_mark, restored}
 use Rattle.ht_trail.proofs.TrailLaws.{later_mark, mark_now, undone_mark}
 use Rattle.ht_tree.specs.declared.token.Assign3.{Assign3}
-use Rattle.ht_tree.specs.Decisions.{decided_value}
 use Rattle.ht_tree.specs.Windows.{SearchWindow}
-use Rattle.ht_window.specs.Standing.{IsValueHistory}
-use Rattle.ht_window.specs.Cells.{IsHistory, mark_of, AreCells}
-use Rattle.ht_window.proofs.DecisionLaws.{written_push}
-
--- the values that stand
-pub value_now : (values : CellsState (Option Tern)) (path : List Assign3) → IsValueHistory values path → (var : ℕ)
-    → get_or values.values var None ≡ decided_value path var
-value_now values path h var =
-    let n = h.count in
-    let at : at_mark values (length path) ≡ values.values = ap (at_mark values) (sym n) ∙ mark_now values in
-    ap (λ (v : List (Option Tern)). get_or v var None) (sym at) ∙
-    (h.at (length path) var (omega arith) ∙ ap (λ (p : List Assign3). decided_value p var)
-    (take_all (length path) path (omega arith)))
-
-pub value_push : (a b : CellsState (Option Tern)) (path : List Assign3) (d : Assign3) → d.var < length a.values
-    → IsLater a b
-    → b.values ≡ set a.values d.var (Some d.value) → length b.trail ≡ length a.trail + 1 → IsValueHistory a path
-    → IsValueHistory b (path ++ d ∷ [])
-value_push a b path d room later written grown h = record {
-  count = (let n = h.count in let m = length_push path d in omega (arith, grown, n, m));
-  at = λ k var ks. elim (le_or_lt k (length path)) [
-    | inl old ↦
-        let n = h.count in
-        ap (λ (v : List (Option Tern)). get_or v var None) (later_mark a b later k (omega (arith, old, n)))
-        ∙ (h.at k var old ∙ ap (λ (p : List Assign3). decided_value p var) (sym (take-append-le k path (d ∷ []) old)))
-    | inr new ↦
-        let n = h.count in
-        let m = length_push path d in
-        let at : k ≡ length b.trail = omega (arith, ks, new, m, n, grown) in
-        ap (λ (v : List (Option Tern)). get_or v var None) (ap (at_mark b) at ∙ (mark_now b ∙ written))
-        ∙ (written_push a.values path d room (value_now a path h) var
-        ∙ ap (λ (p : List Assign3). decided_value p var) (sym (take_all k (path ++ d ∷ []) (omega (arith, new, m)))))
-  ];
-}
-
-take_less : {X : Type 0} → (xs : List X) (j k : ℕ) → j ≤ k → take j (take k xs) ≡ take j xs
-take_less xs zero k h = refl
-take_less [] (suc j) zero h = absurd (omega arith)
-take_less [] (suc j) (suc k) h = refl
-take_less (x ∷ xs) (suc j) zero h = absurd (omega arith)
-take_less {X} (x ∷ xs) (suc j) (suc k) h = ap (λ (t : List X). x ∷ t) (take_less xs j k (omega arith))
-
-pub value_undo : (a b : CellsState (Option Tern)) (path rest : List Assign3) (n : ℕ) → n ≤ length path → rest
-    ≡ take n path
-    → b.values ≡ restored a.values (drop n a.trail) → b.trail ≡ take n a.trail → IsValueHistory a path
-    → IsValueHistory b rest
-value_undo a b path rest n few cut v t h =
-    let m = h.count in
-    let long : length rest ≡ n = ap length cut ∙ length-take-le n path few in
-    record {
-      count = ap length t ∙ (length-take-le n a.trail (omega (arith, m, few)) ∙ sym long);
-      at = λ k var ks.
-          ap (λ (v : List (Option Tern)). get_or v var None)
-          (undone_mark a b.values b.trail n k (omega (arith, ks, long)) (omega (arith, m, few)) v t)
-          ∙ (h.at k var (omega (arith, ks, long, few)) ∙ ap (λ (p : List Assign3). decided_value p var)
-          (sym (ap (take k) cut ∙ take_less path k n (omega (arith, ks, long)))));
-    }
+use Rattle.ht_window.specs.Cells.{IsHistory, decision_mark, AreCells}
 
 -- the mark before each decision, as there are more and fewer of them
-pub mark_old : (marks : List ℕ) (cells : CellsState (List Pair)) (k : ℕ) → k < length marks → mark_of marks cells k
+pub mark_old : (marks : List ℕ) (cells : CellsState (List Pair)) (k : ℕ) → k < length marks → decision_mark marks cells k
     ≡ get_or marks k 0
 mark_old marks cells k h = get_or_append_left marks (length cells.trail ∷ []) 0 k h
 
-mark_last : (marks : List ℕ) (cells : CellsState (List Pair)) (k : ℕ) → k ≡ length marks → mark_of marks cells k
+mark_last : (marks : List ℕ) (cells : CellsState (List Pair)) (k : ℕ) → k ≡ length marks → decision_mark marks cells k
     ≡ length cells.trail
 mark_last marks cells k h = get_or_push marks (length cells.trail) 0 k (sym h)
 
 pub mark_before_more : (marks : List ℕ) (a b : CellsState (List Pair)) (k : ℕ) → k ≤ length marks
-    → mark_of (marks ++ length a.trail ∷ []) b k ≡ mark_of marks a k
+    → decision_mark (marks ++ length a.trail ∷ []) b k ≡ decision_mark marks a k
 mark_before_more marks a b k h = mark_old (marks ++ length a.trail ∷ []) b k
     (let n = length_push marks (length a.trail) in omega (arith, n, h))
 
 pub mark_small : (w : SearchWindow) (path : List Assign3) (marks : List ℕ) (cells : CellsState (List Pair))
-    → IsHistory w path marks cells → (k : ℕ) → k ≤ length marks → mark_of marks cells k ≤ length cells.trail
+    → IsHistory w path marks cells → (k : ℕ) → k ≤ length marks → decision_mark marks cells k ≤ length cells.trail
 mark_small w path marks cells h k ks = elim (le_or_lt (length marks) k) [
   | inl end ↦ let e = mark_last marks cells k (omega (arith, end, ks)) in omega (arith, e)
   | inr less ↦ let e = mark_last marks cells (length marks) refl in let r = h.rising k (length marks) less (omega arith)
@@ -93,7 +35,7 @@ pub cells_now : (w : SearchWindow) (path : List Assign3) (marks : List ℕ) (cel
     → IsHistory w path marks cells → AreCells w path cells.values
 cells_now w path marks cells h =
     let n = h.count in
-    let at : at_mark cells (mark_of marks cells (length path))
+    let at : at_mark cells (decision_mark marks cells (length path))
     ≡ cells.values = ap (at_mark cells) (mark_last marks cells (length path) (sym n)) ∙ mark_now cells in
     subst (λ (p : List Assign3). AreCells w p cells.values) (take_all (length path) path (omega arith))
     (subst (AreCells w (take (length path) path)) at (h.at (length path) (omega arith)))
@@ -108,9 +50,9 @@ history_new w path marks cells ps ms are =
       rising = λ j k l h. absurd (omega (arith, l, h, m));
       at = λ k h.
           let all : take k path ≡ path = take_all k path (omega (arith, h, n)) in
-          let at : at_mark cells (mark_of marks cells k)
+          let at : at_mark cells (decision_mark marks cells k)
           ≡ cells.values = ap (at_mark cells) (mark_last marks cells k (omega (arith, h, n, m))) ∙ mark_now cells in
-          subst (λ (p : List Assign3). AreCells w p (at_mark cells (mark_of marks cells k))) (sym all)
+          subst (λ (p : List Assign3). AreCells w p (at_mark cells (decision_mark marks cells k))) (sym all)
           (subst (AreCells w path) (sym at) are);
     }
 
@@ -123,8 +65,8 @@ history_push w path after d marks more a b ps ms later grown are h =
     let n = h.count in
     let pn : length after ≡ length path + 1 = ap length ps ∙ length_push path d in
     let mn : length more ≡ length marks + 1 = ap length ms ∙ length_push marks (length a.trail) in
-    let old : (k : ℕ) → k ≤ length marks → mark_of more b k
-    ≡ mark_of marks a k = λ k ks. ap (λ (m : List ℕ). mark_of m b k) ms ∙ mark_before_more marks a b k ks in
+    let old : (k : ℕ) → k ≤ length marks → decision_mark more b k
+    ≡ decision_mark marks a k = λ k ks. ap (λ (m : List ℕ). decision_mark m b k) ms ∙ mark_before_more marks a b k ks in
     record {
       count = omega (arith, n, pn, mn);
       rising = λ j k l ks. elim (le_or_lt k (length marks)) [
@@ -139,39 +81,34 @@ history_push w path after d marks more a b ps ms later grown are h =
       at = λ k ks. elim (le_or_lt k (length path)) [
         | inl o ↦
             let s = mark_small w path marks a h k (omega (arith, o, n)) in
-            let same : at_mark b (mark_of more b k) ≡ at_mark a (mark_of marks a k) = ap (at_mark b)
-            (old k (omega (arith, o, n))) ∙ later_mark a b later (mark_of marks a k) s in
+            let same : at_mark b (decision_mark more b k) ≡ at_mark a (decision_mark marks a k) = ap (at_mark b)
+            (old k (omega (arith, o, n))) ∙ later_mark a b later (decision_mark marks a k) s in
             let cut : take k after ≡ take k path = ap (take k) ps ∙ take-append-le k path (d ∷ []) o in
-            subst (λ (p : List Assign3). AreCells w p (at_mark b (mark_of more b k))) (sym cut)
+            subst (λ (p : List Assign3). AreCells w p (at_mark b (decision_mark more b k))) (sym cut)
             (subst (AreCells w (take k path)) (sym same) (h.at k o))
         | inr new ↦
-            let same : at_mark b (mark_of more b k)
+            let same : at_mark b (decision_mark more b k)
             ≡ b.values = ap (at_mark b) (mark_last more b k (omega (arith, new, ks, pn, mn, n))) ∙ mark_now b in
             let cut : take k after ≡ after = take_all k after (omega (arith, new, pn)) in
-            subst (λ (p : List Assign3). AreCells w p (at_mark b (mark_of more b k))) (sym cut)
+            subst (λ (p : List Assign3). AreCells w p (at_mark b (decision_mark more b k))) (sym cut)
             (subst (AreCells w after) (sym same) are)
       ];
     }
 
 mark_cut : (marks : List ℕ) (a b : CellsState (List Pair)) (n k : ℕ) → n ≤ length marks → k ≤ n → length b.trail
-    ≡ mark_of marks a n → mark_of (take n marks) b k ≡ mark_of marks a k
+    ≡ decision_mark marks a n → decision_mark (take n marks) b k ≡ decision_mark marks a k
 mark_cut marks a b n k few ks long =
     let tn = length-take-le n marks few in
     elim (le_or_lt n k) [
       | inl end ↦ let e : n ≡ k = omega (arith, end, ks) in mark_last (take n marks) b k (omega (arith, tn, e)) ∙
-          (long ∙ ap (mark_of marks a) e)
+          (long ∙ ap (decision_mark marks a) e)
       | inr less ↦ mark_old (take n marks) b k (omega (arith, tn, less)) ∙
-          (get_take marks n k less ∙ sym (mark_old marks a k (omega (arith, less, few))))
-    ] where
-      get_take : (xs : List ℕ) (n k : ℕ) → k < n → get_or (take n xs) k 0 ≡ get_or xs k 0
-      get_take xs zero k h = absurd (omega arith)
-      get_take [] (suc n) k h = refl
-      get_take (x ∷ xs) (suc n) zero h = refl
-      get_take (x ∷ xs) (suc n) (suc k) h = get_take xs n k (omega arith)
+          (get_or-take n marks k 0 less ∙ sym (mark_old marks a k (omega (arith, less, few))))
+    ]
 
 pub history_undo : (w : SearchWindow) (path after : List Assign3) (marks fewer : List ℕ) (a b : CellsState (List Pair))
     (n m : ℕ)
-    → n ≤ length path → after ≡ take n path → fewer ≡ take n marks → m ≡ mark_of marks a n
+    → n ≤ length path → after ≡ take n path → fewer ≡ take n marks → m ≡ decision_mark marks a n
     → b.values ≡ restored a.values (drop m a.trail) → b.trail ≡ take m a.trail
     → IsHistory w path marks a → IsHistory w after fewer b
 history_undo w path after marks fewer a b n m few ps ms at v t h =
@@ -180,7 +117,7 @@ history_undo w path after marks fewer a b n m few ps ms at v t h =
     let pn : length after ≡ n = ap length ps ∙ length-take-le n path few in
     let mn : length fewer ≡ n = ap length ms ∙ length-take-le n marks (omega (arith, few, c)) in
     let long : length b.trail ≡ m = ap length t ∙ length-take-le m a.trail (omega (arith, small, at)) in
-    let old : (k : ℕ) → k ≤ n → mark_of fewer b k ≡ mark_of marks a k = λ k ks. ap (λ (l : List ℕ). mark_of l b k) ms ∙
+    let old : (k : ℕ) → k ≤ n → decision_mark fewer b k ≡ decision_mark marks a k = λ k ks. ap (λ (l : List ℕ). decision_mark l b k) ms ∙
     mark_cut marks a b n k (omega (arith, few, c)) ks (long ∙ at) in
     record {
       count = omega (arith, pn, mn);
@@ -189,14 +126,14 @@ history_undo w path after marks fewer a b n m few ps ms at v t h =
           in omega (arith, r, ej, ek);
       at = λ k ks.
           let kn : k ≤ n = omega (arith, ks, pn) in
-          let below : mark_of marks a k ≤ m = elim (le_or_lt n k) [
-            | inl end ↦ let e = ap (mark_of marks a) (let e : k ≡ n = omega (arith, end, kn) in e)
+          let below : decision_mark marks a k ≤ m = elim (le_or_lt n k) [
+            | inl end ↦ let e = ap (decision_mark marks a) (let e : k ≡ n = omega (arith, end, kn) in e)
                 in omega (arith, e, at)
             | inr less ↦ let r = h.rising k n less (omega (arith, few, c)) in omega (arith, r, at)
           ] in
-          let same : at_mark b (mark_of fewer b k) ≡ at_mark a (mark_of marks a k) = ap (at_mark b) (old k kn) ∙
-          undone_mark a b.values b.trail m (mark_of marks a k) below (omega (arith, small, at)) v t in
-          let cut : take k after ≡ take k path = ap (take k) ps ∙ take_less path k n kn in
-          subst (λ (p : List Assign3). AreCells w p (at_mark b (mark_of fewer b k))) (sym cut)
+          let same : at_mark b (decision_mark fewer b k) ≡ at_mark a (decision_mark marks a k) = ap (at_mark b) (old k kn) ∙
+          undone_mark a b.values b.trail m (decision_mark marks a k) below (omega (arith, small, at)) v t in
+          let cut : take k after ≡ take k path = ap (take k) ps ∙ take-take k n path kn in
+          subst (λ (p : List Assign3). AreCells w p (at_mark b (decision_mark fewer b k))) (sym cut)
           (subst (AreCells w (take k path)) (sym same) (h.at k (omega (arith, kn, few))));
     }

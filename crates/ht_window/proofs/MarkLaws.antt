@@ -1,5 +1,5 @@
 -- Going back to a mark.
-use Rattle.std.proofs.Common.{◌≡◌, ◌≢◌, ◌<◌, ◌≤◌, ◌-◌, ◌⊎◌, inl, inr, ℕ, List, length, get_or, take, sym, ◌∙◌, ap, arith}
+use Rattle.std.proofs.Common.{◌≡◌, ◌≢◌, ◌<◌, ◌≤◌, ◌-◌, ◌⊎◌, inl, inr, ℕ, List, length, get_or, take, sym, ◌∙◌, ap, arith, subst}
 use Rattle.std.proofs.lemmas.List.{length-take-le}
 use Rattle.std.proofs.lemmas.Bool.Decides.{eqb_tells}
 use Rattle.ht_net.proofs.FrameLaws.{le_or_lt}
@@ -8,21 +8,21 @@ use Rattle.ht_trail.specs.declared.cells.Saved.{Saved}
 use Rattle.ht_trail.specs.Trails.{CellsState}
 use Rattle.ht_tree.specs.declared.token.Assign3.{Assign3}
 use Rattle.ht_tree.specs.Windows.{SearchWindow}
-use Rattle.ht_window.specs.Cells.{IsHistory, mark_of}
+use Rattle.ht_window.specs.Cells.{IsHistory, decision_mark}
 use Rattle.ht_window.specs.States.{WindowState, mark_before, undone}
 use Rattle.ht_window.proofs.HistoryLaws.{mark_old, mark_small}
 
 module _ (s : WindowState) (w : SearchWindow) (path : List Assign3) (marks : List ℕ) (cells : CellsState (List Pair))
     (h : IsHistory w path marks cells)
     (is : record { window = w; decisions = path; marks = marks; mark = length cells.trail } ≡ s) where
-  pub mark_is : (k : ℕ) → mark_before s k ≡ mark_of marks cells k
+  pub mark_is : (k : ℕ) → mark_before s k ≡ decision_mark marks cells k
   mark_is k = sym (ap (λ (t : WindowState). mark_before t k) is)
 
   pub few_marks : (k : ℕ) → k ≤ length s.decisions → k ≤ length marks
   few_marks k few = let n = ap (λ (t : WindowState). length t.decisions) is in let c = h.count
       in omega (arith, n, c, few)
 
-  pub count_is : (m n : ℕ) → n ≤ length marks → ((j : ℕ) → n ≤ j → j < length marks → m ≤ get_or marks j 0) → (n ≡ 0)
+  count_is : (m n : ℕ) → n ≤ length marks → ((j : ℕ) → n ≤ j → j < length marks → m ≤ get_or marks j 0) → (n ≡ 0)
       ⊎ (get_or marks (n - 1) 0 < m)
       → (k : ℕ) → k ≤ length s.decisions → m ≡ mark_before s k → n ≡ k
   count_is m n inside later end k few at =
@@ -34,7 +34,7 @@ module _ (s : WindowState) (w : SearchWindow) (path : List Assign3) (marks : Lis
           | inr low ↦
               let o = mark_old marks cells (n - 1) (omega (arith, inside, less)) in
               elim (eqb_tells k (n - 1)) [
-                | inl p ↦ let e = ap (mark_of marks cells) p.1 in absurd (omega (arith, e, o, low, at, mk))
+                | inl p ↦ let e = ap (decision_mark marks cells) p.1 in absurd (omega (arith, e, o, low, at, mk))
                 | inr p ↦ let ne : k ≢ n - 1 = p.1 in let r = h.rising k (n - 1) (omega (arith, less, ne))
                     (omega (arith, inside)) in absurd (omega (arith, r, o, low, at, mk))
               ]
@@ -49,6 +49,13 @@ module _ (s : WindowState) (w : SearchWindow) (path : List Assign3) (marks : Lis
               absurd (omega (arith, o, l, r, at, mk))
         ]
       ]
+
+  -- a loop over the window's marks counts the decisions before a mark
+  pub counted : (m n : ℕ) → n ≤ length s.marks → ((j : ℕ) → n ≤ j → j < length s.marks → m ≤ get_or s.marks j 0)
+      → (n ≡ 0) ⊎ (get_or marks (n - 1) 0 < m) → (k : ℕ) → k ≤ length s.decisions → m ≡ mark_before s k → n ≡ k
+  counted m n = subst (λ (l : List ℕ). n ≤ length l → ((j : ℕ) → n ≤ j → j < length l → m ≤ get_or l j 0)
+      → (n ≡ 0) ⊎ (get_or marks (n - 1) 0 < m) → (k : ℕ) → k ≤ length s.decisions → m ≡ mark_before s k → n ≡ k)
+      (ap (λ (t : WindowState). t.marks) is) (count_is m n)
 
   pub undone_is : (v : SearchWindow) (after : List Assign3) (fewer : List ℕ) (trail : List (Saved (List Pair)))
       (m n k : ℕ)

@@ -1,8 +1,13 @@
 -- The places that were seen, one by one.
-use Rattle.std.proofs.Common.{◌≡◌, ◌<◌, ◌+◌, ◌∙◌, ℕ, suc, zero, List, [], ◌∷◌, ◌++◌, map, Bool, true, false, ◌||◌, cond, Option, Some, None, length, get_or, refl, ap, sym, arith, append_assoc}
+use Rattle.std.proofs.Common.{◌≡◌, ◌<◌, ◌+◌, ◌∙◌, ℕ, suc, zero, List, [], ◌∷◌, ◌++◌, map, Bool, true, false, ◌||◌, cond, Some, None, length, get_or, refl, ap, sym, arith, append_assoc}
 use Rattle.std.specs.Prelude.{is_some, flat_map}
+use Rattle.std.specs.Bool.{then_some}
+use Rattle.std.specs.Option.{option_or}
 use Rattle.std.specs.List.{find, filter, list_any, range_with_len}
-use Rattle.std.proofs.lemmas.List.{append-nil}
+use Rattle.std.proofs.lemmas.List.{append-nil, map-append}
+use Rattle.std.proofs.lemmas.List.Elements.{filter-append}
+use Rattle.std.proofs.lemmas.List.Folds.{find-append}
+use Rattle.std.proofs.lemmas.Grind.{flat_map-append}
 use Rattle.std.proofs.lemmas.List.FromFn.{map-range_with_len_more}
 use Rattle.ht_pairs.specs.Pairs.{Pair, pair}
 use Rattle.ht_tern.specs.declared.tern.Tern.TheVariants.{Unk}
@@ -15,23 +20,21 @@ use Rattle.ht_tree.specs.declared.window.WindowPlace.{WindowPlace}
 use Rattle.ht_tree.specs.Windows.{SearchWindow, latches_at, cell_at, pair_set_rules}
 use Rattle.ht_tree.specs.Places.{set_at, must_differ_at, may_differ_at}
 use Rattle.ht_tree.specs.WindowStatus.{sure_or}
-use Rattle.ht_window.specs.declared.places.Seen.{Seen}
-use Rattle.ht_window.specs.Seen.{seen_of, first_or, seen_with}
+use Rattle.ht_window.specs.declared.places.PlacesSeen.{PlacesSeen}
+use Rattle.ht_window.specs.Seen.{seen_of, seen_with}
 
-first_cond : (b : Bool) (p : WindowPlace) (rest other : Option WindowPlace) → cond b (Some p) (first_or rest other)
-    ≡ first_or (cond b (Some p) rest) other
-first_cond true p rest other = refl
-first_cond false p rest other = refl
+found_here : {X : Type 0} → (b : Bool) (x : X) → cond b (Some x) None ≡ then_some b x
+found_here true x = refl
+found_here false x = refl
 
-find_push : (test : WindowPlace → Bool) (places : List WindowPlace) (p : WindowPlace) → find test (places ++ p ∷ [])
-    ≡ first_or (find test places) (cond (test p) (Some p) None)
-find_push test [] p = refl
-find_push test (q ∷ places) p = ap (λ (o : Option WindowPlace). cond (test q) (Some q) o) (find_push test places p) ∙
-    first_cond (test q) q (find test places) (cond (test p) (Some p) None)
+-- the first that passes, after one more
+pub find_push : {X : Type 0} → (test : X → Bool) (xs : List X) (x : X) → find test (xs ++ x ∷ [])
+    ≡ option_or (find test xs) (then_some (test x) x)
+find_push test xs x = find-append test xs (x ∷ []) ∙ ap (option_or (find test xs)) (found_here (test x) x)
 
 -- one more place
 pub seen_push : (w : SearchWindow) (path : List Assign3) (places : List WindowPlace) (p : WindowPlace) (set : List Pair)
-    (s : Seen) → s ≡ seen_of w path places → set ≡ set_at w path p.frame p.spot
+    (s : PlacesSeen) → s ≡ seen_of w path places → set ≡ set_at w path p.frame p.spot
     → seen_with s p set ≡ seen_of w path (places ++ p ∷ [])
 seen_push w path places p set s is here =
     (λ k. seen_with (is k) p (here k))
@@ -40,7 +43,7 @@ seen_push w path places p set s is here =
 
 -- one more of a row of places
 pub seen_more : (w : SearchWindow) (path : List Assign3) (places : List WindowPlace) (place : ℕ → WindowPlace) (n : ℕ)
-    (set : List Pair) (s : Seen)
+    (set : List Pair) (s : PlacesSeen)
     → s ≡ seen_of w path (places ++ map place (range_with_len 0 n)) → set ≡ set_at w path (place n).frame (place n).spot
     → seen_with s (place n) set ≡ seen_of w path (places ++ map place (range_with_len 0 (n + 1)))
 seen_more w path places place n set s is here =
@@ -51,10 +54,6 @@ seen_more w path places place n set s is here =
     (λ (t : List WindowPlace). places ++ t) (sym (map-range_with_len_more place 0 n n at)))
 
 -- the places of one more frame
-flat_append : {X Y : Type 0} → (f : X → List Y) (xs : List X) (x : X) → flat_map f (xs ++ x ∷ []) ≡ flat_map f xs ++ f x
-flat_append f [] x = append-nil (f x)
-flat_append f (y ∷ xs) x = ap (λ t. f y ++ t) (flat_append f xs x) ∙ sym (append_assoc (f y) (flat_map f xs) (f x))
-
 pub range_push : (a n : ℕ) → range_with_len a (n + 1) ≡ range_with_len a n ++ (a + n) ∷ []
 range_push a n = let e : n + 1 ≡ suc n = omega arith in ap (range_with_len a) e ∙ by a n
   where
@@ -68,36 +67,21 @@ pub frames_more : (f : ℕ → List WindowPlace) (n : ℕ) → flat_map f (range
 frames_more f n =
     let at : 0 + n ≡ n = omega arith in
     ap (flat_map f) (range_push 0 n) ∙
-    (flat_append f (range_with_len 0 n) (0 + n) ∙ ap (λ (k : ℕ). flat_map f (range_with_len 0 n) ++ f k) at)
+    (flat_map-append f (range_with_len 0 n) ((0 + n) ∷ []) ∙ (ap (λ (t : List WindowPlace). flat_map f (range_with_len 0 n) ++ t) (append-nil (f (0 + n))) ∙ ap (λ (k : ℕ). flat_map f (range_with_len 0 n) ++ f k) at))
 
 -- one more number that a filter keeps, or doesn't
-pub filter_append : (test : ℕ → Bool) (xs : List ℕ) (x : ℕ) → filter test (xs ++ x ∷ []) ≡ filter test xs
-    ++ cond (test x) (x ∷ []) []
-filter_append test [] x = by (test x)
-  where
-    by : (b : Bool) → cond b (x ∷ []) [] ≡ [] ++ cond b (x ∷ []) []
-    by b = refl
-filter_append test (y ∷ xs) x = ap (λ (t : List ℕ). cond (test y) (y ∷ t) t) (filter_append test xs x) ∙ by (test y)
-  where
-    by : (b : Bool) → cond b (y ∷ (filter test xs ++ cond (test x) (x ∷ []) []))
-        (filter test xs ++ cond (test x) (x ∷ []) []) ≡ cond b (y ∷ filter test xs) (filter test xs)
-        ++ cond (test x) (x ∷ []) []
-    by true = refl
-    by false = refl
-
-map_append : {X Y : Type 0} → (f : X → Y) (xs ys : List X) → map f (xs ++ ys) ≡ map f xs ++ map f ys
-map_append f [] ys = refl
-map_append f (x ∷ xs) ys = ap (λ t. f x ∷ t) (map_append f xs ys)
+pub filter_push : (test : ℕ → Bool) (n : ℕ) → filter test (range_with_len 0 (n + 1))
+    ≡ filter test (range_with_len 0 n) ++ cond (test n) (n ∷ []) []
+filter_push test n =
+    let at : 0 + n ≡ n = omega arith in
+    ap (filter test) (range_push 0 n) ∙ (filter-append test (range_with_len 0 n) ((0 + n) ∷ [])
+    ∙ ap (λ (k : ℕ). filter test (range_with_len 0 n) ++ cond (test k) (k ∷ []) []) at)
 
 pub filtered_more : (place : ℕ → WindowPlace) (test : ℕ → Bool) (n : ℕ)
     → map place (filter test (range_with_len 0 (n + 1))) ≡ map place (filter test (range_with_len 0 n))
     ++ map place (cond (test n) (n ∷ []) [])
-filtered_more place test n =
-    let at : 0 + n ≡ n = omega arith in
-    ap (λ (t : List ℕ). map place (filter test t)) (range_push 0 n)
-    ∙ (ap (map place) (filter_append test (range_with_len 0 n) (0 + n)) ∙
-    (map_append place (filter test (range_with_len 0 n)) (cond (test (0 + n)) ((0 + n) ∷ []) [])
-    ∙ ap (λ (k : ℕ). map place (filter test (range_with_len 0 n)) ++ map place (cond (test k) (k ∷ []) [])) at))
+filtered_more place test n = ap (map place) (filter_push test n) ∙
+    map-append place (filter test (range_with_len 0 n)) (cond (test n) (n ∷ []) [])
 
 -- what was seen tells the status
 any_found : (test : WindowPlace → Bool) (places : List WindowPlace) → is_some (find test places) ≡ list_any test places
@@ -109,7 +93,7 @@ any_found test (p ∷ places) = by (test p) (any_found test places)
     by true h = refl
     by false h = h
 
-pub seen_status : (w : SearchWindow) (path : List Assign3) (places : List WindowPlace) (s : Seen) → s
+pub seen_status : (w : SearchWindow) (path : List Assign3) (places : List WindowPlace) (s : PlacesSeen) → s
     ≡ seen_of w path places
     → sure_or s.sure (is_some s.open_place) ≡ sure_or (find (must_differ_at w path) places)
     (list_any (may_differ_at w path) places)
@@ -128,7 +112,7 @@ next_set w path j one inside =
     (λ (k : ℕ). (pair_set_rules w.fault).data_pin k (cell_at w path 0 (get_or w.circuit.dffs j no_net).0)) at)
 
 pub state_kept : (w : SearchWindow) (path : List Assign3) (places : List WindowPlace) (place : ℕ → WindowPlace)
-    (test : ℕ → Bool) (n : ℕ) (set : List Pair) (s : Seen)
+    (test : ℕ → Bool) (n : ℕ) (set : List Pair) (s : PlacesSeen)
     → s ≡ seen_of w path (places ++ map place (filter test (range_with_len 0 n))) → test n ≡ true → set
     ≡ set_at w path (place n).frame (place n).spot
     → seen_with s (place n) set ≡ seen_of w path (places ++ map place (filter test (range_with_len 0 (n + 1))))
@@ -139,7 +123,7 @@ state_kept w path places place test n set s is kept here =
     (sym (filtered_more place test n ∙ ap (λ (b : Bool). old ++ map place (cond b (n ∷ []) [])) kept)))
 
 pub state_passed : (w : SearchWindow) (path : List Assign3) (places : List WindowPlace) (place : ℕ → WindowPlace)
-    (test : ℕ → Bool) (n : ℕ) (s : Seen)
+    (test : ℕ → Bool) (n : ℕ) (s : PlacesSeen)
     → s ≡ seen_of w path (places ++ map place (filter test (range_with_len 0 n))) → test n ≡ false
     → s ≡ seen_of w path (places ++ map place (filter test (range_with_len 0 (n + 1))))
 state_passed w path places place test n s is passed =

@@ -32,8 +32,8 @@ value_over w path values f x = net_value_over w.circuit (pair_set_rules w.fault)
     (latches_over w path values f) (env_at w values f) x
 
 -- it holds that
-abbrev pub Holds : SearchWindow → List Assign3 → List (List Pair) → ℕ → ℕ → Type 0
-Holds w path values f x = env_at w values f x ≡ value_over w path values f x
+abbrev pub HoldsValue : SearchWindow → List Assign3 → List (List Pair) → ℕ → ℕ → Type 0
+HoldsValue w path values f x = env_at w values f x ≡ value_over w path values f x
 
 -- every cell is that of the decisions
 pub record AreCells (w : SearchWindow) (path : List Assign3) (values : List (List Pair)) : Type 0 where
@@ -48,12 +48,12 @@ var_net w var = cond (ltb var (first_input w w.frames)) (var % w.circuit.inputs)
     (cond (ltb var (first_gate_net w.circuit)) var (var - length w.circuit.dffs))
 
 -- the mark before decision k, or the present one
-abbrev pub mark_of : List ℕ → CellsState (List Pair) → ℕ → ℕ
-mark_of marks cells k = get_or (marks ++ length cells.trail ∷ []) k 0
+abbrev pub decision_mark : List ℕ → CellsState (List Pair) → ℕ → ℕ
+decision_mark marks cells k = get_or (marks ++ length cells.trail ∷ []) k 0
 
 -- Marks rise, and at each mark the cells were those of the decisions before it.
 pub record IsHistory (w : SearchWindow) (path : List Assign3) (marks : List ℕ) (cells : CellsState (List Pair)) : Type 0
   where
     pub count : length marks ≡ length path
-    pub rising : (j k : ℕ) → j < k → k ≤ length marks → mark_of marks cells j < mark_of marks cells k
-    pub at : (k : ℕ) → k ≤ length path → AreCells w (take k path) (at_mark cells (mark_of marks cells k))
+    pub rising : (j k : ℕ) → j < k → k ≤ length marks → decision_mark marks cells j < decision_mark marks cells k
+    pub at : (k : ℕ) → k ≤ length path → AreCells w (take k path) (at_mark cells (decision_mark marks cells k))

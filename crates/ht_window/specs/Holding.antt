@@ -2,32 +2,31 @@
 use Rattle.std.specs.Prelude.{◌≡◌, ◌<◌, ◌≤◌, ℕ, List, length}
 use Rattle.ht_pairs.specs.Pairs.{Pair}
 use Rattle.ht_trail.specs.Trails.{CellsState, IsLater}
+use Rattle.ht_events.specs.Plans.{max_frames}
 use Rattle.ht_events.specs.Items.{frame_of, local_of, driven_net}
 use Rattle.ht_tree.specs.Windows.{IsWindow}
 use Rattle.ht_window.specs.Standing.{Standing}
-use Rattle.ht_window.specs.Cells.{env_at, cell_count, Holds}
+use Rattle.ht_window.specs.Cells.{env_at, cell_count, HoldsValue}
 use Rattle.ht_window.specs.declared.held.Held.TheInside.{Inside}
 
 pub record HeldState : Type 0 where
   pub standing : Standing
   pub cells : CellsState (List Pair)
 
-abbrev pub held_of : Inside → HeldState
-held_of a = record { standing = a.decided; cells = a.cells }
-
+-- a cell for each net of each frame, and room for the pins of the widest gate
 pub record IsHeld (a : Inside) : Type 0 where
   pub window : IsWindow a.decided.window
-  pub few : a.decided.window.frames ≤ 447
+  pub few : a.decided.window.frames ≤ max_frames
   pub count : length a.cells.values ≡ cell_count a.decided.window
   pub pins : length a.pins.items ≡ 255
 
 -- the item's cell is what its arguments give
 abbrev pub item_agrees : HeldState → ℕ → Type 0
-item_agrees h item = Holds h.standing.window h.standing.path h.cells.values (frame_of h.standing.window.circuit item)
+item_agrees h item = HoldsValue h.standing.window h.standing.path h.cells.values (frame_of h.standing.window.circuit item)
     (driven_net h.standing.window.circuit (local_of h.standing.window.circuit item))
 
 -- The decisions, the sets of inputs, and what stands at every mark stay.
-pub record IsKept (a b : HeldState) : Type 0 where
+pub record KeepsHeld (a b : HeldState) : Type 0 where
   pub standing : b.standing ≡ a.standing
   pub later : IsLater a.cells b.cells
   pub inputs : (f i : ℕ) → f < a.standing.window.frames → i < a.standing.window.circuit.inputs

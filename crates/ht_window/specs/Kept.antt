@@ -3,12 +3,12 @@ use Rattle.std.proofs.Common.{◌≡◌, ◌<◌, refl, ◌∙◌, subst}
 use Rattle.ht_trail.proofs.TrailLaws.{later_now, later_more}
 use Rattle.ht_window.specs.Standing.{Standing}
 use Rattle.ht_window.specs.Cells.{env_at}
-use Rattle.ht_window.specs.Holding.{HeldState, IsKept}
+use Rattle.ht_window.specs.Holding.{HeldState, KeepsHeld}
 
-pub kept_same : (a : HeldState) → IsKept a a
+pub kept_same : (a : HeldState) → KeepsHeld a a
 kept_same a = record { standing = refl; later = later_now a.cells; inputs = λ f i fs is. refl }
 
-pub kept_more : (a b c : HeldState) → IsKept a b → IsKept b c → IsKept a c
+pub kept_more : (a b c : HeldState) → KeepsHeld a b → KeepsHeld b c → KeepsHeld a c
 kept_more a b c h k = record {
   standing = k.standing ∙ h.standing;
   later = later_more a.cells b.cells c.cells h.later k.later;

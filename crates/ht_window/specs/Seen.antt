@@ -1,5 +1,7 @@
 -- The first place that must differ, and the first that may, among some places.
-use Rattle.std.specs.Prelude.{ℕ, List, Option, Some, None, true, not, ◌&&◌, cond, ltb, eqb, length}
+use Rattle.std.specs.Prelude.{ℕ, List, true, not, ◌&&◌, cond, ltb, eqb, length}
+use Rattle.std.specs.Bool.{then_some}
+use Rattle.std.specs.Option.{option_or}
 use Rattle.std.specs.List.{find, list_any, list_all}
 use Rattle.ht_tern.specs.declared.tern.Tern.{Tern}
 use Rattle.ht_pairs.specs.Pairs.{Pair, pair, is_member, differs}
@@ -11,22 +13,18 @@ use Rattle.ht_tree.specs.WindowStatus.{must_meet, may_meet}
 use Rattle.ht_tree.specs.declared.window.Spot.TheVariants.{State, Cube}
 use Rattle.ht_tree.specs.declared.window.Status.{Status}
 use Rattle.ht_tree.specs.declared.window.Status.TheVariants.{Dead, Sure, Open}
-use Rattle.ht_window.specs.declared.places.Seen.{Seen}
+use Rattle.ht_window.specs.declared.places.PlacesSeen.{PlacesSeen}
 use Rattle.ht_window.specs.declared.cube.CubeSeen.{CubeSeen}
 
-abbrev pub seen_of : SearchWindow → List Assign3 → List WindowPlace → Seen
+abbrev pub seen_of : SearchWindow → List Assign3 → List WindowPlace → PlacesSeen
 seen_of w path places = record
     { sure = find (must_differ_at w path) places; open_place = find (may_differ_at w path) places }
 
-abbrev pub first_or : Option WindowPlace → Option WindowPlace → Option WindowPlace
-first_or None other = other
-first_or (Some place) other = Some place
-
--- one more cell_index with its set
-abbrev pub seen_with : Seen → WindowPlace → List Pair → Seen
+-- one more place with its set
+abbrev pub seen_with : PlacesSeen → WindowPlace → List Pair → PlacesSeen
 seen_with s place set = record {
-  sure = first_or s.sure (cond (list_all differs set) (Some place) None);
-  open_place = first_or s.open_place (cond (list_any differs set) (Some place) None);
+  sure = option_or s.sure (then_some (list_all differs set) place);
+  open_place = option_or s.open_place (then_some (list_any differs set) place);
 }
 
 -- the same of the latches of a cube
@@ -38,17 +36,13 @@ cube_seen_of w path cube latches = record {
   open_latch = find (λ j. is_undetermined (set_at w path 0 (State j))) latches;
 }
 
-abbrev pub latch_or : Option ℕ → Option ℕ → Option ℕ
-latch_or None other = other
-latch_or (Some j) other = Some j
-
 -- one more latch that has a wanted value
 abbrev pub cube_seen_with : CubeSeen → ℕ → Tern → List Pair → CubeSeen
 cube_seen_with s j value set = record {
   some = true;
   must = s.must && (is_member (pair value value) set && not (is_undetermined set));
   may = s.may && is_member (pair value value) set;
-  open_latch = latch_or s.open_latch (cond (is_undetermined set) (Some j) None);
+  open_latch = option_or s.open_latch (then_some (is_undetermined set) j);
 }
 
 abbrev pub cube_status_by : CubeSeen → ℕ → Status

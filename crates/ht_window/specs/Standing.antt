@@ -1,8 +1,8 @@
 -- A window with the decisions that stand.
 use Rattle.std.specs.Prelude.{◌≡◌, ◌≤◌, ◌+◌, ◌*◌, ℕ, List, Option, None, length, get_or, take}
-use Rattle.ht_tern.specs.declared.tern.Tern.TheVariants.{Zero}
 use Rattle.ht_tern.specs.declared.tern.Tern.{Tern}
 use Rattle.ht_trail.specs.Trails.{CellsState, at_mark}
+use Rattle.ht_events.specs.Plans.{max_frames}
 use Rattle.ht_tree.specs.declared.token.Assign3.{Assign3}
 use Rattle.ht_tree.specs.Decisions.{decided_value}
 use Rattle.ht_tree.specs.Windows.{SearchWindow, IsWindow}
@@ -12,9 +12,6 @@ use Rattle.ht_window.specs.declared.decided.Decided.TheInside.{Inside}
 pub record Standing : Type 0 where
   pub window : SearchWindow
   pub path : List Assign3
-
-abbrev pub no_decision : Assign3
-no_decision = record { var = 0; value = Zero }
 
 -- as many variables as a window may have
 abbrev pub variable_room : SearchWindow → ℕ
@@ -33,6 +30,6 @@ pub record IsValueHistory (values : CellsState (Option Tern)) (path : List Assig
 
 pub record IsStanding (a : Inside) : Type 0 where
   pub window : IsWindow (standing_of a).window
-  pub few_frames : a.frames ≤ 447
+  pub few_frames : a.frames ≤ max_frames
   pub room : length a.values.values ≡ variable_room (standing_of a).window
   pub history : IsValueHistory a.values a.path.items

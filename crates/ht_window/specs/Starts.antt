@@ -1,5 +1,7 @@
 -- A start as the definitions of windows see it.
-use Rattle.std.specs.Prelude.{◌+◌, ℕ, List, [], ◌∷◌, Bool, cond}
+use Rattle.std.specs.Prelude.{◌+◌, ℕ, List, [], ◌∷◌, Bool, cond, Option}
+use Rattle.ht_net.specs.Netlist.{Netlist}
+use Rattle.ht_net.specs.declared.fault.Fault.{Fault}
 use Rattle.ht_tree.specs.Windows as window
 use Rattle.ht_window.specs.declared.start.Start.{Start}
 use Rattle.ht_window.specs.declared.start.Start.TheVariants.{OneFrame, Unknown, Pair, Back}
@@ -14,3 +16,8 @@ start_of (OneFrame z) = window.one_frame (marked 0 z)
 start_of Unknown = window.unknown
 start_of (Pair state) = window.state_pair state.good state.bad
 start_of (Back cube limit) = window.back cube limit
+
+-- the window of a start
+abbrev pub window_from : Netlist → Option Fault → ℕ → Start → window.SearchWindow
+window_from circuit fault frames start =
+    record { circuit = circuit; fault = fault; frames = frames; start = start_of start }

@@ -1,9 +1,9 @@
 //! What the next states of the latches of a cube show.
-ghost use Rattle.std.specs.Prelude.{◌≡◌, ◌<◌, ℕ, Some, None, cond, length};
+ghost use Rattle.std.specs.Prelude.{◌≡◌};
 ghost use Rattle.ht_pairs.specs.Pairs.{is_member, pair};
 ghost use Rattle.ht_tree.specs.Windows.{is_undetermined};
 ghost use Rattle.ht_tree.specs.WindowStatus.{cube_latches, is_definite};
-ghost use Rattle.ht_window.specs.Seen.{cube_seen_of, cube_seen_with, cube_status_by, latch_or};
+ghost use Rattle.ht_window.specs.Seen.{cube_seen_of, cube_seen_with, cube_status_by};
 
 use crate::decided::wanted;
 use crate::window::Window;
@@ -45,15 +45,6 @@ fn is_wide(set: PairSet) -> bool
     !set.is_single()
 }
 
-fn first_latch(found: Option<u32>, here: bool, j: u32) -> Option<u32>
-    ensures { result ≡ latch_or found (cond here (Some j) None) }
-{
-    match found {
-        Some(found) => Some(found),
-        None => { if here { Some(j) } else { None } },
-    }
-}
-
 impl CubeSeen {
     /// The same after one more latch.
     fn with(self, j: u32, value: Tern, set: PairSet) -> CubeSeen
@@ -65,7 +56,7 @@ impl CubeSeen {
             some: true,
             must: self.must && may && !wide,
             may: self.may && may,
-            open_latch: first_latch(self.open_latch, wide, j),
+            open_latch: self.open_latch.or(wide.then_some(j)),
         }
     }
 

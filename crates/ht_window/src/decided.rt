@@ -5,11 +5,12 @@ ghost use Rattle.ht_pairs.specs.Decided.{same_pairs};
 ghost use Rattle.ht_tree.specs.Decisions.{decided_value};
 ghost use Rattle.ht_tree.specs.Windows.{IsStart, IsWindow, first_input, first_latch};
 ghost use Rattle.ht_tree.specs.Walks.{decides};
-ghost use Rattle.ht_window.specs.Starts.{start_of};
-ghost use Rattle.ht_window.specs.Standing.{no_decision, variable_room};
+ghost use Rattle.ht_window.specs.Starts.{start_of, window_from};
+ghost use Rattle.ht_window.specs.Standing.{variable_room};
 
 use crate::sets::{latch, same_or_unknown};
 use crate::start::Start;
+use ht_events::MAX_FRAMES;
 use ht_net::{Circuit, Fault};
 use ht_pairs::PairSet;
 use ht_tern::Tern;
@@ -17,9 +18,6 @@ use ht_trail::{Cells, Mark};
 use ht_tree::Assign3;
 use std::alloc::{AllocError, Global};
 use std::marker::Model;
-
-/// The most frames of a window.
-pub const MAX_FRAMES: u32 = 447;
 
 /// A window, its decisions in order, and the value of each variable.
 #[derive(Drop)]
@@ -45,29 +43,21 @@ impl<'c> Model for Decided<'c> {
 }
 
 impl<'c> Decided<'c> {
-    /// A window before its first decision.
+    /// A window from a start, before its first decision.
     ///
     /// # Errors
     /// Out of memory.
     pub fn new(
         alloc: Global,
+        start: &Start,
         circuit: &'c Circuit,
         fault: Option<Fault>,
         frames: u32,
-        start: &Start,
     ) -> Result<Decided<'c>, AllocError>
         requires frames { frames ≤ MAX_FRAMES }
         requires start { IsStart circuit.now fault frames (start_of start.now) }
         ensures { IfOk result
-            (λ d. d ≡ record {
-              window = record {
-                circuit = circuit.now;
-                fault = fault;
-                frames = frames;
-                start = start_of start.now;
-              };
-              path = [];
-            }) }
+            (λ d. d ≡ record { window = window_from circuit.now fault frames start.now; path = [] }) }
     {
         let inputs = circuit.inputs();
         let dffs = circuit.dffs();

@@ -11,8 +11,8 @@ ghost use Rattle.ht_window.specs.Standing.{variable_room};
 ghost use Rattle.ht_window.specs.Cells.{cell_index, cell_count, env_at, latches_over, value_over, var_frame, var_net};
 ghost use Rattle.ht_window.specs.Holding.{HeldState};
 
-use crate::decided::{Decided, MAX_FRAMES};
-use ht_events::Plant;
+use crate::decided::Decided;
+use ht_events::{MAX_FRAMES, Plant};
 use ht_frame::{MAX_GATE_PINS, data_pin, gate_output, stem};
 use ht_pairs::PairSet;
 use ht_tern::Tern;
@@ -34,9 +34,9 @@ impl<'c> Model for Held<'c> {
 
     ghost Value = { HeldState };
 
-    ghost use Rattle.ht_window.specs.Holding.{held_of, IsHeld};
+    ghost use Rattle.ht_window.specs.Holding.{IsHeld};
 
-    ghost view = { held_of };
+    ghost view = { λ a. record { standing = a.decided; cells = a.cells } };
 
     ghost invariant = { IsHeld };
 }
@@ -198,6 +198,8 @@ impl<'c> Held<'c> {
     pub fn write(&mut self, frame: u32, net: u32) -> Result<(), AllocError>
         requires frame { frame < self.old.standing.window.frames }
         requires net { net < net_count self.old.standing.window.circuit }
+        ensures window { IsWindow self.old.standing.window }
+        ensures count { length self.old.cells.values ≡ cell_count self.old.standing.window }
         ensures standing { self.new.standing ≡ self.old.standing }
         ensures later { IsLater self.old.cells self.new.cells }
         ensures values { OnOk result
@@ -207,8 +209,6 @@ impl<'c> Held<'c> {
             net)) }
         ensures trail { OnOk result (length self.new.cells.trail ≡ length self.old.cells.trail + 1) }
         ensures err { OnErr result (self.new ≡ self.old) }
-        ensures window { IsWindow self.old.standing.window }
-        ensures count { length self.old.cells.values ≡ cell_count self.old.standing.window }
     {
         let _ = self.decided();
         let value = self.evaluate(frame, net);
@@ -284,7 +284,7 @@ impl<'c> Held<'c> {
 
 /// An item agrees where its cell is what its arguments give.
 impl<'c> Plant for Held<'c> {
-    ghost use Rattle.ht_window.specs.Holding.{item_agrees, IsKept};
+    ghost use Rattle.ht_window.specs.Holding.{item_agrees, KeepsHeld};
     ghost use Rattle.ht_window.specs.Kept.{kept_same, kept_more};
 
     ghost circuit = { λ h. h.standing.window.circuit };
@@ -293,7 +293,7 @@ impl<'c> Plant for Held<'c> {
 
     ghost agrees = { item_agrees };
 
-    ghost keeps = { IsKept };
+    ghost keeps = { KeepsHeld };
 
     ghost price = { λ h. 0 };
 

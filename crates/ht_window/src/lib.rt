@@ -6,7 +6,7 @@
 //! mark (ht_trail). `status`, `pick` and `walk_back` read it. The definitions are ht_tree's: `specs/Windows.antt`,
 //! `WindowStatus.antt` and `WalkBack.antt`.
 //!
-//! | File | Holds |
+//! | File | HoldsValue |
 //! |---|---|
 //! | start | what the latches of the first frame are |
 //! | decided | the decisions, and the value of each variable |
@@ -26,6 +26,7 @@ mod start;
 mod status;
 mod window;
 
+pub use ht_events::MAX_FRAMES;
 pub use ht_trail::Mark;
 pub use start::{PairState, Start};
 pub use window::Window;

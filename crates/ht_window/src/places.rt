@@ -1,12 +1,11 @@
 //! What the places of a window show.
-ghost use Rattle.std.specs.Prelude.{◌≡◌, ◌<◌, ◌++◌, List, Some, None, cond, length};
-ghost use Rattle.std.specs.Prelude.{ℕ, flat_map};
+ghost use Rattle.std.specs.Prelude.{◌≡◌, ◌<◌, ◌++◌, List, flat_map};
 ghost use Rattle.std.specs.List.{range_with_len};
 ghost use Rattle.ht_tree.specs.declared.window.WindowPlace.{WindowPlace};
 ghost use Rattle.ht_tree.specs.Windows.{one_frame};
 ghost use Rattle.ht_tree.specs.Places.{output_places, places_of, state_places};
 ghost use Rattle.ht_window.specs.Starts.{marked};
-ghost use Rattle.ht_window.specs.Seen.{first_or, seen_of, seen_with};
+ghost use Rattle.ht_window.specs.Seen.{seen_of, seen_with};
 
 use crate::decided::mark;
 use crate::start::Start;
@@ -16,35 +15,26 @@ use ht_tree::{Spot, WindowPlace};
 
 /// The first place that must differ, and the first that may, among those that were looked at.
 #[derive(Clone, Copy)]
-pub struct Seen {
+pub struct PlacesSeen {
     pub sure: Option<WindowPlace>,
     pub open_place: Option<WindowPlace>,
 }
 
-fn first(found: Option<WindowPlace>, here: bool, place: WindowPlace) -> Option<WindowPlace>
-    ensures { result ≡ first_or found (cond here (Some place) None) }
-{
-    match found {
-        Some(found) => Some(found),
-        None => { if here { Some(place) } else { None } },
-    }
-}
-
-impl Seen {
+impl PlacesSeen {
     /// The same after one more place.
-    fn with(self, place: WindowPlace, set: PairSet) -> Seen
+    fn with(self, place: WindowPlace, set: PairSet) -> PlacesSeen
         ensures { result ≡ seen_with self place set }
     {
-        Seen {
-            sure: first(self.sure, set.must_differ(), place),
-            open_place: first(self.open_place, set.may_differ(), place),
+        PlacesSeen {
+            sure: self.sure.or(set.must_differ().then_some(place)),
+            open_place: self.open_place.or(set.may_differ().then_some(place)),
         }
     }
 }
 
 impl<'c> Window<'c> {
     /// After the outputs of one more frame.
-    fn see_outputs(&self, seen: Seen, frame: u32) -> Seen
+    fn see_outputs(&self, seen: PlacesSeen, frame: u32) -> PlacesSeen
         requires { frame < self.now.window.frames }
         ensures { (places : List WindowPlace) → seen ≡ seen_of self.now.window self.now.decisions
             places → result ≡ seen_of self.now.window self.now.decisions
@@ -63,12 +53,12 @@ impl<'c> Window<'c> {
     }
 
     /// After the outputs of all frames.
-    fn see_frames(&self) -> Seen
+    fn see_frames(&self) -> PlacesSeen
         ensures { result ≡ seen_of self.now.window self.now.decisions
             (flat_map (output_places self.now.window.circuit)
             (range_with_len 0 self.now.window.frames)) }
     {
-        let mut seen = Seen {
+        let mut seen = PlacesSeen {
             sure: None,
             open_place: None,
         };
@@ -79,7 +69,7 @@ impl<'c> Window<'c> {
     }
 
     /// After the next states of the flip-flops outside a set.
-    fn see_states(&self, seen: Seen, z: &[bool]) -> Seen
+    fn see_states(&self, seen: PlacesSeen, z: &[bool]) -> PlacesSeen
         requires { self.now.window.frames ≡ 1 }
         ensures { (places : List WindowPlace) → seen ≡ seen_of self.now.window self.now.decisions
             places → result ≡ seen_of self.now.window self.now.decisions
@@ -99,7 +89,7 @@ impl<'c> Window<'c> {
     }
 
     /// The first place that must differ, and the first that may.
-    pub fn seen(&self) -> Seen
+    pub fn seen(&self) -> PlacesSeen
         ensures { result ≡ seen_of self.now.window self.now.decisions (places_of self.now.window) }
     {
         let _ = self.circuit();

@@ -10,7 +10,7 @@ ghost use Rattle.ht_tree.specs.Variables.{IsLegalChoice};
 ghost use Rattle.ht_tree.specs.WalkBack.{CanWalk, from_latch, from_place, pick_of};
 
 use crate::decided::wanted;
-use crate::places::Seen;
+use crate::places::PlacesSeen;
 use crate::start::Start;
 use crate::window::Window;
 use ht_net::NetId;
@@ -18,7 +18,7 @@ use ht_tern::Tern;
 use ht_tree::{Choice, Spot, Status, WindowPlace};
 
 /// The status by the places.
-fn difference_status(seen: Seen) -> Status
+fn difference_status(seen: PlacesSeen) -> Status
     ensures { result ≡ sure_or seen.sure (is_some seen.open_place) }
 {
     match seen.sure {

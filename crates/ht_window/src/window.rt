@@ -7,15 +7,15 @@ ghost use Rattle.ht_trail.specs.Trails.{CellsState, IsLater};
 ghost use Rattle.ht_tree.specs.Decisions.{decided_value};
 ghost use Rattle.ht_tree.specs.Windows.{IsStart, IsWindow, cell_at, first_input, latches_at};
 ghost use Rattle.ht_tree.specs.Walks.{decides};
-ghost use Rattle.ht_window.specs.Starts.{start_of};
-ghost use Rattle.ht_window.specs.Cells.{AreCells, Holds};
+ghost use Rattle.ht_window.specs.Starts.{start_of, window_from};
+ghost use Rattle.ht_window.specs.Cells.{AreCells, HoldsValue};
 ghost use Rattle.ht_window.specs.Holding.{HeldState};
 ghost use Rattle.ht_window.specs.States.{IsLegalDecision, WindowState, mark_before, undone};
 
-use crate::decided::{Decided, MAX_FRAMES};
+use crate::decided::Decided;
 use crate::held::Held;
 use crate::start::Start;
-use ht_events::Core;
+use ht_events::{Core, MAX_FRAMES};
 use ht_frame::data_pin;
 use ht_net::{Circuit, Fault, NetId};
 use ht_pairs::PairSet;
@@ -50,11 +50,11 @@ fn write_inputs(held: &mut Held, frame: u32) -> Result<(), AllocError>
     requires frame { frame < held.old.standing.window.frames }
     ensures standing { held.new.standing ≡ held.old.standing }
     ensures inputs { OnOk result ((i : ℕ) → i < held.old.standing.window.circuit.inputs
-        → Holds held.old.standing.window held.old.standing.path held.new.cells.values frame i) }
+        → HoldsValue held.old.standing.window held.old.standing.path held.new.cells.values frame i) }
     ensures before { OnOk result
         ((f i : ℕ) → f < frame → i < held.old.standing.window.circuit.inputs
-        → Holds held.old.standing.window held.old.standing.path held.old.cells.values f i
-        → Holds held.old.standing.window held.old.standing.path held.new.cells.values f i) }
+        → HoldsValue held.old.standing.window held.old.standing.path held.old.cells.values f i
+        → HoldsValue held.old.standing.window held.old.standing.path held.new.cells.values f i) }
 {
     let inputs = held.decided().inputs();
     let _ = held.decided().circuit().nets();
@@ -122,17 +122,11 @@ impl<'c> Window<'c> {
     ) -> Result<Window<'c>, AllocError>
         requires frames { frames ≤ MAX_FRAMES }
         requires start { IsStart circuit.now fault frames (start_of start.now) }
-        ensures window { IfOk result
-            (λ w. w.window ≡ record {
-              circuit = circuit.now;
-              fault = fault;
-              frames = frames;
-              start = start_of start.now;
-            }) }
+        ensures window { IfOk result (λ w. w.window ≡ window_from circuit.now fault frames start.now) }
         ensures decisions { IfOk result (λ w. w.decisions ≡ []) }
         ensures marks { IfOk result (λ w. w.marks ≡ []) }
     {
-        let decided = Decided::new(alloc, circuit, fault, frames, start)?;
+        let decided = Decided::new(alloc, start, circuit, fault, frames)?;
         let mut held = Held::new(alloc, decided)?;
         let mut core = Core::new(alloc, circuit, frames)?;
         fill(&mut held, &mut core)?;

@@ -1,8 +1,8 @@
-use Rattle.std.proofs.Common.{◌≡◌, ◌+◌, ◌-◌, ◌∙◌, ℕ, List, length, get_or, sym, ap, arith, inl, inr}
+use Rattle.std.proofs.Common.{◌≡◌, ◌+◌, ◌-◌, ◌∙◌, ℕ, List, length, get_or, sym, ap, arith, inl, inr, subst}
 use Rattle.ht_net.specs.declared.net.NetId.{NetId}
 use Rattle.ht_net.specs.Netlist.{no_net, arg_at, gate_at}
 use Rattle.ht_events.specs.Items.{IsGateOn}
-use Rattle.ht_events.proofs.TableLaws.{sound_more, dffs_more, pins_more, gates_more}
+use Rattle.ht_events.proofs.TableLaws.{IsPartTable, sound_more, dffs_more, pins_more, part_kept, part_more, table_is}
 use Rattle.ht_events.proofs.readers.reader_rows.Goals as goal
 
 pub loop-j-preserved : goal.loop-j-preserved
@@ -51,11 +51,20 @@ loop-arg-preserved c =
       reads = ap (λ (h : ℕ). arg_at circuit h k) at ∙ net;
     } in
     record {
-      count = a.count ∙ i.count;
-      sound = sound_more circuit old new n local a.keeps a.has a.only (inl gate) i.sound;
-      dffs = λ x m d. a.keeps x m (i.dffs x m d);
-      gates = λ x m l d. a.keeps x m (i.gates x m l d);
+      table = part_kept circuit old new n local a.keeps a.has a.only g a.count (inl gate) i.table;
       pins = pins_more circuit old new n local a.keeps a.has a.only g k is net i.pins;
+    }
+
+pub loop-g-init : goal.loop-g-init
+loop-g-init c =
+    let i = c.loop-j.invariant in
+    let t = c.loop-j-test.false in
+    let e = c.dffs-j-end.ensures in
+    record {
+      count = i.count;
+      sound = i.sound;
+      dffs = λ x k d. let h = d.is_dff in i.dffs x k (omega (arith, h, t, e)) d;
+      gates = λ x k less on. let h = on.is_gate in absurd (omega (arith, less, h));
     }
 
 pub loop-g-preserved : goal.loop-g-preserved
@@ -64,10 +73,14 @@ loop-g-preserved c =
     let done = c.loop-arg-test.false in
     let end = c.loop-arg.auto.arg-index-end in
     let all = ap length c.gate_args-arg-items.ensures.args in
-    record {
-      count = i.count;
-      sound = i.sound;
-      dffs = i.dffs;
-      gates = gates_more c.args.circuit.now c.loop-arg.rows.items c.loop-g.g c.loop-arg.arg-index
-          (omega (arith, done, end, all)) i.pins i.gates;
-    }
+    part_more c.args.circuit.now c.loop-arg.rows.items c.loop-g.g c.loop-arg.arg-index (omega (arith, done, end, all))
+    i.pins i.table
+
+pub returns : goal.returns
+returns c =
+    let t = c.loop-g-test.false in
+    let a = c.loop-g.auto.g-end in
+    let e = c.gates-g-end.ensures in
+    let n = c.args.circuit.now in
+    let all : c.loop-g.g ≡ length n.gates = omega (arith, t, a, e) in
+    table_is n c.loop-g.rows.items (subst (λ (k : ℕ). IsPartTable n c.loop-g.rows.items k) all c.loop-g.invariant)

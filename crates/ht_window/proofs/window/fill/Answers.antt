@@ -1,11 +1,13 @@
-use Rattle.std.proofs.Common.{◌≡◌, ◌<◌, ◌∙◌, ℕ, ap, sym, subst, arith}
+use Rattle.std.proofs.Common.{◌<◌, ◌∙◌, ℕ, ap, sym, subst, arith}
 use Rattle.ht_events.specs.Plans.{PlanState}
 use Rattle.ht_events.specs.Items.{item_count}
+use Rattle.ht_events.specs.Pending.{QuietAgree}
 use Rattle.ht_tree.specs.Windows.{IsWindow}
 use Rattle.ht_window.specs.Standing.{Standing}
-use Rattle.ht_window.specs.Cells.{Holds, AreCells}
+use Rattle.ht_window.specs.Cells.{HoldsValue, AreCells}
 use Rattle.ht_window.specs.Holding.{item_agrees}
 use Rattle.ht_window.proofs.AgreeLaws.{settled_cells}
+use Rattle.ht_window.proofs.FollowLaws.{settled_all}
 use Rattle.ht_window.proofs.window.fill.Goals as goal
 
 pub returns-clause-cells : goal.returns-clause-cells
@@ -22,15 +24,14 @@ returns-clause-cells c =
     let e = ap (λ (s : Standing). s.window.frames) c.decided.ensures.standing in
     let circuit = ap (λ (p : PlanState). p.circuit) c.touch_all.ensures.plan ∙ c.requires.circuit in
     let frames = ap (λ (p : PlanState). p.frames) c.touch_all.ensures.plan ∙ c.requires.frames in
-    let count : item_count c.touch_all.new.self.plan.circuit c.touch_all.new.self.plan.frames
-    ≡ item_count w.circuit w.frames = (λ j. item_count (circuit j) (frames j)) in
-    let inputs : (f x : ℕ) → f < w.frames → x < w.circuit.inputs → Holds w a.standing.path h.cells.values f x = λ f x fs
+    let inputs : (f x : ℕ) → f < w.frames → x < w.circuit.inputs → HoldsValue w a.standing.path h.cells.values f x = λ f x fs
     xs. i.done f x (omega (arith, fs, t, n, e)) xs in
-    let agree : (y : ℕ) → y < item_count w.circuit w.frames → item_agrees r y = λ y ys. s.agree y
-    (omega (arith, ys, count)) (s.none y (omega (arith, ys, count))) in
+    let quiet : QuietAgree c.touch_all.new.self (item_agrees h) = λ y ys free. absurd (free (c.touch_all.ensures.all y
+    (subst (λ (p : PlanState). y < item_count p.circuit p.frames) c.touch_all.ensures.plan ys))) in
+    let agree = settled_all c.touch_all.new.self c.settle.new.self w h r s.plan circuit frames quiet s.agree s.none in
     subst (λ (s : Standing). AreCells s.window s.path r.cells.values) st
     (settled_cells h r (subst (λ (s : Standing). IsWindow s.window) (sym st) c.decided.ensures.window) s.keeps
     (subst (λ (s : Standing). (f x : ℕ) → f < s.window.frames → x < s.window.circuit.inputs
-    → Holds s.window s.path h.cells.values f x) (sym st) inputs)
+    → HoldsValue s.window s.path h.cells.values f x) (sym st) inputs)
     (subst (λ (s : Standing). (y : ℕ) → y < item_count s.window.circuit s.window.frames → item_agrees r y) (sym st)
     agree))

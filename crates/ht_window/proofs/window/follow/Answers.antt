@@ -7,8 +7,10 @@ use Rattle.ht_tree.specs.declared.token.Assign3.{Assign3}
 use Rattle.ht_tree.specs.Windows.{SearchWindow, IsWindow}
 use Rattle.ht_events.specs.Plans.{PlanState}
 use Rattle.ht_events.specs.Items.{item_count, IsReader}
-use Rattle.ht_window.proofs.VariableLaws.{legal_frame, legal_net}
-use Rattle.ht_window.proofs.FollowLaws.{follow_agrees, follow_cells}
+use Rattle.ht_events.specs.Pending.{QuietAgree}
+use Rattle.ht_window.specs.Holding.{item_agrees}
+use Rattle.ht_window.proofs.LegalLaws.{legal_frame, legal_net}
+use Rattle.ht_window.proofs.FollowLaws.{settled_all, follow_agrees, follow_cells}
 use Rattle.ht_window.proofs.window.follow.Goals as goal
 
 pub write-requires-clause-frame : goal.write-requires-clause-frame
@@ -26,31 +28,6 @@ touch_loads-requires-clause-frame c =
     let n = ap (λ (w : SearchWindow). w.frames) e in
     let k = c.requires.frames in
     omega (arith, f, l, n, k)
-
-pub settle-requires-clause-agree : goal.settle-requires-clause-agree
-settle-requires-clause-agree c = λ y ys free.
-    let a = c.args.held.now in
-    let w = a.standing.window in
-    let d : Assign3 = record { var = c.args.var; value = c.args.choice } in
-    let p = c.in_ok-push.ensures in
-    let q = c.in_ok-write.ensures in
-    let v = c.var_place-frame.ensures in
-    let t = c.touch_loads.ensures in
-    let n = legal_net w c.args.var c.args.choice c.requires.legal in
-    let circuit : c.touch_loads.new.self.plan.circuit ≡ w.circuit = ap (λ (p : PlanState). p.circuit) t.plan ∙
-    c.requires.circuit in
-    let frames : c.touch_loads.new.self.plan.frames ≡ w.frames = ap (λ (p : PlanState). p.frames) t.plan ∙
-    c.requires.frames in
-    let count : item_count c.touch_loads.new.self.plan.circuit c.touch_loads.new.self.plan.frames
-    ≡ item_count w.circuit w.frames = (λ i. item_count (circuit i) (frames i)) in
-    follow_agrees a c.push.new.self c.write.new.self d c.decided.ensures.window c.decided.ensures.count c.requires.cells
-    (omega (arith, n)) p.window p.cells p.ok
-    c.var_place-frame.result.0 c.var_place-frame.result.1 v.frame v.net q.standing q.values y (omega (arith, ys, count))
-    (λ r. free (t.loads y
-    (subst (λ (k : ℕ). IsReader c.args.core.now.plan.circuit k c.var_place-frame.result.0 c.var_place-frame.result.1
-    y) (sym c.requires.frames)
-    (subst (λ (n : Netlist). IsReader n w.frames c.var_place-frame.result.0 c.var_place-frame.result.1 y)
-    (sym c.requires.circuit) r))))
 
 pub returns-in_err-settle-clause-later : goal.returns-in_err-settle-clause-later
 returns-in_err-settle-clause-later c =
@@ -74,14 +51,21 @@ returns-clause-cells c =
     let v = c.var_place-frame.ensures in
     let t = c.touch_loads.ensures in
     let s = c.in_ok-settle.ensures in
+    let b = c.touch_loads.new.self in
+    let r = c.settle.new.plant in
+    let f = c.var_place-frame.result.0 in
+    let x = c.var_place-frame.result.1 in
     let n = legal_net w c.args.var c.args.choice c.requires.legal in
-    let circuit : c.touch_loads.new.self.plan.circuit ≡ w.circuit = ap (λ (p : PlanState). p.circuit) t.plan ∙
-    c.requires.circuit in
-    let frames : c.touch_loads.new.self.plan.frames ≡ w.frames = ap (λ (p : PlanState). p.frames) t.plan ∙
-    c.requires.frames in
-    let count : item_count c.touch_loads.new.self.plan.circuit c.touch_loads.new.self.plan.frames
-    ≡ item_count w.circuit w.frames = (λ i. item_count (circuit i) (frames i)) in
-    follow_cells a c.push.new.self c.write.new.self d c.decided.ensures.window c.decided.ensures.count c.requires.cells
-    (omega (arith, n)) p.window p.cells p.ok
-    c.var_place-frame.result.0 c.var_place-frame.result.1 v.frame v.net q.standing q.values c.settle.new.plant s.keeps
-    (λ y ys. s.agree y (omega (arith, ys, count)) (s.none y (omega (arith, ys, count))))
+    let circuit : b.plan.circuit ≡ w.circuit = ap (λ (p : PlanState). p.circuit) t.plan ∙ c.requires.circuit in
+    let frames : b.plan.frames ≡ w.frames = ap (λ (p : PlanState). p.frames) t.plan ∙ c.requires.frames in
+    let count : item_count b.plan.circuit b.plan.frames ≡ item_count w.circuit w.frames =
+    (λ i. item_count (circuit i) (frames i)) in
+    let known = c.decided.ensures in
+    let quiet : QuietAgree b (item_agrees c.write.new.self) = λ y ys free.
+    follow_agrees a c.push.new.self c.write.new.self d known.window known.count c.requires.cells (omega (arith, n))
+    p.window p.cells p.ok f x v.frame v.net q.standing q.values y (omega (arith, ys, count))
+    (λ r. free (t.loads y (subst (λ (k : ℕ). IsReader c.args.core.now.plan.circuit k f x y) (sym c.requires.frames)
+    (subst (λ (n : Netlist). IsReader n w.frames f x y) (sym c.requires.circuit) r)))) in
+    follow_cells a c.push.new.self c.write.new.self d known.window known.count c.requires.cells (omega (arith, n))
+    p.window p.cells p.ok f x v.frame v.net q.standing q.values r s.keeps
+    (settled_all b c.settle.new.self w c.write.new.self r s.plan circuit frames quiet s.agree s.none)

@@ -4,7 +4,7 @@ use Rattle.ht_pairs.specs.Pairs.{Pair}
 use Rattle.ht_net.specs.Netlist.{net_count}
 use Rattle.ht_tree.specs.Windows.{IsWindow}
 use Rattle.ht_window.specs.Standing.{Standing}
-use Rattle.ht_window.specs.Cells.{Holds, cell_index, value_over, cell_count}
+use Rattle.ht_window.specs.Cells.{HoldsValue, cell_index, value_over, cell_count}
 use Rattle.ht_window.proofs.HoldLaws.{others_hold, self_holds}
 use Rattle.ht_window.proofs.window.write_inputs.Goals as goal
 
@@ -33,8 +33,8 @@ loop-i-preserved c =
     (λ (s : Standing). new ≡ set old (cell_index s.window f x) (value_over s.window s.path old f x)) st q.values in
     record {
       standing = q.standing ∙ st;
-      done = λ k l. subst (λ (t : List (List Pair)). Holds w path t f k) (sym now) (elim (eqb_tells k x) [
-        | inl p ↦ subst (λ (y : ℕ). Holds w path (set old (cell_index w f x) v) f y) (sym p.1)
+      done = λ k l. subst (λ (t : List (List Pair)). HoldsValue w path t f k) (sym now) (elim (eqb_tells k x) [
+        | inl p ↦ subst (λ (y : ℕ). HoldsValue w path (set old (cell_index w f x) v) f y) (sym p.1)
             (self_holds w valid path old count f x v fs xs refl)
         | inr p ↦
             let ne : k ≢ x = p.1 in
@@ -42,7 +42,7 @@ loop-i-preserved c =
             others_hold w valid path old count f x v fs xs f k fs (omega (arith, kl))
             (λ at. absurd (omega (arith, at, kl))) (inr ne) (i.done k (omega (arith, l, ne)))
       ]);
-      before = λ g k gf kl h. subst (λ (t : List (List Pair)). Holds w path t g k) (sym now)
+      before = λ g k gf kl h. subst (λ (t : List (List Pair)). HoldsValue w path t g k) (sym now)
           (others_hold w valid path old count f x v fs xs g k (omega (arith, gf, fs)) (omega (arith, kl))
           (λ at. absurd (omega (arith, at, kl))) (inl (λ e. omega (arith, e, gf))) (i.before g k gf kl h));
     }

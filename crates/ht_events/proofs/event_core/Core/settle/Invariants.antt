@@ -1,6 +1,6 @@
 use Rattle.std.proofs.Common.{◌≡◌, ◌<◌, ◌-◌, ℕ}
 use Rattle.ht_events.specs.Plans.{position_at}
-use Rattle.ht_events.specs.Pending.{Pends, core_items}
+use Rattle.ht_events.specs.Pending.{IsPending, QuietAgree, core_items}
 use Rattle.ht_events.proofs.event_core.Core.settle.Given as goal
 
 abbrev pub invariant-loop-item : goal.invariant-loop-item
@@ -9,8 +9,8 @@ invariant-loop-item g l = record {
   circuit : g.P.Plant.circuit l.plant ≡ g.P.Plant.circuit l.fn.plant;
   frames : g.P.Plant.frames l.plant ≡ g.P.Plant.frames l.fn.plant;
   keeps : g.P.Plant.keeps l.fn.plant l.plant;
-  agree : (x : ℕ) → x < core_items l.fn.self → ¬ Pends l.self x → g.P.Plant.agrees l.plant x;
-  below : (y : ℕ) → y < core_items l.fn.self → position_at l.fn.self.plan y < l.from → ¬ Pends l.self y;
+  agree : QuietAgree l.fn.self (g.P.Plant.agrees l.fn.plant) → QuietAgree l.self (g.P.Plant.agrees l.plant);
+  below : (y : ℕ) → y < core_items l.fn.self → position_at l.fn.self.plan y < l.from → ¬ IsPending l.self y;
 }
 
 abbrev pub decreases-loop-item : goal.decreases-loop-item

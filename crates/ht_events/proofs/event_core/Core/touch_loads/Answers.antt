@@ -1,5 +1,5 @@
 use Rattle.std.proofs.Common.{◌≡◌, ◌<◌, ℕ, get_or, [], arith, sym, ◌∙◌, ap, subst, List}
-use Rattle.ht_events.specs.Items.{frame_items, Reads}
+use Rattle.ht_events.specs.Items.{frame_items, ReadsNet}
 use Rattle.ht_events.specs.Plans.{PlanState, IsTable}
 use Rattle.ht_events.specs.Pending.{CoreState}
 use Rattle.ht_events.proofs.ItemLaws.{reads_known}
@@ -18,7 +18,7 @@ same c = ap (λ (s : CoreState). s.plan) c.self-in-loop-i.view_is ∙ c.loop-i.i
 row : (c : goal.After-touch_reader-arg-1) → c.readers.result.now ≡ get_or c.args.self.now.plan.readers c.args.net.0 []
 row c = c.readers.ensures.readers ∙ ap (λ (p : PlanState). get_or p.readers c.args.net.0 []) (same c)
 
-known : (c : goal.After-touch_reader-arg-1) → Reads c.args.self.now.plan.circuit
+known : (c : goal.After-touch_reader-arg-1) → ReadsNet c.args.self.now.plan.circuit
     (get_or c.readers.result.now c.loop-i.i 0) c.args.net.0
 known c =
     let p = c.args.self.now.plan in

@@ -13,34 +13,33 @@ at c l same known =
     c.index.ensures ∙ (get_or_default o c.local-local.result c.index.result.now 0 (omega (arith, s, known)) ∙ ap
     (λ (k : ℕ). get_or o k 0) (sym same))
 
-pub returns-clause-item : goal.returns-clause-item
-returns-clause-item c =
+-- the item is the one of its position, and one of all
+both : (c : goal.After-row_known-1) → c.args.position < item_count c.args.self.now.circuit c.args.self.now.frames
+    → (position_at c.args.self.now (c.frame-frame.result * c.frame_items-items.result + c.index.result.now)
+    ≡ c.args.position)
+    × (c.frame-frame.result * c.frame_items-items.result
+    + c.index.result.now < item_count c.args.self.now.circuit c.args.self.now.frames)
+both c known =
     let a = c.self.inside in
     let r = c.self.invariant.ranking in
     let p = c.args.position in
     let f = c.frame-frame.result in
     let n = c.frame_items-items.result in
+    let o = c.index.result.now in
     let P : PlanState → Type 0 = λ (s : PlanState). p < item_count s.circuit s.frames → f ≡ frame_of s.circuit p → n
     ≡ frame_items s.circuit → c.local-local.result ≡ local_of s.circuit p
-    → position_at s (f * n + c.index.result.now) ≡ p in
-    subst P c.self.view_is (λ inside fs ns ls. ranked_item a.circuit.now a.order.items a.ranks.items r a.frames p f n
-    c.index.result.now inside fs ns
-    (at c (local_of a.circuit.now p) (sym ls) (let h = local_inside a.circuit.now a.frames p inside
-    in let m = r.order_count in omega (arith, h, m))))
-    c.requires c.frame-frame.ensures.frame c.frame_items-items.ensures.items c.local-local.ensures.local
+    → (position_at s (f * n + o) ≡ p) × (f * n + o < item_count s.circuit s.frames) in
+    subst P c.self.view_is (λ inside fs ns ls.
+    let h = local_inside a.circuit.now a.frames p inside in
+    let m = r.order_count in
+    let os = at c (local_of a.circuit.now p) (sym ls) (omega (arith, h, m)) in (
+      ranked_item a.circuit.now a.order.items a.ranks.items r a.frames p f n o inside fs ns os,
+      ranked_inside a.circuit.now a.order.items a.ranks.items r a.frames p f n o inside fs ns os,
+    ))
+    known c.frame-frame.ensures.frame c.frame_items-items.ensures.items c.local-local.ensures.local
+
+pub returns-clause-item : goal.returns-clause-item
+returns-clause-item c = (both c c.requires).0
 
 pub returns-clause-inside : goal.returns-clause-inside
-returns-clause-inside c =
-    let a = c.self.inside in
-    let r = c.self.invariant.ranking in
-    let p = c.args.position in
-    let f = c.frame-frame.result in
-    let n = c.frame_items-items.result in
-    let P : PlanState → Type 0 = λ (s : PlanState). p < item_count s.circuit s.frames → f ≡ frame_of s.circuit p → n
-    ≡ frame_items s.circuit → c.local-local.result ≡ local_of s.circuit p → f * n
-    + c.index.result.now < item_count s.circuit s.frames in
-    subst P c.self.view_is (λ inside fs ns ls. ranked_inside a.circuit.now a.order.items a.ranks.items r a.frames p f n
-    c.index.result.now inside fs ns
-    (at c (local_of a.circuit.now p) (sym ls) (let h = local_inside a.circuit.now a.frames p inside
-    in let m = r.order_count in omega (arith, h, m))))
-    c.requires c.frame-frame.ensures.frame c.frame_items-items.ensures.items c.local-local.ensures.local
+returns-clause-inside c = (both c c.requires).1

@@ -2,7 +2,7 @@ use Rattle.std.proofs.Common.{◌<◌, ◌∙◌, List, Some, None, ap, sym, get
 use Rattle.std.proofs.lemmas.List.{length-set, length_push}
 use Rattle.ht_tree.specs.declared.token.Assign3.{Assign3}
 use Rattle.ht_window.specs.Standing.{Standing, variable_room, IsValueHistory}
-use Rattle.ht_window.proofs.HistoryLaws.{value_push}
+use Rattle.ht_window.proofs.ValueLaws.{value_push}
 use Rattle.ht_window.proofs.decided.Decided.push.Goals as goal
 
 pub invariant_of-self-in-Ok : goal.invariant_of-self-in-Ok

@@ -3,7 +3,7 @@ use Rattle.ht_net.specs.Netlist.{Netlist, no_net}
 use Rattle.ht_tree.specs.Windows.{SearchWindow}
 use Rattle.ht_window.specs.Standing.{Standing}
 use Rattle.ht_window.specs.States.{WindowState}
-use Rattle.ht_window.proofs.VariableLaws.{some_frames}
+use Rattle.ht_window.proofs.LegalLaws.{some_frames}
 use Rattle.ht_window.proofs.FollowLaws.{last_latch}
 use Rattle.ht_window.proofs.window.Window.next_state.Goals as goal
 

@@ -5,7 +5,7 @@ use Rattle.ht_tree.specs.declared.window.WindowPlace.{WindowPlace}
 use Rattle.ht_tree.specs.Decisions.{is_in}
 use Rattle.ht_window.specs.Starts.{marked}
 use Rattle.ht_window.specs.Seen.{seen_of}
-use Rattle.ht_window.proofs.DecisionLaws.{marked_is}
+use Rattle.ht_window.proofs.StartLaws.{marked_is}
 use Rattle.ht_window.proofs.SeenLaws.{state_kept, state_passed, next_set}
 use Rattle.ht_window.proofs.window.Window.see_states.Goals.{then-not-mark, else-not-mark}
 use Rattle.ht_window.proofs.window.Window.see_states.Goals as goal

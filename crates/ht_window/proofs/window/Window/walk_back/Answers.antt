@@ -77,15 +77,13 @@ returns-then-at-inputs-2 c =
 pub returns-else-at-inputs-2 : goal.returns-else-at-inputs-2
 returns-else-at-inputs-2 c =
     let s = c.args.self.now in
-    let n = s.window.circuit in
-    let valid : IsCircuit n = c.circuit-circuit.ensures.valid.circuit in
-    let circuit : c.circuit-circuit.result.now ≡ n = c.circuit-circuit.ensures.circuit in
-    let inputs : c.inputs-inputs.result ≡ n.inputs = c.inputs-inputs.ensures ∙ ap (λ (n : Netlist). n.inputs) circuit in
+    let window = c.circuit-circuit.ensures in
+    let inputs = c.inputs-inputs.ensures ∙ ap (λ (n : Netlist). n.inputs) window.circuit in
     let t = c.if-at-inputs-2.false in
     let last : c.loop-frame.frame ≡ 0 = elim c.loop-frame-test.branch [
       | then-loop-frame-test+else-at-inputs w ↦ let u = w.if-at-inputs.false in absurd (omega (arith, t, u))
       | else-loop-frame-test w ↦ let u = w.loop-frame-test.false in omega (arith, u)
     ] in
     c.latch_choice.ensures
-    ∙ (sym (choice_latch s.window s.decisions valid c.loop-frame.frame (wanted_of c.loop-frame.at) last
+    ∙ (sym (choice_latch s.window s.decisions window.valid.circuit c.loop-frame.frame (wanted_of c.loop-frame.at) last
     (omega (arith, inputs, t))) ∙ c.loop-frame.invariant.same)
