@@ -1,5 +1,5 @@
 -- Rows of a flat list.
-use Rattle.std.proofs.Common.{◌∙◌, ◌≡◌, ◌≤◌, ◌<◌, ℕ, suc, zero, List, [], ◌∷◌, ◌++◌, ◌+◌, ◌-◌, length, length-drop, get_or, take, drop, refl, arith, ap}
+use Rattle.std.proofs.Common.{◌∙◌, ◌≡◌, ◌≤◌, ◌<◌, ℕ, suc, zero, List, [], ◌∷◌, ◌++◌, ◌+◌, ◌-◌, length, length-append, length-drop, get_or, take, drop, refl, arith, ap}
 use Rattle.std.proofs.lemmas.List.{take-append-le, drop-append-le}
 use Rattle.std.proofs.Math.Seq.{take-length, drop-append_seam}
 use Rattle.ht_items.specs.FlatRowsOf.{rows_from, AreEnds}
@@ -26,8 +26,7 @@ row_within start [] items are i h = absurd (omega arith)
 row_within start (end ∷ ends) items are zero h = (are.0, are.1)
 row_within start (end ∷ ends) items are (suc i) h = row_within end ends items are.2 i (omega arith)
 
--- one more row at the end
-pub rows_push : {T : Type 0} → (start : ℕ) (ends : List ℕ) (items more : List T) → start ≤ length items
+rows_push : {T : Type 0} → (start : ℕ) (ends : List ℕ) (items more : List T) → start ≤ length items
     → AreEnds start ends items
     → rows_from start (ends ++ (length items + length more) ∷ []) (items ++ more)
     ≡ rows_from start ends items ++ more ∷ []
@@ -45,14 +44,28 @@ rows_push {T} start (end ∷ ends) items more low are =
     let rest = rows_push end ends items more are.1 are.2 in
     (λ k. front k ∷ rest k)
 
--- and its end is in order
-pub ends_push : {T : Type 0} → (start : ℕ) (ends : List ℕ) (items more : List T) (total : ℕ)
-    → total ≡ length items + length more → length (items ++ more) ≡ total → AreEnds start ends items
+ends_push : {T : Type 0} → (start : ℕ) (ends : List ℕ) (items more : List T) → AreEnds start ends items
     → AreEnds start (ends ++ (length items + length more) ∷ []) (items ++ more)
-ends_push start [] items more total is long are =
-    (omega (arith, are), omega (arith, is, long), omega (arith, is, long))
-ends_push start (end ∷ ends) items more total is long are =
-    (are.0, omega (arith, are.1, is, long), ends_push end ends items more total is long are.2)
+ends_push start [] items more are =
+    let long = length-append items more in (omega (arith, are), omega (arith, long), omega (arith, long))
+ends_push start (end ∷ ends) items more are =
+    let long = length-append items more in
+    (are.0, omega (arith, are.1, long), ends_push end ends items more are.2)
+
+-- One more row: where it ends is added to the ends, and its items to the items.
+pub record IsRowMore {T : Type 0} (ends : List ℕ) (items more : List T) (ends' : List ℕ) (items' : List T) : Type 0
+  where
+  pub end : ℕ
+  pub is_end : end ≡ length items + length more
+  pub ends_are : ends' ≡ ends ++ end ∷ []
+  pub items_are : items' ≡ items ++ more
+
+pub row_more : {T : Type 0} → (ends : List ℕ) (items more : List T) (ends' : List ℕ) (items' : List T)
+    → IsRowMore ends items more ends' items' → AreEnds 0 ends items
+    → AreEnds 0 ends' items' × (rows_from 0 ends' items' ≡ rows_from 0 ends items ++ more ∷ [])
+row_more ends items more ends' items' h are =
+    rw (h.items_are, h.ends_are, h.is_end)
+    (ends_push 0 ends items more are, rows_push 0 ends items more (omega arith) are)
 
 -- an index of the rows is one of their ends
 pub row_inside : {T : Type 0} → (ends : List ℕ) (items : List T) (rows : List (List T)) (i : ℕ)

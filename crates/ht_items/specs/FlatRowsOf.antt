@@ -13,5 +13,5 @@ AreEnds start [] items = start ≡ length items
 AreEnds start (end ∷ ends) items = (start ≤ end) × (end ≤ length items) × AreEnds end ends items
 
 -- the fields as rows
-abbrev pub rows_of : {T : Type 0} → Inside T → List (List T)
-rows_of a = rows_from 0 a.ends.items a.items.items
+abbrev pub flat_rows : {T : Type 0} → Inside T → List (List T)
+flat_rows a = rows_from 0 a.ends.items a.items.items

@@ -18,9 +18,9 @@ impl<T> Model for FlatRows<T> {
 
     ghost Value = { List (List T) };
 
-    ghost use Rattle.ht_items.specs.FlatRowsOf.{rows_of, AreEnds};
+    ghost use Rattle.ht_items.specs.FlatRowsOf.{flat_rows, AreEnds};
 
-    ghost view = { rows_of };
+    ghost view = { flat_rows };
 
     ghost invariant = { λ a. AreEnds 0 a.ends.items a.items.items };
 }

@@ -9,6 +9,7 @@ use Rattle.ht_tern.specs.Gate.{HasArity}
 use Rattle.ht_net.specs.declared.names.NameId.{NameId}
 use Rattle.ht_net.specs.declared.draft.DraftDff.{DraftDff}
 use Rattle.ht_net.specs.Names.{IsNewName}
+use Rattle.ht_net.specs.Netlist.{max_nets, max_pins, max_inputs, max_dffs, max_arguments}
 use Rattle.ht_net.specs.Draft.{Draft, DraftGate, IsDraft, IsName, no_name, no_part, no_dff, draft_pins}
 
 -- what holds of each member holds with one more
@@ -22,7 +23,7 @@ each_push P list x d each new i l =
       | inr more ↦ let is : length list ≡ i = omega arith in rw (get_or_push list x d i is) new
     ]
 
-pub draft_name_added : (d : Draft) (name : List ℕ) → IsDraft d → IsNewName d.names name → length d.names < 65535
+pub draft_name_added : (d : Draft) (name : List ℕ) → IsDraft d → IsNewName d.names name → length d.names < max_nets
     → IsDraft (record d { names = d.names ++ name ∷ [] })
 draft_name_added d name h fresh fits =
     let long = length-append d.names (name ∷ []) in
@@ -41,7 +42,7 @@ draft_name_added d name h fresh fits =
       few_args = h.few_args;
     }
 
-pub draft_input_added : (d : Draft) (name : NameId) → IsDraft d → length d.inputs < 4096
+pub draft_input_added : (d : Draft) (name : NameId) → IsDraft d → length d.inputs < max_inputs
     → IsDraft (record d { inputs = d.inputs ++ name ∷ [] })
 draft_input_added d name h fits =
     let long = length-append d.inputs (name ∷ []) in
@@ -76,8 +77,8 @@ draft_output_added d name h is fresh = record {
   few_args = h.few_args;
 }
 
-pub draft_dff_added : (d : Draft) (dff : DraftDff) → IsDraft d → IsName d dff.data_pin → draft_pins d < 262144
-    → length d.dffs < 16384 → IsDraft (record d { dffs = d.dffs ++ dff ∷ [] })
+pub draft_dff_added : (d : Draft) (dff : DraftDff) → IsDraft d → IsName d dff.data_pin → draft_pins d < max_pins
+    → length d.dffs < max_dffs → IsDraft (record d { dffs = d.dffs ++ dff ∷ [] })
 draft_dff_added d dff h is pins fits =
     let long = length-append d.dffs (dff ∷ []) in
     record {
@@ -103,7 +104,8 @@ pins_push gates p =
 
 pub draft_gate_added : (d : Draft) (p : DraftGate) → IsDraft d
     → ((i : ℕ) → i < length p.args → IsName d (get_or p.args i no_name)) → HasArity p.kind (length p.args)
-    → length p.args ≤ 255 → draft_pins d + length p.args ≤ 262144 → IsDraft (record d { gates = d.gates ++ p ∷ [] })
+    → length p.args ≤ max_arguments → draft_pins d + length p.args ≤ max_pins
+    → IsDraft (record d { gates = d.gates ++ p ∷ [] })
 draft_gate_added d p h known arity few fits = record {
   few_names = h.few_names;
   few_inputs = h.few_inputs;
@@ -117,5 +119,5 @@ draft_gate_added d p h known arity few fits = record {
       (λ (q : DraftGate). (i : ℕ) → i < length q.args → IsName d (get_or q.args i no_name))
       d.gates p no_part (λ k n j. h.args_known k j n) known g l i m;
   arities = each_push (λ (q : DraftGate). HasArity q.kind (length q.args)) d.gates p no_part h.arities arity;
-  few_args = each_push (λ (q : DraftGate). length q.args ≤ 255) d.gates p no_part h.few_args few;
+  few_args = each_push (λ (q : DraftGate). length q.args ≤ max_arguments) d.gates p no_part h.few_args few;
 }

@@ -4,13 +4,13 @@ use Rattle.std.proofs.lemmas.List.{length-map, map-append}
 use Rattle.std.proofs.Math.Seq.{take-append_seam}
 use Rattle.ht_net.specs.declared.draft.DraftDff.{DraftDff}
 use Rattle.ht_net.specs.declared.builder.Driver.{Driver}
-use Rattle.ht_net.specs.declared.builder.Driver.TheVariants.{Input, Dff, Gate}
 use Rattle.ht_net.specs.Netlist.{Netlist, first_gate_net}
 use Rattle.ht_net.specs.Named.{Name, NamedDff, NamedGate, NamedNetlist, name_of, named_dffs, named_gates, named_of}
 use Rattle.ht_net.specs.Draft.{Draft, DraftGate, IsDraft, no_name, no_part, no_dff, latch_names, gate_names, driven_names}
-use Rattle.ht_net.specs.DraftOf.{Agrees}
+use Rattle.ht_net.specs.DraftOf.{AreDrivers}
 use Rattle.ht_net.specs.Built.{net_of, draft_name, draft_gates, circuit_of, named_draft, AllDriven}
-use Rattle.ht_net.proofs.CircuitLaws.{driven_name_at, name_back, latch_name, gate_name, length_driven}
+use Rattle.ht_net.proofs.CircuitLaws.{latch_name, gate_name, length_driven}
+use Rattle.ht_net.proofs.DrivenLaws.{driven_name_at, name_back}
 
 abbrev dff_by : Draft → DraftDff → NamedDff
 dff_by d f = record { out = draft_name d f.out; data_pin = draft_name d f.data_pin }
@@ -65,8 +65,7 @@ gates_same c d x (g ∷ gates) outs pins =
     (omega arith)) (λ j i l m. pins (suc j) i (omega arith) m) in
     rw (out, args, rest) refl
 
-module _ (d : Draft) (drivers : List Driver) (a : Agrees d.inputs Input drivers)
-    (b : Agrees (latch_names d) Dff drivers) (c : Agrees (gate_names d) Gate drivers)
+module _ (d : Draft) (drivers : List Driver) (wired : AreDrivers d drivers)
     (all : AllDriven d) (draft : IsDraft d) where
   inputs_named : take (length d.inputs) (map (draft_name d) (driven_names d)) ≡ map (draft_name d) d.inputs
   inputs_named =
@@ -83,19 +82,19 @@ module _ (d : Draft) (drivers : List Driver) (a : Agrees d.inputs Input drivers)
       ≡ length d.dffs = length-map d.dffs (λ (f : DraftDff). net_of d f.data_pin) in
       let outputs : map (name_of (circuit_of d)) (map (net_of d) d.outputs) ≡ map (draft_name d) d.outputs =
       map_same (name_of (circuit_of d)) (net_of d) (draft_name d) d.outputs no_name
-      (λ o l. name_back d drivers a b c all draft _ (draft.outputs_known o l)) in
+      (λ o l. name_back d drivers wired all draft _ (draft.outputs_known o l)) in
       let dffs : named_dffs (circuit_of d) (length d.inputs) (map (λ (f : DraftDff). net_of d f.data_pin) d.dffs)
       ≡ map (dff_by d) d.dffs =
       dffs_same (circuit_of d) d (length d.inputs) d.dffs
-      (λ j l. driven_name_at d drivers a b c all draft (length d.inputs + j) (omega arith) ∙ ap (draft_name d)
+      (λ j l. driven_name_at d drivers wired all draft (length d.inputs + j) (omega arith) ∙ ap (draft_name d)
       (latch_name d j l))
-      (λ j l. name_back d drivers a b c all draft _ (draft.data_known j l)) in
+      (λ j l. name_back d drivers wired all draft _ (draft.data_known j l)) in
       let gates : named_gates (circuit_of d) (length d.inputs + length d.dffs) (draft_gates d)
       ≡ map (gate_by d) d.gates =
       gates_same (circuit_of d) d (length d.inputs + length d.dffs) d.gates
-      (λ j l. driven_name_at d drivers a b c all draft (length d.inputs + length d.dffs + j) (omega arith) ∙ ap
+      (λ j l. driven_name_at d drivers wired all draft (length d.inputs + length d.dffs + j) (omega arith) ∙ ap
       (draft_name d) (gate_name d j l))
-      (λ j i l m. name_back d drivers a b c all draft _ (draft.args_known j i l m)) in
+      (λ j i l m. name_back d drivers wired all draft _ (draft.args_known j i l m)) in
       let gates' : named_gates (circuit_of d) (first_gate_net (circuit_of d)) (draft_gates d)
       ≡ map (gate_by d) d.gates =
       ap (λ (n : ℕ). named_gates (circuit_of d) (length d.inputs + n) (draft_gates d)) count ∙ gates in

@@ -9,7 +9,7 @@ use Rattle.ht_net.specs.declared.names.NameId.{NameId}
 use Rattle.ht_net.specs.declared.builder.Driver.{Driver}
 use Rattle.ht_net.specs.declared.builder.Driver.TheVariants.{Free, Input, Dff, Gate}
 use Rattle.ht_net.specs.Draft.{Draft, latch_names, gate_names, driven_names, IsDriven, no_name}
-use Rattle.ht_net.specs.DraftOf.{Agrees}
+use Rattle.ht_net.specs.DraftOf.{AreDrivers}
 use Rattle.ht_net.specs.Built.{net_of}
 
 -- the net that a driver drives
@@ -19,8 +19,7 @@ driver_net d (Input i) = i
 driver_net d (Dff j) = length d.inputs + j
 driver_net d (Gate g) = length d.inputs + (length (latch_names d) + g)
 
-module _ (d : Draft) (drivers : List Driver) (a : Agrees d.inputs Input drivers)
-    (b : Agrees (latch_names d) Dff drivers) (c : Agrees (gate_names d) Gate drivers) where
+module _ (d : Draft) (drivers : List Driver) (wired : AreDrivers d drivers) where
   -- the driver at a place
   pub net_at : (k : ℕ) → k < length (driven_names d)
       → driver_net d (get_or drivers (get_or (driven_names d) k no_name).0 Free) ≡ k
@@ -29,7 +28,7 @@ module _ (d : Draft) (drivers : List Driver) (a : Agrees d.inputs Input drivers)
         let e : get_or (driven_names d) k no_name ≡ get_or d.inputs k no_name = get_or_append_left d.inputs
         (latch_names d ++ gate_names d) no_name k l in
         let f : get_or drivers (get_or (driven_names d) k no_name).0 Free
-        ≡ Input k = ap (λ (n : NameId). get_or drivers n.0 Free) e ∙ a.forth k l in
+        ≡ Input k = ap (λ (n : NameId). get_or drivers n.0 Free) e ∙ wired.inputs.forth k l in
         ap (driver_net d) f
     | inr l ↦
         let rest : ℕ = k - length d.inputs in
@@ -39,7 +38,7 @@ module _ (d : Draft) (drivers : List Driver) (a : Agrees d.inputs Input drivers)
           | inl m ↦
               let e' = e ∙ get_or_append_left (latch_names d) (gate_names d) no_name (k - length d.inputs) m in
               let f : get_or drivers (get_or (driven_names d) k no_name).0 Free
-              ≡ Dff (k - length d.inputs) = ap (λ (n : NameId). get_or drivers n.0 Free) e' ∙ b.forth
+              ≡ Dff (k - length d.inputs) = ap (λ (n : NameId). get_or drivers n.0 Free) e' ∙ wired.dffs.forth
               (k - length d.inputs) m in
               ap (driver_net d) f ∙ (omega arith)
           | inr m ↦
@@ -50,8 +49,8 @@ module _ (d : Draft) (drivers : List Driver) (a : Agrees d.inputs Input drivers)
               let inside : k - length d.inputs - length (latch_names d) < length (gate_names d) = omega arith in
               let f : get_or drivers (get_or (driven_names d) k no_name).0 Free
               ≡ Gate (k - length d.inputs - length (latch_names d)) =
-              ap (λ (n : NameId). get_or drivers n.0 Free) e' ∙ c.forth (k - length d.inputs - length (latch_names d))
-              inside in
+              ap (λ (n : NameId). get_or drivers n.0 Free) e'
+              ∙ wired.gates.forth (k - length d.inputs - length (latch_names d)) inside in
               ap (driver_net d) f ∙ (omega arith)
         ]
   ]

@@ -4,13 +4,15 @@ use Rattle.std.proofs.Math.ListN.{set}
 use Rattle.std.proofs.lemmas.Bool.{cases_eq}
 use Rattle.std.proofs.lemmas.List.{get_or-set_same, get_or-set_other}
 use Rattle.ht_net.specs.declared.net.NetId.{NetId}
-use Rattle.ht_net.specs.Netlist.{Gate, no_net}
-use Rattle.ht_net.specs.GateLevels.{args_of, AreKnown}
+use Rattle.ht_net.specs.Netlist.{Gate, no_net, args_of}
+use Rattle.ht_net.specs.GateLevels.{AreKnown}
 use Rattle.ht_net.specs.Cycle.{ReadsGate, IsGateCycle}
-use Rattle.ht_net.specs.Walk.{IsPartly, IsPath, StaySeen, open_count}
-use Rattle.ht_net.specs.Next.{HasLevel, IsWaiting}
+use Rattle.ht_net.specs.LevelWalk.{IsPartly, IsPath, StaySeen, open_count}
+use Rattle.ht_net.specs.Readiness.{HasLevel, IsWaiting}
 use Rattle.ht_net.specs.Tail.{IsOnPath, IsTail}
-use Rattle.ht_net.proofs.StepLaws.{open_set, partly_set, path_pop, path_push, cycle_found}
+use Rattle.ht_net.proofs.StepLaws.{open_set, partly_set}
+use Rattle.ht_net.proofs.PathStepLaws.{path_pop, path_push}
+use Rattle.ht_net.proofs.PathCycleLaws.{cycle_found}
 
 -- the last gate of a path
 pub record IsTop (path : List ℕ) (gate : ℕ) : Type 0 where
@@ -21,7 +23,7 @@ pub top_read : (read path : List ℕ) (gate : ℕ) → read ≡ path → (0 < le
     × ((d : ℕ) → gate ≡ get_or read (length read - 1) d) → IsTop path gate
 top_read read path gate e h = subst (λ (p : List ℕ). IsTop p gate) e (record { some = h.0; is = sym (h.1 0) })
 
-pub top_known : (first : ℕ) (gates : List Gate) (levels : List ℕ) (seen : List Bool) (path : List ℕ) (gate : ℕ)
+top_known : (first : ℕ) (gates : List Gate) (levels : List ℕ) (seen : List Bool) (path : List ℕ) (gate : ℕ)
     → IsPath first gates levels seen path → IsTop path gate
     → (gate < length gates) × (get_or levels gate 0 ≡ 0)
 top_known first gates levels seen path gate walk top = (
@@ -65,8 +67,7 @@ waits_reads first levels gates args gate below e h =
     (λ (a : List NetId). IsWaiting first levels a below) e h in
     record { pin = r.pin; is_pin = r.is_pin; reads = r.reads }
 
--- what waits is a gate
-pub below_known : (first : ℕ) (gates : List Gate) (levels : List ℕ) (args : List NetId) (below : ℕ) → length levels
+below_known : (first : ℕ) (gates : List Gate) (levels : List ℕ) (args : List NetId) (below : ℕ) → length levels
     ≡ length gates
     → ((i : ℕ) → i < length args → (get_or args i no_net).0 < first + length levels) → IsWaiting first levels args below
     → below < length gates
@@ -109,7 +110,7 @@ turn_cycle first gates levels seen path tail gate below walk top reads h =
     (cycle_found first gates levels seen path h.place below h.is_place h.is
     (subst (λ (g : ℕ). ReadsGate first gates g below) (sym top.is) reads) walk)
 
-pub args_known : (first : ℕ) (gates : List Gate) (levels : List ℕ) (args : List NetId) (gate : ℕ) → length levels
+args_known : (first : ℕ) (gates : List Gate) (levels : List ℕ) (args : List NetId) (gate : ℕ) → length levels
     ≡ length gates → AreKnown first gates
     → gate < length gates → args ≡ args_of gates gate → (i : ℕ) → i < length args → (get_or args i no_net).0 < first
     + length levels
@@ -117,3 +118,13 @@ args_known first gates levels args gate count known inside e i h =
     let k = known.known gate i inside (subst (λ (a : List NetId). i < length a) e h) in
     let same = ap (λ (a : List NetId). (get_or a i no_net).0) e in
     omega (arith, k, same, count)
+
+-- what a gate of the path waits for is a gate
+pub waits_known : (first : ℕ) (gates : List Gate) (levels : List ℕ) (seen : List Bool) (path : List ℕ)
+    (args : List NetId) (gate below : ℕ) → AreKnown first gates → IsPartly first gates levels
+    → IsPath first gates levels seen path → IsTop path gate → args ≡ args_of gates gate
+    → IsWaiting first levels args below → below < length gates
+waits_known first gates levels seen path args gate below known partly walk top e waits =
+    below_known first gates levels args below partly.count
+    (args_known first gates levels args gate partly.count known (top_known first gates levels seen path gate walk top).0
+    e) waits

@@ -1,13 +1,18 @@
 -- Steps of a walk over levels.
-use Rattle.std.proofs.Common.{◌≡◌, ◌≢◌, ◌⊎◌, ◌<◌, ◌≤◌, ◌+◌, ◌-◌, ℕ, suc, zero, List, [], ◌∷◌, true, false, length, get_or, take, max, refl, ◌∙◌, arith, inl, inr}
+use Rattle.std.proofs.Common.{◌≡◌, ◌≢◌, ◌⊎◌, ◌<◌, ◌≤◌, ◌+◌, ◌-◌, ℕ, suc, zero, List, [], ◌∷◌, Bool, true, false, cond, length, get_or, take, max, refl, ◌∙◌, arith, inl, inr}
 use Rattle.std.specs.Prelude.{ltb}
+use Rattle.std.specs.List.{sum_by}
 use Rattle.std.proofs.lemmas.Bool.Decides.{nat_tests}
 use Rattle.std.proofs.lemmas.List.{get_or-take, length-take-le}
 use Rattle.ht_net.specs.declared.net.NetId.{NetId}
 use Rattle.ht_net.specs.Netlist.{no_net}
 use Rattle.ht_net.specs.GateLevels.{net_level, highest_level}
-use Rattle.ht_net.specs.Walk.{AreReady}
-use Rattle.ht_net.specs.Next.{HasLevel}
+use Rattle.ht_net.specs.LevelWalk.{AreReady}
+use Rattle.ht_net.specs.Readiness.{HasLevel}
+
+-- how many gates are not seen yet
+abbrev pub unseen_count : List Bool → ℕ
+unseen_count seen = sum_by (λ (b : Bool). cond b 0 1) seen
 
 pub level_gate : (first : ℕ) (levels : List ℕ) (x : NetId) → first ≤ x.0 → net_level first levels x
     ≡ get_or levels (x.0 - first) 0

@@ -7,7 +7,7 @@ use Rattle.ht_tern.specs.Gate.{HasArity}
 use Rattle.ht_net.specs.declared.names.NameId.{NameId}
 use Rattle.ht_net.specs.declared.draft.DraftDff.{DraftDff}
 use Rattle.ht_net.specs.Lists.{AllDiffer}
-use Rattle.ht_net.specs.Netlist.{max_nets, max_pins, max_inputs, max_dffs}
+use Rattle.ht_net.specs.Netlist.{max_nets, max_pins, max_inputs, max_dffs, max_arguments}
 
 -- a gate by the names at its output and its pins
 pub record DraftGate : Type 0 where
@@ -70,4 +70,4 @@ pub record IsDraft (d : Draft) : Type 0 where
   pub args_known : (g i : ℕ) → g < length d.gates → i < length (part_at d g).args
       → IsName d (get_or (part_at d g).args i no_name)
   pub arities : (g : ℕ) → g < length d.gates → HasArity (part_at d g).kind (length (part_at d g).args)
-  pub few_args : (g : ℕ) → g < length d.gates → length (part_at d g).args ≤ 255
+  pub few_args : (g : ℕ) → g < length d.gates → length (part_at d g).args ≤ max_arguments

@@ -23,6 +23,12 @@ pub record Agrees (list : List NameId) (made : ℕ → Driver) (drivers : List D
   pub within : (n i : ℕ) → get_or drivers n Free ≡ made i → i < length list
   pub back : (n i : ℕ) → get_or drivers n Free ≡ made i → (get_or list i no_name).0 ≡ n
 
+-- the drivers tell what drives each name of a draft, and nothing else
+pub record AreDrivers (d : Draft) (drivers : List Driver) : Type 0 where
+  pub inputs : Agrees d.inputs Input drivers
+  pub dffs : Agrees (latch_names d) Dff drivers
+  pub gates : Agrees (gate_names d) Gate drivers
+
 abbrev pub one_if_free : Driver → ℕ
 one_if_free Free = 1
 one_if_free (Input i) = 0
@@ -40,6 +46,4 @@ pub record IsKept (a : Inside) : Type 0 where
   pub pins : a.pins ≡ draft_pins (draft_of a)
   pub all : free_count a.drivers.items + (length a.inputs.items + (length a.dffs.items + length a.gates.items))
       ≡ length a.names
-  pub inputs : Agrees a.inputs.items Input a.drivers.items
-  pub dffs : Agrees (latch_names (draft_of a)) Dff a.drivers.items
-  pub gates : Agrees (gate_names (draft_of a)) Gate a.drivers.items
+  pub drivers : AreDrivers (draft_of a) a.drivers.items

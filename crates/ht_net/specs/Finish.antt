@@ -4,7 +4,7 @@ use Rattle.ht_net.specs.declared.names.NameId.{NameId}
 use Rattle.ht_net.specs.declared.error.NetError.{NetError}
 use Rattle.ht_net.specs.declared.error.NetError.TheVariants.{Undriven, Loop, NoMemory}
 use Rattle.ht_net.specs.Lists.{IsCycle}
-use Rattle.ht_net.specs.Netlist.{IsRank}
+use Rattle.ht_net.specs.Netlist.{first_gate_net, IsRank}
 use Rattle.ht_net.specs.Draft.{Draft, part_at, no_name}
 use Rattle.ht_net.specs.Built.{circuit_of, AllDriven, IsLeastUndriven}
 
@@ -25,7 +25,7 @@ abbrev pub BeginsWithLeast : List NameId → Type 0
 BeginsWithLeast cycle = (k : ℕ) → k < length cycle → (get_or cycle 0 no_name).0 ≤ (get_or cycle k no_name).0
 
 abbrev pub HasNoRank : Draft → Type 0
-HasNoRank d = (rank : ℕ → ℕ) → ¬ IsRank (circuit_of d) rank
+HasNoRank d = (rank : ℕ → ℕ) → ¬ IsRank (first_gate_net (circuit_of d)) (circuit_of d).gates rank
 
 abbrev pub RefusesFinish : Draft → NetError → Type 0
 RefusesFinish d (Undriven name) = IsLeastUndriven d name

@@ -4,7 +4,7 @@ ghost use Rattle.std.specs.List.{Contains};
 ghost use Rattle.ht_tern.specs.Gate.{HasArity};
 ghost use Rattle.ht_net.specs.declared.names.NameId.{NameId};
 ghost use Rattle.ht_net.specs.Names.{IsNewName, IsNameAt};
-ghost use Rattle.ht_net.specs.Netlist.{max_nets};
+ghost use Rattle.ht_net.specs.Netlist.{max_arguments, max_nets};
 ghost use Rattle.ht_net.specs.Built.{draft_name};
 ghost use Rattle.ht_net.specs.Draft.{IsDraft, IsDriven, IsName, no_name};
 ghost use Rattle.ht_net.specs.Refusals.{RefusesName, RefusesInput, AcceptsInput, RefusesOutput, RefusesDff, AcceptsDff, RefusesGate, AcceptsGate};
@@ -17,7 +17,7 @@ use crate::names::Names;
 use crate::{Limit, NameId, NetError};
 use ht_tern::Kind;
 use indexmap::IndexSet;
-use std::alloc::{AllocFailed, Global};
+use std::alloc::{AllocError, Global};
 use std::marker::Model;
 
 const MAX_NETS: usize = 65_535;
@@ -152,7 +152,7 @@ impl Builder {
                 what: Limit::Inputs,
             });
         }
-        self.inputs.push(name)?;
+        self.inputs.push(name).map_err(AllocError::from)?;
         self.drivers[name.0 as usize] = Driver::Input(place as u32);
         Ok(())
     }
@@ -170,7 +170,7 @@ impl Builder {
         ensures err { OnErr result (self.new ≡ self.old) }
         ensures refusal { IfErr result RefusesOutput }
     {
-        self.outputs.insert(name)?;
+        self.outputs.insert(name).map_err(AllocError::from)?;
         Ok(())
     }
 
@@ -199,7 +199,8 @@ impl Builder {
         if place == MAX_DFFS {
             return Err(NetError::TooMany { what: Limit::Dffs });
         }
-        self.dffs.push(DraftDff { out, data_pin: pin })?;
+        let dff = DraftDff { out, data_pin: pin };
+        self.dffs.push(dff).map_err(AllocError::from)?;
         self.drivers[out.0 as usize] = Driver::Dff(place as u32);
         self.pins += 1;
         Ok(())
@@ -215,7 +216,7 @@ impl Builder {
         requires args { (i : ℕ) → i < length args.now
             → IsName self.old (get_or args.now i no_name) }
         requires arity { HasArity kind (length args.now) }
-        requires few { length args.now ≤ 255 }
+        requires few { length args.now ≤ max_arguments }
         ensures ok { OnOk result
             (self.new ≡ record self.old
             { gates = self.old.gates ++ record { kind = kind; out = out; args = args.now } ∷ [] }) }
@@ -232,7 +233,8 @@ impl Builder {
         }
         let args = Vec::from_slice(self.alloc, args)?;
         let place = self.gates.len();
-        self.gates.push(DraftGate { kind, out, args })?;
+        let gate = DraftGate { kind, out, args };
+        self.gates.push(gate).map_err(AllocError::from)?;
         self.drivers[out.0 as usize] = Driver::Gate(place as u32);
         self.pins = pins;
         Ok(())

@@ -2,7 +2,7 @@
 ghost use Rattle.std.specs.Prelude.{◌≡◌, suc, ◌<◌, ◌+◌, [], length, get_or, IfOk, IfErr};
 ghost use Rattle.ht_net.specs.Netlist.{first_gate_net, net_count, gate_at, no_net, IsCircuit, IsOrder};
 ghost use Rattle.ht_net.specs.Levels.{level_of, highest_below, loads_of, IsLevelOrder};
-ghost use Rattle.ht_net.specs.CircuitOf.{netlist_by, IsUnranked};
+ghost use Rattle.ht_net.specs.CircuitOf.{netlist_of, IsUnranked};
 ghost use Rattle.ht_net.specs.Cycle.{IsLevelError};
 
 use crate::NetId;
@@ -14,16 +14,23 @@ use ht_tern::Kind;
 use std::alloc::Global;
 use std::marker::Model;
 
+/// What a netlist says. Indices count from 0.
+#[derive(Drop)]
+pub(crate) struct Parts {
+    pub inputs: u32,
+    // the net at each flip-flop's data pin
+    pub dffs: Vec<NetId>,
+    pub gates: Gates,
+    pub outputs: Vec<NetId>,
+    // the name of each net
+    pub names: Vec<Vec<u8>>,
+}
+
 /// A well-formed circuit (ISCAS-89): inputs, flip-flops, gates, outputs and the names of its nets. Indices count from
 /// 0.
 #[derive(Drop)]
 pub struct Circuit {
-    inputs: u32,
-    // the net at each flip-flop's data pin
-    dffs: Vec<NetId>,
-    gates: Gates,
-    outputs: Vec<NetId>,
-    names: Vec<Vec<u8>>,
+    parts: Parts,
     // all gates by level
     order: Vec<u32>,
     levels: Vec<u32>,
@@ -38,37 +45,25 @@ impl Model for Circuit {
 
     ghost use Rattle.ht_net.specs.CircuitOf.{netlist_of, IsBuilt};
 
-    ghost view = { netlist_of };
+    ghost view = { λ a. netlist_of a.parts };
 
     ghost invariant = { IsBuilt };
 }
 
 impl Circuit {
     /// The circuit of these parts with its levels, or gates of it that form a cycle.
-    pub(crate) fn new(
-        alloc: Global,
-        inputs: u32,
-        dffs: Vec<NetId>,
-        gates: Gates,
-        outputs: Vec<NetId>,
-        names: Vec<Vec<u8>>,
-    ) -> Result<Circuit, LevelError>
-        requires { IsUnranked (netlist_by inputs dffs.items gates outputs.items names.items) }
-        ensures circuit { IfOk result
-            (λ c. c ≡ netlist_by inputs dffs.items gates outputs.items names.items) }
-        ensures error { IfErr result (IsLevelError (inputs + length dffs.items) gates) }
+    pub(crate) fn new(alloc: Global, parts: Parts) -> Result<Circuit, LevelError>
+        requires { IsUnranked (netlist_of parts) }
+        ensures circuit { IfOk result (λ c. c ≡ netlist_of parts) }
+        ensures error { IfErr result (IsLevelError (first_gate_net (netlist_of parts)) parts.gates) }
     {
-        let first = inputs + dffs.len() as u32;
-        let levels = find_levels(alloc, first, &gates)?;
+        let first = parts.inputs + parts.dffs.len() as u32;
+        let levels = find_levels(alloc, first, &parts.gates)?;
         let order = level_order(alloc, &levels)?;
-        let nets = first as usize + gates.len();
-        let loads = count_loads(alloc, nets, &gates, &dffs, &outputs)?;
+        let nets = first as usize + parts.gates.len();
+        let loads = count_loads(alloc, nets, &parts.gates, &parts.dffs, &parts.outputs)?;
         Ok(Circuit {
-            inputs,
-            dffs,
-            gates,
-            outputs,
-            names,
+            parts,
             order,
             levels,
             loads,
@@ -79,28 +74,28 @@ impl Circuit {
     pub fn inputs(&self) -> u32
         ensures { result ≡ self.now.inputs }
     {
-        self.inputs
+        self.parts.inputs
     }
 
     /// How many flip-flops there are.
     pub fn dffs(&self) -> u32
         ensures { result ≡ length self.now.dffs }
     {
-        self.dffs.len() as u32
+        self.parts.dffs.len() as u32
     }
 
     /// How many gates there are.
     pub fn gates(&self) -> u32
         ensures { result ≡ length self.now.gates }
     {
-        self.gates.len() as u32
+        self.parts.gates.len() as u32
     }
 
     /// How many outputs there are.
     pub fn outputs(&self) -> u32
         ensures { result ≡ length self.now.outputs }
     {
-        self.outputs.len() as u32
+        self.parts.outputs.len() as u32
     }
 
     /// How many nets there are.
@@ -108,7 +103,7 @@ impl Circuit {
         ensures count { result ≡ net_count self.now }
         ensures circuit { IsCircuit self.now }
     {
-        self.inputs + self.dffs.len() as u32 + self.gates.len() as u32
+        self.parts.inputs + self.parts.dffs.len() as u32 + self.parts.gates.len() as u32
     }
 
     /// The net of an output.
@@ -116,7 +111,7 @@ impl Circuit {
         requires { o < length self.now.outputs }
         ensures { result ≡ get_or self.now.outputs o no_net }
     {
-        self.outputs[o as usize]
+        self.parts.outputs[o as usize]
     }
 
     /// The net at the data pin of a flip-flop.
@@ -124,7 +119,7 @@ impl Circuit {
         requires { j < length self.now.dffs }
         ensures { result ≡ get_or self.now.dffs j no_net }
     {
-        self.dffs[j as usize]
+        self.parts.dffs[j as usize]
     }
 
     /// The net that a flip-flop drives.
@@ -134,7 +129,7 @@ impl Circuit {
         ensures known { result.0 < net_count self.now }
         ensures circuit { IsCircuit self.now }
     {
-        NetId(self.inputs + j)
+        NetId(self.parts.inputs + j)
     }
 
     /// The kind of a gate.
@@ -142,7 +137,7 @@ impl Circuit {
         requires { g < length self.now.gates }
         ensures { result ≡ (gate_at self.now g).kind }
     {
-        self.gates.kind(g as usize)
+        self.parts.gates.kind(g as usize)
     }
 
     /// The nets at the pins of a gate, in the order of the pins: 1 to 255.
@@ -151,7 +146,7 @@ impl Circuit {
         ensures args { result.now ≡ (gate_at self.now g).args }
         ensures circuit { IsCircuit self.now }
     {
-        self.gates.args(g as usize)
+        self.parts.gates.args(g as usize)
     }
 
     /// The net that a gate drives.
@@ -161,7 +156,7 @@ impl Circuit {
         ensures known { result.0 < net_count self.now }
         ensures circuit { IsCircuit self.now }
     {
-        NetId(self.inputs + self.dffs.len() as u32 + g)
+        NetId(self.parts.inputs + self.parts.dffs.len() as u32 + g)
     }
 
     /// The name of a net: the bytes as the netlist has them.
@@ -170,7 +165,7 @@ impl Circuit {
         requires { net.0 < net_count self.now }
         ensures { result.now ≡ get_or self.now.names net.0 [] }
     {
-        &self.names[net.index()]
+        &self.parts.names[net.index()]
     }
 
     /// All gates, each once, after those that drive its arguments. Their levels don't fall.

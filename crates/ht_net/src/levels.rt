@@ -1,16 +1,16 @@
 //! The levels of gates, by a walk down their arguments.
 ghost use Rattle.std.specs.Prelude.{◌≡◌, ℕ, ◌<◌, ◌+◌, ◌-◌, ◌^◌, length, get_or, IfOk};
 ghost use Rattle.ht_net.specs.Netlist.{no_net};
-ghost use Rattle.ht_net.specs.Next.{IsNext};
+ghost use Rattle.ht_net.specs.Readiness.{IsReadiness};
 ghost use Rattle.std.specs.Prelude.{OnOk, IfErr, true, false, []};
 ghost use Rattle.ht_net.specs.GateLevels.{AreKnown, IsLevelled};
-ghost use Rattle.ht_net.specs.Walk.{IsPartly, IsPath, StaySeen};
+ghost use Rattle.ht_net.specs.LevelWalk.{IsPartly, IsPath, StaySeen};
 ghost use Rattle.ht_net.specs.Cycle.{IsLevelError};
 ghost use Rattle.ht_net.specs.Tail.{IsOnPath, IsTail};
 
 use crate::NetId;
 use crate::gates::Gates;
-use std::alloc::{AllocError, AllocFailed, Global};
+use std::alloc::{AllocError, Global};
 
 /// Why there are no levels.
 #[derive(Drop)]
@@ -31,32 +31,21 @@ impl From<AllocError> for LevelError {
     }
 }
 
-impl<T: Drop> From<AllocFailed<T>> for LevelError {
-    ghost use Rattle.std.specs.Prelude.{◌≡◌};
-    ghost use Rattle.ht_net.specs.declared.levels.LevelError.TheVariants.{NoMemory};
-
-    ghost from_gives = { λ _ e. e ≡ NoMemory };
-
-    fn from(_: AllocFailed<T>) -> LevelError {
-        LevelError::NoMemory
-    }
-}
-
-/// What a gate waits for.
+/// Whether a gate can have its level.
 #[derive(Clone, Copy)]
-enum Next {
-    /// for nothing: its level
+enum Readiness {
+    /// it can: this level
     Level(u32),
-    /// for this gate's level
+    /// it waits for the level of this gate
     Gate(u32),
 }
 
 /// The first gate among a gate's arguments that has no level, or the level that these give.
-fn find_next(first: u32, levels: &[u32], args: &[NetId]) -> Next
+fn find_readiness(first: u32, levels: &[u32], args: &[NetId]) -> Readiness
     requires known { (i : ℕ) → i < length args.now → (get_or args.now i no_net).0 < first
         + length levels.now }
     requires small { (g : ℕ) → g < length levels.now → get_or levels.now g 0 < 2 ^ 32 - 1 }
-    ensures { IsNext first levels.now args.now result }
+    ensures { IsReadiness first levels.now args.now result }
 {
     let mut level = 1;
     for arg in args {
@@ -64,12 +53,12 @@ fn find_next(first: u32, levels: &[u32], args: &[NetId]) -> Next
             let gate = arg.0 - first;
             let below = levels[gate as usize];
             if below == 0 {
-                return Next::Gate(gate);
+                return Readiness::Gate(gate);
             }
             level = level.max(below + 1);
         }
     }
-    Next::Level(level)
+    Readiness::Level(level)
 }
 
 /// The end of a path from one of its gates on, last gate first.
@@ -106,19 +95,19 @@ fn visit(
     ensures error { IfErr result (IsLevelError first gates.now) }
 {
     let mut path = Vec::new(alloc);
-    path.push(root as u32)?;
+    path.push(root as u32).map_err(AllocError::from)?;
     seen[root] = true;
     while let Some(&gate) = path.last() {
-        match find_next(first, levels, gates.args(gate as usize)) {
-            Next::Level(level) => {
+        match find_readiness(first, levels, gates.args(gate as usize)) {
+            Readiness::Level(level) => {
                 levels[gate as usize] = level;
                 path.pop();
             }
-            Next::Gate(below) => {
+            Readiness::Gate(below) => {
                 if seen[below as usize] {
                     return Err(LevelError::Cycle(tail_from(alloc, &path, below)?));
                 }
-                path.push(below)?;
+                path.push(below).map_err(AllocError::from)?;
                 seen[below as usize] = true;
             }
         }

@@ -4,7 +4,7 @@ use Rattle.std.proofs.lemmas.List.{drop_more, drop_all}
 use Rattle.ht_tern.specs.declared.tern.Tern.{Tern}
 use Rattle.ht_tern.specs.declared.tern.Tern.TheVariants.{Unk}
 use Rattle.ht_tern.specs.declared.gate.Kind.{Kind}
-use Rattle.ht_tern.specs.Gate.{operation_of, polarity_of, folded, gate_value_over, gate_value, tern_operations, AllRelated, PreservesOperations, HasArity}
+use Rattle.ht_tern.specs.Gate.{operation_of, polarity_of, folded, gate_value_over, gate_value, tern_operations, AllRelated, HasArity}
 use Rattle.ht_tern.proofs.GateLaws.{gate_related, arity_positive}
 use Rattle.ht_pairs.specs.Pairs.{Pair, pair, IsMember, IsChoice, pair_operations, gate_pair, Arises}
 use Rattle.ht_pairs.specs.Results.{IsImage, IsImageOfTwo}
@@ -49,47 +49,34 @@ last_back kind s r p i (q ∷ xs) c e = absurd c
 last : (kind : Kind) (s : List Pair) (r : Pair) → Reached kind s [] r ↔ IsMember r s
 last kind s r = (λ w. last_back kind s r w.0 w.2 w.1 w.3 w.4, λ h. (r, [], h, tt, refl))
 
--- each half of a gate over pairs is the gate over that half
-abbrev GoodIs : Pair → Tern → Type 0
-GoodIs p t = p.good ≡ t
+half_list : (half : Pair → Tern) (xs : List Pair) → AllRelated (λ p t. half p ≡ t) xs (map half xs)
+half_list half [] = tt
+half_list half (x ∷ xs) = (refl, half_list half xs)
 
-abbrev FaultyIs : Pair → Tern → Type 0
-FaultyIs p t = p.faulty ≡ t
-
-good_preserved : PreservesOperations GoodIs pair_operations tern_operations
-good_preserved = record {
-  complement = λ p t h. ap tern_operations.complement h;
-  conjunction = λ p q t u h k. cc;
-  disjunction = λ p q t u h k. cc;
-  parity = λ p q t u h k. cc;
-}
-
-faulty_preserved : PreservesOperations FaultyIs pair_operations tern_operations
-faulty_preserved = record {
-  complement = λ p t h. ap tern_operations.complement h;
-  conjunction = λ p q t u h k. cc;
-  disjunction = λ p q t u h k. cc;
-  parity = λ p q t u h k. cc;
-}
-
-good_halves : (xs : List Pair) → AllRelated GoodIs xs (map (λ p. p.good) xs)
-good_halves [] = tt
-good_halves (x ∷ xs) = (refl, good_halves xs)
-
-faulty_halves : (xs : List Pair) → AllRelated FaultyIs xs (map (λ p. p.faulty) xs)
-faulty_halves [] = tt
-faulty_halves (x ∷ xs) = (refl, faulty_halves xs)
+-- a half of a gate over pairs is the gate over that half, where each operation goes half by half
+half_value : (half : Pair → Tern)
+    → ((p : Pair) → half (pair_operations.complement p) ≡ tern_operations.complement (half p))
+    → ((p q : Pair) → half (pair_operations.conjunction p q) ≡ tern_operations.conjunction (half p) (half q))
+    → ((p q : Pair) → half (pair_operations.disjunction p q) ≡ tern_operations.disjunction (half p) (half q))
+    → ((p q : Pair) → half (pair_operations.parity p q) ≡ tern_operations.parity (half p) (half q))
+    → half (pair Unk Unk) ≡ Unk → (kind : Kind) (xs : List Pair)
+    → half (gate_value_over pair_operations (pair Unk Unk) kind xs) ≡ gate_value kind (map half xs)
+half_value half complement conjunction disjunction parity blank kind xs =
+    gate_related (λ p t. half p ≡ t) pair_operations tern_operations (record {
+      complement = λ p t h. complement p ∙ ap tern_operations.complement h;
+      conjunction = λ p q t u h k. conjunction p q ∙ (λ i. tern_operations.conjunction (h i) (k i));
+      disjunction = λ p q t u h k. disjunction p q ∙ (λ i. tern_operations.disjunction (h i) (k i));
+      parity = λ p q t u h k. parity p q ∙ (λ i. tern_operations.parity (h i) (k i));
+    }) (pair Unk Unk) Unk blank kind xs (map half xs) (half_list half xs)
 
 pub gate_value_over-pairs : (kind : Kind) (xs : List Pair) → gate_value_over pair_operations (pair Unk Unk) kind xs
     ≡ gate_pair kind xs
 gate_value_over-pairs kind xs =
     let v = gate_value_over pair_operations (pair Unk Unk) kind xs in
     ap (λ g. pair g v.faulty)
-    (gate_related GoodIs pair_operations tern_operations good_preserved (pair Unk Unk) Unk refl kind xs
-    (map (λ p. p.good) xs) (good_halves xs))
+    (half_value (λ p. p.good) (λ p. refl) (λ p q. refl) (λ p q. refl) (λ p q. refl) refl kind xs)
     ∙ ap (λ f. pair (gate_value kind (map (λ p. p.good) xs)) f)
-    (gate_related FaultyIs pair_operations tern_operations faulty_preserved (pair Unk Unk) Unk refl kind xs
-    (map (λ p. p.faulty) xs) (faulty_halves xs))
+    (half_value (λ p. p.faulty) (λ p. refl) (λ p q. refl) (λ p q. refl) (λ p q. refl) refl kind xs)
 
 made : (kind : Kind) (s : List Pair) (sets : List (List Pair)) (u : List Pair)
     → ((r : Pair) → IsMember r u ↔ Folded kind (s ∷ sets) r)

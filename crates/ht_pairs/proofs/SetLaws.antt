@@ -2,13 +2,11 @@
 use Rattle.std.proofs.Common.{◌≡◌, ◌⊎◌, ◌↔◌, ℕ, Bool, true, false, List, [], ◌∷◌, ◌++◌, map, flat_map, refl, sym, ap, inl, inr}
 use Rattle.std.proofs.lemmas.Bool.{or_cases, or_left, or_right}
 use Rattle.std.proofs.lemmas.List.Elements.{filter_agree}
-use Rattle.ht_tern.specs.declared.tern.Tern.{Tern}
-use Rattle.ht_tern.specs.declared.tern.Tern.TheVariants.{Zero, One, Unk}
 use Rattle.ht_tern.specs.declared.gate.Kind.{Kind}
-use Rattle.ht_pairs.specs.Pairs.{Pair, pair, IsMember, IsChoice, gate_pair, Arises, is_member, set_of, choices, lifted_set, stuck_pair, stuck_set, all_pairs, same_pair}
+use Rattle.ht_pairs.specs.Pairs.{Pair, IsMember, IsChoice, gate_pair, Arises, is_member, set_of, choices, lifted_set, stuck_pair, stuck_set, all_pairs, same_pair}
 use Rattle.ht_pairs.specs.Members.{holds, members_of}
 use Rattle.ht_pairs.specs.Results.{IsImage}
-use Rattle.ht_pairs.proofs.PairTests.{same_pair-true, same_pair-from, in_all}
+use Rattle.ht_pairs.proofs.PairTests.{of_each, same_pair-true, same_pair-from, in_all}
 use Rattle.ht_pairs.proofs.MemberLaws.{member_holds, holds_member, filter_passes, filter_keeps}
 
 pub is_member-true : (p : Pair) (ps : List Pair) → is_member p ps ≡ true → IsMember p ps
@@ -26,6 +24,12 @@ pub agree : (a b : Bool) → (a ≡ true → b ≡ true) → (b ≡ true → a �
 agree true b h k = sym (h refl)
 agree false true h k = k refl
 agree false false h k = refl
+
+-- one pair is the set of itself
+pub set_of_single : (p : Pair) → set_of (p ∷ []) ≡ p ∷ []
+unfolding set_of
+set_of_single = of_each (λ p. set_of (p ∷ []) ≡ p ∷ [])
+    (refl, (refl, (refl, (refl, (refl, (refl, (refl, (refl, (refl, tt)))))))))
 
 pub members_of-set_of : (n : ℕ) (ps : List Pair) → ((p : Pair) → IsMember p (members_of n) ↔ IsMember p ps)
     → members_of n ≡ set_of ps
@@ -130,18 +134,6 @@ lifted_set_holds kind sets r =
     let b = arises_listed kind sets r in
     (λ h. b.1 (a.0 h), λ h. a.1 (b.0 h))
 
-set_of-one_at : (g f : Tern) → set_of (pair g f ∷ []) ≡ pair g f ∷ []
-unfolding set_of
-set_of-one_at Zero Zero = refl
-set_of-one_at Zero One = refl
-set_of-one_at Zero Unk = refl
-set_of-one_at One Zero = refl
-set_of-one_at One One = refl
-set_of-one_at One Unk = refl
-set_of-one_at Unk Zero = refl
-set_of-one_at Unk One = refl
-set_of-one_at Unk Unk = refl
-
 -- single pairs leave one choice
 choices-single : (pairs : List Pair) → choices (map (λ p. p ∷ []) pairs) ≡ pairs ∷ []
 choices-single [] = refl
@@ -151,4 +143,4 @@ pub lifted_set-single : (kind : Kind) (pairs : List Pair) → lifted_set kind (m
     ≡ gate_pair kind pairs ∷ []
 unfolding lifted_set
 lifted_set-single kind pairs = rw (choices-single pairs)
-    (set_of-one_at (gate_pair kind pairs).good (gate_pair kind pairs).faulty)
+    (set_of_single (gate_pair kind pairs))

@@ -6,10 +6,10 @@ use Rattle.ht_tern.specs.declared.tern.Tern.{Tern}
 use Rattle.ht_tern.specs.declared.tern.Tern.TheVariants.{Unk}
 use Rattle.ht_net.specs.Detection.{terns_of, unknown_state}
 use Rattle.ht_net.specs.Faults.{tern_rules}
-use Rattle.ht_net.specs.Frame.{Preserves, Rules, frame_outputs, next_state, run_outputs, run_state}
+use Rattle.ht_net.specs.Frame.{Rules, frame_outputs, next_state, run_outputs, run_state}
 use Rattle.ht_net.specs.Netlist.{Netlist}
 use Rattle.ht_net.specs.declared.fault.Fault.{Fault}
-use Rattle.ht_net.proofs.RelationLaws.{next_related}
+use Rattle.ht_net.proofs.RelationLaws.{Preserves, next_related}
 use Rattle.ht_tree.specs.Reached.{IsTernState}
 use Rattle.ht_tree.proofs.SilenceLaws.{next_long}
 

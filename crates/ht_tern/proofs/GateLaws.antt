@@ -5,8 +5,8 @@ use Rattle.ht_tern.specs.declared.tern.Tern.{Tern}
 use Rattle.ht_tern.specs.declared.tern.Tern.TheVariants.{Unk}
 use Rattle.ht_tern.specs.declared.gate.Kind.{Kind}
 use Rattle.ht_tern.specs.declared.gate.Kind.TheVariants.{And, Nand, Or, Nor, Xor, Xnor, Not, Buf}
-use Rattle.ht_tern.specs.Gate.{Operations, tern_operations, bool_operations, operation_of, polarity_of, folded, gate_value_over, gate_value, bool_gate_value, tern_of, Refines, StandsFor, AllRelated, PreservesOperations, complement_of, and_of, or_of, xor_of, HasArity}
-use Rattle.ht_tern.proofs.RefinementLaws.{refinement_preserved, bits_preserved, not_bits, and_bits, or_bits, xor_bits}
+use Rattle.ht_tern.specs.Gate.{Operations, tern_operations, bool_operations, operation_of, polarity_of, folded, gate_value_over, gate_value, bool_gate_value, tern_of, Refines, StandsFor, AllRelated, complement_of, and_of, or_of, xor_of, HasArity}
+use Rattle.ht_tern.proofs.RefinementLaws.{PreservesOperations, refinement_preserved, bits_preserved, not_bits, and_bits, or_bits, xor_bits}
 
 pub operation_related : {V W : Type 0} → (R : V → W → Type 0) (o : Operations V) (p : Operations W)
     (keeps : PreservesOperations R o p) (kind : Kind) (x u : V) (y v : W)

@@ -3,7 +3,14 @@ use Rattle.std.proofs.Common.{◌≡◌, inl, inr, Bool, true, false, refl, not,
 use Rattle.std.proofs.lemmas.Bool.{and_from, and_parts}
 use Rattle.ht_tern.specs.declared.tern.Tern.{Tern}
 use Rattle.ht_tern.specs.declared.tern.Tern.TheVariants.{Zero, One, Unk}
-use Rattle.ht_tern.specs.Gate.{tern_operations, bool_operations, tern_of, Refines, StandsFor, PreservesOperations, complement_of, and_of, or_of, xor_of, bool_xor}
+use Rattle.ht_tern.specs.Gate.{Operations, tern_operations, bool_operations, tern_of, Refines, StandsFor, complement_of, and_of, or_of, xor_of, bool_xor}
+
+-- The operations of two domains preserve a relation between their values.
+pub record PreservesOperations {V W : Type 0} (R : V → W → Type 0) (o : Operations V) (p : Operations W) : Type 0 where
+  pub complement : (x : V) (y : W) → R x y → R (o.complement x) (p.complement y)
+  pub conjunction : (x u : V) (y v : W) → R x y → R u v → R (o.conjunction x u) (p.conjunction y v)
+  pub disjunction : (x u : V) (y v : W) → R x y → R u v → R (o.disjunction x u) (p.disjunction y v)
+  pub parity : (x u : V) (y v : W) → R x y → R u v → R (o.parity x u) (p.parity y v)
 
 -- A test that is true of all values is true of each.
 abbrev pub all_terns : (Tern → Bool) → Bool

@@ -119,10 +119,3 @@ AllRelated R [] [] = Unit {0}
 AllRelated R [] (y ∷ ys) = ⊥
 AllRelated R (x ∷ xs) [] = ⊥
 AllRelated R (x ∷ xs) (y ∷ ys) = R x y × AllRelated R xs ys
-
--- The operations of two domains preserve a relation between their values.
-pub record PreservesOperations {V W : Type 0} (R : V → W → Type 0) (o : Operations V) (p : Operations W) : Type 0 where
-  pub complement : (x : V) (y : W) → R x y → R (o.complement x) (p.complement y)
-  pub conjunction : (x u : V) (y v : W) → R x y → R u v → R (o.conjunction x u) (p.conjunction y v)
-  pub disjunction : (x u : V) (y v : W) → R x y → R u v → R (o.disjunction x u) (p.disjunction y v)
-  pub parity : (x u : V) (y v : W) → R x y → R u v → R (o.parity x u) (p.parity y v)

@@ -3,8 +3,8 @@ use Rattle.std.proofs.Common.{◌≡◌, ◌≢◌, ◌<◌, ◌≤◌, ◌+◌,
 use Rattle.std.proofs.lemmas.Bool.Decides.{eqb_tells}
 use Rattle.ht_pairs.specs.Pairs.{Pair}
 use Rattle.ht_net.specs.Netlist.{net_count, first_gate_net, arg_at, no_net}
-use Rattle.ht_net.specs.Frame.{net_value_over, next_state, IsSettled}
-use Rattle.ht_net.proofs.FrameLaws.{frame_settled, settled_is_frame}
+use Rattle.ht_net.specs.Frame.{net_value_over, next_state}
+use Rattle.ht_net.proofs.FrameLaws.{IsSettled, frame_settled, settled_is_frame}
 use Rattle.ht_net.proofs.ValueLaws.{taken_same}
 use Rattle.ht_net.proofs.DepthLaws.{circuit_depth}
 use Rattle.ht_events.specs.Items.{item_at, IsReader}

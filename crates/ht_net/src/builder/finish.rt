@@ -2,6 +2,7 @@
 ghost use Rattle.std.specs.Prelude.{◌≡◌, ℕ, ◌<◌, ◌+◌, ◌++◌, length, get_or, map, IfOk, IfErr, OnOk, IfSome, IfNone, Vec};
 ghost use Rattle.std.specs.declared.alloc.Global.{Global};
 ghost use Rattle.ht_net.specs.declared.names.NameId.{NameId};
+ghost use Rattle.ht_net.specs.CircuitOf.{netlist_of};
 ghost use Rattle.ht_net.specs.Netlist.{IsCircuit};
 ghost use Rattle.ht_net.specs.Named.{named_of};
 ghost use Rattle.ht_net.specs.Draft.{IsDriven, IsName, no_name, driven_names, latch_names, gate_names};
@@ -10,11 +11,12 @@ ghost use Rattle.ht_net.specs.Cycle.{IsLevelError};
 ghost use Rattle.ht_net.specs.Finish.{RefusesFinish};
 
 use super::{Builder, Driver};
+use crate::circuit::Parts;
 use crate::gates::Gates;
 use crate::levels::LevelError;
 use crate::{Circuit, NameId, NetError, NetId};
 use ht_items::Items;
-use std::alloc::{AllocError, AllocFailed, Global};
+use std::alloc::{AllocError, Global};
 
 impl Builder {
     /// The circuit.
@@ -65,12 +67,22 @@ impl Builder {
         ensures error { IfErr result
             (IsLevelError (length self.now.inputs + length self.now.dffs) (draft_gates self.now)) }
     {
-        let inputs = self.inputs.len() as u32;
-        let dffs = self.data_nets()?;
-        let gates = self.net_gates()?;
-        let outputs = self.nets_of(self.outputs.as_slice())?;
-        let names = self.net_names()?;
-        Circuit::new(self.alloc, inputs, dffs, gates, outputs, names)
+        let parts = self.parts()?;
+        Circuit::new(self.alloc, parts)
+    }
+
+    /// The parts of the circuit.
+    fn parts(&self) -> Result<Parts, AllocError>
+        requires driven { AllDriven self.now }
+        ensures { IfOk result (λ parts. netlist_of parts ≡ circuit_of self.now) }
+    {
+        Ok(Parts {
+            inputs: self.inputs.len() as u32,
+            dffs: self.data_nets()?,
+            gates: self.net_gates()?,
+            outputs: self.nets_of(self.outputs.as_slice())?,
+            names: self.net_names()?,
+        })
     }
 
     /// The net of a name.

@@ -7,7 +7,7 @@ use Rattle.ht_net.specs.Built.{draft_gates, AllDriven}
 use Rattle.ht_net.specs.Cycle.{IsGateCycle}
 use Rattle.ht_net.specs.Finish.{IsNameCycle}
 use Rattle.ht_net.proofs.RotateLaws.{least_cycle_ok, least_begins_ok}
-use Rattle.ht_net.proofs.CircuitLaws.{name_cycle}
+use Rattle.ht_net.proofs.NameCycleLaws.{name_cycle}
 use Rattle.ht_net.proofs.builder.Builder.cycle_names.Goals as goal
 
 pub returns : goal.returns
@@ -29,7 +29,7 @@ returns c =
     let named : IsNameCycle c.args.self.now c.loop-gate.names.items = subst
     (λ (d : Draft). IsNameCycle d c.loop-gate.names.items) c.self.view_is
     (subst (λ (l : List NameId). IsNameCycle (draft_of c.self.inside) l) (sym names)
-    (name_cycle (draft_of c.self.inside) c.self.inside.drivers.items i.inputs i.dffs i.gates all i.draft
+    (name_cycle (draft_of c.self.inside) c.self.inside.drivers.items i.drivers all i.draft
     c.args.gates.now cycle)) in
     record {
       cycle = least_cycle_ok c.args.self.now c.loop-gate.names.items c.deref.result.now c.least_first.result

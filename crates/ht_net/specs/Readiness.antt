@@ -1,11 +1,11 @@
 -- What a gate waits for.
 use Rattle.std.specs.Prelude.{◌≡◌, ℕ, List, ◌+◌, ◌<◌, suc, length, get_or}
 use Rattle.ht_net.specs.declared.net.NetId.{NetId}
-use Rattle.ht_net.specs.declared.levels.Next.{Next}
-use Rattle.ht_net.specs.declared.levels.Next.TheVariants.{Level, Gate}
+use Rattle.ht_net.specs.declared.levels.Readiness.{Readiness}
+use Rattle.ht_net.specs.declared.levels.Readiness.TheVariants.{Level, Gate}
 use Rattle.ht_net.specs.Netlist.{no_net}
 use Rattle.ht_net.specs.GateLevels.{highest_level}
-use Rattle.ht_net.specs.Walk.{AreReady}
+use Rattle.ht_net.specs.LevelWalk.{AreReady}
 
 -- a gate among the arguments that has no level
 pub record IsWaiting (first : ℕ) (levels : List ℕ) (args : List NetId) (gate : ℕ) : Type 0 where
@@ -18,6 +18,6 @@ pub record HasLevel (first : ℕ) (levels : List ℕ) (args : List NetId) (level
   pub ready : AreReady first levels args
   pub exact : level ≡ suc (highest_level first levels args)
 
-abbrev pub IsNext : ℕ → List ℕ → List NetId → Next → Type 0
-IsNext first levels args (Level level) = HasLevel first levels args level
-IsNext first levels args (Gate gate) = IsWaiting first levels args gate
+abbrev pub IsReadiness : ℕ → List ℕ → List NetId → Readiness → Type 0
+IsReadiness first levels args (Level level) = HasLevel first levels args level
+IsReadiness first levels args (Gate gate) = IsWaiting first levels args gate

@@ -2,23 +2,17 @@
 use Rattle.std.specs.Prelude.{◌≡◌, ◌≢◌, ℕ, List, Bool, true, false, ◌-◌, ◌+◌, ◌<◌, ◌≤◌, suc, cond, eqb, length, get_or}
 use Rattle.std.specs.List.{sum_by}
 use Rattle.ht_net.specs.declared.net.NetId.{NetId}
-use Rattle.ht_net.specs.Netlist.{Gate, no_net}
-use Rattle.ht_net.specs.GateLevels.{args_of, highest_level}
+use Rattle.ht_net.specs.Netlist.{Gate, no_net, args_of}
+use Rattle.ht_net.specs.GateLevels.{highest_level}
 use Rattle.ht_net.specs.Lists.{AllDiffer}
 use Rattle.ht_net.specs.Cycle.{ReadsGate}
 
 abbrev pub one_if_zero : ℕ → ℕ
 one_if_zero n = cond (eqb n 0) 1 0
 
-abbrev pub one_if_false : Bool → ℕ
-one_if_false b = cond b 0 1
-
--- how many gates have no level yet, and how many are not seen yet
+-- how many gates have no level yet
 abbrev pub open_count : List ℕ → ℕ
 open_count levels = sum_by one_if_zero levels
-
-abbrev pub unseen_count : List Bool → ℕ
-unseen_count seen = sum_by one_if_false seen
 
 -- each argument that is a gate has a level
 pub record AreReady (first : ℕ) (levels : List ℕ) (args : List NetId) : Type 0 where
