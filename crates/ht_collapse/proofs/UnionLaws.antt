@@ -35,6 +35,13 @@ set_keeps P numbers i value here others j inside = elim (cases_eq j i) [
   | inr ne ↦ subst (P j) (sym (get_or-set_other numbers i j value 0 ne)) (others j inside)
 ]
 
+-- What uniting both faults of a pin's stem gives.
+pub record AreUnited (c : Netlist) (g i : ℕ) (leaders all : List ℕ) : Type 0 where
+  pub after : StayInClass c leaders → StayInClass c all
+  pub this : length leaders ≡ 2 * net_count c → PinJoins c all g i
+  pub pins : length leaders ≡ 2 * net_count c → (k : ℕ) → PinJoins c leaders g k → PinJoins c all g k
+  pub others : OthersStay c leaders all g
+
 -- pin i of gate g, whose net has one load
 module _ (c : Netlist) (circuit : IsCircuit c) (g i : ℕ) (inside : g < length c.gates)
     (pin : i < length (gate_at c g).args) (single : is_fanout c (arg_at c g i) ≡ false) where
@@ -155,14 +162,14 @@ module _ (c : Netlist) (circuit : IsCircuit c) (g i : ℕ) (inside : g < length 
   abbrev both : List ℕ → List ℕ
   both leaders = unites true (unites false leaders)
 
-  pub united_both : (x : ℕ) → x ≡ arg_at c g i → (leaders some all : List ℕ) → some
+  united_both : (x : ℕ) → x ≡ arg_at c g i → (leaders some all : List ℕ) → some
       ≡ united c g (stem_number x false) (output_value c g false) leaders
       → all ≡ united c g (stem_number x true) (output_value c g true) some → all ≡ both leaders
   united_both x is leaders some all first second =
       second ∙ (ap (λ (n : ℕ). united c g (stem_number n true) (output_value c g true) some) is
       ∙ ap (unites true) (first ∙ ap (λ (n : ℕ). united c g (stem_number n false) (output_value c g false) leaders) is))
 
-  pub both_stay : (leaders : List ℕ) → StayInClass c leaders → StayInClass c (both leaders)
+  both_stay : (leaders : List ℕ) → StayInClass c leaders → StayInClass c (both leaders)
   both_stay leaders h = unites_stay true (unites false leaders) (unites_stay false leaders h)
 
   by_value : (leaders : List ℕ) (k : ℕ) → ValueJoins leaders k false → ValueJoins leaders k true
@@ -174,13 +181,13 @@ module _ (c : Netlist) (circuit : IsCircuit c) (g i : ℕ) (inside : g < length 
       go false w alone values = low w alone values
       go true w alone values = high w alone values
 
-  pub both_join : (leaders : List ℕ) → length leaders ≡ 2 * net_count c → PinJoins c (both leaders) g i
+  both_join : (leaders : List ℕ) → length leaders ≡ 2 * net_count c → PinJoins c (both leaders) g i
   both_join leaders long =
       let long' : length (unites false leaders) ≡ 2 * net_count c = unites_length false leaders ∙ long in
       by_value (both leaders) i (unites_keep true (unites false leaders) long' i false (unites_join false leaders long))
       (unites_join true (unites false leaders) long')
 
-  pub both_keep : (leaders : List ℕ) → length leaders ≡ 2 * net_count c → (k : ℕ) → PinJoins c leaders g k
+  both_keep : (leaders : List ℕ) → length leaders ≡ 2 * net_count c → (k : ℕ) → PinJoins c leaders g k
       → PinJoins c (both leaders) g k
   both_keep leaders long k old =
       let long' : length (unites false leaders) ≡ 2 * net_count c = unites_length false leaders ∙ long in
@@ -190,8 +197,20 @@ module _ (c : Netlist) (circuit : IsCircuit c) (g i : ℕ) (inside : g < length 
       (unites_keep true (unites false leaders) long' k true
       (unites_keep false leaders long k true (λ w. old.joins true w)))
 
-  pub both_others : (leaders : List ℕ) → OthersStay c leaders (both leaders) g
+  both_others : (leaders : List ℕ) → OthersStay c leaders (both leaders) g
   both_others leaders = record {
     stay = λ k ne. unites_others true (unites false leaders) k (ne i true pin) ∙ unites_others false
         leaders k (ne i false pin);
   }
+
+  pub united_pin : (x : ℕ) → x ≡ arg_at c g i → (leaders some all : List ℕ)
+      → some ≡ united c g (stem_number x false) (output_value c g false) leaders
+      → all ≡ united c g (stem_number x true) (output_value c g true) some → AreUnited c g i leaders all
+  united_pin x is leaders some all first second =
+      subst (λ (l : List ℕ). AreUnited c g i leaders l) (sym (united_both x is leaders some all first second))
+      (record {
+        after = both_stay leaders;
+        this = both_join leaders;
+        pins = both_keep leaders;
+        others = both_others leaders;
+      })

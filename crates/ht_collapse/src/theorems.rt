@@ -11,6 +11,7 @@ ghost use Rattle.ht_collapse.specs.Alike.{RunAlike};
 
 /// Faults of one class give equal outputs and equal states in every run, from every common start, over three values
 /// and over two. So a list of vectors detects them at the same first place.
+#[tactic(auto, using(crate::proofs::RunLaws::tern_members_alike, crate::proofs::RunLaws::bool_members_alike, crate::proofs::RunLaws::members_detected,))]
 pub fn members_run_alike()
     ensures terns { (c : Netlist) (f g : Fault) → IsCircuit c → SameClass c f g
         → RunAlike c (tern_rules (Some f)) (tern_rules (Some g)) }
@@ -23,6 +24,7 @@ pub fn members_run_alike()
 
 /// A circuit has one list of representatives, and two faults have one representative exactly where they are in one
 /// class. A representative is its own.
+#[tactic(auto, using(crate::proofs::ClassLaws::one_list, crate::proofs::ClassLaws::same_representative, crate::proofs::ClassLaws::own_representative,))]
 pub fn classes_are_determined()
     ensures one_list { (c : Netlist) (representatives others : List ℕ)
         → AreClasses c representatives → AreClasses c others → representatives ≡ others }

@@ -1,8 +1,8 @@
 -- First detections, class by class.
-use Rattle.std.proofs.Common.{◌≡◌, ◌<◌, ◌≤◌, ◌+◌, inl, inr, ℕ, List, Bool, length, get_or, set, Option, Some, None, replicate, sym, ◌∙◌, ap, subst, arith}
+use Rattle.std.proofs.Common.{◌≡◌, ◌<◌, ◌≤◌, ◌+◌, inl, inr, ℕ, List, Bool, length, get_or, set, Option, None, sym, ◌∙◌, ap, subst, arith}
 use Rattle.std.specs.Option.{ForSome}
-use Rattle.std.proofs.lemmas.Bool.{cases_eq, cases_lt}
-use Rattle.std.proofs.lemmas.List.{length-set, get_or-set_same, get_or-set_other, get_or-replicate, get_or_past}
+use Rattle.std.proofs.lemmas.Bool.{cases_eq}
+use Rattle.std.proofs.lemmas.List.{length-set, get_or-set_same, get_or-set_other}
 use Rattle.ht_net.specs.declared.place.Place.{Place}
 use Rattle.ht_net.specs.Netlist.{Netlist}
 use Rattle.ht_net.specs.Detection.{IsFirstDetection}
@@ -10,7 +10,15 @@ use Rattle.ht_faults.specs.Sites.{faults_of}
 use Rattle.ht_collapse.specs.Classes.{fault_at, own_representatives}
 use Rattle.ht_collapse.proofs.OwnLaws.{representative_is_own}
 use Rattle.ht_serial.specs.Places.{IsWithin}
-use Rattle.ht_grade.specs.Detections.{place_at, AreFirstDetections, AreFirstSoFar}
+use Rattle.ht_grade.specs.Detections.{place_at, AreFirstDetections, AreWithin}
+
+-- the first detections of the first k classes
+pub record AreFirstSoFar (c : Netlist) (representatives : List ℕ) (list : List (List Bool)) (k : ℕ)
+    (places : List (Option Place)) : Type 0 where
+  pub each : length places ≡ length (faults_of c)
+  pub first : (j : ℕ) → j < k → IsFirstDetection c (fault_at c (get_or (own_representatives representatives) j 0)) list
+      (place_at places (get_or (own_representatives representatives) j 0))
+  pub within : AreWithin c list places
 
 -- one class more: its representative's entry is written
 pub one_more : (c : Netlist) (representatives : List ℕ) (list : List (List Bool)) (places : List (Option Place))

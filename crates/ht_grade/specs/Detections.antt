@@ -5,7 +5,7 @@ use Rattle.ht_net.specs.declared.place.Place.{Place}
 use Rattle.ht_net.specs.Netlist.{Netlist}
 use Rattle.ht_net.specs.Detection.{IsFirstDetection}
 use Rattle.ht_faults.specs.Sites.{faults_of}
-use Rattle.ht_collapse.specs.Classes.{fault_at, is_representative, own_representatives}
+use Rattle.ht_collapse.specs.Classes.{fault_at, is_representative}
 use Rattle.ht_serial.specs.Places.{IsWithin}
 
 abbrev pub place_at : List (Option Place) → ℕ → Option Place
@@ -22,11 +22,3 @@ pub record AreFirstDetections (c : Netlist) (representatives : List ℕ) (list :
 -- each place is an output of the circuit, at a vector of the list
 abbrev pub AreWithin : Netlist → List (List Bool) → List (Option Place) → Type 0
 AreWithin c list places = (i : ℕ) → ForSome (place_at places i) (IsWithin c list)
-
--- the first detections of the first k classes
-pub record AreFirstSoFar (c : Netlist) (representatives : List ℕ) (list : List (List Bool)) (k : ℕ)
-    (places : List (Option Place)) : Type 0 where
-  pub each : length places ≡ length (faults_of c)
-  pub first : (j : ℕ) → j < k → IsFirstDetection c (fault_at c (get_or (own_representatives representatives) j 0)) list
-      (place_at places (get_or (own_representatives representatives) j 0))
-  pub within : AreWithin c list places

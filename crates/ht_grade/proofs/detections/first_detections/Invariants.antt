@@ -1,4 +1,4 @@
-use Rattle.ht_grade.specs.Detections.{AreFirstSoFar}
+use Rattle.ht_grade.proofs.DetectionLaws.{AreFirstSoFar}
 use Rattle.ht_grade.proofs.detections.first_detections.Given as goal
 
 abbrev pub invariant-loop-i : goal.invariant-loop-i
