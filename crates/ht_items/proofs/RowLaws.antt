@@ -55,10 +55,10 @@ ends_push start (end ∷ ends) items more are =
 -- One more row: where it ends is added to the ends, and its items to the items.
 pub record IsRowMore {T : Type 0} (ends : List ℕ) (items more : List T) (ends' : List ℕ) (items' : List T) : Type 0
   where
-  pub end : ℕ
-  pub is_end : end ≡ length items + length more
-  pub ends_are : ends' ≡ ends ++ end ∷ []
-  pub items_are : items' ≡ items ++ more
+    pub end : ℕ
+    pub is_end : end ≡ length items + length more
+    pub ends_are : ends' ≡ ends ++ end ∷ []
+    pub items_are : items' ≡ items ++ more
 
 pub row_more : {T : Type 0} → (ends : List ℕ) (items more : List T) (ends' : List ℕ) (items' : List T)
     → IsRowMore ends items more ends' items' → AreEnds 0 ends items
