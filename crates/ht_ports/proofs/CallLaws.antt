@@ -1,44 +1,50 @@
 -- Runs of calls.
-use Rattle.std.proofs.Common.{◌≡◌, ℕ, ◌+◌, List, [], ◌++◌, take, drop, refl, sym, ◌∙◌, ap, subst, arith, append_assoc, Some, None, IsTrue}
+use Rattle.std.proofs.Common.{◌≡◌, ℕ, ◌+◌, List, [], ◌++◌, take, drop, refl, sym, ◌∙◌, ap, subst, arith, append_assoc, Some, None, Bool, IsTrue}
 use lib.Seq.{take-add}
 use Rattle.std.specs.declared.option.Option.{Option}
 use Rattle.std.specs.Io.KnownBytes.{append_known, prepend_known}
-use Rattle.ht_ports.specs.Desk.{DeskView, InCall, OutCall, Writes, Added, IsOtherName}
+use Rattle.ht_ports.specs.Desk.{DeskView, IsAfter, ChangesAt, TurnsOn, InCall, OutCall, Writes, Added, IsOtherName}
 use Rattle.ht_ports.specs.declared.ports.InPort.{InPort}
 use Rattle.ht_ports.specs.declared.ports.OutPort.{OutPort}
 
+pub after_trans : {a b c : DeskView} → IsAfter a b → IsAfter b c → IsAfter a c
+after_trans p q = record {
+  in_faults = omega (arith, p.in_faults, q.in_faults);
+  out_faults = omega (arith, p.out_faults, q.out_faults);
+  steady = q.steady ∙ p.steady;
+}
+
+changes_trans : {Port : Type 0} {port : Port} {x y z : Port → Option (List ℕ)} → ChangesAt port x y → ChangesAt port y z
+    → ChangesAt port x z
+changes_trans p q = record { tells = q.tells ∙ p.tells; others = λ o ne. q.others o ne ∙ p.others o ne }
+
+turns_trans : {Port : Type 0} {port : Port} {x y z : Port → Bool} → TurnsOn port x y → TurnsOn port y z
+    → TurnsOn port x z
+turns_trans p q = record { others = λ o ne. q.others o ne ∙ p.others o ne; stays = λ on. q.stays (p.stays on) }
+
 pub in_call_trans : (port : InPort) (a b c : DeskView) → InCall port a b → InCall port b c → InCall port a c
 in_call_trans port a b c p q = record {
-  in_later = omega arith;
-  out_later = omega arith;
-  steady = q.steady ∙ p.steady;
+  after = after_trans p.after q.after;
   file = q.file ∙ p.file;
   written = q.written ∙ p.written;
   named = q.named ∙ p.named;
   is_created = q.is_created ∙ p.is_created;
-  tells = q.tells ∙ p.tells;
-  others_left = λ o ne. q.others_left o ne ∙ p.others_left o ne;
-  others_open = λ o ne. q.others_open o ne ∙ p.others_open o ne;
-  stays_open = λ h. q.stays_open (p.stays_open h);
+  left = changes_trans p.left q.left;
+  is_open = turns_trans p.is_open q.is_open;
 }
 
 -- the second call keeps the port's name
 pub out_call_trans : (port : OutPort) (a b c : DeskView) → OutCall port a b → OutCall port b c → c.named port
     ≡ b.named port → OutCall port a c
 out_call_trans port a b c p q same = record {
-  in_later = omega arith;
-  out_later = omega arith;
-  steady = q.steady ∙ p.steady;
+  after = after_trans p.after q.after;
   left = q.left ∙ p.left;
   is_open = q.is_open ∙ p.is_open;
-  tells_written = q.tells_written ∙ p.tells_written;
-  tells_name = q.tells_name ∙ p.tells_name;
-  others_written = λ o ne. q.others_written o ne ∙ p.others_written o ne;
-  others_named = λ o ne. q.others_named o ne ∙ p.others_named o ne;
-  others_created = λ o ne. q.others_created o ne ∙ p.others_created o ne;
-  stays_created = λ h. q.stays_created (p.stays_created h);
+  written = changes_trans p.written q.written;
+  named = changes_trans p.named q.named;
+  is_created = turns_trans p.is_created q.is_created;
   tells_files = λ n. q.tells_files n ∙ p.tells_files n;
-  keeps_files = λ s n h. q.keeps_files (subst IsTrue (sym p.steady) s) n (p.keeps_files s n h);
+  keeps_files = λ s n h. q.keeps_files (subst IsTrue (sym p.after.steady) s) n (p.keeps_files s n h);
   other_files = λ n other. q.other_files n other ∙ p.other_files n
       (λ file. subst (λ (o : Option (List ℕ)). IsOtherName o n) same (other file));
 }

@@ -7,24 +7,24 @@ use Rattle.ht_ports.specs.Desk.{DeskView}
 use Rattle.ht_ports.specs.Lines.{LinesView, Next, Gives, GivesNone}
 use Rattle.ht_ports.specs.declared.lines.LineFault.{LineFault}
 
+-- what an answer that isn't an error says
+abbrev Answers : LinesView → LinesView → DeskView → DeskView → Option (Bor (List ℕ)) → Type 0
+Answers old new a b o = MatchOption o (GivesNone old new a b) (λ line. Gives line.now old new a b)
+
+next_ok : (old new : LinesView) (a b : DeskView) (result : Result (Option (Bor (List ℕ))) LineFault)
+    (o : Option (Bor (List ℕ)))
+    → Next old new a b result → result ≡ Ok o → Answers old new a b o
+next_ok old new a b result o next is =
+    subst (λ (r : Result (Option (Bor (List ℕ))) LineFault). IfOk r (Answers old new a b)) is next.answer
+
 pub next_some : (old new : LinesView) (a b : DeskView) (result : Result (Option (Bor (List ℕ))) LineFault)
     (o : Option (Bor (List ℕ))) (line : Bor (List ℕ))
     → Next old new a b result → result ≡ Ok o → o ≡ Some line → Gives line.now old new a b
 next_some old new a b result o line next is some =
-    let answer = next.answer in
-    let P : Result (Option (Bor (List ℕ))) LineFault
-    → Type 0 = λ r. IfOk r (λ o. MatchOption o (GivesNone old new a b) (λ line. Gives line.now old new a b)) in
-    let Q : Option (Bor (List ℕ)) → Type 0 = λ o. MatchOption o (GivesNone old new a b)
-    (λ line. Gives line.now old new a b) in
-    subst Q some (subst P is answer)
+    subst (Answers old new a b) some (next_ok old new a b result o next is)
 
 pub next_none : (old new : LinesView) (a b : DeskView) (result : Result (Option (Bor (List ℕ))) LineFault)
     (o : Option (Bor (List ℕ)))
     → Next old new a b result → result ≡ Ok o → o ≡ None → GivesNone old new a b
 next_none old new a b result o next is none =
-    let answer = next.answer in
-    let P : Result (Option (Bor (List ℕ))) LineFault
-    → Type 0 = λ r. IfOk r (λ o. MatchOption o (GivesNone old new a b) (λ line. Gives line.now old new a b)) in
-    let Q : Option (Bor (List ℕ)) → Type 0 = λ o. MatchOption o (GivesNone old new a b)
-    (λ line. Gives line.now old new a b) in
-    subst Q none (subst P is answer)
+    subst (Answers old new a b) none (next_ok old new a b result o next is)
