@@ -1,5 +1,5 @@
 -- One line further.
-use Rattle.std.proofs.Common.{◌≡◌, inl, inr, ℕ, List, [], take, drop, Some, None, take-append-drop, sym, ◌∙◌, ap, subst, arith}
+use Rattle.std.proofs.Common.{◌≡◌, ◌≤◌, inl, inr, ℕ, List, [], take, drop, length, Some, None, take-append-drop, sym, ◌∙◌, ap, subst, arith}
 use Rattle.std.proofs.lemmas.List.{drop_all, length-take-le}
 use Rattle.std.specs.Prelude.{MatchOption}
 use Rattle.std.specs.declared.option.Option.{Option}
@@ -8,7 +8,7 @@ use Rattle.ht_ports.specs.declared.ports.InPort.{InPort}
 use Rattle.ht_ports.specs.Desk.{DeskView}
 use Rattle.ht_ports.specs.LineRule.{NextPiece, NextLine}
 use Rattle.ht_ports.specs.Buffer.{KeepsRest, HasNone, IsFirstLf}
-use Rattle.ht_ports.specs.LineEnd.{EndsLine, limit_of}
+use Rattle.ht_ports.specs.LineEnd.{EndsLine, MayBeLine}
 use Rattle.ht_ports.proofs.CallLaws.{prepend_known_more, prepend_known_nil}
 
 -- what `gather` found
@@ -20,12 +20,13 @@ at_end_nil left bytes none e = subst (λ (l : List ℕ). IsAtEnd (prepend_known 
     (subst IsAtEnd (sym (prepend_known_nil left)) e)
 
 pub gives_next : (port : InPort) (max_len bytes_read : ℕ) (first bytes : List ℕ) (a b : DeskView) (found : Option ℕ)
-    (line taken : ℕ)
-    → KeepsRest port first bytes a b → Found port (limit_of max_len bytes_read) bytes b found
+    (line taken limit : ℕ)
+    → ((n : ℕ) → MayBeLine max_len bytes_read n → n ≤ limit)
+    → KeepsRest port first bytes a b → Found port limit bytes b found
     → EndsLine max_len bytes_read bytes line taken found
     → NextLine (take line bytes) taken (prepend_known first (a.left port))
     (prepend_known (drop taken bytes) (b.left port))
-gives_next port max_len bytes_read first bytes a b found line taken keeps lf line_end =
+gives_next port max_len bytes_read first bytes a b found line taken limit enough keeps lf line_end =
     record {
       piece = line_end.piece;
       taken = take taken bytes;
@@ -39,7 +40,7 @@ gives_next port max_len bytes_read first bytes a b found line taken keeps lf lin
     took = sym keeps.rest ∙ ap (λ l. prepend_known l (b.left port)) (sym (take-append-drop taken bytes)) ∙ sym
         (prepend_known_more (b.left port) (take taken bytes) (drop taken bytes))
 
-    next : (found : Option ℕ) → Found port (limit_of max_len bytes_read) bytes b found
+    next : (found : Option ℕ) → Found port limit bytes b found
         → (c : EndsLine max_len bytes_read bytes line taken found)
         → NextPiece c.piece (take taken bytes) (prepend_known first (a.left port))
         (prepend_known (drop taken bytes) (b.left port))
@@ -51,6 +52,6 @@ gives_next port max_len bytes_read first bytes a b found line taken keeps lf lin
         c.ends.0,
         c.ends.1,
         at_end_nil (b.left port) (drop taken bytes)
-            (drop_all taken bytes (omega (arith, c.ends.2))) (lf.why c.few),
+            (drop_all taken bytes (omega (arith, c.ends.2))) (lf.why (enough (length bytes) c.few)),
       );
     }

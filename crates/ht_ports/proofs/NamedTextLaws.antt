@@ -7,27 +7,27 @@ use Rattle.std.specs.Option.{ForSome, option_or}
 use Rattle.std.proofs.lemmas.List.{take_more}
 use Rattle.std.proofs.lemmas.Slice.Eq.{bytes_eq-Decides}
 use Rattle.ht_ports.specs.NamedTexts.{text_named, bytes_at, opened_in}
-use Rattle.ht_ports.specs.declared.clean.Text.{Text}
+use Rattle.ht_ports.specs.declared.clean.NamedText.{NamedText}
 
-pub bytes_in : (texts : List Text) (k : ℕ) (d : Text) → k < length texts → bytes_at texts k
+pub bytes_in : (texts : List NamedText) (k : ℕ) (d : NamedText) → k < length texts → bytes_at texts k
     ≡ (get_or texts k d).bytes.items
 bytes_in [] k d lt = absurd (omega arith)
 bytes_in (t ∷ texts) zero d lt = refl
 bytes_in (t ∷ texts) (suc k) d lt = bytes_in texts k d (omega arith)
 
-pub bytes_past : (texts : List Text) (k : ℕ) → length texts ≤ k → bytes_at texts k ≡ []
+pub bytes_past : (texts : List NamedText) (k : ℕ) → length texts ≤ k → bytes_at texts k ≡ []
 bytes_past [] k le = refl
 bytes_past (t ∷ texts) zero le = absurd (omega arith)
 bytes_past (t ∷ texts) (suc k) le = bytes_past texts k (omega arith)
 
 -- a new text takes the place of no other
-pub bytes_push : (texts : List Text) (new : Text) (k : ℕ) → k < length texts → bytes_at (texts ++ new ∷ []) k
+pub bytes_push : (texts : List NamedText) (new : NamedText) (k : ℕ) → k < length texts → bytes_at (texts ++ new ∷ []) k
     ≡ bytes_at texts k
 bytes_push [] new k lt = absurd (omega arith)
 bytes_push (t ∷ texts) new zero lt = refl
 bytes_push (t ∷ texts) new (suc k) lt = bytes_push texts new k (omega arith)
 
-pub opened_push : (texts : List Text) (new : Text) (opened : Option ℕ) → ForSome opened (λ k. k < length texts)
+pub opened_push : (texts : List NamedText) (new : NamedText) (opened : Option ℕ) → ForSome opened (λ k. k < length texts)
     → opened_in (texts ++ new ∷ []) opened ≡ opened_in texts opened
 opened_push texts new None there = refl
 opened_push texts new (Some k) there = bytes_push texts new k (there k refl)
@@ -38,7 +38,7 @@ or_if true x y z = refl
 or_if false x y z = refl
 
 -- a new text counts before all others
-pub named_push : (texts : List Text) (new : Text) (name : List ℕ)
+pub named_push : (texts : List NamedText) (new : NamedText) (name : List ℕ)
     → text_named (texts ++ new ∷ []) name
     ≡ (if bytes_eq (string_bytes new.name) name then Some new.bytes.items else text_named texts name)
 named_push [] new name = refl
@@ -55,37 +55,37 @@ if_false : (b : Bool) (x y : Option (List ℕ)) → b ≡ false → (if b then x
 if_false false x y e = refl
 if_false true x y e = cc
 
-pub named_new : (texts : List Text) (new : Text) (name : List ℕ) → bytes_eq (string_bytes new.name) name ≡ true
+pub named_new : (texts : List NamedText) (new : NamedText) (name : List ℕ) → bytes_eq (string_bytes new.name) name ≡ true
     → text_named (texts ++ new ∷ []) name ≡ Some new.bytes.items
 named_new texts new name is = named_push texts new name ∙ if_true _ _ _ is
 
-pub named_other : (texts : List Text) (new : Text) (name : List ℕ) → bytes_eq (string_bytes new.name) name ≡ false
+pub named_other : (texts : List NamedText) (new : NamedText) (name : List ℕ) → bytes_eq (string_bytes new.name) name ≡ false
     → text_named (texts ++ new ∷ []) name ≡ text_named texts name
 named_other texts new name is = named_push texts new name ∙ if_false _ _ _ is
 
-one_more : (texts : List Text) (name : List ℕ) (i : ℕ) (d : Text) → i < length texts
+one_more : (texts : List NamedText) (name : List ℕ) (i : ℕ) (d : NamedText) → i < length texts
     → text_named (take (i + 1) texts) name ≡ text_named (take i texts ++ get_or texts i d ∷ []) name
-one_more texts name i d lt = ap (λ (l : List Text). text_named l name) (take_more texts i d lt)
+one_more texts name i d lt = ap (λ (l : List NamedText). text_named l name) (take_more texts i d lt)
 
 -- among the first texts, where the last of them has this name
-pub named_here : (texts : List Text) (name : List ℕ) (i : ℕ) (d : Text) → i < length texts
+pub named_here : (texts : List NamedText) (name : List ℕ) (i : ℕ) (d : NamedText) → i < length texts
     → bytes_eq (string_bytes (get_or texts i d).name) name ≡ true
     → text_named (take (i + 1) texts) name ≡ Some (bytes_at texts i)
 named_here texts name i d lt is = one_more texts name i d lt ∙ named_new (take i texts) (get_or texts i d) name is ∙ ap
     Some (sym (bytes_in texts i d lt))
 
 -- and where it has another
-pub named_before : (texts : List Text) (name : List ℕ) (i : ℕ) (d : Text) → i < length texts
+pub named_before : (texts : List NamedText) (name : List ℕ) (i : ℕ) (d : NamedText) → i < length texts
     → bytes_eq (string_bytes (get_or texts i d).name) name ≡ false
     → text_named (take (i + 1) texts) name ≡ text_named (take i texts) name
 named_before texts name i d lt is = one_more texts name i d lt ∙ named_other (take i texts) (get_or texts i d) name is
 
 -- a text that is put is found under its name
-pub named_put : (texts : List Text) (new : Text) (name : List ℕ) → string_bytes new.name ≡ name
+pub named_put : (texts : List NamedText) (new : NamedText) (name : List ℕ) → string_bytes new.name ≡ name
     → text_named (texts ++ new ∷ []) name ≡ Some new.bytes.items
 named_put texts new name is = named_new texts new name (grind (arith, bytes_eq-Decides))
 
 -- and changes what is found under no other
-pub named_kept : (texts : List Text) (new : Text) (name : List ℕ) → name ≢ string_bytes new.name
+pub named_kept : (texts : List NamedText) (new : NamedText) (name : List ℕ) → name ≢ string_bytes new.name
     → text_named (texts ++ new ∷ []) name ≡ text_named texts name
 named_kept texts new name other = named_other texts new name (grind (arith, bytes_eq-Decides))

@@ -7,7 +7,7 @@ use Rattle.std.specs.Prelude.{map}
 use Rattle.std.specs.declared.option.Option.{Option}
 use Rattle.std.specs.Io.KnownBytes.{IsAtEnd}
 use Rattle.ht_ports.specs.LineRule.{before_first_piece, HasNoLf, NextLine, lines_of, pieces_of, without_cr, first_piece, first_through}
-use Rattle.ht_ports.proofs.LineEndLaws.{pieces-lf, pieces-last}
+use Rattle.ht_ports.proofs.PieceLaws.{pieces-lf, pieces-last}
 
 -- the first line of a text, and the rest
 pub record SplitsOff (text line : List ℕ) (count : ℕ) (rest : List ℕ) : Type 0 where

@@ -31,10 +31,18 @@ abbrev pub first_through : List ℕ → List ℕ
 first_through [] = []
 first_through (x ∷ text) = if x == 10 then x ∷ [] else x ∷ first_through text
 
--- Of a text that stands after some bytes: its first line is too long, or ends after the greatest length of a text.
+-- the greatest length of a text, in bytes
+abbrev pub max_text_bytes : ℕ
+max_text_bytes = 2 ^ 62
+
+-- the line of a piece is too long, or ends after the greatest length of a text
+abbrev pub IsTooLongPiece : ℕ → ℕ → List ℕ → Type 0
+IsTooLongPiece max_len end piece = (max_len < length (without_cr piece)) ⊎ (max_text_bytes < end)
+
+-- the same of the first line of a text that stands after some bytes
 abbrev pub IsTooLongLine : ℕ → ℕ → List ℕ → Type 0
-IsTooLongLine max_len bytes_read text = (max_len < length (without_cr (first_piece text)))
-    ⊎ (2 ^ 62 < bytes_read + length (first_through text))
+IsTooLongLine max_len bytes_read text =
+    IsTooLongPiece max_len (bytes_read + length (first_through text)) (first_piece text)
 
 -- ---- one line at a time, where a text may be known in part
 

@@ -6,24 +6,24 @@ use Rattle.std.specs.Str.{bytes_eq}
 use Rattle.ht_ports.specs.PerPort.{at_in_port}
 use Rattle.ht_ports.specs.declared.ports.InPort.{InPort}
 use Rattle.ht_ports.specs.declared.per_port.PerInPort.{PerInPort}
-use Rattle.ht_ports.specs.declared.clean.Text.{Text}
+use Rattle.ht_ports.specs.declared.clean.NamedText.{NamedText}
 
 -- the bytes of the newest text of this name
-abbrev pub text_named : List Text → List ℕ → Option (List ℕ)
+abbrev pub text_named : List NamedText → List ℕ → Option (List ℕ)
 text_named [] name = None
 text_named (t ∷ texts) name = option_or (text_named texts name)
     (if bytes_eq (string_bytes t.name) name then Some t.bytes.items else None)
 
 -- the bytes of the text at an index; none after the last text
-abbrev pub bytes_at : List Text → ℕ → List ℕ
+abbrev pub bytes_at : List NamedText → ℕ → List ℕ
 bytes_at [] k = []
 bytes_at (t ∷ texts) zero = t.bytes.items
 bytes_at (t ∷ texts) (suc k) = bytes_at texts k
 
 -- the bytes of an opened text; none before a text is opened
-abbrev pub opened_in : List Text → Option ℕ → List ℕ
+abbrev pub opened_in : List NamedText → Option ℕ → List ℕ
 opened_in texts opened = option_map_or (bytes_at texts) opened []
 
 -- what is open are texts
-abbrev pub AreTexts : List Text → PerInPort (Option ℕ) → Type 0
+abbrev pub AreTexts : List NamedText → PerInPort (Option ℕ) → Type 0
 AreTexts texts opened = (p : InPort) → ForSome (at_in_port opened p) (λ k. k < length texts)

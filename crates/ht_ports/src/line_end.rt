@@ -1,8 +1,8 @@
 //! Where a line ends, and whether it is too long.
-ghost use Rattle.std.specs.Prelude.{◌≡◌, ◌≤◌, ◌+◌, ◌^◌, length, take, MatchOption};
+ghost use Rattle.std.specs.Prelude.{◌≡◌, ◌≤◌, ◌+◌, length, take, MatchOption};
 ghost use Rattle.ht_ports.specs.Buffer.{IsFirstLf};
-ghost use Rattle.ht_ports.specs.LineRule.{without_cr, HasNoLf};
-ghost use Rattle.ht_ports.specs.LineEnd.{IsLineEnd, IsJudged};
+ghost use Rattle.ht_ports.specs.LineRule.{without_cr, HasNoLf, max_text_bytes};
+ghost use Rattle.ht_ports.specs.LineEnd.{IsLineEnd, EndsPiece};
 
 /// The greatest length of a text, in bytes.
 pub const MAX_TEXT_BYTES: u64 = 1 << 62;
@@ -35,29 +35,27 @@ pub enum LineEnd {
 /// Finds the end of the first line of the bytes that wait, whose first LF is at
 /// `found`. Where they have none they are the text's last, or too many for a line.
 pub fn find_line_end(bytes: &[u8], found: Option<usize>, max_len: u32, bytes_read: u64) -> LineEnd
-    requires bytes_read { bytes_read ≤ 2 ^ 62 }
+    requires bytes_read { bytes_read ≤ max_text_bytes }
     requires found { MatchOption found (HasNoLf bytes.now) (IsFirstLf bytes.now) }
     ensures { IsLineEnd max_len bytes_read bytes.now found result }
 {
     match found {
-        Some(i) => judge_line(bytes, i, i + 1, max_len, bytes_read),
+        Some(i) => end_line(&bytes[..i], i + 1, max_len, bytes_read),
         None => {
             if bytes.is_empty() {
                 return LineEnd::NoLine;
             }
-            judge_line(bytes, bytes.len(), bytes.len(), max_len, bytes_read)
+            end_line(bytes, bytes.len(), max_len, bytes_read)
         }
     }
 }
 
-// Judges a piece of `len` bytes, whose line ends after `taken` bytes.
-fn judge_line(bytes: &[u8], len: usize, taken: usize, max_len: u32, bytes_read: u64) -> LineEnd
-    requires bytes_read { bytes_read ≤ 2 ^ 62 }
-    requires within { taken ≤ length bytes.now }
-    requires piece { len ≤ taken }
-    ensures { IsJudged max_len bytes_read bytes.now len taken result }
+// The end of the line of a piece, of which `taken` bytes are taken with its LF.
+fn end_line(piece: &[u8], taken: usize, max_len: u32, bytes_read: u64) -> LineEnd
+    requires bytes_read { bytes_read ≤ max_text_bytes }
+    ensures { EndsPiece max_len bytes_read piece.now taken result }
 {
-    let line = line_len(&bytes[..len]);
+    let line = line_len(piece);
     if line > max_len as usize {
         return LineEnd::TooLong;
     }

@@ -1,6 +1,6 @@
 use Rattle.std.proofs.Common.{◌≡◌, ◌++◌, List, [], ◌∷◌, ℕ, Some, drop, ◌∙◌, ap, refl, rules}
 use Rattle.std.specs.Prelude.{string_bytes}
-use Rattle.ht_ports.specs.declared.clean.Text.{Text}
+use Rattle.ht_ports.specs.declared.clean.NamedText.{NamedText}
 use Rattle.ht_ports.specs.NamedTexts.{text_named, opened_in}
 use Rattle.ht_ports.specs.PerPort.{at_in_port}
 use Rattle.ht_ports.proofs.NamedTextLaws.{named_put, named_kept, opened_push}
@@ -10,7 +10,7 @@ pub returns-clause-put : goal.returns-clause-put
 returns-clause-put c =
     let desk = c.args.self.now in
     let texts = desk.texts.items in
-    let new : Text = record { name = c.in_ok-from_str.field-0; bytes = c.in_ok-to_vec.field-0 } in
+    let new : NamedText = record { name = c.in_ok-from_str.field-0; bytes = c.in_ok-to_vec.field-0 } in
     let added : c.push.new.self.items ≡ texts ++ new ∷ [] = search rules in
     let name : string_bytes new.name ≡ c.args.name.now = search rules in
     let bytes : new.bytes.items ≡ c.args.bytes.now = search rules in
