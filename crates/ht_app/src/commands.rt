@@ -2,7 +2,7 @@
 ghost use Rattle.std.specs.Prelude.{◌≡◌, ◌≢◌, ◌⊎◌, ℕ, List, IfErr, OnOk, IsTrue, IsSome, Some, None};
 ghost use Rattle.ht_ports.specs.declared.ports.InPort.TheVariants as in_port;
 ghost use Rattle.ht_ports.specs.declared.ports.OutPort.TheVariants as out_port;
-ghost use Rattle.ht_asked.specs.Asked.{Asked, asked, texts_of, sim};
+ghost use Rattle.ht_asked.specs.Asked.{Asked, asked, words_of, sim};
 ghost use Rattle.ht_words.specs.Jobs.{asked_by};
 ghost use Rattle.ht_app.specs.Inputs.{IsBadNetlist, AreBadTests, AreGoodInputs};
 ghost use Rattle.ht_app.specs.Jobs.{input_name, HoldsInputs};
@@ -46,14 +46,14 @@ fn do_job<D: Desk>(alloc: Global, job: &Job, desk: &mut D) -> Result<(), RunErro
 
 // Reads the words, and does the job that they ask for.
 fn work<D: Desk>(alloc: Global, words: &[String], desk: &mut D) -> Result<(), RunError>
-    ensures changed { ChangedOnly (ports_at (asked (texts_of words.now)) (status_after result))
+    ensures changed { ChangedOnly (ports_at (asked (words_of words.now)) (status_after result))
         (D.view desk.old) (D.view desk.new) }
     ensures quiet { (D.view desk.new).written out_port.Err
         ≡ (D.view desk.old).written out_port.Err }
     ensures done { OnOk result
-        (AskedIsDone (asked (texts_of words.now)) (D.view desk.old) (D.view desk.new)) }
+        (AskedIsDone (asked (words_of words.now)) (D.view desk.old) (D.view desk.new)) }
     ensures cause { IfErr result
-        (AskedHasCause (asked (texts_of words.now)) (D.view desk.old) (D.view desk.new)) }
+        (AskedHasCause (asked (words_of words.now)) (D.view desk.old) (D.view desk.new)) }
 {
     match command(alloc, words) {
         Ok(job) => {
@@ -88,29 +88,29 @@ fn work<D: Desk>(alloc: Global, words: &[String], desk: &mut D) -> Result<(), Ru
 /// with one count of faults for all out-ports no clause can say it.
 pub fn run<D: Desk>(alloc: Global, words: &[String], desk: &mut D) -> u8
     // What a status says, and what it leaves.
-    ensures done { result ≡ 0 → AskedIsDone (asked (texts_of words.now)) (D.view desk.old)
+    ensures done { result ≡ 0 → AskedIsDone (asked (words_of words.now)) (D.view desk.old)
         (D.view desk.new) }
-    ensures error { result ≢ 0 → EndsBy (asked (texts_of words.now)) result (D.view desk.old)
+    ensures error { result ≢ 0 → EndsBy (asked (words_of words.now)) result (D.view desk.old)
         (D.view desk.new) }
-    ensures changed { ChangedOnly (ports_at (asked (texts_of words.now)) result) (D.view desk.old)
+    ensures changed { ChangedOnly (ports_at (asked (words_of words.now)) result) (D.view desk.old)
         (D.view desk.new) }
 
     // The causes of the refusals are exact.
-    ensures usage { result ≡ 2 → asked (texts_of words.now) ≡ None }
-    ensures asked { result ≢ 2 → result ≢ 6 → IsSome (asked (texts_of words.now)) }
-    ensures refused { (job : Asked) (name : List ℕ) → asked (texts_of words.now) ≡ Some job
+    ensures usage { result ≡ 2 → asked (words_of words.now) ≡ None }
+    ensures asked { result ≢ 2 → result ≢ 6 → IsSome (asked (words_of words.now)) }
+    ensures refused { (job : Asked) (name : List ℕ) → asked (words_of words.now) ≡ Some job
         → input_name job in_port.Netlist ≡ Some name → IsBadNetlist name (D.view desk.old)
         → (result ≡ 3) ⊎ (result ≡ 4) ⊎ (result ≡ 6) }
     ensures malformed { (netlist tests report : List ℕ)
-        → asked (texts_of words.now) ≡ Some (sim netlist tests report)
+        → asked (words_of words.now) ≡ Some (sim netlist tests report)
         → AreBadTests netlist tests (D.view desk.old)
         → (result ≡ 7) ⊎ (result ≡ 4) ⊎ (result ≡ 6) }
 
     // Where no fault was counted, good inputs give the output, or memory ran out.
-    ensures complete { (job : Asked) → asked (texts_of words.now) ≡ Some job
+    ensures complete { (job : Asked) → asked (words_of words.now) ≡ Some job
         → AreGoodInputs job (D.view desk.old) → Faultless (D.view desk.old) (D.view desk.new)
         → (result ≡ 0) ⊎ (result ≡ 6) }
-    ensures steady { (job : Asked) → asked (texts_of words.now) ≡ Some job
+    ensures steady { (job : Asked) → asked (words_of words.now) ≡ Some job
         → IsTrue (D.view desk.old).steady → HoldsInputs job (D.view desk.old)
         → (result ≢ 4) × (result ≢ 5) }
 {

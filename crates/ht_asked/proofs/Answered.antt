@@ -4,8 +4,8 @@ use Rattle.std.specs.Prelude.{option_and_then, slice_get}
 use Rattle.clap.specs.Walk.{Row, Text, first_of}
 use Rattle.clap.specs.Simple.{App, matches_of}
 use Rattle.ht_asked.specs.Forms.{given}
-use Rattle.ht_asked.specs.Asked.{Asked, Command, asked, command_named, texts_of}
-use Rattle.ht_asked.specs.ByClap.{all_of, app_with, asked_by_clap, command_by_clap, given_by_clap, given_values, is_taken, value_of}
+use Rattle.ht_asked.specs.Asked.{Asked, Command, asked, command_named, words_of}
+use Rattle.ht_asked.specs.ByClap.{all_of, app_with, asked_by_clap, asked_in_rows, command_by_clap, given_by_clap, given_values, is_taken, value_of}
 use Rattle.ht_asked.proofs.AskedByClap.{asked_is_by_clap}
 
 -- ---- what `clap` answered
@@ -25,8 +25,7 @@ module _ (c : Command) (app : App) (words : List Text) (is : app ≡ app_with c.
       (cond b (given_values c.form (value_of (app_with c.name c.form) words)) None)) (same_taken ∙ e)
 
   pub answered : (rows : List Row) → rows ≡ matches_of app words → is_taken app words ≡ true
-      → command_by_clap c words
-      ≡ asks_by c (map (λ id. first_of id rows) c.form.positionals) (map (λ id. first_of id rows) c.form.options)
+      → command_by_clap c words ≡ asked_in_rows c rows
   unfolding command_by_clap
   answered rows rows_are taken =
       ap (λ b. option_and_then c.asks
@@ -38,7 +37,7 @@ module _ (c : Command) (app : App) (words : List Text) (is : app ≡ app_with c.
 
 module _ (ws : List (String Global)) (first : String Global) (is : Some first ≡ slice_get ws 0) where
   by_name : (vs : List (String Global)) → Some first ≡ slice_get vs 0 → (c : Command)
-      → command_named (string_bytes first) ≡ Some c → asked_by_clap (texts_of vs) ≡ command_by_clap c (texts_of vs)
+      → command_named (string_bytes first) ≡ Some c → asked_by_clap (words_of vs) ≡ command_by_clap c (words_of vs)
   unfolding asked_by_clap command_by_clap
   by_name [] e c found = absurd (some_is_none e)
     where
@@ -47,26 +46,26 @@ module _ (ws : List (String Global)) (first : String Global) (is : Some first �
   by_name (w ∷ rest) e c found =
       let same : first ≡ w = cc in
       ap (option_and_then (λ (d : Command). option_and_then d.asks
-      (given_by_clap (app_with d.name d.form) d.form (d.name ∷ texts_of rest))))
+      (given_by_clap (app_with d.name d.form) d.form (d.name ∷ words_of rest))))
       (ap (λ s. command_named (string_bytes s)) (sym same) ∙ found)
 
   pub named : (c : Command) → command_named (string_bytes first) ≡ Some c
-      → asked (texts_of ws) ≡ command_by_clap c (texts_of ws)
+      → asked (words_of ws) ≡ command_by_clap c (words_of ws)
   named c found = asked_is_by_clap ws ∙ by_name ws is c found
 
   by_no_name : (vs : List (String Global)) → Some first ≡ slice_get vs 0
-      → command_named (string_bytes first) ≡ None → asked (texts_of vs) ≡ None
+      → command_named (string_bytes first) ≡ None → asked (words_of vs) ≡ None
   unfolding asked
   by_no_name [] e none = refl
   by_no_name (w ∷ rest) e none =
       let same : first ≡ w = cc in
-      ap (option_and_then (λ (d : Command). option_and_then d.asks (given d.form (texts_of rest))))
+      ap (option_and_then (λ (d : Command). option_and_then d.asks (given d.form (words_of rest))))
       (ap (λ s. command_named (string_bytes s)) (sym same) ∙ none)
 
-  pub not_named : command_named (string_bytes first) ≡ None → asked (texts_of ws) ≡ None
+  pub not_named : command_named (string_bytes first) ≡ None → asked (words_of ws) ≡ None
   not_named = by_no_name ws is
 
-pub no_words : (ws : List (String Global)) → None ≡ slice_get ws 0 → asked (texts_of ws) ≡ None
+pub no_words : (ws : List (String Global)) → None ≡ slice_get ws 0 → asked (words_of ws) ≡ None
 unfolding asked
 no_words [] e = refl
 no_words (w ∷ ws) e = cc

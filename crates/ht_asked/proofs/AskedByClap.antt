@@ -3,7 +3,7 @@ use Rattle.std.proofs.Common.{◌≡◌, ◌∷◌, Bool, true, false, cond, Lis
 use Rattle.std.specs.Prelude.{find, option_and_then}
 use Rattle.std.specs.Str.{bytes_eq}
 use Rattle.ht_asked.specs.Forms.{given}
-use Rattle.ht_asked.specs.Asked.{Asked, Command, asked, commands, texts_of}
+use Rattle.ht_asked.specs.Asked.{Asked, Command, asked, commands, words_of}
 use Rattle.ht_asked.specs.ByClap.{app_with, asked_by_clap, given_by_clap}
 use Rattle.ht_asked.proofs.Readable.{are_readable}
 use Rattle.ht_asked.proofs.FormByClap.{IsSound, form_by_clap}
@@ -27,12 +27,12 @@ same_found f g same test (c ∷ cs) sound = go (test c) (same_found f g same tes
     go true e = same c sound.0
     go false e = e
 
-pub asked_is_by_clap : (ws : List (String Global)) → asked (texts_of ws) ≡ asked_by_clap (texts_of ws)
+pub asked_is_by_clap : (ws : List (String Global)) → asked (words_of ws) ≡ asked_by_clap (words_of ws)
 unfolding asked asked_by_clap
 asked_is_by_clap [] = refl
 asked_is_by_clap (w ∷ ws) = same_found
-    (λ c. option_and_then c.asks (given c.form (texts_of ws)))
-    (λ c. option_and_then c.asks (given_by_clap (app_with c.name c.form) c.form (c.name ∷ texts_of ws)))
+    (λ c. option_and_then c.asks (given c.form (words_of ws)))
+    (λ c. option_and_then c.asks (given_by_clap (app_with c.name c.form) c.form (c.name ∷ words_of ws)))
     (λ c sound. sym (ap (option_and_then c.asks)
-    (form_by_clap c.name c.form sound c.name (texts_of ws) (are_readable ws))))
+    (form_by_clap c.name c.form sound c.name (words_of ws) (are_readable ws))))
     (λ c. bytes_eq (string_bytes w) c.name) commands commands_are_sound

@@ -7,7 +7,7 @@ use Rattle.std.proofs.lemmas.Str.{IsCharBoundary-after_ascii, IsUtf8-drop, IsUtf
 use Rattle.std.proofs.lemmas.Bool.Decides.{Decides-eqb}
 use Rattle.clap.specs.Lexer.{short_of_rest}
 use Rattle.clap.specs.Walk.{Text}
-use Rattle.ht_asked.specs.Asked.{texts_of}
+use Rattle.ht_asked.specs.Asked.{words_of}
 use Rattle.ht_asked.proofs.States.{AreReadable, IsReadable}
 
 first_char : (y : ℕ) (ys : Text) → IsUtf8 (y ∷ ys) → (z : ℕ) × (slice_get (chars (y ∷ ys)) 0 ≡ Some z)
@@ -45,6 +45,6 @@ is_readable (b ∷ bs) u f e = go (b == 45) refl
     go true g = rest bs (after_hyphen b bs u ((Decides-eqb b 45).0 g))
         (ap (λ t. option_and_then short_of_rest (cond t (Some bs) None)) (sym g) ∙ e)
 
-pub are_readable : (ws : List (String Global)) → AreReadable (texts_of ws)
+pub are_readable : (ws : List (String Global)) → AreReadable (words_of ws)
 are_readable [] = tt
 are_readable (w ∷ ws) = (is_readable (string_bytes w) (IsUtf8-string_bytes w), are_readable ws)

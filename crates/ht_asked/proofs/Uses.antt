@@ -17,10 +17,6 @@ has_use id uses = list_any (λ u. bytes_eq u.0 id) uses
 abbrev pub add_use : Text → Text → List Use → Option (List Use)
 add_use id value uses = if has_use id uses then None else Some (uses ++ (id, value) ∷ [])
 
--- the value of an argument among the uses
-abbrev pub used_value : Text → List Use → Option Text
-used_value id uses = option_map (λ u. u.1) (find (λ u. bytes_eq u.0 id) uses)
-
 -- what a word looks like: `--`, `--name` or `--name=value`, `-x`, or anything else
 pub data Looks : Type 0 where
   ends : Looks

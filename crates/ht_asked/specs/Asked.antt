@@ -7,8 +7,8 @@ use Rattle.clap.specs.Walk.{Text}
 use Rattle.ht_asked.specs.Forms.{Form, Given, given}
 
 -- the words as their bytes
-abbrev pub texts_of : List (String Global) → List Text
-texts_of = map (λ s. string_bytes s)
+abbrev pub words_of : List (String Global) → List Text
+words_of = map (λ s. string_bytes s)
 
 -- a command with the names of its files
 pub data Asked : Type 0 where

@@ -1,7 +1,7 @@
 -- What the words of the command line ask for, by `clap`'s definition of each command.
 use Rattle.std.specs.Prelude.{◌∷◌, ◌++◌, Bool, true, List, [], Option, Some, None, if◌then◌else◌}
 use Rattle.std.specs.Prelude.{map, option_and_then, option_map}
-use Rattle.clap.specs.Walk.{Rule, Text, first_of, is_empty}
+use Rattle.clap.specs.Walk.{Row, Rule, Text, first_of, is_empty}
 use Rattle.clap.specs.Simple.{App, matches_of, new_app, new_rule, on_top}
 use Rattle.clap.specs.Faults.{fault_of}
 use Rattle.ht_asked.specs.Forms.{Form, Given}
@@ -49,6 +49,10 @@ given_values form value = option_map (λ texts. record {
   positionals = texts;
   options = map value form.options;
 }) (all_of (map value form.positionals))
+
+-- what a command's words ask for, by the rows in which `clap` gives the values
+abbrev pub asked_in_rows : Command → List Row → Option Asked
+asked_in_rows c rows = option_and_then c.asks (given_values c.form (λ id. first_of id rows))
 
 -- what the words give to the form's arguments, where `clap` takes them; the first word is the command's name
 abbrev pub given_by_clap : App → Form → List Text → Option Given

@@ -1,7 +1,10 @@
 -- Jobs as what words ask for.
+use Rattle.std.specs.Prelude.{◌≡◌, Option, Some, None, Result, Err, IfOk}
 use Rattle.ht_asked.specs.Asked.{Asked, Command, norm, norm_command, sim, sim_command}
 use Rattle.ht_words.specs.declared.job.Job.{Job}
 use Rattle.ht_words.specs.declared.job.Job.TheVariants as job
+use Rattle.ht_words.specs.declared.job.WordsFault.{WordsFault}
+use Rattle.ht_words.specs.declared.job.WordsFault.TheVariants.{Usage}
 use Rattle.ht_words.specs.declared.command_name.CommandName.{CommandName}
 use Rattle.ht_words.specs.declared.command_name.CommandName.TheVariants as name
 
@@ -13,3 +16,8 @@ command_of name.Norm = norm_command
 abbrev pub asked_by : Job → Asked
 asked_by (job.Sim netlist tests report) = sim netlist tests report
 asked_by (job.Norm netlist out) = norm netlist out
+
+-- the answer to what words ask for: the job, or a refusal; `Usage` only where they ask for none
+pub record IsAnswer (asked : Option Asked) (result : Result Job WordsFault) : Type 0 where
+  pub usage : result ≡ Err Usage → asked ≡ None
+  pub ok : IfOk result (λ job. asked ≡ Some (asked_by job))

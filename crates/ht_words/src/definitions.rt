@@ -3,7 +3,9 @@ ghost use Rattle.std.specs.Prelude.{◌≡◌, IfOk, false};
 ghost use Rattle.clap.specs.Words.{app_of, rule_of};
 ghost use Rattle.ht_asked.specs.Asked.{norm_command, sim_command};
 ghost use Rattle.ht_asked.specs.ByClap.{app_named, app_with, wanted};
+ghost use Rattle.ht_words.specs.Jobs.{command_of};
 
+use crate::command_name::CommandName;
 use clap::{Arg, Command};
 use std::alloc::{AllocError, Global};
 
@@ -25,7 +27,7 @@ fn positional<'a>(alloc: Global, id: &'a str) -> Arg<'a>
 }
 
 /// `sim NETLIST TESTS REPORT`.
-pub fn sim<'a>(alloc: Global) -> Result<Command<'a>, AllocError>
+fn sim<'a>(alloc: Global) -> Result<Command<'a>, AllocError>
     ensures { IfOk result (λ c. app_of c ≡ app_with sim_command.name sim_command.form) }
 {
     plain_command(alloc, "sim")
@@ -35,10 +37,20 @@ pub fn sim<'a>(alloc: Global) -> Result<Command<'a>, AllocError>
 }
 
 /// `norm NETLIST OUT`.
-pub fn norm<'a>(alloc: Global) -> Result<Command<'a>, AllocError>
+fn norm<'a>(alloc: Global) -> Result<Command<'a>, AllocError>
     ensures { IfOk result (λ c. app_of c ≡ app_with norm_command.name norm_command.form) }
 {
     plain_command(alloc, "norm")
         .arg(positional(alloc, "netlist"))?
         .arg(positional(alloc, "out"))
+}
+
+/// The definition of a command.
+pub fn definition<'a>(alloc: Global, name: CommandName) -> Result<Command<'a>, AllocError>
+    ensures { IfOk result (λ c. app_of c ≡ app_with (command_of name).name (command_of name).form) }
+{
+    match name {
+        CommandName::Sim => sim(alloc),
+        CommandName::Norm => norm(alloc),
+    }
 }

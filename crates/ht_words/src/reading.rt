@@ -1,13 +1,13 @@
 //! From words to a job.
 ghost use Rattle.std.specs.Prelude.{◌≡◌, IfOk, None, Some, false, true};
 ghost use Rattle.clap.specs.Words.{app_of, first_of, found_of, is_simple_and_free, matches_of, rows_of};
-ghost use Rattle.ht_asked.specs.Asked.{asked, norm_command, sim_command, texts_of};
-ghost use Rattle.ht_asked.specs.ByClap.{asked_by_clap, command_by_clap, is_taken};
-ghost use Rattle.ht_words.specs.Jobs.{asked_by};
+ghost use Rattle.ht_asked.specs.Asked.{asked, words_of};
+ghost use Rattle.ht_asked.specs.ByClap.{asked_by_clap, asked_in_rows, is_taken};
+ghost use Rattle.ht_words.specs.Jobs.{IsAnswer, command_of};
 ghost use Rattle.ht_words.specs.declared.job.WordsFault.TheVariants as fault;
 
 use crate::command_name::CommandName;
-use crate::definitions;
+use crate::definitions::definition;
 use crate::file_name::FileName;
 use crate::job::{Job, WordsFault};
 use clap::error::ErrorKind;
@@ -21,64 +21,51 @@ use std::alloc::Global;
 /// - `Usage`: only where the words have no command's form.
 /// - `NoMemory`: out of memory.
 pub fn command(alloc: Global, words: &[String]) -> Result<Job, WordsFault>
-    ensures usage { result ≡ Err fault.Usage → asked (texts_of words.now) ≡ None }
-    ensures ok { IfOk result (λ job. asked (texts_of words.now) ≡ Some (asked_by job)) }
+    ensures answer { IsAnswer (asked (words_of words.now)) result }
     // `clap` takes the words by its definitions of the commands exactly where they ask for a job in plain steps.
-    ensures by_clap { asked (texts_of words.now) ≡ asked_by_clap (texts_of words.now) }
+    ensures by_clap { asked (words_of words.now) ≡ asked_by_clap (words_of words.now) }
 {
     let Some(first) = words.first() else {
         return Err(WordsFault::Usage);
     };
-    match CommandName::from_word(first.as_str()) {
-        Some(CommandName::Sim) => sim(alloc, words),
-        Some(CommandName::Norm) => norm(alloc, words),
-        None => Err(WordsFault::Usage),
-    }
-}
-
-/// The words of `sim`, with its name.
-fn sim(alloc: Global, words: &[String]) -> Result<Job, WordsFault>
-    ensures usage { result ≡ Err fault.Usage
-        → command_by_clap sim_command (texts_of words.now) ≡ None }
-    ensures ok { IfOk result
-        (λ job. command_by_clap sim_command (texts_of words.now) ≡ Some (asked_by job)) }
-{
-    let matches = matches_for(definitions::sim(alloc)?, words)?;
-    Ok(Job::Sim {
-        netlist: value(alloc, &matches, "netlist")?,
-        tests: value(alloc, &matches, "tests")?,
-        report: value(alloc, &matches, "report")?,
-    })
-}
-
-/// The words of `norm`, with its name.
-fn norm(alloc: Global, words: &[String]) -> Result<Job, WordsFault>
-    ensures usage { result ≡ Err fault.Usage
-        → command_by_clap norm_command (texts_of words.now) ≡ None }
-    ensures ok { IfOk result
-        (λ job. command_by_clap norm_command (texts_of words.now) ≡ Some (asked_by job)) }
-{
-    let matches = matches_for(definitions::norm(alloc)?, words)?;
-    Ok(Job::Norm {
-        netlist: value(alloc, &matches, "netlist")?,
-        out: value(alloc, &matches, "out")?,
-    })
+    let Some(name) = CommandName::from_word(first.as_str()) else {
+        return Err(WordsFault::Usage);
+    };
+    let matches = matches_for(definition(alloc, name)?, words)?;
+    job(alloc, name, &matches)
 }
 
 /// How `clap` reads the words.
 fn matches_for<'a>(command: Command<'a>, words: &'a [String]) -> Result<ArgMatches<'a>, WordsFault>
     requires { is_simple_and_free (app_of command) ≡ true }
     ensures usage { result ≡ Err fault.Usage → is_taken (app_of command.entry)
-        (texts_of words.entry.now) ≡ false }
-    ensures taken { IfOk result (λ m. is_taken (app_of command.entry) (texts_of words.entry.now)
+        (words_of words.entry.now) ≡ false }
+    ensures taken { IfOk result (λ m. is_taken (app_of command.entry) (words_of words.entry.now)
         ≡ true) }
     ensures rows { IfOk result
-        (λ m. rows_of (found_of m) ≡ matches_of (app_of command.entry) (texts_of words.entry.now)) }
+        (λ m. rows_of (found_of m) ≡ matches_of (app_of command.entry) (words_of words.entry.now)) }
 {
     match command.try_get_matches_from(words) {
         Ok(matches) => Ok(matches),
         Err(error) if error.kind() == ErrorKind::OutOfMemory => Err(WordsFault::NoMemory),
         Err(_) => Err(WordsFault::Usage),
+    }
+}
+
+/// The job of a command by the values that `clap` found.
+fn job(alloc: Global, name: CommandName, matches: &ArgMatches<'_>) -> Result<Job, WordsFault>
+    ensures { IsAnswer (asked_in_rows (command_of name) (rows_of (found_of matches.now))) result }
+{
+    match name {
+        CommandName::Sim => Ok(Job::Sim {
+            netlist: value(alloc, matches, "netlist")?,
+            tests: value(alloc, matches, "tests")?,
+            report: value(alloc, matches, "report")?,
+        }),
+        CommandName::Norm => Ok(Job::Norm {
+            netlist: value(alloc, matches, "netlist")?,
+            out: value(alloc, matches, "out")?,
+        }),
     }
 }
 

@@ -2,7 +2,7 @@ use Rattle.std.proofs.Common.{◌≡◌, ◌⊎◌, ◌≢◌, ℕ, List, Bool, 
 use Rattle.std.specs.Io.KnownBytes.{append_known}
 use Rattle.ht_ports.specs.Desk.{DeskView, Wrote}
 use Rattle.ht_ports.specs.declared.ports.OutPort.TheVariants as out_port
-use Rattle.ht_asked.specs.Asked.{asked, texts_of, sim}
+use Rattle.ht_asked.specs.Asked.{asked, words_of, sim}
 use Rattle.ht_app.specs.Errors.{exit_status, err_line}
 use Rattle.ht_app.specs.Changed.{ChangedOnly, ports_at}
 use Rattle.ht_app.specs.Run.{SaysOnErr}
@@ -18,14 +18,14 @@ returns-in-Ok-clause-refused g c = λ job name is reads bad.
     let a = g.D.Desk.view c.args.desk.now in
     let b = g.D.Desk.view c.work.new.desk in
     absurd (finished_not_refused job name a b
-    (job_done (asked (texts_of c.args.words.now)) job a b is c.in-Ok.ensures.done) reads bad)
+    (job_done (asked (words_of c.args.words.now)) job a b is c.in-Ok.ensures.done) reads bad)
 
 pub returns-in-Ok-clause-malformed : goal.returns-in-Ok-clause-malformed
 returns-in-Ok-clause-malformed g c = λ netlist tests report is bad.
     let a = g.D.Desk.view c.args.desk.now in
     let b = g.D.Desk.view c.work.new.desk in
     absurd (finished_not_malformed netlist tests report a b
-    (job_done (asked (texts_of c.args.words.now)) (sim netlist tests report) a b is c.in-Ok.ensures.done) bad)
+    (job_done (asked (words_of c.args.words.now)) (sim netlist tests report) a b is c.in-Ok.ensures.done) bad)
 
 -- ---- after an error
 
@@ -62,18 +62,18 @@ returns-in-Err-clause-changed g c =
     let a = g.D.Desk.view c.args.desk.now in
     let m = g.D.Desk.view c.work.new.desk in
     let b = g.D.Desk.view c.write_line.new.desk in
-    let words = asked (texts_of c.args.words.now) in
+    let words = asked (words_of c.args.words.now) in
     subst (λ (s : ℕ). ChangedOnly (ports_at words s) a b) (sym c.status.ensures)
     (changed_by_line words c.in-Err.error a m b c.in-Err.ensures.changed c.write_line.ensures.frame)
 
 pub returns-in-Err-clause-usage : goal.returns-in-Err-clause-usage
 returns-in-Err-clause-usage g c = λ two.
-    usage_status (asked (texts_of c.args.words.now)) (g.D.Desk.view c.args.desk.now) (g.D.Desk.view c.work.new.desk)
+    usage_status (asked (words_of c.args.words.now)) (g.D.Desk.view c.args.desk.now) (g.D.Desk.view c.work.new.desk)
     c.in-Err.error c.in-Err.ensures.cause (sym c.status.ensures ∙ two)
 
 pub returns-in-Err-clause-asked : goal.returns-in-Err-clause-asked
 returns-in-Err-clause-asked g c = λ two six.
-    asked_status (asked (texts_of c.args.words.now)) (g.D.Desk.view c.args.desk.now) (g.D.Desk.view c.work.new.desk)
+    asked_status (asked (words_of c.args.words.now)) (g.D.Desk.view c.args.desk.now) (g.D.Desk.view c.work.new.desk)
     c.in-Err.error c.in-Err.ensures.cause
     (λ e. two (c.status.ensures ∙ e)) (λ e. six (c.status.ensures ∙ e))
 
@@ -81,7 +81,7 @@ pub returns-in-Err-clause-refused : goal.returns-in-Err-clause-refused
 returns-in-Err-clause-refused g c = λ job name is reads bad.
     let a = g.D.Desk.view c.args.desk.now in
     let m = g.D.Desk.view c.work.new.desk in
-    let cause = cause_of_job (asked (texts_of c.args.words.now)) job a m c.in-Err.error is c.in-Err.ensures.cause in
+    let cause = cause_of_job (asked (words_of c.args.words.now)) job a m c.in-Err.error is c.in-Err.ensures.cause in
     subst (λ (s : ℕ). (s ≡ 3) ⊎ (s ≡ 4) ⊎ (s ≡ 6)) (sym c.status.ensures)
     (refused_status job name a m c.in-Err.error cause reads bad)
 
@@ -89,7 +89,7 @@ pub returns-in-Err-clause-malformed : goal.returns-in-Err-clause-malformed
 returns-in-Err-clause-malformed g c = λ netlist tests report is bad.
     let a = g.D.Desk.view c.args.desk.now in
     let m = g.D.Desk.view c.work.new.desk in
-    let cause = cause_of_job (asked (texts_of c.args.words.now)) (sim netlist tests report) a m c.in-Err.error is
+    let cause = cause_of_job (asked (words_of c.args.words.now)) (sim netlist tests report) a m c.in-Err.error is
     c.in-Err.ensures.cause in
     subst (λ (s : ℕ). (s ≡ 7) ⊎ (s ≡ 4) ⊎ (s ≡ 6)) (sym c.status.ensures)
     (malformed_status netlist tests report a m c.in-Err.error cause bad)
@@ -100,7 +100,7 @@ returns-in-Err-clause-complete g c = λ job is are none.
     let m = g.D.Desk.view c.work.new.desk in
     let b = g.D.Desk.view c.write_line.new.desk in
     let call = c.write_line.ensures.frame.call in
-    let cause = cause_of_job (asked (texts_of c.args.words.now)) job a m c.in-Err.error is c.in-Err.ensures.cause in
+    let cause = cause_of_job (asked (words_of c.args.words.now)) job a m c.in-Err.error is c.in-Err.ensures.cause in
     subst (λ (s : ℕ). (s ≡ 0) ⊎ (s ≡ 6)) (sym c.status.ensures)
     (good_status job a m c.in-Err.error cause are (faultless_before a m b call.in_later call.out_later none))
 
@@ -108,6 +108,6 @@ pub returns-in-Err-clause-steady : goal.returns-in-Err-clause-steady
 returns-in-Err-clause-steady g c = λ job is steady holds.
     let a = g.D.Desk.view c.args.desk.now in
     let m = g.D.Desk.view c.work.new.desk in
-    let cause = cause_of_job (asked (texts_of c.args.words.now)) job a m c.in-Err.error is c.in-Err.ensures.cause in
+    let cause = cause_of_job (asked (words_of c.args.words.now)) job a m c.in-Err.error is c.in-Err.ensures.cause in
     subst (λ (s : ℕ). (s ≢ 4) × (s ≢ 5)) (sym c.status.ensures)
     (steady_status job a m c.in-Err.error cause steady holds)

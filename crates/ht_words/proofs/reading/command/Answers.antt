@@ -1,54 +1,63 @@
-use Rattle.std.proofs.Common.{◌∙◌, ap, sym, Some}
-use Rattle.std.proofs.lemmas.Result.{IfOk-weaker}
-use Rattle.ht_asked.specs.Asked.{command_named, norm_command, sim_command}
+use Rattle.std.proofs.Common.{◌≡◌, ◌∙◌, ap, sym, subst, Option, Some, rules}
+use Rattle.clap.specs.Words.{app_of, found_of, rows_of}
+use Rattle.ht_asked.specs.Asked.{Asked, asked, command_named, words_of}
+use Rattle.ht_asked.specs.ByClap.{asked_in_rows}
 use Rattle.ht_asked.proofs.AskedByClap.{asked_is_by_clap}
-use Rattle.ht_asked.proofs.Answered.{named, no_words, not_named}
-use Rattle.ht_words.specs.Jobs.{command_of}
+use Rattle.ht_asked.proofs.Answered.{answered, named, no_words, not_named, refused}
+use Rattle.ht_words.specs.Jobs.{IsAnswer, command_of}
 use Rattle.ht_words.proofs.reading.command.Goals as goal
 
-pub returns-in_default-clause-usage : goal.returns-in_default-clause-usage
-returns-in_default-clause-usage c = λ e. no_words c.args.words.now c.in_default.ensures.value
+-- ---- no command
+
+pub returns-in_default-clause-answer : goal.returns-in_default-clause-answer
+returns-in_default-clause-answer c =
+    record { usage = λ _. no_words c.args.words.now c.in_default.ensures.value; ok = tt }
+
+pub returns-in_default-from_word-clause-answer : goal.returns-in_default-from_word-clause-answer
+returns-in_default-from_word-clause-answer c = record {
+  usage = λ _. not_named c.args.words.now c.in-Some.first.now c.in-Some.ensures.value
+      (ap command_named (sym c.as_str.ensures.value) ∙ sym c.in_default-from_word.ensures);
+  ok = tt;
+}
+
+-- ---- a command by its name
+
+pub returns-in_err-matches-clause-answer : goal.returns-in_err-matches-clause-answer
+returns-in_err-matches-clause-answer c =
+    let command = command_of c.in-Some-from_word.name in
+    record {
+      usage = λ e. named c.args.words.now c.in-Some.first.now c.in-Some.ensures.value command
+          (ap command_named (sym c.as_str.ensures.value) ∙ sym c.in-Some-from_word.ensures)
+          ∙ refused command (app_of c.in_ok-definition.field-0) (words_of c.args.words.now) c.in_ok-definition.ensures
+          (c.matches_for.ensures.usage (search rules));
+      ok = search rules;
+    }
+
+pub returns-clause-answer : goal.returns-clause-answer
+returns-clause-answer c =
+    let command = command_of c.in-Some-from_word.name in
+    let m = c.in_ok-matches in
+    let rows = rows_of (found_of m.matches) in
+    let is : asked (words_of c.args.words.now) ≡ asked_in_rows command rows =
+    named c.args.words.now c.in-Some.first.now c.in-Some.ensures.value command
+    (ap command_named (sym c.as_str.ensures.value) ∙ sym c.in-Some-from_word.ensures)
+    ∙ answered command (app_of c.in_ok-definition.field-0) (words_of c.args.words.now) c.in_ok-definition.ensures rows
+    m.ensures.rows m.ensures.taken in
+    subst (λ (a : Option Asked). IsAnswer a c.job.result) (sym is) c.job.ensures
+
+-- ---- the words by `clap`
 
 pub returns-in_default-clause-by_clap : goal.returns-in_default-clause-by_clap
 returns-in_default-clause-by_clap c = asked_is_by_clap c.args.words.now
 
-pub returns-in-Some-Sim-clause-usage : goal.returns-in-Some-Sim-clause-usage
-returns-in-Some-Sim-clause-usage c = λ e.
-    named c.args.words.now c.in-Some.first.now c.in-Some.ensures.value sim_command
-    (ap command_named (sym c.as_str.ensures.value) ∙ sym c.in-Some-Sim.ensures
-    ∙ ap (λ n. Some (command_of n)) c.in-Some-Sim.field-0-is)
-    ∙ c.sim.ensures.usage e
+pub returns-in_default-from_word-clause-by_clap : goal.returns-in_default-from_word-clause-by_clap
+returns-in_default-from_word-clause-by_clap c = asked_is_by_clap c.args.words.now
 
-pub returns-in-Some-Sim-clause-ok : goal.returns-in-Some-Sim-clause-ok
-returns-in-Some-Sim-clause-ok c = IfOk-weaker c.sim.result _ _
-    (λ j h. named c.args.words.now c.in-Some.first.now c.in-Some.ensures.value sim_command
-    (ap command_named (sym c.as_str.ensures.value) ∙ sym c.in-Some-Sim.ensures
-    ∙ ap (λ n. Some (command_of n)) c.in-Some-Sim.field-0-is) ∙ h)
-    c.sim.ensures.ok
+pub returns-in_err-definition-clause-by_clap : goal.returns-in_err-definition-clause-by_clap
+returns-in_err-definition-clause-by_clap c = asked_is_by_clap c.args.words.now
 
-pub returns-in-Some-Sim-clause-by_clap : goal.returns-in-Some-Sim-clause-by_clap
-returns-in-Some-Sim-clause-by_clap c = asked_is_by_clap c.args.words.now
+pub returns-in_err-matches-clause-by_clap : goal.returns-in_err-matches-clause-by_clap
+returns-in_err-matches-clause-by_clap c = asked_is_by_clap c.args.words.now
 
-pub returns-in-Some-Norm-clause-usage : goal.returns-in-Some-Norm-clause-usage
-returns-in-Some-Norm-clause-usage c = λ e.
-    named c.args.words.now c.in-Some.first.now c.in-Some.ensures.value norm_command
-    (ap command_named (sym c.as_str.ensures.value) ∙ sym c.in-Some-Norm.ensures
-    ∙ ap (λ n. Some (command_of n)) c.in-Some-Norm.field-0-is)
-    ∙ c.norm.ensures.usage e
-
-pub returns-in-Some-Norm-clause-ok : goal.returns-in-Some-Norm-clause-ok
-returns-in-Some-Norm-clause-ok c = IfOk-weaker c.norm.result _ _
-    (λ j h. named c.args.words.now c.in-Some.first.now c.in-Some.ensures.value norm_command
-    (ap command_named (sym c.as_str.ensures.value) ∙ sym c.in-Some-Norm.ensures
-    ∙ ap (λ n. Some (command_of n)) c.in-Some-Norm.field-0-is) ∙ h)
-    c.norm.ensures.ok
-
-pub returns-in-Some-Norm-clause-by_clap : goal.returns-in-Some-Norm-clause-by_clap
-returns-in-Some-Norm-clause-by_clap c = asked_is_by_clap c.args.words.now
-
-pub returns-in-None-clause-usage : goal.returns-in-None-clause-usage
-returns-in-None-clause-usage c = λ e. not_named c.args.words.now c.in-Some.first.now c.in-Some.ensures.value
-    (ap command_named (sym c.as_str.ensures.value) ∙ sym c.in-None.ensures)
-
-pub returns-in-None-clause-by_clap : goal.returns-in-None-clause-by_clap
-returns-in-None-clause-by_clap c = asked_is_by_clap c.args.words.now
+pub returns-clause-by_clap : goal.returns-clause-by_clap
+returns-clause-by_clap c = asked_is_by_clap c.args.words.now
