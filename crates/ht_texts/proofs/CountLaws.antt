@@ -4,7 +4,15 @@ use Rattle.std.proofs.lemmas.List.Sums.{sum_by_more}
 use Rattle.ht_texts.specs.declared.said.Said.{Said}
 use Rattle.ht_texts.specs.declared.total.Sums.{Sums}
 use Rattle.ht_texts.specs.Verdicts.{said_at, is_detected, is_untestable, is_aborted}
-use Rattle.ht_texts.specs.Counts.{count_said, one_if, AreCounted, CountsOne}
+use Rattle.ht_texts.specs.Counts.{count_said, one_if, CountsOne}
+
+-- the sums where only the verdicts of these faults are counted
+pub record AreCounted (classes : ℕ) (saids : List Said) (search : Bool) (faults : List ℕ) (sums : Sums) : Type 0 where
+  pub classes_are : sums.classes ≡ classes
+  pub detected : sums.detected ≡ count_said is_detected saids faults
+  pub untestable : sums.untestable ≡ count_said is_untestable saids faults
+  pub aborted : sums.aborted ≡ count_said is_aborted saids faults
+  pub search_is : sums.search ≡ search
 
 count_more : (is_kind : Said → Bool) (saids : List Said) (faults : List ℕ) (k i : ℕ) → k < length faults
     → i ≡ get_or faults k 0

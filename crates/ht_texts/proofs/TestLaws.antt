@@ -1,91 +1,11 @@
 -- Each text is the test text of one list of vectors, or malformed at one line, and never both.
-use Rattle.std.proofs.Common.{◌≡◌, ◌≢◌, ◌⊎◌, inl, inr, ℕ, zero, suc, ◌+◌, ◌-◌, ◌^◌, ◌<◌, ◌≤◌, List, [], ◌∷◌, Bool, true, false, length, get_or, map, refl, ap, sym, ◌∙◌, subst, arith}
-use Rattle.std.specs.List.{All}
-use Rattle.std.proofs.lemmas.Bool.{cases_eq, cases_lt, ne_eqb}
-use Rattle.std.proofs.lemmas.List.{length-map, get_or-map}
-use Rattle.std.proofs.lemmas.List.Elements.{All-nil, All-cons}
+use Rattle.std.proofs.Common.{◌≡◌, ◌⊎◌, inl, inr, ℕ, ◌+◌, ◌<◌, ◌≤◌, List, Bool, length, refl, sym, ◌∙◌, arith}
+use Rattle.std.proofs.lemmas.Bool.{cases_lt}
 use Rattle.ht_net.specs.Netlist.{Netlist}
-use Rattle.ht_ports.specs.LineRule.{lines_of, without_cr}
-use Rattle.ht_texts.specs.Tests.{bit_code, vector_text, line_of_byte, IsTextOf, IsTestText, IsNoVector, IsMalformedTest, test_text}
-use Rattle.ht_texts.proofs.LineLaws.{IsClean, AreClean, lines_are_lines}
-use Rattle.ht_texts.proofs.VectorLaws.{vector_or_none, map_injective, vector_text_injective, length-vector_text}
-
--- ---- lines are the texts of vectors, up to the first that is the text of none
-
-pub record AreVectors (width : ℕ) (lines : List (List ℕ)) (list : List (List Bool)) : Type 0 where
-  pub texts : lines ≡ map vector_text list
-  pub widths : All (λ (vector : List Bool). length vector ≡ width) list
-
-pub record StopsAt (width : ℕ) (lines : List (List ℕ)) (k : ℕ) : Type 0 where
-  pub within : k < length lines
-  pub none : (vector : List Bool) → ¬ IsTextOf width (get_or lines k []) vector
-  pub before : (j : ℕ) → j < k → (vector : List Bool) × IsTextOf width (get_or lines j []) vector
-
-vectors_or_stop : (width : ℕ) (lines : List (List ℕ)) → ((list : List (List Bool)) × AreVectors width lines list)
-    ⊎ ((k : ℕ) × StopsAt width lines k)
-vectors_or_stop width [] = inl
-    ([], record { texts = refl; widths = All-nil (λ (vector : List Bool). length vector ≡ width) })
-vectors_or_stop width (line ∷ lines) = elim (vector_or_none width line) [
-  | inr none ↦ inr (0, record { within = omega arith; none = none; before = λ j below. absurd (omega arith) })
-  | inl here ↦ elim (vectors_or_stop width lines) [
-    | inl rest ↦ inl (
-      here.0 ∷ rest.0,
-      record {
-        texts = let e = here.1.characters in let f = rest.1.texts in cc;
-        widths = All-cons (λ (vector : List Bool). length vector ≡ width) here.0 rest.0 here.1.bits rest.1.widths;
-      },
-    )
-    | inr stop ↦ inr (
-      suc stop.0,
-      record {
-        within = omega (arith, stop.1.within);
-        none = stop.1.none;
-        before = λ j. elim j as
-            (λ i. i < suc stop.0 → (vector : List Bool) × IsTextOf width (get_or (line ∷ lines) i []) vector) [
-              | zero ↦ λ _. here
-              | suc i ↦ λ below. stop.1.before i (omega arith)
-            ];
-      },
-    )
-  ]
-]
-
--- ---- where no line is wrong by itself, and where one is
-
--- each line of a list's text is a vector's
-vector_at : (width : ℕ) (lines : List (List ℕ)) (list : List (List Bool)) → AreVectors width lines list → (k : ℕ)
-    → k < length lines
-    → (vector : List Bool) × IsTextOf width (get_or lines k []) vector
-vector_at width lines list are k below =
-    let inside : k < length list = omega (arith, ap length are.texts ∙ length-map list vector_text) in (
-      get_or list k [],
-      record {
-        characters = ap (λ l. get_or l k []) are.texts ∙ get_or-map vector_text list k [] [] inside;
-        bits = are.widths k [] inside;
-      },
-    )
-
-no_wrong_line : (c : Netlist) (text : List ℕ) (list : List (List Bool)) → AreVectors c.inputs (lines_of text) list
-    → (n : ℕ) → ¬ IsNoVector c text n
-no_wrong_line c text list are n bad =
-    let found = vector_at c.inputs (lines_of text) list are (n - 1) (omega (arith, bad.counted.0, bad.counted.1)) in
-    bad.none found.0 found.1
-
--- the lines before the one where the reading stops are not wrong by themselves
-no_wrong_before : (c : Netlist) (text : List ℕ) (k n : ℕ) → StopsAt c.inputs (lines_of text) k → n ≤ k
-    → ¬ IsNoVector c text n
-no_wrong_before c text k n stop upto bad =
-    let found = stop.before (n - 1) (omega (arith, bad.counted.0)) in
-    bad.none found.0 found.1
-
-wrong_at : (c : Netlist) (text : List ℕ) (k : ℕ) → StopsAt c.inputs (lines_of text) k → IsNoVector c text (k + 1)
-wrong_at c text k stop = record {
-  counted = (omega arith, omega (arith, stop.within));
-  none = subst (λ i. (vector : List Bool) → ¬ IsTextOf c.inputs (get_or (lines_of text) i []) vector) (omega arith)
-      stop.none;
-}
-
--- ---- one list or one line
+use Rattle.ht_ports.specs.LineRule.{lines_of, max_text_bytes}
+use Rattle.ht_texts.specs.Tests.{vector_text, line_of_byte, IsTestText, IsMalformedTest}
+use Rattle.ht_texts.proofs.StopLaws.{AreVectors, StopsAt, vectors_or_stop, no_wrong_line, no_wrong_before, wrong_at}
+use Rattle.ht_texts.proofs.VectorLaws.{map_injective, vector_text_injective}
 
 pub one_list : (c : Netlist) (text : List ℕ) (a b : List (List Bool)) → IsTestText c text a → IsTestText c text b → a
     ≡ b
@@ -109,12 +29,12 @@ never_both c text list n is malformed = elim malformed.wrong [
 
 by_length : (c : Netlist) (text : List ℕ) → ((list : List (List Bool)) × AreVectors c.inputs (lines_of text) list)
     ⊎ ((k : ℕ) × StopsAt c.inputs (lines_of text) k)
-    → (2 ^ 62 < length text) ⊎ (length text ≤ 2 ^ 62)
+    → (max_text_bytes < length text) ⊎ (length text ≤ max_text_bytes)
     → ((list : List (List Bool)) × IsTestText c text list) ⊎ ((n : ℕ) × IsMalformedTest c text n)
 by_length c text (inl (list, are)) (inr short) = inl
     (list, record { lines = are.texts; widths = are.widths; short = short })
 by_length c text (inl (list, are)) (inl long) = inr (
-  line_of_byte text (2 ^ 62),
+  line_of_byte text max_text_bytes,
   record {
     wrong = inr (record { long = long; line = refl });
     first = λ m below wrong. elim wrong
@@ -129,9 +49,9 @@ by_length c text (inr (k, stop)) (inr short) = inr (
         [ inl bad ↦ no_wrong_before c text k m stop (omega arith) bad | inr other ↦ omega (arith, short, other.long) ];
   },
 )
-by_length c text (inr (k, stop)) (inl long) = elim (cases_lt (line_of_byte text (2 ^ 62)) (k + 1)) [
+by_length c text (inr (k, stop)) (inl long) = elim (cases_lt (line_of_byte text max_text_bytes) (k + 1)) [
   | inl sooner ↦ inr (
-    line_of_byte text (2 ^ 62),
+    line_of_byte text max_text_bytes,
     record {
       wrong = inr (record { long = long; line = refl });
       first = λ m below wrong. elim wrong [
@@ -155,4 +75,4 @@ by_length c text (inr (k, stop)) (inl long) = elim (cases_lt (line_of_byte text 
 
 pub list_or_line : (c : Netlist) (text : List ℕ) → ((list : List (List Bool)) × IsTestText c text list)
     ⊎ ((n : ℕ) × IsMalformedTest c text n)
-list_or_line c text = by_length c text (vectors_or_stop c.inputs (lines_of text)) (cases_lt (2 ^ 62) (length text))
+list_or_line c text = by_length c text (vectors_or_stop c.inputs (lines_of text)) (cases_lt max_text_bytes (length text))

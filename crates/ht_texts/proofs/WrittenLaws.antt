@@ -3,7 +3,7 @@ use Rattle.std.proofs.Common.{◌≡◌, ◌≢◌, ℕ, ◌-◌, ◌^◌, ◌<�
 use Rattle.std.specs.List.{All}
 use Rattle.std.proofs.lemmas.Bool.{ne_eqb}
 use Rattle.ht_net.specs.Netlist.{Netlist}
-use Rattle.ht_ports.specs.LineRule.{without_cr}
+use Rattle.ht_ports.specs.LineRule.{without_cr, max_text_bytes}
 use Rattle.ht_texts.specs.Tests.{bit_code, vector_text, test_text, IsTestText, IsMalformedTest}
 use Rattle.ht_texts.proofs.LineLaws.{IsClean, AreClean, lines_are_lines}
 use Rattle.ht_texts.proofs.VectorLaws.{length-vector_text, get_or-vector_text}
@@ -34,7 +34,7 @@ vectors_clean (vector ∷ list) = (vector_clean vector, vectors_clean list)
 
 pub written_is_test_text : (c : Netlist) (list : List (List Bool))
     → All (λ (vector : List Bool). length vector ≡ c.inputs) list
-    → length (test_text list) ≤ 2 ^ 62 → IsTestText c (test_text list) list
+    → length (test_text list) ≤ max_text_bytes → IsTestText c (test_text list) list
 written_is_test_text c list widths short = record {
   lines = lines_are_lines (map vector_text list) (vectors_clean list);
   widths = widths;
@@ -43,6 +43,6 @@ written_is_test_text c list widths short = record {
 
 pub written_is_not_malformed : (c : Netlist) (list : List (List Bool)) (n : ℕ)
     → All (λ (vector : List Bool). length vector ≡ c.inputs) list
-    → length (test_text list) ≤ 2 ^ 62 → ¬ IsMalformedTest c (test_text list) n
+    → length (test_text list) ≤ max_text_bytes → ¬ IsMalformedTest c (test_text list) n
 written_is_not_malformed c list n widths short =
     never_both c (test_text list) list n (written_is_test_text c list widths short)

@@ -22,14 +22,6 @@ sums_of representatives saids search = record {
 
 -- ---- class by class
 
--- the sums where only the verdicts of these faults are counted
-pub record AreCounted (classes : ℕ) (saids : List Said) (search : Bool) (faults : List ℕ) (sums : Sums) : Type 0 where
-  pub classes_are : sums.classes ≡ classes
-  pub detected : sums.detected ≡ count_said is_detected saids faults
-  pub untestable : sums.untestable ≡ count_said is_untestable saids faults
-  pub aborted : sums.aborted ≡ count_said is_aborted saids faults
-  pub search_is : sums.search ≡ search
-
 -- one more where the test passes
 abbrev pub one_if : Bool → ℕ
 one_if test = if test then 1 else 0

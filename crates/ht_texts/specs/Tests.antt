@@ -1,8 +1,8 @@
 -- The text of a list of vectors: one line for each vector, with one character for each input.
-use Rattle.std.specs.Prelude.{◌≡◌, ◌==◌, ◌⊎◌, ◌<◌, ◌≤◌, ◌+◌, ◌-◌, ◌^◌, ℕ, List, [], Bool, true, false, length, take, map, get_or}
+use Rattle.std.specs.Prelude.{◌≡◌, ◌==◌, ◌⊎◌, ◌<◌, ◌≤◌, ◌+◌, ◌-◌, ℕ, List, [], Bool, true, false, length, take, map, get_or}
 use Rattle.std.specs.List.{All, count_by}
 use Rattle.ht_net.specs.Netlist.{Netlist}
-use Rattle.ht_ports.specs.LineRule.{lines_of}
+use Rattle.ht_ports.specs.LineRule.{lines_of, max_text_bytes}
 use Rattle.ht_texts.specs.Lines.{with_lfs}
 
 -- the character of a bit, `0` or `1`
@@ -28,7 +28,7 @@ pub record IsTextOf (width : ℕ) (line : List ℕ) (vector : List Bool) : Type 
 pub record IsTestText (c : Netlist) (text : List ℕ) (list : List (List Bool)) : Type 0 where
   pub lines : lines_of text ≡ map vector_text list
   pub widths : All (λ (vector : List Bool). length vector ≡ c.inputs) list
-  pub short : length text ≤ 2 ^ 62
+  pub short : length text ≤ max_text_bytes
 
 -- line n of a text, from 1
 abbrev pub line_at : List ℕ → ℕ → List ℕ
@@ -49,8 +49,8 @@ line_of_byte text index = lf_count (take index text) + 1
 
 -- the text is longer than a text may be, and the first byte too many is in line n
 pub record IsTooLong (text : List ℕ) (n : ℕ) : Type 0 where
-  pub long : 2 ^ 62 < length text
-  pub line : n ≡ line_of_byte text (2 ^ 62)
+  pub long : max_text_bytes < length text
+  pub line : n ≡ line_of_byte text max_text_bytes
 
 -- line n is no vector's, or the text gets too long in it
 abbrev pub IsWrongLine : Netlist → List ℕ → ℕ → Type 0
@@ -60,3 +60,10 @@ IsWrongLine c text n = IsNoVector c text n ⊎ IsTooLong text n
 pub record IsMalformedTest (c : Netlist) (text : List ℕ) (n : ℕ) : Type 0 where
   pub wrong : IsWrongLine c text n
   pub first : (m : ℕ) → m < n → ¬ IsWrongLine c text m
+
+-- The text is the test text of one list of vectors, or malformed at one line: never both, and never neither.
+pub record IsTestOrMalformed (c : Netlist) (text : List ℕ) : Type 0 where
+  pub either : ((list : List (List Bool)) × IsTestText c text list) ⊎ ((n : ℕ) × IsMalformedTest c text n)
+  pub never_both : (list : List (List Bool)) (n : ℕ) → IsTestText c text list → ¬ IsMalformedTest c text n
+  pub one_list : (a b : List (List Bool)) → IsTestText c text a → IsTestText c text b → a ≡ b
+  pub one_line : (m n : ℕ) → IsMalformedTest c text m → IsMalformedTest c text n → m ≡ n

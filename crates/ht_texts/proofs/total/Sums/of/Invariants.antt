@@ -1,6 +1,6 @@
 use Rattle.std.proofs.Common.{take}
 use Rattle.ht_collapse.specs.Classes.{class_count, own_representatives}
-use Rattle.ht_texts.specs.Counts.{AreCounted}
+use Rattle.ht_texts.proofs.CountLaws.{AreCounted}
 use Rattle.ht_texts.proofs.total.Sums.of.Given as goal
 
 abbrev pub invariant-loop-i : goal.invariant-loop-i
