@@ -45,7 +45,7 @@ pub input_later : (name text : List ℕ) (a m : DeskView) → InCall Netlist a m
     → IsInput Tests name text m
 input_later name text a m p is = record {
   file = ap (λ f. f name) p.file ∙ is.file;
-  known = subst IsSome (sym (p.others_left Tests (λ e. cc))) is.known;
+  known = subst IsSome (sym (p.left.others Tests (λ e. cc))) is.known;
 }
 
 pub may_hold_before : (name : List ℕ) (a m : DeskView) → InCall Netlist a m → MayHold m name → MayHold a name
@@ -69,12 +69,12 @@ tests_cause netlist tests report c a m b Usage p known good there h = absurd h
 tests_cause netlist tests report c a m b TooLong p known good there h = absurd h
 tests_cause netlist tests report c a m b (Refused error) p known good there h = absurd h
 tests_cause netlist tests report c a m b ReadFault p known good there h = record {
-  rose = omega (arith, p.in_later, h.rose);
+  rose = omega (arith, p.after.in_faults, h.rose);
   lacks = λ steady. record {
     port = Tests;
     name = tests;
     reads = refl;
-    lacks = λ holds. h.lacks (subst IsTrue (sym p.steady) steady) (holds_later tests a m p holds);
+    lacks = λ holds. h.lacks (subst IsTrue (sym p.after.steady) steady) (holds_later tests a m p holds);
     reached = λ name is. subst (λ (n : List ℕ). Holds a n × AcceptsNetlist n a)
         (let e : Some netlist ≡ Some name = is in cc)
         (known_holds (a.file netlist) (known steady) there, accepts_netlist netlist c a there good);
@@ -92,17 +92,6 @@ tests_cause netlist tests report c a m b (BadTests line) p known good there h = 
   cause = λ n t inputs. (c, good n inputs.netlist_is, h.cause t (input_later tests t a m p inputs.tests_is));
 }
 
--- a netlist that was read is no refused one
-pub tests_status : (c : net.Netlist) (name : List ℕ) (a b : DeskView) (e : RunError) → TestsCause c name a b e
-    → exit_status e ≢ 3
-tests_status c name a b Usage h three = absurd h
-tests_status c name a b TooLong h three = absurd h
-tests_status c name a b (Refused error) h three = absurd h
-tests_status c name a b ReadFault h three = absurd (omega (arith, three))
-tests_status c name a b WriteFault h three = absurd h
-tests_status c name a b NoMemory h three = absurd (omega (arith, three))
-tests_status c name a b (BadTests line) h three = absurd (omega (arith, three))
-
 -- ---- writing
 
 -- a write failed after the texts were made
@@ -110,8 +99,8 @@ pub write_cause : (job : Asked) (a m b : DeskView) (e : RunError) → e ≡ Writ
     → IsWriteFault m b → AcceptsInputs job a → IsTruncated job a b → HasCause job a b e
 write_cause job a m b e is p failed inputs leaves = subst (λ (t : RunError). HasCause job a b t) (sym is) (record {
   fault = record {
-    rose = omega (arith, p.out_later, failed.rose);
-    unsteady = λ steady. failed.unsteady (subst IsTrue (sym p.steady) steady);
+    rose = omega (arith, p.after.out_faults, failed.rose);
+    unsteady = λ steady. failed.unsteady (subst IsTrue (sym p.after.steady) steady);
   };
   inputs = inputs;
   leaves = leaves;

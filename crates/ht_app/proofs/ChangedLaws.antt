@@ -2,33 +2,19 @@
 use Rattle.std.proofs.Common.{◌≡◌, ◌≢◌, ◌⊎◌, inl, inr, ℕ, List, Bool, true, false, IsTrue, refl, sym, ◌∙◌, ap, subst, arith, le_refl}
 use Rattle.std.specs.Prelude.{Option, Some, None, IsSome}
 use Rattle.std.specs.Option.{option_map}
-use Rattle.ht_ports.specs.Desk.{DeskView, InCall, OutCall, Writes, Created, NotCreated, IsFilePort, IsOtherName}
+use Rattle.ht_ports.specs.Desk.{DeskView, InCall, Writes, IsFilePort, IsOtherName}
 use Rattle.ht_ports.specs.declared.ports.InPort.{InPort}
 use Rattle.ht_ports.specs.declared.ports.OutPort.{OutPort}
-use Rattle.ht_ports.specs.declared.ports.OutPort.TheVariants.{Tests, Report, Proofs, Out, Err}
+use Rattle.ht_ports.proofs.CallLaws.{after_trans}
 use Rattle.ht_app.specs.Changed.{Ports, ChangedOnly, IsCreatedOnly, IsOtherFile}
 use Rattle.ht_app.proofs.CreatedLaws.{kept, created_trans, other_later}
 
 -- ---- runs of calls
 
-pub changed_refl : (ports : Ports) (a : DeskView) → ChangedOnly ports a a
-changed_refl ports a = record {
-  in_later = le_refl _;
-  out_later = le_refl _;
-  steady = refl;
-  left = λ p off. refl;
-  is_open = λ p off. refl;
-  written = λ p off. refl;
-  created = λ p. kept (ports.creates p) p a a (refl, refl);
-  file = λ n other. refl;
-}
-
 pub changed_trans : (ports : Ports) (a m b : DeskView) → ChangedOnly ports a m → ChangedOnly ports m b
     → ChangedOnly ports a b
 changed_trans ports a m b x y = record {
-  in_later = omega (arith, x.in_later, y.in_later);
-  out_later = omega (arith, x.out_later, y.out_later);
-  steady = y.steady ∙ x.steady;
+  after = after_trans x.after y.after;
   left = λ p off. y.left p off ∙ x.left p off;
   is_open = λ p off. y.is_open p off ∙ x.is_open p off;
   written = λ p off. y.written p off ∙ x.written p off;
@@ -45,9 +31,7 @@ pub record IsWithin (small large : Ports) : Type 0 where
 pub changed_within : (small large : Ports) (a b : DeskView) → IsWithin small large → ChangedOnly small a b
     → ChangedOnly large a b
 changed_within small large a b within x = record {
-  in_later = x.in_later;
-  out_later = x.out_later;
-  steady = x.steady;
+  after = x.after;
   left = λ p off. x.left p (within.reads p off);
   is_open = λ p off. x.is_open p (within.reads p off);
   written = λ p off. x.written p (within.writes p off);
@@ -73,11 +57,9 @@ other_out ports port p on off e = let t : ports.writes p ≡ true = ap ports.wri
 pub changed_by_reading : (ports : Ports) (port : InPort) (a b : DeskView) → ports.reads port ≡ true → InCall port a b
     → ChangedOnly ports a b
 changed_by_reading ports port a b on x = record {
-  in_later = x.in_later;
-  out_later = x.out_later;
-  steady = x.steady;
-  left = λ p off. x.others_left p (other_in ports port p on off);
-  is_open = λ p off. x.others_open p (other_in ports port p on off);
+  after = x.after;
+  left = λ p off. x.left.others p (other_in ports port p on off);
+  is_open = λ p off. x.is_open.others p (other_in ports port p on off);
   written = λ p off. ap (λ f. f p) x.written;
   created = λ p. kept (ports.creates p) p a b (ap (λ f. f p) x.named, ap (λ f. f p) x.is_created);
   file = λ n other. ap (λ f. f n) x.file;
@@ -88,47 +70,11 @@ pub changed_by_writing : (ports : Ports) (port : OutPort) (a b : DeskView) → p
     → IsOtherName (a.named port) n)
     → Writes port a b → ChangedOnly ports a b
 changed_by_writing ports port a b on others x = record {
-  in_later = x.call.in_later;
-  out_later = x.call.out_later;
-  steady = x.call.steady;
+  after = x.call.after;
   left = λ p off. ap (λ f. f p) x.call.left;
   is_open = λ p off. ap (λ f. f p) x.call.is_open;
-  written = λ p off. x.call.others_written p (other_out ports port p on off);
+  written = λ p off. x.call.written.others p (other_out ports port p on off);
   created = λ p. kept (ports.creates p) p a b (ap (λ f. f p) x.named, ap (λ f. f p) x.is_created);
   file = λ n other. x.call.other_files n (λ file. subst (λ (known : Option (List ℕ)). IsOtherName known n)
       (sym (ap (λ f. f port) x.named)) (others n (other port) file));
 }
-
--- Report is created, or not
-pub changed_by_creating : (ports : Ports) (name : List ℕ) (a b : DeskView) → ports.creates Report ≡ Some name
-    → ports.writes Report ≡ true → OutCall Report a b → Created Report name a b ⊎ NotCreated Report a b
-    → ChangedOnly ports a b
-changed_by_creating ports name a b creates on x how = record {
-  in_later = x.in_later;
-  out_later = x.out_later;
-  steady = x.steady;
-  left = λ p off. ap (λ f. f p) x.left;
-  is_open = λ p off. ap (λ f. f p) x.is_open;
-  written = λ p off. x.others_written p (other_out ports Report p on off);
-  created = created;
-  file = file how;
-}
-  where
-    at : Created Report name a b ⊎ NotCreated Report a b → IsCreatedOnly (Some name) Report a b
-    at (inl is) = inr is.named
-    at (inr not) = inl (ap (λ f. f Report) not.named, ap (λ f. f Report) not.is_created)
-
-    created : (p : OutPort) → IsCreatedOnly (ports.creates p) p a b
-    created Tests = kept (ports.creates Tests) Tests a b
-        (x.others_named Tests (λ e. cc), x.others_created Tests (λ e. cc))
-    created Report = subst (λ (o : Option (List ℕ)). IsCreatedOnly o Report a b) (sym creates) (at how)
-    created Proofs =
-        kept (ports.creates Proofs) Proofs a b (x.others_named Proofs (λ e. cc), x.others_created Proofs (λ e. cc))
-    created Out = kept (ports.creates Out) Out a b (x.others_named Out (λ e. cc), x.others_created Out (λ e. cc))
-    created Err = kept (ports.creates Err) Err a b (x.others_named Err (λ e. cc), x.others_created Err (λ e. cc))
-
-    file : Created Report name a b ⊎ NotCreated Report a b → (n : List ℕ)
-        → ((p : OutPort) → IsOtherFile (ports.creates p) (a.named p) n) → b.file n ≡ a.file n
-    file (inl is) n other = is.others n
-        (λ file. (subst (λ (o : Option (List ℕ)). IsOtherFile o (a.named Report) n) creates (other Report)).1)
-    file (inr not) n other = ap (λ f. f n) not.file

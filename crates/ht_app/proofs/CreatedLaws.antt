@@ -36,9 +36,3 @@ pub other_later : (created : Option (List ℕ)) (p : OutPort) (a m : DeskView) (
 other_later None p a m n x other = tt
 other_later (Some name) p a m n (inl x) other = (subst IsSome (sym x.0) other.0, other.1)
 other_later (Some name) p a m n (inr x) other = (subst IsSome (sym x) (some_named name (a.named p) other.0), other.1)
-
--- a port that was created under its name has no other file
-pub created_others : (name : List ℕ) (known before : Option (List ℕ)) (n : List ℕ)
-    → known ≡ option_map (λ (_ : List ℕ). name) before → IsOtherFile (Some name) known n → IsOtherName known n
-created_others name known None n is other = let e : false ≡ true = subst IsSome is other.0 in cc
-created_others name known (Some old) n is other = subst (λ (o : Option (List ℕ)). IsOtherName o n) (sym is) other.1

@@ -67,7 +67,7 @@ pub no_bad_tests : (netlist tests : List ℕ) (a : DeskView) → AcceptsTests ne
     → ¬ AreBadTests netlist tests a
 no_bad_tests netlist tests a accepts bad =
     let good = accepts.accepted bad.netlist bad.tests bad.inputs in
-    not_malformed bad.netlist bad.tests good.0 bad.circuit good.2.0 bad.line good.1 bad.good good.2.1 bad.malformed
+    not_malformed bad.netlist bad.tests good.0 bad.circuit good.2.0 bad.so.0 good.1 bad.good good.2.1 bad.so.1
 
 -- ---- good inputs
 
@@ -106,5 +106,5 @@ not_bad_tests (sim netlist tests report) a line are h =
       tests_is = subst (λ (n : List ℕ). IsInput Tests n are.tests a)
           (let e : Some tests ≡ Some h.tests_name = h.reads_tests in cc) are.inputs.tests_is;
     }) in
-    not_malformed are.netlist are.tests are.circuit bad.0 are.list line are.good bad.1 are.vectors bad.2
+    not_malformed are.netlist are.tests are.circuit bad.0 are.so.0 line are.good bad.1 are.so.1 bad.2
 not_bad_tests (norm netlist out) a line is h = let e : Some h.tests_name ≡ None = sym h.reads_tests in cc

@@ -1,13 +1,11 @@
 -- How many LFs a text has.
 use Rattle.std.proofs.Common.{◌≡◌, ◌≢◌, inl, inr, ℕ, zero, suc, ◌+◌, ◌<◌, List, [], ◌∷◌, ◌++◌, length, take, cond, refl, arith}
-use Rattle.std.specs.Prelude.{count_by, ◌==◌}
+use Rattle.std.specs.Prelude.{◌==◌}
 use Rattle.std.proofs.lemmas.List.Sums.{sum_by-append, sum_by-cons}
 use Rattle.std.proofs.lemmas.Bool.{cases_eq}
 use Rattle.std.proofs.lemmas.Bool.Decides.{nat_tests}
+use Rattle.ht_texts.specs.Tests.{lf_count}
 use Rattle.ht_ports.specs.LineRule.{HasNoLf, first_through}
-
-abbrev pub lf_count : List ℕ → ℕ
-lf_count bytes = count_by (λ byte. byte == 10) bytes
 
 -- one for an LF, else nothing
 abbrev one_if_lf : ℕ → ℕ

@@ -7,6 +7,7 @@ pub mod RefusalLaws
 pub mod CreatedLaws
 pub mod ChangedLaws
 pub mod PortsLaws
+pub mod ReadLaws
 pub mod CauseLaws
 pub mod OutputLaws
 pub mod AskedLaws

@@ -11,7 +11,7 @@ use Rattle.ht_app.specs.Inputs.{AcceptsTests, AcceptsNetlist}
 use Rattle.ht_app.specs.Jobs.{output_name}
 use Rattle.ht_app.specs.Changed.{ChangedOnly}
 use Rattle.ht_app.specs.Done.{IsDone, IsCreatedAs}
-use Rattle.ht_app.specs.Truncated.{IsShort, StopsInReport, IsTruncated}
+use Rattle.ht_app.specs.Truncated.{StopsInText, StopsInReport, IsTruncated}
 use Rattle.ht_app.specs.Steps.{reading, IsBegun, IsReported, AreWorkedInto, IsNormalTextOf}
 
 -- ---- a finished run
@@ -72,8 +72,8 @@ norm_done netlist name text a m b p begun input normal = record {
 -- ---- a run that failed in writing
 
 -- nothing came out before
-short_earlier : (text : List ℕ) (a m b : DeskView) → m.written Report ≡ a.written Report → IsShort text m b
-    → IsShort text a b
+short_earlier : (text : List ℕ) (a m b : DeskView) → m.written Report ≡ a.written Report → StopsInText text m b
+    → StopsInText text a b
 short_earlier text a m b same (inl is) = inl (is ∙ same)
 short_earlier text a m b same (inr is) =
     inr (is.0, is.1, is.2 ∙ ap (λ known. option_map (λ (_ : List ℕ). take is.0 text) known) same)
@@ -106,11 +106,11 @@ sim_truncated netlist tests name body total a m b p texts stops = λ n t inputs.
 }
 
 pub norm_truncated : (netlist name text : List ℕ) (a m b : DeskView) → ChangedOnly (reading (norm netlist name)) a m
-    → IsNormalTextOf netlist a text → IsShort text m b → IsTruncated (norm netlist name) a b
+    → IsNormalTextOf netlist a text → StopsInText text m b → IsTruncated (norm netlist name) a b
 norm_truncated netlist name text a m b p normal stops = λ n is.
     let made = normal.normal n is in
     record {
       circuit = made.0;
       good = made.1;
-      stops = subst (λ (l : List ℕ). IsShort l a b) made.2 (short_earlier text a m b (p.written Report refl) stops);
+      stops = subst (λ (l : List ℕ). StopsInText l a b) made.2 (short_earlier text a m b (p.written Report refl) stops);
     }

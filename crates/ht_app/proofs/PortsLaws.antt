@@ -38,11 +38,9 @@ reading_within job status ne =
 not_read : (job : Asked) (a b : DeskView) → ChangedOnly (reading job) a b → IsUnread in_port.Tests a b
     → ChangedOnly (job_ports job 3) a b
 not_read job a b x unread = record {
-  in_later = x.in_later;
-  out_later = x.out_later;
-  steady = x.steady;
-  left = left;
-  is_open = is_open;
+  after = x.after;
+  left = kept b.left a.left x.left unread.left;
+  is_open = kept b.is_open a.is_open x.is_open unread.is_open;
   written = λ p off. x.written p refl;
   created = λ p. x.created p;
   file = λ n other. x.file n (λ p. tt);
@@ -58,19 +56,14 @@ not_read job a b x unread = record {
     none (norm netlist out) in_port.Proofs n t = refl
     none (norm netlist out) in_port.Extra n t = refl
 
-    left : (p : InPort) → (job_ports job 3).reads p ≡ false → b.left p ≡ a.left p
-    left in_port.Netlist off = x.left in_port.Netlist off
-    left in_port.Tests off = unread.left
-    left in_port.Report off = x.left in_port.Report (none job in_port.Report (λ e. cc) (λ e. cc))
-    left in_port.Proofs off = x.left in_port.Proofs (none job in_port.Proofs (λ e. cc) (λ e. cc))
-    left in_port.Extra off = x.left in_port.Extra (none job in_port.Extra (λ e. cc) (λ e. cc))
-
-    is_open : (p : InPort) → (job_ports job 3).reads p ≡ false → b.is_open p ≡ a.is_open p
-    is_open in_port.Netlist off = x.is_open in_port.Netlist off
-    is_open in_port.Tests off = unread.is_open
-    is_open in_port.Report off = x.is_open in_port.Report (none job in_port.Report (λ e. cc) (λ e. cc))
-    is_open in_port.Proofs off = x.is_open in_port.Proofs (none job in_port.Proofs (λ e. cc) (λ e. cc))
-    is_open in_port.Extra off = x.is_open in_port.Extra (none job in_port.Extra (λ e. cc) (λ e. cc))
+    -- what stands at the ports is kept where the job reads no port but the netlist and the tests
+    kept : {T : Type 0} (new old : InPort → T) → ((p : InPort) → is_some (input_name job p) ≡ false → new p ≡ old p)
+        → new in_port.Tests ≡ old in_port.Tests → (p : InPort) → (job_ports job 3).reads p ≡ false → new p ≡ old p
+    kept new old others tests in_port.Netlist off = others in_port.Netlist off
+    kept new old others tests in_port.Tests off = tests
+    kept new old others tests in_port.Report off = others in_port.Report (none job in_port.Report (λ e. cc) (λ e. cc))
+    kept new old others tests in_port.Proofs off = others in_port.Proofs (none job in_port.Proofs (λ e. cc) (λ e. cc))
+    kept new old others tests in_port.Extra off = others in_port.Extra (none job in_port.Extra (λ e. cc) (λ e. cc))
 
 pub ends_reading : (job : Asked) (e : RunError) (a b : DeskView) → ChangedOnly (reading job) a b
     → (exit_status e ≡ 3 → IsUnread in_port.Tests a b) → ChangedOnly (job_ports job (exit_status e)) a b

@@ -1,14 +1,14 @@
 -- The lines of a tests text that were read so far.
-use Rattle.std.proofs.Common.{◌≡◌, ◌⊎◌, inl, inr, ℕ, zero, suc, ◌+◌, ◌<◌, ◌≤◌, ◌^◌, List, [], ◌∷◌, ◌++◌, Bool, length, get_or, Some, None, Option, map, append_assoc, append-nil, refl, sym, ◌∙◌, ap, arith}
+use Rattle.std.proofs.Common.{◌≡◌, ◌⊎◌, inl, inr, ℕ, zero, suc, ◌+◌, ◌<◌, ◌≤◌, List, [], ◌∷◌, ◌++◌, Bool, length, get_or, Some, None, Option, map, append_assoc, append-nil, refl, sym, ◌∙◌, ap, arith}
 use Rattle.std.specs.Prelude.{All}
 use Rattle.std.proofs.lemmas.List.{length-append, map-append}
 use Rattle.std.proofs.lemmas.List.Elements.{All-append}
 use Rattle.std.specs.Io.KnownBytes.{IsAtEnd}
-use Rattle.ht_ports.specs.LineRule.{NextLine, lines_of}
+use Rattle.ht_ports.specs.LineRule.{NextLine, lines_of, max_text_bytes}
 use Rattle.ht_ports.proofs.TextLaws.{next_splits}
 use Rattle.ht_net.specs.Netlist.{Netlist}
-use Rattle.ht_texts.specs.Tests.{vector_text, IsTextOf, IsTestText}
-use Rattle.ht_app.proofs.LfLaws.{lf_count, lf_count-append, no_lf_count}
+use Rattle.ht_texts.specs.Tests.{lf_count, vector_text, IsTextOf, IsTestText}
+use Rattle.ht_app.proofs.LfLaws.{lf_count-append, no_lf_count}
 
 -- The lines so far are those of the list, and the rest is still to come.
 pub record SoFar (c : Netlist) (text : List ℕ) (passed : ℕ) (list : List (List Bool)) (rest : List ℕ) : Type 0 where
@@ -76,7 +76,7 @@ so_far_next c text passed list rest line count (Some after) vector so next is =
 
 -- at the end all lines are read
 pub so_far_end : (c : Netlist) (text : List ℕ) (passed : ℕ) (list : List (List Bool)) (rest : List ℕ)
-    → SoFar c text passed list rest → rest ≡ [] → passed ≤ 2 ^ 62 → IsTestText c text list
+    → SoFar c text passed list rest → rest ≡ [] → passed ≤ max_text_bytes → IsTestText c text list
 so_far_end c text passed list rest so end fits = record {
   lines = so.lines ∙ ap (λ l. map vector_text list ++ lines_of l) end ∙ append-nil (map vector_text list);
   widths = so.widths;

@@ -1,7 +1,7 @@
 -- What a status tells, whatever the error.
 use Rattle.std.proofs.Common.{◌≡◌, ◌≢◌, ◌⊎◌, inl, inr, ◌≤◌, ℕ, List, IsTrue, refl, arith}
 use Rattle.std.specs.Prelude.{Some}
-use Rattle.ht_ports.specs.Desk.{DeskView}
+use Rattle.ht_ports.specs.Desk.{DeskView, IsAfter}
 use Rattle.ht_ports.specs.declared.ports.InPort.TheVariants.{Netlist}
 use Rattle.ht_asked.specs.Asked.{Asked, sim}
 use Rattle.ht_app.specs.declared.run_error.RunError.{RunError}
@@ -82,7 +82,8 @@ steady_status job a b (BadTests line) h steady holds = (λ e. absurd (omega (ari
 -- ---- the line
 
 -- a count that rose before the line was said still rose after it
-pub faultless_before : (a m b : DeskView) → m.in_faults ≤ b.in_faults → m.out_faults ≤ b.out_faults → Faultless a b
-    → Faultless a m
-faultless_before a m b p q none = record
-    { reads = λ rose. none.reads (omega (arith, p, rose)); writes = λ rose. none.writes (omega (arith, q, rose)) }
+pub faultless_before : (a m b : DeskView) → IsAfter m b → Faultless a b → Faultless a m
+faultless_before a m b p none = record {
+  reads = λ rose. none.reads (omega (arith, p.in_faults, rose));
+  writes = λ rose. none.writes (omega (arith, p.out_faults, rose));
+}

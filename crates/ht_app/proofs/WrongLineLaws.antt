@@ -1,30 +1,30 @@
 -- The first line of a tests text that is no vector, or at which the text is too long.
-use Rattle.std.proofs.Common.{◌≡◌, inl, inr, ℕ, ◌+◌, ◌-◌, ◌<◌, ◌≤◌, ◌^◌, List, [], ◌∷◌, ◌++◌, Bool, length, take, get_or, Some, Option, map, sym, ◌∙◌, ap, subst, arith}
+use Rattle.std.proofs.Common.{◌≡◌, inl, inr, ℕ, ◌+◌, ◌-◌, ◌<◌, ◌≤◌, List, [], ◌∷◌, ◌++◌, Bool, length, take, get_or, Some, Option, map, sym, ◌∙◌, ap, subst, arith}
 use Rattle.std.proofs.lemmas.List.{length-append, length-map, get_or-map}
 use Rattle.std.proofs.Math.Seq.{take-append-add, get_or-append_seam}
 use Rattle.std.proofs.Math.ListN.{get_or-append}
-use Rattle.ht_ports.specs.LineRule.{NextLine, IsTooLongLine, lines_of, without_cr, first_piece}
+use Rattle.ht_ports.specs.LineRule.{NextLine, IsTooLongLine, max_text_bytes, lines_of, without_cr, first_piece}
 use Rattle.ht_ports.proofs.TextLaws.{next_splits, first_line, length-first_through}
-use Rattle.ht_net.specs.Netlist.{Netlist}
-use Rattle.ht_texts.specs.Tests.{bit_code, vector_text, IsTextOf, IsMalformedTest, IsWrongLine, line_at, line_of_byte}
-use Rattle.ht_app.proofs.LfLaws.{lf_count, lf_count-append, lf_count-take}
+use Rattle.ht_net.specs.Netlist.{Netlist, max_inputs}
+use Rattle.ht_texts.specs.Tests.{lf_count, bit_code, vector_text, IsTextOf, IsMalformedTest, IsWrongLine, line_at, line_of_byte}
+use Rattle.ht_app.proofs.LfLaws.{lf_count-append, lf_count-take}
 use Rattle.ht_app.proofs.SoFarLaws.{SoFar}
 
 -- the byte at which a text becomes too long comes after the lines so far
 byte_line : (c : Netlist) (text : List ℕ) (passed : ℕ) (list : List (List Bool)) (rest : List ℕ)
-    → SoFar c text passed list rest → 0 < length rest → passed ≤ 2 ^ 62
-    → line_of_byte text (2 ^ 62) ≡ length list + lf_count (take (2 ^ 62 - passed) rest) + 1
+    → SoFar c text passed list rest → 0 < length rest → passed ≤ max_text_bytes
+    → line_of_byte text max_text_bytes ≡ length list + lf_count (take (max_text_bytes - passed) rest) + 1
 byte_line c text passed list rest so some fits =
-    let split : length so.front + (2 ^ 62 - passed) ≡ 2 ^ 62 = omega (arith, so.size, fits) in
-    let cut : take (2 ^ 62) text ≡ so.front ++ take (2 ^ 62 - passed) rest =
-    ap (λ n. take n text) (sym split) ∙ ap (λ t. take (length so.front + (2 ^ 62 - passed)) t) so.whole ∙
-    take-append-add so.front rest (2 ^ 62 - passed) in
-    ap (λ l. lf_count l + 1) cut ∙ ap (λ n. n + 1) (lf_count-append so.front (take (2 ^ 62 - passed) rest)) ∙ ap
-    (λ n. n + lf_count (take (2 ^ 62 - passed) rest) + 1) (so.lfs some)
+    let split : length so.front + (max_text_bytes - passed) ≡ max_text_bytes = omega (arith, so.size, fits) in
+    let cut : take max_text_bytes text ≡ so.front ++ take (max_text_bytes - passed) rest =
+    ap (λ n. take n text) (sym split) ∙ ap (λ t. take (length so.front + (max_text_bytes - passed)) t) so.whole ∙
+    take-append-add so.front rest (max_text_bytes - passed) in
+    ap (λ l. lf_count l + 1) cut ∙ ap (λ n. n + 1) (lf_count-append so.front (take (max_text_bytes - passed) rest)) ∙ ap
+    (λ n. n + lf_count (take (max_text_bytes - passed) rest) + 1) (so.lfs some)
 
 -- no line so far is wrong
 none_before : (c : Netlist) (text : List ℕ) (passed : ℕ) (list : List (List Bool)) (rest : List ℕ)
-    → SoFar c text passed list rest → 0 < length rest → passed ≤ 2 ^ 62
+    → SoFar c text passed list rest → 0 < length rest → passed ≤ max_text_bytes
     → (m : ℕ) → m < length list + 1 → ¬ IsWrongLine c text m
 none_before c text passed list rest so some fits m lt (inl none) =
     let inside : m - 1 < length list = omega (arith, lt, none.counted.0) in
@@ -53,7 +53,7 @@ next_line_at c text passed list rest so line more is =
 
 -- a next line that no vector has as its text
 no_vector : (c : Netlist) (text : List ℕ) (passed : ℕ) (list : List (List Bool)) (rest : List ℕ)
-    → SoFar c text passed list rest → 0 < length rest → passed ≤ 2 ^ 62
+    → SoFar c text passed list rest → 0 < length rest → passed ≤ max_text_bytes
     → (line : List ℕ) (more : List (List ℕ)) → lines_of rest ≡ line ∷ more
     → ((vector : List Bool) → ¬ IsTextOf c.inputs line vector) → IsMalformedTest c text (length list + 1)
 no_vector c text passed list rest so some fits line more is none =
@@ -69,7 +69,7 @@ no_vector c text passed list rest so some fits line more is none =
 
 pub bad_line : (c : Netlist) (text : List ℕ) (passed : ℕ) (list : List (List Bool)) (rest line : List ℕ) (count : ℕ)
     (new : Option (List ℕ))
-    → SoFar c text passed list rest → passed ≤ 2 ^ 62 → 0 < count → NextLine line count (Some rest) new
+    → SoFar c text passed list rest → passed ≤ max_text_bytes → 0 < count → NextLine line count (Some rest) new
     → ((vector : List Bool) → ¬ IsTextOf c.inputs line vector)
     → IsMalformedTest c text (length list + 1)
 bad_line c text passed list rest line count new so fits some next none =
@@ -77,7 +77,7 @@ bad_line c text passed list rest line count new so fits some next none =
     no_vector c text passed list rest so (omega (arith, cut.2.size, some)) fits line (lines_of cut.0) cut.2.lines none
 
 pub too_long : (c : Netlist) (text : List ℕ) (passed : ℕ) (list : List (List Bool)) (rest : List ℕ)
-    → SoFar c text passed list rest → passed ≤ 2 ^ 62 → c.inputs ≤ 4096 → IsTooLongLine 4096 passed rest
+    → SoFar c text passed list rest → passed ≤ max_text_bytes → c.inputs ≤ max_inputs → IsTooLongLine max_inputs passed rest
     → IsMalformedTest c text (length list + 1)
 too_long c text passed list [] so fits few (inl long) = absurd (omega arith)
 too_long c text passed list [] so fits few (inr late) = absurd (omega (arith, fits, late))
@@ -87,7 +87,7 @@ too_long c text passed list (x ∷ rest) so fits few (inl long) =
     (λ vector of. absurd (omega (arith, long, few, of.bits, ap length of.characters, length-map vector bit_code)))
 too_long c text passed list (x ∷ rest) so fits few (inr late) =
     let line = byte_line c text passed list (x ∷ rest) so (omega arith) fits in
-    let none = lf_count-take (x ∷ rest) (2 ^ 62 - passed) (omega (arith, late, fits)) in
+    let none = lf_count-take (x ∷ rest) (max_text_bytes - passed) (omega (arith, late, fits)) in
     let within = length-first_through (x ∷ rest) in
     record {
       wrong = inr (record {

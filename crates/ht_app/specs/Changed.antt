@@ -1,9 +1,9 @@
 -- What a run leaves as it was.
-use Rattle.std.specs.Prelude.{◌≡◌, ◌≢◌, ◌⊎◌, ℕ, ◌≤◌, ◌==◌, ◌&&◌, ◌||◌, not, List, Bool, true, false}
+use Rattle.std.specs.Prelude.{◌≡◌, ◌≢◌, ◌⊎◌, ℕ, ◌==◌, ◌&&◌, ◌||◌, not, List, Bool, true, false}
 use Rattle.std.specs.Prelude.{Option, Some, None, IsSome, is_some, if◌then◌else◌}
 use Rattle.std.specs.Option.{option_map}
 use Rattle.ht_ports.specs.Causes.{Rose}
-use Rattle.ht_ports.specs.Desk.{DeskView}
+use Rattle.ht_ports.specs.Desk.{DeskView, IsAfter}
 use Rattle.ht_ports.specs.declared.ports.InPort.{InPort}
 use Rattle.ht_ports.specs.declared.ports.InPort.TheVariants.{Netlist}
 use Rattle.ht_ports.specs.declared.ports.OutPort.{OutPort}
@@ -36,9 +36,7 @@ IsOtherFile (Some created) known name = IsSome known × (name ≢ created)
 -- Nothing changed but at these ports; no other file changed; the counts of faults didn't fall, and the desk stays
 -- steady or not.
 pub record ChangedOnly (ports : Ports) (old new : DeskView) : Type 0 where
-  pub in_later : old.in_faults ≤ new.in_faults
-  pub out_later : old.out_faults ≤ new.out_faults
-  pub steady : new.steady ≡ old.steady
+  pub after : IsAfter old new
   pub left : (p : InPort) → ports.reads p ≡ false → new.left p ≡ old.left p
   pub is_open : (p : InPort) → ports.reads p ≡ false → new.is_open p ≡ old.is_open p
   pub written : (p : OutPort) → ports.writes p ≡ false → new.written p ≡ old.written p

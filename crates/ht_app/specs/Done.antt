@@ -1,39 +1,28 @@
 -- What a finished run leaves.
-use Rattle.std.specs.Prelude.{◌≡◌, ℕ, List, Bool, IsTrue, Option, Some, None}
+use Rattle.std.specs.Prelude.{◌≡◌, ℕ, List, Bool, IsTrue, Option, Some}
 use Rattle.std.specs.Option.{option_map}
 use Rattle.std.specs.Io.KnownBytes.{append_known}
 use Rattle.ht_ports.specs.Desk.{DeskView}
 use Rattle.ht_ports.specs.declared.ports.InPort.TheVariants.{Netlist}
 use Rattle.ht_ports.specs.declared.ports.OutPort.{OutPort}
 use Rattle.ht_ports.specs.declared.ports.OutPort.TheVariants.{Report, Out}
-use Rattle.ht_net.specs.declared.place.Place.{Place}
 use Rattle.ht_net.specs.Netlist as net
-use Rattle.ht_collapse.specs.Classes.{AreClasses}
-use Rattle.ht_grade.specs.Detections.{AreFirstDetections}
 use Rattle.ht_bench.specs.Normal.{normal_text}
-use Rattle.ht_texts.specs.Lines.{with_lf}
 use Rattle.ht_texts.specs.Tests.{IsTestText}
-use Rattle.ht_texts.specs.Verdicts.{saids_of}
-use Rattle.ht_texts.specs.Reports.{report_text, report_sums, total_line}
 use Rattle.ht_asked.specs.Asked.{Asked, sim, norm}
 use Rattle.ht_app.specs.Inputs.{IsInput, IsGoodNetlist, AreInputs, AcceptsInputs}
 use Rattle.ht_app.specs.Jobs.{output_name}
+use Rattle.ht_app.specs.Simulation.{IsReportOf}
 
 -- ---- `sim`
 
--- The report and the total line of a circuit over the vectors of a tests text. A fault that represents its class has
--- its own verdict, and every other names its representative.
+-- the report and the total line of the netlist's circuit over the vectors of the tests text
 pub record IsSimulated (netlist tests report total : List ℕ) : Type 0 where
   pub circuit : net.Netlist
   pub list : List (List Bool)
-  pub representatives : List ℕ
-  pub places : List (Option Place)
   pub accepted : IsGoodNetlist netlist circuit
   pub vectors : IsTestText circuit tests list
-  pub classes : AreClasses circuit representatives
-  pub detections : AreFirstDetections circuit representatives list places
-  pub report_is : report ≡ report_text circuit representatives None (saids_of places)
-  pub total_is : total ≡ with_lf (total_line (report_sums representatives None (saids_of places)))
+  pub reported : IsReportOf circuit list report total
 
 -- ---- the output
 

@@ -59,24 +59,25 @@ pub record IsGoodNetlistFile (name : List ℕ) (desk : DeskView) : Type 0 where
   pub circuit : net.Netlist
   pub good : IsGoodNetlist text circuit
 
--- the netlist is good, and a line of the tests is no vector of its circuit
-pub record AreBadTests (netlist_name tests_name : List ℕ) (desk : DeskView) : Type 0 where
+-- the desk knows the netlist and the tests, and the netlist is good, and the tests are so for its circuit
+pub record AreTests (netlist_name tests_name : List ℕ) (desk : DeskView) (IsSo : net.Netlist → List ℕ → Type 0)
+    : Type 0 where
   pub netlist : List ℕ
   pub tests : List ℕ
   pub inputs : AreInputs netlist_name tests_name netlist tests desk
   pub circuit : net.Netlist
   pub good : IsGoodNetlist netlist circuit
-  pub line : ℕ
-  pub malformed : IsMalformedTest circuit tests line
+  pub so : IsSo circuit tests
 
-pub record AreGoodTests (netlist_name tests_name : List ℕ) (desk : DeskView) : Type 0 where
-  pub netlist : List ℕ
-  pub tests : List ℕ
-  pub inputs : AreInputs netlist_name tests_name netlist tests desk
-  pub circuit : net.Netlist
-  pub good : IsGoodNetlist netlist circuit
-  pub list : List (List Bool)
-  pub vectors : IsTestText circuit tests list
+-- a line of the tests is no vector of the circuit
+abbrev pub AreBadTests : List ℕ → List ℕ → DeskView → Type 0
+AreBadTests netlist_name tests_name desk =
+    AreTests netlist_name tests_name desk (λ c text. (line : ℕ) × IsMalformedTest c text line)
+
+-- each line of the tests is a vector of the circuit
+abbrev pub AreGoodTests : List ℕ → List ℕ → DeskView → Type 0
+AreGoodTests netlist_name tests_name desk =
+    AreTests netlist_name tests_name desk (λ c text. (list : List (List Bool)) × IsTestText c text list)
 
 -- the desk knows all that the job reads, and it is good
 abbrev pub AreGoodInputs : Asked → DeskView → Type 0

@@ -2,7 +2,7 @@
 use Rattle.std.specs.Prelude.{◌≡◌, ◌≢◌, ◌⊎◌, ℕ, ◌<◌, ◌≤◌, List, length, take, Some, None, IsTrue, Option}
 use Rattle.std.specs.Io.KnownBytes.{append_known}
 use Rattle.ht_ports.specs.Causes.{Rose}
-use Rattle.ht_ports.specs.Desk.{DeskView, Holds, Writes}
+use Rattle.ht_ports.specs.Desk.{DeskView, IsAfter, Holds, Writes}
 use Rattle.ht_ports.specs.declared.ports.InPort.{InPort}
 use Rattle.ht_ports.specs.declared.ports.InPort.TheVariants.{Netlist, Tests}
 use Rattle.ht_ports.specs.declared.ports.OutPort.TheVariants.{Err}
@@ -114,8 +114,7 @@ pub record EndsBy (asked : Option Asked) (status : ℕ) (old new : DeskView) : T
   pub is : status ≡ exit_status error
   -- the desk as the work left it, which said nothing on Err; then comes the line and nothing else
   pub worked : DeskView
-  pub in_later : old.in_faults ≤ worked.in_faults
-  pub out_later : old.out_faults ≤ worked.out_faults
+  pub after : IsAfter old worked
   pub quiet : worked.written Err ≡ old.written Err
   pub cause : AskedHasCause asked old worked error
   pub line : Writes Err worked new

@@ -6,13 +6,14 @@ use Rattle.ht_collapse.specs.Classes.{AreClasses}
 use Rattle.ht_grade.specs.Detections.{AreFirstDetections}
 use Rattle.ht_texts.specs.Lines.{with_lf}
 use Rattle.ht_texts.specs.Verdicts.{saids_of}
-use Rattle.ht_texts.specs.Reports.{report_body, report_sums, total_line}
+use Rattle.ht_texts.specs.Reports.{report_text, report_sums, total_line}
 
--- the report of the vectors, without its last line, and that line
-pub record IsReportOf (c : Netlist) (list : List (List Bool)) (body total : List ℕ) : Type 0 where
+-- The report of a circuit over these vectors, and its total line. A fault that represents its class has its own
+-- verdict, and every other names its representative.
+pub record IsReportOf (c : Netlist) (list : List (List Bool)) (report total : List ℕ) : Type 0 where
   pub representatives : List ℕ
   pub places : List (Option Place)
   pub classes : AreClasses c representatives
   pub detections : AreFirstDetections c representatives list places
-  pub body_is : body ≡ report_body c representatives None (saids_of places)
+  pub report_is : report ≡ report_text c representatives None (saids_of places)
   pub total_is : total ≡ with_lf (total_line (report_sums representatives None (saids_of places)))

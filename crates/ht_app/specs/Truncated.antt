@@ -12,8 +12,8 @@ use Rattle.ht_app.specs.Inputs.{IsInput, IsGoodNetlist, AreInputs}
 use Rattle.ht_app.specs.Done.{IsSimulated}
 
 -- Report is as it was, or has a proper front of this text
-abbrev pub IsShort : List ℕ → DeskView → DeskView → Type 0
-IsShort text old new = (new.written Report ≡ old.written Report)
+abbrev pub StopsInText : List ℕ → DeskView → DeskView → Type 0
+StopsInText text old new = (new.written Report ≡ old.written Report)
     ⊎ ((count : ℕ) × (count < length text)
     × (new.written Report ≡ option_map (λ _. take count text) (old.written Report)))
 
@@ -21,7 +21,7 @@ IsShort text old new = (new.written Report ≡ old.written Report)
 
 -- the body is short, and nothing is said on Out
 pub record StopsInBody (body : List ℕ) (old new : DeskView) : Type 0 where
-  pub report : IsShort body old new
+  pub report : StopsInText body old new
   pub out : new.written Out ≡ old.written Out
 
 -- the whole body stands, and a proper front of the total line is on Out
@@ -55,7 +55,7 @@ pub record SimIsTruncated (netlist tests : List ℕ) (old new : DeskView) : Type
 pub record NormIsTruncated (netlist : List ℕ) (old new : DeskView) : Type 0 where
   pub circuit : net.Netlist
   pub good : IsGoodNetlist netlist circuit
-  pub stops : IsShort (normal_text circuit) old new
+  pub stops : StopsInText (normal_text circuit) old new
 
 abbrev pub IsTruncated : Asked → DeskView → DeskView → Type 0
 IsTruncated (sim netlist_name tests_name report_name) old new = (netlist tests : List ℕ)

@@ -3,7 +3,7 @@ ghost use Rattle.std.specs.Prelude.{◌≡◌, true, false, is_ok, IfErr, OnOk, 
 ghost use Rattle.ht_ports.specs.Desk.{IsWritable, OutCall, Wrote};
 ghost use Rattle.ht_ports.specs.declared.ports.OutPort.TheVariants as out_port;
 ghost use Rattle.ht_app.specs.Changed.{ChangedOnly};
-ghost use Rattle.ht_app.specs.Truncated.{IsShort, StopsInReport};
+ghost use Rattle.ht_app.specs.Truncated.{StopsInText, StopsInReport};
 ghost use Rattle.ht_app.specs.Run.{IsWriteFault};
 ghost use Rattle.ht_app.specs.Steps.{writing, IsBegun, IsReported};
 ghost use Rattle.ht_app.specs.declared.run_error.RunError.TheVariants as error;
@@ -32,7 +32,7 @@ pub fn begin_report<D: Desk>(desk: &mut D, name: &str, text: &[u8]) -> Result<()
     ensures frame { OutCall out_port.Report (D.view desk.old) (D.view desk.new) }
     ensures changed { ChangedOnly (writing name.now false) (D.view desk.old) (D.view desk.new) }
     ensures begun { OnOk result (IsBegun name.now text.now (D.view desk.old) (D.view desk.new)) }
-    ensures stops { OnErr result (IsShort text.now (D.view desk.old) (D.view desk.new)) }
+    ensures stops { OnErr result (StopsInText text.now (D.view desk.old) (D.view desk.new)) }
     ensures error { IfErr result (λ e. e ≡ error.WriteFault) }
     ensures fault { OnErr result (IsWriteFault (D.view desk.old) (D.view desk.new)) }
 {

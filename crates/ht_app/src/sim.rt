@@ -1,5 +1,6 @@
 //! The command `sim`.
-ghost use Rattle.std.specs.Prelude.{◌≡◌, ◌≤◌, ◌^◌, List, ℕ, length, IfOk, IfErr, OnOk};
+ghost use Rattle.std.specs.Prelude.{◌≡◌, ◌≤◌, ◌++◌, List, ℕ, length, IfOk, IfErr, OnOk};
+ghost use Rattle.ht_ports.specs.LineRule.{max_text_bytes};
 ghost use Rattle.ht_ports.specs.declared.ports.InPort.TheVariants as in_port;
 ghost use Rattle.ht_ports.specs.declared.ports.OutPort.TheVariants as out_port;
 ghost use Rattle.ht_net.specs.Netlist.{IsCircuit};
@@ -31,11 +32,12 @@ struct Texts {
 }
 
 // Simulates the representative of each class of faults over the vectors.
-fn texts_of(alloc: Global, circuit: &Circuit, list: &Vectors) -> Result<Texts, AllocError>
+fn report_texts(alloc: Global, circuit: &Circuit, list: &Vectors) -> Result<Texts, AllocError>
     requires width { list.now.width ≡ circuit.now.inputs }
-    requires few { length list.now.list ≤ 2 ^ 62 }
+    requires few { length list.now.list ≤ max_text_bytes }
     ensures { IfOk result
-        (λ texts. IsReportOf circuit.now list.now.list texts.body.items texts.total.items) }
+        (λ texts. IsReportOf circuit.now list.now.list (texts.body.items ++ texts.total.items)
+        texts.total.items) }
 {
     let faults = ht_faults::list(alloc, circuit)?;
     let classes = collapse(alloc, circuit, &faults)?;
@@ -67,7 +69,7 @@ fn simulate<D: Desk>(
 {
     let circuit = read_netlist(alloc, desk, netlist)?;
     let list = read_tests(alloc, desk, tests, &circuit)?;
-    let texts = texts_of(alloc, &circuit, &list)?;
+    let texts = report_texts(alloc, &circuit, &list)?;
     Ok(texts)
 }
 

@@ -1,6 +1,7 @@
 //! The tests, from their file to a list of vectors.
-ghost use Rattle.std.specs.Prelude.{◌≡◌, ◌≤◌, ◌^◌, ◌++◌, ◌∷◌, [], length, List, Bool, ℕ, IfOk, IfErr, OnOk, MatchBool};
+ghost use Rattle.std.specs.Prelude.{◌≡◌, ◌≤◌, ◌++◌, ◌∷◌, [], length, List, Bool, ℕ, IfOk, IfErr, OnOk, MatchBool};
 ghost use Rattle.ht_ports.specs.Desk.{InCall};
+ghost use Rattle.ht_ports.specs.LineRule.{max_text_bytes};
 ghost use Rattle.ht_ports.specs.declared.ports.InPort.TheVariants as in_port;
 ghost use Rattle.ht_net.specs.Netlist.{IsCircuit};
 ghost use Rattle.ht_texts.specs.Tests.{IsTestText, IsTextOf};
@@ -44,7 +45,7 @@ pub fn read_tests<D: Desk>(
     ensures frame { InCall in_port.Tests (D.view desk.old) (D.view desk.new) }
     ensures there { OnOk result (MayHold (D.view desk.old) name.now) }
     ensures width { IfOk result (λ list. list.width ≡ circuit.now.inputs) }
-    ensures few { IfOk result (λ list. length list.list ≤ 2 ^ 62) }
+    ensures few { IfOk result (λ list. length list.list ≤ max_text_bytes) }
     ensures list { IfOk result
         (λ list. (text : List ℕ) → IsInput in_port.Tests name.now text (D.view desk.old)
         → IsTestText circuit.now text list.list) }

@@ -1,7 +1,7 @@
 -- The first line of a text.
 use Rattle.std.proofs.Common.{◌≡◌, ℕ, ◌<◌, List, [], ◌∷◌, length, map, ◌∙◌, ap, arith}
 use Rattle.ht_ports.specs.LineRule.{lines_of, without_cr}
-use Rattle.ht_ports.proofs.LineEndLaws.{pieces-lf, pieces-last}
+use Rattle.ht_ports.proofs.PieceLaws.{pieces-lf, pieces-last}
 use Rattle.ht_bench.specs.Split.{Lacks, IsSplit}
 
 pub lines_split : (text piece rest : List ℕ) → IsSplit text 10 piece rest → lines_of text ≡ without_cr piece

@@ -11,20 +11,18 @@ use Rattle.ht_ports.specs.declared.lines.LineFault.{LineFault}
 abbrev Answers : LinesView → LinesView → DeskView → DeskView → Option (Bor (List ℕ)) → Type 0
 Answers old new a b o = MatchOption o (GivesNone old new a b) (λ line. Gives line.now old new a b)
 
-next_ok : (old new : LinesView) (a b : DeskView) (result : Result (Option (Bor (List ℕ))) LineFault)
-    (o : Option (Bor (List ℕ)))
+next_ok : {old new : LinesView} {a b : DeskView} {result : Result (Option (Bor (List ℕ))) LineFault}
+    {o : Option (Bor (List ℕ))}
     → Next old new a b result → result ≡ Ok o → Answers old new a b o
-next_ok old new a b result o next is =
+next_ok {old = old} {new = new} {a = a} {b = b} next is =
     subst (λ (r : Result (Option (Bor (List ℕ))) LineFault). IfOk r (Answers old new a b)) is next.answer
 
-pub next_some : (old new : LinesView) (a b : DeskView) (result : Result (Option (Bor (List ℕ))) LineFault)
-    (o : Option (Bor (List ℕ))) (line : Bor (List ℕ))
+pub next_some : {old new : LinesView} {a b : DeskView} {result : Result (Option (Bor (List ℕ))) LineFault}
+    {o : Option (Bor (List ℕ))} {line : Bor (List ℕ)}
     → Next old new a b result → result ≡ Ok o → o ≡ Some line → Gives line.now old new a b
-next_some old new a b result o line next is some =
-    subst (Answers old new a b) some (next_ok old new a b result o next is)
+next_some {old = old} {new = new} {a = a} {b = b} next is some = subst (Answers old new a b) some (next_ok next is)
 
-pub next_none : (old new : LinesView) (a b : DeskView) (result : Result (Option (Bor (List ℕ))) LineFault)
-    (o : Option (Bor (List ℕ)))
+pub next_none : {old new : LinesView} {a b : DeskView} {result : Result (Option (Bor (List ℕ))) LineFault}
+    {o : Option (Bor (List ℕ))}
     → Next old new a b result → result ≡ Ok o → o ≡ None → GivesNone old new a b
-next_none old new a b result o next is none =
-    subst (Answers old new a b) none (next_ok old new a b result o next is)
+next_none {old = old} {new = new} {a = a} {b = b} next is none = subst (Answers old new a b) none (next_ok next is)

@@ -49,8 +49,7 @@ returns-in-Err-clause-error g c = λ ne.
       error = e;
       is = c.status.ensures;
       worked = m;
-      in_later = c.in-Err.ensures.changed.in_later;
-      out_later = c.in-Err.ensures.changed.out_later;
+      after = c.in-Err.ensures.changed.after;
       quiet = c.in-Err.ensures.quiet;
       cause = c.in-Err.ensures.cause;
       line = c.write_line.ensures.frame;
@@ -99,10 +98,10 @@ returns-in-Err-clause-complete g c = λ job is are none.
     let a = g.D.Desk.view c.args.desk.now in
     let m = g.D.Desk.view c.work.new.desk in
     let b = g.D.Desk.view c.write_line.new.desk in
-    let call = c.write_line.ensures.frame.call in
+    let after = c.write_line.ensures.frame.call.after in
     let cause = cause_of_job (asked (words_of c.args.words.now)) job a m c.in-Err.error is c.in-Err.ensures.cause in
     subst (λ (s : ℕ). (s ≡ 0) ⊎ (s ≡ 6)) (sym c.status.ensures)
-    (good_status job a m c.in-Err.error cause are (faultless_before a m b call.in_later call.out_later none))
+    (good_status job a m c.in-Err.error cause are (faultless_before a m b after none))
 
 pub returns-in-Err-clause-steady : goal.returns-in-Err-clause-steady
 returns-in-Err-clause-steady g c = λ job is steady holds.

@@ -5,7 +5,7 @@ use Rattle.ht_asked.specs.Asked.{norm}
 use Rattle.ht_app.specs.declared.run_error.RunError.{RunError}
 use Rattle.ht_app.specs.Errors.{exit_status}
 use Rattle.ht_app.specs.Changed.{ChangedOnly, job_ports}
-use Rattle.ht_app.specs.Truncated.{IsShort}
+use Rattle.ht_app.specs.Truncated.{StopsInText}
 use Rattle.ht_app.specs.Run.{HasCause}
 use Rattle.ht_app.specs.Steps.{IsBegun, reading}
 use Rattle.ht_app.proofs.ChangedLaws.{changed_by_reading}
@@ -46,7 +46,7 @@ returns-in_err-begin_report-clause-cause g c =
     let b = g.D.Desk.view c.begin_report.new.desk in
     let failed = c.in_err-begin_report.ensures in
     let read = changed_by_reading (reading job) Netlist a m refl text.frame in
-    let short : IsShort c.in_ok-text.text.items m b = subst (λ (l : List ℕ). IsShort l m b) c.deref.ensures.value
+    let short : StopsInText c.in_ok-text.text.items m b = subst (λ (l : List ℕ). StopsInText l m b) c.deref.ensures.value
     failed.stops in
     let leaves = norm_truncated c.args.netlist.now c.args.out.now c.in_ok-text.text.items a m b read text.text short in
     let cause = write_cause job a m b c.in_err-begin_report.field-0.0 failed.error read failed.fault text.input leaves

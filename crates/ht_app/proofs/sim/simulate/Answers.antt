@@ -1,10 +1,8 @@
 use Rattle.std.proofs.Common.{List, ℕ, ◌++◌, refl, IsTrue, rules}
 use Rattle.std.specs.Prelude.{IsSome}
 use Rattle.ht_asked.specs.Asked.{sim}
-use Rattle.ht_texts.specs.Verdicts.{saids_of}
 use Rattle.ht_app.specs.Steps.{SimulateCause}
 use Rattle.ht_app.proofs.CauseLaws.{netlist_cause, tests_cause, accepts_netlist, may_hold_before, input_later}
-use Rattle.ht_app.proofs.ReportLaws.{whole_report}
 use Rattle.ht_app.proofs.sim.simulate.Goals as goal
 
 pub returns-in_err-circuit-clause-cause : goal.returns-in_err-circuit-clause-cause
@@ -56,19 +54,12 @@ returns-clause-texts g c =
     let a = g.D.Desk.view c.args.desk.now in
     let m = g.D.Desk.view c.read_netlist.new.desk in
     let read = c.in_ok-circuit.ensures in
-    let made = c.in_ok-texts.ensures in
     record {
       simulated = λ n t both. record {
         circuit = c.in_ok-circuit.circuit;
         list = c.in_ok-list.list.list;
-        representatives = made.representatives;
-        places = made.places;
         accepted = read.circuit n both.netlist_is;
         vectors = c.in_ok-list.ensures.list t (input_later c.args.tests.now t a m read.frame both.tests_is);
-        classes = made.classes;
-        detections = made.detections;
-        report_is = whole_report c.in_ok-circuit.circuit made.representatives (saids_of made.places)
-            c.in_ok-texts.texts.body.items c.in_ok-texts.texts.total.items made.body_is made.total_is;
-        total_is = made.total_is;
+        reported = c.in_ok-texts.ensures;
       };
     }

@@ -2,17 +2,17 @@ use Rattle.std.proofs.Common.{◌≡◌, ◌≤◌, ◌+◌, ◌++◌, ◌∷◌
 use Rattle.std.specs.Prelude.{is_ok}
 use Rattle.std.proofs.lemmas.List.{length-append}
 use Rattle.std.specs.Io.KnownBytes.{prepend_known, IsAtEnd}
-use Rattle.ht_ports.specs.Desk.{InCall, Reads, DeskView}
-use Rattle.ht_ports.specs.Lines.{rest_of, LinesView, Next, Gives}
+use Rattle.ht_ports.specs.Desk.{DeskView}
+use Rattle.ht_ports.specs.Lines.{rest_of, Next}
 use Rattle.ht_ports.specs.LineRule.{NextLine, IsTooLongLine}
 use Rattle.ht_ports.specs.declared.ports.InPort.{InPort}
 use Rattle.ht_ports.specs.declared.ports.InPort.TheVariants.{Tests}
 use Rattle.ht_ports.proofs.NextLaws.{next_some, next_none}
-use Rattle.ht_ports.proofs.CallLaws.{in_call_trans}
-use Rattle.ht_net.specs.Netlist.{Netlist}
+use Rattle.ht_net.specs.Netlist.{max_inputs}
 use Rattle.ht_texts.specs.Tests.{IsTextOf, IsMalformedTest}
 use Rattle.ht_app.specs.Inputs.{IsInput}
-use Rattle.ht_app.proofs.SoFarLaws.{SoFar, so_far_start, so_far_next, so_far_end}
+use Rattle.ht_app.proofs.SoFarLaws.{SoFar, so_far_start, so_far_end}
+use Rattle.ht_app.proofs.ReadLaws.{read_call, so_far_more}
 use Rattle.ht_app.proofs.WrongLineLaws.{bad_line, too_long}
 use Rattle.ht_app.proofs.vectors_file.read_tests.Goals as goal
 
@@ -49,23 +49,6 @@ overflow_add-result g c =
     let same : c.push_line.new.list.list ≡ c.lines.list.list = search rules in
     omega (arith, c.len.ensures, ap length same, before.counted, before.below, before.fits)
 
--- a read is a call on the port
-read_call : (port : InPort) (a b c : DeskView) → port ≡ Tests → InCall Tests a b → Reads port b c → InCall Tests a c
-read_call port a b c same p q = in_call_trans Tests a b c p (subst (λ (o : InPort). Reads o b c) same q).call
-
--- the list so far, one line later
-more : (c : Netlist) (name line : List ℕ) (list : List (List Bool)) (vector : List Bool) (first a b : DeskView)
-    (old new : LinesView)
-    → ((text : List ℕ) → IsInput Tests name text first → (rest : List ℕ) × (rest_of old a ≡ Some rest)
-    × SoFar c text old.bytes_read list rest)
-    → Gives line old new a b → IsTextOf c.inputs line vector → (text : List ℕ) → IsInput Tests name text first
-    → (rest : List ℕ) × (rest_of new b ≡ Some rest) × SoFar c text new.bytes_read (list ++ vector ∷ []) rest
-more c name line list vector first a b old new so gives of text is =
-    let before = so text is in
-    let after = so_far_next c text old.bytes_read list before.0 line gives.count (rest_of new b) vector before.2
-    (subst (λ (r : Option (List ℕ)). NextLine line gives.count r (rest_of new b)) before.1 gives.next) of in
-    (after.0, after.1, subst (λ (n : ℕ). SoFar c text n (list ++ vector ∷ []) after.0) (sym gives.bytes_read) after.2)
-
 pub lines-preserved : goal.lines-preserved
 lines-preserved g c =
     let before = c.lines.invariant in
@@ -73,8 +56,7 @@ lines-preserved g c =
     let a = g.D.Desk.view c.lines.desk in
     let b = g.D.Desk.view c.next.new.desk in
     let next : Next c.lines.lines after a b c.next.result = c.next.follows.holds-at-none in
-    let gives = next_some c.lines.lines after a b c.next.result _ c.in-Ok-Some.line next c.in-Ok-Some.is
-    c.in-Ok-Some.field-0-is in
+    let gives = next_some next c.in-Ok-Some.is c.in-Ok-Some.field-0-is in
     let port : after.port ≡ Tests = next.port ∙ before.port in
     let reads = c.in-Ok-Some.ensures.frame in
     let lives : after.live ≡ true = next.live ∙ ap is_ok c.in-Ok-Some.is in
@@ -103,7 +85,7 @@ lines-preserved g c =
       so_far = λ text is.
           let of : IsTextOf c.args.circuit.now.inputs c.in-Ok-Some.line.now taken.0 = subst
           (λ (w : ℕ). IsTextOf w c.in-Ok-Some.line.now taken.0) before.width taken.1 in
-          let all = more c.args.circuit.now c.args.name.now c.in-Ok-Some.line.now c.lines.list.list taken.0
+          let all = so_far_more c.args.circuit.now c.args.name.now c.in-Ok-Some.line.now c.lines.list.list taken.0
           (g.D.Desk.view c.args.desk.now) a b c.lines.lines after before.so_far gives of text is in (
             all.0,
             all.1,
@@ -115,12 +97,8 @@ lines-preserved g c =
 pub returns-then-not-branch-clause-cause : goal.returns-then-not-branch-clause-cause
 returns-then-not-branch-clause-cause g c =
     let before = c.lines.invariant in
-    let after = c.next.follows.lender-at-none in
-    let a = g.D.Desk.view c.lines.desk in
-    let b = g.D.Desk.view c.next.new.desk in
-    let next : Next c.lines.lines after a b c.next.result = c.next.follows.holds-at-none in
-    let gives = next_some c.lines.lines after a b c.next.result _ c.in-Ok-Some.line next c.in-Ok-Some.is
-    c.in-Ok-Some.field-0-is in
+    let left = rest_of c.next.follows.lender-at-none (g.D.Desk.view c.next.new.desk) in
+    let gives = next_some c.next.follows.holds-at-none c.in-Ok-Some.is c.in-Ok-Some.field-0-is in
     let refused : (c.push_line.new.list ≡ c.lines.list)
     × ((vector : List Bool) → ¬ IsTextOf c.lines.list.width c.in-Ok-Some.line.now vector) = search rules in
     let at : c.len.result ≡ length c.lines.list.list = c.len.ensures ∙ ap (λ v. length v.list) refused.0 in
@@ -128,23 +106,19 @@ returns-then-not-branch-clause-cause g c =
       there = before.there;
       cause = λ text is.
           let so = before.so_far text is in
-          let step = subst (λ (r : Option (List ℕ)). NextLine c.in-Ok-Some.line.now gives.count r (rest_of after b))
+          let step = subst (λ (r : Option (List ℕ)). NextLine c.in-Ok-Some.line.now gives.count r left)
           so.1 gives.next in
           let none : (vector : List Bool) → ¬ IsTextOf c.args.circuit.now.inputs c.in-Ok-Some.line.now vector =
           subst (λ (w : ℕ). (vector : List Bool) → ¬ IsTextOf w c.in-Ok-Some.line.now vector) before.width refused.1 in
           subst (λ (n : ℕ). IsMalformedTest c.args.circuit.now text (n + 1)) (sym at)
           (bad_line c.args.circuit.now text c.lines.lines.bytes_read c.lines.list.list so.0 c.in-Ok-Some.line.now
-          gives.count (rest_of after b) so.2 before.fits gives.some step none);
+          gives.count left so.2 before.fits gives.some step none);
     }
 
 pub returns-in-Ok-None-clause-list : goal.returns-in-Ok-None-clause-list
 returns-in-Ok-None-clause-list g c =
     let before = c.lines.invariant in
-    let after = c.next.follows.lender-at-none in
-    let a = g.D.Desk.view c.lines.desk in
-    let b = g.D.Desk.view c.next.new.desk in
-    let next : Next c.lines.lines after a b c.next.result = c.next.follows.holds-at-none in
-    let none = next_none c.lines.lines after a b c.next.result _ next c.in-Ok-None.is c.in-Ok-None.field-0-is in
+    let none = next_none c.next.follows.holds-at-none c.in-Ok-None.is c.in-Ok-None.field-0-is in
     λ text is.
     let so = before.so_far text is in
     let end : so.0 ≡ [] = subst IsAtEnd (none.rest ∙ so.1) none.at_end in
@@ -154,12 +128,12 @@ pub returns-in-Err-TooLong-clause-cause : goal.returns-in-Err-TooLong-clause-cau
 returns-in-Err-TooLong-clause-cause g c =
     let before = c.lines.invariant in
     let cause = rw c.in-Err-TooLong.field-0-is at c.in-Err-TooLong.ensures.cause in
-    let few : c.args.circuit.now.inputs ≤ 4096 = c.requires.few_inputs in
+    let few : c.args.circuit.now.inputs ≤ max_inputs = c.requires.few_inputs in
     record {
       there = before.there;
       cause = λ text is.
           let so = before.so_far text is in
-          let long : IsTooLongLine 4096 c.lines.lines.bytes_read so.0 = subst
+          let long : IsTooLongLine max_inputs c.lines.lines.bytes_read so.0 = subst
           (λ (m : ℕ). IsTooLongLine m c.lines.lines.bytes_read so.0) before.max_len (cause.1 so.0 so.1) in
           subst (λ (n : ℕ). IsMalformedTest c.args.circuit.now text n) (omega (arith, cause.0, before.counted))
           (too_long c.args.circuit.now text c.lines.lines.bytes_read c.lines.list.list so.0 so.2 before.fits few long);
