@@ -6,36 +6,4 @@
 #![tactic(auto)]
 
 #[cfg(test)]
-mod bench;
-#[cfg(test)]
-mod check;
-#[cfg(test)]
-mod collapse;
-#[cfg(test)]
-mod faults;
-#[cfg(test)]
-mod grade;
-#[cfg(test)]
-mod net;
-#[cfg(test)]
-mod pairs;
-#[cfg(test)]
-mod ports;
-#[cfg(test)]
-mod run;
-#[cfg(test)]
-mod serial;
-#[cfg(test)]
-mod statement;
-#[cfg(test)]
-mod tern;
-#[cfg(test)]
-mod texts;
-#[cfg(test)]
-mod trail;
-#[cfg(test)]
-mod tree;
-#[cfg(test)]
-mod window;
-#[cfg(test)]
-mod words;
+mod calls;

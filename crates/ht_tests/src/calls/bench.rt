@@ -25,6 +25,16 @@ fn gives(alloc: Global, text: &[u8], want: &[u8]) -> Result<bool, AllocError> {
     Ok(answer.as_slice() == want)
 }
 
+/// Whether each text gives what it is to.
+fn give(alloc: Global, cases: &[(&str, &str)]) -> Result<bool, AllocError> {
+    for (text, want) in cases {
+        if !gives(alloc, text.as_bytes(), want.as_bytes())? {
+            return Ok(false);
+        }
+    }
+    Ok(true)
+}
+
 const REFUSED: [(&str, &str); 13] = [
     ("INPUT(a)\nOUTPUT(g)\ng = AND(a,", "line 3: bad line"),
     ("INPUT(a b)\n", "line 1: bad line"),
@@ -43,12 +53,7 @@ const REFUSED: [(&str, &str); 13] = [
 
 #[test]
 fn texts_are_refused_with_their_line_and_nets(rt: HostRuntime) -> Result<(), Fail> {
-    for (text, want) in REFUSED {
-        assert!(rt;
-            gives(rt.alloc(), text.as_bytes(), want.as_bytes())?,
-            "{text}"
-        );
-    }
+    assert!(rt; give(rt.alloc(), &REFUSED)?);
     Ok(())
 }
 
@@ -70,12 +75,7 @@ const READ: [(&str, &str); 4] = [
 
 #[test]
 fn netlists_are_written_in_normal_form(rt: HostRuntime) -> Result<(), Fail> {
-    for (text, want) in READ {
-        assert!(rt;
-            gives(rt.alloc(), text.as_bytes(), want.as_bytes())?,
-            "{text}"
-        );
-    }
+    assert!(rt; give(rt.alloc(), &READ)?);
     Ok(())
 }
 

@@ -3,6 +3,7 @@ ghost use Rattle.std.specs.Prelude.{◌≡◌, ◌≤◌, ◌^◌, [], length, O
 ghost use Rattle.ht_faults.specs.Sites.{faults_of};
 ghost use Rattle.ht_collapse.specs.Classes.{AreClasses};
 
+use super::samples::{SHIFT_REGISTER, SHIFT_REGISTER_REPORT};
 use ht_bench::read;
 use ht_collapse::{Classes, collapse};
 use ht_faults::{FaultList, list};
@@ -69,20 +70,10 @@ fn is_report(alloc: Global, circuit: &Circuit, wanted: &[u8]) -> Result<bool, Al
     Ok(report(alloc, circuit, &vectors)?.as_slice() == wanted)
 }
 
-const SHIFTED: &[u8] = b"circuit inputs 1 outputs 1 flip-flops 2 gates 0 faults 6 classes 6
-1 a s-a-0 detected 3 r
-2 a s-a-1 undetected
-3 q s-a-0 detected 3 r
-4 q s-a-1 undetected
-5 r s-a-0 detected 3 r
-6 r s-a-1 undetected
-total 6 detected 3
-";
-
 // Each line that is stuck at 0 shows at the third vector, where the 1 comes out, and none that is stuck at 1 does.
 #[test]
 fn a_shift_register_shows_at_the_third_vector(rt: HostRuntime) -> Result<(), Fail> {
-    let circuit = read(rt.alloc(), b"INPUT(a)\nOUTPUT(r)\nq = DFF(a)\nr = DFF(q)\n")?;
-    assert!(rt; is_report(rt.alloc(), &circuit, SHIFTED)?);
+    let circuit = read(rt.alloc(), SHIFT_REGISTER)?;
+    assert!(rt; is_report(rt.alloc(), &circuit, SHIFT_REGISTER_REPORT)?);
     Ok(())
 }

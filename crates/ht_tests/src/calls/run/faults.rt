@@ -1,6 +1,7 @@
 //! Faults of the desk.
 
-use super::cases::{NORM, SHIFT_REGISTER, SIM, Start, both_hold, holds, refused};
+use super::cases::{NORM, SIM, Setup, both_hold, holds, refused};
+use crate::calls::samples::SHIFT_REGISTER;
 use ht_ports::{Fail as Plan, InPort, OutPort};
 use std::test::Fail;
 
@@ -29,7 +30,7 @@ fn missing_files_are_faults_of_reading(rt: HostRuntime) -> Result<(), Fail> {
         (NORM, None, Some(b"1\n")),
     ];
     for (words, netlist, tests) in table {
-        let start = Start {
+        let start = Setup {
             words,
             netlist,
             tests,

@@ -1,4 +1,5 @@
 //! Tests of ht_window.
+use super::samples::SHIFT_REGISTER;
 use ht_bench::read;
 use ht_net::{Circuit, Fault, NetId, Site};
 use ht_tern::Tern;
@@ -6,8 +7,6 @@ use ht_tree::{Choice, Spot, Status};
 use ht_window::{Start, Window};
 use std::alloc::{AllocError, Global};
 use std::test::Fail;
-
-const SHIFT_REGISTER: &[u8] = b"INPUT(a)\nOUTPUT(r)\nq = DFF(a)\nr = DFF(q)\n";
 
 const INPUT_STUCK_AT_0: Fault = Fault {
     site: Site::Stem(NetId(0)),

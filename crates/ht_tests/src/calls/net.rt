@@ -215,8 +215,7 @@ enum Case {
     Cycle,
     FedBackFlipFlop,
     UndrivenAndDriven,
-    ChainFromStart,
-    ChainFromEnd,
+    Chain { from_start: bool },
     FewInputs,
     FewLatches,
     FewPins,
@@ -227,8 +226,7 @@ fn shows(builder: &mut Builder, alloc: Global, case: Case) -> Result<bool, Fail>
         Case::Cycle => Ok(refuses_the_cycle(builder)?),
         Case::FedBackFlipFlop => Ok(takes_a_fed_back_flip_flop(builder)?),
         Case::UndrivenAndDriven => Ok(names_undriven_and_driven(builder)?),
-        Case::ChainFromStart => levels_the_chain(builder, alloc, true),
-        Case::ChainFromEnd => levels_the_chain(builder, alloc, false),
+        Case::Chain { from_start } => levels_the_chain(builder, alloc, from_start),
         Case::FewInputs => keeps_few_inputs(builder, alloc),
         Case::FewLatches => keeps_few_latches(builder, alloc),
         Case::FewPins => {
@@ -263,8 +261,8 @@ fn names_the_least_undriven_name_and_a_second_driver(rt: HostRuntime) -> Result<
 
 #[test]
 fn levels_the_longest_chain_from_either_end(rt: HostRuntime) -> Result<(), Fail> {
-    for case in [Case::ChainFromStart, Case::ChainFromEnd] {
-        assert!(rt; holds(rt.alloc(), case)?);
+    for from_start in [true, false] {
+        assert!(rt; holds(rt.alloc(), Case::Chain { from_start })?);
     }
     Ok(())
 }

@@ -1,14 +1,15 @@
 //! Refused memory. In the gate no allocation is refused; outside it these tests run with each of their allocations
 //! refused in turn (`rt try --test --fail-alloc N`).
 
-use super::cases::{SHIFT_REGISTER, SHIFT_REGISTER_REPORT, SIM, Start, load, words_of};
+use super::cases::{SIM, Setup, load, words_of};
 use super::mute::MuteDesk;
+use crate::calls::samples::{SHIFT_REGISTER, SHIFT_REGISTER_REPORT};
 use ht_app::run;
 use ht_ports::MemoryDesk;
 use std::alloc::{AllocError, Global};
 use std::test::Fail;
 
-const START: Start<'static> = Start {
+const START: Setup<'static> = Setup {
     words: SIM,
     netlist: Some(SHIFT_REGISTER),
     tests: Some(b"1\n0\n0\n"),

@@ -9,60 +9,9 @@ pub const SIM: &[&str] = &["sim", "n", "t", "r"];
 
 pub const NORM: &[&str] = &["norm", "n", "r"];
 
-/// The shift register: two flip-flops between an input and an output. The stored run of the program has it too, with
-/// the vectors 1, 0, 0.
-pub const SHIFT_REGISTER: &[u8] = b"INPUT(a)\nOUTPUT(r)\nq = DFF(a)\nr = DFF(q)\n";
-
-/// Its report under those vectors.
-pub const SHIFT_REGISTER_REPORT: &[u8] =
-    b"circuit inputs 1 outputs 1 flip-flops 2 gates 0 faults 6 classes 6
-1 a s-a-0 detected 3 r
-2 a s-a-1 undetected
-3 q s-a-0 detected 3 r
-4 q s-a-1 undetected
-5 r s-a-0 detected 3 r
-6 r s-a-1 undetected
-total 6 detected 3
-";
-
-/// s27 as it is known, with its header.
-pub const S27: &[u8] = b"# s27
-# 4 inputs
-# 1 outputs
-# 3 D-type flipflops
-# 2 inverters
-# 8 gates (1 ANDs + 1 NANDs + 2 ORs + 4 NORs)
-
-INPUT(G0)
-INPUT(G1)
-INPUT(G2)
-INPUT(G3)
-
-OUTPUT(G17)
-
-G5 = DFF(G10)
-G6 = DFF(G11)
-G7 = DFF(G13)
-
-G14 = NOT(G0)
-G17 = NOT(G11)
-
-G8 = AND(G14, G6)
-
-G15 = OR(G12, G8)
-G16 = OR(G3, G8)
-
-G9 = NAND(G16, G15)
-
-G10 = NOR(G14, G11)
-G11 = NOR(G5, G9)
-G12 = NOR(G1, G7)
-G13 = NOR(G2, G12)
-";
-
 /// What goes in: the words, the files `n` and `t` where they are there, and a call that fails.
 #[derive(Clone, Copy)]
-pub struct Start<'a> {
+pub struct Setup<'a> {
     pub words: &'a [&'a str],
     pub netlist: Option<&'a [u8]>,
     pub tests: Option<&'a [u8]>,
@@ -79,8 +28,8 @@ pub struct End<'a> {
 }
 
 /// A run that has both files, and no call that fails.
-pub fn given<'a>(words: &'a [&'a str], netlist: &'a [u8], tests: &'a [u8]) -> Start<'a> {
-    Start {
+pub fn given<'a>(words: &'a [&'a str], netlist: &'a [u8], tests: &'a [u8]) -> Setup<'a> {
+    Setup {
         words,
         netlist: Some(netlist),
         tests: Some(tests),
@@ -118,7 +67,7 @@ pub fn words_of(alloc: Global, words: &[&str]) -> Result<Vec<String>, AllocError
 }
 
 /// Puts the files on the desk, and plans the failure.
-pub fn load(desk: &mut MemoryDesk, start: &Start<'_>) -> Result<(), AllocError> {
+pub fn load(desk: &mut MemoryDesk, start: &Setup<'_>) -> Result<(), AllocError> {
     if let Some(netlist) = start.netlist {
         desk.put("n", netlist)?;
     }
@@ -141,7 +90,7 @@ fn holds_on(
     alloc: Global,
     words: &[String],
     desk: &mut MemoryDesk,
-    start: &Start<'_>,
+    start: &Setup<'_>,
     end: &End<'_>,
 ) -> Result<bool, AllocError> {
     load(desk, start)?;
@@ -150,7 +99,7 @@ fn holds_on(
 }
 
 /// Whether the run comes out as it must.
-pub fn holds(alloc: Global, start: &Start<'_>, end: &End<'_>) -> Result<bool, AllocError> {
+pub fn holds(alloc: Global, start: &Setup<'_>, end: &End<'_>) -> Result<bool, AllocError> {
     let words = words_of(alloc, start.words)?;
     let mut desk = MemoryDesk::new(alloc);
     holds_on(alloc, &words, &mut desk, start, end)
@@ -165,7 +114,7 @@ pub fn both_hold<'a>(
     end: &End<'_>,
 ) -> Result<bool, AllocError> {
     for words in [SIM, NORM] {
-        let start = Start {
+        let start = Setup {
             words,
             netlist,
             tests,

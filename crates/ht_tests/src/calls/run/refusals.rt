@@ -1,6 +1,7 @@
 //! Inputs that are refused.
 
-use super::cases::{S27, SHIFT_REGISTER, SIM, both_hold, given, holds, refused};
+use super::cases::{SIM, both_hold, given, holds, refused};
+use crate::calls::samples::{S27, SHIFT_REGISTER};
 use std::alloc::{AllocError, Global};
 use std::test::Fail;
 
@@ -66,14 +67,11 @@ fn a_refused_netlist_goes_before_missing_tests(rt: HostRuntime) -> Result<(), Fa
     Ok(())
 }
 
-// One line, and then so many lines that count up.
-fn counting(
-    alloc: Global,
-    first: &str,
-    before: &str,
-    count: u32,
-    after: &str,
-) -> Result<Vec<u8>, AllocError> {
+// A netlist: one line, and then so many lines that count up, with what stands before and after the count.
+type Counting<'a> = (&'a str, &'a str, u32, &'a str);
+
+fn counting(alloc: Global, lines: Counting<'_>) -> Result<Vec<u8>, AllocError> {
+    let (first, before, count, after) = lines;
     let mut netlist = Vec::new(alloc);
     netlist.extend_from_slice(first.as_bytes())?;
     for k in 1..=count {
@@ -85,44 +83,32 @@ fn counting(
 // Whether both commands refuse it with this line.
 fn counting_is_refused(
     alloc: Global,
-    first: &str,
-    before: &str,
-    count: u32,
-    after: &str,
+    lines: Counting<'_>,
     line: &[u8],
 ) -> Result<bool, AllocError> {
-    let netlist = counting(alloc, first, before, count, after)?;
+    let netlist = counting(alloc, lines)?;
     both_refuse(alloc, &netlist, line)
 }
 
 #[test]
 fn limits_are_named(rt: HostRuntime) -> Result<(), Fail> {
     let alloc = rt.alloc();
-    let table: [(&str, &str, u32, &str, &[u8]); 3] = [
+    let table: [(Counting<'_>, &[u8]); 3] = [
         (
-            "INPUT(i0)\n",
-            "INPUT(i",
-            4_096,
-            ")\n",
+            ("INPUT(i0)\n", "INPUT(i", 4_096, ")\n"),
             b"netlist: line 4097: too many inputs\n",
         ),
         (
-            "INPUT(a)\n",
-            "n",
-            65_535,
-            " = BUFF(a)\n",
+            ("INPUT(a)\n", "n", 65_535, " = BUFF(a)\n"),
             b"netlist: line 65536: too many nets\n",
         ),
         (
-            "INPUT(a)\n",
-            "q",
-            16_385,
-            " = DFF(a)\n",
+            ("INPUT(a)\n", "q", 16_385, " = DFF(a)\n"),
             b"netlist: line 16386: too many flip-flops\n",
         ),
     ];
-    for (first, before, count, after, line) in table {
-        assert!(rt; counting_is_refused(alloc, first, before, count, after, line)?);
+    for (lines, line) in table {
+        assert!(rt; counting_is_refused(alloc, lines, line)?);
     }
     Ok(())
 }

@@ -1,6 +1,7 @@
 //! Tests of ht_serial and of ht_frame: machines, and first detections by hand.
 ghost use Rattle.std.specs.Prelude.{◌≡◌};
 
+use super::samples::SHIFT_REGISTER;
 use ht_bench::read;
 use ht_frame::{MAX_GATE_PINS, settle};
 use ht_net::{Circuit, Fault, NetId, Place, Site, Vectors};
@@ -8,8 +9,6 @@ use ht_serial::{BoolMachine, GoodRun, Machine, first};
 use ht_tern::Tern::{self, One, Unk, Zero};
 use std::alloc::{AllocError, Global};
 use std::test::Fail;
-
-const SHIFT_REGISTER: &[u8] = b"INPUT(a)\nOUTPUT(r)\nq = DFF(a)\nr = DFF(q)\n";
 
 const AND_GATE: &[u8] = b"INPUT(a)\nINPUT(b)\nOUTPUT(a)\nOUTPUT(z)\nz = AND(a, b)\n";
 

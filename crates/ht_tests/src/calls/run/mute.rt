@@ -1,7 +1,8 @@
 //! A standard error that takes nothing.
 ghost use Rattle.ht_ports.specs.Memory.{memory_view};
 
-use super::cases::{NORM, SHIFT_REGISTER, SHIFT_REGISTER_REPORT, SIM, Start, load, words_of};
+use super::cases::{NORM, SIM, Setup, load, words_of};
+use crate::calls::samples::{SHIFT_REGISTER, SHIFT_REGISTER_REPORT};
 use ht_app::run;
 use ht_ports::{Desk, Fail as Plan, Failed, InPort, MemoryDesk, OutPort};
 use std::alloc::{AllocError, Global};
@@ -81,14 +82,14 @@ fn ends_on(
     alloc: Global,
     words: &[String],
     desk: &mut MuteDesk,
-    start: &Start<'_>,
+    start: &Setup<'_>,
     status: u8,
 ) -> Result<bool, AllocError> {
     load(&mut desk.inner, start)?;
     Ok(run(alloc, words, desk) == status && is_left(desk, status))
 }
 
-fn ends_with(alloc: Global, start: &Start<'_>, status: u8) -> Result<bool, AllocError> {
+fn ends_with(alloc: Global, start: &Setup<'_>, status: u8) -> Result<bool, AllocError> {
     let words = words_of(alloc, start.words)?;
     let mut desk = MuteDesk::new(alloc);
     ends_on(alloc, &words, &mut desk, start, status)
@@ -121,7 +122,7 @@ fn a_failing_standard_error_leaves_the_status(rt: HostRuntime) -> Result<(), Fai
         (SIM, Some(SHIFT_REGISTER), Some(b"1\n0\n0\n"), None, 0),
     ];
     for (words, netlist, tests, fails, status) in table {
-        let start = Start {
+        let start = Setup {
             words,
             netlist,
             tests,

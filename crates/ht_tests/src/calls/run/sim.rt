@@ -1,6 +1,7 @@
 //! `sim` finishes.
 
-use super::cases::{S27, SHIFT_REGISTER, SHIFT_REGISTER_REPORT, SIM, finished, given, holds};
+use super::cases::{SIM, finished, given, holds};
+use crate::calls::samples::{S27, SHIFT_REGISTER, SHIFT_REGISTER_REPORT};
 use std::alloc::{AllocError, Global};
 use std::test::Fail;
 

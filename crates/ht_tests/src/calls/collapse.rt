@@ -1,5 +1,6 @@
 //! Tests of ht_collapse: classes of s27 (ISCAS-89) and of small circuits, by hand. Faults are numbered from 1, as in a
 //! report.
+use super::samples::SHIFT_REGISTER;
 use ht_bench::read;
 use ht_collapse::{Classes, collapse};
 use ht_faults::list;
@@ -79,7 +80,7 @@ fn a_nand_of_one_pin_inverts(rt: HostRuntime) -> Result<(), Fail> {
 
 #[test]
 fn nothing_collapses_across_a_flip_flop(rt: HostRuntime) -> Result<(), Fail> {
-    let circuit = read(rt.alloc(), b"INPUT(a)\nOUTPUT(r)\nq = DFF(a)\nr = DFF(q)\n")?;
+    let circuit = read(rt.alloc(), SHIFT_REGISTER)?;
     assert!(rt; are_classes(rt.alloc(), &circuit, (6, 6), &[])?);
     Ok(())
 }
