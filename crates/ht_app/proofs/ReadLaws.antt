@@ -16,8 +16,8 @@ pub read_call : (port : InPort) (a b c : DeskView) → port ≡ Tests → InCall
 read_call port a b c same p q = in_call_trans Tests a b c p (subst (λ (o : InPort). Reads o b c) same q).call
 
 -- the list so far, one line later
-pub so_far_more : (c : Netlist) (name line : List ℕ) (list : List (List Bool)) (vector : List Bool) (first a b : DeskView)
-    (old new : LinesView)
+pub so_far_more : (c : Netlist) (name line : List ℕ) (list : List (List Bool)) (vector : List Bool)
+    (first a b : DeskView) (old new : LinesView)
     → ((text : List ℕ) → IsInput Tests name text first → (rest : List ℕ) × (rest_of old a ≡ Some rest)
     × SoFar c text old.bytes_read list rest)
     → Gives line old new a b → IsTextOf c.inputs line vector → (text : List ℕ) → IsInput Tests name text first

@@ -77,8 +77,8 @@ bad_line c text passed list rest line count new so fits some next none =
     no_vector c text passed list rest so (omega (arith, cut.2.size, some)) fits line (lines_of cut.0) cut.2.lines none
 
 pub too_long : (c : Netlist) (text : List ℕ) (passed : ℕ) (list : List (List Bool)) (rest : List ℕ)
-    → SoFar c text passed list rest → passed ≤ max_text_bytes → c.inputs ≤ max_inputs → IsTooLongLine max_inputs passed rest
-    → IsMalformedTest c text (length list + 1)
+    → SoFar c text passed list rest → passed ≤ max_text_bytes → c.inputs ≤ max_inputs
+    → IsTooLongLine max_inputs passed rest → IsMalformedTest c text (length list + 1)
 too_long c text passed list [] so fits few (inl long) = absurd (omega arith)
 too_long c text passed list [] so fits few (inr late) = absurd (omega (arith, fits, late))
 too_long c text passed list (x ∷ rest) so fits few (inl long) =

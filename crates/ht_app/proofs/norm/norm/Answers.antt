@@ -46,8 +46,8 @@ returns-in_err-begin_report-clause-cause g c =
     let b = g.D.Desk.view c.begin_report.new.desk in
     let failed = c.in_err-begin_report.ensures in
     let read = changed_by_reading (reading job) Netlist a m refl text.frame in
-    let short : StopsInText c.in_ok-text.text.items m b = subst (λ (l : List ℕ). StopsInText l m b) c.deref.ensures.value
-    failed.stops in
+    let short : StopsInText c.in_ok-text.text.items m b =
+    subst (λ (l : List ℕ). StopsInText l m b) c.deref.ensures.value failed.stops in
     let leaves = norm_truncated c.args.netlist.now c.args.out.now c.in_ok-text.text.items a m b read text.text short in
     let cause = write_cause job a m b c.in_err-begin_report.field-0.0 failed.error read failed.fault text.input leaves
     in
