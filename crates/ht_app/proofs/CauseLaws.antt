@@ -9,7 +9,6 @@ use Rattle.ht_app.specs.declared.run_error.RunError.{RunError}
 use Rattle.ht_app.specs.declared.run_error.RunError.TheVariants.{Usage, TooLong, Refused, ReadFault, WriteFault, NoMemory, BadTests}
 use Rattle.ht_app.specs.Inputs.{IsInput, MayHold, IsGoodNetlist, AcceptsNetlist, AcceptsInputs}
 use Rattle.ht_app.specs.Jobs.{input_name}
-use Rattle.ht_app.specs.Errors.{exit_status}
 use Rattle.ht_app.specs.Changed.{ChangedOnly}
 use Rattle.ht_app.specs.Truncated.{IsTruncated}
 use Rattle.ht_app.specs.Run.{HasCause, RefusesNetlist, IsWriteFault}

@@ -1,5 +1,5 @@
 -- What a status tells, whatever the error.
-use Rattle.std.proofs.Common.{◌≡◌, ◌≢◌, ◌⊎◌, inl, inr, ◌≤◌, ℕ, List, IsTrue, refl, arith}
+use Rattle.std.proofs.Common.{◌≡◌, ◌≢◌, ◌⊎◌, inl, inr, ℕ, List, IsTrue, refl, arith}
 use Rattle.std.specs.Prelude.{Some}
 use Rattle.ht_ports.specs.Desk.{DeskView, IsAfter}
 use Rattle.ht_ports.specs.declared.ports.InPort.TheVariants.{Netlist}

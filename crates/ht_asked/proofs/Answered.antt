@@ -1,5 +1,5 @@
 -- What the words ask for, by their first word and by what `clap` answered.
-use Rattle.std.proofs.Common.{◌≡◌, ◌∙◌, ◌∷◌, true, false, cond, refl, sym, ap, List, [], map, Option, Some, None, option_map, string_bytes, String, Global}
+use Rattle.std.proofs.Common.{◌≡◌, ◌∙◌, ◌∷◌, true, false, cond, refl, sym, ap, List, [], Option, Some, None, option_map, string_bytes, String, Global}
 use Rattle.std.specs.Prelude.{option_and_then, slice_get}
 use Rattle.clap.specs.Walk.{Row, Text, first_of}
 use Rattle.clap.specs.Simple.{App, matches_of}
@@ -9,11 +9,6 @@ use Rattle.ht_asked.specs.ByClap.{all_of, app_with, asked_by_clap, asked_in_rows
 use Rattle.ht_asked.proofs.AskedByClap.{asked_is_by_clap}
 
 -- ---- what `clap` answered
-
--- what a command asks for, by the texts of its positionals and of its options
-abbrev pub asks_by : Command → List (Option Text) → List (Option Text) → Option Asked
-asks_by c positionals options = option_and_then c.asks
-    (option_map (λ texts. record { positionals = texts; options = options }) (all_of positionals))
 
 module _ (c : Command) (app : App) (words : List Text) (is : app ≡ app_with c.name c.form) where
   same_taken : is_taken (app_with c.name c.form) words ≡ is_taken app words

@@ -1,6 +1,6 @@
 -- The words behind a command's name, read one by one into uses of its arguments.
 use Rattle.std.specs.Prelude.{◌+◌, ℕ, Bool, true, false, List, [], ◌∷◌, ◌++◌, Option, Some, None}
-use Rattle.std.specs.Prelude.{if◌then◌else◌, option_and_then, option_map, find, slice_get, zero, suc}
+use Rattle.std.specs.Prelude.{if◌then◌else◌, option_and_then, find, slice_get, zero, suc}
 use Rattle.std.specs.List.{list_any}
 use Rattle.std.specs.Str.{bytes_eq}
 use Rattle.clap.specs.Lexer.{long_of, short_of}

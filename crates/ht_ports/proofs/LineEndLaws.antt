@@ -1,10 +1,10 @@
 -- Where a line ends.
-use Rattle.std.proofs.Common.{◌≡◌, inl, inr, ℕ, ◌+◌, ◌<◌, ◌≤◌, ◌⊎◌, List, [], ◌∷◌, ◌++◌, length, take, drop, Some, None, ⊎_elim, append_assoc, append-nil, take_all, take-append-drop, le_refl, refl, sym, ◌∙◌, ap, subst, arith}
+use Rattle.std.proofs.Common.{◌≡◌, inl, inr, ℕ, ◌+◌, ◌<◌, ◌≤◌, ◌⊎◌, List, [], ◌∷◌, ◌++◌, length, take, drop, Some, None, ⊎_elim, append_assoc, append-nil, take_all, take-append-drop, le_refl, sym, ◌∙◌, ap, subst, arith}
 use Rattle.std.proofs.lemmas.List.{length-append, length-take-le, drop_more, take_more, take-take}
 use Rattle.std.proofs.lemmas.Bool.{cases_lt}
 use Rattle.ht_ports.specs.LineRule.{HasNoLf, first_piece, first_through, without_cr, max_text_bytes, IsTooLongLine}
 use Rattle.ht_ports.specs.Buffer.{IsFirstLf}
-use Rattle.ht_ports.specs.LineEnd.{IsLineEnd, EndsPiece, MayBeLine}
+use Rattle.ht_ports.specs.LineEnd.{IsLineEnd, EndsPiece}
 use Rattle.ht_ports.specs.declared.line_end.LineEnd.{LineEnd}
 use Rattle.ht_ports.specs.declared.line_end.LineEnd.TheVariants.{NoLine, TooLong, Line}
 use Rattle.ht_ports.proofs.PieceLaws.{first_piece-lf, first_through-lf, first_piece-none, first_through-none, length-without_cr}

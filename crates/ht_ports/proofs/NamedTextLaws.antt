@@ -27,8 +27,8 @@ bytes_push [] new k lt = absurd (omega arith)
 bytes_push (t ∷ texts) new zero lt = refl
 bytes_push (t ∷ texts) new (suc k) lt = bytes_push texts new k (omega arith)
 
-pub opened_push : (texts : List NamedText) (new : NamedText) (opened : Option ℕ) → ForSome opened (λ k. k < length texts)
-    → opened_in (texts ++ new ∷ []) opened ≡ opened_in texts opened
+pub opened_push : (texts : List NamedText) (new : NamedText) (opened : Option ℕ)
+    → ForSome opened (λ k. k < length texts) → opened_in (texts ++ new ∷ []) opened ≡ opened_in texts opened
 opened_push texts new None there = refl
 opened_push texts new (Some k) there = bytes_push texts new k (there k refl)
 
@@ -55,12 +55,12 @@ if_false : (b : Bool) (x y : Option (List ℕ)) → b ≡ false → (if b then x
 if_false false x y e = refl
 if_false true x y e = cc
 
-pub named_new : (texts : List NamedText) (new : NamedText) (name : List ℕ) → bytes_eq (string_bytes new.name) name ≡ true
-    → text_named (texts ++ new ∷ []) name ≡ Some new.bytes.items
+pub named_new : (texts : List NamedText) (new : NamedText) (name : List ℕ)
+    → bytes_eq (string_bytes new.name) name ≡ true → text_named (texts ++ new ∷ []) name ≡ Some new.bytes.items
 named_new texts new name is = named_push texts new name ∙ if_true _ _ _ is
 
-pub named_other : (texts : List NamedText) (new : NamedText) (name : List ℕ) → bytes_eq (string_bytes new.name) name ≡ false
-    → text_named (texts ++ new ∷ []) name ≡ text_named texts name
+pub named_other : (texts : List NamedText) (new : NamedText) (name : List ℕ)
+    → bytes_eq (string_bytes new.name) name ≡ false → text_named (texts ++ new ∷ []) name ≡ text_named texts name
 named_other texts new name is = named_push texts new name ∙ if_false _ _ _ is
 
 one_more : (texts : List NamedText) (name : List ℕ) (i : ℕ) (d : NamedText) → i < length texts

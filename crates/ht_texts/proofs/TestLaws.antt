@@ -75,4 +75,5 @@ by_length c text (inr (k, stop)) (inl long) = elim (cases_lt (line_of_byte text 
 
 pub list_or_line : (c : Netlist) (text : List ℕ) → ((list : List (List Bool)) × IsTestText c text list)
     ⊎ ((n : ℕ) × IsMalformedTest c text n)
-list_or_line c text = by_length c text (vectors_or_stop c.inputs (lines_of text)) (cases_lt max_text_bytes (length text))
+list_or_line c text =
+    by_length c text (vectors_or_stop c.inputs (lines_of text)) (cases_lt max_text_bytes (length text))

@@ -3,7 +3,7 @@ use Rattle.std.specs.Io.KnownBytes.{append_known}
 use Rattle.ht_ports.specs.Desk.{DeskView, Wrote}
 use Rattle.ht_ports.specs.declared.ports.OutPort.TheVariants as out_port
 use Rattle.ht_asked.specs.Asked.{asked, words_of, sim}
-use Rattle.ht_app.specs.Errors.{exit_status, err_line}
+use Rattle.ht_app.specs.Errors.{err_line}
 use Rattle.ht_app.specs.Changed.{ChangedOnly, ports_at}
 use Rattle.ht_app.specs.Run.{SaysOnErr}
 use Rattle.ht_app.proofs.PortsLaws.{changed_by_line}

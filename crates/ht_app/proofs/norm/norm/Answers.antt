@@ -1,12 +1,8 @@
-use Rattle.std.proofs.Common.{◌≡◌, List, ℕ, refl, sym, ◌∙◌, ap, subst, rules}
+use Rattle.std.proofs.Common.{List, ℕ, refl, ◌∙◌, ap, subst, rules}
 use Rattle.ht_ports.specs.declared.ports.InPort.TheVariants.{Netlist}
 use Rattle.ht_ports.specs.declared.ports.OutPort.TheVariants as out_port
 use Rattle.ht_asked.specs.Asked.{norm}
-use Rattle.ht_app.specs.declared.run_error.RunError.{RunError}
-use Rattle.ht_app.specs.Errors.{exit_status}
-use Rattle.ht_app.specs.Changed.{ChangedOnly, job_ports}
 use Rattle.ht_app.specs.Truncated.{StopsInText}
-use Rattle.ht_app.specs.Run.{HasCause}
 use Rattle.ht_app.specs.Steps.{IsBegun, reading}
 use Rattle.ht_app.proofs.ChangedLaws.{changed_by_reading}
 use Rattle.ht_app.proofs.PortsLaws.{ends_writing, fails_writing}

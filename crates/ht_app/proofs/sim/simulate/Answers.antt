@@ -1,4 +1,4 @@
-use Rattle.std.proofs.Common.{List, ℕ, ◌++◌, refl, IsTrue, rules}
+use Rattle.std.proofs.Common.{refl, IsTrue, rules}
 use Rattle.std.specs.Prelude.{IsSome}
 use Rattle.ht_asked.specs.Asked.{sim}
 use Rattle.ht_app.specs.Steps.{SimulateCause}

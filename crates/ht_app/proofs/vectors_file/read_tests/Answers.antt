@@ -2,7 +2,6 @@ use Rattle.std.proofs.Common.{◌≡◌, ◌≤◌, ◌+◌, ◌++◌, ◌∷◌
 use Rattle.std.specs.Prelude.{is_ok}
 use Rattle.std.proofs.lemmas.List.{length-append}
 use Rattle.std.specs.Io.KnownBytes.{prepend_known, IsAtEnd}
-use Rattle.ht_ports.specs.Desk.{DeskView}
 use Rattle.ht_ports.specs.Lines.{rest_of, Next}
 use Rattle.ht_ports.specs.LineRule.{NextLine, IsTooLongLine}
 use Rattle.ht_ports.specs.declared.ports.InPort.{InPort}
@@ -10,7 +9,6 @@ use Rattle.ht_ports.specs.declared.ports.InPort.TheVariants.{Tests}
 use Rattle.ht_ports.proofs.NextLaws.{next_some, next_none}
 use Rattle.ht_net.specs.Netlist.{max_inputs}
 use Rattle.ht_texts.specs.Tests.{IsTextOf, IsMalformedTest}
-use Rattle.ht_app.specs.Inputs.{IsInput}
 use Rattle.ht_app.proofs.SoFarLaws.{SoFar, so_far_start, so_far_end}
 use Rattle.ht_app.proofs.ReadLaws.{read_call, so_far_more}
 use Rattle.ht_app.proofs.WrongLineLaws.{bad_line, too_long}

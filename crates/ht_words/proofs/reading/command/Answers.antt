@@ -1,4 +1,4 @@
-use Rattle.std.proofs.Common.{◌≡◌, ◌∙◌, ap, sym, subst, Option, Some, rules}
+use Rattle.std.proofs.Common.{◌≡◌, ◌∙◌, ap, sym, subst, Option, rules}
 use Rattle.clap.specs.Words.{app_of, found_of, rows_of}
 use Rattle.ht_asked.specs.Asked.{Asked, asked, command_named, words_of}
 use Rattle.ht_asked.specs.ByClap.{asked_in_rows}
