@@ -92,7 +92,8 @@ pub fn sim<D: Desk>(
     ensures done { OnOk result
         (IsDone (asked.sim netlist.now tests.now report.now) (D.view desk.old) (D.view desk.new)) }
     ensures cause { IfErr result
-        (HasCause (asked.sim netlist.now tests.now report.now) (D.view desk.old) (D.view desk.new)) }
+        (HasCause (asked.sim netlist.now tests.now report.now)
+        (D.view desk.old) (D.view desk.new)) }
 {
     let texts = simulate(alloc, netlist, tests, desk)?;
     write_report(desk, report, &texts.body, &texts.total)?;

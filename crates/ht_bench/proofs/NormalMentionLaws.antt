@@ -5,12 +5,11 @@ use Rattle.std.proofs.lemmas.List.{length-map}
 use Rattle.std.proofs.lemmas.List.Elements.{All-nil, All-cons, All-append, All-map, All-take, All-weaker, All-contains_itself, All-from_get_or, Contains-get_or}
 use Rattle.ht_tern.specs.Gate.{HasArity}
 use Rattle.ht_net.specs.declared.net.NetId.{NetId}
-use Rattle.ht_net.specs.Netlist.{Netlist, IsCircuit, first_gate_net, net_count, gate_at, no_net}
+use Rattle.ht_net.specs.Netlist.{Netlist, IsCircuit, first_gate_net, net_count, gate_at, no_net, max_arguments}
 use Rattle.ht_net.specs.Named.{Name, NamedGate, name_of, named_of}
 use Rattle.ht_statement.specs.Statement.{Statement, input_line, output_line, names_in}
 use Rattle.ht_bench.specs.Normal.{dff_statement, gate_statement, statements_of}
 use Rattle.ht_bench.proofs.NamedPartLaws.{All-named_dffs, All-named_gates}
-use Rattle.ht_statement.specs.Element.{max_arguments}
 
 module _ (c : Netlist) (is : IsCircuit c) where
   net_has_name : (net : NetId) → net.0 < net_count c → Contains c.names (name_of c net)

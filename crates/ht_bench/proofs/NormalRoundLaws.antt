@@ -6,10 +6,9 @@ use Rattle.std.proofs.lemmas.List.Concat.{flat_map-append}
 use Rattle.std.proofs.lemmas.List.Sums.{sum_by-append}
 use Rattle.std.proofs.lemmas.List.Elements.{All-append, All-head, All-tail, All-map, All-weaker, All-contains, Contains-append_left, Contains-get_or}
 use Rattle.ht_tern.specs.Gate.{HasArity}
-use Rattle.ht_net.specs.Netlist.{Netlist, IsCircuit}
+use Rattle.ht_net.specs.Netlist.{Netlist, IsCircuit, max_arguments}
 use Rattle.ht_net.specs.Named.{NamedGate, named_of}
 use Rattle.ht_statement.specs.Name.{is_name}
-use Rattle.ht_statement.specs.Element.{max_arguments}
 use Rattle.ht_statement.specs.Statement.{Statement, input_line, output_line, names_in}
 use Rattle.ht_statement.specs.Reading.{stated, reading_of}
 use Rattle.ht_statement.specs.StatementText.{statement_text, has_its_count, CanBeStated}

@@ -9,7 +9,6 @@ use Rattle.ht_net.specs.Lists.{AllDiffer}
 use Rattle.ht_net.specs.Names.{IsNewName, IsNameAt}
 use Rattle.ht_net.specs.Named.{Name, NamedDff, NamedGate}
 use Rattle.ht_net.specs.Draft.{Draft, DraftGate, IsDraft, IsDriven}
-use Rattle.ht_statement.specs.Element.{max_arguments}
 use Rattle.ht_statement.specs.Statement.{Statement, gate_line}
 use Rattle.ht_statement.specs.Reading.{stated, reading_of}
 use Rattle.ht_bench.specs.Different.{different}
@@ -18,7 +17,7 @@ use Rattle.ht_bench.specs.Accepted.{IsWithinLimits, IsAcceptedAfter}
 use Rattle.ht_bench.specs.AddErrors.{IsAddError}
 use Rattle.ht_bench.specs.declared.add_error.AddError.{AddError}
 use Rattle.ht_bench.specs.declared.add_error.AddError.TheVariants.{SecondDriver, Limit, NoMemory}
-use Rattle.ht_net.specs.Netlist.{max_nets}
+use Rattle.ht_net.specs.Netlist.{max_nets, max_arguments}
 
 -- a number, a flip-flop and a gate of a draft stand for these names
 abbrev pub IsNumberOf : List Name → NameId → Name → Type 0

@@ -33,7 +33,8 @@ impl Model for PairSet {
 
     ghost inverse = { λ pairs. record { bits = bits_of pairs } };
 
-    ghost inverse_ok = { λ s valid. ap (λ n. record { bits = n }) (bits_of-members_of s.bits valid.1) };
+    ghost inverse_ok = { λ s valid.
+        ap (λ n. record { bits = n }) (bits_of-members_of s.bits valid.1) };
 }
 
 /// Two sets are equal exactly where they have the same members.

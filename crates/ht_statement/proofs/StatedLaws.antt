@@ -6,10 +6,11 @@ use Rattle.std.proofs.lemmas.Bool.Decides.{nat_tests}
 use Rattle.ht_tern.specs.Gate.{HasArity, has_arity}
 use Rattle.ht_tern.specs.declared.gate.Kind.{Kind}
 use Rattle.ht_net.specs.Named.{Name}
+use Rattle.ht_net.specs.Netlist.{max_arguments}
 use Rattle.ht_statement.specs.LineToken.{tokens_of}
 use Rattle.ht_statement.specs.Name.{is_name}
 use Rattle.ht_statement.specs.LineForm.{LineForm, blank_form, input_form, output_form, definition_form, form_of}
-use Rattle.ht_statement.specs.Element.{Element, flip_flop, gate_of, element_named, has_count, max_arguments}
+use Rattle.ht_statement.specs.Element.{Element, flip_flop, gate_of, element_named, has_count}
 use Rattle.ht_statement.specs.Statement.{input_line, output_line}
 use Rattle.ht_statement.specs.Reading.{Reading, stated, unreadable, defined, form_reading, definition_reading, tokens_reading}
 use Rattle.ht_statement.specs.declared.error.LineRefusal.{LineRefusal}

@@ -5,6 +5,7 @@ use Rattle.std.specs.Str.{str_eq_ignore_ascii_case}
 use Rattle.ht_tern.specs.Gate.{has_arity}
 use Rattle.ht_tern.specs.declared.gate.Kind.{Kind}
 use Rattle.ht_tern.specs.declared.gate.Kind.TheVariants.{And, Nand, Or, Nor, Xor, Xnor, Not, Buf}
+use Rattle.ht_net.specs.Netlist.{max_arguments}
 
 -- a flip-flop, or a gate of a kind
 pub data Element : Type 0 where
@@ -21,10 +22,6 @@ kind_words = (codes "AND", gate_of And) ∷ (codes "NAND", gate_of Nand) ∷ (co
 -- what a word names, in any letter case
 abbrev pub element_named : List ℕ → Option Element
 element_named word = lookup (λ known. str_eq_ignore_ascii_case word known) kind_words
-
--- the most arguments that a gate may have
-abbrev pub max_arguments : ℕ
-max_arguments = 255
 
 -- whether it may have this number of arguments: one for DFF, as many as its kind takes for a gate, and never more than
 -- the limit

@@ -5,12 +5,13 @@ use Rattle.ht_bench.proofs.add_line.add_output.Goals as goal
 
 pub returns-in_err-id-clause-refusal : goal.returns-in_err-id-clause-refusal
 returns-in_err-id-clause-refusal c =
-    passes_on _ c.from_residual.result c.from_residual.ensures.1 (output_refused c.args.builder.now c.args.name.now c.in_err-id.field-0.0
-    c.in_err-id.ensures.refusal)
+    passes_on _ c.from_residual.result c.from_residual.ensures.1
+    (output_refused c.args.builder.now c.args.name.now c.in_err-id.field-0.0 c.in_err-id.ensures.refusal)
 
 pub returns-in_err-output-clause-refusal : goal.returns-in_err-output-clause-refusal
 returns-in_err-output-clause-refusal c =
-    passes_on _ c.from_residual-in_err-output.result c.from_residual-in_err-output.ensures.1 (only_memory c.args.builder.now (output_line c.args.name.now) c.in_err-output.field-0.0
+    passes_on _ c.from_residual-in_err-output.result c.from_residual-in_err-output.ensures.1
+    (only_memory c.args.builder.now (output_line c.args.name.now) c.in_err-output.field-0.0
     c.in_err-output.ensures.refusal)
 
 pub returns-clause-accepts : goal.returns-clause-accepts
