@@ -1,0 +1,2 @@
+pub mod AheadSearches
+pub mod Sweeps

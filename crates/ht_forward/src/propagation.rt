@@ -1,0 +1,41 @@
+//! The propagation of a difference from a pair of states.
+ghost use Rattle.std.specs.Prelude.{◌≡◌, length, IfOk};
+ghost use Rattle.ht_tree.specs.Windows.{forward_frames, forward_window};
+ghost use Rattle.ht_forward.specs.AheadSearches.{AheadHolds, IsAhead};
+
+use crate::ahead::{Ahead, search_ahead};
+use ht_items::Items;
+use ht_net::{Circuit, Fault};
+use ht_window::{PairState, Start};
+use std::alloc::{AllocError, Global};
+
+/// How many frames the window of a propagation has.
+pub const FORWARD_FRAMES: u32 = 16;
+
+/// Searches the window of 16 frames from a state of the good machine and one of the faulty machine, which have a value for
+/// each flip-flop, for a list of vectors that shows their difference at an output. Each token weighs 16.
+///
+/// # Errors
+/// Out of memory.
+#[tactic(auto, using(crate::proofs::AheadLaws::ahead_holds))]
+pub fn propagate(
+    alloc: Global,
+    circuit: &Circuit,
+    fault: Fault,
+    state: &PairState,
+    budget: u64,
+) -> Result<Ahead, AllocError>
+    requires good { length state.now.good ≡ length circuit.now.dffs }
+    requires bad { length state.now.bad ≡ length circuit.now.dffs }
+    ensures answer { IfOk result (IsAhead
+        (forward_window circuit.now fault forward_frames state.now.good state.now.bad) budget) }
+    ensures holds { IfOk result
+        (AheadHolds circuit.now fault state.now.good state.now.bad budget) }
+{
+    let state = PairState {
+        good: Items::from_slice(alloc, state.good.as_slice())?,
+        bad: Items::from_slice(alloc, state.bad.as_slice())?,
+    };
+    let start = Start::Pair { state };
+    search_ahead(alloc, circuit, fault, FORWARD_FRAMES, &start, budget)
+}

@@ -1,0 +1,58 @@
+//! The sweep from all-unknown.
+ghost use Rattle.std.specs.Prelude.{◌≤◌, IfOk};
+ghost use Rattle.ht_forward.specs.Sweeps.{IsSwept, SweptHolds};
+
+use crate::ahead::{Ahead, search_ahead};
+use ht_items::Items;
+use ht_net::{Circuit, Fault, Vectors};
+use ht_tree::Token;
+use ht_window::Start;
+use std::alloc::{AllocError, Global};
+
+/// The greatest budget of a sweep.
+pub const MAX_BUDGET: u64 = 100_000;
+
+/// What a sweep comes to.
+#[derive(Drop)]
+pub enum Swept {
+    /// A list that detects the fault.
+    Found { list: Vectors },
+    /// The budget was spent: the walks of the windows of 1 frame, 2 frames and so on, all complete but the last.
+    Spent { walks: Items<Items<Token>> },
+}
+
+/// Searches the windows of 1 frame, 2 frames and so on from all-unknown, until one of them shows the fault or the budget is
+/// spent. A token of a window of k frames weighs k, and the budget is for all windows together.
+///
+/// # Errors
+/// Out of memory.
+pub fn sweep(
+    alloc: Global,
+    circuit: &Circuit,
+    fault: Fault,
+    budget: u64,
+) -> Result<Swept, AllocError>
+    requires { budget ≤ MAX_BUDGET }
+    ensures answer { IfOk result (IsSwept circuit.now fault budget) }
+    ensures holds { IfOk result (SweptHolds circuit.now fault budget) }
+{
+    let mut walks = Vec::new(alloc);
+    let mut left = budget;
+    let mut frames: u32 = 1;
+    'lengths: loop {
+        match search_ahead(alloc, circuit, fault, frames, &Start::Unknown, left)? {
+            Ahead::Found { list } => return Ok(Swept::Found { list }),
+            Ahead::Spent { tokens } => {
+                walks.push(tokens)?;
+                return Ok(Swept::Spent {
+                    walks: Items::from_vec(walks),
+                });
+            },
+            Ahead::Closed { tokens } => {
+                left -= tokens.as_slice().len() as u64 * frames as u64;
+                frames += 1;
+                walks.push(tokens)?;
+            },
+        }
+    }
+}
