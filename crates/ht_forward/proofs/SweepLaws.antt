@@ -1,5 +1,5 @@
 -- What the answers of a sweep mean: its list detects, and its walks are a sweep record.
-use Rattle.std.proofs.Common.{◌≡◌, ◌<◌, ◌≤◌, ◌+◌, ◌-◌, ◌*◌, ◌++◌, ℕ, List, [], ◌∷◌, Bool, length, get_or, refl, sym, ap, subst, arith}
+use Rattle.std.proofs.Common.{◌≡◌, ◌<◌, ◌≤◌, ◌+◌, ◌-◌, ◌*◌, ◌++◌, ℕ, List, [], ◌∷◌, length, get_or, sym, ap, subst, arith}
 use Rattle.std.proofs.lemmas.List.{length-append, length_push, get_or_push, get_or_append_left}
 use Rattle.ht_net.specs.declared.fault.Fault.{Fault}
 use Rattle.ht_net.specs.Detection.{Detects}
@@ -8,7 +8,7 @@ use Rattle.ht_net.specs.Rows.{Rows}
 use Rattle.ht_tree.specs.declared.token.Token.{Token}
 use Rattle.ht_tree.specs.Nodes.{judge_of}
 use Rattle.ht_tree.specs.SearchRecords.{Fills, IsSweepRecord, sweep_weight}
-use Rattle.ht_tree.specs.Walks.{IsComplete, IsOpen, weight_of}
+use Rattle.ht_tree.specs.Walks.{IsComplete, IsOpen}
 use Rattle.ht_tree.specs.Windows.{sweep_window}
 use Rattle.ht_events.specs.Plans.{max_frames}
 use Rattle.ht_records.proofs.LaterLaws.{detects_later}
@@ -51,7 +51,8 @@ module _ (c : Netlist) (fault : Fault) (budget : ℕ) (walks : List (List Token)
       let at : 1 + k ≡ k + 1 = omega arith in
       subst (λ (n : ℕ). IsComplete (judge_of (sweep_window c fault n)) (get_or all k [])) at
       (subst (λ (walk : List Token). IsComplete (judge_of (sweep_window c fault (1 + k))) walk)
-      (sym (get_or_append_left h.closed (h.last ∷ []) [] k inside)) (close_at c fault budget 1 h.closed h.closes k inside))
+      (sym (get_or_append_left h.closed (h.last ∷ []) [] k inside))
+      (close_at c fault budget 1 h.closed h.closes k inside))
 
   last_open : IsOpen (judge_of (sweep_window c fault (length all))) (get_or all (length all - 1) [])
   last_open =

@@ -25,7 +25,8 @@ pub enum Ahead {
     Spent { tokens: Items<Token> },
 }
 
-/// Searches a window in which a difference counts only at the outputs. Each token weighs as much as the window has frames.
+/// Searches a window in which a difference counts only at the outputs. Each token weighs as much as the window has
+/// frames.
 ///
 /// # Errors
 /// Out of memory.

@@ -1,12 +1,13 @@
 //! The searches forward: the sweep from all-unknown, and the propagation from a pair of states.
 //!
-//! `sweep` searches the windows of 1 frame, 2 frames and so on, in which every latch begins unknown, with one budget for
-//! all of them. `propagate` searches the window of 16 frames that begins at a given state of each machine. A list that is
-//! found has the vectors up to the frame in which an output differs for certain, with 0 for each input that is undecided.
+//! `sweep` searches the windows of 1 frame, 2 frames and so on, in which every latch begins unknown, with one budget
+//! for all of them. `propagate` searches the window of 16 frames that begins at a given state of each machine. A list
+//! that is found has the vectors up to the frame in which an output differs for certain, with 0 for each input that
+//! is undecided.
 //!
-//! The definitions stand in `specs/`: `AheadSearches` (the search of one window, and what its answer means) and `Sweeps`
-//! (the searches of a sweep, and what their answer means). Modules: `ahead` (one window), `propagation` (`propagate`) and
-//! `sweeping` (`sweep`).
+//! The definitions stand in `specs/`: `AheadSearches` (the search of one window, and what its answer means) and
+//! `Sweeps` (the searches of a sweep, and what their answer means). Modules: `ahead` (one window), `propagation`
+//! (`propagate`) and `sweeping` (`sweep`).
 #![tactic(auto)]
 
 mod ahead;

@@ -21,8 +21,8 @@ pub enum Swept {
     Spent { walks: Items<Items<Token>> },
 }
 
-/// Searches the windows of 1 frame, 2 frames and so on from all-unknown, until one of them shows the fault or the budget is
-/// spent. A token of a window of k frames weighs k, and the budget is for all windows together.
+/// Searches the windows of 1 frame, 2 frames and so on from all-unknown, until one of them shows the fault or the
+/// budget is spent. A token of a window of k frames weighs k, and the budget is for all windows together.
 ///
 /// # Errors
 /// Out of memory.

@@ -36,8 +36,8 @@ fn stuck_at_0(net: u32) -> Fault {
 
 /// What the sweep for a net at 0 comes to.
 fn swept(alloc: Global, text: &[u8], net: u32, budget: u64) -> Result<Swept, Fail>
-    requires { length text.now ≤ 16777216 }
-    requires { budget ≤ MAX_BUDGET }
+    requires text { length text.now ≤ 16777216 }
+    requires budget { budget ≤ MAX_BUDGET }
 {
     let circuit = read(alloc, text)?;
     Ok(sweep(alloc, &circuit, stuck_at_0(net), budget)?)
@@ -97,8 +97,8 @@ fn ahead(
     Ok(Some(propagate(alloc, &circuit, stuck_at_0(net), &state, budget)?))
 }
 
-// The fault shows where the 1 of the first vector comes to r, two frames later. A budget of 3 has no token left for three
-// frames.
+// The fault shows where the 1 of the first vector comes to r, two frames later. A budget of 3 has
+// no token left for three frames.
 #[test]
 fn shift_register_needs_three_frames(rt: HostRuntime) -> Result<(), Fail> {
     let spent = swept(rt.alloc(), SHIFT_REGISTER, 0, 3)?;
@@ -165,7 +165,8 @@ fn difference_is_shifted_out(rt: HostRuntime) -> Result<(), Fail> {
     Ok(())
 }
 
-// From unknown states the good toggle stays unknown, and the faulty one is 0 from the second frame on.
+// From unknown states the good toggle stays unknown, and the faulty one is 0 from the second
+// frame on.
 #[test]
 fn unknown_toggle_shows_nothing_within_16_frames(rt: HostRuntime) -> Result<(), Fail> {
     let closed = match ahead(rt.alloc(), TOGGLE, 1, &[Tern::Unk], &[Tern::Unk], 16)? {

@@ -1,4 +1,4 @@
-use Rattle.std.proofs.Common.{◌≡◌, ◌∙◌, ◌+◌, Some, ap, sym, subst, arith}
+use Rattle.std.proofs.Common.{◌∙◌, ◌+◌, Some, ap, sym, subst, arith}
 use Rattle.ht_tree.specs.Counts.{seeks_difference}
 use Rattle.ht_tree.specs.Places.{state_places}
 use Rattle.ht_tree.specs.Searches.{FindsAt, guide_of, node_at}

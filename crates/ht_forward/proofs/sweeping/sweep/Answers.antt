@@ -1,4 +1,4 @@
-use Rattle.std.proofs.Common.{◌≡◌, ◌∙◌, ◌<◌, ◌+◌, ◌-◌, ◌*◌, ◌++◌, ◌∷◌, [], ℕ, List, length, ap, sym, subst, arith}
+use Rattle.std.proofs.Common.{◌∙◌, ◌+◌, ◌-◌, ◌*◌, ℕ, List, length, ap, sym, subst}
 use Rattle.ht_tree.specs.declared.token.Token.{Token}
 use Rattle.ht_forward.specs.Sweeps.{SweepSpends}
 use Rattle.ht_forward.proofs.LengthLaws.{IsSweptTo, frames_few, sweep_closes, sweep_spends}
