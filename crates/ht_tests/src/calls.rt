@@ -4,6 +4,7 @@ mod bench;
 mod check;
 mod collapse;
 mod faults;
+mod forward;
 mod grade;
 mod net;
 mod pairs;

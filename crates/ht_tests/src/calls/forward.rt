@@ -1,6 +1,7 @@
 //! Tests of ht_forward: walks and lists of small circuits, worked by hand.
 ghost use Rattle.std.specs.Prelude.{◌≤◌, length};
 
+use super::samples::SHIFT_REGISTER;
 use ht_bench::read;
 use ht_forward::{Ahead, MAX_BUDGET, Swept, propagate, sweep};
 use ht_items::Items;
@@ -10,8 +11,6 @@ use ht_tree::Token;
 use ht_window::PairState;
 use std::alloc::Global;
 use std::test::Fail;
-
-const SHIFT_REGISTER: &[u8] = b"INPUT(a)\nOUTPUT(r)\nq = DFF(a)\nr = DFF(q)\n";
 
 // The latch has no start that is known.
 const TOGGLE: &[u8] = b"OUTPUT(q)\nq = DFF(n)\nn = NOT(q)\n";
