@@ -1,0 +1,29 @@
+use Rattle.std.proofs.Common.{◌≡◌, ◌∙◌, ◌+◌, List, Bool, length, ap, sym, subst}
+use Rattle.ht_tree.specs.declared.window.Spot.{Spot}
+use Rattle.ht_tree.specs.declared.window.Status.TheVariants.{Sure}
+use Rattle.ht_tree.specs.Searches.{FindsAt, guide_of, node_at}
+use Rattle.ht_tree.specs.Windows.{SearchWindow, one_frame_window}
+use Rattle.ht_tree.specs.WindowStatus.{status_at}
+use Rattle.ht_window.specs.Starts.{marked}
+use Rattle.ht_oneframe.specs.Rounds.{assigns_below}
+use Rattle.ht_oneframe.proofs.FoundLaws.{frame_found}
+use Rattle.ht_oneframe.proofs.round.search_one_frame.Goals as goal
+
+pub returns-in-Sure : goal.returns-in-Sure
+returns-in-Sure c =
+    let s = c.explore.new.trial.window in
+    let told = c.in_ok-told_frame-in-Sure in
+    let window : c.in_ok-window.window.window
+    ≡ one_frame_window c.args.circuit.now c.args.fault (marked 0 c.args.marks.now) =
+    c.in_ok-window.ensures.window
+    ∙ ap (λ (xs : List Bool). one_frame_window c.args.circuit.now c.args.fault (marked 0 xs)) c.in_ok-z.ensures in
+    let found = rw c.in-Found.is at c.in_ok-tokens.ensures.outcome in
+    frame_found c.args.circuit.now c.args.fault c.args.budget (marked 0 c.args.marks.now) told.field-0
+    c.in-Found.tokens.items s.decisions c.in-Sure.frame
+    (subst (λ (w : SearchWindow). FindsAt (guide_of w) c.args.budget 1 c.in-Found.tokens.items (node_at s.decisions))
+    window found)
+    (ap (λ (w : SearchWindow). status_at w s.decisions) (sym (c.explore.ensures.window ∙ window))
+    ∙ (sym c.in-Sure.ensures ∙ ap (λ (p : Spot). Sure c.in-Sure.frame p) (sym told.ensures.place)))
+    (told.ensures.sets
+    ∙ ap (λ (w : SearchWindow). assigns_below s.decisions (w.circuit.inputs + length w.circuit.dffs
+    + length w.circuit.dffs)) (c.explore.ensures.window ∙ window))

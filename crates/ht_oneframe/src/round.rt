@@ -1,0 +1,59 @@
+//! One round: the search of a one-frame window.
+ghost use Rattle.std.specs.Prelude.{◌≡◌, length, IfOk};
+ghost use Rattle.ht_window.specs.Starts.{marked};
+ghost use Rattle.ht_oneframe.specs.Rounds.{IsRound};
+
+use crate::told_frame::told_frame;
+use ht_items::Items;
+use ht_net::{Circuit, Fault};
+use ht_search::Outcome;
+use ht_tree::{Status, Token, Told};
+use ht_trial::{Trial, explore};
+use ht_window::{Start, Window};
+use std::alloc::{AllocError, Global};
+
+/// What the search of a one-frame window comes to.
+#[derive(Drop)]
+pub enum Round {
+    /// No place may differ: a complete walk.
+    Closed { tokens: Items<Token> },
+    /// A place differs for certain.
+    Told { told: Told },
+    /// The budget was spent: an open walk.
+    Spent { tokens: Items<Token> },
+}
+
+/// Searches the one-frame window of a fault in which the states may differ at the flip-flops that are marked. Each
+/// token takes one from the budget.
+///
+/// # Errors
+/// Out of memory.
+pub fn search_one_frame(
+    alloc: Global,
+    circuit: &Circuit,
+    fault: Fault,
+    budget: u64,
+    marks: &[bool],
+) -> Result<Round, AllocError>
+    requires { length marks.now ≡ length circuit.now.dffs }
+    ensures { IfOk result (IsRound circuit.now fault budget (marked 0 marks.now)) }
+{
+    let _ = circuit.nets();
+    let z = Items::from_slice(alloc, marks)?;
+    let window = Window::new(alloc, circuit, Some(fault), 1, &Start::OneFrame { z })?;
+    let mut trial = Trial { window };
+    match explore(alloc, &mut trial, budget, 1)? {
+        Outcome::Closed { tokens } => Ok(Round::Closed {
+            tokens: Items::from_vec(tokens),
+        }),
+        Outcome::Spent { tokens } => Ok(Round::Spent {
+            tokens: Items::from_vec(tokens),
+        }),
+        Outcome::Found { tokens: _ } => match trial.window.status() {
+            Status::Sure { frame: _, place } => Ok(Round::Told {
+                told: told_frame(alloc, &trial.window, place)?,
+            }),
+            Status::Dead | Status::Open => unreachable!(),
+        },
+    }
+}
