@@ -36,10 +36,10 @@ sure_open (Some p) some h = cc
 sure_open None true h = (refl, refl)
 sure_open None false h = cc
 
-undetermined_meets : (may wide : Bool) → (may && not wide) ≡ false → may ≡ true → wide ≡ true
+undetermined_meets : (may more : Bool) → (may && not more) ≡ false → may ≡ true → more ≡ true
 undetermined_meets true true h k = refl
 undetermined_meets true false h k = cc
-undetermined_meets false wide h k = cc
+undetermined_meets false more h k = cc
 
 cond_status : (all may : Bool) → cond all (Sure 0 Cube) (cond may Open Dead) ≡ Open → (all ≡ false) × (may ≡ true)
 cond_status true may h = cc
@@ -79,7 +79,7 @@ module _ (w : SearchWindow) (path : List Assign3) (circuit : IsCircuit w.circuit
       record {
         frame = found.known.frame;
         net = found.known.net;
-        wide = spot_undetermined found.member.frame found.member.spot
+        undetermined = spot_undetermined found.member.frame found.member.spot
             (mixed_undetermined differs (set_at w path found.member.frame found.member.spot) found.may_is found.must_is);
       }
 
@@ -104,7 +104,7 @@ module _ (w : SearchWindow) (path : List Assign3) (circuit : IsCircuit w.circuit
       record {
         frame = some;
         net = circuit.data_known found.member found.known;
-        wide = spot_undetermined 0 (State found.member)
+        undetermined = spot_undetermined 0 (State found.member)
             (ltb-true _ _ found.passes);
       }
 

@@ -30,9 +30,9 @@ pub use node::WalkNode;
 pub use theorems::{
     before_opens_the_window_below, complete_walk_seals, decided_window_is_not_open,
     decision_keeps_the_window, decision_leaves_one_variable_less, difference_search_is_never_spent,
-    enough_budget_is_never_spent, latches_count_two, nodes_have_windows, open_status_has_a_choice,
-    passing_entry_holds, sealed_is_silent, sizes_measure, tokens_are_bounded,
-    undecided_variables_are_left, undetermined_net_has_a_choice,
+    enough_budget_is_never_spent, good_half_comes_first, latches_count_two, nodes_have_windows,
+    open_status_has_a_choice, passing_entry_holds, sealed_is_silent, sizes_measure,
+    tokens_are_bounded, undecided_variables_are_left, undetermined_net_has_a_choice,
 };
 pub use token::{Assign3, Choice, Status3, Token};
 pub use told::{Assign, Told};

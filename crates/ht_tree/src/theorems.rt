@@ -10,9 +10,9 @@ ghost use Rattle.ht_tree.specs.declared.token.Token.{Token};
 ghost use Rattle.ht_tree.specs.declared.window.Status.TheVariants.{Open};
 ghost use Rattle.ht_tree.specs.Walks.{AllFit, IsComplete, Judge, Node, decide, path_of, root, root_stack, stack_after, under};
 ghost use Rattle.ht_tree.specs.Decisions.{is_in};
-ghost use Rattle.ht_tree.specs.Windows.{IsWindow, SearchWindow, cell_at, one_frame_window, token_weight};
+ghost use Rattle.ht_tree.specs.Windows.{IsWindow, SearchWindow, cell_at, one_frame, one_frame_window, token_weight};
 ghost use Rattle.ht_tree.specs.WindowStatus.{status_at};
-ghost use Rattle.ht_tree.specs.Variables.{DecidesAll, IsLegalChoice, is_undecided, may_three, may_two, undecided_count, variable_bound, variable_count};
+ghost use Rattle.ht_tree.specs.Variables.{DecidesAll, GoodHalfIsFirst, IsLegalChoice, is_undecided, may_three, may_two, undecided_count, variable_bound, variable_count};
 ghost use Rattle.ht_tree.specs.Nodes.{IsNode, judge_of, window_at, window_below};
 ghost use Rattle.ht_tree.specs.WalkBack.{pick_of, walk_back};
 ghost use Rattle.ht_tree.specs.Searches.{Guide, SpendsAt, guide_of};
@@ -42,6 +42,13 @@ pub fn passing_entry_holds()
 pub fn open_status_has_a_choice()
     ensures { (w : SearchWindow) (path : List Assign3) → IsWindow w → status_at w path ≡ Open
         → IsLegalChoice w path (pick_of w path) }
+{}
+
+/// In a one-frame window the choice takes the good half of a latch of the set before its faulty one.
+pub fn good_half_comes_first()
+    ensures { (w : SearchWindow) (path : List Assign3) (z : List ℕ) → IsWindow w
+        → w.start ≡ one_frame z → status_at w path ≡ Open
+        → GoodHalfIsFirst w.circuit z path (pick_of w path) }
 {}
 
 /// The walk back from a net with two or more pairs ends at such a variable.
