@@ -10,6 +10,7 @@ use Rattle.ht_events.specs.declared.plan.Plan.TheInside.{Inside}
 abbrev pub max_frames : ℕ
 max_frames = 447
 
+-- the items of a frame that read one net, in memory
 abbrev pub Row : Type 0
 Row = Vec ℕ Global
 
@@ -17,6 +18,7 @@ Row = Vec ℕ Global
 abbrev pub row_lists : List Row → List (List ℕ)
 row_lists rows = map (λ (r : Row). r.items) rows
 
+-- the row of net x as a list; empty where there is none
 abbrev pub row_at : List Row → ℕ → List ℕ
 row_at rows x = get_or (row_lists rows) x []
 

@@ -1,5 +1,5 @@
 //! The items that are pending, and what fires them.
-ghost use Rattle.std.specs.Prelude.{◌≡◌, ℕ, ◌<◌, ◌≤◌, ◌+◌, true, false, length, get_or, set, IfOk, OnOk, OnErr, IfSome, IfNone, ◌⊎◌};
+ghost use Rattle.std.specs.Prelude.{◌≡◌, ℕ, ◌<◌, ◌≤◌, ◌+◌, ◌*◌, true, false, length, get_or, set, IfOk, OnOk, OnErr, IfSome, IfNone, ◌⊎◌};
 ghost use Rattle.ht_net.specs.Netlist.{net_count};
 ghost use Rattle.ht_events.specs.Items.{IsLoad, IsReader, item_count, item_at, reader_frame, frame_items};
 ghost use Rattle.ht_events.specs.Plans.{position_at};
@@ -269,8 +269,8 @@ impl<'c> Core<'c> {
         }
     }
 
-    /// Fires items, the lowest frame and there the lowest level first, until none is pending. The cost is one firing
-    /// for each event, and a look at each position between the first and the last.
+    /// Fires items, the lowest frame and there the lowest level first, until none is pending. No item is fired twice, so
+    /// it spends at most the price of each. It looks at each position between the first and the last.
     ///
     /// # Errors
     /// Out of memory; some items may be pending. Here too, where every item that isn't pending agreed, it does
@@ -282,6 +282,8 @@ impl<'c> Core<'c> {
         ensures circuit { P.circuit plant.new ≡ P.circuit plant.old }
         ensures frames { P.frames plant.new ≡ P.frames plant.old }
         ensures keeps { P.keeps plant.old plant.new }
+        ensures spent { P.spent plant.new
+            ≤ P.spent plant.old + core_items self.old * P.price plant.old }
         ensures agree { QuietAgree self.old (P.agrees plant.old)
             → QuietAgree self.new (P.agrees plant.new) }
         ensures none { OnOk result ((x : ℕ) → x < core_items self.old → ¬ IsPending self.new x) }
