@@ -16,7 +16,7 @@ use std::alloc::{AllocError, Global};
 pub enum Outcome {
     /// The problem stands where what is searched for is shown.
     Found { tokens: Vec<Token> },
-    /// There is no such node.
+    /// It is shown nowhere: the walk is complete.
     Closed { tokens: Vec<Token> },
     /// The budget has no room for the next token.
     Spent { tokens: Vec<Token> },
