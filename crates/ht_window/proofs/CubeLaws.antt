@@ -68,9 +68,9 @@ module _ (w : SearchWindow) (path : List Assign3) (cube : List Tern) where
       let some = sym (some_push latches j) in
       let must = sym (all_push (must_meet w path cube) latches j) in
       let may = sym (all_push (may_meet w path cube) latches j) in
-      let wide = sym (find_push (λ j. is_undetermined (set_at w path 0 (State j))) latches j) in
+      let undetermined = sym (find_push (λ j. is_undetermined (set_at w path 0 (State j))) latches j) in
       (λ k. cube_seen_with (is k) j (wanted k) (here k)) ∙
-      (λ k. record { some = some k; must = must k; may = may k; open_latch = wide k })
+      (λ k. record { some = some k; must = must k; may = may k; undetermined_latch = undetermined k })
 
   pub latch_kept : (n : ℕ) (value : Tern) (set : List Pair) (s : CubeSeen) → s
       ≡ cube_seen_of w path cube (filter (λ j. is_definite (value_at cube j)) (range_with_len 0 n))

@@ -39,7 +39,7 @@ pub seen_push : (w : SearchWindow) (path : List Assign3) (places : List WindowPl
 seen_push w path places p set s is here =
     (λ k. seen_with (is k) p (here k))
     ∙ (let a = sym (find_push (must_differ_at w path) places p)
-    in let b = sym (find_push (may_differ_at w path) places p) in (λ k. record { sure = a k; open_place = b k }))
+    in let b = sym (find_push (may_differ_at w path) places p) in (λ k. record { sure = a k; possible_place = b k }))
 
 -- one more of a row of places
 pub seen_more : (w : SearchWindow) (path : List Assign3) (places : List WindowPlace) (place : ℕ → WindowPlace) (n : ℕ)
@@ -95,10 +95,10 @@ any_found test (p ∷ places) = by (test p) (any_found test places)
 
 pub seen_status : (w : SearchWindow) (path : List Assign3) (places : List WindowPlace) (s : PlacesSeen) → s
     ≡ seen_of w path places
-    → sure_or s.sure (is_some s.open_place) ≡ sure_or (find (must_differ_at w path) places)
+    → sure_or s.sure (is_some s.possible_place) ≡ sure_or (find (must_differ_at w path) places)
     (list_any (may_differ_at w path) places)
 seen_status w path places s is =
-    (λ k. sure_or (is k).sure (is_some (is k).open_place)) ∙ ap (sure_or (find (must_differ_at w path) places))
+    (λ k. sure_or (is k).sure (is_some (is k).possible_place)) ∙ ap (sure_or (find (must_differ_at w path) places))
     (any_found (may_differ_at w path) places)
 
 -- the next state of a window of one frame

@@ -81,9 +81,9 @@ module _ (w : SearchWindow) (path : List Assign3) (circuit : IsCircuit w.circuit
       → (end_in_frame w path f at).net < first_gate_net w.circuit
   ends_low f at known h = let d = circuit_depth w.circuit circuit in (ends_undetermined w path circuit d.0 d.1 f at known h).low
 
-  pub ends_wide : (f : ℕ) (at : Wanted) → at.net < net_count w.circuit → 1 < length (cell_at w path f at.net)
+  pub ends_undetermined_at : (f : ℕ) (at : Wanted) → at.net < net_count w.circuit → 1 < length (cell_at w path f at.net)
       → 1 < length (cell_at w path f (end_in_frame w path f at).net)
-  ends_wide f at known h = let d = circuit_depth w.circuit circuit
+  ends_undetermined_at f at known h = let d = circuit_depth w.circuit circuit
       in (ends_undetermined w path circuit d.0 d.1 f at known h).undetermined
 
   pub choice_input : (f : ℕ) (at : Wanted) → at.net < w.circuit.inputs → choice_at w path f at
@@ -113,11 +113,11 @@ module _ (w : SearchWindow) (path : List Assign3) (circuit : IsCircuit w.circuit
       (record { net = spot_net w.circuit (State (at.net - w.circuit.inputs)); bit = at.bit }))) e
       ∙ sym (cond_no (ltb at.net w.circuit.inputs) _ _ (not_below at.net w.circuit.inputs high))
 
-  pub data_wide : (f x : ℕ) → 0 < f → w.circuit.inputs ≤ x → x < first_gate_net w.circuit
+  pub data_undetermined : (f x : ℕ) → 0 < f → w.circuit.inputs ≤ x → x < first_gate_net w.circuit
       → 1 < length (cell_at w path f x)
       → 1 < length (cell_at w path (f - 1) (spot_net w.circuit (State (x - w.circuit.inputs))))
-  data_wide zero x some high low h = absurd (omega arith)
-  data_wide (suc f) x some high low h =
+  data_undetermined zero x some high low h = absurd (omega arith)
+  data_undetermined (suc f) x some high low h =
       let e : suc f - 1 ≡ f = omega arith in
       let d = circuit_depth w.circuit circuit in
       rw e (before_undetermined w path circuit d.0 d.1 f (x - w.circuit.inputs) (omega arith)

@@ -8,12 +8,15 @@ use Rattle.ht_trail.specs.Trails.{CellsState, at_mark}
 use Rattle.ht_tree.specs.declared.token.Assign3.{Assign3}
 use Rattle.ht_tree.specs.Windows.{SearchWindow, cell_at, first_input, first_latches, frame_inputs, pair_set_rules}
 
+-- the set that stands where the array has no cell
 abbrev pub blank : List Pair
 blank = pair Unk Unk ∷ []
 
+-- the index of net x of frame f in the one array of a window's cells
 abbrev pub cell_index : SearchWindow → ℕ → ℕ → ℕ
 cell_index w f x = f * net_count w.circuit + x
 
+-- how many cells a window has
 abbrev pub cell_count : SearchWindow → ℕ
 cell_count w = w.frames * net_count w.circuit
 
@@ -31,7 +34,7 @@ abbrev pub value_over : SearchWindow → List Assign3 → List (List Pair) → �
 value_over w path values f x = net_value_over w.circuit (pair_set_rules w.fault) (frame_inputs w path f)
     (latches_over w path values f) (env_at w values f) x
 
--- it holds that
+-- net x of frame f holds what it gets from the decisions and from the cells that its driver reads
 abbrev pub HoldsValue : SearchWindow → List Assign3 → List (List Pair) → ℕ → ℕ → Type 0
 HoldsValue w path values f x = env_at w values f x ≡ value_over w path values f x
 
@@ -39,10 +42,11 @@ HoldsValue w path values f x = env_at w values f x ≡ value_over w path values 
 pub record AreCells (w : SearchWindow) (path : List Assign3) (values : List (List Pair)) : Type 0 where
   pub cells : (f x : ℕ) → f < w.frames → x < net_count w.circuit → env_at w values f x ≡ cell_at w path f x
 
--- the frame and the net that a variable decides
+-- the frame whose net a variable decides
 abbrev pub var_frame : SearchWindow → ℕ → ℕ
 var_frame w var = cond (ltb var (first_input w w.frames)) (var / w.circuit.inputs) 0
 
+-- the net that a variable decides
 abbrev pub var_net : SearchWindow → ℕ → ℕ
 var_net w var = cond (ltb var (first_input w w.frames)) (var % w.circuit.inputs)
     (cond (ltb var (first_gate_net w.circuit)) var (var - length w.circuit.dffs))

@@ -9,6 +9,7 @@ use Rattle.ht_window.specs.Standing.{Standing}
 use Rattle.ht_window.specs.Cells.{env_at, cell_count, HoldsValue}
 use Rattle.ht_window.specs.declared.held.Held.TheInside.{Inside}
 
+-- A window with its decisions, and its cells with what they were before each mark.
 pub record HeldState : Type 0 where
   pub standing : Standing
   pub cells : CellsState (List Pair)

@@ -16,35 +16,38 @@ use Rattle.ht_tree.specs.declared.window.Status.TheVariants.{Dead, Sure, Open}
 use Rattle.ht_window.specs.declared.places.PlacesSeen.{PlacesSeen}
 use Rattle.ht_window.specs.declared.cube.CubeSeen.{CubeSeen}
 
+-- what the places of a list show at a path: the first that must differ, and the first that may
 abbrev pub seen_of : SearchWindow → List Assign3 → List WindowPlace → PlacesSeen
 seen_of w path places = record
-    { sure = find (must_differ_at w path) places; open_place = find (may_differ_at w path) places }
+    { sure = find (must_differ_at w path) places; possible_place = find (may_differ_at w path) places }
 
--- one more place with its set
+-- what places show after one more place, which has this set
 abbrev pub seen_with : PlacesSeen → WindowPlace → List Pair → PlacesSeen
 seen_with s place set = record {
   sure = option_or s.sure (then_some (list_all differs set) place);
-  open_place = option_or s.open_place (then_some (list_any differs set) place);
+  possible_place = option_or s.possible_place (then_some (list_any differs set) place);
 }
 
--- the same of the latches of a cube
+-- what the latches of a cube show: whether there are any, whether each must be as wanted, whether each may, and the
+-- first that is undetermined
 abbrev pub cube_seen_of : SearchWindow → List Assign3 → List Tern → List ℕ → CubeSeen
 cube_seen_of w path cube latches = record {
   some = ltb 0 (length latches);
   must = list_all (must_meet w path cube) latches;
   may = list_all (may_meet w path cube) latches;
-  open_latch = find (λ j. is_undetermined (set_at w path 0 (State j))) latches;
+  undetermined_latch = find (λ j. is_undetermined (set_at w path 0 (State j))) latches;
 }
 
--- one more latch that has a wanted value
+-- what the latches of a cube show after one more latch, which is wanted at a value and has this set
 abbrev pub cube_seen_with : CubeSeen → ℕ → Tern → List Pair → CubeSeen
 cube_seen_with s j value set = record {
   some = true;
   must = s.must && (is_member (pair value value) set && not (is_undetermined set));
   may = s.may && is_member (pair value value) set;
-  open_latch = option_or s.open_latch (then_some (is_undetermined set) j);
+  undetermined_latch = option_or s.undetermined_latch (then_some (is_undetermined set) j);
 }
 
+-- the status with so many frames left, by what the latches of the cube show
 abbrev pub cube_status_by : CubeSeen → ℕ → Status
 cube_status_by s limit = cond s.some (cond (eqb limit 0) Dead (cond s.must (Sure 0 Cube) (cond s.may Open Dead)))
     (Sure 0 Cube)

@@ -9,14 +9,16 @@ use Rattle.ht_tree.specs.Windows.{SearchWindow, IsWindow}
 use Rattle.ht_window.specs.Starts.{start_of}
 use Rattle.ht_window.specs.declared.decided.Decided.TheInside.{Inside}
 
+-- A window with the decisions that stand, in their order.
 pub record Standing : Type 0 where
   pub window : SearchWindow
   pub path : List Assign3
 
--- as many variables as a window may have
+-- room for the variables of a window, whatever its start: its inputs in each frame, and two for each latch
 abbrev pub variable_room : SearchWindow → ℕ
 variable_room w = w.frames * w.circuit.inputs + (length w.circuit.dffs + length w.circuit.dffs)
 
+-- the fields of a window and its decisions as what stands
 abbrev pub standing_of : Inside → Standing
 standing_of a = record {
   window = record { circuit = a.circuit.now; fault = a.fault; frames = a.frames; start = start_of a.start };
@@ -28,6 +30,7 @@ pub record IsValueHistory (values : CellsState (Option Tern)) (path : List Assig
   pub count : length values.trail ≡ length path
   pub at : (k var : ℕ) → k ≤ length path → get_or (at_mark values k) var None ≡ decided_value (take k path) var
 
+-- The fields stand for a window of at most so many frames, with room for each variable and a history of their values.
 pub record IsStanding (a : Inside) : Type 0 where
   pub window : IsWindow (standing_of a).window
   pub few_frames : a.frames ≤ max_frames

@@ -11,6 +11,7 @@ abbrev pub marked : ℕ → List Bool → List ℕ
 marked j [] = []
 marked j (mark ∷ marks) = cond mark (j ∷ marked (j + 1) marks) (marked (j + 1) marks)
 
+-- a start in memory as the start of a window, with the set of marked flip-flops as a list
 abbrev pub start_of : Start → window.Start
 start_of (OneFrame z) = window.one_frame (marked 0 z)
 start_of Unknown = window.unknown

@@ -8,12 +8,14 @@ use Rattle.ht_tree.specs.Variables.{may_two, may_three}
 use Rattle.ht_window.specs.Cells.{IsHistory}
 use Rattle.ht_window.specs.declared.window.Window.TheInside.{Inside}
 
+-- A window with its decisions in order, the mark before each of them, and the present mark.
 pub record WindowState : Type 0 where
   pub window : SearchWindow
   pub decisions : List Assign3
   pub marks : List ℕ
   pub mark : ℕ
 
+-- the fields of a window as contracts see it
 abbrev pub state_of : Inside → WindowState
 state_of a = record {
   window = a.held.standing.window;

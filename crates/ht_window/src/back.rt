@@ -3,9 +3,9 @@ ghost use Rattle.std.specs.Prelude.{◌≡◌, ◌<◌, ◌≤◌, ℕ, length};
 ghost use Rattle.ht_net.specs.Netlist.{first_gate_net, gate_at, net_count};
 ghost use Rattle.ht_tree.specs.Windows.{cell_at, pair_set_rules};
 ghost use Rattle.ht_tree.specs.Variables.{IsLegalChoice};
-ghost use Rattle.ht_tree.specs.WalkBack.{Wanted, choice_at, end_in_frame, latch_choice, undetermined_argument, bit_before, walk_back};
+ghost use Rattle.ht_tree.specs.WalkBack.{choice_at, end_in_frame, latch_choice, undetermined_argument, bit_before, walk_back};
 ghost use Rattle.ht_tree.specs.Walks.{decides};
-ghost use Rattle.ht_window.specs.Lines.{wanted_of};
+ghost use Rattle.ht_window.specs.WantedOf.{wanted_of};
 
 use crate::start::Start;
 use crate::window::Window;
@@ -16,7 +16,7 @@ use ht_tree::Choice;
 
 /// A net, and the bit that is wanted there.
 #[derive(Clone, Copy)]
-pub struct Line {
+pub struct Wanted {
     net: u32,
     bit: bool,
 }
@@ -49,7 +49,7 @@ impl<'c> Window<'c> {
     }
 
     /// Where the walk back ends within a frame.
-    fn end_in_frame(&self, frame: u32, at: Line) -> Line
+    fn end_in_frame(&self, frame: u32, at: Wanted) -> Wanted
         requires frame { frame < self.now.window.frames }
         requires net { at.net < net_count self.now.window.circuit }
         ensures { wanted_of result ≡ end_in_frame self.now.window self.now.decisions frame
@@ -66,11 +66,11 @@ impl<'c> Window<'c> {
             net = self.undetermined_argument(frame, g);
             left -= 1;
         }
-        Line { net, bit }
+        Wanted { net, bit }
     }
 
     /// The choice at a latch of the first frame: its good half before its faulty one.
-    fn latch_choice(&self, at: Line) -> Choice
+    fn latch_choice(&self, at: Wanted) -> Choice
         requires { at.net < first_gate_net self.now.window.circuit }
         ensures { result ≡ latch_choice self.now.window self.now.decisions self.now.window.start
             (wanted_of at) }
@@ -93,20 +93,21 @@ impl<'c> Window<'c> {
         }
     }
 
-    /// The walk back from a net that has two or more members in a frame, with a wanted bit, to a variable that is legal
-    /// and undecided.
+    /// The walk back from a net that is undetermined in a frame, with a wanted bit, to a variable that is legal and
+    /// undecided.
     pub fn walk_back(&self, frame: u32, net: NetId, wanted: bool) -> Choice
         requires frame { frame < self.now.window.frames }
         requires net { net.0 < net_count self.now.window.circuit }
-        requires wide { 1 < length (cell_at self.now.window self.now.decisions frame net.0) }
-        ensures { result ≡ walk_back self.now.window self.now.decisions frame net.0 wanted }
+        requires undetermined { 1 < length (cell_at self.now.window self.now.decisions frame net.0) }
+        ensures choice { result ≡ walk_back self.now.window self.now.decisions frame net.0 wanted }
+        ensures legal { IsLegalChoice self.now.window self.now.decisions result }
     {
         let circuit = self.circuit();
         let inputs = circuit.inputs();
         let mut frame = frame;
         let mut at = self.end_in_frame(
             frame,
-            Line {
+            Wanted {
                 net: net.0,
                 bit: wanted,
             },
@@ -115,7 +116,7 @@ impl<'c> Window<'c> {
             frame -= 1;
             at = self.end_in_frame(
                 frame,
-                Line {
+                Wanted {
                     net: circuit.dff_data(at.net - inputs).0,
                     bit: at.bit,
                 },

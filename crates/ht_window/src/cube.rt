@@ -5,20 +5,20 @@ ghost use Rattle.ht_tree.specs.Windows.{is_undetermined};
 ghost use Rattle.ht_tree.specs.WindowStatus.{cube_latches, is_definite};
 ghost use Rattle.ht_window.specs.Seen.{cube_seen_of, cube_seen_with, cube_status_by};
 
-use crate::decided::wanted;
+use crate::decided::value_at;
 use crate::window::Window;
 use ht_pairs::PairSet;
 use ht_tern::Tern;
 use ht_tree::{Spot, Status};
 
 /// What the latches of a cube that were looked at show: whether there is any, whether all must have their values,
-/// whether all may, and the first whose next state has two or more members.
+/// whether all may, and the first whose next state is undetermined.
 #[derive(Clone, Copy)]
 pub struct CubeSeen {
     pub some: bool,
     pub must: bool,
     pub may: bool,
-    pub open_latch: Option<u32>,
+    pub undetermined_latch: Option<u32>,
 }
 
 /// Whether a set holds a value in both machines.
@@ -38,8 +38,8 @@ fn is_definite(value: Tern) -> bool
     }
 }
 
-/// Whether a set has two or more members.
-fn is_wide(set: PairSet) -> bool
+/// Whether a set is undetermined: it has two or more members.
+fn is_undetermined(set: PairSet) -> bool
     ensures { result ≡ is_undetermined set }
 {
     !set.is_single()
@@ -51,12 +51,12 @@ impl CubeSeen {
         ensures { result ≡ cube_seen_with self j value set }
     {
         let may = holds(set, value);
-        let wide = is_wide(set);
+        let undetermined = is_undetermined(set);
         CubeSeen {
             some: true,
-            must: self.must && may && !wide,
+            must: self.must && may && !undetermined,
             may: self.may && may,
-            open_latch: self.open_latch.or(wide.then_some(j)),
+            undetermined_latch: self.undetermined_latch.or(undetermined.then_some(j)),
         }
     }
 
@@ -95,10 +95,10 @@ impl<'c> Window<'c> {
             some: false,
             must: true,
             may: true,
-            open_latch: None,
+            undetermined_latch: None,
         };
         for j in 0..self.dffs() {
-            let value = wanted(cube, j);
+            let value = value_at(cube, j);
             if is_definite(value) {
                 seen = seen.with(j, value, self.next_state(j));
             }

@@ -170,13 +170,13 @@ impl<'c> Decided<'c> {
         let faulty = good + self.circuit.dffs();
         match &self.start {
             Start::OneFrame { z } => {
-                let halves = mark(z.as_slice(), j);
+                let halves = is_set(z.as_slice(), j);
                 latch(halves, self.value(good), self.value(faulty))
             },
             Start::Unknown => PairSet::single(Tern::Unk, Tern::Unk),
             Start::Pair { state } => PairSet::single(
-                wanted(state.good.as_slice(), j),
-                wanted(state.bad.as_slice(), j),
+                value_at(state.good.as_slice(), j),
+                value_at(state.bad.as_slice(), j),
             ),
             Start::Back { cube: _, limit: _ } => same_or_unknown(self.value(good)),
         }
@@ -216,7 +216,7 @@ impl<'c> Decided<'c> {
 }
 
 /// Whether mark j is set.
-pub fn mark(marks: &[bool], j: u32) -> bool
+pub fn is_set(marks: &[bool], j: u32) -> bool
     ensures { result ≡ get_or marks.now j false }
 {
     match marks.get(j as usize) {
@@ -225,8 +225,8 @@ pub fn mark(marks: &[bool], j: u32) -> bool
     }
 }
 
-/// The value of latch j in a state; unknown where there is none.
-pub fn wanted(state: &[Tern], j: u32) -> Tern
+/// The value of latch j in a state or a cube; unknown where there is none.
+pub fn value_at(state: &[Tern], j: u32) -> Tern
     ensures { result ≡ get_or state.now j Unk }
 {
     match state.get(j as usize) {

@@ -6,7 +6,7 @@
 //! mark (ht_trail). `status`, `pick` and `walk_back` read it. The definitions are ht_tree's: `specs/Windows.antt`,
 //! `WindowStatus.antt` and `WalkBack.antt`.
 //!
-//! | File | HoldsValue |
+//! | File | Holds |
 //! |---|---|
 //! | start | what the latches of the first frame are |
 //! | decided | the decisions, and the value of each variable |

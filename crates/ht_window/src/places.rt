@@ -7,7 +7,7 @@ ghost use Rattle.ht_tree.specs.Places.{output_places, places_of, state_places};
 ghost use Rattle.ht_window.specs.Starts.{marked};
 ghost use Rattle.ht_window.specs.Seen.{seen_of, seen_with};
 
-use crate::decided::mark;
+use crate::decided::is_set;
 use crate::start::Start;
 use crate::window::Window;
 use ht_pairs::PairSet;
@@ -17,7 +17,7 @@ use ht_tree::{Spot, WindowPlace};
 #[derive(Clone, Copy)]
 pub struct PlacesSeen {
     pub sure: Option<WindowPlace>,
-    pub open_place: Option<WindowPlace>,
+    pub possible_place: Option<WindowPlace>,
 }
 
 impl PlacesSeen {
@@ -27,7 +27,7 @@ impl PlacesSeen {
     {
         PlacesSeen {
             sure: self.sure.or(set.must_differ().then_some(place)),
-            open_place: self.open_place.or(set.may_differ().then_some(place)),
+            possible_place: self.possible_place.or(set.may_differ().then_some(place)),
         }
     }
 }
@@ -60,7 +60,7 @@ impl<'c> Window<'c> {
     {
         let mut seen = PlacesSeen {
             sure: None,
-            open_place: None,
+            possible_place: None,
         };
         for frame in 0..self.frames() {
             seen = self.see_outputs(seen, frame);
@@ -77,7 +77,7 @@ impl<'c> Window<'c> {
     {
         let mut seen = seen;
         for j in 0..self.dffs() {
-            if !mark(z, j) {
+            if !is_set(z, j) {
                 let place = WindowPlace {
                     frame: 0,
                     spot: Spot::State(j),

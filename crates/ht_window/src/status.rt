@@ -9,7 +9,7 @@ ghost use Rattle.ht_tree.specs.WindowStatus.{status_at, sure_or};
 ghost use Rattle.ht_tree.specs.Variables.{IsLegalChoice};
 ghost use Rattle.ht_tree.specs.WalkBack.{CanWalk, from_latch, from_place, pick_of};
 
-use crate::decided::wanted;
+use crate::decided::value_at;
 use crate::places::PlacesSeen;
 use crate::start::Start;
 use crate::window::Window;
@@ -19,7 +19,7 @@ use ht_tree::{Choice, Spot, Status, WindowPlace};
 
 /// The status by the places.
 fn difference_status(seen: PlacesSeen) -> Status
-    ensures { result ≡ sure_or seen.sure (is_some seen.open_place) }
+    ensures { result ≡ sure_or seen.sure (is_some seen.possible_place) }
 {
     match seen.sure {
         Some(place) => Status::Sure {
@@ -27,7 +27,7 @@ fn difference_status(seen: PlacesSeen) -> Status
             place: place.spot,
         },
         None => {
-            if seen.open_place.is_some() {
+            if seen.possible_place.is_some() {
                 Status::Open
             } else {
                 Status::Dead
@@ -68,10 +68,10 @@ impl<'c> Window<'c> {
         match self.start() {
             Start::Back { cube, limit: _ } => self.from_latch(
                 cube.as_slice(),
-                self.see_cube(cube.as_slice()).open_latch,
+                self.see_cube(cube.as_slice()).undetermined_latch,
             ),
             Start::OneFrame { z: _ } | Start::Unknown | Start::Pair { state: _ } => self.from_place(
-                self.seen().open_place,
+                self.seen().possible_place,
             ),
         }
     }
@@ -100,7 +100,11 @@ impl<'c> Window<'c> {
         ensures { result ≡ from_latch self.now.window self.now.decisions cube.now latch }
     {
         match latch {
-            Some(j) => self.walk_back(0, self.circuit().dff_data(j), wanted(cube, j) == Tern::One),
+            Some(j) => self.walk_back(
+                0,
+                self.circuit().dff_data(j),
+                value_at(cube, j) == Tern::One,
+            ),
             None => Choice::Two {
                 var: 0,
                 first: true,

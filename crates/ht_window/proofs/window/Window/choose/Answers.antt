@@ -25,7 +25,7 @@ from_latch-requires c =
     (λ (cube : List Tern). cube_seen_of s.window s.decisions cube (cube_latches s.window.circuit cube))
     c.as_slice-in-Back.ensures in
     λ j is. found_latch_walks s.window s.decisions valid c.in-Back.cube c.in-Back.limit h j
-    (sym (ap (λ (s : CubeSeen). s.open_latch) seen) ∙ is)
+    (sym (ap (λ (s : CubeSeen). s.undetermined_latch) seen) ∙ is)
 
 pub from_place-requires : goal.from_place-requires
 from_place-requires c =
@@ -39,4 +39,4 @@ from_place-requires c =
         | inr p ↦ ap (status_from s.window s.decisions) (sym (ap start_of p.1) ∙ start) ∙ c.requires
       ]
     ] in
-    λ p is. found_place_walks s.window s.decisions valid h p (sym (ap (λ (s : PlacesSeen). s.open_place) c.seen.ensures) ∙ is)
+    λ p is. found_place_walks s.window s.decisions valid h p (sym (ap (λ (s : PlacesSeen). s.possible_place) c.seen.ensures) ∙ is)

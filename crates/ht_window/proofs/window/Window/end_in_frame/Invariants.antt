@@ -2,7 +2,7 @@ use Rattle.std.proofs.Common.{◌≡◌, ◌<◌}
 use Rattle.ht_net.specs.Netlist.{net_count}
 use Rattle.ht_tree.specs.Windows.{cell_at, pair_set_rules}
 use Rattle.ht_tree.specs.WalkBack.{back_over, end_in_frame}
-use Rattle.ht_window.specs.Lines.{wanted_of}
+use Rattle.ht_window.specs.WantedOf.{wanted_of}
 use Rattle.ht_window.proofs.window.Window.end_in_frame.Given as goal
 
 abbrev pub invariant-loop-left : goal.invariant-loop-left

@@ -16,12 +16,12 @@ loop-j-preserved c =
     let inside : j < length s.window.circuit.dffs = omega (arith, end, t) in
     elim c.if-is_definite.branch [
       | then-is_definite w ↦ w.seen-is ∙ (w.with-seen.ensures
-          ∙ latch_kept s.window s.decisions c.args.cube.now j c.wanted-value.result w.next_state.result c.loop-j.seen
-          c.loop-j.invariant c.wanted-value.ensures (sym c.is_definite.ensures ∙ w.if-is_definite.true)
+          ∙ latch_kept s.window s.decisions c.args.cube.now j c.value_at-value.result w.next_state.result c.loop-j.seen
+          c.loop-j.invariant c.value_at-value.ensures (sym c.is_definite.ensures ∙ w.if-is_definite.true)
           (w.next_state.ensures ∙ next_set s.window s.decisions j c.requires inside))
       | else-is_definite w ↦ w.seen-is
-          ∙ latch_passed s.window s.decisions c.args.cube.now j c.wanted-value.result c.loop-j.seen c.loop-j.invariant
-          c.wanted-value.ensures (sym c.is_definite.ensures ∙ w.if-is_definite.false)
+          ∙ latch_passed s.window s.decisions c.args.cube.now j c.value_at-value.result c.loop-j.seen c.loop-j.invariant
+          c.value_at-value.ensures (sym c.is_definite.ensures ∙ w.if-is_definite.false)
     ]
 
 pub returns : goal.returns

@@ -7,7 +7,7 @@ use Rattle.ht_window.specs.Starts.{marked}
 use Rattle.ht_window.specs.Seen.{seen_of}
 use Rattle.ht_window.proofs.StartLaws.{marked_is}
 use Rattle.ht_window.proofs.SeenLaws.{state_kept, state_passed, next_set}
-use Rattle.ht_window.proofs.window.Window.see_states.Goals.{then-not-mark, else-not-mark}
+use Rattle.ht_window.proofs.window.Window.see_states.Goals.{then-not-is_set, else-not-is_set}
 use Rattle.ht_window.proofs.window.Window.see_states.Goals as goal
 
 pub loop-j-preserved : goal.loop-j-preserved
@@ -17,18 +17,18 @@ loop-j-preserved c = λ places is.
     let place : ℕ → WindowPlace = λ j. record { frame = 0; spot = State j } in
     let test : ℕ → Bool = λ j. not (is_in (marked 0 c.args.z.now) j) in
     let at : j ≡ 0 + j = omega arith in
-    let in_z : is_in (marked 0 c.args.z.now) j ≡ c.mark.result = ap (is_in (marked 0 c.args.z.now)) at ∙
-    (marked_is 0 j c.args.z.now ∙ sym c.mark.ensures) in
+    let in_z : is_in (marked 0 c.args.z.now) j ≡ c.is_set.result = ap (is_in (marked 0 c.args.z.now)) at ∙
+    (marked_is 0 j c.args.z.now ∙ sym c.is_set.ensures) in
     let end = c.dffs-j-end.ensures in
     let t = c.loop-j-test.true in
     let inside : j < length s.window.circuit.dffs = omega (arith, end, t) in
-    elim c.if-not-mark.branch [
-      | then-not-mark w ↦ w.seen-is ∙ (w.with-seen.ensures
+    elim c.if-not-is_set.branch [
+      | then-not-is_set w ↦ w.seen-is ∙ (w.with-seen.ensures
           ∙ state_kept s.window s.decisions places place test j w.next_state.result c.loop-j.seen
-          (c.loop-j.invariant places is) (ap not (in_z ∙ w.if-not-mark.true))
+          (c.loop-j.invariant places is) (ap not (in_z ∙ w.if-not-is_set.true))
           (w.next_state.ensures ∙ next_set s.window s.decisions j c.requires inside))
-      | else-not-mark w ↦ w.seen-is ∙ state_passed s.window s.decisions places place test j c.loop-j.seen
-          (c.loop-j.invariant places is) (ap not (in_z ∙ w.if-not-mark.false))
+      | else-not-is_set w ↦ w.seen-is ∙ state_passed s.window s.decisions places place test j c.loop-j.seen
+          (c.loop-j.invariant places is) (ap not (in_z ∙ w.if-not-is_set.false))
     ]
 
 pub returns : goal.returns

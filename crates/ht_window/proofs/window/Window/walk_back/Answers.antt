@@ -1,13 +1,17 @@
-use Rattle.std.proofs.Common.{◌≡◌, ◌<◌, ◌≤◌, ◌+◌, ◌-◌, ◌∙◌, ℕ, length, get_or, ap, sym, subst, arith}
+use Rattle.std.proofs.Common.{◌≡◌, ◌<◌, ◌≤◌, ◌+◌, ◌-◌, ◌∙◌, ℕ, Bool, length, get_or, ap, sym, subst, arith}
 use Rattle.ht_net.specs.declared.net.NetId.{NetId}
 use Rattle.ht_net.specs.Netlist.{Netlist, IsCircuit, net_count, no_net}
 use Rattle.ht_tree.specs.declared.window.Spot.TheVariants.{State}
+use Rattle.ht_tree.specs.declared.token.Choice.{Choice}
 use Rattle.ht_tree.specs.declared.token.Choice.TheVariants.{Two}
-use Rattle.ht_tree.specs.Windows.{cell_at, first_input}
+use Rattle.ht_tree.specs.Windows.{IsWindow, cell_at, first_input}
 use Rattle.ht_tree.specs.Places.{spot_net}
-use Rattle.ht_tree.specs.WalkBack.{Wanted, choice_at, end_in_frame}
-use Rattle.ht_window.specs.Lines.{wanted_of}
-use Rattle.ht_window.proofs.WalkLaws.{ends_low, ends_wide, choice_input, choice_latch, choice_back, data_wide}
+use Rattle.ht_tree.specs.WalkBack.{Wanted, choice_at, end_in_frame, walk_back}
+use Rattle.ht_tree.specs.Variables.{IsLegalChoice}
+use Rattle.ht_tree.proofs.PickLaws.{net_has_choice}
+use Rattle.ht_window.specs.States.{WindowState}
+use Rattle.ht_window.specs.WantedOf.{wanted_of}
+use Rattle.ht_window.proofs.WalkLaws.{ends_low, ends_undetermined_at, choice_input, choice_latch, choice_back, data_undetermined}
 use Rattle.ht_window.proofs.window.Window.walk_back.Goals.{then-loop-frame-test+else-at-inputs, else-loop-frame-test}
 use Rattle.ht_window.proofs.window.Window.walk_back.Goals as goal
 
@@ -19,10 +23,10 @@ loop-frame-init c =
     let e = c.end_in_frame-at.ensures in
     record {
       frame = c.requires.frame;
-      low = let l = ends_low s.window s.decisions valid c.args.frame at c.requires.net c.requires.wide
+      low = let l = ends_low s.window s.decisions valid c.args.frame at c.requires.net c.requires.undetermined
           in let n = ap (λ (x : Wanted). x.net) e in omega (arith, l, n);
-      wide = subst (λ (x : Wanted). 1 < length (cell_at s.window s.decisions c.args.frame x.net)) (sym e)
-          (ends_wide s.window s.decisions valid c.args.frame at c.requires.net c.requires.wide);
+      undetermined = subst (λ (x : Wanted). 1 < length (cell_at s.window s.decisions c.args.frame x.net)) (sym e)
+          (ends_undetermined_at s.window s.decisions valid c.args.frame at c.requires.net c.requires.undetermined);
       same = ap (choice_at s.window s.decisions c.args.frame) e;
     }
 
@@ -49,16 +53,25 @@ loop-frame-preserved c =
     (λ (x : ℕ). end_in_frame s.window s.decisions (frame - 1) (record { net = x; bit = c.loop-frame.at.bit }))
     source in
     let known : at.net < net_count n = valid.data_known (here - n.inputs) (omega (arith, high, low)) in
-    let wide = data_wide s.window s.decisions valid frame here (omega (arith, l)) high low i.wide in
+    let undetermined = data_undetermined s.window s.decisions valid frame here (omega (arith, l)) high low i.undetermined
+    in
     record {
       frame = omega (arith, f);
-      low = let l = ends_low s.window s.decisions valid (frame - 1) at known wide
+      low = let l = ends_low s.window s.decisions valid (frame - 1) at known undetermined
           in let n = ap (λ (x : Wanted). x.net) e in omega (arith, l, n);
-      wide = subst (λ (x : Wanted). 1 < length (cell_at s.window s.decisions (frame - 1) x.net)) (sym e)
-          (ends_wide s.window s.decisions valid (frame - 1) at known wide);
+      undetermined = subst (λ (x : Wanted). 1 < length (cell_at s.window s.decisions (frame - 1) x.net)) (sym e)
+          (ends_undetermined_at s.window s.decisions valid (frame - 1) at known undetermined);
       same = ap (choice_at s.window s.decisions (frame - 1)) e ∙
           (choice_back s.window s.decisions valid frame (wanted_of c.loop-frame.at) (omega (arith, l)) high ∙ i.same);
     }
+
+-- the choice of a walk back is legal
+legal_choice : (s : WindowState) (f x : ℕ) (bit : Bool) (result : Choice) → IsWindow s.window → f < s.window.frames
+    → x < net_count s.window.circuit → 1 < length (cell_at s.window s.decisions f x)
+    → result ≡ walk_back s.window s.decisions f x bit → IsLegalChoice s.window s.decisions result
+legal_choice s f x bit result valid inside known h is =
+    subst (λ (choice : Choice). IsLegalChoice s.window s.decisions choice) (sym is)
+    (net_has_choice s.window s.decisions f x bit valid inside known h)
 
 pub returns-then-at-inputs-2 : goal.returns-then-at-inputs-2
 returns-then-at-inputs-2 c =
@@ -70,9 +83,17 @@ returns-then-at-inputs-2 c =
     let t = c.if-at-inputs-2.true in
     let is : c.input_var.result ≡ first_input s.window c.loop-frame.frame + c.loop-frame.at.net =
     c.input_var.ensures in
+    let choice : Two c.input_var.result c.loop-frame.at.bit
+    ≡ walk_back s.window s.decisions c.args.frame c.args.net.0 c.args.wanted =
     ap (λ (x : ℕ). Two x c.loop-frame.at.bit) is
     ∙ (sym (choice_input s.window s.decisions valid c.loop-frame.frame (wanted_of c.loop-frame.at)
-    (omega (arith, inputs, t))) ∙ c.loop-frame.invariant.same)
+    (omega (arith, inputs, t))) ∙ c.loop-frame.invariant.same) in
+    let r = c.requires in
+    record {
+      choice = choice;
+      legal = legal_choice s c.args.frame c.args.net.0 c.args.wanted _ c.circuit-circuit.ensures.valid r.frame r.net
+          r.undetermined choice;
+    }
 
 pub returns-else-at-inputs-2 : goal.returns-else-at-inputs-2
 returns-else-at-inputs-2 c =
@@ -84,6 +105,12 @@ returns-else-at-inputs-2 c =
       | then-loop-frame-test+else-at-inputs w ↦ let u = w.if-at-inputs.false in absurd (omega (arith, t, u))
       | else-loop-frame-test w ↦ let u = w.loop-frame-test.false in omega (arith, u)
     ] in
+    let choice : c.latch_choice.result ≡ walk_back s.window s.decisions c.args.frame c.args.net.0 c.args.wanted =
     c.latch_choice.ensures
     ∙ (sym (choice_latch s.window s.decisions window.valid.circuit c.loop-frame.frame (wanted_of c.loop-frame.at) last
-    (omega (arith, inputs, t))) ∙ c.loop-frame.invariant.same)
+    (omega (arith, inputs, t))) ∙ c.loop-frame.invariant.same) in
+    let r = c.requires in
+    record {
+      choice = choice;
+      legal = legal_choice s c.args.frame c.args.net.0 c.args.wanted _ window.valid r.frame r.net r.undetermined choice;
+    }
