@@ -97,10 +97,11 @@ has_arity Not n = nat_eq n 1
 has_arity Buf n = nat_eq n 1
 has_arity kind n = nat_lt 0 n
 
--- the same as a fact
+-- a kind may have so many arguments
 abbrev pub HasArity : Kind → ℕ → Type 0
 HasArity kind n = IsTrue (has_arity kind n)
 
+-- a bit as a three-valued value
 abbrev pub tern_of : Bool → Tern
 tern_of false = Zero
 tern_of true = One
