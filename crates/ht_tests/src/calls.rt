@@ -3,6 +3,7 @@
 mod bench;
 mod check;
 mod collapse;
+mod events;
 mod faults;
 mod forward;
 mod grade;

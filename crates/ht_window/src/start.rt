@@ -36,14 +36,6 @@ pub enum Start {
     Back { cube: Items<Tern>, limit: u32 },
 }
 
-// The same list, in memory of its own.
-fn copied<T: Copy>(alloc: Global, items: &Items<T>) -> Result<Items<T>, AllocError>
-    ensures { IfOk result (λ copy. copy ≡ items.now) }
-{
-    let copy = Vec::from_slice(alloc, items.as_slice())?;
-    Ok(Items::from_vec(copy))
-}
-
 impl Start {
     /// The same start, in memory of its own.
     ///
@@ -54,17 +46,17 @@ impl Start {
     {
         Ok(match self {
             Start::OneFrame { z } => Start::OneFrame {
-                z: copied(alloc, z)?,
+                z: Items::from_slice(alloc, z.as_slice())?,
             },
             Start::Unknown => Start::Unknown,
             Start::Pair { state } => Start::Pair {
                 state: PairState {
-                    good: copied(alloc, &state.good)?,
-                    bad: copied(alloc, &state.bad)?,
+                    good: Items::from_slice(alloc, state.good.as_slice())?,
+                    bad: Items::from_slice(alloc, state.bad.as_slice())?,
                 },
             },
             Start::Back { cube, limit } => Start::Back {
-                cube: copied(alloc, cube)?,
+                cube: Items::from_slice(alloc, cube.as_slice())?,
                 limit: *limit,
             },
         })
