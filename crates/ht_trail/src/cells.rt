@@ -109,12 +109,13 @@ impl<T: Copy> Cells<T> {
         Ok(())
     }
 
-    /// Forgets what the cells held before: no mark but the present one is valid any more.
+    /// Forgets what the cells held before, and frees the room for it: no mark but the present one is valid any more.
     pub fn forget(&mut self)
         ensures values { self.new.values ≡ self.old.values }
         ensures trail { self.new.trail ≡ [] }
     {
         self.trail.clear();
+        self.trail.shrink_to_fit();
     }
 
     /// The present mark.
