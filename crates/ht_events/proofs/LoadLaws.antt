@@ -33,7 +33,8 @@ pub touched_more : (s t u : CoreState) (f x i local : ℕ) → IsTable s.plan.ci
     → IsTouched s t f x i
     → u.plan ≡ t.plan → ((y : ℕ) → IsPending t y → IsPending u y)
     → (IsThere t.plan f local → IsPending u (reader_at t.plan f local))
-    → ((y : ℕ) → y < core_items t → IsPending u y → IsPending t y ⊎ (IsThere t.plan f local × (y ≡ reader_at t.plan f local)))
+    → ((y : ℕ) → y < core_items t → IsPending u y → IsPending t y ⊎ (IsThere t.plan f local × (y
+    ≡ reader_at t.plan f local)))
     → IsTouched s u f x (i + 1)
 touched_more s t u f x i local table inside is h plan more has only = record {
   plan = plan ∙ h.plan;

@@ -101,7 +101,8 @@ impl<'c> Core<'c> {
         ensures plan { self.new.plan ≡ self.old.plan }
         ensures more { (y : ℕ) → IsPending self.old y → IsPending self.new y }
         ensures has { IsPending self.new item }
-        ensures only { (y : ℕ) → y < core_items self.old → IsPending self.new y → IsPending self.old y
+        ensures only { (y : ℕ) → y < core_items self.old → IsPending self.new y
+            → IsPending self.old y
             ⊎ (y ≡ item) }
     {
         let position = self.plan.position(item);
@@ -116,7 +117,8 @@ impl<'c> Core<'c> {
         ensures plan { self.new.plan ≡ self.old.plan }
         ensures taken { ¬ IsPending self.new item }
         ensures fewer { (y : ℕ) → IsPending self.new y → IsPending self.old y }
-        ensures only { (y : ℕ) → y < core_items self.old → IsPending self.old y → IsPending self.new y
+        ensures only { (y : ℕ) → y < core_items self.old → IsPending self.old y
+            → IsPending self.new y
             ⊎ (y ≡ item) }
     {
         let position = self.plan.position(item);
@@ -135,7 +137,8 @@ impl<'c> Core<'c> {
         ensures has { reader_frame self.old.plan.circuit frame local < self.old.plan.frames
             → IsPending self.new (item_at self.old.plan.circuit
             (reader_frame self.old.plan.circuit frame local) local) }
-        ensures only { (y : ℕ) → y < core_items self.old → IsPending self.new y → IsPending self.old y
+        ensures only { (y : ℕ) → y < core_items self.old → IsPending self.new y
+            → IsPending self.old y
             ⊎ ((reader_frame self.old.plan.circuit frame local < self.old.plan.frames)
             × (y ≡ item_at self.old.plan.circuit (reader_frame self.old.plan.circuit frame local)
             local)) }
@@ -160,7 +163,8 @@ impl<'c> Core<'c> {
         ensures more { (y : ℕ) → IsPending self.old y → IsPending self.new y }
         ensures loads { (y : ℕ) → IsReader self.old.plan.circuit self.old.plan.frames frame net.0 y
             → IsPending self.new y }
-        ensures only { (y : ℕ) → y < core_items self.old → IsPending self.new y → IsPending self.old y
+        ensures only { (y : ℕ) → y < core_items self.old → IsPending self.new y
+            → IsPending self.old y
             ⊎ IsReader self.old.plan.circuit self.old.plan.frames frame net.0 y }
     {
         let count = self.plan.readers(net).len();
@@ -179,7 +183,8 @@ impl<'c> Core<'c> {
             → IsPending self.new y ⊎ (y ≡ item) }
         ensures loads { changed ≡ true → (y : ℕ)
             → IsLoad self.old.plan.circuit self.old.plan.frames item y → IsPending self.new y }
-        ensures only { (y : ℕ) → y < core_items self.old → IsPending self.new y → IsPending self.old y
+        ensures only { (y : ℕ) → y < core_items self.old → IsPending self.new y
+            → IsPending self.old y
             ⊎ ((changed ≡ true) × IsLoad self.old.plan.circuit self.old.plan.frames item y) }
     {
         let _ = self.plan.position(item);

@@ -40,7 +40,8 @@ pub trait Plant {
         ensures others { OnOk result ((x : ℕ) → x < item_count (circuit self.old) (frames self.old)
             → ¬ IsLoad (circuit self.old) (frames self.old) item x → agrees self.old x
             → agrees self.new x) }
-        ensures loads { result ≡ Ok false → (x : ℕ) → x < item_count (circuit self.old) (frames self.old)
+        ensures loads { result ≡ Ok false → (x : ℕ) → x < item_count (circuit self.old)
+            (frames self.old)
             → agrees self.old x → agrees self.new x }
         ensures err { OnErr result ((x : ℕ) → x < item_count (circuit self.old) (frames self.old)
             → agrees self.old x ↔ agrees self.new x) };

@@ -30,7 +30,8 @@ module _ (a b : HeldState) (valid : IsWindow a.standing.window)
     (item : ℕ) (inside : item < item_count a.standing.window.circuit a.standing.window.frames)
     (fe : f ≡ frame_of a.standing.window.circuit item)
     (xe : x ≡ driven_net a.standing.window.circuit (local_of a.standing.window.circuit item)) where
-  move : (g y : ℕ) → HoldsValue a.standing.window a.standing.path (set a.cells.values (cell_index a.standing.window f x) v) g
+  move : (g y : ℕ) → HoldsValue a.standing.window a.standing.path (set a.cells.values
+      (cell_index a.standing.window f x) v) g
       y
       → HoldsValue b.standing.window b.standing.path b.cells.values g y
   move g y h = subst (λ (s : Standing). HoldsValue s.window s.path b.cells.values g y) (sym same)
@@ -39,9 +40,11 @@ module _ (a b : HeldState) (valid : IsWindow a.standing.window)
   agrees_self : item_agrees b item
   agrees_self =
       let c = a.standing.window.circuit in
-      subst (λ (s : Standing). HoldsValue b.standing.window b.standing.path b.cells.values (frame_of s.window.circuit item)
+      subst (λ (s : Standing). HoldsValue b.standing.window b.standing.path b.cells.values
+      (frame_of s.window.circuit item)
       (driven_net s.window.circuit (local_of s.window.circuit item))) (sym same)
-      (subst (λ (g : ℕ). HoldsValue b.standing.window b.standing.path b.cells.values g (driven_net c (local_of c item))) fe
+      (subst (λ (g : ℕ). HoldsValue b.standing.window b.standing.path b.cells.values g (driven_net c
+      (local_of c item))) fe
       (subst (λ (y : ℕ). HoldsValue b.standing.window b.standing.path b.cells.values f y) xe
       (move f x (self_holds a.standing.window valid a.standing.path a.cells.values count f x v fs xs value))))
 

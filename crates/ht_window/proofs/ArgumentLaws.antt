@@ -23,15 +23,18 @@ module _ (r : Rules (List Pair)) (g : ℕ) (env : ℕ → List Pair) (args : Lis
 
   argument_undetermined : is_undetermined set ≡ true → (get_or args i no_net).0 ≡ undetermined_argument r g env 0 args
   argument_undetermined e = sym
-      (step ∙ ap (λ (b : Bool). cond b (get_or args i no_net).0 (undetermined_argument r g env (i + 1) (drop (i + 1) args))) e)
+      (step ∙ ap (λ (b : Bool). cond b (get_or args i no_net).0 (undetermined_argument r g env (i + 1) (drop
+      (i + 1) args))) e)
 
   argument_passed : is_undetermined set ≡ false → undetermined_argument r g env (i + 1) (drop (i + 1) args)
       ≡ undetermined_argument r g env 0 args
   argument_passed e = sym
-      (step ∙ ap (λ (b : Bool). cond b (get_or args i no_net).0 (undetermined_argument r g env (i + 1) (drop (i + 1) args))) e)
+      (step ∙ ap (λ (b : Bool). cond b (get_or args i no_net).0 (undetermined_argument r g env (i + 1) (drop
+      (i + 1) args))) e)
 
 -- a set that isn't single is undetermined
-pub undetermined_single : (set : List Pair) (single : Bool) → IsTrue single ↔ (length set ≡ 1) → 0 < length set → single ≡ false
+pub undetermined_single : (set : List Pair) (single : Bool) → IsTrue single ↔ (length set ≡ 1) → 0 < length set
+    → single ≡ false
     → is_undetermined set ≡ true
 undetermined_single set single tells some differs = elim (leb_tells 2 (length set)) [
   | inl p ↦ p.0
@@ -51,10 +54,12 @@ determined_single set single tells same = elim (leb_tells 2 (length set)) [
 ]
 
 -- what the set at a pin tells of the first open argument
-pub record IsPinStep (r : Rules (List Pair)) (g : ℕ) (env : ℕ → List Pair) (all args : List NetId) (i : ℕ) (set : List Pair) :
+pub record IsPinStep (r : Rules (List Pair)) (g : ℕ) (env : ℕ → List Pair) (all args : List NetId) (i : ℕ)
+    (set : List Pair) :
     Type 0 where
   pub ends : is_undetermined set ≡ true → (get_or args i no_net).0 ≡ undetermined_argument r g env 0 all
-  pub goes_on : is_undetermined set ≡ false → undetermined_argument r g env (i + 1) (drop (i + 1) all) ≡ undetermined_argument r g env 0 all
+  pub goes_on : is_undetermined set ≡ false → undetermined_argument r g env (i + 1) (drop (i + 1) all)
+      ≡ undetermined_argument r g env 0 all
 
 -- the same from the parts that a program reads
 pub pin_step : (read c : Netlist) (fault fault' : Option Fault) (args : List NetId) (g i : ℕ) (cell set : List Pair)

@@ -47,7 +47,8 @@ pub driver_input : (w : SearchWindow) (path : List Assign3) (values : List (List
     → result ≡ driver_value w.circuit (pair_set_rules w.fault) (frame_inputs w path f) (latches_over w path values f)
     (env_at w values f) x
 driver_input w path values f x result xs is =
-    is ∙ (sym (get_or-map-range_with_len (input_set path) (first_input w f) w.circuit.inputs x (first_input w f + x) blank xs refl)
+    is ∙ (sym (get_or-map-range_with_len (input_set path) (first_input w f) w.circuit.inputs x
+    (first_input w f + x) blank xs refl)
     ∙ sym (driven_input w.circuit (pair_set_rules w.fault) (frame_inputs w path f) (latches_over w path values f)
     (env_at w values f) x xs))
 

@@ -10,7 +10,8 @@ use Rattle.ht_tree.specs.Windows.{SearchWindow}
 use Rattle.ht_window.specs.Cells.{IsHistory, decision_mark, AreCells}
 
 -- the mark before each decision, as there are more and fewer of them
-pub mark_old : (marks : List ℕ) (cells : CellsState (List Pair)) (k : ℕ) → k < length marks → decision_mark marks cells k
+pub mark_old : (marks : List ℕ) (cells : CellsState (List Pair)) (k : ℕ) → k < length marks
+    → decision_mark marks cells k
     ≡ get_or marks k 0
 mark_old marks cells k h = get_or_append_left marks (length cells.trail ∷ []) 0 k h
 
@@ -117,7 +118,8 @@ history_undo w path after marks fewer a b n m few ps ms at v t h =
     let pn : length after ≡ n = ap length ps ∙ length-take-le n path few in
     let mn : length fewer ≡ n = ap length ms ∙ length-take-le n marks (omega (arith, few, c)) in
     let long : length b.trail ≡ m = ap length t ∙ length-take-le m a.trail (omega (arith, small, at)) in
-    let old : (k : ℕ) → k ≤ n → decision_mark fewer b k ≡ decision_mark marks a k = λ k ks. ap (λ (l : List ℕ). decision_mark l b k) ms ∙
+    let old : (k : ℕ) → k ≤ n → decision_mark fewer b k ≡ decision_mark marks a k = λ k ks.
+    ap (λ (l : List ℕ). decision_mark l b k) ms ∙
     mark_cut marks a b n k (omega (arith, few, c)) ks (long ∙ at) in
     record {
       count = omega (arith, pn, mn);
@@ -131,7 +133,8 @@ history_undo w path after marks fewer a b n m few ps ms at v t h =
                 in omega (arith, e, at)
             | inr less ↦ let r = h.rising k n less (omega (arith, few, c)) in omega (arith, r, at)
           ] in
-          let same : at_mark b (decision_mark fewer b k) ≡ at_mark a (decision_mark marks a k) = ap (at_mark b) (old k kn) ∙
+          let same : at_mark b (decision_mark fewer b k) ≡ at_mark a (decision_mark marks a k) = ap (at_mark b)
+          (old k kn) ∙
           undone_mark a b.values b.trail m (decision_mark marks a k) below (omega (arith, small, at)) v t in
           let cut : take k after ≡ take k path = ap (take k) ps ∙ take-take k n path kn in
           subst (λ (p : List Assign3). AreCells w p (at_mark b (decision_mark fewer b k))) (sym cut)

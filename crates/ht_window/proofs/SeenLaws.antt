@@ -67,7 +67,9 @@ pub frames_more : (f : ℕ → List WindowPlace) (n : ℕ) → flat_map f (range
 frames_more f n =
     let at : 0 + n ≡ n = omega arith in
     ap (flat_map f) (range_push 0 n) ∙
-    (flat_map-append f (range_with_len 0 n) ((0 + n) ∷ []) ∙ (ap (λ (t : List WindowPlace). flat_map f (range_with_len 0 n) ++ t) (append-nil (f (0 + n))) ∙ ap (λ (k : ℕ). flat_map f (range_with_len 0 n) ++ f k) at))
+    (flat_map-append f (range_with_len 0 n) ((0 + n) ∷ []) ∙ (ap (λ (t : List WindowPlace). flat_map f
+    (range_with_len 0 n) ++ t) (append-nil (f (0 + n))) ∙ ap (λ (k : ℕ). flat_map f (range_with_len 0 n)
+    ++ f k) at))
 
 -- one more number that a filter keeps, or doesn't
 pub filter_push : (test : ℕ → Bool) (n : ℕ) → filter test (range_with_len 0 (n + 1))

@@ -72,14 +72,16 @@ argument_in r g env i (a ∷ args) n some h = either (is_undetermined (r.pin g i
 
 pub undetermined_argument_known : (c : Netlist) (r : Rules (List Pair)) (env : ℕ → List Pair) (g : ℕ) → IsCircuit c
     → g < length c.gates → undetermined_argument r g env 0 (gate_at c g).args < net_count c
-undetermined_argument_known c r env g circuit inside = argument_in r g env 0 (gate_at c g).args (net_count c) (omega arith)
+undetermined_argument_known c r env g circuit inside = argument_in r g env 0 (gate_at c g).args (net_count c)
+    (omega arith)
     (λ j l. circuit.known g j inside l)
 
 -- across frames
 module _ (w : SearchWindow) (path : List Assign3) (circuit : IsCircuit w.circuit) where
   pub ends_low : (f : ℕ) (at : Wanted) → at.net < net_count w.circuit → 1 < length (cell_at w path f at.net)
       → (end_in_frame w path f at).net < first_gate_net w.circuit
-  ends_low f at known h = let d = circuit_depth w.circuit circuit in (ends_undetermined w path circuit d.0 d.1 f at known h).low
+  ends_low f at known h = let d = circuit_depth w.circuit circuit in
+      (ends_undetermined w path circuit d.0 d.1 f at known h).low
 
   pub ends_undetermined_at : (f : ℕ) (at : Wanted) → at.net < net_count w.circuit → 1 < length (cell_at w path f at.net)
       → 1 < length (cell_at w path f (end_in_frame w path f at).net)

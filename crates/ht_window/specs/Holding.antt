@@ -23,7 +23,8 @@ pub record IsHeld (a : Inside) : Type 0 where
 
 -- the item's cell is what its arguments give
 abbrev pub item_agrees : HeldState → ℕ → Type 0
-item_agrees h item = HoldsValue h.standing.window h.standing.path h.cells.values (frame_of h.standing.window.circuit item)
+item_agrees h item = HoldsValue h.standing.window h.standing.path h.cells.values
+    (frame_of h.standing.window.circuit item)
     (driven_net h.standing.window.circuit (local_of h.standing.window.circuit item))
 
 -- The decisions, the sets of inputs, and what stands at every mark stay.

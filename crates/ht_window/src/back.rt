@@ -98,7 +98,8 @@ impl<'c> Window<'c> {
     pub fn walk_back(&self, frame: u32, net: NetId, wanted: bool) -> Choice
         requires frame { frame < self.now.window.frames }
         requires net { net.0 < net_count self.now.window.circuit }
-        requires undetermined { 1 < length (cell_at self.now.window self.now.decisions frame net.0) }
+        requires undetermined { 1 < length
+            (cell_at self.now.window self.now.decisions frame net.0) }
         ensures choice { result ≡ walk_back self.now.window self.now.decisions frame net.0 wanted }
         ensures legal { IsLegalChoice self.now.window self.now.decisions result }
     {

@@ -57,7 +57,10 @@ impl<'c> Decided<'c> {
         requires frames { frames ≤ MAX_FRAMES }
         requires start { IsStart circuit.now fault frames (start_of start.now) }
         ensures { IfOk result
-            (λ d. d ≡ record { window = window_from circuit.now fault frames start.now; path = [] }) }
+            (λ d. d ≡ record {
+              window = window_from circuit.now fault frames start.now;
+              path = [];
+            }) }
     {
         let inputs = circuit.inputs();
         let dffs = circuit.dffs();

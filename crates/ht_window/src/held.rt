@@ -183,7 +183,8 @@ impl<'c> Held<'c> {
         ensures values { OnOk result
             (self.new.cells.values
             ≡ set self.old.cells.values (cell_index self.old.standing.window frame net) value) }
-        ensures trail { OnOk result (length self.new.cells.trail ≡ length self.old.cells.trail + 1) }
+        ensures trail { OnOk result (length self.new.cells.trail
+            ≡ length self.old.cells.trail + 1) }
         ensures err { OnErr result (self.new ≡ self.old) }
     {
         let place = self.place(frame, net);
@@ -207,7 +208,8 @@ impl<'c> Held<'c> {
             ≡ set self.old.cells.values (cell_index self.old.standing.window frame net)
             (value_over self.old.standing.window self.old.standing.path self.old.cells.values frame
             net)) }
-        ensures trail { OnOk result (length self.new.cells.trail ≡ length self.old.cells.trail + 1) }
+        ensures trail { OnOk result (length self.new.cells.trail
+            ≡ length self.old.cells.trail + 1) }
         ensures err { OnErr result (self.new ≡ self.old) }
     {
         let _ = self.decided();

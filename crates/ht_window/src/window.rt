@@ -50,7 +50,8 @@ fn write_inputs(held: &mut Held, frame: u32) -> Result<(), AllocError>
     requires frame { frame < held.old.standing.window.frames }
     ensures standing { held.new.standing ≡ held.old.standing }
     ensures inputs { OnOk result ((i : ℕ) → i < held.old.standing.window.circuit.inputs
-        → HoldsValue held.old.standing.window held.old.standing.path held.new.cells.values frame i) }
+        → HoldsValue held.old.standing.window held.old.standing.path
+        held.new.cells.values frame i) }
     ensures before { OnOk result
         ((f i : ℕ) → f < frame → i < held.old.standing.window.circuit.inputs
         → HoldsValue held.old.standing.window held.old.standing.path held.old.cells.values f i
@@ -87,7 +88,8 @@ fn follow(held: &mut Held, core: &mut Core, var: u32, choice: Tern) -> Result<()
     requires circuit { core.old.plan.circuit ≡ held.old.standing.window.circuit }
     requires frames { core.old.plan.frames ≡ held.old.standing.window.frames }
     requires legal { IsLegalDecision held.old.standing.window var choice }
-    requires cells { AreCells held.old.standing.window held.old.standing.path held.old.cells.values }
+    requires cells { AreCells held.old.standing.window held.old.standing.path
+        held.old.cells.values }
     ensures plan { core.new.plan ≡ core.old.plan }
     ensures window { held.new.standing.window ≡ held.old.standing.window }
     ensures path { OnOk result (held.new.standing.path ≡ held.old.standing.path
@@ -122,7 +124,8 @@ impl<'c> Window<'c> {
     ) -> Result<Window<'c>, AllocError>
         requires frames { frames ≤ MAX_FRAMES }
         requires start { IsStart circuit.now fault frames (start_of start.now) }
-        ensures window { IfOk result (λ w. w.window ≡ window_from circuit.now fault frames start.now) }
+        ensures window { IfOk result (λ w. w.window
+            ≡ window_from circuit.now fault frames start.now) }
         ensures decisions { IfOk result (λ w. w.decisions ≡ []) }
         ensures marks { IfOk result (λ w. w.marks ≡ []) }
     {

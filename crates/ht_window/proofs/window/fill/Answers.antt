@@ -24,7 +24,8 @@ returns-clause-cells c =
     let e = ap (λ (s : Standing). s.window.frames) c.decided.ensures.standing in
     let circuit = ap (λ (p : PlanState). p.circuit) c.touch_all.ensures.plan ∙ c.requires.circuit in
     let frames = ap (λ (p : PlanState). p.frames) c.touch_all.ensures.plan ∙ c.requires.frames in
-    let inputs : (f x : ℕ) → f < w.frames → x < w.circuit.inputs → HoldsValue w a.standing.path h.cells.values f x = λ f x fs
+    let inputs : (f x : ℕ) → f < w.frames → x < w.circuit.inputs → HoldsValue w a.standing.path h.cells.values f x =
+    λ f x fs
     xs. i.done f x (omega (arith, fs, t, n, e)) xs in
     let quiet : QuietAgree c.touch_all.new.self (item_agrees h) = λ y ys free. absurd (free (c.touch_all.ensures.all y
     (subst (λ (p : PlanState). y < item_count p.circuit p.frames) c.touch_all.ensures.plan ys))) in

@@ -19,7 +19,8 @@ loop-item-preserved c =
     let less : k < core_items s = omega (arith, t, n) in
     let long = length-range_with_len 0 (core_items s) in
     let inside : k < length all = omega (arith, long, less) in
-    let at : get_or all k 0 ≡ k = get_or-range_with_len 0 (core_items s) k 0 less ∙ (let e : 0 + k ≡ k = omega arith in e)
+    let at : get_or all k 0 ≡ k = get_or-range_with_len 0 (core_items s) k 0 less ∙ (let e : 0 + k ≡ k =
+    omega arith in e)
     in
     let is = ap (pends s) at in
     elim c.if-is_pending.branch [

@@ -39,4 +39,5 @@ from_place-requires c =
         | inr p ↦ ap (status_from s.window s.decisions) (sym (ap start_of p.1) ∙ start) ∙ c.requires
       ]
     ] in
-    λ p is. found_place_walks s.window s.decisions valid h p (sym (ap (λ (s : PlacesSeen). s.possible_place) c.seen.ensures) ∙ is)
+    λ p is. found_place_walks s.window s.decisions valid h p (sym
+    (ap (λ (s : PlacesSeen). s.possible_place) c.seen.ensures) ∙ is)

@@ -53,7 +53,8 @@ loop-frame-preserved c =
     (λ (x : ℕ). end_in_frame s.window s.decisions (frame - 1) (record { net = x; bit = c.loop-frame.at.bit }))
     source in
     let known : at.net < net_count n = valid.data_known (here - n.inputs) (omega (arith, high, low)) in
-    let undetermined = data_undetermined s.window s.decisions valid frame here (omega (arith, l)) high low i.undetermined
+    let undetermined = data_undetermined s.window s.decisions valid frame here (omega
+    (arith, l)) high low i.undetermined
     in
     record {
       frame = omega (arith, f);
