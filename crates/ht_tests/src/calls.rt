@@ -7,6 +7,7 @@ mod events;
 mod faults;
 mod forward;
 mod grade;
+mod justify;
 mod net;
 mod pairs;
 mod ports;

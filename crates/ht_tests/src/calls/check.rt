@@ -1,6 +1,7 @@
 //! Tests of ht_check: entries by hand. In each circuit the fault is net 1 stuck at 0.
 ghost use Rattle.std.specs.Prelude.{◌≤◌, length};
 
+use super::samples::TOGGLE;
 use ht_bench::read;
 use ht_check::entry;
 use ht_items::Items;
@@ -14,9 +15,6 @@ const HIDDEN: &[u8] = b"INPUT(a)\nOUTPUT(a)\nq = DFF(a)\nr = DFF(q)\n";
 
 // The output is always 0.
 const ALWAYS_ZERO: &[u8] = b"INPUT(a)\nOUTPUT(z)\nn = NOT(a)\nz = AND(a, n)\n";
-
-// The fault shows one frame later.
-const TOGGLE: &[u8] = b"OUTPUT(q)\nq = DFF(n)\nn = NOT(q)\n";
 
 const ONE_FIRST: Token = Token::Two {
     var: 0,
@@ -104,7 +102,7 @@ fn token_after_the_last_node_is_refused(rt: HostRuntime) -> Result<(), Fail> {
     Ok(())
 }
 
-// With no input and the latch open, the output is the same and the next state is not.
+// With no input and the latch open, the output is the same and the next state is not. The fault shows one frame later.
 #[test]
 fn next_state_that_may_differ_is_not_dead(rt: HostRuntime) -> Result<(), Fail> {
     assert!(rt; !passes(rt.alloc(), TOGGLE, &[], &[Token::Dead])?);

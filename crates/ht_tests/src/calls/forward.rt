@@ -1,7 +1,7 @@
 //! Tests of ht_forward: walks and lists of small circuits, worked by hand.
 ghost use Rattle.std.specs.Prelude.{◌≤◌, length};
 
-use super::samples::SHIFT_REGISTER;
+use super::samples::{SHIFT_REGISTER, TOGGLE, TWINS};
 use ht_bench::read;
 use ht_forward::{Ahead, MAX_BUDGET, Swept, propagate, sweep};
 use ht_items::Items;
@@ -12,15 +12,8 @@ use ht_window::PairState;
 use std::alloc::Global;
 use std::test::Fail;
 
-// The latch has no start that is known.
-const TOGGLE: &[u8] = b"OUTPUT(q)\nq = DFF(n)\nn = NOT(q)\n";
-
 // The output is 1 where the input changes.
 const CHANGE: &[u8] = b"INPUT(a)\nOUTPUT(z)\np = DFF(a)\nz = XOR(p, a)\n";
-
-// Two equal flip-flops: x is never 1.
-const TWINS: &[u8] =
-    b"INPUT(a)\nINPUT(b)\nOUTPUT(z)\np = DFF(a)\nq = DFF(a)\nx = XOR(p, q)\nz = AND(x, b)\n";
 
 const DEAD: &[Token] = &[Token::Dead];
 

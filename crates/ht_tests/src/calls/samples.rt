@@ -16,6 +16,13 @@ pub const SHIFT_REGISTER_REPORT: &[u8] =
 total 6 detected 3
 ";
 
+/// The toggle: a latch that takes the complement of its own value, and shows it.
+pub const TOGGLE: &[u8] = b"OUTPUT(q)\nq = DFF(n)\nn = NOT(q)\n";
+
+/// Two equal flip-flops: x is never 1.
+pub const TWINS: &[u8] =
+    b"INPUT(a)\nINPUT(b)\nOUTPUT(z)\np = DFF(a)\nq = DFF(a)\nx = XOR(p, q)\nz = AND(x, b)\n";
+
 /// s27 as it is known, with its header.
 pub const S27: &[u8] = b"# s27
 # 4 inputs

@@ -1,7 +1,7 @@
 //! Tests of ht_serial and of ht_frame: machines, and first detections by hand.
 ghost use Rattle.std.specs.Prelude.{◌≡◌};
 
-use super::samples::SHIFT_REGISTER;
+use super::samples::{SHIFT_REGISTER, TOGGLE};
 use ht_bench::read;
 use ht_frame::{MAX_GATE_PINS, settle};
 use ht_net::{Circuit, Fault, NetId, Place, Site, Vectors};
@@ -11,8 +11,6 @@ use std::alloc::{AllocError, Global};
 use std::test::Fail;
 
 const AND_GATE: &[u8] = b"INPUT(a)\nINPUT(b)\nOUTPUT(a)\nOUTPUT(z)\nz = AND(a, b)\n";
-
-const TOGGLE: &[u8] = b"OUTPUT(q)\nq = DFF(n)\nn = NOT(q)\n";
 
 /// Adds the vectors 1, 0 and 0.
 fn fill(list: &mut Vectors) -> Result<(), AllocError>

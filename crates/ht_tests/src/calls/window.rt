@@ -1,8 +1,9 @@
 //! Tests of ht_window: the shift register and the toggle in each kind of window.
 //!
 //! In the shift register net 0 is a, net 1 is q and net 2 is r. Variable 0 is a, and those of later frames follow; in a
-//! set 1 and 2 are the good halves of q and r, and 3 and 4 their faulty halves.
-use super::samples::SHIFT_REGISTER;
+//! set 1 and 2 are the good halves of q and r, and 3 and 4 their faulty halves. In the toggle net 0 and variable 0 are q,
+//! and net 1 is n.
+use super::samples::{SHIFT_REGISTER, TOGGLE};
 use ht_bench::read;
 use ht_items::Items;
 use ht_net::{Circuit, Fault, NetId, Site};
@@ -11,9 +12,6 @@ use ht_tree::{Choice, Spot, Status};
 use ht_window::{MAX_FRAMES, PairState, Start, Window};
 use std::alloc::{AllocError, Global};
 use std::test::Fail;
-
-// Net 0 is q and net 1 is n. Variable 0 is q.
-const TOGGLE: &[u8] = b"OUTPUT(q)\nq = DFF(n)\nn = NOT(q)\n";
 
 const OUTPUT: Spot = Spot::Output(0);
 

@@ -1,0 +1,4 @@
+pub mod StackLaws
+pub mod ProblemLaws
+pub mod AnswerLaws
+mod ExampleLaws

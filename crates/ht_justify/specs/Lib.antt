@@ -1,0 +1,3 @@
+pub mod Stacks
+pub mod BackStates
+pub mod Answers

@@ -1,0 +1,68 @@
+//! The justification of a cube.
+ghost use Rattle.std.specs.Prelude.{◌≡◌, length, IfOk};
+ghost use Rattle.ht_justify.specs.BackStates.{found_list};
+ghost use Rattle.ht_justify.specs.Answers.{BackHolds, IsBack, answer_of};
+
+use crate::back_windows::BackWindows;
+use crate::cube::is_wanting;
+use ht_items::Items;
+use ht_net::{Circuit, Vectors};
+use ht_search::{Outcome, search};
+use ht_tern::Tern;
+use ht_tree::Token;
+use std::alloc::{AllocError, Global};
+
+/// What the justification of a cube comes to.
+#[derive(Drop)]
+pub enum Back {
+    /// A list after which the good machine, from all-unknown, has the cube.
+    Reached { list: Vectors },
+    /// No list within the limit leads there: a complete back tree.
+    Closed { tokens: Items<Token> },
+    /// The budget was spent: an open back tree of as many tokens.
+    Spent { tokens: Items<Token> },
+}
+
+// What the outcome of the search of some windows comes to: a list is read off where they stand.
+fn answer(windows: &BackWindows, outcome: Outcome) -> Result<Back, AllocError>
+    ensures { IfOk result (λ back. back ≡ answer_of (found_list windows.now) outcome) }
+{
+    match outcome {
+        Outcome::Found { tokens: _ } => Ok(Back::Reached {
+            list: windows.list()?,
+        }),
+        Outcome::Closed { tokens } => Ok(Back::Closed {
+            tokens: Items::from_vec(tokens),
+        }),
+        Outcome::Spent { tokens } => Ok(Back::Spent {
+            tokens: Items::from_vec(tokens),
+        }),
+    }
+}
+
+/// Searches back from a cube, which has a value for each flip-flop, unknown where none is wanted, for a list of at most
+/// `limit` vectors that brings the good machine from all-unknown to it. The budget is the greatest number of tokens. A
+/// cube that wants nothing is reached by the empty list.
+///
+/// # Errors
+/// Out of memory.
+pub fn justify(
+    alloc: Global,
+    circuit: &Circuit,
+    cube: &[Tern],
+    limit: u32,
+    budget: u64,
+) -> Result<Back, AllocError>
+    requires { length cube.now ≡ length circuit.now.dffs }
+    ensures answer { IfOk result (IsBack circuit.now cube.now limit budget) }
+    ensures holds { IfOk result (BackHolds circuit.now cube.now limit budget) }
+{
+    if !is_wanting(cube) {
+        return Ok(Back::Reached {
+            list: Vectors::new(alloc, circuit.inputs()),
+        });
+    }
+    let mut windows = BackWindows::new(alloc, circuit, cube, limit)?;
+    let outcome = search(alloc, &mut windows, budget, 1)?;
+    answer(&windows, outcome)
+}
