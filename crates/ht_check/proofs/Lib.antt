@@ -1,5 +1,9 @@
+pub mod FindingLaws
 pub mod DecisionLaws
 pub mod DifferenceLaws
-pub mod StatusLaws
+pub mod FrameSetLaws
+pub mod FreshLaws
 pub mod PlaceLaws
-pub mod TakeLaws
+pub mod WantedLaws
+pub mod StatusLaws
+pub mod CubeLaws

@@ -1,78 +1,110 @@
--- What the arrays of a window make of its status.
-use Rattle.std.proofs.Common.{◌≡◌, ◌<◌, ◌+◌, ◌*◌, ℕ, List, [], ◌∷◌, ◌++◌, Bool, false, Option, Some, None, length, get_or, ◌∙◌, ap, arith}
+-- The status of a window in which a difference is looked for, from what its frames show.
+use Rattle.std.proofs.Common.{◌≡◌, ◌<◌, ◌≤◌, ◌+◌, ◌*◌, ℕ, List, [], ◌++◌, map, Option, true, length, refl, sym, ◌∙◌, ap, arith}
+use Rattle.std.specs.Prelude.{flat_map}
+use Rattle.std.specs.List.{range_with_len}
 use Rattle.ht_tern.specs.declared.tern.Tern.{Tern}
-use Rattle.ht_tern.specs.declared.tern.Tern.TheVariants.{Unk}
-use Rattle.ht_pairs.specs.Pairs.{Pair, pair}
+use Rattle.ht_pairs.specs.Pairs.{Pair}
 use Rattle.ht_net.specs.declared.fault.Fault.{Fault}
-use Rattle.ht_net.specs.Netlist.{Netlist, net_count, first_gate_net, no_net, IsCircuit}
-use Rattle.ht_net.specs.Frame.{net_value, values_at, data_values}
-use Rattle.ht_net.proofs.ValueLaws.{seen_same, taken_same}
-use Rattle.ht_frame.specs.Values.{env_of}
+use Rattle.ht_net.specs.Netlist.{Netlist}
+use Rattle.ht_net.specs.Frame.{data_values}
 use Rattle.ht_tree.specs.declared.token.Assign3.{Assign3}
-use Rattle.ht_pairs.specs.Decided.{same_pairs}
-use Rattle.ht_tree.specs.Decisions.{is_in, decided_value, latch_pairs}
-use Rattle.ht_tree.specs.Windows.{one_frame, one_frame_window, pair_set_rules, input_set, frame_inputs, first_latch, latches_at, cell_at}
-use Rattle.ht_tree.specs.WindowStatus.{status_at, without_place}
+use Rattle.ht_tree.specs.Counts.{seeks_difference}
+use Rattle.ht_tree.specs.Windows.{Start, one_frame, unknown, state_pair, back, SearchWindow, IsStart, pair_set_rules, first_latches, latches_at, cell_at}
+use Rattle.ht_tree.specs.WindowStatus.{status_from, status_at, difference_status, without_place}
 use Rattle.ht_check.specs.declared.differences.Differences.{Differences}
-use Rattle.ht_check.specs.Differences.{differences_in, status_by, in_either, outside_marks}
-use Rattle.ht_check.specs.Paths.{latch_by}
-use Rattle.ht_check.proofs.DecisionLaws.{listed_by}
+use Rattle.ht_check.specs.declared.fresh_start.FreshStart.{FreshStart}
+use Rattle.ht_check.specs.declared.fresh_start.FreshStart.TheVariants.{OneFrame, Unknown, States, Back}
+use Rattle.ht_check.specs.Written.{IsWritten}
+use Rattle.ht_check.specs.Differences.{differences_in, in_either, status_by}
+use Rattle.ht_check.specs.FreshStarts.{IsStartOf, fresh_start, first_latch_by, latches_by, state_sets}
+use Rattle.ht_check.specs.FrameSetsOf.{FrameState, frame_after, inputs_by, latches_after, outputs_of_frame}
 use Rattle.ht_check.proofs.DifferenceLaws.{differences_append}
-use Rattle.ht_check.proofs.PlaceLaws.{status_shown}
+use Rattle.ht_check.proofs.FreshLaws.{map_same, first_are, latches_are, outputs_flat, next_latches}
+use Rattle.ht_check.proofs.FrameSetLaws.{ran_frame}
+use Rattle.ht_check.proofs.PlaceLaws.{shown_in, status_shown}
 
--- The sets of inputs and latches.
-module _ (c : Netlist) (fault : Fault) (z : List ℕ) (path : List Assign3) (decisions : List (Option Tern))
-    (room : length decisions ≡ first_gate_net c + length c.dffs)
-    (written : (var : ℕ) → var < length decisions → get_or decisions var None ≡ decided_value path var) where
-  pub inputs_are : (vector : List (List Pair)) → length vector ≡ c.inputs
-      → ((i : ℕ) → i < length vector → get_or vector i [] ≡ same_pairs (get_or decisions i None))
-      → vector ≡ frame_inputs (one_frame_window c fault z) path 0
-  inputs_are vector long h =
-      listed_by (input_set path) (0 * c.inputs) c.inputs vector [] long
-      (λ k l. let at : k ≡ 0 * c.inputs + k = omega arith in
-      h k (omega arith) ∙ (ap same_pairs (written k (omega arith)) ∙ ap (input_set path) at))
+pub some_frames : (c : Netlist) (fault : Option Fault) (frames : ℕ) (s : Start) → IsStart c fault frames s → 0 < frames
+some_frames c fault frames (one_frame z) h = omega (arith, h)
+some_frames c fault frames unknown h = h
+some_frames c fault frames (state_pair good faulty) h = h.0
+some_frames c fault frames (back cube limit) h = let e = h.0 in omega (arith, e)
 
-  pub latches_are : (marks : List Bool) (latches : List (List Pair)) → length marks ≡ length c.dffs
-      → ((j : ℕ) → get_or marks j false ≡ is_in z j)
-      → length latches ≡ length c.dffs
-      → ((j : ℕ) → j < length latches → get_or latches j [] ≡ latch_by decisions c.inputs marks j)
-      → latches ≡ latches_at (one_frame_window c fault z) path 0
-  unfolding latches_at
-  latches_are marks latches count marked long h =
-      let latch : ℕ → List Pair = first_latch (one_frame_window c fault z) (one_frame z) path in
-      listed_by latch 0 (length c.dffs) latches [] long
-      (λ j l. let at : j ≡ 0 + j = omega arith in
-      let half : c.inputs + length marks + j ≡ first_gate_net c + j = omega arith in
-      let good = written (c.inputs + j) (omega arith) in
-      let faulty = ap (λ (n : ℕ). get_or decisions n None) half ∙ written (first_gate_net c + j) (omega arith) in
-      h j (omega arith) ∙ ((λ i. latch_pairs (marked j i) (good i) (faulty i)) ∙ ap latch at))
+seeking : (w : SearchWindow) (path : List Assign3) (s : Start) → seeks_difference s ≡ true
+    → status_from w path s ≡ difference_status w path
+seeking w path (one_frame z) h = refl
+seeking w path unknown h = refl
+seeking w path (state_pair good faulty) h = refl
+seeking w path (back cube limit) h = cc
 
-pub status_is : (c : Netlist) (fault : Fault) (z : List ℕ) (path : List Assign3) (marks : List Bool)
-    (vector latches values next : List (List Pair)) → IsCircuit c
-    → length marks ≡ length c.dffs → ((j : ℕ) → get_or marks j false ≡ is_in z j)
-    → vector ≡ frame_inputs (one_frame_window c fault z) path 0
-    → latches ≡ latches_at (one_frame_window c fault z) path 0
-    → ((x : ℕ) → x < net_count c
-    → env_of (pair Unk Unk ∷ []) values x ≡ net_value c (pair_set_rules (Some fault)) vector latches x)
-    → next ≡ data_values (pair_set_rules (Some fault)) (env_of (pair Unk Unk ∷ []) values) 0 c.dffs
-    → (shown : Differences)
-    → shown ≡ in_either (differences_in (values_at (env_of (pair Unk Unk ∷ []) values) c.outputs))
-    (differences_in (outside_marks marks next))
-    → status_by shown ≡ without_place (status_at (one_frame_window c fault z) path)
-status_is c fault z path marks vector latches values next circuit count marked v l settled taken shown is =
-    let w = one_frame_window c fault z in
-    let env : ℕ → List Pair = env_of (pair Unk Unk ∷ []) values in
-    let r = pair_set_rules (Some fault) in
-    let cells : (x : ℕ) → x < net_count c → env x ≡ cell_at w path 0 x =
-    λ x inside. settled x inside ∙ (λ i. net_value c r (v i) (l i) x) in
-    let a : values_at env c.outputs ≡ values_at (cell_at w path 0) c.outputs =
-    seen_same env (cell_at w path 0) c.outputs
-    (λ o l. cells (get_or c.outputs o no_net).0 (circuit.outputs_known o l)) in
-    let b : next ≡ data_values r (cell_at w path 0) 0 c.dffs =
-    taken ∙ taken_same r env (cell_at w path 0) 0 c.dffs
-    (λ o l. cells (get_or c.dffs o no_net).0 (circuit.data_known o l)) in
-    let whole : shown ≡ differences_in (values_at (cell_at w path 0) c.outputs
-    ++ outside_marks marks (data_values r (cell_at w path 0) 0 c.dffs)) =
-    is ∙ (differences_append (values_at env c.outputs) (outside_marks marks next)
-    ∙ (λ i. differences_in (a i ++ outside_marks marks (b i)))) in
-    ap status_by whole ∙ status_shown c fault z path marks count marked
+-- A window whose decisions are written, and a frame with its first latches.
+module _ (w : SearchWindow) (path : List Assign3) (decisions : List (Option Tern)) (start : FreshStart)
+    (fits : IsStart w.circuit w.fault w.frames (fresh_start start)) (begins : w.start ≡ fresh_start start)
+    (is : IsStartOf start (length w.circuit.dffs)) (written : IsWritten decisions path)
+    (room : w.frames * w.circuit.inputs + 2 * length w.circuit.dffs ≤ length decisions) (s : FrameState)
+    (circuit : s.circuit ≡ w.circuit) (fault : s.fault ≡ w.fault)
+    (latches : s.latches ≡ latches_by start decisions w.circuit) where
+  some : 0 < w.frames
+  some = some_frames w.circuit w.fault w.frames (fresh_start start) fits
+
+  first : s.latches ≡ first_latches w path
+  first = latches ∙
+      ((λ i. map (first_latch_by (sym begins i) decisions w.circuit.inputs (length w.circuit.dffs))
+      (range_with_len 0 (length w.circuit.dffs)))
+      ∙ first_are w path decisions written room some)
+
+  -- after one frame the latches are the next states
+  pub next_are : w.frames ≡ 1 → latches_after s decisions w.frames
+      ≡ data_values (pair_set_rules w.fault) (cell_at w path 0) 0 w.circuit.dffs
+  next_are one =
+      latches_are w path decisions written room s circuit fault first w.frames (omega arith)
+      ∙ (ap (latches_at w path) one ∙ next_latches w path)
+
+  states_are : (next : List (List Pair)) → next ≡ latches_after s decisions w.frames
+      → state_sets start next
+      ≡ state_sets start (data_values (pair_set_rules w.fault) (cell_at w path 0) 0 w.circuit.dffs)
+  states_are next e = by start fits
+    where
+      by : (t : FreshStart) → IsStart w.circuit w.fault w.frames (fresh_start t) → state_sets t next
+          ≡ state_sets t (data_values (pair_set_rules w.fault) (cell_at w path 0) 0 w.circuit.dffs)
+      by (OneFrame z marks) one = ap (state_sets (OneFrame z marks)) (e ∙ next_are one)
+      by Unknown h = refl
+      by (States good faulty) h = refl
+      by (Back cube limit) h = refl
+
+  pub difference_is : seeks_difference w.start ≡ true → (shown states : Differences) (next : List (List Pair))
+      → shown ≡ differences_in (flat_map (outputs_of_frame s decisions) (range_with_len 0 w.frames))
+      → next ≡ latches_after s decisions w.frames → states ≡ differences_in (state_sets start next)
+      → status_by (in_either shown states) ≡ without_place (status_at w path)
+  difference_is seeks shown states next a b d =
+      let taken = data_values (pair_set_rules w.fault) (cell_at w path 0) 0 w.circuit.dffs in
+      let outs = outputs_flat w path decisions written room s circuit fault first in
+      let places = flat_map (shown_in w path) (range_with_len 0 w.frames) in
+      let both : in_either shown states ≡ differences_in (places ++ state_sets start taken) =
+      (λ i. in_either (a i) (d i))
+      ∙ (differences_append (flat_map (outputs_of_frame s decisions) (range_with_len 0 w.frames)) (state_sets start next)
+      ∙ (λ i. differences_in (outs i ++ states_are next b i))) in
+      ap status_by both
+      ∙ (status_shown w path start begins is ∙ ap without_place (sym (seeking w path w.start seeks)))
+
+-- after the frame of a window that looks for a cube the latches are its next states
+pub cube_next : (w : SearchWindow) (path : List Assign3) (decisions : List (Option Tern)) (start : FreshStart)
+    (cube given : List Tern) (left limit : ℕ) → w.start ≡ back cube left → fresh_start start ≡ back given limit
+    → w.frames ≡ 1 → IsWritten decisions path
+    → w.frames * w.circuit.inputs + 2 * length w.circuit.dffs ≤ length decisions → (s new : FrameState)
+    → s.circuit ≡ w.circuit → s.fault ≡ w.fault → s.latches ≡ latches_by start decisions w.circuit
+    → new ≡ frame_after s (inputs_by decisions 0 s.circuit.inputs)
+    → new.latches ≡ data_values (pair_set_rules w.fault) (cell_at w path 0) 0 w.circuit.dffs
+cube_next w path decisions start cube given left limit begins is one written room s new circuit fault latches ran =
+    let some : 0 < w.frames = omega (arith, one) in
+    let by : Start → List (List Pair) =
+    λ t. map (first_latch_by t decisions w.circuit.inputs (length w.circuit.dffs))
+    (range_with_len 0 (length w.circuit.dffs)) in
+    let same : by (back given limit) ≡ by (back cube left) =
+    map_same (first_latch_by (back given limit) decisions w.circuit.inputs (length w.circuit.dffs))
+    (first_latch_by (back cube left) decisions w.circuit.inputs (length w.circuit.dffs)) 0 (length w.circuit.dffs) []
+    (λ k l. refl) in
+    let first : s.latches ≡ first_latches w path =
+    latches ∙ (ap by is ∙ (same ∙ (ap by (sym begins) ∙ first_are w path decisions written room some))) in
+    let at : 0 ≡ 0 * s.circuit.inputs = omega arith in
+    (ran_frame s s new decisions 0 0 refl refl refl at ran).latches
+    ∙ (latches_are w path decisions written room s circuit fault first 1 some ∙ next_latches w path)

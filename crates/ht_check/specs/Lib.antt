@@ -1,3 +1,7 @@
-pub mod Paths
+pub mod Findings
+pub mod Written
 pub mod Differences
-pub mod WindowOf
+pub mod FreshStarts
+pub mod FrameSetsOf
+pub mod WantedLatches
+pub mod FreshWindowOf

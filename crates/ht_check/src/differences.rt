@@ -19,8 +19,8 @@ pub struct Differences {
 }
 
 impl Differences {
-    // No place shows a difference.
-    fn none() -> Differences
+    /// What no place shows.
+    pub fn none() -> Differences
         ensures { result ≡ differences_in [] }
     {
         Differences {

@@ -3,7 +3,7 @@ ghost use Rattle.std.specs.Prelude.{◌<◌, ◌↔◌, ℕ, length, get_or, IfO
 ghost use Rattle.ht_tree.specs.Rising.{Rises};
 ghost use Rattle.ht_tree.specs.Entries.{Means, IsUntestable, Passes, Refutes};
 
-use crate::one_frame::OneFrame;
+use crate::fresh_window::FreshWindow;
 use crate::walks::is_complete;
 use ht_net::{Circuit, Fault};
 use ht_tree::{Entry, Token};
@@ -58,7 +58,9 @@ fn refutes(
     if !names_flip_flops(z, circuit.dffs()) {
         return Ok(false);
     }
-    let mut window = OneFrame::new(alloc, circuit, fault, z)?;
+    // for the proof: the circuit is well formed
+    let _ = circuit.nets();
+    let mut window = FreshWindow::one_frame(alloc, circuit, fault, z)?;
     is_complete(alloc, &mut window, tokens)
 }
 

@@ -1,17 +1,27 @@
-//! The checker of refutations: it follows the tokens of a walk and evaluates both machines over sets of pairs at each
-//! node, afresh: no code of a search is used.
+//! The checker of entries: it follows the tokens of a walk and evaluates both machines over sets of pairs at each node,
+//! afresh: no code of a search is used.
 //!
 //! `entry` is true exactly where the entry passes. Where an untestable entry passes, no list of vectors detects its
-//! fault: the clause `sound` of `entry` says so.
+//! fault: the clause `sound` of `entry` says so. `judge_walk` judges tokens as a walk of any `JudgedWindow`, and
+//! `FreshWindow` is one of each kind: one frame with a set of flip-flops, some frames from all-unknown or from a pair of
+//! states, and back from a cube.
 //!
-//! Modules: `entries` (which entries pass), `walks` (complete walks), `one_frame` (the one-frame window at a path),
-//! `decisions` (the sets of inputs and latches), `differences` (what the places show).
+//! Modules: `entries` (which entries pass), `walks` (a walk token by token), `judged` (what a window answers),
+//! `fresh_window` (a window of any kind), `fresh_start` (its first latches), `frame_sets` (one frame over sets),
+//! `decisions` (what a path decides), `differences` (what places show), `cube` (what next states make of a cube).
 #![tactic(auto)]
 
+mod cube;
 mod decisions;
 mod differences;
 mod entries;
-mod one_frame;
+mod frame_sets;
+mod fresh_start;
+mod fresh_window;
+mod judged;
 mod walks;
 
 pub use entries::entry;
+pub use fresh_window::FreshWindow;
+pub use judged::JudgedWindow;
+pub use walks::{Finding, judge_walk};

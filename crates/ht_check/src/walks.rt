@@ -1,60 +1,116 @@
-//! Walks of the one-frame window.
-ghost use Rattle.std.specs.Prelude.{◌≡◌, true, ◌↔◌, IfOk, IsTrue};
-ghost use Rattle.ht_tree.specs.Walks.{IsComplete, next_stack};
-ghost use Rattle.ht_tree.specs.Nodes.{judge_of};
-ghost use Rattle.ht_tree.specs.Variables.{may_two, variable_bound};
-ghost use Rattle.ht_check.specs.Paths.{AreAllBelow, FitsAt, FitsOnTop};
+//! Walks of any window, judged token by token.
+ghost use Rattle.std.specs.Prelude.{◌≡◌, ◌↔◌, true, IfOk, IsTrue};
+ghost use Rattle.ht_tree.specs.Walks.{IsComplete};
+ghost use Rattle.ht_tree.specs.WalkOf.{fed};
+ghost use Rattle.ht_check.specs.Findings.{FitsAnew, FitsAnewOnTop, FitsOnTop, IsCompleteFinding, IsFinding};
 
-use crate::one_frame::OneFrame;
-use ht_tree::{Status3, Token, Walk};
+use crate::judged::JudgedWindow;
+use ht_tree::{Status3, Token, Walk, WalkNode};
 use std::alloc::{AllocError, Global};
 
-/// Whether tokens are a complete walk of the window. It keeps the longest path, and judges each token once.
+/// What tokens are to a window, with what they weigh together: the number of frames each, or the last value of u64 where
+/// the sum is greater.
+#[derive(Clone, Copy, PartialEq, Eq, Debug)]
+pub enum Finding {
+    /// A complete walk: each token fits, and the last one leaves no node.
+    Complete { weight: u64 },
+    /// An open walk: each token fits, and a node is left.
+    Open { weight: u64 },
+    /// Some token doesn't fit.
+    Unfit,
+}
+
+impl Finding {
+    // Whether the tokens are a complete walk.
+    fn is_complete(self) -> bool
+        ensures { IsTrue result ↔ IsCompleteFinding self }
+    {
+        match self {
+            Finding::Complete { weight: _ } => true,
+            Finding::Open { weight: _ } | Finding::Unfit => false,
+        }
+    }
+}
+
+/// Judges tokens as a walk of a window, one evaluation for each. It keeps the longest path.
 ///
 /// # Errors
 /// Out of memory.
-pub fn is_complete(
+pub fn judge_walk<W: JudgedWindow>(
     alloc: Global,
-    window: &mut OneFrame,
+    window: &mut W,
+    tokens: &[Token],
+) -> Result<Finding, AllocError>
+    ensures { IfOk result
+        (λ finding. IsFinding (W.judge window.old) (W.unit window.old) tokens.now finding) }
+{
+    let mut walk = Walk::new(alloc, window.token_weight() as u64);
+    for token in tokens {
+        if !take(window, &mut walk, *token)? {
+            return Ok(Finding::Unfit);
+        }
+    }
+    let weight = walk.weight();
+    if walk.finished() {
+        Ok(Finding::Complete { weight })
+    } else {
+        Ok(Finding::Open { weight })
+    }
+}
+
+/// Whether tokens are a complete walk of a window.
+///
+/// # Errors
+/// Out of memory.
+pub fn is_complete<W: JudgedWindow>(
+    alloc: Global,
+    window: &mut W,
     tokens: &[Token],
 ) -> Result<bool, AllocError>
     ensures { IfOk result
-        (λ complete. IsTrue complete ↔ IsComplete (judge_of window.old) tokens.now) }
+        (λ complete. IsTrue complete ↔ IsComplete (W.judge window.old) tokens.now) }
 {
-    let mut walk = Walk::new(alloc, 1);
-    for token in tokens {
-        if !take(window, &mut walk, *token)? {
-            return Ok(false);
-        }
-    }
-    Ok(walk.finished())
+    let finding = judge_walk(alloc, window, tokens)?;
+    Ok(finding.is_complete())
 }
 
 // Follows a token where it fits.
-fn take(window: &mut OneFrame, walk: &mut Walk, token: Token) -> Result<bool, AllocError>
-    requires { AreAllBelow (variable_bound window.old) walk.old.stack }
-    ensures window { window.new ≡ window.old }
+fn take<W: JudgedWindow>(window: &mut W, walk: &mut Walk, token: Token) -> Result<bool, AllocError>
+    ensures judge { W.judge window.new ≡ W.judge window.old }
+    ensures unit { W.unit window.new ≡ W.unit window.old }
     ensures fits { IfOk result
-        (λ taken. IsTrue taken ↔ FitsOnTop (judge_of window.old) walk.old.stack token) }
-    ensures stack { IfOk result
-        (λ taken. taken ≡ true → walk.new.stack ≡ next_stack walk.old.stack token) }
-    ensures below { IfOk result
-        (λ taken. taken ≡ true → AreAllBelow (variable_bound window.old) walk.new.stack) }
+        (λ taken. IsTrue taken ↔ FitsOnTop (W.judge window.old) walk.old.stack token) }
+    ensures fed { IfOk result (λ taken. taken ≡ true → walk.new ≡ fed walk.old token) }
 {
-    let status = window.status(walk.pending());
-    if !fits(window, status, token) {
+    if !fits_on_top(window, walk, token) {
         return Ok(false);
     }
     walk.feed(token)
 }
 
-// Whether a token fits where the status is this, if it decides no variable again.
-fn fits(window: &OneFrame, status: Status3, token: Token) -> bool
-    ensures { IsTrue result ↔ FitsAt (may_two window.now) status token }
+// Whether a token fits at the node that comes next, if it decides no variable again.
+fn fits_on_top<W: JudgedWindow>(window: &mut W, walk: &Walk, token: Token) -> bool
+    ensures judge { W.judge window.new ≡ W.judge window.old }
+    ensures unit { W.unit window.new ≡ W.unit window.old }
+    ensures fits { IsTrue result ↔ FitsAnewOnTop (W.judge window.old) walk.now.stack token }
 {
+    match walk.node() {
+        Some(node) => fits(window, &node, token),
+        None => false,
+    }
+}
+
+// Whether a token fits at a node, if it decides no variable again.
+fn fits<W: JudgedWindow>(window: &mut W, node: &WalkNode, token: Token) -> bool
+    ensures judge { W.judge window.new ≡ W.judge window.old }
+    ensures unit { W.unit window.new ≡ W.unit window.old }
+    ensures fits { IsTrue result ↔ FitsAnew (W.judge window.old) node.now token }
+{
+    let status = window.status(node);
     match token {
-        Token::Two { var, first: _ } => status == Status3::Open && window.is_legal(var),
+        Token::Two { var, first: _ } => status == Status3::Open && window.may_two(node, var),
+        Token::Three { var } => status == Status3::Open && window.may_three(node, var),
         Token::Dead => status == Status3::Dead,
-        Token::Three { var: _ } | Token::Before => false,
+        Token::Before => status == Status3::Sure && window.may_go_before(node),
     }
 }

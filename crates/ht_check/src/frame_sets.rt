@@ -1,0 +1,151 @@
+//! One frame over sets of pairs.
+ghost use Rattle.std.specs.Prelude.{◌≡◌, ◌≤◌, ◌+◌, ◌*◌, flat_map, length, IfOk};
+ghost use Rattle.std.specs.List.{range_with_len};
+ghost use Rattle.ht_net.specs.Netlist.{IsCircuit};
+ghost use Rattle.ht_check.specs.FreshStarts.{IsStartOf, latches_by};
+ghost use Rattle.ht_check.specs.FrameSetsOf.{frame_after, inputs_by, latches_after, outputs_of_frame};
+ghost use Rattle.ht_check.specs.Differences.{differences_in};
+
+use crate::decisions::write_inputs;
+use crate::differences::{Differences, output_differences};
+use crate::fresh_start::{FreshStart, write_latches};
+use ht_frame::{MAX_GATE_PINS, capture, settle};
+use ht_net::{Circuit, Fault};
+use ht_pairs::PairSet;
+use ht_tern::Tern;
+use std::alloc::{AllocError, Global};
+use std::marker::Model;
+
+/// One frame of the good and of the faulty machine, or of the good machine alone, over sets of pairs. All room is taken
+/// once, when it is made.
+#[derive(Drop)]
+pub struct FrameSets<'c> {
+    circuit: &'c Circuit,
+    fault: Option<Fault>,
+    // the sets of the inputs, of the latches, and of the nets
+    vector: Vec<PairSet>,
+    latches: Vec<PairSet>,
+    values: Vec<PairSet>,
+    // room for the pins of one gate
+    pins: Vec<PairSet>,
+}
+
+impl<'c> Model for FrameSets<'c> {
+    ghost use Rattle.ht_check.specs.FrameSetsOf.{FrameState};
+
+    ghost Value = { FrameState };
+
+    ghost use Rattle.ht_check.specs.FrameSetsOf.{frame_state, HasRoom};
+
+    ghost view = { frame_state };
+
+    ghost invariant = { HasRoom };
+}
+
+// Room for so many sets.
+fn room_for(alloc: Global, count: usize) -> Result<Vec<PairSet>, AllocError>
+    ensures { IfOk result (λ sets. length sets.items ≡ count) }
+{
+    vec![in alloc; PairSet::both_same(); count]
+}
+
+impl<'c> FrameSets<'c> {
+    /// Room for a frame of a circuit and a fault, or of the good machine alone.
+    ///
+    /// # Errors
+    /// Out of memory.
+    pub fn new(
+        alloc: Global,
+        circuit: &'c Circuit,
+        fault: Option<Fault>,
+    ) -> Result<FrameSets<'c>, AllocError>
+        ensures circuit { IfOk result (λ frame. frame.circuit ≡ circuit.now) }
+        ensures fault { IfOk result (λ frame. frame.fault ≡ fault) }
+    {
+        let vector = room_for(alloc, circuit.inputs() as usize)?;
+        let latches = room_for(alloc, circuit.dffs() as usize)?;
+        let values = room_for(alloc, circuit.nets() as usize)?;
+        let pins = room_for(alloc, MAX_GATE_PINS)?;
+        Ok(FrameSets {
+            circuit,
+            fault,
+            vector,
+            latches,
+            values,
+            pins,
+        })
+    }
+
+    /// Gives the latches the sets of a start under what was decided.
+    pub fn begin(&mut self, start: &FreshStart, decisions: &[Option<Tern>])
+        requires start { IsStartOf start.now (length self.old.circuit.dffs) }
+        requires room { self.old.circuit.inputs + 2 * length self.old.circuit.dffs
+            ≤ length decisions.now }
+        ensures { self.new ≡ record self.old {
+          latches = latches_by start.now decisions.now self.old.circuit;
+        } }
+    {
+        let inputs = self.circuit.inputs() as usize;
+        write_latches(start, decisions, inputs, &mut self.latches);
+    }
+
+    /// Runs one frame, whose inputs have the variables from `first` on: the outputs show what they hold, and the latches
+    /// take what stands at their data pins.
+    pub fn run(&mut self, decisions: &[Option<Tern>], first: usize)
+        requires { first + self.old.circuit.inputs ≤ length decisions.now }
+        ensures { self.new ≡ frame_after self.old
+            (inputs_by decisions.now first self.old.circuit.inputs) }
+    {
+        write_inputs(decisions, first, &mut self.vector);
+        settle(
+            self.circuit,
+            self.fault,
+            &self.vector,
+            &self.latches,
+            &mut self.values,
+            &mut self.pins,
+        );
+        capture(self.circuit, self.fault, &self.values, &mut self.latches);
+    }
+
+    /// The circuit.
+    pub fn circuit(&self) -> &'c Circuit
+        ensures circuit { result.now ≡ self.now.circuit }
+        ensures valid { IsCircuit self.now.circuit }
+    {
+        self.circuit
+    }
+
+    /// The sets of the latches.
+    pub fn latches(&self) -> &[PairSet]
+        ensures latches { result.now ≡ self.now.latches }
+        ensures count { length result.now ≡ length self.now.circuit.dffs }
+    {
+        &self.latches
+    }
+
+    /// What the outputs show after a frame.
+    pub fn differences(&self) -> Differences
+        ensures { result ≡ differences_in self.now.outputs }
+    {
+        output_differences(self.circuit, &self.values)
+    }
+}
+
+/// Runs so many frames, whose first latches are there, and says what their outputs show.
+pub fn run_frames(frame: &mut FrameSets, decisions: &[Option<Tern>], frames: u32) -> Differences
+    requires { frames * frame.old.circuit.inputs ≤ length decisions.now }
+    ensures shown { result ≡ differences_in (flat_map (outputs_of_frame frame.old decisions.now)
+        (range_with_len 0 frames)) }
+    ensures latches { frame.new.latches ≡ latches_after frame.old decisions.now frames }
+    ensures circuit { frame.new.circuit ≡ frame.old.circuit }
+    ensures fault { frame.new.fault ≡ frame.old.fault }
+{
+    let inputs = frame.circuit().inputs() as usize;
+    let mut shown = Differences::none();
+    for f in 0..frames {
+        frame.run(decisions, f as usize * inputs);
+        shown = shown.and(frame.differences());
+    }
+    shown
+}

@@ -1,0 +1,266 @@
+//! Windows of every kind, evaluated afresh at each node.
+ghost use Rattle.std.specs.Prelude.{◌≡◌, ◌<◌, ℕ, List, length, get_or, true, IfOk};
+ghost use Rattle.ht_tern.specs.declared.tern.Tern.{Tern};
+ghost use Rattle.ht_tree.specs.Counts.{seeks_difference};
+ghost use Rattle.ht_tree.specs.Variables.{is_latch};
+ghost use Rattle.ht_tree.specs.Nodes.{judge_of, may_go_before, window_at};
+ghost use Rattle.ht_tree.specs.Walks.{path_of};
+ghost use Rattle.ht_tree.specs.WindowStatus.{status_at, without_place};
+ghost use Rattle.ht_tree.specs.Windows.{IsStart, back, back_window, forward_window, one_frame_window, sweep_window, token_weight};
+ghost use Rattle.ht_check.specs.FreshStarts.{IsStartOf, fresh_start};
+
+use crate::cube::{cube_status, decided_cube, enter_node, wants_any};
+use crate::decisions::write_decisions;
+use crate::frame_sets::{FrameSets, run_frames};
+use crate::fresh_start::{FreshStart, is_faulty_latch, marks_of, states_show};
+use crate::judged::JudgedWindow;
+use ht_net::{Circuit, Fault};
+use ht_tern::Tern;
+use ht_tree::{Assign3, Status3, WalkNode};
+use std::alloc::{AllocError, Global};
+use std::marker::Model;
+
+/// A window of any kind, which evaluates its frames anew at each node. All room is taken once, when it is made.
+#[derive(Drop)]
+pub struct FreshWindow<'c> {
+    frames: u32,
+    start: FreshStart<'c>,
+    // what the path has decided for each variable
+    decisions: Vec<Option<Tern>>,
+    // the cube of a node's window
+    cube: Vec<Tern>,
+    frame: FrameSets<'c>,
+}
+
+impl<'c> Model for FreshWindow<'c> {
+    ghost use Rattle.ht_tree.specs.Windows.{SearchWindow};
+
+    ghost Value = { SearchWindow };
+
+    ghost use Rattle.ht_check.specs.FreshWindowOf.{window_of, IsFresh};
+
+    ghost view = { window_of };
+
+    ghost invariant = { IsFresh };
+}
+
+impl<'c> FreshWindow<'c> {
+    // Room for a window.
+    fn new(
+        alloc: Global,
+        circuit: &'c Circuit,
+        fault: Option<Fault>,
+        frames: u32,
+        start: FreshStart<'c>,
+    ) -> Result<FreshWindow<'c>, AllocError>
+        requires fits { IsStart circuit.now fault frames (fresh_start start) }
+        requires start { IsStartOf start (length circuit.now.dffs) }
+        ensures { IfOk result
+            (λ window. window ≡ record {
+              circuit = circuit.now;
+              fault = fault;
+              frames = frames;
+              start = fresh_start start.entry;
+            }) }
+    {
+        let inputs = circuit.inputs() as usize;
+        let dffs = circuit.dffs() as usize;
+        let decisions = vec![in alloc; None; frames as usize * inputs + 2 * dffs]?;
+        let cube = vec![in alloc; Tern::Unk; dffs]?;
+        let frame = FrameSets::new(alloc, circuit, fault)?;
+        Ok(FreshWindow {
+            frames,
+            start,
+            decisions,
+            cube,
+            frame,
+        })
+    }
+
+    /// One frame of a fault, from two states that may differ at the flip-flops of z and nowhere else.
+    ///
+    /// # Errors
+    /// Out of memory.
+    pub fn one_frame(
+        alloc: Global,
+        circuit: &'c Circuit,
+        fault: Fault,
+        z: &'c [u32],
+    ) -> Result<FreshWindow<'c>, AllocError>
+        requires { (i : ℕ) → i < length z.now → get_or z.now i 0 < length circuit.now.dffs }
+        ensures { IfOk result (λ window. window ≡ one_frame_window circuit.now fault z.now) }
+    {
+        let marks = marks_of(alloc, z, circuit.dffs() as usize)?;
+        let start = FreshStart::OneFrame { z, marks };
+        FreshWindow::new(alloc, circuit, Some(fault), 1, start)
+    }
+
+    /// So many frames of a fault, from all-unknown.
+    ///
+    /// # Errors
+    /// Out of memory.
+    pub fn sweep(
+        alloc: Global,
+        circuit: &'c Circuit,
+        fault: Fault,
+        frames: u32,
+    ) -> Result<FreshWindow<'c>, AllocError>
+        requires { 0 < frames }
+        ensures { IfOk result (λ window. window ≡ sweep_window circuit.now fault frames) }
+    {
+        FreshWindow::new(alloc, circuit, Some(fault), frames, FreshStart::Unknown)
+    }
+
+    /// So many frames of a fault, from a state of each machine, which has a value for each flip-flop in order.
+    ///
+    /// # Errors
+    /// Out of memory.
+    pub fn forward(
+        alloc: Global,
+        circuit: &'c Circuit,
+        fault: Fault,
+        frames: u32,
+        good: &'c [Tern],
+        faulty: &'c [Tern],
+    ) -> Result<FreshWindow<'c>, AllocError>
+        requires some { 0 < frames }
+        requires good { length good.now ≡ length circuit.now.dffs }
+        requires faulty { length faulty.now ≡ length circuit.now.dffs }
+        ensures { IfOk result
+            (λ window. window ≡ forward_window circuit.now fault frames good.now faulty.now) }
+    {
+        let start = FreshStart::States { good, faulty };
+        FreshWindow::new(alloc, circuit, Some(fault), frames, start)
+    }
+
+    /// One frame of the good machine, for a cube of latch values that are wanted after it, with a value for each
+    /// flip-flop in order. At most `limit` frames may lead there.
+    ///
+    /// # Errors
+    /// Out of memory.
+    pub fn back(
+        alloc: Global,
+        circuit: &'c Circuit,
+        cube: &'c [Tern],
+        limit: u32,
+    ) -> Result<FreshWindow<'c>, AllocError>
+        requires { length cube.now ≡ length circuit.now.dffs }
+        ensures { IfOk result (λ window. window ≡ back_window circuit.now cube.now limit) }
+    {
+        FreshWindow::new(alloc, circuit, None, 1, FreshStart::Back { cube, limit })
+    }
+}
+
+impl<'c> FreshWindow<'c> {
+    // The status of a window that looks for a difference, at a path.
+    fn difference_status(&mut self, path: &[Assign3]) -> Status3
+        requires { seeks_difference self.old.start ≡ true }
+        ensures status { result ≡ without_place (status_at self.old path.now) }
+        ensures same { self.new ≡ self.old }
+    {
+        write_decisions(&mut self.decisions, path);
+        self.frame.begin(&self.start, &self.decisions);
+        let shown = run_frames(&mut self.frame, &self.decisions, self.frames);
+        shown
+            .and(states_show(&self.start, self.frame.latches()))
+            .status()
+    }
+}
+
+impl<'c> FreshWindow<'c> {
+    // The status of a node's window that looks for a cube.
+    fn cube_status(&mut self, cube: &[Tern], limit: u32, node: &WalkNode) -> Status3
+        requires { self.old.start ≡ back cube.now limit }
+        ensures status { result
+            ≡ without_place (status_at (window_at self.old node.now) (path_of node.now)) }
+        ensures same { self.new ≡ self.old }
+    {
+        enter_node(
+            self.frame.circuit(),
+            cube,
+            node,
+            &mut self.decisions,
+            &mut self.cube,
+        );
+        self.frame.begin(&self.start, &self.decisions);
+        self.frame.run(&self.decisions, 0);
+        let left = limit.saturating_sub(node.depth());
+        cube_status(&self.cube, self.frame.latches(), left)
+    }
+
+    // Whether a window comes under a node whose status is sure, where a cube is looked for.
+    fn goes_before(&mut self, limit: u32, node: &WalkNode) -> bool
+        requires { (cube : List Tern) × (self.old.start ≡ back cube limit) }
+        ensures before { result ≡ may_go_before (window_at self.old node.now) (path_of node.now) }
+        ensures same { self.new ≡ self.old }
+    {
+        decided_cube(
+            self.frame.circuit(),
+            node.path(),
+            &mut self.decisions,
+            &mut self.cube,
+        );
+        node.depth() < limit && wants_any(&self.cube)
+    }
+
+    // Whether a variable is that of a latch of the first frame, or of its good half.
+    fn is_latch(&self, var: u32) -> bool
+        ensures { result ≡ is_latch self.now.circuit var }
+    {
+        let circuit = self.frame.circuit();
+        let inputs = circuit.inputs();
+        inputs <= var && var < inputs + circuit.dffs()
+    }
+}
+
+impl<'c> JudgedWindow for FreshWindow<'c> {
+    ghost judge = { λ w. judge_of w };
+
+    ghost unit = { λ w. token_weight w };
+
+    fn token_weight(&self) -> u32 {
+        self.frames
+    }
+
+    fn status(&mut self, node: &WalkNode) -> Status3 {
+        match self.start {
+            FreshStart::Back { cube, limit } => self.cube_status(cube, limit, node),
+            FreshStart::OneFrame { z: _, marks: _ }
+            | FreshStart::Unknown
+            | FreshStart::States { good: _, faulty: _ } => self.difference_status(node.path()),
+        }
+    }
+
+    fn may_two(&self, _node: &WalkNode, var: u32) -> bool {
+        let inputs = self.frame.circuit().inputs() as u64;
+        if (var as u64) < self.frames as u64 * inputs {
+            return true;
+        }
+        match &self.start {
+            FreshStart::OneFrame { z: _, marks } => {
+                self.is_latch(var) || is_faulty_latch(self.frame.circuit(), marks, var)
+            },
+            FreshStart::Unknown
+            | FreshStart::States { good: _, faulty: _ }
+            | FreshStart::Back { cube: _, limit: _ } => false,
+        }
+    }
+
+    fn may_three(&self, _node: &WalkNode, var: u32) -> bool {
+        match self.start {
+            FreshStart::Back { cube: _, limit: _ } => self.is_latch(var),
+            FreshStart::OneFrame { z: _, marks: _ }
+            | FreshStart::Unknown
+            | FreshStart::States { good: _, faulty: _ } => false,
+        }
+    }
+
+    fn may_go_before(&mut self, node: &WalkNode) -> bool {
+        match self.start {
+            FreshStart::Back { cube: _, limit } => self.goes_before(limit, node),
+            FreshStart::OneFrame { z: _, marks: _ }
+            | FreshStart::Unknown
+            | FreshStart::States { good: _, faulty: _ } => false,
+        }
+    }
+}
