@@ -9,6 +9,7 @@ mod forward;
 mod grade;
 mod justify;
 mod net;
+mod oneframe;
 mod pairs;
 mod ports;
 mod run;

@@ -1,7 +1,7 @@
 //! Tests of ht_check: entries by hand. In each circuit the fault is net 1 stuck at 0.
 ghost use Rattle.std.specs.Prelude.{◌≤◌, length};
 
-use super::samples::TOGGLE;
+use super::samples::{ALWAYS_ZERO, HIDDEN, TOGGLE};
 use ht_bench::read;
 use ht_check::entry;
 use ht_items::Items;
@@ -9,12 +9,6 @@ use ht_net::{Fault, NetId, Site};
 use ht_tree::{Entry, Token};
 use std::alloc::{AllocError, Global};
 use std::test::Fail;
-
-// No output tells the flip-flops.
-const HIDDEN: &[u8] = b"INPUT(a)\nOUTPUT(a)\nq = DFF(a)\nr = DFF(q)\n";
-
-// The output is always 0.
-const ALWAYS_ZERO: &[u8] = b"INPUT(a)\nOUTPUT(z)\nn = NOT(a)\nz = AND(a, n)\n";
 
 const ONE_FIRST: Token = Token::Two {
     var: 0,

@@ -17,9 +17,26 @@ total 6 detected 3
 ";
 
 /// The toggle: a latch that takes the complement of its own value, and shows it.
-pub const TOGGLE: &[u8] = b"OUTPUT(q)\nq = DFF(n)\nn = NOT(q)\n";
+pub const TOGGLE: &[u8] = b"OUTPUT(q)
+q = DFF(n)
+n = NOT(q)
+";
 
-/// Two equal flip-flops: x is never 1.
+/// The flip-flops stand behind the output, which shows the input.
+pub const HIDDEN: &[u8] = b"INPUT(a)
+OUTPUT(a)
+q = DFF(a)
+r = DFF(q)
+";
+
+/// The output is always 0.
+pub const ALWAYS_ZERO: &[u8] = b"INPUT(a)
+OUTPUT(z)
+n = NOT(a)
+z = AND(a, n)
+";
+
+/// Two flip-flops with one data net: x is 1 in no frame but the first.
 pub const TWINS: &[u8] =
     b"INPUT(a)\nINPUT(b)\nOUTPUT(z)\np = DFF(a)\nq = DFF(a)\nx = XOR(p, q)\nz = AND(x, b)\n";
 
