@@ -5,7 +5,6 @@ mod check;
 mod collapse;
 mod events;
 mod faults;
-mod forward;
 mod grade;
 mod justify;
 mod net;
