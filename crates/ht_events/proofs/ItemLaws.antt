@@ -43,12 +43,6 @@ pub reads_known : (c : Netlist) (l x : ℕ) → ReadsNet c l x → l < frame_ite
 reads_known c l x (inl g) = g.known
 reads_known c l x (inr d) = let h = d.is_dff in omega (arith, h)
 
-pub reader_inside : (c : Netlist) (k f x item : ℕ) → IsReader c k f x item → item < item_count c k
-reader_inside c k f x item r =
-    let at = r.at in
-    let h = item_inside c k (reader_frame c f r.local) r.local r.inside (reads_known c r.local x r.reads) in
-    omega (arith, at, h)
-
 module _ (c : Netlist) (order ranks : List ℕ) (ranking : IsRanking c order ranks) where
   -- the position of an item in a plan of this circuit
   abbrev pub position_of : ℕ → ℕ

@@ -33,15 +33,6 @@ later_more {V} a b c f g = record {
   values = restored_append c.values f.since g.since ∙ (ap (λ (v : List V). restored v f.since) g.values ∙ f.values);
 }
 
--- the changes since a mark take the cells back to what they were
-pub undone_to : {V : Type 0} → (a b : CellsState V) → IsLater a b → (m : ℕ) → m ≡ length a.trail
-    → record { values = restored b.values (drop m b.trail); trail = take m b.trail } ≡ a
-undone_to {V} a b f m at =
-    let t : take m b.trail ≡ a.trail = (λ i. take (at i) (f.trail i)) ∙ take-append_seam a.trail f.since in
-    let d : drop m b.trail ≡ f.since = (λ i. drop (at i) (f.trail i)) ∙ drop-append_seam a.trail f.since in
-    let v : restored b.values (drop m b.trail) ≡ a.values = ap (restored b.values) d ∙ f.values in
-    (λ i. record { values = v i; trail = t i })
-
 -- all but the last of a first part
 pub part_pop : {X : Type 0} → (xs all : List X) (s : X) → xs ++ s ∷ [] ≡ take (length (xs ++ s ∷ [])) all → xs
     ≡ take (length xs) all
@@ -67,12 +58,6 @@ pub restored_length : {V : Type 0} → (values : List V) (trail : List (Saved V)
 restored_length values [] = refl
 restored_length {V} values (s ∷ trail) = length-set (restored values trail) s.index s.value ∙ restored_length values
     trail
-
-pub later_count : {V : Type 0} → (a b : CellsState V) → IsLater a b → length a.trail ≤ length b.trail
-later_count a b f = let e = ap length f.trail in let n = length-append a.trail f.since in omega (arith, e, n)
-
-pub later_length : {V : Type 0} → (a b : CellsState V) → IsLater a b → length b.values ≡ length a.values
-later_length a b f = sym (restored_length b.values f.since) ∙ ap length f.values
 
 -- what stood at an earlier mark is there still
 pub later_mark : {V : Type 0} → (a b : CellsState V) → IsLater a b → (m : ℕ) → m ≤ length a.trail → at_mark b m
