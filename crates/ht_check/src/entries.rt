@@ -1,7 +1,8 @@
 //! Entries that pass.
 ghost use Rattle.std.specs.Prelude.{◌<◌, ◌↔◌, ℕ, length, get_or, IfOk, IsTrue};
 ghost use Rattle.ht_tree.specs.Rising.{Rises};
-ghost use Rattle.ht_tree.specs.Entries.{Means, IsUntestable, Passes, Refutes};
+ghost use Rattle.ht_tree.specs.Entries.{Means, Passes};
+ghost use Rattle.ht_tree.specs.Refutations.{IsUntestable, Refutes};
 
 use crate::fresh_window::FreshWindow;
 use crate::walks::is_complete;
@@ -40,6 +41,8 @@ pub fn entry(
             z.as_slice(),
             tokens.as_slice(),
         ),
+        // not judged yet
+        Entry::Aborted { told: _, walk: _, aim: _, sweep: _ } => Ok(false),
     }
 }
 

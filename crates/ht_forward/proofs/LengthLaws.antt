@@ -10,7 +10,7 @@ use Rattle.ht_tree.specs.SearchRecords.{sweep_weight}
 use Rattle.ht_tree.specs.Walks.{weight_of}
 use Rattle.ht_tree.specs.Windows.{sweep_window}
 use Rattle.ht_events.specs.Plans.{max_frames}
-use Rattle.ht_forward.specs.declared.sweeping.TheConstants.{MAX_BUDGET}
+use Rattle.ht_tree.specs.declared.budget.TheConstants.{MAX_BUDGET}
 use Rattle.ht_forward.specs.AheadSearches.{ClosesAhead, FindsList, SpendsAhead}
 use Rattle.ht_forward.specs.Sweeps.{CloseEach, SweepFinds, SweepSpends, left_after}
 use Rattle.ht_forward.proofs.CloseLaws.{closes_as, closes_push, complete_weighs}

@@ -16,4 +16,4 @@ mod sweeping;
 
 pub use ahead::Ahead;
 pub use propagation::{FORWARD_FRAMES, propagate};
-pub use sweeping::{MAX_BUDGET, Swept, sweep};
+pub use sweeping::{Swept, sweep};

@@ -5,12 +5,9 @@ ghost use Rattle.ht_forward.specs.Sweeps.{IsSwept, SweptHolds};
 use crate::ahead::{Ahead, search_ahead};
 use ht_items::Items;
 use ht_net::{Circuit, Fault, Vectors};
-use ht_tree::Token;
+use ht_tree::{MAX_BUDGET, Token};
 use ht_window::Start;
 use std::alloc::{AllocError, Global};
-
-/// The greatest budget of a sweep.
-pub const MAX_BUDGET: u64 = 100_000;
 
 /// What a sweep comes to.
 #[derive(Drop)]

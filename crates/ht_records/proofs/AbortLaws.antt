@@ -11,11 +11,15 @@ use Rattle.ht_tree.specs.Budgets.{refutation_cost, sweep_cost}
 use Rattle.ht_tree.specs.Reached.{IsTernState}
 use Rattle.ht_tree.specs.ToldChains.{ends_at_output, states_of}
 use Rattle.ht_tree.specs.Windows.{forward_frames}
+use Rattle.ht_tree.specs.Entries.{Means, Passes}
+use Rattle.ht_tree.specs.declared.entry.Entry.{Entry}
+use Rattle.ht_tree.specs.declared.entry.Entry.TheVariants as entries
 use Rattle.ht_tree.specs.declared.aim.Aim.{Aim}
 use Rattle.ht_tree.specs.declared.aim.Aim.TheVariants as aims
 use Rattle.ht_tree.specs.declared.token.Token.{Token}
 use Rattle.ht_tree.specs.declared.told.Told.{Told}
-use Rattle.ht_tree.proofs.SilenceLaws.{next_long}
+use Rattle.ht_tree.proofs.FittedLaws.{next_long}
+use Rattle.ht_tree.proofs.RefutationLaws.{refuted}
 use Rattle.ht_records.proofs.ChainLaws.{chain_lies_in, chain_to_output}
 use Rattle.ht_records.proofs.CompleteLaws.{complete_back, complete_forward}
 use Rattle.ht_records.proofs.ShortWalkLaws.{one_frame_unspent}
@@ -49,6 +53,12 @@ abort_means c fault budget a circuit is = record {
   swept = λ list t o few. swept_nothing c fault budget a.sweep is.sweep list few t o;
   aim = first_means c fault budget a.told a.aim is.aim;
 }
+
+pub passing_means : (c : Netlist) (fault : Fault) (budget : ℕ) (entry : Entry) → IsCircuit c
+    → Passes c fault budget entry → Means c fault entry
+passing_means c fault budget (entries.Untestable z tokens) circuit passes = refuted c fault z tokens circuit passes
+passing_means c fault budget (entries.Aborted told walk aim sweep) circuit passes =
+    abort_means c fault budget (record { told = told; walk = walk; aim = aim; sweep = sweep }) circuit passes
 
 unspent : (c : Netlist) (fault : Fault) (budget : ℕ) (chain : List Told) (walk : Option (List Token)) → IsCircuit c
     → refutation_cost c ≤ budget → IsLastWalk c fault budget chain walk → ends_at_output chain ≡ true

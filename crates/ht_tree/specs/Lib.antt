@@ -11,8 +11,8 @@ pub mod Nodes
 pub mod WalkBack
 pub mod Searches
 pub mod Counts
-pub mod Entries
 pub mod Rising
+pub mod Refutations
 pub mod ToldChains
 pub mod Reached
 pub mod FoundLists
@@ -20,3 +20,4 @@ pub mod SearchRecords
 pub mod Budgets
 pub mod AimedAttempts
 pub mod AbortRecords
+pub mod Entries

@@ -15,6 +15,7 @@
 #![tactic(auto)]
 
 mod aim;
+mod budget;
 mod entry;
 mod node;
 mod stack;
@@ -25,13 +26,14 @@ mod walk;
 mod window;
 
 pub use aim::Aim;
+pub use budget::MAX_BUDGET;
 pub use entry::Entry;
 pub use node::WalkNode;
 pub use theorems::{
     before_opens_the_window_below, complete_walk_seals, decided_window_is_not_open,
     decision_keeps_the_window, decision_leaves_one_variable_less, difference_search_is_never_spent,
     enough_budget_is_never_spent, good_half_comes_first, latches_count_two, nodes_have_windows,
-    open_status_has_a_choice, passing_entry_holds, sealed_is_silent, sizes_measure,
+    open_status_has_a_choice, refutation_holds, sealed_is_silent, sizes_measure,
     tokens_are_bounded, undecided_variables_are_left, undetermined_net_has_a_choice,
 };
 pub use token::{Assign3, Choice, Status3, Token};

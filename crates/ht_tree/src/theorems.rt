@@ -16,8 +16,7 @@ ghost use Rattle.ht_tree.specs.Variables.{DecidesAll, GoodHalfIsFirst, IsLegalCh
 ghost use Rattle.ht_tree.specs.Nodes.{IsNode, judge_of, window_at, window_below};
 ghost use Rattle.ht_tree.specs.WalkBack.{pick_of, walk_back};
 ghost use Rattle.ht_tree.specs.Searches.{Guide, SpendsAt, guide_of};
-ghost use Rattle.ht_tree.specs.declared.entry.Entry.{Entry};
-ghost use Rattle.ht_tree.specs.Entries.{Means, Passes};
+ghost use Rattle.ht_tree.specs.Refutations.{IsUntestable, Refutes};
 ghost use Rattle.ht_tree.specs.Counts.{Measures, Sizes, left_at, left_below, most_from, most_tokens, seeks_difference, undecided_at};
 
 /// A complete walk of the one-frame window of a fault and a set of flip-flops seals the fault in the set.
@@ -32,10 +31,10 @@ pub fn sealed_is_silent()
         → (state : List Bool) → IsState c state → Silent c fault state }
 {}
 
-/// What an entry says of its fault holds where the entry passes.
-pub fn passing_entry_holds()
-    ensures { (c : Netlist) (fault : Fault) (budget : ℕ) (entry : Entry) → IsCircuit c
-        → Passes c fault budget entry → Means c fault entry }
+/// A fault with a refutation is sealed in its set, silent from every common state, and detected by no list.
+pub fn refutation_holds()
+    ensures { (c : Netlist) (fault : Fault) (z : List ℕ) (tokens : List Token) → IsCircuit c
+        → Refutes c fault z tokens → IsUntestable c fault z }
 {}
 
 /// Where the status is open, the chosen variable is legal in its kind, and the path doesn't decide it.

@@ -3,7 +3,7 @@ use Rattle.std.proofs.lemmas.Result.{IfOk-weaker}
 use Rattle.ht_tree.specs.Walks.{IsComplete}
 use Rattle.ht_tree.specs.Windows.{SearchWindow, one_frame_window}
 use Rattle.ht_tree.specs.Nodes.{judge_of}
-use Rattle.ht_tree.proofs.UntestableLaws.{untestable}
+use Rattle.ht_tree.proofs.RefutationLaws.{untestable}
 use Rattle.ht_check.proofs.entries.refutes.Goals as goal
 
 pub returns-clause-sound : goal.returns-clause-sound
