@@ -1,0 +1,3 @@
+pub mod RisesLaws
+pub mod LineLaws
+pub mod WrittenLaws

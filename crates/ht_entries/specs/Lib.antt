@@ -1,0 +1,6 @@
+pub mod ProofLines
+pub mod EntryLines
+pub mod EntryTexts
+pub mod ProofReading
+pub mod ReaderStands
+pub mod ProofSteps
