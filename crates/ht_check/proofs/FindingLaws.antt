@@ -1,12 +1,16 @@
 -- Tokens that fit, one after the other.
-use Rattle.std.proofs.Common.{◌≡◌, ◌↔◌, ◌<◌, ℕ, suc, zero, List, [], ◌∷◌, ◌++◌, false, get_or, length, take, sym, arith}
+use Rattle.std.proofs.Common.{◌≡◌, ◌↔◌, ◌<◌, ◌-◌, ◌^◌, ℕ, suc, zero, List, [], ◌∷◌, ◌++◌, false, get_or, length, take, sym, subst, arith}
 use Rattle.ht_tree.specs.declared.token.Token.{Token}
 use Rattle.ht_tree.specs.declared.token.Token.TheVariants as token
-use Rattle.ht_tree.specs.Walks.{Node, Judge, AllFit, IsComplete, children, stack_after}
+use Rattle.ht_tree.specs.Walks.{Node, Judge, AllFit, IsComplete, children, stack_after, weight_of}
+use Rattle.ht_tree.specs.WalkOf.{saturated}
+use Rattle.ht_tree.specs.Windows.{SearchWindow, token_weight}
+use Rattle.ht_tree.specs.Nodes.{judge_of}
+use Rattle.ht_tree.specs.SearchRecords.{Fills, IsSpentWalk}
 use Rattle.ht_tree.proofs.WalkLaws.{fit_push}
 use Rattle.ht_check.specs.declared.walks.Finding.{Finding}
 use Rattle.ht_check.specs.declared.walks.Finding.TheVariants.{Complete, Open, Unfit}
-use Rattle.ht_check.specs.Findings.{FitsOnTop, IsFinding, IsCompleteFinding}
+use Rattle.ht_check.specs.Findings.{FitsOnTop, IsFinding, IsCompleteFinding, IsSpentFinding}
 
 -- what is read where no token stands
 abbrev pub no_token : Token
@@ -33,3 +37,17 @@ pub found_complete : (j : Judge) (unit : ℕ) (tokens : List Token) (finding : F
 found_complete j unit tokens (Complete weight) h = (λ yes. h.0, λ yes. tt)
 found_complete j unit tokens (Open weight) h = (λ no. absurd no, λ complete. h.0.unfinished complete.finished)
 found_complete j unit tokens Unfit h = (λ no. absurd no, λ complete. h complete.fit)
+
+-- tokens are a spent walk of a window exactly where they are found to be one
+pub found_spent : (w : SearchWindow) (budget : ℕ) (tokens : List Token) (finding : Finding) → budget < 2 ^ 64 - 1
+    → IsFinding (judge_of w) (token_weight w) tokens finding
+    → IsSpentFinding budget (token_weight w) finding ↔ IsSpentWalk w budget tokens
+found_spent w budget tokens (Complete weight) few h = (λ no. absurd no, λ spent. spent.walk.unfinished h.0.finished)
+found_spent w budget tokens (Open weight) few h =
+    let whole = weight_of (token_weight w) tokens in
+    let is : weight ≡ saturated whole = h.1 in
+    (λ f. let within : weight ≡ whole = let a = f.within in omega (arith, few, is, a) in
+    record { walk = h.0; fills = subst (Fills budget (token_weight w)) within f },
+    λ spent. let within : whole ≡ weight = let a = spent.fills.within in omega (arith, few, is, a) in
+    subst (Fills budget (token_weight w)) within spent.fills)
+found_spent w budget tokens Unfit few h = (λ no. absurd no, λ spent. h spent.walk.fit)

@@ -5,6 +5,7 @@ use Rattle.ht_tree.specs.declared.token.Token.TheVariants as token
 use Rattle.ht_tree.specs.declared.token.Status3.TheVariants as status
 use Rattle.ht_tree.specs.Walks.{Node, Judge, Fits, AllFit, IsComplete, IsOpen, root_stack, weight_of}
 use Rattle.ht_tree.specs.WalkOf.{saturated}
+use Rattle.ht_tree.specs.SearchRecords.{Fills}
 use Rattle.ht_check.specs.declared.walks.Finding.{Finding}
 use Rattle.ht_check.specs.declared.walks.Finding.TheVariants.{Complete, Open, Unfit}
 
@@ -35,3 +36,9 @@ abbrev pub IsCompleteFinding : Finding → Type 0
 IsCompleteFinding (Complete weight) = Unit {0}
 IsCompleteFinding (Open weight) = ⊥
 IsCompleteFinding Unfit = ⊥
+
+-- the finding is an open walk that fills a budget, where each token weighs a unit
+abbrev pub IsSpentFinding : ℕ → ℕ → Finding → Type 0
+IsSpentFinding budget unit (Complete weight) = ⊥
+IsSpentFinding budget unit (Open weight) = Fills budget unit weight
+IsSpentFinding budget unit Unfit = ⊥

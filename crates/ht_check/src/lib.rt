@@ -6,8 +6,8 @@
 //! `FreshWindow` is one of each kind: one frame with a set of flip-flops, some frames from all-unknown or from a pair of
 //! states, and back from a cube.
 //!
-//! Modules: `entries` (which entries pass), `walks` (a walk token by token), `judged` (what a window answers),
-//! `fresh_window` (a window of any kind), `fresh_start` (its first latches), `frame_sets` (one frame over sets),
+//! Modules: `entries` (which entries pass), `walks` (a walk token by token), `spent_walks` (walks that spent a budget),
+//! `judged` (what a window answers), `fresh_window` (a window of any kind), `fresh_start` (its first latches), `frame_sets` (one frame over sets),
 //! `decisions` (what a path decides), `differences` (what places show), `cube` (what next states make of a cube).
 #![tactic(auto)]
 
@@ -19,6 +19,7 @@ mod frame_sets;
 mod fresh_start;
 mod fresh_window;
 mod judged;
+mod spent_walks;
 mod walks;
 
 pub use entries::entry;
