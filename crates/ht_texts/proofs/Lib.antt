@@ -2,6 +2,7 @@ pub mod ReportLaws
 pub mod SiteLaws
 pub mod CountLaws
 pub mod LineLaws
+pub mod NumberLaws
 pub mod StopLaws
 pub mod TestLaws
 pub mod VectorLaws

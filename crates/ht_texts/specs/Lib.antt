@@ -1,4 +1,5 @@
 pub mod Lines
+pub mod Numbers
 pub mod Tests
 pub mod Sites
 pub mod Verdicts
