@@ -1,3 +1,11 @@
 pub mod RisesLaws
 pub mod LineLaws
 pub mod WrittenLaws
+pub mod ReadingLaws
+pub mod ReadBackLaws
+pub mod GrowLaws
+pub mod GrownLaws
+pub mod TakenLaws
+pub mod FrontLaws
+pub mod MalformedLaws
+pub mod StepLaws

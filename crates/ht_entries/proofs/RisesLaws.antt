@@ -1,7 +1,7 @@
 -- Numbers that rise, one more at either end.
-use Rattle.std.proofs.Common.{arith, subst}
+use Rattle.std.proofs.Common.{arith, ap, ◌∙◌, subst}
 use Rattle.std.proofs.lemmas.Bool.{ltb-true, lt-ltb}
-use Rattle.std.specs.Prelude.{◌≡◌, ◌<◌, ◌+◌, ℕ, suc, zero, List, [], ◌∷◌, ◌++◌, Bool, true, ltb, refl, length, get_or}
+use Rattle.std.specs.Prelude.{◌≡◌, ◌<◌, ◌+◌, ◌-◌, ℕ, suc, zero, List, [], ◌∷◌, ◌++◌, Bool, true, ltb, refl, length, get_or}
 use Rattle.ht_tree.specs.Rising.{Rises}
 use Rattle.ht_entries.specs.ProofSteps.{is_above}
 
@@ -44,3 +44,11 @@ pub is_above_front : (list : List ℕ) (j : ℕ) (more : List ℕ) → Rises (li
 is_above_front [] j more h = refl
 is_above_front (k ∷ []) j more h = lt-ltb k j (h.next 0 (omega arith))
 is_above_front (k ∷ l ∷ list) j more h = is_above_front (l ∷ list) j more (rises_tail k (l ∷ list ++ j ∷ more) h)
+
+-- the last number by its index
+pub above_last_index : (list : List ℕ) (j : ℕ) → 0 < length list → ltb (get_or list (length list - 1) 0) j ≡ is_above list j
+above_last_index [] j h = absurd (omega (arith, h))
+above_last_index (k ∷ []) j h = refl
+above_last_index (k ∷ l ∷ list) j h =
+    ap (λ i. ltb (get_or (k ∷ l ∷ list) i 0) j) {y = suc (length (l ∷ list) - 1)} (omega arith)
+    ∙ above_last_index (l ∷ list) j (omega arith)

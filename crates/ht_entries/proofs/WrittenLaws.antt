@@ -1,10 +1,10 @@
 -- The lines of a part of an entry, read one by one, give the part.
 use Rattle.std.proofs.Common.{arith, ap, sym, ◌∙◌, subst}
 use Rattle.std.proofs.lemmas.List.{append_assoc, append-nil, length-append, map-append}
-use Rattle.std.proofs.lemmas.Bool.{eq-eqb}
+use Rattle.std.proofs.lemmas.Bool.{eq-eqb, and_from}
 use Rattle.std.proofs.lemmas.List.Concat.{flat_map-cons}
 use Rattle.std.proofs.lemmas.List.Elements.{All-nil, All-cons, All-head, All-tail, All-append, All-push}
-use Rattle.std.specs.Prelude.{◌≡◌, ◌+◌, ℕ, List, [], ◌∷◌, ◌++◌, map, flat_map, Bool, true, eqb, refl, length, Option, Some, None}
+use Rattle.std.specs.Prelude.{◌≡◌, ◌+◌, ℕ, List, [], ◌∷◌, ◌++◌, map, flat_map, Bool, true, ◌&&◌, eqb, refl, length, Option, Some, None}
 use Rattle.std.specs.Option.{option_map}
 use Rattle.std.specs.List.{All}
 use Rattle.ht_net.specs.Rows.{Rows}
@@ -116,10 +116,19 @@ told_grow done (t ∷ told) h =
 abbrev aim_part : List Told → Option (List Token) → Aim → EntryPart
 aim_part told walk a = part.Aborted told walk (Some a) None
 
-aim_grows : (told : List Told) (walk : Option (List Token)) (a : Aim) (l : ProofLine)
+pub aim_grows : (told : List Told) (walk : Option (List Token)) (a : Aim) (l : ProofLine)
     → grow (aim_part told walk a) l ≡ grow_aimed told walk a l
 aim_grows told None a l = refl
 aim_grows told (Some tokens) a l = refl
+
+all_front : {X : Type 0} (P : X → Type 0) (xs ys : List X) → All P (xs ++ ys) → All P xs
+all_front P [] ys h = All-nil P
+all_front P (x ∷ xs) ys h =
+    All-cons P x xs (All-head P x (xs ++ ys) h) (all_front P xs ys (All-tail P x (xs ++ ys) h))
+
+all_back : {X : Type 0} (P : X → Type 0) (xs ys : List X) → All P (xs ++ ys) → All P ys
+all_back P [] ys h = h
+all_back P (x ∷ xs) ys h = all_back P xs ys (All-tail P x (xs ++ ys) h)
 
 abbrev HasWidth : ℕ → List Bool → Type 0
 HasWidth width vector = length vector ≡ width
@@ -147,12 +156,12 @@ back_grow told walk width done (bits ∷ back) d h =
     ∙ ap (λ x. Some (aim_part told walk (attempt_of x []))) (append_assoc done (bits ∷ []) back)
 
 ahead_line_adds : (back done : List (List Bool)) (bits : List Bool) → grow_aim (attempt_of back done) (line.Ahead bits)
-    ≡ where_true (fits_width (back ++ done) bits) (attempt_of back (done ++ bits ∷ []))
+    ≡ where_true (fits_width back bits && fits_width done bits) (attempt_of back (done ++ bits ∷ []))
 ahead_line_adds back [] bits = refl
 ahead_line_adds back (other ∷ done) bits = refl
 
 ahead_line_grows : (told : List Told) (walk : Option (List Token)) (back done : List (List Bool)) (bits : List Bool)
-    → fits_width (back ++ done) bits ≡ true
+    → (fits_width back bits && fits_width done bits) ≡ true
     → grow (aim_part told walk (attempt_of back done)) (line.Ahead bits)
     ≡ Some (aim_part told walk (attempt_of back (done ++ bits ∷ [])))
 ahead_line_grows told walk back done bits e =
@@ -169,7 +178,9 @@ ahead_grow told walk width back done [] d h =
 ahead_grow told walk width back done (bits ∷ ahead) d h =
     let bits_wide = All-head (HasWidth width) bits ahead h in
     ap (λ x. grow_all x (map line.Ahead ahead))
-    (ahead_line_grows told walk back done bits (fits_is width (back ++ done) bits d bits_wide))
+    (ahead_line_grows told walk back done bits (and_from (fits_width back bits) (fits_width done bits)
+    (fits_is width back bits (all_front (HasWidth width) back done d) bits_wide)
+    (fits_is width done bits (all_back (HasWidth width) back done d) bits_wide)))
     ∙ ahead_grow told walk width back (done ++ bits ∷ []) ahead
     (subst (All (HasWidth width)) (append_assoc back done (bits ∷ []))
     (All-push (HasWidth width) (back ++ done) bits d bits_wide))
@@ -181,7 +192,7 @@ ahead_grow told walk width back done (bits ∷ ahead) d h =
 abbrev sweep_part : List Told → Option (List Token) → Option Aim → List (List Token) → EntryPart
 sweep_part told walk a walks = part.Aborted told walk a (Some walks)
 
-sweep_grows : (told : List Told) (walk : Option (List Token)) (a : Option Aim) (walks : List (List Token))
+pub sweep_grows : (told : List Told) (walk : Option (List Token)) (a : Option Aim) (walks : List (List Token))
     (l : ProofLine) → grow (sweep_part told walk a walks) l
     ≡ option_map (λ more. sweep_part told walk a more) (grow_sweep walks l)
 sweep_grows told None None walks l = refl
@@ -239,15 +250,6 @@ aim_tokens told walk f tokens adds =
     tokens_grow (λ x. aim_part told walk (f x))
     (λ done t. aim_grows told walk (f done) (line.Token t) ∙ ap (option_map (λ a. aim_part told walk a)) (adds done t))
     [] tokens
-
-all_front : {X : Type 0} (P : X → Type 0) (xs ys : List X) → All P (xs ++ ys) → All P xs
-all_front P [] ys h = All-nil P
-all_front P (x ∷ xs) ys h =
-    All-cons P x xs (All-head P x (xs ++ ys) h) (all_front P xs ys (All-tail P x (xs ++ ys) h))
-
-all_back : {X : Type 0} (P : X → Type 0) (xs ys : List X) → All P (xs ++ ys) → All P ys
-all_back P [] ys h = h
-all_back P (x ∷ xs) ys h = all_back P xs ys (All-tail P x (xs ++ ys) h)
 
 lists_grow : (told : List Told) (walk : Option (List Token)) (back ahead : List (List Bool))
     → HaveOneWidth (back ++ ahead)

@@ -1,5 +1,5 @@
 -- What each line makes of where a reader of a proofs text stands, or none where it is malformed there.
-use Rattle.std.specs.Prelude.{◌≡◌, ◌==◌, ◌+◌, ◌++◌, ◌∷◌, ℕ, List, [], Bool, true, false, ltb, leb, eqb, length, if◌then◌else◌, Option, Some, None}
+use Rattle.std.specs.Prelude.{◌+◌, ◌++◌, ◌∷◌, ℕ, List, [], Bool, true, false, ◌&&◌, ltb, eqb, length, Option, Some, None}
 use Rattle.std.specs.Option.{option_map}
 use Rattle.ht_net.specs.Rows.{Rows}
 use Rattle.ht_tree.specs.declared.token.Token.{Token}
@@ -31,7 +31,7 @@ is_above [] j = true
 is_above (k ∷ []) j = ltb k j
 is_above (k ∷ l ∷ list) j = is_above (l ∷ list) j
 
--- of the width of the others
+-- of the width of the first
 abbrev pub fits_width : List (List Bool) → List Bool → Bool
 fits_width [] bits = true
 fits_width (other ∷ list) bits = eqb (length bits) (length other)
@@ -63,8 +63,17 @@ begin_aim other = None
 abbrev pub add_vector : List (List Bool) → List (List Bool) → ProofLine → Option Aim
 add_vector back [] (line.Justify bits) = where_true (fits_width back bits) (attempt_of (back ++ bits ∷ []) [])
 add_vector back ahead (line.Ahead bits) =
-    where_true (fits_width (back ++ ahead) bits) (attempt_of back (ahead ++ bits ∷ []))
+    where_true (fits_width back bits && fits_width ahead bits) (attempt_of back (ahead ++ bits ∷ []))
 add_vector back ahead other = None
+
+-- the token of a line, and a vector more in an aim that is an attempt
+abbrev pub token_of : ProofLine → Option Token
+token_of (line.Token t) = Some t
+token_of other = None
+
+abbrev pub grow_vector : Aim → ProofLine → Option Aim
+grow_vector (aim.Attempt back ahead) l = add_vector back.list ahead.list l
+grow_vector a l = None
 
 abbrev pub grow_aim : Aim → ProofLine → Option Aim
 grow_aim (aim.ForwardClosed tokens) (line.Token t) = Some (aim.ForwardClosed (tokens ++ t ∷ []))
@@ -137,6 +146,13 @@ go_on last other = None
 
 abbrev pub step_to : Option Numbered → ReaderState → Step
 step_to ended state = record { state = state; ended = ended }
+
+-- the line begins an entry or ends the text
+abbrev pub is_closing : ProofLine → Bool
+is_closing (line.Untestable number) = true
+is_closing (line.Aborted number) = true
+is_closing line.End = true
+is_closing other = false
 
 -- the line ends the entry
 abbrev pub close_entry : ℕ → Option Entry → ProofLine → Option Step

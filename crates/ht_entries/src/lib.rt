@@ -5,6 +5,7 @@ mod entry_part;
 mod numbered;
 mod proof_line;
 mod reader_state;
+mod refutation;
 mod text_error;
 
 pub use numbered::Numbered;
