@@ -7,3 +7,4 @@ pub mod PlaceLaws
 pub mod WantedLaws
 pub mod StatusLaws
 pub mod CubeLaws
+pub mod ToldLaws

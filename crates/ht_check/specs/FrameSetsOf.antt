@@ -9,6 +9,8 @@ use Rattle.ht_net.specs.declared.fault.Fault.{Fault}
 use Rattle.ht_net.specs.Netlist.{Netlist, IsCircuit, net_count}
 use Rattle.ht_net.specs.Frame.{values_at, frame_outputs, next_state}
 use Rattle.ht_frame.specs.Values.{env_of}
+use Rattle.ht_tree.specs.declared.window.Spot.{Spot}
+use Rattle.ht_tree.specs.declared.window.Spot.TheVariants.{Output, State, Cube}
 use Rattle.ht_tree.specs.Windows.{pair_set_rules}
 use Rattle.ht_check.specs.declared.frame_sets.FrameSets.TheInside.{Inside}
 
@@ -26,6 +28,12 @@ frame_state a = record {
   latches = a.latches.items;
   outputs = values_at (env_of (pair Unk Unk ∷ []) a.values.items) a.circuit.now.outputs;
 }
+
+-- the set at a place after a frame: an output's, or what a flip-flop took
+abbrev pub set_in : FrameState → Spot → List Pair
+set_in s (Output o) = get_or s.outputs o []
+set_in s (State j) = get_or s.latches j []
+set_in s Cube = []
 
 -- Each field is as long as what it has values for.
 pub record HasRoom (a : Inside) : Type 0 where

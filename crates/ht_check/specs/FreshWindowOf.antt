@@ -13,7 +13,7 @@ window_of a = record {
 }
 
 -- The start is one of the circuit, and there is room for each variable and for a cube.
-pub record IsFresh (a : Inside) : Type 0 where
+pub record HasWindowRoom (a : Inside) : Type 0 where
   pub window : IsWindow (window_of a)
   pub start : IsStartOf a.start (length a.frame.circuit.dffs)
   pub decisions : length a.decisions.items ≡ a.frames * a.frame.circuit.inputs + 2 * length a.frame.circuit.dffs

@@ -5,3 +5,4 @@ pub mod FreshStarts
 pub mod FrameSetsOf
 pub mod WantedLatches
 pub mod FreshWindowOf
+pub mod SweepWalks

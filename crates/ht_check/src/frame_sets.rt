@@ -1,9 +1,11 @@
 //! One frame over sets of pairs.
 ghost use Rattle.std.specs.Prelude.{◌≡◌, ◌≤◌, ◌+◌, ◌*◌, flat_map, length, IfOk};
-ghost use Rattle.std.specs.List.{range_with_len};
+ghost use Rattle.std.specs.List.{list_all, range_with_len};
+ghost use Rattle.ht_pairs.specs.Pairs.{differs};
 ghost use Rattle.ht_net.specs.Netlist.{IsCircuit};
+ghost use Rattle.ht_tree.specs.Places.{IsSpot};
 ghost use Rattle.ht_check.specs.FreshStarts.{IsStartOf, latches_by};
-ghost use Rattle.ht_check.specs.FrameSetsOf.{frame_after, inputs_by, latches_after, outputs_of_frame};
+ghost use Rattle.ht_check.specs.FrameSetsOf.{frame_after, inputs_by, latches_after, outputs_of_frame, set_in};
 ghost use Rattle.ht_check.specs.Differences.{differences_in};
 
 use crate::decisions::write_inputs;
@@ -13,6 +15,7 @@ use ht_frame::{MAX_GATE_PINS, capture, settle};
 use ht_net::{Circuit, Fault};
 use ht_pairs::PairSet;
 use ht_tern::Tern;
+use ht_tree::Spot;
 use std::alloc::{AllocError, Global};
 use std::marker::Model;
 
@@ -122,6 +125,21 @@ impl<'c> FrameSets<'c> {
         ensures count { length result.now ≡ length self.now.circuit.dffs }
     {
         &self.latches
+    }
+
+    /// Whether a place must differ after a frame: an output, or the next state of a flip-flop.
+    pub fn must_differ(&self, place: Spot) -> bool
+        requires { IsSpot self.now.circuit place }
+        ensures { result ≡ list_all differs (set_in self.now place) }
+    {
+        // for the proof: each net has a set
+        prove_eq!(self.values.len(), self.circuit.nets() as usize);
+        match place {
+            Spot::Output(o) => self.values[self.circuit.output(o).index()].must_differ(),
+            Spot::State(j) => self.latches[j as usize].must_differ(),
+            // no place, so no set that may be equal
+            Spot::Cube => true,
+        }
     }
 
     /// What the outputs show after a frame.

@@ -1,8 +1,11 @@
 //! Windows of every kind, evaluated afresh at each node.
 ghost use Rattle.std.specs.Prelude.{◌≡◌, ◌<◌, ℕ, List, length, get_or, true, IfOk};
+ghost use Rattle.std.specs.List.{list_all};
 ghost use Rattle.ht_tern.specs.declared.tern.Tern.{Tern};
+ghost use Rattle.ht_pairs.specs.Pairs.{differs};
 ghost use Rattle.ht_tree.specs.Counts.{seeks_difference};
-ghost use Rattle.ht_tree.specs.Variables.{is_latch};
+ghost use Rattle.ht_tree.specs.Places.{IsSpot, set_at};
+ghost use Rattle.ht_tree.specs.Variables.{is_latch, may_two};
 ghost use Rattle.ht_tree.specs.Nodes.{judge_of, may_go_before, window_at};
 ghost use Rattle.ht_tree.specs.Walks.{path_of};
 ghost use Rattle.ht_tree.specs.WindowStatus.{status_at, without_place};
@@ -16,7 +19,7 @@ use crate::fresh_start::{FreshStart, is_faulty_latch, marks_of, states_show};
 use crate::judged::JudgedWindow;
 use ht_net::{Circuit, Fault};
 use ht_tern::Tern;
-use ht_tree::{Assign3, Status3, WalkNode};
+use ht_tree::{Assign3, Spot, Status3, WalkNode};
 use std::alloc::{AllocError, Global};
 use std::marker::Model;
 
@@ -37,11 +40,11 @@ impl<'c> Model for FreshWindow<'c> {
 
     ghost Value = { SearchWindow };
 
-    ghost use Rattle.ht_check.specs.FreshWindowOf.{window_of, IsFresh};
+    ghost use Rattle.ht_check.specs.FreshWindowOf.{window_of, HasWindowRoom};
 
     ghost view = { window_of };
 
-    ghost invariant = { IsFresh };
+    ghost invariant = { HasWindowRoom };
 }
 
 impl<'c> FreshWindow<'c> {
@@ -165,6 +168,37 @@ impl<'c> FreshWindow<'c> {
             .and(states_show(&self.start, self.frame.latches()))
             .status()
     }
+
+    /// Whether a place of a window of one frame must differ at a path: an output, or the next state of a flip-flop.
+    pub fn must_differ(&mut self, path: &[Assign3], place: Spot) -> bool
+        requires one { self.old.frames ≡ 1 }
+        requires place { IsSpot self.old.circuit place }
+        ensures shown { result ≡ list_all differs (set_at self.old path.now 0 place) }
+        ensures same { self.new ≡ self.old }
+    {
+        write_decisions(&mut self.decisions, path);
+        self.frame.begin(&self.start, &self.decisions);
+        self.frame.run(&self.decisions, 0);
+        self.frame.must_differ(place)
+    }
+
+    /// Whether a variable may be decided to two values.
+    pub fn may_decide(&self, var: u32) -> bool
+        ensures { result ≡ may_two self.now var }
+    {
+        let inputs = self.frame.circuit().inputs() as u64;
+        if (var as u64) < self.frames as u64 * inputs {
+            return true;
+        }
+        match &self.start {
+            FreshStart::OneFrame { z: _, marks } => {
+                self.is_latch(var) || is_faulty_latch(self.frame.circuit(), marks, var)
+            },
+            FreshStart::Unknown
+            | FreshStart::States { good: _, faulty: _ }
+            | FreshStart::Back { cube: _, limit: _ } => false,
+        }
+    }
 }
 
 impl<'c> FreshWindow<'c> {
@@ -232,18 +266,7 @@ impl<'c> JudgedWindow for FreshWindow<'c> {
     }
 
     fn may_two(&self, _node: &WalkNode, var: u32) -> bool {
-        let inputs = self.frame.circuit().inputs() as u64;
-        if (var as u64) < self.frames as u64 * inputs {
-            return true;
-        }
-        match &self.start {
-            FreshStart::OneFrame { z: _, marks } => {
-                self.is_latch(var) || is_faulty_latch(self.frame.circuit(), marks, var)
-            },
-            FreshStart::Unknown
-            | FreshStart::States { good: _, faulty: _ }
-            | FreshStart::Back { cube: _, limit: _ } => false,
-        }
+        self.may_decide(var)
     }
 
     fn may_three(&self, _node: &WalkNode, var: u32) -> bool {

@@ -1,16 +1,19 @@
 //! The checker of entries: it follows the tokens of a walk and evaluates both machines over sets of pairs at each node,
 //! afresh: no code of a search is used.
 //!
-//! `entry` is true exactly where the entry passes. Where an untestable entry passes, no list of vectors detects its
-//! fault: the clause `sound` of `entry` says so. `judge_walk` judges tokens as a walk of any `JudgedWindow`, and
-//! `FreshWindow` is one of each kind: one frame with a set of flip-flops, some frames from all-unknown or from a pair of
-//! states, and back from a cube.
+//! `entry` is true exactly where the entry passes (`exact`), and what an entry that passes says of its fault holds
+//! (`sound`): no list of vectors detects it, or none of fewer vectors than a sweep has walks. `judge_walk` judges tokens
+//! as a walk of any `JudgedWindow`, and `FreshWindow` is one of each kind: one frame with a set of flip-flops, some
+//! frames from all-unknown or from a pair of states, and back from a cube.
 //!
-//! Modules: `entries` (which entries pass), `walks` (a walk token by token), `spent_walks` (walks that spent a budget),
-//! `judged` (what a window answers), `fresh_window` (a window of any kind), `fresh_start` (its first latches), `frame_sets` (one frame over sets),
-//! `decisions` (what a path decides), `differences` (what places show), `cube` (what next states make of a cube).
+//! Modules: `entries` (which entries pass), `told_chains` and `told_frames` (frames that are told), `abort_records` (the
+//! walk after them), `sweeps` (the walks of a sweep), `walks` (a walk token by token), `spent_walks` (walks that spent a
+//! budget), `judged` (what a window answers), `fresh_window` (a window of any kind), `fresh_start` (its first latches),
+//! `frame_sets` (one frame over sets), `decisions` (what a path decides), `differences` (what places show), `cube` (what
+//! next states make of a cube).
 #![tactic(auto)]
 
+mod abort_records;
 mod cube;
 mod decisions;
 mod differences;
@@ -20,6 +23,9 @@ mod fresh_start;
 mod fresh_window;
 mod judged;
 mod spent_walks;
+mod sweeps;
+mod told_chains;
+mod told_frames;
 mod walks;
 
 pub use entries::entry;

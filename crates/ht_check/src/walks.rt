@@ -2,7 +2,7 @@
 ghost use Rattle.std.specs.Prelude.{◌≡◌, ◌↔◌, true, IfOk, IsTrue};
 ghost use Rattle.ht_tree.specs.Walks.{IsComplete};
 ghost use Rattle.ht_tree.specs.WalkOf.{fed};
-ghost use Rattle.ht_check.specs.Findings.{FitsAnew, FitsAnewOnTop, FitsOnTop, IsCompleteFinding, IsFinding};
+ghost use Rattle.ht_check.specs.Findings.{FitsAnew, FitsAnewOnTop, FitsOnTop, IsCompleteFinding, IsFinding, IsOpenFinding};
 
 use crate::judged::JudgedWindow;
 use ht_tree::{Status3, Token, Walk, WalkNode};
@@ -21,13 +21,23 @@ pub enum Finding {
 }
 
 impl Finding {
-    // Whether the tokens are a complete walk.
-    fn is_complete(self) -> bool
+    /// Whether the tokens are a complete walk.
+    pub fn is_complete(self) -> bool
         ensures { IsTrue result ↔ IsCompleteFinding self }
     {
         match self {
             Finding::Complete { weight: _ } => true,
             Finding::Open { weight: _ } | Finding::Unfit => false,
+        }
+    }
+
+    /// Whether the tokens are an open walk.
+    pub fn is_open(self) -> bool
+        ensures { IsTrue result ↔ IsOpenFinding self }
+    {
+        match self {
+            Finding::Open { weight: _ } => true,
+            Finding::Complete { weight: _ } | Finding::Unfit => false,
         }
     }
 }

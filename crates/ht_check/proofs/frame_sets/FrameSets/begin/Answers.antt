@@ -16,8 +16,8 @@ returns c =
     let ds = c.args.decisions.now in
     let L : List (List Pair) = c.write_latches.new.latches in
     let held = c.self.invariant.latches in
-    let count : length c.deref_mut.result.now ≡ length n.dffs = let e = c.deref_mut.ensures.len in omega (arith, held, e)
-    in
+    let count : length c.deref_mut.result.now ≡ length n.dffs =
+    let e = c.deref_mut.ensures.len in omega (arith, held, e) in
     let each : (j : ℕ) → j < length n.dffs → get_or L j []
     ≡ first_latch_by (fresh_start start) ds n.inputs (length n.dffs) (0 + j) =
     λ j below. let at : j ≡ 0 + j = omega arith in

@@ -40,14 +40,16 @@ returns-clause-status c =
     let kept = c.self.invariant.decisions in
     let room : w.frames * w.circuit.inputs + 2 * length w.circuit.dffs ≤ length D = omega (arith, len, all, kept) in
     let d1 : c.deref.result.now ≡ D = c.deref.ensures.value ∙ with_items_is a.decisions D (omega (arith, len, all)) in
-    let d2 : c.deref-2.result.now ≡ D = c.deref-2.ensures.value ∙ with_items_is a.decisions D (omega (arith, len, all)) in
+    let d2 : c.deref-2.result.now ≡ D =
+    c.deref-2.ensures.value ∙ with_items_is a.decisions D (omega (arith, len, all)) in
     let written : IsWritten D path = c.enter_node.ensures.written in
     let begun : s ≡ record a.frame { latches = latches_by a.start D a.frame.circuit } =
     c.begin.ensures ∙ (λ i. record a.frame { latches = latches_by a.start (d1 i) a.frame.circuit }) in
     let ran : new ≡ frame_after s (inputs_by D 0 s.circuit.inputs) =
     c.run.ensures ∙ (λ i. frame_after s (inputs_by (d2 i) 0 s.circuit.inputs)) in
     let circuit = ap (λ (t : FrameState). t.circuit) begun in
-    let next = cube_next there path D a.start cube given left c.args.limit refl start_is fits.0 written room s new circuit
+    let next =
+    cube_next there path D a.start cube given left c.args.limit refl start_is fits.0 written room s new circuit
     (ap (λ (t : FrameState). t.fault) begun) (ap (λ (t : FrameState). t.latches) begun) ran in
     let sets = c.latches.ensures.latches ∙ next in
     let entered : c.enter_node.new.cube ≡ cube =

@@ -25,7 +25,8 @@ returns-clause-status c =
     let kept = c.self.invariant.decisions in
     let room : w.frames * w.circuit.inputs + 2 * length w.circuit.dffs ≤ length D = omega (arith, len, all, kept) in
     let d1 : c.deref.result.now ≡ D = c.deref.ensures.value ∙ with_items_is a.decisions D (omega (arith, len, all)) in
-    let d2 : c.deref-2.result.now ≡ D = c.deref-2.ensures.value ∙ with_items_is a.decisions D (omega (arith, len, all)) in
+    let d2 : c.deref-2.result.now ≡ D =
+    c.deref-2.ensures.value ∙ with_items_is a.decisions D (omega (arith, len, all)) in
     let begun : s ≡ record a.frame { latches = latches_by a.start D a.frame.circuit } =
     c.begin.ensures ∙ (λ i. record a.frame { latches = latches_by a.start (d1 i) a.frame.circuit }) in
     c.status.ensures
