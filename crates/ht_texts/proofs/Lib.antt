@@ -1,6 +1,15 @@
+pub mod FrontLaws
 pub mod ReportLaws
 pub mod SiteLaws
+pub mod SaidLaws
+pub mod VerdictLaws
 pub mod CountLaws
+pub mod TallyLaws
+pub mod ItemLaws
+pub mod ReadingLaws
+pub mod ReportFrontLaws
+pub mod ReaderLaws
+pub mod ReportTextLaws
 pub mod LineLaws
 pub mod NumberLaws
 pub mod StopLaws

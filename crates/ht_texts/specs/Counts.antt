@@ -1,7 +1,9 @@
 -- How many classes there are, and of how many of them each verdict is said.
 use Rattle.std.specs.Prelude.{◌≡◌, ℕ, ◌+◌, List, Bool, if◌then◌else◌}
-use Rattle.std.specs.List.{count_by}
-use Rattle.ht_collapse.specs.Classes.{own_representatives, class_count}
+use Rattle.std.specs.List.{count_by, filter, range_with_len}
+use Rattle.ht_collapse.specs.Classes.{is_representative, own_representatives, class_count}
+use Rattle.ht_texts.specs.declared.item.Item.{Item}
+use Rattle.ht_texts.specs.declared.item.Item.TheVariants.{Head, Verdict, Member, Total}
 use Rattle.ht_texts.specs.declared.said.Said.{Said}
 use Rattle.ht_texts.specs.declared.total.Sums.{Sums}
 use Rattle.ht_texts.specs.Verdicts.{said_at, is_detected, is_untestable, is_aborted}
@@ -10,15 +12,24 @@ use Rattle.ht_texts.specs.Verdicts.{said_at, is_detected, is_untestable, is_abor
 abbrev pub count_said : (Said → Bool) → List Said → List ℕ → ℕ
 count_said is_kind saids faults = count_by (λ i. is_kind (said_at saids i)) faults
 
--- the sums of a report, with the budget of a search or without one
-abbrev pub sums_of : List ℕ → List Said → Bool → Sums
-sums_of representatives saids search = record {
+-- the sums of a report where only the verdicts of these faults are counted
+abbrev pub sums_among : List ℕ → List Said → Bool → List ℕ → Sums
+sums_among representatives saids search faults = record {
   classes = class_count representatives;
-  detected = count_said is_detected saids (own_representatives representatives);
-  untestable = count_said is_untestable saids (own_representatives representatives);
-  aborted = count_said is_aborted saids (own_representatives representatives);
+  detected = count_said is_detected saids faults;
+  untestable = count_said is_untestable saids faults;
+  aborted = count_said is_aborted saids faults;
   search = search;
 }
+
+-- the sums of a report, with the budget of a search or without one
+abbrev pub sums_of : List ℕ → List Said → Bool → Sums
+sums_of representatives saids search =
+    sums_among representatives saids search (own_representatives representatives)
+
+-- the representatives among the first n faults
+abbrev pub representatives_below : List ℕ → ℕ → List ℕ
+representatives_below representatives n = filter (is_representative representatives) (range_with_len 0 n)
 
 -- ---- class by class
 
@@ -33,3 +44,10 @@ pub record CountsOne (said : Said) (old new : Sums) : Type 0 where
   pub untestable : new.untestable ≡ old.untestable + one_if (is_untestable said)
   pub aborted : new.aborted ≡ old.aborted + one_if (is_aborted said)
   pub search : new.search ≡ old.search
+
+-- what a line of a report says is counted, if it is the line of a representative
+abbrev pub CountsItem : Item → Sums → Sums → Type 0
+CountsItem (Verdict i said) old new = CountsOne said old new
+CountsItem (Head budget) old new = new ≡ old
+CountsItem (Member i) old new = new ≡ old
+CountsItem Total old new = new ≡ old

@@ -1,7 +1,13 @@
 pub mod Lines
 pub mod Numbers
+pub mod Fronts
 pub mod Tests
 pub mod Sites
 pub mod Verdicts
 pub mod Counts
 pub mod Reports
+pub mod SearchReports
+pub mod ReportLines
+pub mod ReportReading
+pub mod ReportStands
+pub mod ReportReaderOf

@@ -49,10 +49,12 @@ outcome_text c representatives i said =
     if is_representative representatives i then verdict_text c said
     else codes "as " ++ decimal (get_or representatives i 0 + 1)
 
--- the line of fault i, which has its number from 1
+-- the number of fault i, from 1, and the fault
+abbrev pub line_front : Netlist → ℕ → List ℕ
+line_front c i = decimal (i + 1) ++ codes " " ++ fault_text c (fault_at c i) ++ codes " "
+
 abbrev pub fault_line : Netlist → List ℕ → ℕ → Said → List ℕ
-fault_line c representatives i said =
-    decimal (i + 1) ++ codes " " ++ fault_text c (fault_at c i) ++ codes " " ++ outcome_text c representatives i said
+fault_line c representatives i said = line_front c i ++ outcome_text c representatives i said
 
 -- the lines of the first n faults
 abbrev pub fault_lines : Netlist → List ℕ → List Said → ℕ → List (List ℕ)

@@ -31,10 +31,13 @@ pub record AreSayable (c : Netlist) (representatives : List ℕ) (saids : List S
 
 -- ---- the words
 
--- the vector, from 1, and the output of the first detection, or why there is none
+-- the number of the vector, from 1, and the name of the output
+abbrev pub place_text : Netlist → Place → List ℕ
+place_text c place = decimal (place.vector + 1) ++ codes " " ++ output_text c place.output
+
+-- where the first detection is, or why there is none
 abbrev pub verdict_text : Netlist → Said → List ℕ
-verdict_text c (Detected place) = codes "detected " ++ decimal (place.vector + 1) ++ codes " "
-    ++ output_text c place.output
+verdict_text c (Detected place) = codes "detected " ++ place_text c place
 verdict_text c Untestable = codes "untestable"
 verdict_text c Aborted = codes "aborted"
 verdict_text c Undetected = codes "undetected"

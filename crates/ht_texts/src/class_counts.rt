@@ -1,8 +1,9 @@
 //! How many classes there are, and of how many of them each verdict is said.
-ghost use Rattle.std.specs.Prelude.{◌≡◌, ◌<◌, ◌-◌, ◌^◌, length};
+ghost use Rattle.std.specs.Prelude.{◌≡◌, ◌<◌, ◌-◌, ◌^◌, [], length};
 ghost use Rattle.ht_collapse.specs.Classes.{class_count};
-ghost use Rattle.ht_texts.specs.Counts.{CountsOne, sums_of};
+ghost use Rattle.ht_texts.specs.Counts.{CountsOne, CountsItem, sums_among, sums_of};
 
+use crate::item::Item;
 use crate::said::Said;
 use crate::total::Sums;
 use ht_collapse::Classes;
@@ -24,17 +25,36 @@ impl Sums {
         requires { length saids.now ≡ length classes.now }
         ensures { result ≡ sums_of classes.now saids.now search }
     {
-        let mut sums = Sums {
+        let mut sums = Sums::none(classes, search);
+        for i in classes.representatives() {
+            sums.count(saids[*i as usize]);
+        }
+        sums
+    }
+
+    // The sums before any class is counted.
+    pub(crate) fn none(classes: &Classes, search: bool) -> Sums
+        ensures { result ≡ sums_among classes.now [] search [] }
+    {
+        Sums {
             classes: count_classes(classes),
             detected: 0,
             untestable: 0,
             aborted: 0,
             search,
-        };
-        for i in classes.representatives() {
-            sums.count(saids[*i as usize]);
         }
-        sums
+    }
+
+    // Counts what a line of a report says: a class where it is the line of a representative.
+    pub(crate) fn count_item(&mut self, item: Item)
+        requires detected { self.old.detected < 2 ^ 32 - 1 }
+        requires untestable { self.old.untestable < 2 ^ 32 - 1 }
+        requires aborted { self.old.aborted < 2 ^ 32 - 1 }
+        ensures { CountsItem item self.old self.new }
+    {
+        if let Item::Verdict { said, .. } = item {
+            self.count(said);
+        }
     }
 
     // Counts one class, of which this is said.

@@ -3,16 +3,27 @@
 //!
 //! `specs/Numbers` says which bytes are a number; `specs/Tests` which are a list of vectors, and at which line a text
 //! that is none goes wrong; `specs/Sites` names the lines of a circuit; `specs/Verdicts` has what is said of a class,
-//! `specs/Counts` of how many classes, and `specs/Reports` a report, line for line.
+//! `specs/Counts` of how many classes, and `specs/Reports` a report, line for line. `specs/SearchReports` says which
+//! texts are the report of a search, and at which line another goes wrong. A `ReportReader` takes such a report line by
+//! line: `specs/ReportReading` says how far it is read and what a line says, `specs/ReportStands` what the reader keeps.
 #![tactic(auto)]
 
 mod body;
 mod class_counts;
 mod fault_line;
 mod head;
+mod item;
+mod malformed_line;
 mod number;
+mod read_fault;
+mod read_head;
+mod read_line;
+mod read_total;
+mod read_verdict;
+mod report_reader;
 mod said;
 mod site;
+mod strip;
 mod theorems;
 mod total;
 mod vector;
@@ -20,8 +31,13 @@ mod vector;
 pub use body::write_body;
 pub use fault_line::write_fault;
 pub use head::write_head;
+pub use item::Item;
+pub use malformed_line::MalformedLine;
 pub use number::{push_number, read_number};
+pub use report_reader::ReportReader;
 pub use said::{Said, saids_of};
-pub use theorems::{tests_are_read, texts_are_tests_or_malformed};
+pub use theorems::{
+    report_fronts_are_read, reports_say_one_thing, tests_are_read, texts_are_tests_or_malformed,
+};
 pub use total::{Sums, write_total};
 pub use vector::{read_vector, write_vector};

@@ -42,7 +42,15 @@ pub fn push_output(text: &mut Vec<u8>, circuit: &Circuit, output: u32) -> Result
     requires { output < length circuit.now.outputs }
     ensures { OnOk result (text.new.items ≡ text.old.items ++ output_text circuit.now output) }
 {
+    text.extend_from_slice(output_name(circuit, output))
+}
+
+// The name of the net of an output.
+pub fn output_name(circuit: &Circuit, output: u32) -> &[u8]
+    requires { output < length circuit.now.outputs }
+    ensures { result.now ≡ output_text circuit.now output }
+{
     let net = circuit.output(output);
     prove!(net.0 < circuit.nets());
-    text.extend_from_slice(circuit.name(net))
+    circuit.name(net)
 }

@@ -1,9 +1,12 @@
-//! Which texts are tests. Each theorem is the contract of a function that does nothing.
+//! Which texts are tests, and which are reports. Each theorem is the contract of a function that does nothing.
 ghost use Rattle.std.specs.Prelude.{◌≡◌, ◌≤◌, ℕ, List, Bool, length};
 ghost use Rattle.std.specs.List.{All};
 ghost use Rattle.ht_ports.specs.LineRule.{max_text_bytes};
-ghost use Rattle.ht_net.specs.Netlist.{Netlist};
+ghost use Rattle.ht_net.specs.Netlist.{Netlist, IsCircuit};
+ghost use Rattle.ht_texts.specs.declared.said.Said.{Said};
 ghost use Rattle.ht_texts.specs.Tests.{test_text, IsTestText, IsMalformedTest, IsTestOrMalformed};
+ghost use Rattle.ht_texts.specs.SearchReports.{IsReportFront, IsReportText, IsMalformedReport};
+ghost use Rattle.ht_texts.specs.ReportReading.{ReportReading, ReportReadsTo, SameSearch, SaySame};
 
 /// The lines of vectors, each with its LF, are the test text of these vectors, and none of them is malformed: so a
 /// reader takes them. A text is at most 2^62 bytes long.
@@ -19,4 +22,32 @@ pub fn tests_are_read()
 /// A text is the test text of one list of vectors, or malformed at one line: never both, and never neither.
 pub fn texts_are_tests_or_malformed()
     ensures { (c : Netlist) (text : List ℕ) → IsTestOrMalformed c text }
+{}
+
+/// Lines that begin a report of a search are read, lines that are read begin such a report, and they are read in one
+/// way: line by line they say one thing of each fault.
+pub fn report_fronts_are_read()
+    ensures read { (c : Netlist) (representatives : List ℕ) (lines : List (List ℕ))
+        → IsReportFront c representatives lines
+        → (at : ReportReading) × ReportReadsTo c representatives lines at }
+    ensures begins { (c : Netlist) (representatives : List ℕ) (lines : List (List ℕ))
+        (at : ReportReading) → ReportReadsTo c representatives lines at
+        → IsReportFront c representatives lines }
+    ensures once { (c : Netlist) (representatives : List ℕ) (lines : List (List ℕ))
+        (a b : ReportReading) → IsCircuit c → ReportReadsTo c representatives lines a
+        → ReportReadsTo c representatives lines b → SaySame representatives a b }
+{}
+
+/// A text is the report of at most one search: it has one budget, and says one thing of each class. It isn't malformed
+/// too, and a malformed text is so at one line.
+pub fn reports_say_one_thing()
+    ensures one { (c : Netlist) (representatives : List ℕ) (text : List ℕ) (budget other : ℕ)
+        (a b : List Said) → IsCircuit c → IsReportText c representatives text budget a
+        → IsReportText c representatives text other b → SameSearch representatives budget other a b }
+    ensures not_malformed { (c : Netlist) (representatives : List ℕ) (text : List ℕ) (budget : ℕ)
+        (saids : List Said) (n : ℕ) → IsReportText c representatives text budget saids
+        → ¬ IsMalformedReport c representatives text n }
+    ensures one_line { (c : Netlist) (representatives : List ℕ) (text : List ℕ) (m n : ℕ)
+        → IsMalformedReport c representatives text m → IsMalformedReport c representatives text n
+        → m ≡ n }
 {}

@@ -1,0 +1,206 @@
+-- A verdict has one text: it tells the kind, and the place of a detection.
+use Rattle.std.proofs.Common.{◌≡◌, ◌≢◌, ◌==◌, ◌⊎◌, inl, inr, ℕ, suc, ◌+◌, ◌-◌, ◌^◌, ◌<◌, Bool, cond, List, [], ◌∷◌, ◌++◌, Some, None, length, get_or, take, drop, append_assoc, length-append, length-drop, add-one, drop-cons, refl, sym, ap, ◌∙◌, subst, arith}
+use Rattle.std.specs.Prelude.{codes, nat_lt}
+use Rattle.std.specs.Fmt.{decimal}
+use Rattle.std.specs.List.{position, position_or_len}
+use Rattle.std.proofs.lemmas.Bool.{cases_order, cond_below, eqb-true, ne_eqb}
+use Rattle.std.proofs.lemmas.Fmt.{decimal_is_IsNumeral, decimal_injective}
+use Rattle.std.proofs.lemmas.List.{append_cancel_left, get_or_append_left, take-append-drop}
+use Rattle.std.proofs.lemmas.List.Quantifiers.{position-Some}
+use Rattle.std.proofs.lemmas.List.Sums.{position_or_len_is}
+use Rattle.std.proofs.lemmas.Option.{none-some, same_Some}
+use Rattle.std.proofs.lemmas.Str.Parse.{digit_at}
+use Rattle.std.proofs.Math.Seq.{get_or-append_seam, take-append_seam, take-length, drop-append-add}
+use Rattle.ht_net.specs.declared.net.NetId.{NetId}
+use Rattle.ht_net.specs.declared.place.Place.{Place}
+use Rattle.ht_net.specs.Lists.{AllDiffer}
+use Rattle.ht_net.specs.Netlist.{Netlist, IsCircuit, no_net}
+use Rattle.ht_net.specs.Detection.{IsPlace}
+use Rattle.ht_texts.specs.declared.said.Said.{Said}
+use Rattle.ht_texts.specs.declared.said.Said.TheVariants.{Detected, Untestable, Aborted, Undetected}
+use Rattle.ht_texts.specs.Sites.{output_text}
+use Rattle.ht_texts.specs.Verdicts.{IsSayable, place_text, verdict_text, is_detected, is_untestable, is_aborted}
+
+-- ---- the kind
+
+-- the letters at some place of two texts differ
+letters_differ : {P : Type 0} (k : ℕ) (s t : List ℕ) → s ≡ t → get_or s k 0 ≢ get_or t k 0 → P
+letters_differ k s t e differs = absurd (differs (ap (λ l. get_or l k 0) e))
+
+-- both are a detection, at places with one text
+abbrev BothDetected : Netlist → Said → Said → Type 0
+BothDetected c a b = (p : Place) × (q : Place) × (a ≡ Detected p) × (b ≡ Detected q)
+    × (place_text c p ≡ place_text c q)
+
+same_text : (c : Netlist) (a b : Said) → verdict_text c a ≡ verdict_text c b → (a ≡ b) ⊎ BothDetected c a b
+same_text c (Detected p) (Detected q) e =
+    inr (p, q, refl, refl, append_cancel_left (codes "detected ") (place_text c p) (place_text c q) e)
+same_text c (Detected p) Untestable e = letters_differ 0 _ _ e (λ f. omega (arith, f))
+same_text c (Detected p) Aborted e = letters_differ 0 _ _ e (λ f. omega (arith, f))
+same_text c (Detected p) Undetected e = letters_differ 0 _ _ e (λ f. omega (arith, f))
+same_text c Untestable (Detected q) e = letters_differ 0 _ _ e (λ f. omega (arith, f))
+same_text c Untestable Untestable e = inl refl
+same_text c Untestable Aborted e = letters_differ 0 _ _ e (λ f. omega (arith, f))
+same_text c Untestable Undetected e = letters_differ 2 _ _ e (λ f. omega (arith, f))
+same_text c Aborted (Detected q) e = letters_differ 0 _ _ e (λ f. omega (arith, f))
+same_text c Aborted Untestable e = letters_differ 0 _ _ e (λ f. omega (arith, f))
+same_text c Aborted Aborted e = inl refl
+same_text c Aborted Undetected e = letters_differ 0 _ _ e (λ f. omega (arith, f))
+same_text c Undetected (Detected q) e = letters_differ 0 _ _ e (λ f. omega (arith, f))
+same_text c Undetected Untestable e = letters_differ 2 _ _ e (λ f. omega (arith, f))
+same_text c Undetected Aborted e = letters_differ 0 _ _ e (λ f. omega (arith, f))
+same_text c Undetected Undetected e = inl refl
+
+-- verdicts with one text count alike
+pub record SameKind (a b : Said) : Type 0 where
+  pub detected : is_detected a ≡ is_detected b
+  pub untestable : is_untestable a ≡ is_untestable b
+  pub aborted : is_aborted a ≡ is_aborted b
+
+pub kinds_of_equal : {a b : Said} → a ≡ b → SameKind a b
+kinds_of_equal same = record {
+  detected = ap is_detected same;
+  untestable = ap is_untestable same;
+  aborted = ap is_aborted same;
+}
+
+pub same_kind : (c : Netlist) (a b : Said) → verdict_text c a ≡ verdict_text c b → SameKind a b
+same_kind c a b e = elim (same_text c a b e) [
+  | inl same ↦ kinds_of_equal same
+  | inr both ↦ record {
+    detected = ap is_detected both.2 ∙ sym (ap is_detected both.3);
+    untestable = ap is_untestable both.2 ∙ sym (ap is_untestable both.3);
+    aborted = ap is_aborted both.2 ∙ sym (ap is_aborted both.3);
+  }
+]
+
+-- ---- the place
+
+-- no digit is a space
+no_space : (n k : ℕ) → n < 2 ^ 64 → k < length (decimal n) → get_or (decimal n) k 0 ≢ 32
+no_space n k small below e =
+    let digit = digit_at (decimal n) k (decimal_is_IsNumeral n small).0.1 below in
+    omega (arith, digit, e)
+
+abbrev is_space : ℕ → Bool
+is_space byte = byte == 32
+
+first_space : (n : ℕ) (name : List ℕ) → n < 2 ^ 64
+    → position_or_len is_space (decimal n ++ 32 ∷ name) ≡ length (decimal n)
+first_space n name small =
+    let size = length-append (decimal n) (32 ∷ name) in
+    position_or_len_is is_space (decimal n ++ 32 ∷ name) (length (decimal n)) 0 (omega (arith, size))
+    (λ k below. ne_eqb (get_or (decimal n ++ 32 ∷ name) k 0) 32
+    (λ e. no_space n k small below (sym (get_or_append_left (decimal n) (32 ∷ name) 0 k below) ∙ e)))
+    (λ _. ap is_space (get_or-append_seam (decimal n) 32 name 0))
+
+-- a number, a space and a name are told apart at the first space
+pub record NumberAndName (text : List ℕ) (n : ℕ) (name : List ℕ) : Type 0 where
+  pub space : position is_space text ≡ Some (length (decimal n))
+  pub number : take (length (decimal n)) text ≡ decimal n
+  pub name_is : drop (length (decimal n) + 1) text ≡ name
+
+number_and_name : (n : ℕ) (name : List ℕ) → n < 2 ^ 64 → NumberAndName (decimal n ++ 32 ∷ name) n name
+number_and_name n name small =
+    let text : List ℕ = decimal n ++ 32 ∷ name in
+    let at = first_space n name small in
+    let inside : length (decimal n) < length text = omega (arith, length-append (decimal n) (32 ∷ name)) in record {
+      space = ap (λ k. cond (nat_lt k (length text)) (Some k) None) at
+          ∙ sym (cond_below (length (decimal n)) (length text) (Some (length (decimal n))) None inside);
+      number = take-append_seam (decimal n) (32 ∷ name);
+      name_is = drop-append-add (decimal n) (32 ∷ name) 1;
+    }
+
+pub place_parts : (c : Netlist) (text : List ℕ) (place : Place) → IsPlace c place → text ≡ place_text c place
+    → NumberAndName text (place.vector + 1) (output_text c place.output)
+place_parts c text place is_place is =
+    let name = output_text c place.output in
+    let n = place.vector + 1 in
+    subst (λ t. NumberAndName t n name) (sym (is ∙ append_assoc (decimal n) (codes " ") name))
+    (number_and_name n name (omega (arith, is_place.vector)))
+
+-- a text without a space is that of no place
+pub no_place_without_space : (c : Netlist) (text : List ℕ) → position is_space text ≡ None → (place : Place)
+    → IsPlace c place → text ≢ place_text c place
+no_place_without_space c text none place is_place e =
+    none-some (length (decimal (place.vector + 1))) (sym none ∙ (place_parts c text place is_place e).space)
+
+-- the parts of a place's text, before and after its first space
+pub record SplitPlace (c : Netlist) (text : List ℕ) (k : ℕ) (place : Place) : Type 0 where
+  pub number : take k text ≡ decimal (place.vector + 1)
+  pub name : drop (k + 1) text ≡ output_text c place.output
+
+pub split_place : (c : Netlist) (text : List ℕ) (k : ℕ) (place : Place) → position is_space text ≡ Some k
+    → IsPlace c place → text ≡ place_text c place → SplitPlace c text k place
+split_place c text k place at is_place e =
+    let parts = place_parts c text place is_place e in
+    let same : length (decimal (place.vector + 1)) ≡ k =
+    same_Some (length (decimal (place.vector + 1))) k (sym parts.space ∙ at) in record {
+      number = subst (λ i. take i text ≡ decimal (place.vector + 1)) same parts.number;
+      name = subst (λ i. drop (i + 1) text ≡ output_text c place.output) same parts.name_is;
+    }
+
+pub join_place : (c : Netlist) (text : List ℕ) (k : ℕ) (place : Place) → position is_space text ≡ Some k
+    → SplitPlace c text k place → text ≡ place_text c place
+join_place c text k place at split =
+    let found = position-Some is_space text k 0 at in
+    let space : get_or text k 0 ≡ 32 = eqb-true (get_or text k 0) 32 found.1 in
+    sym (take-append-drop k text)
+    ∙ ap (λ t. take k text ++ t) (drop-cons text k 0 found.0)
+    ∙ ap (λ x. take k text ++ x ∷ drop (suc k) text) space
+    ∙ ap (λ i. take k text ++ 32 ∷ drop i text) (sym (add-one k))
+    ∙ ap (λ t. take k text ++ 32 ∷ t) split.name
+    ∙ ap (λ t. t ++ 32 ∷ output_text c place.output) split.number
+    ∙ sym (append_assoc (decimal (place.vector + 1)) (codes " ") (output_text c place.output))
+
+-- what follows a space
+pub after_space : (text : List ℕ) (k : ℕ) → take (length text - (k + 1)) (drop (k + 1) text) ≡ drop (k + 1) text
+after_space text k =
+    ap (λ n. take n (drop (k + 1) text)) (sym (length-drop (k + 1) text)) ∙ take-length (drop (k + 1) text)
+
+-- ---- the output
+
+differ_at_once : {X : Type 0} (xs : List X) (i j : ℕ) (d : X) → AllDiffer xs → i < length xs → j < length xs
+    → get_or xs i d ≡ get_or xs j d → i ≡ j
+differ_at_once xs i j d differ i_in j_in e = elim (cases_order i j) [
+  | inl same ↦ same
+  | inr (inl below) ↦ absurd (differ i j d below j_in e)
+  | inr (inr above) ↦ absurd (differ j i d above i_in (sym e))
+]
+
+pub one_output : (c : Netlist) (o p : ℕ) → IsCircuit c → o < length c.outputs → p < length c.outputs
+    → output_text c o ≡ output_text c p → o ≡ p
+one_output c o p is o_in p_in e =
+    let net : ℕ → NetId = λ k. get_or c.outputs k no_net in
+    let numbers : (net o).0 ≡ (net p).0 = differ_at_once c.names (net o).0 (net p).0 [] is.names_differ
+    (omega (arith, is.named, is.outputs_known o o_in)) (omega (arith, is.named, is.outputs_known p p_in)) e in
+    let numbered : ℕ → NetId = λ number. record { 0 = number } in
+    differ_at_once c.outputs o p no_net is.outputs_differ o_in p_in (ap numbered numbers)
+
+one_place : (c : Netlist) (p q : Place) → IsCircuit c → IsPlace c p → IsPlace c q → place_text c p ≡ place_text c q
+    → p ≡ q
+one_place c p q is is_p is_q e =
+    let of_p = place_parts c (place_text c p) p is_p refl in
+    let of_q = place_parts c (place_text c p) q is_q e in
+    let same_length : length (decimal (p.vector + 1)) ≡ length (decimal (q.vector + 1)) = cc in
+    let same_digits : decimal (p.vector + 1) ≡ decimal (q.vector + 1) =
+    sym of_p.number ∙ ap (λ k. take k (place_text c p)) same_length ∙ of_q.number in
+    let same_number : p.vector + 1 ≡ q.vector + 1 = decimal_injective (p.vector + 1) (q.vector + 1)
+    (omega (arith, is_p.vector)) (omega (arith, is_q.vector)) same_digits in
+    let vectors : p.vector ≡ q.vector = omega arith in
+    let names : output_text c p.output ≡ output_text c q.output =
+    sym of_p.name_is ∙ ap (λ k. drop (k + 1) (place_text c p)) same_length ∙ of_q.name_is in
+    let outputs : p.output ≡ q.output = one_output c p.output q.output is is_p.output is_q.output names in
+    let at : ℕ → ℕ → Place = λ vector output. record { vector = vector; output = output } in
+    ap (λ v. at v p.output) vectors ∙ ap (at q.vector) outputs
+
+-- two verdicts of a circuit with one text are the same
+pub one_verdict : (c : Netlist) (a b : Said) → IsCircuit c → IsSayable c a → IsSayable c b
+    → verdict_text c a ≡ verdict_text c b → a ≡ b
+one_verdict c a b is is_a is_b e = elim (same_text c a b e) [
+  | inl same ↦ same
+  | inr both ↦
+      let places = one_place c both.0 both.1 is (subst (IsSayable c) both.2 is_a) (subst (IsSayable c) both.3 is_b)
+      both.4 in
+      both.2 ∙ ap (λ (place : Place). Detected place) places ∙ sym both.3
+]

@@ -1,0 +1,30 @@
+use Rattle.std.proofs.Common.{◌+◌, ◌<◌, ℕ, List, length, get_or, sym, ◌∙◌, ap, subst}
+use Rattle.std.specs.Fmt.{decimal}
+use Rattle.ht_net.specs.declared.fault.Fault.{Fault}
+use Rattle.ht_faults.specs.FaultList.{no_fault}
+use Rattle.ht_texts.specs.Fronts.{Strips}
+use Rattle.ht_texts.specs.Reports.{fault_text}
+use Rattle.ht_texts.specs.Sites.{IsSite}
+use Rattle.ht_texts.proofs.FrontLaws.{strips_both}
+use Rattle.ht_texts.proofs.SiteLaws.{fault_is_on_line}
+use Rattle.ht_texts.proofs.read_fault.strip_fault.Goals as goal
+
+pub strip_stuck_line-rest-requires : goal.strip_stuck_line-rest-requires
+strip_stuck_line-rest-requires c =
+    let circuit = c.args.circuit.now in
+    let i = c.args.i in
+    let is = c.get.ensures ∙ ap (λ (l : List Fault). get_or l i no_fault) c.requires.faults in
+    let inside = subst (λ (l : List Fault). i < length l) c.requires.faults c.requires.fault in
+    subst (λ (f : Fault). IsSite circuit f.site) (sym is) (fault_is_on_line circuit i inside)
+
+pub returns : goal.returns
+returns c =
+    let circuit = c.args.circuit.now in
+    let i = c.args.i in
+    let is = c.get.ensures ∙ ap (λ (l : List Fault). get_or l i no_fault) c.requires.faults in
+    let number = subst (λ (n : ℕ). Strips (decimal (n + 1)) c.args.text c.strip_number-rest.result) c.from.ensures
+    c.strip_number-rest.ensures in
+    let fault = subst
+    (λ (f : Fault). Strips (fault_text circuit f) c.strip_word-rest.result c.strip_stuck_line-rest.result) is
+    c.strip_stuck_line-rest.ensures in
+    strips_both (strips_both (strips_both number c.strip_word-rest.ensures) fault) c.strip_word.ensures

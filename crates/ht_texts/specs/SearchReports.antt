@@ -1,0 +1,75 @@
+-- The report of a search: what it can say, which texts are one, and where a text that is none goes wrong.
+use Rattle.std.specs.Prelude.{◌≡◌, ◌≢◌, ℕ, ◌+◌, ◌<◌, ◌≤◌, ◌⊎◌, List, ◌++◌, take, true, length, Some}
+use Rattle.ht_net.specs.Netlist.{Netlist}
+use Rattle.ht_faults.specs.Sites.{faults_of}
+use Rattle.ht_collapse.specs.Classes.{is_representative}
+use Rattle.ht_ports.specs.LineRule.{lines_of, max_text_bytes}
+use Rattle.ht_tree.specs.declared.budget.TheConstants.{MAX_BUDGET}
+use Rattle.ht_texts.specs.declared.said.Said.{Said}
+use Rattle.ht_texts.specs.declared.said.Said.TheVariants.{Undetected}
+use Rattle.ht_texts.specs.Tests.{IsTooLong}
+use Rattle.ht_texts.specs.Verdicts.{said_at, IsSayable}
+use Rattle.ht_texts.specs.Reports.{report_lines}
+
+-- the budget of a search
+abbrev pub IsBudget : ℕ → Type 0
+IsBudget budget = (0 < budget) × (budget ≤ MAX_BUDGET)
+
+-- A search can say it of a representative: it never says that a fault is just undetected.
+pub record IsSearched (c : Netlist) (said : Said) : Type 0 where
+  pub sayable : IsSayable c said
+  pub decided : said ≢ Undetected
+
+-- something is said of each of the first n faults, and of the representatives among them what a search can say
+pub record AreSearched (c : Netlist) (representatives : List ℕ) (n : ℕ) (saids : List Said) : Type 0 where
+  pub each : length saids ≡ n
+  pub listed : n ≤ length (faults_of c)
+  pub searched : (i : ℕ) → i < n → is_representative representatives i ≡ true → IsSearched c (said_at saids i)
+
+-- a budget, and what is said of the first n faults
+pub record IsSearchOf (c : Netlist) (representatives : List ℕ) (n budget : ℕ) (saids : List Said) : Type 0 where
+  pub budget_is : IsBudget budget
+  pub saids_are : AreSearched c representatives n saids
+
+-- ---- lines
+
+-- The lines are the report of a search with this budget that says this of each fault.
+pub record IsSearchReport (c : Netlist) (representatives : List ℕ) (lines : List (List ℕ)) (budget : ℕ)
+    (saids : List Said) : Type 0 where
+  pub search : IsSearchOf c representatives (length (faults_of c)) budget saids
+  pub lines_are : lines ≡ report_lines c representatives (Some budget) saids
+
+-- Some report of a search begins with these lines.
+pub record IsReportFront (c : Netlist) (representatives : List ℕ) (lines : List (List ℕ)) : Type 0 where
+  pub budget : ℕ
+  pub saids : List Said
+  pub more : List (List ℕ)
+  pub report : IsSearchReport c representatives (lines ++ more) budget saids
+
+-- ---- texts
+
+-- The lines of the text are the report, and the text is no longer than a text may be.
+pub record IsReportText (c : Netlist) (representatives : List ℕ) (text : List ℕ) (budget : ℕ) (saids : List Said)
+    : Type 0 where
+  pub report : IsSearchReport c representatives (lines_of text) budget saids
+  pub short : length text ≤ max_text_bytes
+
+-- line n is there, and no report has it after the lines before it
+pub record IsNoReportLine (c : Netlist) (representatives : List ℕ) (text : List ℕ) (n : ℕ) : Type 0 where
+  pub counted : (0 < n) × (n ≤ length (lines_of text))
+  pub none : ¬ IsReportFront c representatives (take n (lines_of text))
+
+-- the text ends before line n, though no report ends there
+pub record EndsTooEarly (c : Netlist) (representatives : List ℕ) (text : List ℕ) (n : ℕ) : Type 0 where
+  pub line : n ≡ length (lines_of text) + 1
+  pub none : (budget : ℕ) (saids : List Said) → ¬ IsSearchReport c representatives (lines_of text) budget saids
+
+-- line n is none of a report, or isn't there though it should be, or the text gets too long in it
+abbrev pub IsWrongReportLine : Netlist → List ℕ → List ℕ → ℕ → Type 0
+IsWrongReportLine c representatives text n =
+    IsNoReportLine c representatives text n ⊎ (EndsTooEarly c representatives text n ⊎ IsTooLong text n)
+
+-- The text is no report of a search of the circuit, and line n, from 1, is the first that shows it.
+pub record IsMalformedReport (c : Netlist) (representatives : List ℕ) (text : List ℕ) (n : ℕ) : Type 0 where
+  pub wrong : IsWrongReportLine c representatives text n
+  pub first : (m : ℕ) → m < n → ¬ IsWrongReportLine c representatives text m

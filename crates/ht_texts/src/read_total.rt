@@ -1,0 +1,38 @@
+//! The total line of a report, read.
+ghost use Rattle.std.specs.Prelude.{◌≡◌, ◌↔◌, IsTrue};
+ghost use Rattle.ht_texts.specs.Fronts.{Strips};
+ghost use Rattle.ht_texts.specs.Reports.{search_text, total_line};
+
+use crate::strip::strip_counted;
+use crate::total::Sums;
+
+// Whether this is the total line with these sums.
+pub fn is_total(line: &[u8], sums: Sums) -> bool
+    ensures { IsTrue result ↔ (line.now ≡ total_line sums) }
+{
+    let Some(rest) = strip_total(Some(line), sums) else {
+        return false;
+    };
+    rest.is_empty()
+}
+
+// What follows the total line.
+fn strip_total(text: Option<&[u8]>, sums: Sums) -> Option<&[u8]>
+    ensures { Strips (total_line sums) text.entry result }
+{
+    let rest = strip_counted(text, b"total ", sums.classes);
+    let rest = strip_counted(rest, b" detected ", sums.detected);
+    if sums.search {
+        strip_search(rest, sums)
+    } else {
+        rest
+    }
+}
+
+// What follows the sums that only a search counts.
+fn strip_search(text: Option<&[u8]>, sums: Sums) -> Option<&[u8]>
+    ensures { Strips (search_text sums) text.entry result }
+{
+    let rest = strip_counted(text, b" untestable ", sums.untestable);
+    strip_counted(rest, b" aborted ", sums.aborted)
+}
