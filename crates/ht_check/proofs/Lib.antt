@@ -8,3 +8,5 @@ pub mod WantedLaws
 pub mod StatusLaws
 pub mod CubeLaws
 pub mod ToldLaws
+pub mod VectorRunLaws
+pub mod AttemptLaws

@@ -6,3 +6,4 @@ pub mod FrameSetsOf
 pub mod WantedLatches
 pub mod FreshWindowOf
 pub mod SweepWalks
+pub mod SearchEnds

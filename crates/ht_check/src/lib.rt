@@ -7,13 +7,16 @@
 //! frames from all-unknown or from a pair of states, and back from a cube.
 //!
 //! Modules: `entries` (which entries pass), `told_chains` and `told_frames` (frames that are told), `abort_records` (the
-//! walk after them), `sweeps` (the walks of a sweep), `walks` (a walk token by token), `spent_walks` (walks that spent a
-//! budget), `judged` (what a window answers), `fresh_window` (a window of any kind), `fresh_start` (its first latches),
-//! `frame_sets` (one frame over sets), `decisions` (what a path decides), `differences` (what places show), `cube` (what
-//! next states make of a cube).
+//! walk after them), `aims` (how the attempt at the first of them ended), `attempts` (lists that fail together),
+//! `told_states` (what a told frame gives), `vector_runs` (machines over lists), `sweeps` (the walks of a sweep), `walks`
+//! (a walk token by token), `spent_walks` (walks that spent a budget), `judged` (what a window answers), `fresh_window`
+//! (a window of any kind), `fresh_start` (its first latches), `frame_sets` (one frame over sets), `decisions` (what a
+//! path decides), `differences` (what places show), `cube` (what next states make of a cube).
 #![tactic(auto)]
 
 mod abort_records;
+mod aims;
+mod attempts;
 mod cube;
 mod decisions;
 mod differences;
@@ -26,6 +29,8 @@ mod spent_walks;
 mod sweeps;
 mod told_chains;
 mod told_frames;
+mod told_states;
+mod vector_runs;
 mod walks;
 
 pub use entries::entry;
