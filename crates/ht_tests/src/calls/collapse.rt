@@ -1,10 +1,10 @@
 //! Tests of ht_collapse: classes of s27 (ISCAS-89) and of small circuits, by hand. Faults are numbered from 1, as in a
 //! report.
-use super::samples::SHIFT_REGISTER;
 use ht_bench::read;
 use ht_collapse::{Classes, collapse};
 use ht_faults::list;
 use ht_net::Circuit;
+use ht_samples::{S27, SHIFT_REGISTER};
 use std::alloc::{AllocError, Global};
 use std::test::Fail;
 
@@ -33,12 +33,6 @@ fn are_classes(
     let counted = (classes.len(), classes.representatives().len());
     Ok(counted == counts && have(&classes, members))
 }
-
-const S27: &[u8] = b"INPUT(G0)\nINPUT(G1)\nINPUT(G2)\nINPUT(G3)\nOUTPUT(G17)
-G5 = DFF(G10)\nG6 = DFF(G11)\nG7 = DFF(G13)
-G14 = NOT(G0)\nG17 = NOT(G11)\nG8 = AND(G14, G6)\nG15 = OR(G12, G8)\nG16 = OR(G3, G8)
-G9 = NAND(G16, G15)\nG10 = NOR(G14, G11)\nG11 = NOR(G5, G9)\nG12 = NOR(G1, G7)\nG13 = NOR(G2, G12)
-";
 
 const S27_MEMBERS: [(u32, u32); 20] = [
     (14, 4),

@@ -3,12 +3,12 @@ ghost use Rattle.std.specs.Prelude.{◌≡◌, ◌≤◌, ◌^◌, [], length, O
 ghost use Rattle.ht_faults.specs.Sites.{faults_of};
 ghost use Rattle.ht_collapse.specs.Classes.{AreClasses};
 
-use super::samples::{SHIFT_REGISTER, SHIFT_REGISTER_REPORT};
 use ht_bench::read;
 use ht_collapse::{Classes, collapse};
 use ht_faults::{FaultList, list};
 use ht_grade::first_detections;
 use ht_net::{Circuit, Vectors};
+use ht_samples::{SHIFT_REGISTER, SHIFT_REGISTER_REPORT};
 use ht_texts::{Sums, saids_of, write_body, write_total};
 use std::alloc::{AllocError, Global};
 use std::test::Fail;

@@ -1,10 +1,10 @@
 //! Tests of ht_serial and of ht_frame: machines, and first detections by hand.
 ghost use Rattle.std.specs.Prelude.{◌≡◌};
 
-use super::samples::{SHIFT_REGISTER, TOGGLE};
 use ht_bench::read;
 use ht_frame::{MAX_GATE_PINS, settle};
 use ht_net::{Circuit, Fault, NetId, Place, Site, Vectors};
+use ht_samples::{SHIFT_REGISTER, TOGGLE};
 use ht_serial::{BoolMachine, GoodRun, Machine, first};
 use ht_tern::Tern::{self, One, Unk, Zero};
 use std::alloc::{AllocError, Global};

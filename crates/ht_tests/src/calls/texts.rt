@@ -5,6 +5,7 @@ use ht_bench::read;
 use ht_collapse::collapse;
 use ht_faults::list;
 use ht_net::{Circuit, Place};
+use ht_samples::ALWAYS_ZERO;
 use ht_texts::{Said, Sums, read_vector, write_fault, write_head, write_total, write_vector};
 use std::alloc::{AllocError, Global};
 use std::test::Fail;
@@ -32,8 +33,6 @@ fn a_vector_is_written_as_its_line(rt: HostRuntime) -> Result<(), Fail> {
     assert!(rt; write_vector(rt.alloc(), &[true, false])?.as_slice() == wanted);
     Ok(())
 }
-
-const CONSTANT: &[u8] = b"INPUT(a)\nOUTPUT(z)\nn = NOT(a)\nz = AND(a, n)\n";
 
 // What is said of fault `i` of this circuit, from 0, after the vectors 1 and 0.
 fn said(circuit: &Circuit, i: u32) -> Said
@@ -70,7 +69,7 @@ fn is_line(alloc: Global, circuit: &Circuit, i: u32, wanted: &[u8]) -> Result<bo
 // A gate whose output can't be 1: half of its classes are untestable. What is said of a member has no effect.
 #[test]
 fn lines_of_faults(rt: HostRuntime) -> Result<(), Fail> {
-    let circuit = read(rt.alloc(), CONSTANT)?;
+    let circuit = read(rt.alloc(), ALWAYS_ZERO)?;
     let table: [(u32, &[u8]); 6] = [
         (0, b"1 a s-a-0 untestable\n"),
         (3, b"4 n s-a-1 detected 1 z\n"),
@@ -97,7 +96,7 @@ const SEARCHED: &[u8] =
 
 #[test]
 fn head_of_a_search(rt: HostRuntime) -> Result<(), Fail> {
-    let circuit = read(rt.alloc(), CONSTANT)?;
+    let circuit = read(rt.alloc(), ALWAYS_ZERO)?;
     assert!(rt; head(rt.alloc(), &circuit, Some(1000))?.as_slice() == SEARCHED);
     Ok(())
 }

@@ -1,8 +1,8 @@
 //! Faults of the desk.
 
 use super::cases::{NORM, SIM, Setup, both_hold, holds, refused};
-use crate::calls::samples::SHIFT_REGISTER;
 use ht_ports::{Fail as Plan, InPort, OutPort};
+use ht_samples::SHIFT_REGISTER;
 use std::test::Fail;
 
 const VECTORS: &[u8] = b"1\n0\n0\n";

@@ -3,9 +3,9 @@
 
 use super::cases::{SIM, Setup, load, words_of};
 use super::mute::MuteDesk;
-use crate::calls::samples::{SHIFT_REGISTER, SHIFT_REGISTER_REPORT};
 use ht_app::run;
 use ht_ports::MemoryDesk;
+use ht_samples::{SHIFT_REGISTER, SHIFT_REGISTER_REPORT};
 use std::alloc::{AllocError, Global};
 use std::test::Fail;
 

@@ -2,9 +2,9 @@
 ghost use Rattle.ht_ports.specs.Memory.{memory_view};
 
 use super::cases::{NORM, SIM, Setup, load, words_of};
-use crate::calls::samples::{SHIFT_REGISTER, SHIFT_REGISTER_REPORT};
 use ht_app::run;
 use ht_ports::{Desk, Fail as Plan, Failed, InPort, MemoryDesk, OutPort};
+use ht_samples::{SHIFT_REGISTER, SHIFT_REGISTER_REPORT};
 use std::alloc::{AllocError, Global};
 use std::test::Fail;
 

@@ -1,7 +1,7 @@
 //! `norm` finishes.
 
 use super::cases::{NORM, finished, given, holds};
-use crate::calls::samples::SHIFT_REGISTER;
+use ht_samples::SHIFT_REGISTER;
 use std::test::Fail;
 
 /// Spaces, tabs, letter case, CR LF, a comment, and an output that is named twice.

@@ -1,7 +1,7 @@
 //! Inputs that are refused.
 
 use super::cases::{SIM, both_hold, given, holds, refused};
-use crate::calls::samples::{S27, SHIFT_REGISTER};
+use ht_samples::{S27, SHIFT_REGISTER};
 use std::alloc::{AllocError, Global};
 use std::test::Fail;
 

@@ -1,7 +1,7 @@
 //! `sim` finishes.
 
 use super::cases::{SIM, finished, given, holds};
-use crate::calls::samples::{S27, SHIFT_REGISTER, SHIFT_REGISTER_REPORT};
+use ht_samples::{S27, SHIFT_REGISTER, SHIFT_REGISTER_REPORT};
 use std::alloc::{AllocError, Global};
 use std::test::Fail;
 

@@ -1,7 +1,7 @@
 //! Words that have no command's form.
 
 use super::cases::{given, holds, refused};
-use crate::calls::samples::SHIFT_REGISTER;
+use ht_samples::SHIFT_REGISTER;
 use std::test::Fail;
 
 const USAGE: &[u8] = b"usage: sim NETLIST TESTS REPORT, norm NETLIST OUT\n";

@@ -1,0 +1,11 @@
+//! The tests, crate by crate; `small` reads their circuits.
+
+mod check;
+mod forward;
+mod justify;
+mod oneframe;
+mod small;
+mod trail;
+mod tree;
+mod walks;
+mod window;

@@ -1,0 +1,152 @@
+//! Tests of ht_forward: walks and lists of small circuits, worked by hand.
+use super::small::{Ended, circuit_of, is_list, pair_state, stuck_at_0};
+use ht_forward::{Ahead, Swept, propagate, sweep};
+use ht_items::Items;
+use ht_net::Circuit;
+use ht_samples::{SHIFT_REGISTER, TOGGLE, TWINS};
+use ht_tern::Tern::{self, One, Unk, Zero};
+use ht_tree::{MAX_BUDGET, Token};
+use ht_window::PairState;
+use std::alloc::{AllocError, Global};
+use std::test::Fail;
+
+/// The output is 1 where the input changes.
+const CHANGE: &[u8] = b"INPUT(a)\nOUTPUT(z)\np = DFF(a)\nz = XOR(p, a)\n";
+
+/// How a sweep ends: with a list that has these bits at the one input, or with its walks of so many tokens each.
+#[derive(Clone, Copy)]
+enum SweepEnd {
+    Found(&'static [bool]),
+    Spent(&'static [usize]),
+}
+
+/// A circuit, the net that is stuck at 0 and a budget, and how the sweep ends.
+type SweepRow = (&'static [u8], u32, u64, SweepEnd);
+
+const SWEEPS: [SweepRow; 5] = [
+    // the 1 of the first vector comes out two frames later: a decision of three frames weighs 3
+    (SHIFT_REGISTER, 0, 6, SweepEnd::Found(&[true, false, false])),
+    (SHIFT_REGISTER, 0, 5, SweepEnd::Spent(&[1, 1, 0])),
+    // each length is dead at its root, and 1 + 2 + 3 + 4 is the budget
+    (TOGGLE, 1, 10, SweepEnd::Spent(&[1, 1, 1, 1, 0])),
+    // one frame weighs 1, and two tokens of two frames weigh 4; a third one would come to 7
+    (CHANGE, 0, 6, SweepEnd::Spent(&[1, 2])),
+    // each length asks for every vector; the first six weigh 621, and 54 tokens of seven frames 378
+    (TWINS, 1, 1000, SweepEnd::Spent(&[1, 3, 7, 15, 31, 63, 54])),
+];
+
+fn have_lengths(walks: &[Items<Token>], lengths: &[usize]) -> bool {
+    if walks.len() != lengths.len() {
+        return false;
+    }
+    for k in 0..lengths.len() {
+        if walks[k].as_slice().len() != lengths[k] {
+            return false;
+        }
+    }
+    true
+}
+
+fn is_swept(swept: &Swept, want: SweepEnd) -> bool {
+    match (swept, want) {
+        (Swept::Found { list }, SweepEnd::Found(bits)) => is_list(list, bits),
+        (Swept::Spent { walks }, SweepEnd::Spent(lengths)) => {
+            have_lengths(walks.as_slice(), lengths)
+        },
+        _ => false,
+    }
+}
+
+fn sweeps(
+    alloc: Global,
+    circuit: &Circuit,
+    net: u32,
+    budget: u64,
+    want: SweepEnd,
+) -> Result<bool, AllocError> {
+    if budget > MAX_BUDGET {
+        return Ok(false);
+    }
+    let swept = sweep(alloc, circuit, stuck_at_0(net), budget)?;
+    Ok(is_swept(&swept, want))
+}
+
+fn sweeps_as_said(alloc: Global, row: SweepRow) -> Result<bool, Fail> {
+    let (text, net, budget, want) = row;
+    let circuit = circuit_of(alloc, text)?;
+    Ok(sweeps(alloc, &circuit, net, budget, want)?)
+}
+
+#[test]
+fn sweeps_go_on_until_a_list_or_the_budget(rt: HostRuntime) -> Result<(), Fail> {
+    for row in SWEEPS {
+        assert!(rt; sweeps_as_said(rt.alloc(), row)?);
+    }
+    Ok(())
+}
+
+/// A circuit, the net that is stuck at 0, the good and the faulty state and a budget, and how the propagation ends.
+type AheadRow = (
+    &'static [u8],
+    u32,
+    &'static [Tern],
+    &'static [Tern],
+    u64,
+    Ended,
+);
+
+const AHEAD: [AheadRow; 3] = [
+    // q is 1 in the good machine and 0 in the faulty one, and comes to r in the second frame
+    (
+        SHIFT_REGISTER,
+        0,
+        &[One, Unk],
+        &[Zero, Unk],
+        3,
+        Ended::Found(&[false, false]),
+    ),
+    // the good toggle stays unknown, and the faulty one is 0 from the second frame on: 16 frames weigh 16
+    (TOGGLE, 1, &[Unk], &[Unk], 16, Ended::Closed(&[Token::Dead])),
+    (TOGGLE, 1, &[Unk], &[Unk], 15, Ended::Spent(&[])),
+];
+
+fn is_ahead(ahead: &Ahead, want: Ended) -> bool {
+    match (ahead, want) {
+        (Ahead::Found { list }, Ended::Found(bits)) => is_list(list, bits),
+        (Ahead::Closed { tokens }, Ended::Closed(walk)) => tokens.as_slice() == walk,
+        (Ahead::Spent { tokens }, Ended::Spent(walk)) => tokens.as_slice() == walk,
+        _ => false,
+    }
+}
+
+/// Whether the propagation from a pair of states ends so.
+fn leads(
+    alloc: Global,
+    circuit: &Circuit,
+    net: u32,
+    state: &PairState,
+    budget: u64,
+    want: Ended,
+) -> Result<bool, AllocError> {
+    let dffs = circuit.dffs() as usize;
+    if state.good.as_slice().len() != dffs || state.bad.as_slice().len() != dffs {
+        return Ok(false);
+    }
+    let ahead = propagate(alloc, circuit, stuck_at_0(net), state, budget)?;
+    Ok(is_ahead(&ahead, want))
+}
+
+fn leads_as_said(alloc: Global, row: AheadRow) -> Result<bool, Fail> {
+    let (text, net, good, bad, budget, want) = row;
+    let state = pair_state(alloc, good, bad)?;
+    let circuit = circuit_of(alloc, text)?;
+    Ok(leads(alloc, &circuit, net, &state, budget, want)?)
+}
+
+#[test]
+fn differences_are_followed_for_16_frames(rt: HostRuntime) -> Result<(), Fail> {
+    for row in AHEAD {
+        assert!(rt; leads_as_said(rt.alloc(), row)?);
+    }
+    Ok(())
+}

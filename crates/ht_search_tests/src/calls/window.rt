@@ -1,0 +1,301 @@
+//! Tests of ht_window: the shift register and the toggle in each kind of window.
+//!
+//! In the shift register net 0 is a, net 1 is q and net 2 is r. Variable 0 is a, and those of later frames follow; in a
+//! set 1 and 2 are the good halves of q and r, and 3 and 4 their faulty halves. In the toggle net 0 and variable 0 are q,
+//! and net 1 is n.
+use super::small::{pair_state, stuck_at_0};
+use ht_bench::read;
+use ht_items::Items;
+use ht_net::{Circuit, Fault, NetId, Site};
+use ht_samples::{SHIFT_REGISTER, TOGGLE};
+use ht_tern::Tern::{self, One, Unk, Zero};
+use ht_tree::Status::{self, Dead, Open};
+use ht_tree::{Choice, Spot};
+use ht_window::{MAX_FRAMES, PairState, Start, Window};
+use std::alloc::{AllocError, Global};
+use std::test::Fail;
+
+/// Where a window starts. Its lists have an entry for each flip-flop.
+#[derive(Clone, Copy)]
+enum From {
+    /// One frame, with this net at 0, from states that may differ at the marked flip-flops.
+    Set(u32, &'static [bool]),
+    /// So many frames, with this line at 0, from all-unknown.
+    Unknown(u32, Site),
+    /// So many frames, with this net at 0, from a state of each machine.
+    States(u32, u32, &'static [Tern], &'static [Tern]),
+    /// Back from a cube, which at most so many frames may lead to.
+    Cube(u32, &'static [Tern]),
+}
+
+/// A window, the values of the variables that it chooses, the last of its choices, and its status then.
+type Row = (From, &'static [bool], Option<Choice>, Status);
+
+const A: Site = Site::Stem(NetId(0));
+
+const TWO_0: Option<Choice> = Some(Choice::Two {
+    var: 0,
+    first: true,
+});
+
+const TWO_1: Option<Choice> = Some(Choice::Two {
+    var: 1,
+    first: true,
+});
+
+const TWO_3: Option<Choice> = Some(Choice::Two {
+    var: 3,
+    first: true,
+});
+
+const TWO_4: Option<Choice> = Some(Choice::Two {
+    var: 4,
+    first: true,
+});
+
+const THREE_1: Option<Choice> = Some(Choice::Three { var: 1 });
+
+const STATE_0: Status = Status::Sure {
+    frame: 0,
+    place: Spot::State(0),
+};
+
+const STATE_1: Status = Status::Sure {
+    frame: 0,
+    place: Spot::State(1),
+};
+
+const OUTPUT_0: Status = Status::Sure {
+    frame: 0,
+    place: Spot::Output(0),
+};
+
+const OUTPUT_1: Status = Status::Sure {
+    frame: 1,
+    place: Spot::Output(0),
+};
+
+const OUTPUT_2: Status = Status::Sure {
+    frame: 2,
+    place: Spot::Output(0),
+};
+
+const OUTPUT_3: Status = Status::Sure {
+    frame: 3,
+    place: Spot::Output(0),
+};
+
+const CUBE: Status = Status::Sure {
+    frame: 0,
+    place: Spot::Cube,
+};
+
+const SHIFTED: [Row; 23] = [
+    // the next state of q is a place unless q is in the set, and then that of r is; r alone is an output
+    (From::Set(0, &[false, false]), &[], None, Open),
+    (From::Set(0, &[false, false]), &[true], TWO_0, STATE_0),
+    (From::Set(0, &[false, false]), &[false], TWO_0, Dead),
+    (From::Set(0, &[true, false]), &[true], TWO_1, Open),
+    (From::Set(0, &[true, false]), &[true, false], TWO_3, STATE_1),
+    (From::Set(0, &[true, false]), &[true, true], TWO_3, Dead),
+    (From::Set(0, &[true, true]), &[true, false], TWO_4, OUTPUT_0),
+    // a 1 comes out two frames later, also where the data pin of q is stuck and a isn't
+    (From::Unknown(2, A), &[], None, Dead),
+    (From::Unknown(3, A), &[true], TWO_0, OUTPUT_2),
+    (From::Unknown(3, A), &[false], TWO_0, Dead),
+    (From::Unknown(4, A), &[false, true], TWO_1, OUTPUT_3),
+    (
+        From::Unknown(3, Site::DffPin { dff: 0 }),
+        &[true],
+        TWO_0,
+        OUTPUT_2,
+    ),
+    // the first place where the states show is the one that is told
+    (
+        From::States(1, 0, &[One, Zero], &[Zero, Zero]),
+        &[],
+        None,
+        Dead,
+    ),
+    (
+        From::States(2, 0, &[One, Zero], &[Zero, Zero]),
+        &[],
+        None,
+        OUTPUT_1,
+    ),
+    (
+        From::States(2, 0, &[One, One], &[Zero, Zero]),
+        &[],
+        None,
+        OUTPUT_0,
+    ),
+    (
+        From::States(3, 0, &[Zero, Zero], &[Zero, Zero]),
+        &[true],
+        TWO_0,
+        OUTPUT_2,
+    ),
+    // a cube that wants nothing is met at the root, and one that wants something isn't without a frame; an input has two
+    // values and a latch three
+    (From::Cube(0, &[Unk, Unk]), &[], None, CUBE),
+    (From::Cube(0, &[One, Unk]), &[], None, Dead),
+    (From::Cube(1, &[One, Unk]), &[], None, Open),
+    (From::Cube(1, &[One, Unk]), &[true], TWO_0, CUBE),
+    (From::Cube(1, &[One, Unk]), &[false], TWO_0, Dead),
+    (From::Cube(1, &[Unk, Zero]), &[false], THREE_1, CUBE),
+    (From::Cube(1, &[Unk, Zero]), &[true], THREE_1, Dead),
+];
+
+const ZERO_FIRST: Option<Choice> = Some(Choice::Two {
+    var: 0,
+    first: false,
+});
+
+const THREE_0: Option<Choice> = Some(Choice::Three { var: 0 });
+
+const TOGGLED: [Row; 7] = [
+    // the next state of q is 1 in the good machine where q is 0, and 0 in the faulty one
+    (From::Set(1, &[false]), &[false], ZERO_FIRST, STATE_0),
+    (From::Set(1, &[false]), &[true], ZERO_FIRST, Dead),
+    // the good machine never leaves X
+    (From::Unknown(3, Site::Stem(NetId(1))), &[], None, Dead),
+    // from 0 the good machine turns to 1 after a frame, and the faulty one stays
+    (From::States(1, 1, &[Zero], &[Zero]), &[], None, Dead),
+    (From::States(2, 1, &[Zero], &[Zero]), &[], None, OUTPUT_1),
+    // for a 1 after the frame q is 0 before it
+    (From::Cube(1, &[One]), &[false], THREE_0, CUBE),
+    (From::Cube(1, &[One]), &[true], THREE_0, Dead),
+];
+
+/// Decides the variable that the window chooses, where its status is open, and says which one it was.
+fn go_on(window: &mut Window<'_>, value: bool) -> Result<Option<Choice>, AllocError> {
+    match window.status() {
+        Open => {
+            let choice = window.pick();
+            match choice {
+                Choice::Two { var, .. } => window.decide(var, Tern::from(value))?,
+                Choice::Three { var } => window.decide(var, Tern::from(value))?,
+            }
+            Ok(Some(choice))
+        }
+        Dead | Status::Sure { .. } => Ok(None),
+    }
+}
+
+/// The last choice of a window once the variables that it chooses have these values, and its status then.
+type Shown = (Option<Choice>, Status);
+
+fn led(window: &mut Window<'_>, values: &[bool]) -> Result<Option<Shown>, AllocError> {
+    let mut choice = None;
+    for value in values {
+        choice = go_on(window, *value)?;
+    }
+    Ok(Some((choice, window.status())))
+}
+
+fn set_shows(
+    alloc: Global,
+    circuit: &Circuit,
+    fault: Fault,
+    marks: &[bool],
+    values: &[bool],
+) -> Result<Option<Shown>, AllocError> {
+    let start = Start::OneFrame {
+        z: Items::from_slice(alloc, marks)?,
+    };
+    let mut window = Window::new(alloc, circuit, Some(fault), 1, &start)?;
+    led(&mut window, values)
+}
+
+fn unknown_shows(
+    alloc: Global,
+    circuit: &Circuit,
+    fault: Fault,
+    frames: u32,
+    values: &[bool],
+) -> Result<Option<Shown>, AllocError> {
+    if frames == 0 || frames > MAX_FRAMES {
+        return Ok(None);
+    }
+    let mut window = Window::new(alloc, circuit, Some(fault), frames, &Start::Unknown)?;
+    led(&mut window, values)
+}
+
+fn states_show(
+    alloc: Global,
+    circuit: &Circuit,
+    fault: Fault,
+    frames: u32,
+    state: PairState,
+    values: &[bool],
+) -> Result<Option<Shown>, AllocError> {
+    let dffs = circuit.dffs() as usize;
+    let (good, bad) = (state.good.as_slice().len(), state.bad.as_slice().len());
+    if frames == 0 || frames > MAX_FRAMES || good != dffs || bad != dffs {
+        return Ok(None);
+    }
+    let start = Start::Pair { state };
+    let mut window = Window::new(alloc, circuit, Some(fault), frames, &start)?;
+    led(&mut window, values)
+}
+
+fn cube_shows(
+    alloc: Global,
+    circuit: &Circuit,
+    limit: u32,
+    cube: &[Tern],
+    values: &[bool],
+) -> Result<Option<Shown>, AllocError> {
+    if cube.len() != circuit.dffs() as usize {
+        return Ok(None);
+    }
+    let start = Start::Back {
+        cube: Items::from_slice(alloc, cube)?,
+        limit,
+    };
+    let mut window = Window::new(alloc, circuit, None, 1, &start)?;
+    led(&mut window, values)
+}
+
+fn shown(
+    alloc: Global,
+    circuit: &Circuit,
+    from: From,
+    values: &[bool],
+) -> Result<Option<Shown>, AllocError> {
+    match from {
+        From::Set(net, marks) => set_shows(alloc, circuit, stuck_at_0(net), marks, values),
+        From::Unknown(frames, site) => {
+            let fault = Fault { site, value: false };
+            unknown_shows(alloc, circuit, fault, frames, values)
+        }
+        From::States(frames, net, good, bad) => {
+            let state = pair_state(alloc, good, bad)?;
+            states_show(alloc, circuit, stuck_at_0(net), frames, state, values)
+        }
+        From::Cube(limit, cube) => cube_shows(alloc, circuit, limit, cube, values),
+    }
+}
+
+fn is_as_said(alloc: Global, circuit: &Circuit, row: Row) -> Result<bool, AllocError> {
+    let (from, values, choice, status) = row;
+    Ok(shown(alloc, circuit, from, values)? == Some((choice, status)))
+}
+
+#[test]
+fn windows_of_the_shift_register(rt: HostRuntime) -> Result<(), Fail> {
+    let circuit = read(rt.alloc(), SHIFT_REGISTER)?;
+    for row in SHIFTED {
+        assert!(&rt; is_as_said(rt.alloc(), &circuit, row)?);
+    }
+    Ok(())
+}
+
+#[test]
+fn windows_of_the_toggle(rt: HostRuntime) -> Result<(), Fail> {
+    let circuit = read(rt.alloc(), TOGGLE)?;
+    for row in TOGGLED {
+        assert!(&rt; is_as_said(rt.alloc(), &circuit, row)?);
+    }
+    Ok(())
+}
