@@ -1,23 +1,36 @@
 //! Entries that pass.
-ghost use Rattle.std.specs.Prelude.{◌<◌, ◌↔◌, ℕ, length, get_or, IfOk, IsTrue};
-ghost use Rattle.ht_tree.specs.Rising.{Rises};
+ghost use Rattle.std.specs.Prelude.{◌<◌, ◌≤◌, ◌↔◌, ℕ, length, get_or, IfOk, IsTrue};
+ghost use Rattle.ht_tree.specs.declared.budget.TheConstants.{MAX_BUDGET};
+ghost use Rattle.ht_tree.specs.AbortRecords.{IsFirstAim, IsLastWalk};
 ghost use Rattle.ht_tree.specs.Entries.{Means, Passes};
-ghost use Rattle.ht_tree.specs.Refutations.{IsUntestable, Refutes};
+ghost use Rattle.ht_tree.specs.Refutations.{Refutes};
+ghost use Rattle.ht_tree.specs.Rising.{Rises};
+ghost use Rattle.ht_tree.specs.ToldChains.{IsToldChain};
 
+use crate::abort_records::is_last_walk;
+use crate::aims::is_first_aim;
 use crate::fresh_window::FreshWindow;
+use crate::sweeps::is_sweep_record;
+use crate::told_chains::is_told_chain;
 use crate::walks::is_complete;
+use ht_items::Items;
 use ht_net::{Circuit, Fault};
-use ht_tree::{Entry, Token};
+use ht_tree::{Aim, Entry, MAX_BUDGET, Token, Told};
 use std::alloc::{AllocError, Global};
 
-/// Whether an entry passes for a fault. An untestable entry passes where its flip-flops rise and are the circuit's, and
-/// its tokens are a complete walk of the one-frame window of the fault and these flip-flops; its walk may have any
-/// length, so the budget of the run plays no part.
+/// Whether an entry passes for a fault.
 ///
-/// Where an untestable entry passes, a difference can't leave the set, both machines give equal outputs from every
-/// common state, and no list of vectors detects the fault from all-unknown (`IsUntestable`). Flip-flops count from 0.
+/// An untestable entry passes where its flip-flops rise and are the circuit's, and its tokens are a complete walk of the
+/// one-frame window of the fault and these flip-flops; its walk may have any length, so the budget of the run plays no
+/// part. A difference then can't leave the set, both machines give equal outputs from every common state, and no list of
+/// vectors detects the fault from all-unknown (`IsUntestable`). Flip-flops count from 0.
 ///
-/// It evaluates a frame once for each token and keeps the longest path.
+/// An aborted entry passes where its frames are a told chain, and each of its searches closed or filled the budget: the
+/// walk after the chain, the aim at the first frame, and the sweep (`IsAbortRecord`). Then each set that seals the fault
+/// has the flip-flops that were told, and no list of fewer vectors than the sweep has walks detects it (`AbortMeans`).
+///
+/// It evaluates a frame once for each told frame, and the frames of a window once for each token, and keeps the longest
+/// path.
 ///
 /// # Errors
 /// Out of memory.
@@ -28,11 +41,13 @@ pub fn entry(
     budget: u64,
     entry: &Entry,
 ) -> Result<bool, AllocError>
+    requires budget { budget ≤ MAX_BUDGET }
     ensures exact { IfOk result
         (λ passes. IsTrue passes ↔ Passes circuit.now fault budget entry.now) }
     ensures sound { IfOk result (λ passes. IsTrue passes → Means circuit.now fault entry.now) }
 {
-    let _ = budget;
+    // for the proof: the circuit is well formed
+    let _ = circuit.nets();
     match entry {
         Entry::Untestable { z, tokens } => refutes(
             alloc,
@@ -41,9 +56,43 @@ pub fn entry(
             z.as_slice(),
             tokens.as_slice(),
         ),
-        // not judged yet
-        Entry::Aborted { told: _, walk: _, aim: _, sweep: _ } => Ok(false),
+        Entry::Aborted {
+            told,
+            walk,
+            aim,
+            sweep,
+        } => {
+            let told = told.as_slice();
+            if !follows_told(alloc, circuit, fault, budget, told, walk, aim)? {
+                return Ok(false);
+            }
+            is_sweep_record(alloc, circuit, fault, budget, sweep.as_slice())
+        },
     }
+}
+
+// Whether frames are a told chain, and the walk after them and the aim at the first are as the budget has them.
+fn follows_told(
+    alloc: Global,
+    circuit: &Circuit,
+    fault: Fault,
+    budget: u64,
+    told: &[Told],
+    walk: &Option<Items<Token>>,
+    aim: &Option<Aim>,
+) -> Result<bool, AllocError>
+    requires { budget ≤ MAX_BUDGET }
+    ensures { IfOk result (λ yes. IsTrue yes ↔ (IsToldChain circuit.now fault told.now
+        × IsLastWalk circuit.now fault budget told.now walk.now
+        × IsFirstAim circuit.now fault budget told.now aim.now)) }
+{
+    if !is_told_chain(alloc, circuit, fault, told)? {
+        return Ok(false);
+    }
+    if !is_last_walk(alloc, circuit, fault, budget, told, walk)? {
+        return Ok(false);
+    }
+    is_first_aim(alloc, circuit, fault, budget, told, aim)
 }
 
 // Whether a set of flip-flops and a walk refute a fault.
@@ -54,15 +103,12 @@ fn refutes(
     z: &[u32],
     tokens: &[Token],
 ) -> Result<bool, AllocError>
-    ensures exact { IfOk result
+    ensures { IfOk result
         (λ passes. IsTrue passes ↔ Refutes circuit.now fault z.now tokens.now) }
-    ensures sound { IfOk result (λ passes. IsTrue passes → IsUntestable circuit.now fault z.now) }
 {
     if !names_flip_flops(z, circuit.dffs()) {
         return Ok(false);
     }
-    // for the proof: the circuit is well formed
-    let _ = circuit.nets();
     let mut window = FreshWindow::one_frame(alloc, circuit, fault, z)?;
     is_complete(alloc, &mut window, tokens)
 }
