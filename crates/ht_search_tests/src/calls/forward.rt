@@ -23,7 +23,7 @@ enum SweepEnd {
 /// A circuit, the net that is stuck at 0 and a budget, and how the sweep ends.
 type SweepRow = (&'static [u8], u32, u64, SweepEnd);
 
-const SWEEPS: [SweepRow; 5] = [
+const SWEEPS: &[SweepRow] = &[
     // the 1 of the first vector comes out two frames later: a decision of three frames weighs 3
     (SHIFT_REGISTER, 0, 6, SweepEnd::Found(&[true, false, false])),
     (SHIFT_REGISTER, 0, 5, SweepEnd::Spent(&[1, 1, 0])),
@@ -80,7 +80,7 @@ fn sweeps_as_said(alloc: Global, row: SweepRow) -> Result<bool, Fail> {
 #[test]
 fn sweeps_go_on_until_a_list_or_the_budget(rt: HostRuntime) -> Result<(), Fail> {
     for row in SWEEPS {
-        assert!(rt; sweeps_as_said(rt.alloc(), row)?);
+        assert!(rt; sweeps_as_said(rt.alloc(), *row)?);
     }
     Ok(())
 }
@@ -95,7 +95,7 @@ type AheadRow = (
     Ended,
 );
 
-const AHEAD: [AheadRow; 3] = [
+const AHEAD: &[AheadRow] = &[
     // q is 1 in the good machine and 0 in the faulty one, and comes to r in the second frame
     (
         SHIFT_REGISTER,
@@ -124,29 +124,30 @@ fn leads(
     alloc: Global,
     circuit: &Circuit,
     net: u32,
-    state: &PairState,
+    states: (&[Tern], &[Tern]),
     budget: u64,
     want: Ended,
 ) -> Result<bool, AllocError> {
+    let (good, bad) = states;
     let dffs = circuit.dffs() as usize;
-    if state.good.as_slice().len() != dffs || state.bad.as_slice().len() != dffs {
+    if good.len() != dffs || bad.len() != dffs {
         return Ok(false);
     }
-    let ahead = propagate(alloc, circuit, stuck_at_0(net), state, budget)?;
+    let state = pair_state(alloc, good, bad)?;
+    let ahead = propagate(alloc, circuit, stuck_at_0(net), &state, budget)?;
     Ok(is_ahead(&ahead, want))
 }
 
 fn leads_as_said(alloc: Global, row: AheadRow) -> Result<bool, Fail> {
     let (text, net, good, bad, budget, want) = row;
-    let state = pair_state(alloc, good, bad)?;
     let circuit = circuit_of(alloc, text)?;
-    Ok(leads(alloc, &circuit, net, &state, budget, want)?)
+    Ok(leads(alloc, &circuit, net, (good, bad), budget, want)?)
 }
 
 #[test]
 fn differences_are_followed_for_16_frames(rt: HostRuntime) -> Result<(), Fail> {
     for row in AHEAD {
-        assert!(rt; leads_as_said(rt.alloc(), row)?);
+        assert!(rt; leads_as_said(rt.alloc(), *row)?);
     }
     Ok(())
 }

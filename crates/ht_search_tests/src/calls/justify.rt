@@ -23,7 +23,7 @@ const SPLIT: Token = Token::Two {
 /// A circuit, a cube and a budget, and how the search back ends.
 type Row = (&'static [u8], &'static [Tern], u64, Ended);
 
-const ROWS: [Row; 5] = [
+const ROWS: &[Row] = &[
     // to 1 leads the value 0 at once; to 0 it is dead, and the value 1 leads there
     (
         TOGGLE,
@@ -82,7 +82,7 @@ fn ends_as_said(alloc: Global, row: Row) -> Result<bool, Fail> {
 #[test]
 fn cubes_are_searched_back_within_32_vectors(rt: HostRuntime) -> Result<(), Fail> {
     for row in ROWS {
-        assert!(rt; ends_as_said(rt.alloc(), row)?);
+        assert!(rt; ends_as_said(rt.alloc(), *row)?);
     }
     Ok(())
 }

@@ -45,7 +45,7 @@ enum Answer {
 type Row = (&'static [u8], Site, bool, u64, Answer);
 
 // A difference that reaches r alone stays hidden there; at the data pin of q it reaches both flip-flops.
-const REFUTED: [Row; 6] = [
+const REFUTED: &[Row] = &[
     (
         ALWAYS_ZERO,
         Site::Stem(NetId(0)),
@@ -106,7 +106,7 @@ const TOGGLED: &[FrameRow] = &[
 
 const TOLD_AT_ONCE: &[FrameRow] = &[(Spot::Output(0), &[(1, true), (2, true), (3, false)])];
 
-const TOLD: [Row; 5] = [
+const TOLD: &[Row] = &[
     (
         SHIFT_REGISTER,
         Site::Stem(NetId(0)),
@@ -204,7 +204,7 @@ fn a_hidden_difference_is_refuted_with_the_flip_flops_that_it_reaches(
     rt: HostRuntime,
 ) -> Result<(), Fail> {
     for row in REFUTED {
-        assert!(rt; comes_out(rt.alloc(), row)?);
+        assert!(rt; comes_out(rt.alloc(), *row)?);
     }
     Ok(())
 }
@@ -214,7 +214,7 @@ fn a_difference_is_told_up_to_an_output_or_till_the_budget_is_spent(
     rt: HostRuntime,
 ) -> Result<(), Fail> {
     for row in TOLD {
-        assert!(rt; comes_out(rt.alloc(), row)?);
+        assert!(rt; comes_out(rt.alloc(), *row)?);
     }
     Ok(())
 }

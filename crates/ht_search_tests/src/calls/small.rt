@@ -1,4 +1,6 @@
 //! What tests of several searches ask: small circuits, and how a search ended.
+ghost use Rattle.std.specs.Prelude.{◌≡◌, IfOk};
+
 use ht_bench::read;
 use ht_items::Items;
 use ht_net::{Circuit, Fault, NetId, Site, Vectors};
@@ -46,7 +48,9 @@ pub fn is_list(list: &Vectors, bits: &[bool]) -> bool {
 }
 
 /// A state of the good machine and one of the faulty machine.
-pub fn pair_state(alloc: Global, good: &[Tern], bad: &[Tern]) -> Result<PairState, AllocError> {
+pub fn pair_state(alloc: Global, good: &[Tern], bad: &[Tern]) -> Result<PairState, AllocError>
+    ensures { IfOk result (λ state. (state.good ≡ good.now) × (state.bad ≡ bad.now)) }
+{
     Ok(PairState {
         good: Items::from_slice(alloc, good)?,
         bad: Items::from_slice(alloc, bad)?,

@@ -44,7 +44,7 @@ enum At {
 /// What a token weighs, tokens, and where the walk stands after them.
 type Row = (u64, &'static [Token], At);
 
-const ROWS: [Row; 10] = [
+const ROWS: &[Row] = &[
     // the first value is on top, and the other one below it
     (1, &[SPLIT], At::Node(&[ONE], 0)),
     (1, &[SPLIT, D], At::Node(&[ZERO], 0)),
@@ -91,7 +91,7 @@ fn leads_as_said(alloc: Global, row: Row) -> Result<bool, AllocError> {
 #[test]
 fn walks_go_from_node_to_node(rt: HostRuntime) -> Result<(), Fail> {
     for row in ROWS {
-        assert!(rt; leads_as_said(rt.alloc(), row)?);
+        assert!(rt; leads_as_said(rt.alloc(), *row)?);
     }
     Ok(())
 }

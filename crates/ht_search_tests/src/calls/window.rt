@@ -3,6 +3,10 @@
 //! In the shift register net 0 is a, net 1 is q and net 2 is r. Variable 0 is a, and those of later frames follow; in a
 //! set 1 and 2 are the good halves of q and r, and 3 and 4 their faulty halves. In the toggle net 0 and variable 0 are q,
 //! and net 1 is n.
+ghost use Rattle.std.specs.Prelude.{◌≤◌};
+ghost use Rattle.ht_tree.specs.Windows.{IsStart};
+ghost use Rattle.ht_window.specs.Starts.{start_of};
+
 use super::small::{pair_state, stuck_at_0};
 use ht_bench::read;
 use ht_items::Items;
@@ -90,7 +94,7 @@ const CUBE: Status = Status::Sure {
     place: Spot::Cube,
 };
 
-const SHIFTED: [Row; 23] = [
+const SHIFTED: &[Row] = &[
     // the next state of q is a place unless q is in the set, and then that of r is; r alone is an output
     (From::Set(0, &[false, false]), &[], None, Open),
     (From::Set(0, &[false, false]), &[true], TWO_0, STATE_0),
@@ -153,7 +157,7 @@ const ZERO_FIRST: Option<Choice> = Some(Choice::Two {
 
 const THREE_0: Option<Choice> = Some(Choice::Three { var: 0 });
 
-const TOGGLED: [Row; 7] = [
+const TOGGLED: &[Row] = &[
     // the next state of q is 1 in the good machine where q is 0, and 0 in the faulty one
     (From::Set(1, &[false]), &[false], ZERO_FIRST, STATE_0),
     (From::Set(1, &[false]), &[true], ZERO_FIRST, Dead),
@@ -193,6 +197,21 @@ fn led(window: &mut Window<'_>, values: &[bool]) -> Result<Option<Shown>, AllocE
     Ok(Some((choice, window.status())))
 }
 
+fn shows(
+    alloc: Global,
+    circuit: &Circuit,
+    fault: Option<Fault>,
+    frames: u32,
+    start: &Start,
+    values: &[bool],
+) -> Result<Option<Shown>, AllocError>
+    requires frames { frames ≤ MAX_FRAMES }
+    requires start { IsStart circuit.now fault frames (start_of start.now) }
+{
+    let mut window = Window::new(alloc, circuit, fault, frames, start)?;
+    led(&mut window, values)
+}
+
 fn set_shows(
     alloc: Global,
     circuit: &Circuit,
@@ -203,8 +222,7 @@ fn set_shows(
     let start = Start::OneFrame {
         z: Items::from_slice(alloc, marks)?,
     };
-    let mut window = Window::new(alloc, circuit, Some(fault), 1, &start)?;
-    led(&mut window, values)
+    shows(alloc, circuit, Some(fault), 1, &start, values)
 }
 
 fn unknown_shows(
@@ -217,8 +235,7 @@ fn unknown_shows(
     if frames == 0 || frames > MAX_FRAMES {
         return Ok(None);
     }
-    let mut window = Window::new(alloc, circuit, Some(fault), frames, &Start::Unknown)?;
-    led(&mut window, values)
+    shows(alloc, circuit, Some(fault), frames, &Start::Unknown, values)
 }
 
 fn states_show(
@@ -226,17 +243,18 @@ fn states_show(
     circuit: &Circuit,
     fault: Fault,
     frames: u32,
-    state: PairState,
+    states: (&[Tern], &[Tern]),
     values: &[bool],
 ) -> Result<Option<Shown>, AllocError> {
+    let (good, bad) = states;
     let dffs = circuit.dffs() as usize;
-    let (good, bad) = (state.good.as_slice().len(), state.bad.as_slice().len());
-    if frames == 0 || frames > MAX_FRAMES || good != dffs || bad != dffs {
+    if frames == 0 || frames > MAX_FRAMES || good.len() != dffs || bad.len() != dffs {
         return Ok(None);
     }
-    let start = Start::Pair { state };
-    let mut window = Window::new(alloc, circuit, Some(fault), frames, &start)?;
-    led(&mut window, values)
+    let start = Start::Pair {
+        state: pair_state(alloc, good, bad)?,
+    };
+    shows(alloc, circuit, Some(fault), frames, &start, values)
 }
 
 fn cube_shows(
@@ -253,8 +271,7 @@ fn cube_shows(
         cube: Items::from_slice(alloc, cube)?,
         limit,
     };
-    let mut window = Window::new(alloc, circuit, None, 1, &start)?;
-    led(&mut window, values)
+    shows(alloc, circuit, None, 1, &start, values)
 }
 
 fn shown(
@@ -270,8 +287,7 @@ fn shown(
             unknown_shows(alloc, circuit, fault, frames, values)
         }
         From::States(frames, net, good, bad) => {
-            let state = pair_state(alloc, good, bad)?;
-            states_show(alloc, circuit, stuck_at_0(net), frames, state, values)
+            states_show(alloc, circuit, stuck_at_0(net), frames, (good, bad), values)
         }
         From::Cube(limit, cube) => cube_shows(alloc, circuit, limit, cube, values),
     }
@@ -282,20 +298,25 @@ fn is_as_said(alloc: Global, circuit: &Circuit, row: Row) -> Result<bool, AllocE
     Ok(shown(alloc, circuit, from, values)? == Some((choice, status)))
 }
 
+fn are_as_said(alloc: Global, circuit: &Circuit, rows: &[Row]) -> Result<bool, AllocError> {
+    for row in rows {
+        if !is_as_said(alloc, circuit, *row)? {
+            return Ok(false);
+        }
+    }
+    Ok(true)
+}
+
 #[test]
 fn windows_of_the_shift_register(rt: HostRuntime) -> Result<(), Fail> {
     let circuit = read(rt.alloc(), SHIFT_REGISTER)?;
-    for row in SHIFTED {
-        assert!(&rt; is_as_said(rt.alloc(), &circuit, row)?);
-    }
+    assert!(rt; are_as_said(rt.alloc(), &circuit, SHIFTED)?);
     Ok(())
 }
 
 #[test]
 fn windows_of_the_toggle(rt: HostRuntime) -> Result<(), Fail> {
     let circuit = read(rt.alloc(), TOGGLE)?;
-    for row in TOGGLED {
-        assert!(&rt; is_as_said(rt.alloc(), &circuit, row)?);
-    }
+    assert!(rt; are_as_said(rt.alloc(), &circuit, TOGGLED)?);
     Ok(())
 }
