@@ -9,3 +9,5 @@ pub mod TakenLaws
 pub mod FrontLaws
 pub mod MalformedLaws
 pub mod StepLaws
+pub mod ParsedLaws
+pub mod WriterLaws

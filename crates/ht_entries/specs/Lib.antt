@@ -4,3 +4,5 @@ pub mod EntryTexts
 pub mod ProofReading
 pub mod ReaderStands
 pub mod ProofSteps
+pub mod LineTexts
+pub mod ParsedLines
