@@ -1,0 +1,2 @@
+pub mod DecidedLaws
+pub mod AttemptLaws

@@ -1,0 +1,3 @@
+pub mod ToldFrames
+pub mod Attempts
+pub mod FaultWork
