@@ -1,5 +1,6 @@
 //! The tests, crate by crate; `small` reads their circuits.
 
+mod aborted;
 mod check;
 mod forward;
 mod justify;

@@ -1,0 +1,189 @@
+//! Tests of ht_check: entries of aborted faults by hand.
+use super::small::circuit_of;
+use ht_check::entry;
+use ht_items::Items;
+use ht_net::{Circuit, Fault, NetId, Site};
+use ht_samples::TOGGLE;
+use ht_tree::{Aim, Assign, Entry, Spot, Token, Told};
+use std::alloc::{AllocError, Global};
+use std::test::Fail;
+
+const WIRES: &[u8] = b"INPUT(a)\nINPUT(b)\nOUTPUT(a)\nOUTPUT(b)\n";
+
+const D: Token = Token::Dead;
+
+const B: Token = Token::Before;
+
+// The latch of the toggle is decided.
+const X: Token = Token::Three { var: 0 };
+
+const FIRST: Token = Token::Two {
+    var: 0,
+    first: true,
+};
+
+/// A told frame: its place, and the variables that it sets with their bits.
+type FrameRow = (Spot, &'static [(u32, bool)]);
+
+/// The told frames, the walk after them, the open walk back where there is an aim, and the walks of the sweep.
+type Record = (
+    &'static [FrameRow],
+    Option<&'static [Token]>,
+    Option<&'static [Token]>,
+    &'static [&'static [Token]],
+);
+
+/// A circuit, a stem of it with the value that it is stuck at, a budget, a record, and whether that passes.
+type Row = (&'static [u8], u32, bool, u64, Record, bool);
+
+const SHOWN: &[FrameRow] = &[(Spot::Output(0), &[(0, true)])];
+
+const TOLD: &[FrameRow] = &[
+    (Spot::State(0), &[(0, false)]),
+    (Spot::Output(0), &[(0, true), (1, false)]),
+];
+
+// An output and what comes after it.
+const TOLD_ON: &[FrameRow] = &[
+    (Spot::Output(0), &[(0, true)]),
+    (Spot::State(0), &[(0, true)]),
+];
+
+const TO_ONE: Option<&[Token]> = Some(&[X, B, X, D, B, X, B, X, D, B]);
+
+const TO_ZERO: Option<&[Token]> = Some(&[X, D, B, X, B, X, D, B, X, B]);
+
+const NO_WALK: Option<&[Token]> = None;
+
+const ONE_TOKEN: Option<&[Token]> = Some(&[FIRST]);
+
+const FIVE: &[&[Token]] = &[&[D], &[D], &[D], &[D], &[]];
+
+const ROWS: &[Row] = &[
+    (TOGGLE, 0, false, 10, (SHOWN, NO_WALK, TO_ONE, FIVE), true),
+    (TOGGLE, 1, false, 10, (TOLD, NO_WALK, TO_ZERO, FIVE), true),
+    (
+        WIRES,
+        0,
+        true,
+        1,
+        (&[], ONE_TOKEN, NO_WALK, &[&[FIRST]]),
+        true,
+    ),
+    // the walks weigh too much, or leave room for a token more
+    (TOGGLE, 0, false, 9, (SHOWN, NO_WALK, TO_ONE, FIVE), false),
+    (TOGGLE, 0, false, 11, (SHOWN, NO_WALK, TO_ONE, FIVE), false),
+    (
+        WIRES,
+        0,
+        true,
+        2,
+        (&[], ONE_TOKEN, NO_WALK, &[&[FIRST]]),
+        false,
+    ),
+    // there is no walk after the told frames, or one though an output is told
+    (
+        WIRES,
+        0,
+        true,
+        1,
+        (&[], NO_WALK, NO_WALK, &[&[FIRST]]),
+        false,
+    ),
+    (TOGGLE, 0, false, 10, (SHOWN, TO_ONE, TO_ONE, FIVE), false),
+    // there is no aim at the first frame, or one back to another latch value
+    (TOGGLE, 0, false, 10, (SHOWN, NO_WALK, NO_WALK, FIVE), false),
+    (TOGGLE, 1, false, 10, (TOLD, NO_WALK, TO_ONE, FIVE), false),
+    // a frame comes after an output
+    (
+        TOGGLE,
+        0,
+        false,
+        10,
+        (TOLD_ON, NO_WALK, TO_ONE, FIVE),
+        false,
+    ),
+    // there is no sweep
+    (WIRES, 0, true, 1, (&[], ONE_TOKEN, NO_WALK, &[]), false),
+];
+
+fn frame(alloc: Global, row: FrameRow) -> Result<Told, AllocError> {
+    let (place, bits) = row;
+    let mut sets = Items::new(alloc);
+    for (var, value) in bits {
+        sets.push(Assign {
+            var: *var,
+            value: *value,
+        })?;
+    }
+    Ok(Told { place, sets })
+}
+
+fn frames(alloc: Global, rows: &[FrameRow]) -> Result<Items<Told>, AllocError> {
+    let mut told = Vec::new(alloc);
+    for row in rows {
+        told.push(frame(alloc, *row)?)?;
+    }
+    Ok(Items::from_vec(told))
+}
+
+fn walks(alloc: Global, rows: &[&[Token]]) -> Result<Items<Items<Token>>, AllocError> {
+    let mut walks = Vec::new(alloc);
+    for row in rows {
+        walks.push(Items::from_slice(alloc, row)?)?;
+    }
+    Ok(Items::from_vec(walks))
+}
+
+fn walk(alloc: Global, row: Option<&[Token]>) -> Result<Option<Items<Token>>, AllocError> {
+    match row {
+        None => Ok(None),
+        Some(tokens) => Ok(Some(Items::from_slice(alloc, tokens)?)),
+    }
+}
+
+fn back_open(alloc: Global, row: Option<&[Token]>) -> Result<Option<Aim>, AllocError> {
+    match row {
+        None => Ok(None),
+        Some(tokens) => Ok(Some(Aim::BackOpen(Items::from_slice(alloc, tokens)?))),
+    }
+}
+
+fn aborted(alloc: Global, record: Record) -> Result<Entry, AllocError> {
+    let (told, last, aim, sweep) = record;
+    Ok(Entry::Aborted {
+        told: frames(alloc, told)?,
+        walk: walk(alloc, last)?,
+        aim: back_open(alloc, aim)?,
+        sweep: walks(alloc, sweep)?,
+    })
+}
+
+fn passes(
+    alloc: Global,
+    circuit: &Circuit,
+    fault: Fault,
+    budget: u64,
+    record: Record,
+) -> Result<bool, AllocError> {
+    let record = aborted(alloc, record)?;
+    entry(alloc, circuit, fault, budget.min(100_000), &record)
+}
+
+fn is_as_said(alloc: Global, row: Row) -> Result<bool, Fail> {
+    let (text, net, value, budget, record, want) = row;
+    let circuit = circuit_of(alloc, text)?;
+    let fault = Fault {
+        site: Site::Stem(NetId(net)),
+        value,
+    };
+    Ok(passes(alloc, &circuit, fault, budget, record)? == want)
+}
+
+#[test]
+fn abort_entries_pass_where_each_search_filled_the_budget(rt: HostRuntime) -> Result<(), Fail> {
+    for row in ROWS {
+        assert!(rt; is_as_said(rt.alloc(), *row)?);
+    }
+    Ok(())
+}
