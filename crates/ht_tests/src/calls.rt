@@ -1,9 +1,6 @@
 //! The tests, crate by crate; `run` has those of the program.
 
 mod bench;
-mod collapse;
-mod faults;
-mod grade;
 mod net;
 mod pairs;
 mod ports;

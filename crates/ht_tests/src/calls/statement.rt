@@ -28,77 +28,85 @@ fn gate(alloc: Global, line: &[u8]) -> Option<(Kind, usize)> {
     }
 }
 
+const BAD_LINES: &[&[u8]] = &[
+    b"z",
+    b"z = AND(a,",
+    b"z = AND(,a)",
+    b"z = AND(a b)",
+    b"z = AND(a))",
+    b"z == AND(a)",
+    b"z AND(a)",
+    b"z = AND a",
+    b"INPUT(=)",
+    b"INPUT()",
+    b"IN PUT(a)",
+    b"LATCH(\x80)",
+];
+
 #[test]
 fn refuses_bad_lines(rt: HostRuntime) {
-    let lines: [&[u8]; 12] = [
-        b"z",
-        b"z = AND(a,",
-        b"z = AND(,a)",
-        b"z = AND(a b)",
-        b"z = AND(a))",
-        b"z == AND(a)",
-        b"z AND(a)",
-        b"z = AND a",
-        b"INPUT(=)",
-        b"INPUT()",
-        b"IN PUT(a)",
-        b"LATCH(\x80)",
-    ];
-    for line in lines {
-        assert_eq!(&rt; refusal(rt.alloc(), line), Some(BadLine));
+    for line in BAD_LINES {
+        assert_eq!(&rt; refusal(rt.alloc(), *line), Some(BadLine));
     }
 }
+
+const REFUSED: &[(&[u8], LineRefusal)] = &[
+    (b"INPUT(\x7f)", BadName),
+    (b"a\r = AND(b)", BadName),
+    (b"z = MUX(\xc3\xa9)", BadName),
+    (b"z = MUX()", BadKind),
+    (b"z = \xc3\xa9(a)", BadKind),
+    (b"z = AND()", BadCount),
+    (b"z = NOT(a, b)", BadCount),
+    (b"q = DFF()", BadCount),
+];
 
 // A name is judged before the kind, the kind before the count.
 #[test]
 fn refuses_in_order(rt: HostRuntime) {
-    let table: [(&[u8], LineRefusal); 8] = [
-        (b"INPUT(\x7f)", BadName),
-        (b"a\r = AND(b)", BadName),
-        (b"z = MUX(\xc3\xa9)", BadName),
-        (b"z = MUX()", BadKind),
-        (b"z = \xc3\xa9(a)", BadKind),
-        (b"z = AND()", BadCount),
-        (b"z = NOT(a, b)", BadCount),
-        (b"q = DFF()", BadCount),
-    ];
-    for (line, want) in table {
+    for row in REFUSED {
+        let (line, want) = *row;
         assert_eq!(&rt; refusal(rt.alloc(), line), Some(want));
     }
 }
 
+const NAMES: &[(&[u8], &[u8])] = &[
+    (b"INPUT(G0)", b"G0"),
+    (b"\t inPut\t( G0 )# the first", b"G0"),
+    (b"INPUT(;[7]\"$)", b";[7]\"$"),
+    (b"G5 = DFF(G10)", b"G10"),
+    (b"INPUT=dff(OUTPUT)#", b"OUTPUT"),
+];
+
 #[test]
 fn reads_names(rt: HostRuntime) {
-    let table: [(&[u8], &[u8]); 5] = [
-        (b"INPUT(G0)", b"G0"),
-        (b"\t inPut\t( G0 )# the first", b"G0"),
-        (b"INPUT(;[7]\"$)", b";[7]\"$"),
-        (b"G5 = DFF(G10)", b"G10"),
-        (b"INPUT=dff(OUTPUT)#", b"OUTPUT"),
-    ];
-    for (line, want) in table {
+    for row in NAMES {
+        let (line, want) = *row;
         assert!(&rt; name(rt.alloc(), line) == Some(want));
     }
 }
 
+const GATES: &[(&[u8], Kind, usize)] = &[
+    (b"G9 = NAND(G16, G15)", Kind::Nand, 2),
+    (b" z=xnor ( a,a\t,b ) ", Kind::Xnor, 3),
+    (b"z = Buf(a)", Kind::Buf, 1),
+    (b"z = BUFF(a)", Kind::Buf, 1),
+    (b"and = and(and)", Kind::And, 1),
+];
+
 #[test]
 fn reads_gates(rt: HostRuntime) {
-    let table: [(&[u8], Kind, usize); 5] = [
-        (b"G9 = NAND(G16, G15)", Kind::Nand, 2),
-        (b" z=xnor ( a,a\t,b ) ", Kind::Xnor, 3),
-        (b"z = Buf(a)", Kind::Buf, 1),
-        (b"z = BUFF(a)", Kind::Buf, 1),
-        (b"and = and(and)", Kind::And, 1),
-    ];
-    for (line, kind, count) in table {
+    for row in GATES {
+        let (line, kind, count) = *row;
         assert_eq!(&rt; gate(rt.alloc(), line), Some((kind, count)));
     }
 }
 
+const EMPTY: &[&[u8]] = &[b"", b" \t ", b"# only a comment", b"  #INPUT(a)"];
+
 #[test]
 fn reads_lines_that_state_nothing(rt: HostRuntime) {
-    let lines: [&[u8]; 4] = [b"", b" \t ", b"# only a comment", b"  #INPUT(a)"];
-    for line in lines {
-        assert!(&rt; matches!(read_line(rt.alloc(), line), Ok(Statement::Nothing)));
+    for line in EMPTY {
+        assert!(&rt; matches!(read_line(rt.alloc(), *line), Ok(Statement::Nothing)));
     }
 }

@@ -10,18 +10,20 @@ use ht_texts::{Said, Sums, read_vector, write_fault, write_head, write_total, wr
 use std::alloc::{AllocError, Global};
 use std::test::Fail;
 
+const VECTORS: &[(&[u8], u32, Option<&[bool]>)] = &[
+    (b"10", 2, Some(&[true, false])),
+    (b"", 0, Some(&[])),
+    (b"10", 3, None),
+    (b"10", 1, None),
+    (b"1x", 2, None),
+    (b"1X", 2, None),
+    (b"1 ", 2, None),
+];
+
 #[test]
 fn a_vector_is_read_by_its_line(rt: HostRuntime) -> Result<(), Fail> {
-    let table: [(&[u8], u32, Option<&[bool]>); 7] = [
-        (b"10", 2, Some(&[true, false])),
-        (b"", 0, Some(&[])),
-        (b"10", 3, None),
-        (b"10", 1, None),
-        (b"1x", 2, None),
-        (b"1X", 2, None),
-        (b"1 ", 2, None),
-    ];
-    for (line, width, bits) in table {
+    for row in VECTORS {
+        let (line, width, bits) = *row;
         assert!(rt; read_vector(rt.alloc(), line, width)?.as_deref() == bits);
     }
     Ok(())
@@ -66,19 +68,21 @@ fn is_line(alloc: Global, circuit: &Circuit, i: u32, wanted: &[u8]) -> Result<bo
     Ok(line.as_slice() == wanted)
 }
 
+const FAULT_LINES: &[(u32, &[u8])] = &[
+    (0, b"1 a s-a-0 untestable\n"),
+    (3, b"4 n s-a-1 detected 1 z\n"),
+    (4, b"5 z s-a-0 as 3\n"),
+    (6, b"7 n(1) s-a-0 as 4\n"),
+    (8, b"9 z(1) s-a-0 as 3\n"),
+    (9, b"10 z(1) s-a-1 detected 2 z\n"),
+];
+
 // A gate whose output can't be 1: half of its classes are untestable. What is said of a member has no effect.
 #[test]
 fn lines_of_faults(rt: HostRuntime) -> Result<(), Fail> {
     let circuit = read(rt.alloc(), ALWAYS_ZERO)?;
-    let table: [(u32, &[u8]); 6] = [
-        (0, b"1 a s-a-0 untestable\n"),
-        (3, b"4 n s-a-1 detected 1 z\n"),
-        (4, b"5 z s-a-0 as 3\n"),
-        (6, b"7 n(1) s-a-0 as 4\n"),
-        (8, b"9 z(1) s-a-0 as 3\n"),
-        (9, b"10 z(1) s-a-1 detected 2 z\n"),
-    ];
-    for (i, wanted) in table {
+    for row in FAULT_LINES {
+        let (i, wanted) = *row;
         assert!(rt; is_line(rt.alloc(), &circuit, i, wanted)?);
     }
     Ok(())

@@ -48,50 +48,53 @@ fn asks(alloc: Global, words: &[&str], names: &[&str]) -> Result<bool, AllocErro
     Ok(is_answer(&command(alloc, &list), names))
 }
 
+const TAKEN: &[(&[&str], &[&str])] = &[
+    (&["sim", "n", "t", "r"], &["sim", "n", "t", "r"]),
+    (&["sim", "", "", ""], &["sim", "", "", ""]),
+    (&["sim", "-", "-", "-"], &["sim", "-", "-", "-"]),
+    (&["sim", "--", "n", "t", "r"], &["sim", "n", "t", "r"]),
+    (&["sim", "n", "t", "r", "--"], &["sim", "n", "t", "r"]),
+    (&["sim", "n", "--", "-t", "--r"], &["sim", "n", "-t", "--r"]),
+    (&["sim", "--", "--", "t", "r"], &["sim", "--", "t", "r"]),
+    (&["sim", "n", "--", "t", "--"], &["sim", "n", "t", "--"]),
+    (&["norm", "n", "o"], &["norm", "n", "o"]),
+    (&["norm", "--", "-n", "-o"], &["norm", "-n", "-o"]),
+];
+
 #[test]
 fn words_of_a_form_give_its_names(rt: HostRuntime) -> Result<(), Fail> {
-    let taken: [(&[&str], &[&str]); 10] = [
-        (&["sim", "n", "t", "r"], &["sim", "n", "t", "r"]),
-        (&["sim", "", "", ""], &["sim", "", "", ""]),
-        (&["sim", "-", "-", "-"], &["sim", "-", "-", "-"]),
-        (&["sim", "--", "n", "t", "r"], &["sim", "n", "t", "r"]),
-        (&["sim", "n", "t", "r", "--"], &["sim", "n", "t", "r"]),
-        (&["sim", "n", "--", "-t", "--r"], &["sim", "n", "-t", "--r"]),
-        (&["sim", "--", "--", "t", "r"], &["sim", "--", "t", "r"]),
-        (&["sim", "n", "--", "t", "--"], &["sim", "n", "t", "--"]),
-        (&["norm", "n", "o"], &["norm", "n", "o"]),
-        (&["norm", "--", "-n", "-o"], &["norm", "-n", "-o"]),
-    ];
-    for (words, names) in taken {
+    for row in TAKEN {
+        let (words, names) = *row;
         assert!(rt; asks(rt.alloc(), words, names)?);
     }
     Ok(())
 }
 
+const REFUSED: &[&[&str]] = &[
+    &[],
+    &["SIM", "n", "t", "r"],
+    &["help"],
+    &["sim"],
+    &["sim", "n", "t"],
+    &["sim", "n", "t", "r", "x"],
+    &["sim", "--", "n", "t", "r", "x"],
+    &["sim", "-1", "t", "r"],
+    &["sim", "-n", "t", "r"],
+    &["sim", "--n", "t", "r"],
+    &["sim", "---", "t", "r"],
+    &["sim", "n", "t", "r", "-h"],
+    &["sim", "--help"],
+    &["sim", "-V"],
+    &["sim", "--version"],
+    &["norm", "n"],
+    &["norm", "n", "o", "x"],
+    &["norm", "n", "o", "--help"],
+];
+
 #[test]
 fn other_words_are_usage(rt: HostRuntime) -> Result<(), Fail> {
-    let refused: [&[&str]; 18] = [
-        &[],
-        &["SIM", "n", "t", "r"],
-        &["help"],
-        &["sim"],
-        &["sim", "n", "t"],
-        &["sim", "n", "t", "r", "x"],
-        &["sim", "--", "n", "t", "r", "x"],
-        &["sim", "-1", "t", "r"],
-        &["sim", "-n", "t", "r"],
-        &["sim", "--n", "t", "r"],
-        &["sim", "---", "t", "r"],
-        &["sim", "n", "t", "r", "-h"],
-        &["sim", "--help"],
-        &["sim", "-V"],
-        &["sim", "--version"],
-        &["norm", "n"],
-        &["norm", "n", "o", "x"],
-        &["norm", "n", "o", "--help"],
-    ];
-    for words in refused {
-        assert!(rt; asks(rt.alloc(), words, &[])?);
+    for words in REFUSED {
+        assert!(rt; asks(rt.alloc(), *words, &[])?);
     }
     Ok(())
 }

@@ -95,33 +95,35 @@ fn ends_with(alloc: Global, start: &Setup<'_>, status: u8) -> Result<bool, Alloc
     ends_on(alloc, &words, &mut desk, start, status)
 }
 
+const ENDS: &[(&[&str], Option<&[u8]>, Option<&[u8]>, Option<Plan>, u8)] = &[
+    (&["sim"], Some(SHIFT_REGISTER), Some(b"1\n"), None, 2),
+    (SIM, Some(b"INPUT(=)\n"), Some(b"1\n"), None, 3),
+    (NORM, None, None, None, 4),
+    // the netlist is accepted, and then the tests can't be read
+    (SIM, Some(SHIFT_REGISTER), None, None, 4),
+    (
+        SIM,
+        Some(SHIFT_REGISTER),
+        Some(b"1\n"),
+        Some(Plan::Open(InPort::Tests)),
+        4,
+    ),
+    (
+        SIM,
+        Some(SHIFT_REGISTER),
+        Some(b"1\n0\n0\n"),
+        Some(Plan::Create(OutPort::Report)),
+        5,
+    ),
+    (SIM, Some(SHIFT_REGISTER), Some(b"x\n"), None, 7),
+    (SIM, Some(SHIFT_REGISTER), Some(b"1\n0\n0\n"), None, 0),
+];
+
 #[test]
 fn a_failing_standard_error_leaves_the_status(rt: HostRuntime) -> Result<(), Fail> {
     let alloc = rt.alloc();
-    let table: [(&[&str], Option<&[u8]>, Option<&[u8]>, Option<Plan>, u8); 8] = [
-        (&["sim"], Some(SHIFT_REGISTER), Some(b"1\n"), None, 2),
-        (SIM, Some(b"INPUT(=)\n"), Some(b"1\n"), None, 3),
-        (NORM, None, None, None, 4),
-        // the netlist is accepted, and then the tests can't be read
-        (SIM, Some(SHIFT_REGISTER), None, None, 4),
-        (
-            SIM,
-            Some(SHIFT_REGISTER),
-            Some(b"1\n"),
-            Some(Plan::Open(InPort::Tests)),
-            4,
-        ),
-        (
-            SIM,
-            Some(SHIFT_REGISTER),
-            Some(b"1\n0\n0\n"),
-            Some(Plan::Create(OutPort::Report)),
-            5,
-        ),
-        (SIM, Some(SHIFT_REGISTER), Some(b"x\n"), None, 7),
-        (SIM, Some(SHIFT_REGISTER), Some(b"1\n0\n0\n"), None, 0),
-    ];
-    for (words, netlist, tests, fails, status) in table {
+    for row in ENDS {
+        let (words, netlist, tests, fails, status) = *row;
         let start = Setup {
             words,
             netlist,

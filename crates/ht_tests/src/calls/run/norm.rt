@@ -10,16 +10,18 @@ const FREE: &[u8] =
 
 const FREE_NORMAL: &[u8] = b"INPUT(a)\nINPUT(b)\nOUTPUT(z)\nz = NAND(t, b)\nt = BUFF(a)\n";
 
+const NORMAL_TEXTS: &[(&[u8], &[u8])] = &[
+    (FREE, FREE_NORMAL),
+    (FREE_NORMAL, FREE_NORMAL),
+    (SHIFT_REGISTER, SHIFT_REGISTER),
+    (b"", b""),
+];
+
 #[test]
 fn a_netlist_gives_its_normal_text(rt: HostRuntime) -> Result<(), Fail> {
     let alloc = rt.alloc();
-    let table: [(&[u8], &[u8]); 4] = [
-        (FREE, FREE_NORMAL),
-        (FREE_NORMAL, FREE_NORMAL),
-        (SHIFT_REGISTER, SHIFT_REGISTER),
-        (b"", b""),
-    ];
-    for (netlist, text) in table {
+    for row in NORMAL_TEXTS {
+        let (netlist, text) = *row;
         assert!(rt; holds(alloc, &given(NORM, netlist, b""), &finished(text, b""))?);
     }
     Ok(())

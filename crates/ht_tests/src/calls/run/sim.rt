@@ -91,14 +91,16 @@ fn s27_holds(alloc: Global, tests: &[u8], said: &[u8], total: &[u8]) -> Result<b
     holds(alloc, &given(SIM, S27, tests), &finished(&report, total))
 }
 
+const S27_TESTS: &[(&[u8], &[u8], &[u8])] = &[
+    (b"1100\n", b"detected 1 G17", b"total 32 detected 2\n"),
+    (b"", b"undetected", b"total 32 detected 0\n"),
+];
+
 #[test]
 fn s27_has_its_report(rt: HostRuntime) -> Result<(), Fail> {
     let alloc = rt.alloc();
-    let table: [(&[u8], &[u8], &[u8]); 2] = [
-        (b"1100\n", b"detected 1 G17", b"total 32 detected 2\n"),
-        (b"", b"undetected", b"total 32 detected 0\n"),
-    ];
-    for (tests, said, total) in table {
+    for row in S27_TESTS {
+        let (tests, said, total) = *row;
         assert!(rt; s27_holds(alloc, tests, said, total)?);
     }
     Ok(())
@@ -107,17 +109,80 @@ fn s27_has_its_report(rt: HostRuntime) -> Result<(), Fail> {
 const EMPTY_REPORT: &[u8] =
     b"circuit inputs 0 outputs 0 flip-flops 0 gates 0 faults 0 classes 0\ntotal 0 detected 0\n";
 
+// A stem shows at the output of its own net first, and a pin after it at the gate only.
+const AND: &[u8] = b"INPUT(a)\nINPUT(b)\nOUTPUT(a)\nOUTPUT(z)\nz = AND(a, b)\n";
+
+const AND_REPORT: &[u8] = b"circuit inputs 2 outputs 2 flip-flops 0 gates 1 faults 8 classes 6
+1 a s-a-0 detected 1 a
+2 a s-a-1 detected 2 a
+3 b s-a-0 detected 1 z
+4 b s-a-1 undetected
+5 z s-a-0 as 3
+6 z s-a-1 detected 2 z
+7 z(1) s-a-0 as 3
+8 z(1) s-a-1 detected 2 z
+total 6 detected 5
+";
+
+// A NAND of one pin inverts.
+const NAND: &[u8] = b"INPUT(a)\nOUTPUT(z)\nz = NAND(a)\n";
+
+const NAND_REPORT: &[u8] = b"circuit inputs 1 outputs 1 flip-flops 0 gates 1 faults 4 classes 2
+1 a s-a-0 undetected
+2 a s-a-1 undetected
+3 z s-a-0 as 2
+4 z s-a-1 as 1
+total 2 detected 0
+";
+
+// a feeds a flip-flop and a gate, and q the gate and an output. The output mark of q is a load and no site; z has one
+// load, so its pin is no site.
+const FANOUTS: &[u8] = b"INPUT(a)\nq = DFF(a)\nOUTPUT(q)\nz = AND(a, q)\ny = NOT(z)\n";
+
+const FANOUTS_REPORT: &[u8] = b"circuit inputs 1 outputs 1 flip-flops 1 gates 2 faults 14 classes 10
+1 a s-a-0 undetected
+2 a s-a-1 undetected
+3 q s-a-0 undetected
+4 q s-a-1 undetected
+5 z s-a-0 undetected
+6 z s-a-1 undetected
+7 y s-a-0 as 6
+8 y s-a-1 as 5
+9 q(1) s-a-0 undetected
+10 q(1) s-a-1 undetected
+11 z(1) s-a-0 as 5
+12 z(1) s-a-1 undetected
+13 z(2) s-a-0 as 5
+14 z(2) s-a-1 undetected
+total 10 detected 0
+";
+
+const CRLF: &[u8] = b"INPUT(a)\r\nOUTPUT(r)\r\nq = DFF(a)\r\nr = DFF(q)";
+
+const FINISHED: &[(&[u8], &[u8], &[u8], &[u8])] = &[
+    (
+        SHIFT_REGISTER,
+        b"1\n0\n0\n",
+        SHIFT_REGISTER_REPORT,
+        b"total 6 detected 3\n",
+    ),
+    (
+        CRLF,
+        b"1\r\n0\r\n0",
+        SHIFT_REGISTER_REPORT,
+        b"total 6 detected 3\n",
+    ),
+    (b"", b"", EMPTY_REPORT, b"total 0 detected 0\n"),
+    (AND, b"11\n01\n", AND_REPORT, b"total 6 detected 5\n"),
+    (NAND, b"", NAND_REPORT, b"total 2 detected 0\n"),
+    (FANOUTS, b"", FANOUTS_REPORT, b"total 10 detected 0\n"),
+];
+
 #[test]
 fn good_inputs_give_the_report(rt: HostRuntime) -> Result<(), Fail> {
     let alloc = rt.alloc();
-    let crlf = b"INPUT(a)\r\nOUTPUT(r)\r\nq = DFF(a)\r\nr = DFF(q)".as_slice();
-    let three = b"total 6 detected 3\n".as_slice();
-    let table: [(&[u8], &[u8], &[u8], &[u8]); 3] = [
-        (SHIFT_REGISTER, b"1\n0\n0\n", SHIFT_REGISTER_REPORT, three),
-        (crlf, b"1\r\n0\r\n0", SHIFT_REGISTER_REPORT, three),
-        (b"", b"", EMPTY_REPORT, b"total 0 detected 0\n"),
-    ];
-    for (netlist, tests, report, total) in table {
+    for row in FINISHED {
+        let (netlist, tests, report, total) = *row;
         assert!(rt; holds(alloc, &given(SIM, netlist, tests), &finished(report, total))?);
     }
     Ok(())

@@ -6,25 +6,16 @@ use std::test::Fail;
 
 const USAGE: &[u8] = b"usage: sim NETLIST TESTS REPORT, norm NETLIST OUT\n";
 
+const WITHOUT_FORM: &[&[&str]] = &[&[], &["sim", "n", "-t", "r"], &["norm", "--help"]];
+
 #[test]
 fn words_without_a_form_give_the_usage(rt: HostRuntime) -> Result<(), Fail> {
     let alloc = rt.alloc();
-    let table: [&[&str]; 9] = [
-        &[],
-        &["sim", "n", "t"],
-        &["sim", "n", "t", "r", "x"],
-        &["sim", "n", "-t", "r"],
-        &["gen", "n", "t", "r"],
-        &["Sim", "n", "t", "r"],
-        &["norm", "n"],
-        &["norm", "n", "r", "x"],
-        &["norm", "--help"],
-    ];
-    for words in table {
+    for words in WITHOUT_FORM {
         assert!(rt;
             holds(
                 alloc,
-                &given(words, SHIFT_REGISTER, b"1\n"),
+                &given(*words, SHIFT_REGISTER, b"1\n"),
                 &refused(2, USAGE)
             )?
         );
