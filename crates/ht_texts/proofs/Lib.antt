@@ -10,6 +10,7 @@ pub mod ReadingLaws
 pub mod ReportFrontLaws
 pub mod ReaderLaws
 pub mod ReportTextLaws
+pub mod ReportWrittenLaws
 pub mod LineLaws
 pub mod NumberLaws
 pub mod StopLaws

@@ -1,6 +1,7 @@
 -- Lines that are written each with its LF are the lines of their text.
-use Rattle.std.proofs.Common.{◌≡◌, ℕ, List, [], ◌∷◌, refl, ap, ◌∙◌}
+use Rattle.std.proofs.Common.{◌≡◌, ◌≢◌, ℕ, ◌-◌, ◌<◌, List, [], ◌∷◌, length, get_or, refl, ap, ◌∙◌, arith}
 use Rattle.std.specs.Prelude.{codes}
+use Rattle.std.proofs.lemmas.Bool.{ne_eqb}
 use Rattle.std.proofs.lemmas.List.{append_assoc}
 use Rattle.std.proofs.lemmas.List.Concat.{flat_map-cons}
 use Rattle.ht_ports.specs.LineRule.{lines_of, without_cr, HasNoLf}
@@ -11,6 +12,12 @@ use Rattle.ht_texts.specs.Lines.{with_lf, with_lfs}
 pub record IsClean (line : List ℕ) : Type 0 where
   pub no_lf : HasNoLf line
   pub no_cr : without_cr line ≡ line
+
+-- a line without a CR has none at its end
+pub ends_without_cr : (line : List ℕ) → ((k : ℕ) → k < length line → get_or line k 0 ≢ 13) → without_cr line ≡ line
+ends_without_cr [] none = refl
+ends_without_cr (x ∷ line) none = rw (ne_eqb (get_or (x ∷ line) (length (x ∷ line) - 1) 0) 13
+    (none (length (x ∷ line) - 1) (omega arith))) refl
 
 abbrev pub AreClean : List (List ℕ) → Type 0
 AreClean [] = Unit {0}

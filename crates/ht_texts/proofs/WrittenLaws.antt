@@ -1,11 +1,10 @@
 -- What is written is read: the text of a list of vectors is the test text of this list.
-use Rattle.std.proofs.Common.{◌≡◌, ◌≢◌, ℕ, ◌-◌, ◌<◌, ◌≤◌, List, [], ◌∷◌, Bool, true, false, length, get_or, map, refl, sym, ◌∙◌, arith}
+use Rattle.std.proofs.Common.{◌≡◌, ◌≢◌, ℕ, ◌≤◌, List, [], ◌∷◌, Bool, true, false, length, map, sym, ◌∙◌, arith}
 use Rattle.std.specs.List.{All}
-use Rattle.std.proofs.lemmas.Bool.{ne_eqb}
 use Rattle.ht_net.specs.Netlist.{Netlist}
-use Rattle.ht_ports.specs.LineRule.{without_cr, max_text_bytes}
+use Rattle.ht_ports.specs.LineRule.{max_text_bytes}
 use Rattle.ht_texts.specs.Tests.{bit_code, vector_text, test_text, IsTestText, IsMalformedTest}
-use Rattle.ht_texts.proofs.LineLaws.{IsClean, AreClean, lines_are_lines}
+use Rattle.ht_texts.proofs.LineLaws.{IsClean, AreClean, ends_without_cr, lines_are_lines}
 use Rattle.ht_texts.proofs.VectorLaws.{length-vector_text, get_or-vector_text}
 use Rattle.ht_texts.proofs.TestLaws.{never_both}
 
@@ -18,15 +17,10 @@ vector_clean vector = record {
   no_lf = λ k less e.
       let found = get_or-vector_text vector k (omega (arith, less, length-vector_text vector)) in
       (bit_clean found.0).0 (sym found.1 ∙ e);
-  no_cr = no_cr (vector_text vector) (λ k less e.
+  no_cr = ends_without_cr (vector_text vector) (λ k less e.
       let found = get_or-vector_text vector k (omega (arith, less, length-vector_text vector)) in
       (bit_clean found.0).1 (sym found.1 ∙ e));
 }
-  where
-    no_cr : (line : List ℕ) → ((k : ℕ) → k < length line → get_or line k 0 ≢ 13) → without_cr line ≡ line
-    no_cr [] none = refl
-    no_cr (x ∷ line) none = rw (ne_eqb (get_or (x ∷ line) (length (x ∷ line) - 1) 0) 13
-        (none (length (x ∷ line) - 1) (omega arith))) refl
 
 vectors_clean : (list : List (List Bool)) → AreClean (map vector_text list)
 vectors_clean [] = tt

@@ -1,5 +1,6 @@
 -- The report of a search: what it can say, which texts are one, and where a text that is none goes wrong.
-use Rattle.std.specs.Prelude.{◌≡◌, ◌≢◌, ℕ, ◌+◌, ◌<◌, ◌≤◌, ◌⊎◌, List, ◌++◌, take, true, length, Some}
+use Rattle.std.specs.Prelude.{◌≡◌, ◌≢◌, ◌==◌, ℕ, ◌+◌, ◌<◌, ◌≤◌, ◌⊎◌, List, ◌++◌, take, Bool, true, not, ◌&&◌, IsTrue, length, Some}
+use Rattle.std.specs.List.{All, list_all}
 use Rattle.ht_net.specs.Netlist.{Netlist}
 use Rattle.ht_faults.specs.Sites.{faults_of}
 use Rattle.ht_collapse.specs.Classes.{is_representative}
@@ -53,6 +54,13 @@ pub record IsReportText (c : Netlist) (representatives : List ℕ) (text : List 
     : Type 0 where
   pub report : IsSearchReport c representatives (lines_of text) budget saids
   pub short : length text ≤ max_text_bytes
+
+-- no name has an LF or a CR
+abbrev pub is_plain : ℕ → Bool
+is_plain byte = not (byte == 10) && not (byte == 13)
+
+abbrev pub HasPlainNames : Netlist → Type 0
+HasPlainNames c = All (λ name. IsTrue (list_all is_plain name)) c.names
 
 -- line n is there, and no report has it after the lines before it
 pub record IsNoReportLine (c : Netlist) (representatives : List ℕ) (text : List ℕ) (n : ℕ) : Type 0 where

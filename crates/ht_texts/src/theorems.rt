@@ -1,11 +1,15 @@
 //! Which texts are tests, and which are reports. Each theorem is the contract of a function that does nothing.
-ghost use Rattle.std.specs.Prelude.{◌≡◌, ◌≤◌, ℕ, List, Bool, length};
+ghost use Rattle.std.specs.Prelude.{◌≡◌, ◌≤◌, ℕ, List, Bool, Some, length};
 ghost use Rattle.std.specs.List.{All};
 ghost use Rattle.ht_ports.specs.LineRule.{max_text_bytes};
 ghost use Rattle.ht_net.specs.Netlist.{Netlist, IsCircuit};
+ghost use Rattle.ht_faults.specs.Sites.{faults_of};
+ghost use Rattle.ht_collapse.specs.Classes.{AreClasses};
 ghost use Rattle.ht_texts.specs.declared.said.Said.{Said};
 ghost use Rattle.ht_texts.specs.Tests.{test_text, IsTestText, IsMalformedTest, IsTestOrMalformed};
-ghost use Rattle.ht_texts.specs.SearchReports.{IsReportFront, IsReportText, IsMalformedReport};
+ghost use Rattle.ht_texts.specs.Reports.{report_text};
+ghost use Rattle.ht_texts.specs.SearchReports.{HasPlainNames, IsSearchOf, IsReportFront};
+ghost use Rattle.ht_texts.specs.SearchReports.{IsReportText, IsMalformedReport};
 ghost use Rattle.ht_texts.specs.ReportReading.{ReportReading, ReportReadsTo, SameSearch, SaySame};
 
 /// The lines of vectors, each with its LF, are the test text of these vectors, and none of them is malformed: so a
@@ -36,6 +40,17 @@ pub fn report_fronts_are_read()
     ensures once { (c : Netlist) (representatives : List ℕ) (lines : List (List ℕ))
         (a b : ReportReading) → IsCircuit c → ReportReadsTo c representatives lines a
         → ReportReadsTo c representatives lines b → SaySame representatives a b }
+{}
+
+/// The lines of the report of a search, each with its LF, are the report text of what the search says: so a reader takes
+/// them. No name has an LF or a CR, and a text is at most 2^62 bytes long.
+pub fn reports_are_read()
+    ensures { (c : Netlist) (representatives : List ℕ) (budget : ℕ) (saids : List Said)
+        → IsCircuit c → AreClasses c representatives → HasPlainNames c
+        → IsSearchOf c representatives (length (faults_of c)) budget saids
+        → length (report_text c representatives (Some budget) saids) ≤ max_text_bytes
+        → IsReportText c representatives (report_text c representatives (Some budget) saids)
+        budget saids }
 {}
 
 /// A text is the report of at most one search: it has one budget, and says one thing of each class. It isn't malformed
