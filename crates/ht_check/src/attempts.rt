@@ -20,9 +20,9 @@ pub const MAX_BACK_VECTORS: u32 = 32;
 /// The window ahead of a told frame has so many frames.
 pub const FORWARD_FRAMES: u32 = 16;
 
-/// Whether the attempt at a told frame failed: at most 32 vectors bring the good machine from all-unknown to the latches
-/// that the frame needs, the list ahead goes on from the frame's states to an output, and the two lists with the
-/// frame's vector between them don't detect the fault.
+/// Whether the attempt at a told frame failed: at most 32 vectors bring the good machine from all-unknown to the
+/// latches that the frame needs, the list ahead goes on from the frame's states to an output (it is empty where the
+/// place is one), and the two lists with the frame's vector between them don't detect the fault.
 ///
 /// # Errors
 /// Out of memory.
