@@ -9,6 +9,7 @@ pub mod ItemLaws
 pub mod ReadingLaws
 pub mod ReportFrontLaws
 pub mod ReaderLaws
+pub mod ReportChoiceLaws
 pub mod ReportTextLaws
 pub mod ReportWrittenLaws
 pub mod LineLaws

@@ -73,7 +73,7 @@ last_item representatives (after_head budget (said ∷ saids)) =
     Some (fault_item representatives (length saids) (said_at (said ∷ saids) (length saids)))
 last_item representatives (after_total budget saids) = Some Total
 
--- how far a report is read after one line more, which says this
+-- how far a report is read after one line more, which says this; an item that has no place there changes nothing
 abbrev pub read_on : ReportReading → Item → ReportReading
 read_on before_head (Head budget) = after_head budget []
 read_on (after_head budget saids) (Verdict i said) = after_head budget (saids ++ said ∷ [])

@@ -5,7 +5,8 @@
 //! that is none goes wrong; `specs/Sites` names the lines of a circuit; `specs/Verdicts` has what is said of a class,
 //! `specs/Counts` of how many classes, and `specs/Reports` a report, line for line. `specs/SearchReports` says which
 //! texts are the report of a search, and at which line another goes wrong. A `ReportReader` takes such a report line by
-//! line: `specs/ReportReading` says how far it is read and what a line says, `specs/ReportStands` what the reader keeps.
+//! line: `specs/ReportReading` says how far it is read and what a line says, `specs/ReportStands` what the reader
+//! keeps.
 #![tactic(auto)]
 
 mod body;
@@ -38,7 +39,7 @@ pub use report_reader::ReportReader;
 pub use said::{Said, saids_of};
 pub use theorems::{
     report_fronts_are_read, reports_are_read, reports_say_one_thing, tests_are_read,
-    texts_are_tests_or_malformed,
+    texts_are_reports_or_malformed, texts_are_tests_or_malformed,
 };
 pub use total::{Sums, write_total};
 pub use vector::{read_vector, write_vector};

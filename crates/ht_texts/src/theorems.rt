@@ -1,5 +1,5 @@
 //! Which texts are tests, and which are reports. Each theorem is the contract of a function that does nothing.
-ghost use Rattle.std.specs.Prelude.{◌≡◌, ◌≤◌, ℕ, List, Bool, Some, length};
+ghost use Rattle.std.specs.Prelude.{◌≡◌, ◌≤◌, ◌⊎◌, ℕ, List, Bool, Some, length};
 ghost use Rattle.std.specs.List.{All};
 ghost use Rattle.ht_ports.specs.LineRule.{max_text_bytes};
 ghost use Rattle.ht_net.specs.Netlist.{Netlist, IsCircuit};
@@ -42,8 +42,8 @@ pub fn report_fronts_are_read()
         → ReportReadsTo c representatives lines b → SaySame representatives a b }
 {}
 
-/// The lines of the report of a search, each with its LF, are the report text of what the search says: so a reader takes
-/// them. No name has an LF or a CR, and a text is at most 2^62 bytes long.
+/// The lines of the report of a search, each with its LF, are the report text of what the search says: so a reader
+/// takes them. No name has an LF or a CR, and a text is at most 2^62 bytes long.
 pub fn reports_are_read()
     ensures { (c : Netlist) (representatives : List ℕ) (budget : ℕ) (saids : List Said)
         → IsCircuit c → AreClasses c representatives → HasPlainNames c
@@ -51,6 +51,14 @@ pub fn reports_are_read()
         → length (report_text c representatives (Some budget) saids) ≤ max_text_bytes
         → IsReportText c representatives (report_text c representatives (Some budget) saids)
         budget saids }
+{}
+
+/// A text is the report of a search, or malformed at a line.
+pub fn texts_are_reports_or_malformed()
+    ensures { (c : Netlist) (representatives : List ℕ) (text : List ℕ) → AreClasses c representatives
+        → ((budget : ℕ) × (saids : List Said)
+        × IsReportText c representatives text budget saids)
+        ⊎ ((n : ℕ) × IsMalformedReport c representatives text n) }
 {}
 
 /// A text is the report of at most one search: it has one budget, and says one thing of each class. It isn't malformed
