@@ -1,6 +1,7 @@
 //! The tests, crate by crate; `small` reads their circuits.
 
 mod aborted;
+mod attempts;
 mod check;
 mod forward;
 mod justify;

@@ -23,7 +23,7 @@ const FIRST: Token = Token::Two {
 };
 
 /// A told frame: its place, and the variables that it sets with their bits.
-type FrameRow = (Spot, &'static [(u32, bool)]);
+pub type FrameRow = (Spot, &'static [(u32, bool)]);
 
 /// The told frames, the walk after them, the open walk back where there is an aim, and the walks of the sweep.
 type Record = (
@@ -119,7 +119,8 @@ fn frame(alloc: Global, row: FrameRow) -> Result<Told, AllocError> {
     Ok(Told { place, sets })
 }
 
-fn frames(alloc: Global, rows: &[FrameRow]) -> Result<Items<Told>, AllocError> {
+/// Told frames.
+pub fn frames(alloc: Global, rows: &[FrameRow]) -> Result<Items<Told>, AllocError> {
     let mut told = Vec::new(alloc);
     for row in rows {
         told.push(frame(alloc, *row)?)?;
@@ -127,7 +128,8 @@ fn frames(alloc: Global, rows: &[FrameRow]) -> Result<Items<Told>, AllocError> {
     Ok(Items::from_vec(told))
 }
 
-fn walks(alloc: Global, rows: &[&[Token]]) -> Result<Items<Items<Token>>, AllocError> {
+/// The walks of a sweep.
+pub fn walks(alloc: Global, rows: &[&[Token]]) -> Result<Items<Items<Token>>, AllocError> {
     let mut walks = Vec::new(alloc);
     for row in rows {
         walks.push(Items::from_slice(alloc, row)?)?;
