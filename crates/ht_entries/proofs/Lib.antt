@@ -8,6 +8,10 @@ pub mod GrownLaws
 pub mod TakenLaws
 pub mod FrontLaws
 pub mod MalformedLaws
+pub mod ReadLaws
 pub mod StepLaws
+pub mod ReaderLaws
+pub mod TextLaws
 pub mod ParsedLaws
 pub mod WriterLaws
+pub mod ExampleLaws

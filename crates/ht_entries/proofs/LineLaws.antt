@@ -98,8 +98,11 @@ numbers_same m n h i e = decimal_injective m n (omega (arith, h)) (omega (arith,
 
 indices_same : (word : List ℕ) (i j : ℕ) → IsIndex i → IsIndex j → numbered_from_1 word i
     ≡ numbered_from_1 word j → i ≡ j
-indices_same word i j h k e = omega (arith, numbers_same (i + 1) (j + 1) (omega (arith, h)) (omega (arith, k))
-    (append_cancel_left word (decimal (i + 1)) (decimal (j + 1)) e))
+indices_same word i j h k e = omega (
+  arith,
+  numbers_same (i + 1) (j + 1) (omega (arith, h)) (omega (arith, k))
+      (append_cancel_left word (decimal (i + 1)) (decimal (j + 1)) e),
+)
 
 no_48 : ◌≡◌ {A = ℕ} 48 49 → ⊥
 no_48 e = omega (arith, e)
@@ -255,14 +258,14 @@ set_of var value = record { var = var; value = value }
 sets_same : (a b : Assign) → IsIndex a.var → IsIndex b.var → line_text (line.Set a) ≡ line_text (line.Set b) → a ≡ b
 sets_same a b h k e =
     let last : bit_code a.value ≡ bit_code b.value = sym (last_append (numbered_from_1
-        (codes "set ") a.var ++ codes " ") (bit_code a.value) []) ∙ (ap last_byte e
-        ∙ last_append (numbered_from_1 (codes "set ") b.var ++ codes " ") (bit_code b.value) []) in
+    (codes "set ") a.var ++ codes " ") (bit_code a.value) []) ∙ (ap last_byte e
+    ∙ last_append (numbered_from_1 (codes "set ") b.var ++ codes " ") (bit_code b.value) []) in
     let value = bits_same a.value b.value last in
     let front = append_cancel_right (numbered_from_1 (codes "set ") a.var ++ codes " ") (numbered_from_1
-        (codes "set ") b.var ++ codes " ") (bit_code b.value ∷ [])
+    (codes "set ") b.var ++ codes " ") (bit_code b.value ∷ [])
     (ap (λ x. numbered_from_1 (codes "set ") a.var ++ codes " " ++ x ∷ []) (sym last) ∙ e) in
     ap (λ x. set_of x a.value) (indices_same (codes "set ") a.var b.var h k (append_cancel_right (numbered_from_1
-        (codes "set ") a.var) (numbered_from_1 (codes "set ") b.var) (codes " ") front))
+    (codes "set ") a.var) (numbered_from_1 (codes "set ") b.var) (codes " ") front))
     ∙ ap (λ x. set_of b.var x) value
 
 -- ---- the law
@@ -271,13 +274,13 @@ entry_numbers : (m n : ℕ) (end : List ℕ) → m ≤ max_number → n ≤ max_
     ≡ codes "entry " ++ decimal n ++ end → m ≡ n
 entry_numbers m n end h k e =
     numbers_same m n h k (append_cancel_left (codes "entry ") (decimal m) (decimal n) (append_cancel_right
-        (codes "entry " ++ decimal m) (codes "entry " ++ decimal n) end e))
+    (codes "entry " ++ decimal m) (codes "entry " ++ decimal n) end e))
 
 ends_differ : (m n : ℕ) → codes "entry " ++ decimal m ++ codes " untestable"
     ≡ codes "entry " ++ decimal n ++ codes " aborted" → ⊥
 ends_differ m n e =
     let same : ◌≡◌ {A = ℕ} 101 100 = sym (last_append (codes "entry " ++ decimal m) 32 (codes "untestable"))
-        ∙ (ap last_byte e ∙ last_append (codes "entry " ++ decimal n) 32 (codes "aborted")) in
+    ∙ (ap last_byte e ∙ last_append (codes "entry " ++ decimal n) 32 (codes "aborted")) in
     omega (arith, same)
 
 untestable_same : (m : ℕ) (l : ProofLine) → ((n : ℕ) × (l ≡ line.Untestable n)) ⊎ ((n : ℕ) × (l

@@ -24,7 +24,7 @@ use Rattle.ht_entries.specs.declared.reader_state.ReaderState.TheVariants.{InEnt
 use Rattle.ht_entries.specs.declared.reader_state.Step.{Step}
 use Rattle.ht_entries.specs.EntryLines.{whole_part, part_lines, entry_lines, proof_lines}
 use Rattle.ht_entries.specs.EntryTexts.{IsPartText, IsWholeEntry, IsEntryText, AreEntryTexts, numbers_of, aim_as_read, entry_as_read, as_read}
-use Rattle.ht_entries.specs.ProofReading.{ProofReading, before_head, after_head, within_entry, after_end, lines_read, part_as_read, reading_as_read, IsWithinEntry, IsProofReading}
+use Rattle.ht_entries.specs.ProofReading.{ProofReading, before_first, after_first, within_entry, after_last, lines_taken, part_as_read, reading_as_read, IsWithinEntry, IsProofReading}
 use Rattle.ht_entries.specs.ProofSteps.{where_true, grow, entry_of, step_to, close_entry, grown_or}
 use Rattle.ht_entries.proofs.RisesLaws.{rises_none, rises_one, rises_tail, rises_cons}
 use Rattle.ht_entries.proofs.WrittenLaws.{grow_one, grow_all, begun_part, other_lines, part_grows}
@@ -39,7 +39,7 @@ no_part (l ∷ lines) = no_part lines
 grown_then : (closed : List Numbered) (number : ℕ) (lines : List ProofLine) (q : EntryPart) (other : Option Step)
     (g : Option EntryPart)
     → ((p : EntryPart) → grow_all (Some p) lines ≡ Some q
-      → after_lines (Some (within_entry closed number p)) lines ≡ Some (within_entry closed number q))
+    → after_lines (Some (within_entry closed number p)) lines ≡ Some (within_entry closed number q))
     → grow_all g lines ≡ Some q
     → after_lines (option_map (reading_after closed) (grown_or number g other)) lines
     ≡ Some (within_entry closed number q)
@@ -69,7 +69,7 @@ lines_are number (part.Aborted told walk a sweep) = refl
 pub record IsReady (at : ProofReading) (closed : List Numbered) (last : ℕ) : Type 0 where
   pub begin : (number : ℕ) (p : EntryPart) → ltb last number ≡ true
       → read_line at (head_of number p) ≡ Some (within_entry closed number (begun_part p))
-  pub finish : read_line at line.End ≡ Some (after_end closed)
+  pub finish : read_line at line.End ≡ Some (after_last closed)
 
 -- a line begins a part where a test holds
 abbrev begun_where : List Numbered → Option Numbered → ℕ → EntryPart → Bool → Option ProofReading
@@ -77,13 +77,13 @@ begun_where closed ended number p b =
     option_map (reading_after closed) (option_map (step_to ended) (where_true b (InEntry number (begun_part p))))
 
 head_begins : (number : ℕ) (p : EntryPart) → ltb 0 number ≡ true
-    → read_line after_head (head_of number p) ≡ Some (within_entry [] number (begun_part p))
+    → read_line after_first (head_of number p) ≡ Some (within_entry [] number (begun_part p))
 head_begins number (part.Untestable z walk) e = ap (begun_where [] None number (part.Untestable z walk)) e
 head_begins number (part.Aborted told walk a sweep) e =
     ap (begun_where [] None number (part.Aborted told walk a sweep)) e
 
-head_is_ready : IsReady after_head [] 0
-head_is_ready = record { begin = head_begins; finish = refl }
+first_is_ready : IsReady after_first [] 0
+first_is_ready = record { begin = head_begins; finish = refl }
 
 abbrev numbered_as : ℕ → Entry → Numbered
 numbered_as number e = record { number = number; entry = e }
@@ -131,7 +131,7 @@ abort_then closed number told (Some t) (Some x) (w ∷ ws) h next (part.Aborted 
 abort_finishes : (closed : List Numbered) (number : ℕ) (told : List Told) (walk : Option (List Token)) (a : Option Aim)
     (sweep : List (List Token)) → 0 < length sweep
     → read_line (within_entry closed number (part.Aborted told walk a (Some sweep))) line.End
-    ≡ Some (after_end (closed ++ numbered_as number (Aborted told walk a sweep) ∷ []))
+    ≡ Some (after_last (closed ++ numbered_as number (Aborted told walk a sweep) ∷ []))
 abort_finishes closed number told walk a [] h = absurd (none_below h)
 abort_finishes closed number told None None (w ∷ ws) h = refl
 abort_finishes closed number told None (Some x) (w ∷ ws) h = refl
@@ -162,7 +162,7 @@ entries_read : (at : ProofReading) (closed : List Numbered) (last : ℕ) (es : L
     (lines : List ProofLine) (end : Option ProofReading) → IsReady at closed last → All IsEntryText es
     → Rises (last ∷ numbers_of es ++ more)
     → ((there : ProofReading) (latest : ℕ) → IsReady there (closed ++ map as_read es) latest → Rises (latest ∷ more)
-      → after_lines (Some there) lines ≡ end)
+    → after_lines (Some there) lines ≡ end)
     → after_lines (Some at) (flat_map entry_lines es ++ lines) ≡ end
 entries_read at closed last [] more lines end ready h r on =
     on at last (subst (λ x. IsReady at x last) (sym (append-nil closed)) ready) r
@@ -181,7 +181,8 @@ entries_read at closed last (e ∷ es) more lines end ready h r on =
     (subst (λ x. IsReady place x latest) (append_assoc closed (as_read e ∷ []) (map as_read es)) place_ready)))))
 
 -- numbers of entries are above 0
-rises_from_0 : (es : List Numbered) (more : List ℕ) → All IsEntryText es → ((x : ℕ) (xs : List ℕ) → more ≡ x ∷ xs → 0 < x)
+rises_from_0 : (es : List Numbered) (more : List ℕ) → All IsEntryText es → ((x : ℕ) (xs : List ℕ) → more ≡ x ∷ xs
+    → 0 < x)
     → Rises (numbers_of es ++ more) → Rises (0 ∷ numbers_of es ++ more)
 rises_from_0 [] [] h l r = rises_one 0
 rises_from_0 [] (x ∷ xs) h l r = rises_cons 0 x xs (l x xs refl) r
@@ -202,22 +203,24 @@ no_head : (x : ℕ) (xs : List ℕ) → [] ≡ x ∷ xs → 0 < x
 no_head x xs e = absurd (empty_is_not x xs e)
 
 -- What is written is read again, up to any line.
-pub read_back : (at : ProofReading) → IsProofReading at → read_lines (lines_read at) ≡ Some (reading_as_read at)
-read_back before_head h = refl
-read_back after_head h = refl
+pub read_back : (at : ProofReading) → IsProofReading at → read_lines (lines_taken at) ≡ Some (reading_as_read at)
+read_back before_first h = refl
+read_back after_first h = refl
 read_back (within_entry closed number p) h =
-    entries_read after_head [] 0 closed (number ∷ []) (part_lines number p)
-    (Some (within_entry (map as_read closed) number (part_as_read p))) head_is_ready h.before
+    entries_read after_first [] 0 closed (number ∷ []) (part_lines number p)
+    (Some (within_entry (map as_read closed) number (part_as_read p))) first_is_ready h.before
     (rises_from_0 closed (number ∷ []) h.before (head_is number (h.counts.0)) h.rises)
     (λ there latest ready r. part_read there (map as_read closed) latest number p ready (r.next 0 (omega arith))
     h.readable)
-read_back (after_end closed) h =
-    entries_read after_head [] 0 closed [] (line.End ∷ []) (Some (after_end (map as_read closed))) head_is_ready h.each
+read_back (after_last closed) h =
+    entries_read after_first [] 0 closed [] (line.End ∷ []) (Some (after_last (map as_read closed))) first_is_ready
+    h.each
     (rises_from_0 closed [] h.each no_head (subst Rises (sym (append-nil (numbers_of closed))) h.rises))
     (λ there latest ready r. ready.finish)
 
 -- One list of lines is read to one place.
-pub one_reading : (at there : ProofReading) → IsProofReading at → IsProofReading there → lines_read at ≡ lines_read there
+pub one_reading : (at there : ProofReading) → IsProofReading at → IsProofReading there → lines_taken at
+    ≡ lines_taken there
     → reading_as_read at ≡ reading_as_read there
 one_reading at there h k e =
     same_Some (reading_as_read at) (reading_as_read there)
@@ -227,11 +230,11 @@ one_reading at there h k e =
 pub refused_is_in_no_text : (at : ProofReading) (l : ProofLine) → IsProofReading at → reading_as_read at ≡ at
     → read_line at l ≡ None
     → (entries : List Numbered) (rest : List ProofLine) → AreEntryTexts entries
-    → proof_lines entries ≡ lines_read at ++ l ∷ rest → ⊥
+    → proof_lines entries ≡ lines_taken at ++ l ∷ rest → ⊥
 refused_is_in_no_text at l h same refused entries rest are e =
-    none-some (after_end (map as_read entries)) (sym (no_reading rest)
+    none-some (after_last (map as_read entries)) (sym (no_reading rest)
     ∙ (sym (ap (λ x. after_lines x rest) refused)
     ∙ (sym (ap (λ x. after_lines (after_one (Some x) l) rest) same)
     ∙ (sym (ap (λ x. after_lines (after_one x l) rest) (read_back at h))
-    ∙ (sym (after_append (Some before_head) (lines_read at) (l ∷ rest))
-    ∙ (sym (ap read_lines e) ∙ read_back (after_end entries) are))))))
+    ∙ (sym (after_append (Some before_first) (lines_taken at) (l ∷ rest))
+    ∙ (sym (ap read_lines e) ∙ read_back (after_last entries) are))))))

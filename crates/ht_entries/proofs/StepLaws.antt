@@ -18,18 +18,34 @@ use Rattle.ht_entries.specs.declared.proof_line.ProofLine.TheVariants as line
 use Rattle.ht_entries.specs.declared.entry_part.EntryPart.{EntryPart}
 use Rattle.ht_entries.specs.declared.entry_part.EntryPart.TheVariants as part
 use Rattle.ht_entries.specs.declared.reader_state.Step.{Step}
-use Rattle.ht_entries.specs.ProofSteps.{where_true, is_above, fits_width, add_set, add_token, begin_aim, add_vector, token_of, grow_vector, grow_aim, grow_sweep, begin_later, grow_told, grow_told_walk, grow_aimed, grow_z, grow_refutation, grow, entry_of, go_on, step_to, is_closing, close_entry}
+use Rattle.ht_entries.specs.ProofSteps.{where_true, is_above, fits_width, add_set, add_token, begin_aim, add_vector, token_on, grow_vector, grow_aim_by, grow_aim, grow_sweep, begin_later, grow_told, grow_told_walk, grow_aimed, grow_z, grow_refutation, grow, entry_of, go_on, step_to, is_closing, close_entry}
 use Rattle.ht_entries.proofs.WrittenLaws.{sweep_grows}
 
--- ---- the aim
-
--- a line without a token is one of an attempt or of no aim
-pub other_line_of_an_aim : (a : Aim) (l : ProofLine) → token_of l ≡ None → grow_aim a l ≡ grow_vector a l
-other_line_of_an_aim a (line.Token t) e = absurd (none-some t (sym e))
-other_line_of_an_aim (aim.Attempt back ahead) l e = refl
-other_line_of_an_aim a l e = refl
-
 -- ---- a part
+
+-- a decision more in the last frame, if it may be there
+one_where : {X : Type 0} (b : Bool) (x : X) → where_true b (x ∷ []) ≡ option_map (λ y. y ∷ []) (where_true b x)
+one_where true x = refl
+one_where false x = refl
+
+next_where : {X : Type 0} (b : Bool) (t x : X) (front : List X)
+    → option_map (λ rest. t ∷ rest) (option_map (λ y. front ++ y ∷ []) (where_true b x))
+    ≡ option_map (λ y. t ∷ front ++ y ∷ []) (where_true b x)
+next_where true t x front = refl
+next_where false t x front = refl
+
+abbrev with_set : Told → Assign → Told
+with_set told a = record told { sets = told.sets ++ a ∷ [] }
+
+pub set_at_end : (front : List Told) (told : Told) (a : Assign) → add_set (front ++ told ∷ []) a
+    ≡ option_map (λ t. front ++ t ∷ []) (where_true (is_above (vars_of told.sets) a.var) (with_set told a))
+set_at_end [] told a = one_where (is_above (vars_of told.sets) a.var) (with_set told a)
+set_at_end (t ∷ []) told a =
+    ap (option_map (λ rest. t ∷ rest)) (set_at_end [] told a)
+    ∙ next_where (is_above (vars_of told.sets) a.var) t (with_set told a) []
+set_at_end (t ∷ u ∷ front) told a =
+    ap (option_map (λ rest. t ∷ rest)) (set_at_end (u ∷ front) told a)
+    ∙ next_where (is_above (vars_of told.sets) a.var) t (with_set told a) (u ∷ front)
 
 pub swept_entry : (told : List Told) (walk : Option (List Token)) (a : Option Aim) (walks : List (List Token))
     → 0 < length walks → entry_of (part.Aborted told walk a (Some walks)) ≡ Some (Aborted told walk a walks)
@@ -47,7 +63,7 @@ closing_vector back [] line.End e = refl
 closing_vector back (v ∷ ahead) line.End e = refl
 closing_vector back ahead l e = absurd (false≢true e)
 
-not_a_token : (l : ProofLine) → is_closing l ≡ true → token_of l ≡ None
+not_a_token : (l : ProofLine) → is_closing l ≡ true → token_on l ≡ None
 not_a_token (line.Token t) e = absurd (false≢true e)
 not_a_token l e = refl
 
@@ -56,7 +72,7 @@ no_vector (aim.Attempt back ahead) l e = closing_vector back.list ahead.list l e
 no_vector a l e = refl
 
 closing_aim : (a : Aim) (l : ProofLine) → is_closing l ≡ true → grow_aim a l ≡ None
-closing_aim a l e = other_line_of_an_aim a l (not_a_token l e) ∙ no_vector a l e
+closing_aim a l e = ap (grow_aim_by a l) (not_a_token l e) ∙ no_vector a l e
 
 begins_no_aim : (l : ProofLine) → is_closing l ≡ true → begin_aim l ≡ None
 begins_no_aim (line.Untestable n) e = refl
@@ -118,7 +134,8 @@ closing_line_closes (part.Aborted told (Some tokens) None None) l e = closing_to
 closing_line_closes (part.Aborted told None (Some a) None) l e = closing_aimed told None a l e
 closing_line_closes (part.Aborted told (Some tokens) (Some a) None) l e = closing_aimed told (Some tokens) a l e
 closing_line_closes (part.Aborted told walk a (Some walks)) l e =
-    sweep_grows told walk a walks l ∙ ap (option_map (λ more. part.Aborted told walk a (Some more))) (closing_sweep walks l e)
+    sweep_grows told walk a walks l ∙ ap (option_map (λ more. part.Aborted told walk a (Some more)))
+    (closing_sweep walks l e)
 
 -- any other line ends no entry
 goes_nowhere : (last : ℕ) (l : ProofLine) → is_closing l ≡ false → go_on last l ≡ None

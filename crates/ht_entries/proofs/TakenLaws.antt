@@ -22,9 +22,9 @@ use Rattle.ht_entries.specs.declared.reader_state.Step.{Step}
 use Rattle.ht_entries.specs.ProofLines.{IsNumber, IsIndex, IsProofLine}
 use Rattle.ht_entries.specs.EntryLines.{whole_part, part_lines, entry_lines}
 use Rattle.ht_entries.specs.EntryTexts.{IsToldText, IsPartText, IsWholeEntry, IsEntryText, AreEntryTexts, numbers_of}
-use Rattle.ht_entries.specs.ProofReading.{ProofReading, before_head, after_head, within_entry, after_end, lines_read, closed_of, IsWithinEntry, IsProofReading, EndsEntry}
+use Rattle.ht_entries.specs.ProofReading.{ProofReading, before_first, after_first, within_entry, after_last, lines_taken, closed_of, IsWithinEntry, IsProofReading, EndsEntry}
 use Rattle.ht_entries.specs.ProofSteps.{where_true, is_above, grow, entry_of, go_on, step_to, close_entry, grown_or, take_line}
-use Rattle.ht_entries.specs.ReaderStands.{state_of}
+use Rattle.ht_entries.specs.ReaderStands.{kept_of}
 use Rattle.ht_entries.proofs.RisesLaws.{rises_none, rises_one, rises_add, above_last}
 use Rattle.ht_entries.proofs.GrowLaws.{where_is, mapped_is, three_empty}
 use Rattle.ht_entries.proofs.GrownLaws.{grow_is}
@@ -33,7 +33,7 @@ use Rattle.ht_entries.proofs.ReadingLaws.{reading_at, with_ended, reading_after}
 -- the line was taken after entries that are whole
 pub record GoesOn (closed : List Numbered) (l : ProofLine) (state : ReaderState) : Type 0 where
   pub readable : IsProofReading (reading_at closed state)
-  pub lines : lines_read (reading_at closed state) ≡ (line.Head ∷ flat_map entry_lines closed) ++ l ∷ []
+  pub lines : lines_taken (reading_at closed state) ≡ (line.Head ∷ flat_map entry_lines closed) ++ l ∷ []
   pub ends : closed_of (reading_at closed state) ≡ closed
 
 -- entries after which one of a number above `last` may come
@@ -89,7 +89,7 @@ entry_is (part.Aborted told walk a (Some (first ∷ walks))) e h =
 -- What a line makes of where a reader stands.
 pub record TakesLine (old : ProofReading) (l : ProofLine) (s : Step) : Type 0 where
   pub readable : IsProofReading (reading_after (closed_of old) s)
-  pub lines : lines_read (reading_after (closed_of old) s) ≡ lines_read old ++ l ∷ []
+  pub lines : lines_taken (reading_after (closed_of old) s) ≡ lines_taken old ++ l ∷ []
   pub ends : closed_of (reading_after (closed_of old) s) ≡ with_ended (closed_of old) s.ended
 
 abbrev numbered_as : ℕ → Entry → Numbered
@@ -103,9 +103,9 @@ closes closed number p e l s h w i g =
     let m = mapped_is (step_to (Some (numbered_as number e))) (go_on number l) s g in
     let one : Numbered = numbered_as number e in
     let text : IsEntryText one =
-        record { number = h.counts; part = subst IsPartText (sym w.same) h.readable; whole = w.whole } in
+    record { number = h.counts; part = subst IsPartText (sym w.same) h.readable; whole = w.whole } in
     let numbers : numbers_of (closed ++ one ∷ []) ≡ numbers_of closed ++ number ∷ [] =
-        map-append (λ (x : Numbered). x.number) closed (one ∷ []) in
+    map-append (λ (x : Numbered). x.number) closed (one ∷ []) in
     let may : MayFollow (closed ++ one ∷ []) number = record {
       are = record {
         each = All-push IsEntryText closed one h.before text;
@@ -150,18 +150,18 @@ none_may_follow = record {
 }
 
 begins_text : (l : ProofLine) (s : Step) → IsProofLine l → option_map (step_to None) (go_on 0 l) ≡ Some s
-    → TakesLine after_head l s
+    → TakesLine after_first l s
 begins_text l s i e =
     let m = mapped_is (step_to None) (go_on 0 l) s e in
     let on = goes_on [] 0 l m.from none_may_follow i m.has in
-    subst (TakesLine after_head l) m.is (record { readable = on.readable; lines = on.lines; ends = on.ends })
+    subst (TakesLine after_first l) m.is (record { readable = on.readable; lines = on.lines; ends = on.ends })
 
 pub takes_line : (old : ProofReading) (l : ProofLine) (s : Step) → IsProofReading old → IsProofLine l
-    → take_line (state_of old) l ≡ Some s → TakesLine old l s
-takes_line before_head line.Head s h i e =
-    subst (TakesLine before_head line.Head) (same_Some (step_to None AfterHead) s e)
+    → take_line (kept_of old) l ≡ Some s → TakesLine old l s
+takes_line before_first line.Head s h i e =
+    subst (TakesLine before_first line.Head) (same_Some (step_to None AfterHead) s e)
     (record { readable = tt; lines = refl; ends = refl })
-takes_line before_head l s h i e = absurd (none-some s e)
-takes_line after_head l s h i e = begins_text l s i e
+takes_line before_first l s h i e = absurd (none-some s e)
+takes_line after_first l s h i e = begins_text l s i e
 takes_line (within_entry closed number p) l s h i e = grows_or_closes closed number p (grow p l) l s h refl i e
-takes_line (after_end closed) l s h i e = absurd (none-some s e)
+takes_line (after_last closed) l s h i e = absurd (none-some s e)

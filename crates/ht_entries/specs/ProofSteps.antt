@@ -41,7 +41,8 @@ fits_width (other ∷ list) bits = eqb (length bits) (length other)
 -- a decision more in the last frame
 abbrev pub add_set : List Told → Assign → Option (List Told)
 add_set [] a = None
-add_set (told ∷ []) a = where_true (is_above (vars_of told.sets) a.var) (record told { sets = told.sets ++ a ∷ [] } ∷ [])
+add_set (told ∷ []) a = where_true (is_above (vars_of told.sets) a.var) (record told { sets = told.sets ++ a ∷ [] }
+    ∷ [])
 add_set (told ∷ next ∷ chain) a = option_map (λ rest. told ∷ rest) (add_set (next ∷ chain) a)
 
 -- a token more in the last walk
@@ -67,21 +68,27 @@ add_vector back ahead (line.Ahead bits) =
 add_vector back ahead other = None
 
 -- the token of a line, and a vector more in an aim that is an attempt
-abbrev pub token_of : ProofLine → Option Token
-token_of (line.Token t) = Some t
-token_of other = None
+abbrev pub token_on : ProofLine → Option Token
+token_on (line.Token t) = Some t
+token_on other = None
 
 abbrev pub grow_vector : Aim → ProofLine → Option Aim
 grow_vector (aim.Attempt back ahead) l = add_vector back.list ahead.list l
 grow_vector a l = None
 
+abbrev pub add_aim_token : Aim → Token → Option Aim
+add_aim_token (aim.ForwardClosed tokens) t = Some (aim.ForwardClosed (tokens ++ t ∷ []))
+add_aim_token (aim.ForwardOpen tokens) t = Some (aim.ForwardOpen (tokens ++ t ∷ []))
+add_aim_token (aim.BackClosed tokens) t = Some (aim.BackClosed (tokens ++ t ∷ []))
+add_aim_token (aim.BackOpen tokens) t = Some (aim.BackOpen (tokens ++ t ∷ []))
+add_aim_token (aim.Attempt back ahead) t = None
+
+abbrev pub grow_aim_by : Aim → ProofLine → Option Token → Option Aim
+grow_aim_by a l (Some t) = add_aim_token a t
+grow_aim_by a l None = grow_vector a l
+
 abbrev pub grow_aim : Aim → ProofLine → Option Aim
-grow_aim (aim.ForwardClosed tokens) (line.Token t) = Some (aim.ForwardClosed (tokens ++ t ∷ []))
-grow_aim (aim.ForwardOpen tokens) (line.Token t) = Some (aim.ForwardOpen (tokens ++ t ∷ []))
-grow_aim (aim.BackClosed tokens) (line.Token t) = Some (aim.BackClosed (tokens ++ t ∷ []))
-grow_aim (aim.BackOpen tokens) (line.Token t) = Some (aim.BackOpen (tokens ++ t ∷ []))
-grow_aim (aim.Attempt back ahead) other = add_vector back.list ahead.list other
-grow_aim a other = None
+grow_aim a l = grow_aim_by a l (token_on l)
 
 abbrev pub grow_sweep : List (List Token) → ProofLine → Option (List (List Token))
 grow_sweep walks (line.Length k) = where_true (eqb k (length walks + 1)) (walks ++ [] ∷ [])

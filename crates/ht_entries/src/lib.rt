@@ -1,22 +1,40 @@
 //! The proofs text: the entries of faults as lines, written and read.
+//!
+//! `specs/ProofLines` has the text of one line, `specs/EntryLines` the lines of an entry and of a whole text, and
+//! `specs/EntryTexts` says which entries have a text, and what the text doesn't show of them. A `ProofReader` takes a
+//! text line by line: `specs/ProofReading` says where it stands after some lines, `specs/ProofSteps` what a further
+//! line makes of that, and `specs/ReaderStands` what its calls owe.
 #![tactic(auto)]
 
+mod aim;
 mod entry_part;
 mod entry_text;
+mod grow;
 mod numbered;
 mod parse_line;
 mod parse_vector;
 mod parse_words;
 mod proof_line;
+mod push_item;
+mod reader;
 mod reader_state;
 mod refutation;
+mod sweep;
+mod take_line;
 mod text_error;
+mod theorems;
+mod told;
 mod write_line;
 mod write_lists;
 
 pub use entry_text::write_entry;
 pub use numbered::Numbered;
 pub use proof_line::ProofLine;
+pub use reader::ProofReader;
 pub use reader_state::Stand;
 pub use text_error::TextError;
+pub use theorems::{
+    entries_are_read_back, fronts_are_read, lines_have_one_reading, malformed_lines_are_unread,
+    text_has_one_list, written_entries_are_a_text,
+};
 pub use write_line::{end_line, head_line};

@@ -5,7 +5,7 @@ use thiserror::Error;
 /// Why a line, or the end of the text, isn't read.
 #[derive(Clone, Copy, Debug, PartialEq, Eq, Error)]
 pub enum TextError {
-    /// No proofs text has this line after the lines before it, or ends before it. Lines count from 1.
+    /// No proofs text has this line after the lines before it, or the text ends before it. Lines count from 1.
     #[error("malformed at line {line}")]
     BadText { line: u64 },
     /// Out of memory.
