@@ -1,6 +1,5 @@
-use Rattle.std.proofs.Common.{◌≡◌, ◌∙◌, List, Option, Some, false, ap, sym, subst, length}
+use Rattle.std.proofs.Common.{◌≡◌, ◌∙◌, Some, false, ap, sym, subst, length}
 use Rattle.std.proofs.lemmas.Result.{IfOk-weaker}
-use Rattle.ht_tree.specs.declared.token.Token.{Token}
 use Rattle.ht_tree.specs.AbortRecords.{IsLastWalk}
 use Rattle.ht_tree.specs.SearchRecords.{IsSpentWalk}
 use Rattle.ht_tree.specs.ToldChains.{ends_at_output, states_of}

@@ -7,7 +7,6 @@ use Rattle.ht_net.specs.declared.net.NetId.{NetId}
 use Rattle.ht_net.specs.Netlist.{no_net}
 use Rattle.ht_net.proofs.ValueLaws.{seen_get}
 use Rattle.ht_frame.specs.Values.{env_of}
-use Rattle.ht_tree.specs.declared.window.Spot.{Spot}
 use Rattle.ht_tree.specs.Places.{IsSpot}
 use Rattle.ht_check.specs.FrameSetsOf.{FrameState, set_in}
 use Rattle.ht_check.proofs.frame_sets.FrameSets.must_differ.Goals as goal
