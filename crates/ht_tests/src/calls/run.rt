@@ -1,6 +1,6 @@
 //! Tests of `run`: the worked examples, over desks in memory, byte for byte.
 
-mod cases;
+pub mod cases;
 mod faults;
 mod memory;
 mod mute;

@@ -54,13 +54,6 @@ fn shows_rows(alloc: Global, circuit: &Circuit) -> Result<bool, AllocError> {
     Ok(before && has_row(alloc, &machine, &[One, Zero])?)
 }
 
-#[test]
-fn output_rows_are_in_order(rt: HostRuntime) -> Result<(), Fail> {
-    let circuit = read(rt.alloc(), AND_GATE)?;
-    assert!(rt; shows_rows(rt.alloc(), &circuit)?);
-    Ok(())
-}
-
 /// The values of the AND gate's nets over bits, for inputs 0 and 1.
 fn settled(circuit: &Circuit, fault: Option<Fault>) -> Option<[bool; 3]> {
     if circuit.inputs() != 2 || circuit.dffs() != 0 || circuit.nets() != 3 {
@@ -72,15 +65,20 @@ fn settled(circuit: &Circuit, fault: Option<Fault>) -> Option<[bool; 3]> {
     Some(values)
 }
 
-#[test]
-fn settles_bits(rt: HostRuntime) -> Result<(), Fail> {
-    let circuit = read(rt.alloc(), AND_GATE)?;
+/// Whether the AND gate's nets take the values of bits, without a fault and with its first pin stuck at 1.
+fn settles(circuit: &Circuit) -> bool {
     let pin = Fault {
         site: Site::GatePin { gate: 0, pin: 0 },
         value: true,
     };
-    let shown = (settled(&circuit, None), settled(&circuit, Some(pin)));
-    assert!(rt; shown == (Some([false, true, false]), Some([false, true, true])));
+    settled(circuit, None) == Some([false, true, false])
+        && settled(circuit, Some(pin)) == Some([false, true, true])
+}
+
+#[test]
+fn rows_are_in_order_and_bits_settle(rt: HostRuntime) -> Result<(), Fail> {
+    let circuit = read(rt.alloc(), AND_GATE)?;
+    assert!(rt; shows_rows(rt.alloc(), &circuit)? && settles(&circuit));
     Ok(())
 }
 

@@ -1,4 +1,5 @@
 //! Tests of ht_words.
+use super::run::cases::words_of;
 use ht_words::{Job, WordsFault, command};
 use std::alloc::{AllocError, Global};
 use std::test::Fail;
@@ -35,20 +36,13 @@ fn is_answer(answer: &Result<Job, WordsFault>, names: &[&str]) -> bool {
     }
 }
 
-fn push_words(alloc: Global, words: &[&str], list: &mut Vec<String>) -> Result<(), AllocError> {
-    for word in words {
-        list.push(String::from_str(alloc, word)?)?;
-    }
-    Ok(())
-}
-
 fn asks(alloc: Global, words: &[&str], names: &[&str]) -> Result<bool, AllocError> {
-    let mut list = Vec::new(alloc);
-    push_words(alloc, words, &mut list)?;
+    let list = words_of(alloc, words)?;
     Ok(is_answer(&command(alloc, &list), names))
 }
 
-const TAKEN: &[(&[&str], &[&str])] = &[
+/// Words, and the command's name and names that they give; none where they have no form.
+const ROWS: &[(&[&str], &[&str])] = &[
     (&["sim", "n", "t", "r"], &["sim", "n", "t", "r"]),
     (&["sim", "", "", ""], &["sim", "", "", ""]),
     (&["sim", "-", "-", "-"], &["sim", "-", "-", "-"]),
@@ -59,42 +53,31 @@ const TAKEN: &[(&[&str], &[&str])] = &[
     (&["sim", "n", "--", "t", "--"], &["sim", "n", "t", "--"]),
     (&["norm", "n", "o"], &["norm", "n", "o"]),
     (&["norm", "--", "-n", "-o"], &["norm", "-n", "-o"]),
+    (&[], &[]),
+    (&["SIM", "n", "t", "r"], &[]),
+    (&["help"], &[]),
+    (&["sim"], &[]),
+    (&["sim", "n", "t"], &[]),
+    (&["sim", "n", "t", "r", "x"], &[]),
+    (&["sim", "--", "n", "t", "r", "x"], &[]),
+    (&["sim", "-1", "t", "r"], &[]),
+    (&["sim", "-n", "t", "r"], &[]),
+    (&["sim", "--n", "t", "r"], &[]),
+    (&["sim", "---", "t", "r"], &[]),
+    (&["sim", "n", "t", "r", "-h"], &[]),
+    (&["sim", "--help"], &[]),
+    (&["sim", "-V"], &[]),
+    (&["sim", "--version"], &[]),
+    (&["norm", "n"], &[]),
+    (&["norm", "n", "o", "x"], &[]),
+    (&["norm", "n", "o", "--help"], &[]),
 ];
 
 #[test]
-fn words_of_a_form_give_its_names(rt: HostRuntime) -> Result<(), Fail> {
-    for row in TAKEN {
+fn words_of_a_form_give_its_names_and_others_are_usage(rt: HostRuntime) -> Result<(), Fail> {
+    for row in ROWS {
         let (words, names) = *row;
         assert!(rt; asks(rt.alloc(), words, names)?);
-    }
-    Ok(())
-}
-
-const REFUSED: &[&[&str]] = &[
-    &[],
-    &["SIM", "n", "t", "r"],
-    &["help"],
-    &["sim"],
-    &["sim", "n", "t"],
-    &["sim", "n", "t", "r", "x"],
-    &["sim", "--", "n", "t", "r", "x"],
-    &["sim", "-1", "t", "r"],
-    &["sim", "-n", "t", "r"],
-    &["sim", "--n", "t", "r"],
-    &["sim", "---", "t", "r"],
-    &["sim", "n", "t", "r", "-h"],
-    &["sim", "--help"],
-    &["sim", "-V"],
-    &["sim", "--version"],
-    &["norm", "n"],
-    &["norm", "n", "o", "x"],
-    &["norm", "n", "o", "--help"],
-];
-
-#[test]
-fn other_words_are_usage(rt: HostRuntime) -> Result<(), Fail> {
-    for words in REFUSED {
-        assert!(rt; asks(rt.alloc(), *words, &[])?);
     }
     Ok(())
 }

@@ -88,21 +88,20 @@ fn is_left(desk: &MemoryDesk, end: &End<'_>) -> bool {
 // Whether the run comes out as it must, over a desk without files.
 fn holds_on(
     alloc: Global,
-    words: &[String],
     desk: &mut MemoryDesk,
     start: &Setup<'_>,
     end: &End<'_>,
 ) -> Result<bool, AllocError> {
     load(desk, start)?;
-    let status = run(alloc, words, desk);
+    let words = words_of(alloc, start.words)?;
+    let status = run(alloc, &words, desk);
     Ok(status == end.status && is_left(desk, end))
 }
 
 /// Whether the run comes out as it must.
 pub fn holds(alloc: Global, start: &Setup<'_>, end: &End<'_>) -> Result<bool, AllocError> {
-    let words = words_of(alloc, start.words)?;
     let mut desk = MemoryDesk::new(alloc);
-    holds_on(alloc, &words, &mut desk, start, end)
+    holds_on(alloc, &mut desk, start, end)
 }
 
 /// Whether both commands come out so over these files.

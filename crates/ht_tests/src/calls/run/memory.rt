@@ -28,17 +28,17 @@ fn line_at(status: u8) -> Option<&'static [u8]> {
 }
 
 // Whether the run says its status in its line, and leaves the report where it finishes.
-fn says_status(alloc: Global, words: &[String], desk: &mut MemoryDesk) -> Result<bool, AllocError> {
+fn says_status(alloc: Global, desk: &mut MemoryDesk) -> Result<bool, AllocError> {
     load(desk, &START)?;
-    let status = run(alloc, words, desk);
+    let words = words_of(alloc, START.words)?;
+    let status = run(alloc, &words, desk);
     let is_whole = status != 0 || desk.file("r") == Some(SHIFT_REGISTER_REPORT);
     Ok(is_whole && line_at(status) == Some(desk.err()))
 }
 
 fn status_is_said(alloc: Global) -> Result<bool, AllocError> {
-    let words = words_of(alloc, START.words)?;
     let mut desk = MemoryDesk::new(alloc);
-    says_status(alloc, &words, &mut desk)
+    says_status(alloc, &mut desk)
 }
 
 #[test]
@@ -49,17 +49,17 @@ fn refused_memory_has_its_status(rt: HostRuntime) -> Result<(), Fail> {
 
 // Whether the status is that of a failed write exactly where a write of the output failed, and not where that of the
 // line on Err did.
-fn keeps_status(alloc: Global, words: &[String], desk: &mut MuteDesk) -> Result<bool, AllocError> {
+fn keeps_status(alloc: Global, desk: &mut MuteDesk) -> Result<bool, AllocError> {
     load(&mut desk.inner, &START)?;
-    let status = run(alloc, words, desk);
+    let words = words_of(alloc, START.words)?;
+    let status = run(alloc, &words, desk);
     let is_whole = status != 0 || desk.inner.file("r") == Some(SHIFT_REGISTER_REPORT);
     Ok(is_whole && (status == 5) == desk.output_failed && line_at(status).is_some())
 }
 
 fn status_stays(alloc: Global) -> Result<bool, AllocError> {
-    let words = words_of(alloc, START.words)?;
     let mut desk = MuteDesk::new(alloc);
-    keeps_status(alloc, &words, &mut desk)
+    keeps_status(alloc, &mut desk)
 }
 
 #[test]

@@ -80,19 +80,18 @@ fn is_left(desk: &MuteDesk, status: u8) -> bool {
 // Whether the run has this status over the mute desk, and leaves what it may.
 fn ends_on(
     alloc: Global,
-    words: &[String],
     desk: &mut MuteDesk,
     start: &Setup<'_>,
     status: u8,
 ) -> Result<bool, AllocError> {
     load(&mut desk.inner, start)?;
-    Ok(run(alloc, words, desk) == status && is_left(desk, status))
+    let words = words_of(alloc, start.words)?;
+    Ok(run(alloc, &words, desk) == status && is_left(desk, status))
 }
 
 fn ends_with(alloc: Global, start: &Setup<'_>, status: u8) -> Result<bool, AllocError> {
-    let words = words_of(alloc, start.words)?;
     let mut desk = MuteDesk::new(alloc);
-    ends_on(alloc, &words, &mut desk, start, status)
+    ends_on(alloc, &mut desk, start, status)
 }
 
 const ENDS: &[(&[&str], Option<&[u8]>, Option<&[u8]>, Option<Plan>, u8)] = &[
