@@ -14,10 +14,10 @@ use Rattle.ht_texts.specs.declared.total.Sums.{Sums}
 use Rattle.ht_texts.specs.Counts.{CountsOne, CountsItem}
 use Rattle.ht_texts.specs.ReportLines.{SaysItem}
 use Rattle.ht_texts.specs.ReportReaderOf.{report_view, ReadsReport}
-use Rattle.ht_texts.specs.ReportReading.{ReportReading, before_head, after_head, after_total, ReportReadsTo}
+use Rattle.ht_texts.specs.ReportReading.{ReportReading, before_report, in_report, after_report, ReportReadsTo}
 use Rattle.ht_texts.specs.ReportStands.{ReportCalled}
 use Rattle.ht_texts.specs.SearchReports.{IsSearchReport}
-use Rattle.ht_texts.proofs.ReadingLaws.{length-after_head, item_read, next_line_says}
+use Rattle.ht_texts.proofs.ReadingLaws.{length-in_report, item_read, next_line_says}
 use Rattle.ht_texts.proofs.ReportFrontLaws.{length-report_lines, front_is_reading}
 
 -- 32 bits count the lines of a report
@@ -157,15 +157,15 @@ line_refused a line reads none = record {
 
 pub whole_read : (c : Netlist) (representatives : List ℕ) (lines : List (List ℕ)) (at : ReportReading)
     → ReportReadsTo c representatives lines at → length lines ≡ length (faults_of c) + 2
-    → (budget : ℕ) × (saids : List Said) × (at ≡ after_total budget saids)
-whole_read c representatives lines before_head read all = absurd (omega (arith, all, ap length read.lines_are))
-whole_read c representatives lines (after_head budget saids) read all = absurd (omega (
+    → (budget : ℕ) × (saids : List Said) × (at ≡ after_report budget saids)
+whole_read c representatives lines before_report read all = absurd (omega (arith, all, ap length read.lines_are))
+whole_read c representatives lines (in_report budget saids) read all = absurd (omega (
   arith,
   all,
-  length-after_head c representatives lines budget saids read,
+  length-in_report c representatives lines budget saids read,
   read.readable.saids_are.listed,
 ))
-whole_read c representatives lines (after_total budget saids) read all = (budget, saids, refl)
+whole_read c representatives lines (after_report budget saids) read all = (budget, saids, refl)
 
 pub not_whole : (c : Netlist) (representatives : List ℕ) (lines : List (List ℕ)) (budget : ℕ) (saids : List Said)
     → length lines ≢ length (faults_of c) + 2 → ¬ IsSearchReport c representatives lines budget saids

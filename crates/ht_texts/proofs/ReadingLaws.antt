@@ -15,7 +15,7 @@ use Rattle.ht_texts.specs.Counts.{CountsItem, representatives_below, sums_among,
 use Rattle.ht_texts.specs.Reports.{head_line, line_front, fault_line, fault_lines, first_lines, body_lines, report_sums, total_line}
 use Rattle.ht_texts.specs.SearchReports.{IsSearched, IsSearchOf}
 use Rattle.ht_texts.specs.ReportLines.{SaysOfFault, SaysItem}
-use Rattle.ht_texts.specs.ReportReading.{ReportReading, before_head, after_head, after_total, ReportReadsTo, fault_item, last_item, read_on}
+use Rattle.ht_texts.specs.ReportReading.{ReportReading, before_report, in_report, after_report, ReportReadsTo, fault_item, last_item, read_on}
 use Rattle.ht_texts.specs.ReportStands.{sums_read}
 use Rattle.ht_texts.proofs.SaidLaws.{said_before, said_last, line_of_representative, line_of_member, length-fault_lines, get_or-fault_lines, fault_lines_more, fault_lines_push}
 use Rattle.ht_texts.proofs.TallyLaws.{sums_agree, verdict_counted, member_not_counted}
@@ -27,16 +27,16 @@ pub length-first_lines : (c : Netlist) (representatives : List ℕ) (budget : �
     → length (first_lines c representatives (Some budget) saids n) ≡ n + 1
 length-first_lines c representatives budget saids n = omega (arith, length-fault_lines c representatives saids n)
 
-pub length-after_head : (c : Netlist) (representatives : List ℕ) (lines : List (List ℕ)) (budget : ℕ)
-    (saids : List Said) → ReportReadsTo c representatives lines (after_head budget saids)
+pub length-in_report : (c : Netlist) (representatives : List ℕ) (lines : List (List ℕ)) (budget : ℕ)
+    (saids : List Said) → ReportReadsTo c representatives lines (in_report budget saids)
     → length lines ≡ length saids + 1
-length-after_head c representatives lines budget saids read =
+length-in_report c representatives lines budget saids read =
     ap length read.lines_are ∙ length-first_lines c representatives budget saids (length saids)
 
-pub length-after_total : (c : Netlist) (representatives : List ℕ) (lines : List (List ℕ)) (budget : ℕ)
-    (saids : List Said) → ReportReadsTo c representatives lines (after_total budget saids)
+pub length-after_report : (c : Netlist) (representatives : List ℕ) (lines : List (List ℕ)) (budget : ℕ)
+    (saids : List Said) → ReportReadsTo c representatives lines (after_report budget saids)
     → length lines ≡ length (faults_of c) + 2
-length-after_total c representatives lines budget saids read =
+length-after_report c representatives lines budget saids read =
     let total = total_line (report_sums representatives (Some budget) saids) in
     omega (
       arith,
@@ -56,7 +56,7 @@ pub record ReadsOn (c : Netlist) (representatives : List ℕ) (lines : List (Lis
 
 -- what the last line says of the last fault
 last_item_push : (representatives : List ℕ) (budget : ℕ) (saids : List Said) (said : Said)
-    → last_item representatives (after_head budget (saids ++ said ∷ []))
+    → last_item representatives (in_report budget (saids ++ said ∷ []))
     ≡ Some (fault_item representatives (length saids) said)
 last_item_push representatives budget [] said = refl
 last_item_push representatives budget (first ∷ more) said =
@@ -92,8 +92,8 @@ fault_read : (c : Netlist) (representatives : List ℕ) (lines : List (List ℕ)
     (saids : List Said) (said : Said) → length saids < length (faults_of c)
     → (is_representative representatives (length saids) ≡ true → IsSearched c said)
     → line ≡ fault_line c representatives (length saids) said
-    → ReportReadsTo c representatives lines (after_head budget saids)
-    → ReportReadsTo c representatives (lines ++ line ∷ []) (after_head budget (saids ++ said ∷ []))
+    → ReportReadsTo c representatives lines (in_report budget saids)
+    → ReportReadsTo c representatives (lines ++ line ∷ []) (in_report budget (saids ++ said ∷ []))
 fault_read c representatives lines line budget saids said inside searched is read = record {
   readable = searched_push c representatives budget saids said inside searched read.readable;
   lines_are =
@@ -109,9 +109,9 @@ fault_read c representatives lines line budget saids said inside searched is rea
 verdict_read : (c : Netlist) (representatives : List ℕ) (lines : List (List ℕ)) (line : List ℕ) (budget : ℕ)
     (saids : List Said) (said : Said) (old new : Sums) → IsSearched c said
     → SaysOfFault c representatives (length saids) true line said
-    → ReportReadsTo c representatives lines (after_head budget saids)
-    → old ≡ sums_read representatives (after_head budget saids) → CountsItem (Verdict (length saids) said) old new
-    → ReadsOn c representatives (lines ++ line ∷ []) (after_head budget saids) (Verdict (length saids) said) new
+    → ReportReadsTo c representatives lines (in_report budget saids)
+    → old ≡ sums_read representatives (in_report budget saids) → CountsItem (Verdict (length saids) said) old new
+    → ReadsOn c representatives (lines ++ line ∷ []) (in_report budget saids) (Verdict (length saids) said) new
 verdict_read c representatives lines line budget saids said old new searched of_fault read sums counts = record {
   read = fault_read c representatives lines line budget saids said of_fault.listed (λ _. searched) of_fault.line_is
       read;
@@ -123,9 +123,9 @@ verdict_read c representatives lines line budget saids said old new searched of_
 
 member_read : (c : Netlist) (representatives : List ℕ) (lines : List (List ℕ)) (line : List ℕ) (budget : ℕ)
     (saids : List Said) (old new : Sums) → SaysOfFault c representatives (length saids) false line Undetected
-    → ReportReadsTo c representatives lines (after_head budget saids)
-    → old ≡ sums_read representatives (after_head budget saids) → new ≡ old
-    → ReadsOn c representatives (lines ++ line ∷ []) (after_head budget saids) (Member (length saids)) new
+    → ReportReadsTo c representatives lines (in_report budget saids)
+    → old ≡ sums_read representatives (in_report budget saids) → new ≡ old
+    → ReadsOn c representatives (lines ++ line ∷ []) (in_report budget saids) (Member (length saids)) new
 member_read c representatives lines line budget saids old new of_fault read sums counts = record {
   read = fault_read c representatives lines line budget saids Undetected of_fault.listed
       (λ own. cc) of_fault.line_is read;
@@ -138,9 +138,9 @@ member_read c representatives lines line budget saids old new of_fault read sums
 total_read : (c : Netlist) (representatives : List ℕ) (lines : List (List ℕ)) (line : List ℕ) (budget : ℕ)
     (saids : List Said) (old new : Sums) → length representatives ≡ length (faults_of c)
     → length saids ≡ length (faults_of c) → line ≡ total_line old
-    → ReportReadsTo c representatives lines (after_head budget saids)
-    → old ≡ sums_read representatives (after_head budget saids) → new ≡ old
-    → ReadsOn c representatives (lines ++ line ∷ []) (after_head budget saids) Total new
+    → ReportReadsTo c representatives lines (in_report budget saids)
+    → old ≡ sums_read representatives (in_report budget saids) → new ≡ old
+    → ReadsOn c representatives (lines ++ line ∷ []) (in_report budget saids) Total new
 total_read c representatives lines line budget saids old new listed all is read sums counts = record {
   read = record {
     readable = subst (λ n. IsSearchOf c representatives n budget saids) all read.readable;
@@ -162,7 +162,7 @@ pub item_read : (c : Netlist) (representatives : List ℕ) (lines : List (List �
     → ReportReadsTo c representatives lines at → old ≡ sums_read representatives at
     → SaysItem c representatives (length lines) old line item → CountsItem item old new
     → ReadsOn c representatives (lines ++ line ∷ []) at item new
-item_read c representatives lines before_head line (Head budget) old new listed read sums says counts = record {
+item_read c representatives lines before_report line (Head budget) old new listed read sums says counts = record {
   read = record {
     readable = record {
       budget_is = says.1;
@@ -173,35 +173,35 @@ item_read c representatives lines before_head line (Head budget) old new listed 
   says = refl;
   sums_are = counts ∙ sums;
 }
-item_read c representatives lines before_head line (Verdict i said) old new listed read sums says counts =
+item_read c representatives lines before_report line (Verdict i said) old new listed read sums says counts =
     absurd (omega (arith, ap length read.lines_are, says.0))
-item_read c representatives lines before_head line (Member i) old new listed read sums says counts =
+item_read c representatives lines before_report line (Member i) old new listed read sums says counts =
     absurd (omega (arith, ap length read.lines_are, says.0))
-item_read c representatives lines before_head line Total old new listed read sums says counts =
+item_read c representatives lines before_report line Total old new listed read sums says counts =
     absurd (omega (arith, ap length read.lines_are, says.0))
-item_read c representatives lines (after_head budget saids) line (Head b) old new listed read sums says counts =
-    absurd (omega (arith, length-after_head c representatives lines budget saids read, says.0))
-item_read c representatives lines (after_head budget saids) line (Verdict i said) old new listed read sums says counts =
-    let next : length saids ≡ i = omega (arith, length-after_head c representatives lines budget saids read, says.0) in
-    subst (λ k. ReadsOn c representatives (lines ++ line ∷ []) (after_head budget saids) (Verdict k said) new) next
+item_read c representatives lines (in_report budget saids) line (Head b) old new listed read sums says counts =
+    absurd (omega (arith, length-in_report c representatives lines budget saids read, says.0))
+item_read c representatives lines (in_report budget saids) line (Verdict i said) old new listed read sums says counts =
+    let next : length saids ≡ i = omega (arith, length-in_report c representatives lines budget saids read, says.0) in
+    subst (λ k. ReadsOn c representatives (lines ++ line ∷ []) (in_report budget saids) (Verdict k said) new) next
     (verdict_read c representatives lines line budget saids said old new says.1
     (subst (λ k. SaysOfFault c representatives k true line said) (sym next) says.2) read sums counts)
-item_read c representatives lines (after_head budget saids) line (Member i) old new listed read sums says counts =
-    let next : length saids ≡ i = omega (arith, length-after_head c representatives lines budget saids read, says.0) in
-    subst (λ k. ReadsOn c representatives (lines ++ line ∷ []) (after_head budget saids) (Member k) new) next
+item_read c representatives lines (in_report budget saids) line (Member i) old new listed read sums says counts =
+    let next : length saids ≡ i = omega (arith, length-in_report c representatives lines budget saids read, says.0) in
+    subst (λ k. ReadsOn c representatives (lines ++ line ∷ []) (in_report budget saids) (Member k) new) next
     (member_read c representatives lines line budget saids old new
     (subst (λ k. SaysOfFault c representatives k false line Undetected) (sym next) says.1) read sums counts)
-item_read c representatives lines (after_head budget saids) line Total old new listed read sums says counts =
+item_read c representatives lines (in_report budget saids) line Total old new listed read sums says counts =
     total_read c representatives lines line budget saids old new listed
-    (omega (arith, length-after_head c representatives lines budget saids read, says.0)) says.1 read sums counts
-item_read c representatives lines (after_total budget saids) line (Head b) old new listed read sums says counts =
-    absurd (omega (arith, length-after_total c representatives lines budget saids read, says.0))
-item_read c representatives lines (after_total budget saids) line (Verdict i s) old new listed read sums says counts =
-    absurd (omega (arith, length-after_total c representatives lines budget saids read, says.0, says.2.listed))
-item_read c representatives lines (after_total budget saids) line (Member i) old new listed read sums says counts =
-    absurd (omega (arith, length-after_total c representatives lines budget saids read, says.0, says.1.listed))
-item_read c representatives lines (after_total budget saids) line Total old new listed read sums says counts =
-    absurd (omega (arith, length-after_total c representatives lines budget saids read, says.0))
+    (omega (arith, length-in_report c representatives lines budget saids read, says.0)) says.1 read sums counts
+item_read c representatives lines (after_report budget saids) line (Head b) old new listed read sums says counts =
+    absurd (omega (arith, length-after_report c representatives lines budget saids read, says.0))
+item_read c representatives lines (after_report budget saids) line (Verdict i s) old new listed read sums says counts =
+    absurd (omega (arith, length-after_report c representatives lines budget saids read, says.0, says.2.listed))
+item_read c representatives lines (after_report budget saids) line (Member i) old new listed read sums says counts =
+    absurd (omega (arith, length-after_report c representatives lines budget saids read, says.0, says.1.listed))
+item_read c representatives lines (after_report budget saids) line Total old new listed read sums says counts =
+    absurd (omega (arith, length-after_report c representatives lines budget saids read, says.0))
 
 -- ---- which line that may be
 
@@ -246,12 +246,12 @@ body_sums : (c : Netlist) (representatives : List ℕ) (lines : List (List ℕ))
     (saids : List Said) (sums : Sums) → length representatives ≡ length (faults_of c)
     → ReportReadsTo c representatives lines at → sums ≡ sums_read representatives at
     → lines ≡ body_lines c representatives (Some budget) saids → sums ≡ sums_of representatives saids true
-body_sums c representatives lines before_head budget saids sums listed read sums_are body =
+body_sums c representatives lines before_report budget saids sums listed read sums_are body =
     absurd (omega (arith, ap length read.lines_are, ap length body))
-body_sums c representatives lines (after_head b a) budget saids sums listed read sums_are body =
+body_sums c representatives lines (in_report b a) budget saids sums listed read sums_are body =
     let all : length a ≡ length (faults_of c) = omega (
       arith,
-      length-after_head c representatives lines b a read,
+      length-in_report c representatives lines b a read,
       ap length body,
       length-first_lines c representatives budget saids (length (faults_of c)),
     ) in
@@ -263,10 +263,10 @@ body_sums c representatives lines (after_head b a) budget saids sums listed read
     ∙ sums_agree representatives a saids true (length representatives)
     (λ i below own. bodies_count_alike c representatives b budget a saids (length (faults_of c)) same i
     (omega (arith, below, listed)) own)
-body_sums c representatives lines (after_total b a) budget saids sums listed read sums_are body =
+body_sums c representatives lines (after_report b a) budget saids sums listed read sums_are body =
     absurd (omega (
       arith,
-      length-after_total c representatives lines b a read,
+      length-after_report c representatives lines b a read,
       ap length body,
       length-first_lines c representatives budget saids (length (faults_of c)),
     ))
@@ -298,17 +298,17 @@ pub next_line_says : (c : Netlist) (representatives : List ℕ) (lines : List (L
     → ReportReadsTo c representatives lines at → sums ≡ sums_read representatives at
     → ReportReadsTo c representatives (lines ++ line ∷ []) next
     → (item : Item) × SaysItem c representatives (length lines) sums line item
-next_line_says c representatives lines at before_head line sums listed read sums_are more =
+next_line_says c representatives lines at before_report line sums listed read sums_are more =
     absurd (omega (arith, ap length more.lines_are, length-append lines (line ∷ [])))
-next_line_says c representatives lines at (after_head budget saids) line sums listed read sums_are more =
+next_line_says c representatives lines at (in_report budget saids) line sums listed read sums_are more =
     let count : length lines ≡ length saids = omega (
       arith,
       length-append lines (line ∷ []),
-      length-after_head c representatives (lines ++ line ∷ []) budget saids more,
+      length-in_report c representatives (lines ++ line ∷ []) budget saids more,
     ) in
     first_line_says c representatives lines line budget saids sums (length lines) count more.readable
     (more.lines_are ∙ ap (first_lines c representatives (Some budget) saids) (sym count))
-next_line_says c representatives lines at (after_total budget saids) line sums listed read sums_are more =
+next_line_says c representatives lines at (after_report budget saids) line sums listed read sums_are more =
     let total = total_line (report_sums representatives (Some budget) saids) in
     let parts = same_from_push lines (body_lines c representatives (Some budget) saids) line total more.lines_are in (
       Total,

@@ -20,7 +20,7 @@ use Rattle.ht_texts.specs.Verdicts.{is_detected, is_untestable, is_aborted}
 use Rattle.ht_texts.specs.Reports.{head_line, fault_line, total_line}
 use Rattle.ht_texts.specs.SearchReports.{IsSearched}
 use Rattle.ht_texts.specs.ReportLines.{SaysItem}
-use Rattle.ht_texts.specs.ReportReading.{ReportReading, before_head, ReportReadsTo, read_on}
+use Rattle.ht_texts.specs.ReportReading.{ReportReading, before_report, ReportReadsTo, read_on}
 use Rattle.ht_texts.specs.ReportStands.{sums_read}
 use Rattle.ht_texts.proofs.ItemLaws.{no_head, no_fault_line, no_total}
 use Rattle.ht_texts.proofs.ReadingLaws.{item_read, next_line_says}
@@ -209,7 +209,7 @@ pub read_or_stop : (c : Netlist) (representatives : List ℕ) (lines : List (Lis
     → ((at : ReportReading) × ReportReadsTo c representatives (take n lines) at)
     ⊎ ((k : ℕ) × StopsReading c representatives lines k)
 read_or_stop c representatives lines zero listed within =
-    inl (before_head, record { readable = tt; lines_are = refl })
+    inl (before_report, record { readable = tt; lines_are = refl })
 read_or_stop c representatives lines (suc n) listed within =
     let more : n + 1 ≡ suc n = omega arith in
     let line = get_or lines n [] in

@@ -16,9 +16,9 @@ use Rattle.ht_texts.specs.declared.said.Said.TheVariants.{Untestable, Undetected
 use Rattle.ht_texts.specs.Verdicts.{said_at, verdict_text}
 use Rattle.ht_texts.specs.Reports.{circuit_sizes, fault_sizes, head_line, line_front, fault_line, fault_lines, first_lines, body_lines, report_sums, total_line, report_lines}
 use Rattle.ht_texts.specs.SearchReports.{IsSearched, AreSearched, IsSearchOf, IsSearchReport, IsReportFront}
-use Rattle.ht_texts.specs.ReportReading.{ReportReading, before_head, after_head, after_total, ReportReadsTo, SameSearch, SaySame}
+use Rattle.ht_texts.specs.ReportReading.{ReportReading, before_report, in_report, after_report, ReportReadsTo, SameSearch, SaySame}
 use Rattle.ht_texts.proofs.SaidLaws.{said_before, line_of_representative, length-fault_lines, get_or-fault_lines, same_fault_lines}
-use Rattle.ht_texts.proofs.ReadingLaws.{length-first_lines, length-after_head, length-after_total}
+use Rattle.ht_texts.proofs.ReadingLaws.{length-first_lines, length-in_report, length-after_report}
 use Rattle.ht_texts.proofs.VerdictLaws.{one_verdict}
 
 -- ---- the first lines of a report
@@ -100,7 +100,7 @@ front_of c representatives lines whole k budget saids is report = record {
 pub reading_is_front : (c : Netlist) (representatives : List ℕ) (lines : List (List ℕ)) (at : ReportReading)
     → ReportReadsTo c representatives lines at → IsReportFront c representatives lines
 unfolding completed
-reading_is_front c representatives lines before_head read =
+reading_is_front c representatives lines before_report read =
     let none : IsSearchOf c representatives 0 1 [] = record {
       budget_is = (omega arith, omega arith);
       saids_are = record { each = refl; listed = omega arith; searched = λ i below. absurd (omega arith) };
@@ -108,7 +108,7 @@ reading_is_front c representatives lines before_head read =
     front_of c representatives lines (report_lines c representatives (Some 1) (completed c [])) 0 1 (completed c [])
     read.lines_are
     (record { search = completed_is_searched c representatives 0 1 [] none; lines_are = refl })
-reading_is_front c representatives lines (after_head budget saids) read =
+reading_is_front c representatives lines (in_report budget saids) read =
     let n = length saids in
     let all = completed c saids in
     let whole = report_lines c representatives (Some budget) all in
@@ -119,7 +119,7 @@ reading_is_front c representatives lines (after_head budget saids) read =
     ∙ sym (take_report c representatives budget all n read.readable.saids_are.listed) in
     front_of c representatives lines whole (suc n) budget all begins
     (record { search = completed_is_searched c representatives n budget saids read.readable; lines_are = refl })
-reading_is_front c representatives lines (after_total budget saids) read = record {
+reading_is_front c representatives lines (after_report budget saids) read = record {
   budget = budget;
   saids = saids;
   more = [];
@@ -149,7 +149,7 @@ taken_is_searched c representatives n k budget saids within is =
 first_lines_read : (c : Netlist) (representatives : List ℕ) (lines more : List (List ℕ)) (budget : ℕ)
     (saids : List Said) (m : ℕ) → IsSearchReport c representatives (lines ++ more) budget saids
     → length lines ≡ suc m → m ≤ length (faults_of c)
-    → ReportReadsTo c representatives lines (after_head budget (take m saids))
+    → ReportReadsTo c representatives lines (in_report budget (take m saids))
 first_lines_read c representatives lines more budget saids m report count within =
     let size : length (take m saids) ≡ m =
     length-take-le m saids (omega (arith, within, report.search.saids_are.each)) in
@@ -168,11 +168,11 @@ by_count : (c : Netlist) (representatives : List ℕ) (lines more : List (List �
     (n : ℕ) → length lines ≡ n → IsSearchReport c representatives (lines ++ more) budget saids
     → (at : ReportReading) × ReportReadsTo c representatives lines at
 by_count c representatives lines more budget saids zero count report =
-    (before_head, record { readable = tt; lines_are = nil_from_length lines count })
+    (before_report, record { readable = tt; lines_are = nil_from_length lines count })
 by_count c representatives lines more budget saids (suc m) count report =
     elim (cases_lt (length (faults_of c)) m) [
       | inr within ↦ (
-        after_head budget (take m saids),
+        in_report budget (take m saids),
         first_lines_read c representatives lines more budget saids m report count within,
       )
       | inl past ↦
@@ -184,7 +184,7 @@ by_count c representatives lines more budget saids (suc m) count report =
             ap length report.lines_are,
             length-report_lines c representatives budget saids,
           )) in (
-            after_total budget saids,
+            after_report budget saids,
             record {
               readable = report.search;
               lines_are = sym (append-nil lines) ∙ ap (λ l. lines ++ l) (sym none) ∙ report.lines_are;
@@ -251,37 +251,37 @@ one_report c representatives lines budget budget' a b is of_a of_b =
 pub one_reading : (c : Netlist) (representatives : List ℕ) (lines : List (List ℕ)) (a b : ReportReading)
     → IsCircuit c → ReportReadsTo c representatives lines a → ReportReadsTo c representatives lines b
     → SaySame representatives a b
-one_reading c representatives lines before_head before_head is of_a of_b = tt
-one_reading c representatives lines before_head (after_head k saids) is of_a of_b =
-    omega (arith, ap length of_a.lines_are, length-after_head c representatives lines k saids of_b)
-one_reading c representatives lines before_head (after_total k saids) is of_a of_b =
-    omega (arith, ap length of_a.lines_are, length-after_total c representatives lines k saids of_b)
-one_reading c representatives lines (after_head j a) before_head is of_a of_b =
-    omega (arith, ap length of_b.lines_are, length-after_head c representatives lines j a of_a)
-one_reading c representatives lines (after_head j a) (after_head k b) is of_a of_b =
+one_reading c representatives lines before_report before_report is of_a of_b = tt
+one_reading c representatives lines before_report (in_report k saids) is of_a of_b =
+    omega (arith, ap length of_a.lines_are, length-in_report c representatives lines k saids of_b)
+one_reading c representatives lines before_report (after_report k saids) is of_a of_b =
+    omega (arith, ap length of_a.lines_are, length-after_report c representatives lines k saids of_b)
+one_reading c representatives lines (in_report j a) before_report is of_a of_b =
+    omega (arith, ap length of_b.lines_are, length-in_report c representatives lines j a of_a)
+one_reading c representatives lines (in_report j a) (in_report k b) is of_a of_b =
     let same : length b ≡ length a = omega (
       arith,
-      length-after_head c representatives lines j a of_a,
-      length-after_head c representatives lines k b of_b,
+      length-in_report c representatives lines j a of_a,
+      length-in_report c representatives lines k b of_b,
     ) in
     same_search c representatives (length a) j k a b is of_a.readable
     (subst (λ n. IsSearchOf c representatives n k b) same of_b.readable)
     (sym of_a.lines_are ∙ of_b.lines_are ∙ ap (first_lines c representatives (Some k) b) same)
-one_reading c representatives lines (after_head j a) (after_total k b) is of_a of_b = omega (
+one_reading c representatives lines (in_report j a) (after_report k b) is of_a of_b = omega (
   arith,
-  length-after_head c representatives lines j a of_a,
-  length-after_total c representatives lines k b of_b,
+  length-in_report c representatives lines j a of_a,
+  length-after_report c representatives lines k b of_b,
   of_a.readable.saids_are.listed,
 )
-one_reading c representatives lines (after_total j a) before_head is of_a of_b =
-    omega (arith, ap length of_b.lines_are, length-after_total c representatives lines j a of_a)
-one_reading c representatives lines (after_total j a) (after_head k b) is of_a of_b = omega (
+one_reading c representatives lines (after_report j a) before_report is of_a of_b =
+    omega (arith, ap length of_b.lines_are, length-after_report c representatives lines j a of_a)
+one_reading c representatives lines (after_report j a) (in_report k b) is of_a of_b = omega (
   arith,
-  length-after_total c representatives lines j a of_a,
-  length-after_head c representatives lines k b of_b,
+  length-after_report c representatives lines j a of_a,
+  length-in_report c representatives lines k b of_b,
   of_b.readable.saids_are.listed,
 )
-one_reading c representatives lines (after_total j a) (after_total k b) is of_a of_b =
+one_reading c representatives lines (after_report j a) (after_report k b) is of_a of_b =
     one_report c representatives lines j k a b is
     (record { search = of_a.readable; lines_are = of_a.lines_are })
     (record { search = of_b.readable; lines_are = of_b.lines_are })

@@ -9,7 +9,7 @@ use Rattle.ht_ports.specs.LineRule.{lines_of, max_text_bytes}
 use Rattle.ht_texts.specs.declared.said.Said.{Said}
 use Rattle.ht_texts.specs.Tests.{IsTooLong, line_of_byte}
 use Rattle.ht_texts.specs.SearchReports.{IsSearchReport, IsReportFront, IsReportText, IsNoReportLine, EndsTooEarly, IsMalformedReport}
-use Rattle.ht_texts.specs.ReportReading.{ReportReading, after_total, ReportReadsTo}
+use Rattle.ht_texts.specs.ReportReading.{ReportReading, after_report, ReportReadsTo}
 use Rattle.ht_texts.proofs.ReaderLaws.{whole_read, not_whole}
 use Rattle.ht_texts.proofs.ReportChoiceLaws.{StopsReading, read_or_stop}
 use Rattle.ht_texts.proofs.ReportFrontLaws.{reading_is_front, front_is_reading}
@@ -34,7 +34,7 @@ front_of_front c representatives lines n front = record {
 report_is_front : (c : Netlist) (representatives : List ℕ) (lines : List (List ℕ)) (budget : ℕ) (saids : List Said)
     → IsSearchReport c representatives lines budget saids → IsReportFront c representatives lines
 report_is_front c representatives lines budget saids report =
-    reading_is_front c representatives lines (after_total budget saids)
+    reading_is_front c representatives lines (after_report budget saids)
     (record { readable = report.search; lines_are = report.lines_are })
 
 pub report_is_not_malformed : (c : Netlist) (representatives : List ℕ) (text : List ℕ) (budget : ℕ)

@@ -29,7 +29,7 @@ use Rattle.ht_texts.specs.Sites.{IsSite, pin_text, site_text, output_text}
 use Rattle.ht_texts.specs.Verdicts.{said_at, IsSayable, verdict_text, is_detected, is_untestable, is_aborted}
 use Rattle.ht_texts.specs.Counts.{count_said}
 use Rattle.ht_texts.specs.Reports.{head_line, fault_text, line_front, outcome_text, fault_line, fault_lines, report_sums, total_line, report_lines, report_text}
-use Rattle.ht_texts.specs.SearchReports.{is_plain, HasPlainNames, IsSearchOf, IsReportText}
+use Rattle.ht_texts.specs.SearchReports.{is_line_byte, HasPlainNames, IsSearchOf, IsReportText}
 use Rattle.ht_texts.proofs.LineLaws.{IsClean, AreClean, ends_without_cr, lines_are_lines}
 use Rattle.ht_texts.proofs.ReaderLaws.{lines_few}
 use Rattle.ht_texts.proofs.SaidLaws.{outcome_of_representative, outcome_of_member}
@@ -38,14 +38,14 @@ use Rattle.ht_texts.proofs.SiteLaws.{fault_is_on_line}
 -- ---- plain bytes
 
 abbrev ArePlain : List ℕ → Type 0
-ArePlain bytes = list_all is_plain bytes ≡ true
+ArePlain bytes = list_all is_line_byte bytes ≡ true
 
 plain_both : (a b : List ℕ) → ArePlain a → ArePlain b → ArePlain (a ++ b)
 plain_both a b of_a of_b =
-    list_all-append is_plain a b ∙ and_from (list_all is_plain a) (list_all is_plain b) of_a of_b
+    list_all-append is_line_byte a b ∙ and_from (list_all is_line_byte a) (list_all is_line_byte b) of_a of_b
 
 plain_byte : (byte : ℕ) → byte ≢ 10 → byte ≢ 13 → ArePlain (byte ∷ [])
-plain_byte byte no_lf no_cr = and_from (is_plain byte) true
+plain_byte byte no_lf no_cr = and_from (is_line_byte byte) true
     (and_from (not (byte == 10)) (not (byte == 13)) (not_from_false (byte == 10) (ne_eqb byte 10 no_lf))
     (not_from_false (byte == 13) (ne_eqb byte 13 no_cr))) refl
 
@@ -66,13 +66,13 @@ plain_at : (bytes : List ℕ) (k : ℕ) → ArePlain bytes → k < length bytes
     → (get_or bytes k 0 ≢ 10) × (get_or bytes k 0 ≢ 13)
 plain_at bytes k plain below =
     let byte = get_or bytes k 0 in
-    elim (cases_Bool (is_plain byte)) [
+    elim (cases_Bool (is_line_byte byte)) [
       | inl is ↦
           let parts = and_parts (not (byte == 10)) (not (byte == 13)) is in (
             eqb-false byte 10 (not-true (byte == 10) parts.0),
             eqb-false byte 13 (not-true (byte == 13) parts.1),
           )
-      | inr other ↦ absurd (false≢true (sym (list_all_at is_plain bytes k 0 below other) ∙ plain))
+      | inr other ↦ absurd (false≢true (sym (list_all_at is_line_byte bytes k 0 below other) ∙ plain))
     ]
 
 plain_is_clean : (bytes : List ℕ) → ArePlain bytes → IsClean bytes
@@ -86,7 +86,7 @@ plain_is_clean bytes plain = record {
 plain_name : (c : Netlist) (net : NetId) → HasPlainNames c → ArePlain (name_of c net)
 plain_name c net names = elim (cases_lt net.0 (length c.names)) [
   | inl below ↦ names net.0 [] below
-  | inr past ↦ ap (list_all is_plain) (get_or-eq_default c.names [] past)
+  | inr past ↦ ap (list_all is_line_byte) (get_or-eq_default c.names [] past)
 ]
 
 plain_pin : (c : Netlist) (net number : ℕ) → HasPlainNames c → number < 2 ^ 64 → ArePlain (pin_text c net number)
@@ -133,10 +133,10 @@ plain_outcome : (c : Netlist) (representatives : List ℕ) (i : ℕ) (said : Sai
 plain_outcome c representatives i said is classes names inside sayable =
     elim (cases_Bool (is_representative representatives i)) [
       | inl own ↦
-          ap (list_all is_plain) (outcome_of_representative c representatives i said own)
+          ap (list_all is_line_byte) (outcome_of_representative c representatives i said own)
           ∙ plain_verdict c said names (sayable own)
       | inr other ↦
-          ap (list_all is_plain) (outcome_of_member c representatives i said other)
+          ap (list_all is_line_byte) (outcome_of_member c representatives i said other)
           ∙ plain_both (codes "as ") (decimal (get_or representatives i 0 + 1)) refl
           (plain_decimal (get_or representatives i 0 + 1)
           (omega (arith, (classes.exact i inside).listed, lines_few c is)))

@@ -13,29 +13,29 @@ use Rattle.ht_texts.specs.SearchReports.{IsSearchOf}
 
 -- how far a report is read: no line, the head and the lines of some faults, all lines
 pub data ReportReading : Type 0 where
-  before_head : ReportReading
-  after_head : ℕ → List Said → ReportReading
-  after_total : ℕ → List Said → ReportReading
+  before_report : ReportReading
+  in_report : ℕ → List Said → ReportReading
+  after_report : ℕ → List Said → ReportReading
 
 -- what is said of the faults so far
 abbrev pub saids_read : ReportReading → List Said
-saids_read before_head = []
-saids_read (after_head budget saids) = saids
-saids_read (after_total budget saids) = saids
+saids_read before_report = []
+saids_read (in_report budget saids) = saids
+saids_read (after_report budget saids) = saids
 
 -- the lines that are read
 abbrev pub report_lines_read : Netlist → List ℕ → ReportReading → List (List ℕ)
-report_lines_read c representatives before_head = []
-report_lines_read c representatives (after_head budget saids) =
+report_lines_read c representatives before_report = []
+report_lines_read c representatives (in_report budget saids) =
     first_lines c representatives (Some budget) saids (length saids)
-report_lines_read c representatives (after_total budget saids) = report_lines c representatives (Some budget) saids
+report_lines_read c representatives (after_report budget saids) = report_lines c representatives (Some budget) saids
 
 -- a search can say this
 abbrev pub IsReportReading : Netlist → List ℕ → ReportReading → Type 0
-IsReportReading c representatives before_head = Unit {0}
-IsReportReading c representatives (after_head budget saids) =
+IsReportReading c representatives before_report = Unit {0}
+IsReportReading c representatives (in_report budget saids) =
     IsSearchOf c representatives (length saids) budget saids
-IsReportReading c representatives (after_total budget saids) =
+IsReportReading c representatives (after_report budget saids) =
     IsSearchOf c representatives (length (faults_of c)) budget saids
 
 -- The lines begin a report, and are read this far.
@@ -52,10 +52,10 @@ pub record SameSearch (representatives : List ℕ) (budget budget' : ℕ) (saids
 
 -- two reports are read equally far, and say the same
 abbrev pub SaySame : List ℕ → ReportReading → ReportReading → Type 0
-SaySame representatives before_head before_head = Unit {0}
-SaySame representatives (after_head budget saids) (after_head budget' saids') =
+SaySame representatives before_report before_report = Unit {0}
+SaySame representatives (in_report budget saids) (in_report budget' saids') =
     SameSearch representatives budget budget' saids saids'
-SaySame representatives (after_total budget saids) (after_total budget' saids') =
+SaySame representatives (after_report budget saids) (after_report budget' saids') =
     SameSearch representatives budget budget' saids saids'
 SaySame representatives _ _ = ⊥
 
@@ -67,16 +67,16 @@ fault_item representatives i said = if is_representative representatives i then 
 
 -- what the last line says
 abbrev pub last_item : List ℕ → ReportReading → Option Item
-last_item representatives before_head = None
-last_item representatives (after_head budget []) = Some (Head budget)
-last_item representatives (after_head budget (said ∷ saids)) =
+last_item representatives before_report = None
+last_item representatives (in_report budget []) = Some (Head budget)
+last_item representatives (in_report budget (said ∷ saids)) =
     Some (fault_item representatives (length saids) (said_at (said ∷ saids) (length saids)))
-last_item representatives (after_total budget saids) = Some Total
+last_item representatives (after_report budget saids) = Some Total
 
 -- how far a report is read after one line more, which says this; an item that has no place there changes nothing
 abbrev pub read_on : ReportReading → Item → ReportReading
-read_on before_head (Head budget) = after_head budget []
-read_on (after_head budget saids) (Verdict i said) = after_head budget (saids ++ said ∷ [])
-read_on (after_head budget saids) (Member i) = after_head budget (saids ++ Undetected ∷ [])
-read_on (after_head budget saids) Total = after_total budget saids
+read_on before_report (Head budget) = in_report budget []
+read_on (in_report budget saids) (Verdict i said) = in_report budget (saids ++ said ∷ [])
+read_on (in_report budget saids) (Member i) = in_report budget (saids ++ Undetected ∷ [])
+read_on (in_report budget saids) Total = after_report budget saids
 read_on at item = at

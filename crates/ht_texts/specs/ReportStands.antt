@@ -7,7 +7,7 @@ use Rattle.ht_texts.specs.declared.said.Said.{Said}
 use Rattle.ht_texts.specs.declared.total.Sums.{Sums}
 use Rattle.ht_texts.specs.Counts.{sums_among, representatives_below}
 use Rattle.ht_texts.specs.SearchReports.{IsSearchReport, IsReportFront}
-use Rattle.ht_texts.specs.ReportReading.{ReportReading, after_total, saids_read, ReportReadsTo, last_item, read_on}
+use Rattle.ht_texts.specs.ReportReading.{ReportReading, after_report, saids_read, ReportReadsTo, last_item, read_on}
 
 pub record ReportView : Type 0 where
   pub circuit : Netlist
@@ -64,6 +64,6 @@ pub record ReportCalled (old new : ReportView) (line : List ℕ) (result : Resul
 
 -- where a report ends: the lines are a whole one, or the line after the last is missing
 abbrev pub EndsReport : ReportView → List (List ℕ) → ReportReading → Result (Unit {0}) MalformedLine → Type 0
-EndsReport r lines at (Ok _) = (budget : ℕ) × (saids : List Said) × (at ≡ after_total budget saids)
+EndsReport r lines at (Ok _) = (budget : ℕ) × (saids : List Said) × (at ≡ after_report budget saids)
 EndsReport r lines at (Err error) = (error.line ≡ length lines + 1)
     × ((budget : ℕ) (saids : List Said) → ¬ IsSearchReport r.circuit r.representatives lines budget saids)

@@ -55,12 +55,13 @@ pub record IsReportText (c : Netlist) (representatives : List ℕ) (text : List 
   pub report : IsSearchReport c representatives (lines_of text) budget saids
   pub short : length text ≤ max_text_bytes
 
--- no name has an LF or a CR
-abbrev pub is_plain : ℕ → Bool
-is_plain byte = not (byte == 10) && not (byte == 13)
+-- a byte that may stand in a line wherever it comes: no LF, and no CR
+abbrev pub is_line_byte : ℕ → Bool
+is_line_byte byte = not (byte == 10) && not (byte == 13)
 
+-- no name has an LF or a CR
 abbrev pub HasPlainNames : Netlist → Type 0
-HasPlainNames c = All (λ name. IsTrue (list_all is_plain name)) c.names
+HasPlainNames c = All (λ name. IsTrue (list_all is_line_byte name)) c.names
 
 -- line n is there, and no report has it after the lines before it
 pub record IsNoReportLine (c : Netlist) (representatives : List ℕ) (text : List ℕ) (n : ℕ) : Type 0 where
