@@ -6,6 +6,7 @@ mod check;
 mod forward;
 mod justify;
 mod oneframe;
+mod report;
 mod small;
 mod trail;
 mod tree;
