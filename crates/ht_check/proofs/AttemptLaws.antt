@@ -1,4 +1,4 @@
--- What a told frame gives is as long as its circuit has inputs and latches, and what the ends of runs show of an attempt.
+-- How long what a told frame gives is, and what the ends of runs show of an attempt.
 use Rattle.std.proofs.Common.{◌≡◌, ◌↔◌, ◌<◌, ◌≤◌, ◌+◌, ◌*◌, ◌-◌, ℕ, List, [], ◌∷◌, ◌++◌, Bool, Option, Some, None, length, get_or, append_assoc, sym, ◌∙◌, ap, subst}
 use Rattle.std.proofs.lemmas.List.FromFn.{length-map-range_with_len}
 use Rattle.ht_tern.specs.declared.tern.Tern.{Tern}
@@ -43,7 +43,8 @@ reaches_by c list cube m is =
     (subst (λ (P : Type 0). P) same, subst (λ (P : Type 0). P) (sym same))
 
 still_opposite : (g f g' f' : Tern) → g ≡ g' → f ≡ f' → Opposite g f → Opposite g' f'
-still_opposite g f g' f' good faulty h = subst (λ (v : Tern). Opposite v f') good (subst (λ (v : Tern). Opposite g v) faulty h)
+still_opposite g f g' f' good faulty h =
+    subst (λ (v : Tern). Opposite v f') good (subst (λ (v : Tern). Opposite g v) faulty h)
 
 -- a list shows a difference ahead exactly where two machines that ran over it show opposite values in the end
 pub shows_by : (c : Netlist) (fault : Fault) (told : Told) (ahead : List (List Bool)) (good faulty : MachineState Tern)
