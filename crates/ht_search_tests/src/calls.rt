@@ -3,6 +3,7 @@
 mod aborted;
 mod attempts;
 mod check;
+mod entries;
 mod forward;
 mod justify;
 mod oneframe;
