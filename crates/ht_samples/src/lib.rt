@@ -41,6 +41,12 @@ z = AND(a, n)
 pub const TWINS: &[u8] =
     b"INPUT(a)\nINPUT(b)\nOUTPUT(z)\np = DFF(a)\nq = DFF(a)\nx = XOR(p, q)\nz = AND(x, b)\n";
 
+/// Two inputs that are outputs.
+pub const WIRES: &[u8] = b"INPUT(a)\nINPUT(b)\nOUTPUT(a)\nOUTPUT(b)\n";
+
+/// The output is 1 where the input changes.
+pub const CHANGE: &[u8] = b"INPUT(a)\nOUTPUT(z)\np = DFF(a)\nz = XOR(p, a)\n";
+
 /// s27 as it is known, with its header.
 pub const S27: &[u8] = b"# s27
 # 4 inputs

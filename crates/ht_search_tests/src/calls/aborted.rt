@@ -3,12 +3,10 @@ use super::small::circuit_of;
 use ht_check::entry;
 use ht_items::Items;
 use ht_net::{Circuit, Fault, NetId, Site};
-use ht_samples::TOGGLE;
+use ht_samples::{TOGGLE, WIRES};
 use ht_tree::{Aim, Assign, Entry, Spot, Token, Told};
 use std::alloc::{AllocError, Global};
 use std::test::Fail;
-
-const WIRES: &[u8] = b"INPUT(a)\nINPUT(b)\nOUTPUT(a)\nOUTPUT(b)\n";
 
 const D: Token = Token::Dead;
 

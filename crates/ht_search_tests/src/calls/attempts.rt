@@ -6,15 +6,10 @@ use super::aborted::{FrameRow, frames, walks};
 use super::small::{circuit_of, stuck_at_0};
 use ht_check::entry;
 use ht_net::{Circuit, Vectors};
+use ht_samples::CHANGE;
 use ht_tree::{Aim, Entry, Spot, Token};
 use std::alloc::{AllocError, Global};
 use std::test::Fail;
-
-const SPOILED: &[u8] = b"INPUT(a)
-OUTPUT(z)
-p = DFF(a)
-z = XOR(p, a)
-";
 
 const SHOWN: &[FrameRow] = &[(Spot::Output(0), &[(0, true), (1, true)])];
 
@@ -79,7 +74,7 @@ fn passes(alloc: Global, circuit: &Circuit, back: Vectors) -> Result<bool, Alloc
 
 fn is_as_said(alloc: Global, row: Row) -> Result<bool, Fail> {
     let (first, last, want) = row;
-    let circuit = circuit_of(alloc, SPOILED)?;
+    let circuit = circuit_of(alloc, CHANGE)?;
     Ok(passes(alloc, &circuit, list(alloc, first, last)?)? == want)
 }
 

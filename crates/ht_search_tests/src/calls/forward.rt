@@ -3,15 +3,12 @@ use super::small::{Ended, circuit_of, is_list, pair_state, stuck_at_0};
 use ht_forward::{Ahead, Swept, propagate, sweep};
 use ht_items::Items;
 use ht_net::Circuit;
-use ht_samples::{SHIFT_REGISTER, TOGGLE, TWINS};
+use ht_samples::{CHANGE, SHIFT_REGISTER, TOGGLE, TWINS};
 use ht_tern::Tern::{self, One, Unk, Zero};
 use ht_tree::{MAX_BUDGET, Token};
 use ht_window::PairState;
 use std::alloc::{AllocError, Global};
 use std::test::Fail;
-
-/// The output is 1 where the input changes.
-const CHANGE: &[u8] = b"INPUT(a)\nOUTPUT(z)\np = DFF(a)\nz = XOR(p, a)\n";
 
 /// How a sweep ends: with a list that has these bits at the one input, or with its walks of so many tokens each.
 #[derive(Clone, Copy)]

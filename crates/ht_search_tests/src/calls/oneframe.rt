@@ -2,15 +2,13 @@
 use super::small::circuit_of;
 use ht_net::{Circuit, Fault, NetId, Site};
 use ht_oneframe::{OneFrame, refute};
-use ht_samples::{ALWAYS_ZERO, HIDDEN, SHIFT_REGISTER, TOGGLE, TWINS};
+use ht_samples::{ALWAYS_ZERO, HIDDEN, SHIFT_REGISTER, TOGGLE, TWINS, WIRES};
 use ht_tree::{Assign, Spot, Token, Told};
 use std::alloc::{AllocError, Global};
 use std::test::Fail;
 
 // No output tells the first input.
 const IDLE: &[u8] = b"INPUT(a)\nINPUT(b)\nOUTPUT(b)\n";
-
-const BOTH_SHOWN: &[u8] = b"INPUT(a)\nINPUT(b)\nOUTPUT(a)\nOUTPUT(b)\n";
 
 const D: Token = Token::Dead;
 
@@ -136,7 +134,7 @@ const TOLD: &[Row] = &[
         Answer::Told(TOLD_AT_ONCE),
     ),
     (
-        BOTH_SHOWN,
+        WIRES,
         Site::Stem(NetId(0)),
         true,
         1,
