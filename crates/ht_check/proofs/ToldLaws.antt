@@ -11,18 +11,18 @@ use Rattle.ht_tree.specs.declared.window.Spot.TheVariants.{Output, State, Cube}
 use Rattle.ht_tree.specs.ToldChains.{AreChained, IsToldChain, IsToldPlace, Tells, state_of_spot, states_of, vars_of}
 
 -- each number is below a bound
-abbrev pub AreBelow : ℕ → List ℕ → Type 0
-AreBelow n z = (i : ℕ) → i < length z → get_or z i 0 < n
+abbrev pub EachIsBelow : ℕ → List ℕ → Type 0
+EachIsBelow n z = (i : ℕ) → i < length z → get_or z i 0 < n
 
 below_front : (c : Netlist) (z : List ℕ) (p : Spot) → IsToldPlace c z p → (rest : List ℕ)
-    → AreBelow (length c.dffs) rest → AreBelow (length c.dffs) (state_of_spot p ++ rest)
+    → EachIsBelow (length c.dffs) rest → EachIsBelow (length c.dffs) (state_of_spot p ++ rest)
 below_front c z (State j) has rest h zero k = has.0
 below_front c z (State j) has rest h (suc i) k = h i (omega (arith, k))
 below_front c z (Output o) has rest h i k = h i k
 below_front c z Cube has rest h i k = absurd has
 
 states_below : (c : Netlist) (fault : Fault) (z : List ℕ) (chain : List Told) → AreChained (Tells c fault) z chain
-    → AreBelow (length c.dffs) (states_of chain)
+    → EachIsBelow (length c.dffs) (states_of chain)
 states_below c fault z [] h i l = absurd (omega (arith, l))
 states_below c fault z (told ∷ chain) h i l =
     below_front c z told.place h.0.place (states_of chain)
@@ -30,7 +30,7 @@ states_below c fault z (told ∷ chain) h i l =
 
 -- the flip-flops of a told chain are the circuit's
 pub chain_below : (c : Netlist) (fault : Fault) (chain : List Told) → IsToldChain c fault chain
-    → AreBelow (length c.dffs) (states_of chain)
+    → EachIsBelow (length c.dffs) (states_of chain)
 chain_below c fault chain = states_below c fault [] chain
 
 abbrev pub no_assign : Assign

@@ -4,14 +4,14 @@ use Rattle.ht_tree.specs.AbortRecords.{IsLastWalk}
 use Rattle.ht_tree.specs.SearchRecords.{IsSpentWalk}
 use Rattle.ht_tree.specs.ToldChains.{ends_at_output, states_of}
 use Rattle.ht_tree.specs.Windows.{SearchWindow, one_frame_window}
-use Rattle.ht_check.proofs.ToldLaws.{AreBelow, chain_below}
+use Rattle.ht_check.proofs.ToldLaws.{EachIsBelow, chain_below}
 use Rattle.ht_check.proofs.abort_records.is_last_walk.Goals as goal
 
 pub one_frame-requires : goal.one_frame-requires
 one_frame-requires c =
     let states : c.deref.result.now ≡ states_of c.args.told.now =
     c.deref.ensures.value ∙ c.in_ok-z-in-Some.ensures in
-    subst (AreBelow (length c.args.circuit.now.dffs)) (sym states)
+    subst (EachIsBelow (length c.args.circuit.now.dffs)) (sym states)
     (chain_below c.args.circuit.now c.args.fault c.args.told.now c.requires.chain)
 
 pub returns-in_ok-window-in-Some : goal.returns-in_ok-window-in-Some
