@@ -81,7 +81,9 @@ impl ProofReader {
         self.lines_read = self.lines_read.saturating_add(1);
         let state = mem::replace(&mut self.state, ReaderState::AfterEnd);
         let Some(step) = take_bytes(self.alloc, state, line)? else {
-            return Err(TextError::BadText { line: self.lines_read });
+            return Err(TextError::BadText {
+                line: self.lines_read,
+            });
         };
         self.state = step.state;
         self.live = true;
