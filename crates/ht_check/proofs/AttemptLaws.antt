@@ -67,8 +67,3 @@ shows_by c fault told ahead good faulty some few good_is faulty_is =
       },
       λ h. (h.output, still_opposite _ _ _ _ (sym (g h.output)) (sym (f h.output)) h.shows),
     )
-
--- the parts of a composition, one after the other
-pub composed : (c : Netlist) (told : Told) (before ahead : List (List Bool))
-    → (([] ++ before) ++ told_vector c told ∷ []) ++ ahead ≡ composition c told before ahead
-composed c told before ahead = append_assoc before (told_vector c told ∷ []) ahead

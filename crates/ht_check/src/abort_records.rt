@@ -1,6 +1,6 @@
 //! What the record of an aborted fault holds of its told frames.
 ghost use Rattle.std.specs.Prelude.{◌≤◌, ◌↔◌, IfOk, IsTrue};
-ghost use Rattle.ht_tree.specs.declared.budget.TheConstants.{MAX_BUDGET};
+ghost use Rattle.ht_tree.specs.declared.limits.TheConstants.{MAX_BUDGET};
 ghost use Rattle.ht_tree.specs.AbortRecords.{IsLastWalk};
 ghost use Rattle.ht_tree.specs.ToldChains.{IsToldChain};
 

@@ -4,14 +4,14 @@ ghost use Rattle.ht_tree.specs.AbortRecords.{IsFirstAim};
 ghost use Rattle.ht_tree.specs.AimedAttempts.{IsAim, IsStateSpot, ahead_window, cube_window, is_wanting, told_cube};
 ghost use Rattle.ht_check.specs.SearchEnds.{EndsAs};
 
-use crate::attempts::{FORWARD_FRAMES, MAX_BACK_VECTORS, is_attempt};
+use crate::attempts::is_attempt;
 use crate::cube::wants_any;
 use crate::fresh_window::FreshWindow;
 use crate::spent_walks::is_spent_walk;
 use crate::told_states::{told_cube, told_state};
 use crate::walks::is_complete;
 use ht_net::{Circuit, Fault};
-use ht_tree::{Aim, MAX_BUDGET, Spot, Token, Told};
+use ht_tree::{Aim, BACK_LIMIT, FORWARD_FRAMES, MAX_BUDGET, Spot, Token, Told};
 use std::alloc::{AllocError, Global};
 
 // How a search ended that found nothing.
@@ -177,6 +177,6 @@ fn is_back(
     if !wants_any(&cube) {
         return Ok(false);
     }
-    let mut window = FreshWindow::back(alloc, circuit, &cube, MAX_BACK_VECTORS)?;
+    let mut window = FreshWindow::back(alloc, circuit, &cube, BACK_LIMIT)?;
     ends_as(alloc, &mut window, budget, end, tokens)
 }

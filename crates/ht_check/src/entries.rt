@@ -1,6 +1,6 @@
 //! Entries that pass.
 ghost use Rattle.std.specs.Prelude.{◌<◌, ◌≤◌, ◌↔◌, ℕ, length, get_or, IfOk, IsTrue};
-ghost use Rattle.ht_tree.specs.declared.budget.TheConstants.{MAX_BUDGET};
+ghost use Rattle.ht_tree.specs.declared.limits.TheConstants.{MAX_BUDGET};
 ghost use Rattle.ht_tree.specs.AbortRecords.{IsFirstAim, IsLastWalk};
 ghost use Rattle.ht_tree.specs.Entries.{Means, Passes};
 ghost use Rattle.ht_tree.specs.Refutations.{Refutes};

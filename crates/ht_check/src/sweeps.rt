@@ -1,6 +1,6 @@
 //! Records of sweeps.
 ghost use Rattle.std.specs.Prelude.{◌≡◌, ◌<◌, ◌≤◌, ◌+◌, ◌==◌, ◌↔◌, ℕ, [], length, get_or, IfOk, IsTrue};
-ghost use Rattle.ht_tree.specs.declared.budget.TheConstants.{MAX_BUDGET};
+ghost use Rattle.ht_tree.specs.declared.limits.TheConstants.{MAX_BUDGET};
 ghost use Rattle.ht_tree.specs.SearchRecords.{Fills, IsSweepRecord, sweep_weight};
 ghost use Rattle.ht_check.specs.SweepWalks.{IsSweepWalk};
 

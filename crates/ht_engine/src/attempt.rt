@@ -10,11 +10,8 @@ use ht_forward::{Ahead, propagate};
 use ht_justify::{Back, justify};
 use ht_net::{Circuit, Fault, Vectors};
 use ht_serial::first;
-use ht_tree::{Aim, Spot, Told};
+use ht_tree::{Aim, BACK_LIMIT, Spot, Told};
 use std::alloc::{AllocError, Global};
-
-/// A list back to a cube has at most so many vectors.
-const BACK_LIMIT: u32 = 32;
 
 /// How the attempt at a told frame ends.
 #[derive(Drop)]

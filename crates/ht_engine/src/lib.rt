@@ -1,7 +1,7 @@
 //! The generator: the work on one fault after the other, until each has a verdict.
 //!
-//! `work_on` is the work on one fault by itself: rounds of refutation, the attempt at the first told frame, and the sweep.
-//! It gives a list of vectors that detects the fault, or the entry of a fault that is refuted or given up.
+//! `work_on` is the work on one fault by itself: rounds of refutation, the attempt at the first told frame, and the
+//! sweep. It gives a list of vectors that detects the fault, or the entry of a fault that is refuted or given up.
 //!
 //! The definitions stand in `specs/`: `Attempts` (the attempt at a told frame, search by search) and `FaultWork` (what
 //! the work on a fault gives, and what that means). Modules: `told_frame` (what a told frame needs and leaves),

@@ -1,6 +1,6 @@
 //! The work on one fault.
 ghost use Rattle.std.specs.Prelude.{◌≤◌, IfOk};
-ghost use Rattle.ht_tree.specs.declared.budget.TheConstants.{MAX_BUDGET};
+ghost use Rattle.ht_tree.specs.declared.limits.TheConstants.{MAX_BUDGET};
 ghost use Rattle.ht_tree.specs.AbortRecords.{IsFirstAim};
 ghost use Rattle.ht_engine.specs.Attempts.{FailsFirst};
 ghost use Rattle.ht_engine.specs.FaultWork.{IsOpenFault, IsWork, WorkHolds};
@@ -10,7 +10,7 @@ use ht_forward::{Swept, sweep};
 use ht_items::Items;
 use ht_net::{Circuit, Fault, Vectors};
 use ht_oneframe::{OneFrame, refute};
-use ht_tree::{Aim, Entry, MAX_BUDGET, Told, Token};
+use ht_tree::{Aim, Entry, MAX_BUDGET, Token, Told};
 use std::alloc::{AllocError, Global};
 
 /// What the work on a fault gives.

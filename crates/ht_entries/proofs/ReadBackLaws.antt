@@ -21,7 +21,7 @@ use Rattle.ht_entries.specs.declared.entry_part.EntryPart.TheVariants as part
 use Rattle.ht_entries.specs.declared.numbered.Numbered.{Numbered}
 use Rattle.ht_entries.specs.declared.reader_state.ReaderState.{ReaderState}
 use Rattle.ht_entries.specs.declared.reader_state.ReaderState.TheVariants.{InEntry, AfterEnd}
-use Rattle.ht_entries.specs.declared.reader_state.Step.{Step}
+use Rattle.ht_entries.specs.declared.reader_state.LineStep.{LineStep}
 use Rattle.ht_entries.specs.EntryLines.{whole_part, part_lines, entry_lines, proof_lines}
 use Rattle.ht_entries.specs.EntryTexts.{IsPartText, IsWholeEntry, IsEntryText, AreEntryTexts, numbers_of, aim_as_read, entry_as_read, as_read}
 use Rattle.ht_entries.specs.ProofReading.{ProofReading, before_first, after_first, within_entry, after_last, lines_taken, part_as_read, reading_as_read, IsWithinEntry, IsProofReading}
@@ -36,7 +36,7 @@ no_part : (lines : List ProofLine) → grow_all None lines ≡ None
 no_part [] = refl
 no_part (l ∷ lines) = no_part lines
 
-grown_then : (closed : List Numbered) (number : ℕ) (lines : List ProofLine) (q : EntryPart) (other : Option Step)
+grown_then : (closed : List Numbered) (number : ℕ) (lines : List ProofLine) (q : EntryPart) (other : Option LineStep)
     (g : Option EntryPart)
     → ((p : EntryPart) → grow_all (Some p) lines ≡ Some q
     → after_lines (Some (within_entry closed number p)) lines ≡ Some (within_entry closed number q))

@@ -11,7 +11,7 @@ use Rattle.ht_entries.specs.declared.entry_part.EntryPart.{EntryPart}
 use Rattle.ht_entries.specs.declared.numbered.Numbered.{Numbered}
 use Rattle.ht_entries.specs.declared.reader_state.ReaderState.{ReaderState}
 use Rattle.ht_entries.specs.declared.reader_state.ReaderState.TheVariants.{BeforeHead, AfterHead, InEntry, AfterEnd}
-use Rattle.ht_entries.specs.declared.reader_state.Step.{Step}
+use Rattle.ht_entries.specs.declared.reader_state.LineStep.{LineStep}
 use Rattle.ht_entries.specs.ProofLines.{line_text, IsProofLine}
 use Rattle.ht_entries.specs.EntryLines.{proof_lines}
 use Rattle.ht_entries.specs.EntryTexts.{AreEntryTexts, as_read}
@@ -42,7 +42,7 @@ ends_entry old new (Some one) e = e
 
 -- A line that is taken.
 pub line_is_taken : (old new : ProofReaderView) (lines : List (List ℕ)) (at : ProofReading) (bytes : List ℕ)
-    (l : ProofLine) (s : Step) → ProofStands old lines at → IsProofLine l → bytes ≡ line_text l
+    (l : ProofLine) (s : LineStep) → ProofStands old lines at → IsProofLine l → bytes ≡ line_text l
     → take_line old.state l ≡ Some s → new.state ≡ s.state → new.lines_read ≡ old.lines_read + 1
     → new.live ≡ true → TakesProofLine lines bytes at new s.ended
 line_is_taken old new lines at bytes l s stands i text step state count live =
@@ -81,7 +81,7 @@ pub below_end : (n sum : ℕ) → n < max_text_bytes → sum ≡ min (n + 1) (2 
 below_end n sum few e = omega (arith, few, e)
 
 -- what the parsed line makes of a state
-pub parsed_line_steps : (state : ReaderState) (bytes : List ℕ) (l : ProofLine) (step : Option Step) → IsProofLine l
+pub parsed_line_steps : (state : ReaderState) (bytes : List ℕ) (l : ProofLine) (step : Option LineStep) → IsProofLine l
     → bytes ≡ line_text l → step ≡ take_line state l → IsStepBy state bytes step
 parsed_line_steps state bytes l None i text e = λ k j same.
     ap (take_line state) (one_line k l j i (sym same ∙ text)) ∙ sym e
@@ -97,14 +97,14 @@ not_taken_is_malformed old lines at bytes stands none = λ f.
     no_line_is_malformed lines bytes (λ l i text. line_is_malformed old lines at bytes l stands i text
     (none l i text) f) f
 
-pub step_is_taken : (old new : ProofReaderView) (lines : List (List ℕ)) (at : ProofReading) (bytes : List ℕ) (s : Step)
-    → ProofStands old lines at → IsStepBy old.state bytes (Some s) → new.state ≡ s.state
+pub step_is_taken : (old new : ProofReaderView) (lines : List (List ℕ)) (at : ProofReading) (bytes : List ℕ)
+    (s : LineStep) → ProofStands old lines at → IsStepBy old.state bytes (Some s) → new.state ≡ s.state
     → new.lines_read ≡ old.lines_read + 1 → new.live ≡ true → TakesProofLine lines bytes at new s.ended
 step_is_taken old new lines at bytes s stands h state count live =
     line_is_taken old new lines at bytes (h.0) s stands (h.1) (h.2) (h.3) state count live
 
 -- What a call with a line leaves where the line is taken, and where it isn't.
-pub call_takes : (old new : ProofReaderView) (bytes : List ℕ) (s : Step) → new.live ≡ true
+pub call_takes : (old new : ProofReaderView) (bytes : List ℕ) (s : LineStep) → new.live ≡ true
     → IsStepBy old.state bytes (Some s) → new.state ≡ s.state
     → (old.lines_read < max_text_bytes → new.lines_read ≡ old.lines_read + 1) → ProofCalled old new bytes (Ok s.ended)
 call_takes old new bytes s live h state count = record {
@@ -127,8 +127,8 @@ call_refuses old new bytes number live h count = record {
 }
 
 -- what a parsed line makes of a state, or an error
-pub result_steps : {E : Type 0} (state : ReaderState) (bytes : List ℕ) (l : ProofLine) (result : Result (Option Step) E)
-    → (bytes ≡ line_text l) × IsProofLine l → IfOk result (λ s. s ≡ take_line state l)
+pub result_steps : {E : Type 0} (state : ReaderState) (bytes : List ℕ) (l : ProofLine)
+    (result : Result (Option LineStep) E) → (bytes ≡ line_text l) × IsProofLine l → IfOk result (λ s. s ≡ take_line state l)
     → IfOk result (λ s. IsStepBy state bytes s)
 result_steps state bytes l (Ok step) h e = parsed_line_steps state bytes l step (h.1) (h.0) e
 result_steps state bytes l (Err error) h e = tt
@@ -150,10 +150,6 @@ whole_at lines (within_entry closed number p) read e = absurd (other e)
     other f = cc
 whole_at lines (after_last closed) read e =
     record { entries = closed; are = read.readable; lines_are = read.lines_are }
-
-pub text_is_whole : (r : ProofReaderView) (lines : List (List ℕ)) (at : ProofReading) → ProofStands r lines at
-    → r.state ≡ AfterEnd → AreProofLines lines
-text_is_whole r lines at stands e = whole_at lines at stands.read (sym e ∙ stands.state)
 
 -- a whole text is read to its end
 pub whole_is_at_end : (lines : List (List ℕ)) (at : ProofReading) → ProofReadsTo lines at → AreProofLines lines

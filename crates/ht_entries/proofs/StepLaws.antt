@@ -17,7 +17,7 @@ use Rattle.ht_entries.specs.declared.proof_line.ProofLine.{ProofLine}
 use Rattle.ht_entries.specs.declared.proof_line.ProofLine.TheVariants as line
 use Rattle.ht_entries.specs.declared.entry_part.EntryPart.{EntryPart}
 use Rattle.ht_entries.specs.declared.entry_part.EntryPart.TheVariants as part
-use Rattle.ht_entries.specs.declared.reader_state.Step.{Step}
+use Rattle.ht_entries.specs.declared.reader_state.LineStep.{LineStep}
 use Rattle.ht_entries.specs.ProofSteps.{where_true, is_above, fits_width, add_set, add_token, begin_aim, add_vector, token_on, grow_vector, grow_aim_by, grow_aim, grow_sweep, begin_later, grow_told, grow_told_walk, grow_aimed, grow_z, grow_refutation, grow, entry_of, go_on, step_to, is_closing, close_entry}
 use Rattle.ht_entries.proofs.WrittenLaws.{sweep_grows}
 

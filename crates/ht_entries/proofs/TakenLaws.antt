@@ -18,7 +18,7 @@ use Rattle.ht_entries.specs.declared.entry_part.EntryPart.TheVariants as part
 use Rattle.ht_entries.specs.declared.numbered.Numbered.{Numbered}
 use Rattle.ht_entries.specs.declared.reader_state.ReaderState.{ReaderState}
 use Rattle.ht_entries.specs.declared.reader_state.ReaderState.TheVariants.{AfterHead, InEntry, AfterEnd}
-use Rattle.ht_entries.specs.declared.reader_state.Step.{Step}
+use Rattle.ht_entries.specs.declared.reader_state.LineStep.{LineStep}
 use Rattle.ht_entries.specs.ProofLines.{IsNumber, IsIndex, IsProofLine}
 use Rattle.ht_entries.specs.EntryLines.{whole_part, part_lines, entry_lines}
 use Rattle.ht_entries.specs.EntryTexts.{IsToldText, IsPartText, IsWholeEntry, IsEntryText, AreEntryTexts, numbers_of}
@@ -87,7 +87,7 @@ entry_is (part.Aborted told walk a (Some (first ∷ walks))) e h =
     (same_Some (Aborted told walk a (first ∷ walks)) e h) (record { same = refl; whole = omega arith })
 
 -- What a line makes of where a reader stands.
-pub record TakesLine (old : ProofReading) (l : ProofLine) (s : Step) : Type 0 where
+pub record TakesLine (old : ProofReading) (l : ProofLine) (s : LineStep) : Type 0 where
   pub readable : IsProofReading (reading_after (closed_of old) s)
   pub lines : lines_taken (reading_after (closed_of old) s) ≡ lines_taken old ++ l ∷ []
   pub ends : closed_of (reading_after (closed_of old) s) ≡ with_ended (closed_of old) s.ended
@@ -95,7 +95,7 @@ pub record TakesLine (old : ProofReading) (l : ProofLine) (s : Step) : Type 0 wh
 abbrev numbered_as : ℕ → Entry → Numbered
 numbered_as number e = record { number = number; entry = e }
 
-closes : (closed : List Numbered) (number : ℕ) (p : EntryPart) (e : Entry) (l : ProofLine) (s : Step)
+closes : (closed : List Numbered) (number : ℕ) (p : EntryPart) (e : Entry) (l : ProofLine) (s : LineStep)
     → IsWithinEntry closed number p → IsPartOf p e → IsProofLine l
     → option_map (step_to (Some (numbered_as number e))) (go_on number l) ≡ Some s
     → TakesLine (within_entry closed number p) l s
@@ -124,14 +124,14 @@ closes closed number p e l s h w i g =
       ends = on.ends;
     })
 
-closes_by : (closed : List Numbered) (number : ℕ) (p : EntryPart) (whole : Option Entry) (l : ProofLine) (s : Step)
+closes_by : (closed : List Numbered) (number : ℕ) (p : EntryPart) (whole : Option Entry) (l : ProofLine) (s : LineStep)
     → IsWithinEntry closed number p → entry_of p ≡ whole → IsProofLine l → close_entry number whole l ≡ Some s
     → TakesLine (within_entry closed number p) l s
 closes_by closed number p None l s h w i e = absurd (none-some s e)
 closes_by closed number p (Some one) l s h w i e = closes closed number p one l s h (entry_is p one w) i e
 
 grows_or_closes : (closed : List Numbered) (number : ℕ) (p : EntryPart) (grown : Option EntryPart) (l : ProofLine)
-    (s : Step) → IsWithinEntry closed number p → grow p l ≡ grown → IsProofLine l
+    (s : LineStep) → IsWithinEntry closed number p → grow p l ≡ grown → IsProofLine l
     → grown_or number grown (close_entry number (entry_of p) l) ≡ Some s → TakesLine (within_entry closed number p) l s
 grows_or_closes closed number p None l s h g i e = closes_by closed number p (entry_of p) l s h refl i e
 grows_or_closes closed number p (Some q) l s h g i e =
@@ -149,14 +149,14 @@ none_may_follow = record {
   above = λ number t. rises_one number;
 }
 
-begins_text : (l : ProofLine) (s : Step) → IsProofLine l → option_map (step_to None) (go_on 0 l) ≡ Some s
+begins_text : (l : ProofLine) (s : LineStep) → IsProofLine l → option_map (step_to None) (go_on 0 l) ≡ Some s
     → TakesLine after_first l s
 begins_text l s i e =
     let m = mapped_is (step_to None) (go_on 0 l) s e in
     let on = goes_on [] 0 l m.from none_may_follow i m.has in
     subst (TakesLine after_first l) m.is (record { readable = on.readable; lines = on.lines; ends = on.ends })
 
-pub takes_line : (old : ProofReading) (l : ProofLine) (s : Step) → IsProofReading old → IsProofLine l
+pub takes_line : (old : ProofReading) (l : ProofLine) (s : LineStep) → IsProofReading old → IsProofLine l
     → take_line (kept_of old) l ≡ Some s → TakesLine old l s
 takes_line before_first line.Head s h i e =
     subst (TakesLine before_first line.Head) (same_Some (step_to None AfterHead) s e)

@@ -10,7 +10,7 @@ use Rattle.ht_tree.specs.SearchRecords.{sweep_weight}
 use Rattle.ht_tree.specs.Walks.{weight_of}
 use Rattle.ht_tree.specs.Windows.{sweep_window}
 use Rattle.ht_events.specs.Plans.{max_frames}
-use Rattle.ht_tree.specs.declared.budget.TheConstants.{MAX_BUDGET}
+use Rattle.ht_tree.specs.declared.limits.TheConstants.{MAX_BUDGET}
 use Rattle.ht_forward.specs.AheadSearches.{ClosesAhead, FindsList, SpendsAhead}
 use Rattle.ht_forward.specs.Sweeps.{CloseEach, SweepFinds, SweepSpends, left_after}
 use Rattle.ht_forward.proofs.CloseLaws.{closes_as, closes_push, complete_weighs}
@@ -22,9 +22,6 @@ pub record IsSweptTo (c : Netlist) (fault : Fault) (budget frames left : ℕ) (w
   pub closes : CloseEach c fault budget 1 walks
   pub weight : sweep_weight 1 walks + left ≡ budget
   pub heavy : least_weight (length walks) ≤ sweep_weight 1 walks
-
-pub none_swept : (c : Netlist) (fault : Fault) (budget : ℕ) → IsSweptTo c fault budget 1 budget []
-none_swept c fault budget = record { count = refl; closes = tt; weight = omega arith; heavy = omega arith }
 
 module _ (c : Netlist) (fault : Fault) (budget frames left : ℕ) (walks : List (List Token))
     (swept : IsSweptTo c fault budget frames left walks) where
@@ -38,14 +35,6 @@ module _ (c : Netlist) (fault : Fault) (budget frames left : ℕ) (walks : List 
       let longest = longest_weighs in
       let few = lengths_few (length walks) (sweep_weight 1 walks) swept.heavy (omega (arith, weight, small, longest)) in
       omega (arith, few, count)
-
-  pub sweep_finds : (list : Rows) → FindsList (sweep_window c fault frames) left list → SweepFinds c fault budget list
-  sweep_finds list h = record {
-    closed = walks;
-    closes = swept.closes;
-    finds = subst (λ (n : ℕ). FindsList (sweep_window c fault n) (left_after budget walks) list) swept.count
-        (subst (λ (b : ℕ). FindsList (sweep_window c fault frames) b list) rest h);
-  }
 
   pub sweep_spends : (last : List Token) → SpendsAhead (sweep_window c fault frames) left last
       → SweepSpends c fault budget (walks ++ last ∷ [])

@@ -15,5 +15,5 @@ mod propagation;
 mod sweeping;
 
 pub use ahead::Ahead;
-pub use propagation::{FORWARD_FRAMES, propagate};
+pub use propagation::propagate;
 pub use sweeping::{Swept, sweep};

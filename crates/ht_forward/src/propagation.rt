@@ -6,11 +6,9 @@ ghost use Rattle.ht_forward.specs.AheadSearches.{AheadHolds, IsAhead};
 use crate::ahead::{Ahead, search_ahead};
 use ht_items::Items;
 use ht_net::{Circuit, Fault};
+use ht_tree::FORWARD_FRAMES;
 use ht_window::{PairState, Start};
 use std::alloc::{AllocError, Global};
-
-/// How many frames the window of a propagation has.
-pub const FORWARD_FRAMES: u32 = 16;
 
 /// Searches the window of 16 frames from a state of the good machine and one of the faulty machine, which have a
 /// value for each flip-flop, for a list of vectors that shows their difference at an output. Each token weighs 16.

@@ -62,7 +62,8 @@ module _ {E : Type 0} (c : Netlist) (cube : List Tern) (limit budget : ℕ) (fir
       let window = ap (λ (s : BackState). s.first) began in
       let outcome = subst (λ (w : SearchWindow). IsOutcome (guide_of w) budget 1 node o) window h in
       let list : found_list s ≡ listed c cube limit budget held wants node =
-      ap (λ (w : SearchWindow). let r : Rows = record { width = w.circuit.inputs; list = back_list w.circuit node } in r)
+      ap (λ (w : SearchWindow).
+      let r : Rows = record { width = w.circuit.inputs; list = back_list w.circuit node } in r)
       (same ∙ window) in
       let answer : (back : Back) → back ≡ answer_of (found_list s) o
       → answer_of (listed c cube limit budget held wants node) o ≡ back = λ back is.

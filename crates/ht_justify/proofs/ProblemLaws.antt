@@ -84,20 +84,6 @@ module _ (a : Inside) (s : BackState) (is : back_state a ≡ s) (stacked : IsSta
       ∙ (ap (λ (w : SearchWindow). may_go_before w path) (sym stacked.under.0)
       ∙ before_is s.first deepest here path stands_at path_is)
 
-  -- the next window under the deepest
-  pub under_next : (next : WindowState) (all : List WindowState) → all ≡ a.above.items ++ a.window ∷ []
-      → next.window ≡ back_window a.circuit.now (cube_of a.circuit.now path) (a.limit - length a.above.items - 1)
-      → AreUnder a.circuit.now a.cube.now a.limit (next ∷ reverse all)
-  under_next next all more w =
-      let c = a.circuit.now in
-      let above = a.above.items in
-      let n = above_count in
-      let less : a.limit - length above - 1 ≡ a.limit - length (decisions_of (a.window ∷ reverse above)) =
-      omega (arith, n) in
-      subst (λ (t : List WindowState). AreUnder c a.cube.now a.limit (next ∷ t))
-      (sym (ap reverse more ∙ reverse-append above (a.window ∷ [])))
-      (w ∙ ap (back_window c (cube_of c path)) less, stacked.under)
-
   -- a window above: it is of the first one's circuit, has one frame, and its decisions are in the state
   pub window_above : (k : ℕ) (x : WindowState) → x ≡ get_or a.above.items k x → k < length a.above.items
       → IsBackOf s.first.circuit x.window × (get_or s.above k [] ≡ x.decisions)

@@ -28,14 +28,6 @@ pub record AreRounds (c : Netlist) (fault : Fault) (budget : ℕ) (marks : List 
     pub same : (j : ℕ) → get_or marks j false ≡ is_in (states_of chain) j
     pub states : FindsStates c fault budget chain
 
-pub no_rounds : (c : Netlist) (fault : Fault) (budget : ℕ) (marks : List Bool) → length marks ≡ length c.dffs
-    → ((j : ℕ) → get_or marks j false ≡ false) → AreRounds c fault budget marks []
-no_rounds c fault budget marks long off = record {
-  long = long;
-  same = off;
-  states = record { found = tt; hidden = refl };
-}
-
 in_push : (xs : List ℕ) (x k : ℕ) → is_in (xs ++ x ∷ []) k ≡ (is_in xs k || eqb x k)
 in_push [] x k = or-false (eqb x k)
 in_push (y ∷ xs) x k =

@@ -114,9 +114,6 @@ module _ (g : Guide) (start : Point) (now : Route) (p : SearchProgress) (w : IsW
         next_is g.judge start now u (reverse us) nodes
         (subst (λ (vs : List Untried). IsStack g.judge start now vs nodes) e w.stack)
 
-    pub next_stands : Stands now u.point
-    next_stands = stands_by now waits_next.at u.point waits_next.back
-
     at_next : (at : Route) → stops at ≡ back_to (stops now) u.point → at ≡ waits_next.at
     at_next at back = route_same at waits_next.at (back ∙ waits_next.back)
 

@@ -56,8 +56,3 @@ back_moved now next n p m stands =
 pub stands_moved : (now next : Route) (n : Node) (p : Point) → MovesOn now next n → Stands now p → Stands next p
 stands_moved now next n p m stands none = stands (sym (back_moved now next n p m stands) ∙ none)
 
--- back from the window under a node
-pub returned : (now below next : Route) (n : Node) → MovesOn now below n
-    → stops next ≡ back_to (stops below) now.here.point → next ≡ now
-returned now below next n m back =
-    route_same next now (back ∙ (back_moved now below n now.here.point m (stands_here now) ∙ back_here now))

@@ -132,8 +132,3 @@ windows_above (ds ∷ above) =
     let l = length_push n.windows (length n.decisions) in
     omega (arith, e, h, l)
 
-pub windows_count : (above : List (List Assign3)) (ds : List Assign3)
-    → length (node_of (steps_under above ds)).windows ≡ length above
-windows_count above ds =
-    ap (λ (n : Node). length n.windows) (node_decided (reverse ds) (steps_above (reverse above)))
-    ∙ (windows_above (reverse above) ∙ length-reverse above)

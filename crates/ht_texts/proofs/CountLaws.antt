@@ -3,15 +3,15 @@ use Rattle.std.proofs.Common.{◌≡◌, ◌<◌, ◌+◌, ℕ, List, Bool, take
 use Rattle.std.proofs.lemmas.List.Sums.{sum_by_more}
 use Rattle.ht_texts.specs.declared.said.Said.{Said}
 use Rattle.ht_texts.specs.declared.total.Sums.{Sums}
-use Rattle.ht_texts.specs.Verdicts.{said_at, is_detected, is_untestable, is_aborted}
+use Rattle.ht_texts.specs.Verdicts.{said_at, says_detected, says_untestable, says_aborted}
 use Rattle.ht_texts.specs.Counts.{count_said, one_if, CountsOne}
 
 -- the sums where only the verdicts of these faults are counted
 pub record AreCounted (classes : ℕ) (saids : List Said) (search : Bool) (faults : List ℕ) (sums : Sums) : Type 0 where
   pub classes_are : sums.classes ≡ classes
-  pub detected : sums.detected ≡ count_said is_detected saids faults
-  pub untestable : sums.untestable ≡ count_said is_untestable saids faults
-  pub aborted : sums.aborted ≡ count_said is_aborted saids faults
+  pub detected : sums.detected ≡ count_said says_detected saids faults
+  pub untestable : sums.untestable ≡ count_said says_untestable saids faults
+  pub aborted : sums.aborted ≡ count_said says_aborted saids faults
   pub search_is : sums.search ≡ search
 
 count_more : (is_kind : Said → Bool) (saids : List Said) (faults : List ℕ) (k i : ℕ) → k < length faults
@@ -28,8 +28,8 @@ pub one_counted : (classes : ℕ) (saids : List Said) (search : Bool) (faults : 
     → CountsOne (said_at saids i) old new → AreCounted classes saids search (take (k + 1) faults) new
 one_counted classes saids search faults k i old new so_far inside is one = record {
   classes_are = one.classes ∙ so_far.classes_are;
-  detected = omega (arith, one.detected, so_far.detected, count_more is_detected saids faults k i inside is);
-  untestable = omega (arith, one.untestable, so_far.untestable, count_more is_untestable saids faults k i inside is);
-  aborted = omega (arith, one.aborted, so_far.aborted, count_more is_aborted saids faults k i inside is);
+  detected = omega (arith, one.detected, so_far.detected, count_more says_detected saids faults k i inside is);
+  untestable = omega (arith, one.untestable, so_far.untestable, count_more says_untestable saids faults k i inside is);
+  aborted = omega (arith, one.aborted, so_far.aborted, count_more says_aborted saids faults k i inside is);
   search_is = one.search ∙ so_far.search_is;
 }

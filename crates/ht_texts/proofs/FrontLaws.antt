@@ -9,12 +9,6 @@ use Rattle.ht_texts.specs.Fronts.{IsRestAfter, Strips}
 
 -- ---- words are taken off
 
--- nothing is taken off a rest that isn't there
-pub strips_none : (word : List ℕ) → Strips word None None
-strips_none word = record {
-  taken = λ text front none more e. none (word ++ more) (e ∙ append_assoc front word more);
-}
-
 -- a word is taken off a rest that is there
 rest_on : (word text front : List ℕ) (rest : Bor (List ℕ)) (new : Option (Bor (List ℕ)))
     → IsRestAfter word rest.now new → text ≡ front ++ rest.now → IsRestAfter (front ++ word) text new

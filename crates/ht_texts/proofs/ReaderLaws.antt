@@ -86,28 +86,6 @@ counts_keep (Verdict i said) old new counts = (counts.classes, counts.search)
 counts_keep (Member i) old new same = (ap (λ (s : Sums). s.classes) same, ap (λ (s : Sums). s.search) same)
 counts_keep Total old new same = (ap (λ (s : Sums). s.classes) same, ap (λ (s : Sums). s.search) same)
 
-pub still_reads : (a : Inside) (line : List ℕ) (item : Item) (sums : Sums) → ReadsReport a
-    → SaysItem a.circuit.now a.classes.now a.lines_read a.sums line item → CountsItem item a.sums sums
-    → ReadsReport (record a { lines_read = a.lines_read + 1; sums = sums })
-still_reads a line item sums reads says counts =
-    let few = counts_few a.circuit.now a.classes.now a.lines_read line item a.sums sums says counts (record {
-      detected = reads.few_detected;
-      untestable = reads.few_untestable;
-      aborted = reads.few_aborted;
-    }) in
-    let keep = counts_keep item a.sums sums counts in
-    let within = says_within a.circuit.now a.classes.now a.lines_read a.sums line item says in record {
-      faults = reads.faults;
-      classes = reads.classes;
-      few_faults = reads.few_faults;
-      few_lines = omega (arith, within);
-      class_count_is = keep.0 ∙ reads.class_count_is;
-      searched = keep.1 ∙ reads.searched;
-      few_detected = omega (arith, few.detected);
-      few_untestable = omega (arith, few.untestable);
-      few_aborted = omega (arith, few.aborted);
-    }
-
 -- ---- what a call leaves
 
 pub line_taken : (a : Inside) (line : List ℕ) (item : Item) (sums : Sums) → ReadsReport a → IsTrue a.live

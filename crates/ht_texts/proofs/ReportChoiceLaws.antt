@@ -9,14 +9,14 @@ use Rattle.ht_net.specs.Netlist.{Netlist}
 use Rattle.ht_net.specs.Detection.{IsPlace}
 use Rattle.ht_faults.specs.Sites.{faults_of}
 use Rattle.ht_collapse.specs.Classes.{is_representative}
-use Rattle.ht_tree.specs.declared.budget.TheConstants.{MAX_BUDGET}
+use Rattle.ht_tree.specs.declared.limits.TheConstants.{MAX_BUDGET}
 use Rattle.ht_texts.specs.declared.item.Item.{Item}
 use Rattle.ht_texts.specs.declared.item.Item.TheVariants.{Head, Verdict, Member, Total}
 use Rattle.ht_texts.specs.declared.said.Said.{Said}
 use Rattle.ht_texts.specs.declared.said.Said.TheVariants.{Detected, Untestable, Aborted, Undetected}
 use Rattle.ht_texts.specs.declared.total.Sums.{Sums}
 use Rattle.ht_texts.specs.Counts.{one_if, CountsItem}
-use Rattle.ht_texts.specs.Verdicts.{is_detected, is_untestable, is_aborted}
+use Rattle.ht_texts.specs.Verdicts.{says_detected, says_untestable, says_aborted}
 use Rattle.ht_texts.specs.Reports.{head_line, fault_line, total_line}
 use Rattle.ht_texts.specs.SearchReports.{IsSearched}
 use Rattle.ht_texts.specs.ReportLines.{SaysItem}
@@ -168,9 +168,9 @@ counted (Head budget) old = (old, refl)
 counted (Verdict i said) old = (
   record {
     classes = old.classes;
-    detected = old.detected + one_if (is_detected said);
-    untestable = old.untestable + one_if (is_untestable said);
-    aborted = old.aborted + one_if (is_aborted said);
+    detected = old.detected + one_if (says_detected said);
+    untestable = old.untestable + one_if (says_untestable said);
+    aborted = old.aborted + one_if (says_aborted said);
     search = old.search;
   },
   record { classes = refl; detected = refl; untestable = refl; aborted = refl; search = refl },

@@ -26,7 +26,7 @@ use Rattle.ht_texts.specs.declared.said.Said.TheVariants.{Detected, Untestable, 
 use Rattle.ht_ports.specs.LineRule.{max_text_bytes}
 use Rattle.ht_texts.specs.Tests.{bit_code}
 use Rattle.ht_texts.specs.Sites.{IsSite, pin_text, site_text, output_text}
-use Rattle.ht_texts.specs.Verdicts.{said_at, IsSayable, verdict_text, is_detected, is_untestable, is_aborted}
+use Rattle.ht_texts.specs.Verdicts.{said_at, IsSayable, verdict_text, says_detected, says_untestable, says_aborted}
 use Rattle.ht_texts.specs.Counts.{count_said}
 use Rattle.ht_texts.specs.Reports.{head_line, fault_text, line_front, outcome_text, fault_line, fault_lines, report_sums, total_line, report_lines, report_text}
 use Rattle.ht_texts.specs.SearchReports.{is_line_byte, HasPlainNames, IsSearchOf, IsReportText}
@@ -225,10 +225,10 @@ plain_total c representatives budget saids is classes =
     let b = a ++ codes " detected " ++ decimal sums.detected in
     let d = codes " untestable " ++ decimal sums.untestable in
     let of_a = plain_counted [] (codes "total ") sums.classes refl refl (omega (arith, few)) in
-    let of_b = plain_counted a (codes " detected ") sums.detected of_a refl (fits is_detected) in
-    let of_d = plain_counted [] (codes " untestable ") sums.untestable refl refl (fits is_untestable) in
+    let of_b = plain_counted a (codes " detected ") sums.detected of_a refl (fits says_detected) in
+    let of_d = plain_counted [] (codes " untestable ") sums.untestable refl refl (fits says_untestable) in
     plain_both b (d ++ codes " aborted " ++ decimal sums.aborted) of_b
-    (plain_counted d (codes " aborted ") sums.aborted of_d refl (fits is_aborted))
+    (plain_counted d (codes " aborted ") sums.aborted of_d refl (fits says_aborted))
 
 -- ---- the whole
 

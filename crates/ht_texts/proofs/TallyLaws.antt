@@ -6,7 +6,7 @@ use Rattle.ht_collapse.specs.Classes.{is_representative}
 use Rattle.ht_collapse.proofs.OwnLaws.{own_more, own_same}
 use Rattle.ht_texts.specs.declared.said.Said.{Said}
 use Rattle.ht_texts.specs.declared.total.Sums.{Sums}
-use Rattle.ht_texts.specs.Verdicts.{said_at, is_detected, is_untestable, is_aborted}
+use Rattle.ht_texts.specs.Verdicts.{said_at, says_detected, says_untestable, says_aborted}
 use Rattle.ht_texts.specs.Counts.{count_said, sums_among, representatives_below, one_if, CountsOne}
 use Rattle.ht_texts.proofs.SaidLaws.{said_before, said_last}
 use Rattle.ht_texts.proofs.VerdictLaws.{SameKind, kinds_of_equal}
@@ -64,9 +64,9 @@ pub sums_agree : (representatives : List ℕ) (a b : List Said) (of_search : Boo
     → sums_among representatives a of_search (representatives_below representatives n)
     ≡ sums_among representatives b of_search (representatives_below representatives n)
 sums_agree representatives a b of_search n agree = same_sums _ _ refl
-    (same_count is_detected representatives a b n (λ i below own. (agree i below own).detected))
-    (same_count is_untestable representatives a b n (λ i below own. (agree i below own).untestable))
-    (same_count is_aborted representatives a b n (λ i below own. (agree i below own).aborted)) refl
+    (same_count says_detected representatives a b n (λ i below own. (agree i below own).detected))
+    (same_count says_untestable representatives a b n (λ i below own. (agree i below own).untestable))
+    (same_count says_aborted representatives a b n (λ i below own. (agree i below own).aborted)) refl
 
 -- ---- one verdict more
 
@@ -101,12 +101,12 @@ verdict_counted representatives saids said of_search old new own so_far one =
     subst (λ n. new ≡ sums_among representatives all of_search (representatives_below representatives n))
     (sym (length_push saids said)) (same_sums _ _
     (one.classes ∙ ap (λ (s : Sums). s.classes) so_far)
-    (one.detected ∙ ap (λ (s : Sums). s.detected + one_if (is_detected said)) so_far
-    ∙ sym (count_push is_detected representatives saids said own))
-    (one.untestable ∙ ap (λ (s : Sums). s.untestable + one_if (is_untestable said)) so_far
-    ∙ sym (count_push is_untestable representatives saids said own))
-    (one.aborted ∙ ap (λ (s : Sums). s.aborted + one_if (is_aborted said)) so_far
-    ∙ sym (count_push is_aborted representatives saids said own))
+    (one.detected ∙ ap (λ (s : Sums). s.detected + one_if (says_detected said)) so_far
+    ∙ sym (count_push says_detected representatives saids said own))
+    (one.untestable ∙ ap (λ (s : Sums). s.untestable + one_if (says_untestable said)) so_far
+    ∙ sym (count_push says_untestable representatives saids said own))
+    (one.aborted ∙ ap (λ (s : Sums). s.aborted + one_if (says_aborted said)) so_far
+    ∙ sym (count_push says_aborted representatives saids said own))
     (one.search ∙ ap (λ (s : Sums). s.search) so_far))
 
 -- nothing is counted for another fault

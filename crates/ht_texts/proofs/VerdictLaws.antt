@@ -19,7 +19,7 @@ use Rattle.ht_net.specs.Detection.{IsPlace}
 use Rattle.ht_texts.specs.declared.said.Said.{Said}
 use Rattle.ht_texts.specs.declared.said.Said.TheVariants.{Detected, Untestable, Aborted, Undetected}
 use Rattle.ht_texts.specs.Sites.{output_text}
-use Rattle.ht_texts.specs.Verdicts.{IsSayable, place_text, verdict_text, is_detected, is_untestable, is_aborted}
+use Rattle.ht_texts.specs.Verdicts.{IsSayable, place_text, verdict_text, says_detected, says_untestable, says_aborted}
 
 -- ---- the kind
 
@@ -53,24 +53,24 @@ same_text c Undetected Undetected e = inl refl
 
 -- verdicts with one text count alike
 pub record SameKind (a b : Said) : Type 0 where
-  pub detected : is_detected a ≡ is_detected b
-  pub untestable : is_untestable a ≡ is_untestable b
-  pub aborted : is_aborted a ≡ is_aborted b
+  pub detected : says_detected a ≡ says_detected b
+  pub untestable : says_untestable a ≡ says_untestable b
+  pub aborted : says_aborted a ≡ says_aborted b
 
 pub kinds_of_equal : {a b : Said} → a ≡ b → SameKind a b
 kinds_of_equal same = record {
-  detected = ap is_detected same;
-  untestable = ap is_untestable same;
-  aborted = ap is_aborted same;
+  detected = ap says_detected same;
+  untestable = ap says_untestable same;
+  aborted = ap says_aborted same;
 }
 
 pub same_kind : (c : Netlist) (a b : Said) → verdict_text c a ≡ verdict_text c b → SameKind a b
 same_kind c a b e = elim (same_text c a b e) [
   | inl same ↦ kinds_of_equal same
   | inr both ↦ record {
-    detected = ap is_detected both.2 ∙ sym (ap is_detected both.3);
-    untestable = ap is_untestable both.2 ∙ sym (ap is_untestable both.3);
-    aborted = ap is_aborted both.2 ∙ sym (ap is_aborted both.3);
+    detected = ap says_detected both.2 ∙ sym (ap says_detected both.3);
+    untestable = ap says_untestable both.2 ∙ sym (ap says_untestable both.3);
+    aborted = ap says_aborted both.2 ∙ sym (ap says_aborted both.3);
   }
 ]
 

@@ -6,7 +6,7 @@ use Rattle.ht_texts.specs.declared.item.Item.{Item}
 use Rattle.ht_texts.specs.declared.item.Item.TheVariants.{Head, Verdict, Member, Total}
 use Rattle.ht_texts.specs.declared.said.Said.{Said}
 use Rattle.ht_texts.specs.declared.total.Sums.{Sums}
-use Rattle.ht_texts.specs.Verdicts.{said_at, is_detected, is_untestable, is_aborted}
+use Rattle.ht_texts.specs.Verdicts.{said_at, says_detected, says_untestable, says_aborted}
 
 -- of how many of these faults a verdict of this kind is said
 abbrev pub count_said : (Said → Bool) → List Said → List ℕ → ℕ
@@ -16,9 +16,9 @@ count_said is_kind saids faults = count_by (λ i. is_kind (said_at saids i)) fau
 abbrev pub sums_among : List ℕ → List Said → Bool → List ℕ → Sums
 sums_among representatives saids search faults = record {
   classes = class_count representatives;
-  detected = count_said is_detected saids faults;
-  untestable = count_said is_untestable saids faults;
-  aborted = count_said is_aborted saids faults;
+  detected = count_said says_detected saids faults;
+  untestable = count_said says_untestable saids faults;
+  aborted = count_said says_aborted saids faults;
   search = search;
 }
 
@@ -40,9 +40,9 @@ one_if test = if test then 1 else 0
 -- one class more is counted, of which this is said
 pub record CountsOne (said : Said) (old new : Sums) : Type 0 where
   pub classes : new.classes ≡ old.classes
-  pub detected : new.detected ≡ old.detected + one_if (is_detected said)
-  pub untestable : new.untestable ≡ old.untestable + one_if (is_untestable said)
-  pub aborted : new.aborted ≡ old.aborted + one_if (is_aborted said)
+  pub detected : new.detected ≡ old.detected + one_if (says_detected said)
+  pub untestable : new.untestable ≡ old.untestable + one_if (says_untestable said)
+  pub aborted : new.aborted ≡ old.aborted + one_if (says_aborted said)
   pub search : new.search ≡ old.search
 
 -- what a line of a report says is counted, if it is the line of a representative

@@ -5,7 +5,7 @@ use Rattle.ht_net.specs.Netlist.{Netlist}
 use Rattle.ht_faults.specs.Sites.{faults_of}
 use Rattle.ht_collapse.specs.Classes.{is_representative}
 use Rattle.ht_ports.specs.LineRule.{lines_of, max_text_bytes}
-use Rattle.ht_tree.specs.declared.budget.TheConstants.{MAX_BUDGET}
+use Rattle.ht_tree.specs.declared.limits.TheConstants.{MAX_BUDGET}
 use Rattle.ht_texts.specs.declared.said.Said.{Said}
 use Rattle.ht_texts.specs.declared.said.Said.TheVariants.{Undetected}
 use Rattle.ht_texts.specs.Tests.{IsTooLong}

@@ -44,23 +44,23 @@ verdict_text c Undetected = codes "undetected"
 
 -- ---- the kinds of verdict
 
-abbrev pub is_detected : Said → Bool
-is_detected (Detected place) = true
-is_detected Untestable = false
-is_detected Aborted = false
-is_detected Undetected = false
+abbrev pub says_detected : Said → Bool
+says_detected (Detected place) = true
+says_detected Untestable = false
+says_detected Aborted = false
+says_detected Undetected = false
 
-abbrev pub is_untestable : Said → Bool
-is_untestable (Detected place) = false
-is_untestable Untestable = true
-is_untestable Aborted = false
-is_untestable Undetected = false
+abbrev pub says_untestable : Said → Bool
+says_untestable (Detected place) = false
+says_untestable Untestable = true
+says_untestable Aborted = false
+says_untestable Undetected = false
 
-abbrev pub is_aborted : Said → Bool
-is_aborted (Detected place) = false
-is_aborted Untestable = false
-is_aborted Aborted = true
-is_aborted Undetected = false
+abbrev pub says_aborted : Said → Bool
+says_aborted (Detected place) = false
+says_aborted Untestable = false
+says_aborted Aborted = true
+says_aborted Undetected = false
 
 -- ---- what is said where vectors are simulated
 

@@ -15,8 +15,8 @@
 #![tactic(auto)]
 
 mod aim;
-mod budget;
 mod entry;
+mod limits;
 mod node;
 mod stack;
 mod theorems;
@@ -26,8 +26,8 @@ mod walk;
 mod window;
 
 pub use aim::Aim;
-pub use budget::MAX_BUDGET;
 pub use entry::Entry;
+pub use limits::{BACK_LIMIT, FORWARD_FRAMES, MAX_BUDGET};
 pub use node::WalkNode;
 pub use theorems::{
     before_opens_the_window_below, complete_walk_seals, decided_window_is_not_open,

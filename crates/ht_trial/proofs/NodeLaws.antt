@@ -69,7 +69,3 @@ open_alone Dead h = cc
 open_alone (Sure frame place) h = cc
 open_alone Open h = refl
 
-pub sure_alone : (s : Status) → without_place s ≡ status3.Sure → (frame : ℕ) × (place : Spot) × (s ≡ Sure frame place)
-sure_alone Dead h = cc
-sure_alone (Sure frame place) h = (frame, place, refl)
-sure_alone Open h = cc

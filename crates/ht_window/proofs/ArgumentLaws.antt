@@ -82,11 +82,3 @@ pin_step read c fault fault' args g i cell set env cs fs ats inside here_is is b
       goes_on = argument_passed (pair_set_rules fault') g env all i here set set_is before;
     }
 
--- each argument of a gate is a net
-pub argument_known : (c : Netlist) (circuit : IsCircuit c) (g i : ℕ) (args : List NetId) → g < length c.gates → args
-    ≡ (gate_at c g).args → i < length args → (get_or args i no_net).0 < net_count c
-argument_known c circuit g i args inside is here =
-    let l = ap length is in
-    let e = ap (λ (t : List NetId). (get_or t i no_net).0) is in
-    let k = circuit.known g i inside (omega (arith, l, here)) in
-    omega (arith, e, k)

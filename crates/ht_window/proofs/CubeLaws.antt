@@ -97,19 +97,3 @@ module _ (w : SearchWindow) (path : List Assign3) (cube : List Tern) where
       ∙ append-nil (filter test (range_with_len 0 n))) in
       is ∙ ap (cube_seen_of w path cube) (sym more)
 
-  -- what was seen tells the status
-  pub seen_cube_status : (limit : ℕ) (latches : List ℕ) → cube_status_by (cube_seen_of w path cube latches) limit
-      ≡ cube_status w path cube limit latches
-  seen_cube_status limit [] = refl
-  seen_cube_status zero (j ∷ latches) =
-      let some : ltb 0 (suc (length latches)) ≡ true = elim (leb_tells 1 (suc (length latches)))
-      [ inl p ↦ p.0 | inr p ↦ let l = p.1 in absurd (omega (arith, l)) ] in
-      ap (λ (b : Bool). cond b Dead (Sure 0 Cube)) some
-  seen_cube_status (suc limit) (j ∷ latches) =
-      let some : ltb 0 (suc (length latches)) ≡ true = elim (leb_tells 1 (suc (length latches)))
-      [ inl p ↦ p.0 | inr p ↦ let l = p.1 in absurd (omega (arith, l)) ] in
-      let left : eqb (suc limit) 0 ≡ false = elim (eqb_tells (suc limit) 0)
-      [ inl p ↦ let e = p.1 in absurd (omega (arith, e)) | inr p ↦ p.0 ] in
-      let all : Status = cond (list_all (must_meet w path cube) (j ∷ latches)) (Sure 0 Cube)
-      (cond (list_all (may_meet w path cube) (j ∷ latches)) Open Dead) in
-      (λ k. cond (some k) (cond (left k) Dead all) (Sure 0 Cube))

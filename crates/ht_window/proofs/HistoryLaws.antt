@@ -41,22 +41,6 @@ cells_now w path marks cells h =
     subst (λ (p : List Assign3). AreCells w p cells.values) (take_all (length path) path (omega arith))
     (subst (AreCells w (take (length path) path)) at (h.at (length path) (omega arith)))
 
-pub history_new : (w : SearchWindow) (path : List Assign3) (marks : List ℕ) (cells : CellsState (List Pair)) → path ≡ []
-    → marks ≡ [] → AreCells w path cells.values → IsHistory w path marks cells
-history_new w path marks cells ps ms are =
-    let n = ap length ps in
-    let m = ap length ms in
-    record {
-      count = omega (arith, n, m);
-      rising = λ j k l h. absurd (omega (arith, l, h, m));
-      at = λ k h.
-          let all : take k path ≡ path = take_all k path (omega (arith, h, n)) in
-          let at : at_mark cells (decision_mark marks cells k)
-          ≡ cells.values = ap (at_mark cells) (mark_last marks cells k (omega (arith, h, n, m))) ∙ mark_now cells in
-          subst (λ (p : List Assign3). AreCells w p (at_mark cells (decision_mark marks cells k))) (sym all)
-          (subst (AreCells w path) (sym at) are);
-    }
-
 pub history_push : (w : SearchWindow) (path after : List Assign3) (d : Assign3) (marks more : List ℕ)
     (a b : CellsState (List Pair))
     → after ≡ path ++ d ∷ [] → more ≡ marks ++ length a.trail ∷ [] → IsLater a b → length a.trail < length b.trail

@@ -95,14 +95,3 @@ legal_net w var v legal = elim (le_or_lt (first_input w w.frames) var) [
   ]
 ]
 
-pub legal_bound : (w : SearchWindow) (var : ℕ) (v : Tern) → IsWindow w → IsLegalDecision w var v
-    → var < variable_room w
-legal_bound w var v valid legal = elim (legal_var w var v legal) [
-  | inl low ↦ omega (arith, low)
-  | inr small ↦
-      let s = some_frames w valid in
-      let m = rows_inputs w.frames w.circuit.inputs s in
-      omega (arith, small, m)
-] where
-  rows_inputs : (k n : ℕ) → 0 < k → n ≤ k * n
-  rows_inputs k n h = let m : 1 * n ≤ k * n = mul-le-mul_right n h in omega (arith, m)

@@ -26,9 +26,6 @@ pub rows_some : (n k p : ℕ) → p < k * n → 0 < n
 rows_some zero k p h = let e = mul-zero k in absurd (omega (arith, e, h))
 rows_some (suc n) k p h = omega arith
 
-pub rows_split : (n p : ℕ) → (p / n) * n + p % n ≡ p
-rows_split n p = div-add-mod' p n
-
 pub rows_frame : (n k p : ℕ) → p < k * n → p / n < k
 rows_frame n k p h = (div-lt_iff_lt-mul {k = n} {x = p} {y = k} (rows_some n k p h)).1 h
 
