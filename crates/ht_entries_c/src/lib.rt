@@ -4,9 +4,6 @@
 //! An entry crosses as a row of numbers: each list by its length and its members, each choice by its number from 0.
 #![tactic(auto)]
 
-ghost use Rattle.std.specs.Prelude.{◌≤◌, length};
-ghost use Rattle.ht_tree.specs.declared.budget.TheConstants.{MAX_BUDGET};
-
 mod numbers;
 mod passes;
 mod proofs_text;

@@ -1,7 +1,7 @@
 //! Entries as rows of numbers: each list by its length and its members, each choice by its number from 0.
 use ht_items::Items;
 use ht_net::Vectors;
-use ht_tree::{Aim, Assign, Entry, Spot, Told, Token};
+use ht_tree::{Aim, Assign, Entry, Spot, Token, Told};
 use std::alloc::AllocError;
 
 // A list's length, and its numbers.
@@ -141,15 +141,6 @@ pub fn push_entry(row: &mut Vec<u64>, entry: &Entry) -> Result<(), AllocError> {
             push_walks(row, sweep.as_slice())
         }
     }
-}
-
-/// Appends bytes, after their number.
-pub fn push_bytes(row: &mut Vec<u64>, bytes: &[u8]) -> Result<(), AllocError> {
-    row.push(bytes.len() as u64)?;
-    for byte in bytes {
-        row.push(u64::from(*byte))?;
-    }
-    Ok(())
 }
 
 /// Appends 0 and the number of a malformed line, or 0 where there is none.

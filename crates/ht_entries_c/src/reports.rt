@@ -43,11 +43,7 @@ fn push_item(row: &mut Vec<u64>, item: Item) -> Result<(), AllocError> {
 }
 
 // Reads a line and appends what it says; false where it is malformed.
-fn take_line(
-    reader: &mut ReportReader,
-    line: &[u8],
-    row: &mut Vec<u64>,
-) -> Result<bool, AllocError>
+fn take_line(reader: &mut ReportReader, line: &[u8], row: &mut Vec<u64>) -> Result<bool, AllocError>
     requires { IsTrue reader.old.live }
     ensures { IfOk result (λ taken. reader.new.live ≡ taken) }
 {
