@@ -47,6 +47,9 @@ pub const WIRES: &[u8] = b"INPUT(a)\nINPUT(b)\nOUTPUT(a)\nOUTPUT(b)\n";
 /// The output is 1 where the input changes.
 pub const CHANGE: &[u8] = b"INPUT(a)\nOUTPUT(z)\np = DFF(a)\nz = XOR(p, a)\n";
 
+/// The first input is an output too, so its stem and its pin at the gate are two lines.
+pub const AND_GATE: &[u8] = b"INPUT(a)\nINPUT(b)\nOUTPUT(a)\nOUTPUT(z)\nz = AND(a, b)\n";
+
 /// s27 as it is known, with its header.
 pub const S27: &[u8] = b"# s27
 # 4 inputs

@@ -2,13 +2,11 @@
 use ht_bench::read;
 use ht_frame::{MAX_GATE_PINS, settle};
 use ht_net::{Circuit, Fault, NetId, Site};
-use ht_samples::{SHIFT_REGISTER, TOGGLE};
+use ht_samples::{AND_GATE, SHIFT_REGISTER, TOGGLE};
 use ht_serial::{BoolMachine, Machine};
 use ht_tern::Tern::{self, One, Unk, Zero};
 use std::alloc::{AllocError, Global};
 use std::test::Fail;
-
-const AND_GATE: &[u8] = b"INPUT(a)\nINPUT(b)\nOUTPUT(a)\nOUTPUT(z)\nz = AND(a, b)\n";
 
 /// What the shift register shows before its first frame and after vector 1: the output, and what the flip-flops hold.
 fn shifted(

@@ -1,7 +1,7 @@
 //! `sim` finishes.
 
 use super::cases::{SIM, finished, given, holds};
-use ht_samples::{S27, SHIFT_REGISTER, SHIFT_REGISTER_REPORT};
+use ht_samples::{AND_GATE, S27, SHIFT_REGISTER, SHIFT_REGISTER_REPORT};
 use std::alloc::{AllocError, Global};
 use std::test::Fail;
 
@@ -110,8 +110,6 @@ const EMPTY_REPORT: &[u8] =
     b"circuit inputs 0 outputs 0 flip-flops 0 gates 0 faults 0 classes 0\ntotal 0 detected 0\n";
 
 // A stem shows at the output of its own net first, and a pin after it at the gate only.
-const AND: &[u8] = b"INPUT(a)\nINPUT(b)\nOUTPUT(a)\nOUTPUT(z)\nz = AND(a, b)\n";
-
 const AND_REPORT: &[u8] = b"circuit inputs 2 outputs 2 flip-flops 0 gates 1 faults 8 classes 6
 1 a s-a-0 detected 1 a
 2 a s-a-1 detected 2 a
@@ -173,7 +171,7 @@ const FINISHED: &[(&[u8], &[u8], &[u8], &[u8])] = &[
         b"total 6 detected 3\n",
     ),
     (b"", b"", EMPTY_REPORT, b"total 0 detected 0\n"),
-    (AND, b"11\n01\n", AND_REPORT, b"total 6 detected 5\n"),
+    (AND_GATE, b"11\n01\n", AND_REPORT, b"total 6 detected 5\n"),
     (NAND, b"", NAND_REPORT, b"total 2 detected 0\n"),
     (FANOUTS, b"", FANOUTS_REPORT, b"total 10 detected 0\n"),
 ];
