@@ -1,6 +1,6 @@
 //! Entries from rows of numbers, judged and written.
 ghost use Rattle.std.specs.Prelude.{◌≤◌, length};
-ghost use Rattle.ht_tree.specs.declared.budget.TheConstants.{MAX_BUDGET};
+ghost use Rattle.ht_tree.specs.declared.limits.TheConstants.{MAX_BUDGET};
 
 use crate::row::{Row, take_entry};
 use ht_bench::read;
