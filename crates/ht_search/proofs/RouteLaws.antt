@@ -55,4 +55,3 @@ back_moved now next n p m stands =
 
 pub stands_moved : (now next : Route) (n : Node) (p : Point) → MovesOn now next n → Stands now p → Stands next p
 stands_moved now next n p m stands none = stands (sym (back_moved now next n p m stands) ∙ none)
-

@@ -131,4 +131,3 @@ windows_above (ds ∷ above) =
     let n = node_of (steps_of ds ++ t) in
     let l = length_push n.windows (length n.decisions) in
     omega (arith, e, h, l)
-

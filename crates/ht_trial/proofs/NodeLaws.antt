@@ -68,4 +68,3 @@ pub open_alone : (s : Status) → without_place s ≡ status3.Open → s ≡ Ope
 open_alone Dead h = cc
 open_alone (Sure frame place) h = cc
 open_alone Open h = refl
-

@@ -81,4 +81,3 @@ pin_step read c fault fault' args g i cell set env cs fs ats inside here_is is b
           ∙ argument_undetermined (pair_set_rules fault') g env all i here set set_is before e;
       goes_on = argument_passed (pair_set_rules fault') g env all i here set set_is before;
     }
-

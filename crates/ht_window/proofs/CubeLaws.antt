@@ -96,4 +96,3 @@ module _ (w : SearchWindow) (path : List Assign3) (cube : List Tern) where
       filter_push test n ∙ (ap (λ (b : Bool). filter test (range_with_len 0 n) ++ cond b (n ∷ []) []) no_here
       ∙ append-nil (filter test (range_with_len 0 n))) in
       is ∙ ap (cube_seen_of w path cube) (sym more)
-

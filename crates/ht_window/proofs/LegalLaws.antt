@@ -94,4 +94,3 @@ legal_net w var v legal = elim (le_or_lt (first_input w w.frames) var) [
     ]
   ]
 ]
-
