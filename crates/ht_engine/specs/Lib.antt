@@ -1,3 +1,5 @@
 pub mod ToldFrames
 pub mod Attempts
 pub mod FaultWork
+pub mod Steps
+pub mod EngineStands
