@@ -1,6 +1,6 @@
 -- What the verdict of each listed fault means. A fault has the verdict of its class, which the report gives at the
 -- representative.
-use Rattle.std.specs.Prelude.{◌≡◌, ◌≤◌, ◌<◌, ◌+◌, ℕ, List, Bool, length, get_or, Option, Some, None}
+use Rattle.std.specs.Prelude.{◌≡◌, ◌≤◌, ◌<◌, ◌+◌, ℕ, List, Bool, length, get_or, Some, None}
 use Rattle.std.specs.List.{Contains}
 use Rattle.ht_net.specs.declared.place.Place.{Place}
 use Rattle.ht_net.specs.Netlist.{Netlist}

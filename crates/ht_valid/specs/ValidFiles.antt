@@ -1,5 +1,5 @@
 -- When tests, a report and proofs are valid for a circuit: what they say agrees, and nothing is missing.
-use Rattle.std.specs.Prelude.{◌≡◌, ◌<◌, ◌+◌, ◌-◌, ℕ, List, Bool, true, length, Option, Some, None}
+use Rattle.std.specs.Prelude.{◌≡◌, ◌<◌, ◌+◌, ◌-◌, ℕ, List, Bool, true, length, Some, None}
 use Rattle.std.specs.List.{All, Contains}
 use Rattle.ht_net.specs.Netlist.{Netlist}
 use Rattle.ht_net.specs.Detection.{IsFirstDetection}
