@@ -1,15 +1,21 @@
 -- What a failed write leaves of the output.
-use Rattle.std.specs.Prelude.{◌≡◌, ◌⊎◌, ℕ, ◌<◌, ◌++◌, List, length, take}
+use Rattle.std.specs.Prelude.{◌≡◌, ◌⊎◌, ℕ, ◌<◌, ◌++◌, List, [], length, take}
 use Rattle.std.specs.Option.{option_map}
 use Rattle.std.specs.Io.KnownBytes.{append_known}
 use Rattle.ht_ports.specs.Desk.{DeskView}
 use Rattle.ht_ports.specs.declared.ports.InPort.TheVariants.{Netlist}
-use Rattle.ht_ports.specs.declared.ports.OutPort.TheVariants.{Report, Out}
+use Rattle.ht_ports.specs.declared.ports.OutPort.{OutPort}
+use Rattle.ht_ports.specs.declared.ports.OutPort.TheVariants.{Tests, Report, Proofs, Out}
 use Rattle.ht_net.specs.Netlist as net
 use Rattle.ht_bench.specs.Normal.{normal_text}
-use Rattle.ht_asked.specs.Asked.{Asked, sim, norm}
+use Rattle.ht_asked.specs.Asked.{Asked, sim, gen, norm}
 use Rattle.ht_app.specs.Inputs.{IsInput, IsGoodNetlist, AreInputs}
 use Rattle.ht_app.specs.Done.{IsSimulated}
+use Rattle.ht_collapse.specs.Classes.{AreClasses}
+use Rattle.ht_engine.specs.declared.step.Step.{Step}
+use Rattle.ht_engine.specs.Steps.{AreSteps}
+use Rattle.ht_files.specs.StepTexts.{proofs_of, tests_of}
+use Rattle.ht_files.specs.Generated.{IsGenerated}
 
 -- Report is as it was, or has a proper front of this text
 abbrev pub StopsInText : List ℕ → DeskView → DeskView → Type 0
@@ -51,6 +57,40 @@ pub record SimIsTruncated (netlist tests : List ℕ) (old new : DeskView) : Type
   pub simulated : IsSimulated netlist tests (body ++ total) total
   pub stops : StopsInReport body total old new
 
+-- the port is as it was, or has a front of this text
+abbrev pub HasFront : OutPort → List ℕ → DeskView → DeskView → Type 0
+HasFront port text old new = (new.written port ≡ old.written port)
+    ⊎ ((count : ℕ) × (new.written port ≡ option_map (λ _. take count text) (old.written port)))
+
+-- The tests and the proofs have fronts of the texts of the steps that were begun, the report is empty, and nothing is
+-- said on Out.
+pub record StopsInSteps (c : net.Netlist) (budget : ℕ) (old new : DeskView) : Type 0 where
+  pub representatives : List ℕ
+  pub steps : List Step
+  pub classes : AreClasses c representatives
+  pub steps_are : AreSteps c representatives budget steps
+  pub tests : HasFront Tests (tests_of steps) old new
+  pub proofs : HasFront Proofs (proofs_of steps) old new
+  pub report : HasFront Report [] old new
+  pub out : new.written Out ≡ old.written Out
+
+-- The tests and the proofs are whole, and the report isn't.
+pub record StopsInLastFile (c : net.Netlist) (budget : ℕ) (old new : DeskView) : Type 0 where
+  pub tests : List ℕ
+  pub proofs : List ℕ
+  pub body : List ℕ
+  pub total : List ℕ
+  pub generated : IsGenerated c budget tests (body ++ total) proofs total
+  pub tests_stand : new.written Tests ≡ option_map (λ _. tests) (old.written Tests)
+  pub proofs_stand : new.written Proofs ≡ option_map (λ _. proofs) (old.written Proofs)
+  pub stops : StopsInReport body total old new
+
+-- the report isn't whole, and so the three files aren't
+pub record GenIsTruncated (netlist : List ℕ) (budget : ℕ) (old new : DeskView) : Type 0 where
+  pub circuit : net.Netlist
+  pub good : IsGoodNetlist netlist circuit
+  pub stops : StopsInSteps circuit budget old new ⊎ StopsInLastFile circuit budget old new
+
 -- the normal text isn't whole
 pub record NormIsTruncated (netlist : List ℕ) (old new : DeskView) : Type 0 where
   pub circuit : net.Netlist
@@ -60,5 +100,12 @@ pub record NormIsTruncated (netlist : List ℕ) (old new : DeskView) : Type 0 wh
 abbrev pub IsTruncated : Asked → DeskView → DeskView → Type 0
 IsTruncated (sim netlist_name tests_name report_name) old new = (netlist tests : List ℕ)
     → AreInputs netlist_name tests_name netlist tests old → SimIsTruncated netlist tests old new
+IsTruncated (gen netlist_name tests_name report_name proofs_name budget) old new = (netlist : List ℕ)
+    → IsInput Netlist netlist_name netlist old → GenIsTruncated netlist budget old new
 IsTruncated (norm netlist_name out_name) old new = (netlist : List ℕ) → IsInput Netlist netlist_name netlist old
     → NormIsTruncated netlist old new
+
+-- What is left where memory ran out: nothing was written, or the output isn't whole. Only `gen` writes while it still
+-- asks for memory.
+abbrev pub RunsOut : Asked → DeskView → DeskView → Type 0
+RunsOut job old new = (new.written ≡ old.written) ⊎ IsTruncated job old new
