@@ -1,5 +1,5 @@
 -- An engine, and the steps that it stands for.
-use Rattle.std.specs.Prelude.{◌≡◌, ◌≢◌, ◌<◌, ◌-◌, ℕ, List, [], ◌∷◌, ◌++◌, Bool, get_or, length, Option, Some, None}
+use Rattle.std.specs.Prelude.{◌≡◌, ◌≢◌, ◌<◌, ◌-◌, ◌+◌, ℕ, List, [], ◌∷◌, ◌++◌, Bool, get_or, length, Option, Some, None}
 use Rattle.std.specs.List.{All, Contains}
 use Rattle.ht_net.specs.Netlist.{Netlist}
 use Rattle.ht_net.specs.Detection.{Detects, IsFirstDetection}
@@ -8,7 +8,8 @@ use Rattle.ht_tree.specs.Entries.{Passes}
 use Rattle.ht_tree.specs.Reached.{AreVectors}
 use Rattle.ht_texts.specs.declared.said.Said.{Said}
 use Rattle.ht_texts.specs.declared.said.Said.TheVariants as said
-use Rattle.ht_tree.specs.declared.tree.Entry.TheVariants as entry
+use Rattle.ht_tree.specs.declared.entry.Entry as recorded
+use Rattle.ht_tree.specs.declared.entry.Entry.TheVariants as entry
 use Rattle.ht_entries.specs.declared.numbered.Numbered.{Numbered}
 use Rattle.ht_valid.specs.ValidFiles.{HasEntry, IsOwn}
 use Rattle.ht_engine.specs.declared.engine.EntryKind.{EntryKind}
@@ -35,7 +36,7 @@ pub record EngineView : Type 0 where
 abbrev pub kind_at : EngineView → ℕ → Option EntryKind
 kind_at e i = get_or e.kinds i None
 
-abbrev pub IsOfKind : EntryKind → tree.Entry → Type 0
+abbrev pub IsOfKind : EntryKind → recorded.Entry → Type 0
 IsOfKind kind.Refuted (entry.Untestable z tokens) = Unit {0}
 IsOfKind kind.GivenUp (entry.Aborted told walk aim sweep) = Unit {0}
 IsOfKind _ _ = ⊥
@@ -43,7 +44,7 @@ IsOfKind _ _ = ⊥
 -- fault i has an entry of this kind among the entries, or none
 abbrev pub IsKindIn : List Numbered → ℕ → Option EntryKind → Type 0
 IsKindIn entries i None = ¬ HasEntry entries i
-IsKindIn entries i (Some kind) = (e : tree.Entry) × Contains entries (record { number = i + 1; entry = e }) × IsOfKind kind e
+IsKindIn entries i (Some kind) = (e : recorded.Entry) × Contains entries (record { number = i + 1; entry = e }) × IsOfKind kind e
 
 -- Each entry passes, for the fault of its number.
 abbrev pub AllPass : Netlist → ℕ → List Numbered → Type 0
@@ -55,6 +56,7 @@ pub record EngineStandsFor (e : EngineView) (steps : List Step) : Type 0 where
   pub list : e.list ≡ vectors_of steps
   pub kinds : (i : ℕ) → i < length e.representatives → IsKindIn (entries_of steps) i (kind_at e i)
   pub done : (i : ℕ) → i < e.place → ¬ AwaitsVerdict e.circuit e.representatives steps i
+  pub entered : (i : ℕ) → HasEntry (entries_of steps) i → i < e.place
   -- what the steps mean
   pub wide : AreVectors e.circuit (vectors_of steps)
   pub pass : AllPass e.circuit e.budget (entries_of steps)

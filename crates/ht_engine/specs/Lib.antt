@@ -3,3 +3,5 @@ pub mod Attempts
 pub mod FaultWork
 pub mod Steps
 pub mod EngineStands
+pub mod EngineOf
+pub mod OneStep
