@@ -1,6 +1,6 @@
 -- How a number among the words is read.
-use Rattle.std.proofs.Common.{◌≡◌, ◌≢◌, ◌∙◌, ◌∷◌, ◌<◌, ◌≤◌, ◌^◌, ℕ, Bool, true, false, not, cond, List, [], length, Option, Some, None, Result, Ok, Err, refl, sym, ap, subst, arith, slice_index, ◌&&◌, ◌==◌}
-use Rattle.std.specs.Prelude.{MatchBool, nat_le}
+use Rattle.std.proofs.Common.{◌≡◌, ◌∙◌, ◌∷◌, ◌<◌, ◌≤◌, ◌^◌, ℕ, Bool, true, false, not, cond, [], length, Option, Some, None, Result, Ok, Err, refl, sym, ap, arith, slice_index, ◌&&◌, ◌==◌}
+use Rattle.std.specs.Prelude.{nat_le}
 use Rattle.std.specs.List.{list_all}
 use Rattle.std.specs.Result.{OkIff}
 use Rattle.std.specs.Str.Parse.{ParsesUnsigned, digits_value}
@@ -19,9 +19,9 @@ tells_digits : IsDigitsTest AreDigits
 tells_digits = record {
   empty = refl;
   parts = λ c cs e.
-    let digit = both (is_digit c) (list_all is_digit cs) e in
-    let range = both (nat_le 48 c) (nat_le c 57) digit.0 in
-    ((leb-true 48 c range.0, leb-true c 57 range.1), digit.1);
+      let digit = both (is_digit c) (list_all is_digit cs) e in
+      let range = both (nat_le 48 c) (nat_le c 57) digit.0 in
+      ((leb-true 48 c range.0, leb-true c 57 range.1), digit.1);
   more = λ c cs range rest i. (le-leb 48 c range.0 i && le-leb c 57 range.1 i) && rest i;
 }
 
@@ -32,43 +32,47 @@ some_length : (t : Text) → not (is_empty t) ≡ true → 0 < length t
 some_length [] e = cc
 some_length (c ∷ cs) e = omega arith
 
+abbrev value : Text → ℕ
+value text = digits_value 10 text
+
+abbrev in_range : ℕ → ℕ → ℕ → Bool
+in_range least most number = nat_le least number && nat_le number most
+
+abbrev given : Bool → ℕ → Option ℕ
+given b number = cond b (Some number) None
+
+-- of a text that begins with no plus
 module _ (E : Type 0) (text : Text) (plain : false ≡ (slice_index text 0 == 43)) where
-  -- a text that begins with no plus is read as the number that its digits write
+  -- it is read as the number that its digits write
   parsed : (r : Result ℕ E) → ParsesUnsigned 64 10 text r
-      → OkIff r (AreDigits text × (0 < length text) × (digits_value 10 text < 2 ^ 64)) (digits_value 10 text)
+      → OkIff r (AreDigits text × (0 < length text) × (value text < 2 ^ 64)) (value text)
   parsed r parses = parse_plain (numerals_by_value AreDigits tells_digits) 64 text r parses
       (λ e. let bad : false ≡ true = plain ∙ (Decides-eqb (slice_index text 0) 43).1 e in cc)
 
   pub read_is_in : (least most number : ℕ) → ParsesUnsigned {E = E} 64 10 text (Ok number) → least ≤ number
       → number ≤ most → Some number ≡ number_in least most text
-  read_is_in least most number parses above below = sym taken
-    where
-      is : (AreDigits text × (0 < length text) × (digits_value 10 text < 2 ^ 64)) × (digits_value 10 text ≡ number)
-      is = let p = parsed (Ok number) parses in (p.0, sym p.1)
-
-      taken : number_in least most text ≡ Some number
-      taken =
-          ap (λ b. cond ((not b && list_all is_digit text) && (nat_le least (digits_value 10 text) && nat_le (digits_value 10 text) most)) (Some (digits_value 10 text)) None) (has_some text is.0.1)
-          ∙ ap (λ b. cond (b && (nat_le least (digits_value 10 text) && nat_le (digits_value 10 text) most)) (Some (digits_value 10 text)) None) is.0.0
-          ∙ ap (λ v. cond (nat_le least v && nat_le v most) (Some v) None) is.1
-          ∙ ap (λ b. cond (b && nat_le number most) (Some number) None) (le-leb least number above)
-          ∙ ap (λ b. cond b (Some number) None) (le-leb number most below)
+  read_is_in least most number parses above below =
+      let is = parsed (Ok number) parses in
+      sym (ap (λ b. given ((not b && list_all is_digit text) && in_range least most (value text)) (value text))
+      (has_some text is.0.1)
+      ∙ ap (λ b. given (b && in_range least most (value text)) (value text)) is.0.0
+      ∙ ap (λ n. given (in_range least most n) n) (sym is.1)
+      ∙ ap (λ b. given (b && nat_le number most) number) (le-leb least number above)
+      ∙ ap (λ b. given b number) (le-leb number most below))
 
   pub unread_is_none : (least most : ℕ) (error : E) → most < 2 ^ 64 → ParsesUnsigned {E = E} 64 10 text (Err error)
       → None ≡ number_in least most text
-  unread_is_none least most error small parses = go (is_number text) refl
-      (nat_le least (digits_value 10 text) && nat_le (digits_value 10 text) most) refl
+  unread_is_none least most error small parses = go (is_number text) refl (in_range least most (value text)) refl
     where
-      go : (a : Bool) → is_number text ≡ a → (b : Bool)
-          → (nat_le least (digits_value 10 text) && nat_le (digits_value 10 text) most) ≡ b
-          → None ≡ cond (a && b) (Some (digits_value 10 text)) None
+      go : (a : Bool) → is_number text ≡ a → (b : Bool) → in_range least most (value text) ≡ b
+          → None ≡ given (a && b) (value text)
       go false e b f = refl
       go true e false f = refl
-      go true e true f = absurd (parsed (Err error) parses (digits.1, some_length text digits.0,
-          omega (arith, small, leb-true (digits_value 10 text) most range.1)))
-        where
-          digits : (not (is_empty text) ≡ true) × AreDigits text
-          digits = both (not (is_empty text)) (list_all is_digit text) e
-
-          range : (nat_le least (digits_value 10 text) ≡ true) × (nat_le (digits_value 10 text) most ≡ true)
-          range = both (nat_le least (digits_value 10 text)) (nat_le (digits_value 10 text) most) f
+      go true e true f =
+          let digits = both (not (is_empty text)) (list_all is_digit text) e in
+          let range = both (nat_le least (value text)) (nat_le (value text) most) f in
+          absurd (parsed (Err error) parses (
+            digits.1,
+            some_length text digits.0,
+            omega (arith, small, leb-true (value text) most range.1),
+          ))

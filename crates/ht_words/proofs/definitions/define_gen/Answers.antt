@@ -1,4 +1,3 @@
-use Rattle.std.proofs.Common.{rules}
 use Rattle.ht_words.proofs.DefinitionLaws.{added, added_last}
 use Rattle.ht_words.proofs.definitions.define_gen.Goals as goal
 
