@@ -3,9 +3,13 @@ use Rattle.ht_words.proofs.NumberLaws.{read_is_in, unread_is_none}
 use Rattle.ht_words.proofs.number.read_number.Goals as goal
 
 pub returns-in_default : goal.returns-in_default
-returns-in_default c = unread_is_none _ c.args.text.now (c.if-starts_with.ensures.byte (omega arith) (omega arith) (λ w o finds. finds))
-    c.args.least c.args.most c.in_default.field-0 (omega (arith, c.ranges.most.fits)) c.in_default.ensures.value.0
+returns-in_default c =
+    let plain = c.if-starts_with.ensures.byte (omega arith) (omega arith) (λ w o finds. finds) in
+    unread_is_none _ c.args.text.now plain c.args.least c.args.most c.in_default.field-0
+    (omega (arith, c.ranges.most.fits)) c.in_default.ensures.value.0
 
 pub returns : goal.returns
-returns c = read_is_in ℕ c.args.text.now (c.if-starts_with.ensures.byte (omega arith) (omega arith) (λ w o finds. finds))
-    c.args.least c.args.most c.in-Ok.number c.in-Ok.ensures.value.0 c.if-number-least.false c.if-number-most.false
+returns c =
+    let plain = c.if-starts_with.ensures.byte (omega arith) (omega arith) (λ w o finds. finds) in
+    read_is_in ℕ c.args.text.now plain c.args.least c.args.most c.in-Ok.number c.in-Ok.ensures.value.0
+    c.if-number-least.false c.if-number-most.false
