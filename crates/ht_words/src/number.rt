@@ -8,11 +8,14 @@ pub fn read_number(text: &str, least: u64, most: u64) -> Option<u64>
     ensures { result ≡ number_in least most text.now }
 {
     // `parse` takes a plus, and a word of digits has none.
-    if text.as_bytes().first() == Some(&b'+') {
+    if text.starts_with('+') {
         return None;
     }
-    match text.parse::<u64>() {
-        Ok(number) if least <= number && number <= most => Some(number),
-        _ => None,
+    let Ok(number) = text.parse::<u64>() else {
+        return None;
+    };
+    if number < least || number > most {
+        return None;
     }
+    Some(number)
 }
