@@ -1,3 +1,4 @@
 pub mod ToldFrames
 pub mod Attempts
 pub mod FaultWork
+pub mod Enough
