@@ -1,25 +1,23 @@
 -- What a reader of a proofs text owes: a line that is taken, one that isn't, and the end.
 use Rattle.std.proofs.Common.{arith, ap, sym, ◌∙◌, subst}
-use Rattle.std.proofs.lemmas.Option.{none-some, same_Some}
+use Rattle.std.proofs.lemmas.Option.{same_Some}
 use Rattle.std.proofs.lemmas.List.{map-append, length-append}
-use Rattle.std.specs.Prelude.{◌≡◌, ◌≢◌, ◌<◌, ◌+◌, ◌-◌, ◌^◌, ℕ, List, [], ◌∷◌, ◌++◌, map, min, true, false, refl, length, Option, Some, None, Result, Ok, Err, IfOk, is_ok}
+use Rattle.std.specs.Prelude.{◌≡◌, ◌≢◌, ◌<◌, ◌+◌, ◌-◌, ◌^◌, ℕ, List, [], ◌∷◌, ◌++◌, map, min, true, false, Option, Some, None, Result, Ok, Err, IfOk}
 use Rattle.std.specs.Option.{option_map}
 use Rattle.ht_ports.specs.LineRule.{max_text_bytes}
 use Rattle.ht_entries.specs.declared.proof_line.ProofLine.{ProofLine}
 use Rattle.ht_entries.specs.declared.text_error.TextError.TheVariants.{BadText}
-use Rattle.ht_entries.specs.declared.entry_part.EntryPart.{EntryPart}
 use Rattle.ht_entries.specs.declared.numbered.Numbered.{Numbered}
 use Rattle.ht_entries.specs.declared.reader_state.ReaderState.{ReaderState}
-use Rattle.ht_entries.specs.declared.reader_state.ReaderState.TheVariants.{BeforeHead, AfterHead, InEntry, AfterEnd}
+use Rattle.ht_entries.specs.declared.reader_state.ReaderState.TheVariants.{AfterEnd}
 use Rattle.ht_entries.specs.declared.reader_state.LineStep.{LineStep}
 use Rattle.ht_entries.specs.ProofLines.{line_text, IsProofLine}
-use Rattle.ht_entries.specs.EntryLines.{proof_lines}
-use Rattle.ht_entries.specs.EntryTexts.{AreEntryTexts, as_read}
-use Rattle.ht_entries.specs.ProofReading.{ProofReading, before_first, after_first, within_entry, after_last, lines_taken, closed_of, reading_as_read, IsProofReading, ProofReadsTo, IsMalformedAfter, AreProofLines, EndsEntry}
+use Rattle.ht_entries.specs.EntryTexts.{as_read}
+use Rattle.ht_entries.specs.ProofReading.{ProofReading, before_first, after_last, lines_taken, closed_of, reading_as_read, IsProofReading, ProofReadsTo, IsMalformedAfter, AreProofLines, EndsEntry}
 use Rattle.ht_entries.specs.ProofSteps.{take_line}
 use Rattle.ht_entries.specs.ReaderStands.{ProofReaderView, kept_of, ProofStands, IsStepBy, TakesProofLine, ProofCalled}
 use Rattle.ht_entries.proofs.LineLaws.{one_line}
-use Rattle.ht_entries.proofs.ReadingLaws.{reading_at, with_ended, reading_after, read_line, after_one, read_lines, after_append, state_is_kept}
+use Rattle.ht_entries.proofs.ReadingLaws.{with_ended, reading_after, read_line, after_one, read_lines, after_append, state_is_kept}
 use Rattle.ht_entries.proofs.ReadBackLaws.{read_back}
 use Rattle.ht_entries.proofs.TakenLaws.{takes_line}
 use Rattle.ht_entries.proofs.MalformedLaws.{one_text, refused_is_malformed, no_line_is_malformed}
@@ -132,24 +130,6 @@ pub result_steps : {E : Type 0} (state : ReaderState) (bytes : List ℕ) (l : Pr
     → IfOk result (λ s. IsStepBy state bytes s)
 result_steps state bytes l (Ok step) h e = parsed_line_steps state bytes l step (h.1) (h.0) e
 result_steps state bytes l (Err error) h e = tt
-
--- At the end.
-whole_at : (lines : List (List ℕ)) (at : ProofReading) → ProofReadsTo lines at → AfterEnd ≡ kept_of at
-    → AreProofLines lines
-whole_at lines before_first read e = absurd (other e)
-  where
-    other : AfterEnd ≡ BeforeHead → ⊥
-    other f = cc
-whole_at lines after_first read e = absurd (other e)
-  where
-    other : AfterEnd ≡ AfterHead → ⊥
-    other f = cc
-whole_at lines (within_entry closed number p) read e = absurd (other e)
-  where
-    other : AfterEnd ≡ InEntry number p → ⊥
-    other f = cc
-whole_at lines (after_last closed) read e =
-    record { entries = closed; are = read.readable; lines_are = read.lines_are }
 
 -- a whole text is read to its end
 pub whole_is_at_end : (lines : List (List ℕ)) (at : ProofReading) → ProofReadsTo lines at → AreProofLines lines

@@ -27,9 +27,6 @@ itself n = elim (eqb_tells n n) [ inl a ↦ a.0 | inr a ↦ absurd (a.1 refl) ]
 pub back_here : (t : Route) → back_to (stops t) t.here.point ≡ stops t
 back_here t = rw (itself t.here.point.level, itself t.here.point.mark) refl
 
-pub stands_here : (t : Route) → Stands t t.here.point
-stands_here t none = let e = back_here t in cc
-
 -- the route at an earlier stop
 pub stands_by : (t at : Route) (p : Point) → back_to (stops t) p ≡ stops at → Stands t p
 stands_by t at p e none = cc

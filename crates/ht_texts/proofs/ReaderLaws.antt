@@ -1,17 +1,15 @@
 -- A reader of reports after a call.
-use Rattle.std.proofs.Common.{◌≡◌, ◌≢◌, ℕ, ◌+◌, ◌-◌, ◌<◌, ◌≤◌, ◌^◌, false, List, [], ◌∷◌, ◌++◌, Ok, Err, length, length-append, refl, sym, ap, ◌∙◌, subst, arith}
+use Rattle.std.proofs.Common.{◌≡◌, ◌≢◌, ℕ, ◌+◌, ◌-◌, ◌<◌, ◌^◌, false, List, [], ◌∷◌, ◌++◌, Ok, Err, length, length-append, refl, sym, ap, ◌∙◌, subst, arith}
 use Rattle.std.specs.Prelude.{IsTrue}
 use Rattle.ht_net.specs.Netlist.{Netlist, IsCircuit}
 use Rattle.ht_faults.specs.Sites.{faults_of, sites_of}
 use Rattle.ht_faults.proofs.ListLaws.{faults_count}
 use Rattle.ht_faults.proofs.SiteLaws.{sites_few}
 use Rattle.ht_texts.specs.declared.item.Item.{Item}
-use Rattle.ht_texts.specs.declared.item.Item.TheVariants.{Head, Verdict, Member, Total}
 use Rattle.ht_texts.specs.declared.report_reader.ReportReader.TheInside.{Inside}
 use Rattle.ht_texts.specs.declared.said.Said.{Said}
-use Rattle.ht_texts.specs.declared.said.Said.TheVariants.{Detected, Untestable, Aborted, Undetected}
 use Rattle.ht_texts.specs.declared.total.Sums.{Sums}
-use Rattle.ht_texts.specs.Counts.{CountsOne, CountsItem}
+use Rattle.ht_texts.specs.Counts.{CountsItem}
 use Rattle.ht_texts.specs.ReportLines.{SaysItem}
 use Rattle.ht_texts.specs.ReportReaderOf.{report_view, ReadsReport}
 use Rattle.ht_texts.specs.ReportReading.{ReportReading, before_report, in_report, after_report, ReportReadsTo}
@@ -23,68 +21,6 @@ use Rattle.ht_texts.proofs.ReportFrontLaws.{length-report_lines, front_is_readin
 -- 32 bits count the lines of a report
 pub lines_few : (c : Netlist) → IsCircuit c → length (faults_of c) + 2 < 2 ^ 32
 lines_few c is = omega (arith, faults_count (sites_of c), sites_few c is)
-
--- ---- what a reader keeps is in order after one line more
-
-pub record CountsUpTo (n : ℕ) (sums : Sums) : Type 0 where
-  pub detected : sums.detected ≤ n
-  pub untestable : sums.untestable ≤ n
-  pub aborted : sums.aborted ≤ n
-
-one_more : (n : ℕ) (said : Said) (old new : Sums) → CountsOne said old new → CountsUpTo n old → CountsUpTo (n + 1) new
-one_more n (Detected place) old new counts upto = record {
-  detected = omega (arith, counts.detected, upto.detected);
-  untestable = omega (arith, counts.untestable, upto.untestable);
-  aborted = omega (arith, counts.aborted, upto.aborted);
-}
-one_more n Untestable old new counts upto = record {
-  detected = omega (arith, counts.detected, upto.detected);
-  untestable = omega (arith, counts.untestable, upto.untestable);
-  aborted = omega (arith, counts.aborted, upto.aborted);
-}
-one_more n Aborted old new counts upto = record {
-  detected = omega (arith, counts.detected, upto.detected);
-  untestable = omega (arith, counts.untestable, upto.untestable);
-  aborted = omega (arith, counts.aborted, upto.aborted);
-}
-one_more n Undetected old new counts upto = record {
-  detected = omega (arith, counts.detected, upto.detected);
-  untestable = omega (arith, counts.untestable, upto.untestable);
-  aborted = omega (arith, counts.aborted, upto.aborted);
-}
-
-no_more : (n : ℕ) (old new : Sums) → new ≡ old → CountsUpTo (n - 1) old → CountsUpTo n new
-no_more n old new same upto = subst (CountsUpTo n) (sym same) (record {
-  detected = omega (arith, upto.detected);
-  untestable = omega (arith, upto.untestable);
-  aborted = omega (arith, upto.aborted);
-})
-
--- at most one verdict for each line of a fault
-pub counts_few : (c : Netlist) (representatives : List ℕ) (n : ℕ) (line : List ℕ) (item : Item) (old new : Sums)
-    → SaysItem c representatives n old line item → CountsItem item old new → CountsUpTo (n - 1) old
-    → CountsUpTo n new
-counts_few c representatives n line (Head budget) old new says counts upto = no_more n old new counts upto
-counts_few c representatives n line (Verdict i said) old new says counts upto =
-    subst (λ k. CountsUpTo k new) (omega (arith, says.0)) (one_more (n - 1) said old new counts upto)
-counts_few c representatives n line (Member i) old new says counts upto = no_more n old new counts upto
-counts_few c representatives n line Total old new says counts upto = no_more n old new counts upto
-
--- a line that says something isn't after the total
-pub says_within : (c : Netlist) (representatives : List ℕ) (n : ℕ) (sums : Sums) (line : List ℕ) (item : Item)
-    → SaysItem c representatives n sums line item → n ≤ length (faults_of c) + 1
-says_within c representatives n sums line (Head budget) says = omega (arith, says.0)
-says_within c representatives n sums line (Verdict i said) says = omega (arith, says.0, says.2.listed)
-says_within c representatives n sums line (Member i) says = omega (arith, says.0, says.1.listed)
-says_within c representatives n sums line Total says = omega (arith, says.0)
-
--- the number of classes and the kind of report stay
-pub counts_keep : (item : Item) (old new : Sums) → CountsItem item old new
-    → (new.classes ≡ old.classes) × (new.search ≡ old.search)
-counts_keep (Head budget) old new same = (ap (λ (s : Sums). s.classes) same, ap (λ (s : Sums). s.search) same)
-counts_keep (Verdict i said) old new counts = (counts.classes, counts.search)
-counts_keep (Member i) old new same = (ap (λ (s : Sums). s.classes) same, ap (λ (s : Sums). s.search) same)
-counts_keep Total old new same = (ap (λ (s : Sums). s.classes) same, ap (λ (s : Sums). s.search) same)
 
 -- ---- what a call leaves
 
