@@ -15,6 +15,17 @@ step_text (Vectors list) = test_text list.list
 step_text (Entry fault entry) = entry_text (record { number = fault + 1; entry = entry })
 step_text Finished = []
 
+-- the same of the tests alone, and of the proofs alone
+abbrev pub tests_step : Step → List ℕ
+tests_step (Vectors list) = step_text (Vectors list)
+tests_step (Entry fault entry) = []
+tests_step Finished = []
+
+abbrev pub proofs_step : Step → List ℕ
+proofs_step (Vectors list) = []
+proofs_step (Entry fault entry) = step_text (Entry fault entry)
+proofs_step Finished = []
+
 -- the tests of steps
 abbrev pub tests_of : List Step → List ℕ
 tests_of steps = test_text (vectors_of steps)
