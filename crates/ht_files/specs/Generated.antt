@@ -20,16 +20,20 @@ content_of budget steps saids = record {
   entries = entries_of steps;
 }
 
--- The three files of a circuit are valid, and give one verdict to each listed fault, which is true:
+-- The three files of a circuit are valid, and give one verdict to each fault of its list, which is true. A fault that
+-- doesn't represent its class has the verdict of its representative, and what the proofs hold is of the representative.
 --
 -- - detected: at exactly the first written vector, and there the least output, where simulation over three values from
 --   all-unknown shows opposite definite values of the good and the faulty machine; so the two differ there from every
 --   pair of start states;
--- - untestable: the proofs hold a refutation that passes, and no list of vectors of any length detects the fault;
+-- - untestable: the proofs hold a refutation that passes; no list of vectors of any length detects the fault, and from
+--   every common start state both machines give equal outputs for ever;
 -- - aborted: the written vectors don't detect it, and the proofs hold a record that used up the budget.
 --
--- A budget that is enough decides. The files hold the lists and the entries of the generator's steps and nothing else,
--- and the total line is that of the report.
+-- For n inputs and m flip-flops, a budget of 2^(n + 2m + 1) finds every fault untestable that some set of flip-flops
+-- seals, and one of the sum of k * 2^(k * n + 1) over k from 1 to d finds every fault detected that d vectors can. The
+-- tests and the proofs hold the lists and the entries of the generator's steps and nothing else, and the total line is
+-- that of the report.
 pub record IsGenerated (c : Netlist) (budget : ℕ) (tests report proofs total : List ℕ) : Type 0 where
   pub representatives : List ℕ
   pub steps : List Step
