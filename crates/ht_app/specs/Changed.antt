@@ -8,7 +8,7 @@ use Rattle.ht_ports.specs.declared.ports.InPort.{InPort}
 use Rattle.ht_ports.specs.declared.ports.InPort.TheVariants.{Netlist}
 use Rattle.ht_ports.specs.declared.ports.OutPort.{OutPort}
 use Rattle.ht_ports.specs.declared.ports.OutPort.TheVariants.{Out, Err}
-use Rattle.ht_asked.specs.Asked.{Asked, sim, norm}
+use Rattle.ht_asked.specs.Asked.{Asked, sim, gen, norm}
 use Rattle.ht_app.specs.Jobs.{input_name, output_name}
 
 -- what may be touched: the ports that may be read, those that may be created, with their names, and those that may be
@@ -46,9 +46,11 @@ pub record ChangedOnly (ports : Ports) (old new : DeskView) : Type 0 where
 
 -- ---- what a run of a job may touch, by its status
 
--- a run writes its output only where it finishes (0) or fails in writing (5)
-abbrev pub may_write : Asked → ℕ → Bool
-may_write job status = status == 0 || status == 5
+-- a run creates its output only where it finishes (0) or fails in writing (5); `gen` writes as it works, so memory may
+-- run out after it began (6)
+abbrev pub may_create : Asked → ℕ → Bool
+may_create (gen netlist tests report proofs budget) status = status == 0 || (status == 5 || status == 6)
+may_create job status = status == 0 || status == 5
 
 -- where the netlist is refused (3), no other text is read
 abbrev pub reads_at : Asked → ℕ → InPort → Bool
@@ -56,16 +58,17 @@ reads_at job status Netlist = is_some (input_name job Netlist)
 reads_at job status port = not (status == 3) && is_some (input_name job port)
 
 abbrev pub creates_at : Asked → ℕ → OutPort → Option (List ℕ)
-creates_at job status port = if may_write job status then output_name job port else None
+creates_at job status port = if may_create job status then output_name job port else None
 
 -- the commands that say something on Out
 abbrev pub says_on_out : Asked → Bool
 says_on_out (sim netlist tests report) = true
+says_on_out (gen netlist tests report proofs budget) = true
 says_on_out (norm netlist out) = false
 
--- a run that doesn't finish says why on Err
+-- a run says something on Out only where it finishes or fails in writing, and one that doesn't finish says why on Err
 abbrev pub writes_at : Asked → ℕ → OutPort → Bool
-writes_at job status Out = may_write job status && says_on_out job
+writes_at job status Out = (status == 0 || status == 5) && says_on_out job
 writes_at job status Err = not (status == 0)
 writes_at job status port = is_some (creates_at job status port)
 

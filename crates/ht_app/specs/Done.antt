@@ -5,14 +5,15 @@ use Rattle.std.specs.Io.KnownBytes.{append_known}
 use Rattle.ht_ports.specs.Desk.{DeskView}
 use Rattle.ht_ports.specs.declared.ports.InPort.TheVariants.{Netlist}
 use Rattle.ht_ports.specs.declared.ports.OutPort.{OutPort}
-use Rattle.ht_ports.specs.declared.ports.OutPort.TheVariants.{Report, Out}
+use Rattle.ht_ports.specs.declared.ports.OutPort.TheVariants.{Tests, Report, Proofs, Out}
 use Rattle.ht_net.specs.Netlist as net
 use Rattle.ht_bench.specs.Normal.{normal_text}
 use Rattle.ht_texts.specs.Tests.{IsTestText}
-use Rattle.ht_asked.specs.Asked.{Asked, sim, norm}
+use Rattle.ht_asked.specs.Asked.{Asked, sim, gen, norm}
 use Rattle.ht_app.specs.Inputs.{IsInput, IsGoodNetlist, AreInputs, AcceptsInputs}
 use Rattle.ht_app.specs.Jobs.{output_name}
 use Rattle.ht_app.specs.Simulation.{IsReportOf}
+use Rattle.ht_files.specs.Generated.{IsGenerated}
 
 -- ---- `sim`
 
@@ -34,6 +35,21 @@ pub record HasReport (netlist tests : List ℕ) (old new : DeskView) : Type 0 wh
   pub stands : new.written Report ≡ option_map (λ _. report) (old.written Report)
   pub said : new.written Out ≡ append_known (old.written Out) total
 
+-- The tests, the report and the proofs of the netlist's circuit stand, with one true verdict for each fault, and the
+-- report's total line was added to Out.
+pub record HasFiles (netlist : List ℕ) (budget : ℕ) (old new : DeskView) : Type 0 where
+  pub circuit : net.Netlist
+  pub tests : List ℕ
+  pub report : List ℕ
+  pub proofs : List ℕ
+  pub total : List ℕ
+  pub good : IsGoodNetlist netlist circuit
+  pub generated : IsGenerated circuit budget tests report proofs total
+  pub tests_stand : new.written Tests ≡ option_map (λ _. tests) (old.written Tests)
+  pub report_stands : new.written Report ≡ option_map (λ _. report) (old.written Report)
+  pub proofs_stand : new.written Proofs ≡ option_map (λ _. proofs) (old.written Proofs)
+  pub said : new.written Out ≡ append_known (old.written Out) total
+
 -- the normal text of the netlist's circuit stands
 pub record HasNormalText (netlist : List ℕ) (old new : DeskView) : Type 0 where
   pub circuit : net.Netlist
@@ -43,6 +59,8 @@ pub record HasNormalText (netlist : List ℕ) (old new : DeskView) : Type 0 wher
 abbrev pub HasOutput : Asked → DeskView → DeskView → Type 0
 HasOutput (sim netlist_name tests_name report_name) old new = (netlist tests : List ℕ)
     → AreInputs netlist_name tests_name netlist tests old → HasReport netlist tests old new
+HasOutput (gen netlist_name tests_name report_name proofs_name budget) old new = (netlist : List ℕ)
+    → IsInput Netlist netlist_name netlist old → HasFiles netlist budget old new
 HasOutput (norm netlist_name out_name) old new = (netlist : List ℕ) → IsInput Netlist netlist_name netlist old
     → HasNormalText netlist old new
 

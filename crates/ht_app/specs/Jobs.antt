@@ -2,21 +2,25 @@
 use Rattle.std.specs.Prelude.{◌≡◌, ℕ, List, Option, Some, None}
 use Rattle.ht_ports.specs.Desk.{DeskView, Holds}
 use Rattle.ht_ports.specs.declared.ports.InPort.{InPort}
-use Rattle.ht_ports.specs.declared.ports.InPort.TheVariants.{Netlist, Tests}
+use Rattle.ht_ports.specs.declared.ports.InPort.TheVariants as in_port
 use Rattle.ht_ports.specs.declared.ports.OutPort.{OutPort}
-use Rattle.ht_ports.specs.declared.ports.OutPort.TheVariants.{Report}
-use Rattle.ht_asked.specs.Asked.{Asked, sim, norm}
+use Rattle.ht_ports.specs.declared.ports.OutPort.TheVariants.{Tests, Report, Proofs}
+use Rattle.ht_asked.specs.Asked.{Asked, sim, gen, norm}
 
 -- the file that the job reads from the port
 abbrev pub input_name : Asked → InPort → Option (List ℕ)
-input_name (sim netlist tests report) Netlist = Some netlist
-input_name (sim netlist tests report) Tests = Some tests
-input_name (norm netlist out) Netlist = Some netlist
+input_name (sim netlist tests report) in_port.Netlist = Some netlist
+input_name (sim netlist tests report) in_port.Tests = Some tests
+input_name (gen netlist tests report proofs budget) in_port.Netlist = Some netlist
+input_name (norm netlist out) in_port.Netlist = Some netlist
 input_name _ _ = None
 
 -- the file that it writes at the port
 abbrev pub output_name : Asked → OutPort → Option (List ℕ)
 output_name (sim netlist tests report) Report = Some report
+output_name (gen netlist tests report proofs budget) Tests = Some tests
+output_name (gen netlist tests report proofs budget) Report = Some report
+output_name (gen netlist tests report proofs budget) Proofs = Some proofs
 output_name (norm netlist out) Report = Some out
 output_name _ _ = None
 

@@ -16,7 +16,7 @@ use Rattle.ht_app.specs.declared.run_error.RunError.{RunError}
 use Rattle.ht_app.specs.declared.run_error.RunError.TheVariants.{Usage, TooLong, Refused, ReadFault, WriteFault, NoMemory, BadTests}
 use Rattle.ht_app.specs.Inputs.{IsInput, IsGoodNetlist, MayHold, AreInputs, AcceptsNetlist, AcceptsInputs}
 use Rattle.ht_app.specs.Jobs.{input_name}
-use Rattle.ht_app.specs.Truncated.{IsTruncated}
+use Rattle.ht_app.specs.Truncated.{IsTruncated, RunsOut}
 use Rattle.ht_app.specs.Errors.{exit_status, err_line}
 
 -- ---- a refused text
@@ -83,21 +83,21 @@ pub record FailsToWrite (job : Asked) (old new : DeskView) : Type 0 where
 
 -- ---- the causes
 
--- What holds where the work of a job ends by an error. `NoMemory` is the one free answer.
+-- What holds where the work of a job ends by an error. `NoMemory` is the one free answer: it says only what is left.
 abbrev pub HasCause : Asked → DeskView → DeskView → RunError → Type 0
 HasCause job old new Usage = ⊥
 HasCause job old new TooLong = RefusesNetlist job old IsTooLongNetlist
 HasCause job old new (Refused error) = RefusesNetlist job old (IsRefused error)
 HasCause job old new ReadFault = FailsToRead job old new
 HasCause job old new WriteFault = FailsToWrite job old new
-HasCause job old new NoMemory = Unit {0}
+HasCause job old new NoMemory = RunsOut job old new
 HasCause job old new (BadTests line) = RefusesTests job old line
 
 -- The same where words ask for a job or for none. Where they have no form, the desk isn't touched; memory may run out
 -- before they are read.
 abbrev pub AskedHasCause : Option Asked → DeskView → DeskView → RunError → Type 0
 AskedHasCause asked old new Usage = (asked ≡ None) × (new ≡ old)
-AskedHasCause asked old new NoMemory = Unit {0}
+AskedHasCause None old new NoMemory = new ≡ old
 AskedHasCause asked old new error = (job : Asked) × (asked ≡ Some job) × HasCause job old new error
 
 -- ---- what is said of them

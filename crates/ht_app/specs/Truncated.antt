@@ -1,15 +1,25 @@
 -- What a failed write leaves of the output.
-use Rattle.std.specs.Prelude.{◌≡◌, ◌⊎◌, ℕ, ◌<◌, ◌++◌, List, length, take}
+use Rattle.std.specs.Prelude.{◌≡◌, ◌⊎◌, ℕ, ◌<◌, ◌≤◌, ◌++◌, List, [], length, take, flat_map, Bool, true, false, nat_le}
 use Rattle.std.specs.Option.{option_map}
 use Rattle.std.specs.Io.KnownBytes.{append_known}
 use Rattle.ht_ports.specs.Desk.{DeskView}
 use Rattle.ht_ports.specs.declared.ports.InPort.TheVariants.{Netlist}
-use Rattle.ht_ports.specs.declared.ports.OutPort.TheVariants.{Report, Out}
+use Rattle.ht_ports.specs.declared.ports.OutPort.{OutPort}
+use Rattle.ht_ports.specs.declared.ports.OutPort.TheVariants.{Tests, Report, Proofs, Out}
 use Rattle.ht_net.specs.Netlist as net
 use Rattle.ht_bench.specs.Normal.{normal_text}
-use Rattle.ht_asked.specs.Asked.{Asked, sim, norm}
+use Rattle.ht_asked.specs.Asked.{Asked, sim, gen, norm}
 use Rattle.ht_app.specs.Inputs.{IsInput, IsGoodNetlist, AreInputs}
 use Rattle.ht_app.specs.Done.{IsSimulated}
+use Rattle.ht_collapse.specs.Classes.{AreClasses}
+use Rattle.ht_engine.specs.declared.step.Step.{Step}
+use Rattle.ht_engine.specs.Steps.{AreFinished, AreSteps}
+use Rattle.ht_entries.specs.ProofLines.{line_text}
+use Rattle.ht_entries.specs.declared.proof_line.ProofLine.TheVariants.{End}
+use Rattle.ht_texts.specs.Lines.{with_lf}
+use Rattle.ht_files.specs.StepTexts.{proofs_so_far, proofs_step, tests_of, tests_step}
+use Rattle.ht_app.specs.Changed.{IsNotCreated}
+use Rattle.ht_files.specs.Generated.{IsGenerated}
 
 -- Report is as it was, or has a proper front of this text
 abbrev pub StopsInText : List ℕ → DeskView → DeskView → Type 0
@@ -51,6 +61,79 @@ pub record SimIsTruncated (netlist tests : List ℕ) (old new : DeskView) : Type
   pub simulated : IsSimulated netlist tests (body ++ total) total
   pub stops : StopsInReport body total old new
 
+-- the port has this text
+abbrev pub HasText : OutPort → List ℕ → DeskView → DeskView → Type 0
+HasText port text old new = new.written port ≡ option_map (λ _. text) (old.written port)
+
+-- the port was created and is empty, or wasn't and is as it was
+abbrev pub IsEmptiedIf : Bool → OutPort → DeskView → DeskView → Type 0
+IsEmptiedIf true port old new = HasText port [] old new
+IsEmptiedIf false port old new = IsNotCreated port old new × (new.written port ≡ old.written port)
+
+-- Of the tests, the report and the proofs the first few were created, in this order.
+pub record StopsInFiles (old new : DeskView) : Type 0 where
+  pub count : ℕ
+  pub few : count < 3
+  pub tests : IsEmptiedIf (nat_le 1 count) Tests old new
+  pub report : IsEmptiedIf (nat_le 2 count) Report old new
+  pub proofs : IsEmptiedIf false Proofs old new
+
+-- The three were created, and the first line of the proofs isn't whole.
+pub record StopsInHead (old new : DeskView) : Type 0 where
+  pub count : ℕ
+  pub tests : HasText Tests [] old new
+  pub report : HasText Report [] old new
+  pub proofs : HasText Proofs (take count (proofs_so_far [])) old new
+
+-- Some steps stand whole, and of the next one, if it was begun, a front; the report is empty.
+pub record StopsInSteps (c : net.Netlist) (budget : ℕ) (old new : DeskView) : Type 0 where
+  pub representatives : List ℕ
+  pub whole : List Step
+  pub begun : List Step
+  pub count : ℕ
+  pub classes : AreClasses c representatives
+  pub one : length begun ≤ 1
+  pub steps_are : AreSteps c representatives budget (whole ++ begun)
+  pub tests : HasText Tests (tests_of whole ++ take count (flat_map tests_step begun)) old new
+  pub proofs : HasText Proofs (proofs_so_far whole ++ take count (flat_map proofs_step begun)) old new
+  pub report : HasText Report [] old new
+
+-- All steps stand whole, and the last line of the proofs isn't; the report is empty.
+pub record StopsInEnd (c : net.Netlist) (budget : ℕ) (old new : DeskView) : Type 0 where
+  pub representatives : List ℕ
+  pub steps : List Step
+  pub count : ℕ
+  pub classes : AreClasses c representatives
+  pub steps_are : AreSteps c representatives budget steps
+  pub finished : AreFinished c representatives steps
+  pub short : count < length (with_lf (line_text End))
+  pub tests : HasText Tests (tests_of steps) old new
+  pub proofs : HasText Proofs (proofs_so_far steps ++ take count (with_lf (line_text End))) old new
+  pub report : HasText Report [] old new
+
+-- It stops before the report is begun, with nothing on Out.
+pub record StopsBeforeReport (c : net.Netlist) (budget : ℕ) (old new : DeskView) : Type 0 where
+  pub out : new.written Out ≡ old.written Out
+  pub stops : StopsInFiles old new
+      ⊎ (StopsInHead old new ⊎ (StopsInSteps c budget old new ⊎ StopsInEnd c budget old new))
+
+-- The tests and the proofs are whole, and the report isn't.
+pub record StopsInLastFile (c : net.Netlist) (budget : ℕ) (old new : DeskView) : Type 0 where
+  pub tests : List ℕ
+  pub proofs : List ℕ
+  pub body : List ℕ
+  pub total : List ℕ
+  pub generated : IsGenerated c budget tests (body ++ total) proofs total
+  pub tests_stand : HasText Tests tests old new
+  pub proofs_stand : HasText Proofs proofs old new
+  pub stops : StopsInReport body total old new
+
+-- the report isn't whole, and so the three files aren't
+pub record GenIsTruncated (netlist : List ℕ) (budget : ℕ) (old new : DeskView) : Type 0 where
+  pub circuit : net.Netlist
+  pub good : IsGoodNetlist netlist circuit
+  pub stops : StopsBeforeReport circuit budget old new ⊎ StopsInLastFile circuit budget old new
+
 -- the normal text isn't whole
 pub record NormIsTruncated (netlist : List ℕ) (old new : DeskView) : Type 0 where
   pub circuit : net.Netlist
@@ -60,5 +143,12 @@ pub record NormIsTruncated (netlist : List ℕ) (old new : DeskView) : Type 0 wh
 abbrev pub IsTruncated : Asked → DeskView → DeskView → Type 0
 IsTruncated (sim netlist_name tests_name report_name) old new = (netlist tests : List ℕ)
     → AreInputs netlist_name tests_name netlist tests old → SimIsTruncated netlist tests old new
+IsTruncated (gen netlist_name tests_name report_name proofs_name budget) old new = (netlist : List ℕ)
+    → IsInput Netlist netlist_name netlist old → GenIsTruncated netlist budget old new
 IsTruncated (norm netlist_name out_name) old new = (netlist : List ℕ) → IsInput Netlist netlist_name netlist old
     → NormIsTruncated netlist old new
+
+-- What is left where memory ran out: nothing was written, or the output isn't whole. Only `gen` writes while it still
+-- asks for memory.
+abbrev pub RunsOut : Asked → DeskView → DeskView → Type 0
+RunsOut job old new = (new.written ≡ old.written) ⊎ IsTruncated job old new

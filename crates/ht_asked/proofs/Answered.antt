@@ -1,11 +1,11 @@
 -- What the words ask for, by their first word and by what `clap` answered.
-use Rattle.std.proofs.Common.{◌≡◌, ◌∙◌, ◌∷◌, true, false, cond, refl, sym, ap, List, [], Option, Some, None, option_map, string_bytes, String, Global}
+use Rattle.std.proofs.Common.{◌≡◌, ◌∙◌, ◌∷◌, true, false, cond, refl, sym, ap, List, [], Some, None, string_bytes, String, Global}
 use Rattle.std.specs.Prelude.{option_and_then, slice_get}
 use Rattle.clap.specs.Walk.{Row, Text, first_of}
 use Rattle.clap.specs.Simple.{App, matches_of}
 use Rattle.ht_asked.specs.Forms.{given}
-use Rattle.ht_asked.specs.Asked.{Asked, Command, asked, command_named, words_of}
-use Rattle.ht_asked.specs.ByClap.{all_of, app_with, asked_by_clap, asked_in_rows, command_by_clap, given_by_clap, given_values, is_taken, value_of}
+use Rattle.ht_asked.specs.Asked.{Command, asked, command_named, words_of}
+use Rattle.ht_asked.specs.ByClap.{app_with, asked_by_clap, asked_in_rows, command_by_clap, given_by_clap, given_values, is_taken, value_of}
 use Rattle.ht_asked.proofs.AskedByClap.{asked_is_by_clap}
 
 -- ---- what `clap` answered

@@ -1,53 +1,66 @@
--- Worked examples of a form with an option, read by computation.
-use Rattle.std.proofs.Common.{◌≡◌, ◌∷◌, List, [], map, Option, Some, None, refl, arith, codes}
+-- Worked examples of a command with an option, read by computation.
+use Rattle.std.proofs.Common.{◌≡◌, ◌∷◌, ℕ, List, [], map, Option, Some, None, refl, arith, codes}
 use Rattle.clap.specs.Walk.{Text}
-use Rattle.ht_asked.specs.Forms.{Form, Given, given, parts}
+use Rattle.ht_asked.specs.Forms.{given, parts}
+use Rattle.ht_asked.specs.Asked.{Asked, asked, budget_of, gen, gen_command}
 use Rattle.ht_asked.specs.ByClap.{app_with, given_by_clap}
-use Rattle.ht_asked.specs.Numbers.{number_or}
 use Rattle.ht_asked.proofs.States.{AreReadable}
 use Rattle.ht_asked.proofs.FormByClap.{form_by_clap}
 
--- `NETLIST OUT [--budget N]`
-abbrev form : Form
-form = record { positionals = codes "netlist" ∷ codes "out" ∷ []; options = codes "budget" ∷ [] }
+abbrev told : ℕ → Option Asked
+told budget = Some (gen (codes "n") (codes "t") (codes "r") (codes "p") budget)
 
-abbrev told : Option Text → Option Given
-told budget = Some (record { positionals = codes "n" ∷ codes "o" ∷ []; options = budget ∷ [] })
+-- the words after `gen`
+abbrev asks : List Text → Option Asked
+asks words = asked (codes "gen" ∷ words)
 
 -- an option stands anywhere before `--`, with its value in the next word or after `=`
-taken : map (given form) (
-    (codes "n" ∷ codes "o" ∷ [])
-    ∷ (codes "--budget" ∷ codes "5" ∷ codes "n" ∷ codes "o" ∷ [])
-    ∷ (codes "n" ∷ codes "--budget=5" ∷ codes "o" ∷ [])
-    ∷ (codes "n" ∷ codes "o" ∷ codes "--budget" ∷ codes "-" ∷ [])
-    ∷ (codes "n" ∷ codes "--budget=" ∷ codes "--" ∷ codes "o" ∷ [])
+taken : map asks (
+    (codes "n" ∷ codes "t" ∷ codes "r" ∷ codes "p" ∷ [])
+    ∷ (codes "--budget" ∷ codes "5" ∷ codes "n" ∷ codes "t" ∷ codes "r" ∷ codes "p" ∷ [])
+    ∷ (codes "n" ∷ codes "t" ∷ codes "--budget=007" ∷ codes "r" ∷ codes "p" ∷ [])
+    ∷ (codes "n" ∷ codes "t" ∷ codes "r" ∷ codes "p" ∷ codes "--budget" ∷ codes "100000" ∷ [])
+    ∷ (codes "n" ∷ codes "t" ∷ codes "--budget" ∷ codes "1" ∷ codes "--" ∷ codes "r" ∷ codes "p" ∷ [])
     ∷ [])
-    ≡ told None ∷ told (Some (codes "5")) ∷ told (Some (codes "5")) ∷ told (Some (codes "-")) ∷ told (Some []) ∷ []
-unfolding given parts
+    ≡ told 1000 ∷ told 5 ∷ told 7 ∷ told 100000 ∷ told 1 ∷ []
+unfolding asked given parts
 taken = refl
 
 -- twice, after `--`, without a value, with a value that looks like an option, shortened, unknown
-refused : map (given form) (
-    (codes "--budget" ∷ codes "5" ∷ codes "--budget=5" ∷ codes "n" ∷ codes "o" ∷ [])
-    ∷ (codes "n" ∷ codes "o" ∷ codes "--" ∷ codes "--budget=5" ∷ [])
-    ∷ (codes "n" ∷ codes "o" ∷ codes "--budget" ∷ [])
-    ∷ (codes "n" ∷ codes "o" ∷ codes "--budget" ∷ codes "-5" ∷ [])
-    ∷ (codes "--budge=5" ∷ codes "n" ∷ codes "o" ∷ [])
-    ∷ (codes "--seed" ∷ codes "5" ∷ codes "n" ∷ codes "o" ∷ [])
+refused : map asks (
+    (codes "--budget" ∷ codes "5" ∷ codes "--budget=5" ∷ codes "n" ∷ codes "t" ∷ codes "r" ∷ codes "p" ∷ [])
+    ∷ (codes "n" ∷ codes "t" ∷ codes "r" ∷ codes "p" ∷ codes "--" ∷ codes "--budget=5" ∷ [])
+    ∷ (codes "n" ∷ codes "t" ∷ codes "r" ∷ codes "p" ∷ codes "--budget" ∷ [])
+    ∷ (codes "n" ∷ codes "t" ∷ codes "r" ∷ codes "p" ∷ codes "--budget" ∷ codes "-5" ∷ [])
+    ∷ (codes "--budge=5" ∷ codes "n" ∷ codes "t" ∷ codes "r" ∷ codes "p" ∷ [])
+    ∷ (codes "--seed" ∷ codes "5" ∷ codes "n" ∷ codes "t" ∷ codes "r" ∷ codes "p" ∷ [])
     ∷ [])
     ≡ None ∷ None ∷ None ∷ None ∷ None ∷ None ∷ []
-unfolding given parts
+unfolding asked given parts
 refused = refl
 
--- `clap` reads that form as the plain reading does
+-- an option that `clap` takes, whose value is no budget
+no_budget : map (λ word. asks (codes "n" ∷ codes "t" ∷ codes "r" ∷ codes "p" ∷ word)) (
+    (codes "--budget=0" ∷ [])
+    ∷ (codes "--budget=100001" ∷ [])
+    ∷ (codes "--budget=-5" ∷ [])
+    ∷ (codes "--budget=" ∷ [])
+    ∷ (codes "--budget" ∷ codes "-" ∷ [])
+    ∷ (codes "--budget" ∷ codes "+5" ∷ [])
+    ∷ (codes "--budget" ∷ codes "5x" ∷ [])
+    ∷ [])
+    ≡ None ∷ None ∷ None ∷ None ∷ None ∷ None ∷ None ∷ []
+unfolding asked given parts
+no_budget = refl
+
+-- `clap` reads the command's form as the plain reading does
 by_clap : (words : List Text) → AreReadable words
-    → given_by_clap (app_with (codes "demo") form) form (codes "demo" ∷ words) ≡ given form words
-by_clap words = form_by_clap (codes "demo") form (record { differ = refl; few = omega arith }) (codes "demo") words
+    → given_by_clap (app_with gen_command.name gen_command.form) gen_command.form (codes "gen" ∷ words)
+    ≡ given gen_command.form words
+by_clap words =
+    form_by_clap gen_command.name gen_command.form (record { differ = refl; few = omega arith }) (codes "gen") words
 
 -- from 1 to 100000, or 1000 where it is left out
-numbers : map (number_or 1000 1 100000) (
-    None ∷ Some (codes "7") ∷ Some (codes "007") ∷ Some (codes "100000")
-    ∷ Some (codes "0") ∷ Some (codes "100001") ∷ Some (codes "+5") ∷ Some (codes "-5") ∷ Some [] ∷ Some (codes "5x")
-    ∷ [])
-    ≡ Some 1000 ∷ Some 7 ∷ Some 7 ∷ Some 100000 ∷ None ∷ None ∷ None ∷ None ∷ None ∷ None ∷ []
-numbers = refl
+budgets : map budget_of (None ∷ Some (codes "7") ∷ Some (codes "007") ∷ Some (codes "100000") ∷ Some (codes "0") ∷ [])
+    ≡ Some 1000 ∷ Some 7 ∷ Some 7 ∷ Some 100000 ∷ None ∷ []
+budgets = refl

@@ -25,3 +25,4 @@ pub mod FormByClap
 pub mod Examples
 pub mod AskedByClap
 pub mod Answered
+pub mod BudgetLaws

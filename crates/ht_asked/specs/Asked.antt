@@ -1,18 +1,22 @@
 -- What the words of the command line ask for, in plain steps.
-use Rattle.std.specs.Prelude.{List, [], ◌∷◌, Option, Some, None, codes, find, map, option_and_then}
+use Rattle.std.specs.Prelude.{ℕ, List, [], ◌∷◌, Option, Some, None, codes, find, map}
+use Rattle.std.specs.Prelude.{option_and_then, option_map}
 use Rattle.std.specs.Prelude.{String, string_bytes}
 use Rattle.std.specs.Global.{Global}
 use Rattle.std.specs.Str.{bytes_eq}
 use Rattle.clap.specs.Walk.{Text}
+use Rattle.ht_asked.specs.declared.limits.TheConstants.{DEFAULT_BUDGET, MAX_BUDGET, MIN_BUDGET}
 use Rattle.ht_asked.specs.Forms.{Form, Given, given}
+use Rattle.ht_asked.specs.Numbers.{number_or}
 
 -- the words as their bytes
 abbrev pub words_of : List (String Global) → List Text
 words_of = map (λ s. string_bytes s)
 
--- a command with the names of its files
+-- a command with the names of its files, and with its numbers
 pub data Asked : Type 0 where
   sim : Text → Text → Text → Asked
+  gen : Text → Text → Text → Text → ℕ → Asked
   norm : Text → Text → Asked
 
 -- a command: its name in lower case, the form of the words after it, and what they ask for
@@ -36,6 +40,26 @@ sim_command = record {
   asks = λ g. sim_of g.positionals;
 }
 
+-- the budget of a search, where the option's text is one or is left out
+abbrev pub budget_of : Option Text → Option ℕ
+budget_of = number_or DEFAULT_BUDGET MIN_BUDGET MAX_BUDGET
+
+-- `gen NETLIST TESTS REPORT PROOFS [--budget N]`
+abbrev pub gen_of : List Text → List (Option Text) → Option Asked
+gen_of (netlist ∷ tests ∷ report ∷ proofs ∷ []) (budget ∷ []) =
+    option_map (gen netlist tests report proofs) (budget_of budget)
+gen_of _ _ = None
+
+abbrev pub gen_command : Command
+gen_command = record {
+  name = codes "gen";
+  form = record {
+    positionals = codes "netlist" ∷ codes "tests" ∷ codes "report" ∷ codes "proofs" ∷ [];
+    options = codes "budget" ∷ [];
+  };
+  asks = λ g. gen_of g.positionals g.options;
+}
+
 -- `norm NETLIST OUT`
 abbrev pub norm_of : List Text → Option Asked
 norm_of (netlist ∷ out ∷ []) = Some (norm netlist out)
@@ -49,7 +73,7 @@ norm_command = record {
 }
 
 abbrev pub commands : List Command
-commands = sim_command ∷ norm_command ∷ []
+commands = sim_command ∷ gen_command ∷ norm_command ∷ []
 
 abbrev pub command_named : Text → Option Command
 command_named name = find (λ c. bytes_eq name c.name) commands

@@ -14,6 +14,13 @@ use ht_net::{Circuit, Fault};
 use ht_tree::{Aim, BACK_LIMIT, FORWARD_FRAMES, MAX_BUDGET, Spot, Token, Told};
 use std::alloc::{AllocError, Global};
 
+// Which way a search from a told frame goes.
+#[derive(Clone, Copy)]
+enum Way {
+    Ahead,
+    Back,
+}
+
 // How a search ended that found nothing.
 #[derive(Clone, Copy)]
 enum SearchEnd {
@@ -62,50 +69,18 @@ fn is_aim(
     ensures { IfOk result
         (λ passes. IsTrue passes ↔ IsAim circuit.now fault budget told.now aim.now) }
 {
-    match aim {
-        Aim::ForwardClosed(tokens) => {
-            is_ahead(
-                alloc,
-                circuit,
-                fault,
-                budget,
-                told,
-                SearchEnd::Closed,
-                tokens.as_slice(),
-            )
+    let (way, end, tokens) = match aim {
+        Aim::ForwardClosed(tokens) => (Way::Ahead, SearchEnd::Closed, tokens.as_slice()),
+        Aim::ForwardOpen(tokens) => (Way::Ahead, SearchEnd::Spent, tokens.as_slice()),
+        Aim::BackClosed(tokens) => (Way::Back, SearchEnd::Closed, tokens.as_slice()),
+        Aim::BackOpen(tokens) => (Way::Back, SearchEnd::Spent, tokens.as_slice()),
+        Aim::Attempt { back, ahead } => {
+            return is_attempt(alloc, circuit, fault, told, back, ahead);
         },
-        Aim::ForwardOpen(tokens) => {
-            is_ahead(
-                alloc,
-                circuit,
-                fault,
-                budget,
-                told,
-                SearchEnd::Spent,
-                tokens.as_slice(),
-            )
-        },
-        Aim::BackClosed(tokens) => {
-            is_back(
-                alloc,
-                circuit,
-                budget,
-                told,
-                SearchEnd::Closed,
-                tokens.as_slice(),
-            )
-        },
-        Aim::BackOpen(tokens) => {
-            is_back(
-                alloc,
-                circuit,
-                budget,
-                told,
-                SearchEnd::Spent,
-                tokens.as_slice(),
-            )
-        },
-        Aim::Attempt { back, ahead } => is_attempt(alloc, circuit, fault, told, back, ahead),
+    };
+    match way {
+        Way::Ahead => is_ahead(alloc, circuit, fault, budget, told, end, tokens),
+        Way::Back => is_back(alloc, circuit, budget, told, end, tokens),
     }
 }
 

@@ -1,2 +1,3 @@
 pub mod DecidedLaws
 pub mod AttemptLaws
+pub mod EnoughLaws

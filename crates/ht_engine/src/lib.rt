@@ -9,7 +9,11 @@
 #![tactic(auto)]
 
 mod attempt;
+mod engine;
+mod step;
 mod told_frame;
 mod work;
 
+pub use engine::{Engine, EntryKind};
+pub use step::Step;
 pub use work::{Work, work_on};

@@ -3,6 +3,7 @@ ghost use Rattle.std.specs.Prelude.{◌≤◌, IfOk};
 ghost use Rattle.ht_tree.specs.declared.limits.TheConstants.{MAX_BUDGET};
 ghost use Rattle.ht_tree.specs.AbortRecords.{IsFirstAim};
 ghost use Rattle.ht_engine.specs.Attempts.{FailsFirst};
+ghost use Rattle.ht_engine.specs.Enough.{IsEnough};
 ghost use Rattle.ht_engine.specs.FaultWork.{IsOpenFault, IsWork, WorkHolds};
 
 use crate::attempt::{Attempted, attempt_first};
@@ -25,6 +26,10 @@ pub enum Work {
 /// The work on a fault: rounds of refutation, where they leave it open the attempt at the first told frame, and where
 /// that finds nothing the sweep. The budget is that of each search, and of the sweep as a whole.
 ///
+/// With n inputs and m flip-flops, a budget of 2^(n + 2m + 1) refutes each fault that some set of flip-flops seals; and
+/// where a list of at most d vectors detects the fault, one of the sum of k * 2^(k * n + 1), over k from 1 to d, finds a
+/// list.
+///
 /// # Errors
 /// Out of memory.
 pub fn work_on(
@@ -36,7 +41,10 @@ pub fn work_on(
     requires { budget ≤ MAX_BUDGET }
     ensures answer { IfOk result (IsWork circuit.now fault budget) }
     ensures holds { IfOk result (WorkHolds circuit.now fault budget) }
+    ensures enough { IfOk result (IsEnough circuit.now fault budget) }
 {
+    // for the proof: the circuit is well formed
+    let _ = circuit.nets();
     match refute(alloc, circuit, fault, budget)? {
         OneFrame::Refuted { z, tokens } => Ok(Work::Entry(Entry::Untestable { z, tokens })),
         OneFrame::Told { chain } => search_list(alloc, circuit, fault, budget, chain, None),

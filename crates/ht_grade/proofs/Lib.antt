@@ -1,1 +1,4 @@
 pub mod DetectionLaws
+pub mod RunLaws
+pub mod KeptLaws
+pub mod GraderLaws

@@ -1,1 +1,4 @@
 pub mod Detections
+pub mod KeptFaults
+pub mod GraderView
+pub mod GraderOf

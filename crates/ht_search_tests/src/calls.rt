@@ -4,6 +4,7 @@ mod aborted;
 mod attempts;
 mod check;
 mod entries;
+mod events;
 mod forward;
 mod justify;
 mod oneframe;

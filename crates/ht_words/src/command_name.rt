@@ -8,6 +8,8 @@ ghost use Rattle.ht_words.specs.Jobs.{command_of};
 pub enum CommandName {
     /// `sim`.
     Sim,
+    /// `gen`.
+    Gen,
     /// `norm`.
     Norm,
 }
@@ -19,6 +21,7 @@ impl CommandName {
     {
         match word {
             "sim" => Some(CommandName::Sim),
+            "gen" => Some(CommandName::Gen),
             "norm" => Some(CommandName::Norm),
             _ => None,
         }

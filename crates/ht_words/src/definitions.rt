@@ -1,8 +1,8 @@
 //! One `clap` command for each command of the program.
 ghost use Rattle.std.specs.Prelude.{◌≡◌, IfOk, false};
 ghost use Rattle.clap.specs.Words.{app_of, rule_of};
-ghost use Rattle.ht_asked.specs.Asked.{norm_command, sim_command};
-ghost use Rattle.ht_asked.specs.ByClap.{app_named, app_with, wanted};
+ghost use Rattle.ht_asked.specs.Asked.{gen_command, norm_command, sim_command};
+ghost use Rattle.ht_asked.specs.ByClap.{app_named, app_with, optional, wanted};
 ghost use Rattle.ht_words.specs.Jobs.{command_of};
 
 use crate::command_name::CommandName;
@@ -26,8 +26,16 @@ fn positional<'a>(alloc: Global, id: &'a str) -> Arg<'a>
     Arg::new(alloc, id).required(true)
 }
 
+/// An option with one value, which may be left out.
+fn option<'a>(alloc: Global, id: &'a str) -> Arg<'a>
+    ensures rule { rule_of result ≡ optional id.entry.now }
+    ensures local { result.global ≡ false }
+{
+    Arg::new(alloc, id).long(id)
+}
+
 /// `sim NETLIST TESTS REPORT`.
-fn sim<'a>(alloc: Global) -> Result<Command<'a>, AllocError>
+fn define_sim<'a>(alloc: Global) -> Result<Command<'a>, AllocError>
     ensures { IfOk result (λ c. app_of c ≡ app_with sim_command.name sim_command.form) }
 {
     plain_command(alloc, "sim")
@@ -36,8 +44,20 @@ fn sim<'a>(alloc: Global) -> Result<Command<'a>, AllocError>
         .arg(positional(alloc, "report"))
 }
 
+/// `gen NETLIST TESTS REPORT PROOFS [--budget N]`.
+fn define_gen<'a>(alloc: Global) -> Result<Command<'a>, AllocError>
+    ensures { IfOk result (λ c. app_of c ≡ app_with gen_command.name gen_command.form) }
+{
+    plain_command(alloc, "gen")
+        .arg(positional(alloc, "netlist"))?
+        .arg(positional(alloc, "tests"))?
+        .arg(positional(alloc, "report"))?
+        .arg(positional(alloc, "proofs"))?
+        .arg(option(alloc, "budget"))
+}
+
 /// `norm NETLIST OUT`.
-fn norm<'a>(alloc: Global) -> Result<Command<'a>, AllocError>
+fn define_norm<'a>(alloc: Global) -> Result<Command<'a>, AllocError>
     ensures { IfOk result (λ c. app_of c ≡ app_with norm_command.name norm_command.form) }
 {
     plain_command(alloc, "norm")
@@ -50,7 +70,8 @@ pub fn definition<'a>(alloc: Global, name: CommandName) -> Result<Command<'a>, A
     ensures { IfOk result (λ c. app_of c ≡ app_with (command_of name).name (command_of name).form) }
 {
     match name {
-        CommandName::Sim => sim(alloc),
-        CommandName::Norm => norm(alloc),
+        CommandName::Sim => define_sim(alloc),
+        CommandName::Gen => define_gen(alloc),
+        CommandName::Norm => define_norm(alloc),
     }
 }

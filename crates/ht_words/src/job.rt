@@ -6,7 +6,7 @@ use crate::file_name::FileName;
 use std::alloc::AllocError;
 use thiserror::Error;
 
-/// A command with the names of its files.
+/// A command with the names of its files, and with its numbers.
 #[derive(Debug, Drop)]
 pub enum Job {
     /// Runs the tests on the netlist, and reports each fault.
@@ -17,6 +17,19 @@ pub enum Job {
         tests: FileName,
         /// The report to write.
         report: FileName,
+    },
+    /// Generates tests for the netlist, and reports each fault.
+    Gen {
+        /// The netlist to read.
+        netlist: FileName,
+        /// The tests to write.
+        tests: FileName,
+        /// The report to write.
+        report: FileName,
+        /// The entries of the faults for which no test is found, to write.
+        proofs: FileName,
+        /// The budget of each search, 1 to 100,000.
+        budget: u64,
     },
     /// Writes the netlist in its normal form.
     Norm {

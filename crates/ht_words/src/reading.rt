@@ -1,7 +1,7 @@
 //! From words to a job.
-ghost use Rattle.std.specs.Prelude.{◌≡◌, IfOk, None, Some, false, true};
+ghost use Rattle.std.specs.Prelude.{◌≡◌, IfOk, None, Some, codes, false, true};
 ghost use Rattle.clap.specs.Words.{app_of, first_of, found_of, is_simple_and_free, matches_of, rows_of};
-ghost use Rattle.ht_asked.specs.Asked.{asked, words_of};
+ghost use Rattle.ht_asked.specs.Asked.{asked, budget_of, words_of};
 ghost use Rattle.ht_asked.specs.ByClap.{asked_by_clap, asked_in_rows, is_taken};
 ghost use Rattle.ht_words.specs.Jobs.{IsAnswer, command_of};
 ghost use Rattle.ht_words.specs.declared.job.WordsFault.TheVariants as fault;
@@ -10,8 +10,10 @@ use crate::command_name::CommandName;
 use crate::definitions::definition;
 use crate::file_name::FileName;
 use crate::job::{Job, WordsFault};
+use crate::number::read_number;
 use clap::error::ErrorKind;
 use clap::{ArgMatches, Command};
+use ht_asked::{DEFAULT_BUDGET, MAX_BUDGET, MIN_BUDGET};
 use std::alloc::Global;
 
 /// The job that the words ask for: the words after the program's name, of which the first names the command, in lower
@@ -62,6 +64,13 @@ fn job(alloc: Global, name: CommandName, matches: &ArgMatches<'_>) -> Result<Job
             tests: value(alloc, matches, "tests")?,
             report: value(alloc, matches, "report")?,
         }),
+        CommandName::Gen => Ok(Job::Gen {
+            netlist: value(alloc, matches, "netlist")?,
+            tests: value(alloc, matches, "tests")?,
+            report: value(alloc, matches, "report")?,
+            proofs: value(alloc, matches, "proofs")?,
+            budget: budget(matches)?,
+        }),
         CommandName::Norm => Ok(Job::Norm {
             netlist: value(alloc, matches, "netlist")?,
             out: value(alloc, matches, "out")?,
@@ -79,5 +88,18 @@ fn value(alloc: Global, matches: &ArgMatches<'_>, id: &str) -> Result<FileName, 
     match matches.get_str(id) {
         Some(text) => Ok(FileName::new(String::from_str(alloc, text)?)),
         None => Err(WordsFault::Usage),
+    }
+}
+
+/// The budget of a search.
+fn budget(matches: &ArgMatches<'_>) -> Result<u64, WordsFault>
+    ensures usage { result ≡ Err fault.Usage →
+        budget_of (first_of (codes "budget") (rows_of (found_of matches.now))) ≡ None }
+    ensures ok { IfOk result (λ number.
+        budget_of (first_of (codes "budget") (rows_of (found_of matches.now))) ≡ Some number) }
+{
+    match matches.get_str("budget") {
+        Some(text) => read_number(text, MIN_BUDGET, MAX_BUDGET).ok_or(WordsFault::Usage),
+        None => Ok(DEFAULT_BUDGET),
     }
 }

@@ -1,0 +1,110 @@
+-- An engine, and the steps that it stands for.
+use Rattle.std.specs.Prelude.{◌≡◌, ◌≢◌, ◌<◌, ◌-◌, ◌+◌, ℕ, List, [], ◌∷◌, ◌++◌, Bool, get_or, length, Option, Some, None}
+use Rattle.std.specs.List.{All, Contains}
+use Rattle.ht_net.specs.Netlist.{Netlist}
+use Rattle.ht_net.specs.Detection.{Detects, IsFirstDetection}
+use Rattle.ht_collapse.specs.Classes.{fault_at}
+use Rattle.ht_tree.specs.Entries.{Passes}
+use Rattle.ht_tree.specs.Reached.{AreVectors}
+use Rattle.ht_texts.specs.declared.said.Said.{Said}
+use Rattle.ht_texts.specs.declared.said.Said.TheVariants as said
+use Rattle.ht_tree.specs.declared.entry.Entry as recorded
+use Rattle.ht_tree.specs.declared.entry.Entry.TheVariants as entry
+use Rattle.ht_entries.specs.declared.numbered.Numbered.{Numbered}
+use Rattle.ht_valid.specs.ValidFiles.{HasEntry, IsOwn}
+use Rattle.ht_engine.specs.declared.engine.EntryKind.{EntryKind}
+use Rattle.ht_engine.specs.declared.engine.EntryKind.TheVariants as kind
+use Rattle.ht_engine.specs.declared.step.Step.{Step}
+use Rattle.ht_engine.specs.declared.step.Step.TheVariants.{Vectors, Entry, Finished}
+use Rattle.ht_engine.specs.Steps.{AreFinished, AreSteps, AwaitsVerdict, Follows, entries_of, vectors_of}
+
+pub record EngineView : Type 0 where
+  -- what it works on
+  pub circuit : Netlist
+  pub representatives : List ℕ
+  pub budget : ℕ
+  -- what it keeps of the steps so far: their vectors, the kind of each fault's entry, and the number of the first fault
+  -- that may still await its verdict
+  pub list : List (List Bool)
+  pub kinds : List (Option EntryKind)
+  pub place : ℕ
+  -- false from the first time that memory ran out
+  pub live : Bool
+
+-- ---- the steps that an engine stands for
+
+abbrev pub kind_at : EngineView → ℕ → Option EntryKind
+kind_at e i = get_or e.kinds i None
+
+abbrev pub IsOfKind : EntryKind → recorded.Entry → Type 0
+IsOfKind kind.Refuted (entry.Untestable z tokens) = Unit {0}
+IsOfKind kind.GivenUp (entry.Aborted told walk aim sweep) = Unit {0}
+IsOfKind _ _ = ⊥
+
+-- fault i has an entry of this kind among the entries, or none
+abbrev pub IsKindIn : List Numbered → ℕ → Option EntryKind → Type 0
+IsKindIn entries i None = ¬ HasEntry entries i
+IsKindIn entries i (Some kind) = (e : recorded.Entry) × Contains entries (record { number = i + 1; entry = e }) × IsOfKind kind e
+
+-- Each entry passes, for the fault of its number.
+abbrev pub AllPass : Netlist → ℕ → List Numbered → Type 0
+AllPass c budget entries = All (λ (e : Numbered). Passes c (fault_at c (e.number - 1)) budget e.entry) entries
+
+-- The engine stands for these steps: what it keeps is theirs.
+pub record EngineStandsFor (e : EngineView) (steps : List Step) : Type 0 where
+  pub are : AreSteps e.circuit e.representatives e.budget steps
+  pub list : e.list ≡ vectors_of steps
+  pub kinds : (i : ℕ) → i < length e.representatives → IsKindIn (entries_of steps) i (kind_at e i)
+  pub done : (i : ℕ) → i < e.place → ¬ AwaitsVerdict e.circuit e.representatives steps i
+  pub entered : (i : ℕ) → HasEntry (entries_of steps) i → i < e.place
+  -- what the steps mean
+  pub wide : AreVectors e.circuit (vectors_of steps)
+  pub pass : AllPass e.circuit e.budget (entries_of steps)
+
+-- ---- one more step
+
+-- what it works on stays
+pub record HasSameWork (old new : EngineView) : Type 0 where
+  pub circuit : new.circuit ≡ old.circuit
+  pub representatives : new.representatives ≡ old.representatives
+  pub budget : new.budget ≡ old.budget
+
+-- the engine made a step that may come after these, and stands for them with it
+pub record MakesStep (old new : EngineView) (steps : List Step) (step : Step) : Type 0 where
+  pub follows : Follows old.circuit old.representatives old.budget steps step
+  pub stands : EngineStandsFor new (steps ++ step ∷ [])
+
+-- the engine made the step after these, or is finished where they are all
+abbrev pub Makes : EngineView → EngineView → List Step → Step → Type 0
+Makes old new steps Finished =
+    AreFinished old.circuit old.representatives steps × EngineStandsFor new steps
+Makes old new steps step = MakesStep old new steps step
+
+-- A list of vectors behind those so far that detects a representative which awaited its verdict.
+pub record IsUseful (c : Netlist) (representatives : List ℕ) (steps : List Step) (list : List (List Bool)) : Type 0 where
+  pub fault : ℕ
+  pub awaited : AwaitsVerdict c representatives steps fault
+  pub vector : ℕ
+  pub output : ℕ
+  pub detects : Detects c (fault_at c fault) (vectors_of steps ++ list) vector output
+
+-- each list is useful, and each entry passes
+abbrev pub MeansOfStep : EngineView → List Step → Step → Type 0
+MeansOfStep e steps (Vectors list) = IsUseful e.circuit e.representatives steps list.list
+MeansOfStep e steps (Entry fault made) = Passes e.circuit (fault_at e.circuit fault) e.budget made
+MeansOfStep e steps Finished = Unit {0}
+
+-- ---- what is said of a representative
+
+-- Detected at the first place where the vectors detect it; where they don't, what its entry says. Undetected is said
+-- only while it awaits its verdict.
+abbrev pub IsSaid : EngineView → List Step → ℕ → Said → Type 0
+IsSaid e steps i (said.Detected place) =
+    IsFirstDetection e.circuit (fault_at e.circuit i) (vectors_of steps) (Some place)
+IsSaid e steps i said.Untestable =
+    IsFirstDetection e.circuit (fault_at e.circuit i) (vectors_of steps) None
+    × IsKindIn (entries_of steps) i (Some kind.Refuted)
+IsSaid e steps i said.Aborted =
+    IsFirstDetection e.circuit (fault_at e.circuit i) (vectors_of steps) None
+    × IsKindIn (entries_of steps) i (Some kind.GivenUp)
+IsSaid e steps i said.Undetected = AwaitsVerdict e.circuit e.representatives steps i

@@ -1,0 +1,76 @@
+-- What one step changes of what an engine keeps.
+use Rattle.std.specs.Prelude.{◌≡◌, ◌<◌, ◌≤◌, ◌+◌, ◌++◌, ℕ, Option, Some, None, length, slice_set}
+use Rattle.ht_net.specs.Detection.{IsFirstDetection}
+use Rattle.ht_net.specs.Rows.{Rows}
+use Rattle.ht_collapse.specs.Classes.{fault_at}
+use Rattle.ht_texts.specs.declared.said.Said.{Said}
+use Rattle.ht_texts.specs.declared.said.Said.TheVariants as said
+use Rattle.ht_tree.specs.declared.entry.Entry as recorded
+use Rattle.ht_tree.specs.declared.entry.Entry.TheVariants.{Untestable, Aborted}
+use Rattle.ht_tree.specs.Entries.{Passes}
+use Rattle.ht_valid.specs.ValidFiles.{IsOwn}
+use Rattle.ht_engine.specs.declared.engine.EntryKind.{EntryKind}
+use Rattle.ht_engine.specs.declared.engine.EntryKind.TheVariants.{Refuted, GivenUp}
+use Rattle.ht_engine.specs.declared.step.Step.{Step}
+use Rattle.ht_engine.specs.declared.step.Step.TheVariants.{Vectors, Entry, Finished}
+use Rattle.ht_engine.specs.declared.work.Work.TheVariants as work
+use Rattle.ht_engine.specs.Attempts.{DetectsAlways}
+use Rattle.ht_engine.specs.EngineStands.{EngineView}
+use Rattle.ht_engine.specs.FaultWork.{IsWork}
+
+-- ---- the fault that is worked on
+
+-- Fault i represents its class, and the vectors so far don't detect it.
+pub record IsUndetected (e : EngineView) (i : ℕ) : Type 0 where
+  pub own : IsOwn e.circuit e.representatives i
+  pub undetected : IsFirstDetection e.circuit (fault_at e.circuit i) e.list None
+
+-- the least undetected fault that isn't below the place
+pub record IsNextUndetected (e : EngineView) (i : ℕ) : Type 0 where
+  pub undetected : IsUndetected e i
+  pub from : e.place ≤ i
+  pub least : (k : ℕ) → e.place ≤ k → k < i → ¬ IsUndetected e k
+
+-- the same, or that there is none
+abbrev pub IsNextOf : EngineView → Option ℕ → Type 0
+IsNextOf e None = (k : ℕ) → e.place ≤ k → ¬ IsUndetected e k
+IsNextOf e (Some i) = IsNextUndetected e i
+
+-- ---- what is kept of an entry, and said by it
+
+abbrev pub kind_of_entry : recorded.Entry → EntryKind
+kind_of_entry (Untestable z tokens) = Refuted
+kind_of_entry (Aborted told walk aim sweep) = GivenUp
+
+abbrev pub said_by : Option EntryKind → Said
+said_by None = said.Undetected
+said_by (Some Refuted) = said.Untestable
+said_by (Some GivenUp) = said.Aborted
+
+-- ---- the step
+
+-- A list was given for the next fault: its vectors are kept.
+pub record GivesList (old new : EngineView) (list : Rows) : Type 0 where
+  pub fault : ℕ
+  pub next : IsNextUndetected old fault
+  pub given : IsWork old.circuit (fault_at old.circuit fault) old.budget (work.List list)
+  pub holds : DetectsAlways old.circuit (fault_at old.circuit fault) list
+  pub after : new ≡ record old { list = old.list ++ list.list; place = fault + 1 }
+
+-- An entry was given for the next fault: its kind is kept.
+pub record GivesEntry (old new : EngineView) (fault : ℕ) (entry : recorded.Entry) : Type 0 where
+  pub next : IsNextUndetected old fault
+  pub given : IsWork old.circuit (fault_at old.circuit fault) old.budget (work.Entry entry)
+  pub holds : Passes old.circuit (fault_at old.circuit fault) old.budget entry
+  pub after : new
+      ≡ record old { kinds = slice_set old.kinds fault (Some (kind_of_entry entry)); place = fault + 1 }
+
+-- There is no next fault.
+pub record Ends (old new : EngineView) : Type 0 where
+  pub none : IsNextOf old None
+  pub after : new ≡ record old { place = length old.representatives }
+
+abbrev pub Advances : EngineView → EngineView → Step → Type 0
+Advances old new (Vectors list) = GivesList old new list
+Advances old new (Entry fault entry) = GivesEntry old new fault entry
+Advances old new Finished = Ends old new

@@ -1,0 +1,229 @@
+//! The generator over all representatives, one step at a time.
+ghost use Rattle.std.specs.Prelude.{◌≡◌, ◌≢◌, ◌↔◌, ◌≤◌, ◌<◌, List, [], true, false, length, IfOk, OnErr, OnOk};
+ghost use Rattle.ht_net.specs.Netlist.{Netlist};
+ghost use Rattle.ht_faults.specs.Sites.{faults_of};
+ghost use Rattle.ht_collapse.specs.Classes.{AreClasses, fault_at};
+ghost use Rattle.ht_tree.specs.declared.limits.TheConstants.{MAX_BUDGET};
+ghost use Rattle.ht_tree.specs.Entries.{Passes};
+ghost use Rattle.ht_texts.specs.Verdicts.{IsSayable};
+ghost use Rattle.ht_valid.specs.ValidFiles.{IsOwn};
+ghost use Rattle.ht_engine.specs.declared.step.Step as made;
+ghost use Rattle.ht_engine.specs.declared.step.Step.TheVariants as made_step;
+ghost use Rattle.ht_engine.specs.declared.work.Work.TheVariants as work;
+ghost use Rattle.ht_engine.specs.Attempts.{DetectsAlways};
+ghost use Rattle.ht_engine.specs.FaultWork.{IsWork};
+ghost use Rattle.ht_engine.specs.OneStep.{Advances, IsNextOf, IsNextUndetected, IsUndetected, kind_of_entry, said_by};
+ghost use Rattle.ht_engine.specs.EngineStands.{EngineStandsFor, HasSameWork, IsSaid, Makes, MeansOfStep};
+
+use crate::step::Step;
+use crate::work::{Work, work_on};
+use ht_collapse::Classes;
+use ht_faults::FaultList;
+use ht_grade::Grader;
+use ht_net::{Circuit, Vectors};
+use ht_texts::Said;
+use ht_tree::Entry;
+use std::alloc::{AllocError, Global};
+use std::marker::Model;
+
+/// What the entry of a fault says.
+#[derive(Clone, Copy, PartialEq, Eq, Debug)]
+pub enum EntryKind {
+    /// No list of vectors detects the fault.
+    Refuted,
+    /// The budget was spent on it.
+    GivenUp,
+}
+
+impl EntryKind {
+    // What an entry says.
+    fn of(entry: &Entry) -> EntryKind
+        ensures { result ≡ kind_of_entry entry.now }
+    {
+        match entry {
+            Entry::Untestable { .. } => EntryKind::Refuted,
+            Entry::Aborted { .. } => EntryKind::GivenUp,
+        }
+    }
+}
+
+// What is said of a fault that no vectors detect, by the kind of its entry.
+fn said_by(kind: Option<EntryKind>) -> Said
+    ensures { result ≡ said_by kind }
+{
+    match kind {
+        None => Said::Undetected,
+        Some(EntryKind::Refuted) => Said::Untestable,
+        Some(EntryKind::GivenUp) => Said::Aborted,
+    }
+}
+
+/// A generator that stands for the steps that it gave. It keeps their vectors, and of their entries the kinds.
+#[derive(Drop)]
+pub struct Engine<'c> {
+    alloc: Global,
+    circuit: &'c Circuit,
+    faults: &'c FaultList,
+    classes: &'c Classes,
+    budget: u64,
+    grader: Grader<'c>,
+    // the kind of each fault's entry, by number from 0
+    kinds: Vec<Option<EntryKind>>,
+    // the first fault that may still await its verdict
+    place: u32,
+    live: bool,
+}
+
+impl<'c> Model for Engine<'c> {
+    ghost use Rattle.ht_engine.specs.EngineStands.{EngineView};
+
+    ghost Value = { EngineView };
+
+    ghost use Rattle.ht_engine.specs.EngineOf.{engine_of, AreEngineFields};
+
+    ghost view = { engine_of };
+
+    ghost invariant = { AreEngineFields };
+}
+
+impl<'c> Engine<'c> {
+    /// A generator before its first step. The budget is that of each search.
+    ///
+    /// # Errors
+    /// Out of memory.
+    pub fn new(
+        alloc: Global,
+        circuit: &'c Circuit,
+        faults: &'c FaultList,
+        classes: &'c Classes,
+        budget: u64,
+    ) -> Result<Engine<'c>, AllocError>
+        requires faults { faults.now ≡ faults_of circuit.now }
+        requires classes { AreClasses circuit.now classes.now }
+        requires budget { (0 < budget) × (budget ≤ MAX_BUDGET) }
+        ensures none { IfOk result (λ engine. EngineStandsFor engine []) }
+        ensures circuit { IfOk result (λ engine. engine.circuit ≡ circuit.now) }
+        ensures classes { IfOk result (λ engine. engine.representatives ≡ classes.now) }
+        ensures budget { IfOk result (λ engine. engine.budget ≡ budget) }
+        ensures live { IfOk result (λ engine. engine.live ≡ true) }
+    {
+        let grader = Grader::new(alloc, circuit, faults, classes)?;
+        let kinds = vec![in alloc; None; classes.len() as usize]?;
+        Ok(Engine {
+            alloc,
+            circuit,
+            faults,
+            classes,
+            budget,
+            grader,
+            kinds,
+            place: 0,
+            live: true,
+        })
+    }
+
+    // Fault `i` represents its class, and the vectors so far don't detect it.
+    fn is_undetected(&self, i: u32) -> bool
+        requires { i < length self.now.representatives }
+        ensures { (result ≡ true) ↔ IsUndetected self.now i }
+    {
+        self.classes.of(i) == i && self.grader.verdict(i).is_none()
+    }
+
+    // The least fault from the place on that represents its class and isn't detected.
+    fn next_fault(&self) -> Option<u32>
+        ensures { IsNextOf self.now result }
+    {
+        for i in self.place..self.classes.len() {
+            if self.is_undetected(i) {
+                return Some(i);
+            }
+        }
+        None
+    }
+
+    // Gives the list that the work on a fault found, and keeps its vectors.
+    fn give_list(&mut self, fault: u32, list: Vectors) -> Result<Step, AllocError>
+        requires next { IsNextUndetected self.old fault }
+        requires given { IsWork self.old.circuit (fault_at self.old.circuit fault) self.old.budget
+            (work.List list) }
+        requires holds { DetectsAlways self.old.circuit (fault_at self.old.circuit fault) list }
+        ensures advances { IfOk result (Advances self.old self.new) }
+        ensures same { OnErr result (self.new ≡ self.old) }
+    {
+        self.grader.apply(self.alloc, &list)?;
+        self.place = fault + 1;
+        Ok(Step::Vectors(list))
+    }
+
+    // Gives the entry that the work on a fault made, and keeps its kind.
+    fn give_entry(&mut self, fault: u32, entry: Entry) -> Step
+        requires next { IsNextUndetected self.old fault }
+        requires given { IsWork self.old.circuit (fault_at self.old.circuit fault) self.old.budget
+            (work.Entry entry) }
+        requires holds { Passes self.old.circuit (fault_at self.old.circuit fault) self.old.budget
+            entry }
+        ensures { Advances self.old self.new result }
+    {
+        self.kinds[fault as usize] = Some(EntryKind::of(&entry));
+        self.place = fault + 1;
+        Step::Entry { fault, entry }
+    }
+
+    // The next step. An error changes nothing.
+    fn advance(&mut self) -> Result<Step, AllocError>
+        ensures advances { IfOk result (Advances self.old self.new) }
+        ensures same { OnErr result (self.new ≡ self.old) }
+    {
+        let Some(fault) = self.next_fault() else {
+            self.place = self.classes.len();
+            return Ok(Step::Finished);
+        };
+        match work_on(self.alloc, self.circuit, self.faults.get(fault), self.budget)? {
+            Work::List(list) => self.give_list(fault, list),
+            Work::Entry(entry) => Ok(self.give_entry(fault, entry)),
+        }
+    }
+
+    /// The next step: what the work on the least representative that awaits its verdict gives.
+    ///
+    /// # Errors
+    /// Out of memory; and then always.
+    pub fn next(&mut self) -> Result<Step, AllocError>
+        ensures work { HasSameWork self.old self.new }
+        ensures step { (steps : List made.Step) → EngineStandsFor self.old steps
+            → IfOk result (Makes self.old self.new steps) }
+        ensures means { (steps : List made.Step) → EngineStandsFor self.old steps
+            → IfOk result (MeansOfStep self.old steps) }
+        // Each step brings the end nearer: the place is at most the number of faults.
+        ensures nears { IfOk result (λ step. step ≢ made_step.Finished → self.old.place < self.new.place) }
+        ensures within { self.new.place ≤ length self.new.representatives }
+        ensures dead { OnErr result (self.new.live ≡ false) }
+        ensures lives { OnOk result (self.old.live ≡ true) }
+    {
+        if !self.live {
+            return Err(AllocError);
+        }
+        match self.advance() {
+            Ok(step) => Ok(step),
+            Err(error) => {
+                self.live = false;
+                Err(error)
+            },
+        }
+    }
+
+    /// What the steps so far say of a representative, by its number from 0. Once the generator is finished that isn't
+    /// `Undetected`.
+    pub fn said(&self, fault: u32) -> Said
+        requires { IsOwn self.now.circuit self.now.representatives fault }
+        ensures said { (steps : List made.Step) → EngineStandsFor self.now steps
+            → IsSaid self.now steps fault result }
+        ensures sayable { IsSayable self.now.circuit result }
+    {
+        match self.grader.verdict(fault) {
+            Some(place) => Said::Detected(place),
+            None => said_by(self.kinds[fault as usize]),
+        }
+    }
+}

@@ -1,0 +1,2 @@
+pub mod StepTextLaws
+pub mod PlainNameLaws

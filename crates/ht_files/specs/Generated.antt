@@ -1,0 +1,52 @@
+-- The headline: what the three files and the total line of a finished run say, and that it is true.
+use Rattle.std.specs.Prelude.{◌≡◌, ℕ, List, Some}
+use Rattle.ht_net.specs.Netlist.{Netlist}
+use Rattle.ht_collapse.specs.Classes.{AreClasses}
+use Rattle.ht_texts.specs.declared.said.Said.{Said}
+use Rattle.ht_texts.specs.Lines.{with_lf}
+use Rattle.ht_texts.specs.Reports.{report_text, report_sums, total_line}
+use Rattle.ht_valid.specs.ValidFiles.{Content, AreValid}
+use Rattle.ht_valid.specs.TrueVerdicts.{AreDecided, HaveTrueVerdicts}
+use Rattle.ht_engine.specs.declared.step.Step.{Step}
+use Rattle.ht_engine.specs.Steps.{AreFinished, AreSteps, entries_of, vectors_of}
+use Rattle.ht_files.specs.StepTexts.{proofs_of, tests_of}
+
+-- what the files of steps say
+abbrev pub content_of : ℕ → List Step → List Said → Content
+content_of budget steps saids = record {
+  list = vectors_of steps;
+  budget = budget;
+  saids = saids;
+  entries = entries_of steps;
+}
+
+-- The three files of a circuit are valid, and give one verdict to each fault of its list, which is true. A fault that
+-- doesn't represent its class has the verdict of its representative, and what the proofs hold is of the representative.
+--
+-- - detected: at exactly the first written vector, and there the least output, where simulation over three values from
+--   all-unknown shows opposite definite values of the good and the faulty machine; so the two differ there from every
+--   pair of start states;
+-- - untestable: the proofs hold a refutation that passes; no list of vectors of any length detects the fault, and from
+--   every common start state both machines give equal outputs for ever;
+-- - aborted: the written vectors don't detect it, and the proofs hold a record that used up the budget.
+--
+-- For n inputs and m flip-flops, a budget of 2^(n + 2m + 1) finds every fault untestable that some set of flip-flops
+-- seals, and one of the sum of k * 2^(k * n + 1) over k from 1 to d finds every fault detected that d vectors can. The
+-- tests and the proofs hold the lists and the entries of the generator's steps and nothing else, and the total line is
+-- that of the report.
+pub record IsGenerated (c : Netlist) (budget : ℕ) (tests report proofs total : List ℕ) : Type 0 where
+  pub representatives : List ℕ
+  pub steps : List Step
+  pub saids : List Said
+  pub classes : AreClasses c representatives
+  -- one true verdict for each fault
+  pub valid : AreValid c representatives tests report proofs (content_of budget steps saids)
+  pub verdicts : HaveTrueVerdicts c representatives (content_of budget steps saids)
+  pub decided : AreDecided c representatives (content_of budget steps saids)
+  -- the files of all steps
+  pub steps_are : AreSteps c representatives budget steps
+  pub finished : AreFinished c representatives steps
+  pub tests_are : tests ≡ tests_of steps
+  pub report_is : report ≡ report_text c representatives (Some budget) saids
+  pub proofs_are : proofs ≡ proofs_of steps
+  pub total_is : total ≡ with_lf (total_line (report_sums representatives (Some budget) saids))

@@ -1,0 +1,30 @@
+//! Laws of the files. Each theorem is the contract of a function that does nothing.
+ghost use Rattle.std.specs.Prelude.{◌≡◌, ◌++◌, ◌∷◌, [], ℕ, List};
+ghost use Rattle.ht_net.specs.Netlist.{Netlist};
+ghost use Rattle.ht_bench.specs.Text.{IsNetlistOf};
+ghost use Rattle.ht_texts.specs.Lines.{with_lf};
+ghost use Rattle.ht_texts.specs.SearchReports.{HasPlainNames};
+ghost use Rattle.ht_entries.specs.declared.proof_line.ProofLine.TheVariants as line;
+ghost use Rattle.ht_entries.specs.ProofLines.{line_text};
+ghost use Rattle.ht_engine.specs.declared.step.Step as made;
+ghost use Rattle.ht_files.specs.StepTexts.{proofs_of, proofs_so_far, proofs_step, tests_of, tests_step};
+
+/// No name of a circuit that was read has an LF or a CR.
+pub fn accepted_netlists_have_plain_names()
+    ensures { (text : List ℕ) (c : Netlist) → IsNetlistOf text c → HasPlainNames c }
+{}
+
+/// The tests and the proofs so far grow by the text of each step.
+pub fn files_grow_by_steps()
+    ensures tests { (steps : List made.Step) (step : made.Step)
+        → tests_of (steps ++ step ∷ []) ≡ tests_of steps ++ tests_step step }
+    ensures proofs { (steps : List made.Step) (step : made.Step)
+        → proofs_so_far (steps ++ step ∷ []) ≡ proofs_so_far steps ++ proofs_step step }
+{}
+
+/// The proofs begin with the head line, and the end line makes them whole.
+pub fn proofs_begin_and_end()
+    ensures begin { proofs_so_far [] ≡ with_lf (line_text line.Head) }
+    ensures end { (steps : List made.Step)
+        → proofs_of steps ≡ proofs_so_far steps ++ with_lf (line_text line.End) }
+{}

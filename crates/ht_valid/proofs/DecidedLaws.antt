@@ -1,0 +1,76 @@
+-- In valid files a budget that is enough decides a representative that is easy to decide.
+use Rattle.std.proofs.Common.{◌≡◌, ◌≤◌, ℕ, List, Bool, length, refl}
+use Rattle.ht_net.specs.Netlist.{Netlist, IsCircuit}
+use Rattle.ht_net.specs.Detection.{Detects}
+use Rattle.ht_net.specs.Silence.{Sealed}
+use Rattle.ht_net.proofs.SilenceLaws.{sealed_undetected}
+use Rattle.ht_collapse.specs.Classes.{AreClasses, fault_at}
+use Rattle.ht_tree.specs.declared.entry.Entry.{Entry}
+use Rattle.ht_tree.specs.declared.entry.Entry.TheVariants as entries
+use Rattle.ht_tree.specs.Budgets.{refutation_cost, sweep_cost}
+use Rattle.ht_tree.proofs.RefutationLaws.{refuted}
+use Rattle.ht_records.proofs.AbortLaws.{enough_undetected, enough_unsealed}
+use Rattle.ht_texts.specs.declared.said.Said.{Said}
+use Rattle.ht_texts.specs.declared.said.Said.TheVariants.{Detected, Untestable, Aborted, Undetected}
+use Rattle.ht_texts.specs.Verdicts.{said_at}
+use Rattle.ht_valid.specs.ValidFiles.{Agrees, AreValid, Backs, Content}
+use Rattle.ht_valid.specs.TrueVerdicts.{AreDecided, SaysDetected}
+use Rattle.ht_valid.proofs.BackedLaws.{IsBackedIfNeeded, valid_backs}
+
+module _ (c : Netlist) (content : Content) (i : ℕ) (circuit : IsCircuit c) where
+  -- with a budget for all one-frame windows no abort record backs what is said of a sealed fault
+  sealed_unaborted : (z : ℕ → Bool) → Sealed c (fault_at c i) z → refutation_cost c ≤ content.budget → (e : Entry)
+      → ¬ Backs c content.budget i e Aborted
+  sealed_unaborted z seal enough (entries.Untestable y tokens) backs = backs
+  sealed_unaborted z seal enough (entries.Aborted told walk aim sweep) backs =
+      enough_unsealed c (fault_at c i) content.budget
+      (record { told = told; walk = walk; aim = aim; sweep = sweep }) circuit enough backs z seal
+
+  sealed_said : (z : ℕ → Bool) → Sealed c (fault_at c i) z → refutation_cost c ≤ content.budget → (said : Said)
+      → Agrees c content.list i said → IsBackedIfNeeded c content i said → said ≡ Untestable
+  sealed_said z seal enough (Detected place) agrees backed =
+      absurd (sealed_undetected c (fault_at c i) z seal content.list place.vector place.output agrees.0)
+  sealed_said z seal enough Untestable agrees backed = refl
+  sealed_said z seal enough Aborted agrees backed =
+      let by = backed tt in
+      absurd (sealed_unaborted z seal enough by.entry by.backs)
+  sealed_said z seal enough Undetected agrees backed = absurd agrees
+
+  -- what some list detects, no refutation backs
+  detected_unrefuted : (list : List (List Bool)) (t o : ℕ) → Detects c (fault_at c i) list t o → (e : Entry)
+      → ¬ Backs c content.budget i e Untestable
+  detected_unrefuted list t o detects (entries.Untestable z tokens) backs =
+      (refuted c (fault_at c i) z tokens circuit backs).undetected list t o detects
+  detected_unrefuted list t o detects (entries.Aborted told walk aim sweep) backs = backs
+
+  -- with a budget for the sweeps of d frames no abort record backs what is said of a fault that so few vectors detect
+  short_unaborted : (d : ℕ) (list : List (List Bool)) (t o : ℕ) → length list ≤ d
+      → Detects c (fault_at c i) list t o → sweep_cost c.inputs d ≤ content.budget → (e : Entry)
+      → ¬ Backs c content.budget i e Aborted
+  short_unaborted d list t o few detects enough (entries.Untestable z tokens) backs = backs
+  short_unaborted d list t o few detects enough (entries.Aborted told walk aim sweep) backs =
+      enough_undetected c (fault_at c i) content.budget d
+      (record { told = told; walk = walk; aim = aim; sweep = sweep }) circuit enough backs list few t o detects
+
+  short_said : (d : ℕ) (list : List (List Bool)) (t o : ℕ) → length list ≤ d → Detects c (fault_at c i) list t o
+      → sweep_cost c.inputs d ≤ content.budget → (said : Said) → Agrees c content.list i said
+      → IsBackedIfNeeded c content i said → SaysDetected said
+  short_said d list t o few detects enough (Detected place) agrees backed = (place, refl)
+  short_said d list t o few detects enough Untestable agrees backed =
+      let by = backed tt in
+      absurd (detected_unrefuted list t o detects by.entry by.backs)
+  short_said d list t o few detects enough Aborted agrees backed =
+      let by = backed tt in
+      absurd (short_unaborted d list t o few detects enough by.entry by.backs)
+  short_said d list t o few detects enough Undetected agrees backed = absurd agrees
+
+pub are_decided : (c : Netlist) (representatives tests report proofs : List ℕ) (content : Content) → IsCircuit c
+    → AreClasses c representatives → AreValid c representatives tests report proofs content
+    → AreDecided c representatives content
+are_decided c representatives tests report proofs content circuit classes valid = record {
+  sealed = λ i z own seal enough. sealed_said c content i circuit z seal enough (said_at content.saids i)
+      (valid.agrees i own) (valid_backs c representatives tests report proofs content i valid own);
+  short = λ i d list t o own few detects enough.
+      short_said c content i circuit d list t o few detects enough (said_at content.saids i) (valid.agrees i own)
+      (valid_backs c representatives tests report proofs content i valid own);
+}

@@ -1,0 +1,2 @@
+pub mod ValidFiles
+pub mod TrueVerdicts

@@ -1,0 +1,85 @@
+-- When tests, a report and proofs are valid for a circuit: what they say agrees, and nothing is missing.
+use Rattle.std.specs.Prelude.{◌≡◌, ◌<◌, ◌+◌, ◌-◌, ℕ, List, Bool, true, length, Some, None}
+use Rattle.std.specs.List.{All, Contains}
+use Rattle.ht_net.specs.Netlist.{Netlist}
+use Rattle.ht_net.specs.Detection.{IsFirstDetection}
+use Rattle.ht_faults.specs.Sites.{faults_of}
+use Rattle.ht_collapse.specs.Classes.{fault_at, is_representative}
+use Rattle.ht_tree.specs.declared.entry.Entry.{Entry}
+use Rattle.ht_tree.specs.declared.entry.Entry.TheVariants as entry
+use Rattle.ht_tree.specs.Entries.{Passes}
+use Rattle.ht_texts.specs.declared.said.Said.{Said}
+use Rattle.ht_texts.specs.declared.said.Said.TheVariants.{Detected, Untestable, Aborted, Undetected}
+use Rattle.ht_texts.specs.Tests.{IsTestText}
+use Rattle.ht_texts.specs.Verdicts.{said_at}
+use Rattle.ht_texts.specs.SearchReports.{IsReportText}
+use Rattle.ht_entries.specs.declared.numbered.Numbered.{Numbered}
+use Rattle.ht_entries.specs.EntryTexts.{IsProofText}
+
+-- what the three files say: the vectors of the tests, the budget and the verdicts of the report, the entries of the
+-- proofs
+pub record Content : Type 0 where
+  pub list : List (List Bool)
+  pub budget : ℕ
+  pub saids : List Said
+  pub entries : List Numbered
+
+-- fault i is of the list, and represents its class
+pub record IsOwn (c : Netlist) (representatives : List ℕ) (i : ℕ) : Type 0 where
+  pub listed : i < length (faults_of c)
+  pub own : is_representative representatives i ≡ true
+
+-- ---- the report
+
+-- What is said of fault i agrees with the vectors: it is detected exactly where they detect it, and there first.
+abbrev pub Agrees : Netlist → List (List Bool) → ℕ → Said → Type 0
+Agrees c list i (Detected place) = IsFirstDetection c (fault_at c i) list (Some place)
+Agrees c list i Untestable = IsFirstDetection c (fault_at c i) list None
+Agrees c list i Aborted = IsFirstDetection c (fault_at c i) list None
+Agrees c list i Undetected = ⊥
+
+-- ---- the proofs
+
+-- The entry backs what is said of fault i: it is of that kind, and passes. The entry of a detected fault isn't judged.
+abbrev pub Backs : Netlist → ℕ → ℕ → Entry → Said → Type 0
+Backs c budget i e (Detected place) = Unit {0}
+Backs c budget i (entry.Untestable z tokens) Untestable =
+    Passes c (fault_at c i) budget (entry.Untestable z tokens)
+Backs c budget i (entry.Aborted told walk aim sweep) Aborted =
+    Passes c (fault_at c i) budget (entry.Aborted told walk aim sweep)
+Backs c budget i e said = ⊥
+
+-- The number of the entry is that of a representative, and the entry backs what is said of it.
+pub record IsBacking (c : Netlist) (representatives : List ℕ) (content : Content) (e : Numbered) : Type 0 where
+  pub own : IsOwn c representatives (e.number - 1)
+  pub counted : 0 < e.number
+  pub backs : Backs c content.budget (e.number - 1) e.entry (said_at content.saids (e.number - 1))
+
+-- only a fault that isn't detected needs an entry
+abbrev pub NeedsEntry : Said → Type 0
+NeedsEntry (Detected place) = ⊥
+NeedsEntry said = Unit {0}
+
+-- one of the entries has the number of fault i, which counts from 1 there
+pub record HasEntry (entries : List Numbered) (i : ℕ) : Type 0 where
+  pub entry : Entry
+  pub among : Contains entries (record { number = i + 1; entry = entry })
+
+-- ---- the three together
+
+-- The tests are vectors of the circuit; the report says of each representative what these vectors show; each entry of
+-- the proofs backs what is said of its fault; and none that is needed is missing.
+pub record AreValid (c : Netlist) (representatives : List ℕ) (tests report proofs : List ℕ) (content : Content)
+    : Type 0 where
+  pub vectors : IsTestText c tests content.list
+  pub reported : IsReportText c representatives report content.budget content.saids
+  pub agrees : (i : ℕ) → IsOwn c representatives i → Agrees c content.list i (said_at content.saids i)
+  pub proved : IsProofText content.entries proofs
+  pub backed : All (IsBacking c representatives content) content.entries
+  pub complete : (i : ℕ) → IsOwn c representatives i → NeedsEntry (said_at content.saids i)
+      → HasEntry content.entries i
+
+-- some content makes them valid
+abbrev pub AreValidFiles : Netlist → List ℕ → List ℕ → List ℕ → List ℕ → Type 0
+AreValidFiles c representatives tests report proofs =
+    (content : Content) × AreValid c representatives tests report proofs content

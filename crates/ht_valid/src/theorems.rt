@@ -1,0 +1,36 @@
+//! What follows from valid files. Each theorem is the contract of a function that does nothing.
+ghost use Rattle.std.specs.Prelude.{◌<◌, ◌≤◌, ◌+◌, ℕ, List, length};
+ghost use Rattle.ht_net.specs.declared.fault.Fault.{Fault};
+ghost use Rattle.ht_net.specs.Netlist.{Netlist, IsCircuit};
+ghost use Rattle.ht_faults.specs.Sites.{faults_of};
+ghost use Rattle.ht_collapse.specs.Classes.{AreClasses};
+ghost use Rattle.ht_tree.specs.declared.entry.Entry.{Entry};
+ghost use Rattle.ht_tree.specs.declared.limits.TheConstants.{MAX_BUDGET};
+ghost use Rattle.ht_tree.specs.Entries.{Passes};
+ghost use Rattle.ht_entries.specs.EntryTexts.{IsEntryText};
+ghost use Rattle.ht_valid.specs.ValidFiles.{Content, AreValid};
+ghost use Rattle.ht_valid.specs.TrueVerdicts.{AreDecided, HaveTrueVerdicts};
+
+/// Each listed fault has one verdict in valid files, and it is true.
+pub fn valid_files_tell_the_truth()
+    ensures { (c : Netlist) (representatives tests report proofs : List ℕ) (content : Content)
+        → IsCircuit c → AreClasses c representatives
+        → AreValid c representatives tests report proofs content
+        → HaveTrueVerdicts c representatives content }
+{}
+
+/// Valid files decide what their budget is enough for.
+pub fn valid_files_are_decided()
+    ensures { (c : Netlist) (representatives tests report proofs : List ℕ) (content : Content)
+        → IsCircuit c → AreClasses c representatives
+        → AreValid c representatives tests report proofs content
+        → AreDecided c representatives content }
+{}
+
+/// An entry that passes for a budget of a search has a text, as the entry of a listed fault: its numbers fit, since the
+/// circuit is within the limits, and the sweep has few walks.
+pub fn passing_entries_have_a_text()
+    ensures { (c : Netlist) (fault : Fault) (budget i : ℕ) (entry : Entry) → IsCircuit c
+        → i < length (faults_of c) → budget ≤ MAX_BUDGET → Passes c fault budget entry
+        → IsEntryText (record { number = i + 1; entry = entry }) }
+{}

@@ -1,0 +1,2 @@
+mod DefinitionLaws
+mod NumberLaws
