@@ -67,10 +67,12 @@ module _ (c : Netlist) (content : Content) (i : ℕ) (circuit : IsCircuit c) whe
 pub are_decided : (c : Netlist) (representatives tests report proofs : List ℕ) (content : Content) → IsCircuit c
     → AreClasses c representatives → AreValid c representatives tests report proofs content
     → AreDecided c representatives content
-are_decided c representatives tests report proofs content circuit classes valid = record {
-  sealed = λ i z own seal enough. sealed_said c content i circuit z seal enough (said_at content.saids i)
-      (valid.agrees i own) (valid_backs c representatives tests report proofs content i valid own);
-  short = λ i d list t o own few detects enough.
-      short_said c content i circuit d list t o few detects enough (said_at content.saids i) (valid.agrees i own)
-      (valid_backs c representatives tests report proofs content i valid own);
-}
+are_decided c representatives tests report proofs content circuit classes valid i own =
+    let said = said_at content.saids i in
+    let agrees = valid.agrees i own in
+    let backed = valid_backs c representatives tests report proofs content i valid own in
+    record {
+      sealed = λ z seal enough. sealed_said c content i circuit z seal enough said agrees backed;
+      short = λ d list t o few detects enough.
+          short_said c content i circuit d list t o few detects enough said agrees backed;
+    }
