@@ -1,5 +1,6 @@
 //! The generator over all representatives, one step at a time.
-ghost use Rattle.std.specs.Prelude.{◌≡◌, ◌≢◌, ◌↔◌, ◌≤◌, ◌<◌, List, [], true, false, length, IfOk, OnErr, OnOk};
+ghost use Rattle.std.specs.Prelude.{◌≡◌, ◌≢◌, ◌↔◌, ◌≤◌, ◌<◌, ◌+◌, ◌^◌, List, [], true, false, length, IfOk, OnErr, OnOk};
+ghost use Rattle.std.specs.Option.{ForSome};
 ghost use Rattle.ht_net.specs.Netlist.{Netlist};
 ghost use Rattle.ht_faults.specs.Sites.{faults_of};
 ghost use Rattle.ht_collapse.specs.Classes.{AreClasses, fault_at};
@@ -132,7 +133,8 @@ impl<'c> Engine<'c> {
 
     // The least fault from the place on that represents its class and isn't detected.
     fn next_fault(&self) -> Option<u32>
-        ensures { IsNextOf self.now result }
+        ensures next { IsNextOf self.now result }
+        ensures fits { ForSome result (λ i. i + 1 < 2 ^ 32) }
     {
         for i in self.place..self.classes.len() {
             if self.is_undetected(i) {
@@ -144,6 +146,7 @@ impl<'c> Engine<'c> {
 
     // Gives the list that the work on a fault found, and keeps its vectors.
     fn give_list(&mut self, fault: u32, list: Vectors) -> Result<Step, AllocError>
+        requires fits { fault + 1 < 2 ^ 32 }
         requires next { IsNextUndetected self.old fault }
         requires given { IsWork self.old.circuit (fault_at self.old.circuit fault) self.old.budget
             (work.List list) }
@@ -158,6 +161,7 @@ impl<'c> Engine<'c> {
 
     // Gives the entry that the work on a fault made, and keeps its kind.
     fn give_entry(&mut self, fault: u32, entry: Entry) -> Step
+        requires fits { fault + 1 < 2 ^ 32 }
         requires next { IsNextUndetected self.old fault }
         requires given { IsWork self.old.circuit (fault_at self.old.circuit fault) self.old.budget
             (work.Entry entry) }

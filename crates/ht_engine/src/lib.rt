@@ -11,9 +11,11 @@
 mod attempt;
 mod engine;
 mod step;
+mod theorems;
 mod told_frame;
 mod work;
 
 pub use engine::{Engine, EntryKind};
 pub use step::Step;
+pub use theorems::entries_rise;
 pub use work::{Work, work_on};
