@@ -13,6 +13,7 @@ use Rattle.ht_net.specs.Detection.{Detects, IsFirstDetection}
 use Rattle.ht_net.specs.Netlist.{Netlist}
 use Rattle.ht_net.specs.Rows.{Rows}
 use Rattle.ht_net.proofs.FrameLaws.{le_or_lt}
+use Rattle.ht_faults.specs.FaultList.{no_fault}
 use Rattle.ht_faults.specs.Sites.{faults_of}
 use Rattle.ht_collapse.specs.Classes.{fault_at}
 use Rattle.ht_grade.specs.GraderView.{GraderView}
@@ -26,17 +27,19 @@ use Rattle.ht_engine.specs.declared.engine.EntryKind.{EntryKind}
 use Rattle.ht_engine.specs.declared.engine.EntryKind.TheVariants.{Refuted, GivenUp}
 use Rattle.ht_engine.specs.declared.step.Step.{Step}
 use Rattle.ht_engine.specs.declared.step.Step.TheVariants.{Vectors, Entry, Finished}
+use Rattle.ht_engine.specs.declared.work.Work.{Work}
 use Rattle.ht_engine.specs.EngineOf.{IsEngine}
 use Rattle.ht_engine.specs.EngineStands.{AllPass, EngineStandsFor, EngineView, HasSameWork, IsKindIn, IsOfKind, IsSaid, Makes, MakesStep, MeansOfStep, kind_at}
+use Rattle.ht_engine.specs.FaultWork.{IsWork, WorkHolds}
 use Rattle.ht_engine.specs.OneStep.{Advances, Ends, GivesEntry, GivesList, IsNextUndetected, IsUndetected, kind_of_entry, said_by}
 use Rattle.ht_engine.specs.Steps.{AreFinished, AwaitsVerdict, Follows, IsNextFault, entries_of, none, one_more, vectors_of}
 use Rattle.ht_engine.proofs.StepLaws.{awaited_before, contains_last, entries_more, entries_with_list, has_cases, has_last, numbered, vectors_more, vectors_with_entry}
 
 -- ---- what is undetected
 
-pub undetected_tells : (e : EngineView) (i : ℕ) (place : Option Place) (none : Bool)
+pub undetected_tells : (e : EngineView) (i : ℕ) (place : Option Place) (nowhere : Bool)
     → IsOwn e.circuit e.representatives i → IsFirstDetection e.circuit (fault_at e.circuit i) e.list place
-    → is_some place ≡ not none → (none ≡ true) ↔ IsUndetected e i
+    → is_some place ≡ not nowhere → (nowhere ≡ true) ↔ IsUndetected e i
 undetected_tells e i None true own first is = (λ h. record { own = own; undetected = first }, λ u. refl)
 undetected_tells e i None false own first is = absurd (false≢true is)
 undetected_tells e i (Some p) true own first is = absurd (true≢false is)
@@ -128,7 +131,8 @@ module _ (e new : EngineView) (steps : List Step) (s : EngineStandsFor e steps) 
             let from = g.next.from in
             omega (arith, below, from);
         wide = subst (AreVectors e.circuit) (sym (vectors_more steps (Vectors list)))
-            (All-append _ (vectors_of steps) list.list s.wide g.holds.wide);
+            (All-append (λ (v : List Bool). length v ≡ e.circuit.inputs) (vectors_of steps) list.list s.wide
+            g.holds.wide);
         pass = subst (AllPass e.circuit e.budget) same s.pass;
       }
 
@@ -370,3 +374,20 @@ module _ (e now : EngineView) (listed : List Fault) (grader : GraderView) (is : 
   kept_kind i kind own is =
       get_or_default now.kinds i None kind (room_of i own)
       ∙ (ap (λ (v : EngineView). get_or v.kinds i kind) (sym at) ∙ sym is)
+
+  fault_of : (i : ℕ) (f : Fault) → f ≡ get_or listed i no_fault → f ≡ fault_at now.circuit i
+  fault_of i f got = got ∙ ap (λ (l : List Fault). get_or l i no_fault) known.faults
+
+  pub work_of : (i : ℕ) (f : Fault) → f ≡ get_or listed i no_fault → (w given : Work) → w ≡ given
+      → IsWork e.circuit f e.budget w → IsWork now.circuit (fault_at now.circuit i) now.budget given
+  work_of i f got w given is_given h =
+      subst (IsWork now.circuit (fault_at now.circuit i) now.budget) is_given
+      (subst (λ (f : Fault). IsWork now.circuit f now.budget w) (fault_of i f got)
+      (subst (λ (v : EngineView). IsWork v.circuit f v.budget w) at h))
+
+  pub holds_of : (i : ℕ) (f : Fault) → f ≡ get_or listed i no_fault → (w given : Work) → w ≡ given
+      → WorkHolds e.circuit f e.budget w → WorkHolds now.circuit (fault_at now.circuit i) now.budget given
+  holds_of i f got w given is_given h =
+      subst (WorkHolds now.circuit (fault_at now.circuit i) now.budget) is_given
+      (subst (λ (f : Fault). WorkHolds now.circuit f now.budget w) (fault_of i f got)
+      (subst (λ (v : EngineView). WorkHolds v.circuit f v.budget w) at h))

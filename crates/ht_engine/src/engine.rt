@@ -6,6 +6,7 @@ ghost use Rattle.ht_faults.specs.Sites.{faults_of};
 ghost use Rattle.ht_collapse.specs.Classes.{AreClasses, fault_at};
 ghost use Rattle.ht_tree.specs.declared.limits.TheConstants.{MAX_BUDGET};
 ghost use Rattle.ht_tree.specs.Entries.{Passes};
+ghost use Rattle.ht_texts.specs.SearchReports.{IsBudget};
 ghost use Rattle.ht_texts.specs.Verdicts.{IsSayable};
 ghost use Rattle.ht_valid.specs.ValidFiles.{IsOwn};
 ghost use Rattle.ht_engine.specs.declared.step.Step as made;
@@ -121,6 +122,14 @@ impl<'c> Engine<'c> {
             place: 0,
             live: true,
         })
+    }
+
+    /// The budget of each search.
+    pub fn budget(&self) -> u64
+        ensures same { result ≡ self.now.budget }
+        ensures within { IsBudget self.now.budget }
+    {
+        self.budget
     }
 
     // Fault `i` represents its class, and the vectors so far don't detect it.
