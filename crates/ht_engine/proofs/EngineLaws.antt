@@ -319,12 +319,14 @@ said_is e steps s i own l first None at = record {
       first;
   without_entry = subst (IsKindIn (entries_of steps) i) at (s.kinds i l);
 }
-said_is e steps s i own l first (Some Refuted) at =
-    (subst (λ (list : List (List Bool)). IsFirstDetection e.circuit (fault_at e.circuit i) list None) s.list first,
-    subst (IsKindIn (entries_of steps) i) at (s.kinds i l))
-said_is e steps s i own l first (Some GivenUp) at =
-    (subst (λ (list : List (List Bool)). IsFirstDetection e.circuit (fault_at e.circuit i) list None) s.list first,
-    subst (IsKindIn (entries_of steps) i) at (s.kinds i l))
+said_is e steps s i own l first (Some Refuted) at = (
+  subst (λ (list : List (List Bool)). IsFirstDetection e.circuit (fault_at e.circuit i) list None) s.list first,
+  subst (IsKindIn (entries_of steps) i) at (s.kinds i l),
+)
+said_is e steps s i own l first (Some GivenUp) at = (
+  subst (λ (list : List (List Bool)). IsFirstDetection e.circuit (fault_at e.circuit i) list None) s.list first,
+  subst (IsKindIn (entries_of steps) i) at (s.kinds i l),
+)
 
 pub said_detected : (e : EngineView) (steps : List Step) → EngineStandsFor e steps → (i : ℕ) (place : Place)
     → IsFirstDetection e.circuit (fault_at e.circuit i) e.list (Some place)

@@ -1,5 +1,5 @@
 //! The generator over all representatives, one step at a time.
-ghost use Rattle.std.specs.Prelude.{◌≡◌, ◌≢◌, ◌↔◌, ◌≤◌, ◌<◌, ◌+◌, ◌^◌, List, [], true, false, length, IfOk, OnErr, OnOk};
+ghost use Rattle.std.specs.Prelude.{◌≡◌, ◌≢◌, ◌↔◌, ◌≤◌, ◌<◌, ◌+◌, ◌^◌, ℕ, List, [], true, false, None, length, get_or, IfOk, OnErr, OnOk};
 ghost use Rattle.std.specs.Option.{ForSome};
 ghost use Rattle.ht_net.specs.Netlist.{Netlist};
 ghost use Rattle.ht_faults.specs.Sites.{faults_of};
@@ -47,6 +47,14 @@ impl EntryKind {
             Entry::Aborted { .. } => EntryKind::GivenUp,
         }
     }
+}
+
+// No fault has an entry yet.
+fn no_kinds(alloc: Global, count: u32) -> Result<Vec<Option<EntryKind>>, AllocError>
+    ensures each { IfOk result (λ kinds. length kinds.items ≡ count) }
+    ensures none { IfOk result (λ kinds. (i : ℕ) → i < count → get_or kinds.items i None ≡ None) }
+{
+    vec![in alloc; None; count as usize]
 }
 
 // What is said of a fault that no vectors detect, by the kind of its entry.
@@ -110,7 +118,7 @@ impl<'c> Engine<'c> {
         ensures live { IfOk result (λ engine. engine.live ≡ true) }
     {
         let grader = Grader::new(alloc, circuit, faults, classes)?;
-        let kinds = vec![in alloc; None; classes.len() as usize]?;
+        let kinds = no_kinds(alloc, classes.len())?;
         Ok(Engine {
             alloc,
             circuit,
@@ -192,7 +200,12 @@ impl<'c> Engine<'c> {
             self.place = self.classes.len();
             return Ok(Step::Finished);
         };
-        match work_on(self.alloc, self.circuit, self.faults.get(fault), self.budget)? {
+        match work_on(
+            self.alloc,
+            self.circuit,
+            self.faults.get(fault),
+            self.budget,
+        )? {
             Work::List(list) => self.give_list(fault, list),
             Work::Entry(entry) => Ok(self.give_entry(fault, entry)),
         }
