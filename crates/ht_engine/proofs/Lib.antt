@@ -1,3 +1,6 @@
 pub mod DecidedLaws
 pub mod AttemptLaws
 pub mod EnoughLaws
+pub mod MoreVectorsLaws
+pub mod StepLaws
+pub mod EngineLaws

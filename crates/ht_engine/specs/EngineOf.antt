@@ -4,7 +4,7 @@ use Rattle.ht_net.specs.declared.fault.Fault.{Fault}
 use Rattle.ht_faults.specs.Sites.{faults_of}
 use Rattle.ht_collapse.specs.Classes.{AreClasses}
 use Rattle.ht_grade.specs.GraderView.{GraderView}
-use Rattle.ht_tree.specs.declared.limits.TheConstants.{MAX_BUDGET}
+use Rattle.ht_texts.specs.SearchReports.{IsBudget}
 use Rattle.ht_engine.specs.declared.engine.Engine.TheInside.{Inside}
 use Rattle.ht_engine.specs.EngineStands.{EngineView}
 
@@ -25,7 +25,7 @@ pub record IsEngine (e : EngineView) (listed : List Fault) (grader : GraderView)
   pub classes : AreClasses e.circuit e.representatives
   pub circuit : grader.circuit ≡ e.circuit
   pub representatives : grader.representatives ≡ e.representatives
-  pub budget : e.budget ≤ MAX_BUDGET
+  pub budget : IsBudget e.budget
   pub kinds : length e.kinds ≡ length e.representatives
   pub place : e.place ≤ length e.representatives
 

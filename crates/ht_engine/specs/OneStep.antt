@@ -62,12 +62,14 @@ pub record GivesEntry (old new : EngineView) (fault : ℕ) (entry : recorded.Ent
   pub next : IsNextUndetected old fault
   pub given : IsWork old.circuit (fault_at old.circuit fault) old.budget (work.Entry entry)
   pub holds : Passes old.circuit (fault_at old.circuit fault) old.budget entry
+  pub room : fault < length old.kinds
   pub after : new
       ≡ record old { kinds = slice_set old.kinds fault (Some (kind_of_entry entry)); place = fault + 1 }
 
 -- There is no next fault.
 pub record Ends (old new : EngineView) : Type 0 where
   pub none : IsNextOf old None
+  pub within : old.place ≤ length old.representatives
   pub after : new ≡ record old { place = length old.representatives }
 
 abbrev pub Advances : EngineView → EngineView → Step → Type 0

@@ -1,5 +1,5 @@
 -- The steps of the generator over all representatives: which may come after which, and what is said after them.
-use Rattle.std.specs.Prelude.{◌≡◌, ◌<◌, ◌+◌, ℕ, List, [], ◌∷◌, ◌++◌, flat_map, Bool, Option, Some, None}
+use Rattle.std.specs.Prelude.{◌≡◌, ◌<◌, ◌+◌, ◌-◌, ℕ, List, [], ◌∷◌, ◌++◌, flat_map, Bool, Option, Some, None}
 use Rattle.std.specs.List.{Contains}
 use Rattle.ht_net.specs.declared.fault.Fault.{Fault}
 use Rattle.ht_net.specs.Netlist.{Netlist}
@@ -29,6 +29,11 @@ vectors_of steps = flat_map step_vectors steps
 
 abbrev pub entries_of : List Step → List Numbered
 entries_of steps = flat_map step_entries steps
+
+-- The number of the entry is that of a fault which represents its class.
+pub record IsOwnEntry (c : Netlist) (representatives : List ℕ) (e : Numbered) : Type 0 where
+  pub counted : 0 < e.number
+  pub own : IsOwn c representatives (e.number - 1)
 
 -- ---- which fault comes next
 

@@ -1,10 +1,12 @@
 //! The generator over all representatives, one step at a time.
-ghost use Rattle.std.specs.Prelude.{◌≡◌, ◌≢◌, ◌↔◌, ◌≤◌, ◌<◌, List, [], true, false, length, IfOk, OnErr, OnOk};
+ghost use Rattle.std.specs.Prelude.{◌≡◌, ◌≢◌, ◌↔◌, ◌≤◌, ◌<◌, ◌+◌, ◌^◌, ℕ, List, [], true, false, None, length, get_or, IfOk, OnErr, OnOk};
+ghost use Rattle.std.specs.Option.{ForSome};
 ghost use Rattle.ht_net.specs.Netlist.{Netlist};
 ghost use Rattle.ht_faults.specs.Sites.{faults_of};
 ghost use Rattle.ht_collapse.specs.Classes.{AreClasses, fault_at};
 ghost use Rattle.ht_tree.specs.declared.limits.TheConstants.{MAX_BUDGET};
 ghost use Rattle.ht_tree.specs.Entries.{Passes};
+ghost use Rattle.ht_texts.specs.SearchReports.{IsBudget};
 ghost use Rattle.ht_texts.specs.Verdicts.{IsSayable};
 ghost use Rattle.ht_valid.specs.ValidFiles.{IsOwn};
 ghost use Rattle.ht_engine.specs.declared.step.Step as made;
@@ -45,6 +47,14 @@ impl EntryKind {
             Entry::Aborted { .. } => EntryKind::GivenUp,
         }
     }
+}
+
+// No fault has an entry yet.
+fn no_kinds(alloc: Global, count: u32) -> Result<Vec<Option<EntryKind>>, AllocError>
+    ensures each { IfOk result (λ kinds. length kinds.items ≡ count) }
+    ensures none { IfOk result (λ kinds. (i : ℕ) → i < count → get_or kinds.items i None ≡ None) }
+{
+    vec![in alloc; None; count as usize]
 }
 
 // What is said of a fault that no vectors detect, by the kind of its entry.
@@ -108,7 +118,7 @@ impl<'c> Engine<'c> {
         ensures live { IfOk result (λ engine. engine.live ≡ true) }
     {
         let grader = Grader::new(alloc, circuit, faults, classes)?;
-        let kinds = vec![in alloc; None; classes.len() as usize]?;
+        let kinds = no_kinds(alloc, classes.len())?;
         Ok(Engine {
             alloc,
             circuit,
@@ -122,6 +132,14 @@ impl<'c> Engine<'c> {
         })
     }
 
+    /// The budget of each search.
+    pub fn budget(&self) -> u64
+        ensures same { result ≡ self.now.budget }
+        ensures within { IsBudget self.now.budget }
+    {
+        self.budget
+    }
+
     // Fault `i` represents its class, and the vectors so far don't detect it.
     fn is_undetected(&self, i: u32) -> bool
         requires { i < length self.now.representatives }
@@ -132,7 +150,8 @@ impl<'c> Engine<'c> {
 
     // The least fault from the place on that represents its class and isn't detected.
     fn next_fault(&self) -> Option<u32>
-        ensures { IsNextOf self.now result }
+        ensures next { IsNextOf self.now result }
+        ensures fits { ForSome result (λ i. i + 1 < 2 ^ 32) }
     {
         for i in self.place..self.classes.len() {
             if self.is_undetected(i) {
@@ -144,6 +163,7 @@ impl<'c> Engine<'c> {
 
     // Gives the list that the work on a fault found, and keeps its vectors.
     fn give_list(&mut self, fault: u32, list: Vectors) -> Result<Step, AllocError>
+        requires fits { fault + 1 < 2 ^ 32 }
         requires next { IsNextUndetected self.old fault }
         requires given { IsWork self.old.circuit (fault_at self.old.circuit fault) self.old.budget
             (work.List list) }
@@ -158,6 +178,7 @@ impl<'c> Engine<'c> {
 
     // Gives the entry that the work on a fault made, and keeps its kind.
     fn give_entry(&mut self, fault: u32, entry: Entry) -> Step
+        requires fits { fault + 1 < 2 ^ 32 }
         requires next { IsNextUndetected self.old fault }
         requires given { IsWork self.old.circuit (fault_at self.old.circuit fault) self.old.budget
             (work.Entry entry) }
@@ -179,7 +200,12 @@ impl<'c> Engine<'c> {
             self.place = self.classes.len();
             return Ok(Step::Finished);
         };
-        match work_on(self.alloc, self.circuit, self.faults.get(fault), self.budget)? {
+        match work_on(
+            self.alloc,
+            self.circuit,
+            self.faults.get(fault),
+            self.budget,
+        )? {
             Work::List(list) => self.give_list(fault, list),
             Work::Entry(entry) => Ok(self.give_entry(fault, entry)),
         }

@@ -1,7 +1,7 @@
 //! First detections over a list of vectors that grows.
 ghost use Rattle.std.specs.Prelude.{◌≡◌, ◌<◌, ◌+◌, ◌^◌, ◌++◌, [], true, None, length, IfOk, OnOk, OnErr};
 ghost use Rattle.std.specs.Option.{ForSome};
-ghost use Rattle.ht_net.specs.Detection.{IsFirstDetection, Apart, unknown_state};
+ghost use Rattle.ht_net.specs.Detection.{IsFirstDetection, IsPlace, Apart, unknown_state};
 ghost use Rattle.ht_faults.specs.Sites.{faults_of};
 ghost use Rattle.ht_collapse.specs.Classes.{AreClasses, fault_at, is_representative};
 ghost use Rattle.ht_serial.specs.GoodRunOf.{value_rows};
@@ -247,6 +247,14 @@ impl<'c> Grader<'c> {
         Ok(())
     }
 
+    /// How many vectors there are so far.
+    pub fn len(&self) -> u64
+        ensures same { result ≡ length self.now.list }
+        ensures few { result < 2 ^ 64 }
+    {
+        self.count
+    }
+
     /// The first place where the vectors so far detect fault `i`, which is a representative, or none. It takes no
     /// memory. There the good and the faulty machine show opposite bits in two-valued runs from any two states.
     pub fn verdict(&self, i: u32) -> Option<Place>
@@ -254,10 +262,13 @@ impl<'c> Grader<'c> {
         requires representative { is_representative self.now.representatives i ≡ true }
         ensures first { IsFirstDetection self.now.circuit (fault_at self.now.circuit i)
             self.now.list result }
+        ensures place { ForSome result (IsPlace self.now.circuit) }
         ensures within { ForSome result (IsWithin self.now.circuit self.now.list) }
         ensures apart { ForSome result (λ p. Apart self.now.circuit
             (fault_at self.now.circuit i) self.now.list p.vector p.output) }
     {
+        // for the proof: the number of a vector fits 64 bits
+        self.len();
         self.kept[i as usize].detection()
     }
 }

@@ -2,6 +2,9 @@
 
 pub mod cases;
 mod faults;
+mod generated;
+mod generated_errors;
+mod generated_parts;
 mod memory;
 mod mute;
 mod norm;

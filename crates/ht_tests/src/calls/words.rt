@@ -18,6 +18,20 @@ fn is_job(job: &Job, names: &[&str]) -> bool {
                 && names[2] == tests.as_str()
                 && names[3] == report.as_str()
         }
+        Job::Gen {
+            netlist,
+            tests,
+            report,
+            proofs,
+            ..
+        } => {
+            names.len() == 5
+                && names[0] == "gen"
+                && names[1] == netlist.as_str()
+                && names[2] == tests.as_str()
+                && names[3] == report.as_str()
+                && names[4] == proofs.as_str()
+        }
         Job::Norm { netlist, out } => {
             names.len() == 3
                 && names[0] == "norm"
@@ -51,6 +65,11 @@ const ROWS: &[(&[&str], &[&str])] = &[
     (&["sim", "n", "--", "-t", "--r"], &["sim", "n", "-t", "--r"]),
     (&["sim", "--", "--", "t", "r"], &["sim", "--", "t", "r"]),
     (&["sim", "n", "--", "t", "--"], &["sim", "n", "t", "--"]),
+    (&["gen", "n", "t", "r", "p"], &["gen", "n", "t", "r", "p"]),
+    (
+        &["gen", "--", "n", "-t", "--r", "--budget"],
+        &["gen", "n", "-t", "--r", "--budget"],
+    ),
     (&["norm", "n", "o"], &["norm", "n", "o"]),
     (&["norm", "--", "-n", "-o"], &["norm", "-n", "-o"]),
     (&[], &[]),
@@ -68,6 +87,12 @@ const ROWS: &[(&[&str], &[&str])] = &[
     (&["sim", "--help"], &[]),
     (&["sim", "-V"], &[]),
     (&["sim", "--version"], &[]),
+    (&["sim", "n", "t", "r", "--budget", "5"], &[]),
+    (&["gen", "n", "t", "r"], &[]),
+    (&["gen", "n", "t", "r", "p", "x"], &[]),
+    (&["gen", "n", "t", "r", "p", "--random", "5"], &[]),
+    (&["gen", "n", "t", "r", "p", "--seed=5"], &[]),
+    (&["gen", "n", "t", "r", "p", "--help"], &[]),
     (&["norm", "n"], &[]),
     (&["norm", "n", "o", "x"], &[]),
     (&["norm", "n", "o", "--help"], &[]),
@@ -78,6 +103,69 @@ fn words_of_a_form_give_its_names_and_others_are_usage(rt: HostRuntime) -> Resul
     for row in ROWS {
         let (words, names) = *row;
         assert!(rt; asks(rt.alloc(), words, names)?);
+    }
+    Ok(())
+}
+
+// The budget of the answer, if it is a `gen`.
+fn budget_in(answer: &Result<Job, WordsFault>) -> Option<u64> {
+    match answer {
+        Ok(Job::Gen { budget, .. }) => Some(*budget),
+        _ => None,
+    }
+}
+
+fn has_budget(alloc: Global, words: &[&str], budget: Option<u64>) -> Result<bool, AllocError> {
+    let list = words_of(alloc, words)?;
+    Ok(budget_in(&command(alloc, &list)) == budget)
+}
+
+/// Words of `gen`, and the budget that they give; none where they have no form.
+const BUDGETS: &[(&[&str], Option<u64>)] = &[
+    (&["gen", "n", "t", "r", "p"], Some(1_000)),
+    (&["gen", "n", "t", "r", "p", "--budget", "5"], Some(5)),
+    (&["gen", "n", "t", "r", "p", "--budget=5"], Some(5)),
+    (&["gen", "--budget", "5", "n", "t", "r", "p"], Some(5)),
+    (&["gen", "--budget=5", "n", "t", "r", "p"], Some(5)),
+    (&["gen", "n", "t", "--budget=5", "r", "p"], Some(5)),
+    (&["gen", "--budget", "5", "--", "n", "t", "r", "p"], Some(5)),
+    (&["gen", "n", "t", "r", "p", "--budget", "1"], Some(1)),
+    (
+        &["gen", "n", "t", "r", "p", "--budget=100000"],
+        Some(100_000),
+    ),
+    (
+        &["gen", "n", "t", "r", "p", "--budget=0000000100000"],
+        Some(100_000),
+    ),
+    (&["gen", "n", "t", "r", "p", "--budget", "0"], None),
+    (&["gen", "n", "t", "r", "p", "--budget", "100001"], None),
+    (
+        &["gen", "n", "t", "r", "p", "--budget=18446744073709551617"],
+        None,
+    ),
+    (&["gen", "n", "t", "r", "p", "--budget"], None),
+    (&["gen", "n", "t", "r", "p", "--budget="], None),
+    (&["gen", "n", "t", "r", "p", "--budget", ""], None),
+    (&["gen", "n", "t", "r", "p", "--budget", "-5"], None),
+    (&["gen", "n", "t", "r", "p", "--budget=-5"], None),
+    (&["gen", "n", "t", "r", "p", "--budget=+5"], None),
+    (&["gen", "n", "t", "r", "p", "--budget", "0x5"], None),
+    (&["gen", "n", "t", "r", "p", "--budget", "5 "], None),
+    (
+        &["gen", "n", "t", "r", "p", "--budget", "5", "--budget", "5"],
+        None,
+    ),
+    (&["gen", "n", "t", "r", "p", "--", "--budget", "5"], None),
+    (&["gen", "n", "t", "r", "p", "--bud", "5"], None),
+    (&["gen", "n", "t", "r", "p", "-b", "5"], None),
+];
+
+#[test]
+fn a_budget_is_a_number_in_digits_from_1_to_100000(rt: HostRuntime) -> Result<(), Fail> {
+    for row in BUDGETS {
+        let (words, budget) = *row;
+        assert!(rt; has_budget(rt.alloc(), words, budget)?);
     }
     Ok(())
 }

@@ -2,6 +2,7 @@
 ghost use Rattle.ht_ports.specs.Memory.{memory_view};
 
 use super::cases::{NORM, SIM, Setup, load, words_of};
+use super::generated::GEN;
 use ht_app::run;
 use ht_ports::{Desk, Fail as Plan, Failed, InPort, MemoryDesk, OutPort};
 use ht_samples::{SHIFT_REGISTER, SHIFT_REGISTER_REPORT};
@@ -97,7 +98,9 @@ fn ends_with(alloc: Global, start: &Setup<'_>, status: u8) -> Result<bool, Alloc
 const ENDS: &[(&[&str], Option<&[u8]>, Option<&[u8]>, Option<Plan>, u8)] = &[
     (&["sim"], Some(SHIFT_REGISTER), Some(b"1\n"), None, 2),
     (SIM, Some(b"INPUT(=)\n"), Some(b"1\n"), None, 3),
+    (GEN, Some(b"INPUT(=)\n"), None, None, 3),
     (NORM, None, None, None, 4),
+    (GEN, None, None, None, 4),
     // the netlist is accepted, and then the tests can't be read
     (SIM, Some(SHIFT_REGISTER), None, None, 4),
     (
@@ -112,6 +115,13 @@ const ENDS: &[(&[&str], Option<&[u8]>, Option<&[u8]>, Option<Plan>, u8)] = &[
         Some(SHIFT_REGISTER),
         Some(b"1\n0\n0\n"),
         Some(Plan::Create(OutPort::Report)),
+        5,
+    ),
+    (
+        GEN,
+        Some(SHIFT_REGISTER),
+        None,
+        Some(Plan::Create(OutPort::Tests)),
         5,
     ),
     (SIM, Some(SHIFT_REGISTER), Some(b"x\n"), None, 7),

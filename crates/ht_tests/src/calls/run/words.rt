@@ -4,9 +4,17 @@ use super::cases::{given, holds, refused};
 use ht_samples::SHIFT_REGISTER;
 use std::test::Fail;
 
-const USAGE: &[u8] = b"usage: sim NETLIST TESTS REPORT, norm NETLIST OUT\n";
+const USAGE: &[u8] =
+    b"usage: sim NETLIST TESTS REPORT, gen NETLIST TESTS REPORT PROOFS [--budget N], norm NETLIST OUT\n";
 
-const WITHOUT_FORM: &[&[&str]] = &[&[], &["sim", "n", "-t", "r"], &["norm", "--help"]];
+const WITHOUT_FORM: &[&[&str]] = &[
+    &[],
+    &["sim", "n", "-t", "r"],
+    &["norm", "--help"],
+    &["gen", "n", "t", "r"],
+    &["gen", "n", "t", "r", "p", "--budget", "0"],
+    &["gen", "n", "t", "r", "p", "--budget", "100001"],
+];
 
 #[test]
 fn words_without_a_form_give_the_usage(rt: HostRuntime) -> Result<(), Fail> {

@@ -23,6 +23,26 @@ returns-clause-within c =
     (get_or_read kept c.args.i c.index.result.now (omega (arith, inside, is.each)) c.index.ensures nothing_kept) in
     subst (λ (p : Option Place). ForSome p (IsWithin s.circuit s.list)) (sym here) keeps.within
 
+pub returns-clause-first : goal.returns-clause-first
+returns-clause-first c =
+    let s = c.args.self.now in
+    let kept = c.self.inside.kept.items in
+    let is = graded c.self.inside s c.self.view_is c.self.invariant in
+    let inside : c.args.i < length s.representatives = omega (arith, c.requires.fault, is.all_classes.every) in
+    let keeps = keeps_at s c.self.inside.faults.now c.self.inside.count c.self.inside.good.items kept c.args.i is inside
+    c.requires.representative in
+    let here : c.detection.result ≡ (get_or kept c.args.i nothing_kept).detection = c.detection.ensures ∙
+    ap (λ (k : KeptFault). k.detection)
+    (get_or_read kept c.args.i c.index.result.now (omega (arith, inside, is.each)) c.index.ensures nothing_kept) in
+    subst (IsFirstDetection s.circuit (fault_at s.circuit c.args.i) s.list) (sym here) keeps.first
+
+pub returns-clause-place : goal.returns-clause-place
+returns-clause-place c = λ p found.
+    let w = returns-clause-within c p found in
+    let same = c.len.ensures.same in
+    let few = c.len.ensures.few in
+    record { output = w.output; vector = omega (arith, w.vector, same, few) }
+
 pub returns-clause-apart : goal.returns-clause-apart
 returns-clause-apart c =
     let s = c.args.self.now in

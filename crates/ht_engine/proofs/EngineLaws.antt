@@ -1,0 +1,395 @@
+-- An engine that makes one step stands for the steps with it.
+use Rattle.std.specs.Prelude.{◌≡◌, ◌≢◌, ◌⊎◌, ◌↔◌, ◌<◌, ◌≤◌, ◌+◌, ◌-◌, ℕ, suc, zero, List, [], ◌∷◌, ◌++◌, Bool, true, false, not, length, get_or, refl, Option, Some, None}
+use Rattle.std.specs.List.{All, Contains}
+use Rattle.std.specs.Option.{is_some}
+use Rattle.std.proofs.Common.{arith, ap, eq-eqb, inl, inr, set, sym, ◌∙◌, subst}
+use Rattle.std.proofs.lemmas.Bool.{false≢true, true≢false}
+use Rattle.std.proofs.lemmas.Bool.Decides.{eqb_tells}
+use Rattle.std.proofs.lemmas.List.{get_or-set_other, get_or-set_same, get_or_default}
+use Rattle.std.proofs.lemmas.List.Elements.{All-append, All-cons, All-nil, Contains-append_left}
+use Rattle.ht_net.specs.declared.fault.Fault.{Fault}
+use Rattle.ht_net.specs.declared.place.Place.{Place}
+use Rattle.ht_net.specs.Detection.{Detects, IsFirstDetection}
+use Rattle.ht_net.specs.Netlist.{Netlist}
+use Rattle.ht_net.specs.Rows.{Rows}
+use Rattle.ht_net.proofs.FrameLaws.{le_or_lt}
+use Rattle.ht_faults.specs.FaultList.{no_fault}
+use Rattle.ht_faults.specs.Sites.{faults_of}
+use Rattle.ht_collapse.specs.Classes.{fault_at}
+use Rattle.ht_grade.specs.GraderView.{GraderView}
+use Rattle.ht_tree.specs.declared.entry.Entry as recorded
+use Rattle.ht_tree.specs.declared.entry.Entry.TheVariants as entry
+use Rattle.ht_tree.specs.Entries.{Passes}
+use Rattle.ht_tree.specs.Reached.{AreVectors}
+use Rattle.ht_entries.specs.declared.numbered.Numbered.{Numbered}
+use Rattle.ht_valid.specs.ValidFiles.{HasEntry, IsOwn}
+use Rattle.ht_engine.specs.declared.engine.EntryKind.{EntryKind}
+use Rattle.ht_engine.specs.declared.engine.EntryKind.TheVariants.{Refuted, GivenUp}
+use Rattle.ht_engine.specs.declared.step.Step.{Step}
+use Rattle.ht_engine.specs.declared.step.Step.TheVariants.{Vectors, Entry, Finished}
+use Rattle.ht_engine.specs.declared.work.Work.{Work}
+use Rattle.ht_engine.specs.EngineOf.{IsEngine}
+use Rattle.ht_engine.specs.EngineStands.{AllPass, EngineStandsFor, EngineView, HasSameWork, IsKindIn, IsOfKind, IsSaid, Makes, MakesStep, MeansOfStep, kind_at}
+use Rattle.ht_engine.specs.FaultWork.{IsWork, WorkHolds}
+use Rattle.ht_engine.specs.OneStep.{Advances, Ends, GivesEntry, GivesList, IsNextUndetected, IsUndetected, kind_of_entry, said_by}
+use Rattle.ht_engine.specs.Steps.{AreFinished, AwaitsVerdict, Follows, IsNextFault, entries_of, none, one_more, vectors_of}
+use Rattle.ht_engine.proofs.StepLaws.{awaited_before, contains_last, entries_more, entries_with_list, has_cases, has_last, numbered, vectors_more, vectors_with_entry}
+
+-- ---- what is undetected
+
+pub undetected_tells : (e : EngineView) (i : ℕ) (place : Option Place) (nowhere : Bool)
+    → IsOwn e.circuit e.representatives i → IsFirstDetection e.circuit (fault_at e.circuit i) e.list place
+    → is_some place ≡ not nowhere → (nowhere ≡ true) ↔ IsUndetected e i
+undetected_tells e i None true own first is = (λ h. record { own = own; undetected = first }, λ u. refl)
+undetected_tells e i None false own first is = absurd (false≢true is)
+undetected_tells e i (Some p) true own first is = absurd (true≢false is)
+undetected_tells e i (Some p) false own first is =
+    (λ h. absurd (false≢true h), λ u. absurd (u.undetected p.vector p.output first.0))
+
+-- ---- the next fault
+
+module _ (e : EngineView) (steps : List Step) (s : EngineStandsFor e steps) where
+  awaits_of : (i : ℕ) → e.place ≤ i → IsUndetected e i → AwaitsVerdict e.circuit e.representatives steps i
+  awaits_of i from u = record {
+    own = u.own;
+    undetected =
+        subst (λ (list : List (List Bool)). IsFirstDetection e.circuit (fault_at e.circuit i) list None) s.list
+        u.undetected;
+    without_entry = λ h. let below = s.entered i h in absurd (omega (arith, below, from));
+  }
+
+  undetected_of : (i : ℕ) → AwaitsVerdict e.circuit e.representatives steps i → IsUndetected e i
+  undetected_of i a = record {
+    own = a.own;
+    undetected =
+        subst (λ (list : List (List Bool)). IsFirstDetection e.circuit (fault_at e.circuit i) list None)
+        (sym s.list) a.undetected;
+  }
+
+  pub is_next : (i : ℕ) → IsNextUndetected e i → IsNextFault e.circuit e.representatives steps i
+  is_next i n = record {
+    awaits = awaits_of i n.from n.undetected;
+    least = λ k below a. elim (le_or_lt e.place k) [
+      | inl from ↦ n.least k from below (undetected_of k a)
+      | inr under ↦ s.done k under a
+    ];
+  }
+
+  pub are_finished : ((k : ℕ) → e.place ≤ k → ¬ IsUndetected e k) → AreFinished e.circuit e.representatives steps
+  are_finished last k a = elim (le_or_lt e.place k) [
+    | inl from ↦ last k from (undetected_of k a)
+    | inr under ↦ s.done k under a
+  ]
+
+-- ---- a list
+
+module _ (e new : EngineView) (steps : List Step) (s : EngineStandsFor e steps) (list : Rows)
+    (g : GivesList e new list) where
+  abbrev longer : List Step
+  longer = steps ++ Vectors list ∷ []
+
+  list_follows : Follows e.circuit e.representatives e.budget steps (Vectors list)
+  list_follows = record { fault = g.fault; next = is_next e steps s g.fault g.next; given = g.given }
+
+  pub list_useful : MeansOfStep e steps (Vectors list)
+  list_useful =
+      let d = g.holds.detects (vectors_of steps) in
+      record {
+        fault = g.fault;
+        awaited = (is_next e steps s g.fault g.next).awaits;
+        vector = d.0;
+        output = d.1;
+        detects = d.2;
+      }
+
+  detected_now : ¬ AwaitsVerdict e.circuit e.representatives longer g.fault
+  detected_now a =
+      let d = g.holds.detects (vectors_of steps) in
+      subst (λ (list : List (List Bool)). IsFirstDetection e.circuit (fault_at e.circuit g.fault) list None)
+      (vectors_more steps (Vectors list)) a.undetected d.0 d.1 d.2
+
+  list_done : (k : ℕ) → k < g.fault + 1 → ¬ AwaitsVerdict e.circuit e.representatives longer k
+  list_done k l a = elim (le_or_lt g.fault k) [
+    | inl from ↦
+        let at : k ≡ g.fault = omega (arith, from, l) in
+        detected_now (subst (AwaitsVerdict e.circuit e.representatives longer) at a)
+    | inr under ↦ (is_next e steps s g.fault g.next).least k under
+        (awaited_before e.circuit e.representatives steps (Vectors list) k a)
+  ]
+
+  list_stands : EngineStandsFor (record e { list = e.list ++ list.list; place = g.fault + 1 }) longer
+  list_stands =
+      let same = sym (entries_with_list steps list) in
+      record {
+        are = one_more steps (Vectors list) s.are list_follows;
+        list =
+            ap (λ (x : List (List Bool)). x ++ list.list) s.list ∙ sym (vectors_more steps (Vectors list));
+        kinds = λ i l. subst (λ (entries : List Numbered). IsKindIn entries i (kind_at e i)) same (s.kinds i l);
+        done = list_done;
+        entered = λ k h.
+            let below = s.entered k (subst (λ (entries : List Numbered). HasEntry entries k) (sym same) h) in
+            let from = g.next.from in
+            omega (arith, below, from);
+        wide = subst (AreVectors e.circuit) (sym (vectors_more steps (Vectors list)))
+            (All-append (λ (v : List Bool). length v ≡ e.circuit.inputs) (vectors_of steps) list.list s.wide
+            g.holds.wide);
+        pass = subst (AllPass e.circuit e.budget) same s.pass;
+      }
+
+  pub list_made : MakesStep e new steps (Vectors list)
+  list_made = record {
+    follows = list_follows;
+    stands = subst (λ (v : EngineView). EngineStandsFor v longer) (sym g.after) list_stands;
+  }
+
+-- ---- an entry
+
+pub kind_fits : (e : recorded.Entry) → IsOfKind (kind_of_entry e) e
+kind_fits (entry.Untestable z tokens) = tt
+kind_fits (entry.Aborted told walk aim sweep) = tt
+
+-- the entry of another fault changes nothing
+kind_stays : (entries : List Numbered) (fault : ℕ) (made : recorded.Entry) (i : ℕ) → i ≢ fault
+    → (kind : Option EntryKind) → IsKindIn entries i kind → IsKindIn (entries ++ numbered fault made ∷ []) i kind
+kind_stays entries fault made i other None h = λ has. elim (has_cases entries fault made i has) [
+  | inl before ↦ h before
+  | inr same ↦ other same
+]
+kind_stays entries fault made i other (Some kind) h =
+    (h.0, Contains-append_left entries (numbered fault made ∷ []) (numbered i h.0) h.1, h.2)
+
+module _ (e new : EngineView) (steps : List Step) (s : EngineStandsFor e steps) (fault : ℕ) (made : recorded.Entry)
+    (g : GivesEntry e new fault made) where
+  abbrev more : List Step
+  more = steps ++ Entry fault made ∷ []
+
+  entry_follows : Follows e.circuit e.representatives e.budget steps (Entry fault made)
+  entry_follows = record { fault = fault; next = is_next e steps s fault g.next; given = (refl, g.given) }
+
+  abbrev kinds_now : List (Option EntryKind)
+  kinds_now = set e.kinds fault (Some (kind_of_entry made))
+
+  kinds_more : (i : ℕ) → i < length e.representatives
+      → IsKindIn (entries_of steps ++ numbered fault made ∷ []) i (get_or kinds_now i None)
+  kinds_more i l = elim (eqb_tells i fault) [
+    | inl t ↦
+        let kind = Some (kind_of_entry made) in
+        subst (λ (k : ℕ). IsKindIn (entries_of steps ++ numbered fault made ∷ []) k (get_or kinds_now k None))
+        (sym t.1) (subst (IsKindIn (entries_of steps ++ numbered fault made ∷ []) fault)
+        (sym (get_or-set_same e.kinds fault kind None g.room))
+        (made, contains_last (entries_of steps) (numbered fault made), kind_fits made))
+    | inr t ↦
+        subst (IsKindIn (entries_of steps ++ numbered fault made ∷ []) i)
+        (sym (get_or-set_other e.kinds fault i (Some (kind_of_entry made)) None t.1))
+        (kind_stays (entries_of steps) fault made i t.1 (kind_at e i) (s.kinds i l))
+  ]
+
+  entry_done : (k : ℕ) → k < fault + 1 → ¬ AwaitsVerdict e.circuit e.representatives more k
+  entry_done k l a = elim (le_or_lt fault k) [
+    | inl from ↦
+        let at : k ≡ fault = omega (arith, from, l) in
+        a.without_entry (subst (HasEntry (entries_of more)) (sym at) (has_last steps fault made))
+    | inr under ↦ (is_next e steps s fault g.next).least k under
+        (awaited_before e.circuit e.representatives steps (Entry fault made) k a)
+  ]
+
+  entry_entered : (k : ℕ) → HasEntry (entries_of steps ++ numbered fault made ∷ []) k → k < fault + 1
+  entry_entered k h = elim (has_cases (entries_of steps) fault made k h) [
+    | inl before ↦ let below = s.entered k before in let from = g.next.from in omega (arith, below, from)
+    | inr same ↦ omega (arith, same)
+  ]
+
+  entry_passes : AllPass e.circuit e.budget (entries_of steps ++ numbered fault made ∷ [])
+  entry_passes =
+      let P : Numbered → Type 0 =
+      λ (n : Numbered). Passes e.circuit (fault_at e.circuit (n.number - 1)) e.budget n.entry in
+      let at : fault ≡ fault + 1 - 1 = omega arith in
+      All-append P (entries_of steps) (numbered fault made ∷ []) s.pass (All-cons P (numbered fault made) []
+      (subst (λ (k : ℕ). Passes e.circuit (fault_at e.circuit k) e.budget made) at g.holds) (All-nil P))
+
+  entry_stands : EngineStandsFor (record e { kinds = kinds_now; place = fault + 1 }) more
+  entry_stands =
+      let same = sym (entries_more steps (Entry fault made)) in
+      record {
+        are = one_more steps (Entry fault made) s.are entry_follows;
+        list = s.list ∙ sym (vectors_with_entry steps fault made);
+        kinds = λ i l. subst (λ (entries : List Numbered). IsKindIn entries i (get_or kinds_now i None)) same
+            (kinds_more i l);
+        done = entry_done;
+        entered = λ k h.
+            entry_entered k (subst (λ (entries : List Numbered). HasEntry entries k) (sym same) h);
+        wide = subst (AreVectors e.circuit) (sym (vectors_with_entry steps fault made)) s.wide;
+        pass = subst (AllPass e.circuit e.budget) same entry_passes;
+      }
+
+  pub entry_made : MakesStep e new steps (Entry fault made)
+  entry_made = record {
+    follows = entry_follows;
+    stands = subst (λ (v : EngineView). EngineStandsFor v more) (sym g.after) entry_stands;
+  }
+
+-- ---- the end
+
+pub end_made : (e new : EngineView) (steps : List Step) → EngineStandsFor e steps → Ends e new
+    → Makes e new steps Finished
+end_made e new steps s g =
+    let last = are_finished e steps s g.none in
+    let at : EngineStandsFor (record e { place = length e.representatives }) steps =
+    record {
+      are = s.are;
+      list = s.list;
+      kinds = s.kinds;
+      done = λ i l. last i;
+      entered = λ i h. let below = s.entered i h in let within = g.within in omega (arith, below, within);
+      wide = s.wide;
+      pass = s.pass;
+    } in
+    (last, subst (λ (v : EngineView). EngineStandsFor v steps) (sym g.after) at)
+
+-- ---- any step
+
+pub makes : (old new : EngineView) (steps : List Step) → EngineStandsFor old steps → (step : Step)
+    → Advances old new step → Makes old new steps step
+makes old new steps s (Vectors list) g = list_made old new steps s list g
+makes old new steps s (Entry fault made) g = entry_made old new steps s fault made g
+makes old new steps s Finished g = end_made old new steps s g
+
+pub means : (old new : EngineView) (steps : List Step) → EngineStandsFor old steps → (step : Step)
+    → Advances old new step → MeansOfStep old steps step
+means old new steps s (Vectors list) g = list_useful old new steps s list g
+means old new steps s (Entry fault made) g = g.holds
+means old new steps s Finished g = tt
+
+same_by : (old new : EngineView) (list : List (List Bool)) (kinds : List (Option EntryKind)) (place : ℕ)
+    → new ≡ record old { list = list; kinds = kinds; place = place } → HasSameWork old new
+same_by old new list kinds place is = record {
+  circuit = ap (λ (v : EngineView). v.circuit) is;
+  representatives = ap (λ (v : EngineView). v.representatives) is;
+  budget = ap (λ (v : EngineView). v.budget) is;
+}
+
+pub same_work : (old new : EngineView) (step : Step) → Advances old new step → HasSameWork old new
+same_work old new (Vectors list) g = same_by old new (old.list ++ list.list) old.kinds (g.fault + 1) g.after
+same_work old new (Entry fault made) g =
+    same_by old new old.list (set old.kinds fault (Some (kind_of_entry made))) (fault + 1) g.after
+same_work old new Finished g = same_by old new old.list old.kinds (length old.representatives) g.after
+
+pub nears : (old new : EngineView) (step : Step) → Advances old new step → step ≢ Finished → old.place < new.place
+nears old new (Vectors list) g other =
+    let at : new.place ≡ g.fault + 1 = ap (λ (v : EngineView). v.place) g.after in
+    let from = g.next.from in
+    omega (arith, at, from)
+nears old new (Entry fault made) g other =
+    let at : new.place ≡ fault + 1 = ap (λ (v : EngineView). v.place) g.after in
+    let from = g.next.from in
+    omega (arith, at, from)
+nears old new Finished g other = absurd (other refl)
+
+place_by : (old new : EngineView) (fault : ℕ) → length old.representatives ≡ length (faults_of old.circuit)
+    → IsOwn old.circuit old.representatives fault → new.representatives ≡ old.representatives
+    → new.place ≡ fault + 1 → new.place ≤ length new.representatives
+place_by old new fault every own same at =
+    let long : length new.representatives ≡ length old.representatives = ap length same in
+    let listed = own.listed in
+    omega (arith, every, long, listed, at)
+
+pub place_within : (old new : EngineView) → length old.representatives ≡ length (faults_of old.circuit)
+    → (step : Step) → Advances old new step → new.place ≤ length new.representatives
+place_within old new every (Vectors list) g =
+    place_by old new g.fault every g.next.undetected.own (ap (λ (v : EngineView). v.representatives) g.after)
+    (ap (λ (v : EngineView). v.place) g.after)
+place_within old new every (Entry fault made) g =
+    place_by old new fault every g.next.undetected.own (ap (λ (v : EngineView). v.representatives) g.after)
+    (ap (λ (v : EngineView). v.place) g.after)
+place_within old new every Finished g =
+    let long : length new.representatives ≡ length old.representatives =
+    ap (λ (v : EngineView). length v.representatives) g.after in
+    let at : new.place ≡ length old.representatives = ap (λ (v : EngineView). v.place) g.after in
+    omega (arith, long, at)
+
+-- ---- what is said
+
+pub said_is : (e : EngineView) (steps : List Step) → EngineStandsFor e steps → (i : ℕ)
+    → IsOwn e.circuit e.representatives i → i < length e.representatives
+    → IsFirstDetection e.circuit (fault_at e.circuit i) e.list None
+    → (kind : Option EntryKind) → kind_at e i ≡ kind → IsSaid e steps i (said_by kind)
+said_is e steps s i own l first None at = record {
+  own = own;
+  undetected = subst (λ (list : List (List Bool)). IsFirstDetection e.circuit (fault_at e.circuit i) list None) s.list
+      first;
+  without_entry = subst (IsKindIn (entries_of steps) i) at (s.kinds i l);
+}
+said_is e steps s i own l first (Some Refuted) at = (
+  subst (λ (list : List (List Bool)). IsFirstDetection e.circuit (fault_at e.circuit i) list None) s.list first,
+  subst (IsKindIn (entries_of steps) i) at (s.kinds i l),
+)
+said_is e steps s i own l first (Some GivenUp) at = (
+  subst (λ (list : List (List Bool)). IsFirstDetection e.circuit (fault_at e.circuit i) list None) s.list first,
+  subst (IsKindIn (entries_of steps) i) at (s.kinds i l),
+)
+
+pub said_detected : (e : EngineView) (steps : List Step) → EngineStandsFor e steps → (i : ℕ) (place : Place)
+    → IsFirstDetection e.circuit (fault_at e.circuit i) e.list (Some place)
+    → IsFirstDetection e.circuit (fault_at e.circuit i) (vectors_of steps) (Some place)
+said_detected e steps s i place first =
+    subst (λ (list : List (List Bool)). IsFirstDetection e.circuit (fault_at e.circuit i) list (Some place)) s.list
+    first
+
+-- ---- what the fields say of the value
+
+module _ (e now : EngineView) (listed : List Fault) (grader : GraderView) (is : IsEngine e listed grader)
+    (at : e ≡ now) (same : grader.list ≡ e.list) where
+  known : IsEngine now listed grader
+  known = subst (λ (v : EngineView). IsEngine v listed grader) at is
+
+  pub own_of : (i r : ℕ) → i < length now.representatives → r ≡ get_or e.representatives i 0 → r ≡ i
+      → IsOwn now.circuit now.representatives i
+  own_of i r l here own =
+      let every = known.classes.every in
+      record {
+        listed = omega (arith, l, every);
+        own = eq-eqb (get_or now.representatives i 0) i
+            (ap (λ (v : EngineView). get_or v.representatives i 0) (sym at) ∙ (sym here ∙ own));
+      }
+
+  pub first_of : (i : ℕ) (place : Option Place)
+      → IsFirstDetection grader.circuit (fault_at grader.circuit i) grader.list place
+      → IsFirstDetection now.circuit (fault_at now.circuit i) now.list place
+  first_of i place first =
+      let list : grader.list ≡ now.list = same ∙ ap (λ (v : EngineView). v.list) at in
+      subst (λ (c : Netlist). IsFirstDetection c (fault_at c i) now.list place) known.circuit
+      (subst (λ (l : List (List Bool)). IsFirstDetection grader.circuit (fault_at grader.circuit i) l place) list
+      first)
+
+  pub room_of : (i : ℕ) → IsOwn now.circuit now.representatives i → i < length now.kinds
+  room_of i own =
+      let every = known.classes.every in
+      let kinds = known.kinds in
+      let below = own.listed in
+      omega (arith, every, kinds, below)
+
+  pub count_of : (i : ℕ) → IsOwn now.circuit now.representatives i → i < length now.representatives
+  count_of i own = let every = known.classes.every in let below = own.listed in omega (arith, every, below)
+
+  pub kept_kind : (i : ℕ) (kind : Option EntryKind) → IsOwn now.circuit now.representatives i
+      → kind ≡ get_or e.kinds i kind → kind_at now i ≡ kind
+  kept_kind i kind own is =
+      get_or_default now.kinds i None kind (room_of i own)
+      ∙ (ap (λ (v : EngineView). get_or v.kinds i kind) (sym at) ∙ sym is)
+
+  fault_of : (i : ℕ) (f : Fault) → f ≡ get_or listed i no_fault → f ≡ fault_at now.circuit i
+  fault_of i f got = got ∙ ap (λ (l : List Fault). get_or l i no_fault) known.faults
+
+  pub work_of : (i : ℕ) (f : Fault) → f ≡ get_or listed i no_fault → (w given : Work) → w ≡ given
+      → IsWork e.circuit f e.budget w → IsWork now.circuit (fault_at now.circuit i) now.budget given
+  work_of i f got w given is_given h =
+      subst (IsWork now.circuit (fault_at now.circuit i) now.budget) is_given
+      (subst (λ (f : Fault). IsWork now.circuit f now.budget w) (fault_of i f got)
+      (subst (λ (v : EngineView). IsWork v.circuit f v.budget w) at h))
+
+  pub holds_of : (i : ℕ) (f : Fault) → f ≡ get_or listed i no_fault → (w given : Work) → w ≡ given
+      → WorkHolds e.circuit f e.budget w → WorkHolds now.circuit (fault_at now.circuit i) now.budget given
+  holds_of i f got w given is_given h =
+      subst (WorkHolds now.circuit (fault_at now.circuit i) now.budget) is_given
+      (subst (λ (f : Fault). WorkHolds now.circuit f now.budget w) (fault_of i f got)
+      (subst (λ (v : EngineView). WorkHolds v.circuit f v.budget w) at h))

@@ -1,0 +1,187 @@
+-- What awaits its verdict after a step awaited it before, and the entries of steps rise.
+use Rattle.std.specs.Prelude.{◌≡◌, ◌⊎◌, ◌<◌, ◌+◌, ◌-◌, ℕ, suc, zero, List, [], ◌∷◌, ◌++◌, map, Bool, true, length, get_or, refl, None}
+use Rattle.std.specs.List.{All, Contains}
+use Rattle.std.proofs.Common.{arith, ap, inl, inr, sym, ◌∙◌, subst}
+use Rattle.std.proofs.lemmas.Bool.{lt-ltb}
+use Rattle.std.proofs.lemmas.List.{append-nil, map-append}
+use Rattle.std.proofs.lemmas.List.Concat.{flat_map-append}
+use Rattle.std.proofs.lemmas.List.Elements.{All-append, All-cons, All-head, All-nil, All-tail, Contains-append_cases, Contains-append_left, Contains-append_right}
+use Rattle.ht_net.specs.Netlist.{Netlist}
+use Rattle.ht_net.specs.Rows.{Rows}
+use Rattle.ht_net.specs.Detection.{IsFirstDetection}
+use Rattle.ht_collapse.specs.Classes.{fault_at}
+use Rattle.ht_tree.specs.declared.entry.Entry as recorded
+use Rattle.ht_tree.specs.Rising.{Rises}
+use Rattle.ht_entries.specs.declared.numbered.Numbered.{Numbered}
+use Rattle.ht_entries.specs.EntryTexts.{numbers_of}
+use Rattle.ht_entries.specs.ProofSteps.{is_above}
+use Rattle.ht_entries.proofs.RisesLaws.{rises_add, rises_none}
+use Rattle.ht_valid.specs.ValidFiles.{HasEntry, IsOwn}
+use Rattle.ht_engine.specs.declared.step.Step.{Step}
+use Rattle.ht_engine.specs.declared.step.Step.TheVariants.{Vectors, Entry, Finished}
+use Rattle.ht_engine.specs.Steps.{AreSteps, AwaitsVerdict, Follows, IsNextFault, IsOwnEntry, entries_of, none, one_more, step_entries, step_vectors, vectors_of}
+use Rattle.ht_engine.proofs.MoreVectorsLaws.{undetected_before}
+
+-- ---- the vectors and the entries of one more step
+
+pub vectors_more : (steps : List Step) (step : Step)
+    → vectors_of (steps ++ step ∷ []) ≡ vectors_of steps ++ step_vectors step
+vectors_more steps step =
+    flat_map-append step_vectors steps (step ∷ [])
+    ∙ ap (λ (x : List (List Bool)). vectors_of steps ++ x) (append-nil (step_vectors step))
+
+pub entries_more : (steps : List Step) (step : Step)
+    → entries_of (steps ++ step ∷ []) ≡ entries_of steps ++ step_entries step
+entries_more steps step =
+    flat_map-append step_entries steps (step ∷ [])
+    ∙ ap (λ (x : List Numbered). entries_of steps ++ x) (append-nil (step_entries step))
+
+-- a list adds no entry, an entry no vector
+pub entries_with_list : (steps : List Step) (list : Rows)
+    → entries_of (steps ++ Vectors list ∷ []) ≡ entries_of steps
+entries_with_list steps list = entries_more steps (Vectors list) ∙ append-nil (entries_of steps)
+
+pub vectors_with_entry : (steps : List Step) (fault : ℕ) (e : recorded.Entry)
+    → vectors_of (steps ++ Entry fault e ∷ []) ≡ vectors_of steps
+vectors_with_entry steps fault e = vectors_more steps (Entry fault e) ∙ append-nil (vectors_of steps)
+
+abbrev pub numbered : ℕ → recorded.Entry → Numbered
+numbered fault e = record { number = fault + 1; entry = e }
+
+-- ---- who has an entry
+
+pub has_left : (entries more : List Numbered) (k : ℕ) → HasEntry entries k → HasEntry (entries ++ more) k
+has_left entries more k h = record {
+  entry = h.entry;
+  among = Contains-append_left entries more (numbered k h.entry) h.among;
+}
+
+pub contains_last : (entries : List Numbered) (e : Numbered) → Contains (entries ++ e ∷ []) e
+contains_last entries e = Contains-append_right entries (e ∷ []) e (0, omega arith, refl)
+
+only_at : (e f : Numbered) (k : ℕ) → k < length (e ∷ []) → get_or (e ∷ []) k f ≡ f → e ≡ f
+only_at e f zero l is = is
+only_at e f (suc k) l is = absurd (omega (arith, l))
+
+same_number : (fault k : ℕ) (e f : recorded.Entry) → numbered fault e ≡ numbered k f → k ≡ fault
+same_number fault k e f is =
+    let n : fault + 1 ≡ k + 1 = ap (λ (x : Numbered). x.number) is in omega (arith, n)
+
+pub has_cases : (entries : List Numbered) (fault : ℕ) (e : recorded.Entry) (k : ℕ)
+    → HasEntry (entries ++ numbered fault e ∷ []) k → HasEntry entries k ⊎ (k ≡ fault)
+has_cases entries fault e k h =
+    elim (Contains-append_cases entries (numbered fault e ∷ []) (numbered k h.entry) h.among) [
+      | inl b ↦ inl (record { entry = h.entry; among = b })
+      | inr b ↦ inr (same_number fault k e h.entry (only_at (numbered fault e) (numbered k h.entry) b.0 b.1 b.2))
+    ]
+
+pub has_last : (steps : List Step) (fault : ℕ) (e : recorded.Entry)
+    → HasEntry (entries_of (steps ++ Entry fault e ∷ [])) fault
+has_last steps fault e = record {
+  entry = e;
+  among = subst (λ (entries : List Numbered). Contains entries (numbered fault e))
+      (sym (entries_more steps (Entry fault e))) (contains_last (entries_of steps) (numbered fault e));
+}
+
+-- ---- who awaits its verdict after a step awaited it before
+
+pub awaited_before : (c : Netlist) (representatives : List ℕ) (steps : List Step) (step : Step) (k : ℕ)
+    → AwaitsVerdict c representatives (steps ++ step ∷ []) k → AwaitsVerdict c representatives steps k
+awaited_before c representatives steps step k a = record {
+  own = a.own;
+  undetected = undetected_before c (fault_at c k) (vectors_of steps) (step_vectors step)
+      (subst (λ (list : List (List Bool)). IsFirstDetection c (fault_at c k) list None) (vectors_more steps step)
+      a.undetected);
+  without_entry = λ h. a.without_entry
+      (subst (λ (entries : List Numbered). HasEntry entries k) (sym (entries_more steps step))
+      (has_left (entries_of steps) (step_entries step) k h));
+}
+
+-- ---- the entries rise
+
+above_entries : (entries : List Numbered) (j : ℕ) → All (λ (e : Numbered). e.number < j) entries
+    → is_above (numbers_of entries) j ≡ true
+above_entries [] j h = refl
+above_entries (e ∷ []) j h = lt-ltb e.number j (All-head (λ (e : Numbered). e.number < j) e [] h)
+above_entries (e ∷ f ∷ entries) j h =
+    above_entries (f ∷ entries) j (All-tail (λ (e : Numbered). e.number < j) e (f ∷ entries) h)
+
+-- Each entry is of a lower fault than those that still await their verdict; the entries rise, each of an own fault.
+pub record AreInOrder (c : Netlist) (representatives : List ℕ) (steps : List Step) : Type 0 where
+  pub below : (k : ℕ) → AwaitsVerdict c representatives steps k
+      → All (λ (e : Numbered). e.number < k + 1) (entries_of steps)
+  pub rises : Rises (numbers_of (entries_of steps))
+  pub own : All (IsOwnEntry c representatives) (entries_of steps)
+
+after_list : (c : Netlist) (representatives : List ℕ) (steps : List Step) (list : Rows)
+    → AreInOrder c representatives steps → AreInOrder c representatives (steps ++ Vectors list ∷ [])
+after_list c representatives steps list o =
+    let same = sym (entries_with_list steps list) in
+    record {
+      below = λ k a. subst (All (λ (e : Numbered). e.number < k + 1)) same
+          (o.below k (awaited_before c representatives steps (Vectors list) k a));
+      rises = subst (λ (entries : List Numbered). Rises (numbers_of entries)) same o.rises;
+      own = subst (All (IsOwnEntry c representatives)) same o.own;
+    }
+
+above_by : (i k : ℕ) → (k < i → ⊥) → (i ≡ k → ⊥) → i < k
+above_by i k f g = omega (arith, f, g)
+
+is_higher : (c : Netlist) (representatives : List ℕ) (steps : List Step) (i k : ℕ) (e : recorded.Entry)
+    → IsNextFault c representatives steps i → AwaitsVerdict c representatives (steps ++ Entry i e ∷ []) k → i < k
+is_higher c representatives steps i k e n a =
+    above_by i k (λ below. n.least k below (awaited_before c representatives steps (Entry i e) k a))
+    (λ same. a.without_entry
+    (subst (HasEntry (entries_of (steps ++ Entry i e ∷ []))) same (has_last steps i e)))
+
+own_entry : (c : Netlist) (representatives : List ℕ) (i : ℕ) (e : recorded.Entry) → IsOwn c representatives i
+    → IsOwnEntry c representatives (numbered i e)
+own_entry c representatives i e own =
+    let at : i ≡ i + 1 - 1 = omega arith in
+    record { counted = omega arith; own = subst (IsOwn c representatives) at own }
+
+rises_more : (entries : List Numbered) (i : ℕ) (e : recorded.Entry) → Rises (numbers_of entries)
+    → All (λ (e : Numbered). e.number < i + 1) entries → Rises (numbers_of (entries ++ numbered i e ∷ []))
+rises_more entries i e rises below =
+    subst Rises (sym (map-append (λ (e : Numbered). e.number) entries (numbered i e ∷ [])))
+    (rises_add (numbers_of entries) (i + 1) rises (above_entries entries (i + 1) below))
+
+after_entry : (c : Netlist) (representatives : List ℕ) (steps : List Step) (i : ℕ) (e : recorded.Entry)
+    → IsNextFault c representatives steps i → AreInOrder c representatives steps
+    → AreInOrder c representatives (steps ++ Entry i e ∷ [])
+after_entry c representatives steps i e n o =
+    let more = sym (entries_more steps (Entry i e)) in
+    let entries = entries_of steps in
+    let last = numbered i e in
+    record {
+      below = λ k a.
+          let P : Numbered → Type 0 = λ (e : Numbered). e.number < k + 1 in
+          let higher = is_higher c representatives steps i k e n a in
+          let under : i + 1 < k + 1 = omega (arith, higher) in
+          subst (All P) more (All-append P entries (last ∷ [])
+          (o.below k (awaited_before c representatives steps (Entry i e) k a)) (All-cons P last [] under (All-nil P)));
+      rises = subst (λ (entries : List Numbered). Rises (numbers_of entries)) more
+          (rises_more entries i e o.rises (o.below i n.awaits));
+      own =
+          let P : Numbered → Type 0 = IsOwnEntry c representatives in
+          subst (All P) more (All-append P entries (last ∷ []) o.own
+          (All-cons P last [] (own_entry c representatives i e n.awaits.own) (All-nil P)));
+    }
+
+after_step : (c : Netlist) (representatives : List ℕ) (budget : ℕ) (steps : List Step) (step : Step)
+    → Follows c representatives budget steps step → AreInOrder c representatives steps
+    → AreInOrder c representatives (steps ++ step ∷ [])
+after_step c representatives budget steps (Vectors list) f o = after_list c representatives steps list o
+after_step c representatives budget steps (Entry fault e) f o =
+    after_entry c representatives steps fault e (subst (IsNextFault c representatives steps) (sym f.given.0) f.next) o
+after_step c representatives budget steps Finished f o = absurd f.given
+
+pub steps_in_order : (c : Netlist) (representatives : List ℕ) (budget : ℕ) (steps : List Step)
+    → AreSteps c representatives budget steps → AreInOrder c representatives steps
+steps_in_order c representatives budget steps none = record {
+  below = λ k a. All-nil _;
+  rises = rises_none;
+  own = All-nil _;
+}
+steps_in_order c representatives budget steps (one_more before step are follows) =
+    after_step c representatives budget before step follows (steps_in_order c representatives budget before are)

@@ -1,0 +1,30 @@
+use Rattle.std.specs.Prelude.{◌≡◌, ◌<◌, ℕ, [], None, length, refl}
+use Rattle.std.proofs.Common.{arith, ap, subst, sym}
+use Rattle.std.proofs.lemmas.List.Elements.{All-nil}
+use Rattle.ht_grade.specs.GraderView.{GraderView}
+use Rattle.ht_valid.specs.ValidFiles.{HasEntry}
+use Rattle.ht_engine.specs.EngineStands.{EngineStandsFor, EngineView, IsKindIn, kind_at}
+use Rattle.ht_engine.specs.Steps.{none}
+use Rattle.ht_engine.proofs.engine.Engine.new.Goals as goal
+
+no_entry : (i : ℕ) → ¬ HasEntry [] i
+no_entry i h = let l = h.among.1 in absurd (omega (arith, l))
+
+-- nothing is kept, so the engine stands for no steps
+new_stands : (e : EngineView) → e.list ≡ []
+    → ((i : ℕ) → i < length e.representatives → kind_at e i ≡ None) → e.place ≡ 0 → EngineStandsFor e []
+new_stands e list empty place = record {
+  are = none;
+  list = list;
+  kinds = λ i l. subst (IsKindIn [] i) (sym (empty i l)) (no_entry i);
+  done = λ i l. absurd (omega (arith, l, place));
+  entered = λ i h. absurd (no_entry i h);
+  wide = All-nil _;
+  pass = All-nil _;
+}
+
+pub returns-clause-none : goal.returns-clause-none
+returns-clause-none c =
+    let count = c.len.ensures in
+    new_stands _ (ap (λ (g : GraderView). g.list) c.in_ok-grader.ensures)
+    (λ i l. c.in_ok-kinds.ensures.none i (omega (arith, l, count))) refl

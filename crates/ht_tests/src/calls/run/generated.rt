@@ -1,0 +1,468 @@
+//! `gen` finishes: the three files, whole.
+
+use super::cases::{Setup, load, words_of};
+use ht_app::run;
+use ht_ports::MemoryDesk;
+use ht_samples::{ALWAYS_ZERO, CHANGE, HIDDEN, SHIFT_REGISTER, TOGGLE, WIRES};
+use std::alloc::{AllocError, Global};
+use std::test::Fail;
+
+/// The words of `gen` over the file `n`; it writes the files `t`, `r` and `p`.
+pub const GEN: &[&str] = &["gen", "n", "t", "r", "p"];
+
+/// What must come out: the status, each of the three files where it is there, and what is on Out and on Err.
+#[derive(Clone, Copy)]
+pub struct Left<'a> {
+    pub status: u8,
+    pub tests: Option<&'a [u8]>,
+    pub report: Option<&'a [u8]>,
+    pub proofs: Option<&'a [u8]>,
+    pub out: &'a [u8],
+    pub err: &'a [u8],
+}
+
+// Whether the desk is left as it must be.
+fn is_left(desk: &MemoryDesk, left: &Left<'_>) -> bool {
+    desk.file("t") == left.tests
+        && desk.file("r") == left.report
+        && desk.file("p") == left.proofs
+        && desk.out() == left.out
+        && desk.err() == left.err
+}
+
+// Whether the run leaves what it must, over a desk without files.
+fn leaves_on(
+    alloc: Global,
+    desk: &mut MemoryDesk,
+    start: &Setup<'_>,
+    left: &Left<'_>,
+) -> Result<bool, AllocError> {
+    load(desk, start)?;
+    let words = words_of(alloc, start.words)?;
+    let status = run(alloc, &words, desk);
+    Ok(status == left.status && is_left(desk, left))
+}
+
+/// Whether the run leaves what it must.
+pub fn leaves(alloc: Global, start: &Setup<'_>, left: &Left<'_>) -> Result<bool, AllocError> {
+    let mut desk = MemoryDesk::new(alloc);
+    leaves_on(alloc, &mut desk, start, left)
+}
+
+// A run that finishes: its words, the netlist, the three files, and the line on Out.
+struct Example<'a> {
+    words: &'a [&'a str],
+    netlist: &'a [u8],
+    tests: &'a [u8],
+    report: &'a [u8],
+    proofs: &'a [u8],
+    out: &'a [u8],
+}
+
+fn gives(alloc: Global, example: &Example<'_>) -> Result<bool, AllocError> {
+    let start = Setup {
+        words: example.words,
+        netlist: Some(example.netlist),
+        tests: Some(b"old tests\n"),
+        fails: None,
+    };
+    let left = Left {
+        status: 0,
+        tests: Some(example.tests),
+        report: Some(example.report),
+        proofs: Some(example.proofs),
+        out: example.out,
+        err: b"",
+    };
+    leaves(alloc, &start, &left)
+}
+
+// No vector shows the first three faults at the output, which is always 0.
+const CONSTANT_OUTPUT: Example<'static> = Example {
+    words: GEN,
+    netlist: ALWAYS_ZERO,
+    tests: b"1\n0\n",
+    report: b"circuit inputs 1 outputs 1 flip-flops 0 gates 2 faults 10 classes 6 budget 1000
+1 a s-a-0 untestable
+2 a s-a-1 untestable
+3 n s-a-0 untestable
+4 n s-a-1 detected 1 z
+5 z s-a-0 as 3
+6 z s-a-1 detected 1 z
+7 n(1) s-a-0 as 4
+8 n(1) s-a-1 as 3
+9 z(1) s-a-0 as 3
+10 z(1) s-a-1 detected 2 z
+total 6 detected 3 untestable 3 aborted 0
+",
+    proofs: b"proofs 1
+entry 1 untestable
+walk
+hi 1
+dead
+dead
+entry 2 untestable
+walk
+hi 1
+dead
+dead
+entry 3 untestable
+walk
+hi 1
+dead
+dead
+end
+",
+    out: b"total 6 detected 3 untestable 3 aborted 0\n",
+};
+
+// The latch stays unknown, so each fault is aborted: the search back spends its budget, and so does the sweep with the
+// lengths 1 to 4.
+const TOGGLE_EXAMPLE: Example<'static> = Example {
+    words: &["gen", "n", "t", "r", "p", "--budget", "10"],
+    netlist: TOGGLE,
+    tests: b"",
+    report: b"circuit inputs 0 outputs 1 flip-flops 1 gates 1 faults 6 classes 4 budget 10
+1 q s-a-0 aborted
+2 q s-a-1 aborted
+3 n s-a-0 aborted
+4 n s-a-1 aborted
+5 n(1) s-a-0 as 4
+6 n(1) s-a-1 as 3
+total 4 detected 0 untestable 0 aborted 4
+",
+    proofs: b"proofs 1
+entry 1 aborted
+frame output 1
+set 1 1
+back open
+x 1
+before
+x 1
+dead
+before
+x 1
+before
+x 1
+dead
+before
+sweep
+length 1
+dead
+length 2
+dead
+length 3
+dead
+length 4
+dead
+length 5
+entry 2 aborted
+frame output 1
+set 1 0
+back open
+x 1
+dead
+before
+x 1
+before
+x 1
+dead
+before
+x 1
+before
+sweep
+length 1
+dead
+length 2
+dead
+length 3
+dead
+length 4
+dead
+length 5
+entry 3 aborted
+frame state 1
+set 1 0
+frame output 1
+set 1 1
+set 2 0
+back open
+x 1
+dead
+before
+x 1
+before
+x 1
+dead
+before
+x 1
+before
+sweep
+length 1
+dead
+length 2
+dead
+length 3
+dead
+length 4
+dead
+length 5
+entry 4 aborted
+frame state 1
+set 1 1
+frame output 1
+set 1 1
+set 2 0
+back open
+x 1
+before
+x 1
+dead
+before
+x 1
+before
+x 1
+dead
+before
+sweep
+length 1
+dead
+length 2
+dead
+length 3
+dead
+length 4
+dead
+length 5
+end
+",
+    out: b"total 4 detected 0 untestable 0 aborted 4\n",
+};
+
+const EMPTY: Example<'static> = Example {
+    words: GEN,
+    netlist: b"",
+    tests: b"",
+    report: b"circuit inputs 0 outputs 0 flip-flops 0 gates 0 faults 0 classes 0 budget 1000
+total 0 detected 0 untestable 0 aborted 0
+",
+    proofs: b"proofs 1\nend\n",
+    out: b"total 0 detected 0 untestable 0 aborted 0\n",
+};
+
+const EMPTY_LEAST: Example<'static> = Example {
+    words: &["gen", "n", "t", "r", "p", "--budget", "1"],
+    netlist: b"",
+    tests: b"",
+    report: b"circuit inputs 0 outputs 0 flip-flops 0 gates 0 faults 0 classes 0 budget 1
+total 0 detected 0 untestable 0 aborted 0
+",
+    proofs: b"proofs 1\nend\n",
+    out: b"total 0 detected 0 untestable 0 aborted 0\n",
+};
+
+const EMPTY_MOST: Example<'static> = Example {
+    words: &["gen", "--budget=100000", "n", "t", "r", "p"],
+    netlist: b"",
+    tests: b"",
+    report: b"circuit inputs 0 outputs 0 flip-flops 0 gates 0 faults 0 classes 0 budget 100000
+total 0 detected 0 untestable 0 aborted 0
+",
+    proofs: b"proofs 1\nend\n",
+    out: b"total 0 detected 0 untestable 0 aborted 0\n",
+};
+
+// A flip-flop that takes its own value: a difference stays in it, and there is no output.
+const SELF_LOOP: Example<'static> = Example {
+    words: &["gen", "--budget", "8", "n", "t", "r", "p"],
+    netlist: b"q = DFF(q)\n",
+    tests: b"",
+    report: b"circuit inputs 0 outputs 0 flip-flops 1 gates 0 faults 2 classes 2 budget 8
+1 q s-a-0 untestable
+2 q s-a-1 untestable
+total 2 detected 0 untestable 2 aborted 0
+",
+    proofs: b"proofs 1
+entry 1 untestable
+z 1
+walk
+dead
+entry 2 untestable
+z 1
+walk
+dead
+end
+",
+    out: b"total 2 detected 0 untestable 2 aborted 0\n",
+};
+
+// The first input goes nowhere.
+const TWO_INPUTS: Example<'static> = Example {
+    words: GEN,
+    netlist: b"INPUT(a)\nINPUT(b)\nOUTPUT(b)\n",
+    tests: b"01\n00\n",
+    report: b"circuit inputs 2 outputs 1 flip-flops 0 gates 0 faults 4 classes 4 budget 1000
+1 a s-a-0 untestable
+2 a s-a-1 untestable
+3 b s-a-0 detected 1 b
+4 b s-a-1 detected 2 b
+total 4 detected 2 untestable 2 aborted 0
+",
+    proofs: b"proofs 1
+entry 1 untestable
+walk
+dead
+entry 2 untestable
+walk
+dead
+end
+",
+    out: b"total 4 detected 2 untestable 2 aborted 0\n",
+};
+
+// Differences reach the flip-flops, and stay there.
+const HIDDEN_FLIP_FLOPS: Example<'static> = Example {
+    words: GEN,
+    netlist: HIDDEN,
+    tests: b"1\n0\n",
+    report: b"circuit inputs 1 outputs 1 flip-flops 2 gates 0 faults 8 classes 8 budget 1000
+1 a s-a-0 detected 1 a
+2 a s-a-1 detected 2 a
+3 q s-a-0 untestable
+4 q s-a-1 untestable
+5 r s-a-0 untestable
+6 r s-a-1 untestable
+7 q(1) s-a-0 untestable
+8 q(1) s-a-1 untestable
+total 8 detected 2 untestable 6 aborted 0
+",
+    proofs: b"proofs 1
+entry 3 untestable
+z 2
+walk
+dead
+entry 4 untestable
+z 2
+walk
+dead
+entry 5 untestable
+walk
+dead
+entry 6 untestable
+walk
+dead
+entry 7 untestable
+z 1
+z 2
+walk
+dead
+entry 8 untestable
+z 1
+z 2
+walk
+dead
+end
+",
+    out: b"total 8 detected 2 untestable 6 aborted 0\n",
+};
+
+// The search of fault 2 spends its one token; the vector for fault 3 then detects it, and its entry stays.
+const LATER_VECTOR: Example<'static> = Example {
+    words: &["gen", "n", "t", "r", "p", "--budget=1"],
+    netlist: WIRES,
+    tests: b"10\n01\n",
+    report: b"circuit inputs 2 outputs 2 flip-flops 0 gates 0 faults 4 classes 4 budget 1
+1 a s-a-0 detected 1 a
+2 a s-a-1 detected 2 a
+3 b s-a-0 detected 2 b
+4 b s-a-1 detected 1 b
+total 4 detected 4 untestable 0 aborted 0
+",
+    proofs: b"proofs 1
+entry 2 aborted
+walk
+hi 1
+sweep
+length 1
+hi 1
+end
+",
+    out: b"total 4 detected 4 untestable 0 aborted 0\n",
+};
+
+// With so small a budget the attempts forward find what the sweep can't.
+const SMALL_BUDGET: Example<'static> = Example {
+    words: &["gen", "n", "t", "--budget", "3", "r", "p"],
+    netlist: SHIFT_REGISTER,
+    tests: b"1\n0\n0\n0\n0\n0\n",
+    report: b"circuit inputs 1 outputs 1 flip-flops 2 gates 0 faults 6 classes 6 budget 3
+1 a s-a-0 detected 3 r
+2 a s-a-1 detected 4 r
+3 q s-a-0 detected 3 r
+4 q s-a-1 detected 4 r
+5 r s-a-0 detected 3 r
+6 r s-a-1 detected 4 r
+total 6 detected 6 untestable 0 aborted 0
+",
+    proofs: b"proofs 1\nend\n",
+    out: b"total 6 detected 6 untestable 0 aborted 0\n",
+};
+
+// The fault of entry 1 spoils its own justification: the attempt has a list, and it doesn't detect.
+const SPOILED_JUSTIFICATION: Example<'static> = Example {
+    words: &["gen", "n", "--budget=6", "t", "r", "p"],
+    netlist: CHANGE,
+    tests: b"1\n0\n0\n0\n1\n1\n",
+    report: b"circuit inputs 1 outputs 1 flip-flops 1 gates 1 faults 10 classes 10 budget 6
+1 a s-a-0 detected 2 z
+2 a s-a-1 detected 2 z
+3 p s-a-0 detected 2 z
+4 p s-a-1 detected 3 z
+5 z s-a-0 detected 2 z
+6 z s-a-1 detected 3 z
+7 p(1) s-a-0 detected 2 z
+8 p(1) s-a-1 detected 3 z
+9 z(2) s-a-0 detected 5 z
+10 z(2) s-a-1 detected 2 z
+total 10 detected 10 untestable 0 aborted 0
+",
+    proofs: b"proofs 1
+entry 1 aborted
+frame output 1
+set 1 1
+set 2 1
+attempt
+justify 1
+sweep
+length 1
+dead
+length 2
+hi 1
+hi 2
+end
+",
+    out: b"total 10 detected 10 untestable 0 aborted 0\n",
+};
+
+const EXAMPLES: &[Example<'static>] = &[
+    CONSTANT_OUTPUT,
+    TOGGLE_EXAMPLE,
+    EMPTY,
+    EMPTY_LEAST,
+    EMPTY_MOST,
+    SELF_LOOP,
+    TWO_INPUTS,
+    HIDDEN_FLIP_FLOPS,
+    LATER_VECTOR,
+    SMALL_BUDGET,
+    SPOILED_JUSTIFICATION,
+];
+
+#[test]
+fn good_netlists_give_tests_report_and_proofs(rt: HostRuntime) -> Result<(), Fail> {
+    let alloc = rt.alloc();
+    for example in EXAMPLES {
+        assert!(rt; gives(alloc, example)?);
+    }
+    Ok(())
+}
