@@ -1,5 +1,5 @@
 -- What the ends of an attempt mean, from what its searches mean.
-use Rattle.std.proofs.Common.{◌≡◌, ◌∙◌, ◌++◌, ◌+◌, ◌*◌, ◌-◌, ◌∷◌, [], ℕ, List, Bool, Some, None, length, get_or, sym, subst, ap}
+use Rattle.std.proofs.Common.{◌≡◌, ◌∙◌, ◌++◌, ◌+◌, ◌*◌, ◌∷◌, [], ℕ, List, Bool, Some, None, length, sym, subst, ap}
 use Rattle.ht_net.specs.declared.fault.Fault.{Fault}
 use Rattle.std.proofs.lemmas.List.Elements.{All-append, All-cons, All-nil}
 use Rattle.std.proofs.lemmas.List.FromFn.{length-map-range_with_len}

@@ -1,6 +1,5 @@
 -- An engine that makes one step stands for the steps with it.
-use Rattle.std.specs.Prelude.{◌≡◌, ◌≢◌, ◌⊎◌, ◌↔◌, ◌<◌, ◌≤◌, ◌+◌, ◌-◌, ℕ, suc, zero, List, [], ◌∷◌, ◌++◌, Bool, true, false, not, length, get_or, refl, Option, Some, None}
-use Rattle.std.specs.List.{All, Contains}
+use Rattle.std.specs.Prelude.{◌≡◌, ◌≢◌, ◌↔◌, ◌<◌, ◌≤◌, ◌+◌, ◌-◌, ℕ, List, [], ◌∷◌, ◌++◌, Bool, true, false, not, length, get_or, refl, Option, Some, None}
 use Rattle.std.specs.Option.{is_some}
 use Rattle.std.proofs.Common.{arith, ap, eq-eqb, inl, inr, set, sym, ◌∙◌, subst}
 use Rattle.std.proofs.lemmas.Bool.{false≢true, true≢false}
@@ -9,7 +8,7 @@ use Rattle.std.proofs.lemmas.List.{get_or-set_other, get_or-set_same, get_or_def
 use Rattle.std.proofs.lemmas.List.Elements.{All-append, All-cons, All-nil, Contains-append_left}
 use Rattle.ht_net.specs.declared.fault.Fault.{Fault}
 use Rattle.ht_net.specs.declared.place.Place.{Place}
-use Rattle.ht_net.specs.Detection.{Detects, IsFirstDetection}
+use Rattle.ht_net.specs.Detection.{IsFirstDetection}
 use Rattle.ht_net.specs.Netlist.{Netlist}
 use Rattle.ht_net.specs.Rows.{Rows}
 use Rattle.ht_net.proofs.FrameLaws.{le_or_lt}
@@ -32,7 +31,7 @@ use Rattle.ht_engine.specs.EngineOf.{IsEngine}
 use Rattle.ht_engine.specs.EngineStands.{AllPass, EngineStandsFor, EngineView, HasSameWork, IsKindIn, IsOfKind, IsSaid, Makes, MakesStep, MeansOfStep, kind_at}
 use Rattle.ht_engine.specs.FaultWork.{IsWork, WorkHolds}
 use Rattle.ht_engine.specs.OneStep.{Advances, Ends, GivesEntry, GivesList, IsNextUndetected, IsUndetected, kind_of_entry, said_by}
-use Rattle.ht_engine.specs.Steps.{AreFinished, AwaitsVerdict, Follows, IsNextFault, entries_of, none, one_more, vectors_of}
+use Rattle.ht_engine.specs.Steps.{AreFinished, AwaitsVerdict, Follows, IsNextFault, entries_of, one_more, vectors_of}
 use Rattle.ht_engine.proofs.StepLaws.{awaited_before, contains_last, entries_more, entries_with_list, has_cases, has_last, numbered, vectors_more, vectors_with_entry}
 
 -- ---- what is undetected

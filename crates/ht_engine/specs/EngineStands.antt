@@ -1,5 +1,5 @@
 -- An engine, and the steps that it stands for.
-use Rattle.std.specs.Prelude.{◌≡◌, ◌≢◌, ◌<◌, ◌-◌, ◌+◌, ℕ, List, [], ◌∷◌, ◌++◌, Bool, get_or, length, Option, Some, None}
+use Rattle.std.specs.Prelude.{◌≡◌, ◌<◌, ◌-◌, ◌+◌, ℕ, List, [], ◌∷◌, ◌++◌, Bool, get_or, length, Option, Some, None}
 use Rattle.std.specs.List.{All, Contains}
 use Rattle.ht_net.specs.Netlist.{Netlist}
 use Rattle.ht_net.specs.Detection.{Detects, IsFirstDetection}
@@ -11,7 +11,7 @@ use Rattle.ht_texts.specs.declared.said.Said.TheVariants as said
 use Rattle.ht_tree.specs.declared.entry.Entry as recorded
 use Rattle.ht_tree.specs.declared.entry.Entry.TheVariants as entry
 use Rattle.ht_entries.specs.declared.numbered.Numbered.{Numbered}
-use Rattle.ht_valid.specs.ValidFiles.{HasEntry, IsOwn}
+use Rattle.ht_valid.specs.ValidFiles.{HasEntry}
 use Rattle.ht_engine.specs.declared.engine.EntryKind.{EntryKind}
 use Rattle.ht_engine.specs.declared.engine.EntryKind.TheVariants as kind
 use Rattle.ht_engine.specs.declared.step.Step.{Step}

@@ -1,7 +1,5 @@
 -- The steps of the generator over all representatives: which may come after which, and what is said after them.
-use Rattle.std.specs.Prelude.{◌≡◌, ◌<◌, ◌+◌, ◌-◌, ℕ, List, [], ◌∷◌, ◌++◌, flat_map, Bool, Option, Some, None}
-use Rattle.std.specs.List.{Contains}
-use Rattle.ht_net.specs.declared.fault.Fault.{Fault}
+use Rattle.std.specs.Prelude.{◌≡◌, ◌<◌, ◌+◌, ◌-◌, ℕ, List, [], ◌∷◌, ◌++◌, flat_map, Bool, None}
 use Rattle.ht_net.specs.Netlist.{Netlist}
 use Rattle.ht_net.specs.Detection.{IsFirstDetection}
 use Rattle.ht_collapse.specs.Classes.{fault_at}

@@ -1,4 +1,4 @@
-use Rattle.std.proofs.Common.{◌≡◌, ◌∙◌, ◌++◌, ◌∷◌, List, Bool, length, ap, sym, subst}
+use Rattle.std.proofs.Common.{◌∙◌, length, ap, sym, subst}
 use Rattle.ht_net.specs.Rows.{Rows}
 use Rattle.ht_tree.specs.Reached.{AreVectors}
 use Rattle.ht_engine.proofs.AttemptLaws.{always_detects, joined_wide, vector_long}

@@ -1,4 +1,4 @@
-use Rattle.std.proofs.Common.{◌≡◌, ◌∙◌, Some, None, length, ap}
+use Rattle.std.proofs.Common.{◌∙◌, Some, None, length, ap}
 use Rattle.std.proofs.lemmas.Result.{IfOk-weaker}
 use Rattle.ht_net.specs.Detection.{terns_of}
 use Rattle.ht_net.specs.Faults.{tern_rules}

@@ -1,4 +1,4 @@
-use Rattle.std.proofs.Common.{◌≡◌, ◌∙◌, length, ap, sym}
+use Rattle.std.proofs.Common.{◌∙◌, length, ap}
 use Rattle.ht_engine.proofs.AttemptLaws.{cube_long}
 use Rattle.ht_engine.proofs.attempt.search_back.Goals as goal
 

@@ -1,5 +1,4 @@
-use Rattle.std.proofs.Common.{[], List, subst, sym}
-use Rattle.ht_tree.specs.declared.told.Told.{Told}
+use Rattle.std.proofs.Common.{[], subst, sym}
 use Rattle.ht_engine.specs.Attempts.{AreFrameSpots}
 use Rattle.ht_engine.proofs.AttemptLaws.{chain_spots}
 use Rattle.ht_engine.proofs.work.search_list.Goals as goal

@@ -1,4 +1,4 @@
-use Rattle.std.proofs.Common.{◌≡◌, ◌++◌, ◌-◌, length}
+use Rattle.std.proofs.Common.{◌++◌, ◌-◌, length}
 use Rattle.ht_engine.proofs.work.sweep_open.Goals as goal
 
 pub returns-in-Found-clause-holds : goal.returns-in-Found-clause-holds
