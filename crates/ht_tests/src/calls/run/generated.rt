@@ -82,37 +82,16 @@ const CONSTANT_OUTPUT: Example<'static> = Example {
     words: GEN,
     netlist: ALWAYS_ZERO,
     tests: b"1\n0\n",
-    report: b"circuit inputs 1 outputs 1 flip-flops 0 gates 2 faults 10 classes 6 budget 1000
-1 a s-a-0 untestable
-2 a s-a-1 untestable
-3 n s-a-0 untestable
-4 n s-a-1 detected 1 z
-5 z s-a-0 as 3
-6 z s-a-1 detected 1 z
-7 n(1) s-a-0 as 4
-8 n(1) s-a-1 as 3
-9 z(1) s-a-0 as 3
-10 z(1) s-a-1 detected 2 z
-total 6 detected 3 untestable 3 aborted 0
-",
-    proofs: b"proofs 1
-entry 1 untestable
-walk
-hi 1
-dead
-dead
-entry 2 untestable
-walk
-hi 1
-dead
-dead
-entry 3 untestable
-walk
-hi 1
-dead
-dead
-end
-",
+    report: b"circuit inputs 1 outputs 1 flip-flops 0 gates 2 faults 10 classes 6 budget 1000\n\
+        1 a s-a-0 untestable\n2 a s-a-1 untestable\n3 n s-a-0 untestable\n\
+        4 n s-a-1 detected 1 z\n5 z s-a-0 as 3\n6 z s-a-1 detected 1 z\n7 n(1) s-a-0 as 4\n\
+        8 n(1) s-a-1 as 3\n9 z(1) s-a-0 as 3\n10 z(1) s-a-1 detected 2 z\n\
+        total 6 detected 3 untestable 3 aborted 0\n",
+    proofs: b"proofs 1\n\
+        entry 1 untestable\nwalk\nhi 1\ndead\ndead\n\
+        entry 2 untestable\nwalk\nhi 1\ndead\ndead\n\
+        entry 3 untestable\nwalk\nhi 1\ndead\ndead\n\
+        end\n",
     out: b"total 6 detected 3 untestable 3 aborted 0\n",
 };
 
@@ -122,120 +101,23 @@ const TOGGLE_EXAMPLE: Example<'static> = Example {
     words: &["gen", "n", "t", "r", "p", "--budget", "10"],
     netlist: TOGGLE,
     tests: b"",
-    report: b"circuit inputs 0 outputs 1 flip-flops 1 gates 1 faults 6 classes 4 budget 10
-1 q s-a-0 aborted
-2 q s-a-1 aborted
-3 n s-a-0 aborted
-4 n s-a-1 aborted
-5 n(1) s-a-0 as 4
-6 n(1) s-a-1 as 3
-total 4 detected 0 untestable 0 aborted 4
-",
-    proofs: b"proofs 1
-entry 1 aborted
-frame output 1
-set 1 1
-back open
-x 1
-before
-x 1
-dead
-before
-x 1
-before
-x 1
-dead
-before
-sweep
-length 1
-dead
-length 2
-dead
-length 3
-dead
-length 4
-dead
-length 5
-entry 2 aborted
-frame output 1
-set 1 0
-back open
-x 1
-dead
-before
-x 1
-before
-x 1
-dead
-before
-x 1
-before
-sweep
-length 1
-dead
-length 2
-dead
-length 3
-dead
-length 4
-dead
-length 5
-entry 3 aborted
-frame state 1
-set 1 0
-frame output 1
-set 1 1
-set 2 0
-back open
-x 1
-dead
-before
-x 1
-before
-x 1
-dead
-before
-x 1
-before
-sweep
-length 1
-dead
-length 2
-dead
-length 3
-dead
-length 4
-dead
-length 5
-entry 4 aborted
-frame state 1
-set 1 1
-frame output 1
-set 1 1
-set 2 0
-back open
-x 1
-before
-x 1
-dead
-before
-x 1
-before
-x 1
-dead
-before
-sweep
-length 1
-dead
-length 2
-dead
-length 3
-dead
-length 4
-dead
-length 5
-end
-",
+    report: b"circuit inputs 0 outputs 1 flip-flops 1 gates 1 faults 6 classes 4 budget 10\n\
+        1 q s-a-0 aborted\n2 q s-a-1 aborted\n3 n s-a-0 aborted\n4 n s-a-1 aborted\n\
+        5 n(1) s-a-0 as 4\n6 n(1) s-a-1 as 3\ntotal 4 detected 0 untestable 0 aborted 4\n",
+    proofs: b"proofs 1\n\
+        entry 1 aborted\nframe output 1\nset 1 1\nback open\nx 1\nbefore\nx 1\ndead\n\
+        before\nx 1\nbefore\nx 1\ndead\nbefore\n\
+        sweep\nlength 1\ndead\nlength 2\ndead\nlength 3\ndead\nlength 4\ndead\nlength 5\n\
+        entry 2 aborted\nframe output 1\nset 1 0\nback open\nx 1\ndead\nbefore\nx 1\n\
+        before\nx 1\ndead\nbefore\nx 1\nbefore\n\
+        sweep\nlength 1\ndead\nlength 2\ndead\nlength 3\ndead\nlength 4\ndead\nlength 5\n\
+        entry 3 aborted\nframe state 1\nset 1 0\nframe output 1\nset 1 1\nset 2 0\n\
+        back open\nx 1\ndead\nbefore\nx 1\nbefore\nx 1\ndead\nbefore\nx 1\nbefore\n\
+        sweep\nlength 1\ndead\nlength 2\ndead\nlength 3\ndead\nlength 4\ndead\nlength 5\n\
+        entry 4 aborted\nframe state 1\nset 1 1\nframe output 1\nset 1 1\nset 2 0\n\
+        back open\nx 1\nbefore\nx 1\ndead\nbefore\nx 1\nbefore\nx 1\ndead\nbefore\n\
+        sweep\nlength 1\ndead\nlength 2\ndead\nlength 3\ndead\nlength 4\ndead\nlength 5\n\
+        end\n",
     out: b"total 4 detected 0 untestable 0 aborted 4\n",
 };
 
@@ -243,9 +125,8 @@ const EMPTY: Example<'static> = Example {
     words: GEN,
     netlist: b"",
     tests: b"",
-    report: b"circuit inputs 0 outputs 0 flip-flops 0 gates 0 faults 0 classes 0 budget 1000
-total 0 detected 0 untestable 0 aborted 0
-",
+    report: b"circuit inputs 0 outputs 0 flip-flops 0 gates 0 faults 0 classes 0 budget 1000\n\
+        total 0 detected 0 untestable 0 aborted 0\n",
     proofs: b"proofs 1\nend\n",
     out: b"total 0 detected 0 untestable 0 aborted 0\n",
 };
@@ -254,9 +135,8 @@ const EMPTY_LEAST: Example<'static> = Example {
     words: &["gen", "n", "t", "r", "p", "--budget", "1"],
     netlist: b"",
     tests: b"",
-    report: b"circuit inputs 0 outputs 0 flip-flops 0 gates 0 faults 0 classes 0 budget 1
-total 0 detected 0 untestable 0 aborted 0
-",
+    report: b"circuit inputs 0 outputs 0 flip-flops 0 gates 0 faults 0 classes 0 budget 1\n\
+        total 0 detected 0 untestable 0 aborted 0\n",
     proofs: b"proofs 1\nend\n",
     out: b"total 0 detected 0 untestable 0 aborted 0\n",
 };
@@ -265,9 +145,8 @@ const EMPTY_MOST: Example<'static> = Example {
     words: &["gen", "--budget=100000", "n", "t", "r", "p"],
     netlist: b"",
     tests: b"",
-    report: b"circuit inputs 0 outputs 0 flip-flops 0 gates 0 faults 0 classes 0 budget 100000
-total 0 detected 0 untestable 0 aborted 0
-",
+    report: b"circuit inputs 0 outputs 0 flip-flops 0 gates 0 faults 0 classes 0 budget 100000\n\
+        total 0 detected 0 untestable 0 aborted 0\n",
     proofs: b"proofs 1\nend\n",
     out: b"total 0 detected 0 untestable 0 aborted 0\n",
 };
@@ -277,22 +156,13 @@ const SELF_LOOP: Example<'static> = Example {
     words: &["gen", "--budget", "8", "n", "t", "r", "p"],
     netlist: b"q = DFF(q)\n",
     tests: b"",
-    report: b"circuit inputs 0 outputs 0 flip-flops 1 gates 0 faults 2 classes 2 budget 8
-1 q s-a-0 untestable
-2 q s-a-1 untestable
-total 2 detected 0 untestable 2 aborted 0
-",
-    proofs: b"proofs 1
-entry 1 untestable
-z 1
-walk
-dead
-entry 2 untestable
-z 1
-walk
-dead
-end
-",
+    report: b"circuit inputs 0 outputs 0 flip-flops 1 gates 0 faults 2 classes 2 budget 8\n\
+        1 q s-a-0 untestable\n2 q s-a-1 untestable\n\
+        total 2 detected 0 untestable 2 aborted 0\n",
+    proofs: b"proofs 1\n\
+        entry 1 untestable\nz 1\nwalk\ndead\n\
+        entry 2 untestable\nz 1\nwalk\ndead\n\
+        end\n",
     out: b"total 2 detected 0 untestable 2 aborted 0\n",
 };
 
@@ -301,22 +171,13 @@ const TWO_INPUTS: Example<'static> = Example {
     words: GEN,
     netlist: b"INPUT(a)\nINPUT(b)\nOUTPUT(b)\n",
     tests: b"01\n00\n",
-    report: b"circuit inputs 2 outputs 1 flip-flops 0 gates 0 faults 4 classes 4 budget 1000
-1 a s-a-0 untestable
-2 a s-a-1 untestable
-3 b s-a-0 detected 1 b
-4 b s-a-1 detected 2 b
-total 4 detected 2 untestable 2 aborted 0
-",
-    proofs: b"proofs 1
-entry 1 untestable
-walk
-dead
-entry 2 untestable
-walk
-dead
-end
-",
+    report: b"circuit inputs 2 outputs 1 flip-flops 0 gates 0 faults 4 classes 4 budget 1000\n\
+        1 a s-a-0 untestable\n2 a s-a-1 untestable\n3 b s-a-0 detected 1 b\n\
+        4 b s-a-1 detected 2 b\ntotal 4 detected 2 untestable 2 aborted 0\n",
+    proofs: b"proofs 1\n\
+        entry 1 untestable\nwalk\ndead\n\
+        entry 2 untestable\nwalk\ndead\n\
+        end\n",
     out: b"total 4 detected 2 untestable 2 aborted 0\n",
 };
 
@@ -325,44 +186,19 @@ const HIDDEN_FLIP_FLOPS: Example<'static> = Example {
     words: GEN,
     netlist: HIDDEN,
     tests: b"1\n0\n",
-    report: b"circuit inputs 1 outputs 1 flip-flops 2 gates 0 faults 8 classes 8 budget 1000
-1 a s-a-0 detected 1 a
-2 a s-a-1 detected 2 a
-3 q s-a-0 untestable
-4 q s-a-1 untestable
-5 r s-a-0 untestable
-6 r s-a-1 untestable
-7 q(1) s-a-0 untestable
-8 q(1) s-a-1 untestable
-total 8 detected 2 untestable 6 aborted 0
-",
-    proofs: b"proofs 1
-entry 3 untestable
-z 2
-walk
-dead
-entry 4 untestable
-z 2
-walk
-dead
-entry 5 untestable
-walk
-dead
-entry 6 untestable
-walk
-dead
-entry 7 untestable
-z 1
-z 2
-walk
-dead
-entry 8 untestable
-z 1
-z 2
-walk
-dead
-end
-",
+    report: b"circuit inputs 1 outputs 1 flip-flops 2 gates 0 faults 8 classes 8 budget 1000\n\
+        1 a s-a-0 detected 1 a\n2 a s-a-1 detected 2 a\n3 q s-a-0 untestable\n\
+        4 q s-a-1 untestable\n5 r s-a-0 untestable\n6 r s-a-1 untestable\n\
+        7 q(1) s-a-0 untestable\n8 q(1) s-a-1 untestable\n\
+        total 8 detected 2 untestable 6 aborted 0\n",
+    proofs: b"proofs 1\n\
+        entry 3 untestable\nz 2\nwalk\ndead\n\
+        entry 4 untestable\nz 2\nwalk\ndead\n\
+        entry 5 untestable\nwalk\ndead\n\
+        entry 6 untestable\nwalk\ndead\n\
+        entry 7 untestable\nz 1\nz 2\nwalk\ndead\n\
+        entry 8 untestable\nz 1\nz 2\nwalk\ndead\n\
+        end\n",
     out: b"total 8 detected 2 untestable 6 aborted 0\n",
 };
 
@@ -371,22 +207,13 @@ const LATER_VECTOR: Example<'static> = Example {
     words: &["gen", "n", "t", "r", "p", "--budget=1"],
     netlist: WIRES,
     tests: b"10\n01\n",
-    report: b"circuit inputs 2 outputs 2 flip-flops 0 gates 0 faults 4 classes 4 budget 1
-1 a s-a-0 detected 1 a
-2 a s-a-1 detected 2 a
-3 b s-a-0 detected 2 b
-4 b s-a-1 detected 1 b
-total 4 detected 4 untestable 0 aborted 0
-",
-    proofs: b"proofs 1
-entry 2 aborted
-walk
-hi 1
-sweep
-length 1
-hi 1
-end
-",
+    report: b"circuit inputs 2 outputs 2 flip-flops 0 gates 0 faults 4 classes 4 budget 1\n\
+        1 a s-a-0 detected 1 a\n2 a s-a-1 detected 2 a\n3 b s-a-0 detected 2 b\n\
+        4 b s-a-1 detected 1 b\ntotal 4 detected 4 untestable 0 aborted 0\n",
+    proofs: b"proofs 1\n\
+        entry 2 aborted\nwalk\nhi 1\n\
+        sweep\nlength 1\nhi 1\n\
+        end\n",
     out: b"total 4 detected 4 untestable 0 aborted 0\n",
 };
 
@@ -395,15 +222,10 @@ const SMALL_BUDGET: Example<'static> = Example {
     words: &["gen", "n", "t", "--budget", "3", "r", "p"],
     netlist: SHIFT_REGISTER,
     tests: b"1\n0\n0\n0\n0\n0\n",
-    report: b"circuit inputs 1 outputs 1 flip-flops 2 gates 0 faults 6 classes 6 budget 3
-1 a s-a-0 detected 3 r
-2 a s-a-1 detected 4 r
-3 q s-a-0 detected 3 r
-4 q s-a-1 detected 4 r
-5 r s-a-0 detected 3 r
-6 r s-a-1 detected 4 r
-total 6 detected 6 untestable 0 aborted 0
-",
+    report: b"circuit inputs 1 outputs 1 flip-flops 2 gates 0 faults 6 classes 6 budget 3\n\
+        1 a s-a-0 detected 3 r\n2 a s-a-1 detected 4 r\n3 q s-a-0 detected 3 r\n\
+        4 q s-a-1 detected 4 r\n5 r s-a-0 detected 3 r\n6 r s-a-1 detected 4 r\n\
+        total 6 detected 6 untestable 0 aborted 0\n",
     proofs: b"proofs 1\nend\n",
     out: b"total 6 detected 6 untestable 0 aborted 0\n",
 };
@@ -413,34 +235,15 @@ const SPOILED_JUSTIFICATION: Example<'static> = Example {
     words: &["gen", "n", "--budget=6", "t", "r", "p"],
     netlist: CHANGE,
     tests: b"1\n0\n0\n0\n1\n1\n",
-    report: b"circuit inputs 1 outputs 1 flip-flops 1 gates 1 faults 10 classes 10 budget 6
-1 a s-a-0 detected 2 z
-2 a s-a-1 detected 2 z
-3 p s-a-0 detected 2 z
-4 p s-a-1 detected 3 z
-5 z s-a-0 detected 2 z
-6 z s-a-1 detected 3 z
-7 p(1) s-a-0 detected 2 z
-8 p(1) s-a-1 detected 3 z
-9 z(2) s-a-0 detected 5 z
-10 z(2) s-a-1 detected 2 z
-total 10 detected 10 untestable 0 aborted 0
-",
-    proofs: b"proofs 1
-entry 1 aborted
-frame output 1
-set 1 1
-set 2 1
-attempt
-justify 1
-sweep
-length 1
-dead
-length 2
-hi 1
-hi 2
-end
-",
+    report: b"circuit inputs 1 outputs 1 flip-flops 1 gates 1 faults 10 classes 10 budget 6\n\
+        1 a s-a-0 detected 2 z\n2 a s-a-1 detected 2 z\n3 p s-a-0 detected 2 z\n\
+        4 p s-a-1 detected 3 z\n5 z s-a-0 detected 2 z\n6 z s-a-1 detected 3 z\n\
+        7 p(1) s-a-0 detected 2 z\n8 p(1) s-a-1 detected 3 z\n9 z(2) s-a-0 detected 5 z\n\
+        10 z(2) s-a-1 detected 2 z\ntotal 10 detected 10 untestable 0 aborted 0\n",
+    proofs: b"proofs 1\n\
+        entry 1 aborted\nframe output 1\nset 1 1\nset 2 1\nattempt\njustify 1\n\
+        sweep\nlength 1\ndead\nlength 2\nhi 1\nhi 2\n\
+        end\n",
     out: b"total 10 detected 10 untestable 0 aborted 0\n",
 };
 
