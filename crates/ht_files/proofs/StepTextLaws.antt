@@ -1,5 +1,6 @@
 -- The texts of steps grow by the text of each step.
-use Rattle.std.proofs.Common.{◌≡◌, ◌<◌, ◌+◌, suc, take, get_or, length, arith, List, [], ◌∷◌, ◌++◌, Bool, ℕ, map, refl, ap, ◌∙◌}
+use Rattle.std.proofs.Common.{◌≡◌, ◌<◌, ◌+◌, List, [], ◌∷◌, ◌++◌, Bool, ℕ, ◌∙◌}
+use Rattle.std.proofs.Common.{suc, take, get_or, length, arith, map, refl, ap}
 use Rattle.std.specs.Prelude.{flat_map}
 use Rattle.std.proofs.lemmas.List.{append-nil, map-append}
 use Rattle.std.proofs.Math.Seq.{take-suc}
@@ -14,12 +15,8 @@ use Rattle.ht_entries.specs.ProofLines.{line_text}
 use Rattle.ht_engine.specs.declared.step.Step.{Step}
 use Rattle.ht_engine.specs.declared.step.Step.TheVariants.{Vectors, Entry, Finished}
 use Rattle.ht_engine.specs.Steps.{entries_of, step_entries, step_vectors, vectors_of}
+use Rattle.ht_engine.proofs.StepLaws.{entries_more, vectors_more}
 use Rattle.ht_files.specs.StepTexts.{proofs_of, proofs_so_far, proofs_step, tests_of, tests_step}
-
--- what a function gives for one element more
-more : {A : Type 0} (f : Step → List A) (steps : List Step) (step : Step)
-    → flat_map f (steps ++ step ∷ []) ≡ flat_map f steps ++ f step
-more f steps step = flat_map-append f steps (step ∷ []) ∙ ap (λ l. flat_map f steps ++ l) (append-nil (f step))
 
 -- ---- the tests
 
@@ -41,7 +38,7 @@ tests_in (Entry fault entry) = refl
 tests_in Finished = refl
 
 pub tests_grow : (steps : List Step) (step : Step) → tests_of (steps ++ step ∷ []) ≡ tests_of steps ++ tests_step step
-tests_grow steps step = ap test_text (more step_vectors steps step)
+tests_grow steps step = ap test_text (vectors_more steps step)
     ∙ test_text-append (vectors_of steps) (step_vectors step)
     ∙ ap (λ l. tests_of steps ++ l) (tests_in step)
 
@@ -60,7 +57,7 @@ proofs_in Finished = refl
 pub proofs_grow : (steps : List Step) (step : Step)
     → proofs_so_far (steps ++ step ∷ []) ≡ proofs_so_far steps ++ proofs_step step
 proofs_grow steps step = ap (λ entries. lines_text (line.Head ∷ flat_map entry_lines entries))
-    (more step_entries steps step)
+    (entries_more steps step)
     ∙ ap (λ lines. lines_text (line.Head ∷ lines))
     (flat_map-append entry_lines (entries_of steps) (step_entries step))
     ∙ lines_text-append (line.Head ∷ flat_map entry_lines (entries_of steps))

@@ -1,20 +1,24 @@
 //! The report of a finished generator.
-ghost use Rattle.std.specs.Prelude.{◌≡◌, ◌≤◌, ◌++◌, List, length, IfOk};
+ghost use Rattle.std.specs.Prelude.{◌≡◌, ◌<◌, ◌≤◌, ◌++◌, List, length, IfOk};
 ghost use Rattle.ht_net.specs.Netlist.{IsCircuit};
 ghost use Rattle.ht_faults.specs.Sites.{faults_of};
 ghost use Rattle.ht_collapse.specs.Classes.{AreClasses};
 ghost use Rattle.ht_ports.specs.LineRule.{max_text_bytes};
 ghost use Rattle.ht_texts.specs.SearchReports.{HasPlainNames};
+ghost use Rattle.ht_valid.specs.ValidFiles.{IsOwn};
 ghost use Rattle.ht_engine.specs.declared.step.Step as made;
 ghost use Rattle.ht_engine.specs.Steps.{AreFinished};
 ghost use Rattle.ht_engine.specs.EngineStands.{EngineStandsFor};
+ghost use Rattle.ht_files.specs.Saids.{AreSaid, Says};
 ghost use Rattle.ht_files.specs.StepTexts.{proofs_of, tests_of};
 ghost use Rattle.ht_files.specs.Generated.{IsGenerated};
 
+use crate::text_size::TextSize;
 use ht_collapse::Classes;
 use ht_engine::Engine;
 use ht_faults::FaultList;
 use ht_net::Circuit;
+use ht_texts::{Said, Sums, write_body, write_total};
 use std::alloc::{AllocError, Global};
 
 /// A report without its last line, and that line.
@@ -45,6 +49,48 @@ pub fn write_report(
         → IfOk result (λ report. IsGenerated circuit.now engine.now.budget (tests_of steps)
         (report.body.items ++ report.total.items) (proofs_of steps) report.total.items) }
 {
-    // the body comes with the engine
-    Err(AllocError)
+    // for the proof: the circuit is well formed
+    let _ = circuit.nets();
+    let saids = find_saids(alloc, faults, classes, engine)?;
+    let budget = Some(engine.budget());
+    let body = write_body(alloc, circuit, faults, classes, budget, &saids)?;
+    let total = write_total(alloc, Sums::of(classes, &saids, true))?;
+    let mut size = TextSize::new();
+    size.add(&body)?;
+    size.add(&total)?;
+    Ok(Report { body, total })
+}
+
+// What is said of each fault.
+fn find_saids(
+    alloc: Global,
+    faults: &FaultList,
+    classes: &Classes,
+    engine: &Engine,
+) -> Result<Vec<Said>, AllocError>
+    requires faults { faults.now ≡ faults_of engine.now.circuit }
+    requires every { length classes.now ≡ length faults.now }
+    requires representatives { engine.now.representatives ≡ classes.now }
+    ensures { IfOk result (λ saids. AreSaid engine.now (length faults.now) saids.items) }
+{
+    let mut saids = Vec::new(alloc);
+    for i in 0..faults.len() {
+        let said = find_said(classes, engine, i);
+        saids.push(said)?;
+    }
+    Ok(saids)
+}
+
+// What is said of a fault: of one that represents no class, nothing that has an effect.
+fn find_said(classes: &Classes, engine: &Engine, i: u32) -> Said
+    requires listed { i < length (faults_of engine.now.circuit) }
+    requires every { length classes.now ≡ length (faults_of engine.now.circuit) }
+    requires representatives { engine.now.representatives ≡ classes.now }
+    ensures { IsOwn engine.now.circuit engine.now.representatives i → Says engine.now i result }
+{
+    if classes.of(i) == i {
+        engine.said(i)
+    } else {
+        Said::Undetected
+    }
 }

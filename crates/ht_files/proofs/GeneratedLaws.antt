@@ -1,0 +1,98 @@
+-- What a finished engine's report and the texts of its steps say is true.
+use Rattle.std.proofs.Common.{◌≡◌, ◌≤◌, ◌++◌, ◌+◌, ℕ, List, Some, ◌∙◌}
+use Rattle.std.proofs.Common.{length, refl, sym, ap, subst, length-append, arith}
+use Rattle.ht_net.specs.Netlist.{IsCircuit, Netlist}
+use Rattle.ht_faults.specs.Sites.{faults_of}
+use Rattle.ht_collapse.specs.Classes.{AreClasses}
+use Rattle.ht_ports.specs.LineRule.{max_text_bytes}
+use Rattle.ht_texts.specs.declared.said.Said.{Said}
+use Rattle.ht_texts.specs.Lines.{with_lf}
+use Rattle.ht_texts.specs.Reports.{report_body, report_sums, report_text, total_line}
+use Rattle.ht_texts.specs.SearchReports.{HasPlainNames, IsBudget}
+use Rattle.ht_texts.proofs.ReportLaws.{report_splits}
+use Rattle.ht_valid.specs.ValidFiles.{AreValid}
+use Rattle.ht_valid.proofs.DecidedLaws.{are_decided}
+use Rattle.ht_valid.proofs.TruthLaws.{true_verdicts}
+use Rattle.ht_engine.specs.declared.step.Step.{Step}
+use Rattle.ht_engine.specs.EngineStands.{EngineStandsFor, EngineView}
+use Rattle.ht_engine.specs.Steps.{AreFinished}
+use Rattle.ht_files.specs.Generated.{content_of, IsGenerated}
+use Rattle.ht_files.specs.Saids.{AreSaid}
+use Rattle.ht_files.specs.StepTexts.{proofs_of, tests_of}
+use Rattle.ht_files.proofs.ValidLaws.{are_valid, IsFinishedWork}
+
+-- the body and the total line are the report
+pub whole_report : (c : Netlist) (representatives : List ℕ) (budget : ℕ) (saids : List Said) (body total : List ℕ)
+    → body ≡ report_body c representatives (Some budget) saids
+    → total ≡ with_lf (total_line (report_sums representatives (Some budget) saids))
+    → body ++ total ≡ report_text c representatives (Some budget) saids
+whole_report c representatives budget saids body total body_is total_is =
+    ap (λ (l : List ℕ). l ++ total) body_is
+    ∙ ap (λ (l : List ℕ). report_body c representatives (Some budget) saids ++ l) total_is
+    ∙ sym (report_splits c representatives (Some budget) saids)
+
+pub are_generated : (e : EngineView) (steps : List Step) (saids : List Said) (report total : List ℕ)
+    → IsFinishedWork e steps saids → HasPlainNames e.circuit → length (tests_of steps) ≤ max_text_bytes
+    → length (proofs_of steps) ≤ max_text_bytes → length report ≤ max_text_bytes
+    → report ≡ report_text e.circuit e.representatives (Some e.budget) saids
+    → total ≡ with_lf (total_line (report_sums e.representatives (Some e.budget) saids))
+    → IsGenerated e.circuit e.budget (tests_of steps) report (proofs_of steps) total
+are_generated e steps saids report total work names short_tests short_proofs short_report report_is total_is =
+    let content = content_of e.budget steps saids in
+    let short = subst (λ (l : List ℕ). length l ≤ max_text_bytes) report_is short_report in
+    let valid = subst
+    (λ (l : List ℕ). AreValid e.circuit e.representatives (tests_of steps) l (proofs_of steps) content) (sym report_is)
+    (are_valid e steps saids work names short_tests short_proofs short) in
+    record {
+      representatives = e.representatives;
+      steps = steps;
+      saids = saids;
+      classes = work.classes;
+      valid = valid;
+      verdicts = true_verdicts e.circuit e.representatives (tests_of steps) report (proofs_of steps) content
+          work.circuit work.classes valid;
+      decided = are_decided e.circuit e.representatives (tests_of steps) report (proofs_of steps) content
+          work.circuit work.classes valid;
+      steps_are = work.stands.are;
+      finished = work.finished;
+      tests_are = refl;
+      report_is = report_is;
+      proofs_are = refl;
+      total_is = total_is;
+    }
+
+-- What the parts of a report are, and what holds of steps: so the report and the texts of the steps are generated.
+abbrev Generates : EngineView → List Said → List ℕ → List ℕ → List Step → Netlist → List ℕ → ℕ → Type 0
+Generates e saids body total steps c representatives budget = IsCircuit c → AreClasses c representatives
+    → AreSaid e (length (faults_of c)) saids → body ≡ report_body c representatives (Some budget) saids
+    → total ≡ with_lf (total_line (report_sums representatives (Some budget) saids))
+    → AreFinished c representatives steps → HasPlainNames c
+    → IsGenerated c e.budget (tests_of steps) (body ++ total) (proofs_of steps) total
+
+module _ (e : EngineView) (saids : List Said) (body total : List ℕ) (steps : List Step) (budget_is : IsBudget e.budget)
+    (short : length body + length total ≤ max_text_bytes) (stands : EngineStandsFor e steps)
+    (short_tests : length (tests_of steps) ≤ max_text_bytes)
+    (short_proofs : length (proofs_of steps) ≤ max_text_bytes) where
+  by_engine : Generates e saids body total steps e.circuit e.representatives e.budget
+  by_engine circuit classes said body_is total_is finished names =
+      let long = length-append body total in
+      are_generated e steps saids (body ++ total) total
+      (record {
+        circuit = circuit;
+        classes = classes;
+        budget = budget_is;
+        stands = stands;
+        finished = finished;
+        said = said;
+      })
+      names short_tests short_proofs (omega (arith, long, short))
+      (whole_report e.circuit e.representatives e.budget saids body total body_is total_is) total_is
+
+  pub report_is_generated : (c : Netlist) (representatives : List ℕ) (budget : ℕ) → e.circuit ≡ c
+      → e.representatives ≡ representatives → budget ≡ e.budget
+      → Generates e saids body total steps c representatives budget
+  report_is_generated c representatives budget circuit_is representatives_is same_budget =
+      subst (λ (x : Netlist). Generates e saids body total steps x representatives budget) circuit_is
+      (subst (λ (x : List ℕ). Generates e saids body total steps e.circuit x budget) representatives_is
+      (subst (λ (x : ℕ). Generates e saids body total steps e.circuit e.representatives x) (sym same_budget)
+      by_engine))
