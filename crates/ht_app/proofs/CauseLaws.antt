@@ -1,5 +1,5 @@
 -- Causes, carried from the step that finds them to the run.
-use Rattle.std.proofs.Common.{◌≡◌, ◌≢◌, ℕ, List, true, false, IsTrue, refl, sym, ◌∙◌, ap, subst, arith}
+use Rattle.std.proofs.Common.{◌≡◌, ◌≢◌, inl, ℕ, List, true, false, IsTrue, refl, sym, ◌∙◌, ap, subst, arith}
 use Rattle.std.specs.Prelude.{IsSome, Option, Some, None}
 use Rattle.ht_ports.specs.Desk.{DeskView, InCall, Holds}
 use Rattle.ht_ports.specs.declared.ports.InPort.TheVariants.{Netlist, Tests}
@@ -21,17 +21,17 @@ refuses : (job : Asked) (name : List ℕ) (a : DeskView) (IsCause : List ℕ →
 refuses job name a IsCause is h = record { name = name; reads = is; there = h.there; cause = h.cause }
 
 pub netlist_cause : (job : Asked) (name : List ℕ) (a b : DeskView) (e : RunError) → input_name job Netlist ≡ Some name
-    → NetlistCause name a b e → HasCause job a b e
-netlist_cause job name a b Usage is h = absurd h
-netlist_cause job name a b TooLong is h = refuses job name a _ is h
-netlist_cause job name a b (Refused error) is h = refuses job name a _ is h
-netlist_cause job name a b ReadFault is h = record {
+    → b.written ≡ a.written → NetlistCause name a b e → HasCause job a b e
+netlist_cause job name a b Usage is same h = absurd h
+netlist_cause job name a b TooLong is same h = refuses job name a _ is h
+netlist_cause job name a b (Refused error) is same h = refuses job name a _ is h
+netlist_cause job name a b ReadFault is same h = record {
   rose = h.rose;
   lacks = λ steady. record { port = Netlist; name = name; reads = is; lacks = h.lacks steady; reached = tt };
 }
-netlist_cause job name a b WriteFault is h = absurd h
-netlist_cause job name a b NoMemory is h = tt
-netlist_cause job name a b (BadTests line) is h = absurd h
+netlist_cause job name a b WriteFault is same h = absurd h
+netlist_cause job name a b NoMemory is same h = inl same
+netlist_cause job name a b (BadTests line) is same h = absurd h
 
 pub accepts_netlist : (name : List ℕ) (c : net.Netlist) (a : DeskView) → MayHold a name
     → ((text : List ℕ) → IsInput Netlist name text a → IsGoodNetlist text c) → AcceptsNetlist name a
@@ -61,13 +61,13 @@ known_holds (Some None) known there = absurd (there refl)
 known_holds (Some (Some bytes)) known there = (bytes, refl)
 
 pub tests_cause : (netlist tests report : List ℕ) (c : net.Netlist) (a m b : DeskView) (e : RunError)
-    → InCall Netlist a m → (IsTrue a.steady → IsSome (a.file netlist))
+    → InCall Netlist a m → b.written ≡ m.written → (IsTrue a.steady → IsSome (a.file netlist))
     → ((text : List ℕ) → IsInput Netlist netlist text a → IsGoodNetlist text c) → MayHold a netlist
     → TestsCause c tests m b e → HasCause (sim netlist tests report) a b e
-tests_cause netlist tests report c a m b Usage p known good there h = absurd h
-tests_cause netlist tests report c a m b TooLong p known good there h = absurd h
-tests_cause netlist tests report c a m b (Refused error) p known good there h = absurd h
-tests_cause netlist tests report c a m b ReadFault p known good there h = record {
+tests_cause netlist tests report c a m b Usage p same known good there h = absurd h
+tests_cause netlist tests report c a m b TooLong p same known good there h = absurd h
+tests_cause netlist tests report c a m b (Refused error) p same known good there h = absurd h
+tests_cause netlist tests report c a m b ReadFault p same known good there h = record {
   rose = omega (arith, p.after.in_faults, h.rose);
   lacks = λ steady. record {
     port = Tests;
@@ -79,9 +79,9 @@ tests_cause netlist tests report c a m b ReadFault p known good there h = record
         (known_holds (a.file netlist) (known steady) there, accepts_netlist netlist c a there good);
   };
 }
-tests_cause netlist tests report c a m b WriteFault p known good there h = absurd h
-tests_cause netlist tests report c a m b NoMemory p known good there h = tt
-tests_cause netlist tests report c a m b (BadTests line) p known good there h = record {
+tests_cause netlist tests report c a m b WriteFault p same known good there h = absurd h
+tests_cause netlist tests report c a m b NoMemory p same known good there h = inl (same ∙ p.written)
+tests_cause netlist tests report c a m b (BadTests line) p same known good there h = record {
   netlist_name = netlist;
   tests_name = tests;
   reads_netlist = refl;

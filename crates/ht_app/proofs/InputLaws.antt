@@ -7,7 +7,7 @@ use Rattle.ht_net.specs.Netlist as net
 use Rattle.ht_bench.specs.declared.error.BenchError.{BenchError}
 use Rattle.ht_texts.specs.Tests.{IsTestText, IsMalformedTest}
 use Rattle.ht_texts.proofs.TestLaws.{never_both}
-use Rattle.ht_asked.specs.Asked.{Asked, sim, norm}
+use Rattle.ht_asked.specs.Asked.{Asked, sim, gen, norm}
 use Rattle.ht_app.specs.Inputs.{IsInput, IsGoodNetlist, AcceptsNetlist, AcceptsTests, AcceptsInputs, IsBadNetlist, AreBadTests, AreGoodInputs}
 use Rattle.ht_app.specs.Jobs.{input_name}
 use Rattle.ht_app.specs.Run.{IsTooLongNetlist, IsRefused, RefusesNetlist, RefusesTests}
@@ -25,6 +25,8 @@ pub accepts_netlist_of : (job : Asked) (name : List ℕ) (a : DeskView) → inpu
     → AcceptsInputs job a → AcceptsNetlist name a
 accepts_netlist_of (sim netlist tests report) name a is h = accepts_named (Some netlist) netlist name a refl is
     h.netlist
+accepts_netlist_of (gen netlist tests report proofs budget) name a is h =
+    accepts_named (Some netlist) netlist name a refl is h
 accepts_netlist_of (norm netlist out) name a is h = accepts_named (Some netlist) netlist name a refl is h
 
 pub no_bad_netlist : (name : List ℕ) (a : DeskView) → AcceptsNetlist name a → ¬ IsBadNetlist name a
@@ -89,6 +91,14 @@ good_netlist (sim netlist tests report) a are = record {
   circuit = are.circuit;
   good = are.good;
 }
+good_netlist (gen netlist tests report proofs budget) a is = record {
+  name = netlist;
+  reads = refl;
+  text = is.text;
+  input = is.input;
+  circuit = is.circuit;
+  good = is.good;
+}
 good_netlist (norm netlist out) a is = record {
   name = netlist;
   reads = refl;
@@ -107,4 +117,6 @@ not_bad_tests (sim netlist tests report) a line are h =
           (let e : Some tests ≡ Some h.tests_name = h.reads_tests in cc) are.inputs.tests_is;
     }) in
     not_malformed are.netlist are.tests are.circuit bad.0 are.so.0 line are.good bad.1 are.so.1 bad.2
+not_bad_tests (gen netlist tests report proofs budget) a line is h =
+    let e : Some h.tests_name ≡ None = sym h.reads_tests in cc
 not_bad_tests (norm netlist out) a line is h = let e : Some h.tests_name ≡ None = sym h.reads_tests in cc

@@ -1,5 +1,5 @@
 -- What the steps leave, carried to the run: the whole output, or what a failed write leaves of it.
-use Rattle.std.proofs.Common.{◌≡◌, inl, inr, ℕ, List, ◌++◌, take, refl, sym, ◌∙◌, ap, subst}
+use Rattle.std.proofs.Common.{◌≡◌, ◌≢◌, inl, inr, ℕ, List, ◌++◌, take, refl, sym, ◌∙◌, ap, subst}
 use Rattle.std.specs.Prelude.{Some, None}
 use Rattle.std.specs.Option.{option_map}
 use Rattle.std.specs.Io.KnownBytes.{append_known}
@@ -25,25 +25,37 @@ created_as name n a m b same is e = subst (λ (l : List ℕ). IsCreatedAs Report
 
 -- the one file of the job is that of Report
 created_only : (job : Asked) (name : List ℕ) (a m b : DeskView) → output_name job Report ≡ Some name
-    → m.named Report ≡ a.named Report → IsCreatedAs Report name m b
+    → ((port : OutPort) → port ≢ Report → output_name job port ≡ None) → m.named Report ≡ a.named Report
+    → IsCreatedAs Report name m b
     → (port : OutPort) (n : List ℕ) → output_name job port ≡ Some n → IsCreatedAs port n a b
-created_only job name a m b of same is Report n e = created_as name n a m b same is
+created_only job name a m b of none same is Report n e = created_as name n a m b same is
     (let s : Some name ≡ Some n = sym of ∙ e in cc)
-created_only (sim _ _ _) name a m b of same is Tests n e = let s : Some n ≡ None = sym e in cc
-created_only (sim _ _ _) name a m b of same is Proofs n e = let s : Some n ≡ None = sym e in cc
-created_only (sim _ _ _) name a m b of same is Out n e = let s : Some n ≡ None = sym e in cc
-created_only (sim _ _ _) name a m b of same is Err n e = let s : Some n ≡ None = sym e in cc
-created_only (norm _ _) name a m b of same is Tests n e = let s : Some n ≡ None = sym e in cc
-created_only (norm _ _) name a m b of same is Proofs n e = let s : Some n ≡ None = sym e in cc
-created_only (norm _ _) name a m b of same is Out n e = let s : Some n ≡ None = sym e in cc
-created_only (norm _ _) name a m b of same is Err n e = let s : Some n ≡ None = sym e in cc
+created_only job name a m b of none same is Tests n e = let s : Some n ≡ None = sym e ∙ none Tests (λ p. cc) in cc
+created_only job name a m b of none same is Proofs n e = let s : Some n ≡ None = sym e ∙ none Proofs (λ p. cc) in cc
+created_only job name a m b of none same is Out n e = let s : Some n ≡ None = sym e ∙ none Out (λ p. cc) in cc
+created_only job name a m b of none same is Err n e = let s : Some n ≡ None = sym e ∙ none Err (λ p. cc) in cc
+
+sim_only : (netlist tests name : List ℕ) (port : OutPort) → port ≢ Report
+    → output_name (sim netlist tests name) port ≡ None
+sim_only netlist tests name Tests other = refl
+sim_only netlist tests name Report other = absurd (other refl)
+sim_only netlist tests name Proofs other = refl
+sim_only netlist tests name Out other = refl
+sim_only netlist tests name Err other = refl
+
+norm_only : (netlist name : List ℕ) (port : OutPort) → port ≢ Report → output_name (norm netlist name) port ≡ None
+norm_only netlist name Tests other = refl
+norm_only netlist name Report other = absurd (other refl)
+norm_only netlist name Proofs other = refl
+norm_only netlist name Out other = refl
+norm_only netlist name Err other = refl
 
 pub sim_done : (netlist tests name body total : List ℕ) (a m b : DeskView)
     → ChangedOnly (reading (sim netlist tests name)) a m → IsReported name body total m b
     → AcceptsTests netlist tests a → AreWorkedInto netlist tests a body total → IsDone (sim netlist tests name) a b
 sim_done netlist tests name body total a m b p reported inputs texts = record {
   inputs = inputs;
-  created = created_only (sim netlist tests name) name a m b refl (p.created Report).0 reported.begun.created;
+  created = created_only (sim netlist tests name) name a m b refl (sim_only netlist tests name) (p.created Report).0 reported.begun.created;
   output = λ n t both. record {
     report = body ++ total;
     total = total;
@@ -55,10 +67,10 @@ sim_done netlist tests name body total a m b p reported inputs texts = record {
 }
 
 pub norm_done : (netlist name text : List ℕ) (a m b : DeskView) → ChangedOnly (reading (norm netlist name)) a m
-    → IsBegun name text m b → AcceptsNetlist netlist a → IsNormalTextOf netlist a text → IsDone (norm netlist name) a b
+    → IsBegun Report name text m b → AcceptsNetlist netlist a → IsNormalTextOf netlist a text → IsDone (norm netlist name) a b
 norm_done netlist name text a m b p begun input normal = record {
   inputs = input;
-  created = created_only (norm netlist name) name a m b refl (p.created Report).0 begun.created;
+  created = created_only (norm netlist name) name a m b refl (norm_only netlist name) (p.created Report).0 begun.created;
   output = λ n is.
       let made = normal.normal n is in
       record {

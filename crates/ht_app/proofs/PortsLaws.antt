@@ -1,17 +1,17 @@
 -- What the steps of a job touch is what a run of the job may touch.
 use Rattle.std.proofs.Common.{◌≡◌, ◌≢◌, ◌⊎◌, inl, inr, ℕ, List, Bool, true, false, refl, sym, ◌∙◌, ap, subst}
-use Rattle.std.specs.Prelude.{Option, Some, None, is_some, not, ◌&&◌, ◌==◌, if◌then◌else◌}
+use Rattle.std.specs.Prelude.{Option, Some, None, is_some, not, ◌&&◌, ◌||◌, ◌==◌, if◌then◌else◌}
 use Rattle.ht_ports.specs.Desk.{DeskView, Writes}
 use Rattle.ht_ports.specs.declared.ports.InPort.{InPort}
 use Rattle.ht_ports.specs.declared.ports.InPort.TheVariants as in_port
 use Rattle.ht_ports.specs.declared.ports.OutPort.{OutPort}
 use Rattle.ht_ports.specs.declared.ports.OutPort.TheVariants.{Tests, Report, Proofs, Out, Err}
-use Rattle.ht_asked.specs.Asked.{Asked, sim, norm}
+use Rattle.ht_asked.specs.Asked.{Asked, sim, gen, norm}
 use Rattle.ht_app.specs.declared.run_error.RunError.{RunError}
 use Rattle.ht_app.specs.declared.run_error.RunError.TheVariants.{Usage, TooLong, Refused, ReadFault, WriteFault, NoMemory, BadTests}
 use Rattle.ht_app.specs.Errors.{exit_status}
 use Rattle.ht_app.specs.Jobs.{input_name, output_name}
-use Rattle.ht_app.specs.Changed.{ChangedOnly, job_ports, ports_at, may_write, says_on_out}
+use Rattle.ht_app.specs.Changed.{ChangedOnly, job_ports, ports_at, may_create, says_on_out}
 use Rattle.ht_app.specs.Steps.{reading, writing, IsUnread}
 use Rattle.ht_app.proofs.ChangedLaws.{IsWithin, changed_within, changed_trans, changed_by_writing}
 
@@ -52,6 +52,9 @@ not_read job a b x unread = record {
     none (sim netlist tests report) in_port.Report n t = refl
     none (sim netlist tests report) in_port.Proofs n t = refl
     none (sim netlist tests report) in_port.Extra n t = refl
+    none (gen netlist tests report proofs budget) in_port.Report n t = refl
+    none (gen netlist tests report proofs budget) in_port.Proofs n t = refl
+    none (gen netlist tests report proofs budget) in_port.Extra n t = refl
     none (norm netlist out) in_port.Report n t = refl
     none (norm netlist out) in_port.Proofs n t = refl
     none (norm netlist out) in_port.Extra n t = refl
@@ -81,11 +84,25 @@ ends_reading job (BadTests line) a b x unread =
 
 -- ---- writing
 
+wider : (a b c : Bool) → (a || b) ≡ true → (a || (b || c)) ≡ true
+wider true b c is = refl
+wider false true c is = refl
+wider false false c is = cc
+
 -- a run that finishes, or fails in writing
-writing_within : (job : Asked) (status : ℕ) (name : List ℕ) → may_write job status ≡ true
+pub may_begin : (job : Asked) (status : ℕ) → (status == 0 || status == 5) ≡ true → may_create job status ≡ true
+may_begin (sim netlist tests report) status ends = ends
+may_begin (gen netlist tests report proofs budget) status ends =
+    wider (status == 0) (status == 5) (status == 6) ends
+may_begin (norm netlist out) status ends = ends
+
+writing_within : (job : Asked) (status : ℕ) (name : List ℕ) → (status == 0 || status == 5) ≡ true
     → output_name job Report ≡ Some name → IsWithin (writing name (says_on_out job)) (job_ports job status)
-writing_within job status name may is = record { reads = λ p off. refl; creates = creates; writes = writes }
+writing_within job status name ends is = record { reads = λ p off. refl; creates = creates; writes = writes }
   where
+    may : may_create job status ≡ true
+    may = may_begin job status ends
+
     creates : (p : OutPort) → ((writing name (says_on_out job)).creates p ≡ None)
         ⊎ ((writing name (says_on_out job)).creates p ≡ (job_ports job status).creates p)
     creates Tests = inl refl
@@ -101,22 +118,22 @@ writing_within job status name may is = record { reads = λ p off. refl; creates
         ap (λ b. is_some (if b then output_name job Report else None)) may ∙ ap is_some is in
         cc
     writes Proofs off = refl
-    writes Out off = subst (λ (b : Bool). (b && says_on_out job) ≡ false) may off
+    writes Out off = subst (λ (b : Bool). (b && says_on_out job) ≡ false) ends off
     writes Err off = refl
 
 pub ends_writing : (job : Asked) (status : ℕ) (name : List ℕ) (a m b : DeskView) → (status == 3) ≡ false
-    → may_write job status ≡ true → output_name job Report ≡ Some name → ChangedOnly (reading job) a m
+    → (status == 0 || status == 5) ≡ true → output_name job Report ≡ Some name → ChangedOnly (reading job) a m
     → ChangedOnly (writing name (says_on_out job)) m b → ChangedOnly (job_ports job status) a b
-ends_writing job status name a m b ne may is x y = changed_trans (job_ports job status) a m b
+ends_writing job status name a m b ne ends is x y = changed_trans (job_ports job status) a m b
     (changed_within (reading job) (job_ports job status) a m (reading_within job status ne) x)
-    (changed_within (writing name (says_on_out job)) (job_ports job status) m b (writing_within job status name may is)
+    (changed_within (writing name (says_on_out job)) (job_ports job status) m b (writing_within job status name ends is)
     y)
 
 pub fails_writing : (job : Asked) (e : RunError) (name : List ℕ) (a m b : DeskView) → e ≡ WriteFault
-    → may_write job 5 ≡ true → output_name job Report ≡ Some name → ChangedOnly (reading job) a m
+    → output_name job Report ≡ Some name → ChangedOnly (reading job) a m
     → ChangedOnly (writing name (says_on_out job)) m b → ChangedOnly (job_ports job (exit_status e)) a b
-fails_writing job e name a m b is may of x y = subst (λ (t : RunError). ChangedOnly (job_ports job (exit_status t)) a b)
-    (sym is) (ends_writing job 5 name a m b refl may of x y)
+fails_writing job e name a m b is of x y = subst (λ (t : RunError). ChangedOnly (job_ports job (exit_status t)) a b)
+    (sym is) (ends_writing job 5 name a m b refl refl of x y)
 
 -- ---- the line on Err
 

@@ -87,14 +87,14 @@ pub record IsUnread (port : InPort) (old new : DeskView) : Type 0 where
   pub left : new.left port ≡ old.left port
   pub is_open : new.is_open port ≡ old.is_open port
 
--- Report stands under this name with this text.
-pub record IsBegun (name text : List ℕ) (old new : DeskView) : Type 0 where
-  pub created : IsCreatedAs Report name old new
-  pub written : new.written Report ≡ option_map (λ _. text) (old.written Report)
+-- The port's file stands under this name with this text.
+pub record IsBegun (port : OutPort) (name text : List ℕ) (old new : DeskView) : Type 0 where
+  pub created : IsCreatedAs port name old new
+  pub written : new.written port ≡ option_map (λ _. text) (old.written port)
 
 -- The report stands under this name, and the total line was added to Out.
 pub record IsReported (name body total : List ℕ) (old new : DeskView) : Type 0 where
-  pub begun : IsBegun name (body ++ total) old new
+  pub begun : IsBegun Report name (body ++ total) old new
   pub said : new.written Out ≡ append_known (old.written Out) total
 
 -- ---- what inputs are worked into

@@ -12,6 +12,7 @@ ghost use Rattle.ht_app.specs.Run.{EndsBy, HasCause, AskedHasCause};
 ghost use Rattle.ht_app.specs.Steps.{status_after};
 
 use crate::err_line::write_line;
+use crate::generate::generate;
 use crate::norm::norm;
 use crate::run_error::RunError;
 use crate::sim::sim;
@@ -38,6 +39,21 @@ fn do_job<D: Desk>(alloc: Global, job: &Job, desk: &mut D) -> Result<(), RunErro
             netlist.as_str(),
             tests.as_str(),
             report.as_str(),
+            desk,
+        ),
+        Job::Gen {
+            netlist,
+            tests,
+            report,
+            proofs,
+            budget,
+        } => generate(
+            alloc,
+            netlist.as_str(),
+            tests.as_str(),
+            report.as_str(),
+            proofs.as_str(),
+            *budget,
             desk,
         ),
         Job::Norm { netlist, out } => norm(alloc, netlist.as_str(), out.as_str(), desk),
@@ -71,6 +87,7 @@ fn work<D: Desk>(alloc: Global, words: &[String], desk: &mut D) -> Result<(), Ru
 /// | Words | Work |
 /// |---|---|
 /// | `sim NETLIST TESTS REPORT` | runs the tests on the netlist, and reports each fault |
+/// | `gen NETLIST TESTS REPORT PROOFS [--budget N]` | generates tests, and reports each fault with its proof |
 /// | `norm NETLIST OUT` | writes the netlist in its normal text |
 ///
 /// | Status | Comes |

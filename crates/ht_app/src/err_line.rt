@@ -28,7 +28,7 @@ pub fn write_line<D: Desk>(desk: &mut D, error: &RunError) -> Result<(), Failed>
         RunError::Usage => write_all(
             desk,
             OutPort::Err,
-            b"usage: sim NETLIST TESTS REPORT, norm NETLIST OUT\n",
+            b"usage: sim NETLIST TESTS REPORT, gen NETLIST TESTS REPORT PROOFS [--budget N], norm NETLIST OUT\n",
         ),
         RunError::TooLong => write_all(desk, OutPort::Err, b"netlist: too long\n"),
         RunError::Refused(error) => write_refused(desk, error),

@@ -31,7 +31,8 @@ fn write_text<D: Desk>(desk: &mut D, port: OutPort, text: &[u8]) -> Result<(), R
 pub fn begin_report<D: Desk>(desk: &mut D, name: &str, text: &[u8]) -> Result<(), RunError>
     ensures frame { OutCall out_port.Report (D.view desk.old) (D.view desk.new) }
     ensures changed { ChangedOnly (writing name.now false) (D.view desk.old) (D.view desk.new) }
-    ensures begun { OnOk result (IsBegun name.now text.now (D.view desk.old) (D.view desk.new)) }
+    ensures begun { OnOk result
+        (IsBegun out_port.Report name.now text.now (D.view desk.old) (D.view desk.new)) }
     ensures stops { OnErr result (StopsInText text.now (D.view desk.old) (D.view desk.new)) }
     ensures error { IfErr result (λ e. e ≡ error.WriteFault) }
     ensures fault { OnErr result (IsWriteFault (D.view desk.old) (D.view desk.new)) }

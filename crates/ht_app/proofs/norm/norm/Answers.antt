@@ -14,7 +14,7 @@ pub returns-in_err-text-clause-cause : goal.returns-in_err-text-clause-cause
 returns-in_err-text-clause-cause g c =
     let cause = netlist_cause (norm c.args.netlist.now c.args.out.now) c.args.netlist.now
     (g.D.Desk.view c.args.desk.now) (g.D.Desk.view c.normal_text.new.desk) c.in_err-text.field-0.0 refl
-    c.in_err-text.ensures.cause in
+    c.in_err-text.ensures.frame.written c.in_err-text.ensures.cause in
     search (rules, cause)
 
 pub returns-in_err-begin_report-clause-changed : goal.returns-in_err-begin_report-clause-changed
@@ -25,7 +25,7 @@ returns-in_err-begin_report-clause-changed g c =
     let b = g.D.Desk.view c.begin_report.new.desk in
     let read = changed_by_reading (reading job) Netlist a m refl c.in_ok-text.ensures.frame in
     let changed = fails_writing job c.in_err-begin_report.field-0.0 c.args.out.now a m b
-    c.in_err-begin_report.ensures.error refl refl read c.in_err-begin_report.ensures.changed in
+    c.in_err-begin_report.ensures.error refl read c.in_err-begin_report.ensures.changed in
     search (rules, changed)
 
 pub returns-in_err-begin_report-clause-quiet : goal.returns-in_err-begin_report-clause-quiet
@@ -69,6 +69,6 @@ returns-clause-done g c =
     let m = g.D.Desk.view c.normal_text.new.desk in
     let b = g.D.Desk.view c.begin_report.new.desk in
     let read = changed_by_reading (reading (norm c.args.netlist.now c.args.out.now)) Netlist a m refl text.frame in
-    let begun : IsBegun c.args.out.now c.in_ok-text.text.items m b = subst
-    (λ (l : List ℕ). IsBegun c.args.out.now l m b) c.deref.ensures.value c.in_ok-begin_report.ensures.begun in
+    let begun : IsBegun out_port.Report c.args.out.now c.in_ok-text.text.items m b = subst
+    (λ (l : List ℕ). IsBegun out_port.Report c.args.out.now l m b) c.deref.ensures.value c.in_ok-begin_report.ensures.begun in
     norm_done c.args.netlist.now c.args.out.now c.in_ok-text.text.items a m b read begun text.input text.text

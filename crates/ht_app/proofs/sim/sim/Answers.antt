@@ -37,7 +37,7 @@ returns-in_err-write_report-clause-changed g c =
     let m = g.D.Desk.view c.simulate.new.desk in
     let b = g.D.Desk.view c.write_report.new.desk in
     let changed = fails_writing job c.in_err-write_report.field-0.0 c.args.report.now a m b
-    c.in_err-write_report.ensures.error refl refl (c.in_ok-texts.ensures.reads c.args.report.now)
+    c.in_err-write_report.ensures.error refl (c.in_ok-texts.ensures.reads c.args.report.now)
     c.in_err-write_report.ensures.changed in
     let status : status_after c.from_residual-in_err-write_report.result
     ≡ exit_status c.in_err-write_report.field-0.0 = search rules in
