@@ -55,7 +55,8 @@ pub sim_done : (netlist tests name body total : List ℕ) (a m b : DeskView)
     → AcceptsTests netlist tests a → AreWorkedInto netlist tests a body total → IsDone (sim netlist tests name) a b
 sim_done netlist tests name body total a m b p reported inputs texts = record {
   inputs = inputs;
-  created = created_only (sim netlist tests name) name a m b refl (sim_only netlist tests name) (p.created Report).0 reported.begun.created;
+  created = created_only (sim netlist tests name) name a m b refl (sim_only netlist tests name)
+      (p.created Report).0 reported.begun.created;
   output = λ n t both. record {
     report = body ++ total;
     total = total;
@@ -67,10 +68,12 @@ sim_done netlist tests name body total a m b p reported inputs texts = record {
 }
 
 pub norm_done : (netlist name text : List ℕ) (a m b : DeskView) → ChangedOnly (reading (norm netlist name)) a m
-    → IsBegun Report name text m b → AcceptsNetlist netlist a → IsNormalTextOf netlist a text → IsDone (norm netlist name) a b
+    → IsBegun Report name text m b → AcceptsNetlist netlist a → IsNormalTextOf netlist a text
+    → IsDone (norm netlist name) a b
 norm_done netlist name text a m b p begun input normal = record {
   inputs = input;
-  created = created_only (norm netlist name) name a m b refl (norm_only netlist name) (p.created Report).0 begun.created;
+  created = created_only (norm netlist name) name a m b refl (norm_only netlist name)
+      (p.created Report).0 begun.created;
   output = λ n is.
       let made = normal.normal n is in
       record {

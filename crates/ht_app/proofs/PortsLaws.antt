@@ -11,7 +11,7 @@ use Rattle.ht_app.specs.declared.run_error.RunError.{RunError}
 use Rattle.ht_app.specs.declared.run_error.RunError.TheVariants.{Usage, TooLong, Refused, ReadFault, WriteFault, NoMemory, BadTests}
 use Rattle.ht_app.specs.Errors.{exit_status}
 use Rattle.ht_app.specs.Jobs.{input_name, output_name}
-use Rattle.ht_app.specs.Changed.{ChangedOnly, job_ports, ports_at, may_create, says_on_out}
+use Rattle.ht_app.specs.Changed.{ChangedOnly, IsCreatedOnly, job_ports, ports_at, may_create, says_on_out}
 use Rattle.ht_app.specs.Steps.{reading, writing, IsUnread}
 use Rattle.ht_app.proofs.ChangedLaws.{IsWithin, changed_within, changed_trans, changed_by_writing}
 
@@ -42,10 +42,16 @@ not_read job a b x unread = record {
   left = kept b.left a.left x.left unread.left;
   is_open = kept b.is_open a.is_open x.is_open unread.is_open;
   written = λ p off. x.written p refl;
-  created = λ p. x.created p;
+  created = λ p. subst (λ (may : Bool). IsCreatedOnly (if may then output_name job p else None) p a b)
+      (sym (creates_none job)) (x.created p);
   file = λ n other. x.file n (λ p. tt);
 }
   where
+    creates_none : (j : Asked) → may_create j 3 ≡ false
+    creates_none (sim netlist tests report) = refl
+    creates_none (gen netlist tests report proofs budget) = refl
+    creates_none (norm netlist out) = refl
+
     none : (j : Asked) (p : InPort) → p ≢ in_port.Netlist → p ≢ in_port.Tests → is_some (input_name j p) ≡ false
     none j in_port.Netlist n t = absurd (n refl)
     none j in_port.Tests n t = absurd (t refl)

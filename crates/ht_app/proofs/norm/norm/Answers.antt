@@ -70,5 +70,6 @@ returns-clause-done g c =
     let b = g.D.Desk.view c.begin_report.new.desk in
     let read = changed_by_reading (reading (norm c.args.netlist.now c.args.out.now)) Netlist a m refl text.frame in
     let begun : IsBegun out_port.Report c.args.out.now c.in_ok-text.text.items m b = subst
-    (λ (l : List ℕ). IsBegun out_port.Report c.args.out.now l m b) c.deref.ensures.value c.in_ok-begin_report.ensures.begun in
+    (λ (l : List ℕ). IsBegun out_port.Report c.args.out.now l m b) c.deref.ensures.value
+    c.in_ok-begin_report.ensures.begun in
     norm_done c.args.netlist.now c.args.out.now c.in_ok-text.text.items a m b read begun text.input text.text

@@ -25,7 +25,8 @@ returns-in_err-list-clause-cause g c =
     g.met.D.Desk.steady_tells c.args.desk.now c.args.netlist.now in
     let cause : SimulateCause c.args.netlist.now c.args.tests.now a b c.in_err-list.field-0.0 = record {
       cause = λ report. tests_cause c.args.netlist.now c.args.tests.now report c.in_ok-circuit.circuit a m b
-          c.in_err-list.field-0.0 read.frame c.in_err-list.ensures.frame.written known read.circuit read.there c.in_err-list.ensures.cause;
+          c.in_err-list.field-0.0 read.frame c.in_err-list.ensures.frame.written known read.circuit
+          read.there c.in_err-list.ensures.cause;
     } in
     search (rules, cause)
 
