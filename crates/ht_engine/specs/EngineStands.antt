@@ -44,7 +44,8 @@ IsOfKind _ _ = ⊥
 -- fault i has an entry of this kind among the entries, or none
 abbrev pub IsKindIn : List Numbered → ℕ → Option EntryKind → Type 0
 IsKindIn entries i None = ¬ HasEntry entries i
-IsKindIn entries i (Some kind) = (e : recorded.Entry) × Contains entries (record { number = i + 1; entry = e }) × IsOfKind kind e
+IsKindIn entries i (Some kind) = (e : recorded.Entry)
+    × Contains entries (record { number = i + 1; entry = e }) × IsOfKind kind e
 
 -- Each entry passes, for the fault of its number.
 abbrev pub AllPass : Netlist → ℕ → List Numbered → Type 0
@@ -80,8 +81,9 @@ Makes old new steps Finished =
     AreFinished old.circuit old.representatives steps × EngineStandsFor new steps
 Makes old new steps step = MakesStep old new steps step
 
--- A list of vectors behind those so far that detects a representative which awaited its verdict.
-pub record IsUseful (c : Netlist) (representatives : List ℕ) (steps : List Step) (list : List (List Bool)) : Type 0 where
+-- A list of vectors after those so far, which detects a representative that awaited its verdict.
+pub record IsUseful (c : Netlist) (representatives : List ℕ) (steps : List Step) (list : List (List Bool))
+    : Type 0 where
   pub fault : ℕ
   pub awaited : AwaitsVerdict c representatives steps fault
   pub vector : ℕ

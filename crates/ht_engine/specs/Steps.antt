@@ -8,7 +8,7 @@ use Rattle.ht_valid.specs.ValidFiles.{HasEntry, IsOwn}
 use Rattle.ht_engine.specs.declared.work.Work.TheVariants as work
 use Rattle.ht_engine.specs.declared.step.Step.{Step}
 use Rattle.ht_engine.specs.declared.step.Step.TheVariants.{Vectors, Entry, Finished}
-use Rattle.ht_engine.specs.FaultWork.{IsWork, WorkHolds}
+use Rattle.ht_engine.specs.FaultWork.{IsWork}
 
 -- ---- the vectors and the entries of steps
 
@@ -70,11 +70,3 @@ pub data AreSteps (c : Netlist) (representatives : List ℕ) (budget : ℕ) : Li
   none : AreSteps c representatives budget []
   one_more : (steps : List Step) (step : Step) → AreSteps c representatives budget steps
       → Follows c representatives budget steps step → AreSteps c representatives budget (steps ++ step ∷ [])
-
--- ---- what a step means
-
--- what the step gives for fault i holds: its list detects the fault after any vectors, its entry passes
-abbrev pub StepHolds : Netlist → ℕ → ℕ → Step → Type 0
-StepHolds c budget i (Vectors list) = WorkHolds c (fault_at c i) budget (work.List list)
-StepHolds c budget i (Entry fault entry) = WorkHolds c (fault_at c i) budget (work.Entry entry)
-StepHolds c budget i Finished = ⊥
