@@ -222,7 +222,8 @@ impl<'c> Engine<'c> {
         ensures means { (steps : List made.Step) → EngineStandsFor self.old steps
             → IfOk result (MeansOfStep self.old steps) }
         // Each step brings the end nearer: the place is at most the number of faults.
-        ensures nears { IfOk result (λ step. step ≢ made_step.Finished → self.old.place < self.new.place) }
+        ensures nears { IfOk result
+            (λ step. step ≢ made_step.Finished → self.old.place < self.new.place) }
         ensures within { self.new.place ≤ length self.new.representatives }
         ensures dead { OnErr result (self.new.live ≡ false) }
         ensures lives { OnOk result (self.old.live ≡ true) }

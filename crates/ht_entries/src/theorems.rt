@@ -39,7 +39,8 @@ pub fn entries_are_read_back()
 /// What is written for entries that have a text is the proofs text of these entries. A text is at most 2^62 bytes long.
 pub fn written_entries_are_a_text()
     ensures { (entries : List Numbered) → AreEntryTexts entries
-        → length (proofs_text entries) ≤ max_text_bytes → IsProofText entries (proofs_text entries) }
+        → length (proofs_text entries) ≤ max_text_bytes
+        → IsProofText entries (proofs_text entries) }
 {}
 
 /// A text is the proofs of at most one list of entries, up to the widths of empty lists of vectors.

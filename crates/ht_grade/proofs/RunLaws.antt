@@ -150,7 +150,8 @@ pub both_ran_on : (c : Netlist) (fault : Fault) (before list : List (List Bool))
     → m' ≡ stepped tern_rules m (terns_of vector) → BothRanOn c fault before list t good m'
 both_ran_on c fault before list rows t row good vector m m' are below item shown runs at step = record {
   good_row = shown ∙ row_at c before list rows t row are below item;
-  faulty = ran_on c (Some fault) before list t m m' vector (omega (arith, below, rows_count c before list rows are)) runs
+  faulty = ran_on c (Some fault) before list t m m' vector
+      (omega (arith, below, rows_count c before list rows are)) runs
       at step;
 }
 

@@ -55,8 +55,8 @@ pub fn reports_are_read()
 
 /// A text is the report of a search, or malformed at a line.
 pub fn texts_are_reports_or_malformed()
-    ensures { (c : Netlist) (representatives : List ℕ) (text : List ℕ) → AreClasses c representatives
-        → ((budget : ℕ) × (saids : List Said)
+    ensures { (c : Netlist) (representatives : List ℕ) (text : List ℕ)
+        → AreClasses c representatives → ((budget : ℕ) × (saids : List Said)
         × IsReportText c representatives text budget saids)
         ⊎ ((n : ℕ) × IsMalformedReport c representatives text n) }
 {}
@@ -66,7 +66,8 @@ pub fn texts_are_reports_or_malformed()
 pub fn reports_say_one_thing()
     ensures one { (c : Netlist) (representatives : List ℕ) (text : List ℕ) (budget other : ℕ)
         (a b : List Said) → IsCircuit c → IsReportText c representatives text budget a
-        → IsReportText c representatives text other b → SameSearch representatives budget other a b }
+        → IsReportText c representatives text other b
+        → SameSearch representatives budget other a b }
     ensures not_malformed { (c : Netlist) (representatives : List ℕ) (text : List ℕ) (budget : ℕ)
         (saids : List Said) (n : ℕ) → IsReportText c representatives text budget saids
         → ¬ IsMalformedReport c representatives text n }
