@@ -10,6 +10,7 @@ mod justify;
 mod oneframe;
 mod report;
 mod small;
+mod tokens;
 mod trail;
 mod tree;
 mod walks;

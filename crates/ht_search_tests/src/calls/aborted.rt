@@ -1,27 +1,12 @@
 //! Tests of ht_check: entries of aborted faults by hand.
-use super::small::circuit_of;
+use super::small::{FrameRow, circuit_of, stuck_at};
+use super::tokens::{B, D, TWO_0, X};
 use ht_check::entry;
 use ht_items::Items;
-use ht_net::{Circuit, Fault, NetId, Site};
 use ht_samples::{TOGGLE, WIRES};
 use ht_tree::{Aim, Assign, Entry, Spot, Token, Told};
 use std::alloc::{AllocError, Global};
 use std::test::Fail;
-
-const D: Token = Token::Dead;
-
-const B: Token = Token::Before;
-
-// The latch of the toggle is decided.
-const X: Token = Token::Three { var: 0 };
-
-const FIRST: Token = Token::Two {
-    var: 0,
-    first: true,
-};
-
-/// A told frame: its place, and the variables that it sets with their bits.
-pub type FrameRow = (Spot, &'static [(u32, bool)]);
 
 /// The told frames, the walk after them, the open walk back where there is an aim, and the walks of the sweep.
 type Record = (
@@ -51,58 +36,29 @@ const TO_ONE: Option<&[Token]> = Some(&[X, B, X, D, B, X, B, X, D, B]);
 
 const TO_ZERO: Option<&[Token]> = Some(&[X, D, B, X, B, X, D, B, X, B]);
 
-const NO_WALK: Option<&[Token]> = None;
-
-const ONE_TOKEN: Option<&[Token]> = Some(&[FIRST]);
+// a walk of one token
+const SPLIT: Option<&[Token]> = Some(&[TWO_0]);
 
 const FIVE: &[&[Token]] = &[&[D], &[D], &[D], &[D], &[]];
 
 const ROWS: &[Row] = &[
-    (TOGGLE, 0, false, 10, (SHOWN, NO_WALK, TO_ONE, FIVE), true),
-    (TOGGLE, 1, false, 10, (TOLD, NO_WALK, TO_ZERO, FIVE), true),
-    (
-        WIRES,
-        0,
-        true,
-        1,
-        (&[], ONE_TOKEN, NO_WALK, &[&[FIRST]]),
-        true,
-    ),
+    (TOGGLE, 0, false, 10, (SHOWN, None, TO_ONE, FIVE), true),
+    (TOGGLE, 1, false, 10, (TOLD, None, TO_ZERO, FIVE), true),
+    (WIRES, 0, true, 1, (&[], SPLIT, None, &[&[TWO_0]]), true),
     // the walks weigh too much, or leave room for a token more
-    (TOGGLE, 0, false, 9, (SHOWN, NO_WALK, TO_ONE, FIVE), false),
-    (TOGGLE, 0, false, 11, (SHOWN, NO_WALK, TO_ONE, FIVE), false),
-    (
-        WIRES,
-        0,
-        true,
-        2,
-        (&[], ONE_TOKEN, NO_WALK, &[&[FIRST]]),
-        false,
-    ),
+    (TOGGLE, 0, false, 9, (SHOWN, None, TO_ONE, FIVE), false),
+    (TOGGLE, 0, false, 11, (SHOWN, None, TO_ONE, FIVE), false),
+    (WIRES, 0, true, 2, (&[], SPLIT, None, &[&[TWO_0]]), false),
     // there is no walk after the told frames, or one though an output is told
-    (
-        WIRES,
-        0,
-        true,
-        1,
-        (&[], NO_WALK, NO_WALK, &[&[FIRST]]),
-        false,
-    ),
+    (WIRES, 0, true, 1, (&[], None, None, &[&[TWO_0]]), false),
     (TOGGLE, 0, false, 10, (SHOWN, TO_ONE, TO_ONE, FIVE), false),
     // there is no aim at the first frame, or one back to another latch value
-    (TOGGLE, 0, false, 10, (SHOWN, NO_WALK, NO_WALK, FIVE), false),
-    (TOGGLE, 1, false, 10, (TOLD, NO_WALK, TO_ONE, FIVE), false),
+    (TOGGLE, 0, false, 10, (SHOWN, None, None, FIVE), false),
+    (TOGGLE, 1, false, 10, (TOLD, None, TO_ONE, FIVE), false),
     // a frame comes after an output
-    (
-        TOGGLE,
-        0,
-        false,
-        10,
-        (TOLD_ON, NO_WALK, TO_ONE, FIVE),
-        false,
-    ),
+    (TOGGLE, 0, false, 10, (TOLD_ON, None, TO_ONE, FIVE), false),
     // there is no sweep
-    (WIRES, 0, true, 1, (&[], ONE_TOKEN, NO_WALK, &[]), false),
+    (WIRES, 0, true, 1, (&[], SPLIT, None, &[]), false),
 ];
 
 fn frame(alloc: Global, row: FrameRow) -> Result<Told, AllocError> {
@@ -159,25 +115,12 @@ fn aborted(alloc: Global, record: Record) -> Result<Entry, AllocError> {
     })
 }
 
-fn passes(
-    alloc: Global,
-    circuit: &Circuit,
-    fault: Fault,
-    budget: u64,
-    record: Record,
-) -> Result<bool, AllocError> {
-    let record = aborted(alloc, record)?;
-    entry(alloc, circuit, fault, budget.min(100_000), &record)
-}
-
 fn is_as_said(alloc: Global, row: Row) -> Result<bool, Fail> {
     let (text, net, value, budget, record, want) = row;
     let circuit = circuit_of(alloc, text)?;
-    let fault = Fault {
-        site: Site::Stem(NetId(net)),
-        value,
-    };
-    Ok(passes(alloc, &circuit, fault, budget, record)? == want)
+    let record = aborted(alloc, record)?;
+    let fault = stuck_at(net, value);
+    Ok(entry(alloc, &circuit, fault, budget.min(100_000), &record)? == want)
 }
 
 #[test]

@@ -2,8 +2,9 @@
 //! also spoils the vector that brings p to 1.
 ghost use Rattle.std.specs.Prelude.{◌≡◌, OnOk};
 
-use super::aborted::{FrameRow, frames, walks};
-use super::small::{circuit_of, stuck_at_0};
+use super::aborted::{frames, walks};
+use super::small::{FrameRow, circuit_of, stuck_at_0};
+use super::tokens::{D, TWO_0, TWO_1};
 use ht_check::entry;
 use ht_net::{Circuit, Vectors};
 use ht_samples::CHANGE;
@@ -13,19 +14,7 @@ use std::test::Fail;
 
 const SHOWN: &[FrameRow] = &[(Spot::Output(0), &[(0, true), (1, true)])];
 
-const SWEEP: &[&[Token]] = &[
-    &[Token::Dead],
-    &[
-        Token::Two {
-            var: 0,
-            first: true,
-        },
-        Token::Two {
-            var: 1,
-            first: true,
-        },
-    ],
-];
+const SWEEP: &[&[Token]] = &[&[D], &[TWO_0, TWO_1]];
 
 /// The last two vectors of a list back, and whether an entry with it passes.
 type Row = (Option<bool>, bool, bool);

@@ -1,19 +1,12 @@
 //! Tests of ht_check: entries by hand. In each circuit the fault is net 1 stuck at 0.
 use super::small::{circuit_of, stuck_at_0};
+use super::tokens::{D, TWO_0};
 use ht_check::entry;
 use ht_items::Items;
-use ht_net::Circuit;
 use ht_samples::{ALWAYS_ZERO, HIDDEN, TOGGLE};
 use ht_tree::{Entry, Token};
 use std::alloc::{AllocError, Global};
 use std::test::Fail;
-
-const DEAD: Token = Token::Dead;
-
-const ONE_FIRST: Token = Token::Two {
-    var: 0,
-    first: true,
-};
 
 const ZERO_FIRST: Token = Token::Two {
     var: 0,
@@ -25,22 +18,22 @@ type Row = (&'static [u8], &'static [u32], &'static [Token], bool);
 
 const ROWS: &[Row] = &[
     // the difference stays in r, which nothing reads
-    (HIDDEN, &[1], &[DEAD], true),
+    (HIDDEN, &[1], &[D], true),
     // the next state of r may differ
-    (HIDDEN, &[], &[DEAD], false),
+    (HIDDEN, &[], &[D], false),
     // there is no third flip-flop
-    (HIDDEN, &[1, 2], &[DEAD], false),
+    (HIDDEN, &[1, 2], &[D], false),
     // the numbers don't rise
-    (HIDDEN, &[1, 0], &[DEAD], false),
+    (HIDDEN, &[1, 0], &[D], false),
     // either value of the input may come first
-    (ALWAYS_ZERO, &[], &[ONE_FIRST, DEAD, DEAD], true),
-    (ALWAYS_ZERO, &[], &[ZERO_FIRST, DEAD, DEAD], true),
+    (ALWAYS_ZERO, &[], &[TWO_0, D, D], true),
+    (ALWAYS_ZERO, &[], &[ZERO_FIRST, D, D], true),
     // a node is left
-    (ALWAYS_ZERO, &[], &[ONE_FIRST, DEAD], false),
+    (ALWAYS_ZERO, &[], &[TWO_0, D], false),
     // no node is left for the last token
-    (ALWAYS_ZERO, &[], &[ONE_FIRST, DEAD, DEAD, DEAD], false),
+    (ALWAYS_ZERO, &[], &[TWO_0, D, D, D], false),
     // the output is the same and the next state isn't: the fault shows one frame later
-    (TOGGLE, &[], &[DEAD], false),
+    (TOGGLE, &[], &[D], false),
 ];
 
 fn untestable(alloc: Global, z: &[u32], tokens: &[Token]) -> Result<Entry, AllocError> {
@@ -50,20 +43,11 @@ fn untestable(alloc: Global, z: &[u32], tokens: &[Token]) -> Result<Entry, Alloc
     })
 }
 
-fn passes(
-    alloc: Global,
-    circuit: &Circuit,
-    z: &[u32],
-    tokens: &[Token],
-) -> Result<bool, AllocError> {
-    let record = untestable(alloc, z, tokens)?;
-    entry(alloc, circuit, stuck_at_0(1), 100, &record)
-}
-
 fn is_as_said(alloc: Global, row: Row) -> Result<bool, Fail> {
     let (text, z, tokens, want) = row;
     let circuit = circuit_of(alloc, text)?;
-    Ok(passes(alloc, &circuit, z, tokens)? == want)
+    let record = untestable(alloc, z, tokens)?;
+    Ok(entry(alloc, &circuit, stuck_at_0(1), 100, &record)? == want)
 }
 
 #[test]

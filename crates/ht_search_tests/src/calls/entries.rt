@@ -6,133 +6,68 @@ use std::test::Fail;
 /// A text by its lines, each without its LF.
 type Lines = &'static [&'static [u8]];
 
-const NO_ENTRY: Lines = &[b"proofs 1", b"end"];
+/// A text by runs of its lines; a worked one without its head and its end.
+type Text = &'static [Lines];
+
+const HEAD: Lines = &[b"proofs 1"];
+
+const END: Lines = &[b"end"];
+
+const NO_ENTRY: Text = &[];
+
+// a walk of one decision, with no difference at either value
+const TWO_DEAD: Lines = &[b"walk", b"hi 1", b"dead", b"dead"];
 
 // a gate whose output can't be 1
-const CONSTANT: Lines = &[
-    b"proofs 1",
-    b"entry 1 untestable",
-    b"walk",
-    b"hi 1",
-    b"dead",
-    b"dead",
-    b"entry 2 untestable",
-    b"walk",
-    b"hi 1",
-    b"dead",
-    b"dead",
-    b"entry 3 untestable",
-    b"walk",
-    b"hi 1",
-    b"dead",
-    b"dead",
-    b"end",
+const CONSTANT: Text = &[
+    &[b"entry 1 untestable"],
+    TWO_DEAD,
+    &[b"entry 2 untestable"],
+    TWO_DEAD,
+    &[b"entry 3 untestable"],
+    TWO_DEAD,
 ];
 
 // a flip-flop that turns: the first entry's told frame, the search back from it, and the sweep
-const TOGGLE: Lines = &[
-    b"proofs 1",
-    b"entry 1 aborted",
-    b"frame output 1",
-    b"set 1 1",
-    b"back open",
-    b"x 1",
-    b"before",
-    b"x 1",
-    b"dead",
-    b"before",
-    b"x 1",
-    b"before",
-    b"x 1",
-    b"dead",
-    b"before",
-    b"sweep",
-    b"length 1",
-    b"dead",
-    b"length 2",
-    b"dead",
-    b"length 3",
-    b"dead",
-    b"length 4",
-    b"dead",
-    b"length 5",
-    b"end",
+const TOGGLE: Text = &[
+    &[b"entry 1 aborted", b"frame output 1", b"set 1 1"],
+    &[b"back open", b"x 1", b"before", b"x 1", b"dead", b"before"],
+    &[b"x 1", b"before", b"x 1", b"dead", b"before"],
+    &[b"sweep", b"length 1", b"dead", b"length 2", b"dead"],
+    &[b"length 3", b"dead", b"length 4", b"dead", b"length 5"],
 ];
 
 // the same circuit, with two told frames
-const TWO_FRAMES: Lines = &[
-    b"proofs 1",
-    b"entry 3 aborted",
-    b"frame state 1",
-    b"set 1 0",
-    b"frame output 1",
-    b"set 1 1",
-    b"set 2 0",
-    b"back open",
-    b"x 1",
-    b"sweep",
-    b"length 1",
-    b"end",
+const TWO_FRAMES: Text = &[
+    &[b"entry 3 aborted", b"frame state 1", b"set 1 0"],
+    &[b"frame output 1", b"set 1 1", b"set 2 0"],
+    &[b"back open", b"x 1", b"sweep", b"length 1"],
 ];
 
 // flip-flops at which the two machines may differ
-const IN_THE_SET: Lines = &[
-    b"proofs 1",
-    b"entry 7 untestable",
-    b"z 1",
-    b"z 2",
-    b"walk",
-    b"dead",
-    b"end",
-];
+const IN_THE_SET: Text = &[&[b"entry 7 untestable", b"z 1", b"z 2", b"walk", b"dead"]];
 
 // a budget of one token
-const BUDGET_OF_1: Lines = &[
-    b"proofs 1",
-    b"entry 2 aborted",
-    b"walk",
-    b"hi 1",
-    b"sweep",
-    b"length 1",
-    b"hi 1",
-    b"end",
+const ONE_TOKEN: Text = &[
+    &[b"entry 2 aborted", b"walk", b"hi 1"],
+    &[b"sweep", b"length 1", b"hi 1"],
 ];
 
 // both lists were found, one vector back and none ahead
-const ATTEMPT: Lines = &[
-    b"proofs 1",
-    b"entry 4294967295 aborted",
-    b"frame output 1",
-    b"attempt",
-    b"justify 10",
-    b"ahead 01",
-    b"sweep",
-    b"length 1",
-    b"lo 4294967295",
-    b"end",
+const ATTEMPT: Text = &[
+    &[b"entry 4294967295 aborted", b"frame output 1", b"attempt"],
+    &[b"justify 10", b"ahead 01"],
+    &[b"sweep", b"length 1", b"lo 4294967295"],
 ];
 
 // no inputs
-const NO_INPUTS: Lines = &[
-    b"proofs 1",
-    b"entry 1 aborted",
-    b"frame output 1",
-    b"attempt",
-    b"justify -",
-    b"sweep",
-    b"length 1",
-    b"end",
+const NO_INPUTS: Text = &[
+    &[b"entry 1 aborted", b"frame output 1", b"attempt"],
+    &[b"justify -", b"sweep", b"length 1"],
 ];
 
-const TEXTS: &[Lines] = &[
-    NO_ENTRY,
-    CONSTANT,
-    TOGGLE,
-    TWO_FRAMES,
-    IN_THE_SET,
-    BUDGET_OF_1,
-    ATTEMPT,
-    NO_INPUTS,
+const TEXTS: &[Text] = &[
+    NO_ENTRY, CONSTANT, TOGGLE, TWO_FRAMES, IN_THE_SET, ONE_TOKEN, ATTEMPT, NO_INPUTS,
 ];
 
 /// A text, its entries as they are written again, and the reader between the two.
@@ -170,10 +105,19 @@ impl Rewriting {
     }
 
     fn lines(&mut self, alloc: Global, lines: Lines) -> Result<(), TextError> {
-        self.written.extend_from_slice(head_line())?;
         for line in lines {
             self.line(alloc, line)?;
         }
+        Ok(())
+    }
+
+    fn text(&mut self, alloc: Global, entries: Text) -> Result<(), TextError> {
+        self.written.extend_from_slice(head_line())?;
+        self.lines(alloc, HEAD)?;
+        for lines in entries {
+            self.lines(alloc, lines)?;
+        }
+        self.lines(alloc, END)?;
         self.written.extend_from_slice(end_line())?;
         Ok(())
     }
@@ -184,16 +128,16 @@ impl Rewriting {
 }
 
 /// Whether a text is read, and its entries are written as they stand there.
-fn is_rewritten(alloc: Global, lines: Lines) -> Result<bool, TextError> {
+fn is_rewritten(alloc: Global, entries: Text) -> Result<bool, TextError> {
     let mut rewriting = Rewriting::new(alloc);
-    rewriting.lines(alloc, lines)?;
+    rewriting.text(alloc, entries)?;
     Ok(rewriting.is_same())
 }
 
 #[test]
 fn worked_texts_are_read_and_written(rt: HostRuntime) -> Result<(), Fail> {
-    for lines in TEXTS {
-        assert!(rt; is_rewritten(rt.alloc(), lines)?);
+    for entries in TEXTS {
+        assert!(rt; is_rewritten(rt.alloc(), entries)?);
     }
     Ok(())
 }
@@ -206,8 +150,8 @@ fn line_of(refusal: TextError) -> Option<u64> {
     }
 }
 
-/// The line at which a text of these lines is malformed.
-fn malformed_at(reader: &mut ProofReader, lines: Lines) -> Option<u64> {
+/// The line of the first of these lines that is malformed.
+fn refused_line(reader: &mut ProofReader, lines: Lines) -> Option<u64> {
     for line in lines {
         if !reader.live() {
             return None;
@@ -216,108 +160,68 @@ fn malformed_at(reader: &mut ProofReader, lines: Lines) -> Option<u64> {
             return line_of(refusal);
         }
     }
+    None
+}
+
+/// The line at which a text is malformed.
+fn malformed_at(reader: &mut ProofReader, text: Text) -> Option<u64> {
+    for lines in text {
+        let line = refused_line(reader, lines);
+        if line.is_some() {
+            return line;
+        }
+    }
     reader.end().err().and_then(line_of)
 }
 
-fn is_malformed_at(alloc: Global, lines: Lines, line: u64) -> bool {
-    malformed_at(&mut ProofReader::new(alloc), lines) == Some(line)
+fn is_malformed_at(alloc: Global, text: Text, line: u64) -> bool {
+    malformed_at(&mut ProofReader::new(alloc), text) == Some(line)
 }
 
-const DAMAGES: &[(Lines, u64)] = &[
+const UNTESTABLE: Lines = &[b"proofs 1", b"entry 1 untestable"];
+
+const ABORTED: Lines = &[b"proofs 1", b"entry 1 aborted"];
+
+const DAMAGES: &[(Text, u64)] = &[
     // no line, another head, no end
     (&[], 1),
-    (&[b"proofs 2"], 1),
-    (&[b"proofs 1 "], 1),
-    (&[b"proofs 1"], 2),
+    (&[&[b"proofs 2"]], 1),
+    (&[&[b"proofs 1 "]], 1),
+    (&[HEAD], 2),
     // a line after the end
-    (&[b"proofs 1", b"end", b"end"], 3),
+    (&[HEAD, END, END], 3),
     // numbers
-    (&[b"proofs 1", b"entry 0 untestable"], 2),
-    (&[b"proofs 1", b"entry 01 untestable"], 2),
-    (&[b"proofs 1", b"entry +1 untestable"], 2),
-    (&[b"proofs 1", b"entry 4294967296 untestable"], 2),
-    (&[b"proofs 1", b"entry  1 untestable"], 2),
-    (&[b"proofs 1", b"entry 1 detected"], 2),
+    (&[HEAD, &[b"entry 0 untestable"]], 2),
+    (&[HEAD, &[b"entry 01 untestable"]], 2),
+    (&[HEAD, &[b"entry +1 untestable"]], 2),
+    (&[HEAD, &[b"entry 4294967296 untestable"]], 2),
+    (&[HEAD, &[b"entry  1 untestable"]], 2),
+    (&[HEAD, &[b"entry 1 detected"]], 2),
     // an entry number that stands twice
-    (
-        &[
-            b"proofs 1",
-            b"entry 2 untestable",
-            b"walk",
-            b"entry 2 untestable",
-        ],
-        4,
-    ),
+    (&[UNTESTABLE, &[b"walk", b"entry 1 untestable"]], 4),
     // no walk, and a flip-flop that stands twice
-    (&[b"proofs 1", b"entry 1 untestable", b"end"], 3),
-    (&[b"proofs 1", b"entry 1 untestable", b"z 1", b"z 1"], 4),
+    (&[UNTESTABLE, END], 3),
+    (&[UNTESTABLE, &[b"z 1", b"z 1"]], 4),
     // a decision with no frame, of another bit, of a variable that stands twice
-    (&[b"proofs 1", b"entry 1 aborted", b"set 1 1"], 3),
-    (
-        &[
-            b"proofs 1",
-            b"entry 1 aborted",
-            b"frame state 1",
-            b"set 1 2",
-        ],
-        4,
-    ),
-    (
-        &[
-            b"proofs 1",
-            b"entry 1 aborted",
-            b"frame state 1",
-            b"set 2 0",
-            b"set 2 1",
-        ],
-        5,
-    ),
+    (&[ABORTED, &[b"set 1 1"]], 3),
+    (&[ABORTED, &[b"frame state 1", b"set 1 2"]], 4),
+    (&[ABORTED, &[b"frame state 1", b"set 2 0", b"set 2 1"]], 5),
     // no sweep, a sweep of no walk, and one that begins with 2 frames
-    (&[b"proofs 1", b"entry 1 aborted", b"end"], 3),
-    (&[b"proofs 1", b"entry 1 aborted", b"sweep", b"end"], 4),
-    (&[b"proofs 1", b"entry 1 aborted", b"sweep", b"length 2"], 4),
+    (&[ABORTED, END], 3),
+    (&[ABORTED, &[b"sweep", b"end"]], 4),
+    (&[ABORTED, &[b"sweep", b"length 2"]], 4),
     // an aim after the sweep
-    (
-        &[
-            b"proofs 1",
-            b"entry 1 aborted",
-            b"sweep",
-            b"length 1",
-            b"back open",
-        ],
-        5,
-    ),
+    (&[ABORTED, &[b"sweep", b"length 1", b"back open"]], 5),
     // vectors of two widths, a vector back after one ahead, and another character
-    (
-        &[
-            b"proofs 1",
-            b"entry 1 aborted",
-            b"attempt",
-            b"justify 10",
-            b"ahead 1",
-        ],
-        5,
-    ),
-    (
-        &[
-            b"proofs 1",
-            b"entry 1 aborted",
-            b"attempt",
-            b"ahead 1",
-            b"justify 1",
-        ],
-        5,
-    ),
-    (
-        &[b"proofs 1", b"entry 1 aborted", b"attempt", b"ahead 1x"],
-        4,
-    ),
+    (&[ABORTED, &[b"attempt", b"justify 10", b"ahead 1"]], 5),
+    (&[ABORTED, &[b"attempt", b"ahead 1", b"justify 1"]], 5),
+    (&[ABORTED, &[b"attempt", b"ahead 1x"]], 4),
 ];
 
 #[test]
 fn damages_are_malformed_at_their_line(rt: HostRuntime) -> Result<(), Fail> {
-    for (lines, line) in DAMAGES {
-        assert!(rt; is_malformed_at(rt.alloc(), lines, *line));
+    for (text, line) in DAMAGES {
+        assert!(rt; is_malformed_at(rt.alloc(), text, *line));
     }
     Ok(())
 }

@@ -1,8 +1,8 @@
 //! Tests of ht_forward: walks and lists of small circuits, worked by hand.
 use super::small::{Ended, circuit_of, is_list, pair_state, stuck_at_0};
+use super::tokens::D;
 use ht_forward::{Ahead, Swept, propagate, sweep};
 use ht_items::Items;
-use ht_net::Circuit;
 use ht_samples::{CHANGE, SHIFT_REGISTER, TOGGLE, TWINS};
 use ht_tern::Tern::{self, One, Unk, Zero};
 use ht_tree::{MAX_BUDGET, Token};
@@ -54,24 +54,14 @@ fn is_swept(swept: &Swept, want: SweepEnd) -> bool {
     }
 }
 
-fn sweeps(
-    alloc: Global,
-    circuit: &Circuit,
-    net: u32,
-    budget: u64,
-    want: SweepEnd,
-) -> Result<bool, AllocError> {
-    if budget > MAX_BUDGET {
-        return Ok(false);
-    }
-    let swept = sweep(alloc, circuit, stuck_at_0(net), budget)?;
-    Ok(is_swept(&swept, want))
-}
-
 fn sweeps_as_said(alloc: Global, row: SweepRow) -> Result<bool, Fail> {
     let (text, net, budget, want) = row;
     let circuit = circuit_of(alloc, text)?;
-    Ok(sweeps(alloc, &circuit, net, budget, want)?)
+    if budget > MAX_BUDGET {
+        return Ok(false);
+    }
+    let swept = sweep(alloc, &circuit, stuck_at_0(net), budget)?;
+    Ok(is_swept(&swept, want))
 }
 
 #[test]
@@ -103,42 +93,29 @@ const AHEAD: &[AheadRow] = &[
         Ended::Found(&[false, false]),
     ),
     // the good toggle stays unknown, and the faulty one is 0 from the second frame on: 16 frames weigh 16
-    (TOGGLE, 1, &[Unk], &[Unk], 16, Ended::Closed(&[Token::Dead])),
+    (TOGGLE, 1, &[Unk], &[Unk], 16, Ended::Closed(&[D])),
     (TOGGLE, 1, &[Unk], &[Unk], 15, Ended::Spent(&[])),
 ];
 
 fn is_ahead(ahead: &Ahead, want: Ended) -> bool {
-    match (ahead, want) {
-        (Ahead::Found { list }, Ended::Found(bits)) => is_list(list, bits),
-        (Ahead::Closed { tokens }, Ended::Closed(walk)) => tokens.as_slice() == walk,
-        (Ahead::Spent { tokens }, Ended::Spent(walk)) => tokens.as_slice() == walk,
-        _ => false,
+    match ahead {
+        Ahead::Found { list } => want.is_found(list),
+        Ahead::Closed { tokens } => want.is_closed(tokens.as_slice()),
+        Ahead::Spent { tokens } => want.is_spent(tokens.as_slice()),
     }
 }
 
 /// Whether the propagation from a pair of states ends so.
-fn leads(
-    alloc: Global,
-    circuit: &Circuit,
-    net: u32,
-    states: (&[Tern], &[Tern]),
-    budget: u64,
-    want: Ended,
-) -> Result<bool, AllocError> {
-    let (good, bad) = states;
+fn leads_as_said(alloc: Global, row: AheadRow) -> Result<bool, Fail> {
+    let (text, net, good, bad, budget, want) = row;
+    let circuit = circuit_of(alloc, text)?;
     let dffs = circuit.dffs() as usize;
     if good.len() != dffs || bad.len() != dffs {
         return Ok(false);
     }
     let state = pair_state(alloc, good, bad)?;
-    let ahead = propagate(alloc, circuit, stuck_at_0(net), &state, budget)?;
+    let ahead = propagate(alloc, &circuit, stuck_at_0(net), &state, budget)?;
     Ok(is_ahead(&ahead, want))
-}
-
-fn leads_as_said(alloc: Global, row: AheadRow) -> Result<bool, Fail> {
-    let (text, net, good, bad, budget, want) = row;
-    let circuit = circuit_of(alloc, text)?;
-    Ok(leads(alloc, &circuit, net, (good, bad), budget, want)?)
 }
 
 #[test]

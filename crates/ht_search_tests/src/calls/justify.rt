@@ -1,24 +1,11 @@
 //! Tests of ht_justify: back walks and lists of small circuits, worked by hand.
-use super::small::{Ended, circuit_of, is_list};
+use super::small::{Ended, circuit_of};
+use super::tokens::{B, D, TWO_0, X};
 use ht_justify::{Back, justify};
-use ht_net::Circuit;
 use ht_samples::{SHIFT_REGISTER, TOGGLE, TWINS};
 use ht_tern::Tern::{self, One, Unk, Zero};
-use ht_tree::Token;
 use std::alloc::{AllocError, Global};
 use std::test::Fail;
-
-const D: Token = Token::Dead;
-
-const B: Token = Token::Before;
-
-/// The latch of the toggle is decided.
-const X: Token = Token::Three { var: 0 };
-
-const SPLIT: Token = Token::Two {
-    var: 0,
-    first: true,
-};
 
 /// A circuit, a cube and a budget, and how the search back ends.
 type Row = (&'static [u8], &'static [Tern], u64, Ended);
@@ -38,7 +25,7 @@ const ROWS: &[Row] = &[
         Ended::Spent(&[X, D, B, X, B, X, D, B, X, B]),
     ),
     // whatever the input is, both flip-flops take the same value
-    (TWINS, &[One, Zero], 1000, Ended::Closed(&[SPLIT, D, D])),
+    (TWINS, &[One, Zero], 1000, Ended::Closed(&[TWO_0, D, D])),
     // the 1 is shifted in first; the input of the second frame is undecided, so it is 0
     (
         SHIFT_REGISTER,
@@ -50,33 +37,22 @@ const ROWS: &[Row] = &[
     (SHIFT_REGISTER, &[Unk, Unk], 1, Ended::Found(&[])),
 ];
 
-fn is_back(back: &Back, want: Ended) -> bool {
-    match (back, want) {
-        (Back::Reached { list }, Ended::Found(bits)) => is_list(list, bits),
-        (Back::Closed { tokens }, Ended::Closed(walk)) => tokens.as_slice() == walk,
-        (Back::Spent { tokens }, Ended::Spent(walk)) => tokens.as_slice() == walk,
-        _ => false,
-    }
-}
-
-fn ends(
-    alloc: Global,
-    circuit: &Circuit,
-    cube: &[Tern],
-    budget: u64,
-    want: Ended,
-) -> Result<bool, AllocError> {
-    if cube.len() != circuit.dffs() as usize {
-        return Ok(false);
-    }
-    let back = justify(alloc, circuit, cube, 32, budget)?;
-    Ok(is_back(&back, want))
-}
-
 fn ends_as_said(alloc: Global, row: Row) -> Result<bool, Fail> {
     let (text, cube, budget, want) = row;
     let circuit = circuit_of(alloc, text)?;
-    Ok(ends(alloc, &circuit, cube, budget, want)?)
+    if cube.len() != circuit.dffs() as usize {
+        return Ok(false);
+    }
+    let back = justify(alloc, &circuit, cube, 32, budget)?;
+    Ok(is_back(&back, want))
+}
+
+fn is_back(back: &Back, want: Ended) -> bool {
+    match back {
+        Back::Reached { list } => want.is_found(list),
+        Back::Closed { tokens } => want.is_closed(tokens.as_slice()),
+        Back::Spent { tokens } => want.is_spent(tokens.as_slice()),
+    }
 }
 
 #[test]

@@ -1,35 +1,15 @@
 //! Tests of ht_oneframe: faults of small circuits, with the answers that follow by hand.
-use super::small::circuit_of;
-use ht_net::{Circuit, Fault, NetId, Site};
+use super::small::{FrameRow, circuit_of, stuck_at};
+use super::tokens::{D, TWO_0, TWO_1, TWO_3};
+use ht_net::{Fault, NetId, Site};
 use ht_oneframe::{OneFrame, refute};
 use ht_samples::{ALWAYS_ZERO, HIDDEN, SHIFT_REGISTER, TOGGLE, TWINS, WIRES};
 use ht_tree::{Assign, Spot, Token, Told};
-use std::alloc::{AllocError, Global};
+use std::alloc::Global;
 use std::test::Fail;
 
 // No output tells the first input.
 const IDLE: &[u8] = b"INPUT(a)\nINPUT(b)\nOUTPUT(b)\n";
-
-const D: Token = Token::Dead;
-
-const FIRST: Token = Token::Two {
-    var: 0,
-    first: true,
-};
-
-// The good half of q and the faulty half of it, where q is told.
-const GOOD_HALF: Token = Token::Two {
-    var: 1,
-    first: true,
-};
-
-const FAULTY_HALF: Token = Token::Two {
-    var: 3,
-    first: true,
-};
-
-/// A told frame: its place, and the variables that it sets with their bits.
-type FrameRow = (Spot, &'static [(u32, bool)]);
 
 /// What is to come out: the set and its walk, the told frames, or these and the walk that spent the budget.
 #[derive(Clone, Copy)]
@@ -39,54 +19,21 @@ enum Answer {
     Spent(&'static [FrameRow], &'static [Token]),
 }
 
-/// A circuit, a line of it that is stuck at a value, a budget, and what is to come out.
-type Row = (&'static [u8], Site, bool, u64, Answer);
+/// A circuit, a line of it that is stuck at 0, and the set and its walk that come out.
+type RefutedRow = (&'static [u8], Site, &'static [u32], &'static [Token]);
 
 // A difference that reaches r alone stays hidden there; at the data pin of q it reaches both flip-flops.
-const REFUTED: &[Row] = &[
-    (
-        ALWAYS_ZERO,
-        Site::Stem(NetId(0)),
-        false,
-        1000,
-        Answer::Refuted(&[], &[FIRST, D, D]),
-    ),
-    (
-        IDLE,
-        Site::Stem(NetId(0)),
-        false,
-        1000,
-        Answer::Refuted(&[], &[D]),
-    ),
-    (
-        b"q = DFF(q)\n",
-        Site::Stem(NetId(0)),
-        false,
-        1000,
-        Answer::Refuted(&[0], &[D]),
-    ),
-    (
-        HIDDEN,
-        Site::Stem(NetId(1)),
-        false,
-        1000,
-        Answer::Refuted(&[1], &[D]),
-    ),
-    (
-        HIDDEN,
-        Site::Stem(NetId(2)),
-        false,
-        1000,
-        Answer::Refuted(&[], &[D]),
-    ),
-    (
-        HIDDEN,
-        Site::DffPin { dff: 0 },
-        false,
-        1000,
-        Answer::Refuted(&[0, 1], &[D]),
-    ),
+const REFUTED: &[RefutedRow] = &[
+    (ALWAYS_ZERO, Site::Stem(NetId(0)), &[], &[TWO_0, D, D]),
+    (IDLE, Site::Stem(NetId(0)), &[], &[D]),
+    (b"q = DFF(q)\n", Site::Stem(NetId(0)), &[0], &[D]),
+    (HIDDEN, Site::Stem(NetId(1)), &[1], &[D]),
+    (HIDDEN, Site::Stem(NetId(2)), &[], &[D]),
+    (HIDDEN, Site::DffPin { dff: 0 }, &[0, 1], &[D]),
 ];
+
+/// A circuit, a stem of it with the value that it is stuck at, a budget, and what is to come out.
+type Row = (&'static [u8], u32, bool, u64, Answer);
 
 // Where a flip-flop is told, the next frame sets its good half and its faulty half.
 const SHIFTED: &[FrameRow] = &[
@@ -95,7 +42,10 @@ const SHIFTED: &[FrameRow] = &[
     (Spot::Output(0), &[(2, true), (4, false)]),
 ];
 
-const SHIFTED_ONCE: &[FrameRow] = &[(Spot::State(0), &[(0, true)])];
+const Q_TOLD: &[FrameRow] = &[(Spot::State(0), &[(0, true)])];
+
+// The good half of q and the faulty half of it, where q is told.
+const HALVES: &[Token] = &[TWO_1, TWO_3];
 
 const TOGGLED: &[FrameRow] = &[
     (Spot::State(0), &[(0, false)]),
@@ -105,41 +55,11 @@ const TOGGLED: &[FrameRow] = &[
 const TOLD_AT_ONCE: &[FrameRow] = &[(Spot::Output(0), &[(1, true), (2, true), (3, false)])];
 
 const TOLD: &[Row] = &[
-    (
-        SHIFT_REGISTER,
-        Site::Stem(NetId(0)),
-        false,
-        3,
-        Answer::Told(SHIFTED),
-    ),
-    (
-        SHIFT_REGISTER,
-        Site::Stem(NetId(0)),
-        false,
-        2,
-        Answer::Spent(SHIFTED_ONCE, &[GOOD_HALF, FAULTY_HALF]),
-    ),
-    (
-        TOGGLE,
-        Site::Stem(NetId(1)),
-        false,
-        10,
-        Answer::Told(TOGGLED),
-    ),
-    (
-        TWINS,
-        Site::Stem(NetId(1)),
-        false,
-        1000,
-        Answer::Told(TOLD_AT_ONCE),
-    ),
-    (
-        WIRES,
-        Site::Stem(NetId(0)),
-        true,
-        1,
-        Answer::Spent(&[], &[FIRST]),
-    ),
+    (SHIFT_REGISTER, 0, false, 3, Answer::Told(SHIFTED)),
+    (SHIFT_REGISTER, 0, false, 2, Answer::Spent(Q_TOLD, HALVES)),
+    (TOGGLE, 1, false, 10, Answer::Told(TOGGLED)),
+    (TWINS, 1, false, 1000, Answer::Told(TOLD_AT_ONCE)),
+    (WIRES, 0, true, 1, Answer::Spent(&[], &[TWO_0])),
 ];
 
 fn are_sets(sets: &[Assign], wanted: &[(u32, bool)]) -> bool {
@@ -180,39 +100,36 @@ fn is_answer(answer: &OneFrame, wanted: Answer) -> bool {
     }
 }
 
-fn comes_to(
-    alloc: Global,
-    circuit: &Circuit,
-    fault: Fault,
-    budget: u64,
-    wanted: Answer,
-) -> Result<bool, AllocError> {
-    let answer = refute(alloc, circuit, fault, budget)?;
+fn comes_to(alloc: Global, text: &[u8], fault: Fault, want: (u64, Answer)) -> Result<bool, Fail> {
+    let (budget, wanted) = want;
+    let circuit = circuit_of(alloc, text)?;
+    let answer = refute(alloc, &circuit, fault, budget)?;
     Ok(is_answer(&answer, wanted))
 }
 
-fn comes_out(alloc: Global, row: Row) -> Result<bool, Fail> {
-    let (text, site, value, budget, wanted) = row;
-    let circuit = circuit_of(alloc, text)?;
-    Ok(comes_to(alloc, &circuit, Fault { site, value }, budget, wanted)?)
+fn is_refuted(alloc: Global, row: RefutedRow) -> Result<bool, Fail> {
+    let (text, site, set, walk) = row;
+    let fault = Fault { site, value: false };
+    comes_to(alloc, text, fault, (1000, Answer::Refuted(set, walk)))
+}
+
+fn is_told(alloc: Global, row: Row) -> Result<bool, Fail> {
+    let (text, net, value, budget, wanted) = row;
+    comes_to(alloc, text, stuck_at(net, value), (budget, wanted))
 }
 
 #[test]
-fn a_hidden_difference_is_refuted_with_the_flip_flops_that_it_reaches(
-    rt: HostRuntime,
-) -> Result<(), Fail> {
+fn hidden_differences_are_refuted_with_their_flip_flops(rt: HostRuntime) -> Result<(), Fail> {
     for row in REFUTED {
-        assert!(rt; comes_out(rt.alloc(), *row)?);
+        assert!(rt; is_refuted(rt.alloc(), *row)?);
     }
     Ok(())
 }
 
 #[test]
-fn a_difference_is_told_up_to_an_output_or_till_the_budget_is_spent(
-    rt: HostRuntime,
-) -> Result<(), Fail> {
+fn a_difference_is_told_up_to_an_output_or_the_budget(rt: HostRuntime) -> Result<(), Fail> {
     for row in TOLD {
-        assert!(rt; comes_out(rt.alloc(), *row)?);
+        assert!(rt; is_told(rt.alloc(), *row)?);
     }
     Ok(())
 }

@@ -5,7 +5,7 @@ use ht_bench::read;
 use ht_items::Items;
 use ht_net::{Circuit, Fault, NetId, Site, Vectors};
 use ht_tern::Tern;
-use ht_tree::Token;
+use ht_tree::{Spot, Token};
 use ht_window::PairState;
 use std::alloc::{AllocError, Global};
 use std::test::Fail;
@@ -15,13 +15,21 @@ pub fn circuit_of(alloc: Global, text: &[u8]) -> Result<Circuit, Fail> {
     Ok(read(alloc, &text[..text.len().min(1000)])?)
 }
 
-/// The stem of a net stuck at 0.
-pub fn stuck_at_0(net: u32) -> Fault {
+/// The stem of a net stuck at a value.
+pub fn stuck_at(net: u32, value: bool) -> Fault {
     Fault {
         site: Site::Stem(NetId(net)),
-        value: false,
+        value,
     }
 }
+
+/// The stem of a net stuck at 0.
+pub fn stuck_at_0(net: u32) -> Fault {
+    stuck_at(net, false)
+}
+
+/// A told frame: its place, and the variables that it sets with their bits.
+pub type FrameRow = (Spot, &'static [(u32, bool)]);
 
 /// How a search for a list ends.
 #[derive(Clone, Copy)]
@@ -32,6 +40,32 @@ pub enum Ended {
     Closed(&'static [Token]),
     /// With the budget spent on this walk.
     Spent(&'static [Token]),
+}
+
+impl Ended {
+    /// Whether it ends with this list.
+    pub fn is_found(self, list: &Vectors) -> bool {
+        match self {
+            Ended::Found(bits) => is_list(list, bits),
+            _ => false,
+        }
+    }
+
+    /// Whether it ends with this walk, and that is complete.
+    pub fn is_closed(self, tokens: &[Token]) -> bool {
+        match self {
+            Ended::Closed(walk) => tokens == walk,
+            _ => false,
+        }
+    }
+
+    /// Whether it ends with the budget spent on this walk.
+    pub fn is_spent(self, tokens: &[Token]) -> bool {
+        match self {
+            Ended::Spent(walk) => tokens == walk,
+            _ => false,
+        }
+    }
 }
 
 /// Whether a list has these bits at its one input.

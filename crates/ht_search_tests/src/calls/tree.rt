@@ -1,12 +1,9 @@
 //! Tests of ht_tree: walks by hand.
+use super::tokens::{B, D};
 use ht_tern::Tern;
 use ht_tree::{Assign3, Token, Walk};
 use std::alloc::{AllocError, Global};
 use std::test::Fail;
-
-const D: Token = Token::Dead;
-
-const B: Token = Token::Before;
 
 const SPLIT: Token = Token::Two {
     var: 7,

@@ -1,5 +1,6 @@
 //! Tests of ht_check: walks of windows by hand, with their weights.
 use super::small::{circuit_of, stuck_at_0};
+use super::tokens::{B, D, TWO_0, TWO_2, X};
 use ht_check::{Finding, FreshWindow, judge_walk};
 use ht_net::Circuit;
 use ht_samples::{TOGGLE, TWINS};
@@ -8,23 +9,7 @@ use ht_tree::Token;
 use std::alloc::{AllocError, Global};
 use std::test::Fail;
 
-const D: Token = Token::Dead;
-
-const B: Token = Token::Before;
-
-/// The latch of the toggle is decided.
-const X: Token = Token::Three { var: 0 };
-
-/// The first input is decided in the first frame and in the second one.
-const FIRST: Token = Token::Two {
-    var: 0,
-    first: true,
-};
-
-const SECOND: Token = Token::Two {
-    var: 2,
-    first: true,
-};
+// Variables 0 and 2 of the twins are the first input in the first frame and in the second one.
 
 /// A window; net 1 is stuck at 0 where it looks for a difference.
 #[derive(Clone, Copy)]
@@ -80,20 +65,6 @@ fn back(
     judge_walk(alloc, &mut window, tokens)
 }
 
-/// What tokens are to a window of a circuit.
-fn judged(
-    alloc: Global,
-    circuit: &Circuit,
-    kind: Kind,
-    tokens: &[Token],
-) -> Result<Finding, AllocError> {
-    match kind {
-        Kind::Sweep(frames) => sweep(alloc, circuit, frames, tokens),
-        Kind::Ahead(frames, good, faulty) => ahead(alloc, circuit, frames, (good, faulty), tokens),
-        Kind::Back(limit, cube) => back(alloc, circuit, cube, limit, tokens),
-    }
-}
-
 /// A circuit, a window of it and tokens, and what these are to it.
 type Row = (&'static [u8], Kind, &'static [Token], Finding);
 
@@ -103,19 +74,19 @@ const ROWS: &[Row] = &[
     (
         TWINS,
         Kind::Sweep(2),
-        &[FIRST, D, D],
+        &[TWO_0, D, D],
         Finding::Complete { weight: 6 },
     ),
     (
         TWINS,
         Kind::Sweep(3),
-        &[FIRST, SECOND, D, D, SECOND, D, D],
+        &[TWO_0, TWO_2, D, D, TWO_2, D, D],
         Finding::Complete { weight: 21 },
     ),
     (
         TWINS,
         Kind::Sweep(2),
-        &[FIRST, D],
+        &[TWO_0, D],
         Finding::Open { weight: 4 },
     ),
     (TWINS, Kind::Sweep(2), &[D], Finding::Unfit),
@@ -123,7 +94,7 @@ const ROWS: &[Row] = &[
     (
         TWINS,
         Kind::Back(32, &[One, Zero]),
-        &[FIRST, D, D],
+        &[TWO_0, D, D],
         Finding::Complete { weight: 3 },
     ),
     // the good toggle stays unknown, also where the faulty one is 0
@@ -175,10 +146,20 @@ const ROWS: &[Row] = &[
     (TOGGLE, Kind::Back(1, &[One]), &[X, B, X], Finding::Unfit),
 ];
 
+/// What the tokens of a row are to its window.
+fn judged(alloc: Global, circuit: &Circuit, row: Row) -> Result<Finding, AllocError> {
+    let (_, kind, tokens, _) = row;
+    match kind {
+        Kind::Sweep(frames) => sweep(alloc, circuit, frames, tokens),
+        Kind::Ahead(frames, good, faulty) => ahead(alloc, circuit, frames, (good, faulty), tokens),
+        Kind::Back(limit, cube) => back(alloc, circuit, cube, limit, tokens),
+    }
+}
+
 fn is_as_said(alloc: Global, row: Row) -> Result<bool, Fail> {
-    let (text, kind, tokens, want) = row;
+    let (text, _, _, want) = row;
     let circuit = circuit_of(alloc, text)?;
-    Ok(judged(alloc, &circuit, kind, tokens)? == want)
+    Ok(judged(alloc, &circuit, row)? == want)
 }
 
 #[test]

@@ -37,62 +37,49 @@ type Row = (From, &'static [bool], Option<Choice>, Status);
 
 const A: Site = Site::Stem(NetId(0));
 
-const TWO_0: Option<Choice> = Some(Choice::Two {
-    var: 0,
-    first: true,
-});
+// A variable, and its value that comes first.
+macro_rules! two {
+    ($var:expr, $first:expr) => {
+        Some(Choice::Two {
+            var: $var,
+            first: $first,
+        })
+    };
+}
 
-const TWO_1: Option<Choice> = Some(Choice::Two {
-    var: 1,
-    first: true,
-});
+const TWO_0: Option<Choice> = two!(0, true);
 
-const TWO_3: Option<Choice> = Some(Choice::Two {
-    var: 3,
-    first: true,
-});
+const TWO_1: Option<Choice> = two!(1, true);
 
-const TWO_4: Option<Choice> = Some(Choice::Two {
-    var: 4,
-    first: true,
-});
+const TWO_3: Option<Choice> = two!(3, true);
+
+const TWO_4: Option<Choice> = two!(4, true);
 
 const THREE_1: Option<Choice> = Some(Choice::Three { var: 1 });
 
-const STATE_0: Status = Status::Sure {
-    frame: 0,
-    place: Spot::State(0),
-};
+// A frame, and the place that shows there.
+macro_rules! sure {
+    ($frame:expr, $place:expr) => {
+        Status::Sure {
+            frame: $frame,
+            place: $place,
+        }
+    };
+}
 
-const STATE_1: Status = Status::Sure {
-    frame: 0,
-    place: Spot::State(1),
-};
+const STATE_0: Status = sure!(0, Spot::State(0));
 
-const OUTPUT_0: Status = Status::Sure {
-    frame: 0,
-    place: Spot::Output(0),
-};
+const STATE_1: Status = sure!(0, Spot::State(1));
 
-const OUTPUT_1: Status = Status::Sure {
-    frame: 1,
-    place: Spot::Output(0),
-};
+const OUTPUT_0: Status = sure!(0, Spot::Output(0));
 
-const OUTPUT_2: Status = Status::Sure {
-    frame: 2,
-    place: Spot::Output(0),
-};
+const OUTPUT_1: Status = sure!(1, Spot::Output(0));
 
-const OUTPUT_3: Status = Status::Sure {
-    frame: 3,
-    place: Spot::Output(0),
-};
+const OUTPUT_2: Status = sure!(2, Spot::Output(0));
 
-const CUBE: Status = Status::Sure {
-    frame: 0,
-    place: Spot::Cube,
-};
+const OUTPUT_3: Status = sure!(3, Spot::Output(0));
+
+const CUBE: Status = sure!(0, Spot::Cube);
 
 const SHIFTED: &[Row] = &[
     // the next state of q is a place unless q is in the set, and then that of r is; r alone is an output
@@ -150,10 +137,7 @@ const SHIFTED: &[Row] = &[
     (From::Cube(1, &[Unk, Zero]), &[true], THREE_1, Dead),
 ];
 
-const ZERO_FIRST: Option<Choice> = Some(Choice::Two {
-    var: 0,
-    first: false,
-});
+const ZERO_FIRST: Option<Choice> = two!(0, false);
 
 const THREE_0: Option<Choice> = Some(Choice::Three { var: 0 });
 
@@ -197,105 +181,89 @@ fn led(window: &mut Window<'_>, values: &[bool]) -> Result<Option<Shown>, AllocE
     Ok(Some((choice, window.status())))
 }
 
-fn shows(
+/// A circuit, and values of the variables that a window of it chooses.
+#[derive(Clone, Copy)]
+struct Run<'a> {
     alloc: Global,
-    circuit: &Circuit,
-    fault: Option<Fault>,
-    frames: u32,
-    start: &Start,
-    values: &[bool],
-) -> Result<Option<Shown>, AllocError>
-    requires frames { frames ≤ MAX_FRAMES }
-    requires start { IsStart circuit.now fault frames (start_of start.now) }
-{
-    let mut window = Window::new(alloc, circuit, fault, frames, start)?;
-    led(&mut window, values)
+    circuit: &'a Circuit,
+    values: &'a [bool],
 }
 
-fn set_shows(
-    alloc: Global,
-    circuit: &Circuit,
-    fault: Fault,
-    marks: &[bool],
-    values: &[bool],
-) -> Result<Option<Shown>, AllocError> {
-    let start = Start::OneFrame {
-        z: Items::from_slice(alloc, marks)?,
-    };
-    shows(alloc, circuit, Some(fault), 1, &start, values)
-}
-
-fn unknown_shows(
-    alloc: Global,
-    circuit: &Circuit,
-    fault: Fault,
-    frames: u32,
-    values: &[bool],
-) -> Result<Option<Shown>, AllocError> {
-    if frames == 0 || frames > MAX_FRAMES {
-        return Ok(None);
+impl<'a> Run<'a> {
+    fn shows(
+        &self,
+        fault: Option<Fault>,
+        frames: u32,
+        start: &Start,
+    ) -> Result<Option<Shown>, AllocError>
+        requires frames { frames ≤ MAX_FRAMES }
+        requires start { IsStart self.now.circuit.now fault frames (start_of start.now) }
+    {
+        let mut window = Window::new(self.alloc, self.circuit, fault, frames, start)?;
+        led(&mut window, self.values)
     }
-    shows(alloc, circuit, Some(fault), frames, &Start::Unknown, values)
-}
 
-fn states_show(
-    alloc: Global,
-    circuit: &Circuit,
-    fault: Fault,
-    frames: u32,
-    states: (&[Tern], &[Tern]),
-    values: &[bool],
-) -> Result<Option<Shown>, AllocError> {
-    let (good, bad) = states;
-    let dffs = circuit.dffs() as usize;
-    if frames == 0 || frames > MAX_FRAMES || good.len() != dffs || bad.len() != dffs {
-        return Ok(None);
+    fn from_set(&self, net: u32, marks: &[bool]) -> Result<Option<Shown>, AllocError> {
+        let start = Start::OneFrame {
+            z: Items::from_slice(self.alloc, marks)?,
+        };
+        self.shows(Some(stuck_at_0(net)), 1, &start)
     }
-    let start = Start::Pair {
-        state: pair_state(alloc, good, bad)?,
-    };
-    shows(alloc, circuit, Some(fault), frames, &start, values)
-}
 
-fn cube_shows(
-    alloc: Global,
-    circuit: &Circuit,
-    limit: u32,
-    cube: &[Tern],
-    values: &[bool],
-) -> Result<Option<Shown>, AllocError> {
-    if cube.len() != circuit.dffs() as usize {
-        return Ok(None);
-    }
-    let start = Start::Back {
-        cube: Items::from_slice(alloc, cube)?,
-        limit,
-    };
-    shows(alloc, circuit, None, 1, &start, values)
-}
-
-fn shown(
-    alloc: Global,
-    circuit: &Circuit,
-    from: From,
-    values: &[bool],
-) -> Result<Option<Shown>, AllocError> {
-    match from {
-        From::Set(net, marks) => set_shows(alloc, circuit, stuck_at_0(net), marks, values),
-        From::Unknown(frames, site) => {
-            let fault = Fault { site, value: false };
-            unknown_shows(alloc, circuit, fault, frames, values)
+    fn from_unknown(&self, frames: u32, site: Site) -> Result<Option<Shown>, AllocError> {
+        if frames == 0 || frames > MAX_FRAMES {
+            return Ok(None);
         }
-        From::States(frames, net, good, bad) => {
-            states_show(alloc, circuit, stuck_at_0(net), frames, (good, bad), values)
+        let fault = Fault { site, value: false };
+        self.shows(Some(fault), frames, &Start::Unknown)
+    }
+
+    fn from_states(
+        &self,
+        frames: u32,
+        net: u32,
+        states: (&[Tern], &[Tern]),
+    ) -> Result<Option<Shown>, AllocError> {
+        let (good, bad) = states;
+        let dffs = self.circuit.dffs() as usize;
+        if frames == 0 || frames > MAX_FRAMES || good.len() != dffs || bad.len() != dffs {
+            return Ok(None);
         }
-        From::Cube(limit, cube) => cube_shows(alloc, circuit, limit, cube, values),
+        let start = Start::Pair {
+            state: pair_state(self.alloc, good, bad)?,
+        };
+        self.shows(Some(stuck_at_0(net)), frames, &start)
+    }
+
+    fn from_cube(&self, limit: u32, cube: &[Tern]) -> Result<Option<Shown>, AllocError> {
+        if cube.len() != self.circuit.dffs() as usize {
+            return Ok(None);
+        }
+        let start = Start::Back {
+            cube: Items::from_slice(self.alloc, cube)?,
+            limit,
+        };
+        self.shows(None, 1, &start)
+    }
+
+    fn from(&self, from: From) -> Result<Option<Shown>, AllocError> {
+        match from {
+            From::Set(net, marks) => self.from_set(net, marks),
+            From::Unknown(frames, site) => self.from_unknown(frames, site),
+            From::States(frames, net, good, bad) => self.from_states(frames, net, (good, bad)),
+            From::Cube(limit, cube) => self.from_cube(limit, cube),
+        }
     }
 }
 
 fn is_as_said(alloc: Global, circuit: &Circuit, row: Row) -> Result<bool, AllocError> {
     let (from, values, choice, status) = row;
-    Ok(shown(alloc, circuit, from, values)? == Some((choice, status)))
+    let run = Run {
+        alloc,
+        circuit,
+        values,
+    };
+    Ok(run.from(from)? == Some((choice, status)))
 }
 
 fn are_as_said(alloc: Global, circuit: &Circuit, rows: &[Row]) -> Result<bool, AllocError> {
