@@ -85,6 +85,17 @@ fn is_left(desk: &MemoryDesk, end: &End<'_>) -> bool {
     desk.file("r") == end.file && desk.out() == end.out && desk.err() == end.err
 }
 
+/// The status of the run, over a desk without files.
+pub fn status_on(
+    alloc: Global,
+    desk: &mut MemoryDesk,
+    start: &Setup<'_>,
+) -> Result<u8, AllocError> {
+    load(desk, start)?;
+    let words = words_of(alloc, start.words)?;
+    Ok(run(alloc, &words, desk))
+}
+
 // Whether the run comes out as it must, over a desk without files.
 fn holds_on(
     alloc: Global,
@@ -92,9 +103,7 @@ fn holds_on(
     start: &Setup<'_>,
     end: &End<'_>,
 ) -> Result<bool, AllocError> {
-    load(desk, start)?;
-    let words = words_of(alloc, start.words)?;
-    let status = run(alloc, &words, desk);
+    let status = status_on(alloc, desk, start)?;
     Ok(status == end.status && is_left(desk, end))
 }
 
