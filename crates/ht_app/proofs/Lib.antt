@@ -13,3 +13,9 @@ pub mod OutputLaws
 pub mod AskedLaws
 pub mod InputLaws
 pub mod StatusLaws
+pub mod PutLaws
+pub mod FrontLaws
+pub mod StepLaws
+pub mod EndLaws
+pub mod FinishLaws
+pub mod GenLaws

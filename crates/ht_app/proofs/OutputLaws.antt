@@ -16,9 +16,9 @@ use Rattle.ht_app.specs.Steps.{reading, IsBegun, IsReported, AreWorkedInto, IsNo
 
 -- ---- a finished run
 
-created_as : (name n : List ℕ) (a m b : DeskView) → m.named Report ≡ a.named Report → IsCreatedAs Report name m b
-    → name ≡ n → IsCreatedAs Report n a b
-created_as name n a m b same is e = subst (λ (l : List ℕ). IsCreatedAs Report l a b) e (record {
+pub created_as : (port : OutPort) (name n : List ℕ) (a m b : DeskView) → m.named port ≡ a.named port
+    → IsCreatedAs port name m b → name ≡ n → IsCreatedAs port n a b
+created_as port name n a m b same is e = subst (λ (l : List ℕ). IsCreatedAs port l a b) e (record {
   is_created = is.is_created;
   named = is.named ∙ ap (λ known. option_map (λ (_ : List ℕ). name) known) same;
 })
@@ -28,7 +28,7 @@ created_only : (job : Asked) (name : List ℕ) (a m b : DeskView) → output_nam
     → ((port : OutPort) → port ≢ Report → output_name job port ≡ None) → m.named Report ≡ a.named Report
     → IsCreatedAs Report name m b
     → (port : OutPort) (n : List ℕ) → output_name job port ≡ Some n → IsCreatedAs port n a b
-created_only job name a m b of none same is Report n e = created_as name n a m b same is
+created_only job name a m b of none same is Report n e = created_as Report name n a m b same is
     (let s : Some name ≡ Some n = sym of ∙ e in cc)
 created_only job name a m b of none same is Tests n e = let s : Some n ≡ None = sym e ∙ none Tests (λ p. cc) in cc
 created_only job name a m b of none same is Proofs n e = let s : Some n ≡ None = sym e ∙ none Proofs (λ p. cc) in cc
@@ -93,7 +93,7 @@ short_earlier text a m b same (inl is) = inl (is ∙ same)
 short_earlier text a m b same (inr is) =
     inr (is.0, is.1, is.2 ∙ ap (λ known. option_map (λ (_ : List ℕ). take is.0 text) known) same)
 
-stops_earlier : (body total : List ℕ) (a m b : DeskView) → m.written Report ≡ a.written Report
+pub stops_earlier : (body total : List ℕ) (a m b : DeskView) → m.written Report ≡ a.written Report
     → m.written Out ≡ a.written Out → StopsInReport body total m b → StopsInReport body total a b
 stops_earlier body total a m b report out (inl s) =
     inl (record { report = short_earlier body a m b report s.report; out = s.out ∙ out })

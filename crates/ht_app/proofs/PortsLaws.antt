@@ -30,7 +30,7 @@ reads_within job status ne in_port.Proofs off =
 reads_within job status ne in_port.Extra off =
     subst (λ (b : Bool). (not b && is_some (input_name job in_port.Extra)) ≡ false) ne off
 
-reading_within : (job : Asked) (status : ℕ) → (status == 3) ≡ false → IsWithin (reading job) (job_ports job status)
+pub reading_within : (job : Asked) (status : ℕ) → (status == 3) ≡ false → IsWithin (reading job) (job_ports job status)
 reading_within job status ne =
     record { reads = reads_within job status ne; creates = λ p. inl refl; writes = λ p off. refl }
 

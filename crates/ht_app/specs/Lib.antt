@@ -6,4 +6,6 @@ pub mod Truncated
 pub mod Errors
 pub mod Run
 pub mod Steps
+pub mod FileTexts
+pub mod Generating
 pub mod Simulation

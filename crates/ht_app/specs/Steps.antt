@@ -1,5 +1,5 @@
 -- What the steps of a run promise each other.
-use Rattle.std.specs.Prelude.{◌≡◌, ℕ, ◌++◌, List, IsTrue, Bool, true, false, Option, Some, None, is_some, Result, Ok, Err}
+use Rattle.std.specs.Prelude.{◌≡◌, ℕ, ◌≤◌, ◌++◌, List, IsTrue, Bool, true, false, Option, Some, None, is_some, Result, Ok, Err}
 use Rattle.std.specs.Option.{option_map}
 use Rattle.std.specs.Io.KnownBytes.{append_known}
 use Rattle.ht_ports.specs.Causes.{Rose}
@@ -11,7 +11,8 @@ use Rattle.ht_ports.specs.declared.ports.OutPort.TheVariants.{Report, Out}
 use Rattle.ht_net.specs.Netlist as net
 use Rattle.ht_bench.specs.Normal.{normal_text}
 use Rattle.ht_texts.specs.Tests.{IsMalformedTest}
-use Rattle.ht_asked.specs.Asked.{Asked, sim}
+use Rattle.ht_asked.specs.declared.limits.TheConstants.{MAX_BUDGET, MIN_BUDGET}
+use Rattle.ht_asked.specs.Asked.{Asked, sim, gen}
 use Rattle.ht_app.specs.declared.run_error.RunError.{RunError}
 use Rattle.ht_app.specs.declared.run_error.RunError.TheVariants.{TooLong, Refused, ReadFault, NoMemory, BadTests}
 use Rattle.ht_app.specs.Inputs.{IsInput, IsGoodNetlist, MayHold, AreInputs}
@@ -54,6 +55,11 @@ TestsCause c name old new _ = ⊥
 -- why the report of the two files wasn't made, whatever its name
 pub record SimulateCause (netlist_name tests_name : List ℕ) (old new : DeskView) (error : RunError) : Type 0 where
   pub cause : (report_name : List ℕ) → HasCause (sim netlist_name tests_name report_name) old new error
+
+-- the budget that the job gives is in its range
+abbrev pub HasBudget : Asked → Type 0
+HasBudget (gen netlist tests report proofs budget) = (MIN_BUDGET ≤ budget) × (budget ≤ MAX_BUDGET)
+HasBudget job = Unit {0}
 
 -- ---- what the steps touch
 

@@ -9,7 +9,7 @@ ghost use Rattle.ht_app.specs.Jobs.{input_name, HoldsInputs};
 ghost use Rattle.ht_app.specs.Changed.{ChangedOnly, Faultless, job_ports, ports_at};
 ghost use Rattle.ht_app.specs.Done.{IsDone, AskedIsDone};
 ghost use Rattle.ht_app.specs.Run.{EndsBy, HasCause, AskedHasCause};
-ghost use Rattle.ht_app.specs.Steps.{status_after};
+ghost use Rattle.ht_app.specs.Steps.{HasBudget, status_after};
 
 use crate::err_line::write_line;
 use crate::generate::generate;
@@ -20,8 +20,9 @@ use ht_ports::Desk;
 use ht_words::{Job, WordsFault, command};
 use std::alloc::Global;
 
-// Does a job.
+// Does a job, whose budget is in its range.
 fn do_job<D: Desk>(alloc: Global, job: &Job, desk: &mut D) -> Result<(), RunError>
+    requires { HasBudget (asked_by job.now) }
     ensures changed { ChangedOnly (job_ports (asked_by job.now) (status_after result))
         (D.view desk.old) (D.view desk.new) }
     ensures quiet { (D.view desk.new).written out_port.Err

@@ -1,15 +1,87 @@
 //! The command `gen`.
-ghost use Rattle.std.specs.Prelude.{◌≡◌, IfErr, OnOk};
+//!
+//! `create` makes the three files, `sizes` begins the proofs, `steps` writes the engine's steps, and `fill` does all of
+//! it, with the report at the end.
+ghost use Rattle.std.specs.Prelude.{◌≡◌, ◌≤◌, IfOk, IfErr, OnOk};
 ghost use Rattle.ht_ports.specs.declared.ports.OutPort.TheVariants as out_port;
+ghost use Rattle.ht_faults.specs.Sites.{faults_of};
+ghost use Rattle.ht_collapse.specs.Classes.{AreClasses};
 ghost use Rattle.ht_asked.specs.Asked as asked;
+ghost use Rattle.ht_asked.specs.declared.limits.TheConstants.{MAX_BUDGET, MIN_BUDGET};
+ghost use Rattle.ht_app.specs.FileTexts.{names_of};
 ghost use Rattle.ht_app.specs.Changed.{ChangedOnly, job_ports};
 ghost use Rattle.ht_app.specs.Done.{IsDone};
 ghost use Rattle.ht_app.specs.Run.{HasCause};
 ghost use Rattle.ht_app.specs.Steps.{status_after};
+ghost use Rattle.ht_app.specs.Generating.{FillCause, HasGenerated, LeavesFiles};
 
+mod create;
+mod fill;
+pub mod sizes;
+mod steps;
+
+use crate::generate::create::create_files;
+use crate::generate::fill::write_files;
+use crate::netlist::read_netlist;
 use crate::run_error::RunError;
+use ht_collapse::{Classes, collapse};
+use ht_engine::Engine;
+use ht_faults::FaultList;
+use ht_net::Circuit;
 use ht_ports::Desk;
-use std::alloc::Global;
+use std::alloc::{AllocError, Global};
+
+// The faults of a circuit, and their classes.
+#[derive(Drop)]
+struct Listed {
+    faults: FaultList,
+    classes: Classes,
+}
+
+// Lists the faults of a circuit, and finds their classes.
+fn list_faults(alloc: Global, circuit: &Circuit) -> Result<Listed, AllocError>
+    ensures faults { IfOk result (λ listed. listed.faults ≡ faults_of circuit.now) }
+    ensures classes { IfOk result (λ listed. AreClasses circuit.now listed.classes) }
+{
+    let faults = ht_faults::list(alloc, circuit)?;
+    let classes = collapse(alloc, circuit, &faults)?;
+    Ok(Listed { faults, classes })
+}
+
+// Creates the files, and writes them.
+fn make_files<D: Desk>(
+    alloc: Global,
+    circuit: &Circuit,
+    listed: &Listed,
+    tests: &str,
+    report: &str,
+    proofs: &str,
+    budget: u64,
+    desk: &mut D,
+) -> Result<(), RunError>
+    requires faults { listed.now.faults ≡ faults_of circuit.now }
+    requires classes { AreClasses circuit.now listed.now.classes }
+    requires budget { (MIN_BUDGET ≤ budget) × (budget ≤ MAX_BUDGET) }
+    ensures wrote { OnOk result
+        (HasGenerated (names_of tests.now report.now proofs.now) circuit.now budget
+        (D.view desk.old) (D.view desk.new)) }
+    ensures stops { IfErr result
+        (λ e. LeavesFiles (names_of tests.now report.now proofs.now) e circuit.now budget
+        (D.view desk.old) (D.view desk.new)) }
+    ensures cause { IfErr result (FillCause (D.view desk.old) (D.view desk.new)) }
+{
+    let mut engine = Engine::new(alloc, circuit, &listed.faults, &listed.classes, budget)?;
+    create_files(desk, tests, report, proofs)?;
+    write_files(
+        alloc,
+        circuit,
+        &listed.faults,
+        &listed.classes,
+        &mut engine,
+        desk,
+    )?;
+    Ok(())
+}
 
 /// Runs `gen`: reads the netlist, generates tests, and writes them, the proofs and the report. The budget is that of
 /// each search.
@@ -25,16 +97,23 @@ pub fn generate<D: Desk>(
     budget: u64,
     desk: &mut D,
 ) -> Result<(), RunError>
+    requires { (MIN_BUDGET ≤ budget) × (budget ≤ MAX_BUDGET) }
     ensures changed { ChangedOnly
         (job_ports (asked.gen netlist.now tests.now report.now proofs.now budget)
         (status_after result)) (D.view desk.old) (D.view desk.new) }
     ensures quiet { (D.view desk.new).written out_port.Err
         ≡ (D.view desk.old).written out_port.Err }
-    ensures done { OnOk result (IsDone (asked.gen netlist.now tests.now report.now proofs.now budget)
+    ensures done { OnOk result
+        (IsDone (asked.gen netlist.now tests.now report.now proofs.now budget)
         (D.view desk.old) (D.view desk.new)) }
     ensures cause { IfErr result
         (HasCause (asked.gen netlist.now tests.now report.now proofs.now budget)
         (D.view desk.old) (D.view desk.new)) }
 {
-    Err(RunError::NoMemory)
+    let circuit = read_netlist(alloc, desk, netlist)?;
+    let listed = list_faults(alloc, &circuit)?;
+    make_files(
+        alloc, &circuit, &listed, tests, report, proofs, budget, desk,
+    )?;
+    Ok(())
 }

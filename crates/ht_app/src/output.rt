@@ -1,7 +1,9 @@
 //! The file that a command writes, and its total line on Out.
-ghost use Rattle.std.specs.Prelude.{◌≡◌, true, false, is_ok, IfErr, OnOk, OnErr};
-ghost use Rattle.ht_ports.specs.Desk.{IsWritable, OutCall, Wrote};
+ghost use Rattle.std.specs.Prelude.{◌≡◌, ◌≢◌, true, false, is_ok, IfErr, OnOk, OnErr};
+ghost use Rattle.ht_ports.specs.Desk.{DeskView, IsWritable, OutCall, Wrote};
 ghost use Rattle.ht_ports.specs.declared.ports.OutPort.TheVariants as out_port;
+ghost use Rattle.ht_app.specs.FileTexts.{Names, Texts, with_more};
+ghost use Rattle.ht_app.specs.Generating.{HasPart, HasTexts, StaysWritable};
 ghost use Rattle.ht_app.specs.Changed.{ChangedOnly};
 ghost use Rattle.ht_app.specs.Truncated.{StopsInText, StopsInReport};
 ghost use Rattle.ht_app.specs.Run.{IsWriteFault};
@@ -22,6 +24,27 @@ fn write_text<D: Desk>(desk: &mut D, port: OutPort, text: &[u8]) -> Result<(), R
         Ok(()) => Ok(()),
         Err(Failed) => Err(RunError::WriteFault),
     }
+}
+
+/// Writes bytes to a file of `gen`, or on Out.
+///
+/// # Errors
+/// `WriteFault`: the desk counted a fault, and the bytes aren't whole.
+pub fn put<D: Desk>(desk: &mut D, port: OutPort, text: &[u8]) -> Result<(), RunError>
+    requires writable { IsWritable (D.view desk.old) port }
+    requires not_err { port ≢ out_port.Err }
+    ensures stays { StaysWritable (D.view desk.old) (D.view desk.new) }
+    ensures wrote { (names : Names) (texts : Texts) (first : DeskView)
+        → HasTexts names texts first (D.view desk.old)
+        → OnOk result (HasTexts names (with_more port text.now texts) first (D.view desk.new)) }
+    ensures stops { (names : Names) (texts : Texts) (first : DeskView)
+        → HasTexts names texts first (D.view desk.old)
+        → OnErr result (HasPart names port text.now texts first (D.view desk.new)) }
+    ensures error { IfErr result (λ e. e ≡ error.WriteFault) }
+    ensures fault { OnErr result (IsWriteFault (D.view desk.old) (D.view desk.new)) }
+{
+    write_text(desk, port, text)?;
+    Ok(())
 }
 
 /// Creates Report under this name, and begins it with this text.
