@@ -1,6 +1,5 @@
 -- How the writing of the files ends, and what it then leaves.
-use Rattle.std.proofs.Common.{◌≡◌, ◌⊎◌, inl, inr, ℕ, ◌<◌, List, [], ◌++◌, length, take, Bool, IsTrue, refl, sym, ◌∙◌, ap, subst, le_refl, arith}
-use Rattle.std.specs.Prelude.{Option, Some, None}
+use Rattle.std.proofs.Common.{◌≡◌, inl, inr, ℕ, List, [], take, Bool, IsTrue, refl, sym, ◌∙◌, ap, subst, le_refl, arith}
 use Rattle.std.specs.Option.{option_map}
 use Rattle.std.specs.Io.KnownBytes.{append_known}
 use Rattle.ht_ports.specs.Desk.{DeskView, IsAfter, Writes}

@@ -1,5 +1,5 @@
 -- The end of the files, once all steps are written.
-use Rattle.std.proofs.Common.{◌≡◌, inl, inr, ℕ, ◌≤◌, ◌<◌, ◌+◌, List, ◌++◌, length, take, refl, sym, ◌∙◌, ap, subst, arith}
+use Rattle.std.proofs.Common.{◌≡◌, inl, inr, ℕ, ◌≤◌, ◌+◌, List, ◌++◌, length, sym, ap, subst, arith}
 use Rattle.std.proofs.lemmas.List.{append-nil, length-append}
 use Rattle.ht_ports.specs.LineRule.{max_text_bytes}
 use Rattle.ht_ports.specs.Desk.{DeskView}

@@ -1,18 +1,15 @@
 -- The texts of steps as they grow, and their fronts.
 use Rattle.std.proofs.Common.{◌≡◌, inl, inr, ℕ, zero, suc, List, [], ◌∷◌, ◌++◌, take, refl, sym, ◌∙◌, ap, subst, arith}
-use Rattle.std.specs.Prelude.{flat_map}
 use Rattle.std.proofs.lemmas.List.{append-nil}
 use Rattle.ht_ports.specs.Desk.{DeskView}
 use Rattle.ht_ports.specs.declared.ports.OutPort.TheVariants.{Tests, Proofs}
-use Rattle.ht_texts.specs.Tests.{test_text}
 use Rattle.ht_engine.specs.declared.step.Step.{Step}
-use Rattle.ht_engine.specs.declared.step.Step.TheVariants.{Vectors, Entry, Finished}
 use Rattle.ht_engine.specs.Steps.{AreSteps}
 use Rattle.ht_engine.specs.EngineStands.{EngineView}
-use Rattle.ht_files.specs.StepTexts.{proofs_so_far, proofs_step, step_text, tests_of, tests_step}
+use Rattle.ht_files.specs.StepTexts.{proofs_so_far, proofs_step, tests_of, tests_step}
 use Rattle.ht_files.proofs.StepTextLaws.{proofs_grow, tests_grow}
 use Rattle.ht_app.specs.FileTexts.{Names, Texts, with_more}
-use Rattle.ht_app.specs.Generating.{HasAtMost, HasPart, HasStepPart, HasTexts, StopsEarly, bare, texts_so_far, with_part, with_step}
+use Rattle.ht_app.specs.Generating.{HasAtMost, HasPart, HasStepPart, HasTexts, StopsEarly, texts_so_far, with_step}
 
 take_nothing : (n : ℕ) → take {A = ℕ} n [] ≡ []
 take_nothing zero = refl

@@ -1,6 +1,6 @@
 -- The files of `gen`, carried to the run.
-use Rattle.std.proofs.Common.{◌≡◌, ◌⊎◌, inl, inr, ℕ, List, [], ◌++◌, Bool, true, false, refl, sym, ◌∙◌, ap, subst}
-use Rattle.std.specs.Prelude.{Option, Some, None, ◌==◌, nat_le}
+use Rattle.std.proofs.Common.{◌≡◌, ◌⊎◌, inl, inr, ℕ, List, [], Bool, true, false, refl, sym, ◌∙◌, ap}
+use Rattle.std.specs.Prelude.{Some, None, ◌==◌, nat_le}
 use Rattle.std.specs.Option.{option_map}
 use Rattle.std.specs.Io.KnownBytes.{append_known}
 use Rattle.ht_ports.specs.Desk.{DeskView, InCall}
@@ -23,7 +23,7 @@ use Rattle.ht_app.specs.Done.{IsDone, IsCreatedAs}
 use Rattle.ht_app.specs.Errors.{exit_status}
 use Rattle.ht_app.specs.Truncated.{HasText, IsEmptiedIf, IsTruncated, StopsInEnd, StopsInFiles, StopsInHead, StopsInLastFile, StopsInSteps}
 use Rattle.ht_app.specs.Run.{HasCause}
-use Rattle.ht_app.specs.Steps.{HasBudget, IsUnread, reading}
+use Rattle.ht_app.specs.Steps.{HasBudget, reading}
 use Rattle.ht_app.specs.Generating.{FillCause, HasGenerated, LeavesFiles, file_name, filling, is_gen_port}
 use Rattle.ht_app.proofs.ChangedLaws.{IsWithin, changed_by_reading, changed_trans, changed_within}
 use Rattle.ht_app.proofs.PortsLaws.{ends_reading, reading_within}

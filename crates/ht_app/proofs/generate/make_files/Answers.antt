@@ -1,4 +1,4 @@
-use Rattle.std.proofs.Common.{refl, rules}
+use Rattle.std.proofs.Common.{rules}
 use Rattle.ht_app.specs.declared.run_error.RunError.TheVariants.{NoMemory}
 use Rattle.ht_app.specs.FileTexts.{names_of}
 use Rattle.ht_app.proofs.EndLaws.{cause_later, fault_cause, has_of, leaves_nothing, leaves_of, nothing_created}

@@ -1,9 +1,9 @@
-use Rattle.std.proofs.Common.{◌≡◌, ◌≤◌, ◌+◌, List, ℕ, ◌++◌, length, inl, inr, sym, ◌∙◌, ap, subst, rules, arith}
+use Rattle.std.proofs.Common.{◌≤◌, ◌+◌, List, ℕ, ◌++◌, length, inl, inr, ◌∙◌, ap, subst, rules}
 use Rattle.ht_ports.specs.LineRule.{max_text_bytes}
-use Rattle.ht_files.specs.StepTexts.{proofs_of, proofs_so_far, tests_of}
+use Rattle.ht_files.specs.StepTexts.{proofs_so_far, tests_of}
 use Rattle.ht_app.specs.declared.run_error.RunError.TheVariants.{NoMemory}
 use Rattle.ht_app.specs.Generating.{HasAllSteps, HasTexts, StopsAtEnd, StopsFilling, end_text, ended}
-use Rattle.ht_app.proofs.EndLaws.{cause_later, fault_cause, stays_trans}
+use Rattle.ht_app.proofs.EndLaws.{cause_later}
 use Rattle.ht_app.proofs.FinishLaws.{all_generated, fits, generated, not_ended, stops_at_end}
 use Rattle.ht_app.proofs.generate.fill.write_files.Goals as goal
 

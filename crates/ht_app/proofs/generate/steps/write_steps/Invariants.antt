@@ -1,4 +1,4 @@
-use Rattle.std.proofs.Common.{◌-◌, ℕ, length, IsTrue}
+use Rattle.std.proofs.Common.{◌-◌, length, IsTrue}
 use Rattle.ht_ports.specs.Desk.{DeskView}
 use Rattle.ht_ports.specs.declared.ports.OutPort.TheVariants.{Tests, Proofs}
 use Rattle.ht_engine.specs.EngineStands.{HasSameWork}
