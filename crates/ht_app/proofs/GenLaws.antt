@@ -1,6 +1,6 @@
 -- The files of `gen`, carried to the run.
 use Rattle.std.proofs.Common.{◌≡◌, ◌⊎◌, inl, inr, ℕ, List, [], Bool, true, false, refl, sym, ◌∙◌, ap}
-use Rattle.std.specs.Prelude.{Some, None, ◌==◌, nat_le}
+use Rattle.std.specs.Prelude.{Option, Some, None, ◌==◌, nat_le}
 use Rattle.std.specs.Option.{option_map}
 use Rattle.std.specs.Io.KnownBytes.{append_known}
 use Rattle.ht_ports.specs.Desk.{DeskView, InCall}
@@ -68,26 +68,12 @@ stops_before c budget a m b read (inr (inl s)) = inr (inl (record {
   report = text_earlier Report _ a m b read.written s.report;
   proofs = text_earlier Proofs _ a m b read.written s.proofs;
 }))
-stops_before c budget a m b read (inr (inr (inl s))) = inr (inr (inl (record {
-  representatives = s.representatives;
-  whole = s.whole;
-  begun = s.begun;
-  count = s.count;
-  classes = s.classes;
-  one = s.one;
-  steps_are = s.steps_are;
+stops_before c budget a m b read (inr (inr (inl s))) = inr (inr (inl (record s {
   tests = text_earlier Tests _ a m b read.written s.tests;
   proofs = text_earlier Proofs _ a m b read.written s.proofs;
   report = text_earlier Report _ a m b read.written s.report;
 })))
-stops_before c budget a m b read (inr (inr (inr s))) = inr (inr (inr (record {
-  representatives = s.representatives;
-  steps = s.steps;
-  count = s.count;
-  classes = s.classes;
-  steps_are = s.steps_are;
-  finished = s.finished;
-  short = s.short;
+stops_before c budget a m b read (inr (inr (inr s))) = inr (inr (inr (record s {
   tests = text_earlier Tests _ a m b read.written s.tests;
   proofs = text_earlier Proofs _ a m b read.written s.proofs;
   report = text_earlier Report _ a m b read.written s.report;
@@ -95,18 +81,32 @@ stops_before c budget a m b read (inr (inr (inr s))) = inr (inr (inr (record {
 
 last_earlier : (c : net.Netlist) (budget : ℕ) (a m b : DeskView) → m.written ≡ a.written
     → StopsInLastFile c budget m b → StopsInLastFile c budget a b
-last_earlier c budget a m b same s = record {
-  tests = s.tests;
-  proofs = s.proofs;
-  body = s.body;
-  total = s.total;
-  generated = s.generated;
+last_earlier c budget a m b same s = record s {
   tests_stand = s.tests_stand ∙ ap (λ f. option_map (λ (_ : List ℕ). s.tests) (f Tests)) same;
   proofs_stand = s.proofs_stand ∙ ap (λ f. option_map (λ (_ : List ℕ). s.proofs) (f Proofs)) same;
   stops = stops_earlier s.body s.total a m b (ap (λ f. f Report) same) (ap (λ f. f Out) same) s.stops;
 }
 
 -- ---- a job
+
+-- what creates the three files creates each where its name is
+created_alike : (names : Names) (creates : OutPort → Option (List ℕ)) → Some names.tests ≡ creates Tests
+    → Some names.report ≡ creates Report → Some names.proofs ≡ creates Proofs
+    → (p : OutPort) → (file_name names p ≡ None) ⊎ (file_name names p ≡ creates p)
+created_alike names creates tests report proofs Tests = inr tests
+created_alike names creates tests report proofs Report = inr report
+created_alike names creates tests report proofs Proofs = inr proofs
+created_alike names creates tests report proofs Out = inl refl
+created_alike names creates tests report proofs Err = inl refl
+
+-- what writes the three files and Out leaves out none of them
+written_alike : (writes : OutPort → Bool) → writes Tests ≡ true → writes Report ≡ true → writes Proofs ≡ true
+    → writes Out ≡ true → (p : OutPort) → writes p ≡ false → is_gen_port p ≡ false
+written_alike writes tests report proofs out Tests off = cc
+written_alike writes tests report proofs out Report off = cc
+written_alike writes tests report proofs out Proofs off = cc
+written_alike writes tests report proofs out Out off = cc
+written_alike writes tests report proofs out Err off = refl
 
 module _ (netlist : List ℕ) (names : Names) (budget : ℕ) where
   abbrev job : Asked
@@ -141,49 +141,26 @@ module _ (netlist : List ℕ) (names : Names) (budget : ℕ) where
       written Err off = x.written Err refl
 
   finishing : IsWithin (filling names) (job_ports job 0)
-  finishing = record { reads = λ p off. refl; creates = creates; writes = writes }
-    where
-      creates : (p : OutPort) → (file_name names p ≡ None) ⊎ (file_name names p ≡ (job_ports job 0).creates p)
-      creates Tests = inr refl
-      creates Report = inr refl
-      creates Proofs = inr refl
-      creates Out = inl refl
-      creates Err = inl refl
-
-      writes : (p : OutPort) → (job_ports job 0).writes p ≡ false → is_gen_port p ≡ false
-      writes Tests off = cc
-      writes Report off = cc
-      writes Proofs off = cc
-      writes Out off = cc
-      writes Err off = refl
+  finishing = record {
+    reads = λ p off. refl;
+    creates = created_alike names (job_ports job 0).creates refl refl refl;
+    writes = written_alike (job_ports job 0).writes refl refl refl refl;
+  }
 
   failing : IsWithin (filling names) (job_ports job 5)
-  failing = record { reads = λ p off. refl; creates = creates; writes = writes }
-    where
-      creates : (p : OutPort) → (file_name names p ≡ None) ⊎ (file_name names p ≡ (job_ports job 5).creates p)
-      creates Tests = inr refl
-      creates Report = inr refl
-      creates Proofs = inr refl
-      creates Out = inl refl
-      creates Err = inl refl
-
-      writes : (p : OutPort) → (job_ports job 5).writes p ≡ false → is_gen_port p ≡ false
-      writes Tests off = cc
-      writes Report off = cc
-      writes Proofs off = cc
-      writes Out off = cc
-      writes Err off = refl
+  failing = record {
+    reads = λ p off. refl;
+    creates = created_alike names (job_ports job 5).creates refl refl refl;
+    writes = written_alike (job_ports job 5).writes refl refl refl refl;
+  }
 
   running_out : IsWithin files (job_ports job 6)
-  running_out = record { reads = λ p off. refl; creates = creates; writes = writes }
+  running_out = record {
+    reads = λ p off. refl;
+    creates = created_alike names (job_ports job 6).creates refl refl refl;
+    writes = writes;
+  }
     where
-      creates : (p : OutPort) → (file_name names p ≡ None) ⊎ (file_name names p ≡ (job_ports job 6).creates p)
-      creates Tests = inr refl
-      creates Report = inr refl
-      creates Proofs = inr refl
-      creates Out = inl refl
-      creates Err = inl refl
-
       writes : (p : OutPort) → (job_ports job 6).writes p ≡ false → is_file p ≡ false
       writes Tests off = cc
       writes Report off = cc
