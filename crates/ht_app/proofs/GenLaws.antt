@@ -68,20 +68,39 @@ stops_before c budget a m b read (inr (inl s)) = inr (inl (record {
   report = text_earlier Report _ a m b read.written s.report;
   proofs = text_earlier Proofs _ a m b read.written s.proofs;
 }))
-stops_before c budget a m b read (inr (inr (inl s))) = inr (inr (inl (record s {
+stops_before c budget a m b read (inr (inr (inl s))) = inr (inr (inl (record {
+  representatives = s.representatives;
+  classes = s.classes;
+  whole = s.whole;
+  begun = s.begun;
+  count = s.count;
   tests = text_earlier Tests _ a m b read.written s.tests;
   proofs = text_earlier Proofs _ a m b read.written s.proofs;
   report = text_earlier Report _ a m b read.written s.report;
+  one = s.one;
+  steps_are = s.steps_are;
 })))
-stops_before c budget a m b read (inr (inr (inr s))) = inr (inr (inr (record s {
+stops_before c budget a m b read (inr (inr (inr s))) = inr (inr (inr (record {
+  representatives = s.representatives;
+  classes = s.classes;
+  steps = s.steps;
+  count = s.count;
   tests = text_earlier Tests _ a m b read.written s.tests;
   proofs = text_earlier Proofs _ a m b read.written s.proofs;
   report = text_earlier Report _ a m b read.written s.report;
+  steps_are = s.steps_are;
+  finished = s.finished;
+  short = s.short;
 })))
 
 last_earlier : (c : net.Netlist) (budget : ℕ) (a m b : DeskView) → m.written ≡ a.written
     → StopsInLastFile c budget m b → StopsInLastFile c budget a b
-last_earlier c budget a m b same s = record s {
+last_earlier c budget a m b same s = record {
+  tests = s.tests;
+  proofs = s.proofs;
+  body = s.body;
+  total = s.total;
+  generated = s.generated;
   tests_stand = s.tests_stand ∙ ap (λ f. option_map (λ (_ : List ℕ). s.tests) (f Tests)) same;
   proofs_stand = s.proofs_stand ∙ ap (λ f. option_map (λ (_ : List ℕ). s.proofs) (f Proofs)) same;
   stops = stops_earlier s.body s.total a m b (ap (λ f. f Report) same) (ap (λ f. f Out) same) s.stops;

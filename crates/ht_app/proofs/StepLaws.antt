@@ -116,7 +116,14 @@ pub all_made : (names : Names) (old new : EngineView) (step : Step) (sizes : Siz
 all_made names old new step sizes first m is same h made =
     let last : Makes old new h.steps Finished = subst (Makes old new h.steps) is made in
     record {
-      has = record h { stands = last.1 };
+      has = record {
+        steps = h.steps;
+        stands = last.1;
+        has = h.has;
+        tests_count = h.tests_count;
+        proofs_count = h.proofs_count;
+        short = h.short;
+      };
       finished = finished_as old new h.steps same last.0;
     }
 

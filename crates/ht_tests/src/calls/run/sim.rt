@@ -7,62 +7,27 @@ use std::test::Fail;
 
 // The report of s27, but for the two faults that the vector 1100 shows: fault 17 comes after the first of these texts,
 // and fault 30 after the second.
-const S27_TO_16: &[u8] = b"circuit inputs 4 outputs 1 flip-flops 3 gates 10 faults 52 classes 32
-1 G0 s-a-0 undetected
-2 G0 s-a-1 undetected
-3 G1 s-a-0 undetected
-4 G1 s-a-1 undetected
-5 G2 s-a-0 undetected
-6 G2 s-a-1 undetected
-7 G3 s-a-0 undetected
-8 G3 s-a-1 undetected
-9 G5 s-a-0 undetected
-10 G5 s-a-1 undetected
-11 G6 s-a-0 undetected
-12 G6 s-a-1 undetected
-13 G7 s-a-0 undetected
-14 G7 s-a-1 as 4
-15 G14 s-a-0 as 2
-16 G14 s-a-1 as 1
-";
+const S27_TO_16: &[u8] = b"circuit inputs 4 outputs 1 flip-flops 3 gates 10 faults 52 classes 32\n\
+    1 G0 s-a-0 undetected\n2 G0 s-a-1 undetected\n3 G1 s-a-0 undetected\n\
+    4 G1 s-a-1 undetected\n5 G2 s-a-0 undetected\n6 G2 s-a-1 undetected\n\
+    7 G3 s-a-0 undetected\n8 G3 s-a-1 undetected\n9 G5 s-a-0 undetected\n\
+    10 G5 s-a-1 undetected\n11 G6 s-a-0 undetected\n12 G6 s-a-1 undetected\n\
+    13 G7 s-a-0 undetected\n14 G7 s-a-1 as 4\n15 G14 s-a-0 as 2\n16 G14 s-a-1 as 1\n";
 
-const S27_TO_29: &[u8] = b"18 G17 s-a-1 undetected
-19 G8 s-a-0 as 11
-20 G8 s-a-1 undetected
-21 G15 s-a-0 as 10
-22 G15 s-a-1 undetected
-23 G16 s-a-0 as 10
-24 G16 s-a-1 as 8
-25 G9 s-a-0 undetected
-26 G9 s-a-1 as 10
-27 G10 s-a-0 undetected
-28 G10 s-a-1 undetected
-29 G11 s-a-0 as 10
-";
+const S27_TO_29: &[u8] =
+    b"18 G17 s-a-1 undetected\n19 G8 s-a-0 as 11\n20 G8 s-a-1 undetected\n21 G15 s-a-0 as 10\n\
+    22 G15 s-a-1 undetected\n23 G16 s-a-0 as 10\n24 G16 s-a-1 as 8\n25 G9 s-a-0 undetected\n\
+    26 G9 s-a-1 as 10\n27 G10 s-a-0 undetected\n28 G10 s-a-1 undetected\n\
+    29 G11 s-a-0 as 10\n";
 
-const S27_TO_52: &[u8] = b"31 G12 s-a-0 as 4
-32 G12 s-a-1 undetected
-33 G13 s-a-0 as 6
-34 G13 s-a-1 undetected
-35 G6(1) s-a-0 undetected
-36 G6(1) s-a-1 undetected
-37 G17(1) s-a-0 as 18
-38 G17(1) s-a-1 as 17
-39 G8(1) s-a-0 as 11
-40 G8(1) s-a-1 undetected
-41 G15(1) s-a-0 undetected
-42 G15(1) s-a-1 as 22
-43 G15(2) s-a-0 undetected
-44 G15(2) s-a-1 as 22
-45 G16(2) s-a-0 undetected
-46 G16(2) s-a-1 as 8
-47 G10(1) s-a-0 undetected
-48 G10(1) s-a-1 as 27
-49 G10(2) s-a-0 undetected
-50 G10(2) s-a-1 as 27
-51 G13(2) s-a-0 undetected
-52 G13(2) s-a-1 as 6
-";
+const S27_TO_52: &[u8] =
+    b"31 G12 s-a-0 as 4\n32 G12 s-a-1 undetected\n33 G13 s-a-0 as 6\n34 G13 s-a-1 undetected\n\
+    35 G6(1) s-a-0 undetected\n36 G6(1) s-a-1 undetected\n37 G17(1) s-a-0 as 18\n\
+    38 G17(1) s-a-1 as 17\n39 G8(1) s-a-0 as 11\n40 G8(1) s-a-1 undetected\n\
+    41 G15(1) s-a-0 undetected\n42 G15(1) s-a-1 as 22\n43 G15(2) s-a-0 undetected\n\
+    44 G15(2) s-a-1 as 22\n45 G16(2) s-a-0 undetected\n46 G16(2) s-a-1 as 8\n\
+    47 G10(1) s-a-0 undetected\n48 G10(1) s-a-1 as 27\n49 G10(2) s-a-0 undetected\n\
+    50 G10(2) s-a-1 as 27\n51 G13(2) s-a-0 undetected\n52 G13(2) s-a-1 as 6\n";
 
 // The report of s27 where this is said of both faults.
 fn s27_report(alloc: Global, said: &[u8], total: &[u8]) -> Result<Vec<u8>, AllocError> {
@@ -110,50 +75,29 @@ const EMPTY_REPORT: &[u8] =
     b"circuit inputs 0 outputs 0 flip-flops 0 gates 0 faults 0 classes 0\ntotal 0 detected 0\n";
 
 // A stem shows at the output of its own net first, and a pin after it at the gate only.
-const AND_REPORT: &[u8] = b"circuit inputs 2 outputs 2 flip-flops 0 gates 1 faults 8 classes 6
-1 a s-a-0 detected 1 a
-2 a s-a-1 detected 2 a
-3 b s-a-0 detected 1 z
-4 b s-a-1 undetected
-5 z s-a-0 as 3
-6 z s-a-1 detected 2 z
-7 z(1) s-a-0 as 3
-8 z(1) s-a-1 detected 2 z
-total 6 detected 5
-";
+const AND_REPORT: &[u8] = b"circuit inputs 2 outputs 2 flip-flops 0 gates 1 faults 8 classes 6\n\
+    1 a s-a-0 detected 1 a\n2 a s-a-1 detected 2 a\n3 b s-a-0 detected 1 z\n\
+    4 b s-a-1 undetected\n5 z s-a-0 as 3\n6 z s-a-1 detected 2 z\n7 z(1) s-a-0 as 3\n\
+    8 z(1) s-a-1 detected 2 z\ntotal 6 detected 5\n";
 
 // A NAND of one pin inverts.
 const NAND: &[u8] = b"INPUT(a)\nOUTPUT(z)\nz = NAND(a)\n";
 
-const NAND_REPORT: &[u8] = b"circuit inputs 1 outputs 1 flip-flops 0 gates 1 faults 4 classes 2
-1 a s-a-0 undetected
-2 a s-a-1 undetected
-3 z s-a-0 as 2
-4 z s-a-1 as 1
-total 2 detected 0
-";
+const NAND_REPORT: &[u8] = b"circuit inputs 1 outputs 1 flip-flops 0 gates 1 faults 4 classes 2\n\
+    1 a s-a-0 undetected\n2 a s-a-1 undetected\n3 z s-a-0 as 2\n4 z s-a-1 as 1\n\
+    total 2 detected 0\n";
 
 // a feeds a flip-flop and a gate, and q the gate and an output. The output mark of q is a load and no site; z has one
 // load, so its pin is no site.
 const FANOUTS: &[u8] = b"INPUT(a)\nq = DFF(a)\nOUTPUT(q)\nz = AND(a, q)\ny = NOT(z)\n";
 
-const FANOUTS_REPORT: &[u8] = b"circuit inputs 1 outputs 1 flip-flops 1 gates 2 faults 14 classes 10
-1 a s-a-0 undetected
-2 a s-a-1 undetected
-3 q s-a-0 undetected
-4 q s-a-1 undetected
-5 z s-a-0 undetected
-6 z s-a-1 undetected
-7 y s-a-0 as 6
-8 y s-a-1 as 5
-9 q(1) s-a-0 undetected
-10 q(1) s-a-1 undetected
-11 z(1) s-a-0 as 5
-12 z(1) s-a-1 undetected
-13 z(2) s-a-0 as 5
-14 z(2) s-a-1 undetected
-total 10 detected 0
-";
+const FANOUTS_REPORT: &[u8] =
+    b"circuit inputs 1 outputs 1 flip-flops 1 gates 2 faults 14 classes 10\n\
+    1 a s-a-0 undetected\n2 a s-a-1 undetected\n3 q s-a-0 undetected\n4 q s-a-1 undetected\n\
+    5 z s-a-0 undetected\n6 z s-a-1 undetected\n7 y s-a-0 as 6\n8 y s-a-1 as 5\n\
+    9 q(1) s-a-0 undetected\n10 q(1) s-a-1 undetected\n11 z(1) s-a-0 as 5\n\
+    12 z(1) s-a-1 undetected\n13 z(2) s-a-0 as 5\n14 z(2) s-a-1 undetected\n\
+    total 10 detected 0\n";
 
 const CRLF: &[u8] = b"INPUT(a)\r\nOUTPUT(r)\r\nq = DFF(a)\r\nr = DFF(q)";
 
