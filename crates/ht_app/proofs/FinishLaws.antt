@@ -16,7 +16,7 @@ use Rattle.ht_app.specs.declared.run_error.RunError.{RunError}
 use Rattle.ht_app.specs.declared.run_error.RunError.TheVariants.{WriteFault}
 use Rattle.ht_app.specs.declared.generate.sizes.Sizes.{Sizes}
 use Rattle.ht_app.specs.FileTexts.{Names}
-use Rattle.ht_app.specs.Generating.{AreGenerated, HasAllSteps, HasGenerated, HasPart, HasTexts, StopsAtEnd, StopsEarly, StopsEnding, StopsFilling, StopsInReporting, StopsLast, bare, end_text, ended, texts_so_far}
+use Rattle.ht_app.specs.Generating.{AreGenerated, HasAllSteps, HasGenerated, HasPart, HasTexts, StopsAtEnd, StopsEarly, StopsEnding, StopsFilling, StopsInReporting, StopsLast, bare, end_text, whole_texts, texts_so_far}
 
 steps_as : (old new : EngineView) (steps : List Step) → HasSameWork old new
     → AreSteps new.circuit new.representatives new.budget steps
@@ -97,12 +97,13 @@ stops_reporting names error c budget steps body total first b is stops made = re
 }
 
 pub all_generated : (names : Names) (c : net.Netlist) (budget : ℕ) (steps : List Step) (body total : List ℕ)
-    (first b : DeskView) → HasTexts names (ended (tests_of steps) (proofs_so_far steps ++ end_text) body total) first b
+    (first b : DeskView)
+    → HasTexts names (whole_texts (tests_of steps) (proofs_so_far steps ++ end_text) body total) first b
     → AreGenerated c budget (tests_of steps) (body ++ total) (proofs_of steps) total
     → HasGenerated names c budget first b
 all_generated names c budget steps body total first b has made = record {
-  texts = ended (tests_of steps) (proofs_of steps) body total;
-  has = subst (λ (l : List ℕ). HasTexts names (ended (tests_of steps) l body total) first b)
+  texts = whole_texts (tests_of steps) (proofs_of steps) body total;
+  has = subst (λ (l : List ℕ). HasTexts names (whole_texts (tests_of steps) l body total) first b)
       (sym (proofs_end steps)) has;
   generated = made;
 }

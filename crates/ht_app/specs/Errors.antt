@@ -22,7 +22,8 @@ exit_status NoMemory = 6
 exit_status (BadTests line) = 7
 
 abbrev pub err_line : RunError → List ℕ
-err_line Usage = codes "usage: sim NETLIST TESTS REPORT, gen NETLIST TESTS REPORT PROOFS [--budget N], norm NETLIST OUT\n"
+err_line Usage =
+    codes "usage: sim NETLIST TESTS REPORT, gen NETLIST TESTS REPORT PROOFS [--budget N], norm NETLIST OUT\n"
 err_line TooLong = codes "netlist: too long\n"
 err_line (Refused error) = codes "netlist: " ++ (refusal_text error ++ codes "\n")
 err_line ReadFault = codes "read fault\n"

@@ -97,14 +97,14 @@ with_step step texts = record texts
     { tests = texts.tests ++ tests_step step; proofs = texts.proofs ++ proofs_step step }
 
 -- a front of it does
-abbrev pub with_part : ℕ → Step → Texts → Texts
-with_part count step texts = record texts
+abbrev pub with_front : ℕ → Step → Texts → Texts
+with_front count step texts = record texts
     { tests = texts.tests ++ take count (tests_step step); proofs = texts.proofs ++ take count (proofs_step step) }
 
 -- the files stand with a front of the step's text
 pub record HasStepPart (names : Names) (step : Step) (texts : Texts) (old new : DeskView) : Type 0 where
   pub count : ℕ
-  pub has : HasTexts names (with_part count step texts) old new
+  pub has : HasTexts names (with_front count step texts) old new
 
 abbrev pub end_text : List ℕ
 end_text = with_lf (line_text End)
@@ -163,8 +163,8 @@ pub record StopsEarly (names : Names) (e : EngineView) (old new : DeskView) : Ty
 -- ---- the end
 
 -- the files of a finished run, and its total line
-abbrev pub ended : List ℕ → List ℕ → List ℕ → List ℕ → Texts
-ended tests proofs body total = record { tests = tests; report = body ++ total; proofs = proofs; out = total }
+abbrev pub whole_texts : List ℕ → List ℕ → List ℕ → List ℕ → Texts
+whole_texts tests proofs body total = record { tests = tests; report = body ++ total; proofs = proofs; out = total }
 
 -- The tests and the proofs are whole, and the report isn't.
 pub record StopsLast (names : Names) (tests proofs body total : List ℕ) (old new : DeskView) : Type 0 where

@@ -8,7 +8,7 @@ ghost use Rattle.ht_faults.specs.Sites.{faults_of};
 ghost use Rattle.ht_collapse.specs.Classes.{AreClasses};
 ghost use Rattle.ht_asked.specs.Asked as asked;
 ghost use Rattle.ht_asked.specs.declared.limits.TheConstants.{MAX_BUDGET, MIN_BUDGET};
-ghost use Rattle.ht_app.specs.FileTexts.{names_of};
+ghost use Rattle.ht_app.specs.FileTexts.{file_names_of};
 ghost use Rattle.ht_app.specs.Changed.{ChangedOnly, job_ports};
 ghost use Rattle.ht_app.specs.Done.{IsDone};
 ghost use Rattle.ht_app.specs.Run.{HasCause};
@@ -63,10 +63,10 @@ fn make_files<D: Desk>(
     requires classes { AreClasses circuit.now listed.now.classes }
     requires budget { (MIN_BUDGET ≤ budget) × (budget ≤ MAX_BUDGET) }
     ensures wrote { OnOk result
-        (HasGenerated (names_of tests.now report.now proofs.now) circuit.now budget
+        (HasGenerated (file_names_of tests.now report.now proofs.now) circuit.now budget
         (D.view desk.old) (D.view desk.new)) }
     ensures stops { IfErr result
-        (λ e. LeavesFiles (names_of tests.now report.now proofs.now) e circuit.now budget
+        (λ e. LeavesFiles (file_names_of tests.now report.now proofs.now) e circuit.now budget
         (D.view desk.old) (D.view desk.new)) }
     ensures cause { IfErr result (FillCause (D.view desk.old) (D.view desk.new)) }
 {

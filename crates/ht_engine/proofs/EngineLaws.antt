@@ -31,7 +31,7 @@ use Rattle.ht_engine.specs.EngineOf.{IsEngine}
 use Rattle.ht_engine.specs.EngineStands.{AllPass, EngineStandsFor, EngineView, HasSameWork, IsKindIn, IsOfKind, IsSaid, Makes, MakesStep, MeansOfStep, kind_at}
 use Rattle.ht_engine.specs.FaultWork.{IsWork, WorkHolds}
 use Rattle.ht_engine.specs.OneStep.{Advances, Ends, GivesEntry, GivesList, IsNextUndetected, IsUndetected, kind_of_entry, said_by}
-use Rattle.ht_engine.specs.Steps.{AreFinished, AwaitsVerdict, Follows, IsNextFault, entries_of, one_more, vectors_of}
+use Rattle.ht_engine.specs.Steps.{AreFinished, AwaitsVerdict, Follows, IsNextFault, entries_of, one_more, vectors_of_steps}
 use Rattle.ht_engine.proofs.StepLaws.{awaited_before, contains_last, entries_more, entries_with_list, has_cases, has_last, numbered, vectors_more, vectors_with_entry}
 
 -- ---- what is undetected
@@ -92,7 +92,7 @@ module _ (e new : EngineView) (steps : List Step) (s : EngineStandsFor e steps) 
 
   pub list_useful : MeansOfStep e steps (Vectors list)
   list_useful =
-      let d = g.holds.detects (vectors_of steps) in
+      let d = g.holds.detects (vectors_of_steps steps) in
       record {
         fault = g.fault;
         awaited = (is_next e steps s g.fault g.next).awaits;
@@ -103,7 +103,7 @@ module _ (e new : EngineView) (steps : List Step) (s : EngineStandsFor e steps) 
 
   detected_now : ¬ AwaitsVerdict e.circuit e.representatives longer g.fault
   detected_now a =
-      let d = g.holds.detects (vectors_of steps) in
+      let d = g.holds.detects (vectors_of_steps steps) in
       subst (λ (list : List (List Bool)). IsFirstDetection e.circuit (fault_at e.circuit g.fault) list None)
       (vectors_more steps (Vectors list)) a.undetected d.0 d.1 d.2
 
@@ -130,7 +130,7 @@ module _ (e new : EngineView) (steps : List Step) (s : EngineStandsFor e steps) 
             let from = g.next.from in
             omega (arith, below, from);
         wide = subst (AreVectors e.circuit) (sym (vectors_more steps (Vectors list)))
-            (All-append (λ (v : List Bool). length v ≡ e.circuit.inputs) (vectors_of steps) list.list s.wide
+            (All-append (λ (v : List Bool). length v ≡ e.circuit.inputs) (vectors_of_steps steps) list.list s.wide
             g.holds.wide);
         pass = subst (AllPass e.circuit e.budget) same s.pass;
       }
@@ -329,7 +329,7 @@ said_is e steps s i own l first (Some GivenUp) at = (
 
 pub said_detected : (e : EngineView) (steps : List Step) → EngineStandsFor e steps → (i : ℕ) (place : Place)
     → IsFirstDetection e.circuit (fault_at e.circuit i) e.list (Some place)
-    → IsFirstDetection e.circuit (fault_at e.circuit i) (vectors_of steps) (Some place)
+    → IsFirstDetection e.circuit (fault_at e.circuit i) (vectors_of_steps steps) (Some place)
 said_detected e steps s i place first =
     subst (λ (list : List (List Bool)). IsFirstDetection e.circuit (fault_at e.circuit i) list (Some place)) s.list
     first

@@ -19,16 +19,16 @@ use Rattle.ht_entries.proofs.RisesLaws.{rises_add, rises_none}
 use Rattle.ht_valid.specs.ValidFiles.{HasEntry, IsOwn}
 use Rattle.ht_engine.specs.declared.step.Step.{Step}
 use Rattle.ht_engine.specs.declared.step.Step.TheVariants.{Vectors, Entry, Finished}
-use Rattle.ht_engine.specs.Steps.{AreSteps, AwaitsVerdict, Follows, IsNextFault, IsOwnEntry, entries_of, none, one_more, step_entries, step_vectors, vectors_of}
+use Rattle.ht_engine.specs.Steps.{AreSteps, AwaitsVerdict, Follows, IsNextFault, IsOwnEntry, entries_of, none, one_more, step_entries, step_vectors, vectors_of_steps}
 use Rattle.ht_engine.proofs.MoreVectorsLaws.{undetected_before}
 
 -- ---- the vectors and the entries of one more step
 
 pub vectors_more : (steps : List Step) (step : Step)
-    → vectors_of (steps ++ step ∷ []) ≡ vectors_of steps ++ step_vectors step
+    → vectors_of_steps (steps ++ step ∷ []) ≡ vectors_of_steps steps ++ step_vectors step
 vectors_more steps step =
     flat_map-append step_vectors steps (step ∷ [])
-    ∙ ap (λ (x : List (List Bool)). vectors_of steps ++ x) (append-nil (step_vectors step))
+    ∙ ap (λ (x : List (List Bool)). vectors_of_steps steps ++ x) (append-nil (step_vectors step))
 
 pub entries_more : (steps : List Step) (step : Step)
     → entries_of (steps ++ step ∷ []) ≡ entries_of steps ++ step_entries step
@@ -42,8 +42,8 @@ pub entries_with_list : (steps : List Step) (list : Rows)
 entries_with_list steps list = entries_more steps (Vectors list) ∙ append-nil (entries_of steps)
 
 pub vectors_with_entry : (steps : List Step) (fault : ℕ) (e : recorded.Entry)
-    → vectors_of (steps ++ Entry fault e ∷ []) ≡ vectors_of steps
-vectors_with_entry steps fault e = vectors_more steps (Entry fault e) ∙ append-nil (vectors_of steps)
+    → vectors_of_steps (steps ++ Entry fault e ∷ []) ≡ vectors_of_steps steps
+vectors_with_entry steps fault e = vectors_more steps (Entry fault e) ∙ append-nil (vectors_of_steps steps)
 
 abbrev pub numbered : ℕ → recorded.Entry → Numbered
 numbered fault e = record { number = fault + 1; entry = e }
@@ -89,7 +89,7 @@ pub awaited_before : (c : Netlist) (representatives : List ℕ) (steps : List St
     → AwaitsVerdict c representatives (steps ++ step ∷ []) k → AwaitsVerdict c representatives steps k
 awaited_before c representatives steps step k a = record {
   own = a.own;
-  undetected = undetected_before c (fault_at c k) (vectors_of steps) (step_vectors step)
+  undetected = undetected_before c (fault_at c k) (vectors_of_steps steps) (step_vectors step)
       (subst (λ (list : List (List Bool)). IsFirstDetection c (fault_at c k) list None) (vectors_more steps step)
       a.undetected);
   without_entry = λ h. a.without_entry

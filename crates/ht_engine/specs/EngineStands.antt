@@ -16,7 +16,7 @@ use Rattle.ht_engine.specs.declared.engine.EntryKind.{EntryKind}
 use Rattle.ht_engine.specs.declared.engine.EntryKind.TheVariants as kind
 use Rattle.ht_engine.specs.declared.step.Step.{Step}
 use Rattle.ht_engine.specs.declared.step.Step.TheVariants.{Vectors, Entry, Finished}
-use Rattle.ht_engine.specs.Steps.{AreFinished, AreSteps, AwaitsVerdict, Follows, entries_of, vectors_of}
+use Rattle.ht_engine.specs.Steps.{AreFinished, AreSteps, AwaitsVerdict, Follows, entries_of, vectors_of_steps}
 
 pub record EngineView : Type 0 where
   -- what it works on
@@ -54,12 +54,12 @@ AllPass c budget entries = All (λ (e : Numbered). Passes c (fault_at c (e.numbe
 -- The engine stands for these steps: what it keeps is theirs.
 pub record EngineStandsFor (e : EngineView) (steps : List Step) : Type 0 where
   pub are : AreSteps e.circuit e.representatives e.budget steps
-  pub list : e.list ≡ vectors_of steps
+  pub list : e.list ≡ vectors_of_steps steps
   pub kinds : (i : ℕ) → i < length e.representatives → IsKindIn (entries_of steps) i (kind_at e i)
   pub done : (i : ℕ) → i < e.place → ¬ AwaitsVerdict e.circuit e.representatives steps i
   pub entered : (i : ℕ) → HasEntry (entries_of steps) i → i < e.place
   -- what the steps mean
-  pub wide : AreVectors e.circuit (vectors_of steps)
+  pub wide : AreVectors e.circuit (vectors_of_steps steps)
   pub pass : AllPass e.circuit e.budget (entries_of steps)
 
 -- ---- one more step
@@ -88,7 +88,7 @@ pub record IsUseful (c : Netlist) (representatives : List ℕ) (steps : List Ste
   pub awaited : AwaitsVerdict c representatives steps fault
   pub vector : ℕ
   pub output : ℕ
-  pub detects : Detects c (fault_at c fault) (vectors_of steps ++ list) vector output
+  pub detects : Detects c (fault_at c fault) (vectors_of_steps steps ++ list) vector output
 
 -- each list is useful, and each entry passes
 abbrev pub MeansOfStep : EngineView → List Step → Step → Type 0
@@ -102,11 +102,11 @@ MeansOfStep e steps Finished = Unit {0}
 -- only while it awaits its verdict.
 abbrev pub IsSaid : EngineView → List Step → ℕ → Said → Type 0
 IsSaid e steps i (said.Detected place) =
-    IsFirstDetection e.circuit (fault_at e.circuit i) (vectors_of steps) (Some place)
+    IsFirstDetection e.circuit (fault_at e.circuit i) (vectors_of_steps steps) (Some place)
 IsSaid e steps i said.Untestable =
-    IsFirstDetection e.circuit (fault_at e.circuit i) (vectors_of steps) None
+    IsFirstDetection e.circuit (fault_at e.circuit i) (vectors_of_steps steps) None
     × IsKindIn (entries_of steps) i (Some kind.Refuted)
 IsSaid e steps i said.Aborted =
-    IsFirstDetection e.circuit (fault_at e.circuit i) (vectors_of steps) None
+    IsFirstDetection e.circuit (fault_at e.circuit i) (vectors_of_steps steps) None
     × IsKindIn (entries_of steps) i (Some kind.GivenUp)
 IsSaid e steps i said.Undetected = AwaitsVerdict e.circuit e.representatives steps i

@@ -22,8 +22,8 @@ step_entries (Vectors list) = []
 step_entries (Entry fault entry) = record { number = fault + 1; entry = entry } ∷ []
 step_entries Finished = []
 
-abbrev pub vectors_of : List Step → List (List Bool)
-vectors_of steps = flat_map step_vectors steps
+abbrev pub vectors_of_steps : List Step → List (List Bool)
+vectors_of_steps steps = flat_map step_vectors steps
 
 abbrev pub entries_of : List Step → List Numbered
 entries_of steps = flat_map step_entries steps
@@ -38,7 +38,7 @@ pub record IsOwnEntry (c : Netlist) (representatives : List ℕ) (e : Numbered) 
 -- Fault i awaits its verdict: it represents its class, the vectors so far don't detect it, and it has no entry.
 pub record AwaitsVerdict (c : Netlist) (representatives : List ℕ) (steps : List Step) (i : ℕ) : Type 0 where
   pub own : IsOwn c representatives i
-  pub undetected : IsFirstDetection c (fault_at c i) (vectors_of steps) None
+  pub undetected : IsFirstDetection c (fault_at c i) (vectors_of_steps steps) None
   pub without_entry : ¬ HasEntry (entries_of steps) i
 
 -- the least that awaits it

@@ -11,11 +11,11 @@ use Rattle.ht_texts.specs.declared.said.Said.{Said}
 use Rattle.ht_texts.specs.declared.said.Said.TheVariants.{Detected, Untestable, Aborted, Undetected}
 use Rattle.ht_entries.specs.declared.numbered.Numbered.{Numbered}
 use Rattle.ht_entries.specs.EntryTexts.{numbers_of}
-use Rattle.ht_valid.specs.ValidFiles.{Agrees, Backs, HasEntry, NeedsEntry}
+use Rattle.ht_valid.specs.ValidFiles.{AgreesWithTests, Backs, HasEntry, NeedsEntry}
 use Rattle.ht_engine.specs.declared.engine.EntryKind.TheVariants as kind
 use Rattle.ht_engine.specs.declared.step.Step.{Step}
 use Rattle.ht_engine.specs.EngineStands.{EngineView, IsOfKind, IsSaid}
-use Rattle.ht_engine.specs.Steps.{AwaitsVerdict, entries_of, vectors_of}
+use Rattle.ht_engine.specs.Steps.{AwaitsVerdict, entries_of, vectors_of_steps}
 use Rattle.ht_files.proofs.OneEntryLaws.{one_entry}
 
 -- ---- the kind of an entry
@@ -32,7 +32,7 @@ given_up_backs c budget i (entries.Aborted told walk aim sweep) is passes = pass
 
 module _ (e : EngineView) (steps : List Step) (i : ℕ)
     (finished : ¬ AwaitsVerdict e.circuit e.representatives steps i) where
-  pub agrees_if_said : (said : Said) → IsSaid e steps i said → Agrees e.circuit (vectors_of steps) i said
+  pub agrees_if_said : (said : Said) → IsSaid e steps i said → AgreesWithTests e.circuit (vectors_of_steps steps) i said
   agrees_if_said (Detected place) is = is
   agrees_if_said Untestable is = is.0
   agrees_if_said Aborted is = is.0

@@ -14,7 +14,7 @@ use Rattle.ht_entries.specs.LineTexts.{lines_text}
 use Rattle.ht_entries.specs.ProofLines.{line_text}
 use Rattle.ht_engine.specs.declared.step.Step.{Step}
 use Rattle.ht_engine.specs.declared.step.Step.TheVariants.{Vectors, Entry, Finished}
-use Rattle.ht_engine.specs.Steps.{entries_of, step_entries, step_vectors, vectors_of}
+use Rattle.ht_engine.specs.Steps.{entries_of, step_entries, step_vectors, vectors_of_steps}
 use Rattle.ht_engine.proofs.StepLaws.{entries_more, vectors_more}
 use Rattle.ht_files.specs.StepTexts.{proofs_of, proofs_so_far, proofs_step, tests_of, tests_step}
 
@@ -39,7 +39,7 @@ tests_in Finished = refl
 
 pub tests_grow : (steps : List Step) (step : Step) → tests_of (steps ++ step ∷ []) ≡ tests_of steps ++ tests_step step
 tests_grow steps step = ap test_text (vectors_more steps step)
-    ∙ test_text-append (vectors_of steps) (step_vectors step)
+    ∙ test_text-append (vectors_of_steps steps) (step_vectors step)
     ∙ ap (λ l. tests_of steps ++ l) (tests_in step)
 
 -- ---- the proofs

@@ -21,7 +21,7 @@ use Rattle.ht_valid.specs.ValidFiles.{AreValid, IsBacking, IsOwn}
 use Rattle.ht_valid.proofs.EntryTextLaws.{passing_text}
 use Rattle.ht_engine.specs.declared.step.Step.{Step}
 use Rattle.ht_engine.specs.EngineStands.{EngineStandsFor, EngineView, IsSaid}
-use Rattle.ht_engine.specs.Steps.{AreFinished, IsOwnEntry, entries_of, vectors_of}
+use Rattle.ht_engine.specs.Steps.{AreFinished, IsOwnEntry, entries_of, vectors_of_steps}
 use Rattle.ht_engine.proofs.StepLaws.{AreInOrder, steps_in_order}
 use Rattle.ht_files.specs.Generated.{content_of}
 use Rattle.ht_files.specs.Saids.{AreSaid}
@@ -111,7 +111,7 @@ module _ (e : EngineView) (steps : List Step) (saids : List Said) (work : IsFini
       (report_text e.circuit e.representatives (Some e.budget) saids) (proofs_of steps)
       (content_of e.budget steps saids)
   are_valid names short_tests short_proofs short_report = record {
-    vectors = written_is_test_text e.circuit (vectors_of steps) work.stands.wide short_tests;
+    vectors = written_is_test_text e.circuit (vectors_of_steps steps) work.stands.wide short_tests;
     reported = written_is_report e.circuit e.representatives e.budget saids work.circuit work.classes names is_search
         short_report;
     agrees = λ i own. agrees_if_said e steps i (work.finished i) (said_at saids i) (says i own);

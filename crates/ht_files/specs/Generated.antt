@@ -8,13 +8,13 @@ use Rattle.ht_texts.specs.Reports.{report_text, report_sums, total_line}
 use Rattle.ht_valid.specs.ValidFiles.{Content, AreValid}
 use Rattle.ht_valid.specs.TrueVerdicts.{AreDecided, HaveTrueVerdicts}
 use Rattle.ht_engine.specs.declared.step.Step.{Step}
-use Rattle.ht_engine.specs.Steps.{AreFinished, AreSteps, entries_of, vectors_of}
+use Rattle.ht_engine.specs.Steps.{AreFinished, AreSteps, entries_of, vectors_of_steps}
 use Rattle.ht_files.specs.StepTexts.{proofs_of, tests_of}
 
 -- what the files of steps say
 abbrev pub content_of : ℕ → List Step → List Said → Content
 content_of budget steps saids = record {
-  list = vectors_of steps;
+  list = vectors_of_steps steps;
   budget = budget;
   saids = saids;
   entries = entries_of steps;

@@ -6,7 +6,7 @@ use Rattle.ht_net.specs.declared.fault.Fault.{Fault}
 use Rattle.ht_net.specs.Rows.{Rows}
 use Rattle.ht_collapse.specs.Classes.{fault_at, is_representative}
 use Rattle.ht_grade.specs.GraderView.{GraderView}
-use Rattle.ht_grade.specs.KeptFaults.{KeptFault, nothing_kept, latches_after, AreKept, KeepsFault}
+use Rattle.ht_grade.specs.KeptFaults.{KeptFault, nothing_kept, latches_from_unknown, AreKept, KeepsFault}
 use Rattle.ht_grade.specs.GraderOf.{all_vectors, grader_of, IsGraded, AreGraderFields}
 use Rattle.ht_grade.specs.declared.grader.Grader.TheInside.{Inside}
 
@@ -33,7 +33,7 @@ vectors_more lists more copy rows pushed same =
 pub graded_more : (old new : GraderView) (faults : List Fault) (before count : ℕ) (latches good : List Tern)
     (kept more : List KeptFault) (list : List (List Bool)) → IsGraded old faults before latches kept
     → new ≡ record old { list = old.list ++ list } → count ≡ before + length list
-    → good ≡ latches_after old.circuit None (old.list ++ list) → length more ≡ length old.representatives
+    → good ≡ latches_from_unknown old.circuit None (old.list ++ list) → length more ≡ length old.representatives
     → AreKept old.circuit old.representatives (old.list ++ list) more → IsGraded new faults count good more
 graded_more old new faults before count latches good kept more list was is count_is good_is each every =
     subst (λ (v : GraderView). IsGraded v faults count good more) (sym is) (record {

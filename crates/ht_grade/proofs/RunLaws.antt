@@ -15,13 +15,13 @@ use Rattle.ht_serial.specs.MachineState.{MachineState, stepped}
 use Rattle.ht_serial.specs.GoodRunOf.{value_rows}
 use Rattle.ht_serial.proofs.StepLaws.{with_parts}
 use Rattle.ht_serial.proofs.DetectionLaws.{after_list, next_is, shows, frames_count, frame_width}
-use Rattle.ht_grade.specs.KeptFaults.{latches_after, later_rows}
+use Rattle.ht_grade.specs.KeptFaults.{latches_from_unknown, later_rows}
 
 -- a machine that has run a list of vectors, whatever it showed last
 pub record RunsAs (c : Netlist) (fault : Option Fault) (list : List (List Bool)) (m : MachineState Tern) : Type 0 where
   pub circuit_is : m.circuit ≡ c
   pub fault_is : m.fault ≡ fault
-  pub latches_are : m.latches ≡ latches_after c fault list
+  pub latches_are : m.latches ≡ latches_from_unknown c fault list
 
 -- what a frame makes of a machine is made of its circuit, its fault and its latches
 frame_of : List Tern → Netlist → Option Fault → List Tern → MachineState Tern
@@ -89,7 +89,7 @@ state_count c r latches (v ∷ vectors) each =
 
 -- a machine has a latch for each flip-flop
 pub latch_count : (c : Netlist) (fault : Option Fault) (list : List (List Bool))
-    → length (latches_after c fault list) ≡ length c.dffs
+    → length (latches_from_unknown c fault list) ≡ length c.dffs
 latch_count c fault list = state_count c (tern_rules fault) (unknown_state c) (map terns_of list)
     (length-replicate (length c.dffs) Unk)
 

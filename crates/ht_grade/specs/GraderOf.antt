@@ -7,7 +7,7 @@ use Rattle.ht_net.specs.Rows.{Rows}
 use Rattle.ht_faults.specs.Sites.{faults_of}
 use Rattle.ht_collapse.specs.Classes.{AreClasses}
 use Rattle.ht_grade.specs.GraderView.{GraderView}
-use Rattle.ht_grade.specs.KeptFaults.{KeptFault, latches_after, AreKept}
+use Rattle.ht_grade.specs.KeptFaults.{KeptFault, latches_from_unknown, AreKept}
 use Rattle.ht_grade.specs.declared.grader.Grader.TheInside.{Inside}
 
 -- the vectors of lists, one list after the other
@@ -27,7 +27,7 @@ pub record IsGraded (v : GraderView) (faults : List Fault) (count : ℕ) (good :
   pub all_faults : faults ≡ faults_of v.circuit
   pub all_classes : AreClasses v.circuit v.representatives
   pub counted : count ≡ length v.list
-  pub good_latches : good ≡ latches_after v.circuit None v.list
+  pub good_latches : good ≡ latches_from_unknown v.circuit None v.list
   pub each : length kept ≡ length v.representatives
   pub every : AreKept v.circuit v.representatives v.list kept
 

@@ -12,8 +12,8 @@ use Rattle.ht_collapse.specs.Classes.{fault_at, is_representative}
 use Rattle.ht_serial.specs.Places.{IsWithin}
 
 -- what the flip-flops of a machine hold after a list of vectors, from all-unknown
-abbrev pub latches_after : Netlist → Option Fault → List (List Bool) → List Tern
-latches_after c fault list = run_state c (tern_rules fault) (unknown_state c) (map terns_of list)
+abbrev pub latches_from_unknown : Netlist → Option Fault → List (List Bool) → List Tern
+latches_from_unknown c fault list = run_state c (tern_rules fault) (unknown_state c) (map terns_of list)
 
 -- the outputs of the good machine at each vector of a list that comes after another
 abbrev pub later_rows : Netlist → List (List Bool) → List (List Bool) → List (List Tern)
@@ -32,7 +32,7 @@ nothing_kept = record { detection = None; latches = [] }
 pub record KeepsFault (c : Netlist) (fault : Fault) (list : List (List Bool)) (kept : KeptFault) : Type 0 where
   pub first : IsFirstDetection c fault list kept.detection
   pub within : ForSome kept.detection (IsWithin c list)
-  pub latches : kept.detection ≡ None → kept.latches ≡ latches_after c (Some fault) list
+  pub latches : kept.detection ≡ None → kept.latches ≡ latches_from_unknown c (Some fault) list
 
 -- the same of each representative, by its number
 abbrev pub AreKept : Netlist → List ℕ → List (List Bool) → List KeptFault → Type 0

@@ -6,7 +6,7 @@ ghost use Rattle.ht_faults.specs.Sites.{faults_of};
 ghost use Rattle.ht_collapse.specs.Classes.{AreClasses, fault_at, is_representative};
 ghost use Rattle.ht_serial.specs.GoodRunOf.{value_rows};
 ghost use Rattle.ht_serial.specs.Places.{IsWithin};
-ghost use Rattle.ht_grade.specs.KeptFaults.{latches_after, later_rows, KeepsFault, AreKept};
+ghost use Rattle.ht_grade.specs.KeptFaults.{latches_from_unknown, later_rows, KeepsFault, AreKept};
 
 use crate::kept::{Kept, first_opposite, latches_of, unknown_latches};
 use ht_collapse::Classes;
@@ -133,7 +133,7 @@ impl<'c> Grader<'c> {
         ensures rows { IfOk result (λ good. value_rows good.rows.items
             ≡ later_rows self.now.circuit self.now.list list.now.list) }
         ensures latches { IfOk result (λ good. good.latches.items
-            ≡ latches_after self.now.circuit None (self.now.list ++ list.now.list)) }
+            ≡ latches_from_unknown self.now.circuit None (self.now.list ++ list.now.list)) }
     {
         let mut machine = Machine::start_from(alloc, self.circuit, None, &self.good)?;
         let mut rows = Vec::new(alloc);

@@ -13,7 +13,7 @@ use Rattle.ht_records.proofs.AbortLaws.{enough_undetected, enough_unsealed}
 use Rattle.ht_texts.specs.declared.said.Said.{Said}
 use Rattle.ht_texts.specs.declared.said.Said.TheVariants.{Detected, Untestable, Aborted, Undetected}
 use Rattle.ht_texts.specs.Verdicts.{said_at}
-use Rattle.ht_valid.specs.ValidFiles.{Agrees, AreValid, Backs, Content}
+use Rattle.ht_valid.specs.ValidFiles.{AgreesWithTests, AreValid, Backs, Content}
 use Rattle.ht_valid.specs.TrueVerdicts.{AreDecided, SaysDetected}
 use Rattle.ht_valid.proofs.BackedLaws.{IsBackedIfNeeded, valid_backs}
 
@@ -27,7 +27,7 @@ module _ (c : Netlist) (content : Content) (i : ℕ) (circuit : IsCircuit c) whe
       (record { told = told; walk = walk; aim = aim; sweep = sweep }) circuit enough backs z seal
 
   sealed_said : (z : ℕ → Bool) → Sealed c (fault_at c i) z → refutation_cost c ≤ content.budget → (said : Said)
-      → Agrees c content.list i said → IsBackedIfNeeded c content i said → said ≡ Untestable
+      → AgreesWithTests c content.list i said → IsBackedIfNeeded c content i said → said ≡ Untestable
   sealed_said z seal enough (Detected place) agrees backed =
       absurd (sealed_undetected c (fault_at c i) z seal content.list place.vector place.output agrees.0)
   sealed_said z seal enough Untestable agrees backed = refl
@@ -53,7 +53,7 @@ module _ (c : Netlist) (content : Content) (i : ℕ) (circuit : IsCircuit c) whe
       (record { told = told; walk = walk; aim = aim; sweep = sweep }) circuit enough backs list few t o detects
 
   short_said : (d : ℕ) (list : List (List Bool)) (t o : ℕ) → length list ≤ d → Detects c (fault_at c i) list t o
-      → sweep_cost c.inputs d ≤ content.budget → (said : Said) → Agrees c content.list i said
+      → sweep_cost c.inputs d ≤ content.budget → (said : Said) → AgreesWithTests c content.list i said
       → IsBackedIfNeeded c content i said → SaysDetected said
   short_said d list t o few detects enough (Detected place) agrees backed = (place, refl)
   short_said d list t o few detects enough Untestable agrees backed =

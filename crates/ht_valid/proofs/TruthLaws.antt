@@ -20,7 +20,7 @@ use Rattle.ht_records.proofs.AbortLaws.{abort_means}
 use Rattle.ht_texts.specs.declared.said.Said.{Said}
 use Rattle.ht_texts.specs.declared.said.Said.TheVariants.{Detected, Untestable, Aborted, Undetected}
 use Rattle.ht_texts.specs.Verdicts.{said_at}
-use Rattle.ht_valid.specs.ValidFiles.{Agrees, AreValid, Backs, Content}
+use Rattle.ht_valid.specs.ValidFiles.{AgreesWithTests, AreValid, Backs, Content}
 use Rattle.ht_valid.specs.TrueVerdicts.{HasVerdict, HaveTrueVerdicts, IsAborted, IsDetected, IsProvedUntestable}
 use Rattle.ht_valid.proofs.BackedLaws.{IsBackedIfNeeded, representative_is_own, valid_backs}
 
@@ -87,7 +87,7 @@ module _ (c : Netlist) (content : Content) (r i : ℕ) (circuit : IsCircuit c)
         means = abort_means c (fault_at c r) content.budget spent circuit backs;
       }
 
-  verdict_by : (said : Said) → Agrees c content.list r said → IsBackedIfNeeded c content r said
+  verdict_by : (said : Said) → AgreesWithTests c content.list r said → IsBackedIfNeeded c content r said
       → HasVerdict c content r i said
   verdict_by (Detected place) agrees backed = detected_of place agrees
   verdict_by Untestable agrees backed =

@@ -32,11 +32,11 @@ pub record IsOwn (c : Netlist) (representatives : List ℕ) (i : ℕ) : Type 0 w
 -- ---- the report
 
 -- What is said of fault i agrees with the vectors: it is detected exactly where they detect it, and there first.
-abbrev pub Agrees : Netlist → List (List Bool) → ℕ → Said → Type 0
-Agrees c list i (Detected place) = IsFirstDetection c (fault_at c i) list (Some place)
-Agrees c list i Untestable = IsFirstDetection c (fault_at c i) list None
-Agrees c list i Aborted = IsFirstDetection c (fault_at c i) list None
-Agrees c list i Undetected = ⊥
+abbrev pub AgreesWithTests : Netlist → List (List Bool) → ℕ → Said → Type 0
+AgreesWithTests c list i (Detected place) = IsFirstDetection c (fault_at c i) list (Some place)
+AgreesWithTests c list i Untestable = IsFirstDetection c (fault_at c i) list None
+AgreesWithTests c list i Aborted = IsFirstDetection c (fault_at c i) list None
+AgreesWithTests c list i Undetected = ⊥
 
 -- ---- the proofs
 
@@ -73,7 +73,7 @@ pub record AreValid (c : Netlist) (representatives : List ℕ) (tests report pro
     : Type 0 where
   pub vectors : IsTestText c tests content.list
   pub reported : IsReportText c representatives report content.budget content.saids
-  pub agrees : (i : ℕ) → IsOwn c representatives i → Agrees c content.list i (said_at content.saids i)
+  pub agrees : (i : ℕ) → IsOwn c representatives i → AgreesWithTests c content.list i (said_at content.saids i)
   pub proved : IsProofText content.entries proofs
   pub backed : All (IsBacking c representatives content) content.entries
   pub complete : (i : ℕ) → IsOwn c representatives i → NeedsEntry (said_at content.saids i)

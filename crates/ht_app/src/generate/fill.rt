@@ -8,7 +8,7 @@ ghost use Rattle.ht_engine.specs.EngineStands.{EngineStandsFor};
 ghost use Rattle.ht_app.specs.declared.run_error.RunError.TheVariants as error;
 ghost use Rattle.ht_app.specs.FileTexts.{Names, no_texts};
 ghost use Rattle.ht_app.specs.Run.{IsWriteFault};
-ghost use Rattle.ht_app.specs.Generating.{FillCause, HasGenerated, HasTexts, StopsAtEnd, StopsFilling, bare, end_text, ended};
+ghost use Rattle.ht_app.specs.Generating.{FillCause, HasGenerated, HasTexts, StopsAtEnd, StopsFilling, bare, end_text, whole_texts};
 
 use crate::generate::sizes::begin_proofs;
 use crate::generate::steps::write_steps;
@@ -31,7 +31,7 @@ fn write_end<D: Desk>(desk: &mut D, body: &[u8], total: &[u8]) -> Result<(), Run
     ensures wrote { (names : Names) (tests proofs : List ℕ) (first : DeskView)
         → HasTexts names (bare tests proofs) first (D.view desk.old)
         → OnOk result (HasTexts names
-        (ended tests (proofs ++ end_text) body.now total.now)
+        (whole_texts tests (proofs ++ end_text) body.now total.now)
         first (D.view desk.new)) }
     ensures stops { (names : Names) (tests proofs : List ℕ) (first : DeskView)
         → HasTexts names (bare tests proofs) first (D.view desk.old)

@@ -2,7 +2,7 @@ use Rattle.std.proofs.Common.{◌≡◌, ℕ, inl, refl, sym, ◌∙◌, ap, sub
 use Rattle.ht_ports.specs.declared.ports.OutPort.TheVariants as out_port
 use Rattle.ht_asked.specs.Asked.{gen}
 use Rattle.ht_app.specs.declared.run_error.RunError.TheVariants.{NoMemory}
-use Rattle.ht_app.specs.FileTexts.{names_of}
+use Rattle.ht_app.specs.FileTexts.{file_names_of}
 use Rattle.ht_app.specs.Changed.{ChangedOnly, job_ports}
 use Rattle.ht_app.specs.Errors.{exit_status}
 use Rattle.ht_app.specs.Run.{HasCause}
@@ -15,7 +15,7 @@ use Rattle.ht_app.proofs.generate.generate.Goals as goal
 
 pub returns-in_err-circuit-clause-changed : goal.returns-in_err-circuit-clause-changed
 returns-in_err-circuit-clause-changed g c =
-    let names = names_of c.args.tests.now c.args.report.now c.args.proofs.now in
+    let names = file_names_of c.args.tests.now c.args.report.now c.args.proofs.now in
     let changed = refused_changed c.args.netlist.now names c.args.budget c.in_err-circuit.field-0.0
     (g.D.Desk.view c.args.desk.now) (g.D.Desk.view c.read_netlist.new.desk) c.in_err-circuit.ensures.frame in
     search (rules, changed)
@@ -35,7 +35,7 @@ returns-in_err-circuit-clause-cause g c =
 
 pub returns-in_err-listed-clause-changed : goal.returns-in_err-listed-clause-changed
 returns-in_err-listed-clause-changed g c =
-    let names = names_of c.args.tests.now c.args.report.now c.args.proofs.now in
+    let names = file_names_of c.args.tests.now c.args.report.now c.args.proofs.now in
     let changed = refused_changed c.args.netlist.now names c.args.budget NoMemory (g.D.Desk.view c.args.desk.now)
     (g.D.Desk.view c.read_netlist.new.desk) c.in_ok-circuit.ensures.frame in
     search (rules, changed)
@@ -55,7 +55,7 @@ returns-in_err-listed-clause-cause g c =
 
 pub returns-in_err-make_files-clause-changed : goal.returns-in_err-make_files-clause-changed
 returns-in_err-make_files-clause-changed g c =
-    let names = names_of c.args.tests.now c.args.report.now c.args.proofs.now in
+    let names = file_names_of c.args.tests.now c.args.report.now c.args.proofs.now in
     let job = gen c.args.netlist.now c.args.tests.now c.args.report.now c.args.proofs.now c.args.budget in
     let left = c.in_err-make_files.ensures in
     let a = g.D.Desk.view c.args.desk.now in
@@ -73,7 +73,7 @@ returns-in_err-make_files-clause-quiet g c = c.in_err-make_files.ensures.stops.c
 
 pub returns-in_err-make_files-clause-cause : goal.returns-in_err-make_files-clause-cause
 returns-in_err-make_files-clause-cause g c =
-    let names = names_of c.args.tests.now c.args.report.now c.args.proofs.now in
+    let names = file_names_of c.args.tests.now c.args.report.now c.args.proofs.now in
     let circuit = c.in_ok-circuit.circuit in
     let read = c.in_ok-circuit.ensures in
     let left = c.in_err-make_files.ensures in
@@ -90,7 +90,7 @@ returns-in_err-make_files-clause-cause g c =
 
 pub returns-clause-changed : goal.returns-clause-changed
 returns-clause-changed g c =
-    let names = names_of c.args.tests.now c.args.report.now c.args.proofs.now in
+    let names = file_names_of c.args.tests.now c.args.report.now c.args.proofs.now in
     done_changed c.args.netlist.now names c.args.budget (g.D.Desk.view c.args.desk.now)
     (g.D.Desk.view c.read_netlist.new.desk) (g.D.Desk.view c.make_files.new.desk) c.in_ok-circuit.ensures.frame
     c.in_ok-make_files.ensures.wrote.has.changed
@@ -101,7 +101,7 @@ returns-clause-quiet g c = c.in_ok-make_files.ensures.wrote.has.changed.written 
 
 pub returns-clause-done : goal.returns-clause-done
 returns-clause-done g c =
-    let names = names_of c.args.tests.now c.args.report.now c.args.proofs.now in
+    let names = file_names_of c.args.tests.now c.args.report.now c.args.proofs.now in
     let circuit = c.in_ok-circuit.circuit in
     let read = c.in_ok-circuit.ensures in
     let a = g.D.Desk.view c.args.desk.now in

@@ -2,7 +2,7 @@ use Rattle.std.proofs.Common.{◌≤◌, ◌+◌, List, ℕ, ◌++◌, length, i
 use Rattle.ht_ports.specs.LineRule.{max_text_bytes}
 use Rattle.ht_files.specs.StepTexts.{proofs_so_far, tests_of}
 use Rattle.ht_app.specs.declared.run_error.RunError.TheVariants.{NoMemory}
-use Rattle.ht_app.specs.Generating.{HasAllSteps, HasTexts, StopsAtEnd, StopsFilling, end_text, ended}
+use Rattle.ht_app.specs.Generating.{HasAllSteps, HasTexts, StopsAtEnd, StopsFilling, end_text, whole_texts}
 use Rattle.ht_app.proofs.EndLaws.{cause_later}
 use Rattle.ht_app.proofs.FinishLaws.{all_generated, fits, generated, not_ended, stops_at_end}
 use Rattle.ht_app.proofs.generate.fill.write_files.Goals as goal
@@ -101,9 +101,9 @@ returns-clause-wrote g c = λ names first has.
     let made = generated c.args.circuit.now c.args.classes.now old new steps body total c.requires.circuit
     c.requires.representatives work all.has.stands all.finished tests_fit proofs_fit c.in_ok-report.ensures in
     let proofs = proofs_so_far steps ++ end_text in
-    let whole : HasTexts names (ended (tests_of steps) proofs body total) first b =
-    subst (λ (l : List ℕ). HasTexts names (ended (tests_of steps) proofs body l) first b) c.deref-2.ensures.value
-    (subst (λ (l : List ℕ). HasTexts names (ended (tests_of steps) proofs l c.deref-2.result.now) first b)
+    let whole : HasTexts names (whole_texts (tests_of steps) proofs body total) first b =
+    subst (λ (l : List ℕ). HasTexts names (whole_texts (tests_of steps) proofs body l) first b) c.deref-2.ensures.value
+    (subst (λ (l : List ℕ). HasTexts names (whole_texts (tests_of steps) proofs l c.deref-2.result.now) first b)
     c.deref.ensures.value
     (c.in_ok-write_end.ensures.wrote names (tests_of steps) (proofs_so_far steps) first all.has.has)) in
     all_generated names old.circuit old.budget steps body total first b whole made
