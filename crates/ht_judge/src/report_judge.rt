@@ -104,11 +104,11 @@ impl<'c> ReportJudge<'c> {
     pub fn end(self) -> Result<Claims, JudgeError>
         ensures budget { IfOk result (λ claims. IsBudget claims.budget) }
         ensures ok { (list : List (List Bool)) (lines : List (List ℕ))
-            → JudgesReport self list lines
-            → IfOk result (λ claims. IsTrueReport self.circuit self.representatives list lines
+            → JudgesReport self.entry list lines
+            → IfOk result (λ claims. IsTrueReport self.entry.circuit self.entry.representatives list lines
             claims.budget claims.saids.items) }
         ensures err { (list : List (List Bool)) (lines : List (List ℕ))
-            → JudgesReport self list lines → IfErr result (ReportEndHasCause self lines) }
+            → JudgesReport self.entry list lines → IfErr result (ReportEndHasCause self.entry lines) }
     {
         Err(JudgeError::NoMemory)
     }
