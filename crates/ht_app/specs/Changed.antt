@@ -8,7 +8,7 @@ use Rattle.ht_ports.specs.declared.ports.InPort.{InPort}
 use Rattle.ht_ports.specs.declared.ports.InPort.TheVariants.{Netlist}
 use Rattle.ht_ports.specs.declared.ports.OutPort.{OutPort}
 use Rattle.ht_ports.specs.declared.ports.OutPort.TheVariants.{Out, Err}
-use Rattle.ht_asked.specs.Asked.{Asked, sim, gen, norm}
+use Rattle.ht_asked.specs.Asked.{Asked, sim, gen, check, norm}
 use Rattle.ht_app.specs.Jobs.{input_name, output_name}
 
 -- what may be touched: the ports that may be read, those that may be created, with their names, and those that may be
@@ -44,6 +44,11 @@ pub record ChangedOnly (ports : Ports) (old new : DeskView) : Type 0 where
   pub file : (name : List ℕ) → ((p : OutPort) → IsOtherFile (ports.creates p) (old.named p) name)
       → new.file name ≡ old.file name
 
+-- the port was neither opened nor read
+pub record IsUnread (port : InPort) (old new : DeskView) : Type 0 where
+  pub left : new.left port ≡ old.left port
+  pub is_open : new.is_open port ≡ old.is_open port
+
 -- ---- what a run of a job may touch, by its status
 
 -- a run creates its output only where it finishes (0) or fails in writing (5); `gen` writes as it works, so memory may
@@ -64,6 +69,7 @@ creates_at job status port = if may_create job status then output_name job port 
 abbrev pub says_on_out : Asked → Bool
 says_on_out (sim netlist tests report) = true
 says_on_out (gen netlist tests report proofs budget) = true
+says_on_out (check netlist tests report proofs) = true
 says_on_out (norm netlist out) = false
 
 -- a run says something on Out only where it finishes or fails in writing, and one that doesn't finish says why on Err

@@ -1,5 +1,5 @@
 -- What a finished run leaves.
-use Rattle.std.specs.Prelude.{◌≡◌, ℕ, List, Bool, IsTrue, Option, Some}
+use Rattle.std.specs.Prelude.{◌≡◌, ℕ, List, Bool, IsTrue, Option, Some, codes}
 use Rattle.std.specs.Option.{option_map}
 use Rattle.std.specs.Io.KnownBytes.{append_known}
 use Rattle.ht_ports.specs.Desk.{DeskView}
@@ -9,7 +9,7 @@ use Rattle.ht_ports.specs.declared.ports.OutPort.TheVariants.{Tests, Report, Pro
 use Rattle.ht_net.specs.Netlist as net
 use Rattle.ht_bench.specs.Normal.{normal_text}
 use Rattle.ht_texts.specs.Tests.{IsTestText}
-use Rattle.ht_asked.specs.Asked.{Asked, sim, gen, norm}
+use Rattle.ht_asked.specs.Asked.{Asked, sim, gen, check, norm}
 use Rattle.ht_app.specs.Inputs.{IsInput, IsGoodNetlist, AreInputs, AcceptsInputs}
 use Rattle.ht_app.specs.Jobs.{output_name}
 use Rattle.ht_app.specs.Simulation.{IsReportOf}
@@ -56,11 +56,16 @@ pub record HasNormalText (netlist : List ℕ) (old new : DeskView) : Type 0 wher
   pub good : IsGoodNetlist netlist circuit
   pub stands : new.written Report ≡ option_map (λ _. normal_text circuit) (old.written Report)
 
+-- what `check` says of valid files, on Out
+abbrev pub valid_line : List ℕ
+valid_line = codes "valid\n"
+
 abbrev pub HasOutput : Asked → DeskView → DeskView → Type 0
 HasOutput (sim netlist_name tests_name report_name) old new = (netlist tests : List ℕ)
     → AreInputs netlist_name tests_name netlist tests old → HasReport netlist tests old new
 HasOutput (gen netlist_name tests_name report_name proofs_name budget) old new = (netlist : List ℕ)
     → IsInput Netlist netlist_name netlist old → HasFiles netlist budget old new
+HasOutput (check netlist tests report proofs) old new = new.written Out ≡ append_known (old.written Out) valid_line
 HasOutput (norm netlist_name out_name) old new = (netlist : List ℕ) → IsInput Netlist netlist_name netlist old
     → HasNormalText netlist old new
 

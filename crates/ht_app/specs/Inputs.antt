@@ -2,11 +2,15 @@
 use Rattle.std.specs.Prelude.{◌≡◌, ◌≢◌, ℕ, ◌≤◌, List, Bool, length, Some, None, IsSome}
 use Rattle.ht_ports.specs.Desk.{DeskView}
 use Rattle.ht_ports.specs.declared.ports.InPort.{InPort}
-use Rattle.ht_ports.specs.declared.ports.InPort.TheVariants.{Netlist, Tests}
+use Rattle.ht_ports.specs.declared.ports.InPort.TheVariants.{Netlist, Tests, Report, Proofs}
 use Rattle.ht_net.specs.Netlist as net
 use Rattle.ht_bench.specs.Text.{max_netlist_bytes, IsNetlistOf}
 use Rattle.ht_texts.specs.Tests.{IsTestText, IsMalformedTest}
-use Rattle.ht_asked.specs.Asked.{Asked, sim, gen, norm}
+use Rattle.ht_collapse.specs.Classes.{AreClasses}
+use Rattle.ht_valid.specs.ValidFiles.{Content, AreValid, AreValidFiles}
+use Rattle.ht_valid.specs.FirstTrouble.{AreReadTo}
+use Rattle.ht_valid.specs.TrueVerdicts.{AreDecided, HaveTrueVerdicts}
+use Rattle.ht_asked.specs.Asked.{Asked, sim, gen, check, norm}
 
 -- the desk knows that the file of this name holds this text, and knows what is left of the port
 pub record IsInput (port : InPort) (name text : List ℕ) (desk : DeskView) : Type 0 where
@@ -17,6 +21,27 @@ pub record IsInput (port : InPort) (name text : List ℕ) (desk : DeskView) : Ty
 pub record AreInputs (netlist_name tests_name netlist tests : List ℕ) (desk : DeskView) : Type 0 where
   pub netlist_is : IsInput Netlist netlist_name netlist desk
   pub tests_is : IsInput Tests tests_name tests desk
+
+-- for each file that `check` reads its name, or its text
+pub record CheckFiles : Type 0 where
+  pub netlist : List ℕ
+  pub tests : List ℕ
+  pub report : List ℕ
+  pub proofs : List ℕ
+
+abbrev pub check_files_of : List ℕ → List ℕ → List ℕ → List ℕ → CheckFiles
+check_files_of netlist tests report proofs =
+    record { netlist = netlist; tests = tests; report = report; proofs = proofs }
+
+-- the first three files of these names hold these texts
+pub record AreInputsToReport (names texts : CheckFiles) (desk : DeskView) : Type 0 where
+  pub tests_are : AreInputs names.netlist names.tests texts.netlist texts.tests desk
+  pub report_is : IsInput Report names.report texts.report desk
+
+-- all four do
+pub record AreCheckInputs (names texts : CheckFiles) (desk : DeskView) : Type 0 where
+  pub report_are : AreInputsToReport names texts desk
+  pub proofs_is : IsInput Proofs names.proofs texts.proofs desk
 
 -- the text is a netlist of this circuit, and no longer than a netlist may be
 pub record IsGoodNetlist (text : List ℕ) (c : net.Netlist) : Type 0 where
@@ -41,9 +66,44 @@ pub record AcceptsTests (netlist_name tests_name : List ℕ) (old : DeskView) : 
   pub accepted : (netlist tests : List ℕ) → AreInputs netlist_name tests_name netlist tests old
       → (c : net.Netlist) × IsGoodNetlist netlist c × ((list : List (List Bool)) × IsTestText c tests list)
 
+-- The tests are vectors of the netlist's circuit, and the report is that of a search and agrees with them.
+pub record AreGoodToReport (texts : CheckFiles) : Type 0 where
+  pub circuit : net.Netlist
+  pub representatives : List ℕ
+  pub content : Content
+  pub good : IsGoodNetlist texts.netlist circuit
+  pub classes : AreClasses circuit representatives
+  pub read : AreReadTo circuit representatives texts.tests texts.report content
+
+-- The netlist and the tests are accepted; the report is there, and agrees with the tests.
+pub record AcceptsReport (names : CheckFiles) (old : DeskView) : Type 0 where
+  pub tests : AcceptsTests names.netlist names.tests old
+  pub there : MayHold old names.report
+  pub accepted : (texts : CheckFiles) → AreInputsToReport names texts old → AreGoodToReport texts
+
+-- The three files are valid for the netlist's circuit: each fault has one verdict, which is true, and what the budget is
+-- enough for is decided.
+pub record AreTrueFiles (texts : CheckFiles) : Type 0 where
+  pub circuit : net.Netlist
+  pub representatives : List ℕ
+  pub content : Content
+  pub good : IsGoodNetlist texts.netlist circuit
+  pub classes : AreClasses circuit representatives
+  pub valid : AreValid circuit representatives texts.tests texts.report texts.proofs content
+  pub verdicts : HaveTrueVerdicts circuit representatives content
+  pub decided : AreDecided circuit representatives content
+
+-- The netlist, the tests and the report are accepted; the proofs are there, and the files are valid.
+pub record AcceptsFiles (names : CheckFiles) (old : DeskView) : Type 0 where
+  pub report : AcceptsReport names old
+  pub there : MayHold old names.proofs
+  pub accepted : (texts : CheckFiles) → AreCheckInputs names texts old → AreTrueFiles texts
+
 abbrev pub AcceptsInputs : Asked → DeskView → Type 0
 AcceptsInputs (sim netlist tests report) desk = AcceptsTests netlist tests desk
 AcceptsInputs (gen netlist tests report proofs budget) desk = AcceptsNetlist netlist desk
+AcceptsInputs (check netlist tests report proofs) desk =
+    AcceptsFiles (check_files_of netlist tests report proofs) desk
 AcceptsInputs (norm netlist out) desk = AcceptsNetlist netlist desk
 
 -- ---- inputs that a desk knows
@@ -80,8 +140,30 @@ abbrev pub AreGoodTests : List ℕ → List ℕ → DeskView → Type 0
 AreGoodTests netlist_name tests_name desk =
     AreTests netlist_name tests_name desk (λ c text. (list : List (List Bool)) × IsTestText c text list)
 
+-- The desk knows the four files, the netlist is good, and the other three are so for its circuit and its classes.
+pub record AreFiles (names : CheckFiles) (desk : DeskView) (IsSo : net.Netlist → List ℕ → CheckFiles → Type 0)
+    : Type 0 where
+  pub texts : CheckFiles
+  pub inputs : AreCheckInputs names texts desk
+  pub circuit : net.Netlist
+  pub representatives : List ℕ
+  pub good : IsGoodNetlist texts.netlist circuit
+  pub classes : AreClasses circuit representatives
+  pub so : IsSo circuit representatives texts
+
+-- some content makes the texts valid
+abbrev pub AreValidFor : net.Netlist → List ℕ → CheckFiles → Type 0
+AreValidFor c representatives texts = AreValidFiles c representatives texts.tests texts.report texts.proofs
+
+abbrev pub AreGoodFiles : CheckFiles → DeskView → Type 0
+AreGoodFiles names desk = AreFiles names desk AreValidFor
+
+abbrev pub AreBadFiles : CheckFiles → DeskView → Type 0
+AreBadFiles names desk = AreFiles names desk (λ c representatives texts. ¬ AreValidFor c representatives texts)
+
 -- the desk knows all that the job reads, and it is good
 abbrev pub AreGoodInputs : Asked → DeskView → Type 0
 AreGoodInputs (sim netlist tests report) desk = AreGoodTests netlist tests desk
 AreGoodInputs (gen netlist tests report proofs budget) desk = IsGoodNetlistFile netlist desk
+AreGoodInputs (check netlist tests report proofs) desk = AreGoodFiles (check_files_of netlist tests report proofs) desk
 AreGoodInputs (norm netlist out) desk = IsGoodNetlistFile netlist desk

@@ -5,13 +5,17 @@ use Rattle.ht_ports.specs.declared.ports.InPort.{InPort}
 use Rattle.ht_ports.specs.declared.ports.InPort.TheVariants as in_port
 use Rattle.ht_ports.specs.declared.ports.OutPort.{OutPort}
 use Rattle.ht_ports.specs.declared.ports.OutPort.TheVariants.{Tests, Report, Proofs}
-use Rattle.ht_asked.specs.Asked.{Asked, sim, gen, norm}
+use Rattle.ht_asked.specs.Asked.{Asked, sim, gen, check, norm}
 
 -- the file that the job reads from the port
 abbrev pub input_name : Asked → InPort → Option (List ℕ)
 input_name (sim netlist tests report) in_port.Netlist = Some netlist
 input_name (sim netlist tests report) in_port.Tests = Some tests
 input_name (gen netlist tests report proofs budget) in_port.Netlist = Some netlist
+input_name (check netlist tests report proofs) in_port.Netlist = Some netlist
+input_name (check netlist tests report proofs) in_port.Tests = Some tests
+input_name (check netlist tests report proofs) in_port.Report = Some report
+input_name (check netlist tests report proofs) in_port.Proofs = Some proofs
 input_name (norm netlist out) in_port.Netlist = Some netlist
 input_name _ _ = None
 

@@ -4,18 +4,23 @@ use Rattle.std.specs.Io.KnownBytes.{append_known}
 use Rattle.ht_ports.specs.Causes.{Rose}
 use Rattle.ht_ports.specs.Desk.{DeskView, IsAfter, Holds, Writes}
 use Rattle.ht_ports.specs.declared.ports.InPort.{InPort}
-use Rattle.ht_ports.specs.declared.ports.InPort.TheVariants.{Netlist, Tests}
+use Rattle.ht_ports.specs.declared.ports.InPort.TheVariants.{Netlist, Tests, Report, Proofs}
 use Rattle.ht_ports.specs.declared.ports.OutPort.TheVariants.{Err}
 use Rattle.ht_net.specs.Netlist as net
 use Rattle.ht_bench.specs.Text.{max_netlist_bytes, IsNetlistOf, Refuses}
 use Rattle.ht_bench.specs.declared.error.BenchError.{BenchError}
 use Rattle.ht_bench.specs.declared.error.BenchError.TheVariants as bench
 use Rattle.ht_texts.specs.Tests.{IsMalformedTest}
-use Rattle.ht_asked.specs.Asked.{Asked}
+use Rattle.ht_collapse.specs.Classes.{AreClasses}
+use Rattle.ht_valid.specs.declared.trouble.Trouble.{Trouble}
+use Rattle.ht_valid.specs.declared.trouble.Trouble.TheVariants as trouble
+use Rattle.ht_valid.specs.FirstTrouble.{IsFirstTrouble}
+use Rattle.ht_asked.specs.Asked.{Asked, sim, check}
 use Rattle.ht_app.specs.declared.run_error.RunError.{RunError}
-use Rattle.ht_app.specs.declared.run_error.RunError.TheVariants.{Usage, TooLong, Refused, ReadFault, WriteFault, NoMemory, BadTests}
-use Rattle.ht_app.specs.Inputs.{IsInput, IsGoodNetlist, MayHold, AreInputs, AcceptsNetlist, AcceptsInputs}
+use Rattle.ht_app.specs.declared.run_error.RunError.TheVariants.{Denied, Usage, TooLong, Refused, ReadFault, WriteFault, NoMemory, BadTests}
+use Rattle.ht_app.specs.Inputs.{IsInput, IsGoodNetlist, MayHold, AreInputs, AcceptsNetlist, AcceptsTests, AcceptsReport, AcceptsInputs, CheckFiles, AreInputsToReport, AreCheckInputs}
 use Rattle.ht_app.specs.Jobs.{input_name}
+use Rattle.ht_app.specs.Changed.{IsUnread}
 use Rattle.ht_app.specs.Truncated.{IsTruncated, RunsOut}
 use Rattle.ht_app.specs.Errors.{exit_status, err_line}
 
@@ -38,24 +43,83 @@ pub record IsRefused (error : BenchError) (text : List ℕ) : Type 0 where
   pub none : (c : net.Netlist) → ¬ IsNetlistOf text c
   pub not_memory : error ≢ bench.NoMemory
 
--- The netlist is accepted, the tests are there, and this is their first line that is no vector.
+-- Of `sim`: the netlist is accepted, the tests are there, and this is their first line that is no vector.
 pub record RefusesTests (job : Asked) (old : DeskView) (line : ℕ) : Type 0 where
   pub netlist_name : List ℕ
   pub tests_name : List ℕ
-  pub reads_netlist : input_name job Netlist ≡ Some netlist_name
-  pub reads_tests : input_name job Tests ≡ Some tests_name
+  pub report_name : List ℕ
+  pub job_is : job ≡ sim netlist_name tests_name report_name
   pub netlist : AcceptsNetlist netlist_name old
   pub there : MayHold old tests_name
   pub cause : (netlist tests : List ℕ) → AreInputs netlist_name tests_name netlist tests old
       → (c : net.Netlist) × IsGoodNetlist netlist c × IsMalformedTest c tests line
 
+-- ---- files that aren't valid
+
+-- `check` of the files of these names
+abbrev pub check_of_names : CheckFiles → Asked
+check_of_names names = check names.netlist names.tests names.report names.proofs
+
+-- the files that are read where this is the first trouble hold these texts
+abbrev pub AreInputsTo : Trouble → CheckFiles → CheckFiles → DeskView → Type 0
+AreInputsTo (trouble.Tests line) names texts desk =
+    AreInputs names.netlist names.tests texts.netlist texts.tests desk
+AreInputsTo (trouble.Report line) names texts desk = AreInputsToReport names texts desk
+AreInputsTo (trouble.Proofs line) names texts desk = AreCheckInputs names texts desk
+AreInputsTo (trouble.Fault number) names texts desk = AreCheckInputs names texts desk
+
+-- those before the one in which it is are accepted, and that one is there
+abbrev pub AcceptsTo : Trouble → CheckFiles → DeskView → Type 0
+AcceptsTo (trouble.Tests line) names desk = AcceptsNetlist names.netlist desk × MayHold desk names.tests
+AcceptsTo (trouble.Report line) names desk = AcceptsTests names.netlist names.tests desk × MayHold desk names.report
+AcceptsTo (trouble.Proofs line) names desk = AcceptsReport names desk × MayHold desk names.proofs
+AcceptsTo (trouble.Fault number) names desk = AcceptsReport names desk × MayHold desk names.proofs
+
+-- and those after it aren't opened
+abbrev pub LeavesUnread : Trouble → DeskView → DeskView → Type 0
+LeavesUnread (trouble.Tests line) old new = IsUnread Report old new × IsUnread Proofs old new
+LeavesUnread (trouble.Report line) old new = IsUnread Proofs old new
+LeavesUnread (trouble.Proofs line) old new = Unit {0}
+LeavesUnread (trouble.Fault number) old new = Unit {0}
+
+-- The files aren't valid for the netlist's circuit, and this is their first trouble.
+pub record HaveTrouble (texts : CheckFiles) (trouble : Trouble) : Type 0 where
+  pub circuit : net.Netlist
+  pub representatives : List ℕ
+  pub good : IsGoodNetlist texts.netlist circuit
+  pub classes : AreClasses circuit representatives
+  pub first : IsFirstTrouble circuit representatives texts.tests texts.report texts.proofs trouble
+
+-- Of `check`: the files of these names are read to their first trouble, and no further.
+pub record Denies (job : Asked) (trouble : Trouble) (old new : DeskView) : Type 0 where
+  pub names : CheckFiles
+  pub job_is : job ≡ check_of_names names
+  pub accepted : AcceptsTo trouble names old
+  pub unread : LeavesUnread trouble old new
+  pub have : (texts : CheckFiles) → AreInputsTo trouble names texts old → HaveTrouble texts trouble
+
 -- ---- a fault of the desk
 
--- Any other port is read after a netlist that is there and accepted.
+-- the netlist is there and accepted
+abbrev pub HasNetlist : Asked → DeskView → Type 0
+HasNetlist job desk = (name : List ℕ) → input_name job Netlist ≡ Some name → Holds desk name × AcceptsNetlist name desk
+
+-- of `check`: the tests are, for the netlist's circuit
+abbrev pub HasTests : Asked → DeskView → Type 0
+HasTests job desk = (names : CheckFiles) → job ≡ check_of_names names
+    → Holds desk names.tests × AcceptsTests names.netlist names.tests desk
+
+-- and the report is, which agrees with them
+abbrev pub HasGoodReport : Asked → DeskView → Type 0
+HasGoodReport job desk = (names : CheckFiles) → job ≡ check_of_names names
+    → Holds desk names.report × AcceptsReport names desk
+
+-- what comes before a port is there and accepted
 abbrev pub IsReached : Asked → InPort → DeskView → Type 0
 IsReached job Netlist desk = Unit {0}
-IsReached job port desk = (name : List ℕ) → input_name job Netlist ≡ Some name
-    → Holds desk name × AcceptsNetlist name desk
+IsReached job Report desk = HasNetlist job desk × HasTests job desk
+IsReached job Proofs desk = HasNetlist job desk × HasTests job desk × HasGoodReport job desk
+IsReached job port desk = HasNetlist job desk
 
 -- A file that the job reads isn't there, and what it reads before is there and accepted.
 pub record LacksInput (job : Asked) (desk : DeskView) : Type 0 where
@@ -85,6 +149,7 @@ pub record FailsToWrite (job : Asked) (old new : DeskView) : Type 0 where
 
 -- What holds where the work of a job ends by an error. `NoMemory` is the one free answer: it says only what is left.
 abbrev pub HasCause : Asked → DeskView → DeskView → RunError → Type 0
+HasCause job old new (Denied trouble) = Denies job trouble old new
 HasCause job old new Usage = ⊥
 HasCause job old new TooLong = RefusesNetlist job old IsTooLongNetlist
 HasCause job old new (Refused error) = RefusesNetlist job old (IsRefused error)

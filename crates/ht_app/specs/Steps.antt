@@ -4,7 +4,6 @@ use Rattle.std.specs.Option.{option_map}
 use Rattle.std.specs.Io.KnownBytes.{append_known}
 use Rattle.ht_ports.specs.Causes.{Rose}
 use Rattle.ht_ports.specs.Desk.{DeskView, Holds}
-use Rattle.ht_ports.specs.declared.ports.InPort.{InPort}
 use Rattle.ht_ports.specs.declared.ports.InPort.TheVariants.{Netlist, Tests}
 use Rattle.ht_ports.specs.declared.ports.OutPort.{OutPort}
 use Rattle.ht_ports.specs.declared.ports.OutPort.TheVariants.{Report, Out}
@@ -87,11 +86,6 @@ status_after (Ok value) = 0
 status_after (Err error) = exit_status error
 
 -- ---- what the steps leave
-
--- the port was neither opened nor read
-pub record IsUnread (port : InPort) (old new : DeskView) : Type 0 where
-  pub left : new.left port ≡ old.left port
-  pub is_open : new.is_open port ≡ old.is_open port
 
 -- The port's file stands under this name with this text.
 pub record IsBegun (port : OutPort) (name text : List ℕ) (old new : DeskView) : Type 0 where

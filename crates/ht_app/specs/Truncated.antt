@@ -8,9 +8,9 @@ use Rattle.ht_ports.specs.declared.ports.OutPort.{OutPort}
 use Rattle.ht_ports.specs.declared.ports.OutPort.TheVariants.{Tests, Report, Proofs, Out}
 use Rattle.ht_net.specs.Netlist as net
 use Rattle.ht_bench.specs.Normal.{normal_text}
-use Rattle.ht_asked.specs.Asked.{Asked, sim, gen, norm}
+use Rattle.ht_asked.specs.Asked.{Asked, sim, gen, check, norm}
 use Rattle.ht_app.specs.Inputs.{IsInput, IsGoodNetlist, AreInputs}
-use Rattle.ht_app.specs.Done.{IsSimulated}
+use Rattle.ht_app.specs.Done.{IsSimulated, valid_line}
 use Rattle.ht_collapse.specs.Classes.{AreClasses}
 use Rattle.ht_engine.specs.declared.step.Step.{Step}
 use Rattle.ht_engine.specs.Steps.{AreFinished, AreSteps}
@@ -134,6 +134,12 @@ pub record GenIsTruncated (netlist : List ℕ) (budget : ℕ) (old new : DeskVie
   pub good : IsGoodNetlist netlist circuit
   pub stops : StopsBeforeReport circuit budget old new ⊎ StopsInLastFile circuit budget old new
 
+-- what is said of valid files isn't whole
+pub record CheckIsTruncated (old new : DeskView) : Type 0 where
+  pub count : ℕ
+  pub short : count < length valid_line
+  pub said : new.written Out ≡ append_known (old.written Out) (take count valid_line)
+
 -- the normal text isn't whole
 pub record NormIsTruncated (netlist : List ℕ) (old new : DeskView) : Type 0 where
   pub circuit : net.Netlist
@@ -145,6 +151,7 @@ IsTruncated (sim netlist_name tests_name report_name) old new = (netlist tests :
     → AreInputs netlist_name tests_name netlist tests old → SimIsTruncated netlist tests old new
 IsTruncated (gen netlist_name tests_name report_name proofs_name budget) old new = (netlist : List ℕ)
     → IsInput Netlist netlist_name netlist old → GenIsTruncated netlist budget old new
+IsTruncated (check netlist tests report proofs) old new = CheckIsTruncated old new
 IsTruncated (norm netlist_name out_name) old new = (netlist : List ℕ) → IsInput Netlist netlist_name netlist old
     → NormIsTruncated netlist old new
 

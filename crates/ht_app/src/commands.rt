@@ -4,13 +4,14 @@ ghost use Rattle.ht_ports.specs.declared.ports.InPort.TheVariants as in_port;
 ghost use Rattle.ht_ports.specs.declared.ports.OutPort.TheVariants as out_port;
 ghost use Rattle.ht_asked.specs.Asked.{Asked, asked, words_of, sim};
 ghost use Rattle.ht_words.specs.Jobs.{asked_by};
-ghost use Rattle.ht_app.specs.Inputs.{IsBadNetlist, AreBadTests, AreGoodInputs};
+ghost use Rattle.ht_app.specs.Inputs.{IsBadNetlist, AreBadTests, AreBadFiles, AreGoodInputs, CheckFiles};
 ghost use Rattle.ht_app.specs.Jobs.{input_name, HoldsInputs};
 ghost use Rattle.ht_app.specs.Changed.{ChangedOnly, Faultless, job_ports, ports_at};
 ghost use Rattle.ht_app.specs.Done.{IsDone, AskedIsDone};
-ghost use Rattle.ht_app.specs.Run.{EndsBy, HasCause, AskedHasCause};
+ghost use Rattle.ht_app.specs.Run.{EndsBy, HasCause, AskedHasCause, check_of_names};
 ghost use Rattle.ht_app.specs.Steps.{HasBudget, status_after};
 
+use crate::check::check;
 use crate::err_line::write_line;
 use crate::generate::generate;
 use crate::norm::norm;
@@ -57,6 +58,19 @@ fn do_job<D: Desk>(alloc: Global, job: &Job, desk: &mut D) -> Result<(), RunErro
             *budget,
             desk,
         ),
+        Job::Check {
+            netlist,
+            tests,
+            report,
+            proofs,
+        } => check(
+            alloc,
+            netlist.as_str(),
+            tests.as_str(),
+            report.as_str(),
+            proofs.as_str(),
+            desk,
+        ),
         Job::Norm { netlist, out } => norm(alloc, netlist.as_str(), out.as_str(), desk),
     }
 }
@@ -89,11 +103,13 @@ fn work<D: Desk>(alloc: Global, words: &[String], desk: &mut D) -> Result<(), Ru
 /// |---|---|
 /// | `sim NETLIST TESTS REPORT` | runs the tests on the netlist, and reports each fault |
 /// | `gen NETLIST TESTS REPORT PROOFS [--budget N]` | generates tests, and reports each fault with its proof |
+/// | `check NETLIST TESTS REPORT PROOFS` | answers whether the three files are valid for the netlist |
 /// | `norm NETLIST OUT` | writes the netlist in its normal text |
 ///
 /// | Status | Comes |
 /// |---|---|
-/// | 0 | the command finished |
+/// | 0 | the command finished; of `check`: the files are valid |
+/// | 1 | only for `check`, exactly where the netlist is accepted and the files aren't valid |
 /// | 2 | exactly where the words have none of the forms |
 /// | 3 | exactly where the netlist was read, and is refused or too long |
 /// | 4 | only where the desk's count of faults of reading rose |
@@ -101,7 +117,7 @@ fn work<D: Desk>(alloc: Global, words: &[String], desk: &mut D) -> Result<(), Ru
 /// | 6 | out of memory |
 /// | 7 | only for `sim`, exactly where the netlist is accepted and the tests are malformed |
 ///
-/// "Exactly where" yields in 2 to a lack of memory, and in 3 and 7 to a lack of memory and to a counted fault of
+/// "Exactly where" yields in 2 to a lack of memory, and in 1, 3 and 7 to a lack of memory and to a counted fault of
 /// reading. A status other than 0 says why in one line on Err. Where that write fails the status stays, which tests show:
 /// with one count of faults for all out-ports no clause can say it.
 pub fn run<D: Desk>(alloc: Global, words: &[String], desk: &mut D) -> u8
@@ -123,6 +139,15 @@ pub fn run<D: Desk>(alloc: Global, words: &[String], desk: &mut D) -> u8
         → asked (words_of words.now) ≡ Some (sim netlist tests report)
         → AreBadTests netlist tests (D.view desk.old)
         → (result ≡ 7) ⊎ (result ≡ 4) ⊎ (result ≡ 6) }
+
+    ensures invalid { (names : CheckFiles)
+        → asked (words_of words.now) ≡ Some (check_of_names names)
+        → AreBadFiles names (D.view desk.old)
+        → (result ≡ 1) ⊎ (result ≡ 4) ⊎ (result ≡ 6) }
+    ensures denied { (names : CheckFiles)
+        → asked (words_of words.now) ≡ Some (check_of_names names)
+        → AreBadFiles names (D.view desk.old) → Faultless (D.view desk.old) (D.view desk.new)
+        → (result ≡ 1) ⊎ (result ≡ 6) }
 
     // Where no fault was counted, good inputs give the output, or memory ran out.
     ensures complete { (job : Asked) → asked (words_of words.now) ≡ Some job

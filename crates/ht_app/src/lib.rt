@@ -1,7 +1,7 @@
 //! The commands, over a desk.
 //!
 //! `run` is the top call: it takes the words of the command line and a desk, does the work, and answers the status. A
-//! module has one step of it: the top call (`commands`), `sim`, `generate` (the command `gen`), `norm`, the inputs
+//! module has one step of it: the top call (`commands`), `sim`, `generate` (the command `gen`), `check`, `norm`, the inputs
 //! (`netlist`, `vectors_file`), what is written (`output`), why a run ends without its work (`run_error`) and what it
 //! says of that on Err (`err_line`).
 //!
@@ -9,6 +9,7 @@
 //! `specs/Truncated.antt` what a failed write leaves, and `specs/Changed.antt` what each run leaves as it was.
 #![tactic(auto)]
 
+mod check;
 mod commands;
 mod err_line;
 mod generate;

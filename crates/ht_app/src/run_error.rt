@@ -1,16 +1,19 @@
 //! Why a run ends without its work.
 ghost use Rattle.std.specs.Prelude.{◌≡◌};
-ghost use Rattle.ht_app.specs.Errors.{exit_status, run_error_of};
+ghost use Rattle.ht_app.specs.Errors.{exit_status, judged_error_of, run_error_of};
 ghost use Rattle.ht_app.specs.declared.run_error.RunError.TheVariants as error;
 
 use ht_bench::BenchError;
+use ht_judge::JudgeError;
+use ht_valid::Trouble;
 use std::alloc::{AllocError, AllocFailed};
 
 /// Why a run ends without its work. Lines count from 1.
 ///
 /// | Error | Status | Line on Err |
 /// |---|---|---|
-/// | `Usage` | 2 | `usage: sim NETLIST TESTS REPORT, gen NETLIST TESTS REPORT PROOFS [--budget N], norm NETLIST OUT` |
+/// | `Denied` | 1 | `denied: report line 2` |
+/// | `Usage` | 2 | `usage: sim NETLIST TESTS REPORT, gen NETLIST TESTS REPORT PROOFS [--budget N], check NETLIST TESTS REPORT PROOFS, norm NETLIST OUT` |
 /// | `TooLong` | 3 | `netlist: too long` |
 /// | `Refused` | 3 | `netlist: line 2: undriven b` |
 /// | `ReadFault` | 4 | `read fault` |
@@ -19,6 +22,11 @@ use std::alloc::{AllocError, AllocFailed};
 /// | `BadTests` | 7 | `tests: line 2` |
 #[derive(Debug, Drop)]
 pub enum RunError {
+    /// The files of `check` aren't valid.
+    Denied {
+        /// The first trouble.
+        trouble: Trouble,
+    },
     /// The words have no command's form.
     Usage,
     /// The netlist has too many bytes.
@@ -31,7 +39,7 @@ pub enum RunError {
     WriteFault,
     /// Out of memory.
     NoMemory,
-    /// A line of the tests is no vector of the circuit.
+    /// A line of the tests of `sim` is no vector of the circuit.
     BadTests {
         /// The first such line.
         line: u64,
@@ -65,12 +73,24 @@ impl From<BenchError> for RunError {
     }
 }
 
+impl From<JudgeError> for RunError {
+    ghost from_gives = { λ error e. e ≡ judged_error_of error };
+
+    fn from(error: JudgeError) -> Self {
+        match error {
+            JudgeError::Denied { trouble } => RunError::Denied { trouble },
+            JudgeError::NoMemory => RunError::NoMemory,
+        }
+    }
+}
+
 impl RunError {
     /// The status that the run ends with.
     pub fn status(&self) -> u8
         ensures { result ≡ exit_status self.now }
     {
         match self {
+            RunError::Denied { .. } => 1,
             RunError::Usage => 2,
             RunError::TooLong | RunError::Refused(_) => 3,
             RunError::ReadFault => 4,

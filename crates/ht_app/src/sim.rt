@@ -6,12 +6,12 @@ ghost use Rattle.ht_ports.specs.declared.ports.OutPort.TheVariants as out_port;
 ghost use Rattle.ht_net.specs.Netlist.{IsCircuit};
 ghost use Rattle.ht_asked.specs.Asked as asked;
 ghost use Rattle.ht_app.specs.Inputs.{AcceptsTests};
-ghost use Rattle.ht_app.specs.Changed.{ChangedOnly, job_ports};
+ghost use Rattle.ht_app.specs.Changed.{ChangedOnly, IsUnread, job_ports};
 ghost use Rattle.ht_app.specs.Done.{IsDone};
 ghost use Rattle.ht_app.specs.Errors.{exit_status};
 ghost use Rattle.ht_app.specs.Run.{HasCause};
 ghost use Rattle.ht_app.specs.Simulation.{IsReportOf};
-ghost use Rattle.ht_app.specs.Steps.{reading, IsUnread, SimulateCause, AreWorkedInto, status_after};
+ghost use Rattle.ht_app.specs.Steps.{reading, SimulateCause, AreWorkedInto, status_after};
 
 use crate::netlist::read_netlist;
 use crate::output::write_report;

@@ -9,7 +9,7 @@ use Rattle.clap.proofs.WalkLemmas.{both}
 use Rattle.ht_asked.specs.declared.limits.TheConstants.{MAX_BUDGET, MIN_BUDGET}
 use Rattle.ht_asked.specs.Forms.{Given, given}
 use Rattle.ht_asked.specs.Numbers.{is_number, number_in}
-use Rattle.ht_asked.specs.Asked.{Command, asked, budget_of, commands, gen, gen_of, norm_of, sim_of}
+use Rattle.ht_asked.specs.Asked.{Command, asked, budget_of, check_of, commands, gen, gen_of, norm_of, sim_of}
 
 -- a number that was read is in its range
 pub number_is_in_range : (least most : ℕ) (text : Text) (number : ℕ) → number_in least most text ≡ Some number
@@ -43,6 +43,14 @@ module _ (netlist tests report proofs : Text) (budget : ℕ) where
   by_sim (a ∷ b ∷ c ∷ []) e = cc
   by_sim (a ∷ b ∷ c ∷ d ∷ rest) e = cc
 
+  by_check : (names : List Text) → check_of names ≡ Some (gen netlist tests report proofs budget) → InRange
+  by_check [] e = cc
+  by_check (a ∷ []) e = cc
+  by_check (a ∷ b ∷ []) e = cc
+  by_check (a ∷ b ∷ c ∷ []) e = cc
+  by_check (a ∷ b ∷ c ∷ d ∷ []) e = cc
+  by_check (a ∷ b ∷ c ∷ d ∷ x ∷ rest) e = cc
+
   by_norm : (names : List Text) → norm_of names ≡ Some (gen netlist tests report proofs budget) → InRange
   by_norm [] e = cc
   by_norm (a ∷ []) e = cc
@@ -73,8 +81,13 @@ module _ (netlist tests report proofs : Text) (budget : ℕ) where
   All (c ∷ cs) = AsksInRange c × All cs
 
   commands_ask_in_range : All commands
-  commands_ask_in_range =
-      (λ g. by_sim g.positionals, (λ g. by_gen g.positionals g.options, (λ g. by_norm g.positionals, tt)))
+  commands_ask_in_range = (
+    λ g. by_sim g.positionals,
+    (
+      λ g. by_gen g.positionals g.options,
+      (λ g. by_check g.positionals, (λ g. by_norm g.positionals, tt)),
+    ),
+  )
 
   by_given : (c : Command) → AsksInRange c → (o : Option Given)
       → option_and_then c.asks o ≡ Some (gen netlist tests report proofs budget) → InRange

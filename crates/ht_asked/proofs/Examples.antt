@@ -1,8 +1,8 @@
--- Worked examples of a command with an option, read by computation.
+-- Worked examples of the commands, read by computation.
 use Rattle.std.proofs.Common.{◌≡◌, ◌∷◌, ℕ, List, [], map, Option, Some, None, refl, arith, codes}
 use Rattle.clap.specs.Walk.{Text}
 use Rattle.ht_asked.specs.Forms.{given, parts}
-use Rattle.ht_asked.specs.Asked.{Asked, asked, budget_of, gen, gen_command}
+use Rattle.ht_asked.specs.Asked.{Asked, asked, budget_of, check, gen, gen_command}
 use Rattle.ht_asked.specs.ByClap.{app_with, given_by_clap}
 use Rattle.ht_asked.proofs.States.{AreReadable}
 use Rattle.ht_asked.proofs.FormByClap.{form_by_clap}
@@ -52,6 +52,16 @@ no_budget : map (λ word. asks (codes "n" ∷ codes "t" ∷ codes "r" ∷ codes 
     ≡ None ∷ None ∷ None ∷ None ∷ None ∷ None ∷ None ∷ []
 unfolding asked given parts
 no_budget = refl
+
+-- `check` has four names and no option
+checks : map (λ words. asked (codes "check" ∷ words)) (
+    (codes "n" ∷ codes "t" ∷ codes "r" ∷ codes "p" ∷ [])
+    ∷ (codes "n" ∷ codes "t" ∷ codes "r" ∷ [])
+    ∷ (codes "n" ∷ codes "t" ∷ codes "r" ∷ codes "p" ∷ codes "--budget=5" ∷ [])
+    ∷ [])
+    ≡ Some (check (codes "n") (codes "t") (codes "r") (codes "p")) ∷ None ∷ None ∷ []
+unfolding asked given parts
+checks = refl
 
 -- `clap` reads the command's form as the plain reading does
 by_clap : (words : List Text) → AreReadable words

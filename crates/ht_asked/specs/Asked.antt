@@ -17,6 +17,7 @@ words_of = map (λ s. string_bytes s)
 pub data Asked : Type 0 where
   sim : Text → Text → Text → Asked
   gen : Text → Text → Text → Text → ℕ → Asked
+  check : Text → Text → Text → Text → Asked
   norm : Text → Text → Asked
 
 -- a command: its name in lower case, the form of the words after it, and what they ask for
@@ -60,6 +61,21 @@ gen_command = record {
   asks = λ g. gen_of g.positionals g.options;
 }
 
+-- `check NETLIST TESTS REPORT PROOFS`
+abbrev pub check_of : List Text → Option Asked
+check_of (netlist ∷ tests ∷ report ∷ proofs ∷ []) = Some (check netlist tests report proofs)
+check_of _ = None
+
+abbrev pub check_command : Command
+check_command = record {
+  name = codes "check";
+  form = record {
+    positionals = codes "netlist" ∷ codes "tests" ∷ codes "report" ∷ codes "proofs" ∷ [];
+    options = [];
+  };
+  asks = λ g. check_of g.positionals;
+}
+
 -- `norm NETLIST OUT`
 abbrev pub norm_of : List Text → Option Asked
 norm_of (netlist ∷ out ∷ []) = Some (norm netlist out)
@@ -73,7 +89,7 @@ norm_command = record {
 }
 
 abbrev pub commands : List Command
-commands = sim_command ∷ gen_command ∷ norm_command ∷ []
+commands = sim_command ∷ gen_command ∷ check_command ∷ norm_command ∷ []
 
 abbrev pub command_named : Text → Option Command
 command_named name = find (λ c. bytes_eq name c.name) commands

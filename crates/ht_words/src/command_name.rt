@@ -10,6 +10,8 @@ pub enum CommandName {
     Sim,
     /// `gen`.
     Gen,
+    /// `check`.
+    Check,
     /// `norm`.
     Norm,
 }
@@ -22,6 +24,7 @@ impl CommandName {
         match word {
             "sim" => Some(CommandName::Sim),
             "gen" => Some(CommandName::Gen),
+            "check" => Some(CommandName::Check),
             "norm" => Some(CommandName::Norm),
             _ => None,
         }

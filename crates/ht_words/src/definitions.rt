@@ -1,7 +1,7 @@
 //! One `clap` command for each command of the program.
 ghost use Rattle.std.specs.Prelude.{◌≡◌, IfOk, false};
 ghost use Rattle.clap.specs.Words.{app_of, rule_of};
-ghost use Rattle.ht_asked.specs.Asked.{gen_command, norm_command, sim_command};
+ghost use Rattle.ht_asked.specs.Asked.{check_command, gen_command, norm_command, sim_command};
 ghost use Rattle.ht_asked.specs.ByClap.{app_named, app_with, optional, wanted};
 ghost use Rattle.ht_words.specs.Jobs.{command_of};
 
@@ -56,6 +56,17 @@ fn define_gen<'a>(alloc: Global) -> Result<Command<'a>, AllocError>
         .arg(option(alloc, "budget"))
 }
 
+/// `check NETLIST TESTS REPORT PROOFS`.
+fn define_check<'a>(alloc: Global) -> Result<Command<'a>, AllocError>
+    ensures { IfOk result (λ c. app_of c ≡ app_with check_command.name check_command.form) }
+{
+    plain_command(alloc, "check")
+        .arg(positional(alloc, "netlist"))?
+        .arg(positional(alloc, "tests"))?
+        .arg(positional(alloc, "report"))?
+        .arg(positional(alloc, "proofs"))
+}
+
 /// `norm NETLIST OUT`.
 fn define_norm<'a>(alloc: Global) -> Result<Command<'a>, AllocError>
     ensures { IfOk result (λ c. app_of c ≡ app_with norm_command.name norm_command.form) }
@@ -72,6 +83,7 @@ pub fn definition<'a>(alloc: Global, name: CommandName) -> Result<Command<'a>, A
     match name {
         CommandName::Sim => define_sim(alloc),
         CommandName::Gen => define_gen(alloc),
+        CommandName::Check => define_check(alloc),
         CommandName::Norm => define_norm(alloc),
     }
 }

@@ -31,6 +31,17 @@ pub enum Job {
         /// The budget of each search, 1 to 100,000.
         budget: u64,
     },
+    /// Judges the tests, the report and the proofs that a search wrote.
+    Check {
+        /// The netlist to read.
+        netlist: FileName,
+        /// The tests to read.
+        tests: FileName,
+        /// The report to read.
+        report: FileName,
+        /// The entries of the faults for which no test was found, to read.
+        proofs: FileName,
+    },
     /// Writes the netlist in its normal form.
     Norm {
         /// The netlist to read.

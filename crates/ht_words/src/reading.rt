@@ -1,7 +1,7 @@
 //! From words to a job.
 ghost use Rattle.std.specs.Prelude.{◌≡◌, IfOk, None, Some, codes, false, true};
 ghost use Rattle.clap.specs.Words.{app_of, first_of, found_of, is_simple_and_free, matches_of, rows_of};
-ghost use Rattle.ht_asked.specs.Asked.{asked, budget_of, words_of};
+ghost use Rattle.ht_asked.specs.Asked.{asked, budget_of, check_command, words_of};
 ghost use Rattle.ht_asked.specs.ByClap.{asked_by_clap, asked_in_rows, is_taken};
 ghost use Rattle.ht_words.specs.Jobs.{IsAnswer, command_of};
 ghost use Rattle.ht_words.specs.declared.job.WordsFault.TheVariants as fault;
@@ -71,11 +71,28 @@ fn job(alloc: Global, name: CommandName, matches: &ArgMatches<'_>) -> Result<Job
             proofs: value(alloc, matches, "proofs")?,
             budget: budget(matches)?,
         }),
+        CommandName::Check => check(alloc, matches),
         CommandName::Norm => Ok(Job::Norm {
             netlist: value(alloc, matches, "netlist")?,
             out: value(alloc, matches, "out")?,
         }),
     }
+}
+
+/// The job of `check`.
+fn check(alloc: Global, matches: &ArgMatches<'_>) -> Result<Job, WordsFault>
+    ensures { IsAnswer (asked_in_rows check_command (rows_of (found_of matches.now))) result }
+{
+    let netlist = value(alloc, matches, "netlist")?;
+    let tests = value(alloc, matches, "tests")?;
+    let report = value(alloc, matches, "report")?;
+    let proofs = value(alloc, matches, "proofs")?;
+    Ok(Job::Check {
+        netlist,
+        tests,
+        report,
+        proofs,
+    })
 }
 
 /// The value of an argument.

@@ -1,0 +1,2 @@
+pub mod ReportJudging
+pub mod ProofJudging

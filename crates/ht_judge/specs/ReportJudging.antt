@@ -1,0 +1,79 @@
+-- A judge of the report of a search: the lines that it stands for, and why it denies.
+use Rattle.std.specs.Prelude.{◌≡◌, ◌⊎◌, ◌<◌, ◌+◌, ◌++◌, ◌∷◌, ℕ, List, [], Bool, true, length, IsTrue, Option, Result, IfOk, IfErr, is_ok}
+use Rattle.ht_net.specs.declared.place.Place.{Place}
+use Rattle.ht_net.specs.Netlist.{Netlist}
+use Rattle.ht_collapse.specs.Classes.{is_representative}
+use Rattle.ht_texts.specs.declared.said.Said.{Said}
+use Rattle.ht_texts.specs.Verdicts.{said_at}
+use Rattle.ht_texts.specs.SearchReports.{IsReportFront, IsSearchReport}
+use Rattle.ht_texts.specs.ReportReading.{ReportReading, before_report, in_report, after_report, ReportReadsTo}
+use Rattle.ht_grade.specs.Detections.{AreFirstDetections}
+use Rattle.ht_valid.specs.ValidFiles.{AgreesWithTests, IsOwn}
+use Rattle.ht_valid.specs.FirstTrouble.{ContradictsTests}
+use Rattle.ht_valid.specs.declared.trouble.Trouble.TheVariants.{Report}
+use Rattle.ht_judge.specs.declared.judge_error.JudgeError.{JudgeError}
+use Rattle.ht_judge.specs.declared.judge_error.JudgeError.TheVariants.{Denied, NoMemory}
+
+pub record ReportJudgeView : Type 0 where
+  pub circuit : Netlist
+  pub representatives : List ℕ
+  -- the first detection of each representative
+  pub detections : List (Option Place)
+  -- how many lines were read, and what they say: the budget, and what is said of the faults so far
+  pub lines_read : ℕ
+  pub budget : ℕ
+  pub saids : List Said
+  pub live : Bool
+
+-- what is kept of a report that is read this far
+abbrev pub IsKept : ReportReading → ℕ → List Said → Type 0
+IsKept before_report budget saids = saids ≡ []
+IsKept (in_report said_budget said) budget saids = (budget ≡ said_budget) × (saids ≡ said)
+IsKept (after_report said_budget said) budget saids = (budget ≡ said_budget) × (saids ≡ said)
+
+-- The judge is live and stands for these lines: they begin a report, and what they say agrees with the vectors.
+pub record JudgesReport (v : ReportJudgeView) (list : List (List Bool)) (lines : List (List ℕ)) : Type 0 where
+  pub live : IsTrue v.live
+  pub first : AreFirstDetections v.circuit v.representatives list v.detections
+  pub at : ReportReading
+  pub read : ReportReadsTo v.circuit v.representatives lines at
+  pub kept : IsKept at v.budget v.saids
+  pub lines_read : v.lines_read ≡ length lines
+  pub agree : (i : ℕ) → i < length v.saids → is_representative v.representatives i ≡ true
+      → AgreesWithTests v.circuit list i (said_at v.saids i)
+
+-- no report begins with these lines, or the last of them contradicts the vectors
+abbrev pub IsRefusedReport : ReportJudgeView → List (List Bool) → List (List ℕ) → Type 0
+IsRefusedReport v list lines = (¬ IsReportFront v.circuit v.representatives lines)
+    ⊎ ContradictsTests v.circuit v.representatives list lines
+
+-- why the line was denied after these
+abbrev pub ReportLineHasCause : ReportJudgeView → List (List Bool) → List (List ℕ) → List ℕ → JudgeError → Type 0
+ReportLineHasCause v list before line (Denied (Report number)) =
+    (number ≡ length before + 1) × IsRefusedReport v list (before ++ line ∷ [])
+ReportLineHasCause v list before line (Denied other) = ⊥
+ReportLineHasCause v list before line NoMemory = Unit {0}
+
+-- What a call with a line leaves, whatever lines the judge stood for.
+pub record ReportJudged (old new : ReportJudgeView) (line : List ℕ) (result : Result (Unit {0}) JudgeError)
+    : Type 0 where
+  pub circuit : new.circuit ≡ old.circuit
+  pub representatives : new.representatives ≡ old.representatives
+  pub live : new.live ≡ is_ok result
+  pub taken : (list : List (List Bool)) (before : List (List ℕ)) → JudgesReport old list before
+      → IfOk result (λ u. JudgesReport new list (before ++ line ∷ []))
+  pub cause : (list : List (List Bool)) (before : List (List ℕ)) → JudgesReport old list before
+      → IfErr result (ReportLineHasCause old list before line)
+
+-- The lines are a whole report with this budget, which says this and agrees with the vectors.
+pub record IsTrueReport (c : Netlist) (representatives : List ℕ) (list : List (List Bool)) (lines : List (List ℕ))
+    (budget : ℕ) (saids : List Said) : Type 0 where
+  pub report : IsSearchReport c representatives lines budget saids
+  pub agrees : (i : ℕ) → IsOwn c representatives i → AgreesWithTests c list i (said_at saids i)
+
+-- the report ended too early: the line after its last is missing
+abbrev pub ReportEndHasCause : ReportJudgeView → List (List ℕ) → JudgeError → Type 0
+ReportEndHasCause v lines (Denied (Report number)) = (number ≡ length lines + 1)
+    × ((budget : ℕ) (saids : List Said) → ¬ IsSearchReport v.circuit v.representatives lines budget saids)
+ReportEndHasCause v lines (Denied other) = ⊥
+ReportEndHasCause v lines NoMemory = Unit {0}

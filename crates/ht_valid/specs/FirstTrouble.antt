@@ -1,0 +1,135 @@
+-- The first trouble of tests, a report and proofs, in the order in which they are read: the tests, the report, and the
+-- proofs, each to the first of its lines at which something is wrong.
+use Rattle.std.specs.Prelude.{◌≡◌, ◌⊎◌, ◌<◌, ◌≤◌, ◌+◌, ◌-◌, ◌++◌, ◌∷◌, ℕ, List, [], Bool, length, take, Option, Some}
+use Rattle.std.specs.Option.{ForSome}
+use Rattle.ht_ports.specs.LineRule.{lines_of}
+use Rattle.ht_net.specs.Netlist.{Netlist}
+use Rattle.ht_texts.specs.declared.item.Item.TheVariants.{Verdict}
+use Rattle.ht_texts.specs.declared.said.Said.{Said}
+use Rattle.ht_texts.specs.Tests.{IsTestText, IsMalformedTest, line_at}
+use Rattle.ht_texts.specs.Verdicts.{said_at}
+use Rattle.ht_texts.specs.SearchReports.{IsReportText, IsWrongReportLine}
+use Rattle.ht_texts.specs.ReportReading.{ReportReading, ReportReadsTo, last_item}
+use Rattle.ht_entries.specs.declared.numbered.Numbered.{Numbered}
+use Rattle.ht_entries.specs.ProofReading.{ProofReading, ProofReadsTo, EndsEntry, closed_of, before_first, after_first, within_entry, after_last}
+use Rattle.ht_entries.specs.MalformedProofs.{IsWrongProofLine}
+use Rattle.ht_valid.specs.declared.trouble.Trouble.{Trouble}
+use Rattle.ht_valid.specs.declared.trouble.Trouble.TheVariants.{Tests, Report, Proofs, Fault}
+use Rattle.ht_valid.specs.ValidFiles.{AgreesWithTests, Content, HasEntry, IsBacking, IsOwn, NeedsEntry}
+
+-- the least number at which something is wrong
+pub record IsFirst (IsWrong : ℕ → Type 0) (n : ℕ) : Type 0 where
+  pub wrong : IsWrong n
+  pub first : (m : ℕ) → m < n → ¬ IsWrong m
+
+-- ---- the report
+
+-- The last of these lines of a report says of a fault what the vectors contradict.
+pub record ContradictsTests (c : Netlist) (representatives : List ℕ) (list : List (List Bool)) (lines : List (List ℕ))
+    : Type 0 where
+  pub at : ReportReading
+  pub read : ReportReadsTo c representatives lines at
+  pub fault : ℕ
+  pub said : Said
+  pub says : last_item representatives at ≡ Some (Verdict fault said)
+  pub contradicts : ¬ AgreesWithTests c list fault said
+
+-- line n of the report is malformed, or contradicts the tests
+abbrev pub IsReportTrouble : Netlist → List ℕ → List (List Bool) → List ℕ → ℕ → Type 0
+IsReportTrouble c representatives list text n = IsWrongReportLine c representatives text n
+    ⊎ ContradictsTests c representatives list (take n (lines_of text))
+
+-- ---- the proofs
+
+-- The line is well formed after these lines, and ends this entry or none.
+pub record EndsWithLine (before : List (List ℕ)) (line : List ℕ) (new : ProofReading) (ended : Option Numbered)
+    : Type 0 where
+  pub old : ProofReading
+  pub from : ProofReadsTo before old
+  pub to : ProofReadsTo (before ++ line ∷ []) new
+  pub ends : EndsEntry old new ended
+
+-- The line ends an entry of this number which isn't that of a representative, or doesn't back what is said of it.
+pub record EndsWrongEntry (c : Netlist) (representatives : List ℕ) (content : Content) (before : List (List ℕ))
+    (line : List ℕ) (number : ℕ) : Type 0 where
+  pub new : ProofReading
+  pub ended : Numbered
+  pub reads : EndsWithLine before line new (Some ended)
+  pub number_is : number ≡ ended.number
+  pub wrong : ¬ IsBacking c representatives content ended
+
+-- once entry N is begun, the entries of lower numbers are due, and after `end` all
+abbrev pub IsDue : ℕ → ProofReading → Type 0
+IsDue i before_first = ⊥
+IsDue i after_first = ⊥
+IsDue i (within_entry closed number p) = i + 1 < number
+IsDue i (after_last closed) = Unit {0}
+
+-- Representative i needs an entry, which is due, and has none.
+pub record IsMissing (c : Netlist) (representatives : List ℕ) (content : Content) (at : ProofReading) (i : ℕ)
+    : Type 0 where
+  pub own : IsOwn c representatives i
+  pub needs : NeedsEntry (said_at content.saids i)
+  pub due : IsDue i at
+  pub none : ¬ HasEntry (closed_of at) i
+
+-- The line ends no wrong entry, and this is the least number of a representative whose entry is missing then.
+pub record LeavesMissing (c : Netlist) (representatives : List ℕ) (content : Content) (before : List (List ℕ))
+    (line : List ℕ) (number : ℕ) : Type 0 where
+  pub new : ProofReading
+  pub ended : Option Numbered
+  pub reads : EndsWithLine before line new ended
+  pub right : ForSome ended (IsBacking c representatives content)
+  pub counted : 0 < number
+  pub missing : IsFirst (IsMissing c representatives content new) (number - 1)
+
+-- with the line, the entry of this number is wrong or missing
+abbrev pub IsFaultTrouble : Netlist → List ℕ → Content → List (List ℕ) → List ℕ → ℕ → Type 0
+IsFaultTrouble c representatives content before line number =
+    EndsWrongEntry c representatives content before line number
+    ⊎ LeavesMissing c representatives content before line number
+
+-- the same of line n of the proofs
+pub record IsFaultTroubleAt (c : Netlist) (representatives : List ℕ) (content : Content) (text : List ℕ) (n number : ℕ)
+    : Type 0 where
+  pub counted : (0 < n) × (n ≤ length (lines_of text))
+  pub trouble : IsFaultTrouble c representatives content (take (n - 1) (lines_of text)) (line_at text n) number
+
+-- something is wrong at line n of the proofs
+abbrev pub IsProofTrouble : Netlist → List ℕ → Content → List ℕ → ℕ → Type 0
+IsProofTrouble c representatives content text n = IsWrongProofLine text n
+    ⊎ ((number : ℕ) × IsFaultTroubleAt c representatives content text n number)
+
+-- ---- the first of all
+
+-- The tests and the report are as valid files have them. The entries of the content are those of the proofs, which are
+-- still to come: there are none.
+pub record AreReadTo (c : Netlist) (representatives : List ℕ) (tests report : List ℕ) (content : Content) : Type 0 where
+  pub vectors : IsTestText c tests content.list
+  pub reported : IsReportText c representatives report content.budget content.saids
+  pub agrees : (i : ℕ) → IsOwn c representatives i → AgreesWithTests c content.list i (said_at content.saids i)
+  pub none : content.entries ≡ []
+
+-- An entry is wrong or missing at a line that is well formed, and nothing is wrong at the lines before.
+pub record IsFirstFault (c : Netlist) (representatives : List ℕ) (content : Content) (proofs : List ℕ) (number : ℕ)
+    : Type 0 where
+  pub line : ℕ
+  pub well_formed : ¬ IsWrongProofLine proofs line
+  pub wrong : IsFaultTroubleAt c representatives content proofs line number
+  pub first : IsFirst (IsProofTrouble c representatives content proofs) line
+
+-- line n of the proofs is malformed, and nothing is wrong before it
+pub record IsFirstProofLine (c : Netlist) (representatives : List ℕ) (content : Content) (proofs : List ℕ) (n : ℕ)
+    : Type 0 where
+  pub malformed : IsWrongProofLine proofs n
+  pub first : IsFirst (IsProofTrouble c representatives content proofs) n
+
+-- The files aren't valid, and this is their first trouble in the order in which they are read.
+abbrev pub IsFirstTrouble : Netlist → List ℕ → List ℕ → List ℕ → List ℕ → Trouble → Type 0
+IsFirstTrouble c representatives tests report proofs (Tests line) = IsMalformedTest c tests line
+IsFirstTrouble c representatives tests report proofs (Report line) = (list : List (List Bool))
+    × IsTestText c tests list × IsFirst (IsReportTrouble c representatives list report) line
+IsFirstTrouble c representatives tests report proofs (Proofs line) = (content : Content)
+    × AreReadTo c representatives tests report content × IsFirstProofLine c representatives content proofs line
+IsFirstTrouble c representatives tests report proofs (Fault number) = (content : Content)
+    × AreReadTo c representatives tests report content × IsFirstFault c representatives content proofs number
