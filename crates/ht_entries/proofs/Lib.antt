@@ -15,3 +15,4 @@ pub mod TextLaws
 pub mod ParsedLaws
 pub mod WriterLaws
 pub mod ExampleLaws
+pub mod LineLengthLaws

@@ -1,10 +1,13 @@
 //! What proofs texts are. Each theorem is the contract of a function that does nothing.
 ghost use Rattle.std.specs.Prelude.{◌≡◌, ◌≤◌, ◌++◌, ◌∷◌, [], ℕ, List, map, length};
+ghost use Rattle.std.specs.List.{All};
 ghost use Rattle.ht_ports.specs.LineRule.{max_text_bytes};
+ghost use Rattle.ht_texts.specs.LineLengths.{IsShortLine};
 ghost use Rattle.ht_entries.specs.declared.numbered.Numbered.{Numbered};
+ghost use Rattle.ht_entries.specs.declared.proof_line.ProofLine.{ProofLine};
 ghost use Rattle.ht_entries.specs.EntryLines.{proof_lines, proofs_text};
 ghost use Rattle.ht_entries.specs.EntryTexts.{IsProofText, AreEntryTexts, as_read};
-ghost use Rattle.ht_entries.specs.ProofLines.{line_text};
+ghost use Rattle.ht_entries.specs.ProofLines.{line_text, IsProofLine};
 ghost use Rattle.ht_entries.specs.ProofReading.{ProofReading, after_last, ProofReadsTo, IsProofFront, IsMalformedAfter};
 
 /// A list of lines is read to one place: one reading, with one list of entries and one part of a further entry.
@@ -47,4 +50,11 @@ pub fn written_entries_are_a_text()
 pub fn text_has_one_list()
     ensures { (text : List ℕ) (a b : List Numbered) → IsProofText a text → IsProofText b text
         → map as_read a ≡ map as_read b }
+{}
+
+/// No line of a proofs text has more than `ht_texts::MAX_LINE_BYTES` bytes: so a reader that takes no longer line takes
+/// every proofs text.
+pub fn proof_lines_are_short()
+    ensures line { (l : ProofLine) → IsProofLine l → IsShortLine (line_text l) }
+    ensures lines { (lines : List (List ℕ)) → IsProofFront lines → All IsShortLine lines }
 {}
