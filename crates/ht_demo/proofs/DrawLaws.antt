@@ -29,7 +29,8 @@ after_gates_more k g = rw add-one refl
 pub argument_is_below : (nets word : ℕ) → 1 ≤ nets → IsBelow nets (argument_of nets word)
 argument_is_below nets word some = omega arith
 
-pub arguments_are_below : (nets : ℕ) (kind : Kind) (g : Lcg) → 1 ≤ nets → All (IsBelow nets) (drawn_arguments nets kind g)
+pub arguments_are_below : (nets : ℕ) (kind : Kind) (g : Lcg) → 1 ≤ nets
+    → All (IsBelow nets) (drawn_arguments nets kind g)
 arguments_are_below nets kind g some =
     All-map_always (IsBelow nets) (λ i. argument_of nets (next_word (after_words i g)))
     (λ i. argument_is_below nets _ some) (range_with_len 0 (argument_count kind))
@@ -83,7 +84,8 @@ module _ (size : ℕ) (g : Lcg) where
   unfolding drawn_outputs
   no_outputs = refl
 
-  pub outputs_more : (n : ℕ) → drawn_outputs size g (n + 1) ≡ with_net (drawn_outputs size g n) (drawn_gate_net size g n)
+  pub outputs_more : (n : ℕ)
+      → drawn_outputs size g (n + 1) ≡ with_net (drawn_outputs size g n) (drawn_gate_net size g n)
   unfolding drawn_outputs
   outputs_more n = ap (drawn_outputs size g) (add-one n)
 

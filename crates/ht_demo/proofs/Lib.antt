@@ -4,3 +4,4 @@ pub mod NameLaws
 pub mod CircuitLaws
 pub mod TextLaws
 pub mod ShortLaws
+mod KnownNetlist

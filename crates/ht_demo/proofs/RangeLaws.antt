@@ -46,7 +46,8 @@ map_agree f h P same (x ∷ xs) all =
     ∙ ap (λ l. h x ∷ l) (map_agree f h P same xs (All-tail P x xs all))
 
 -- what holds of all images
-pub All-map_always : {A B : Type 0} (P : B → Type 0) (f : A → B) → ((x : A) → P (f x)) → (xs : List A) → All P (map f xs)
+pub All-map_always : {A B : Type 0} (P : B → Type 0) (f : A → B) → ((x : A) → P (f x))
+    → (xs : List A) → All P (map f xs)
 All-map_always P f always xs = All-map P f xs (λ k d below. always (get_or xs k d))
 
 pub list_all_range : (p : List ℕ → Bool) (f : ℕ → List ℕ) (a n : ℕ)

@@ -3,7 +3,6 @@ use Rattle.std.proofs.Common.{◌≡◌, ℕ, ◌+◌, ◌<◌, ◌≤◌, List,
 use Rattle.std.specs.List.{range_with_len}
 use Rattle.std.proofs.lemmas.Grind.{flat_map-append}
 use Rattle.std.proofs.lemmas.List.FromFn.{take-map-range_with_len, fill_by_all}
-use Rattle.rand_pcg.specs.Lcg.{Lcg}
 use Rattle.ht_tern.specs.declared.gate.Kind.{Kind}
 use Rattle.ht_net.specs.declared.net.NetId.{NetId}
 use Rattle.ht_net.specs.Netlist.{first_gate_net}
@@ -14,8 +13,8 @@ use Rattle.ht_bench.specs.Normal.{statement_lines, dff_statement, gate_statement
 use Rattle.ht_bench.proofs.NamedPartLaws.{no_named_dff, no_named_gate, gate_named, named_dffs_count, named_gates_count, get_or-named_dffs, get_or-named_gates}
 use Rattle.ht_random.specs.Words.{generator_of, next_word, after_word, after_words}
 use Rattle.ht_demo.specs.Counts.{input_count, dff_count, first_gate, demo_name}
-use Rattle.ht_demo.specs.Draws.{kind_of, drawn_gate_net, after_gates}
-use Rattle.ht_demo.specs.Demo.{output_draws, demo_outputs}
+use Rattle.ht_demo.specs.Draws.{kind_of, drawn_gate_net}
+use Rattle.ht_demo.specs.Demo.{output_draws}
 use Rattle.ht_demo.specs.DemoText.{demo_name_of, demo_input_lines, demo_output_lines, demo_dff_lines, demo_gate_lines}
 use Rattle.ht_demo.proofs.RangeLaws.{ap2, flat_map-map, map_agree}
 use Rattle.ht_demo.proofs.DrawLaws.{IsBelow, arguments_are_below, gate_is_below, outputs_are_below}
@@ -39,7 +38,8 @@ abbrev named_gate : Kind → Name → List Name → NamedGate
 named_gate kind out args = record { kind = kind; out = out; args = args }
 
 module _ (size seed : ℕ) (some : 1 ≤ size) where
-  same_name : (net : NetId) → IsBelow (first_gate size + size) net → name_of (demo size seed) net ≡ demo_name_of size net
+  same_name : (net : NetId) → IsBelow (first_gate size + size) net
+      → name_of (demo size seed) net ≡ demo_name_of size net
   same_name net below = name_is size seed net.0 [] below
 
   input_part : statement_lines (map input_line (take input_count (demo size seed).names))
@@ -97,7 +97,8 @@ module _ (size seed : ℕ) (some : 1 ≤ size) where
   }
 
   same_arguments : (k : ℕ) → k < size
-      → map (name_of (demo size seed)) (gate_drawn size seed k).args ≡ map (demo_name_of size) (gate_drawn size seed k).args
+      → map (name_of (demo size seed)) (gate_drawn size seed k).args
+      ≡ map (demo_name_of size) (gate_drawn size seed k).args
   same_arguments k below =
       map_agree (name_of (demo size seed)) (demo_name_of size) (IsBelow (first_gate size + k))
       (λ net earlier. same_name net (omega arith)) (gate_drawn size seed k).args
@@ -139,18 +140,12 @@ module _ (size seed : ℕ) (some : 1 ≤ size) where
       (map gate_statement (named_gates c (first_gate_net c) c.gates))
       ∙ all_same input_part output_part dff_part gate_part
 
-  -- the text, from what each call gives
-  pub text_of_parts : (g after_gate_draws after_dff_draws : Lcg) (inputs outputs dffs gates : List ℕ) (nets : List NetId)
-      → g ≡ generator_of seed → after_gate_draws ≡ after_gates size g
-      → after_dff_draws ≡ after_words (dff_count size) after_gate_draws
-      → gates ≡ demo_gate_lines size g size → dffs ≡ demo_dff_lines size after_gate_draws (dff_count size)
-      → nets ≡ demo_outputs size after_dff_draws → outputs ≡ demo_output_lines size nets
+  -- the text, from its parts
+  pub text_of_parts : (inputs outputs dffs gates : List ℕ) (nets : List NetId)
+      → gates ≡ demo_gate_lines size (generator_of seed) size
+      → dffs ≡ demo_dff_lines size (before_gate size seed size) (dff_count size)
+      → nets ≡ (demo size seed).outputs → outputs ≡ demo_output_lines size nets
       → inputs ≡ demo_input_lines size input_count
       → inputs ++ outputs ++ dffs ++ gates ≡ normal_text (demo size seed)
-  text_of_parts g g' g'' inputs outputs dffs gates nets is_g is_g' is_g'' is_gates is_dffs is_nets is_outputs is_inputs =
-      let first = is_g' ∙ ap (after_gates size) is_g in
-      let second = is_g'' ∙ ap (after_words (dff_count size)) first in
-      all_same is_inputs (is_outputs ∙ ap (demo_output_lines size) (is_nets ∙ ap (demo_outputs size) second))
-      (is_dffs ∙ ap (λ (w : Lcg). demo_dff_lines size w (dff_count size)) first)
-      (is_gates ∙ ap (λ (w : Lcg). demo_gate_lines size w size) is_g)
-      ∙ sym text_is
+  text_of_parts inputs outputs dffs gates nets is_gates is_dffs is_nets is_outputs is_inputs =
+      all_same is_inputs (is_outputs ∙ ap (demo_output_lines size) is_nets) is_dffs is_gates ∙ sym text_is

@@ -6,6 +6,7 @@ use Rattle.std.specs.Fmt.{decimal}
 abbrev pub max_demo_size : ℕ
 max_demo_size = 20000
 
+-- there are sixteen inputs
 abbrev pub input_count : ℕ
 input_count = 16
 

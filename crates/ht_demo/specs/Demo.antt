@@ -25,6 +25,7 @@ demo_dffs size g = map (drawn_gate_net size g) (range_with_len 0 (dff_count size
 abbrev pub demo_outputs : ℕ → Lcg → List NetId
 demo_outputs size g = drawn_outputs size g output_draws
 
+-- a name for each net, by its number
 abbrev pub demo_names : ℕ → List (List ℕ)
 demo_names size = map (demo_name size) (range_with_len 0 (first_gate size + size))
 

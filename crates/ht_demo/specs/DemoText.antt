@@ -8,6 +8,7 @@ use Rattle.ht_statement.specs.StatementText.{statement_line}
 use Rattle.ht_demo.specs.Counts.{input_count, first_gate, demo_name}
 use Rattle.ht_demo.specs.Draws.{drawn_gate, after_gates, drawn_gate_net}
 
+-- the name of a net
 abbrev pub demo_name_of : ℕ → NetId → List ℕ
 demo_name_of size net = demo_name size net.0
 
@@ -21,9 +22,11 @@ abbrev pub drawn_dff_line : ℕ → Lcg → ℕ → List ℕ
 drawn_dff_line size g j =
     statement_line (dff_line (demo_name size (input_count + j)) (demo_name_of size (drawn_gate_net size g j)))
 
+-- the line of an output
 abbrev pub demo_output_line : ℕ → NetId → List ℕ
 demo_output_line size net = statement_line (output_line (demo_name_of size net))
 
+-- the line of an input
 abbrev pub demo_input_line : ℕ → ℕ → List ℕ
 demo_input_line size input = statement_line (input_line (demo_name size input))
 

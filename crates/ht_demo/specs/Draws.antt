@@ -11,19 +11,20 @@ use Rattle.ht_demo.specs.Counts.{first_gate}
 
 -- ---- gates
 
+-- the kinds of gates, in their order
 abbrev pub kinds : List Kind
 kinds = And ∷ Nand ∷ Or ∷ Nor ∷ Xor ∷ Xnor ∷ Not ∷ Buf ∷ []
 
--- the kind that a word gives, each of the eight at every eighth word
+-- the kind that a word gives
 abbrev pub kind_of : ℕ → Kind
 kind_of word = get_or kinds (word % 8) And
 
+-- NOT and BUFF have one argument, the other kinds two
 abbrev pub is_unary : Kind → Bool
 is_unary Not = true
 is_unary Buf = true
 is_unary kind = false
 
--- one argument for NOT and BUFF, two for the other kinds
 abbrev pub argument_count : Kind → ℕ
 argument_count kind = if is_unary kind then 1 else 2
 

@@ -17,4 +17,4 @@ mod theorems;
 
 pub use counts::MAX_DEMO_SIZE;
 pub use netlist::netlist_text;
-pub use theorems::{demo_netlist_is_accepted, demo_text_is_short};
+pub use theorems::demo_netlist_is_accepted;

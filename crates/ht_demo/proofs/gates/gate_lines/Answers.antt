@@ -17,5 +17,6 @@ loop-gate-preserved c =
           _ _ _ before.text c.in_ok-push_gate.ensures.text
           (ap (λ (first : ℕ). drawn_gate_line size (first + gate) c.loop-gate.words) c.first_gate-first.ensures
           ∙ ap (λ (g : Lcg). drawn_gate_line size (first_gate size + gate) g) before.words);
-      words = c.in_ok-push_gate.ensures.after ∙ ap after_gate before.words ∙ sym (after_gates_more gate c.args.words.now);
+      words = c.in_ok-push_gate.ensures.after ∙ ap after_gate before.words
+          ∙ sym (after_gates_more gate c.args.words.now);
     }
