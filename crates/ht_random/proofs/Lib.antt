@@ -1,0 +1,2 @@
+mod KnownVectors
+pub mod RandomVectorLaws

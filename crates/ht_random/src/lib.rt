@@ -1,0 +1,10 @@
+//! Random words, and the vectors that are drawn by them.
+//!
+//! The generator is PCG32 (O'Neill 2014), made from a seed, as the published crates `rand_pcg` and `rand_core` have it.
+//! For each vector in order and each input in order one word is taken, and the input is 1 exactly where the word is
+//! odd. `specs/Words.antt` has the generator and its words, `specs/RandomVectors.antt` the vectors.
+#![tactic(auto)]
+
+mod words;
+
+pub use words::Words;
