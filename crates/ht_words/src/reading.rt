@@ -110,7 +110,8 @@ fn check_job(alloc: Global, matches: &ArgMatches<'_>) -> Result<Job, WordsFault>
 fn demo_job(matches: &ArgMatches<'_>) -> Result<Job, WordsFault>
     ensures { IsAnswer (demo_with
         (option_and_then size_in (first_of (codes "size") (rows_of (found_of matches.now))))
-        (option_and_then seed_in (first_of (codes "seed") (rows_of (found_of matches.now))))) result }
+        (option_and_then seed_in (first_of (codes "seed") (rows_of (found_of matches.now)))))
+        result }
 {
     Ok(Job::Demo {
         size: size(matches)?,
