@@ -14,6 +14,8 @@ pub enum CommandName {
     Check,
     /// `norm`.
     Norm,
+    /// `demo`.
+    Demo,
 }
 
 impl CommandName {
@@ -26,6 +28,7 @@ impl CommandName {
             "gen" => Some(CommandName::Gen),
             "check" => Some(CommandName::Check),
             "norm" => Some(CommandName::Norm),
+            "demo" => Some(CommandName::Demo),
             _ => None,
         }
     }

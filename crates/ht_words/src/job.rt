@@ -30,6 +30,10 @@ pub enum Job {
         proofs: FileName,
         /// The budget of each search, 1 to 100,000.
         budget: u64,
+        /// How many random vectors come first, 0 to 100,000.
+        random: u32,
+        /// The seed of the random vectors.
+        seed: u64,
     },
     /// Judges the tests, the report and the proofs that a search wrote.
     Check {
@@ -48,6 +52,13 @@ pub enum Job {
         netlist: FileName,
         /// The normal netlist to write.
         out: FileName,
+    },
+    /// Makes a netlist from a size and a seed, and generates tests for it; no file is written.
+    Demo {
+        /// How many gates the netlist has, 1 to 20,000.
+        size: u32,
+        /// The seed of the netlist and of the random vectors.
+        seed: u64,
     },
 }
 
