@@ -1,12 +1,12 @@
 -- What a judge of reports owes: a line that is taken, one that isn't, and the end.
-use Rattle.std.proofs.Common.{◌≡◌, ◌∙◌, ◌<◌, ◌≤◌, ◌+◌, ◌⊎◌, ℕ, Bool, true, false, List, [], ◌∷◌, ◌++◌, Option, Some, None, Ok, Err, inl, inr, length, length-append, refl, sym, ap, subst, arith}
+use Rattle.std.proofs.Common.{◌≡◌, ◌∙◌, ◌<◌, ◌≤◌, ◌+◌, ℕ, Bool, true, false, List, [], ◌∷◌, ◌++◌, Option, Some, None, Ok, Err, inl, inr, length, length-append, refl, sym, ap, subst, arith}
 use Rattle.std.specs.Prelude.{IsTrue, cond}
 use Rattle.std.proofs.lemmas.Bool.{cases_lt, false≢true}
 use Rattle.std.proofs.lemmas.List.{append-nil}
 use Rattle.ht_net.specs.declared.fault.Fault.{Fault}
 use Rattle.ht_net.specs.declared.place.Place.{Place}
 use Rattle.ht_net.specs.Netlist.{Netlist}
-use Rattle.ht_net.specs.Detection.{Detects, IsFirstDetection}
+use Rattle.ht_net.specs.Detection.{IsFirstDetection}
 use Rattle.ht_faults.specs.Sites.{faults_of}
 use Rattle.ht_collapse.specs.Classes.{fault_at, is_representative}
 use Rattle.ht_texts.specs.declared.item.Item.{Item}
@@ -25,9 +25,9 @@ use Rattle.ht_valid.specs.ValidFiles.{AgreesWithTests}
 use Rattle.ht_valid.specs.FirstTrouble.{ContradictsTests}
 use Rattle.ht_valid.specs.declared.trouble.Trouble.TheVariants.{Report}
 use Rattle.ht_judge.specs.declared.judge_error.JudgeError.{JudgeError}
-use Rattle.ht_judge.specs.declared.judge_error.JudgeError.TheVariants.{Denied, NoMemory}
+use Rattle.ht_judge.specs.declared.judge_error.JudgeError.TheVariants.{Denied}
 use Rattle.ht_judge.specs.declared.report_judge.ReportJudge.TheInside.{Inside}
-use Rattle.ht_judge.specs.ReportJudging.{AgreesWithPlace, AgreesWithPlaces, IsKept, IsTrueReport, JudgesReport, ReportEndHasCause, ReportJudgeView, ReportJudged, budget_with, reader_of, saids_in}
+use Rattle.ht_judge.specs.ReportJudging.{AgreesWithPlace, AgreesWithPlaces, IsKept, IsTrueReport, JudgesReport, ReportEndHasCause, ReportJudgeView, ReportJudged, budget_with, saids_in}
 use Rattle.ht_judge.specs.ReportJudgeOf.{HasLines, KeepsReport, report_judge_view}
 
 pub starts : (c : Netlist) (representatives : List ℕ) → ReportStands (new_report c representatives) [] before_report
