@@ -1,0 +1,3 @@
+pub mod ReportLaws
+pub mod NextLaws
+pub mod ProofLaws
