@@ -1,7 +1,8 @@
 -- An engine that makes one step stands for the steps with it.
 use Rattle.std.specs.Prelude.{◌≡◌, ◌≢◌, ◌↔◌, ◌<◌, ◌≤◌, ◌+◌, ◌-◌, ℕ, List, [], ◌∷◌, ◌++◌, Bool, true, false, not, length, get_or, refl, Option, Some, None}
 use Rattle.std.specs.Option.{is_some}
-use Rattle.std.proofs.Common.{arith, ap, eq-eqb, inl, inr, set, sym, ◌∙◌, subst}
+use Rattle.rand_pcg.specs.Lcg.{Lcg}
+use Rattle.std.proofs.Common.{arith, ap, eq-eqb, inl, inr, length-append, set, sym, ◌∙◌, subst}
 use Rattle.std.proofs.lemmas.Bool.{false≢true, true≢false}
 use Rattle.std.proofs.lemmas.Bool.Decides.{eqb_tells}
 use Rattle.std.proofs.lemmas.List.{get_or-set_other, get_or-set_same, get_or_default}
@@ -13,7 +14,6 @@ use Rattle.ht_net.specs.Netlist.{Netlist}
 use Rattle.ht_net.specs.Rows.{Rows}
 use Rattle.ht_net.proofs.FrameLaws.{le_or_lt}
 use Rattle.ht_faults.specs.FaultList.{no_fault}
-use Rattle.ht_faults.specs.Sites.{faults_of}
 use Rattle.ht_collapse.specs.Classes.{fault_at}
 use Rattle.ht_grade.specs.GraderView.{GraderView}
 use Rattle.ht_tree.specs.declared.entry.Entry as recorded
@@ -22,16 +22,17 @@ use Rattle.ht_tree.specs.Entries.{Passes}
 use Rattle.ht_tree.specs.Reached.{AreVectors}
 use Rattle.ht_entries.specs.declared.numbered.Numbered.{Numbered}
 use Rattle.ht_valid.specs.ValidFiles.{HasEntry, IsOwn}
+use Rattle.ht_random.proofs.RandomVectorLaws.{random_vectors_count}
 use Rattle.ht_engine.specs.declared.engine.EntryKind.{EntryKind}
 use Rattle.ht_engine.specs.declared.engine.EntryKind.TheVariants.{Refuted, GivenUp}
 use Rattle.ht_engine.specs.declared.step.Step.{Step}
 use Rattle.ht_engine.specs.declared.step.Step.TheVariants.{Vectors, Entry, Finished}
 use Rattle.ht_engine.specs.declared.work.Work.{Work}
 use Rattle.ht_engine.specs.EngineOf.{IsEngine}
-use Rattle.ht_engine.specs.EngineStands.{AllPass, EngineStandsFor, EngineView, HasSameWork, IsKindIn, IsOfKind, IsSaid, Makes, MakesStep, MeansOfStep, kind_at}
+use Rattle.ht_engine.specs.EngineStands.{AllPass, EngineStandsFor, EngineView, HasSameWork, IsKindIn, IsOfKind, IsSaid, Makes, MakesStep, MeansOfStep, first_of, kind_at, remaining}
 use Rattle.ht_engine.specs.FaultWork.{IsWork, WorkHolds}
-use Rattle.ht_engine.specs.OneStep.{Advances, Ends, GivesEntry, GivesList, IsNextUndetected, IsUndetected, kind_of_entry, said_by}
-use Rattle.ht_engine.specs.Steps.{AreFinished, AwaitsVerdict, Follows, IsNextFault, entries_of, one_more, vectors_of_steps}
+use Rattle.ht_engine.specs.OneStep.{Advances, Ends, GivesEntry, GivesList, GivesRandom, IsNextUndetected, IsUndetected, MakesNone, kind_of_entry, said_by}
+use Rattle.ht_engine.specs.Steps.{AwaitsVerdict, Follows, IsNextFault, entries_of, one_more, one_vector, vectors_of_steps}
 use Rattle.ht_engine.proofs.StepLaws.{awaited_before, contains_last, entries_more, entries_with_list, has_cases, has_last, numbered, vectors_more, vectors_with_entry}
 
 -- ---- what is undetected
@@ -74,11 +75,78 @@ module _ (e : EngineView) (steps : List Step) (s : EngineStandsFor e steps) wher
     ];
   }
 
-  pub are_finished : ((k : ℕ) → e.place ≤ k → ¬ IsUndetected e k) → AreFinished e.circuit e.representatives steps
-  are_finished last k a = elim (le_or_lt e.place k) [
+  pub none_awaits : ((k : ℕ) → e.place ≤ k → ¬ IsUndetected e k)
+      → (k : ℕ) → ¬ AwaitsVerdict e.circuit e.representatives steps k
+  none_awaits last k a = elim (le_or_lt e.place k) [
     | inl from ↦ last k from (undetected_of k a)
     | inr under ↦ s.done k under a
   ]
+
+  -- where none is left all random vectors are given, and none is left after one step more
+  pub all_given : e.left ≡ 0 → length (first_of e) ≤ length steps
+  all_given none =
+      let count = random_vectors_count e.circuit.inputs e.settings.random e.settings.seed in
+      let left = s.left in
+      omega (arith, count, left, none)
+
+  pub none_more : (step : Step) → e.left ≡ 0 → e.left ≡ e.settings.random - length (steps ++ step ∷ [])
+  none_more step none =
+      let more = length-append steps (step ∷ []) in
+      let left = s.left in
+      omega (arith, more, left, none)
+
+-- ---- a random vector
+
+module _ (e new : EngineView) (steps : List Step) (s : EngineStandsFor e steps) (list : Rows)
+    (g : GivesRandom e new list) where
+  abbrev with_random : List Step
+  with_random = steps ++ Vectors list ∷ []
+
+  -- the steps so far are the random vectors so far
+  so_far : e.settings.random - e.left ≡ length steps
+  so_far = let left = s.left in let some = g.left in omega (arith, left, some)
+
+  some_left : length steps < e.settings.random
+  some_left = let left = s.left in let some = g.left in omega (arith, left, some)
+
+  random_follows : Follows e.circuit e.representatives (first_of e) e.settings.budget steps (Vectors list)
+  random_follows =
+      let count = random_vectors_count e.circuit.inputs e.settings.random e.settings.seed in
+      let some = some_left in
+      inl (record {
+        left = omega (arith, count, some);
+        given = ap Vectors (g.given
+            ∙ ap (λ (k : ℕ). one_vector e.circuit (get_or (first_of e) k [])) so_far);
+      })
+
+  random_stands : EngineStandsFor (record e { list = e.list ++ list.list; left = e.left - 1 }) with_random
+  random_stands =
+      let same = sym (entries_with_list steps list) in
+      let more = length-append steps (Vectors list ∷ []) in
+      let left = s.left in
+      let some = g.left in
+      record {
+        are = one_more steps (Vectors list) s.are random_follows;
+        left = omega (arith, more, left, some);
+        list =
+            ap (λ (x : List (List Bool)). x ++ list.list) s.list ∙ sym (vectors_more steps (Vectors list));
+        kinds = λ i l. subst (λ (entries : List Numbered). IsKindIn entries i (kind_at e i)) same (s.kinds i l);
+        done = λ k l a. s.done k l (awaited_before e.circuit e.representatives steps (Vectors list) k a);
+        entered = λ k h. s.entered k (subst (λ (entries : List Numbered). HasEntry entries k) (sym same) h);
+        wide = subst (AreVectors e.circuit) (sym (vectors_more steps (Vectors list)))
+            (All-append (λ (v : List Bool). length v ≡ e.circuit.inputs) (vectors_of_steps steps) list.list s.wide
+            g.wide);
+        pass = subst (AllPass e.circuit e.settings.budget) same s.pass;
+      }
+
+  pub random_made : MakesStep e new steps (Vectors list)
+  random_made = record {
+    follows = random_follows;
+    stands = subst (λ (v : EngineView). EngineStandsFor v with_random) (sym g.after) random_stands;
+  }
+
+  pub random_means : MeansOfStep e steps (Vectors list)
+  random_means = λ all. let some = some_left in absurd (omega (arith, all, some))
 
 -- ---- a list
 
@@ -87,11 +155,16 @@ module _ (e new : EngineView) (steps : List Step) (s : EngineStandsFor e steps) 
   abbrev longer : List Step
   longer = steps ++ Vectors list ∷ []
 
-  list_follows : Follows e.circuit e.representatives e.budget steps (Vectors list)
-  list_follows = record { fault = g.fault; next = is_next e steps s g.fault g.next; given = g.given }
+  list_follows : Follows e.circuit e.representatives (first_of e) e.settings.budget steps (Vectors list)
+  list_follows = inr (record {
+    after = all_given e steps s g.none_left;
+    fault = g.fault;
+    next = is_next e steps s g.fault g.next;
+    given = g.given;
+  })
 
   pub list_useful : MeansOfStep e steps (Vectors list)
-  list_useful =
+  list_useful = λ all.
       let d = g.holds.detects (vectors_of_steps steps) in
       record {
         fault = g.fault;
@@ -121,6 +194,7 @@ module _ (e new : EngineView) (steps : List Step) (s : EngineStandsFor e steps) 
       let same = sym (entries_with_list steps list) in
       record {
         are = one_more steps (Vectors list) s.are list_follows;
+        left = none_more e steps s (Vectors list) g.none_left;
         list =
             ap (λ (x : List (List Bool)). x ++ list.list) s.list ∙ sym (vectors_more steps (Vectors list));
         kinds = λ i l. subst (λ (entries : List Numbered). IsKindIn entries i (kind_at e i)) same (s.kinds i l);
@@ -132,7 +206,7 @@ module _ (e new : EngineView) (steps : List Step) (s : EngineStandsFor e steps) 
         wide = subst (AreVectors e.circuit) (sym (vectors_more steps (Vectors list)))
             (All-append (λ (v : List Bool). length v ≡ e.circuit.inputs) (vectors_of_steps steps) list.list s.wide
             g.holds.wide);
-        pass = subst (AllPass e.circuit e.budget) same s.pass;
+        pass = subst (AllPass e.circuit e.settings.budget) same s.pass;
       }
 
   pub list_made : MakesStep e new steps (Vectors list)
@@ -162,8 +236,13 @@ module _ (e new : EngineView) (steps : List Step) (s : EngineStandsFor e steps) 
   abbrev more : List Step
   more = steps ++ Entry fault made ∷ []
 
-  entry_follows : Follows e.circuit e.representatives e.budget steps (Entry fault made)
-  entry_follows = record { fault = fault; next = is_next e steps s fault g.next; given = (refl, g.given) }
+  entry_follows : Follows e.circuit e.representatives (first_of e) e.settings.budget steps (Entry fault made)
+  entry_follows = inr (record {
+    after = all_given e steps s g.none_left;
+    fault = fault;
+    next = is_next e steps s fault g.next;
+    given = (refl, g.given);
+  })
 
   abbrev kinds_now : List (Option EntryKind)
   kinds_now = set e.kinds fault (Some (kind_of_entry made))
@@ -198,19 +277,20 @@ module _ (e new : EngineView) (steps : List Step) (s : EngineStandsFor e steps) 
     | inr same ↦ omega (arith, same)
   ]
 
-  entry_passes : AllPass e.circuit e.budget (entries_of steps ++ numbered fault made ∷ [])
+  entry_passes : AllPass e.circuit e.settings.budget (entries_of steps ++ numbered fault made ∷ [])
   entry_passes =
       let P : Numbered → Type 0 =
-      λ (n : Numbered). Passes e.circuit (fault_at e.circuit (n.number - 1)) e.budget n.entry in
+      λ (n : Numbered). Passes e.circuit (fault_at e.circuit (n.number - 1)) e.settings.budget n.entry in
       let at : fault ≡ fault + 1 - 1 = omega arith in
       All-append P (entries_of steps) (numbered fault made ∷ []) s.pass (All-cons P (numbered fault made) []
-      (subst (λ (k : ℕ). Passes e.circuit (fault_at e.circuit k) e.budget made) at g.holds) (All-nil P))
+      (subst (λ (k : ℕ). Passes e.circuit (fault_at e.circuit k) e.settings.budget made) at g.holds) (All-nil P))
 
   entry_stands : EngineStandsFor (record e { kinds = kinds_now; place = fault + 1 }) more
   entry_stands =
       let same = sym (entries_more steps (Entry fault made)) in
       record {
         are = one_more steps (Entry fault made) s.are entry_follows;
+        left = none_more e steps s (Entry fault made) g.none_left;
         list = s.list ∙ sym (vectors_with_entry steps fault made);
         kinds = λ i l. subst (λ (entries : List Numbered). IsKindIn entries i (get_or kinds_now i None)) same
             (kinds_more i l);
@@ -218,7 +298,7 @@ module _ (e new : EngineView) (steps : List Step) (s : EngineStandsFor e steps) 
         entered = λ k h.
             entry_entered k (subst (λ (entries : List Numbered). HasEntry entries k) (sym same) h);
         wide = subst (AreVectors e.circuit) (sym (vectors_with_entry steps fault made)) s.wide;
-        pass = subst (AllPass e.circuit e.budget) same entry_passes;
+        pass = subst (AllPass e.circuit e.settings.budget) same entry_passes;
       }
 
   pub entry_made : MakesStep e new steps (Entry fault made)
@@ -232,79 +312,85 @@ module _ (e new : EngineView) (steps : List Step) (s : EngineStandsFor e steps) 
 pub end_made : (e new : EngineView) (steps : List Step) → EngineStandsFor e steps → Ends e new
     → Makes e new steps Finished
 end_made e new steps s g =
-    let last = are_finished e steps s g.none in
+    let last = none_awaits e steps s g.none in
     let at : EngineStandsFor (record e { place = length e.representatives }) steps =
     record {
       are = s.are;
+      left = s.left;
       list = s.list;
       kinds = s.kinds;
       done = λ i l. last i;
       entered = λ i h. let below = s.entered i h in let within = g.within in omega (arith, below, within);
       wide = s.wide;
       pass = s.pass;
-    } in
-    (last, subst (λ (v : EngineView). EngineStandsFor v steps) (sym g.after) at)
+    } in (
+      record { given = all_given e steps s g.none_left; none_awaits = last },
+      subst (λ (v : EngineView). EngineStandsFor v steps) (sym g.after) at,
+    )
 
 -- ---- any step
 
 pub makes : (old new : EngineView) (steps : List Step) → EngineStandsFor old steps → (step : Step)
     → Advances old new step → Makes old new steps step
-makes old new steps s (Vectors list) g = list_made old new steps s list g
+makes old new steps s (Vectors list) (inl g) = random_made old new steps s list g
+makes old new steps s (Vectors list) (inr g) = list_made old new steps s list g
 makes old new steps s (Entry fault made) g = entry_made old new steps s fault made g
 makes old new steps s Finished g = end_made old new steps s g
 
 pub means : (old new : EngineView) (steps : List Step) → EngineStandsFor old steps → (step : Step)
     → Advances old new step → MeansOfStep old steps step
-means old new steps s (Vectors list) g = list_useful old new steps s list g
+means old new steps s (Vectors list) (inl g) = random_means old new steps s list g
+means old new steps s (Vectors list) (inr g) = list_useful old new steps s list g
 means old new steps s (Entry fault made) g = g.holds
 means old new steps s Finished g = tt
 
-same_by : (old new : EngineView) (list : List (List Bool)) (kinds : List (Option EntryKind)) (place : ℕ)
-    → new ≡ record old { list = list; kinds = kinds; place = place } → HasSameWork old new
-same_by old new list kinds place is = record {
+same_by : (old new : EngineView) (list : List (List Bool)) (kinds : List (Option EntryKind)) (place left : ℕ)
+    → new ≡ record old { list = list; kinds = kinds; place = place; left = left } → HasSameWork old new
+same_by old new list kinds place left is = record {
   circuit = ap (λ (v : EngineView). v.circuit) is;
   representatives = ap (λ (v : EngineView). v.representatives) is;
-  budget = ap (λ (v : EngineView). v.budget) is;
+  settings = ap (λ (v : EngineView). v.settings) is;
 }
 
 pub same_work : (old new : EngineView) (step : Step) → Advances old new step → HasSameWork old new
-same_work old new (Vectors list) g = same_by old new (old.list ++ list.list) old.kinds (g.fault + 1) g.after
+same_work old new (Vectors list) (inl g) =
+    same_by old new (old.list ++ list.list) old.kinds old.place (old.left - 1) g.after
+same_work old new (Vectors list) (inr g) =
+    same_by old new (old.list ++ list.list) old.kinds (g.fault + 1) old.left g.after
 same_work old new (Entry fault made) g =
-    same_by old new old.list (set old.kinds fault (Some (kind_of_entry made))) (fault + 1) g.after
-same_work old new Finished g = same_by old new old.list old.kinds (length old.representatives) g.after
+    same_by old new old.list (set old.kinds fault (Some (kind_of_entry made))) (fault + 1) old.left g.after
+same_work old new Finished g = same_by old new old.list old.kinds (length old.representatives) old.left g.after
 
-pub nears : (old new : EngineView) (step : Step) → Advances old new step → step ≢ Finished → old.place < new.place
-nears old new (Vectors list) g other =
-    let at : new.place ≡ g.fault + 1 = ap (λ (v : EngineView). v.place) g.after in
-    let from = g.next.from in
-    omega (arith, at, from)
-nears old new (Entry fault made) g other =
-    let at : new.place ≡ fault + 1 = ap (λ (v : EngineView). v.place) g.after in
-    let from = g.next.from in
-    omega (arith, at, from)
-nears old new Finished g other = absurd (other refl)
+pub same_work_none : (old new : EngineView) → MakesNone old new → HasSameWork old new
+same_work_none old new is = same_by old new old.list old.kinds old.place new.left is
 
-place_by : (old new : EngineView) (fault : ℕ) → length old.representatives ≡ length (faults_of old.circuit)
-    → IsOwn old.circuit old.representatives fault → new.representatives ≡ old.representatives
-    → new.place ≡ fault + 1 → new.place ≤ length new.representatives
-place_by old new fault every own same at =
+-- a random vector less, or a place further
+fewer_left : (old new : EngineView) → 0 < old.left → new.left ≡ old.left - 1 → new.place ≡ old.place
+    → new.representatives ≡ old.representatives → remaining new < remaining old
+fewer_left old new some left place same =
     let long : length new.representatives ≡ length old.representatives = ap length same in
-    let listed = own.listed in
-    omega (arith, every, long, listed, at)
+    omega (arith, some, left, place, long)
 
-pub place_within : (old new : EngineView) → length old.representatives ≡ length (faults_of old.circuit)
-    → (step : Step) → Advances old new step → new.place ≤ length new.representatives
-place_within old new every (Vectors list) g =
-    place_by old new g.fault every g.next.undetected.own (ap (λ (v : EngineView). v.representatives) g.after)
-    (ap (λ (v : EngineView). v.place) g.after)
-place_within old new every (Entry fault made) g =
-    place_by old new fault every g.next.undetected.own (ap (λ (v : EngineView). v.representatives) g.after)
-    (ap (λ (v : EngineView). v.place) g.after)
-place_within old new every Finished g =
-    let long : length new.representatives ≡ length old.representatives =
-    ap (λ (v : EngineView). length v.representatives) g.after in
-    let at : new.place ≡ length old.representatives = ap (λ (v : EngineView). v.place) g.after in
-    omega (arith, long, at)
+fewer_faults : (old new : EngineView) (fault : ℕ) → IsNextUndetected old fault → new.left ≡ old.left
+    → new.place ≡ fault + 1 → new.representatives ≡ old.representatives → remaining new < remaining old
+fewer_faults old new fault next left place same =
+    let long : length new.representatives ≡ length old.representatives = ap length same in
+    let from = next.from in
+    let inside = next.inside in
+    omega (arith, from, inside, left, place, long)
+
+pub nears : (old new : EngineView) (step : Step) → Advances old new step → step ≢ Finished
+    → remaining new < remaining old
+nears old new (Vectors list) (inl g) other =
+    fewer_left old new g.left (ap (λ (v : EngineView). v.left) g.after) (ap (λ (v : EngineView). v.place) g.after)
+    (ap (λ (v : EngineView). v.representatives) g.after)
+nears old new (Vectors list) (inr g) other =
+    fewer_faults old new g.fault g.next (ap (λ (v : EngineView). v.left) g.after)
+    (ap (λ (v : EngineView). v.place) g.after) (ap (λ (v : EngineView). v.representatives) g.after)
+nears old new (Entry fault made) g other =
+    fewer_faults old new fault g.next (ap (λ (v : EngineView). v.left) g.after)
+    (ap (λ (v : EngineView). v.place) g.after) (ap (λ (v : EngineView). v.representatives) g.after)
+nears old new Finished g other = absurd (other refl)
 
 -- ---- what is said
 
@@ -336,10 +422,10 @@ said_detected e steps s i place first =
 
 -- ---- what the fields say of the value
 
-module _ (e now : EngineView) (listed : List Fault) (grader : GraderView) (is : IsEngine e listed grader)
-    (at : e ≡ now) (same : grader.list ≡ e.list) where
-  known : IsEngine now listed grader
-  known = subst (λ (v : EngineView). IsEngine v listed grader) at is
+module _ (e now : EngineView) (listed : List Fault) (grader : GraderView) (words : Lcg)
+    (is : IsEngine e listed grader words) (at : e ≡ now) (same : grader.list ≡ e.list) where
+  known : IsEngine now listed grader words
+  known = subst (λ (v : EngineView). IsEngine v listed grader words) at is
 
   pub own_of : (i r : ℕ) → i < length now.representatives → r ≡ get_or e.representatives i 0 → r ≡ i
       → IsOwn now.circuit now.representatives i
@@ -351,10 +437,10 @@ module _ (e now : EngineView) (listed : List Fault) (grader : GraderView) (is : 
             (ap (λ (v : EngineView). get_or v.representatives i 0) (sym at) ∙ (sym here ∙ own));
       }
 
-  pub first_of : (i : ℕ) (place : Option Place)
+  pub detection_of : (i : ℕ) (place : Option Place)
       → IsFirstDetection grader.circuit (fault_at grader.circuit i) grader.list place
       → IsFirstDetection now.circuit (fault_at now.circuit i) now.list place
-  first_of i place first =
+  detection_of i place first =
       let list : grader.list ≡ now.list = same ∙ ap (λ (v : EngineView). v.list) at in
       subst (λ (c : Netlist). IsFirstDetection c (fault_at c i) now.list place) known.circuit
       (subst (λ (l : List (List Bool)). IsFirstDetection grader.circuit (fault_at grader.circuit i) l place) list
@@ -380,15 +466,15 @@ module _ (e now : EngineView) (listed : List Fault) (grader : GraderView) (is : 
   fault_of i f got = got ∙ ap (λ (l : List Fault). get_or l i no_fault) known.faults
 
   pub work_of : (i : ℕ) (f : Fault) → f ≡ get_or listed i no_fault → (w given : Work) → w ≡ given
-      → IsWork e.circuit f e.budget w → IsWork now.circuit (fault_at now.circuit i) now.budget given
+      → IsWork e.circuit f e.settings.budget w → IsWork now.circuit (fault_at now.circuit i) now.settings.budget given
   work_of i f got w given is_given h =
-      subst (IsWork now.circuit (fault_at now.circuit i) now.budget) is_given
-      (subst (λ (f : Fault). IsWork now.circuit f now.budget w) (fault_of i f got)
-      (subst (λ (v : EngineView). IsWork v.circuit f v.budget w) at h))
+      subst (IsWork now.circuit (fault_at now.circuit i) now.settings.budget) is_given
+      (subst (λ (f : Fault). IsWork now.circuit f now.settings.budget w) (fault_of i f got)
+      (subst (λ (v : EngineView). IsWork v.circuit f v.settings.budget w) at h))
 
   pub holds_of : (i : ℕ) (f : Fault) → f ≡ get_or listed i no_fault → (w given : Work) → w ≡ given
-      → WorkHolds e.circuit f e.budget w → WorkHolds now.circuit (fault_at now.circuit i) now.budget given
+      → WorkHolds e.circuit f e.settings.budget w → WorkHolds now.circuit (fault_at now.circuit i) now.settings.budget given
   holds_of i f got w given is_given h =
-      subst (WorkHolds now.circuit (fault_at now.circuit i) now.budget) is_given
-      (subst (λ (f : Fault). WorkHolds now.circuit f now.budget w) (fault_of i f got)
-      (subst (λ (v : EngineView). WorkHolds v.circuit f v.budget w) at h))
+      subst (WorkHolds now.circuit (fault_at now.circuit i) now.settings.budget) is_given
+      (subst (λ (f : Fault). WorkHolds now.circuit f now.settings.budget w) (fault_of i f got)
+      (subst (λ (v : EngineView). WorkHolds v.circuit f v.settings.budget w) at h))

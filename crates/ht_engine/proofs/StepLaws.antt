@@ -19,7 +19,7 @@ use Rattle.ht_entries.proofs.RisesLaws.{rises_add, rises_none}
 use Rattle.ht_valid.specs.ValidFiles.{HasEntry, IsOwn}
 use Rattle.ht_engine.specs.declared.step.Step.{Step}
 use Rattle.ht_engine.specs.declared.step.Step.TheVariants.{Vectors, Entry, Finished}
-use Rattle.ht_engine.specs.Steps.{AreSteps, AwaitsVerdict, Follows, IsNextFault, IsOwnEntry, entries_of, none, one_more, step_entries, step_vectors, vectors_of_steps}
+use Rattle.ht_engine.specs.Steps.{AreSteps, AwaitsVerdict, Follows, IsNextFault, IsOwnEntry, IsWorkStep, entries_of, none, one_more, one_vector, step_entries, step_vectors, vectors_of_steps}
 use Rattle.ht_engine.proofs.MoreVectorsLaws.{undetected_before}
 
 -- ---- the vectors and the entries of one more step
@@ -168,20 +168,30 @@ after_entry c representatives steps i e n o =
           (All-cons P last [] (own_entry c representatives i e n.awaits.own) (All-nil P)));
     }
 
-after_step : (c : Netlist) (representatives : List ℕ) (budget : ℕ) (steps : List Step) (step : Step)
-    → Follows c representatives budget steps step → AreInOrder c representatives steps
+after_work : (c : Netlist) (representatives : List ℕ) (first : List (List Bool)) (budget : ℕ) (steps : List Step)
+    (step : Step) → IsWorkStep c representatives first budget steps step → AreInOrder c representatives steps
     → AreInOrder c representatives (steps ++ step ∷ [])
-after_step c representatives budget steps (Vectors list) f o = after_list c representatives steps list o
-after_step c representatives budget steps (Entry fault e) f o =
+after_work c representatives first budget steps (Vectors list) f o = after_list c representatives steps list o
+after_work c representatives first budget steps (Entry fault e) f o =
     after_entry c representatives steps fault e (subst (IsNextFault c representatives steps) (sym f.given.0) f.next) o
-after_step c representatives budget steps Finished f o = absurd f.given
+after_work c representatives first budget steps Finished f o = absurd f.given
 
-pub steps_in_order : (c : Netlist) (representatives : List ℕ) (budget : ℕ) (steps : List Step)
-    → AreSteps c representatives budget steps → AreInOrder c representatives steps
-steps_in_order c representatives budget steps none = record {
+after_step : (c : Netlist) (representatives : List ℕ) (first : List (List Bool)) (budget : ℕ) (steps : List Step)
+    (step : Step) → Follows c representatives first budget steps step → AreInOrder c representatives steps
+    → AreInOrder c representatives (steps ++ step ∷ [])
+after_step c representatives first budget steps step (inl f) o =
+    subst (λ (x : Step). AreInOrder c representatives (steps ++ x ∷ [])) (sym f.given)
+    (after_list c representatives steps (one_vector c (get_or first (length steps) [])) o)
+after_step c representatives first budget steps step (inr f) o =
+    after_work c representatives first budget steps step f o
+
+pub steps_in_order : (c : Netlist) (representatives : List ℕ) (first : List (List Bool)) (budget : ℕ)
+    (steps : List Step) → AreSteps c representatives first budget steps → AreInOrder c representatives steps
+steps_in_order c representatives first budget steps none = record {
   below = λ k a. All-nil _;
   rises = rises_none;
   own = All-nil _;
 }
-steps_in_order c representatives budget steps (one_more before step are follows) =
-    after_step c representatives budget before step follows (steps_in_order c representatives budget before are)
+steps_in_order c representatives first budget steps (one_more before step are follows) =
+    after_step c representatives first budget before step follows
+    (steps_in_order c representatives first budget before are)

@@ -1,10 +1,12 @@
 -- How an engine's fields stand for it.
-use Rattle.std.specs.Prelude.{◌≡◌, ◌≤◌, List, length}
+use Rattle.std.specs.Prelude.{◌≡◌, ◌≤◌, ◌-◌, List, length}
+use Rattle.rand_pcg.specs.Lcg.{Lcg}
 use Rattle.ht_net.specs.declared.fault.Fault.{Fault}
 use Rattle.ht_faults.specs.Sites.{faults_of}
 use Rattle.ht_collapse.specs.Classes.{AreClasses}
 use Rattle.ht_grade.specs.GraderView.{GraderView}
 use Rattle.ht_texts.specs.SearchReports.{IsBudget}
+use Rattle.ht_random.specs.RandomVectors.{generator_after}
 use Rattle.ht_engine.specs.declared.engine.Engine.TheInside.{Inside}
 use Rattle.ht_engine.specs.EngineStands.{EngineView}
 
@@ -12,22 +14,26 @@ abbrev pub engine_of : Inside → EngineView
 engine_of a = record {
   circuit = a.circuit.now;
   representatives = a.classes.now;
-  budget = a.budget;
+  settings = record { budget = a.budget; random = a.random; seed = a.seed };
   list = a.grader.list;
   kinds = a.kinds.items;
   place = a.place;
+  left = a.left;
   live = a.live;
 }
 
--- the faults and the grader are the circuit's, and each fault has a place for its kind
-pub record IsEngine (e : EngineView) (listed : List Fault) (grader : GraderView) : Type 0 where
+-- The faults and the grader are the circuit's, each fault has a place for its kind, and the words are those of the
+-- random vectors that are left.
+pub record IsEngine (e : EngineView) (listed : List Fault) (grader : GraderView) (generator : Lcg) : Type 0 where
   pub faults : listed ≡ faults_of e.circuit
   pub classes : AreClasses e.circuit e.representatives
   pub circuit : grader.circuit ≡ e.circuit
   pub representatives : grader.representatives ≡ e.representatives
-  pub budget : IsBudget e.budget
+  pub budget : IsBudget e.settings.budget
   pub kinds : length e.kinds ≡ length e.representatives
   pub place : e.place ≤ length e.representatives
+  pub left : e.left ≤ e.settings.random
+  pub words : generator ≡ generator_after e.circuit.inputs (e.settings.random - e.left) e.settings.seed
 
 abbrev pub AreEngineFields : Inside → Type 0
-AreEngineFields a = IsEngine (engine_of a) a.faults.now a.grader
+AreEngineFields a = IsEngine (engine_of a) a.faults.now a.grader a.words

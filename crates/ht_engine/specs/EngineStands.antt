@@ -1,5 +1,5 @@
 -- An engine, and the steps that it stands for.
-use Rattle.std.specs.Prelude.{◌≡◌, ◌<◌, ◌-◌, ◌+◌, ℕ, List, [], ◌∷◌, ◌++◌, Bool, get_or, length, Option, Some, None}
+use Rattle.std.specs.Prelude.{◌≡◌, ◌<◌, ◌≤◌, ◌-◌, ◌+◌, ℕ, List, [], ◌∷◌, ◌++◌, Bool, get_or, length, Option, Some, None}
 use Rattle.std.specs.List.{All, Contains}
 use Rattle.ht_net.specs.Netlist.{Netlist}
 use Rattle.ht_net.specs.Detection.{Detects, IsFirstDetection}
@@ -16,22 +16,27 @@ use Rattle.ht_engine.specs.declared.engine.EntryKind.{EntryKind}
 use Rattle.ht_engine.specs.declared.engine.EntryKind.TheVariants as kind
 use Rattle.ht_engine.specs.declared.step.Step.{Step}
 use Rattle.ht_engine.specs.declared.step.Step.TheVariants.{Vectors, Entry, Finished}
-use Rattle.ht_engine.specs.Steps.{AreFinished, AreSteps, AwaitsVerdict, Follows, entries_of, vectors_of_steps}
+use Rattle.ht_engine.specs.Steps.{AreFinished, AreSteps, AwaitsVerdict, Follows, Settings, entries_of, first_vectors, vectors_of_steps}
 
 pub record EngineView : Type 0 where
   -- what it works on
   pub circuit : Netlist
   pub representatives : List ℕ
-  pub budget : ℕ
+  pub settings : Settings
   -- what it keeps of the steps so far: their vectors, the kind of each fault's entry, and the number of the first fault
   -- that may still await its verdict
   pub list : List (List Bool)
   pub kinds : List (Option EntryKind)
   pub place : ℕ
+  -- how many of the random vectors are left
+  pub left : ℕ
   -- false from the first time that memory ran out
   pub live : Bool
 
 -- ---- the steps that an engine stands for
+
+abbrev pub first_of : EngineView → List (List Bool)
+first_of e = first_vectors e.circuit e.settings
 
 abbrev pub kind_at : EngineView → ℕ → Option EntryKind
 kind_at e i = get_or e.kinds i None
@@ -53,14 +58,15 @@ AllPass c budget entries = All (λ (e : Numbered). Passes c (fault_at c (e.numbe
 
 -- The engine stands for these steps: what it keeps is theirs.
 pub record EngineStandsFor (e : EngineView) (steps : List Step) : Type 0 where
-  pub are : AreSteps e.circuit e.representatives e.budget steps
+  pub are : AreSteps e.circuit e.representatives (first_of e) e.settings.budget steps
+  pub left : e.left ≡ e.settings.random - length steps
   pub list : e.list ≡ vectors_of_steps steps
   pub kinds : (i : ℕ) → i < length e.representatives → IsKindIn (entries_of steps) i (kind_at e i)
   pub done : (i : ℕ) → i < e.place → ¬ AwaitsVerdict e.circuit e.representatives steps i
   pub entered : (i : ℕ) → HasEntry (entries_of steps) i → i < e.place
   -- what the steps mean
   pub wide : AreVectors e.circuit (vectors_of_steps steps)
-  pub pass : AllPass e.circuit e.budget (entries_of steps)
+  pub pass : AllPass e.circuit e.settings.budget (entries_of steps)
 
 -- ---- one more step
 
@@ -68,17 +74,21 @@ pub record EngineStandsFor (e : EngineView) (steps : List Step) : Type 0 where
 pub record HasSameWork (old new : EngineView) : Type 0 where
   pub circuit : new.circuit ≡ old.circuit
   pub representatives : new.representatives ≡ old.representatives
-  pub budget : new.budget ≡ old.budget
+  pub settings : new.settings ≡ old.settings
+
+-- how many steps may still come: a random vector each, and one for each fault from the place on
+abbrev pub remaining : EngineView → ℕ
+remaining e = e.left + (length e.representatives - e.place)
 
 -- the engine made a step that may come after these, and stands for them with it
 pub record MakesStep (old new : EngineView) (steps : List Step) (step : Step) : Type 0 where
-  pub follows : Follows old.circuit old.representatives old.budget steps step
+  pub follows : Follows old.circuit old.representatives (first_of old) old.settings.budget steps step
   pub stands : EngineStandsFor new (steps ++ step ∷ [])
 
 -- the engine made the step after these, or is finished where they are all
 abbrev pub Makes : EngineView → EngineView → List Step → Step → Type 0
 Makes old new steps Finished =
-    AreFinished old.circuit old.representatives steps × EngineStandsFor new steps
+    AreFinished old.circuit old.representatives (first_of old) steps × EngineStandsFor new steps
 Makes old new steps step = MakesStep old new steps step
 
 -- A list of vectors after those so far, which detects a representative that awaited its verdict.
@@ -90,10 +100,11 @@ pub record IsUseful (c : Netlist) (representatives : List ℕ) (steps : List Ste
   pub output : ℕ
   pub detects : Detects c (fault_at c fault) (vectors_of_steps steps ++ list) vector output
 
--- each list is useful, and each entry passes
+-- each list after the random vectors is useful, and each entry passes
 abbrev pub MeansOfStep : EngineView → List Step → Step → Type 0
-MeansOfStep e steps (Vectors list) = IsUseful e.circuit e.representatives steps list.list
-MeansOfStep e steps (Entry fault made) = Passes e.circuit (fault_at e.circuit fault) e.budget made
+MeansOfStep e steps (Vectors list) =
+    e.settings.random ≤ length steps → IsUseful e.circuit e.representatives steps list.list
+MeansOfStep e steps (Entry fault made) = Passes e.circuit (fault_at e.circuit fault) e.settings.budget made
 MeansOfStep e steps Finished = Unit {0}
 
 -- ---- what is said of a representative

@@ -1,10 +1,12 @@
--- The steps of the generator over all representatives: which may come after which, and what is said after them.
-use Rattle.std.specs.Prelude.{◌≡◌, ◌<◌, ◌+◌, ◌-◌, ℕ, List, [], ◌∷◌, ◌++◌, flat_map, Bool, None}
+-- The steps of the generator, the first vectors and then the work on all representatives: which may come after which.
+use Rattle.std.specs.Prelude.{◌≡◌, ◌⊎◌, ◌<◌, ◌≤◌, ◌+◌, ◌-◌, ℕ, List, [], ◌∷◌, ◌++◌, flat_map, get_or, length, Bool, None}
 use Rattle.ht_net.specs.Netlist.{Netlist}
+use Rattle.ht_net.specs.Rows.{Rows}
 use Rattle.ht_net.specs.Detection.{IsFirstDetection}
 use Rattle.ht_collapse.specs.Classes.{fault_at}
 use Rattle.ht_entries.specs.declared.numbered.Numbered.{Numbered}
 use Rattle.ht_valid.specs.ValidFiles.{HasEntry, IsOwn}
+use Rattle.ht_random.specs.RandomVectors.{random_vectors}
 use Rattle.ht_engine.specs.declared.work.Work.TheVariants as work
 use Rattle.ht_engine.specs.declared.step.Step.{Step}
 use Rattle.ht_engine.specs.declared.step.Step.TheVariants.{Vectors, Entry, Finished}
@@ -46,9 +48,20 @@ pub record IsNextFault (c : Netlist) (representatives : List ℕ) (steps : List 
   pub awaits : AwaitsVerdict c representatives steps i
   pub least : (k : ℕ) → k < i → ¬ AwaitsVerdict c representatives steps k
 
--- none awaits it
-abbrev pub AreFinished : Netlist → List ℕ → List Step → Type 0
-AreFinished c representatives steps = (i : ℕ) → ¬ AwaitsVerdict c representatives steps i
+-- ---- the vectors that come first
+
+-- What a generator is told: the budget of each search, how many random vectors come first, and their seed.
+pub record Settings : Type 0 where
+  pub budget : ℕ
+  pub random : ℕ
+  pub seed : ℕ
+
+abbrev pub first_vectors : Netlist → Settings → List (List Bool)
+first_vectors c s = random_vectors c.inputs s.random s.seed
+
+-- one vector as a list
+abbrev pub one_vector : Netlist → List Bool → Rows
+one_vector c vector = record { width = c.inputs; list = vector ∷ [] }
 
 -- ---- the steps
 
@@ -58,15 +71,34 @@ IsStepOn c budget i (Vectors list) = IsWork c (fault_at c i) budget (work.List l
 IsStepOn c budget i (Entry fault entry) = (fault ≡ i) × IsWork c (fault_at c i) budget (work.Entry entry)
 IsStepOn c budget i Finished = ⊥
 
--- The step may come after these: it is what the work on the next fault gives.
-pub record Follows (c : Netlist) (representatives : List ℕ) (budget : ℕ) (before : List Step) (step : Step)
-    : Type 0 where
+-- The step gives the next of the first vectors, by itself.
+pub record IsFirstStep (c : Netlist) (first : List (List Bool)) (before : List Step) (step : Step) : Type 0 where
+  pub left : length before < length first
+  pub given : step ≡ Vectors (one_vector c (get_or first (length before) []))
+
+-- The first vectors are all given, and the step is what the work on the next fault gives.
+pub record IsWorkStep (c : Netlist) (representatives : List ℕ) (first : List (List Bool)) (budget : ℕ)
+    (before : List Step) (step : Step) : Type 0 where
+  pub after : length first ≤ length before
   pub fault : ℕ
   pub next : IsNextFault c representatives before fault
   pub given : IsStepOn c budget fault step
 
+-- the step may come after these
+abbrev pub Follows : Netlist → List ℕ → List (List Bool) → ℕ → List Step → Step → Type 0
+Follows c representatives first budget before step =
+    IsFirstStep c first before step ⊎ IsWorkStep c representatives first budget before step
+
 -- Steps, each of which may come after those before it.
-pub data AreSteps (c : Netlist) (representatives : List ℕ) (budget : ℕ) : List Step → Type 0 where
-  none : AreSteps c representatives budget []
-  one_more : (steps : List Step) (step : Step) → AreSteps c representatives budget steps
-      → Follows c representatives budget steps step → AreSteps c representatives budget (steps ++ step ∷ [])
+pub data AreSteps (c : Netlist) (representatives : List ℕ) (first : List (List Bool)) (budget : ℕ)
+    : List Step → Type 0 where
+  none : AreSteps c representatives first budget []
+  one_more : (steps : List Step) (step : Step) → AreSteps c representatives first budget steps
+      → Follows c representatives first budget steps step
+      → AreSteps c representatives first budget (steps ++ step ∷ [])
+
+-- The first vectors are all given, and no fault awaits its verdict.
+pub record AreFinished (c : Netlist) (representatives : List ℕ) (first : List (List Bool)) (steps : List Step)
+    : Type 0 where
+  pub given : length first ≤ length steps
+  pub none_awaits : (i : ℕ) → ¬ AwaitsVerdict c representatives steps i

@@ -1,5 +1,5 @@
 //! The generator over all representatives, one step at a time.
-ghost use Rattle.std.specs.Prelude.{◌≡◌, ◌≢◌, ◌↔◌, ◌≤◌, ◌<◌, ◌+◌, ◌^◌, ℕ, List, [], true, false, None, length, get_or, IfOk, OnErr, OnOk};
+ghost use Rattle.std.specs.Prelude.{◌≡◌, ◌≢◌, ◌↔◌, ◌≤◌, ◌<◌, ◌+◌, ◌-◌, ◌^◌, ℕ, List, [], true, false, None, length, get_or, IfOk, OnErr, OnOk};
 ghost use Rattle.std.specs.Option.{ForSome};
 ghost use Rattle.ht_net.specs.Netlist.{Netlist};
 ghost use Rattle.ht_faults.specs.Sites.{faults_of};
@@ -14,8 +14,8 @@ ghost use Rattle.ht_engine.specs.declared.step.Step.TheVariants as made_step;
 ghost use Rattle.ht_engine.specs.declared.work.Work.TheVariants as work;
 ghost use Rattle.ht_engine.specs.Attempts.{DetectsAlways};
 ghost use Rattle.ht_engine.specs.FaultWork.{IsWork};
-ghost use Rattle.ht_engine.specs.OneStep.{Advances, IsNextOf, IsNextUndetected, IsUndetected, kind_of_entry, said_by};
-ghost use Rattle.ht_engine.specs.EngineStands.{EngineStandsFor, HasSameWork, IsSaid, Makes, MeansOfStep};
+ghost use Rattle.ht_engine.specs.OneStep.{Advances, IsNextOf, IsNextUndetected, IsUndetected, MakesNone, kind_of_entry, next_vector, said_by};
+ghost use Rattle.ht_engine.specs.EngineStands.{EngineStandsFor, HasSameWork, IsSaid, Makes, MeansOfStep, remaining};
 
 use crate::step::Step;
 use crate::work::{Work, work_on};
@@ -23,6 +23,7 @@ use ht_collapse::Classes;
 use ht_faults::FaultList;
 use ht_grade::Grader;
 use ht_net::{Circuit, Vectors};
+use ht_random::Words;
 use ht_texts::Said;
 use ht_tree::Entry;
 use std::alloc::{AllocError, Global};
@@ -81,6 +82,12 @@ pub struct Engine<'c> {
     kinds: Vec<Option<EntryKind>>,
     // the first fault that may still await its verdict
     place: u32,
+    // how many random vectors come first, and their seed
+    random: u32,
+    seed: u64,
+    // how many of them are left, and the generator of these
+    left: u32,
+    words: Words,
     live: bool,
 }
 
@@ -97,7 +104,7 @@ impl<'c> Model for Engine<'c> {
 }
 
 impl<'c> Engine<'c> {
-    /// A generator before its first step. The budget is that of each search.
+    /// A generator before its first step. The budget is that of each search; `random` vectors of the seed come first.
     ///
     /// # Errors
     /// Out of memory.
@@ -107,6 +114,8 @@ impl<'c> Engine<'c> {
         faults: &'c FaultList,
         classes: &'c Classes,
         budget: u64,
+        random: u32,
+        seed: u64,
     ) -> Result<Engine<'c>, AllocError>
         requires faults { faults.now ≡ faults_of circuit.now }
         requires classes { AreClasses circuit.now classes.now }
@@ -114,7 +123,8 @@ impl<'c> Engine<'c> {
         ensures none { IfOk result (λ engine. EngineStandsFor engine []) }
         ensures circuit { IfOk result (λ engine. engine.circuit ≡ circuit.now) }
         ensures classes { IfOk result (λ engine. engine.representatives ≡ classes.now) }
-        ensures budget { IfOk result (λ engine. engine.budget ≡ budget) }
+        ensures settings { IfOk result (λ engine. engine.settings
+            ≡ record { budget = budget; random = random; seed = seed }) }
         ensures live { IfOk result (λ engine. engine.live ≡ true) }
     {
         let grader = Grader::new(alloc, circuit, faults, classes)?;
@@ -128,14 +138,18 @@ impl<'c> Engine<'c> {
             grader,
             kinds,
             place: 0,
+            random,
+            seed,
+            left: random,
+            words: Words::from_seed(seed),
             live: true,
         })
     }
 
     /// The budget of each search.
     pub fn budget(&self) -> u64
-        ensures same { result ≡ self.now.budget }
-        ensures within { IsBudget self.now.budget }
+        ensures same { result ≡ self.now.settings.budget }
+        ensures within { IsBudget self.now.settings.budget }
     {
         self.budget
     }
@@ -161,12 +175,39 @@ impl<'c> Engine<'c> {
         None
     }
 
+    // Draws the next random vector.
+    fn draw(&mut self) -> Result<Vec<bool>, AllocError>
+        requires { 0 < self.old.left }
+        ensures vector { IfOk result (λ vector. vector.items ≡ next_vector self.old) }
+        ensures width { IfOk result (λ vector. length vector.items ≡ self.old.circuit.inputs) }
+        ensures drawn { OnOk result (self.new ≡ record self.old { left = self.old.left - 1 }) }
+        ensures same { OnErr result (self.new ≡ self.old) }
+    {
+        let vector = self.words.vector(self.alloc, self.circuit.inputs())?;
+        self.left -= 1;
+        Ok(vector)
+    }
+
+    // Gives the next random vector by itself, and keeps it.
+    fn give_random(&mut self) -> Result<Step, AllocError>
+        requires { 0 < self.old.left }
+        ensures advances { IfOk result (Advances self.old self.new) }
+        ensures none { OnErr result (MakesNone self.old self.new) }
+    {
+        let vector = self.draw()?;
+        let mut one = Vectors::new(self.alloc, self.circuit.inputs());
+        one.push(&vector)?;
+        self.grader.apply(self.alloc, &one)?;
+        Ok(Step::Vectors(one))
+    }
+
     // Gives the list that the work on a fault found, and keeps its vectors.
     fn give_list(&mut self, fault: u32, list: Vectors) -> Result<Step, AllocError>
         requires fits { fault + 1 < 2 ^ 32 }
+        requires none_left { self.old.left ≡ 0 }
         requires next { IsNextUndetected self.old fault }
-        requires given { IsWork self.old.circuit (fault_at self.old.circuit fault) self.old.budget
-            (work.List list) }
+        requires given { IsWork self.old.circuit (fault_at self.old.circuit fault)
+            self.old.settings.budget (work.List list) }
         requires holds { DetectsAlways self.old.circuit (fault_at self.old.circuit fault) list }
         ensures advances { IfOk result (Advances self.old self.new) }
         ensures same { OnErr result (self.new ≡ self.old) }
@@ -179,11 +220,12 @@ impl<'c> Engine<'c> {
     // Gives the entry that the work on a fault made, and keeps its kind.
     fn give_entry(&mut self, fault: u32, entry: Entry) -> Step
         requires fits { fault + 1 < 2 ^ 32 }
+        requires none_left { self.old.left ≡ 0 }
         requires next { IsNextUndetected self.old fault }
-        requires given { IsWork self.old.circuit (fault_at self.old.circuit fault) self.old.budget
-            (work.Entry entry) }
-        requires holds { Passes self.old.circuit (fault_at self.old.circuit fault) self.old.budget
-            entry }
+        requires given { IsWork self.old.circuit (fault_at self.old.circuit fault)
+            self.old.settings.budget (work.Entry entry) }
+        requires holds { Passes self.old.circuit (fault_at self.old.circuit fault)
+            self.old.settings.budget entry }
         ensures { Advances self.old self.new result }
     {
         self.kinds[fault as usize] = Some(EntryKind::of(&entry));
@@ -191,11 +233,14 @@ impl<'c> Engine<'c> {
         Step::Entry { fault, entry }
     }
 
-    // The next step. An error changes nothing.
+    // The next step, or none where memory runs out.
     fn advance(&mut self) -> Result<Step, AllocError>
         ensures advances { IfOk result (Advances self.old self.new) }
-        ensures same { OnErr result (self.new ≡ self.old) }
+        ensures none { OnErr result (MakesNone self.old self.new) }
     {
+        if self.left > 0 {
+            return self.give_random();
+        }
         let Some(fault) = self.next_fault() else {
             self.place = self.classes.len();
             return Ok(Step::Finished);
@@ -211,7 +256,8 @@ impl<'c> Engine<'c> {
         }
     }
 
-    /// The next step: what the work on the least representative that awaits its verdict gives.
+    /// The next step: a random vector while one is left, and then what the work on the least representative that awaits
+    /// its verdict gives.
     ///
     /// # Errors
     /// Out of memory; and then always.
@@ -221,10 +267,9 @@ impl<'c> Engine<'c> {
             → IfOk result (Makes self.old self.new steps) }
         ensures means { (steps : List made.Step) → EngineStandsFor self.old steps
             → IfOk result (MeansOfStep self.old steps) }
-        // Each step brings the end nearer: the place is at most the number of faults.
+        // Each step brings the end nearer.
         ensures nears { IfOk result
-            (λ step. step ≢ made_step.Finished → self.old.place < self.new.place) }
-        ensures within { self.new.place ≤ length self.new.representatives }
+            (λ step. step ≢ made_step.Finished → remaining self.new < remaining self.old) }
         ensures dead { OnErr result (self.new.live ≡ false) }
         ensures lives { OnOk result (self.old.live ≡ true) }
     {

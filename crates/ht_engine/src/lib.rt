@@ -3,8 +3,9 @@
 //! `work_on` is the work on one fault by itself: rounds of refutation, the attempt at the first told frame, and the
 //! sweep. It gives a list of vectors that detects the fault, or the entry of a fault that is refuted or given up.
 //!
-//! `Engine` works on the representatives of all classes, the least first that the vectors so far don't detect, and gives
-//! one step at a time: a list of vectors, an entry, or that every representative has its verdict.
+//! `Engine` gives one step at a time: first a number of random vectors, and then it works on the representatives of all
+//! classes, the least first that the vectors so far don't detect, and gives a list of vectors, an entry, or that every
+//! representative has its verdict.
 //!
 //! The definitions stand in `specs/`: `Attempts` (the attempt at a told frame, search by search), `FaultWork` (what the
 //! work on a fault gives, and what that means), `Enough` (which budgets are enough for it), `Steps` (which step may come

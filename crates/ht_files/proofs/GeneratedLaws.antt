@@ -15,7 +15,7 @@ use Rattle.ht_valid.proofs.DecidedLaws.{are_decided}
 use Rattle.ht_valid.proofs.TruthLaws.{true_verdicts}
 use Rattle.ht_engine.specs.declared.step.Step.{Step}
 use Rattle.ht_engine.specs.EngineStands.{EngineStandsFor, EngineView}
-use Rattle.ht_engine.specs.Steps.{AreFinished}
+use Rattle.ht_engine.specs.Steps.{AreFinished, first_vectors}
 use Rattle.ht_files.specs.Generated.{content_of, IsGenerated}
 use Rattle.ht_files.specs.Saids.{AreSaid}
 use Rattle.ht_files.specs.StepTexts.{proofs_of, tests_of}
@@ -34,11 +34,11 @@ whole_report c representatives budget saids body total body_is total_is =
 pub are_generated : (e : EngineView) (steps : List Step) (saids : List Said) (report total : List ℕ)
     → IsFinishedWork e steps saids → HasPlainNames e.circuit → length (tests_of steps) ≤ max_text_bytes
     → length (proofs_of steps) ≤ max_text_bytes → length report ≤ max_text_bytes
-    → report ≡ report_text e.circuit e.representatives (Some e.budget) saids
-    → total ≡ with_lf (total_line (report_sums e.representatives (Some e.budget) saids))
-    → IsGenerated e.circuit e.budget (tests_of steps) report (proofs_of steps) total
+    → report ≡ report_text e.circuit e.representatives (Some e.settings.budget) saids
+    → total ≡ with_lf (total_line (report_sums e.representatives (Some e.settings.budget) saids))
+    → IsGenerated e.circuit e.settings (tests_of steps) report (proofs_of steps) total
 are_generated e steps saids report total work names short_tests short_proofs short_report report_is total_is =
-    let content = content_of e.budget steps saids in
+    let content = content_of e.settings.budget steps saids in
     let short = subst (λ (l : List ℕ). length l ≤ max_text_bytes) report_is short_report in
     let valid = subst
     (λ (l : List ℕ). AreValid e.circuit e.representatives (tests_of steps) l (proofs_of steps) content) (sym report_is)
@@ -66,14 +66,14 @@ abbrev Generates : EngineView → List Said → List ℕ → List ℕ → List S
 Generates e saids body total steps c representatives budget = IsCircuit c → AreClasses c representatives
     → AreSaid e (length (faults_of c)) saids → body ≡ report_body c representatives (Some budget) saids
     → total ≡ with_lf (total_line (report_sums representatives (Some budget) saids))
-    → AreFinished c representatives steps → HasPlainNames c
-    → IsGenerated c e.budget (tests_of steps) (body ++ total) (proofs_of steps) total
+    → AreFinished c representatives (first_vectors c e.settings) steps → HasPlainNames c
+    → IsGenerated c e.settings (tests_of steps) (body ++ total) (proofs_of steps) total
 
-module _ (e : EngineView) (saids : List Said) (body total : List ℕ) (steps : List Step) (budget_is : IsBudget e.budget)
+module _ (e : EngineView) (saids : List Said) (body total : List ℕ) (steps : List Step) (budget_is : IsBudget e.settings.budget)
     (short : length body + length total ≤ max_text_bytes) (stands : EngineStandsFor e steps)
     (short_tests : length (tests_of steps) ≤ max_text_bytes)
     (short_proofs : length (proofs_of steps) ≤ max_text_bytes) where
-  by_engine : Generates e saids body total steps e.circuit e.representatives e.budget
+  by_engine : Generates e saids body total steps e.circuit e.representatives e.settings.budget
   by_engine circuit classes said body_is total_is finished names =
       let long = length-append body total in
       are_generated e steps saids (body ++ total) total
@@ -86,10 +86,10 @@ module _ (e : EngineView) (saids : List Said) (body total : List ℕ) (steps : L
         said = said;
       })
       names short_tests short_proofs (omega (arith, long, short))
-      (whole_report e.circuit e.representatives e.budget saids body total body_is total_is) total_is
+      (whole_report e.circuit e.representatives e.settings.budget saids body total body_is total_is) total_is
 
   pub report_is_generated : (c : Netlist) (representatives : List ℕ) (budget : ℕ) → e.circuit ≡ c
-      → e.representatives ≡ representatives → budget ≡ e.budget
+      → e.representatives ≡ representatives → budget ≡ e.settings.budget
       → Generates e saids body total steps c representatives budget
   report_is_generated c representatives budget circuit_is representatives_is same_budget =
       subst (λ (x : Netlist). Generates e saids body total steps x representatives budget) circuit_is

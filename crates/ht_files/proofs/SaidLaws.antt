@@ -46,17 +46,17 @@ module _ (e : EngineView) (steps : List Step) (i : ℕ)
 
   module _ (rises : Rises (numbers_of (entries_of steps))) (entry : Numbered)
       (numbered : entry.number ≡ i + 1) (among : Contains (entries_of steps) entry)
-      (passes : Passes e.circuit (fault_at e.circuit i) e.budget entry.entry) where
+      (passes : Passes e.circuit (fault_at e.circuit i) e.settings.budget entry.entry) where
     -- the entry of the fault is the one that this is
     same_entry : (other : Entry) → Contains (entries_of steps) (record { number = i + 1; entry = other })
         → other ≡ entry.entry
     same_entry other has = ap (λ (n : Numbered). n.entry)
         (one_entry (entries_of steps) (record { number = i + 1; entry = other }) entry rises has among (sym numbered))
 
-    pub backs_if_said : (said : Said) → IsSaid e steps i said → Backs e.circuit e.budget i entry.entry said
+    pub backs_if_said : (said : Said) → IsSaid e steps i said → Backs e.circuit e.settings.budget i entry.entry said
     backs_if_said (Detected place) is = tt
-    backs_if_said Untestable is = refuted_backs e.circuit e.budget i entry.entry
+    backs_if_said Untestable is = refuted_backs e.circuit e.settings.budget i entry.entry
         (subst (IsOfKind kind.Refuted) (same_entry is.1.0 is.1.1) is.1.2) passes
-    backs_if_said Aborted is = given_up_backs e.circuit e.budget i entry.entry
+    backs_if_said Aborted is = given_up_backs e.circuit e.settings.budget i entry.entry
         (subst (IsOfKind kind.GivenUp) (same_entry is.1.0 is.1.1) is.1.2) passes
     backs_if_said Undetected is = absurd (finished is)

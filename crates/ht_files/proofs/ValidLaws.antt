@@ -20,7 +20,7 @@ use Rattle.ht_entries.proofs.TextLaws.{written_is_proof_text}
 use Rattle.ht_valid.specs.ValidFiles.{AreValid, IsBacking, IsOwn}
 use Rattle.ht_valid.proofs.EntryTextLaws.{passing_text}
 use Rattle.ht_engine.specs.declared.step.Step.{Step}
-use Rattle.ht_engine.specs.EngineStands.{EngineStandsFor, EngineView, IsSaid}
+use Rattle.ht_engine.specs.EngineStands.{EngineStandsFor, EngineView, IsSaid, first_of}
 use Rattle.ht_engine.specs.Steps.{AreFinished, IsOwnEntry, entries_of, vectors_of_steps}
 use Rattle.ht_engine.proofs.StepLaws.{AreInOrder, steps_in_order}
 use Rattle.ht_files.specs.Generated.{content_of}
@@ -32,9 +32,9 @@ use Rattle.ht_files.proofs.SaidLaws.{agrees_if_said, backs_if_said, has_entry_if
 pub record IsFinishedWork (e : EngineView) (steps : List Step) (saids : List Said) : Type 0 where
   pub circuit : IsCircuit e.circuit
   pub classes : AreClasses e.circuit e.representatives
-  pub budget : IsBudget e.budget
+  pub budget : IsBudget e.settings.budget
   pub stands : EngineStandsFor e steps
-  pub finished : AreFinished e.circuit e.representatives steps
+  pub finished : AreFinished e.circuit e.representatives (first_of e) steps
   pub said : AreSaid e (length (faults_of e.circuit)) saids
 
 module _ (e : EngineView) (steps : List Step) (saids : List Said) (work : IsFinishedWork e steps saids) where
@@ -46,10 +46,10 @@ module _ (e : EngineView) (steps : List Step) (saids : List Said) (work : IsFini
   is_searched : (i : ℕ) → IsOwn e.circuit e.representatives i → IsSearched e.circuit (said_at saids i)
   is_searched i own = record {
     sayable = (work.said.says i own.listed own).sayable;
-    decided = λ undetected. work.finished i (subst (IsSaid e steps i) undetected (says i own));
+    decided = λ undetected. work.finished.none_awaits i (subst (IsSaid e steps i) undetected (says i own));
   }
 
-  is_search : IsSearchOf e.circuit e.representatives (length (faults_of e.circuit)) e.budget saids
+  is_search : IsSearchOf e.circuit e.representatives (length (faults_of e.circuit)) e.settings.budget saids
   is_search = record {
     budget_is = work.budget;
     saids_are = record {
@@ -62,16 +62,16 @@ module _ (e : EngineView) (steps : List Step) (saids : List Said) (work : IsFini
   -- ---- the proofs
 
   in_order : AreInOrder e.circuit e.representatives steps
-  in_order = steps_in_order e.circuit e.representatives e.budget steps work.stands.are
+  in_order = steps_in_order e.circuit e.representatives (first_of e) e.settings.budget steps work.stands.are
 
   own_number : (entry : Numbered) → Contains (entries_of steps) entry → IsOwnEntry e.circuit e.representatives entry
   own_number entry among = All-contains (IsOwnEntry e.circuit e.representatives) (entries_of steps) entry in_order.own
       among
 
   passes : (entry : Numbered) → Contains (entries_of steps) entry
-      → Passes e.circuit (fault_at e.circuit (entry.number - 1)) e.budget entry.entry
+      → Passes e.circuit (fault_at e.circuit (entry.number - 1)) e.settings.budget entry.entry
   passes entry among =
-      All-contains (λ (n : Numbered). Passes e.circuit (fault_at e.circuit (n.number - 1)) e.budget n.entry)
+      All-contains (λ (n : Numbered). Passes e.circuit (fault_at e.circuit (n.number - 1)) e.settings.budget n.entry)
       (entries_of steps) entry work.stands.pass among
 
   has_text : (entry : Numbered) → Contains (entries_of steps) entry → IsEntryText entry
@@ -80,7 +80,7 @@ module _ (e : EngineView) (steps : List Step) (saids : List Said) (work : IsFini
       let counted = number.counted in
       let same : entry.number - 1 + 1 ≡ entry.number = omega (arith, counted) in
       subst (λ (n : ℕ). IsEntryText (record { number = n; entry = entry.entry })) same
-      (passing_text e.circuit (fault_at e.circuit (entry.number - 1)) e.budget (entry.number - 1) entry.entry
+      (passing_text e.circuit (fault_at e.circuit (entry.number - 1)) e.settings.budget (entry.number - 1) entry.entry
       work.circuit number.own.listed work.budget.1 (passes entry among))
 
   have_texts : AreEntryTexts (entries_of steps)
@@ -90,7 +90,7 @@ module _ (e : EngineView) (steps : List Step) (saids : List Said) (work : IsFini
   }
 
   is_backing : (entry : Numbered) → Contains (entries_of steps) entry
-      → IsBacking e.circuit e.representatives (content_of e.budget steps saids) entry
+      → IsBacking e.circuit e.representatives (content_of e.settings.budget steps saids) entry
   is_backing entry among =
       let number = own_number entry among in
       let counted = number.counted in
@@ -98,7 +98,7 @@ module _ (e : EngineView) (steps : List Step) (saids : List Said) (work : IsFini
       record {
         own = number.own;
         counted = counted;
-        backs = backs_if_said e steps i (work.finished i) in_order.rises entry (omega (arith, counted)) among
+        backs = backs_if_said e steps i (work.finished.none_awaits i) in_order.rises entry (omega (arith, counted)) among
             (passes entry among) (said_at saids i) (says i number.own);
       }
 
@@ -106,17 +106,17 @@ module _ (e : EngineView) (steps : List Step) (saids : List Said) (work : IsFini
 
   pub are_valid : HasPlainNames e.circuit → length (tests_of steps) ≤ max_text_bytes
       → length (proofs_of steps) ≤ max_text_bytes
-      → length (report_text e.circuit e.representatives (Some e.budget) saids) ≤ max_text_bytes
+      → length (report_text e.circuit e.representatives (Some e.settings.budget) saids) ≤ max_text_bytes
       → AreValid e.circuit e.representatives (tests_of steps)
-      (report_text e.circuit e.representatives (Some e.budget) saids) (proofs_of steps)
-      (content_of e.budget steps saids)
+      (report_text e.circuit e.representatives (Some e.settings.budget) saids) (proofs_of steps)
+      (content_of e.settings.budget steps saids)
   are_valid names short_tests short_proofs short_report = record {
     vectors = written_is_test_text e.circuit (vectors_of_steps steps) work.stands.wide short_tests;
-    reported = written_is_report e.circuit e.representatives e.budget saids work.circuit work.classes names is_search
+    reported = written_is_report e.circuit e.representatives e.settings.budget saids work.circuit work.classes names is_search
         short_report;
-    agrees = λ i own. agrees_if_said e steps i (work.finished i) (said_at saids i) (says i own);
+    agrees = λ i own. agrees_if_said e steps i (work.finished.none_awaits i) (said_at saids i) (says i own);
     proved = written_is_proof_text (entries_of steps) have_texts short_proofs;
-    backed = all_from (IsBacking e.circuit e.representatives (content_of e.budget steps saids)) (entries_of steps)
+    backed = all_from (IsBacking e.circuit e.representatives (content_of e.settings.budget steps saids)) (entries_of steps)
         is_backing;
-    complete = λ i own needs. has_entry_if_said e steps i (work.finished i) (said_at saids i) (says i own) needs;
+    complete = λ i own needs. has_entry_if_said e steps i (work.finished.none_awaits i) (said_at saids i) (says i own) needs;
   }

@@ -8,7 +8,7 @@ use Rattle.ht_texts.specs.Reports.{report_text, report_sums, total_line}
 use Rattle.ht_valid.specs.ValidFiles.{Content, AreValid}
 use Rattle.ht_valid.specs.TrueVerdicts.{AreDecided, HaveTrueVerdicts}
 use Rattle.ht_engine.specs.declared.step.Step.{Step}
-use Rattle.ht_engine.specs.Steps.{AreFinished, AreSteps, entries_of, vectors_of_steps}
+use Rattle.ht_engine.specs.Steps.{AreFinished, AreSteps, Settings, entries_of, first_vectors, vectors_of_steps}
 use Rattle.ht_files.specs.StepTexts.{proofs_of, tests_of}
 
 -- what the files of steps say
@@ -32,21 +32,22 @@ content_of budget steps saids = record {
 --
 -- For n inputs and m flip-flops, a budget of 2^(n + 2m + 1) finds every fault untestable that some set of flip-flops
 -- seals, and one of the sum of k * 2^(k * n + 1) over k from 1 to d finds every fault detected that d vectors can. The
--- tests and the proofs hold the lists and the entries of the generator's steps and nothing else, and the total line is
--- that of the report.
-pub record IsGenerated (c : Netlist) (budget : ℕ) (tests report proofs total : List ℕ) : Type 0 where
+-- tests and the proofs hold the lists and the entries of the generator's steps and nothing else: the first vectors are
+-- the random ones of the seed, and the work on what they don't detect comes after them. The total line is that of the
+-- report.
+pub record IsGenerated (c : Netlist) (settings : Settings) (tests report proofs total : List ℕ) : Type 0 where
   pub representatives : List ℕ
   pub steps : List Step
   pub saids : List Said
   pub classes : AreClasses c representatives
   -- one true verdict for each fault
-  pub valid : AreValid c representatives tests report proofs (content_of budget steps saids)
-  pub verdicts : HaveTrueVerdicts c representatives (content_of budget steps saids)
-  pub decided : AreDecided c representatives (content_of budget steps saids)
+  pub valid : AreValid c representatives tests report proofs (content_of settings.budget steps saids)
+  pub verdicts : HaveTrueVerdicts c representatives (content_of settings.budget steps saids)
+  pub decided : AreDecided c representatives (content_of settings.budget steps saids)
   -- the files of all steps
-  pub steps_are : AreSteps c representatives budget steps
-  pub finished : AreFinished c representatives steps
+  pub steps_are : AreSteps c representatives (first_vectors c settings) settings.budget steps
+  pub finished : AreFinished c representatives (first_vectors c settings) steps
   pub tests_are : tests ≡ tests_of steps
-  pub report_is : report ≡ report_text c representatives (Some budget) saids
+  pub report_is : report ≡ report_text c representatives (Some settings.budget) saids
   pub proofs_are : proofs ≡ proofs_of steps
-  pub total_is : total ≡ with_lf (total_line (report_sums representatives (Some budget) saids))
+  pub total_is : total ≡ with_lf (total_line (report_sums representatives (Some settings.budget) saids))

@@ -7,7 +7,7 @@ ghost use Rattle.ht_ports.specs.LineRule.{max_text_bytes};
 ghost use Rattle.ht_texts.specs.SearchReports.{HasPlainNames};
 ghost use Rattle.ht_valid.specs.ValidFiles.{IsOwn};
 ghost use Rattle.ht_engine.specs.declared.step.Step as made;
-ghost use Rattle.ht_engine.specs.Steps.{AreFinished};
+ghost use Rattle.ht_engine.specs.Steps.{AreFinished, first_vectors};
 ghost use Rattle.ht_engine.specs.EngineStands.{EngineStandsFor};
 ghost use Rattle.ht_files.specs.Saids.{AreSaid, Says};
 ghost use Rattle.ht_files.specs.StepTexts.{proofs_of, tests_of};
@@ -44,9 +44,10 @@ pub fn write_report(
     requires classes { AreClasses circuit.now classes.now }
     requires representatives { engine.now.representatives ≡ classes.now }
     ensures { (steps : List made.Step) → EngineStandsFor engine.now steps
-        → AreFinished circuit.now classes.now steps → HasPlainNames circuit.now
+        → AreFinished circuit.now classes.now
+        (first_vectors circuit.now engine.now.settings) steps → HasPlainNames circuit.now
         → length (tests_of steps) ≤ max_text_bytes → length (proofs_of steps) ≤ max_text_bytes
-        → IfOk result (λ report. IsGenerated circuit.now engine.now.budget (tests_of steps)
+        → IfOk result (λ report. IsGenerated circuit.now engine.now.settings (tests_of steps)
         (report.body.items ++ report.total.items) (proofs_of steps) report.total.items) }
 {
     // for the proof: the circuit is well formed

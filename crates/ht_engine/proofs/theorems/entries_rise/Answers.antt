@@ -3,7 +3,7 @@ use Rattle.ht_engine.proofs.theorems.entries_rise.Goals as goal
 
 pub returns-clause-rise : goal.returns-clause-rise
 returns-clause-rise d =
-    λ c representatives budget steps are. (steps_in_order c representatives budget steps are).rises
+    λ c representatives first budget steps are. (steps_in_order c representatives first budget steps are).rises
 
 pub returns-clause-own : goal.returns-clause-own
-returns-clause-own d = λ c representatives budget steps are. (steps_in_order c representatives budget steps are).own
+returns-clause-own d = λ c representatives first budget steps are. (steps_in_order c representatives first budget steps are).own

@@ -12,9 +12,11 @@ no_entry i h = let l = h.among.1 in absurd (omega (arith, l))
 
 -- nothing is kept, so the engine stands for no steps
 new_stands : (e : EngineView) → e.list ≡ []
-    → ((i : ℕ) → i < length e.representatives → kind_at e i ≡ None) → e.place ≡ 0 → EngineStandsFor e []
-new_stands e list empty place = record {
+    → ((i : ℕ) → i < length e.representatives → kind_at e i ≡ None) → e.place ≡ 0
+    → e.left ≡ e.settings.random → EngineStandsFor e []
+new_stands e list empty place left = record {
   are = none;
+  left = omega (arith, left);
   list = list;
   kinds = λ i l. subst (IsKindIn [] i) (sym (empty i l)) (no_entry i);
   done = λ i l. absurd (omega (arith, l, place));
@@ -27,4 +29,4 @@ pub returns-clause-none : goal.returns-clause-none
 returns-clause-none c =
     let count = c.len.ensures in
     new_stands _ (ap (λ (g : GraderView). g.list) c.in_ok-grader.ensures)
-    (λ i l. c.in_ok-kinds.ensures.none i (omega (arith, l, count))) refl
+    (λ i l. c.in_ok-kinds.ensures.none i (omega (arith, l, count))) refl refl
