@@ -107,7 +107,8 @@ module _ (size : ℕ) (g : Lcg) where
       let nets = drawn_outputs size g n in
       let net = drawn_gate_net size g n in
       let before = outputs_are_below n some in
-      by_test (λ (l : List NetId). All (IsBelow (first_gate size + size)) l) (includes_net nets net) nets (nets ++ net ∷ [])
+      by_test (λ (l : List NetId). All (IsBelow (first_gate size + size)) l) (includes_net nets net) nets
+      (nets ++ net ∷ [])
       (λ is. before)
       (λ none. All-push (IsBelow (first_gate size + size)) nets net before (gate_is_below size _ some))
 
