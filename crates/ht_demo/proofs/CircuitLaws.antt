@@ -12,7 +12,7 @@ use Rattle.ht_statement.specs.Name.{is_name}
 use Rattle.ht_bench.specs.Normal.{HasFormatNames}
 use Rattle.ht_random.specs.Words.{generator_of, next_word, after_word, after_words}
 use Rattle.ht_demo.specs.Counts.{max_demo_size, input_count, dff_count, first_gate, demo_name}
-use Rattle.ht_demo.specs.Draws.{kind_of, drawn_gate, drawn_gate_net, after_gates}
+use Rattle.ht_demo.specs.Draws.{kind_by_word, drawn_gate, drawn_gate_net, after_gates}
 use Rattle.ht_demo.specs.Demo.{output_draws, demo_netlist}
 use Rattle.ht_demo.proofs.RangeLaws.{sum_at_most, list_all_range}
 use Rattle.ht_demo.proofs.DrawLaws.{IsBelow, arguments_are_below, arguments_count, count_is_arity, at_most_two, gate_is_below, outputs_differ, outputs_are_below}
@@ -65,7 +65,7 @@ module _ (size seed : ℕ) where
 
   pub few_arguments : (k : ℕ) → k < length demo.gates → length (gate_at demo k).args ≤ 2
   few_arguments k below = gate_has (λ gate. length gate.args ≤ 2) k below
-      (let kind = kind_of (next_word (before_gate k)) in
+      (let kind = kind_by_word (next_word (before_gate k)) in
       let few = at_most_two kind in
       omega (arith, arguments_count (first_gate size + k) kind (after_word (before_gate k))))
 
@@ -74,12 +74,12 @@ module _ (size seed : ℕ) where
   argument_is_earlier k i below = gate_has
       (λ gate. i < length gate.args → (get_or gate.args i no_net).0 < first_gate size + k) k below
       (λ inside. All-get_or (IsBelow (first_gate size + k)) (gate_drawn k).args i no_net inside
-      (arguments_are_below (first_gate size + k) (kind_of (next_word (before_gate k))) (after_word (before_gate k))
+      (arguments_are_below (first_gate size + k) (kind_by_word (next_word (before_gate k))) (after_word (before_gate k))
       (omega arith)))
 
   arities : (k : ℕ) → k < length demo.gates → HasArity (gate_at demo k).kind (length (gate_at demo k).args)
   arities k below = gate_has (λ gate. HasArity gate.kind (length gate.args)) k below
-      (let kind = kind_of (next_word (before_gate k)) in
+      (let kind = kind_by_word (next_word (before_gate k)) in
       subst (HasArity kind) (sym (arguments_count (first_gate size + k) kind (after_word (before_gate k))))
       (count_is_arity kind))
 

@@ -15,7 +15,7 @@ use Rattle.ht_tern.specs.Gate.{HasArity}
 use Rattle.ht_net.specs.declared.net.NetId.{NetId}
 use Rattle.ht_random.specs.Words.{next_word, after_words}
 use Rattle.ht_demo.specs.Counts.{first_gate}
-use Rattle.ht_demo.specs.Draws.{argument_count, argument_of, drawn_arguments, after_gate, after_gates, gate_of, drawn_gate_net, is_among, with_net, drawn_outputs}
+use Rattle.ht_demo.specs.Draws.{argument_count, argument_by_word, drawn_arguments, after_gate, after_gates, gate_by_word, drawn_gate_net, includes_net, with_net, drawn_outputs}
 use Rattle.ht_demo.proofs.RangeLaws.{All-map_always}
 
 abbrev pub IsBelow : ℕ → NetId → Type 0
@@ -26,18 +26,18 @@ IsBelow nets net = net.0 < nets
 pub after_gates_more : (k : ℕ) (g : Lcg) → after_gates (k + 1) g ≡ after_gate (after_gates k g)
 after_gates_more k g = rw add-one refl
 
-pub argument_is_below : (nets word : ℕ) → 1 ≤ nets → IsBelow nets (argument_of nets word)
+pub argument_is_below : (nets word : ℕ) → 1 ≤ nets → IsBelow nets (argument_by_word nets word)
 argument_is_below nets word some = omega arith
 
 pub arguments_are_below : (nets : ℕ) (kind : Kind) (g : Lcg) → 1 ≤ nets
     → All (IsBelow nets) (drawn_arguments nets kind g)
 arguments_are_below nets kind g some =
-    All-map_always (IsBelow nets) (λ i. argument_of nets (next_word (after_words i g)))
+    All-map_always (IsBelow nets) (λ i. argument_by_word nets (next_word (after_words i g)))
     (λ i. argument_is_below nets _ some) (range_with_len 0 (argument_count kind))
 
 pub arguments_count : (nets : ℕ) (kind : Kind) (g : Lcg) → length (drawn_arguments nets kind g) ≡ argument_count kind
 arguments_count nets kind g =
-    length-map-range_with_len (λ i. argument_of nets (next_word (after_words i g))) 0 (argument_count kind)
+    length-map-range_with_len (λ i. argument_by_word nets (next_word (after_words i g))) 0 (argument_count kind)
 
 pub count_is_arity : (kind : Kind) → HasArity kind (argument_count kind)
 count_is_arity And = refl
@@ -61,7 +61,7 @@ at_most_two Buf = omega arith
 
 -- ---- flip-flops and outputs
 
-pub gate_is_below : (size word : ℕ) → 1 ≤ size → IsBelow (first_gate size + size) (gate_of size word)
+pub gate_is_below : (size word : ℕ) → 1 ≤ size → IsBelow (first_gate size + size) (gate_by_word size word)
 gate_is_below size word some =
     let small = mod_below word size some in
     omega arith
@@ -72,7 +72,7 @@ by_test : {A : Type 0} (P : A → Type 0) (b : Bool) (x y : A) → (b ≡ true �
 by_test P true x y holds fails = holds refl
 by_test P false x y holds fails = fails refl
 
-absent : (nets : List NetId) (net : NetId) → is_among nets net ≡ false
+absent : (nets : List NetId) (net : NetId) → includes_net nets net ≡ false
     → (k : ℕ) (d : NetId) → k < length nets → get_or nets k d ≢ net
 absent nets net none k d below same =
     let here = Contains-get_or nets k d below in
@@ -96,7 +96,7 @@ module _ (size : ℕ) (g : Lcg) where
   outputs_differ (suc n) =
       let nets = drawn_outputs size g n in
       let net = drawn_gate_net size g n in
-      by_test (λ (l : List NetId). AllDiffer l) (is_among nets net) nets (nets ++ net ∷ [])
+      by_test (λ (l : List NetId). AllDiffer l) (includes_net nets net) nets (nets ++ net ∷ [])
       (λ is. outputs_differ n)
       (λ none. all_pairs_push (λ x y. x ≢ y) nets net (outputs_differ n) (absent nets net none))
 
@@ -107,7 +107,8 @@ module _ (size : ℕ) (g : Lcg) where
       let nets = drawn_outputs size g n in
       let net = drawn_gate_net size g n in
       let before = outputs_are_below n some in
-      by_test (λ (l : List NetId). All (IsBelow (first_gate size + size)) l) (is_among nets net) nets (nets ++ net ∷ [])
+      by_test (λ (l : List NetId). All (IsBelow (first_gate size + size)) l) (includes_net nets net) nets
+      (nets ++ net ∷ [])
       (λ is. before)
       (λ none. All-push (IsBelow (first_gate size + size)) nets net before (gate_is_below size _ some))
 
@@ -118,6 +119,6 @@ module _ (size : ℕ) (g : Lcg) where
       let nets = drawn_outputs size g n in
       let net = drawn_gate_net size g n in
       let before = outputs_at_most n in
-      by_test (λ (l : List NetId). length l ≤ suc n) (is_among nets net) nets (nets ++ net ∷ [])
+      by_test (λ (l : List NetId). length l ≤ suc n) (includes_net nets net) nets (nets ++ net ∷ [])
       (λ is. omega arith)
       (λ none. omega (arith, length-append nets (net ∷ [])))

@@ -15,7 +15,7 @@ use Rattle.ht_bench.specs.Normal.{normal_text}
 use Rattle.ht_bench.specs.Text.{max_netlist_bytes}
 use Rattle.ht_random.specs.Words.{generator_of, next_word, after_word, after_words}
 use Rattle.ht_demo.specs.Counts.{max_demo_size, input_count, dff_count, first_gate, demo_name}
-use Rattle.ht_demo.specs.Draws.{kind_of, drawn_gate_net, after_gates}
+use Rattle.ht_demo.specs.Draws.{kind_by_word, drawn_gate_net, after_gates}
 use Rattle.ht_demo.specs.Demo.{output_draws}
 use Rattle.ht_demo.specs.DemoText.{demo_name_of, demo_input_line, demo_output_line, drawn_dff_line, drawn_gate_line, demo_input_lines, demo_output_lines, demo_dff_lines, demo_gate_lines}
 use Rattle.ht_demo.proofs.RangeLaws.{sum_at_most}
@@ -116,7 +116,7 @@ module _ (size seed : ℕ) (some : 1 ≤ size) (few : size ≤ max_demo_size) wh
       → length (drawn_gate_line size (first_gate size + k) (before_gate size seed k)) ≤ 100
   short_gate k below =
       let gate = gate_drawn size seed k in
-      let kind = kind_of (next_word (before_gate size seed k)) in
+      let kind = kind_by_word (next_word (before_gate size seed k)) in
       let g = after_word (before_gate size seed k) in
       let arguments = arguments_are_below (first_gate size + k) kind g (omega arith) in
       let two = at_most_two kind in

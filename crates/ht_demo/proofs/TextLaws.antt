@@ -13,7 +13,7 @@ use Rattle.ht_bench.specs.Normal.{statement_lines, dff_statement, gate_statement
 use Rattle.ht_bench.proofs.NamedPartLaws.{no_named_dff, no_named_gate, gate_named, named_dffs_count, named_gates_count, get_or-named_dffs, get_or-named_gates}
 use Rattle.ht_random.specs.Words.{generator_of, next_word, after_word, after_words}
 use Rattle.ht_demo.specs.Counts.{input_count, dff_count, first_gate, demo_name}
-use Rattle.ht_demo.specs.Draws.{kind_of, drawn_gate_net}
+use Rattle.ht_demo.specs.Draws.{kind_by_word, drawn_gate_net}
 use Rattle.ht_demo.specs.Demo.{output_draws}
 use Rattle.ht_demo.specs.DemoText.{demo_name_of, demo_input_lines, demo_output_lines, demo_dff_lines, demo_gate_lines}
 use Rattle.ht_demo.proofs.RangeLaws.{ap2, flat_map-map, map_agree}
@@ -102,7 +102,7 @@ module _ (size seed : ℕ) (some : 1 ≤ size) where
   same_arguments k below =
       map_agree (name_of (demo size seed)) (demo_name_of size) (IsBelow (first_gate size + k))
       (λ net earlier. same_name net (omega arith)) (gate_drawn size seed k).args
-      (arguments_are_below (first_gate size + k) (kind_of (next_word (before_gate size seed k)))
+      (arguments_are_below (first_gate size + k) (kind_by_word (next_word (before_gate size seed k)))
       (after_word (before_gate size seed k)) (omega arith))
 
   gate_at_is : (k : ℕ) → k < size

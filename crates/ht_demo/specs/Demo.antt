@@ -13,7 +13,7 @@ use Rattle.ht_demo.specs.Draws.{drawn_gate, after_gates, drawn_gate_net, drawn_o
 abbrev pub output_draws : ℕ
 output_draws = 16
 
--- first the gates, from a generator of their own; each reads nets before it
+-- first the gates, each of which reads nets before it
 abbrev pub demo_gates : ℕ → Lcg → List Gate
 demo_gates size g = map (λ k. drawn_gate (first_gate size + k) (after_gates k g)) (range_with_len 0 size)
 

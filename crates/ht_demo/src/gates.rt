@@ -3,11 +3,11 @@ ghost use Rattle.std.specs.Prelude.{◌≡◌, ◌≤◌, ◌++◌, map, codes, 
 ghost use Rattle.ht_random.specs.Words.{next_word, after_word, after_words};
 ghost use Rattle.ht_statement.specs.StatementText.{kind_text, arguments_text};
 ghost use Rattle.ht_demo.specs.Counts.{max_demo_size, demo_name};
-ghost use Rattle.ht_demo.specs.Draws.{argument_count, argument_of, drawn_arguments, after_gate, after_gates};
+ghost use Rattle.ht_demo.specs.Draws.{argument_count, argument_by_word, drawn_arguments, after_gate, after_gates};
 ghost use Rattle.ht_demo.specs.DemoText.{demo_name_of, drawn_gate_line, demo_gate_lines};
 
 use crate::counts::{first_gate, push_name};
-use crate::kind::{is_unary, kind_of, kind_text};
+use crate::kind::{is_unary, kind_by_word, kind_text};
 use ht_random::Words;
 use ht_tern::Kind;
 use std::alloc::{AllocError, Global};
@@ -33,7 +33,7 @@ fn push_gate(text: &mut Vec<u8>, words: &mut Words, size: u32, nets: u32) -> Res
         (text.new.items ≡ text.old.items ++ drawn_gate_line size nets words.old) }
     ensures after { OnOk result (words.new ≡ after_gate words.old) }
 {
-    let kind = kind_of(words.next());
+    let kind = kind_by_word(words.next());
     push_opening(text, size, nets, kind)?;
     push_arguments(text, words, size, nets, kind)?;
     text.extend_from_slice(b")\n")
@@ -80,17 +80,17 @@ fn push_argument(
 ) -> Result<(), AllocError>
     requires { 1 ≤ nets }
     ensures text { OnOk result (text.new.items ≡ text.old.items
-        ++ demo_name_of size (argument_of nets (next_word words.old))) }
+        ++ demo_name_of size (argument_by_word nets (next_word words.old))) }
     ensures after { OnOk result (words.new ≡ after_word words.old) }
 {
-    let argument = argument_of(nets, words.next());
+    let argument = argument_by_word(nets, words.next());
     push_name(text, size, argument)
 }
 
 // The net that a word gives to a gate with so many nets before it: one of the last 64.
-fn argument_of(nets: u32, word: u32) -> u32
+fn argument_by_word(nets: u32, word: u32) -> u32
     requires { 1 ≤ nets }
-    ensures { result ≡ (argument_of nets word).0 }
+    ensures { result ≡ (argument_by_word nets word).0 }
 {
     nets - 1 - word % nets.min(64)
 }

@@ -1,7 +1,7 @@
 //! The kinds of gates, by words.
 ghost use Rattle.std.specs.Prelude.{◌≡◌};
 ghost use Rattle.ht_statement.specs.StatementText.{kind_text};
-ghost use Rattle.ht_demo.specs.Draws.{kind_of, is_unary};
+ghost use Rattle.ht_demo.specs.Draws.{kind_by_word, is_unary};
 
 use ht_tern::Kind;
 
@@ -17,8 +17,8 @@ const KINDS: [Kind; 8] = [
 ];
 
 /// The kind that a word gives.
-pub fn kind_of(word: u32) -> Kind
-    ensures { result ≡ kind_of word }
+pub fn kind_by_word(word: u32) -> Kind
+    ensures { result ≡ kind_by_word word }
 {
     KINDS[(word % 8) as usize]
 }

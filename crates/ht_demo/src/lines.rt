@@ -4,7 +4,7 @@ ghost use Rattle.ht_random.specs.Words.{after_word, after_words, next_word};
 ghost use Rattle.ht_statement.specs.Statement.{dff_line};
 ghost use Rattle.ht_statement.specs.StatementText.{statement_line};
 ghost use Rattle.ht_demo.specs.Counts.{max_demo_size, input_count, dff_count, demo_name};
-ghost use Rattle.ht_demo.specs.Draws.{gate_of};
+ghost use Rattle.ht_demo.specs.Draws.{gate_by_word};
 ghost use Rattle.ht_demo.specs.DemoText.{demo_name_of, demo_dff_lines, demo_input_line, demo_input_lines, demo_output_line, demo_output_lines};
 
 use crate::counts::{INPUTS, dff_count, push_name};

@@ -2,7 +2,7 @@
 ghost use Rattle.std.specs.Prelude.{◌≡◌, ◌≤◌, IfOk, OnOk};
 ghost use Rattle.ht_random.specs.Words.{next_word, after_word};
 ghost use Rattle.ht_demo.specs.Counts.{max_demo_size};
-ghost use Rattle.ht_demo.specs.Draws.{gate_of, is_among, with_net};
+ghost use Rattle.ht_demo.specs.Draws.{gate_by_word, includes_net, with_net};
 ghost use Rattle.ht_demo.specs.Demo.{demo_outputs};
 
 use crate::counts::first_gate;
@@ -31,7 +31,7 @@ pub fn draw_outputs(alloc: Global, size: u32, words: &mut Words) -> Result<Vec<N
 pub fn draw_gate(size: u32, words: &mut Words) -> NetId
     requires some { 1 ≤ size }
     requires few { size ≤ max_demo_size }
-    ensures net { result ≡ gate_of size (next_word words.old) }
+    ensures net { result ≡ gate_by_word size (next_word words.old) }
     ensures after { words.new ≡ after_word words.old }
 {
     NetId(first_gate(size) + words.next() % size)
@@ -41,7 +41,7 @@ pub fn draw_gate(size: u32, words: &mut Words) -> NetId
 fn add_net(nets: &mut Vec<NetId>, net: NetId) -> Result<(), AllocError>
     ensures { OnOk result (nets.new.items ≡ with_net nets.old.items net) }
 {
-    if contains(nets, net) {
+    if includes_net(nets, net) {
         return Ok(());
     }
     nets.push(net)?;
@@ -49,8 +49,8 @@ fn add_net(nets: &mut Vec<NetId>, net: NetId) -> Result<(), AllocError>
 }
 
 // Whether a net is among others.
-fn contains(nets: &[NetId], net: NetId) -> bool
-    ensures { result ≡ is_among nets.now net }
+fn includes_net(nets: &[NetId], net: NetId) -> bool
+    ensures { result ≡ includes_net nets.now net }
 {
     nets.iter().any(|other| other.0 == net.0)
 }
