@@ -1,7 +1,7 @@
 //! Which texts are tests, and which are reports. Each theorem is the contract of a function that does nothing.
-ghost use Rattle.std.specs.Prelude.{◌≡◌, ◌≤◌, ◌⊎◌, ℕ, List, Bool, Some, length};
+ghost use Rattle.std.specs.Prelude.{◌≡◌, ◌≤◌, ◌⊎◌, ℕ, List, Bool, Some, length, take};
 ghost use Rattle.std.specs.List.{All};
-ghost use Rattle.ht_ports.specs.LineRule.{max_text_bytes};
+ghost use Rattle.ht_ports.specs.LineRule.{lines_of, max_text_bytes};
 ghost use Rattle.ht_net.specs.Netlist.{Netlist, IsCircuit};
 ghost use Rattle.ht_faults.specs.Sites.{faults_of};
 ghost use Rattle.ht_collapse.specs.Classes.{AreClasses};
@@ -10,7 +10,7 @@ ghost use Rattle.ht_texts.specs.Tests.{test_text, IsTestText, IsMalformedTest, I
 ghost use Rattle.ht_texts.specs.Reports.{report_text};
 ghost use Rattle.ht_texts.specs.LineLengths.{IsShortLine};
 ghost use Rattle.ht_texts.specs.SearchReports.{HasPlainNames, HasShortNames, IsSearchOf, IsReportFront};
-ghost use Rattle.ht_texts.specs.SearchReports.{IsReportText, IsMalformedReport};
+ghost use Rattle.ht_texts.specs.SearchReports.{IsReportText, IsMalformedReport, IsNoReportLine};
 ghost use Rattle.ht_texts.specs.ReportReading.{ReportReading, ReportReadsTo, SameSearch, SaySame};
 
 /// The lines of vectors, each with its LF, are the test text of these vectors, and none of them is malformed: so a
@@ -83,4 +83,11 @@ pub fn report_lines_are_short()
     ensures { (c : Netlist) (representatives : List ℕ) (lines : List (List ℕ)) → IsCircuit c
         → AreClasses c representatives → HasShortNames c
         → IsReportFront c representatives lines → All IsShortLine lines }
+{}
+
+/// Where a report of a search begins with the first n lines of a text, none of them is wrong.
+pub fn read_report_lines_are_right()
+    ensures { (c : Netlist) (representatives : List ℕ) (text : List ℕ) (n m : ℕ)
+        → IsReportFront c representatives (take n (lines_of text)) → n ≤ length (lines_of text)
+        → m ≤ n → ¬ IsNoReportLine c representatives text m }
 {}
