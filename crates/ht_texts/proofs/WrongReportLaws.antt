@@ -1,7 +1,7 @@
 -- The first wrong line of a report that is read line by line.
-use Rattle.std.proofs.Common.{◌≡◌, inl, inr, ℕ, ◌+◌, ◌≤◌, List, [], ◌∷◌, ◌++◌, length, take, sym, ap, subst, arith}
+use Rattle.std.proofs.Common.{◌≡◌, inl, inr, ℕ, ◌+◌, ◌-◌, ◌<◌, ◌≤◌, List, [], ◌∷◌, ◌++◌, length, get_or, take, sym, ap, ◌∙◌, subst, arith}
 use Rattle.std.specs.List.{All}
-use Rattle.std.proofs.lemmas.List.{length-append}
+use Rattle.std.proofs.lemmas.List.{length-append, take_more}
 use Rattle.std.proofs.Math.Seq.{get_or-append_seam}
 use Rattle.ht_ports.specs.LineRule.{IsTooLongLine, lines_of, without_cr, first_piece, max_text_bytes}
 use Rattle.ht_ports.proofs.TextLaws.{first_line}
@@ -10,6 +10,7 @@ use Rattle.ht_collapse.specs.Classes.{AreClasses}
 use Rattle.ht_texts.specs.declared.limits.TheConstants.{MAX_LINE_BYTES}
 use Rattle.ht_texts.specs.declared.said.Said.{Said}
 use Rattle.ht_texts.specs.LineLengths.{IsShortLine}
+use Rattle.ht_texts.specs.Tests.{IsTooLong, line_at}
 use Rattle.ht_texts.specs.SearchReports.{HasShortNames, IsSearchReport, IsReportFront, IsNoReportLine, IsWrongReportLine, IsMalformedReport}
 use Rattle.ht_texts.proofs.LineLengthLaws.{report_is_short}
 use Rattle.ht_texts.proofs.LinesSoFarLaws.{LinesSoFar, first_lines, with_next_line, lines_end, read_lines_fit, next_line_is_too_long}
@@ -22,6 +23,34 @@ pub front_is_right : (c : Netlist) (representatives : List ℕ) (text : List ℕ
 front_is_right c representatives text n m front inside within wrong =
     wrong.none (subst (IsReportFront c representatives) (take_again m n (lines_of text) within inside)
     (front_of_front c representatives (take n (lines_of text)) m front))
+
+-- the line after them that no report has there
+pub none_is_wrong : (c : Netlist) (representatives : List ℕ) (text : List ℕ) (n : ℕ) → n < length (lines_of text)
+    → ¬ IsReportFront c representatives (take n (lines_of text) ++ line_at text (n + 1) ∷ [])
+    → IsNoReportLine c representatives text (n + 1)
+none_is_wrong c representatives text n inside none =
+    let same : line_at text (n + 1) ≡ get_or (lines_of text) n [] =
+    ap (λ k. get_or (lines_of text) k []) {x = n + 1 - 1} (omega arith) in
+    let longer : take (n + 1) (lines_of text) ≡ take n (lines_of text) ++ line_at text (n + 1) ∷ [] =
+    take_more (lines_of text) n [] inside ∙ ap (λ l. take n (lines_of text) ++ l ∷ []) (sym same) in
+    record {
+      counted = (omega arith, omega (arith, inside));
+      none = λ front. none (subst (IsReportFront c representatives) longer front);
+    }
+
+-- a wrong line after lines that begin a report is the first, if the text doesn't get too long in them
+pub wrong_is_first : (c : Netlist) (representatives : List ℕ) (text : List ℕ) (n : ℕ)
+    → IsReportFront c representatives (take n (lines_of text)) → n ≤ length (lines_of text)
+    → ((m : ℕ) → m ≤ n → ¬ IsTooLong text m) → IsWrongReportLine c representatives text (n + 1)
+    → IsMalformedReport c representatives text (n + 1)
+wrong_is_first c representatives text n front inside fits wrong = record {
+  wrong = wrong;
+  first = λ m below sooner. elim sooner [
+    | inl line ↦ front_is_right c representatives text n m front inside (omega (arith, below)) line
+    | inr (inl early) ↦ omega (arith, below, early.line, inside)
+    | inr (inr long) ↦ fits m (omega (arith, below)) long
+  ];
+}
 
 -- ---- the lines so far
 

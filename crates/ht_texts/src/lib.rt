@@ -40,7 +40,7 @@ pub use number::{push_number, read_number};
 pub use report_reader::ReportReader;
 pub use said::{Said, saids_of};
 pub use theorems::{
-    read_report_lines_are_right, report_fronts_are_read, report_lines_are_short, reports_are_read,
+    first_wrong_report_line, report_fronts_are_read, report_lines_are_short, reports_are_read,
     reports_say_one_thing, tests_are_read, texts_are_reports_or_malformed,
     texts_are_tests_or_malformed,
 };
