@@ -3,7 +3,8 @@
 //! `specs/ProofLines` has the text of one line, `specs/EntryLines` the lines of an entry and of a whole text, and
 //! `specs/EntryTexts` says which entries have a text, and what the text doesn't show of them. A `ProofReader` takes a
 //! text line by line: `specs/ProofReading` says where it stands after some lines, `specs/ProofSteps` what a further
-//! line makes of that, and `specs/ReaderStands` what its calls owe.
+//! line makes of that, and `specs/ReaderStands` what its calls owe. `specs/MalformedProofs` says at which line a text
+//! that is none goes wrong.
 #![tactic(auto)]
 
 mod aim;
@@ -34,7 +35,8 @@ pub use reader::ProofReader;
 pub use reader_state::Stand;
 pub use text_error::TextError;
 pub use theorems::{
-    entries_are_read_back, fronts_are_read, lines_have_one_reading, malformed_lines_are_unread,
-    proof_lines_are_short, text_has_one_list, written_entries_are_a_text,
+    entries_are_read_back, first_wrong_proof_line, fronts_are_read, lines_have_one_reading,
+    malformed_lines_are_unread, malformed_proofs_are_none, proof_lines_are_short,
+    text_has_one_list, texts_are_proofs_or_malformed, written_entries_are_a_text,
 };
 pub use write_line::{end_line, head_line};

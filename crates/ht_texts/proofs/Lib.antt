@@ -19,3 +19,6 @@ pub mod TestLaws
 pub mod VectorLaws
 pub mod WrittenLaws
 pub mod LineLengthLaws
+pub mod LfLaws
+pub mod LinesSoFarLaws
+pub mod WrongReportLaws

@@ -49,7 +49,8 @@ number_size n small = length-decimal-le 20 n (omega arith) (omega (arith, small)
 counted_size : (text word : List ℕ) (n m k : ℕ) → IsUpTo m text → length word ≡ k → n < 2 ^ 64
     → IsUpTo (m + k + 20) (text ++ word ++ decimal n)
 counted_size text word n m k of_text of_word small =
-    both_size (text ++ word) (decimal n) (m + k) 20 (both_size text word m k of_text (omega (arith, of_word))) (number_size n small)
+    both_size (text ++ word) (decimal n) (m + k) 20 (both_size text word m k of_text (omega (arith, of_word)))
+    (number_size n small)
 
 -- ---- the parts of a line
 
@@ -75,7 +76,8 @@ fault_size : (c : Netlist) (of : Fault) → IsCircuit c → HasShortNames c → 
     → IsUpTo 284 (fault_text c of)
 fault_size c of is names on =
     both_size (site_text c of.site ++ codes " s-a-") (bit_code of.value ∷ []) 283 1
-    (both_size (site_text c of.site) (codes " s-a-") 277 6 (site_size c of.site is names on) (omega arith)) (omega arith)
+    (both_size (site_text c of.site) (codes " s-a-") 277 6 (site_size c of.site is names on) (omega arith))
+    (omega arith)
 
 verdict_size : (c : Netlist) (said : Said) → HasShortNames c → IsSayable c said → IsUpTo 285 (verdict_text c said)
 verdict_size c (Detected place) names is =
@@ -135,7 +137,8 @@ head_is_short c representatives budget is classes budget_fits =
     let e = d ++ codes " gates " ++ decimal (length c.gates) in
     let f = codes " faults " ++ decimal faults in
     let g = f ++ codes " classes " ++ decimal count in
-    let of_a = counted_size [] (codes "circuit inputs ") c.inputs 0 15 (omega arith) refl (omega (arith, is.few_inputs)) in
+    let of_a = counted_size [] (codes "circuit inputs ") c.inputs 0 15 (omega arith) refl
+    (omega (arith, is.few_inputs)) in
     let of_b = counted_size a (codes " outputs ") (length c.outputs) 35 9 of_a refl
     (omega (arith, outputs_few c is, is.few_nets)) in
     let of_d = counted_size b (codes " flip-flops ") (length c.dffs) 64 12 of_b refl (omega (arith, is.few_dffs)) in

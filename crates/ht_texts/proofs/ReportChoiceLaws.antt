@@ -28,7 +28,7 @@ use Rattle.ht_texts.proofs.SaidLaws.{line_of_member}
 
 -- ---- what is decided
 
-same_or_not : (a b : List ℕ) → (a ≡ b) ⊎ (a ≢ b)
+pub same_or_not : (a b : List ℕ) → (a ≡ b) ⊎ (a ≢ b)
 same_or_not a b =
     let decides = bytes_eq-Decides a b in
     elim (cases_Bool (bytes_eq a b)) [
@@ -37,7 +37,7 @@ same_or_not a b =
     ]
 
 -- some number below n, or none
-some_below : (P : ℕ → Type 0) → ((k : ℕ) → P k ⊎ (P k → ⊥)) → (n : ℕ)
+pub some_below : (P : ℕ → Type 0) → ((k : ℕ) → P k ⊎ (P k → ⊥)) → (n : ℕ)
     → ((k : ℕ) × (k < n) × P k) ⊎ ((k : ℕ) → k < n → P k → ⊥)
 some_below P decide zero = inr (λ k below. absurd (omega arith))
 some_below P decide (suc n) = elim (decide n) [

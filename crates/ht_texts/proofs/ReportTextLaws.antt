@@ -14,13 +14,13 @@ use Rattle.ht_texts.proofs.ReaderLaws.{whole_read, not_whole}
 use Rattle.ht_texts.proofs.ReportChoiceLaws.{StopsReading, read_or_stop}
 use Rattle.ht_texts.proofs.ReportFrontLaws.{reading_is_front, front_is_reading}
 
-take_again : (m k : ℕ) (lines : List (List ℕ)) → m ≤ k → k ≤ length lines → take m (take k lines) ≡ take m lines
+pub take_again : (m k : ℕ) (lines : List (List ℕ)) → m ≤ k → k ≤ length lines → take m (take k lines) ≡ take m lines
 take_again m k lines within inside =
     sym (take-append-le m (take k lines) (drop k lines) (omega (arith, within, length-take-le k lines inside)))
     ∙ ap (take m) (take-append-drop k lines)
 
 -- what begins a report begins with lines that do
-front_of_front : (c : Netlist) (representatives : List ℕ) (lines : List (List ℕ)) (n : ℕ)
+pub front_of_front : (c : Netlist) (representatives : List ℕ) (lines : List (List ℕ)) (n : ℕ)
     → IsReportFront c representatives lines → IsReportFront c representatives (take n lines)
 front_of_front c representatives lines n front = record {
   budget = front.budget;

@@ -40,8 +40,9 @@ pub use number::{push_number, read_number};
 pub use report_reader::ReportReader;
 pub use said::{Said, saids_of};
 pub use theorems::{
-    report_fronts_are_read, report_lines_are_short, reports_are_read, reports_say_one_thing,
-    tests_are_read, texts_are_reports_or_malformed, texts_are_tests_or_malformed,
+    first_wrong_report_line, report_fronts_are_read, report_lines_are_short, reports_are_read,
+    reports_say_one_thing, tests_are_read, texts_are_reports_or_malformed,
+    texts_are_tests_or_malformed,
 };
 pub use total::{Sums, write_total};
 pub use vector::{read_vector, write_vector};

@@ -1,16 +1,16 @@
 //! Which texts are tests, and which are reports. Each theorem is the contract of a function that does nothing.
-ghost use Rattle.std.specs.Prelude.{◌≡◌, ◌≤◌, ◌⊎◌, ℕ, List, Bool, Some, length};
+ghost use Rattle.std.specs.Prelude.{◌≡◌, ◌<◌, ◌≤◌, ◌+◌, ◌⊎◌, ◌++◌, ◌∷◌, [], ℕ, List, Bool, Some, length, take};
 ghost use Rattle.std.specs.List.{All};
-ghost use Rattle.ht_ports.specs.LineRule.{max_text_bytes};
+ghost use Rattle.ht_ports.specs.LineRule.{lines_of, max_text_bytes};
 ghost use Rattle.ht_net.specs.Netlist.{Netlist, IsCircuit};
 ghost use Rattle.ht_faults.specs.Sites.{faults_of};
 ghost use Rattle.ht_collapse.specs.Classes.{AreClasses};
 ghost use Rattle.ht_texts.specs.declared.said.Said.{Said};
-ghost use Rattle.ht_texts.specs.Tests.{test_text, IsTestText, IsMalformedTest, IsTestOrMalformed};
+ghost use Rattle.ht_texts.specs.Tests.{test_text, line_at, IsTestText, IsTooLong, IsMalformedTest, IsTestOrMalformed};
 ghost use Rattle.ht_texts.specs.Reports.{report_text};
 ghost use Rattle.ht_texts.specs.LineLengths.{IsShortLine};
 ghost use Rattle.ht_texts.specs.SearchReports.{HasPlainNames, HasShortNames, IsSearchOf, IsReportFront};
-ghost use Rattle.ht_texts.specs.SearchReports.{IsReportText, IsMalformedReport};
+ghost use Rattle.ht_texts.specs.SearchReports.{IsReportText, IsNoReportLine, IsWrongReportLine, IsMalformedReport};
 ghost use Rattle.ht_texts.specs.ReportReading.{ReportReading, ReportReadsTo, SameSearch, SaySame};
 
 /// The lines of vectors, each with its LF, are the test text of these vectors, and none of them is malformed: so a
@@ -83,4 +83,21 @@ pub fn report_lines_are_short()
     ensures { (c : Netlist) (representatives : List ℕ) (lines : List (List ℕ)) → IsCircuit c
         → AreClasses c representatives → HasShortNames c
         → IsReportFront c representatives lines → All IsShortLine lines }
+{}
+
+/// Where a report of a search begins with the first n lines of a text, none of them is wrong; the next is where no report
+/// has it after them; and if it is wrong, and the text doesn't get too long in the first n, it is the first wrong line.
+pub fn first_wrong_report_line()
+    ensures read { (c : Netlist) (representatives : List ℕ) (text : List ℕ) (n m : ℕ)
+        → IsReportFront c representatives (take n (lines_of text)) → n ≤ length (lines_of text)
+        → m ≤ n → ¬ IsNoReportLine c representatives text m }
+    ensures none { (c : Netlist) (representatives : List ℕ) (text : List ℕ) (n : ℕ)
+        → n < length (lines_of text)
+        → ¬ IsReportFront c representatives (take n (lines_of text) ++ line_at text (n + 1) ∷ [])
+        → IsNoReportLine c representatives text (n + 1) }
+    ensures first { (c : Netlist) (representatives : List ℕ) (text : List ℕ) (n : ℕ)
+        → IsReportFront c representatives (take n (lines_of text)) → n ≤ length (lines_of text)
+        → ((m : ℕ) → m ≤ n → ¬ IsTooLong text m)
+        → IsWrongReportLine c representatives text (n + 1)
+        → IsMalformedReport c representatives text (n + 1) }
 {}
