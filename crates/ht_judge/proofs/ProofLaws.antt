@@ -41,7 +41,7 @@ use Rattle.ht_judge.specs.declared.proof_judge.ProofJudge.TheInside.{Inside}
 use Rattle.ht_judge.specs.JudgingSteps.{DeniesDue, IsNeeded, IsOwnNumber, JudgesDue, JudgesEnded, begun_by, claimed, due_of, stopped_by}
 use Rattle.ht_judge.specs.ProofJudging.{AreCompleteProofs, IsBegun, IsClaimed, JudgesProofs, ProofJudgeView, ProofJudged, ProofLineHasCause}
 use Rattle.ht_judge.specs.ProofJudgeOf.{JudgesClaims, proof_judge_view}
-use Rattle.ht_judge.proofs.NextLaws.{IsNext, next_reading}
+use Rattle.ht_valid.proofs.NextLaws.{IsNext, next_reading}
 
 -- ---- entries that are whole
 

@@ -1,5 +1,6 @@
 -- What one line more makes of how far proofs are read.
 use Rattle.std.proofs.Common.{◌≡◌, ◌∙◌, ◌⊎◌, ℕ, List, [], ◌∷◌, ◌++◌, map, Option, Some, None, inl, inr, refl, sym, ap, subst}
+use Rattle.std.proofs.lemmas.List.{append-nil, append_assoc}
 use Rattle.std.proofs.lemmas.Option.{none-some, same_Some}
 use Rattle.ht_tree.specs.declared.entry.Entry.{Entry}
 use Rattle.ht_entries.specs.declared.entry_part.EntryPart.{EntryPart}
@@ -9,13 +10,13 @@ use Rattle.ht_entries.specs.declared.proof_line.ProofLine.TheVariants as line
 use Rattle.ht_entries.specs.declared.reader_state.LineStep.{LineStep}
 use Rattle.ht_entries.specs.declared.reader_state.ReaderState.TheVariants.{AfterHead, InEntry}
 use Rattle.ht_entries.specs.ProofLines.{line_text, IsProofLine}
-use Rattle.ht_entries.specs.ProofReading.{ProofReading, before_first, after_first, within_entry, after_last, lines_taken, closed_of, ProofReadsTo}
+use Rattle.ht_entries.specs.ProofReading.{ProofReading, before_first, after_first, within_entry, after_last, lines_taken, closed_of, IsProofReading, ProofReadsTo}
 use Rattle.ht_entries.specs.ProofSteps.{close_entry, entry_of, go_on, grow, grown_or, step_to, take_line}
 use Rattle.ht_entries.specs.ReaderStands.{kept_of}
 use Rattle.ht_entries.proofs.GrowLaws.{mapped_is}
 use Rattle.ht_entries.proofs.MalformedLaws.{AreLines, reading_has_lines, texts_same}
 use Rattle.ht_entries.proofs.ReadBackLaws.{read_back}
-use Rattle.ht_entries.proofs.ReadingLaws.{after_append, after_one, read_line, read_lines, reading_after, with_ended}
+use Rattle.ht_entries.proofs.ReadingLaws.{after_append, after_lines, after_one, no_reading, read_line, read_lines, reading_after, with_ended}
 use Rattle.ht_entries.proofs.TakenLaws.{takes_line}
 
 -- the line belongs to the entry
@@ -129,3 +130,94 @@ next_reading before bytes old new from to =
     let m = mapped_is (reading_after (closed_of old)) (take_line (kept_of old) last.last) new step in
     subst (IsNext old) m.is
     (step_next old last.last m.from m.has (takes_line old last.last m.from from.readable are.1 m.has).ends)
+
+-- ---- lines up to the end
+
+-- the entries that are whole stay so
+pub record Extends (at there : ProofReading) : Type 0 where
+  pub more : List Numbered
+  pub closed_is : closed_of there ≡ closed_of at ++ more
+
+-- the entry whose lines are read is the next one
+pub record EndsWithin (closed : List Numbered) (number : ℕ) (all : List Numbered) : Type 0 where
+  pub entry : Entry
+  pub more : List Numbered
+  pub all_is : all ≡ closed ++ record { number = number; entry = entry } ∷ more
+
+step_extends : (at mid : ProofReading) → IsNext at mid → Extends at mid
+step_extends before_first mid next = record { more = []; closed_is = next }
+step_extends after_first mid next = record { more = []; closed_is = next }
+step_extends (within_entry closed number p) mid (inl grows) =
+    record { more = []; closed_is = ap closed_of grows.same ∙ sym (append-nil closed) }
+step_extends (within_entry closed number p) mid (inr ends) =
+    record { more = record { number = number; entry = ends.entry } ∷ []; closed_is = ends.closed_is }
+step_extends (after_last closed) mid next = absurd next
+
+extends_on : (at mid there : ProofReading) → Extends at mid → Extends mid there → Extends at there
+extends_on at mid there first second = record {
+  more = first.more ++ second.more;
+  closed_is = second.closed_is
+      ∙ (ap (λ l. l ++ second.more) first.closed_is ∙ append_assoc (closed_of at) first.more second.more);
+}
+
+-- where a line leads to
+record StepsTo (at mid : ProofReading) : Type 0 where
+  readable : IsProofReading mid
+  next : IsNext at mid
+
+steps_to : (at mid : ProofReading) (l : ProofLine) → IsProofReading at → IsProofLine l → read_line at l ≡ Some mid
+    → StepsTo at mid
+steps_to at mid l readable is step =
+    let m = mapped_is (reading_after (closed_of at)) (take_line (kept_of at) l) mid step in
+    let taken = takes_line at l m.from readable is m.has in
+    subst (StepsTo at) m.is (record { readable = taken.readable; next = step_next at l m.from m.has taken.ends })
+
+not_last : (closed : List Numbered) (number : ℕ) (p : EntryPart) (all : List Numbered)
+    → ¬ ◌≡◌ {A = ProofReading} (within_entry closed number p) (after_last all)
+not_last closed number p all same = cc
+
+-- the line that comes next in a list that is read to somewhere
+first_step : (there : ProofReading) (rest : List ProofLine) (mid : Option ProofReading)
+    → after_lines mid rest ≡ Some there
+    → (one : ProofReading) × (mid ≡ Some one) × (after_lines (Some one) rest ≡ Some there)
+first_step there rest None read = absurd (none-some there (sym (no_reading rest) ∙ read))
+first_step there rest (Some one) read = (one, refl, read)
+
+pub reads_on : (at there : ProofReading) (rest : List ProofLine) → IsProofReading at → AreLines rest
+    → after_lines (Some at) rest ≡ Some there → Extends at there
+reads_on at there [] readable are read =
+    record { more = []; closed_is = ap closed_of (sym (same_Some at there read)) ∙ sym (append-nil (closed_of at)) }
+reads_on at there (l ∷ rest) readable are read =
+    let first = first_step there rest (read_line at l) read in
+    let step = steps_to at first.0 l readable are.0 first.1 in
+    extends_on at first.0 there (step_extends at first.0 step.next)
+    (reads_on first.0 there rest step.readable are.1 first.2)
+
+pub ends_within : (closed : List Numbered) (number : ℕ) (p : EntryPart) (all : List Numbered) (rest : List ProofLine)
+    → IsProofReading (within_entry closed number p) → AreLines rest
+    → after_lines (Some (within_entry closed number p)) rest ≡ Some (after_last all) → EndsWithin closed number all
+ends_within closed number p all [] readable are read = absurd (not_last closed number p all
+    (same_Some (within_entry closed number p) (after_last all) read))
+ends_within closed number p all (l ∷ rest) readable are read =
+    let at : ProofReading = within_entry closed number p in
+    let first = first_step (after_last all) rest (read_line at l) read in
+    let step = steps_to at first.0 l readable are.0 first.1 in
+    elim step.next [
+      | inl grows ↦ ends_within closed number grows.part all rest (subst IsProofReading grows.same step.readable) are.1
+          (subst (λ x. after_lines (Some x) rest ≡ Some (after_last all)) grows.same first.2)
+      | inr ends ↦
+          let later = reads_on first.0 (after_last all) rest step.readable are.1 first.2 in
+          let last : Numbered = record { number = number; entry = ends.entry } in record {
+            entry = ends.entry;
+            more = later.more;
+            all_is = later.closed_is
+                ∙ (ap (λ l. l ++ later.more) ends.closed_is ∙ append_assoc closed (last ∷ []) later.more);
+          }
+    ]
+
+-- after the end no line is read
+pub none_after_last : (closed all : List Numbered) (rest : List ProofLine)
+    → after_lines (Some (after_last closed)) rest ≡ Some (after_last all) → closed ≡ all
+none_after_last closed all [] read = ap closed_of (same_Some (after_last closed) (after_last all) read)
+none_after_last closed all (l ∷ rest) read =
+    absurd (none-some (after_last all) (sym (no_reading rest) ∙ read))
