@@ -1,0 +1,4 @@
+pub mod OperationLaws
+pub mod LaneLaws
+pub mod StuckLaws
+pub mod QueryLaws

@@ -1,0 +1,225 @@
+-- What the operations on rows of bits do in each lane.
+use Rattle.std.specs.Prelude.{bit_and, bit_or}
+use Rattle.std.proofs.Common.{◌≡◌, ◌<◌, ◌^◌, ◌∙◌, ◌&&◌, ◌||◌, ap, sym, ℕ, zero, suc, cond, eqb, Bool, true, false, refl, arith, min, max, ◌≤◌, ◌⊎◌, inl, inr}
+use Rattle.std.proofs.lemmas.List.{ext_get_or}
+use Rattle.std.proofs.lemmas.Bool.Decides.{nat_tests}
+use Rattle.std.proofs.lemmas.List.FromFn.{length-map-range_with_len}
+use Rattle.std.proofs.lemmas.Nat.Bits.{same_from_bits, bit_at-lt, bit_at_and, bit_at_or, bit_at-zero, bit_at_above}
+use Rattle.std.proofs.lemmas.Nat.{or_lt, and_le_l}
+use Rattle.ht_tern.specs.declared.tern.Tern.{Tern}
+use Rattle.ht_tern.specs.declared.tern.Tern.TheVariants.{Zero, One, Unk}
+use Rattle.ht_tern.specs.Gate.{complement_of, and_of, or_of, xor_of}
+use Rattle.ht_lanes.specs.Lanes.{lane, each_lane, lane_operations, is_set}
+use Rattle.ht_lanes.specs.Rows.{AreApart, value_at, lanes_of}
+use Rattle.ht_lanes.specs.Inverse.{apart_at, lane_is, lane_of_each}
+
+max_test : (x y : ℕ) → x < 2 → y < 2 → eqb (max x y) 1 ≡ (eqb x 1 || eqb y 1)
+max_test zero zero h k = refl
+max_test zero (suc zero) h k = refl
+max_test zero (suc (suc y)) h k = absurd (omega (arith, k))
+max_test (suc zero) zero h k = refl
+max_test (suc zero) (suc zero) h k = refl
+max_test (suc zero) (suc (suc y)) h k = absurd (omega (arith, k))
+max_test (suc (suc x)) y h k = absurd (omega (arith, h))
+
+min_test : (x y : ℕ) → x < 2 → y < 2 → eqb (min x y) 1 ≡ (eqb x 1 && eqb y 1)
+min_test zero zero h k = refl
+min_test zero (suc zero) h k = refl
+min_test zero (suc (suc y)) h k = absurd (omega (arith, k))
+min_test (suc zero) zero h k = refl
+min_test (suc zero) (suc zero) h k = refl
+min_test (suc zero) (suc (suc y)) h k = absurd (omega (arith, k))
+min_test (suc (suc x)) y h k = absurd (omega (arith, h))
+
+pub set_or : (a b k : ℕ) → is_set (bit_or a b) k ≡ (is_set a k || is_set b k)
+set_or a b k = ap (λ n. eqb n 1) (bit_at_or a b k) ∙ max_test _ _ (bit_at-lt a k) (bit_at-lt b k)
+
+pub set_and : (a b k : ℕ) → is_set (bit_and a b) k ≡ (is_set a k && is_set b k)
+set_and a b k = ap (λ n. eqb n 1) (bit_at_and a b k) ∙ min_test _ _ (bit_at-lt a k) (bit_at-lt b k)
+
+-- no row of bits meets another where no place has both
+unset : (x : ℕ) → x < 2 → eqb x 1 ≡ false → x ≡ 0
+unset zero h k = refl
+unset (suc zero) h k = cc
+unset (suc (suc x)) h k = absurd (omega (arith, h))
+
+pub apart_from : (a b : ℕ) → ((k : ℕ) → (is_set a k && is_set b k) ≡ false) → bit_and a b ≡ 0
+apart_from a b h = same_from_bits (bit_and a b) 0 (λ k. unset _ (bit_at-lt (bit_and a b) k) (set_and a b k ∙ h k)
+    ∙ sym (bit_at-zero k))
+
+-- the value that two bits tell
+abbrev pub told : Bool → Bool → Tern
+told a b = cond a Zero (cond b One Unk)
+
+and_told : (a b a' b' : Bool) → (a && b) ≡ false → (a' && b') ≡ false
+    → told (a || a') (b && b') ≡ and_of (told a b) (told a' b')
+and_told true true a' b' h k = cc
+and_told true false a' b' h k = refl
+and_told false true true true h k = cc
+and_told false true true false h k = refl
+and_told false true false b' h k = refl
+and_told false false true true h k = cc
+and_told false false true false h k = refl
+and_told false false false true h k = refl
+and_told false false false false h k = refl
+
+or_told : (a b a' b' : Bool) → (a && b) ≡ false → (a' && b') ≡ false
+    → told (a && a') (b || b') ≡ or_of (told a b) (told a' b')
+or_told true true a' b' h k = cc
+or_told true false true true h k = cc
+or_told true false true false h k = refl
+or_told true false false b' h k = refl
+or_told false true a' b' h k = refl
+or_told false false true true h k = cc
+or_told false false true false h k = refl
+or_told false false false true h k = refl
+or_told false false false false h k = refl
+
+xor_told : (a b a' b' : Bool) → (a && b) ≡ false → (a' && b') ≡ false
+    → told ((a && a') || (b && b')) ((a && b') || (b && a')) ≡ xor_of (told a b) (told a' b')
+xor_told true true a' b' h k = cc
+xor_told true false true true h k = cc
+xor_told true false true false h k = refl
+xor_told true false false true h k = refl
+xor_told true false false false h k = refl
+xor_told false true true true h k = cc
+xor_told false true true false h k = refl
+xor_told false true false true h k = refl
+xor_told false true false false h k = refl
+xor_told false false a' b' h k = refl
+
+not_told : (a b : Bool) → (a && b) ≡ false → told b a ≡ complement_of (told a b)
+not_told true true h = cc
+not_told true false h = refl
+not_told false true h = refl
+not_told false false h = refl
+
+-- the same of the bits of words
+abbrev Apart : ℕ → ℕ → Type 0
+Apart a b = (k : ℕ) → (is_set a k && is_set b k) ≡ false
+
+-- words with the same lanes are one
+pub lanes_same : (f g : ℕ → Tern) → ((k : ℕ) → k < 64 → f k ≡ g k) → each_lane f ≡ each_lane g
+lanes_same f g h =
+    let n = length-map-range_with_len f 0 64 in
+    ext_get_or Unk (each_lane f) (each_lane g) (n ∙ sym (length-map-range_with_len g 0 64))
+    (λ k inside. let below : k < 64 = omega (arith, n, inside) in lane_of_each f k below
+    ∙ (h k below ∙ sym (lane_of_each g k below)))
+
+lanes_two : (op : Tern → Tern → Tern) (z o a b c d : ℕ)
+    → ((k : ℕ) → value_at z o k ≡ op (value_at a b k) (value_at c d k))
+    → lanes_of z o ≡ each_lane (λ k. op (lane (lanes_of a b) k) (lane (lanes_of c d) k))
+unfolding lanes_of
+lanes_two op z o a b c d h =
+    lanes_same (value_at z o) (λ k. op (lane (lanes_of a b) k) (lane (lanes_of c d) k))
+    (λ k below. h k ∙ (λ i. op (sym (lane_is a b k below) i) (sym (lane_is c d k below) i)))
+
+pub and_lanes : (a b c d : ℕ) → AreApart a b → AreApart c d
+    → lanes_of (bit_or a c) (bit_and b d) ≡ lane_operations.conjunction (lanes_of a b) (lanes_of c d)
+and_lanes a b c d p q =
+    lanes_two and_of (bit_or a c) (bit_and b d) a b c d
+    (λ k. (λ i. told (set_or a c k i) (set_and b d k i))
+    ∙ and_told (is_set a k) (is_set b k) (is_set c k) (is_set d k) (apart_at a b k p.apart) (apart_at c d k q.apart))
+
+pub or_lanes : (a b c d : ℕ) → AreApart a b → AreApart c d
+    → lanes_of (bit_and a c) (bit_or b d) ≡ lane_operations.disjunction (lanes_of a b) (lanes_of c d)
+or_lanes a b c d p q =
+    lanes_two or_of (bit_and a c) (bit_or b d) a b c d
+    (λ k. (λ i. told (set_and a c k i) (set_or b d k i)) ∙ or_told (is_set a k) (is_set b k) (is_set c k) (is_set d k)
+    (apart_at a b k p.apart) (apart_at c d k q.apart))
+
+set_two : (a b c d k : ℕ) → is_set (bit_or (bit_and a b) (bit_and c d)) k ≡
+    ((is_set a k && is_set b k) || (is_set c k && is_set d k))
+set_two a b c d k = set_or (bit_and a b) (bit_and c d) k ∙ (λ i. set_and a b k i || set_and c d k i)
+
+pub xor_lanes : (a b c d : ℕ) → AreApart a b → AreApart c d
+    → lanes_of (bit_or (bit_and a c) (bit_and b d)) (bit_or (bit_and a d) (bit_and b c)) ≡ lane_operations.parity
+    (lanes_of a b) (lanes_of c d)
+xor_lanes a b c d p q =
+    lanes_two xor_of (bit_or (bit_and a c) (bit_and b d)) (bit_or (bit_and a d) (bit_and b c)) a b c d
+    (λ k. (λ i. told (set_two a c b d k i) (set_two a d b c k i))
+    ∙ xor_told (is_set a k) (is_set b k) (is_set c k) (is_set d k) (apart_at a b k p.apart) (apart_at c d k q.apart))
+
+pub not_lanes : (a b : ℕ) → AreApart a b → lanes_of b a ≡ lane_operations.complement (lanes_of a b)
+unfolding lanes_of
+not_lanes a b p =
+    lanes_same (value_at b a) (λ k. complement_of (lane (lanes_of a b) k))
+    (λ k below. not_told (is_set a k) (is_set b k) (apart_at a b k p.apart)
+    ∙ ap complement_of (sym (lane_is a b k below)))
+
+-- The results of the operations have no lane that is both.
+not_apart_told : (a b : Bool) → (a && b) ≡ false → (b && a) ≡ false
+not_apart_told true true h = cc
+not_apart_told true false h = refl
+not_apart_told false true h = refl
+not_apart_told false false h = refl
+
+and_apart_told : (a b c d : Bool) → (a && b) ≡ false → (c && d) ≡ false → ((a || c) && (b && d)) ≡ false
+and_apart_told true true c d h k = cc
+and_apart_told true false c d h k = refl
+and_apart_told false b true true h k = cc
+and_apart_told false true true false h k = refl
+and_apart_told false false true false h k = refl
+and_apart_told false b false d h k = refl
+
+or_apart_told : (a b c d : Bool) → (a && b) ≡ false → (c && d) ≡ false → ((a && c) && (b || d)) ≡ false
+or_apart_told true true c d h k = cc
+or_apart_told true false true true h k = cc
+or_apart_told true false true false h k = refl
+or_apart_told true false false d h k = refl
+or_apart_told false b c d h k = refl
+
+xor_apart_told : (a b c d : Bool) → (a && b) ≡ false → (c && d) ≡ false
+    → (((a && c) || (b && d)) && ((a && d) || (b && c))) ≡ false
+xor_apart_told true true c d h k = cc
+xor_apart_told true false true true h k = cc
+xor_apart_told true false true false h k = refl
+xor_apart_told true false false d h k = refl
+xor_apart_told false true true true h k = cc
+xor_apart_told false true true false h k = refl
+xor_apart_told false true false true h k = refl
+xor_apart_told false true false false h k = refl
+xor_apart_told false false c d h k = refl
+
+pub apart_of : (a b : ℕ) → a < 2 ^ 64 → b < 2 ^ 64 → ((k : ℕ) → (is_set a k && is_set b k) ≡ false) → AreApart a b
+apart_of a b f g h = record { zeros_fit = f; ones_fit = g; apart = apart_from a b h }
+
+pub not_apart : (a b : ℕ) → AreApart a b → AreApart b a
+not_apart a b p = apart_of b a p.ones_fit p.zeros_fit
+    (λ k. not_apart_told (is_set a k) (is_set b k) (apart_at a b k p.apart))
+
+pub and_fits : (a b : ℕ) → a < 2 ^ 64 → bit_and a b < 2 ^ 64
+and_fits a b h = let l = and_le_l a b in omega arith
+
+pub and_apart : (a b c d : ℕ) → AreApart a b → AreApart c d → AreApart (bit_or a c) (bit_and b d)
+and_apart a b c d p q =
+    apart_of (bit_or a c) (bit_and b d) (or_lt 64 a c p.zeros_fit q.zeros_fit) (and_fits b d p.ones_fit)
+    (λ k. (λ i. set_or a c k i && set_and b d k i) ∙ and_apart_told (is_set a k) (is_set b k) (is_set c k)
+    (is_set d k) (apart_at a b k p.apart) (apart_at c d k q.apart))
+
+pub or_apart : (a b c d : ℕ) → AreApart a b → AreApart c d → AreApart (bit_and a c) (bit_or b d)
+or_apart a b c d p q =
+    apart_of (bit_and a c) (bit_or b d) (and_fits a c p.zeros_fit) (or_lt 64 b d p.ones_fit q.ones_fit)
+    (λ k. (λ i. set_and a c k i && set_or b d k i) ∙ or_apart_told (is_set a k) (is_set b k) (is_set c k) (is_set d k)
+    (apart_at a b k p.apart) (apart_at c d k q.apart))
+
+pub xor_apart : (a b c d : ℕ) → AreApart a b → AreApart c d
+    → AreApart (bit_or (bit_and a c) (bit_and b d)) (bit_or (bit_and a d) (bit_and b c))
+xor_apart a b c d p q =
+    apart_of (bit_or (bit_and a c) (bit_and b d)) (bit_or (bit_and a d) (bit_and b c))
+    (or_lt 64 _ _ (and_fits a c p.zeros_fit) (and_fits b d p.ones_fit))
+    (or_lt 64 _ _ (and_fits a d p.zeros_fit) (and_fits b c p.ones_fit))
+    (λ k. (λ i. set_two a c b d k i && set_two a d b c k i) ∙ xor_apart_told (is_set a k) (is_set b k) (is_set c k)
+    (is_set d k) (apart_at a b k p.apart) (apart_at c d k q.apart))
+
+le_or_lt : (a b : ℕ) → (a ≤ b) ⊎ (b < a)
+le_or_lt a b = grind (arith, nat_tests)
+
+-- the same, where the lanes alone are looked at
+pub apart_below : (a b : ℕ) → a < 2 ^ 64 → b < 2 ^ 64 → ((k : ℕ) → k < 64 → (is_set a k && is_set b k) ≡ false)
+    → AreApart a b
+apart_below a b f g h =
+    apart_of a b f g (λ k. elim (le_or_lt 64 k) [
+      | inl above ↦ ap (λ n. eqb n 1 && is_set b k) (bit_at_above a 64 k f above)
+      | inr below ↦ h k below
+    ])

@@ -1,0 +1,36 @@
+-- How two rows of bits stand for a word: the lanes that are Zero, and the lanes that are One.
+use Rattle.std.specs.Prelude.{◌≡◌, ◌<◌, ◌^◌, ℕ, map, Bool, true, false, bit_and, if◌then◌else◌}
+use Rattle.std.specs.Simd.Lanes.{mask_l}
+use Rattle.ht_tern.specs.declared.tern.Tern.{Tern}
+use Rattle.ht_tern.specs.declared.tern.Tern.TheVariants.{Zero, One, Unk}
+use Rattle.ht_lanes.specs.Lanes.{Lanes, each_lane, is_set}
+
+-- the value of lane k
+abbrev pub value_at : ℕ → ℕ → ℕ → Tern
+value_at zeros ones k = if is_set zeros k then Zero else (if is_set ones k then One else Unk)
+
+unfoldable pub lanes_of : ℕ → ℕ → Lanes
+lanes_of zeros ones = each_lane (value_at zeros ones)
+
+-- two rows of 64 bits, where no lane is both Zero and One
+pub record AreApart (zeros ones : ℕ) : Type 0 where
+  pub zeros_fit : zeros < 2 ^ 64
+  pub ones_fit : ones < 2 ^ 64
+  pub apart : bit_and zeros ones ≡ 0
+
+abbrev pub is_zero : Tern → Bool
+is_zero Zero = true
+is_zero One = false
+is_zero Unk = false
+
+abbrev pub is_one : Tern → Bool
+is_one Zero = false
+is_one One = true
+is_one Unk = false
+
+-- the rows of a word
+abbrev pub zeros_of : Lanes → ℕ
+zeros_of w = mask_l (map is_zero w)
+
+abbrev pub ones_of : Lanes → ℕ
+ones_of w = mask_l (map is_one w)
