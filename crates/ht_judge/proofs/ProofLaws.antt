@@ -50,12 +50,13 @@ all_below : (entries : List Numbered) (k : ℕ) → Rises (numbers_of entries ++
     → All (λ (e : Numbered). e.number < k) entries
 all_below [] k h = All-nil (λ (e : Numbered). e.number < k)
 all_below (e ∷ []) k h =
-    All-cons (λ (x : Numbered). x.number < k) e [] (h.next 0 (omega arith)) (all_below [] k (rises_tail e.number (k ∷ [])
-    h))
+    All-cons (λ (x : Numbered). x.number < k) e [] (h.next 0 (omega arith))
+    (all_below [] k (rises_tail e.number (k ∷ []) h))
 all_below (e ∷ f ∷ entries) k h =
     let rest = all_below (f ∷ entries) k (rises_tail e.number (numbers_of (f ∷ entries) ++ k ∷ []) h) in
     let here : e.number < f.number = h.next 0 (omega arith) in
-    let there : f.number < k = All-contains (λ (x : Numbered). x.number < k) (f ∷ entries) f rest (0, omega arith, refl) in
+    let there : f.number < k =
+    All-contains (λ (x : Numbered). x.number < k) (f ∷ entries) f rest (0, omega arith, refl) in
     All-cons (λ (x : Numbered). x.number < k) e (f ∷ entries) (omega (arith, here, there)) rest
 
 one_contained : (x y : Numbered) → Contains (x ∷ []) y → x ≡ y
@@ -225,7 +226,8 @@ module _ (v : ProofJudgeView) (content : Content) (is : IsClaimed v content) whe
   as_content : (e : Numbered) → IsBacking v.circuit v.representatives (claimed v) e
       → IsBacking v.circuit v.representatives content e
   as_content e backing =
-      subst (λ (x : Claim). IsBacking v.circuit v.representatives (content_of content x) e) (sym (claim_is v content is))
+      subst (λ (x : Claim). IsBacking v.circuit v.representatives (content_of content x) e)
+      (sym (claim_is v content is))
       (record { own = backing.own; counted = backing.counted; backs = backing.backs })
 
   as_claimed : (e : Numbered) → IsBacking v.circuit v.representatives content e
@@ -363,7 +365,8 @@ module _ (a : Inside) (r : ProofReaderView) (line : List ℕ) (ended : Option Nu
   ended_stops error judged = stops a r line error
       (λ content before j few. wrong_cause content before j few ended refl error judged)
 
-  module _ (u : Unit {0}) (right : JudgesEnded (proof_judge_view a) ended (Ok u)) (keeps : JudgesClaims a) (stand_is : Stand)
+  module _ (u : Unit {0}) (right : JudgesEnded (proof_judge_view a) ended (Ok u)) (keeps : JudgesClaims a)
+      (stand_is : Stand)
       (stands : (lines : List (List ℕ)) (at : ProofReading) → ProofStands r lines at → stand_is ≡ stand_of at)
       (due : ℕ) (is_due : due ≡ due_of stand_is (length a.classes.now)) where
     listed : (i : ℕ) → IsOwn a.circuit.now a.classes.now i → i < length a.classes.now

@@ -40,8 +40,8 @@ IsBegun after_first begun = begun ≡ 0
 IsBegun (within_entry closed number p) begun = begun ≡ number
 IsBegun (after_last closed) begun = Unit {0}
 
--- The judge is live and stands for these lines: they begin a proofs text, each entry that is whole backs what the report
--- says of its fault, and none that is due is missing.
+-- The judge is live and stands for these lines: they begin a proofs text, each entry that is whole backs what the
+-- report says of its fault, and none that is due is missing.
 pub record JudgesProofs (v : ProofJudgeView) (content : Content) (lines : List (List ℕ)) : Type 0 where
   pub live : IsTrue v.live
   pub claimed : IsClaimed v content
