@@ -39,9 +39,9 @@ use Rattle.ht_judge.specs.declared.judge_error.JudgeError.{JudgeError}
 use Rattle.ht_judge.specs.declared.judge_error.JudgeError.TheVariants.{Denied, NoMemory}
 use Rattle.ht_judge.specs.declared.proof_judge.ProofJudge.TheInside.{Inside}
 use Rattle.ht_judge.specs.JudgingSteps.{DeniesDue, IsNeeded, IsOwnNumber, JudgesDue, JudgesEnded, begun_by, claimed, due_of, stopped_by}
-use Rattle.ht_judge.specs.ProofJudging.{AreCompleteProofs, IsBegun, IsClaimed, JudgesProofs, ProofJudgeView, ProofJudged, ProofLineHasCause}
+use Rattle.ht_judge.specs.ProofJudging.{AreCompleteProofs, HasBegun, IsClaimed, JudgesProofs, ProofJudgeView, ProofJudged, ProofLineHasCause}
 use Rattle.ht_judge.specs.ProofJudgeOf.{JudgesClaims, proof_judge_view}
-use Rattle.ht_valid.proofs.NextLaws.{IsNext, next_reading}
+use Rattle.ht_valid.proofs.NextLaws.{IsNextReading, next_reading}
 
 -- ---- entries that are whole
 
@@ -127,7 +127,7 @@ has_or_not (e ∷ entries) i = elim (equal_or_not e.number (i + 1)) [
 
 module _ (c : Netlist) (representatives : List ℕ) (content : Content) where
   -- none is missing of those whose number isn't above that of the last entry begun
-  missing_before : (old new : ProofReading) (begun i : ℕ) → IsNext old new → IsBegun old begun → i < begun
+  missing_before : (old new : ProofReading) (begun i : ℕ) → IsNextReading old new → HasBegun old begun → i < begun
       → ((k : ℕ) → ¬ IsMissing c representatives content old k) → ¬ IsMissing c representatives content new i
   missing_before before_first new begun i next is low complete missing = omega (arith, is, low)
   missing_before after_first new begun i next is low complete missing = omega (arith, is, low)
@@ -154,7 +154,7 @@ module _ (c : Netlist) (representatives : List ℕ) (content : Content) where
   missing_before (after_last closed) new begun i next is low complete missing = absurd next
 
 -- and none of those above it has an entry
-none_after : (old new : ProofReading) (begun i : ℕ) → IsProofReading old → IsNext old new → IsBegun old begun
+none_after : (old new : ProofReading) (begun i : ℕ) → IsProofReading old → IsNextReading old new → HasBegun old begun
     → begun ≤ i → ¬ HasEntry (closed_of new) i
 none_after before_first new begun i readable next is above has = no_entries (closed_of new) i next has
 none_after after_first new begun i readable next is above has = no_entries (closed_of new) i next has
@@ -173,8 +173,8 @@ not_head : (number : ℕ) → ¬ (stand.Head ≡ stand.Entry number)
 not_head number same = cc
 
 -- no line leads back to where no entry was begun
-begun_still : (old new : ProofReading) (begun : ℕ) → closed_of new ≡ [] → stand_of new ≡ stand.Head → IsNext old new
-    → IsBegun old begun → begun ≡ 0
+begun_still : (old new : ProofReading) (begun : ℕ) → closed_of new ≡ [] → stand_of new ≡ stand.Head
+    → IsNextReading old new → HasBegun old begun → begun ≡ 0
 begun_still before_first new begun none head next is = is
 begun_still after_first new begun none head next is = is
 begun_still (within_entry closed number p) new begun none head (inl grows) is =
@@ -186,8 +186,8 @@ begun_still (within_entry closed number p) new begun none head (inr ends) is = a
 ))
 begun_still (after_last closed) new begun none head next is = absurd next
 
-begun_on : (old new : ProofReading) (begun : ℕ) → IsNext old new → IsBegun old begun
-    → IsBegun new (begun_by (stand_of new) begun)
+begun_on : (old new : ProofReading) (begun : ℕ) → IsNextReading old new → HasBegun old begun
+    → HasBegun new (begun_by (stand_of new) begun)
 begun_on old before_first begun next is = begun_still old before_first begun refl refl next is
 begun_on old after_first begun next is = begun_still old after_first begun refl refl next is
 begun_on old (within_entry closed number p) begun next is = refl
@@ -432,7 +432,7 @@ module _ (a : Inside) (r : ProofReaderView) (line : List ℕ) (ended : Option Nu
             claimed = record { budget = j.claimed.budget; saids = j.claimed.saids };
             at = next.at;
             stands = next.stands;
-            begun = subst (IsBegun next.at) (sym (begun_is ∙ ap (λ s. begun_by s a.begun) stand_now))
+            begun = subst (HasBegun next.at) (sym (begun_is ∙ ap (λ s. begun_by s a.begun) stand_now))
                 (begun_on j.at next.at a.begun is_next j.begun);
             backed = backed_on v content j.claimed j.at next.at ended u next.ends right j.backed;
             complete = λ i missing. elim (cases_lt i a.begun) [
