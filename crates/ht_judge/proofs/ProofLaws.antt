@@ -39,9 +39,9 @@ use Rattle.ht_judge.specs.declared.judge_error.JudgeError.{JudgeError}
 use Rattle.ht_judge.specs.declared.judge_error.JudgeError.TheVariants.{Denied, NoMemory}
 use Rattle.ht_judge.specs.declared.proof_judge.ProofJudge.TheInside.{Inside}
 use Rattle.ht_judge.specs.JudgingSteps.{DeniesDue, IsNeeded, IsOwnNumber, JudgesDue, JudgesEnded, begun_by, claimed, due_of, stopped_by}
-use Rattle.ht_judge.specs.ProofJudging.{AreCompleteProofs, IsBegun, IsClaimed, JudgesProofs, ProofJudgeView, ProofJudged, ProofLineHasCause}
+use Rattle.ht_judge.specs.ProofJudging.{AreCompleteProofs, HasBegun, IsClaimed, JudgesProofs, ProofJudgeView, ProofJudged, ProofLineHasCause}
 use Rattle.ht_judge.specs.ProofJudgeOf.{JudgesClaims, proof_judge_view}
-use Rattle.ht_valid.proofs.NextLaws.{IsNext, next_reading}
+use Rattle.ht_valid.proofs.NextLaws.{IsNextReading, next_reading}
 
 -- ---- entries that are whole
 
@@ -50,12 +50,13 @@ all_below : (entries : List Numbered) (k : ℕ) → Rises (numbers_of entries ++
     → All (λ (e : Numbered). e.number < k) entries
 all_below [] k h = All-nil (λ (e : Numbered). e.number < k)
 all_below (e ∷ []) k h =
-    All-cons (λ (x : Numbered). x.number < k) e [] (h.next 0 (omega arith)) (all_below [] k (rises_tail e.number (k ∷ [])
-    h))
+    All-cons (λ (x : Numbered). x.number < k) e [] (h.next 0 (omega arith))
+    (all_below [] k (rises_tail e.number (k ∷ []) h))
 all_below (e ∷ f ∷ entries) k h =
     let rest = all_below (f ∷ entries) k (rises_tail e.number (numbers_of (f ∷ entries) ++ k ∷ []) h) in
     let here : e.number < f.number = h.next 0 (omega arith) in
-    let there : f.number < k = All-contains (λ (x : Numbered). x.number < k) (f ∷ entries) f rest (0, omega arith, refl) in
+    let there : f.number < k =
+    All-contains (λ (x : Numbered). x.number < k) (f ∷ entries) f rest (0, omega arith, refl) in
     All-cons (λ (x : Numbered). x.number < k) e (f ∷ entries) (omega (arith, here, there)) rest
 
 one_contained : (x y : Numbered) → Contains (x ∷ []) y → x ≡ y
@@ -126,7 +127,7 @@ has_or_not (e ∷ entries) i = elim (equal_or_not e.number (i + 1)) [
 
 module _ (c : Netlist) (representatives : List ℕ) (content : Content) where
   -- none is missing of those whose number isn't above that of the last entry begun
-  missing_before : (old new : ProofReading) (begun i : ℕ) → IsNext old new → IsBegun old begun → i < begun
+  missing_before : (old new : ProofReading) (begun i : ℕ) → IsNextReading old new → HasBegun old begun → i < begun
       → ((k : ℕ) → ¬ IsMissing c representatives content old k) → ¬ IsMissing c representatives content new i
   missing_before before_first new begun i next is low complete missing = omega (arith, is, low)
   missing_before after_first new begun i next is low complete missing = omega (arith, is, low)
@@ -153,7 +154,7 @@ module _ (c : Netlist) (representatives : List ℕ) (content : Content) where
   missing_before (after_last closed) new begun i next is low complete missing = absurd next
 
 -- and none of those above it has an entry
-none_after : (old new : ProofReading) (begun i : ℕ) → IsProofReading old → IsNext old new → IsBegun old begun
+none_after : (old new : ProofReading) (begun i : ℕ) → IsProofReading old → IsNextReading old new → HasBegun old begun
     → begun ≤ i → ¬ HasEntry (closed_of new) i
 none_after before_first new begun i readable next is above has = no_entries (closed_of new) i next has
 none_after after_first new begun i readable next is above has = no_entries (closed_of new) i next has
@@ -172,8 +173,8 @@ not_head : (number : ℕ) → ¬ (stand.Head ≡ stand.Entry number)
 not_head number same = cc
 
 -- no line leads back to where no entry was begun
-begun_still : (old new : ProofReading) (begun : ℕ) → closed_of new ≡ [] → stand_of new ≡ stand.Head → IsNext old new
-    → IsBegun old begun → begun ≡ 0
+begun_still : (old new : ProofReading) (begun : ℕ) → closed_of new ≡ [] → stand_of new ≡ stand.Head
+    → IsNextReading old new → HasBegun old begun → begun ≡ 0
 begun_still before_first new begun none head next is = is
 begun_still after_first new begun none head next is = is
 begun_still (within_entry closed number p) new begun none head (inl grows) is =
@@ -185,8 +186,8 @@ begun_still (within_entry closed number p) new begun none head (inr ends) is = a
 ))
 begun_still (after_last closed) new begun none head next is = absurd next
 
-begun_on : (old new : ProofReading) (begun : ℕ) → IsNext old new → IsBegun old begun
-    → IsBegun new (begun_by (stand_of new) begun)
+begun_on : (old new : ProofReading) (begun : ℕ) → IsNextReading old new → HasBegun old begun
+    → HasBegun new (begun_by (stand_of new) begun)
 begun_on old before_first begun next is = begun_still old before_first begun refl refl next is
 begun_on old after_first begun next is = begun_still old after_first begun refl refl next is
 begun_on old (within_entry closed number p) begun next is = refl
@@ -225,7 +226,8 @@ module _ (v : ProofJudgeView) (content : Content) (is : IsClaimed v content) whe
   as_content : (e : Numbered) → IsBacking v.circuit v.representatives (claimed v) e
       → IsBacking v.circuit v.representatives content e
   as_content e backing =
-      subst (λ (x : Claim). IsBacking v.circuit v.representatives (content_of content x) e) (sym (claim_is v content is))
+      subst (λ (x : Claim). IsBacking v.circuit v.representatives (content_of content x) e)
+      (sym (claim_is v content is))
       (record { own = backing.own; counted = backing.counted; backs = backing.backs })
 
   as_claimed : (e : Numbered) → IsBacking v.circuit v.representatives content e
@@ -363,7 +365,8 @@ module _ (a : Inside) (r : ProofReaderView) (line : List ℕ) (ended : Option Nu
   ended_stops error judged = stops a r line error
       (λ content before j few. wrong_cause content before j few ended refl error judged)
 
-  module _ (u : Unit {0}) (right : JudgesEnded (proof_judge_view a) ended (Ok u)) (keeps : JudgesClaims a) (stand_is : Stand)
+  module _ (u : Unit {0}) (right : JudgesEnded (proof_judge_view a) ended (Ok u)) (keeps : JudgesClaims a)
+      (stand_is : Stand)
       (stands : (lines : List (List ℕ)) (at : ProofReading) → ProofStands r lines at → stand_is ≡ stand_of at)
       (due : ℕ) (is_due : due ≡ due_of stand_is (length a.classes.now)) where
     listed : (i : ℕ) → IsOwn a.circuit.now a.classes.now i → i < length a.classes.now
@@ -429,7 +432,7 @@ module _ (a : Inside) (r : ProofReaderView) (line : List ℕ) (ended : Option Nu
             claimed = record { budget = j.claimed.budget; saids = j.claimed.saids };
             at = next.at;
             stands = next.stands;
-            begun = subst (IsBegun next.at) (sym (begun_is ∙ ap (λ s. begun_by s a.begun) stand_now))
+            begun = subst (HasBegun next.at) (sym (begun_is ∙ ap (λ s. begun_by s a.begun) stand_now))
                 (begun_on j.at next.at a.begun is_next j.begun);
             backed = backed_on v content j.claimed j.at next.at ended u next.ends right j.backed;
             complete = λ i missing. elim (cases_lt i a.begun) [

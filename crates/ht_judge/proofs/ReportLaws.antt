@@ -304,13 +304,13 @@ Stops a r line error =
 
 module _ (a : Inside) (r : ReportView) (line : List ℕ) (item : Item) (keeps : KeepsReport a) (live : IsTrue a.live)
     (called : ReportCalled a.reader r line (Ok item)) where
-  reader_stands : (list : List (List Bool)) (before : List (List ℕ)) (j : JudgesReport (report_judge_view a) list before)
-      → ReportStands a.reader before j.at
+  reader_stands : (list : List (List Bool)) (before : List (List ℕ))
+      → (j : JudgesReport (report_judge_view a) list before) → ReportStands a.reader before j.at
   reader_stands list before j = record {
     live = (keeps.stands live).2.live;
-    read = j.stands.read;
-    lines_read = j.stands.lines_read;
-    sums = j.stands.sums;
+    read = j.read;
+    lines_read = j.lines_read;
+    sums = j.sums;
   }
 
   judged : (list : List (List Bool)) (before : List (List ℕ)) (j : JudgesReport (report_judge_view a) list before)
@@ -318,7 +318,7 @@ module _ (a : Inside) (r : ReportView) (line : List ℕ) (item : Item) (keeps : 
   judged list before j =
       subst (Judged a list before j.at r.circuit) (sym called.representatives)
       (subst (λ c. Judged a list before j.at c a.reader.representatives) (sym called.circuit)
-      (record { first = j.first; old = j.stands.read; all = j.agree }))
+      (record { first = j.first; old = j.read; all = j.agree }))
 
   -- the reader stands for some lines after a line that it takes, and the budget of a head is one of a search
   pub has_lines : HasLines r
@@ -345,12 +345,9 @@ module _ (a : Inside) (r : ReportView) (line : List ℕ) (item : Item) (keeps : 
           live = refl;
           first = known.first;
           at = read_on j.at item;
-          stands = record {
-            live = refl;
-            read = new;
-            lines_read = next.stands.lines_read;
-            sums = next.stands.sums;
-          };
+          read = new;
+          lines_read = next.stands.lines_read;
+          sums = next.stands.sums;
           kept = subst (λ b. IsKept (read_on j.at item) b saids) (sym budget_is)
               (subst (IsKept (read_on j.at item) (budget_with item a.budget)) (sym saids_are) kept);
           agree = subst (AgreeAll r.circuit r.representatives before line list a.detections.now known.first)
@@ -414,9 +411,9 @@ line_refused a r line malformed error error_is keeps live called = subst (Stops 
   cause = λ list before j.
       let refused = called.refused before j.at (record {
         live = (keeps.stands live).2.live;
-        read = j.stands.read;
-        lines_read = j.stands.lines_read;
-        sums = j.stands.sums;
+        read = j.read;
+        lines_read = j.lines_read;
+        sums = j.sums;
       }) in
       (refused.number, inl refused.none);
 })
@@ -435,7 +432,7 @@ pub whole_is_true : (v : ReportJudgeView) (list : List (List Bool)) (lines : Lis
     → IsTrueReport v.circuit v.representatives list lines v.budget v.saids
 whole_is_true v list lines j (budget, saids, is) =
     let whole = subst (ReadAndKept v.circuit v.representatives lines v.budget v.saids) is
-    (record { read = j.stands.read; kept = j.kept }) in
+    (record { read = j.read; kept = j.kept }) in
     let report : IsSearchReport v.circuit v.representatives lines v.budget v.saids =
     subst (λ b. IsSearchReport v.circuit v.representatives lines b v.saids) (sym whole.kept.0)
     (subst (IsSearchReport v.circuit v.representatives lines budget) (sym whole.kept.1)
@@ -450,9 +447,9 @@ module _ (a : Inside) (keeps : KeepsReport a) (list : List (List Bool)) (lines :
   stands_at_end : ReportStands a.reader lines j.at
   stands_at_end = record {
     live = (keeps.stands j.live).2.live;
-    read = j.stands.read;
-    lines_read = j.stands.lines_read;
-    sums = j.stands.sums;
+    read = j.read;
+    lines_read = j.lines_read;
+    sums = j.sums;
   }
 
   pub whole_ends : (u : Unit {0})

@@ -34,20 +34,20 @@ pub record IsClaimed (v : ProofJudgeView) (content : Content) : Type 0 where
   pub saids : content.saids ≡ v.saids
 
 -- before the first entry none was begun
-abbrev pub IsBegun : ProofReading → ℕ → Type 0
-IsBegun before_first begun = begun ≡ 0
-IsBegun after_first begun = begun ≡ 0
-IsBegun (within_entry closed number p) begun = begun ≡ number
-IsBegun (after_last closed) begun = Unit {0}
+abbrev pub HasBegun : ProofReading → ℕ → Type 0
+HasBegun before_first begun = begun ≡ 0
+HasBegun after_first begun = begun ≡ 0
+HasBegun (within_entry closed number p) begun = begun ≡ number
+HasBegun (after_last closed) begun = Unit {0}
 
--- The judge is live and stands for these lines: they begin a proofs text, each entry that is whole backs what the report
--- says of its fault, and none that is due is missing.
+-- The judge is live and stands for these lines: they begin a proofs text, each entry that is whole backs what the
+-- report says of its fault, and none that is due is missing.
 pub record JudgesProofs (v : ProofJudgeView) (content : Content) (lines : List (List ℕ)) : Type 0 where
   pub live : IsTrue v.live
   pub claimed : IsClaimed v content
   pub at : ProofReading
   pub stands : ProofStands v.reader lines at
-  pub begun : IsBegun at v.begun
+  pub begun : HasBegun at v.begun
   pub backed : All (IsBacking v.circuit v.representatives content) (closed_of at)
   pub complete : (i : ℕ) → ¬ IsMissing v.circuit v.representatives content at i
 

@@ -10,8 +10,8 @@ use Rattle.ht_texts.specs.declared.said.Said.TheVariants.{Detected, Untestable, 
 use Rattle.ht_texts.specs.declared.total.Sums.{Sums}
 use Rattle.ht_texts.specs.Verdicts.{said_at}
 use Rattle.ht_texts.specs.SearchReports.{IsReportFront, IsSearchReport}
-use Rattle.ht_texts.specs.ReportReading.{ReportReading, before_report, in_report, after_report}
-use Rattle.ht_texts.specs.ReportStands.{ReportView, ReportStands}
+use Rattle.ht_texts.specs.ReportReading.{ReportReading, before_report, in_report, after_report, ReportReadsTo}
+use Rattle.ht_texts.specs.ReportStands.{sums_read}
 use Rattle.ht_grade.specs.Detections.{AreFirstDetections, place_at}
 use Rattle.ht_valid.specs.ValidFiles.{AgreesWithTests, IsOwn}
 use Rattle.ht_valid.specs.FirstTrouble.{ContradictsTests}
@@ -24,7 +24,7 @@ pub record ReportJudgeView : Type 0 where
   pub representatives : List ℕ
   -- the first detection of each representative
   pub detections : List (Option Place)
-  -- how many lines were read, of how many classes each verdict was said, and what the lines say: the budget, and what is
+  -- how many lines were read, of how many classes they say each verdict, and what they say: the budget, and what is
   -- said of the faults so far
   pub lines_read : ℕ
   pub sums : Sums
@@ -37,16 +37,6 @@ abbrev pub IsKept : ReportReading → ℕ → List Said → Type 0
 IsKept before_report budget saids = saids ≡ []
 IsKept (in_report said_budget said) budget saids = (budget ≡ said_budget) × (saids ≡ said)
 IsKept (after_report said_budget said) budget saids = (budget ≡ said_budget) × (saids ≡ said)
-
--- the reader that has read these lines
-abbrev pub reader_of : ReportJudgeView → ReportView
-reader_of v = record {
-  circuit = v.circuit;
-  representatives = v.representatives;
-  lines_read = v.lines_read;
-  sums = v.sums;
-  live = true;
-}
 
 -- what a line says of the faults: of one, or of none
 abbrev pub saids_in : Item → List Said
@@ -79,8 +69,10 @@ pub record JudgesReport (v : ReportJudgeView) (list : List (List Bool)) (lines :
   pub live : IsTrue v.live
   pub first : AreFirstDetections v.circuit v.representatives list v.detections
   pub at : ReportReading
-  pub stands : ReportStands (reader_of v) lines at
+  pub read : ReportReadsTo v.circuit v.representatives lines at
   pub kept : IsKept at v.budget v.saids
+  pub lines_read : v.lines_read ≡ length lines
+  pub sums : v.sums ≡ sums_read v.representatives at
   pub agree : (i : ℕ) → i < length v.saids → is_representative v.representatives i ≡ true
       → AgreesWithTests v.circuit list i (said_at v.saids i)
 

@@ -10,7 +10,8 @@ ghost use Rattle.ht_valid.specs.declared.trouble.Trouble.TheVariants as trouble;
 ghost use Rattle.ht_judge.specs.declared.judge_error.JudgeError.TheVariants as error;
 ghost use Rattle.ht_judge.specs.ProofJudging.{IsClaimed, JudgesProofs, ProofJudged};
 ghost use Rattle.ht_judge.specs.ProofJudging.{AreCompleteProofs, ProofEndHasCause};
-ghost use Rattle.ht_judge.specs.JudgingSteps.{IsFirstNeeded, IsNeeded, IsOwnNumber, JudgesDue, JudgesEnded, JudgesEntry};
+ghost use Rattle.ht_judge.specs.JudgingSteps.{IsFirstNeeded, IsNeeded, IsOwnNumber};
+ghost use Rattle.ht_judge.specs.JudgingSteps.{JudgesDue, JudgesEnded, JudgesEntry};
 ghost use Rattle.ht_judge.specs.JudgingSteps.{begun_by, due_of, stopped_by};
 
 use crate::judge_error::JudgeError;
@@ -175,7 +176,8 @@ impl<'c> ProofJudge<'c> {
         requires classes { AreClasses circuit.now classes.now }
         requires budget { IsBudget claims.now.budget }
         requires each { length claims.now.saids.items ≡ length (faults_of circuit.now) }
-        ensures stands { (content : Content) → IsClaimed result content → JudgesProofs result content [] }
+        ensures stands { (content : Content) → IsClaimed result content
+            → JudgesProofs result content [] }
         ensures circuit { result.circuit ≡ circuit.now }
         ensures classes { result.representatives ≡ classes.now }
         ensures budget { result.budget ≡ claims.now.budget }
@@ -270,10 +272,13 @@ impl<'c> ProofJudge<'c> {
     /// # Errors
     /// `Denied` at the line after the last, exactly where the proofs aren't whole.
     pub fn end(&self) -> Result<(), JudgeError>
-        ensures ok { (content : Content) (lines : List (List ℕ)) → JudgesProofs self.now content lines
-            → IfOk result (λ u. AreCompleteProofs self.now.circuit self.now.representatives content lines) }
-        ensures err { (content : Content) (lines : List (List ℕ)) → JudgesProofs self.now content lines
-            → length lines < max_text_bytes → IfErr result (ProofEndHasCause lines) }
+        ensures ok { (content : Content) (lines : List (List ℕ))
+            → JudgesProofs self.now content lines
+            → IfOk result (λ u. AreCompleteProofs self.now.circuit self.now.representatives content
+            lines) }
+        ensures err { (content : Content) (lines : List (List ℕ))
+            → JudgesProofs self.now content lines → length lines < max_text_bytes
+            → IfErr result (ProofEndHasCause lines) }
     {
         match self.reader.end() {
             Ok(()) => Ok(()),

@@ -189,10 +189,11 @@ impl<'c> ReportJudge<'c> {
         ensures budget { IfOk result (λ claims. IsBudget claims.budget) }
         ensures ok { (list : List (List Bool)) (lines : List (List ℕ))
             → JudgesReport self.entry list lines
-            → IfOk result (λ claims. IsTrueReport self.entry.circuit self.entry.representatives list lines
-            claims.budget claims.saids.items) }
+            → IfOk result (λ claims. IsTrueReport self.entry.circuit self.entry.representatives
+            list lines claims.budget claims.saids.items) }
         ensures err { (list : List (List Bool)) (lines : List (List ℕ))
-            → JudgesReport self.entry list lines → IfErr result (ReportEndHasCause self.entry lines) }
+            → JudgesReport self.entry list lines
+            → IfErr result (ReportEndHasCause self.entry lines) }
     {
         match self.reader.end() {
             Ok(()) => Ok(Claims {

@@ -30,11 +30,11 @@ pub record EndsNumber (closed : List Numbered) (number : ℕ) (new : ProofReadin
   pub closed_is : closed_of new ≡ closed ++ record { number = number; entry = entry } ∷ []
 
 -- where a reader may stand after a line more
-abbrev pub IsNext : ProofReading → ProofReading → Type 0
-IsNext before_first new = closed_of new ≡ []
-IsNext after_first new = closed_of new ≡ []
-IsNext (within_entry closed number p) new = GrowsEntry closed number new ⊎ EndsNumber closed number new
-IsNext (after_last closed) new = ⊥
+abbrev pub IsNextReading : ProofReading → ProofReading → Type 0
+IsNextReading before_first new = closed_of new ≡ []
+IsNextReading after_first new = closed_of new ≡ []
+IsNextReading (within_entry closed number p) new = GrowsEntry closed number new ⊎ EndsNumber closed number new
+IsNextReading (after_last closed) new = ⊥
 
 -- ---- the step of a line
 
@@ -67,7 +67,7 @@ begun_none l s e =
 
 step_next : (old : ProofReading) (l : ProofLine) (s : LineStep) → take_line (kept_of old) l ≡ Some s
     → closed_of (reading_after (closed_of old) s) ≡ with_ended (closed_of old) s.ended
-    → IsNext old (reading_after (closed_of old) s)
+    → IsNextReading old (reading_after (closed_of old) s)
 step_next before_first l s e ends = ends ∙ ap (with_ended []) (first_none l s e)
 step_next after_first l s e ends = ends ∙ ap (with_ended []) (begun_none l s e)
 step_next (within_entry closed number p) l s e ends = grows_or_ends closed number p (grow p l) l s e ends
@@ -114,7 +114,7 @@ lines_apart (k ∷ front) l are =
     let rest = lines_apart front l are.1 in ((are.0, rest.0), rest.1)
 
 pub next_reading : (before : List (List ℕ)) (bytes : List ℕ) (old new : ProofReading) → ProofReadsTo before old
-    → ProofReadsTo (before ++ bytes ∷ []) new → IsNext old new
+    → ProofReadsTo (before ++ bytes ∷ []) new → IsNextReading old new
 next_reading before bytes old new from to =
     let last = last_line before bytes (lines_taken new) to.lines_are in
     let are = lines_apart last.front last.last (subst AreLines last.same (reading_has_lines new to.readable)) in
@@ -128,7 +128,7 @@ next_reading before bytes old new from to =
     ∙ (sym (after_append (Some before_first) last.front (last.last ∷ []))
     ∙ (ap read_lines (sym last.same) ∙ (read_back new to.readable ∙ ap Some to.as_read))) in
     let m = mapped_is (reading_after (closed_of old)) (take_line (kept_of old) last.last) new step in
-    subst (IsNext old) m.is
+    subst (IsNextReading old) m.is
     (step_next old last.last m.from m.has (takes_line old last.last m.from from.readable are.1 m.has).ends)
 
 -- ---- lines up to the end
@@ -144,7 +144,7 @@ pub record EndsWithin (closed : List Numbered) (number : ℕ) (all : List Number
   pub more : List Numbered
   pub all_is : all ≡ closed ++ record { number = number; entry = entry } ∷ more
 
-step_extends : (at mid : ProofReading) → IsNext at mid → Extends at mid
+step_extends : (at mid : ProofReading) → IsNextReading at mid → Extends at mid
 step_extends before_first mid next = record { more = []; closed_is = next }
 step_extends after_first mid next = record { more = []; closed_is = next }
 step_extends (within_entry closed number p) mid (inl grows) =
@@ -161,16 +161,16 @@ extends_on at mid there first second = record {
 }
 
 -- where a line leads to
-record StepsTo (at mid : ProofReading) : Type 0 where
+record LineLeadsTo (at mid : ProofReading) : Type 0 where
   readable : IsProofReading mid
-  next : IsNext at mid
+  next : IsNextReading at mid
 
-steps_to : (at mid : ProofReading) (l : ProofLine) → IsProofReading at → IsProofLine l → read_line at l ≡ Some mid
-    → StepsTo at mid
-steps_to at mid l readable is step =
+line_leads_to : (at mid : ProofReading) (l : ProofLine) → IsProofReading at → IsProofLine l → read_line at l ≡ Some mid
+    → LineLeadsTo at mid
+line_leads_to at mid l readable is step =
     let m = mapped_is (reading_after (closed_of at)) (take_line (kept_of at) l) mid step in
     let taken = takes_line at l m.from readable is m.has in
-    subst (StepsTo at) m.is (record { readable = taken.readable; next = step_next at l m.from m.has taken.ends })
+    subst (LineLeadsTo at) m.is (record { readable = taken.readable; next = step_next at l m.from m.has taken.ends })
 
 not_last : (closed : List Numbered) (number : ℕ) (p : EntryPart) (all : List Numbered)
     → ¬ ◌≡◌ {A = ProofReading} (within_entry closed number p) (after_last all)
@@ -189,7 +189,7 @@ reads_on at there [] readable are read =
     record { more = []; closed_is = ap closed_of (sym (same_Some at there read)) ∙ sym (append-nil (closed_of at)) }
 reads_on at there (l ∷ rest) readable are read =
     let first = first_step there rest (read_line at l) read in
-    let step = steps_to at first.0 l readable are.0 first.1 in
+    let step = line_leads_to at first.0 l readable are.0 first.1 in
     extends_on at first.0 there (step_extends at first.0 step.next)
     (reads_on first.0 there rest step.readable are.1 first.2)
 
@@ -201,7 +201,7 @@ ends_within closed number p all [] readable are read = absurd (not_last closed n
 ends_within closed number p all (l ∷ rest) readable are read =
     let at : ProofReading = within_entry closed number p in
     let first = first_step (after_last all) rest (read_line at l) read in
-    let step = steps_to at first.0 l readable are.0 first.1 in
+    let step = line_leads_to at first.0 l readable are.0 first.1 in
     elim step.next [
       | inl grows ↦ ends_within closed number grows.part all rest (subst IsProofReading grows.same step.readable) are.1
           (subst (λ x. after_lines (Some x) rest ≡ Some (after_last all)) grows.same first.2)
