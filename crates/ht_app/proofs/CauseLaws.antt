@@ -6,7 +6,7 @@ use Rattle.ht_ports.specs.declared.ports.InPort.TheVariants.{Netlist, Tests}
 use Rattle.ht_net.specs.Netlist as net
 use Rattle.ht_asked.specs.Asked.{Asked, sim}
 use Rattle.ht_app.specs.declared.run_error.RunError.{RunError}
-use Rattle.ht_app.specs.declared.run_error.RunError.TheVariants.{Usage, TooLong, Refused, ReadFault, WriteFault, NoMemory, BadTests}
+use Rattle.ht_app.specs.declared.run_error.RunError.TheVariants.{Denied, Usage, TooLong, Refused, ReadFault, WriteFault, NoMemory, BadTests}
 use Rattle.ht_app.specs.Inputs.{IsInput, MayHold, IsGoodNetlist, AcceptsNetlist, AcceptsInputs}
 use Rattle.ht_app.specs.Jobs.{input_name}
 use Rattle.ht_app.specs.Changed.{ChangedOnly}
@@ -22,6 +22,7 @@ refuses job name a IsCause is h = record { name = name; reads = is; there = h.th
 
 pub netlist_cause : (job : Asked) (name : List ℕ) (a b : DeskView) (e : RunError) → input_name job Netlist ≡ Some name
     → b.written ≡ a.written → NetlistCause name a b e → HasCause job a b e
+netlist_cause job name a b (Denied trouble) is same h = absurd h
 netlist_cause job name a b Usage is same h = absurd h
 netlist_cause job name a b TooLong is same h = refuses job name a _ is h
 netlist_cause job name a b (Refused error) is same h = refuses job name a _ is h
@@ -64,6 +65,7 @@ pub tests_cause : (netlist tests report : List ℕ) (c : net.Netlist) (a m b : D
     → InCall Netlist a m → b.written ≡ m.written → (IsTrue a.steady → IsSome (a.file netlist))
     → ((text : List ℕ) → IsInput Netlist netlist text a → IsGoodNetlist text c) → MayHold a netlist
     → TestsCause c tests m b e → HasCause (sim netlist tests report) a b e
+tests_cause netlist tests report c a m b (Denied trouble) p same known good there h = absurd h
 tests_cause netlist tests report c a m b Usage p same known good there h = absurd h
 tests_cause netlist tests report c a m b TooLong p same known good there h = absurd h
 tests_cause netlist tests report c a m b (Refused error) p same known good there h = absurd h
@@ -84,8 +86,8 @@ tests_cause netlist tests report c a m b NoMemory p same known good there h = in
 tests_cause netlist tests report c a m b (BadTests line) p same known good there h = record {
   netlist_name = netlist;
   tests_name = tests;
-  reads_netlist = refl;
-  reads_tests = refl;
+  report_name = report;
+  job_is = refl;
   netlist = accepts_netlist netlist c a there good;
   there = may_hold_before tests a m p h.there;
   cause = λ n t inputs. (c, good n inputs.netlist_is, h.cause t (input_later tests t a m p inputs.tests_is));
