@@ -35,6 +35,6 @@ pub use reader_state::Stand;
 pub use text_error::TextError;
 pub use theorems::{
     entries_are_read_back, fronts_are_read, lines_have_one_reading, malformed_lines_are_unread,
-    text_has_one_list, written_entries_are_a_text,
+    proof_lines_are_short, text_has_one_list, written_entries_are_a_text,
 };
 pub use write_line::{end_line, head_line};

@@ -18,3 +18,4 @@ pub mod StopLaws
 pub mod TestLaws
 pub mod VectorLaws
 pub mod WrittenLaws
+pub mod LineLengthLaws

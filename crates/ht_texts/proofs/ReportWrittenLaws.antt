@@ -156,7 +156,7 @@ plain_fault_line c representatives i said is classes names inside sayable =
     (plain_fault c (fault_at c i) is names (fault_is_on_line c i inside))) refl)
     (plain_outcome c representatives i said is classes names inside sayable)
 
-classes_few : (c : Netlist) (representatives : List ℕ) → IsCircuit c → AreClasses c representatives
+pub classes_few : (c : Netlist) (representatives : List ℕ) → IsCircuit c → AreClasses c representatives
     → class_count representatives < 2 ^ 32
 classes_few c representatives is classes =
     let numbers = range_with_len 0 (length representatives) in
@@ -170,7 +170,7 @@ classes_few c representatives is classes =
     )
 
 -- there are no more outputs than nets
-outputs_few : (c : Netlist) → IsCircuit c → length c.outputs ≤ net_count c
+pub outputs_few : (c : Netlist) → IsCircuit c → length c.outputs ≤ net_count c
 outputs_few c is =
     let number : NetId → ℕ = λ net. net.0 in
     let numbered : ℕ → NetId = λ k. record { 0 = k } in

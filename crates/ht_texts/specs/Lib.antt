@@ -1,4 +1,5 @@
 pub mod Lines
+pub mod LineLengths
 pub mod Numbers
 pub mod Fronts
 pub mod Tests

@@ -63,6 +63,14 @@ is_line_byte byte = not (byte == 10) && not (byte == 13)
 abbrev pub HasPlainNames : Netlist → Type 0
 HasPlainNames c = All (λ name. IsTrue (list_all is_line_byte name)) c.names
 
+-- the most bytes of a short name
+abbrev pub max_short_name_bytes : ℕ
+max_short_name_bytes = 255
+
+-- no name has more bytes than a netlist lets it have
+abbrev pub HasShortNames : Netlist → Type 0
+HasShortNames c = All (λ (name : List ℕ). length name ≤ max_short_name_bytes) c.names
+
 -- line n is there, and no report has it after the lines before it
 pub record IsNoReportLine (c : Netlist) (representatives : List ℕ) (text : List ℕ) (n : ℕ) : Type 0 where
   pub counted : (0 < n) × (n ≤ length (lines_of text))

@@ -6,7 +6,7 @@
 //! `specs/Counts` of how many classes, and `specs/Reports` a report, line for line. `specs/SearchReports` says which
 //! texts are the report of a search, and at which line another goes wrong. A `ReportReader` takes such a report line by
 //! line: `specs/ReportReading` says how far it is read and what a line says, `specs/ReportStands` what the reader
-//! keeps.
+//! keeps. `specs/LineLengths` says how long its lines are at most.
 #![tactic(auto)]
 
 mod body;
@@ -14,6 +14,7 @@ mod class_counts;
 mod fault_line;
 mod head;
 mod item;
+mod limits;
 mod malformed_line;
 mod number;
 mod read_fault;
@@ -33,13 +34,14 @@ pub use body::write_body;
 pub use fault_line::write_fault;
 pub use head::write_head;
 pub use item::Item;
+pub use limits::MAX_LINE_BYTES;
 pub use malformed_line::MalformedLine;
 pub use number::{push_number, read_number};
 pub use report_reader::ReportReader;
 pub use said::{Said, saids_of};
 pub use theorems::{
-    report_fronts_are_read, reports_are_read, reports_say_one_thing, tests_are_read,
-    texts_are_reports_or_malformed, texts_are_tests_or_malformed,
+    report_fronts_are_read, report_lines_are_short, reports_are_read, reports_say_one_thing,
+    tests_are_read, texts_are_reports_or_malformed, texts_are_tests_or_malformed,
 };
 pub use total::{Sums, write_total};
 pub use vector::{read_vector, write_vector};

@@ -8,7 +8,8 @@ ghost use Rattle.ht_collapse.specs.Classes.{AreClasses};
 ghost use Rattle.ht_texts.specs.declared.said.Said.{Said};
 ghost use Rattle.ht_texts.specs.Tests.{test_text, IsTestText, IsMalformedTest, IsTestOrMalformed};
 ghost use Rattle.ht_texts.specs.Reports.{report_text};
-ghost use Rattle.ht_texts.specs.SearchReports.{HasPlainNames, IsSearchOf, IsReportFront};
+ghost use Rattle.ht_texts.specs.LineLengths.{IsShortLine};
+ghost use Rattle.ht_texts.specs.SearchReports.{HasPlainNames, HasShortNames, IsSearchOf, IsReportFront};
 ghost use Rattle.ht_texts.specs.SearchReports.{IsReportText, IsMalformedReport};
 ghost use Rattle.ht_texts.specs.ReportReading.{ReportReading, ReportReadsTo, SameSearch, SaySame};
 
@@ -74,4 +75,12 @@ pub fn reports_say_one_thing()
     ensures one_line { (c : Netlist) (representatives : List ℕ) (text : List ℕ) (m n : ℕ)
         → IsMalformedReport c representatives text m → IsMalformedReport c representatives text n
         → m ≡ n }
+{}
+
+/// No line of the report of a search has more than `MAX_LINE_BYTES` bytes, where no name has more than 255: so a reader
+/// that takes no longer line takes every report.
+pub fn report_lines_are_short()
+    ensures { (c : Netlist) (representatives : List ℕ) (lines : List (List ℕ)) → IsCircuit c
+        → AreClasses c representatives → HasShortNames c
+        → IsReportFront c representatives lines → All IsShortLine lines }
 {}
