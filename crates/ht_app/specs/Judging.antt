@@ -4,7 +4,7 @@ use Rattle.ht_ports.specs.Desk.{DeskView}
 use Rattle.ht_ports.specs.LineRule.{lines_of, max_text_bytes}
 use Rattle.ht_ports.specs.declared.ports.InPort.{InPort}
 use Rattle.ht_ports.specs.declared.ports.InPort.TheVariants as in_port
-use Rattle.ht_net.specs.Netlist.{Netlist}
+use Rattle.ht_net.specs.Netlist.{Netlist, IsCircuit}
 use Rattle.ht_texts.specs.Tests.{IsTooLong}
 use Rattle.ht_texts.specs.declared.said.Said.{Said}
 use Rattle.ht_texts.specs.SearchReports.{IsReportFront}
@@ -42,11 +42,12 @@ pub record StandsForFile (Stands : List (List ℕ) → Type 0) (IsFine : List (L
   pub stands : Stands lines
   pub texts : (text : List ℕ) → IsInput port name text old → IsReadAs IsFine lines text
 
--- Nothing is wrong before a line, which the judge doesn't take.
+-- Nothing is wrong before a line, in which the text doesn't become too long, and which the judge doesn't take.
 pub record StopsAtLine (IsFine IsWrong : List (List ℕ) → List ℕ → Type 0) (text : List ℕ) : Type 0 where
   pub count : ℕ
   pub there : count < length (lines_of text)
   pub fine : AreFine IsFine text count
+  pub short : ¬ IsTooLong text (count + 1)
   pub wrong : IsWrong (take count (lines_of text)) (get_or (lines_of text) count [])
 
 -- Nothing is wrong before a line, which has more bytes than this, or in which the text becomes too long.
@@ -94,6 +95,7 @@ report_basis c representatives list = record { circuit = c; representatives = re
 
 -- The judge stands for these lines of a report, by the basis.
 pub record StandsForReport (v : ReportJudgeView) (basis : ReportBasis) (lines : List (List ℕ)) : Type 0 where
+  pub well_formed : IsCircuit basis.circuit
   pub circuit : v.circuit ≡ basis.circuit
   pub representatives : v.representatives ≡ basis.representatives
   pub judges : JudgesReport v basis.list lines

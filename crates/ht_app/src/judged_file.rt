@@ -10,12 +10,9 @@ ghost use Rattle.ht_app.specs.Judging.{AnyTrouble, FileCause, StandsForFile, Sto
 use crate::run_error::RunError;
 use ht_judge::JudgeError;
 use ht_ports::{Desk, Failed, InPort, LineFault, Lines};
+use ht_texts::MAX_LINE_BYTES;
 use ht_valid::Trouble;
 use std::alloc::Global;
-
-/// The most bytes of a line of a report or of proofs: `justify `, and a character for each of 4,096 inputs. A longer
-/// line is malformed.
-pub const MAX_LINE_BYTES: u32 = 4_104;
 
 /// Takes the lines of a file, one after the other.
 pub trait LineJudge {

@@ -1,0 +1,155 @@
+-- The lines of a file that a judge took so far.
+use Rattle.std.proofs.Common.{◌≡◌, inl, inr, ℕ, ◌+◌, ◌<◌, ◌≤◌, List, [], ◌∷◌, ◌++◌, length, take, get_or, Some, Option, refl, sym, ◌∙◌, ap, subst, arith}
+use Rattle.std.proofs.lemmas.Bool.{cases_lt}
+use Rattle.std.proofs.lemmas.List.{length-append}
+use Rattle.ht_ports.specs.Desk.{DeskView, InCall, Reads}
+use Rattle.ht_ports.specs.Lines.{rest_of, LinesView, Gives, GivesNone}
+use Rattle.ht_ports.specs.LineRule.{IsTooLongLine, NextLine, lines_of, max_text_bytes}
+use Rattle.ht_ports.specs.declared.ports.InPort.{InPort}
+use Rattle.ht_ports.proofs.CallLaws.{in_call_trans}
+use Rattle.std.specs.Io.KnownBytes.{IsAtEnd}
+use Rattle.ht_texts.specs.Tests.{IsTooLong}
+use Rattle.ht_app.specs.Inputs.{IsInput}
+use Rattle.ht_app.specs.Judging.{AreFine, IsReadAs, StandsForFile, StopsAtLine, StopsAtLong}
+use Rattle.ht_app.proofs.LineSoFarLaws.{IsNextLine, LinesSoFar, lines_end, lines_next, lines_start, next_is_long, next_line_is, not_long_before}
+
+-- a read is a call on the port
+pub read_call : (port other : InPort) (a b c : DeskView) → other ≡ port → InCall port a b → Reads other b c
+    → InCall port a c
+read_call port other a b c same p q =
+    in_call_trans port a b c p (subst (λ (o : InPort). Reads o b c) same q).call
+
+-- So many bytes of the text were given, its lines so far are these, and nothing is wrong with them.
+pub record IsTaken (IsFine : List (List ℕ) → List ℕ → Type 0) (text : List ℕ) (passed : ℕ) (lines : List (List ℕ))
+    (rest : Option (List ℕ)) : Type 0 where
+  pub left : List ℕ
+  pub is : rest ≡ Some left
+  pub so : LinesSoFar text passed lines left
+  pub fine : AreFine IsFine text (length lines)
+
+-- The judge stands for the lines that were given.
+pub record Takes (Stands : List (List ℕ) → Type 0) (IsFine : List (List ℕ) → List ℕ → Type 0) (port : InPort)
+    (name : List ℕ) (first now : DeskView) (reader : LinesView) : Type 0 where
+  pub lines : List (List ℕ)
+  pub counted : length lines ≡ reader.lines_read
+  pub stands : Stands lines
+  pub texts : (text : List ℕ) → IsInput port name text first
+      → IsTaken IsFine text reader.bytes_read lines (rest_of reader now)
+
+module _ (IsFine : List (List ℕ) → List ℕ → Type 0) where
+  nothing_taken : (text : List ℕ) → AreFine IsFine text 0
+  nothing_taken text = record {
+    each = λ k lt. absurd (omega arith);
+    short = λ n within. not_long_before text 0 [] text (lines_start text) (omega arith) n within;
+  }
+
+  -- nothing is wrong with one line more
+  one_more : (text : List ℕ) (lines : List (List ℕ)) (line : List ℕ) → AreFine IsFine text (length lines)
+      → IsNextLine text lines line → IsFine lines line
+      → (k : ℕ) → k < length lines + 1 → IsFine (take k (lines_of text)) (get_or (lines_of text) k [])
+  one_more text lines line fine next is k lt = elim (cases_lt k (length lines)) [
+    | inl below ↦ fine.each k below
+    | inr upto ↦
+        let same : length lines ≡ k = omega (arith, lt, upto) in
+        subst (λ n. IsFine (take n (lines_of text)) (get_or (lines_of text) n [])) same
+        (subst (λ l. IsFine l (get_or (lines_of text) (length lines) [])) (sym next.before)
+        (subst (IsFine lines) (sym next.at) is))
+  ]
+
+  pub takes_start : (Stands : List (List ℕ) → Type 0) (port : InPort) (name : List ℕ) (first now : DeskView)
+      (reader : LinesView) → reader.lines_read ≡ 0 → reader.bytes_read ≡ 0 → Stands []
+      → ((text : List ℕ) → IsInput port name text first → rest_of reader now ≡ Some text)
+      → Takes Stands IsFine port name first now reader
+  takes_start Stands port name first now reader none nothing stands rest = record {
+    lines = [];
+    counted = sym none;
+    stands = stands;
+    texts = λ text is. record {
+      left = text;
+      is = rest text is;
+      so = subst (λ n. LinesSoFar text n [] text) (sym nothing) (lines_start text);
+      fine = nothing_taken text;
+    };
+  }
+
+  pub takes_more : (Stands After : List (List ℕ) → Type 0) (port : InPort) (name line : List ℕ)
+      (first a b : DeskView) (old new : LinesView) (t : Takes Stands IsFine port name first a old)
+      → Gives line old new a b → After (t.lines ++ line ∷ []) → IsFine t.lines line
+      → Takes After IsFine port name first b new
+  takes_more Stands After port name line first a b old new t gives stands is = record {
+    lines = t.lines ++ line ∷ [];
+    counted = omega (arith, length-append t.lines (line ∷ []), t.counted, gives.lines_read);
+    stands = stands;
+    texts = λ text input.
+        let before = t.texts text input in
+        let step = subst (λ (r : Option (List ℕ)). NextLine line gives.count r (rest_of new b)) before.is gives.next in
+        let after = lines_next text old.bytes_read t.lines before.left line gives.count (rest_of new b) before.so step
+        in
+        let so = subst (λ n. LinesSoFar text n (t.lines ++ line ∷ []) after.0) (sym gives.bytes_read) after.2 in
+        let next = next_line_is text old.bytes_read t.lines before.left line gives.count (rest_of new b) before.so step
+        in
+        let size = length-append t.lines (line ∷ []) in
+        record {
+          left = after.0;
+          is = after.1;
+          so = so;
+          fine = record {
+            each = λ k lt. one_more text t.lines line before.fine next is k (omega (arith, lt, size));
+            short = not_long_before text new.bytes_read (t.lines ++ line ∷ []) after.0 so gives.fits;
+          };
+        };
+  }
+
+  pub takes_all : (Stands : List (List ℕ) → Type 0) (port : InPort) (name : List ℕ) (first a b : DeskView)
+      (old new : LinesView) → Takes Stands IsFine port name first a old → GivesNone old new a b
+      → old.bytes_read ≤ max_text_bytes → StandsForFile Stands IsFine port name first
+  takes_all Stands port name first a b old new t none fits = record {
+    lines = t.lines;
+    stands = t.stands;
+    texts = λ text input.
+        let before = t.texts text input in
+        let end : before.left ≡ [] = subst IsAtEnd (none.rest ∙ before.is) none.at_end in
+        let whole = lines_end text old.bytes_read t.lines before.left before.so end fits in
+        record { lines_are = whole.0; fine = before.fine; short = whole.1 };
+  }
+
+  pub stops_at_line : (Stands : List (List ℕ) → Type 0) (IsWrong : List (List ℕ) → List ℕ → Type 0) (port : InPort)
+      (name line text : List ℕ) (first a b : DeskView) (old new : LinesView)
+      (t : Takes Stands IsFine port name first a old) → IsInput port name text first → Gives line old new a b
+      → IsWrong t.lines line → StopsAtLine IsFine IsWrong text
+  stops_at_line Stands IsWrong port name line text first a b old new t input gives wrong =
+      let before = t.texts text input in
+      let step = subst (λ (r : Option (List ℕ)). NextLine line gives.count r (rest_of new b)) before.is gives.next in
+      let next = next_line_is text old.bytes_read t.lines before.left line gives.count (rest_of new b) before.so step in
+      let after = lines_next text old.bytes_read t.lines before.left line gives.count (rest_of new b) before.so step in
+      let so = subst (λ n. LinesSoFar text n (t.lines ++ line ∷ []) after.0) (sym gives.bytes_read) after.2 in
+      record {
+        count = length t.lines;
+        there = next.there;
+        fine = before.fine;
+        short = λ long. not_long_before text new.bytes_read (t.lines ++ line ∷ []) after.0 so gives.fits
+            (length t.lines + 1) (omega (arith, length-append t.lines (line ∷ []))) long;
+        wrong = subst (λ l. IsWrong l (get_or (lines_of text) (length t.lines) [])) (sym next.before)
+            (subst (IsWrong t.lines) (sym next.at) wrong);
+      }
+
+  pub stops_at_long : (Stands : List (List ℕ) → Type 0) (most line : ℕ) (port : InPort) (name text : List ℕ)
+      (first a : DeskView) (old : LinesView) → Takes Stands IsFine port name first a old
+      → IsInput port name text first → line ≡ old.lines_read + 1 → old.bytes_read ≤ max_text_bytes
+      → ((rest : List ℕ) → rest_of old a ≡ Some rest → IsTooLongLine most old.bytes_read rest)
+      → StopsAtLong IsFine most text line
+  stops_at_long Stands most line port name text first a old t input is fits long =
+      let before = t.texts text input in
+      let next = next_is_long most text old.bytes_read t.lines before.left before.so fits (long before.left before.is)
+      in
+      let number : length t.lines + 1 ≡ line = omega (arith, t.counted, is) in
+      record {
+        count = length t.lines;
+        line_is = sym number;
+        there = next.next.there;
+        fine = before.fine;
+        long = elim next.long [
+          | inl wide ↦ inl (subst (λ l. most < length l) (sym next.next.at) wide)
+          | inr late ↦ inr (subst (λ n. IsTooLong text n) number late)
+        ];
+      }
