@@ -3,7 +3,8 @@
 //! `write_step` is the text of one step, which the tests or the proofs get, and `write_report` the report of a finished
 //! generator, in two parts; a `TextSize` counts the bytes of a text. `specs/StepTexts` has the texts as they grow,
 //! `specs/Saids` what is said of each fault, and `specs/Generated` the headline: what the files of a finished run say,
-//! and that it is true. The laws say how the tests and the proofs grow, and that names that were read are plain.
+//! and that it is true. The laws say how the tests and the proofs grow, and that names that were read are plain and
+//! short.
 #![tactic(auto)]
 
 mod report;
@@ -14,4 +15,7 @@ mod theorems;
 pub use report::{Report, write_report};
 pub use step_text::write_step;
 pub use text_size::TextSize;
-pub use theorems::{accepted_netlists_have_plain_names, files_grow_by_steps, proofs_begin_and_end};
+pub use theorems::{
+    accepted_netlists_have_plain_names, accepted_netlists_have_short_names, files_grow_by_steps,
+    proofs_begin_and_end,
+};

@@ -3,7 +3,7 @@ ghost use Rattle.std.specs.Prelude.{◌≡◌, ◌++◌, ◌∷◌, [], ℕ, Lis
 ghost use Rattle.ht_net.specs.Netlist.{Netlist};
 ghost use Rattle.ht_bench.specs.Text.{IsNetlistOf};
 ghost use Rattle.ht_texts.specs.Lines.{with_lf};
-ghost use Rattle.ht_texts.specs.SearchReports.{HasPlainNames};
+ghost use Rattle.ht_texts.specs.SearchReports.{HasPlainNames, HasShortNames};
 ghost use Rattle.ht_entries.specs.declared.proof_line.ProofLine.TheVariants as line;
 ghost use Rattle.ht_entries.specs.ProofLines.{line_text};
 ghost use Rattle.ht_engine.specs.declared.step.Step as made;
@@ -12,6 +12,11 @@ ghost use Rattle.ht_files.specs.StepTexts.{proofs_of, proofs_so_far, proofs_step
 /// No name of a circuit that was read has an LF or a CR.
 pub fn accepted_netlists_have_plain_names()
     ensures { (text : List ℕ) (c : Netlist) → IsNetlistOf text c → HasPlainNames c }
+{}
+
+/// No name of a circuit that was read has more bytes than a line of a report has room for.
+pub fn accepted_netlists_have_short_names()
+    ensures { (text : List ℕ) (c : Netlist) → IsNetlistOf text c → HasShortNames c }
 {}
 
 /// The tests and the proofs so far grow by the text of each step.
