@@ -9,8 +9,12 @@ use Rattle.ht_ports.specs.declared.ports.InPort.{InPort}
 use Rattle.ht_ports.proofs.CallLaws.{in_call_trans}
 use Rattle.std.specs.Io.KnownBytes.{IsAtEnd}
 use Rattle.ht_texts.specs.Tests.{IsTooLong}
+use Rattle.ht_valid.specs.declared.trouble.Trouble.{Trouble}
+use Rattle.ht_judge.specs.declared.judge_error.JudgeError.{JudgeError}
+use Rattle.ht_judge.specs.declared.judge_error.JudgeError.TheVariants as judge
 use Rattle.ht_app.specs.Inputs.{IsInput}
-use Rattle.ht_app.specs.Judging.{AreFine, IsReadAs, StandsForFile, StopsAtLine, StopsAtLong}
+use Rattle.ht_app.specs.Errors.{judged_error_of}
+use Rattle.ht_app.specs.Judging.{AreFine, IsReadAs, StandsForFile, StopsAtLine, StopsAtLong, StopsIn}
 use Rattle.ht_app.proofs.LineSoFarLaws.{IsNextLine, LinesSoFar, lines_end, lines_next, lines_start, next_is_long, next_line_is, not_long_before}
 
 -- a read is a call on the port
@@ -153,3 +157,15 @@ module _ (IsFine : List (List ℕ) → List ℕ → Type 0) where
           | inr late ↦ inr (subst (λ n. IsTooLong text n) number late)
         ];
       }
+
+  -- a judge that doesn't take the line
+  pub stops_judged : (Stands : List (List ℕ) → Type 0) (Denies : List (List ℕ) → List ℕ → JudgeError → Type 0)
+      (trouble_at : ℕ → Trouble) (most : ℕ) (port : InPort) (name line text : List ℕ) (first a b : DeskView)
+      (old new : LinesView) (e : JudgeError) (t : Takes Stands IsFine port name first a old)
+      → IsInput port name text first → Gives line old new a b → Denies t.lines line e
+      → StopsIn IsFine Denies trouble_at most text (judged_error_of e)
+  stops_judged Stands Denies trouble_at most port name line text first a b old new (judge.Denied trouble) t input gives
+      denies = inl (stops_at_line Stands (λ before next. Denies before next (judge.Denied trouble)) port name line text
+      first a b old new t input gives denies)
+  stops_judged Stands Denies trouble_at most port name line text first a b old new judge.NoMemory t input gives denies =
+      tt

@@ -78,9 +78,11 @@ abbrev pub IfDenied : (Trouble → Type 0) → RunError → Type 0
 IfDenied IsTrouble (Denied trouble) = IsTrouble trouble
 IfDenied IsTrouble error = Unit {0}
 
--- nothing more is said of the trouble
-abbrev pub AnyTrouble : Trouble → Type 0
-AnyTrouble trouble = Unit {0}
+-- a judge denies with it at a line after some, or some line is too long
+abbrev pub IsDeniedBy : (List (List ℕ) → List ℕ → JudgeError → Type 0) → (ℕ → Trouble) → Trouble → Type 0
+IsDeniedBy Denies trouble_at trouble =
+    ((before : List (List ℕ)) × (line : List ℕ) × Denies before line (judge.Denied trouble))
+    ⊎ ((line : ℕ) × (trouble ≡ trouble_at line))
 
 -- ---- the report
 
@@ -112,6 +114,11 @@ DeniesReport basis before line (judge.Denied (Report number)) = (number ≡ leng
     ⊎ ContradictsTests basis.circuit basis.representatives basis.list (before ++ line ∷ []))
 DeniesReport basis before line (judge.Denied other) = ⊥
 DeniesReport basis before line judge.NoMemory = Unit {0}
+
+-- it is at a line of the report
+abbrev pub IsOfReport : Trouble → Type 0
+IsOfReport (Report line) = Unit {0}
+IsOfReport other = ⊥
 
 -- The report of this name is that of a search which says this, and it agrees with the tests.
 pub record ReportIsRead (basis : ReportBasis) (budget : ℕ) (saids : List Said) (name : List ℕ) (old : DeskView)
@@ -159,6 +166,12 @@ DeniesProofs basis before line (judge.Denied (Fault number)) =
     IsFaultTrouble basis.circuit basis.representatives basis.content before line number
 DeniesProofs basis before line (judge.Denied other) = ⊥
 DeniesProofs basis before line judge.NoMemory = Unit {0}
+
+-- it is at a line of the proofs, or with an entry
+abbrev pub IsOfProofs : Trouble → Type 0
+IsOfProofs (Proofs line) = Unit {0}
+IsOfProofs (Fault number) = Unit {0}
+IsOfProofs other = ⊥
 
 -- The proofs of this name back what the report says.
 pub record ProofsAreRead (basis : ProofBasis) (name : List ℕ) (old : DeskView) : Type 0 where

@@ -8,7 +8,7 @@ ghost use Rattle.ht_collapse.specs.Classes.{AreClasses};
 ghost use Rattle.ht_grade.specs.Detections.{AreFirstDetections};
 ghost use Rattle.ht_texts.specs.SearchReports.{HasShortNames, IsBudget};
 ghost use Rattle.ht_app.specs.Inputs.{IsInput, MayHold};
-ghost use Rattle.ht_app.specs.Judging.{AnyTrouble, FileCause, IfDenied, IsReportFileTrouble, ReportIsRead, report_basis};
+ghost use Rattle.ht_app.specs.Judging.{FileCause, IfDenied, IsOfReport, IsReportFileTrouble, ReportIsRead, report_basis};
 
 use crate::judged_file::{LineJudge, read_lines};
 use crate::listed::Listed;
@@ -60,6 +60,7 @@ pub fn read_report<D: Desk>(
     listed: &Listed,
     places: &[Option<Place>],
 ) -> Result<Claims, RunError>
+    requires well_formed { IsCircuit circuit.now }
     requires faults { listed.now.faults ≡ faults_of circuit.now }
     requires classes { AreClasses circuit.now listed.now.classes }
     requires each { length places.now ≡ length (faults_of circuit.now) }
@@ -75,8 +76,9 @@ pub fn read_report<D: Desk>(
         → HasShortNames circuit.now → IsInput in_port.Report name.now text (D.view desk.old)
         → IfErr result (IfDenied
         (IsReportFileTrouble (report_basis circuit.now listed.now.classes list) text)) }
-    ensures cause { IfErr result
-        (FileCause name.now AnyTrouble (D.view desk.old) (D.view desk.new)) }
+    ensures cause { (list : List (List Bool))
+        → AreFirstDetections circuit.now listed.now.classes list places.now
+        → IfErr result (FileCause name.now IsOfReport (D.view desk.old) (D.view desk.new)) }
 {
     let mut judge = ReportJudge::new(alloc, circuit, &listed.faults, &listed.classes, places)?;
     read_lines(alloc, desk, InPort::Report, name, &mut judge)?;
