@@ -1,10 +1,14 @@
 -- The lines of a file that a judge took so far.
-use Rattle.std.proofs.Common.{◌≡◌, inl, inr, ℕ, ◌+◌, ◌<◌, ◌≤◌, List, [], ◌∷◌, ◌++◌, length, take, get_or, Some, Option, refl, sym, ◌∙◌, ap, subst, arith}
-use Rattle.std.proofs.lemmas.Bool.{cases_lt}
-use Rattle.std.proofs.lemmas.List.{length-append}
+use Rattle.std.proofs.Common.{◌≡◌, inl, inr, ℕ, ◌+◌, ◌-◌, ◌<◌, ◌≤◌, List, [], ◌∷◌, ◌++◌, length, take, get_or, Some, Option, refl, sym, ◌∙◌, ap, subst, arith}
+use Rattle.std.specs.Prelude.{Result, Ok, Err, IfErr, IfOk, OnOk}
+use Rattle.std.specs.Prelude.{slice_index}
+use Rattle.std.proofs.lemmas.Bool.{cases_eq, cases_lt}
+use Rattle.std.proofs.lemmas.Bool.Decides.{nat_tests}
+use Rattle.std.proofs.lemmas.Grind.{common_steps}
+use Rattle.std.proofs.lemmas.List.{length-append, length-take-le}
 use Rattle.ht_ports.specs.Desk.{DeskView, InCall, Reads}
 use Rattle.ht_ports.specs.Lines.{rest_of, LinesView, Gives, GivesNone}
-use Rattle.ht_ports.specs.LineRule.{IsTooLongLine, NextLine, lines_of, max_text_bytes}
+use Rattle.ht_ports.specs.LineRule.{IsTooLongLine, NextLine, lines_of, max_text_bytes, without_cr}
 use Rattle.ht_ports.specs.declared.ports.InPort.{InPort}
 use Rattle.ht_ports.proofs.CallLaws.{in_call_trans}
 use Rattle.std.specs.Io.KnownBytes.{IsAtEnd}
@@ -12,10 +16,37 @@ use Rattle.ht_texts.specs.Tests.{IsTooLong}
 use Rattle.ht_valid.specs.declared.trouble.Trouble.{Trouble}
 use Rattle.ht_judge.specs.declared.judge_error.JudgeError.{JudgeError}
 use Rattle.ht_judge.specs.declared.judge_error.JudgeError.TheVariants as judge
+use Rattle.ht_app.specs.declared.run_error.RunError.{RunError}
+use Rattle.ht_app.specs.declared.run_error.RunError.TheVariants.{Denied, Usage, TooLong, Refused, ReadFault, WriteFault, NoMemory, BadTests}
 use Rattle.ht_app.specs.Inputs.{IsInput}
 use Rattle.ht_app.specs.Errors.{judged_error_of}
-use Rattle.ht_app.specs.Judging.{AreFine, IsReadAs, StandsForFile, StopsAtLine, StopsAtLong, StopsIn}
+use Rattle.ht_app.specs.Judging.{AreFine, FileCause, IsReadAs, StandsForFile, StopsAtLine, StopsAtLong, StopsIn}
 use Rattle.ht_app.proofs.LineSoFarLaws.{IsNextLine, LinesSoFar, lines_end, lines_next, lines_start, next_is_long, next_line_is, not_long_before}
+
+-- ---- what an answer says
+
+pub on_ok_from : {A E : Type 0} (r : Result A E) (P : A → Type 0) (Q : Type 0) → ((v : A) → P v → Q) → IfOk r P
+    → OnOk r Q
+on_ok_from (Ok v) P Q from h = from v h
+on_ok_from (Err e) P Q from h = tt
+
+pub if_err_from : {A E : Type 0} (r : Result A E) (P Q : E → Type 0) → ((e : E) → P e → Q e) → IfErr r P → IfErr r Q
+if_err_from (Ok v) P Q from h = tt
+if_err_from (Err e) P Q from h = from e h
+
+-- the same cause where more is said of the trouble
+pub cause_from : (name : List ℕ) (P Q : Trouble → Type 0) (a b : DeskView) (e : RunError)
+    → ((trouble : Trouble) → P trouble → Q trouble) → FileCause name P a b e → FileCause name Q a b e
+cause_from name P Q a b (Denied trouble) from h = (h.0, from trouble h.1)
+cause_from name P Q a b Usage from h = h
+cause_from name P Q a b TooLong from h = h
+cause_from name P Q a b (Refused error) from h = h
+cause_from name P Q a b ReadFault from h = h
+cause_from name P Q a b WriteFault from h = h
+cause_from name P Q a b NoMemory from h = h
+cause_from name P Q a b (BadTests line) from h = h
+
+-- ---- a file, line by line
 
 -- a read is a call on the port
 pub read_call : (port other : InPort) (a b c : DeskView) → other ≡ port → InCall port a b → Reads other b c
@@ -37,8 +68,33 @@ pub record Takes (Stands : List (List ℕ) → Type 0) (IsFine : List (List ℕ)
   pub lines : List (List ℕ)
   pub counted : length lines ≡ reader.lines_read
   pub stands : Stands lines
+  pub few : length (get_or lines 0 []) + length lines ≤ reader.bytes_read + 1
   pub texts : (text : List ℕ) → IsInput port name text first
       → IsTaken IsFine text reader.bytes_read lines (rest_of reader now)
+
+-- a line has no more bytes than it takes with its end
+line_is_within : (line : List ℕ) (count : ℕ) (old new : Option (List ℕ)) → NextLine line count old new
+    → length line ≤ count
+line_is_within line count old new next =
+    let inner = length-without_cr next.piece in
+    elim next.next.ends [
+      | inl lf ↦ omega (arith, ap length next.is, inner, next.size, ap length lf, length-append next.piece (10 ∷ []))
+      | inr last ↦ omega (arith, ap length next.is, inner, next.size, ap length last.0)
+    ]
+  where
+    length-without_cr : (piece : List ℕ) → length (without_cr piece) ≤ length piece
+    length-without_cr piece = elim (cases_eq (slice_index piece (length piece - 1)) 13) [
+      | inl cr ↦ grind (arith, nat_tests, common_steps, length-take-le (length piece - 1) piece (omega arith))
+      | inr other ↦ grind (arith, nat_tests, common_steps)
+    ]
+
+-- one line more
+few_more : (lines : List (List ℕ)) (line : List ℕ) (passed count : ℕ)
+    → length (get_or lines 0 []) + length lines ≤ passed + 1 → 0 < count → length line ≤ count
+    → length (get_or (lines ++ line ∷ []) 0 []) + length (lines ++ line ∷ []) ≤ passed + count + 1
+few_more [] line passed count few some within = omega (arith, within)
+few_more (first ∷ lines) line passed count few some within =
+    omega (arith, few, some, length-append lines (line ∷ []))
 
 module _ (IsFine : List (List ℕ) → List ℕ → Type 0) where
   nothing_taken : (text : List ℕ) → AreFine IsFine text 0
@@ -68,6 +124,7 @@ module _ (IsFine : List (List ℕ) → List ℕ → Type 0) where
     lines = [];
     counted = sym none;
     stands = stands;
+    few = omega arith;
     texts = λ text is. record {
       left = text;
       is = rest text is;
@@ -84,6 +141,10 @@ module _ (IsFine : List (List ℕ) → List ℕ → Type 0) where
     lines = t.lines ++ line ∷ [];
     counted = omega (arith, length-append t.lines (line ∷ []), t.counted, gives.lines_read);
     stands = stands;
+    few = subst (λ n. length (get_or (t.lines ++ line ∷ []) 0 []) + length (t.lines ++ line ∷ []) ≤ n + 1)
+        (sym gives.bytes_read)
+        (few_more t.lines line old.bytes_read gives.count t.few gives.some
+        (line_is_within line gives.count (rest_of old a) (rest_of new b) gives.next));
     texts = λ text input.
         let before = t.texts text input in
         let step = subst (λ (r : Option (List ℕ)). NextLine line gives.count r (rest_of new b)) before.is gives.next in
@@ -110,6 +171,7 @@ module _ (IsFine : List (List ℕ) → List ℕ → Type 0) where
   takes_all Stands port name first a b old new t none fits = record {
     lines = t.lines;
     stands = t.stands;
+    few = omega (arith, t.few, fits);
     texts = λ text input.
         let before = t.texts text input in
         let end : before.left ≡ [] = subst IsAtEnd (none.rest ∙ before.is) none.at_end in

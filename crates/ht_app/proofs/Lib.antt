@@ -13,6 +13,7 @@ pub mod ChangedLaws
 pub mod PortsLaws
 pub mod ReadLaws
 pub mod CauseLaws
+pub mod CheckLaws
 pub mod OutputLaws
 pub mod AskedLaws
 pub mod InputLaws

@@ -1,28 +1,32 @@
 -- The first trouble of proofs that are read line by line.
-use Rattle.std.proofs.Common.{◌≡◌, ◌⊎◌, inl, inr, ℕ, ◌+◌, ◌-◌, ◌<◌, ◌≤◌, List, [], ◌∷◌, ◌++◌, length, take, get_or, Some, sym, ◌∙◌, ap, subst, arith}
+use Rattle.std.proofs.Common.{◌≡◌, ◌⊎◌, inl, inr, ℕ, suc, ◌+◌, ◌-◌, ◌<◌, ◌≤◌, List, [], ◌∷◌, ◌++◌, length, map, take, get_or, Some, sym, ◌∙◌, ap, subst, arith}
 use Rattle.std.specs.List.{All}
 use Rattle.std.proofs.lemmas.List.{length-append, length-take-le}
 use Rattle.std.proofs.Math.Seq.{take-suc, get_or-append_seam}
-use Rattle.ht_ports.specs.LineRule.{lines_of}
+use Rattle.ht_ports.specs.Desk.{DeskView}
+use Rattle.ht_ports.specs.LineRule.{lines_of, max_text_bytes}
 use Rattle.ht_net.specs.Netlist.{Netlist}
 use Rattle.ht_texts.specs.declared.limits.TheConstants.{MAX_LINE_BYTES}
 use Rattle.ht_texts.specs.Tests.{IsTooLong, line_at}
 use Rattle.ht_entries.specs.declared.numbered.Numbered.{Numbered}
-use Rattle.ht_entries.specs.ProofReading.{AreProofLines, IsMalformedAfter, IsProofFront, ProofReading, ProofReadsTo, closed_of}
+use Rattle.ht_entries.specs.ProofReading.{AreProofLines, IsMalformedAfter, IsProofFront, ProofReading, ProofReadsTo, before_first, after_first, within_entry, after_last, closed_of, lines_taken}
+use Rattle.ht_entries.specs.ProofLines.{line_text}
 use Rattle.ht_entries.specs.MalformedProofs.{IsWrongProofLine}
 use Rattle.ht_entries.proofs.FrontLaws.{reading_is_front}
 use Rattle.ht_entries.proofs.LineLengthLaws.{front_is_short}
 use Rattle.ht_entries.proofs.MalformedLaws.{one_place}
+use Rattle.ht_valid.specs.declared.trouble.Trouble.{Trouble}
 use Rattle.ht_valid.specs.declared.trouble.Trouble.TheVariants.{Tests, Report, Proofs, Fault}
 use Rattle.ht_valid.specs.ValidFiles.{Content, IsBacking}
 use Rattle.ht_valid.specs.FirstTrouble.{IsFaultTrouble, IsFaultTroubleAt, IsFirst, IsFirstFault, IsFirstProofLine, IsMissing, IsProofTrouble}
 use Rattle.ht_judge.specs.declared.judge_error.JudgeError.{JudgeError}
 use Rattle.ht_judge.specs.declared.judge_error.JudgeError.TheVariants as judge
-use Rattle.ht_judge.specs.ProofJudging.{JudgesProofs, ProofEndHasCause, ProofJudgeView, ProofLineHasCause}
+use Rattle.ht_judge.specs.ProofJudging.{AreCompleteProofs, JudgesProofs, ProofEndHasCause, ProofJudgeView, ProofLineHasCause}
 use Rattle.ht_app.specs.declared.run_error.RunError.{RunError}
 use Rattle.ht_app.specs.declared.run_error.RunError.TheVariants.{Denied, Usage, TooLong, Refused, ReadFault, WriteFault, NoMemory, BadTests}
 use Rattle.ht_app.specs.Errors.{judged_error_of}
-use Rattle.ht_app.specs.Judging.{AreFine, DeniesProofs, IfDenied, IsFineProofLine, IsReadAs, IsProofFileTrouble, ProofBasis, StandsForProofs, StopsAtLine, StopsAtLong, StopsIn}
+use Rattle.ht_app.specs.Inputs.{MayHold}
+use Rattle.ht_app.specs.Judging.{AreFine, DeniesProofs, FileCause, IfDenied, IsDeniedBy, IsOfProofs, IsFineProofLine, IsReadAs, IsProofFileTrouble, ProofBasis, StandsForProofs, StopsAtLine, StopsAtLong, StopsIn}
 
 -- ---- what a judge stands for is fine
 
@@ -61,6 +65,25 @@ judged_is_fine v basis before line h = record {
       (none_wrong v basis.content before line number h.judges));
 }
 
+pub stands_by : (v : ProofJudgeView) (basis : ProofBasis) (lines : List (List ℕ)) → v.circuit ≡ basis.circuit
+    → v.representatives ≡ basis.representatives → JudgesProofs v basis.content lines
+    → StandsForProofs v basis lines
+stands_by v basis lines circuit representatives judges =
+    record { circuit = circuit; representatives = representatives; judges = judges }
+
+-- the first line of proofs has bytes, so there are fewer lines than a text has bytes
+first_is_head : (line : List ℕ) (lines : List (List ℕ)) (at : ProofReading)
+    → line ∷ lines ≡ map line_text (lines_taken at) → length line ≡ 8
+first_is_head line lines before_first is = let other = is in cc
+first_is_head line lines after_first is = ap (λ l. length (get_or l 0 [])) is
+first_is_head line lines (within_entry closed number p) is = ap (λ l. length (get_or l 0 [])) is
+first_is_head line lines (after_last closed) is = ap (λ l. length (get_or l 0 [])) is
+
+pub fewer_lines : (lines : List (List ℕ)) (at : ProofReading) → ProofReadsTo lines at
+    → length (get_or lines 0 []) + length lines ≤ max_text_bytes + 1 → length lines < max_text_bytes
+fewer_lines [] at read few = omega arith
+fewer_lines (line ∷ lines) at read few = omega (arith, few, first_is_head line lines at read.lines_are)
+
 -- ---- a line that isn't taken
 
 pub cause_by_basis : (v : ProofJudgeView) (basis : ProofBasis) (before : List (List ℕ)) (line : List ℕ)
@@ -94,14 +117,16 @@ module _ (basis : ProofBasis) (text : List ℕ) where
 
   grown : (count : ℕ) → count < length lines
       → take count lines ++ get_or lines count [] ∷ [] ≡ take (count + 1) lines
-  grown count there = sym (take-suc lines count [] there) ∙ ap (λ k. take k lines) (omega arith)
+  grown count there =
+      let same : suc count ≡ count + 1 = omega arith in
+      sym (take-suc lines count [] there) ∙ ap (λ k. take k lines) same
 
   none_before : (count : ℕ) → AreFine (IsFineProofLine basis) text count → count ≤ length lines
       → (m : ℕ) → m < count + 1 → ¬ Wrong-at m
   none_before count fine inside m lt (inl (inl none)) =
       let last : m - 1 < length lines = omega (arith, lt, none.counted.0, inside) in
-      let same : take (m - 1 + 1) lines ≡ take m lines = ap (λ k. take k lines) (omega (arith, none.counted.0)) in
-      none.none (subst IsProofFront (grown (m - 1) last ∙ same)
+      let same : m - 1 + 1 ≡ m = omega (arith, none.counted.0) in
+      none.none (subst IsProofFront (grown (m - 1) last ∙ ap (λ k. take k lines) same)
       (fine.each (m - 1) (omega (arith, lt, none.counted.0))).front)
   none_before count fine inside m lt (inl (inr (inl early))) = absurd (omega (arith, lt, early.line, inside))
   none_before count fine inside m lt (inl (inr (inr long))) = fine.short m (omega (arith, lt)) long
@@ -205,13 +230,43 @@ module _ (basis : ProofBasis) (text : List ℕ) where
   -- what the end of proofs denies
   pub ends_in_proofs : (read : List (List ℕ)) (e : JudgeError) → IsReadAs (IsFineProofLine basis) read text
       → ProofEndHasCause read e → IfDenied (IsProofFileTrouble basis text) (judged_error_of e)
-  ends_in_proofs read (judge.Denied (Proofs number)) as h =
-      let size : length read ≡ length lines = ap length (sym as.lines_are) in
-      first_at number (length read) h.0 as.fine (omega (arith, size)) (inr (inl (record {
+  ends_in_proofs read (judge.Denied (Proofs number)) got h =
+      let size : length read ≡ length lines = ap length (sym got.lines_are) in
+      first_at number (length read) h.0 got.fine (omega (arith, size)) (inr (inl (record {
         line = omega (arith, size);
-        none = subst (λ l. ¬ AreProofLines l) (sym as.lines_are) h.1;
+        none = subst (λ l. ¬ AreProofLines l) (sym got.lines_are) h.1;
       })))
-  ends_in_proofs read (judge.Denied (Tests number)) as h = absurd h
-  ends_in_proofs read (judge.Denied (Report number)) as h = absurd h
-  ends_in_proofs read (judge.Denied (Fault number)) as h = absurd h
-  ends_in_proofs read judge.NoMemory as h = tt
+  ends_in_proofs read (judge.Denied (Tests number)) got h = absurd h
+  ends_in_proofs read (judge.Denied (Report number)) got h = absurd h
+  ends_in_proofs read (judge.Denied (Fault number)) got h = absurd h
+  ends_in_proofs read judge.NoMemory got h = tt
+
+-- ---- whose trouble it is
+
+of_proofs : (basis : ProofBasis) (before : List (List ℕ)) (line : List ℕ) (trouble : Trouble)
+    → DeniesProofs basis before line (judge.Denied trouble) → IsOfProofs trouble
+of_proofs basis before line (Proofs number) h = tt
+of_proofs basis before line (Fault number) h = tt
+of_proofs basis before line (Tests number) h = absurd h
+of_proofs basis before line (Report number) h = absurd h
+
+pub denied_in_proofs : (basis : ProofBasis) (trouble : Trouble) → IsDeniedBy (DeniesProofs basis) Proofs trouble
+    → IsOfProofs trouble
+denied_in_proofs basis trouble (inl (before, line, h)) = of_proofs basis before line trouble h
+denied_in_proofs basis trouble (inr (line, is)) = subst IsOfProofs (sym is) tt
+
+pub proofs_end_cause : (read : List (List ℕ)) (name : List ℕ) (a b : DeskView) (e : JudgeError)
+    → MayHold a name → ProofEndHasCause read e → FileCause name IsOfProofs a b (judged_error_of e)
+proofs_end_cause read name a b (judge.Denied (Proofs number)) there h = (there, tt)
+proofs_end_cause read name a b (judge.Denied (Tests number)) there h = absurd h
+proofs_end_cause read name a b (judge.Denied (Report number)) there h = absurd h
+proofs_end_cause read name a b (judge.Denied (Fault number)) there h = absurd h
+proofs_end_cause read name a b judge.NoMemory there h = tt
+
+pub complete_by_basis : (v : ProofJudgeView) (basis : ProofBasis) (lines : List (List ℕ))
+    → v.circuit ≡ basis.circuit → v.representatives ≡ basis.representatives
+    → AreCompleteProofs v.circuit v.representatives basis.content lines
+    → AreCompleteProofs basis.circuit basis.representatives basis.content lines
+complete_by_basis v basis lines circuit representatives h =
+    subst (λ c. AreCompleteProofs c basis.representatives basis.content lines) circuit
+    (subst (λ r. AreCompleteProofs v.circuit r basis.content lines) representatives h)

@@ -3,6 +3,7 @@ use Rattle.std.proofs.Common.{◌≡◌, ◌⊎◌, inl, inr, ℕ, zero, suc, �
 use Rattle.std.specs.Prelude.{if◌then◌else◌}
 use Rattle.std.proofs.lemmas.List.{length-append, length-take-le}
 use Rattle.std.proofs.Math.Seq.{take-suc, get_or-append_seam}
+use Rattle.ht_ports.specs.Desk.{DeskView}
 use Rattle.ht_ports.specs.LineRule.{lines_of}
 use Rattle.ht_net.specs.Netlist.{Netlist, IsCircuit}
 use Rattle.ht_collapse.specs.Classes.{AreClasses, is_representative}
@@ -15,16 +16,18 @@ use Rattle.ht_texts.specs.ReportReading.{ReportReading, before_report, in_report
 use Rattle.ht_texts.specs.Verdicts.{said_at}
 use Rattle.ht_texts.proofs.ReportFrontLaws.{one_reading, reading_is_front}
 use Rattle.ht_texts.proofs.LineLengthLaws.{report_is_short}
+use Rattle.ht_valid.specs.declared.trouble.Trouble.{Trouble}
 use Rattle.ht_valid.specs.declared.trouble.Trouble.TheVariants.{Tests, Report, Proofs, Fault}
 use Rattle.ht_valid.specs.ValidFiles.{AgreesWithTests}
 use Rattle.ht_valid.specs.FirstTrouble.{ContradictsTests, IsFirst, IsReportTrouble}
 use Rattle.ht_judge.specs.declared.judge_error.JudgeError.{JudgeError}
 use Rattle.ht_judge.specs.declared.judge_error.JudgeError.TheVariants as judge
-use Rattle.ht_judge.specs.ReportJudging.{IsKept, JudgesReport, ReportEndHasCause, ReportJudgeView, ReportLineHasCause}
+use Rattle.ht_judge.specs.ReportJudging.{IsKept, IsTrueReport, JudgesReport, ReportEndHasCause, ReportJudgeView, ReportLineHasCause}
 use Rattle.ht_app.specs.declared.run_error.RunError.{RunError}
 use Rattle.ht_app.specs.declared.run_error.RunError.TheVariants.{Denied, Usage, TooLong, Refused, ReadFault, WriteFault, NoMemory, BadTests}
 use Rattle.ht_app.specs.Errors.{judged_error_of}
-use Rattle.ht_app.specs.Judging.{AreFine, DeniesReport, IfDenied, IsFineReport, IsReadAs, IsReportFileTrouble, ReportBasis, StandsForReport, StopsAtLong, StopsIn}
+use Rattle.ht_app.specs.Inputs.{MayHold}
+use Rattle.ht_app.specs.Judging.{AreFine, DeniesReport, FileCause, IfDenied, IsDeniedBy, IsOfReport, IsFineReport, IsReadAs, IsReportFileTrouble, ReportBasis, StandsForReport, StopsAtLong, StopsIn}
 
 -- ---- what a judge stands for contradicts nothing
 
@@ -71,6 +74,16 @@ judged_is_fine v basis lines h =
       agrees = subst (λ c. ¬ ContradictsTests c basis.representatives basis.list lines) h.circuit
           (subst (λ r. ¬ ContradictsTests v.circuit r basis.list lines) h.representatives agrees);
     }
+
+pub stands_by : (v : ReportJudgeView) (basis : ReportBasis) (lines : List (List ℕ)) → IsCircuit basis.circuit
+    → v.circuit ≡ basis.circuit → v.representatives ≡ basis.representatives → JudgesReport v basis.list lines
+    → StandsForReport v basis lines
+stands_by v basis lines is circuit representatives judges = record {
+  well_formed = is;
+  circuit = circuit;
+  representatives = representatives;
+  judges = judges;
+}
 
 -- ---- a line that isn't taken
 
@@ -120,8 +133,9 @@ module _ (basis : ReportBasis) (text : List ℕ) where
       → IsFineReport basis (take n lines)
   fine_at count n fine inside some within =
       let last : n - 1 < length lines = omega (arith, some, within, inside) in
+      let same : n ≡ suc (n - 1) = omega (arith, some) in
       let grown : take n lines ≡ take (n - 1) lines ++ get_or lines (n - 1) [] ∷ [] =
-      ap (λ k. take k lines) (omega (arith, some)) ∙ take-suc lines (n - 1) [] last in
+      ap (λ k. take k lines) same ∙ take-suc lines (n - 1) [] last in
       subst (IsFineReport basis) (sym grown) (fine.each (n - 1) (omega (arith, some, within)))
 
   no_trouble_before : (count : ℕ) → IsCircuit basis.circuit → AreFine Fine text count → count ≤ length lines
@@ -140,8 +154,9 @@ module _ (basis : ReportBasis) (text : List ℕ) where
       ⊎ ContradictsTests basis.circuit basis.representatives basis.list (take count lines ++ get_or lines count [] ∷ [])
       → Trouble-at (count + 1)
   refused_line count there wrong =
+      let same : suc count ≡ count + 1 = omega arith in
       let grown : take count lines ++ get_or lines count [] ∷ [] ≡ take (count + 1) lines =
-      sym (take-suc lines count [] there) ∙ ap (λ k. take k lines) (omega arith) in
+      sym (take-suc lines count [] there) ∙ ap (λ k. take k lines) same in
       elim wrong [
         | inl none ↦ inl (inl (record {
           counted = (omega arith, omega (arith, there));
@@ -191,15 +206,15 @@ module _ (basis : ReportBasis) (text : List ℕ) where
       → number ≡ length read + 1
       → ((budget : ℕ) (saids : List Said) → ¬ IsSearchReport basis.circuit basis.representatives read budget saids)
       → IsFirst Trouble-at number
-  first_missing read number is as is_number none =
-      let size : length read ≡ length lines = ap length (sym as.lines_are) in
+  first_missing read number is got is_number none =
+      let size : length read ≡ length lines = ap length (sym got.lines_are) in
       subst (IsFirst Trouble-at) (sym is_number) (record {
         wrong = inl (inr (inl (record {
           line = omega (arith, size);
           none = subst (λ l. (budget : ℕ) (saids : List Said)
-              → ¬ IsSearchReport basis.circuit basis.representatives l budget saids) (sym as.lines_are) none;
+              → ¬ IsSearchReport basis.circuit basis.representatives l budget saids) (sym got.lines_are) none;
         })));
-        first = no_trouble_before (length read) is as.fine (omega (arith, size));
+        first = no_trouble_before (length read) is got.fine (omega (arith, size));
       })
 
   pub stops_in_report : (e : RunError) → IsCircuit basis.circuit → AreClasses basis.circuit basis.representatives
@@ -227,12 +242,42 @@ module _ (basis : ReportBasis) (text : List ℕ) where
   pub ends_in_report : (v : ReportJudgeView) (read : List (List ℕ)) (e : JudgeError) → IsCircuit basis.circuit
       → v.circuit ≡ basis.circuit → v.representatives ≡ basis.representatives → IsReadAs Fine read text
       → ReportEndHasCause v read e → IfDenied (IsReportFileTrouble basis text) (judged_error_of e)
-  ends_in_report v read (judge.Denied (Report number)) is circuit representatives as h =
-      first_missing read number is as h.0 (subst (λ c. (budget : ℕ) (saids : List Said)
+  ends_in_report v read (judge.Denied (Report number)) is circuit representatives got h =
+      first_missing read number is got h.0 (subst (λ c. (budget : ℕ) (saids : List Said)
       → ¬ IsSearchReport c basis.representatives read budget saids) circuit
       (subst (λ r. (budget : ℕ) (saids : List Said) → ¬ IsSearchReport v.circuit r read budget saids) representatives
       h.1))
-  ends_in_report v read (judge.Denied (Tests number)) is circuit representatives as h = absurd h
-  ends_in_report v read (judge.Denied (Proofs number)) is circuit representatives as h = absurd h
-  ends_in_report v read (judge.Denied (Fault number)) is circuit representatives as h = absurd h
-  ends_in_report v read judge.NoMemory is circuit representatives as h = tt
+  ends_in_report v read (judge.Denied (Tests number)) is circuit representatives got h = absurd h
+  ends_in_report v read (judge.Denied (Proofs number)) is circuit representatives got h = absurd h
+  ends_in_report v read (judge.Denied (Fault number)) is circuit representatives got h = absurd h
+  ends_in_report v read judge.NoMemory is circuit representatives got h = tt
+
+-- ---- whose trouble it is
+
+of_report : (basis : ReportBasis) (before : List (List ℕ)) (line : List ℕ) (trouble : Trouble)
+    → DeniesReport basis before line (judge.Denied trouble) → IsOfReport trouble
+of_report basis before line (Report number) h = tt
+of_report basis before line (Tests number) h = absurd h
+of_report basis before line (Proofs number) h = absurd h
+of_report basis before line (Fault number) h = absurd h
+
+pub denied_in_report : (basis : ReportBasis) (trouble : Trouble) → IsDeniedBy (DeniesReport basis) Report trouble
+    → IsOfReport trouble
+denied_in_report basis trouble (inl (before, line, h)) = of_report basis before line trouble h
+denied_in_report basis trouble (inr (line, is)) = subst IsOfReport (sym is) tt
+
+pub report_end_cause : (v : ReportJudgeView) (read : List (List ℕ)) (name : List ℕ) (a b : DeskView) (e : JudgeError)
+    → MayHold a name → ReportEndHasCause v read e → FileCause name IsOfReport a b (judged_error_of e)
+report_end_cause v read name a b (judge.Denied (Report number)) there h = (there, tt)
+report_end_cause v read name a b (judge.Denied (Tests number)) there h = absurd h
+report_end_cause v read name a b (judge.Denied (Proofs number)) there h = absurd h
+report_end_cause v read name a b (judge.Denied (Fault number)) there h = absurd h
+report_end_cause v read name a b judge.NoMemory there h = tt
+
+pub true_by_basis : (v : ReportJudgeView) (basis : ReportBasis) (lines : List (List ℕ)) (budget : ℕ)
+    (saids : List Said) → v.circuit ≡ basis.circuit → v.representatives ≡ basis.representatives
+    → IsTrueReport v.circuit v.representatives basis.list lines budget saids
+    → IsTrueReport basis.circuit basis.representatives basis.list lines budget saids
+true_by_basis v basis lines budget saids circuit representatives h =
+    subst (λ c. IsTrueReport c basis.representatives basis.list lines budget saids) circuit
+    (subst (λ r. IsTrueReport v.circuit r basis.list lines budget saids) representatives h)

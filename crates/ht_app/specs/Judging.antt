@@ -35,11 +35,12 @@ pub record IsReadAs (IsFine : List (List ℕ) → List ℕ → Type 0) (lines : 
   pub fine : AreFine IsFine text (length lines)
   pub short : length text ≤ max_text_bytes
 
--- A judge stands for the lines of the file.
+-- A judge stands for the lines of the file. The first line has its bytes, and each other at least one.
 pub record StandsForFile (Stands : List (List ℕ) → Type 0) (IsFine : List (List ℕ) → List ℕ → Type 0) (port : InPort)
     (name : List ℕ) (old : DeskView) : Type 0 where
   pub lines : List (List ℕ)
   pub stands : Stands lines
+  pub few : length (get_or lines 0 []) + length lines ≤ max_text_bytes + 1
   pub texts : (text : List ℕ) → IsInput port name text old → IsReadAs IsFine lines text
 
 -- Nothing is wrong before a line, in which the text doesn't become too long, and which the judge doesn't take.

@@ -76,8 +76,8 @@ fn judge<D: Desk>(
         (D.view desk.old) (D.view desk.new)) }
 {
     let circuit = read_netlist(alloc, desk, netlist)?;
-    let list = read_checked_tests(alloc, desk, tests, &circuit)?;
     let listed = list_faults(alloc, &circuit)?;
+    let list = read_checked_tests(alloc, desk, tests, &circuit)?;
     let places = first_detections(alloc, &circuit, &listed.faults, &listed.classes, &list)?;
     let claims = read_report(alloc, desk, report, &circuit, &listed, &places)?;
     read_proofs(alloc, desk, proofs, &circuit, &listed, &claims)?;
