@@ -118,7 +118,7 @@ text_has_lines entries h =
     lines_append (line.Head ∷ flat_map entry_lines entries) (line.End ∷ []) (tt, entries_have_lines entries h.each)
     (tt, tt)
 
-reading_has_lines : (at : ProofReading) → IsProofReading at → AreLines (lines_taken at)
+pub reading_has_lines : (at : ProofReading) → IsProofReading at → AreLines (lines_taken at)
 reading_has_lines before_first h = tt
 reading_has_lines after_first h = (tt, tt)
 reading_has_lines (within_entry closed n p) h =
@@ -139,7 +139,7 @@ other_texts (t ∷ ts) = ts
 no_texts : (t : List ℕ) (ts : List (List ℕ)) → [] ≡ t ∷ ts → ⊥
 no_texts t ts e = cc
 
-texts_same : (ks ls : List ProofLine) → AreLines ks → AreLines ls → map line_text ks ≡ map line_text ls → ks ≡ ls
+pub texts_same : (ks ls : List ProofLine) → AreLines ks → AreLines ls → map line_text ks ≡ map line_text ls → ks ≡ ls
 texts_same [] [] h i e = refl
 texts_same [] (l ∷ ls) h i e = absurd (no_texts (line_text l) (map line_text ls) e)
 texts_same (k ∷ ks) [] h i e = absurd (no_texts (line_text k) (map line_text ks) (sym e))

@@ -9,7 +9,7 @@ use Rattle.ht_entries.specs.declared.numbered.Numbered.{Numbered}
 use Rattle.ht_entries.specs.ProofLines.{line_text}
 use Rattle.ht_entries.specs.EntryLines.{proof_lines}
 use Rattle.ht_entries.specs.EntryTexts.{AreEntryTexts}
-use Rattle.ht_entries.specs.ProofReading.{ProofReading, closed_of, AreProofLines, IsMalformedAfter}
+use Rattle.ht_entries.specs.ProofReading.{ProofReading, before_first, after_first, within_entry, after_last, closed_of, AreProofLines, IsMalformedAfter}
 use Rattle.ht_entries.specs.ReaderStands.{ProofReaderView, ProofStands}
 use Rattle.ht_valid.specs.ValidFiles.{Content, HasEntry, IsBacking, IsOwn, NeedsEntry}
 use Rattle.ht_valid.specs.FirstTrouble.{IsFaultTrouble, IsMissing}
@@ -33,6 +33,13 @@ pub record IsClaimed (v : ProofJudgeView) (content : Content) : Type 0 where
   pub budget : content.budget ≡ v.budget
   pub saids : content.saids ≡ v.saids
 
+-- before the first entry none was begun
+abbrev pub IsBegun : ProofReading → ℕ → Type 0
+IsBegun before_first begun = begun ≡ 0
+IsBegun after_first begun = begun ≡ 0
+IsBegun (within_entry closed number p) begun = begun ≡ number
+IsBegun (after_last closed) begun = Unit {0}
+
 -- The judge is live and stands for these lines: they begin a proofs text, each entry that is whole backs what the report
 -- says of its fault, and none that is due is missing.
 pub record JudgesProofs (v : ProofJudgeView) (content : Content) (lines : List (List ℕ)) : Type 0 where
@@ -40,6 +47,7 @@ pub record JudgesProofs (v : ProofJudgeView) (content : Content) (lines : List (
   pub claimed : IsClaimed v content
   pub at : ProofReading
   pub stands : ProofStands v.reader lines at
+  pub begun : IsBegun at v.begun
   pub backed : All (IsBacking v.circuit v.representatives content) (closed_of at)
   pub complete : (i : ℕ) → ¬ IsMissing v.circuit v.representatives content at i
 

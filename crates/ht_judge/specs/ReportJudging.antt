@@ -1,13 +1,18 @@
 -- A judge of the report of a search: the lines that it stands for, and why it denies.
-use Rattle.std.specs.Prelude.{◌≡◌, ◌⊎◌, ◌<◌, ◌+◌, ◌++◌, ◌∷◌, ℕ, List, [], Bool, true, length, IsTrue, Option, Result, IfOk, IfErr, is_ok}
+use Rattle.std.specs.Prelude.{◌≡◌, ◌⊎◌, ◌<◌, ◌+◌, ◌++◌, ◌∷◌, ℕ, List, [], Bool, true, length, IsTrue, Option, Some, None, Result, IfOk, IfErr, is_ok}
 use Rattle.ht_net.specs.declared.place.Place.{Place}
 use Rattle.ht_net.specs.Netlist.{Netlist}
 use Rattle.ht_collapse.specs.Classes.{is_representative}
+use Rattle.ht_texts.specs.declared.item.Item.{Item}
+use Rattle.ht_texts.specs.declared.item.Item.TheVariants.{Head, Verdict, Member, Total}
 use Rattle.ht_texts.specs.declared.said.Said.{Said}
+use Rattle.ht_texts.specs.declared.said.Said.TheVariants.{Detected, Untestable, Aborted, Undetected}
+use Rattle.ht_texts.specs.declared.total.Sums.{Sums}
 use Rattle.ht_texts.specs.Verdicts.{said_at}
 use Rattle.ht_texts.specs.SearchReports.{IsReportFront, IsSearchReport}
-use Rattle.ht_texts.specs.ReportReading.{ReportReading, before_report, in_report, after_report, ReportReadsTo}
-use Rattle.ht_grade.specs.Detections.{AreFirstDetections}
+use Rattle.ht_texts.specs.ReportReading.{ReportReading, before_report, in_report, after_report}
+use Rattle.ht_texts.specs.ReportStands.{ReportView, ReportStands}
+use Rattle.ht_grade.specs.Detections.{AreFirstDetections, place_at}
 use Rattle.ht_valid.specs.ValidFiles.{AgreesWithTests, IsOwn}
 use Rattle.ht_valid.specs.FirstTrouble.{ContradictsTests}
 use Rattle.ht_valid.specs.declared.trouble.Trouble.TheVariants.{Report}
@@ -19,8 +24,10 @@ pub record ReportJudgeView : Type 0 where
   pub representatives : List ℕ
   -- the first detection of each representative
   pub detections : List (Option Place)
-  -- how many lines were read, and what they say: the budget, and what is said of the faults so far
+  -- how many lines were read, of how many classes each verdict was said, and what the lines say: the budget, and what is
+  -- said of the faults so far
   pub lines_read : ℕ
+  pub sums : Sums
   pub budget : ℕ
   pub saids : List Said
   pub live : Bool
@@ -31,14 +38,49 @@ IsKept before_report budget saids = saids ≡ []
 IsKept (in_report said_budget said) budget saids = (budget ≡ said_budget) × (saids ≡ said)
 IsKept (after_report said_budget said) budget saids = (budget ≡ said_budget) × (saids ≡ said)
 
+-- the reader that has read these lines
+abbrev pub reader_of : ReportJudgeView → ReportView
+reader_of v = record {
+  circuit = v.circuit;
+  representatives = v.representatives;
+  lines_read = v.lines_read;
+  sums = v.sums;
+  live = true;
+}
+
+-- what a line says of the faults: of one, or of none
+abbrev pub saids_in : Item → List Said
+saids_in (Head budget) = []
+saids_in (Verdict fault said) = said ∷ []
+saids_in (Member fault) = Undetected ∷ []
+saids_in Total = []
+
+-- the budget after a line, which the head alone has
+abbrev pub budget_with : Item → ℕ → ℕ
+budget_with (Head budget) before = budget
+budget_with (Verdict fault said) before = before
+budget_with (Member fault) before = before
+budget_with Total before = before
+
+-- what is said agrees with the first detection, or with none
+abbrev pub AgreesWithPlace : Option Place → Said → Type 0
+AgreesWithPlace (Some place) (Detected said) = place ≡ said
+AgreesWithPlace None Untestable = Unit {0}
+AgreesWithPlace None Aborted = Unit {0}
+AgreesWithPlace place said = ⊥
+
+-- what a line says agrees with the first detections
+abbrev pub AgreesWithPlaces : List (Option Place) → Item → Type 0
+AgreesWithPlaces places (Verdict fault said) = AgreesWithPlace (place_at places fault) said
+AgreesWithPlaces places item = Unit {0}
+
 -- The judge is live and stands for these lines: they begin a report, and what they say agrees with the vectors.
 pub record JudgesReport (v : ReportJudgeView) (list : List (List Bool)) (lines : List (List ℕ)) : Type 0 where
   pub live : IsTrue v.live
   pub first : AreFirstDetections v.circuit v.representatives list v.detections
   pub at : ReportReading
-  pub read : ReportReadsTo v.circuit v.representatives lines at
+  pub stands : ReportStands (reader_of v) lines at
   pub kept : IsKept at v.budget v.saids
-  pub lines_read : v.lines_read ≡ length lines
   pub agree : (i : ℕ) → i < length v.saids → is_representative v.representatives i ≡ true
       → AgreesWithTests v.circuit list i (said_at v.saids i)
 

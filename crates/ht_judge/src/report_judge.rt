@@ -1,16 +1,19 @@
 //! A judge of a report.
-ghost use Rattle.std.specs.Prelude.{◌≡◌, [], true, List, Bool, ℕ, length, IsTrue, IfOk, IfErr};
+ghost use Rattle.std.specs.Prelude.{◌≡◌, ◌↔◌, ◌++◌, [], true, List, Bool, ℕ, length, IsTrue, IfOk, IfErr, OnOk};
 ghost use Rattle.ht_faults.specs.Sites.{faults_of};
 ghost use Rattle.ht_collapse.specs.Classes.{AreClasses};
-ghost use Rattle.ht_grade.specs.Detections.{AreFirstDetections};
+ghost use Rattle.ht_grade.specs.Detections.{AreFirstDetections, place_at};
 ghost use Rattle.ht_texts.specs.SearchReports.{IsBudget};
+ghost use Rattle.ht_valid.specs.declared.trouble.Trouble.TheVariants as trouble;
+ghost use Rattle.ht_judge.specs.declared.judge_error.JudgeError.TheVariants as error;
+ghost use Rattle.ht_judge.specs.ReportJudging.{AgreesWithPlace, AgreesWithPlaces, budget_with, saids_in};
 ghost use Rattle.ht_judge.specs.ReportJudging.{JudgesReport, ReportJudged, IsTrueReport, ReportEndHasCause};
 
 use crate::judge_error::JudgeError;
 use ht_collapse::Classes;
 use ht_faults::FaultList;
 use ht_net::{Circuit, Place};
-use ht_texts::{ReportReader, Said};
+use ht_texts::{Item, ReportReader, Said};
 use ht_valid::Trouble;
 use std::alloc::{AllocError, Global};
 use std::marker::Model;
@@ -26,10 +29,10 @@ pub struct Claims {
 /// Judges the report of a search, line by line, beside the first detections of its tests. It keeps what the lines say.
 #[derive(Drop)]
 pub struct ReportJudge<'c> {
-    alloc: Global,
     reader: ReportReader<'c>,
     // the first detection of each representative, by number from 0
     detections: &'c [Option<Place>],
+    // that of the head, and some budget before the head is read
     budget: u64,
     saids: Vec<Said>,
     live: bool,
@@ -40,15 +43,80 @@ impl<'c> Model for ReportJudge<'c> {
 
     ghost Value = { ReportJudgeView };
 
-    ghost view = { λ a. record {
-      circuit = a.reader.circuit;
-      representatives = a.reader.representatives;
-      detections = a.detections.now;
-      lines_read = a.reader.lines_read;
-      budget = a.budget;
-      saids = a.saids.items;
-      live = a.live;
-    } };
+    ghost use Rattle.ht_judge.specs.ReportJudgeOf.{report_judge_view, KeepsReport};
+
+    ghost view = { report_judge_view };
+
+    ghost invariant = { KeepsReport };
+}
+
+// A line of the report is the first trouble.
+fn denied(line: u64) -> JudgeError
+    ensures { result ≡ error.Denied (trouble.Report line) }
+{
+    JudgeError::Denied {
+        trouble: Trouble::Report { line },
+    }
+}
+
+// The first detection of a fault, or none where the number is of no fault.
+fn place_of(detections: &[Option<Place>], fault: u32) -> Option<Place>
+    ensures { result ≡ place_at detections.now fault }
+{
+    let i = fault as usize;
+    if i < detections.len() {
+        detections[i]
+    } else {
+        None
+    }
+}
+
+// Whether what is said of a fault agrees with its first detection.
+fn agrees_with(place: Option<Place>, said: Said) -> bool
+    ensures { IsTrue result ↔ AgreesWithPlace place said }
+{
+    match place {
+        Some(place) => match said {
+            Said::Detected(at) => place == at,
+            Said::Untestable | Said::Aborted | Said::Undetected => false,
+        },
+        None => match said {
+            Said::Untestable | Said::Aborted => true,
+            Said::Detected(_) | Said::Undetected => false,
+        },
+    }
+}
+
+// Whether what a line says agrees with the first detections.
+fn agrees(detections: &[Option<Place>], item: Item) -> bool
+    ensures { IsTrue result ↔ AgreesWithPlaces detections.now item }
+{
+    match item {
+        Item::Verdict { fault, said } => agrees_with(place_of(detections, fault), said),
+        Item::Head { .. } | Item::Member { .. } | Item::Total => true,
+    }
+}
+
+// Keeps what a line says.
+fn keep(budget: &mut u64, saids: &mut Vec<Said>, item: Item) -> Result<(), AllocError>
+    ensures budget { budget.new ≡ budget_with item budget.old }
+    ensures saids { OnOk result (saids.new.items ≡ saids.old.items ++ saids_in item) }
+{
+    match item {
+        Item::Head { budget: said } => {
+            *budget = said;
+            Ok(())
+        },
+        Item::Verdict { said, .. } => {
+            saids.push(said)?;
+            Ok(())
+        },
+        Item::Member { .. } => {
+            saids.push(Said::Undetected)?;
+            Ok(())
+        },
+        Item::Total => Ok(()),
+    }
 }
 
 impl<'c> ReportJudge<'c> {
@@ -66,7 +134,6 @@ impl<'c> ReportJudge<'c> {
     ) -> Result<ReportJudge<'c>, AllocError>
         requires faults { faults.now ≡ faults_of circuit.now }
         requires classes { AreClasses circuit.now classes.now }
-        requires each { length detections.now ≡ length (faults_of circuit.now) }
         ensures stands { (list : List (List Bool))
             → AreFirstDetections circuit.now classes.now list detections.now
             → IfOk result (λ judge. JudgesReport judge list []) }
@@ -74,7 +141,14 @@ impl<'c> ReportJudge<'c> {
         ensures classes { IfOk result (λ judge. judge.representatives ≡ classes.now) }
         ensures live { IfOk result (λ judge. judge.live ≡ true) }
     {
-        Err(AllocError)
+        let saids = Vec::with_capacity(alloc, faults.len() as usize)?;
+        Ok(ReportJudge {
+            reader: ReportReader::new(circuit, faults, classes),
+            detections,
+            budget: 1,
+            saids,
+            live: true,
+        })
     }
 
     /// Whether `line` may be called: not after an error.
@@ -94,7 +168,17 @@ impl<'c> ReportJudge<'c> {
         ensures { ReportJudged self.old self.new line.now result }
     {
         self.live = false;
-        Err(JudgeError::NoMemory)
+        let item = match self.reader.line(line) {
+            Ok(item) => item,
+            Err(malformed) => return Err(denied(malformed.line)),
+        };
+        if !agrees(self.detections, item) {
+            // after the head there is a line for each fault
+            return Err(denied(self.saids.len() as u64 + 2));
+        }
+        keep(&mut self.budget, &mut self.saids, item)?;
+        self.live = true;
+        Ok(())
     }
 
     /// What the whole report says.
@@ -110,6 +194,12 @@ impl<'c> ReportJudge<'c> {
         ensures err { (list : List (List Bool)) (lines : List (List ℕ))
             → JudgesReport self.entry list lines → IfErr result (ReportEndHasCause self.entry lines) }
     {
-        Err(JudgeError::NoMemory)
+        match self.reader.end() {
+            Ok(()) => Ok(Claims {
+                budget: self.budget,
+                saids: self.saids,
+            }),
+            Err(malformed) => Err(denied(malformed.line)),
+        }
     }
 }

@@ -5,3 +5,7 @@ pub mod OutputLaws
 pub mod TokenTextLaws
 pub mod SweepTextLaws
 pub mod EntryTextLaws
+pub mod NextLaws
+pub mod ReportTroubleLaws
+pub mod ProofTroubleLaws
+pub mod TroubleLaws

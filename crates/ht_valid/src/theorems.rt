@@ -1,5 +1,5 @@
 //! What follows from valid files. Each theorem is the contract of a function that does nothing.
-ghost use Rattle.std.specs.Prelude.{◌<◌, ◌≤◌, ◌+◌, ℕ, List, length};
+ghost use Rattle.std.specs.Prelude.{◌≡◌, ◌<◌, ◌≤◌, ◌+◌, ℕ, List, length};
 ghost use Rattle.ht_net.specs.declared.fault.Fault.{Fault};
 ghost use Rattle.ht_net.specs.Netlist.{Netlist, IsCircuit};
 ghost use Rattle.ht_faults.specs.Sites.{faults_of};
@@ -8,7 +8,9 @@ ghost use Rattle.ht_tree.specs.declared.entry.Entry.{Entry};
 ghost use Rattle.ht_tree.specs.declared.limits.TheConstants.{MAX_BUDGET};
 ghost use Rattle.ht_tree.specs.Entries.{Passes};
 ghost use Rattle.ht_entries.specs.EntryTexts.{IsEntryText};
+ghost use Rattle.ht_valid.specs.declared.trouble.Trouble.{Trouble};
 ghost use Rattle.ht_valid.specs.ValidFiles.{Content, AreValid};
+ghost use Rattle.ht_valid.specs.FirstTrouble.{IsFirstTrouble};
 ghost use Rattle.ht_valid.specs.TrueVerdicts.{AreDecided, HaveTrueVerdicts};
 
 /// Each listed fault has one verdict in valid files, and it is true.
@@ -33,4 +35,19 @@ pub fn passing_entries_have_a_text()
     ensures { (c : Netlist) (fault : Fault) (budget i : ℕ) (entry : Entry) → IsCircuit c
         → i < length (faults_of c) → budget ≤ MAX_BUDGET → Passes c fault budget entry
         → IsEntryText (record { number = i + 1; entry = entry }) }
+{}
+
+/// Valid files have no first trouble.
+pub fn valid_files_have_no_trouble()
+    ensures { (c : Netlist) (representatives tests report proofs : List ℕ) (content : Content)
+        (trouble : Trouble) → IsCircuit c
+        → AreValid c representatives tests report proofs content
+        → ¬ IsFirstTrouble c representatives tests report proofs trouble }
+{}
+
+/// Files have at most one first trouble.
+pub fn files_have_one_trouble()
+    ensures { (c : Netlist) (representatives tests report proofs : List ℕ) (a b : Trouble)
+        → IsCircuit c → IsFirstTrouble c representatives tests report proofs a
+        → IsFirstTrouble c representatives tests report proofs b → a ≡ b }
 {}

@@ -1,0 +1,83 @@
+-- What the calls that a line of proofs makes find: of the entry that it ends, and of the entries that are due with it.
+use Rattle.std.specs.Prelude.{◌≡◌, ◌<◌, ◌≤◌, ◌-◌, ℕ, List, [], true, length, min, Option, Some, None, Result, Ok, Err, IsOk}
+use Rattle.ht_collapse.specs.Classes.{is_representative}
+use Rattle.ht_texts.specs.declared.said.Said.{Said}
+use Rattle.ht_texts.specs.Verdicts.{said_at}
+use Rattle.ht_entries.specs.declared.numbered.Numbered.{Numbered}
+use Rattle.ht_entries.specs.declared.reader_state.Stand.{Stand}
+use Rattle.ht_entries.specs.declared.reader_state.Stand.TheVariants.{Head, Entry, End}
+use Rattle.ht_entries.specs.declared.text_error.TextError.{TextError}
+use Rattle.ht_entries.specs.declared.text_error.TextError.TheVariants as read
+use Rattle.ht_valid.specs.ValidFiles.{Content, IsBacking, NeedsEntry}
+use Rattle.ht_valid.specs.declared.trouble.Trouble.TheVariants.{Proofs, Fault}
+use Rattle.ht_judge.specs.declared.judge_error.JudgeError.{JudgeError}
+use Rattle.ht_judge.specs.declared.judge_error.JudgeError.TheVariants.{Denied, NoMemory}
+use Rattle.ht_judge.specs.ProofJudging.{ProofJudgeView}
+
+-- what stops a reader stops its judge
+abbrev pub stopped_by : TextError → JudgeError
+stopped_by (read.BadText line) = Denied (Proofs line)
+stopped_by read.NoMemory = NoMemory
+
+-- ---- the entry that a line ends
+
+-- what the report says, with no vectors and no entries
+abbrev pub claimed : ProofJudgeView → Content
+claimed v = record { list = []; budget = v.budget; saids = v.saids; entries = [] }
+
+-- a number, from 1, is that of a representative
+pub record IsOwnNumber (representatives : List ℕ) (number : ℕ) : Type 0 where
+  pub counted : (0 < number) × (number ≤ length representatives)
+  pub own : is_representative representatives (number - 1) ≡ true
+
+abbrev pub DeniesEntry : ProofJudgeView → Numbered → JudgeError → Type 0
+DeniesEntry v e (Denied (Fault number)) =
+    (number ≡ e.number) × (¬ IsBacking v.circuit v.representatives (claimed v) e)
+DeniesEntry v e (Denied other) = ⊥
+DeniesEntry v e NoMemory = Unit {0}
+
+-- the entry is judged: it backs what is said of its fault, or is denied
+abbrev pub JudgesEntry : ProofJudgeView → Numbered → Result (Unit {0}) JudgeError → Type 0
+JudgesEntry v e (Ok u) = IsBacking v.circuit v.representatives (claimed v) e
+JudgesEntry v e (Err error) = DeniesEntry v e error
+
+-- where there is none, nothing is judged
+abbrev pub JudgesEnded : ProofJudgeView → Option Numbered → Result (Unit {0}) JudgeError → Type 0
+JudgesEnded v None result = IsOk result
+JudgesEnded v (Some e) result = JudgesEntry v e result
+
+-- ---- the entries that are due
+
+-- the faults, by number from 0, whose entries are due are the first ones: how many of so many
+abbrev pub due_of : Stand → ℕ → ℕ
+due_of Head count = 0
+due_of (Entry number) count = min (number - 1) count
+due_of End count = count
+
+-- the number of the last entry that was begun
+abbrev pub begun_by : Stand → ℕ → ℕ
+begun_by Head before = before
+begun_by (Entry number) before = number
+begun_by End before = before
+
+-- an entry is needed for this representative
+pub record IsNeeded (representatives : List ℕ) (saids : List Said) (i : ℕ) : Type 0 where
+  pub own : is_representative representatives i ≡ true
+  pub needs : NeedsEntry (said_at saids i)
+
+-- the least number from one on and below another for which an entry is needed
+pub record IsFirstNeeded (representatives : List ℕ) (saids : List Said) (from to i : ℕ) : Type 0 where
+  pub inside : (from ≤ i) × (i < to)
+  pub needed : IsNeeded representatives saids i
+  pub first : (k : ℕ) → from ≤ k → k < i → ¬ IsNeeded representatives saids k
+
+abbrev pub DeniesDue : ProofJudgeView → ℕ → JudgeError → Type 0
+DeniesDue v due (Denied (Fault number)) =
+    (0 < number) × IsFirstNeeded v.representatives v.saids v.begun due (number - 1)
+DeniesDue v due (Denied other) = ⊥
+DeniesDue v due NoMemory = ⊥
+
+-- from the number of the last entry that was begun on no entry is needed that is due, or the least one is denied
+abbrev pub JudgesDue : ProofJudgeView → ℕ → Result (Unit {0}) JudgeError → Type 0
+JudgesDue v due (Ok u) = (k : ℕ) → v.begun ≤ k → k < due → ¬ IsNeeded v.representatives v.saids k
+JudgesDue v due (Err error) = DeniesDue v due error

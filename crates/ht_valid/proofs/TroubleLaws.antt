@@ -1,0 +1,252 @@
+-- Valid files have no first trouble, and files have at most one.
+use Rattle.std.proofs.Common.{◌≡◌, ◌∙◌, ◌-◌, ℕ, Bool, List, [], ◌∷◌, ◌++◌, Option, Some, None, inl, inr, length, length-append, refl, sym, ap, subst, arith}
+use Rattle.std.specs.List.{All}
+use Rattle.std.proofs.lemmas.Bool.{cases_lt}
+use Rattle.std.proofs.lemmas.List.{same_from_push}
+use Rattle.std.proofs.lemmas.List.Elements.{All-cons, All-head, All-nil, All-tail}
+use Rattle.ht_ports.specs.LineRule.{lines_of}
+use Rattle.ht_net.specs.Netlist.{IsCircuit, Netlist}
+use Rattle.ht_texts.specs.Tests.{IsTestText, line_at}
+use Rattle.ht_texts.specs.SearchReports.{IsReportText}
+use Rattle.ht_texts.specs.Verdicts.{said_at}
+use Rattle.ht_texts.proofs.ReportFrontLaws.{one_report}
+use Rattle.ht_texts.proofs.TestLaws.{never_both, one_list, one_line as one_malformed_test}
+use Rattle.ht_entries.specs.declared.numbered.Numbered.{Numbered}
+use Rattle.ht_entries.specs.MalformedProofs.{IsWrongProofLine}
+use Rattle.ht_entries.specs.ProofReading.{ProofReading, EndsEntry, closed_of}
+use Rattle.ht_entries.proofs.MalformedLaws.{one_place}
+use Rattle.ht_valid.specs.declared.trouble.Trouble.{Trouble}
+use Rattle.ht_valid.specs.declared.trouble.Trouble.TheVariants.{Tests, Report, Proofs, Fault}
+use Rattle.ht_valid.specs.FirstTrouble.{AreReadTo, EndsWithLine, EndsWrongEntry, IsFaultTrouble, IsFaultTroubleAt, IsFirst, IsFirstFault, IsFirstProofLine, IsFirstTrouble, IsMissing, IsProofTrouble, IsReportTrouble, LeavesMissing}
+use Rattle.ht_valid.specs.ValidFiles.{AgreesWithTests, AreValid, Backs, Content, IsBacking, IsOwn, NeedsEntry}
+use Rattle.ht_valid.proofs.ProofTroubleLaws.{nothing_wrong, text_is_not_malformed}
+use Rattle.ht_valid.proofs.ReportTroubleLaws.{report_is_right}
+
+-- one number is the least
+one_first : (P Q : ℕ → Type 0) (n m : ℕ) → ((k : ℕ) → P k → Q k) → ((k : ℕ) → Q k → P k) → IsFirst P n → IsFirst Q m
+    → n ≡ m
+one_first P Q n m on back a b = elim (cases_lt n m) [
+  | inl less ↦ absurd (b.first n less (on n a.wrong))
+  | inr upto ↦ elim (cases_lt m n) [
+    | inl more ↦ absurd (a.first m more (back m b.wrong))
+    | inr down ↦ omega (arith, upto, down)
+  ]
+]
+
+abbrev number_in : Option Numbered → ℕ
+number_in None = 0
+number_in (Some e) = e.number
+
+-- ---- contents that say the same
+
+module _ (c : Netlist) (representatives : List ℕ) where
+  -- the same budget, and the same said of each representative
+  pub record Same (a b : Content) : Type 0 where
+    pub budget : a.budget ≡ b.budget
+    pub said : (i : ℕ) → IsOwn c representatives i → said_at a.saids i ≡ said_at b.saids i
+
+  turned : (a b : Content) → Same a b → Same b a
+  turned a b same = record { budget = sym same.budget; said = λ i own. sym (same.said i own) }
+
+  -- a report says one thing
+  reads_same : (report : List ℕ) (a b : Content) → IsCircuit c
+      → IsReportText c representatives report a.budget a.saids
+      → IsReportText c representatives report b.budget b.saids → Same a b
+  reads_same report a b circuit of_a of_b =
+      let same = one_report c representatives (lines_of report) a.budget b.budget a.saids b.saids circuit of_a.report
+      of_b.report in
+      record { budget = same.budgets; said = λ i own. same.verdicts i own.own }
+
+  backing_same : (a b : Content) (e : Numbered) → Same a b → IsBacking c representatives a e
+      → IsBacking c representatives b e
+  backing_same a b e same backing =
+      let i = e.number - 1 in record {
+        own = backing.own;
+        counted = backing.counted;
+        backs = subst (Backs c b.budget i e.entry) (same.said i backing.own)
+            (subst (λ budget. Backs c budget i e.entry (said_at a.saids i)) same.budget backing.backs);
+      }
+
+  backings_same : (a b : Content) (all : List Numbered) → Same a b → All (IsBacking c representatives a) all
+      → All (IsBacking c representatives b) all
+  backings_same a b [] same backed = All-nil (IsBacking c representatives b)
+  backings_same a b (e ∷ all) same backed =
+      All-cons (IsBacking c representatives b) e all
+      (backing_same a b e same (All-head (IsBacking c representatives a) e all backed))
+      (backings_same a b all same (All-tail (IsBacking c representatives a) e all backed))
+
+  missing_same : (a b : Content) (at : ProofReading) (i : ℕ) → Same a b → IsMissing c representatives a at i
+      → IsMissing c representatives b at i
+  missing_same a b at i same missing = record {
+    own = missing.own;
+    needs = subst NeedsEntry (same.said i missing.own) missing.needs;
+    due = missing.due;
+    none = missing.none;
+  }
+
+  fault_same : (a b : Content) (text : List ℕ) (n number : ℕ) → Same a b
+      → IsFaultTroubleAt c representatives a text n number → IsFaultTroubleAt c representatives b text n number
+  fault_same a b text n number same at = record {
+    counted = at.counted;
+    trouble = elim at.trouble [
+      | inl wrong ↦ inl (record {
+        new = wrong.new;
+        ended = wrong.ended;
+        reads = wrong.reads;
+        number_is = wrong.number_is;
+        wrong = λ backing. wrong.wrong (backing_same b a wrong.ended (turned a b same) backing);
+      })
+      | inr leaves ↦ inr (record {
+        new = leaves.new;
+        ended = leaves.ended;
+        reads = leaves.reads;
+        right = λ e is. backing_same a b e same (leaves.right e is);
+        counted = leaves.counted;
+        missing = record {
+          wrong = missing_same a b leaves.new (number - 1) same leaves.missing.wrong;
+          first = λ m less missing. leaves.missing.first m less
+              (missing_same b a leaves.new m (turned a b same) missing);
+        };
+      })
+    ];
+  }
+
+  trouble_same : (a b : Content) (text : List ℕ) (n : ℕ) → Same a b → IsProofTrouble c representatives a text n
+      → IsProofTrouble c representatives b text n
+  trouble_same a b text n same (inl malformed) = inl malformed
+  trouble_same a b text n same (inr (number, at)) = inr (number, fault_same a b text n number same at)
+
+  -- ---- one number at a line
+
+  -- a line ends one entry or none
+  one_ended : (old new : ProofReading) (x y : Option Numbered) → EndsEntry old new x → EndsEntry old new y → x ≡ y
+  one_ended old new None None a b = refl
+  one_ended old new None (Some e) a b =
+      absurd (omega (arith, ap length (sym a ∙ b), length-append (closed_of old) (e ∷ [])))
+  one_ended old new (Some e) None a b =
+      absurd (omega (arith, ap length (sym b ∙ a), length-append (closed_of old) (e ∷ [])))
+  one_ended old new (Some e) (Some f) a b =
+      ap Some (same_from_push (closed_of old) (closed_of old) e f (sym a ∙ b)).1
+
+  module _ (content : Content) (before : List (List ℕ)) (line : List ℕ) where
+    one_new : (a b : ProofReading) (x y : Option Numbered) → EndsWithLine before line a x → EndsWithLine before line b y
+        → a ≡ b
+    one_new a b x y of_a of_b = one_place (before ++ line ∷ []) a b of_a.to of_b.to
+
+    ends_one : (a b : ProofReading) (x y : Option Numbered) → EndsWithLine before line a x
+        → EndsWithLine before line b y → x ≡ y
+    ends_one a b x y of_a of_b =
+        one_ended of_a.old a x y of_a.ends
+        (subst (λ old. EndsEntry old a y) (one_place before of_b.old of_a.old of_b.from of_a.from)
+        (subst (λ new. EndsEntry of_b.old new y) (one_new b a y x of_b of_a) of_b.ends))
+
+    never_both_wrong : (m n : ℕ) → EndsWrongEntry c representatives content before line m
+        → ¬ LeavesMissing c representatives content before line n
+    never_both_wrong m n wrong leaves =
+        wrong.wrong (leaves.right wrong.ended
+        (ends_one leaves.new wrong.new leaves.ended (Some wrong.ended) leaves.reads wrong.reads))
+
+    one_number : (m n : ℕ) → IsFaultTrouble c representatives content before line m
+        → IsFaultTrouble c representatives content before line n → m ≡ n
+    one_number m n (inl a) (inl b) =
+        let same : Some a.ended ≡ Some b.ended =
+        ends_one a.new b.new (Some a.ended) (Some b.ended) a.reads b.reads in
+        a.number_is ∙ (ap number_in same ∙ sym b.number_is)
+    one_number m n (inl a) (inr b) = absurd (never_both_wrong m n a b)
+    one_number m n (inr a) (inl b) = absurd (never_both_wrong n m b a)
+    one_number m n (inr a) (inr b) =
+        let same = one_new a.new b.new a.ended b.ended a.reads b.reads in
+        let less = one_first (IsMissing c representatives content a.new) (IsMissing c representatives content b.new)
+        (m - 1) (n - 1) (λ k missing. subst (λ at. IsMissing c representatives content at k) same missing)
+        (λ k missing. subst (λ at. IsMissing c representatives content at k) (sym same) missing) a.missing b.missing in
+        let some = a.counted in
+        let other = b.counted in
+        omega (arith, less, some, other)
+
+-- ---- valid files
+
+module _ (c : Netlist) (representatives tests report proofs : List ℕ) (circuit : IsCircuit c) where
+  -- the report of tests has nothing wrong beside the same tests
+  report_right : (list other : List (List Bool)) (content : Content) (n : ℕ) → content.list ≡ list
+      → IsTestText c tests list → IsTestText c tests other
+      → IsReportText c representatives report content.budget content.saids
+      → ((i : ℕ) → IsOwn c representatives i → AgreesWithTests c content.list i (said_at content.saids i))
+      → ¬ IsFirst (IsReportTrouble c representatives other report) n
+  report_right list other content n of_content is is_other reported agrees =
+      let same : content.list ≡ other =
+      of_content ∙ one_list c tests list other is is_other in
+      report_is_right c representatives other report content.budget content.saids n circuit reported
+      (λ i own. subst (λ l. AgreesWithTests c l i (said_at content.saids i)) same (agrees i own))
+
+  pub valid_has_no_trouble : (content : Content) (trouble : Trouble)
+      → AreValid c representatives tests report proofs content
+      → ¬ IsFirstTrouble c representatives tests report proofs trouble
+  valid_has_no_trouble content (Tests n) valid trouble =
+      never_both c tests content.list n valid.vectors trouble
+  valid_has_no_trouble content (Report n) valid trouble =
+      report_right content.list trouble.0 content n refl valid.vectors trouble.1 valid.reported valid.agrees trouble.2
+  valid_has_no_trouble content (Proofs n) valid trouble =
+      text_is_not_malformed proofs content.entries n valid.proved trouble.2.malformed
+  valid_has_no_trouble content (Fault number) valid trouble =
+      let other = trouble.0 in
+      let first = trouble.2 in
+      let same = reads_same c representatives report content other circuit valid.reported trouble.1.reported in
+      nothing_wrong c representatives other content.entries proofs first.line valid.proved number
+      (backings_same c representatives content other content.entries same valid.backed)
+      (λ i own needs. valid.complete i own (subst NeedsEntry (sym (same.said i own)) needs)) first.wrong
+
+  -- ---- one trouble
+
+  report_before : (content : Content) (n : ℕ) (list : List (List Bool)) → IsTestText c tests list
+      → IsFirst (IsReportTrouble c representatives list report) n → ¬ AreReadTo c representatives tests report content
+  report_before content n list is first read =
+      report_right content.list list content n refl read.vectors is read.reported read.agrees first
+
+  one_line : (a b : Content) (n m : ℕ) → AreReadTo c representatives tests report a
+      → AreReadTo c representatives tests report b → IsFirst (IsProofTrouble c representatives a proofs) n
+      → IsFirst (IsProofTrouble c representatives b proofs) m → n ≡ m
+  one_line a b n m read_a read_b =
+      let same = reads_same c representatives report a b circuit read_a.reported read_b.reported in
+      one_first (IsProofTrouble c representatives a proofs) (IsProofTrouble c representatives b proofs) n m
+      (λ k trouble. trouble_same c representatives a b proofs k same trouble)
+      (λ k trouble. trouble_same c representatives b a proofs k (turned c representatives a b same) trouble)
+
+  malformed_or_wrong : (a b : Content) (n number : ℕ) → AreReadTo c representatives tests report a
+      → AreReadTo c representatives tests report b → IsFirstProofLine c representatives a proofs n
+      → ¬ IsFirstFault c representatives b proofs number
+  malformed_or_wrong a b n number read_a read_b line fault =
+      let same = one_line a b n fault.line read_a read_b line.first fault.first in
+      fault.well_formed (subst (IsWrongProofLine proofs) same line.malformed)
+
+  one_fault : (a b : Content) (m n : ℕ) → AreReadTo c representatives tests report a
+      → AreReadTo c representatives tests report b → IsFirstFault c representatives a proofs m
+      → IsFirstFault c representatives b proofs n → m ≡ n
+  one_fault a b m n read_a read_b of_a of_b =
+      let same = reads_same c representatives report b a circuit read_b.reported read_a.reported in
+      let line = one_line b a of_b.line of_a.line read_b read_a of_b.first of_a.first in
+      let other = fault_same c representatives b a proofs of_a.line n same
+      (subst (λ k. IsFaultTroubleAt c representatives b proofs k n) line of_b.wrong) in
+      one_number c representatives a _ (line_at proofs of_a.line) m n of_a.wrong.trouble other.trouble
+
+  pub one_trouble : (t u : Trouble) → IsFirstTrouble c representatives tests report proofs t
+      → IsFirstTrouble c representatives tests report proofs u → t ≡ u
+  one_trouble (Tests n) (Tests m) a b = ap Tests (one_malformed_test c tests n m a b)
+  one_trouble (Tests n) (Report m) a b = absurd (never_both c tests b.0 n b.1 a)
+  one_trouble (Tests n) (Proofs m) a b = absurd (never_both c tests b.0.list n b.1.vectors a)
+  one_trouble (Tests n) (Fault m) a b = absurd (never_both c tests b.0.list n b.1.vectors a)
+  one_trouble (Report n) (Tests m) a b = absurd (never_both c tests a.0 m a.1 b)
+  one_trouble (Report n) (Report m) a b =
+      let same = one_list c tests a.0 b.0 a.1 b.1 in
+      ap Report (one_first (IsReportTrouble c representatives a.0 report) (IsReportTrouble c representatives b.0 report)
+      n m (λ k wrong. subst (λ l. IsReportTrouble c representatives l report k) same wrong)
+      (λ k wrong. subst (λ l. IsReportTrouble c representatives l report k) (sym same) wrong) a.2 b.2)
+  one_trouble (Report n) (Proofs m) a b = absurd (report_before b.0 n a.0 a.1 a.2 b.1)
+  one_trouble (Report n) (Fault m) a b = absurd (report_before b.0 n a.0 a.1 a.2 b.1)
+  one_trouble (Proofs n) (Tests m) a b = absurd (never_both c tests a.0.list m a.1.vectors b)
+  one_trouble (Proofs n) (Report m) a b = absurd (report_before a.0 m b.0 b.1 b.2 a.1)
+  one_trouble (Proofs n) (Proofs m) a b = ap Proofs (one_line a.0 b.0 n m a.1 b.1 a.2.first b.2.first)
+  one_trouble (Proofs n) (Fault m) a b = absurd (malformed_or_wrong a.0 b.0 n m a.1 b.1 a.2 b.2)
+  one_trouble (Fault n) (Tests m) a b = absurd (never_both c tests a.0.list m a.1.vectors b)
+  one_trouble (Fault n) (Report m) a b = absurd (report_before a.0 m b.0 b.1 b.2 a.1)
+  one_trouble (Fault n) (Proofs m) a b = absurd (malformed_or_wrong b.0 a.0 m n b.1 a.1 b.2 a.2)
+  one_trouble (Fault n) (Fault m) a b = ap Fault (one_fault a.0 b.0 n m a.1 b.1 a.2 b.2)
