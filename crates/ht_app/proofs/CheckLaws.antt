@@ -1,19 +1,21 @@
 -- What `check` has read, and why it stops there.
-use Rattle.std.proofs.Common.{◌≡◌, ◌≢◌, inl, ℕ, List, [], Bool, IsTrue, refl, sym, ◌∙◌, ap, subst, arith}
-use Rattle.std.specs.Prelude.{IsSome}
-use Rattle.std.specs.List.{All}
+use Rattle.std.proofs.Common.{◌≡◌, ◌≢◌, inl, ℕ, List, [], Bool, true, false, IsTrue, take, refl, sym, ◌∙◌, ap, subst, arith}
+use Rattle.std.specs.Prelude.{IsSome, Option, Some, None, ◌==◌}
+use Rattle.std.specs.Io.KnownBytes.{append_known}
 use Rattle.ht_ports.specs.Causes.{Rose}
-use Rattle.ht_ports.specs.Desk.{DeskView, InCall, Holds}
+use Rattle.ht_ports.specs.Desk.{AddedPart, DeskView, InCall, Holds, Writes}
 use Rattle.ht_ports.specs.declared.ports.InPort.{InPort}
 use Rattle.ht_ports.specs.declared.ports.InPort.TheVariants as in_port
+use Rattle.ht_ports.specs.declared.ports.OutPort.{OutPort}
+use Rattle.ht_ports.specs.declared.ports.OutPort.TheVariants as out_port
+use Rattle.ht_ports.specs.declared.ports.OutPort.TheVariants.{Out}
 use Rattle.ht_net.specs.Netlist as net
 use Rattle.ht_net.specs.Netlist.{IsCircuit}
 use Rattle.ht_collapse.specs.Classes.{AreClasses}
 use Rattle.ht_texts.specs.SearchReports.{HasShortNames, IsReportText, IsSearchReport}
 use Rattle.ht_texts.specs.Tests.{IsTestText}
 use Rattle.ht_texts.specs.declared.said.Said.{Said}
-use Rattle.ht_entries.specs.declared.numbered.Numbered.{Numbered}
-use Rattle.ht_valid.specs.ValidFiles.{AreValid, Content, IsBacking}
+use Rattle.ht_valid.specs.ValidFiles.{AreValid, Content}
 use Rattle.ht_valid.specs.FirstTrouble.{AreReadTo}
 use Rattle.ht_valid.specs.declared.trouble.Trouble.{Trouble}
 use Rattle.ht_valid.specs.declared.trouble.Trouble.TheVariants.{Tests, Report, Proofs, Fault}
@@ -25,18 +27,22 @@ use Rattle.ht_app.specs.declared.run_error.RunError.{RunError}
 use Rattle.ht_app.specs.declared.run_error.RunError.TheVariants.{Denied, Usage, TooLong, Refused, ReadFault, WriteFault, NoMemory, BadTests}
 use Rattle.ht_app.specs.Inputs.{AcceptsFiles, AcceptsNetlist, AcceptsReport, AcceptsTests, AreCheckInputs, AreInputsToReport, CheckFiles, IsGoodNetlist, IsInput, MayHold}
 use Rattle.ht_app.specs.Errors.{exit_status}
-use Rattle.ht_app.specs.Changed.{ChangedOnly, IsUnread}
+use Rattle.ht_app.specs.Changed.{ChangedOnly, IsUnread, job_ports}
+use Rattle.ht_app.specs.Done.{IsDone, valid_line}
+use Rattle.ht_app.specs.Jobs.{output_name}
+use Rattle.ht_app.specs.Truncated.{CheckIsTruncated}
 use Rattle.ht_app.specs.Judging.{FileCause, IfDenied, IsOfProofs, IsOfReport, IsProofFileTrouble, IsReportFileTrouble, ProofBasis, ProofsAreRead, ReportIsRead, proof_basis, report_basis}
 use Rattle.ht_app.specs.Run.{HasCause, HaveTrouble, HasGoodReport, HasNetlist, HasTests, check_of_names}
 use Rattle.ht_app.specs.Steps.{CheckedTestsCause, reading}
-use Rattle.ht_app.proofs.ChangedLaws.{changed_by_reading, changed_trans}
+use Rattle.ht_app.proofs.ChangedLaws.{changed_by_reading, changed_by_writing, changed_trans, changed_within}
+use Rattle.ht_app.proofs.PortsLaws.{reading_within}
 use Rattle.ht_app.proofs.CauseLaws.{accepts_netlist, holds_later, input_later, known_holds, may_hold_before}
 
 -- what the report says, before an entry is read
 abbrev pub claimed : List (List Bool) → ℕ → List Said → Content
 claimed list budget saids = record { list = list; budget = budget; saids = saids; entries = [] }
 
-same_names : (names others : CheckFiles) → check_of_names names ≡ check_of_names others → names ≡ others
+pub same_names : (names others : CheckFiles) → check_of_names names ≡ check_of_names others → names ≡ others
 same_names names others is =
     let netlist : names.netlist ≡ others.netlist = cc in
     let tests : names.tests ≡ others.tests = cc in
@@ -151,12 +157,6 @@ module _ (names : CheckFiles) (c : net.Netlist) (representatives : List ℕ) whe
         report_before_there t = may_hold_before in_port.Netlist names.proofs a m h.tests.netlist.frame
             (may_hold_before in_port.Tests names.proofs m n h.tests.frame t)
 
-    -- an entry backs what the report says, whatever the entries beside it
-    backs_beside : (entries : List Numbered) → All (IsBacking c representatives content) entries
-        → All (IsBacking c representatives (record content { entries = entries })) entries
-    backs_beside entries backed = λ k e lt.
-        let one = backed k e lt in record { own = one.own; counted = one.counted; backs = one.backs }
-
     valid_files : (texts : CheckFiles) (read : ProofsAreRead (proof_basis c representatives content) names.proofs o)
         → AreCheckInputs names texts a
         → AreValid c representatives texts.tests texts.report texts.proofs
@@ -173,7 +173,8 @@ module _ (names : CheckFiles) (c : net.Netlist) (representatives : List ℕ) whe
             lines = got.0 ∙ read.complete.lines_are;
             short = got.1;
           };
-          backed = backs_beside read.complete.entries read.complete.backed;
+          backed = λ k e lt. (let one = read.complete.backed k e lt in
+              record { own = one.own; counted = one.counted; backs = one.backs });
           complete = read.complete.complete;
         }
 
@@ -455,3 +456,45 @@ pub reads_four : (names : CheckFiles) (a m n o b : DeskView) → InCall in_port.
     → InCall in_port.Report n o → InCall in_port.Proofs o b → ChangedOnly (reading (check_of_names names)) a b
 reads_four names a m n o b p q r s = let ports = reading (check_of_names names) in
     changed_trans ports a o b (reads_three names a m n o p q r) (changed_by_reading ports in_port.Proofs o b refl s)
+
+-- what it reads and then says on Out
+pub says_after : (names : CheckFiles) (status : ℕ) (a m b : DeskView) → (status == 3) ≡ false
+    → (job_ports (check_of_names names) status).writes Out ≡ true → ChangedOnly (reading (check_of_names names)) a m
+    → Writes Out m b → ChangedOnly (job_ports (check_of_names names) status) a b
+says_after names status a m b other on read says =
+    let ports = job_ports (check_of_names names) status in
+    changed_trans ports a m b
+    (changed_within (reading (check_of_names names)) ports a m (reading_within (check_of_names names) status other)
+    read) (changed_by_writing ports Out m b on (λ n name file. absurd file) says)
+
+pub fails_to_say : (names : CheckFiles) (e : RunError) (a m b : DeskView) → e ≡ WriteFault
+    → ChangedOnly (reading (check_of_names names)) a m → Writes Out m b
+    → ChangedOnly (job_ports (check_of_names names) (exit_status e)) a b
+fails_to_say names e a m b is read says =
+    subst (λ (t : RunError). ChangedOnly (job_ports (check_of_names names) (exit_status t)) a b) (sym is)
+    (says_after names 5 a m b refl refl read says)
+
+-- it creates no file
+creates_none : (names : CheckFiles) (port : OutPort) → output_name (check_of_names names) port ≡ None
+creates_none names out_port.Tests = refl
+creates_none names out_port.Report = refl
+creates_none names out_port.Proofs = refl
+creates_none names Out = refl
+creates_none names out_port.Err = refl
+
+pub check_done : (names : CheckFiles) (a m b : DeskView) → ChangedOnly (reading (check_of_names names)) a m
+    → b.written Out ≡ append_known (m.written Out) valid_line → AcceptsFiles names a
+    → IsDone (check_of_names names) a b
+check_done names a m b read said accepts = record {
+  inputs = accepts;
+  created = λ port name is. (let none : Some name ≡ None = sym is ∙ creates_none names port in cc);
+  output = said ∙ ap (λ known. append_known known valid_line) (read.written Out refl);
+}
+
+pub check_truncated : (names : CheckFiles) (a m b : DeskView) → ChangedOnly (reading (check_of_names names)) a m
+    → AddedPart Out valid_line m b → CheckIsTruncated a b
+check_truncated names a m b read part = record {
+  count = part.count;
+  short = part.proper;
+  said = part.part.written ∙ ap (λ known. append_known known (take part.count valid_line)) (read.written Out refl);
+}

@@ -60,13 +60,13 @@ contradicts_nothing : (v : ReportJudgeView) (list : List (List Bool)) (lines : L
     → JudgesReport v list lines → ¬ ContradictsTests v.circuit v.representatives list lines
 contradicts_nothing v list lines is j wrong = wrong.contradicts
     (last_agrees v.circuit v.representatives list j.at wrong.at v.budget v.saids wrong.fault wrong.said
-    (one_reading v.circuit v.representatives lines j.at wrong.at is j.read wrong.read) j.kept j.agree wrong.says)
+    (one_reading v.circuit v.representatives lines j.at wrong.at is j.stands.read wrong.read) j.kept j.agree wrong.says)
 
 pub judged_is_fine : (v : ReportJudgeView) (basis : ReportBasis) (lines : List (List ℕ))
     → StandsForReport v basis lines → IsFineReport basis lines
 judged_is_fine v basis lines h =
     let is : IsCircuit v.circuit = subst IsCircuit (sym h.circuit) h.well_formed in
-    let front = reading_is_front v.circuit v.representatives lines h.judges.at h.judges.read in
+    let front = reading_is_front v.circuit v.representatives lines h.judges.at h.judges.stands.read in
     let agrees = contradicts_nothing v basis.list lines is h.judges in
     record {
       front = subst (λ c. IsReportFront c basis.representatives lines) h.circuit
