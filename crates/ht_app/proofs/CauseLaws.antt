@@ -2,11 +2,12 @@
 use Rattle.std.proofs.Common.{◌≡◌, ◌≢◌, inl, ℕ, List, true, false, IsTrue, refl, sym, ◌∙◌, ap, subst, arith}
 use Rattle.std.specs.Prelude.{IsSome, Option, Some, None}
 use Rattle.ht_ports.specs.Desk.{DeskView, InCall, Holds}
+use Rattle.ht_ports.specs.declared.ports.InPort.{InPort}
 use Rattle.ht_ports.specs.declared.ports.InPort.TheVariants.{Netlist, Tests}
 use Rattle.ht_net.specs.Netlist as net
 use Rattle.ht_asked.specs.Asked.{Asked, sim}
 use Rattle.ht_app.specs.declared.run_error.RunError.{RunError}
-use Rattle.ht_app.specs.declared.run_error.RunError.TheVariants.{Usage, TooLong, Refused, ReadFault, WriteFault, NoMemory, BadTests}
+use Rattle.ht_app.specs.declared.run_error.RunError.TheVariants.{Denied, Usage, TooLong, Refused, ReadFault, WriteFault, NoMemory, BadTests}
 use Rattle.ht_app.specs.Inputs.{IsInput, MayHold, IsGoodNetlist, AcceptsNetlist, AcceptsInputs}
 use Rattle.ht_app.specs.Jobs.{input_name}
 use Rattle.ht_app.specs.Changed.{ChangedOnly}
@@ -22,6 +23,7 @@ refuses job name a IsCause is h = record { name = name; reads = is; there = h.th
 
 pub netlist_cause : (job : Asked) (name : List ℕ) (a b : DeskView) (e : RunError) → input_name job Netlist ≡ Some name
     → b.written ≡ a.written → NetlistCause name a b e → HasCause job a b e
+netlist_cause job name a b (Denied trouble) is same h = absurd h
 netlist_cause job name a b Usage is same h = absurd h
 netlist_cause job name a b TooLong is same h = refuses job name a _ is h
 netlist_cause job name a b (Refused error) is same h = refuses job name a _ is h
@@ -39,22 +41,23 @@ accepts_netlist name c a there good = record { there = there; accepted = λ text
 
 -- ---- the tests, after the netlist
 
--- what is known of the tests stays known while the netlist is read
-pub input_later : (name text : List ℕ) (a m : DeskView) → InCall Netlist a m → IsInput Tests name text a
-    → IsInput Tests name text m
-input_later name text a m p is = record {
+-- what is known of a file stays known while another is read
+pub input_later : (read port : InPort) (name text : List ℕ) (a m : DeskView) → port ≢ read → InCall read a m
+    → IsInput port name text a → IsInput port name text m
+input_later read port name text a m other p is = record {
   file = ap (λ f. f name) p.file ∙ is.file;
-  known = subst IsSome (sym (p.left.others Tests (λ e. cc))) is.known;
+  known = subst IsSome (sym (p.left.others port other)) is.known;
 }
 
-pub may_hold_before : (name : List ℕ) (a m : DeskView) → InCall Netlist a m → MayHold m name → MayHold a name
-may_hold_before name a m p h = λ none. h (ap (λ f. f name) p.file ∙ none)
+pub may_hold_before : (read : InPort) (name : List ℕ) (a m : DeskView) → InCall read a m → MayHold m name
+    → MayHold a name
+may_hold_before read name a m p h = λ none. h (ap (λ f. f name) p.file ∙ none)
 
-holds_later : (name : List ℕ) (a m : DeskView) → InCall Netlist a m → Holds a name → Holds m name
-holds_later name a m p h = (h.0, ap (λ f. f name) p.file ∙ h.1)
+pub holds_later : (read : InPort) (name : List ℕ) (a m : DeskView) → InCall read a m → Holds a name → Holds m name
+holds_later read name a m p h = (h.0, ap (λ f. f name) p.file ∙ h.1)
 
 -- a file that is known, and isn't known to be absent
-known_holds : (file : Option (Option (List ℕ))) → IsSome file → file ≢ Some None
+pub known_holds : (file : Option (Option (List ℕ))) → IsSome file → file ≢ Some None
     → (bytes : List ℕ) × (file ≡ Some (Some bytes))
 known_holds None known there = let e : false ≡ true = known in cc
 known_holds (Some None) known there = absurd (there refl)
@@ -64,6 +67,7 @@ pub tests_cause : (netlist tests report : List ℕ) (c : net.Netlist) (a m b : D
     → InCall Netlist a m → b.written ≡ m.written → (IsTrue a.steady → IsSome (a.file netlist))
     → ((text : List ℕ) → IsInput Netlist netlist text a → IsGoodNetlist text c) → MayHold a netlist
     → TestsCause c tests m b e → HasCause (sim netlist tests report) a b e
+tests_cause netlist tests report c a m b (Denied trouble) p same known good there h = absurd h
 tests_cause netlist tests report c a m b Usage p same known good there h = absurd h
 tests_cause netlist tests report c a m b TooLong p same known good there h = absurd h
 tests_cause netlist tests report c a m b (Refused error) p same known good there h = absurd h
@@ -73,7 +77,7 @@ tests_cause netlist tests report c a m b ReadFault p same known good there h = r
     port = Tests;
     name = tests;
     reads = refl;
-    lacks = λ holds. h.lacks (subst IsTrue (sym p.after.steady) steady) (holds_later tests a m p holds);
+    lacks = λ holds. h.lacks (subst IsTrue (sym p.after.steady) steady) (holds_later Netlist tests a m p holds);
     reached = λ name is. subst (λ (n : List ℕ). Holds a n × AcceptsNetlist n a)
         (let e : Some netlist ≡ Some name = is in cc)
         (known_holds (a.file netlist) (known steady) there, accepts_netlist netlist c a there good);
@@ -84,11 +88,11 @@ tests_cause netlist tests report c a m b NoMemory p same known good there h = in
 tests_cause netlist tests report c a m b (BadTests line) p same known good there h = record {
   netlist_name = netlist;
   tests_name = tests;
-  reads_netlist = refl;
-  reads_tests = refl;
+  report_name = report;
+  job_is = refl;
   netlist = accepts_netlist netlist c a there good;
-  there = may_hold_before tests a m p h.there;
-  cause = λ n t inputs. (c, good n inputs.netlist_is, h.cause t (input_later tests t a m p inputs.tests_is));
+  there = may_hold_before Netlist tests a m p h.there;
+  cause = λ n t inputs. (c, good n inputs.netlist_is, h.cause t (input_later Netlist Tests tests t a m (λ e. cc) p inputs.tests_is));
 }
 
 -- ---- writing

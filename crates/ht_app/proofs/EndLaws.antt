@@ -11,7 +11,7 @@ use Rattle.ht_collapse.specs.Classes.{AreClasses}
 use Rattle.ht_engine.specs.EngineStands.{EngineView}
 use Rattle.ht_texts.specs.SearchReports.{HasPlainNames}
 use Rattle.ht_app.specs.declared.run_error.RunError.{RunError}
-use Rattle.ht_app.specs.declared.run_error.RunError.TheVariants.{Usage, TooLong, Refused, ReadFault, WriteFault, NoMemory, BadTests}
+use Rattle.ht_app.specs.declared.run_error.RunError.TheVariants.{Denied, Usage, TooLong, Refused, ReadFault, WriteFault, NoMemory, BadTests}
 use Rattle.ht_app.specs.FileTexts.{Names, Texts, with_more}
 use Rattle.ht_app.specs.Truncated.{StopsBeforeReport, StopsInLastFile}
 use Rattle.ht_app.specs.Run.{IsWriteFault}
@@ -49,6 +49,7 @@ pub fault_cause : (a b : DeskView) (e : RunError) → e ≡ WriteFault → IsWri
 fault_cause a b e is fault = subst (λ (t : RunError). FillCause a b t) (sym is) fault
 
 pub cause_later : (a m b : DeskView) (e : RunError) → IsAfter a m → FillCause m b e → FillCause a b e
+cause_later a m b (Denied trouble) p h = h
 cause_later a m b Usage p h = h
 cause_later a m b TooLong p h = h
 cause_later a m b (Refused error) p h = h

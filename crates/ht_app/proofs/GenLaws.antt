@@ -5,16 +5,15 @@ use Rattle.std.specs.Option.{option_map}
 use Rattle.std.specs.Io.KnownBytes.{append_known}
 use Rattle.ht_ports.specs.Desk.{DeskView, InCall}
 use Rattle.ht_ports.specs.declared.ports.InPort.TheVariants.{Netlist}
-use Rattle.ht_ports.specs.declared.ports.InPort.TheVariants as in_port
 use Rattle.ht_ports.specs.declared.ports.OutPort.{OutPort}
 use Rattle.ht_ports.specs.declared.ports.OutPort.TheVariants.{Tests, Report, Proofs, Out, Err}
 use Rattle.ht_net.specs.Netlist as net
 use Rattle.ht_files.proofs.PlainNameLaws.{plain_names}
 use Rattle.clap.specs.Walk.{Text}
-use Rattle.ht_asked.specs.Asked.{Asked, asked, sim, gen, norm}
+use Rattle.ht_asked.specs.Asked.{Asked, asked, sim, gen, check, norm}
 use Rattle.ht_asked.proofs.BudgetLaws.{budget_is_in_range}
 use Rattle.ht_app.specs.declared.run_error.RunError.{RunError}
-use Rattle.ht_app.specs.declared.run_error.RunError.TheVariants.{Usage, TooLong, Refused, ReadFault, WriteFault, NoMemory, BadTests}
+use Rattle.ht_app.specs.declared.run_error.RunError.TheVariants.{Denied, Usage, TooLong, Refused, ReadFault, WriteFault, NoMemory, BadTests}
 use Rattle.ht_app.specs.FileTexts.{Names}
 use Rattle.ht_app.specs.Inputs.{IsInput, IsGoodNetlist, AcceptsNetlist}
 use Rattle.ht_app.specs.Jobs.{output_name}
@@ -35,6 +34,7 @@ pub asked_budget : (words : List Text) (job : Asked) → asked words ≡ Some jo
 asked_budget words (sim netlist tests report) is = tt
 asked_budget words (gen netlist tests report proofs budget) is =
     budget_is_in_range netlist tests report proofs budget words is
+asked_budget words (check netlist tests report proofs) is = tt
 asked_budget words (norm netlist out) is = tt
 
 -- ---- what was left before the netlist was read
@@ -196,10 +196,7 @@ module _ (netlist : List ℕ) (names : Names) (budget : ℕ) where
   pub refused_changed : (e : RunError) (a b : DeskView) → InCall Netlist a b
       → ChangedOnly (job_ports job (exit_status e)) a b
   refused_changed e a b read = ends_reading job e a b (changed_by_reading (reading job) Netlist a b refl read)
-      (λ three. record {
-        left = read.left.others in_port.Tests (λ p. cc);
-        is_open = read.is_open.others in_port.Tests (λ p. cc);
-      })
+      (λ three. read)
 
   pub done_changed : (a m b : DeskView) → InCall Netlist a m → ChangedOnly (filling names) m b
       → ChangedOnly (job_ports job 0) a b
@@ -208,6 +205,7 @@ module _ (netlist : List ℕ) (names : Names) (budget : ℕ) where
 
   pub left_changed : (e : RunError) (c : net.Netlist) (a m b : DeskView) → InCall Netlist a m
       → LeavesFiles names e c budget m b → FillCause m b e → ChangedOnly (job_ports job (exit_status e)) a b
+  left_changed (Denied trouble) c a m b read left cause = absurd cause
   left_changed Usage c a m b read left cause = absurd cause
   left_changed TooLong c a m b read left cause = absurd cause
   left_changed (Refused error) c a m b read left cause = absurd cause
@@ -237,6 +235,7 @@ module _ (netlist : List ℕ) (names : Names) (budget : ℕ) where
 
   pub left_cause : (e : RunError) (a m b : DeskView) → InCall Netlist a m → AcceptsNetlist netlist a
       → FillCause m b e → IsTruncated job a b → HasCause job a b e
+  left_cause (Denied trouble) a m b read accepts cause leaves = absurd cause
   left_cause Usage a m b read accepts cause leaves = absurd cause
   left_cause TooLong a m b read accepts cause leaves = absurd cause
   left_cause (Refused error) a m b read accepts cause leaves = absurd cause

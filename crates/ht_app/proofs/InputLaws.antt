@@ -7,7 +7,7 @@ use Rattle.ht_net.specs.Netlist as net
 use Rattle.ht_bench.specs.declared.error.BenchError.{BenchError}
 use Rattle.ht_texts.specs.Tests.{IsTestText, IsMalformedTest}
 use Rattle.ht_texts.proofs.TestLaws.{never_both}
-use Rattle.ht_asked.specs.Asked.{Asked, sim, gen, norm}
+use Rattle.ht_asked.specs.Asked.{Asked, sim, gen, check, norm}
 use Rattle.ht_app.specs.Inputs.{IsInput, IsGoodNetlist, AcceptsNetlist, AcceptsTests, AcceptsInputs, IsBadNetlist, AreBadTests, AreGoodInputs}
 use Rattle.ht_app.specs.Jobs.{input_name}
 use Rattle.ht_app.specs.Run.{IsTooLongNetlist, IsRefused, RefusesNetlist, RefusesTests}
@@ -27,6 +27,8 @@ accepts_netlist_of (sim netlist tests report) name a is h = accepts_named (Some 
     h.netlist
 accepts_netlist_of (gen netlist tests report proofs budget) name a is h =
     accepts_named (Some netlist) netlist name a refl is h
+accepts_netlist_of (check netlist tests report proofs) name a is h =
+    accepts_named (Some netlist) netlist name a refl is h.report.tests.netlist
 accepts_netlist_of (norm netlist out) name a is h = accepts_named (Some netlist) netlist name a refl is h
 
 pub no_bad_netlist : (name : List ℕ) (a : DeskView) → AcceptsNetlist name a → ¬ IsBadNetlist name a
@@ -99,6 +101,14 @@ good_netlist (gen netlist tests report proofs budget) a is = record {
   circuit = is.circuit;
   good = is.good;
 }
+good_netlist (check netlist tests report proofs) a are = record {
+  name = netlist;
+  reads = refl;
+  text = are.texts.netlist;
+  input = are.inputs.report_are.tests_are.netlist_is;
+  circuit = are.circuit;
+  good = are.good;
+}
 good_netlist (norm netlist out) a is = record {
   name = netlist;
   reads = refl;
@@ -111,12 +121,11 @@ good_netlist (norm netlist out) a is = record {
 pub not_bad_tests : (job : Asked) (a : DeskView) (line : ℕ) → AreGoodInputs job a → ¬ RefusesTests job a line
 not_bad_tests (sim netlist tests report) a line are h =
     let bad = h.cause are.netlist are.tests (record {
-      netlist_is = subst (λ (n : List ℕ). IsInput Netlist n are.netlist a)
-          (let e : Some netlist ≡ Some h.netlist_name = h.reads_netlist in cc) are.inputs.netlist_is;
-      tests_is = subst (λ (n : List ℕ). IsInput Tests n are.tests a)
-          (let e : Some tests ≡ Some h.tests_name = h.reads_tests in cc) are.inputs.tests_is;
+      netlist_is = subst (λ (n : List ℕ). IsInput Netlist n are.netlist a) (let e = h.job_is in cc)
+          are.inputs.netlist_is;
+      tests_is = subst (λ (n : List ℕ). IsInput Tests n are.tests a) (let e = h.job_is in cc) are.inputs.tests_is;
     }) in
     not_malformed are.netlist are.tests are.circuit bad.0 are.so.0 line are.good bad.1 are.so.1 bad.2
-not_bad_tests (gen netlist tests report proofs budget) a line is h =
-    let e : Some h.tests_name ≡ None = sym h.reads_tests in cc
-not_bad_tests (norm netlist out) a line is h = let e : Some h.tests_name ≡ None = sym h.reads_tests in cc
+not_bad_tests (gen netlist tests report proofs budget) a line is h = let e = h.job_is in cc
+not_bad_tests (check netlist tests report proofs) a line is h = let e = h.job_is in cc
+not_bad_tests (norm netlist out) a line is h = let e = h.job_is in cc

@@ -1,4 +1,8 @@
 pub mod LfLaws
+pub mod LineSoFarLaws
+pub mod JudgedLaws
+pub mod ReportFileLaws
+pub mod ProofsFileLaws
 pub mod SoFarLaws
 pub mod WrongLineLaws
 pub mod ReportLaws
@@ -9,9 +13,11 @@ pub mod ChangedLaws
 pub mod PortsLaws
 pub mod ReadLaws
 pub mod CauseLaws
+pub mod CheckLaws
 pub mod OutputLaws
 pub mod AskedLaws
 pub mod InputLaws
+pub mod FileLaws
 pub mod StatusLaws
 pub mod PutLaws
 pub mod FrontLaws

@@ -1,19 +1,19 @@
 -- What the steps of a job touch is what a run of the job may touch.
-use Rattle.std.proofs.Common.{◌≡◌, ◌≢◌, ◌⊎◌, inl, inr, ℕ, List, Bool, true, false, refl, sym, ◌∙◌, ap, subst}
+use Rattle.std.proofs.Common.{◌≡◌, ◌⊎◌, inl, inr, ℕ, List, Bool, true, false, refl, sym, ◌∙◌, ap, subst}
 use Rattle.std.specs.Prelude.{Option, Some, None, is_some, not, ◌&&◌, ◌||◌, ◌==◌, if◌then◌else◌}
-use Rattle.ht_ports.specs.Desk.{DeskView, Writes}
+use Rattle.ht_ports.specs.Desk.{DeskView, InCall, Writes}
 use Rattle.ht_ports.specs.declared.ports.InPort.{InPort}
 use Rattle.ht_ports.specs.declared.ports.InPort.TheVariants as in_port
 use Rattle.ht_ports.specs.declared.ports.OutPort.{OutPort}
 use Rattle.ht_ports.specs.declared.ports.OutPort.TheVariants.{Tests, Report, Proofs, Out, Err}
-use Rattle.ht_asked.specs.Asked.{Asked, sim, gen, norm}
+use Rattle.ht_asked.specs.Asked.{Asked, sim, gen, check, norm}
 use Rattle.ht_app.specs.declared.run_error.RunError.{RunError}
-use Rattle.ht_app.specs.declared.run_error.RunError.TheVariants.{Usage, TooLong, Refused, ReadFault, WriteFault, NoMemory, BadTests}
+use Rattle.ht_app.specs.declared.run_error.RunError.TheVariants.{Denied, Usage, TooLong, Refused, ReadFault, WriteFault, NoMemory, BadTests}
 use Rattle.ht_app.specs.Errors.{exit_status}
 use Rattle.ht_app.specs.Jobs.{input_name, output_name}
-use Rattle.ht_app.specs.Changed.{ChangedOnly, IsCreatedOnly, IsUnread, job_ports, ports_at, may_create, says_on_out}
+use Rattle.ht_app.specs.Changed.{ChangedOnly, job_ports, ports_at, may_create, says_on_out}
 use Rattle.ht_app.specs.Steps.{reading, writing}
-use Rattle.ht_app.proofs.ChangedLaws.{IsWithin, changed_within, changed_trans, changed_by_writing}
+use Rattle.ht_app.proofs.ChangedLaws.{IsWithin, changed_within, changed_trans, changed_by_reading, changed_by_writing}
 
 -- ---- reading
 
@@ -34,58 +34,31 @@ pub reading_within : (job : Asked) (status : ℕ) → (status == 3) ≡ false �
 reading_within job status ne =
     record { reads = reads_within job status ne; creates = λ p. inl refl; writes = λ p off. refl }
 
--- `sim` reads the tests only after a good netlist
-not_read : (job : Asked) (a b : DeskView) → ChangedOnly (reading job) a b → IsUnread in_port.Tests a b
-    → ChangedOnly (job_ports job 3) a b
-not_read job a b x unread = record {
-  after = x.after;
-  left = kept b.left a.left x.left unread.left;
-  is_open = kept b.is_open a.is_open x.is_open unread.is_open;
-  written = λ p off. x.written p refl;
-  created = λ p. subst (λ (may : Bool). IsCreatedOnly (if may then output_name job p else None) p a b)
-      (sym (creates_none job)) (x.created p);
-  file = λ n other. x.file n (λ p. tt);
-}
-  where
-    creates_none : (j : Asked) → may_create j 3 ≡ false
-    creates_none (sim netlist tests report) = refl
-    creates_none (gen netlist tests report proofs budget) = refl
-    creates_none (norm netlist out) = refl
+-- each job reads a netlist
+reads_netlist : (job : Asked) → is_some (input_name job in_port.Netlist) ≡ true
+reads_netlist (sim netlist tests report) = refl
+reads_netlist (gen netlist tests report proofs budget) = refl
+reads_netlist (check netlist tests report proofs) = refl
+reads_netlist (norm netlist out) = refl
 
-    none : (j : Asked) (p : InPort) → p ≢ in_port.Netlist → p ≢ in_port.Tests → is_some (input_name j p) ≡ false
-    none j in_port.Netlist n t = absurd (n refl)
-    none j in_port.Tests n t = absurd (t refl)
-    none (sim netlist tests report) in_port.Report n t = refl
-    none (sim netlist tests report) in_port.Proofs n t = refl
-    none (sim netlist tests report) in_port.Extra n t = refl
-    none (gen netlist tests report proofs budget) in_port.Report n t = refl
-    none (gen netlist tests report proofs budget) in_port.Proofs n t = refl
-    none (gen netlist tests report proofs budget) in_port.Extra n t = refl
-    none (norm netlist out) in_port.Report n t = refl
-    none (norm netlist out) in_port.Proofs n t = refl
-    none (norm netlist out) in_port.Extra n t = refl
-
-    -- what stands at the ports is kept where the job reads no port but the netlist and the tests
-    kept : {T : Type 0} (new old : InPort → T) → ((p : InPort) → is_some (input_name job p) ≡ false → new p ≡ old p)
-        → new in_port.Tests ≡ old in_port.Tests → (p : InPort) → (job_ports job 3).reads p ≡ false → new p ≡ old p
-    kept new old others tests in_port.Netlist off = others in_port.Netlist off
-    kept new old others tests in_port.Tests off = tests
-    kept new old others tests in_port.Report off = others in_port.Report (none job in_port.Report (λ e. cc) (λ e. cc))
-    kept new old others tests in_port.Proofs off = others in_port.Proofs (none job in_port.Proofs (λ e. cc) (λ e. cc))
-    kept new old others tests in_port.Extra off = others in_port.Extra (none job in_port.Extra (λ e. cc) (λ e. cc))
+-- the other files are read only after a good netlist
+not_read : (job : Asked) (a b : DeskView) → InCall in_port.Netlist a b → ChangedOnly (job_ports job 3) a b
+not_read job a b x = changed_by_reading (job_ports job 3) in_port.Netlist a b (reads_netlist job) x
 
 pub ends_reading : (job : Asked) (e : RunError) (a b : DeskView) → ChangedOnly (reading job) a b
-    → (exit_status e ≡ 3 → IsUnread in_port.Tests a b) → ChangedOnly (job_ports job (exit_status e)) a b
-ends_reading job Usage a b x unread = changed_within (reading job) (job_ports job 2) a b (reading_within job 2 refl) x
-ends_reading job TooLong a b x unread = not_read job a b x (unread refl)
-ends_reading job (Refused error) a b x unread = not_read job a b x (unread refl)
-ends_reading job ReadFault a b x unread = changed_within (reading job) (job_ports job 4) a b (reading_within job 4 refl)
+    → (exit_status e ≡ 3 → InCall in_port.Netlist a b) → ChangedOnly (job_ports job (exit_status e)) a b
+ends_reading job (Denied trouble) a b x first =
+    changed_within (reading job) (job_ports job 1) a b (reading_within job 1 refl) x
+ends_reading job Usage a b x first = changed_within (reading job) (job_ports job 2) a b (reading_within job 2 refl) x
+ends_reading job TooLong a b x first = not_read job a b (first refl)
+ends_reading job (Refused error) a b x first = not_read job a b (first refl)
+ends_reading job ReadFault a b x first = changed_within (reading job) (job_ports job 4) a b (reading_within job 4 refl)
     x
-ends_reading job WriteFault a b x unread =
+ends_reading job WriteFault a b x first =
     changed_within (reading job) (job_ports job 5) a b (reading_within job 5 refl) x
-ends_reading job NoMemory a b x unread = changed_within (reading job) (job_ports job 6) a b (reading_within job 6 refl)
+ends_reading job NoMemory a b x first = changed_within (reading job) (job_ports job 6) a b (reading_within job 6 refl)
     x
-ends_reading job (BadTests line) a b x unread =
+ends_reading job (BadTests line) a b x first =
     changed_within (reading job) (job_ports job 7) a b (reading_within job 7 refl) x
 
 -- ---- writing
@@ -100,6 +73,7 @@ pub may_begin : (job : Asked) (status : ℕ) → (status == 0 || status == 5) �
 may_begin (sim netlist tests report) status ends = ends
 may_begin (gen netlist tests report proofs budget) status ends =
     wider (status == 0) (status == 5) (status == 6) ends
+may_begin (check netlist tests report proofs) status ends = ends
 may_begin (norm netlist out) status ends = ends
 
 writing_within : (job : Asked) (status : ℕ) (name : List ℕ) → (status == 0 || status == 5) ≡ true
@@ -145,6 +119,7 @@ fails_writing job e name a m b is of x y = subst (λ (t : RunError). ChangedOnly
 
 err_may : (asked : Option Asked) (e : RunError) → (ports_at asked (exit_status e)).writes Err ≡ true
 err_may None e = refl
+err_may (Some job) (Denied trouble) = refl
 err_may (Some job) Usage = refl
 err_may (Some job) TooLong = refl
 err_may (Some job) (Refused error) = refl

@@ -9,3 +9,4 @@ pub mod Steps
 pub mod FileTexts
 pub mod Generating
 pub mod Simulation
+pub mod Judging

@@ -10,10 +10,11 @@ use Rattle.ht_ports.specs.declared.ports.OutPort.TheVariants.{Report, Out}
 use Rattle.ht_net.specs.Netlist as net
 use Rattle.ht_bench.specs.Normal.{normal_text}
 use Rattle.ht_texts.specs.Tests.{IsMalformedTest}
+use Rattle.ht_valid.specs.declared.trouble.Trouble.TheVariants as trouble
 use Rattle.ht_asked.specs.declared.limits.TheConstants.{MAX_BUDGET, MIN_BUDGET}
 use Rattle.ht_asked.specs.Asked.{Asked, sim, gen}
 use Rattle.ht_app.specs.declared.run_error.RunError.{RunError}
-use Rattle.ht_app.specs.declared.run_error.RunError.TheVariants.{TooLong, Refused, ReadFault, NoMemory, BadTests}
+use Rattle.ht_app.specs.declared.run_error.RunError.TheVariants.{Denied, TooLong, Refused, ReadFault, NoMemory, BadTests}
 use Rattle.ht_app.specs.Inputs.{IsInput, IsGoodNetlist, MayHold, AreInputs}
 use Rattle.ht_app.specs.Jobs.{input_name}
 use Rattle.ht_app.specs.Errors.{exit_status}
@@ -50,6 +51,14 @@ TestsCause c name old new (BadTests line) = RefusesVectors c name old line
 TestsCause c name old new ReadFault = IsReadFault name old new
 TestsCause c name old new NoMemory = Unit {0}
 TestsCause c name old new _ = ⊥
+
+-- the same of `check`, which denies there
+abbrev pub CheckedTestsCause : net.Netlist → List ℕ → DeskView → DeskView → RunError → Type 0
+CheckedTestsCause c name old new (Denied (trouble.Tests line)) = RefusesVectors c name old line
+CheckedTestsCause c name old new (Denied other) = ⊥
+CheckedTestsCause c name old new ReadFault = IsReadFault name old new
+CheckedTestsCause c name old new NoMemory = Unit {0}
+CheckedTestsCause c name old new _ = ⊥
 
 -- why the report of the two files wasn't made, whatever its name
 pub record SimulateCause (netlist_name tests_name : List ℕ) (old new : DeskView) (error : RunError) : Type 0 where

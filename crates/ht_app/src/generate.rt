@@ -2,7 +2,7 @@
 //!
 //! `create` makes the three files, `sizes` begins the proofs, `steps` writes the engine's steps, and `fill` does all of
 //! it, with the report at the end.
-ghost use Rattle.std.specs.Prelude.{◌≡◌, ◌≤◌, IfOk, IfErr, OnOk};
+ghost use Rattle.std.specs.Prelude.{◌≡◌, ◌≤◌, IfErr, OnOk};
 ghost use Rattle.ht_ports.specs.declared.ports.OutPort.TheVariants as out_port;
 ghost use Rattle.ht_faults.specs.Sites.{faults_of};
 ghost use Rattle.ht_collapse.specs.Classes.{AreClasses};
@@ -22,31 +22,13 @@ mod steps;
 
 use crate::generate::create::create_files;
 use crate::generate::fill::write_files;
+use crate::listed::{Listed, list_faults};
 use crate::netlist::read_netlist;
 use crate::run_error::RunError;
-use ht_collapse::{Classes, collapse};
 use ht_engine::Engine;
-use ht_faults::FaultList;
 use ht_net::Circuit;
 use ht_ports::Desk;
-use std::alloc::{AllocError, Global};
-
-// The faults of a circuit, and their classes.
-#[derive(Drop)]
-struct Listed {
-    faults: FaultList,
-    classes: Classes,
-}
-
-// Lists the faults of a circuit, and finds their classes.
-fn list_faults(alloc: Global, circuit: &Circuit) -> Result<Listed, AllocError>
-    ensures faults { IfOk result (λ listed. listed.faults ≡ faults_of circuit.now) }
-    ensures classes { IfOk result (λ listed. AreClasses circuit.now listed.classes) }
-{
-    let faults = ht_faults::list(alloc, circuit)?;
-    let classes = collapse(alloc, circuit, &faults)?;
-    Ok(Listed { faults, classes })
-}
+use std::alloc::Global;
 
 // Creates the files, and writes them.
 fn make_files<D: Desk>(

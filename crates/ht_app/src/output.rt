@@ -13,8 +13,11 @@ ghost use Rattle.ht_app.specs.declared.run_error.RunError.TheVariants as error;
 use crate::run_error::RunError;
 use ht_ports::{Desk, Failed, OutPort, write_all};
 
-// Writes bytes on a port that may be written.
-fn write_text<D: Desk>(desk: &mut D, port: OutPort, text: &[u8]) -> Result<(), RunError>
+/// Writes bytes on a port that may be written.
+///
+/// # Errors
+/// `WriteFault`: the desk counted a fault, and the bytes aren't whole.
+pub fn write_text<D: Desk>(desk: &mut D, port: OutPort, text: &[u8]) -> Result<(), RunError>
     requires { IsWritable (D.view desk.old) port }
     ensures wrote { Wrote port text.now (is_ok result) (D.view desk.old) (D.view desk.new) }
     ensures error { IfErr result (λ e. e ≡ error.WriteFault) }

@@ -1,12 +1,13 @@
 //! The command `sim`.
 ghost use Rattle.std.specs.Prelude.{◌≡◌, ◌≤◌, ◌++◌, List, ℕ, length, IfOk, IfErr, OnOk};
+ghost use Rattle.ht_ports.specs.Desk.{InCall};
 ghost use Rattle.ht_ports.specs.LineRule.{max_text_bytes};
 ghost use Rattle.ht_ports.specs.declared.ports.InPort.TheVariants as in_port;
 ghost use Rattle.ht_ports.specs.declared.ports.OutPort.TheVariants as out_port;
 ghost use Rattle.ht_net.specs.Netlist.{IsCircuit};
 ghost use Rattle.ht_asked.specs.Asked as asked;
 ghost use Rattle.ht_app.specs.Inputs.{AcceptsTests};
-ghost use Rattle.ht_app.specs.Changed.{ChangedOnly, IsUnread, job_ports};
+ghost use Rattle.ht_app.specs.Changed.{ChangedOnly, job_ports};
 ghost use Rattle.ht_app.specs.Done.{IsDone};
 ghost use Rattle.ht_app.specs.Errors.{exit_status};
 ghost use Rattle.ht_app.specs.Run.{HasCause};
@@ -58,8 +59,8 @@ fn simulate<D: Desk>(
     ensures reads { (report : List ℕ)
         → ChangedOnly (reading (asked.sim netlist.now tests.now report)) (D.view desk.old)
         (D.view desk.new) }
-    ensures unread { IfErr result (λ e. exit_status e ≡ 3
-        → IsUnread in_port.Tests (D.view desk.old) (D.view desk.new)) }
+    ensures first { IfErr result (λ e. exit_status e ≡ 3
+        → InCall in_port.Netlist (D.view desk.old) (D.view desk.new)) }
     ensures inputs { OnOk result (AcceptsTests netlist.now tests.now (D.view desk.old)) }
     ensures texts { IfOk result
         (λ texts. AreWorkedInto netlist.now tests.now (D.view desk.old) texts.body.items

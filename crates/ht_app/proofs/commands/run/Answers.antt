@@ -5,10 +5,10 @@ use Rattle.ht_ports.specs.declared.ports.OutPort.TheVariants as out_port
 use Rattle.ht_asked.specs.Asked.{asked, words_of, sim}
 use Rattle.ht_app.specs.Errors.{err_line}
 use Rattle.ht_app.specs.Changed.{ChangedOnly, ports_at}
-use Rattle.ht_app.specs.Run.{SaysOnErr}
+use Rattle.ht_app.specs.Run.{SaysOnErr, check_of_names}
 use Rattle.ht_app.proofs.PortsLaws.{changed_by_line}
 use Rattle.ht_app.proofs.AskedLaws.{cause_of_job, job_done, usage_status, asked_status}
-use Rattle.ht_app.proofs.StatusLaws.{finished_not_refused, finished_not_malformed, refused_status, malformed_status, good_status, steady_status, faultless_before}
+use Rattle.ht_app.proofs.StatusLaws.{finished_not_refused, finished_not_malformed, finished_not_bad, refused_status, malformed_status, bad_status, denied_status, good_status, steady_status, faultless_before}
 use Rattle.ht_app.proofs.commands.run.Goals as goal
 
 -- ---- after a finished run
@@ -26,6 +26,20 @@ returns-in-Ok-clause-malformed g c = λ netlist tests report is bad.
     let b = g.D.Desk.view c.work.new.desk in
     absurd (finished_not_malformed netlist tests report a b
     (job_done (asked (words_of c.args.words.now)) (sim netlist tests report) a b is c.in-Ok.ensures.done) bad)
+
+pub returns-in-Ok-clause-invalid : goal.returns-in-Ok-clause-invalid
+returns-in-Ok-clause-invalid g c = λ names is bad.
+    let a = g.D.Desk.view c.args.desk.now in
+    let b = g.D.Desk.view c.work.new.desk in
+    absurd (finished_not_bad names a b
+    (job_done (asked (words_of c.args.words.now)) (check_of_names names) a b is c.in-Ok.ensures.done) bad)
+
+pub returns-in-Ok-clause-denied : goal.returns-in-Ok-clause-denied
+returns-in-Ok-clause-denied g c = λ names is bad none.
+    let a = g.D.Desk.view c.args.desk.now in
+    let b = g.D.Desk.view c.work.new.desk in
+    absurd (finished_not_bad names a b
+    (job_done (asked (words_of c.args.words.now)) (check_of_names names) a b is c.in-Ok.ensures.done) bad)
 
 -- ---- after an error
 
@@ -92,6 +106,26 @@ returns-in-Err-clause-malformed g c = λ netlist tests report is bad.
     c.in-Err.ensures.cause in
     subst (λ (s : ℕ). (s ≡ 7) ⊎ (s ≡ 4) ⊎ (s ≡ 6)) (sym c.status.ensures)
     (malformed_status netlist tests report a m c.in-Err.error cause bad)
+
+pub returns-in-Err-clause-invalid : goal.returns-in-Err-clause-invalid
+returns-in-Err-clause-invalid g c = λ names is bad.
+    let a = g.D.Desk.view c.args.desk.now in
+    let m = g.D.Desk.view c.work.new.desk in
+    let cause = cause_of_job (asked (words_of c.args.words.now)) (check_of_names names) a m c.in-Err.error is
+    c.in-Err.ensures.cause in
+    subst (λ (s : ℕ). (s ≡ 1) ⊎ (s ≡ 4) ⊎ (s ≡ 6)) (sym c.status.ensures)
+    (bad_status names a m c.in-Err.error cause bad)
+
+pub returns-in-Err-clause-denied : goal.returns-in-Err-clause-denied
+returns-in-Err-clause-denied g c = λ names is bad none.
+    let a = g.D.Desk.view c.args.desk.now in
+    let m = g.D.Desk.view c.work.new.desk in
+    let b = g.D.Desk.view c.write_line.new.desk in
+    let after = c.write_line.ensures.frame.call.after in
+    let cause = cause_of_job (asked (words_of c.args.words.now)) (check_of_names names) a m c.in-Err.error is
+    c.in-Err.ensures.cause in
+    subst (λ (s : ℕ). (s ≡ 1) ⊎ (s ≡ 6)) (sym c.status.ensures)
+    (denied_status names a m c.in-Err.error cause bad (faultless_before a m b after none))
 
 pub returns-in-Err-clause-complete : goal.returns-in-Err-clause-complete
 returns-in-Err-clause-complete g c = λ job is are none.

@@ -1,5 +1,6 @@
 use Rattle.std.proofs.Common.{refl, IsTrue, rules}
 use Rattle.std.specs.Prelude.{IsSome}
+use Rattle.ht_ports.specs.declared.ports.InPort.TheVariants.{Netlist, Tests}
 use Rattle.ht_asked.specs.Asked.{sim}
 use Rattle.ht_app.specs.Steps.{SimulateCause}
 use Rattle.ht_app.proofs.CauseLaws.{netlist_cause, tests_cause, accepts_netlist, may_hold_before, input_later}
@@ -38,14 +39,14 @@ returns-clause-inputs g c =
     let read = c.in_ok-circuit.ensures in
     record {
       netlist = accepts_netlist c.args.netlist.now circuit a read.there read.circuit;
-      there = may_hold_before c.args.tests.now a m read.frame c.in_ok-list.ensures.there;
+      there = may_hold_before Netlist c.args.tests.now a m read.frame c.in_ok-list.ensures.there;
       accepted = λ n t both. (
         circuit,
         read.circuit n both.netlist_is,
         (
           c.in_ok-list.list.list,
           c.in_ok-list.ensures.list t
-              (input_later c.args.tests.now t a m read.frame both.tests_is),
+              (input_later Netlist Tests c.args.tests.now t a m (λ e. cc) read.frame both.tests_is),
         ),
       );
     }
@@ -60,7 +61,7 @@ returns-clause-texts g c =
         circuit = c.in_ok-circuit.circuit;
         list = c.in_ok-list.list.list;
         accepted = read.circuit n both.netlist_is;
-        vectors = c.in_ok-list.ensures.list t (input_later c.args.tests.now t a m read.frame both.tests_is);
+        vectors = c.in_ok-list.ensures.list t (input_later Netlist Tests c.args.tests.now t a m (λ e. cc) read.frame both.tests_is);
         reported = c.in_ok-texts.ensures;
       };
     }

@@ -110,7 +110,7 @@ returns-then-not-branch-clause-cause g c =
           subst (λ (w : ℕ). (vector : List Bool) → ¬ IsTextOf w c.in-Ok-Some.line.now vector) before.width refused.1 in
           subst (λ (n : ℕ). IsMalformedTest c.args.circuit.now text (n + 1)) (sym at)
           (bad_line c.args.circuit.now text c.lines.lines.bytes_read c.lines.list.list so.0 c.in-Ok-Some.line.now
-          gives.count left so.2 before.fits gives.some step none);
+          gives.count left so.2 before.fits step none);
     }
 
 pub returns-in-Ok-None-clause-list : goal.returns-in-Ok-None-clause-list

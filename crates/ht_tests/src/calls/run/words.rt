@@ -5,13 +5,14 @@ use ht_samples::SHIFT_REGISTER;
 use std::test::Fail;
 
 const USAGE: &[u8] =
-    b"usage: sim NETLIST TESTS REPORT, gen NETLIST TESTS REPORT PROOFS [--budget N], norm NETLIST OUT\n";
+    b"usage: sim NETLIST TESTS REPORT, gen NETLIST TESTS REPORT PROOFS [--budget N], check NETLIST TESTS REPORT PROOFS, norm NETLIST OUT\n";
 
 const WITHOUT_FORM: &[&[&str]] = &[
     &[],
     &["sim", "n", "-t", "r"],
     &["norm", "--help"],
     &["gen", "n", "t", "r"],
+    &["check", "n", "t", "r"],
     &["gen", "n", "t", "r", "p", "--budget", "0"],
     &["gen", "n", "t", "r", "p", "--budget", "100001"],
 ];

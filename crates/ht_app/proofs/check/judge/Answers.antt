@@ -1,0 +1,260 @@
+use Rattle.std.proofs.Common.{◌≡◌, inl, List, Option, refl, ◌∙◌, sym, subst, rules}
+use Rattle.ht_ports.specs.Desk.{InCall}
+use Rattle.ht_net.specs.declared.place.Place.{Place}
+use Rattle.ht_grade.specs.Detections.{AreFirstDetections}
+use Rattle.ht_ports.specs.declared.ports.InPort.TheVariants as in_port
+use Rattle.ht_app.specs.declared.run_error.RunError.TheVariants.{NoMemory}
+use Rattle.ht_app.specs.Inputs.{check_files_of}
+use Rattle.ht_app.specs.Errors.{exit_status}
+use Rattle.ht_app.specs.Judging.{IsOfReport}
+use Rattle.ht_app.specs.Run.{HasCause, check_of_names}
+use Rattle.ht_app.specs.Steps.{reading}
+use Rattle.ht_app.proofs.ChangedLaws.{changed_by_reading}
+use Rattle.ht_app.proofs.CauseLaws.{netlist_cause}
+use Rattle.ht_app.proofs.CheckLaws.{NetlistIsRead, TestsAreRead, ReportWasRead, accepts_all, claimed, file_not_refused, proofs_stop, reads_four, reads_three, reads_two, report_stops, tests_stop}
+use Rattle.ht_app.proofs.check.judge.Goals as goal
+
+-- ---- the netlist
+
+pub returns-in_err-circuit-clause-reads : goal.returns-in_err-circuit-clause-reads
+returns-in_err-circuit-clause-reads g c =
+    let names = check_files_of c.args.netlist.now c.args.tests.now c.args.report.now c.args.proofs.now in
+    changed_by_reading (reading (check_of_names names)) in_port.Netlist (g.D.Desk.view c.args.desk.now)
+    (g.D.Desk.view c.read_netlist.new.desk) refl c.in_err-circuit.ensures.frame
+
+pub returns-in_err-circuit-clause-cause : goal.returns-in_err-circuit-clause-cause
+returns-in_err-circuit-clause-cause g c =
+    let names = check_files_of c.args.netlist.now c.args.tests.now c.args.report.now c.args.proofs.now in
+    let cause = netlist_cause (check_of_names names) c.args.netlist.now (g.D.Desk.view c.args.desk.now)
+    (g.D.Desk.view c.read_netlist.new.desk) c.in_err-circuit.field-0.0 refl c.in_err-circuit.ensures.frame.written
+    c.in_err-circuit.ensures.cause in
+    search (rules, cause)
+
+-- ---- memory runs out
+
+pub returns-in_err-listed-clause-reads : goal.returns-in_err-listed-clause-reads
+returns-in_err-listed-clause-reads g c =
+    let names = check_files_of c.args.netlist.now c.args.tests.now c.args.report.now c.args.proofs.now in
+    changed_by_reading (reading (check_of_names names)) in_port.Netlist (g.D.Desk.view c.args.desk.now)
+    (g.D.Desk.view c.read_netlist.new.desk) refl c.in_ok-circuit.ensures.frame
+
+pub returns-in_err-listed-clause-cause : goal.returns-in_err-listed-clause-cause
+returns-in_err-listed-clause-cause g c =
+    let names = check_files_of c.args.netlist.now c.args.tests.now c.args.report.now c.args.proofs.now in
+    let cause : HasCause (check_of_names names) (g.D.Desk.view c.args.desk.now)
+    (g.D.Desk.view c.read_netlist.new.desk) NoMemory = inl c.in_ok-circuit.ensures.frame.written in
+    search (rules, cause)
+
+pub returns-in_err-places-clause-reads : goal.returns-in_err-places-clause-reads
+returns-in_err-places-clause-reads g c =
+    let names = check_files_of c.args.netlist.now c.args.tests.now c.args.report.now c.args.proofs.now in
+    reads_two names (g.D.Desk.view c.args.desk.now) (g.D.Desk.view c.read_netlist.new.desk)
+    (g.D.Desk.view c.read_checked_tests.new.desk) c.in_ok-circuit.ensures.frame c.in_ok-list.ensures.frame
+
+pub returns-in_err-places-clause-cause : goal.returns-in_err-places-clause-cause
+returns-in_err-places-clause-cause g c =
+    let names = check_files_of c.args.netlist.now c.args.tests.now c.args.report.now c.args.proofs.now in
+    let cause : HasCause (check_of_names names) (g.D.Desk.view c.args.desk.now)
+    (g.D.Desk.view c.read_checked_tests.new.desk) NoMemory =
+    inl (c.in_ok-list.ensures.frame.written ∙ c.in_ok-circuit.ensures.frame.written) in
+    search (rules, cause)
+
+-- ---- the tests
+
+pub returns-in_err-list-clause-cause : goal.returns-in_err-list-clause-cause
+returns-in_err-list-clause-cause g c =
+    let names = check_files_of c.args.netlist.now c.args.tests.now c.args.report.now c.args.proofs.now in
+    let circuit = c.in_ok-circuit.circuit in
+    let classes = c.in_ok-listed.listed.classes in
+    let a = g.D.Desk.view c.args.desk.now in
+    let m = g.D.Desk.view c.read_netlist.new.desk in
+    let n = g.D.Desk.view c.read_checked_tests.new.desk in
+    let netlist : NetlistIsRead names circuit classes a m = record {
+      frame = c.in_ok-circuit.ensures.frame;
+      there = c.in_ok-circuit.ensures.there;
+      good = c.in_ok-circuit.ensures.circuit;
+      is_circuit = c.in_ok-circuit.ensures.well_formed;
+      classes = c.in_ok-listed.ensures.classes;
+      known = λ name. g.met.D.Desk.steady_tells c.args.desk.now name;
+    } in
+    let cause = tests_stop names circuit classes a m n c.in_err-list.field-0.0 netlist c.in_err-list.ensures.frame
+    c.in_err-list.ensures.cause in
+    search (rules, cause)
+
+-- ---- the report
+
+pub returns-in_err-claims-clause-reads : goal.returns-in_err-claims-clause-reads
+returns-in_err-claims-clause-reads g c =
+    let names = check_files_of c.args.netlist.now c.args.tests.now c.args.report.now c.args.proofs.now in
+    reads_three names (g.D.Desk.view c.args.desk.now) (g.D.Desk.view c.read_netlist.new.desk)
+    (g.D.Desk.view c.read_checked_tests.new.desk) (g.D.Desk.view c.read_report.new.desk)
+    c.in_ok-circuit.ensures.frame c.in_ok-list.ensures.frame c.in_err-claims.ensures.frame
+
+pub returns-in_err-claims-clause-first : goal.returns-in_err-claims-clause-first
+returns-in_err-claims-clause-first g c =
+    let names = check_files_of c.args.netlist.now c.args.tests.now c.args.report.now c.args.proofs.now in
+    let circuit = c.in_ok-circuit.circuit in
+    let classes = c.in_ok-listed.listed.classes in
+    let a = g.D.Desk.view c.args.desk.now in
+    let m = g.D.Desk.view c.read_netlist.new.desk in
+    let n = g.D.Desk.view c.read_checked_tests.new.desk in
+    let netlist : NetlistIsRead names circuit classes a m = record {
+      frame = c.in_ok-circuit.ensures.frame;
+      there = c.in_ok-circuit.ensures.there;
+      good = c.in_ok-circuit.ensures.circuit;
+      is_circuit = c.in_ok-circuit.ensures.well_formed;
+      classes = c.in_ok-listed.ensures.classes;
+      known = λ name. g.met.D.Desk.steady_tells c.args.desk.now name;
+    } in
+    let list = c.in_ok-list.list.list in
+    let tests : TestsAreRead names circuit classes list a m n = record {
+      netlist = netlist;
+      frame = c.in_ok-list.ensures.frame;
+      there = c.in_ok-list.ensures.there;
+      vectors = c.in_ok-list.ensures.list;
+    } in
+    let first = subst (λ (l : List (Option Place)). AreFirstDetections circuit classes list l) (sym c.deref.ensures.value)
+    c.in_ok-places.ensures.first in
+    let b = g.D.Desk.view c.read_report.new.desk in
+    let other = file_not_refused c.args.report.now IsOfReport n b c.in_err-claims.field-0.0
+    (c.in_err-claims.ensures.cause list first) in
+    let none : exit_status c.in_err-claims.field-0.0 ≡ 3 → InCall in_port.Netlist a b =
+    λ three. absurd (other three) in
+    search (rules, none)
+
+pub returns-in_err-claims-clause-cause : goal.returns-in_err-claims-clause-cause
+returns-in_err-claims-clause-cause g c =
+    let names = check_files_of c.args.netlist.now c.args.tests.now c.args.report.now c.args.proofs.now in
+    let circuit = c.in_ok-circuit.circuit in
+    let classes = c.in_ok-listed.listed.classes in
+    let a = g.D.Desk.view c.args.desk.now in
+    let m = g.D.Desk.view c.read_netlist.new.desk in
+    let n = g.D.Desk.view c.read_checked_tests.new.desk in
+    let netlist : NetlistIsRead names circuit classes a m = record {
+      frame = c.in_ok-circuit.ensures.frame;
+      there = c.in_ok-circuit.ensures.there;
+      good = c.in_ok-circuit.ensures.circuit;
+      is_circuit = c.in_ok-circuit.ensures.well_formed;
+      classes = c.in_ok-listed.ensures.classes;
+      known = λ name. g.met.D.Desk.steady_tells c.args.desk.now name;
+    } in
+    let list = c.in_ok-list.list.list in
+    let tests : TestsAreRead names circuit classes list a m n = record {
+      netlist = netlist;
+      frame = c.in_ok-list.ensures.frame;
+      there = c.in_ok-list.ensures.there;
+      vectors = c.in_ok-list.ensures.list;
+    } in
+    let first = subst (λ (l : List (Option Place)). AreFirstDetections circuit classes list l) (sym c.deref.ensures.value)
+    c.in_ok-places.ensures.first in
+    let cause = report_stops names circuit classes list a m n (g.D.Desk.view c.read_report.new.desk)
+    c.in_err-claims.field-0.0 tests c.in_err-claims.ensures.frame
+    (λ text short input. c.in_err-claims.ensures.trouble list text first short input)
+    (c.in_err-claims.ensures.cause list first) in
+    search (rules, cause)
+
+-- ---- the proofs
+
+pub read_proofs-requires-clause-each : goal.read_proofs-requires-clause-each
+read_proofs-requires-clause-each g c =
+    let circuit = c.in_ok-circuit.circuit in
+    let classes = c.in_ok-listed.listed.classes in
+    let list = c.in_ok-list.list.list in
+    let first = subst (λ (l : List (Option Place)). AreFirstDetections circuit classes list l) (sym c.deref.ensures.value)
+    c.in_ok-places.ensures.first in
+    (c.in_ok-claims.ensures.read list first).report.report.search.saids_are.each
+
+pub returns-in_err-read_proofs-clause-reads : goal.returns-in_err-read_proofs-clause-reads
+returns-in_err-read_proofs-clause-reads g c =
+    let names = check_files_of c.args.netlist.now c.args.tests.now c.args.report.now c.args.proofs.now in
+    reads_four names (g.D.Desk.view c.args.desk.now) (g.D.Desk.view c.read_netlist.new.desk)
+    (g.D.Desk.view c.read_checked_tests.new.desk) (g.D.Desk.view c.read_report.new.desk)
+    (g.D.Desk.view c.read_proofs.new.desk) c.in_ok-circuit.ensures.frame c.in_ok-list.ensures.frame
+    c.in_ok-claims.ensures.frame c.in_err-read_proofs.ensures.frame
+
+pub returns-in_err-read_proofs-clause-cause : goal.returns-in_err-read_proofs-clause-cause
+returns-in_err-read_proofs-clause-cause g c =
+    let names = check_files_of c.args.netlist.now c.args.tests.now c.args.report.now c.args.proofs.now in
+    let circuit = c.in_ok-circuit.circuit in
+    let classes = c.in_ok-listed.listed.classes in
+    let a = g.D.Desk.view c.args.desk.now in
+    let m = g.D.Desk.view c.read_netlist.new.desk in
+    let n = g.D.Desk.view c.read_checked_tests.new.desk in
+    let netlist : NetlistIsRead names circuit classes a m = record {
+      frame = c.in_ok-circuit.ensures.frame;
+      there = c.in_ok-circuit.ensures.there;
+      good = c.in_ok-circuit.ensures.circuit;
+      is_circuit = c.in_ok-circuit.ensures.well_formed;
+      classes = c.in_ok-listed.ensures.classes;
+      known = λ name. g.met.D.Desk.steady_tells c.args.desk.now name;
+    } in
+    let list = c.in_ok-list.list.list in
+    let tests : TestsAreRead names circuit classes list a m n = record {
+      netlist = netlist;
+      frame = c.in_ok-list.ensures.frame;
+      there = c.in_ok-list.ensures.there;
+      vectors = c.in_ok-list.ensures.list;
+    } in
+    let first = subst (λ (l : List (Option Place)). AreFirstDetections circuit classes list l) (sym c.deref.ensures.value)
+    c.in_ok-places.ensures.first in
+    let o = g.D.Desk.view c.read_report.new.desk in
+    let budget = c.in_ok-claims.claims.budget in
+    let saids = c.in_ok-claims.claims.saids.items in
+    let report : ReportWasRead names circuit classes list budget saids a m n o = record {
+      tests = tests;
+      frame = c.in_ok-claims.ensures.frame;
+      there = c.in_ok-claims.ensures.there;
+      report = c.in_ok-claims.ensures.read list first;
+    } in
+    let cause = proofs_stop names circuit classes list budget saids a m n o report (g.D.Desk.view c.read_proofs.new.desk)
+    c.in_err-read_proofs.field-0.0 c.in_err-read_proofs.ensures.frame
+    (λ text input. c.in_err-read_proofs.ensures.trouble (claimed list budget saids) text refl refl input)
+    c.in_err-read_proofs.ensures.cause in
+    search (rules, cause)
+
+-- ---- all are valid
+
+pub returns-clause-reads : goal.returns-clause-reads
+returns-clause-reads g c =
+    let names = check_files_of c.args.netlist.now c.args.tests.now c.args.report.now c.args.proofs.now in
+    reads_four names (g.D.Desk.view c.args.desk.now) (g.D.Desk.view c.read_netlist.new.desk)
+    (g.D.Desk.view c.read_checked_tests.new.desk) (g.D.Desk.view c.read_report.new.desk)
+    (g.D.Desk.view c.read_proofs.new.desk) c.in_ok-circuit.ensures.frame c.in_ok-list.ensures.frame
+    c.in_ok-claims.ensures.frame c.in_ok-read_proofs.ensures.frame
+
+pub returns-clause-inputs : goal.returns-clause-inputs
+returns-clause-inputs g c =
+    let names = check_files_of c.args.netlist.now c.args.tests.now c.args.report.now c.args.proofs.now in
+    let circuit = c.in_ok-circuit.circuit in
+    let classes = c.in_ok-listed.listed.classes in
+    let a = g.D.Desk.view c.args.desk.now in
+    let m = g.D.Desk.view c.read_netlist.new.desk in
+    let n = g.D.Desk.view c.read_checked_tests.new.desk in
+    let netlist : NetlistIsRead names circuit classes a m = record {
+      frame = c.in_ok-circuit.ensures.frame;
+      there = c.in_ok-circuit.ensures.there;
+      good = c.in_ok-circuit.ensures.circuit;
+      is_circuit = c.in_ok-circuit.ensures.well_formed;
+      classes = c.in_ok-listed.ensures.classes;
+      known = λ name. g.met.D.Desk.steady_tells c.args.desk.now name;
+    } in
+    let list = c.in_ok-list.list.list in
+    let tests : TestsAreRead names circuit classes list a m n = record {
+      netlist = netlist;
+      frame = c.in_ok-list.ensures.frame;
+      there = c.in_ok-list.ensures.there;
+      vectors = c.in_ok-list.ensures.list;
+    } in
+    let first = subst (λ (l : List (Option Place)). AreFirstDetections circuit classes list l) (sym c.deref.ensures.value)
+    c.in_ok-places.ensures.first in
+    let o = g.D.Desk.view c.read_report.new.desk in
+    let budget = c.in_ok-claims.claims.budget in
+    let saids = c.in_ok-claims.claims.saids.items in
+    let report : ReportWasRead names circuit classes list budget saids a m n o = record {
+      tests = tests;
+      frame = c.in_ok-claims.ensures.frame;
+      there = c.in_ok-claims.ensures.there;
+      report = c.in_ok-claims.ensures.read list first;
+    } in
+    accepts_all names circuit classes list budget saids a m n o report c.in_ok-read_proofs.ensures.there
+    (c.in_ok-read_proofs.ensures.read (claimed list budget saids) refl refl)

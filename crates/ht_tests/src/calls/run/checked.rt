@@ -1,0 +1,226 @@
+//! `check`: valid files, and the first trouble of others.
+
+use super::cases::words_of;
+use ht_app::run;
+use ht_ports::MemoryDesk;
+use ht_samples::{ALWAYS_ZERO, TOGGLE, WIRES};
+use std::alloc::{AllocError, Global};
+use std::test::Fail;
+
+// The four files; a report that isn't there can't be opened.
+struct Files<'a> {
+    netlist: &'a [u8],
+    tests: &'a [u8],
+    report: Option<&'a [u8]>,
+    proofs: &'a [u8],
+}
+
+// The files, and what must come out: the status, what is on Out and on Err.
+struct Example<'a> {
+    files: Files<'a>,
+    status: u8,
+    out: &'a [u8],
+    err: &'a [u8],
+}
+
+fn load(desk: &mut MemoryDesk, files: &Files<'_>) -> Result<(), AllocError> {
+    desk.put("n", files.netlist)?;
+    desk.put("t", files.tests)?;
+    if let Some(report) = files.report {
+        desk.put("r", report)?;
+    }
+    desk.put("p", files.proofs)?;
+    Ok(())
+}
+
+// Whether the desk has this on Out and on Err.
+fn says(desk: &MemoryDesk, example: &Example<'_>) -> bool {
+    desk.out() == example.out && desk.err() == example.err
+}
+
+fn answers_on(
+    alloc: Global,
+    desk: &mut MemoryDesk,
+    example: &Example<'_>,
+) -> Result<bool, AllocError> {
+    let words = words_of(alloc, &["check", "n", "t", "r", "p"])?;
+    load(desk, &example.files)?;
+    let status = run(alloc, &words, desk);
+    Ok(status == example.status && says(desk, example))
+}
+
+fn answers(alloc: Global, example: &Example<'_>) -> Result<bool, AllocError> {
+    let mut desk = MemoryDesk::new(alloc);
+    answers_on(alloc, &mut desk, example)
+}
+
+const ZERO_REPORT: &[u8] =
+    b"circuit inputs 1 outputs 1 flip-flops 0 gates 2 faults 10 classes 6 budget 1000\n\
+    1 a s-a-0 untestable\n2 a s-a-1 untestable\n3 n s-a-0 untestable\n\
+    4 n s-a-1 detected 1 z\n5 z s-a-0 as 3\n6 z s-a-1 detected 1 z\n7 n(1) s-a-0 as 4\n\
+    8 n(1) s-a-1 as 3\n9 z(1) s-a-0 as 3\n10 z(1) s-a-1 detected 2 z\n\
+    total 6 detected 3 untestable 3 aborted 0\n";
+
+const ZERO_PROOFS: &[u8] = b"proofs 1\n\
+    entry 1 untestable\nwalk\nhi 1\ndead\ndead\n\
+    entry 2 untestable\nwalk\nhi 1\ndead\ndead\n\
+    entry 3 untestable\nwalk\nhi 1\ndead\ndead\n\
+    end\n";
+
+const EXAMPLES: &[Example<'static>] = &[
+    Example {
+        files: Files {
+            netlist: ALWAYS_ZERO,
+            tests: b"1\n0\n",
+            report: Some(ZERO_REPORT),
+            proofs: ZERO_PROOFS,
+        },
+        status: 0,
+        out: b"valid\n",
+        err: b"",
+    },
+    // Malformed tests are denied also where there is no report.
+    Example {
+        files: Files {
+            netlist: ALWAYS_ZERO,
+            tests: b"1\n2\n",
+            report: None,
+            proofs: ZERO_PROOFS,
+        },
+        status: 1,
+        out: b"",
+        err: b"denied: tests line 2\n",
+    },
+    Example {
+        files: Files {
+            netlist: ALWAYS_ZERO,
+            tests: b"1\n0\n",
+            report: None,
+            proofs: ZERO_PROOFS,
+        },
+        status: 4,
+        out: b"",
+        err: b"read fault\n",
+    },
+    // The first vector detects fault 4.
+    Example {
+        files: Files {
+            netlist: ALWAYS_ZERO,
+            tests: b"1\n0\n",
+            report: Some(
+                b"circuit inputs 1 outputs 1 flip-flops 0 gates 2 faults 10 classes 6 budget 1000\n\
+                1 a s-a-0 untestable\n2 a s-a-1 untestable\n3 n s-a-0 untestable\n\
+                4 n s-a-1 detected 2 z\n",
+            ),
+            proofs: ZERO_PROOFS,
+        },
+        status: 1,
+        out: b"",
+        err: b"denied: report line 5\n",
+    },
+    // A word that is none.
+    Example {
+        files: Files {
+            netlist: ALWAYS_ZERO,
+            tests: b"1\n0\n",
+            report: Some(ZERO_REPORT),
+            proofs: b"proofs 1\n\
+                entry 1 untestable\nwalk\nhi 1\ndead\ndead\n\
+                entry 2 untestable\nwalk\nhi 1\ndead\ndead\n\
+                entry 3 untestable\nwalk\nhi 1\ndeaf\ndead\n\
+                end\n",
+        },
+        status: 1,
+        out: b"",
+        err: b"denied: proofs line 15\n",
+    },
+    // The walk of entry 3 isn't complete.
+    Example {
+        files: Files {
+            netlist: ALWAYS_ZERO,
+            tests: b"1\n0\n",
+            report: Some(ZERO_REPORT),
+            proofs: b"proofs 1\n\
+                entry 1 untestable\nwalk\nhi 1\ndead\ndead\n\
+                entry 2 untestable\nwalk\nhi 1\ndead\ndead\n\
+                entry 3 untestable\nwalk\nhi 1\ndead\n\
+                end\n",
+        },
+        status: 1,
+        out: b"",
+        err: b"denied: fault 3\n",
+    },
+    // Entry 1 is missing, and so is entry 2: the first is named, as entry 3 begins.
+    Example {
+        files: Files {
+            netlist: ALWAYS_ZERO,
+            tests: b"1\n0\n",
+            report: Some(ZERO_REPORT),
+            proofs: b"proofs 1\n\
+                entry 3 untestable\nwalk\nhi 1\ndeaf\n",
+        },
+        status: 1,
+        out: b"",
+        err: b"denied: fault 1\n",
+    },
+    // The report says that the fault is untestable, and its entry is that of an aborted one.
+    Example {
+        files: Files {
+            netlist: TOGGLE,
+            tests: b"",
+            report: Some(
+                b"circuit inputs 0 outputs 1 flip-flops 1 gates 1 faults 6 classes 4 budget 10\n\
+                1 q s-a-0 untestable\n2 q s-a-1 aborted\n3 n s-a-0 aborted\n4 n s-a-1 aborted\n\
+                5 n(1) s-a-0 as 4\n6 n(1) s-a-1 as 3\ntotal 4 detected 0 untestable 1 aborted 3\n",
+            ),
+            proofs: b"proofs 1\n\
+                entry 1 aborted\nframe output 1\nset 1 1\nback open\nx 1\nbefore\nx 1\ndead\n\
+                before\nx 1\nbefore\nx 1\ndead\nbefore\n\
+                sweep\nlength 1\ndead\nlength 2\ndead\nlength 3\ndead\nlength 4\ndead\nlength 5\n\
+                end\n",
+        },
+        status: 1,
+        out: b"",
+        err: b"denied: fault 1\n",
+    },
+    // The entry of a detected fault isn't judged.
+    Example {
+        files: Files {
+            netlist: WIRES,
+            tests: b"10\n01\n",
+            report: Some(
+                b"circuit inputs 2 outputs 2 flip-flops 0 gates 0 faults 4 classes 4 budget 1\n\
+                1 a s-a-0 detected 1 a\n2 a s-a-1 detected 2 a\n3 b s-a-0 detected 2 b\n\
+                4 b s-a-1 detected 1 b\ntotal 4 detected 4 untestable 0 aborted 0\n",
+            ),
+            proofs: b"proofs 1\nentry 2 untestable\nwalk\nend\n",
+        },
+        status: 0,
+        out: b"valid\n",
+        err: b"",
+    },
+    // The proofs end too early.
+    Example {
+        files: Files {
+            netlist: b"",
+            tests: b"",
+            report: Some(
+                b"circuit inputs 0 outputs 0 flip-flops 0 gates 0 faults 0 classes 0 budget 1000\n\
+                total 0 detected 0 untestable 0 aborted 0\n",
+            ),
+            proofs: b"proofs 1\n",
+        },
+        status: 1,
+        out: b"",
+        err: b"denied: proofs line 2\n",
+    },
+];
+
+#[test]
+fn check_answers_whether_files_are_valid(rt: HostRuntime) -> Result<(), Fail> {
+    let alloc = rt.alloc();
+    for example in EXAMPLES {
+        assert!(rt; answers(alloc, example)?);
+    }
+    Ok(())
+}
