@@ -25,7 +25,7 @@ pub accepts_netlist_of : (job : Asked) (name : List ℕ) (a : DeskView) → inpu
     → AcceptsInputs job a → AcceptsNetlist name a
 accepts_netlist_of (sim netlist tests report) name a is h = accepts_named (Some netlist) netlist name a refl is
     h.netlist
-accepts_netlist_of (gen netlist tests report proofs budget) name a is h =
+accepts_netlist_of (gen netlist tests report proofs options) name a is h =
     accepts_named (Some netlist) netlist name a refl is h
 accepts_netlist_of (norm netlist out) name a is h = accepts_named (Some netlist) netlist name a refl is h
 
@@ -91,7 +91,7 @@ good_netlist (sim netlist tests report) a are = record {
   circuit = are.circuit;
   good = are.good;
 }
-good_netlist (gen netlist tests report proofs budget) a is = record {
+good_netlist (gen netlist tests report proofs options) a is = record {
   name = netlist;
   reads = refl;
   text = is.text;
@@ -117,6 +117,6 @@ not_bad_tests (sim netlist tests report) a line are h =
           (let e : Some tests ≡ Some h.tests_name = h.reads_tests in cc) are.inputs.tests_is;
     }) in
     not_malformed are.netlist are.tests are.circuit bad.0 are.so.0 line are.good bad.1 are.so.1 bad.2
-not_bad_tests (gen netlist tests report proofs budget) a line is h =
+not_bad_tests (gen netlist tests report proofs options) a line is h =
     let e : Some h.tests_name ≡ None = sym h.reads_tests in cc
 not_bad_tests (norm netlist out) a line is h = let e : Some h.tests_name ≡ None = sym h.reads_tests in cc

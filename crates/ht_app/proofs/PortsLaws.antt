@@ -49,7 +49,7 @@ not_read job a b x unread = record {
   where
     creates_none : (j : Asked) → may_create j 3 ≡ false
     creates_none (sim netlist tests report) = refl
-    creates_none (gen netlist tests report proofs budget) = refl
+    creates_none (gen netlist tests report proofs options) = refl
     creates_none (norm netlist out) = refl
 
     none : (j : Asked) (p : InPort) → p ≢ in_port.Netlist → p ≢ in_port.Tests → is_some (input_name j p) ≡ false
@@ -58,9 +58,9 @@ not_read job a b x unread = record {
     none (sim netlist tests report) in_port.Report n t = refl
     none (sim netlist tests report) in_port.Proofs n t = refl
     none (sim netlist tests report) in_port.Extra n t = refl
-    none (gen netlist tests report proofs budget) in_port.Report n t = refl
-    none (gen netlist tests report proofs budget) in_port.Proofs n t = refl
-    none (gen netlist tests report proofs budget) in_port.Extra n t = refl
+    none (gen netlist tests report proofs options) in_port.Report n t = refl
+    none (gen netlist tests report proofs options) in_port.Proofs n t = refl
+    none (gen netlist tests report proofs options) in_port.Extra n t = refl
     none (norm netlist out) in_port.Report n t = refl
     none (norm netlist out) in_port.Proofs n t = refl
     none (norm netlist out) in_port.Extra n t = refl
@@ -98,7 +98,7 @@ wider false false c is = cc
 -- a run that finishes, or fails in writing
 pub may_begin : (job : Asked) (status : ℕ) → (status == 0 || status == 5) ≡ true → may_create job status ≡ true
 may_begin (sim netlist tests report) status ends = ends
-may_begin (gen netlist tests report proofs budget) status ends =
+may_begin (gen netlist tests report proofs options) status ends =
     wider (status == 0) (status == 5) (status == 6) ends
 may_begin (norm netlist out) status ends = ends
 

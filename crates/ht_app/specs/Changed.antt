@@ -49,7 +49,7 @@ pub record ChangedOnly (ports : Ports) (old new : DeskView) : Type 0 where
 -- a run creates its output only where it finishes (0) or fails in writing (5); `gen` writes as it works, so memory may
 -- run out after it began (6)
 abbrev pub may_create : Asked → ℕ → Bool
-may_create (gen netlist tests report proofs budget) status = status == 0 || (status == 5 || status == 6)
+may_create (gen netlist tests report proofs options) status = status == 0 || (status == 5 || status == 6)
 may_create job status = status == 0 || status == 5
 
 -- where the netlist is refused (3), no other text is read
@@ -63,7 +63,7 @@ creates_at job status port = if may_create job status then output_name job port 
 -- the commands that say something on Out
 abbrev pub says_on_out : Asked → Bool
 says_on_out (sim netlist tests report) = true
-says_on_out (gen netlist tests report proofs budget) = true
+says_on_out (gen netlist tests report proofs options) = true
 says_on_out (norm netlist out) = false
 
 -- a run says something on Out only where it finishes or fails in writing, and one that doesn't finish says why on Err

@@ -11,8 +11,9 @@ use Rattle.ht_bench.specs.Normal.{normal_text}
 use Rattle.ht_texts.specs.Tests.{IsTestText}
 use Rattle.ht_asked.specs.Asked.{Asked, sim, gen, norm}
 use Rattle.ht_app.specs.Inputs.{IsInput, IsGoodNetlist, AreInputs, AcceptsInputs}
-use Rattle.ht_app.specs.Jobs.{output_name}
+use Rattle.ht_app.specs.Jobs.{output_name, settings_of}
 use Rattle.ht_app.specs.Simulation.{IsReportOf}
+use Rattle.ht_engine.specs.Steps.{Settings}
 use Rattle.ht_files.specs.Generated.{IsGenerated}
 
 -- ---- `sim`
@@ -37,14 +38,14 @@ pub record HasReport (netlist tests : List ℕ) (old new : DeskView) : Type 0 wh
 
 -- The tests, the report and the proofs of the netlist's circuit stand, with one true verdict for each fault, and the
 -- report's total line was added to Out.
-pub record HasFiles (netlist : List ℕ) (budget : ℕ) (old new : DeskView) : Type 0 where
+pub record HasFiles (netlist : List ℕ) (settings : Settings) (old new : DeskView) : Type 0 where
   pub circuit : net.Netlist
   pub tests : List ℕ
   pub report : List ℕ
   pub proofs : List ℕ
   pub total : List ℕ
   pub good : IsGoodNetlist netlist circuit
-  pub generated : IsGenerated circuit budget tests report proofs total
+  pub generated : IsGenerated circuit settings tests report proofs total
   pub tests_stand : new.written Tests ≡ option_map (λ _. tests) (old.written Tests)
   pub report_stands : new.written Report ≡ option_map (λ _. report) (old.written Report)
   pub proofs_stand : new.written Proofs ≡ option_map (λ _. proofs) (old.written Proofs)
@@ -59,8 +60,8 @@ pub record HasNormalText (netlist : List ℕ) (old new : DeskView) : Type 0 wher
 abbrev pub HasOutput : Asked → DeskView → DeskView → Type 0
 HasOutput (sim netlist_name tests_name report_name) old new = (netlist tests : List ℕ)
     → AreInputs netlist_name tests_name netlist tests old → HasReport netlist tests old new
-HasOutput (gen netlist_name tests_name report_name proofs_name budget) old new = (netlist : List ℕ)
-    → IsInput Netlist netlist_name netlist old → HasFiles netlist budget old new
+HasOutput (gen netlist_name tests_name report_name proofs_name options) old new = (netlist : List ℕ)
+    → IsInput Netlist netlist_name netlist old → HasFiles netlist (settings_of options) old new
 HasOutput (norm netlist_name out_name) old new = (netlist : List ℕ) → IsInput Netlist netlist_name netlist old
     → HasNormalText netlist old new
 

@@ -43,7 +43,7 @@ pub record AcceptsTests (netlist_name tests_name : List ℕ) (old : DeskView) : 
 
 abbrev pub AcceptsInputs : Asked → DeskView → Type 0
 AcceptsInputs (sim netlist tests report) desk = AcceptsTests netlist tests desk
-AcceptsInputs (gen netlist tests report proofs budget) desk = AcceptsNetlist netlist desk
+AcceptsInputs (gen netlist tests report proofs options) desk = AcceptsNetlist netlist desk
 AcceptsInputs (norm netlist out) desk = AcceptsNetlist netlist desk
 
 -- ---- inputs that a desk knows
@@ -83,5 +83,5 @@ AreGoodTests netlist_name tests_name desk =
 -- the desk knows all that the job reads, and it is good
 abbrev pub AreGoodInputs : Asked → DeskView → Type 0
 AreGoodInputs (sim netlist tests report) desk = AreGoodTests netlist tests desk
-AreGoodInputs (gen netlist tests report proofs budget) desk = IsGoodNetlistFile netlist desk
+AreGoodInputs (gen netlist tests report proofs options) desk = IsGoodNetlistFile netlist desk
 AreGoodInputs (norm netlist out) desk = IsGoodNetlistFile netlist desk

@@ -58,7 +58,8 @@ pub record SimulateCause (netlist_name tests_name : List ℕ) (old new : DeskVie
 
 -- the budget that the job gives is in its range
 abbrev pub HasBudget : Asked → Type 0
-HasBudget (gen netlist tests report proofs budget) = (MIN_BUDGET ≤ budget) × (budget ≤ MAX_BUDGET)
+HasBudget (gen netlist tests report proofs options) =
+    (MIN_BUDGET ≤ options.budget) × (options.budget ≤ MAX_BUDGET)
 HasBudget job = Unit {0}
 
 -- ---- what the steps touch

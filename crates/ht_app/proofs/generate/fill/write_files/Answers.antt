@@ -106,4 +106,4 @@ returns-clause-wrote g c = λ names first has.
     (subst (λ (l : List ℕ). HasTexts names (whole_texts (tests_of steps) proofs l c.deref-2.result.now) first b)
     c.deref.ensures.value
     (c.in_ok-write_end.ensures.wrote names (tests_of steps) (proofs_so_far steps) first all.has.has)) in
-    all_generated names old.circuit old.budget steps body total first b whole made
+    all_generated names old.circuit old.settings steps body total first b whole made
