@@ -17,7 +17,10 @@ commands_are_sound = (
   record { differ = refl; few = omega arith },
   (
     record { differ = refl; few = omega arith },
-    (record { differ = refl; few = omega arith }, tt),
+    (
+      record { differ = refl; few = omega arith },
+      (record { differ = refl; few = omega arith }, (record { differ = refl; few = omega arith }, tt)),
+    ),
   ),
 )
 

@@ -1,14 +1,22 @@
--- Worked examples of a command with an option, read by computation.
+-- Worked examples of the commands, read by computation.
 use Rattle.std.proofs.Common.{◌≡◌, ◌∷◌, ℕ, List, [], map, Option, Some, None, refl, arith, codes}
 use Rattle.clap.specs.Walk.{Text}
 use Rattle.ht_asked.specs.Forms.{given, parts}
-use Rattle.ht_asked.specs.Asked.{Asked, asked, budget_of, gen, gen_command}
+use Rattle.ht_asked.specs.Asked.{Asked, asked, budget_of, check, demo, gen, gen_command}
 use Rattle.ht_asked.specs.ByClap.{app_with, given_by_clap}
 use Rattle.ht_asked.proofs.States.{AreReadable}
 use Rattle.ht_asked.proofs.FormByClap.{form_by_clap}
 
+abbrev told_with : ℕ → ℕ → ℕ → Option Asked
+told_with budget random seed = Some (gen (codes "n") (codes "t") (codes "r") (codes "p") (record {
+  budget = budget;
+  random = random;
+  seed = seed;
+}))
+
+-- a budget alone
 abbrev told : ℕ → Option Asked
-told budget = Some (gen (codes "n") (codes "t") (codes "r") (codes "p") budget)
+told budget = told_with budget 0 0
 
 -- the words after `gen`
 abbrev asks : List Text → Option Asked
@@ -33,7 +41,7 @@ refused : map asks (
     ∷ (codes "n" ∷ codes "t" ∷ codes "r" ∷ codes "p" ∷ codes "--budget" ∷ [])
     ∷ (codes "n" ∷ codes "t" ∷ codes "r" ∷ codes "p" ∷ codes "--budget" ∷ codes "-5" ∷ [])
     ∷ (codes "--budge=5" ∷ codes "n" ∷ codes "t" ∷ codes "r" ∷ codes "p" ∷ [])
-    ∷ (codes "--seed" ∷ codes "5" ∷ codes "n" ∷ codes "t" ∷ codes "r" ∷ codes "p" ∷ [])
+    ∷ (codes "--speed" ∷ codes "5" ∷ codes "n" ∷ codes "t" ∷ codes "r" ∷ codes "p" ∷ [])
     ∷ [])
     ≡ None ∷ None ∷ None ∷ None ∷ None ∷ None ∷ []
 unfolding asked given parts
@@ -52,6 +60,41 @@ no_budget : map (λ word. asks (codes "n" ∷ codes "t" ∷ codes "r" ∷ codes 
     ≡ None ∷ None ∷ None ∷ None ∷ None ∷ None ∷ None ∷ []
 unfolding asked given parts
 no_budget = refl
+
+-- the options of random vectors, in any order
+random_vectors : map (λ words. asks (codes "n" ∷ codes "t" ∷ codes "r" ∷ codes "p" ∷ words)) (
+    (codes "--random" ∷ codes "3" ∷ codes "--seed=007" ∷ [])
+    ∷ (codes "--seed=18446744073709551615" ∷ codes "--random=100000" ∷ codes "--budget=5" ∷ [])
+    ∷ (codes "--seed" ∷ codes "18446744073709551616" ∷ [])
+    ∷ (codes "--random" ∷ codes "100001" ∷ [])
+    ∷ (codes "--seed=1" ∷ codes "--seed=1" ∷ [])
+    ∷ [])
+    ≡ told_with 1000 3 7 ∷ told_with 5 100000 18446744073709551615 ∷ None ∷ None ∷ None ∷ []
+unfolding asked given parts
+random_vectors = refl
+
+-- `demo` has a size and a seed
+demos : map (λ words. asked (codes "demo" ∷ words)) (
+    (codes "16" ∷ codes "3" ∷ [])
+    ∷ (codes "20000" ∷ codes "0" ∷ [])
+    ∷ (codes "20001" ∷ codes "1" ∷ [])
+    ∷ (codes "0" ∷ codes "1" ∷ [])
+    ∷ (codes "16" ∷ codes "3" ∷ codes "4" ∷ [])
+    ∷ (codes "16" ∷ codes "--seed=3" ∷ [])
+    ∷ [])
+    ≡ Some (demo 16 3) ∷ Some (demo 20000 0) ∷ None ∷ None ∷ None ∷ None ∷ []
+unfolding asked given parts
+demos = refl
+
+-- `check` has four names and no option
+checks : map (λ words. asked (codes "check" ∷ words)) (
+    (codes "n" ∷ codes "t" ∷ codes "r" ∷ codes "p" ∷ [])
+    ∷ (codes "n" ∷ codes "t" ∷ codes "r" ∷ [])
+    ∷ (codes "n" ∷ codes "t" ∷ codes "r" ∷ codes "p" ∷ codes "--budget=5" ∷ [])
+    ∷ [])
+    ≡ Some (check (codes "n") (codes "t") (codes "r") (codes "p")) ∷ None ∷ None ∷ []
+unfolding asked given parts
+checks = refl
 
 -- `clap` reads the command's form as the plain reading does
 by_clap : (words : List Text) → AreReadable words

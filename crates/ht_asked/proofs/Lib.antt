@@ -25,4 +25,4 @@ pub mod FormByClap
 pub mod Examples
 pub mod AskedByClap
 pub mod Answered
-pub mod BudgetLaws
+pub mod RangeLaws

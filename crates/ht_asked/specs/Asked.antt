@@ -6,18 +6,28 @@ use Rattle.std.specs.Global.{Global}
 use Rattle.std.specs.Str.{bytes_eq}
 use Rattle.clap.specs.Walk.{Text}
 use Rattle.ht_asked.specs.declared.limits.TheConstants.{DEFAULT_BUDGET, MAX_BUDGET, MIN_BUDGET}
+use Rattle.ht_asked.specs.declared.limits.TheConstants.{DEFAULT_RANDOM, DEFAULT_SEED, MAX_RANDOM, MAX_SEED}
+use Rattle.ht_asked.specs.declared.limits.TheConstants.{MAX_SIZE, MIN_SIZE}
 use Rattle.ht_asked.specs.Forms.{Form, Given, given}
-use Rattle.ht_asked.specs.Numbers.{number_or}
+use Rattle.ht_asked.specs.Numbers.{number_in, number_or}
 
 -- the words as their bytes
 abbrev pub words_of : List (String Global) → List Text
 words_of = map (λ s. string_bytes s)
 
+-- what the options of `gen` say: the budget of each search, how many random vectors come first, and their seed
+pub record GenOptions : Type 0 where
+  pub budget : ℕ
+  pub random : ℕ
+  pub seed : ℕ
+
 -- a command with the names of its files, and with its numbers
 pub data Asked : Type 0 where
   sim : Text → Text → Text → Asked
-  gen : Text → Text → Text → Text → ℕ → Asked
+  gen : Text → Text → Text → Text → GenOptions → Asked
+  check : Text → Text → Text → Text → Asked
   norm : Text → Text → Asked
+  demo : ℕ → ℕ → Asked
 
 -- a command: its name in lower case, the form of the words after it, and what they ask for
 pub record Command : Type 0 where
@@ -44,10 +54,25 @@ sim_command = record {
 abbrev pub budget_of : Option Text → Option ℕ
 budget_of = number_or DEFAULT_BUDGET MIN_BUDGET MAX_BUDGET
 
--- `gen NETLIST TESTS REPORT PROOFS [--budget N]`
+-- how many random vectors come first, where the option's text says it or is left out
+abbrev pub random_of : Option Text → Option ℕ
+random_of = number_or DEFAULT_RANDOM 0 MAX_RANDOM
+
+-- the seed of the random vectors, where the option's text is one or is left out
+abbrev pub seed_of : Option Text → Option ℕ
+seed_of = number_or DEFAULT_SEED 0 MAX_SEED
+
+-- the options, where each of the three has a number
+abbrev pub options_with : Option ℕ → Option ℕ → Option ℕ → Option GenOptions
+options_with (Some budget) (Some random) (Some seed) =
+    Some (record { budget = budget; random = random; seed = seed })
+options_with _ _ _ = None
+
+-- `gen NETLIST TESTS REPORT PROOFS [--budget N] [--random N] [--seed S]`
 abbrev pub gen_of : List Text → List (Option Text) → Option Asked
-gen_of (netlist ∷ tests ∷ report ∷ proofs ∷ []) (budget ∷ []) =
-    option_map (gen netlist tests report proofs) (budget_of budget)
+gen_of (netlist ∷ tests ∷ report ∷ proofs ∷ []) (budget ∷ random ∷ seed ∷ []) = option_map
+    (gen netlist tests report proofs)
+    (options_with (budget_of budget) (random_of random) (seed_of seed))
 gen_of _ _ = None
 
 abbrev pub gen_command : Command
@@ -55,9 +80,24 @@ gen_command = record {
   name = codes "gen";
   form = record {
     positionals = codes "netlist" ∷ codes "tests" ∷ codes "report" ∷ codes "proofs" ∷ [];
-    options = codes "budget" ∷ [];
+    options = codes "budget" ∷ codes "random" ∷ codes "seed" ∷ [];
   };
   asks = λ g. gen_of g.positionals g.options;
+}
+
+-- `check NETLIST TESTS REPORT PROOFS`
+abbrev pub check_of : List Text → Option Asked
+check_of (netlist ∷ tests ∷ report ∷ proofs ∷ []) = Some (check netlist tests report proofs)
+check_of _ = None
+
+abbrev pub check_command : Command
+check_command = record {
+  name = codes "check";
+  form = record {
+    positionals = codes "netlist" ∷ codes "tests" ∷ codes "report" ∷ codes "proofs" ∷ [];
+    options = [];
+  };
+  asks = λ g. check_of g.positionals;
 }
 
 -- `norm NETLIST OUT`
@@ -72,8 +112,34 @@ norm_command = record {
   asks = λ g. norm_of g.positionals;
 }
 
+-- the size of a demonstration netlist
+abbrev pub size_in : Text → Option ℕ
+size_in = number_in MIN_SIZE MAX_SIZE
+
+-- the seed of a demonstration netlist
+abbrev pub seed_in : Text → Option ℕ
+seed_in = number_in 0 MAX_SEED
+
+-- `demo`, where its size and its seed have numbers
+abbrev pub demo_with : Option ℕ → Option ℕ → Option Asked
+demo_with (Some size) (Some seed) = Some (demo size seed)
+demo_with _ _ = None
+
+-- `demo SIZE SEED`
+abbrev pub demo_of : List Text → Option Asked
+demo_of (size ∷ seed ∷ []) = demo_with (size_in size) (seed_in seed)
+demo_of _ = None
+
+abbrev pub demo_command : Command
+demo_command = record {
+  name = codes "demo";
+  form = record { positionals = codes "size" ∷ codes "seed" ∷ []; options = [] };
+  asks = λ g. demo_of g.positionals;
+}
+
+-- the commands, in the order of the usage line
 abbrev pub commands : List Command
-commands = sim_command ∷ gen_command ∷ norm_command ∷ []
+commands = sim_command ∷ gen_command ∷ check_command ∷ norm_command ∷ demo_command ∷ []
 
 abbrev pub command_named : Text → Option Command
 command_named name = find (λ c. bytes_eq name c.name) commands

@@ -1,4 +1,5 @@
 pub mod Forms
 pub mod Numbers
 pub mod Asked
+pub mod Ranges
 pub mod ByClap

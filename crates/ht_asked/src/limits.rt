@@ -8,3 +8,21 @@ pub const MIN_BUDGET: u64 = 1;
 
 /// The greatest budget of a search.
 pub const MAX_BUDGET: u64 = 100_000;
+
+/// How many random vectors come first where the words don't say.
+pub const DEFAULT_RANDOM: u64 = 0;
+
+/// The most random vectors that come first.
+pub const MAX_RANDOM: u64 = 100_000;
+
+/// The seed of the random vectors where the words give none.
+pub const DEFAULT_SEED: u64 = 0;
+
+/// The greatest seed.
+pub const MAX_SEED: u64 = 18_446_744_073_709_551_615;
+
+/// The least size of a demonstration netlist.
+pub const MIN_SIZE: u64 = 1;
+
+/// The greatest size of a demonstration netlist.
+pub const MAX_SIZE: u64 = 20_000;

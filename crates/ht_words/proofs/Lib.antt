@@ -1,2 +1,3 @@
 mod DefinitionLaws
+mod DemoLaws
 mod NumberLaws

@@ -1,8 +1,8 @@
 -- How a number among the words is read.
 use Rattle.std.proofs.Common.{◌≡◌, ◌∙◌, ◌∷◌, ◌<◌, ◌≤◌, ◌^◌, ℕ, Bool, true, false, not, cond, [], length, Option, Some, None, Result, Ok, Err, refl, sym, ap, arith, slice_index, ◌&&◌, ◌==◌}
-use Rattle.std.specs.Prelude.{nat_le}
+use Rattle.std.specs.Prelude.{IfOk, nat_le}
 use Rattle.std.specs.List.{list_all}
-use Rattle.std.specs.Result.{OkIff}
+use Rattle.std.specs.Result.{OkIff, result_ok}
 use Rattle.std.specs.Str.Parse.{ParsesUnsigned, digits_value}
 use Rattle.std.proofs.lemmas.Bool.{le-leb, leb-true, ne_eqb}
 use Rattle.std.proofs.lemmas.Bool.Decides.{Decides-eqb}
@@ -76,3 +76,9 @@ module _ (E : Type 0) (text : Text) (plain : false ≡ (slice_index text 0 == 43
             some_length text digits.0,
             omega (arith, small, leb-true (value text) most range.1),
           ))
+
+-- a number that is there is the one of the result
+pub ok_is : {E : Type 0} (number : Option ℕ) (r : Result ℕ E) → number ≡ result_ok r
+    → IfOk r (λ n. number ≡ Some n)
+ok_is number (Ok n) e = e
+ok_is number (Err error) e = tt

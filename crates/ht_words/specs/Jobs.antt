@@ -1,6 +1,7 @@
 -- Jobs as what words ask for.
 use Rattle.std.specs.Prelude.{◌≡◌, Option, Some, None, Result, Err, IfOk}
-use Rattle.ht_asked.specs.Asked.{Asked, Command, gen, gen_command, norm, norm_command, sim, sim_command}
+use Rattle.ht_asked.specs.Asked.{Asked, check, demo, gen, norm, sim}
+use Rattle.ht_asked.specs.Asked.{Command, check_command, demo_command, gen_command, norm_command, sim_command}
 use Rattle.ht_words.specs.declared.job.Job.{Job}
 use Rattle.ht_words.specs.declared.job.Job.TheVariants as job
 use Rattle.ht_words.specs.declared.job.WordsFault.{WordsFault}
@@ -11,13 +12,18 @@ use Rattle.ht_words.specs.declared.command_name.CommandName.TheVariants as name
 abbrev pub command_of : CommandName → Command
 command_of name.Sim = sim_command
 command_of name.Gen = gen_command
+command_of name.Check = check_command
 command_of name.Norm = norm_command
+command_of name.Demo = demo_command
 
 -- what words ask for where they ask for the job
 abbrev pub asked_by : Job → Asked
 asked_by (job.Sim netlist tests report) = sim netlist tests report
-asked_by (job.Gen netlist tests report proofs budget) = gen netlist tests report proofs budget
+asked_by (job.Gen netlist tests report proofs budget random seed) =
+    gen netlist tests report proofs (record { budget = budget; random = random; seed = seed })
+asked_by (job.Check netlist tests report proofs) = check netlist tests report proofs
 asked_by (job.Norm netlist out) = norm netlist out
+asked_by (job.Demo size seed) = demo size seed
 
 -- the answer to what words ask for: the job, or a refusal; `Usage` only where they ask for none
 pub record IsAnswer (asked : Option Asked) (result : Result Job WordsFault) : Type 0 where

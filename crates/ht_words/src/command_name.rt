@@ -10,8 +10,12 @@ pub enum CommandName {
     Sim,
     /// `gen`.
     Gen,
+    /// `check`.
+    Check,
     /// `norm`.
     Norm,
+    /// `demo`.
+    Demo,
 }
 
 impl CommandName {
@@ -22,7 +26,9 @@ impl CommandName {
         match word {
             "sim" => Some(CommandName::Sim),
             "gen" => Some(CommandName::Gen),
+            "check" => Some(CommandName::Check),
             "norm" => Some(CommandName::Norm),
+            "demo" => Some(CommandName::Demo),
             _ => None,
         }
     }

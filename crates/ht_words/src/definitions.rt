@@ -1,7 +1,8 @@
 //! One `clap` command for each command of the program.
 ghost use Rattle.std.specs.Prelude.{◌≡◌, IfOk, false};
 ghost use Rattle.clap.specs.Words.{app_of, rule_of};
-ghost use Rattle.ht_asked.specs.Asked.{gen_command, norm_command, sim_command};
+ghost use Rattle.ht_asked.specs.Asked.{check_command, demo_command, gen_command};
+ghost use Rattle.ht_asked.specs.Asked.{norm_command, sim_command};
 ghost use Rattle.ht_asked.specs.ByClap.{app_named, app_with, optional, wanted};
 ghost use Rattle.ht_words.specs.Jobs.{command_of};
 
@@ -44,7 +45,7 @@ fn define_sim<'a>(alloc: Global) -> Result<Command<'a>, AllocError>
         .arg(positional(alloc, "report"))
 }
 
-/// `gen NETLIST TESTS REPORT PROOFS [--budget N]`.
+/// `gen NETLIST TESTS REPORT PROOFS [--budget N] [--random N] [--seed S]`.
 fn define_gen<'a>(alloc: Global) -> Result<Command<'a>, AllocError>
     ensures { IfOk result (λ c. app_of c ≡ app_with gen_command.name gen_command.form) }
 {
@@ -53,7 +54,20 @@ fn define_gen<'a>(alloc: Global) -> Result<Command<'a>, AllocError>
         .arg(positional(alloc, "tests"))?
         .arg(positional(alloc, "report"))?
         .arg(positional(alloc, "proofs"))?
-        .arg(option(alloc, "budget"))
+        .arg(option(alloc, "budget"))?
+        .arg(option(alloc, "random"))?
+        .arg(option(alloc, "seed"))
+}
+
+/// `check NETLIST TESTS REPORT PROOFS`.
+fn define_check<'a>(alloc: Global) -> Result<Command<'a>, AllocError>
+    ensures { IfOk result (λ c. app_of c ≡ app_with check_command.name check_command.form) }
+{
+    plain_command(alloc, "check")
+        .arg(positional(alloc, "netlist"))?
+        .arg(positional(alloc, "tests"))?
+        .arg(positional(alloc, "report"))?
+        .arg(positional(alloc, "proofs"))
 }
 
 /// `norm NETLIST OUT`.
@@ -65,6 +79,15 @@ fn define_norm<'a>(alloc: Global) -> Result<Command<'a>, AllocError>
         .arg(positional(alloc, "out"))
 }
 
+/// `demo SIZE SEED`.
+fn define_demo<'a>(alloc: Global) -> Result<Command<'a>, AllocError>
+    ensures { IfOk result (λ c. app_of c ≡ app_with demo_command.name demo_command.form) }
+{
+    plain_command(alloc, "demo")
+        .arg(positional(alloc, "size"))?
+        .arg(positional(alloc, "seed"))
+}
+
 /// The definition of a command.
 pub fn definition<'a>(alloc: Global, name: CommandName) -> Result<Command<'a>, AllocError>
     ensures { IfOk result (λ c. app_of c ≡ app_with (command_of name).name (command_of name).form) }
@@ -72,6 +95,8 @@ pub fn definition<'a>(alloc: Global, name: CommandName) -> Result<Command<'a>, A
     match name {
         CommandName::Sim => define_sim(alloc),
         CommandName::Gen => define_gen(alloc),
+        CommandName::Check => define_check(alloc),
         CommandName::Norm => define_norm(alloc),
+        CommandName::Demo => define_demo(alloc),
     }
 }

@@ -30,6 +30,21 @@ pub enum Job {
         proofs: FileName,
         /// The budget of each search, 1 to 100,000.
         budget: u64,
+        /// How many random vectors come first, 0 to 100,000.
+        random: u32,
+        /// The seed of the random vectors.
+        seed: u64,
+    },
+    /// Judges the tests, the report and the proofs that a search wrote.
+    Check {
+        /// The netlist to read.
+        netlist: FileName,
+        /// The tests to read.
+        tests: FileName,
+        /// The report to read.
+        report: FileName,
+        /// The entries of the faults for which no test was found, to read.
+        proofs: FileName,
     },
     /// Writes the netlist in its normal form.
     Norm {
@@ -37,6 +52,13 @@ pub enum Job {
         netlist: FileName,
         /// The normal netlist to write.
         out: FileName,
+    },
+    /// Makes a netlist from a size and a seed, and generates tests for it; no file is written.
+    Demo {
+        /// How many gates the netlist has, 1 to 20,000.
+        size: u32,
+        /// The seed of the netlist and of the random vectors.
+        seed: u64,
     },
 }
 

@@ -1,0 +1,142 @@
+-- The numbers that words ask for are in their ranges.
+use Rattle.std.proofs.Common.{◌≡◌, ◌≤◌, ◌∷◌, ◌&&◌, ℕ, Bool, true, false, cond, List, [], Option, Some, None, refl, subst, arith}
+use Rattle.std.specs.Prelude.{IfSome, find, nat_le, option_and_then, option_map}
+use Rattle.std.specs.Str.{bytes_eq}
+use Rattle.std.specs.Str.Parse.{digits_value}
+use Rattle.std.proofs.lemmas.Bool.{leb-true}
+use Rattle.clap.specs.Walk.{Text}
+use Rattle.clap.proofs.WalkLemmas.{both}
+use Rattle.ht_asked.specs.declared.limits.TheConstants.{MAX_BUDGET, MAX_RANDOM, MAX_SEED, MAX_SIZE, MIN_BUDGET, MIN_SIZE}
+use Rattle.ht_asked.specs.Forms.{Given, given}
+use Rattle.ht_asked.specs.Numbers.{is_number, number_in, number_or}
+use Rattle.ht_asked.specs.Asked.{Asked, Command, asked, check_of, commands, demo_of, demo_with, gen, gen_of, norm_of, options_with, sim_of}
+use Rattle.ht_asked.specs.Asked.{budget_of, random_of, seed_in, seed_of, size_in}
+use Rattle.ht_asked.specs.Ranges.{IsInRange}
+
+-- ---- numbers
+
+abbrev InRange : ℕ → ℕ → ℕ → Type 0
+InRange least most number = (least ≤ number) × (number ≤ most)
+
+-- a number that was read is in its range
+pub number_is_in_range : (least most : ℕ) (text : Text) → IfSome (number_in least most text) (InRange least most)
+number_is_in_range least most text = go (is_number text)
+    (nat_le least (digits_value 10 text) && nat_le (digits_value 10 text) most) refl
+  where
+    go : (a b : Bool) → (nat_le least (digits_value 10 text) && nat_le (digits_value 10 text) most) ≡ b
+        → IfSome (cond (a && b) (Some (digits_value 10 text)) None) (InRange least most)
+    go false b f = tt
+    go true false f = tt
+    go true true f =
+        let range = both (nat_le least (digits_value 10 text)) (nat_le (digits_value 10 text) most) f in
+        (leb-true least (digits_value 10 text) range.0, leb-true (digits_value 10 text) most range.1)
+
+-- so is that of an option, where its default is
+pub option_is_in_range : (default least most : ℕ) → InRange least most default → (text : Option Text)
+    → IfSome (number_or default least most text) (InRange least most)
+option_is_in_range default least most within None = within
+option_is_in_range default least most within (Some text) = number_is_in_range least most text
+
+-- ---- commands
+
+abbrev AsksInRange : Option Asked → Type 0
+AsksInRange asks = IfSome asks IsInRange
+
+by_sim : (names : List Text) → AsksInRange (sim_of names)
+by_sim [] = tt
+by_sim (a ∷ []) = tt
+by_sim (a ∷ b ∷ []) = tt
+by_sim (a ∷ b ∷ c ∷ []) = tt
+by_sim (a ∷ b ∷ c ∷ d ∷ rest) = tt
+
+by_options : (netlist tests report proofs : Text) (budget random seed : Option ℕ)
+    → IfSome budget (InRange MIN_BUDGET MAX_BUDGET) → IfSome random (InRange 0 MAX_RANDOM)
+    → IfSome seed (InRange 0 MAX_SEED)
+    → AsksInRange (option_map (gen netlist tests report proofs) (options_with budget random seed))
+by_options netlist tests report proofs None random seed b r s = tt
+by_options netlist tests report proofs (Some budget) None seed b r s = tt
+by_options netlist tests report proofs (Some budget) (Some random) None b r s = tt
+by_options netlist tests report proofs (Some budget) (Some random) (Some seed) b r s =
+    record { budget = b; random = r.1; seed = s.1 }
+
+by_gen : (names : List Text) (texts : List (Option Text)) → AsksInRange (gen_of names texts)
+by_gen [] texts = tt
+by_gen (a ∷ []) texts = tt
+by_gen (a ∷ b ∷ []) texts = tt
+by_gen (a ∷ b ∷ c ∷ []) texts = tt
+by_gen (a ∷ b ∷ c ∷ d ∷ x ∷ rest) texts = tt
+by_gen (a ∷ b ∷ c ∷ d ∷ []) [] = tt
+by_gen (a ∷ b ∷ c ∷ d ∷ []) (t ∷ []) = tt
+by_gen (a ∷ b ∷ c ∷ d ∷ []) (t ∷ u ∷ []) = tt
+by_gen (a ∷ b ∷ c ∷ d ∷ []) (t ∷ u ∷ v ∷ w ∷ rest) = tt
+by_gen (a ∷ b ∷ c ∷ d ∷ []) (t ∷ u ∷ v ∷ []) = by_options a b c d (budget_of t) (random_of u) (seed_of v)
+    (option_is_in_range 1000 MIN_BUDGET MAX_BUDGET (omega arith, omega arith) t)
+    (option_is_in_range 0 0 MAX_RANDOM (omega arith, omega arith) u)
+    (option_is_in_range 0 0 MAX_SEED (omega arith, omega arith) v)
+
+by_check : (names : List Text) → AsksInRange (check_of names)
+by_check [] = tt
+by_check (a ∷ []) = tt
+by_check (a ∷ b ∷ []) = tt
+by_check (a ∷ b ∷ c ∷ []) = tt
+by_check (a ∷ b ∷ c ∷ d ∷ []) = tt
+by_check (a ∷ b ∷ c ∷ d ∷ x ∷ rest) = tt
+
+by_norm : (names : List Text) → AsksInRange (norm_of names)
+by_norm [] = tt
+by_norm (a ∷ []) = tt
+by_norm (a ∷ b ∷ []) = tt
+by_norm (a ∷ b ∷ c ∷ rest) = tt
+
+by_numbers : (size seed : Option ℕ) → IfSome size (InRange MIN_SIZE MAX_SIZE) → IfSome seed (InRange 0 MAX_SEED)
+    → AsksInRange (demo_with size seed)
+by_numbers None seed a b = tt
+by_numbers (Some size) None a b = tt
+by_numbers (Some size) (Some seed) a b = (a.0, a.1, b.1)
+
+by_demo : (texts : List Text) → AsksInRange (demo_of texts)
+by_demo [] = tt
+by_demo (a ∷ []) = tt
+by_demo (a ∷ b ∷ c ∷ rest) = tt
+by_demo (a ∷ b ∷ []) = by_numbers (size_in a) (seed_in b) (number_is_in_range MIN_SIZE MAX_SIZE a)
+    (number_is_in_range 0 MAX_SEED b)
+
+-- ---- the table of the commands
+
+abbrev All : List Command → Type 0
+All [] = Unit {0}
+All (c ∷ cs) = ((g : Given) → AsksInRange (c.asks g)) × All cs
+
+commands_ask_in_range : All commands
+commands_ask_in_range = (
+  λ g. by_sim g.positionals,
+  (
+    λ g. by_gen g.positionals g.options,
+    (λ g. by_check g.positionals, (λ g. by_norm g.positionals, (λ g. by_demo g.positionals, tt))),
+  ),
+)
+
+by_given : (c : Command) → ((g : Given) → AsksInRange (c.asks g)) → (o : Option Given)
+    → AsksInRange (option_and_then c.asks o)
+by_given c so None = tt
+by_given c so (Some g) = so g
+
+by_found : (test : Command → Bool) (words : List Text) (cs : List Command) → All cs
+    → AsksInRange (option_and_then (λ (c : Command). option_and_then c.asks (given c.form words)) (find test cs))
+by_found test words [] so = tt
+by_found test words (c ∷ cs) so = go (test c) (by_found test words cs so.1)
+  where
+    go : (b : Bool)
+        → AsksInRange (option_and_then (λ (d : Command). option_and_then d.asks (given d.form words)) (find test cs))
+        → AsksInRange (option_and_then (λ (d : Command). option_and_then d.asks (given d.form words))
+        (cond b (Some c) (find test cs)))
+    go true rest = by_given c so.0 (given c.form words)
+    go false rest = rest
+
+asked_in_range : (words : List Text) → AsksInRange (asked words)
+unfolding asked
+asked_in_range [] = tt
+asked_in_range (name ∷ words) = by_found (λ c. bytes_eq name c.name) words commands commands_ask_in_range
+
+pub numbers_are_in_range : (words : List Text) (job : Asked) → asked words ≡ Some job → IsInRange job
+numbers_are_in_range words job is = subst AsksInRange is (asked_in_range words)

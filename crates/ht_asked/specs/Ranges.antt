@@ -1,0 +1,16 @@
+-- Ranges of the numbers that words give.
+use Rattle.std.specs.Prelude.{◌≤◌}
+use Rattle.ht_asked.specs.declared.limits.TheConstants.{MAX_BUDGET, MAX_RANDOM, MAX_SEED, MAX_SIZE, MIN_BUDGET, MIN_SIZE}
+use Rattle.ht_asked.specs.Asked.{Asked, GenOptions, demo, gen}
+
+-- the options of `gen` are in their ranges
+pub record AreOptions (options : GenOptions) : Type 0 where
+  pub budget : (MIN_BUDGET ≤ options.budget) × (options.budget ≤ MAX_BUDGET)
+  pub random : options.random ≤ MAX_RANDOM
+  pub seed : options.seed ≤ MAX_SEED
+
+-- the numbers of the command are in their ranges
+abbrev pub IsInRange : Asked → Type 0
+IsInRange (gen netlist tests report proofs options) = AreOptions options
+IsInRange (demo size seed) = (MIN_SIZE ≤ size) × (size ≤ MAX_SIZE) × (seed ≤ MAX_SEED)
+IsInRange job = Unit {0}
