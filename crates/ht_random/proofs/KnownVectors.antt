@@ -6,7 +6,8 @@ use Rattle.ht_random.specs.Words.{generator_of, next_word, after_word}
 use Rattle.ht_random.specs.RandomVectors.{random_vectors}
 
 vectors_of_seed_7 : random_vectors 4 3 7
-    ≡ (true ∷ false ∷ true ∷ false ∷ []) ∷ (false ∷ true ∷ false ∷ false ∷ []) ∷ (true ∷ false ∷ false ∷ false ∷ []) ∷ []
+    ≡ (true ∷ false ∷ true ∷ false ∷ []) ∷ (false ∷ true ∷ false ∷ false ∷ [])
+    ∷ (true ∷ false ∷ false ∷ false ∷ []) ∷ []
 unfolding generator_of next_word after_word pcg32_seed u32_at word_bytes
 vectors_of_seed_7 = refl
 

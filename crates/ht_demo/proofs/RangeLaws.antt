@@ -1,0 +1,67 @@
+-- Lists over the numbers from a start on.
+use Rattle.std.proofs.Common.{◌≡◌, ℕ, zero, suc, ◌+◌, ◌*◌, ◌<◌, ◌≤◌, List, [], ◌∷◌, ◌++◌, Bool, true, ◌&&◌, length, get_or, map, refl, sym, ap, ◌∙◌, add-one, append-nil, arith}
+use Rattle.std.proofs.Math.Nat.{suc-mul}
+use Rattle.std.specs.List.{All, flat_map, sum_by, list_all, range_with_len}
+use Rattle.std.proofs.lemmas.List.Sums.{sum_by-cons}
+use Rattle.std.proofs.lemmas.Grind.{flat_map-append}
+use Rattle.std.proofs.lemmas.List.Elements.{All-head, All-tail, All-map}
+
+pub ap2 : {A B C : Type 0} {a a' : A} {b b' : B} (f : A → B → C) → a ≡ a' → b ≡ b' → f a b ≡ f a' b'
+ap2 {a' = a'} {b = b} f left right = ap (λ x. f x b) left ∙ ap (f a') right
+
+-- one number more
+pub range_more : (a n : ℕ) → range_with_len a (suc n) ≡ range_with_len a n ++ (a + n) ∷ []
+range_more a zero = ap (λ x. x ∷ []) (omega arith)
+range_more a (suc n) = ap (λ l. a ∷ l) (range_more (a + 1) n
+    ∙ ap (λ x. range_with_len (a + 1) n ++ x ∷ []) (omega arith))
+
+pub flat_map_more : (f : ℕ → List ℕ) (n : ℕ)
+    → flat_map f (range_with_len 0 (n + 1)) ≡ flat_map f (range_with_len 0 n) ++ f n
+flat_map_more f n =
+    ap (λ m. flat_map f (range_with_len 0 m)) (add-one n)
+    ∙ ap (flat_map f) (range_more 0 n ∙ ap (λ x. range_with_len 0 n ++ x ∷ []) (omega arith))
+    ∙ flat_map-append f (range_with_len 0 n) (n ∷ [])
+    ∙ ap (λ t. flat_map f (range_with_len 0 n) ++ t) (append-nil (f n))
+
+-- a text after the lines of n numbers, and after one line more
+pub one_line_more : (f : ℕ → List ℕ) (n : ℕ) (before after line : List ℕ)
+    → before ≡ flat_map f (range_with_len 0 n) → after ≡ before ++ line → line ≡ f n
+    → after ≡ flat_map f (range_with_len 0 (n + 1))
+one_line_more f n before after line is_before is_after is_line =
+    is_after ∙ ap (λ t. t ++ line) is_before ∙ ap (λ t. flat_map f (range_with_len 0 n) ++ t) is_line
+    ∙ sym (flat_map_more f n)
+
+-- the texts of a list's images
+pub flat_map-map : {A B : Type 0} (f : B → List ℕ) (h : A → B) (xs : List A)
+    → flat_map f (map h xs) ≡ flat_map (λ x. f (h x)) xs
+flat_map-map f h [] = refl
+flat_map-map f h (x ∷ xs) = ap (λ t. f (h x) ++ t) (flat_map-map f h xs)
+
+-- two functions that agree at all members
+pub map_agree : {A B : Type 0} (f h : A → B) (P : A → Type 0) → ((x : A) → P x → f x ≡ h x)
+    → (xs : List A) → All P xs → map f xs ≡ map h xs
+map_agree f h P same [] all = refl
+map_agree f h P same (x ∷ xs) all =
+    ap (λ y. y ∷ map f xs) (same x (All-head P x xs all))
+    ∙ ap (λ l. h x ∷ l) (map_agree f h P same xs (All-tail P x xs all))
+
+-- what holds of all images
+pub All-map_always : {A B : Type 0} (P : B → Type 0) (f : A → B) → ((x : A) → P (f x))
+    → (xs : List A) → All P (map f xs)
+All-map_always P f always xs = All-map P f xs (λ k d below. always (get_or xs k d))
+
+pub list_all_range : (p : List ℕ → Bool) (f : ℕ → List ℕ) (a n : ℕ)
+    → ((k : ℕ) → k < a + n → p (f k) ≡ true) → list_all p (map f (range_with_len a n)) ≡ true
+list_all_range p f a zero each = refl
+list_all_range p f a (suc n) each =
+    ap (λ b. b && list_all p (map f (range_with_len (a + 1) n))) (each a (omega arith))
+    ∙ ap (λ b. true && b) (list_all_range p f (a + 1) n (λ k below. each k (omega arith)))
+
+pub sum_at_most : {A : Type 0} (weight : A → ℕ) (most : ℕ) (xs : List A) → All (λ x. weight x ≤ most) xs
+    → sum_by weight xs ≤ length xs * most
+sum_at_most weight most [] all = omega arith
+sum_at_most weight most (x ∷ xs) all =
+    let rest = sum_at_most weight most xs (All-tail (λ y. weight y ≤ most) x xs all) in
+    let this = All-head (λ y. weight y ≤ most) x xs all in
+    let total = sum_by-cons weight x xs in
+    rw suc-mul (omega arith)

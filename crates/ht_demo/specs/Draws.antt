@@ -1,0 +1,75 @@
+-- What words mean in a demonstration netlist.
+use Rattle.std.specs.Prelude.{ℕ, zero, suc, ◌+◌, ◌-◌, ◌%◌, min, List, [], ◌∷◌, ◌++◌, Bool, true, false, map, get_or, if◌then◌else◌, nat_eq}
+use Rattle.std.specs.List.{range_with_len, list_any}
+use Rattle.rand_pcg.specs.Lcg.{Lcg}
+use Rattle.ht_tern.specs.declared.gate.Kind.{Kind}
+use Rattle.ht_tern.specs.declared.gate.Kind.TheVariants.{And, Nand, Or, Nor, Xor, Xnor, Not, Buf}
+use Rattle.ht_net.specs.declared.net.NetId.{NetId}
+use Rattle.ht_net.specs.Netlist.{Gate}
+use Rattle.ht_random.specs.Words.{next_word, after_word, after_words}
+use Rattle.ht_demo.specs.Counts.{first_gate}
+
+-- ---- gates
+
+-- the kinds of gates, in their order
+abbrev pub kinds : List Kind
+kinds = And ∷ Nand ∷ Or ∷ Nor ∷ Xor ∷ Xnor ∷ Not ∷ Buf ∷ []
+
+-- the kind that a word gives
+abbrev pub kind_of : ℕ → Kind
+kind_of word = get_or kinds (word % 8) And
+
+-- NOT and BUFF have one argument, the other kinds two
+abbrev pub is_unary : Kind → Bool
+is_unary Not = true
+is_unary Buf = true
+is_unary kind = false
+
+abbrev pub argument_count : Kind → ℕ
+argument_count kind = if is_unary kind then 1 else 2
+
+-- the argument that a word gives to a gate with so many nets before it: one of the last 64
+abbrev pub argument_of : ℕ → ℕ → NetId
+argument_of nets word = record { 0 = nets - 1 - word % min nets 64 }
+
+-- the arguments of a gate of a kind, one word each
+abbrev pub drawn_arguments : ℕ → Kind → Lcg → List NetId
+drawn_arguments nets kind g =
+    map (λ i. argument_of nets (next_word (after_words i g))) (range_with_len 0 (argument_count kind))
+
+-- the next gate, with so many nets before it: one word for its kind, then its arguments
+abbrev pub drawn_gate : ℕ → Lcg → Gate
+drawn_gate nets g = record {
+  kind = kind_of (next_word g);
+  args = drawn_arguments nets (kind_of (next_word g)) (after_word g);
+}
+
+-- the generator after one gate and after k gates
+abbrev pub after_gate : Lcg → Lcg
+after_gate g = after_words (argument_count (kind_of (next_word g))) (after_word g)
+
+abbrev pub after_gates : ℕ → Lcg → Lcg
+after_gates zero g = g
+after_gates (suc k) g = after_gate (after_gates k g)
+
+-- ---- data pins and outputs
+
+-- the gate that a word gives to a flip-flop or to an output, by its net
+abbrev pub gate_of : ℕ → ℕ → NetId
+gate_of size word = record { 0 = first_gate size + word % size }
+
+-- the gate that the word after n others gives
+abbrev pub drawn_gate_net : ℕ → Lcg → ℕ → NetId
+drawn_gate_net size g n = gate_of size (next_word (after_words n g))
+
+-- a net after others, unless it is one of them
+abbrev pub is_among : List NetId → NetId → Bool
+is_among nets net = list_any (λ (other : NetId). nat_eq other.0 net.0) nets
+
+abbrev pub with_net : List NetId → NetId → List NetId
+with_net nets net = if is_among nets net then nets else nets ++ net ∷ []
+
+-- the outputs by n words in order; a gate that is drawn twice is one output
+unfoldable pub drawn_outputs : ℕ → Lcg → ℕ → List NetId
+drawn_outputs size g zero = []
+drawn_outputs size g (suc n) = with_net (drawn_outputs size g n) (drawn_gate_net size g n)

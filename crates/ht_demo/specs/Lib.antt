@@ -1,0 +1,4 @@
+pub mod Counts
+pub mod Draws
+pub mod Demo
+pub mod DemoText
