@@ -11,8 +11,7 @@ use Rattle.ht_ports.specs.declared.ports.OutPort.TheVariants.{Tests, Report, Pro
 use Rattle.ht_net.specs.Netlist as net
 use Rattle.ht_files.proofs.PlainNameLaws.{plain_names}
 use Rattle.clap.specs.Walk.{Text}
-use Rattle.ht_asked.specs.Asked.{GenOptions, Asked, asked, sim, gen, norm}
-use Rattle.ht_asked.proofs.BudgetLaws.{budget_is_in_range}
+use Rattle.ht_asked.specs.Asked.{Asked, GenOptions, gen}
 use Rattle.ht_app.specs.declared.run_error.RunError.{RunError}
 use Rattle.ht_app.specs.declared.run_error.RunError.TheVariants.{Usage, TooLong, Refused, ReadFault, WriteFault, NoMemory, BadTests}
 use Rattle.ht_app.specs.FileTexts.{Names}
@@ -24,7 +23,7 @@ use Rattle.ht_app.specs.Done.{IsDone, IsCreatedAs}
 use Rattle.ht_app.specs.Errors.{exit_status}
 use Rattle.ht_app.specs.Truncated.{HasText, IsEmptiedIf, IsTruncated, StopsInEnd, StopsInFiles, StopsInHead, StopsInLastFile, StopsInSteps}
 use Rattle.ht_app.specs.Run.{HasCause}
-use Rattle.ht_app.specs.Steps.{HasBudget, reading}
+use Rattle.ht_app.specs.Steps.{reading}
 use Rattle.ht_app.specs.Generating.{FillCause, HasGenerated, LeavesFiles, file_name, filling, is_gen_port}
 use Rattle.ht_app.proofs.ChangedLaws.{IsWithin, changed_by_reading, changed_trans, changed_within}
 use Rattle.ht_app.proofs.PortsLaws.{ends_reading, reading_within}
@@ -33,13 +32,6 @@ use Rattle.ht_app.proofs.EndLaws.{fault_later}
 
 abbrev pub options_of : ℕ → ℕ → ℕ → GenOptions
 options_of budget random seed = record { budget = budget; random = random; seed = seed }
-
--- the budget that words ask for is in its range
-pub asked_budget : (words : List Text) (job : Asked) → asked words ≡ Some job → HasBudget job
-asked_budget words (sim netlist tests report) is = tt
-asked_budget words (gen netlist tests report proofs options) is =
-    budget_is_in_range netlist tests report proofs options words is
-asked_budget words (norm netlist out) is = tt
 
 -- ---- what was left before the netlist was read
 

@@ -7,7 +7,7 @@ use Rattle.ht_net.specs.Netlist as net
 use Rattle.ht_bench.specs.declared.error.BenchError.{BenchError}
 use Rattle.ht_texts.specs.Tests.{IsTestText, IsMalformedTest}
 use Rattle.ht_texts.proofs.TestLaws.{never_both}
-use Rattle.ht_asked.specs.Asked.{Asked, sim, gen, norm}
+use Rattle.ht_asked.specs.Asked.{Asked, sim, gen, check, norm, demo}
 use Rattle.ht_app.specs.Inputs.{IsInput, IsGoodNetlist, AcceptsNetlist, AcceptsTests, AcceptsInputs, IsBadNetlist, AreBadTests, AreGoodInputs}
 use Rattle.ht_app.specs.Jobs.{input_name}
 use Rattle.ht_app.specs.Run.{IsTooLongNetlist, IsRefused, RefusesNetlist, RefusesTests}
@@ -27,7 +27,9 @@ accepts_netlist_of (sim netlist tests report) name a is h = accepts_named (Some 
     h.netlist
 accepts_netlist_of (gen netlist tests report proofs options) name a is h =
     accepts_named (Some netlist) netlist name a refl is h
+accepts_netlist_of (check netlist tests report proofs) name a is h = absurd h
 accepts_netlist_of (norm netlist out) name a is h = accepts_named (Some netlist) netlist name a refl is h
+accepts_netlist_of (demo size seed) name a is h = let e : Some name ≡ None = sym is in cc
 
 pub no_bad_netlist : (name : List ℕ) (a : DeskView) → AcceptsNetlist name a → ¬ IsBadNetlist name a
 no_bad_netlist name a accepts bad = let good = accepts.accepted bad.text bad.input in bad.none good.0 good.1
@@ -82,8 +84,9 @@ pub record HasGoodNetlist (job : Asked) (a : DeskView) : Type 0 where
   pub circuit : net.Netlist
   pub good : IsGoodNetlist text circuit
 
-pub good_netlist : (job : Asked) (a : DeskView) → AreGoodInputs job a → HasGoodNetlist job a
-good_netlist (sim netlist tests report) a are = record {
+pub good_netlist : (job : Asked) (a : DeskView) (read : List ℕ) → input_name job Netlist ≡ Some read
+    → AreGoodInputs job a → HasGoodNetlist job a
+good_netlist (sim netlist tests report) a read reads are = record {
   name = netlist;
   reads = refl;
   text = are.netlist;
@@ -91,7 +94,7 @@ good_netlist (sim netlist tests report) a are = record {
   circuit = are.circuit;
   good = are.good;
 }
-good_netlist (gen netlist tests report proofs options) a is = record {
+good_netlist (gen netlist tests report proofs options) a read reads is = record {
   name = netlist;
   reads = refl;
   text = is.text;
@@ -99,7 +102,9 @@ good_netlist (gen netlist tests report proofs options) a is = record {
   circuit = is.circuit;
   good = is.good;
 }
-good_netlist (norm netlist out) a is = record {
+good_netlist (check netlist tests report proofs) a read reads is = absurd is
+good_netlist (demo size seed) a read reads is = let e : Some read ≡ None = sym reads in cc
+good_netlist (norm netlist out) a read reads is = record {
   name = netlist;
   reads = refl;
   text = is.text;
@@ -119,4 +124,6 @@ not_bad_tests (sim netlist tests report) a line are h =
     not_malformed are.netlist are.tests are.circuit bad.0 are.so.0 line are.good bad.1 are.so.1 bad.2
 not_bad_tests (gen netlist tests report proofs options) a line is h =
     let e : Some h.tests_name ≡ None = sym h.reads_tests in cc
+not_bad_tests (check netlist tests report proofs) a line is h = absurd is
+not_bad_tests (demo size seed) a line is h = let e : Some h.tests_name ≡ None = sym h.reads_tests in cc
 not_bad_tests (norm netlist out) a line is h = let e : Some h.tests_name ≡ None = sym h.reads_tests in cc

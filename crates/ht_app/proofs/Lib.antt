@@ -19,3 +19,4 @@ pub mod StepLaws
 pub mod EndLaws
 pub mod FinishLaws
 pub mod GenLaws
+pub mod DemoLaws

@@ -6,12 +6,12 @@ use Rattle.ht_ports.specs.declared.ports.InPort.{InPort}
 use Rattle.ht_ports.specs.declared.ports.InPort.TheVariants as in_port
 use Rattle.ht_ports.specs.declared.ports.OutPort.{OutPort}
 use Rattle.ht_ports.specs.declared.ports.OutPort.TheVariants.{Tests, Report, Proofs, Out, Err}
-use Rattle.ht_asked.specs.Asked.{Asked, sim, gen, norm}
+use Rattle.ht_asked.specs.Asked.{Asked, sim, gen, check, norm, demo}
 use Rattle.ht_app.specs.declared.run_error.RunError.{RunError}
 use Rattle.ht_app.specs.declared.run_error.RunError.TheVariants.{Usage, TooLong, Refused, ReadFault, WriteFault, NoMemory, BadTests}
 use Rattle.ht_app.specs.Errors.{exit_status}
 use Rattle.ht_app.specs.Jobs.{input_name, output_name}
-use Rattle.ht_app.specs.Changed.{ChangedOnly, IsCreatedOnly, job_ports, ports_at, may_create, says_on_out}
+use Rattle.ht_app.specs.Changed.{ChangedOnly, IsCreatedOnly, job_ports, ports_at, may_create, says_early, says_on_out}
 use Rattle.ht_app.specs.Steps.{reading, writing, IsUnread}
 use Rattle.ht_app.proofs.ChangedLaws.{IsWithin, changed_within, changed_trans, changed_by_writing}
 
@@ -50,7 +50,9 @@ not_read job a b x unread = record {
     creates_none : (j : Asked) → may_create j 3 ≡ false
     creates_none (sim netlist tests report) = refl
     creates_none (gen netlist tests report proofs options) = refl
+    creates_none (check netlist tests report proofs) = refl
     creates_none (norm netlist out) = refl
+    creates_none (demo size seed) = refl
 
     none : (j : Asked) (p : InPort) → p ≢ in_port.Netlist → p ≢ in_port.Tests → is_some (input_name j p) ≡ false
     none j in_port.Netlist n t = absurd (n refl)
@@ -61,9 +63,15 @@ not_read job a b x unread = record {
     none (gen netlist tests report proofs options) in_port.Report n t = refl
     none (gen netlist tests report proofs options) in_port.Proofs n t = refl
     none (gen netlist tests report proofs options) in_port.Extra n t = refl
+    none (check netlist tests report proofs) in_port.Report n t = refl
+    none (check netlist tests report proofs) in_port.Proofs n t = refl
+    none (check netlist tests report proofs) in_port.Extra n t = refl
     none (norm netlist out) in_port.Report n t = refl
     none (norm netlist out) in_port.Proofs n t = refl
     none (norm netlist out) in_port.Extra n t = refl
+    none (demo size seed) in_port.Report n t = refl
+    none (demo size seed) in_port.Proofs n t = refl
+    none (demo size seed) in_port.Extra n t = refl
 
     -- what stands at the ports is kept where the job reads no port but the netlist and the tests
     kept : {T : Type 0} (new old : InPort → T) → ((p : InPort) → is_some (input_name job p) ≡ false → new p ≡ old p)
@@ -100,7 +108,9 @@ pub may_begin : (job : Asked) (status : ℕ) → (status == 0 || status == 5) �
 may_begin (sim netlist tests report) status ends = ends
 may_begin (gen netlist tests report proofs options) status ends =
     wider (status == 0) (status == 5) (status == 6) ends
+may_begin (check netlist tests report proofs) status ends = ends
 may_begin (norm netlist out) status ends = ends
+may_begin (demo size seed) status ends = ends
 
 writing_within : (job : Asked) (status : ℕ) (name : List ℕ) → (status == 0 || status == 5) ≡ true
     → output_name job Report ≡ Some name → IsWithin (writing name (says_on_out job)) (job_ports job status)
@@ -124,7 +134,8 @@ writing_within job status name ends is = record { reads = λ p off. refl; create
         ap (λ b. is_some (if b then output_name job Report else None)) may ∙ ap is_some is in
         cc
     writes Proofs off = refl
-    writes Out off = subst (λ (b : Bool). (b && says_on_out job) ≡ false) ends off
+    writes Out off =
+        subst (λ (b : Bool). ((b || (says_early job && status == 6)) && says_on_out job) ≡ false) ends off
     writes Err off = refl
 
 pub ends_writing : (job : Asked) (status : ℕ) (name : List ℕ) (a m b : DeskView) → (status == 3) ≡ false

@@ -105,7 +105,7 @@ pub stops_in_step : (names : Names) (old new : EngineView) (step : Step) (sizes 
 stops_in_step names old new step sizes first m b other h made part = stops_within names old h.steps step first b
     (one_more h.steps step h.stands.are (makes_step old new h.steps step other made).follows) part
 
-finished_as : (old new : EngineView) (steps : List Step) → HasSameWork old new
+pub finished_as : (old new : EngineView) (steps : List Step) → HasSameWork old new
     → AreFinished old.circuit old.representatives (first_of old) steps
     → AreFinished new.circuit new.representatives (first_of new) steps
 finished_as old new steps same are =

@@ -9,8 +9,9 @@ use Rattle.ht_ports.specs.declared.ports.OutPort.TheVariants.{Tests, Report, Pro
 use Rattle.ht_net.specs.Netlist as net
 use Rattle.ht_bench.specs.Normal.{normal_text}
 use Rattle.ht_texts.specs.Tests.{IsTestText}
-use Rattle.ht_asked.specs.Asked.{Asked, sim, gen, norm}
+use Rattle.ht_asked.specs.Asked.{Asked, sim, gen, check, norm, demo}
 use Rattle.ht_app.specs.Inputs.{IsInput, IsGoodNetlist, AreInputs, AcceptsInputs}
+use Rattle.ht_app.specs.Demo.{HasDemoLines}
 use Rattle.ht_app.specs.Jobs.{output_name, settings_of}
 use Rattle.ht_app.specs.Simulation.{IsReportOf}
 use Rattle.ht_engine.specs.Steps.{Settings}
@@ -62,8 +63,10 @@ HasOutput (sim netlist_name tests_name report_name) old new = (netlist tests : L
     → AreInputs netlist_name tests_name netlist tests old → HasReport netlist tests old new
 HasOutput (gen netlist_name tests_name report_name proofs_name options) old new = (netlist : List ℕ)
     → IsInput Netlist netlist_name netlist old → HasFiles netlist (settings_of options) old new
+HasOutput (check netlist tests report proofs) old new = ⊥
 HasOutput (norm netlist_name out_name) old new = (netlist : List ℕ) → IsInput Netlist netlist_name netlist old
     → HasNormalText netlist old new
+HasOutput (demo size seed) old new = HasDemoLines size seed old new
 
 -- the port was created under this name
 pub record IsCreatedAs (port : OutPort) (name : List ℕ) (old new : DeskView) : Type 0 where

@@ -1,5 +1,5 @@
 -- Why a run ends without its work: each error, its status and its line on Err.
-use Rattle.std.specs.Prelude.{ℕ, List, ◌++◌, codes}
+use Rattle.std.specs.Prelude.{◌≡◌, ◌⊎◌, ℕ, List, ◌++◌, codes}
 use Rattle.ht_ports.specs.Numbered.{numbered}
 use Rattle.ht_bench.specs.RefusalText.{refusal_text}
 use Rattle.ht_bench.specs.declared.error.BenchError.{BenchError}
@@ -12,6 +12,10 @@ abbrev pub run_error_of : BenchError → RunError
 run_error_of bench.NoMemory = NoMemory
 run_error_of error = Refused error
 
+-- memory ran out, or a write failed
+abbrev pub IsOutputError : RunError → Type 0
+IsOutputError error = (error ≡ WriteFault) ⊎ (error ≡ NoMemory)
+
 abbrev pub exit_status : RunError → ℕ
 exit_status Usage = 2
 exit_status TooLong = 3
@@ -21,9 +25,13 @@ exit_status WriteFault = 5
 exit_status NoMemory = 6
 exit_status (BadTests line) = 7
 
+abbrev pub usage_text : List ℕ
+usage_text = codes "usage: sim NETLIST TESTS REPORT, " ++
+    codes "gen NETLIST TESTS REPORT PROOFS [--budget N] [--random N] [--seed S], " ++
+    codes "check NETLIST TESTS REPORT PROOFS, norm NETLIST OUT, demo SIZE SEED\n"
+
 abbrev pub err_line : RunError → List ℕ
-err_line Usage =
-    codes "usage: sim NETLIST TESTS REPORT, gen NETLIST TESTS REPORT PROOFS [--budget N], norm NETLIST OUT\n"
+err_line Usage = usage_text
 err_line TooLong = codes "netlist: too long\n"
 err_line (Refused error) = codes "netlist: " ++ (refusal_text error ++ codes "\n")
 err_line ReadFault = codes "read fault\n"

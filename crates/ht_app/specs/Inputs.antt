@@ -6,7 +6,7 @@ use Rattle.ht_ports.specs.declared.ports.InPort.TheVariants.{Netlist, Tests}
 use Rattle.ht_net.specs.Netlist as net
 use Rattle.ht_bench.specs.Text.{max_netlist_bytes, IsNetlistOf}
 use Rattle.ht_texts.specs.Tests.{IsTestText, IsMalformedTest}
-use Rattle.ht_asked.specs.Asked.{Asked, sim, gen, norm}
+use Rattle.ht_asked.specs.Asked.{Asked, sim, gen, check, norm, demo}
 
 -- the desk knows that the file of this name holds this text, and knows what is left of the port
 pub record IsInput (port : InPort) (name text : List ℕ) (desk : DeskView) : Type 0 where
@@ -44,7 +44,9 @@ pub record AcceptsTests (netlist_name tests_name : List ℕ) (old : DeskView) : 
 abbrev pub AcceptsInputs : Asked → DeskView → Type 0
 AcceptsInputs (sim netlist tests report) desk = AcceptsTests netlist tests desk
 AcceptsInputs (gen netlist tests report proofs options) desk = AcceptsNetlist netlist desk
+AcceptsInputs (check netlist tests report proofs) desk = ⊥
 AcceptsInputs (norm netlist out) desk = AcceptsNetlist netlist desk
+AcceptsInputs (demo size seed) desk = Unit {0}
 
 -- ---- inputs that a desk knows
 
@@ -84,4 +86,6 @@ AreGoodTests netlist_name tests_name desk =
 abbrev pub AreGoodInputs : Asked → DeskView → Type 0
 AreGoodInputs (sim netlist tests report) desk = AreGoodTests netlist tests desk
 AreGoodInputs (gen netlist tests report proofs options) desk = IsGoodNetlistFile netlist desk
+AreGoodInputs (check netlist tests report proofs) desk = ⊥
 AreGoodInputs (norm netlist out) desk = IsGoodNetlistFile netlist desk
+AreGoodInputs (demo size seed) desk = Unit {0}

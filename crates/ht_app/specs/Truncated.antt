@@ -8,8 +8,9 @@ use Rattle.ht_ports.specs.declared.ports.OutPort.{OutPort}
 use Rattle.ht_ports.specs.declared.ports.OutPort.TheVariants.{Tests, Report, Proofs, Out}
 use Rattle.ht_net.specs.Netlist as net
 use Rattle.ht_bench.specs.Normal.{normal_text}
-use Rattle.ht_asked.specs.Asked.{Asked, sim, gen, norm}
+use Rattle.ht_asked.specs.Asked.{Asked, sim, gen, check, norm, demo}
 use Rattle.ht_app.specs.Inputs.{IsInput, IsGoodNetlist, AreInputs}
+use Rattle.ht_app.specs.Demo.{DemoIsTruncated}
 use Rattle.ht_app.specs.Jobs.{settings_of}
 use Rattle.ht_app.specs.Done.{IsSimulated}
 use Rattle.ht_collapse.specs.Classes.{AreClasses}
@@ -146,10 +147,12 @@ IsTruncated (sim netlist_name tests_name report_name) old new = (netlist tests :
     → AreInputs netlist_name tests_name netlist tests old → SimIsTruncated netlist tests old new
 IsTruncated (gen netlist_name tests_name report_name proofs_name options) old new = (netlist : List ℕ)
     → IsInput Netlist netlist_name netlist old → GenIsTruncated netlist (settings_of options) old new
+IsTruncated (check netlist tests report proofs) old new = ⊥
 IsTruncated (norm netlist_name out_name) old new = (netlist : List ℕ) → IsInput Netlist netlist_name netlist old
     → NormIsTruncated netlist old new
+IsTruncated (demo size seed) old new = DemoIsTruncated size seed old new
 
--- What is left where memory ran out: nothing was written, or the output isn't whole. Only `gen` writes while it still
--- asks for memory.
+-- What is left where memory ran out: nothing was written, or the output isn't whole. Only `gen` and `demo` write while
+-- they still ask for memory.
 abbrev pub RunsOut : Asked → DeskView → DeskView → Type 0
 RunsOut job old new = (new.written ≡ old.written) ⊎ IsTruncated job old new

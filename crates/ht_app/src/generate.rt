@@ -31,15 +31,20 @@ use ht_net::Circuit;
 use ht_ports::Desk;
 use std::alloc::{AllocError, Global};
 
-// The faults of a circuit, and their classes.
+/// The faults of a circuit, and their classes.
 #[derive(Drop)]
-struct Listed {
-    faults: FaultList,
-    classes: Classes,
+pub struct Listed {
+    /// The faults.
+    pub faults: FaultList,
+    /// Their classes.
+    pub classes: Classes,
 }
 
-// Lists the faults of a circuit, and finds their classes.
-fn list_faults(alloc: Global, circuit: &Circuit) -> Result<Listed, AllocError>
+/// Lists the faults of a circuit, and finds their classes.
+///
+/// # Errors
+/// Out of memory.
+pub fn list_faults(alloc: Global, circuit: &Circuit) -> Result<Listed, AllocError>
     ensures faults { IfOk result (λ listed. listed.faults ≡ faults_of circuit.now) }
     ensures classes { IfOk result (λ listed. AreClasses circuit.now listed.classes) }
 {

@@ -1,7 +1,7 @@
 //! The commands, over a desk.
 //!
 //! `run` is the top call: it takes the words of the command line and a desk, does the work, and answers the status. A
-//! module has one step of it: the top call (`commands`), `sim`, `generate` (the command `gen`), `norm`, the inputs
+//! module has one step of it: the top call (`commands`), `sim`, `generate` (the command `gen`), `norm`, `demo`, the inputs
 //! (`netlist`, `vectors_file`), what is written (`output`), why a run ends without its work (`run_error`) and what it
 //! says of that on Err (`err_line`).
 //!
@@ -10,6 +10,7 @@
 #![tactic(auto)]
 
 mod commands;
+mod demo;
 mod err_line;
 mod generate;
 mod netlist;
