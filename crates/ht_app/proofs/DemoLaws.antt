@@ -1,5 +1,5 @@
 -- What `demo` leaves.
-use Rattle.std.proofs.Common.{◌≡◌, ◌<◌, ◌≤◌, ◌++◌, ◌||◌, ◌==◌, inl, inr, ℕ, List, true, false, length, take, refl, sym, ◌∙◌, ap, subst, arith, take_all, le_refl}
+use Rattle.std.proofs.Common.{◌≡◌, ◌++◌, inl, inr, ℕ, List, true, false, length, take, refl, sym, ◌∙◌, ap, subst, arith, take_all, le_refl}
 use Rattle.std.specs.Prelude.{IsTrue, Some, None}
 use Rattle.std.specs.Io.KnownBytes.{append_known}
 use Rattle.ht_ports.specs.Desk.{DeskView, IsAfter}
@@ -19,14 +19,13 @@ use Rattle.ht_files.specs.Generated.{IsTotalOf}
 use Rattle.ht_app.specs.declared.run_error.RunError.{RunError}
 use Rattle.ht_app.specs.declared.run_error.RunError.TheVariants.{NoMemory, WriteFault}
 use Rattle.ht_app.specs.Changed.{ChangedOnly, job_ports}
-use Rattle.ht_app.specs.Demo.{HasDemoLines, HasMadeAll, IsDemoHead, demo_settings}
+use Rattle.ht_app.specs.Demo.{HasMadeAll, IsDemoHead, demo_settings}
 use Rattle.ht_app.specs.declared.demo.TheConstants.{DEMO_BUDGET}
 use Rattle.ht_app.specs.Done.{IsDone}
 use Rattle.ht_app.specs.Errors.{exit_status}
 use Rattle.ht_app.specs.Run.{HasCause, IsWriteFault}
 use Rattle.ht_app.specs.Steps.{SaysPart, is_out, saying}
-use Rattle.ht_app.proofs.ChangedLaws.{IsWithin, changed_trans, changed_within}
-use Rattle.ht_app.proofs.CreatedLaws.{kept}
+use Rattle.ht_app.proofs.ChangedLaws.{IsWithin, changed_within}
 
 -- ---- what is found before it speaks
 

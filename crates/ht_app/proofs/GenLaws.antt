@@ -10,7 +10,6 @@ use Rattle.ht_ports.specs.declared.ports.OutPort.{OutPort}
 use Rattle.ht_ports.specs.declared.ports.OutPort.TheVariants.{Tests, Report, Proofs, Out, Err}
 use Rattle.ht_net.specs.Netlist as net
 use Rattle.ht_files.proofs.PlainNameLaws.{plain_names}
-use Rattle.clap.specs.Walk.{Text}
 use Rattle.ht_asked.specs.Asked.{Asked, GenOptions, gen}
 use Rattle.ht_app.specs.declared.run_error.RunError.{RunError}
 use Rattle.ht_app.specs.declared.run_error.RunError.TheVariants.{Usage, TooLong, Refused, ReadFault, WriteFault, NoMemory, BadTests}

@@ -1,10 +1,8 @@
 use Rattle.std.proofs.Common.{◌≡◌, ℕ, List, inl, refl, subst, sym, rules, ◌∙◌}
 use Rattle.ht_ports.specs.declared.ports.OutPort.TheVariants as out_port
 use Rattle.ht_asked.specs.Asked.{demo}
-use Rattle.ht_files.specs.Generated.{IsTotalOf}
 use Rattle.ht_app.specs.declared.run_error.RunError.TheVariants.{NoMemory}
 use Rattle.ht_app.specs.Changed.{ChangedOnly, job_ports}
-use Rattle.ht_app.specs.Demo.{demo_settings}
 use Rattle.ht_app.specs.Errors.{exit_status}
 use Rattle.ht_app.specs.Run.{HasCause}
 use Rattle.ht_app.specs.Steps.{SaysPart, saying, status_after}
