@@ -8,6 +8,7 @@ use Rattle.ht_ports.specs.declared.ports.OutPort.TheVariants.{Tests, Report, Pro
 use Rattle.ht_ports.proofs.CallLaws.{after_trans}
 use Rattle.ht_net.specs.Netlist as net
 use Rattle.ht_collapse.specs.Classes.{AreClasses}
+use Rattle.ht_engine.specs.Steps.{Settings}
 use Rattle.ht_engine.specs.EngineStands.{EngineView}
 use Rattle.ht_texts.specs.SearchReports.{HasPlainNames}
 use Rattle.ht_app.specs.declared.run_error.RunError.{RunError}
@@ -111,9 +112,9 @@ silent : (names : Names) (texts : Texts) (a b : DeskView) → HasTexts names tex
 silent names texts a b h none =
     h.out ∙ ap (λ l. append_known (a.written Out) l) none ∙ nothing_appended (a.written Out)
 
-in_head : (names : Names) (c : net.Netlist) (budget : ℕ) (a b : DeskView) → StopsHead names a b
-    → StopsBeforeReport c budget a b
-in_head names c budget a b s = record {
+in_head : (names : Names) (c : net.Netlist) (settings : Settings) (a b : DeskView) → StopsHead names a b
+    → StopsBeforeReport c settings a b
+in_head names c settings a b s = record {
   out = silent names _ a b s.has refl;
   stops = inr (inl (record {
     count = s.count;
@@ -124,7 +125,7 @@ in_head names c budget a b s = record {
 }
 
 in_steps : (names : Names) (e : EngineView) (a b : DeskView) → AreClasses e.circuit e.representatives
-    → StopsEarly names e a b → StopsBeforeReport e.circuit e.budget a b
+    → StopsEarly names e a b → StopsBeforeReport e.circuit e.settings a b
 in_steps names e a b classes s = record {
   out = silent names _ a b s.has refl;
   stops = inr (inr (inl (record {
@@ -142,7 +143,7 @@ in_steps names e a b classes s = record {
 }
 
 in_end : (names : Names) (e : EngineView) (a b : DeskView) → AreClasses e.circuit e.representatives
-    → StopsEnding names e a b → StopsBeforeReport e.circuit e.budget a b
+    → StopsEnding names e a b → StopsBeforeReport e.circuit e.settings a b
 in_end names e a b classes s = record {
   out = silent names _ a b s.has refl;
   stops = inr (inr (inr (record {
@@ -159,9 +160,9 @@ in_end names e a b classes s = record {
   })));
 }
 
-in_last_file : (names : Names) (c : net.Netlist) (budget : ℕ) (error : RunError) (a b : DeskView)
-    → StopsInReporting names error c budget a b → HasPlainNames c → StopsInLastFile c budget a b
-in_last_file names c budget error a b s plain = record {
+in_last_file : (names : Names) (c : net.Netlist) (settings : Settings) (error : RunError) (a b : DeskView)
+    → StopsInReporting names error c settings a b → HasPlainNames c → StopsInLastFile c settings a b
+in_last_file names c settings error a b s plain = record {
   tests = s.tests;
   proofs = s.proofs;
   body = s.body;
@@ -174,9 +175,9 @@ in_last_file names c budget error a b s plain = record {
   stops = s.stops.stops;
 }
 
-pub leaves_nothing : (names : Names) (error : RunError) (c : net.Netlist) (budget : ℕ) (a b : DeskView)
-    → StopsCreating names a b → LeavesFiles names error c budget a b
-leaves_nothing names error c budget a b s = record {
+pub leaves_nothing : (names : Names) (error : RunError) (c : net.Netlist) (settings : Settings) (a b : DeskView)
+    → StopsCreating names a b → LeavesFiles names error c settings a b
+leaves_nothing names error c settings a b s = record {
   changed = s.changed;
   silent = λ none. s.out;
   stops = λ plain. inl (record { out = s.out; stops = inl s.stops });
@@ -184,11 +185,11 @@ leaves_nothing names error c budget a b s = record {
 
 pub leaves_files : (names : Names) (error : RunError) (e : EngineView) (a b : DeskView)
     → AreClasses e.circuit e.representatives → StopsFilling names error e a b
-    → LeavesFiles names error e.circuit e.budget a b
+    → LeavesFiles names error e.circuit e.settings a b
 leaves_files names error e a b classes (inl head) = record {
   changed = head.has.changed;
   silent = λ none. silent names _ a b head.has refl;
-  stops = λ plain. inl (in_head names e.circuit e.budget a b head);
+  stops = λ plain. inl (in_head names e.circuit e.settings a b head);
 }
 leaves_files names error e a b classes (inr (inl early)) = record {
   changed = early.has.changed;
@@ -203,22 +204,22 @@ leaves_files names error e a b classes (inr (inr (inl ending))) = record {
 leaves_files names error e a b classes (inr (inr (inr last))) = record {
   changed = last.stops.has.changed;
   silent = λ none. (let other : WriteFault ≡ NoMemory = sym last.fault ∙ none in cc);
-  stops = λ plain. inr (in_last_file names e.circuit e.budget error a b last plain);
+  stops = λ plain. inr (in_last_file names e.circuit e.settings error a b last plain);
 }
 
 -- the same by what the engine works on
 pub leaves_of : (names : Names) (error : RunError) (e : EngineView) (c : net.Netlist) (representatives : List ℕ)
-    (budget : ℕ) (a b : DeskView) → e.circuit ≡ c → e.representatives ≡ representatives → e.budget ≡ budget
-    → AreClasses c representatives → StopsFilling names error e a b → LeavesFiles names error c budget a b
-leaves_of names error e c representatives budget a b of_c of_r of_b classes stops =
+    (settings : Settings) (a b : DeskView) → e.circuit ≡ c → e.representatives ≡ representatives → e.settings ≡ settings
+    → AreClasses c representatives → StopsFilling names error e a b → LeavesFiles names error c settings a b
+leaves_of names error e c representatives settings a b of_c of_r of_b classes stops =
     let mine : AreClasses e.circuit e.representatives = subst (λ d. AreClasses d e.representatives) (sym of_c)
     (subst (λ r. AreClasses c r) (sym of_r) classes) in
-    subst (λ d. LeavesFiles names error d budget a b) of_c
+    subst (λ d. LeavesFiles names error d settings a b) of_c
     (subst (λ n. LeavesFiles names error e.circuit n a b) of_b (leaves_files names error e a b mine stops))
 
-pub has_of : (names : Names) (e : EngineView) (c : net.Netlist) (budget : ℕ) (a b : DeskView) → e.circuit ≡ c
-    → e.budget ≡ budget → HasGenerated names e.circuit e.budget a b → HasGenerated names c budget a b
-has_of names e c budget a b of_c of_b has = subst (λ d. HasGenerated names d budget a b) of_c
+pub has_of : (names : Names) (e : EngineView) (c : net.Netlist) (settings : Settings) (a b : DeskView) → e.circuit ≡ c
+    → e.settings ≡ settings → HasGenerated names e.circuit e.settings a b → HasGenerated names c settings a b
+has_of names e c settings a b of_c of_b has = subst (λ d. HasGenerated names d settings a b) of_c
     (subst (λ n. HasGenerated names e.circuit n a b) of_b has)
 
 -- ---- creation

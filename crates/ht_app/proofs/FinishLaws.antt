@@ -1,5 +1,5 @@
 -- The end of the files, once all steps are written.
-use Rattle.std.proofs.Common.{◌≡◌, inl, inr, ℕ, ◌≤◌, ◌+◌, List, ◌++◌, length, sym, ap, subst, arith}
+use Rattle.std.proofs.Common.{◌≡◌, inl, inr, ℕ, ◌≤◌, ◌+◌, List, ◌++◌, length, sym, ap, subst, arith, ◌∙◌}
 use Rattle.std.proofs.lemmas.List.{append-nil, length-append}
 use Rattle.ht_ports.specs.LineRule.{max_text_bytes}
 use Rattle.ht_ports.specs.Desk.{DeskView}
@@ -7,8 +7,8 @@ use Rattle.ht_ports.specs.declared.ports.OutPort.TheVariants.{Proofs}
 use Rattle.ht_net.specs.Netlist as net
 use Rattle.ht_texts.specs.SearchReports.{HasPlainNames}
 use Rattle.ht_engine.specs.declared.step.Step.{Step}
-use Rattle.ht_engine.specs.Steps.{AreFinished, AreSteps}
-use Rattle.ht_engine.specs.EngineStands.{EngineStandsFor, EngineView, HasSameWork}
+use Rattle.ht_engine.specs.Steps.{AreFinished, AreSteps, Settings, first_vectors}
+use Rattle.ht_engine.specs.EngineStands.{EngineStandsFor, EngineView, HasSameWork, first_of}
 use Rattle.ht_files.specs.StepTexts.{proofs_of, proofs_so_far, tests_of}
 use Rattle.ht_files.specs.Generated.{IsGenerated}
 use Rattle.ht_files.proofs.StepTextLaws.{proofs_end}
@@ -18,17 +18,22 @@ use Rattle.ht_app.specs.declared.generate.sizes.Sizes.{Sizes}
 use Rattle.ht_app.specs.FileTexts.{Names}
 use Rattle.ht_app.specs.Generating.{AreGenerated, HasAllSteps, HasGenerated, HasPart, HasTexts, StopsAtEnd, StopsEarly, StopsEnding, StopsFilling, StopsInReporting, StopsLast, bare, end_text, whole_texts, texts_so_far}
 
+-- what holds of the work of one engine holds of the same work
+same_as : (P : net.Netlist → List ℕ → Settings → Type 0) (old new : EngineView) → HasSameWork old new
+    → P new.circuit new.representatives new.settings → P old.circuit old.representatives old.settings
+same_as P old new same p = subst (λ c. P c old.representatives old.settings) same.circuit
+    (subst (λ r. P new.circuit r old.settings) same.representatives
+    (subst (λ s. P new.circuit new.representatives s) same.settings p))
+
 steps_as : (old new : EngineView) (steps : List Step) → HasSameWork old new
-    → AreSteps new.circuit new.representatives new.budget steps
-    → AreSteps old.circuit old.representatives old.budget steps
-steps_as old new steps same are = subst (λ c. AreSteps c old.representatives old.budget steps) same.circuit
-    (subst (λ r. AreSteps new.circuit r old.budget steps) same.representatives
-    (subst (λ b. AreSteps new.circuit new.representatives b steps) same.budget are))
+    → AreSteps new.circuit new.representatives (first_of new) new.settings.budget steps
+    → AreSteps old.circuit old.representatives (first_of old) old.settings.budget steps
+steps_as old new steps = same_as (λ c r s. AreSteps c r (first_vectors c s) s.budget steps) old new
 
 finished_in : (old new : EngineView) (steps : List Step) → HasSameWork old new
-    → AreFinished new.circuit new.representatives steps → AreFinished old.circuit old.representatives steps
-finished_in old new steps same are = subst (λ c. AreFinished c old.representatives steps) same.circuit
-    (subst (λ r. AreFinished new.circuit r steps) same.representatives are)
+    → AreFinished new.circuit new.representatives (first_of new) steps
+    → AreFinished old.circuit old.representatives (first_of old) steps
+finished_in old new steps = same_as (λ c r s. AreFinished c r (first_vectors c s) steps) old new
 
 pub ending_part : (names : Names) (old new : EngineView) (sizes : Sizes) (first m b : DeskView) → HasSameWork old new
     → (h : HasAllSteps names new sizes first m) → HasPart names Proofs end_text (texts_so_far h.has.steps) first b
@@ -63,30 +68,32 @@ fits steps old new count more short =
 -- what `write_report` says of a report
 abbrev pub Reports : net.Netlist → List ℕ → EngineView → List ℕ → List ℕ → Type 0
 Reports c representatives e body total = (steps : List Step) → EngineStandsFor e steps
-    → AreFinished c representatives steps → HasPlainNames c → length (tests_of steps) ≤ max_text_bytes
+    → AreFinished c representatives (first_vectors c e.settings) steps → HasPlainNames c
+    → length (tests_of steps) ≤ max_text_bytes
     → length (proofs_of steps) ≤ max_text_bytes
-    → IsGenerated c e.budget (tests_of steps) (body ++ total) (proofs_of steps) total
+    → IsGenerated c e.settings (tests_of steps) (body ++ total) (proofs_of steps) total
 
 pub generated : (c : net.Netlist) (representatives : List ℕ) (old new : EngineView) (steps : List Step)
     (body total : List ℕ) → old.circuit ≡ c → old.representatives ≡ representatives → HasSameWork old new
-    → EngineStandsFor new steps → AreFinished new.circuit new.representatives steps
+    → EngineStandsFor new steps → AreFinished new.circuit new.representatives (first_of new) steps
     → length (tests_of steps) ≤ max_text_bytes → length (proofs_of steps) ≤ max_text_bytes
     → Reports c representatives new body total
-    → AreGenerated old.circuit old.budget (tests_of steps) (body ++ total) (proofs_of steps) total
+    → AreGenerated old.circuit old.settings (tests_of steps) (body ++ total) (proofs_of steps) total
 generated c representatives old new steps body total of_c of_r same stands finished tests_fit proofs_fit reports =
     λ plain.
-    let are : AreFinished c representatives steps = subst (λ d. AreFinished d representatives steps) of_c
-    (subst (λ r. AreFinished old.circuit r steps) of_r (finished_in old new steps same finished)) in
+    let are : AreFinished c representatives (first_vectors c new.settings) steps =
+    subst (λ d. AreFinished d representatives (first_vectors d new.settings) steps) (same.circuit ∙ of_c)
+    (subst (λ r. AreFinished new.circuit r (first_of new) steps) (same.representatives ∙ of_r) finished) in
     let made = reports steps stands are (subst HasPlainNames of_c plain) tests_fit proofs_fit in
-    subst (λ d. IsGenerated d old.budget (tests_of steps) (body ++ total) (proofs_of steps) total) (sym of_c)
-    (subst (λ b. IsGenerated c b (tests_of steps) (body ++ total) (proofs_of steps) total) same.budget made)
+    subst (λ d. IsGenerated d old.settings (tests_of steps) (body ++ total) (proofs_of steps) total) (sym of_c)
+    (subst (λ s. IsGenerated c s (tests_of steps) (body ++ total) (proofs_of steps) total) same.settings made)
 
-pub stops_reporting : (names : Names) (error : RunError) (c : net.Netlist) (budget : ℕ) (steps : List Step)
+pub stops_reporting : (names : Names) (error : RunError) (c : net.Netlist) (settings : Settings) (steps : List Step)
     (body total : List ℕ) (first b : DeskView) → error ≡ WriteFault
     → StopsLast names (tests_of steps) (proofs_so_far steps ++ end_text) body total first b
-    → AreGenerated c budget (tests_of steps) (body ++ total) (proofs_of steps) total
-    → StopsInReporting names error c budget first b
-stops_reporting names error c budget steps body total first b is stops made = record {
+    → AreGenerated c settings (tests_of steps) (body ++ total) (proofs_of steps) total
+    → StopsInReporting names error c settings first b
+stops_reporting names error c settings steps body total first b is stops made = record {
   fault = is;
   tests = tests_of steps;
   proofs = proofs_of steps;
@@ -96,12 +103,12 @@ stops_reporting names error c budget steps body total first b is stops made = re
   generated = made;
 }
 
-pub all_generated : (names : Names) (c : net.Netlist) (budget : ℕ) (steps : List Step) (body total : List ℕ)
+pub all_generated : (names : Names) (c : net.Netlist) (settings : Settings) (steps : List Step) (body total : List ℕ)
     (first b : DeskView)
     → HasTexts names (whole_texts (tests_of steps) (proofs_so_far steps ++ end_text) body total) first b
-    → AreGenerated c budget (tests_of steps) (body ++ total) (proofs_of steps) total
-    → HasGenerated names c budget first b
-all_generated names c budget steps body total first b has made = record {
+    → AreGenerated c settings (tests_of steps) (body ++ total) (proofs_of steps) total
+    → HasGenerated names c settings first b
+all_generated names c settings steps body total first b has made = record {
   texts = whole_texts (tests_of steps) (proofs_of steps) body total;
   has = subst (λ (l : List ℕ). HasTexts names (whole_texts (tests_of steps) l body total) first b)
       (sym (proofs_end steps)) has;
@@ -110,13 +117,13 @@ all_generated names c budget steps body total first b has made = record {
 
 pub stops_at_end : (names : Names) (error : RunError) (old new : EngineView) (sizes : Sizes) (body total : List ℕ)
     (first m b : DeskView) → HasSameWork old new → (h : HasAllSteps names new sizes first m) → error ≡ WriteFault
-    → AreGenerated old.circuit old.budget (tests_of h.has.steps) (body ++ total) (proofs_of h.has.steps) total
+    → AreGenerated old.circuit old.settings (tests_of h.has.steps) (body ++ total) (proofs_of h.has.steps) total
     → StopsAtEnd names (tests_of h.has.steps) (proofs_so_far h.has.steps) body total first b
     → StopsFilling names error old first b
 stops_at_end names error old new sizes body total first m b same h is made (inl part) =
     inr (inr (inl (ending_part names old new sizes first m b same h part)))
 stops_at_end names error old new sizes body total first m b same h is made (inr last) =
-    inr (inr (inr (stops_reporting names error old.circuit old.budget h.has.steps body total first b is last made)))
+    inr (inr (inr (stops_reporting names error old.circuit old.settings h.has.steps body total first b is last made)))
 
 pub early_as : (names : Names) (old new : EngineView) (first b : DeskView) → HasSameWork old new
     → StopsEarly names new first b → StopsEarly names old first b

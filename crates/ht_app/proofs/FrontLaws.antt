@@ -5,7 +5,7 @@ use Rattle.ht_ports.specs.Desk.{DeskView}
 use Rattle.ht_ports.specs.declared.ports.OutPort.TheVariants.{Tests, Proofs}
 use Rattle.ht_engine.specs.declared.step.Step.{Step}
 use Rattle.ht_engine.specs.Steps.{AreSteps}
-use Rattle.ht_engine.specs.EngineStands.{EngineView}
+use Rattle.ht_engine.specs.EngineStands.{EngineView, first_of}
 use Rattle.ht_files.specs.StepTexts.{proofs_so_far, proofs_step, tests_of, tests_step}
 use Rattle.ht_files.proofs.StepTextLaws.{proofs_grow, tests_grow}
 use Rattle.ht_app.specs.FileTexts.{Names, Texts, with_more}
@@ -86,21 +86,21 @@ pub texts_grow : (steps : List Step) (step : Step)
 texts_grow steps step = both (texts_so_far steps) _ _ _ _ (sym (tests_grow steps step)) (sym (proofs_grow steps step))
 
 pub stops_between : (names : Names) (e : EngineView) (steps : List Step) (a b : DeskView)
-    → AreSteps e.circuit e.representatives e.budget steps → HasTexts names (texts_so_far steps) a b
+    → AreSteps e.circuit e.representatives (first_of e) e.settings.budget steps → HasTexts names (texts_so_far steps) a b
     → StopsEarly names e a b
 stops_between names e steps a b are h = record {
   whole = steps;
   begun = [];
   count = 0;
   one = omega arith;
-  are = subst (AreSteps e.circuit e.representatives e.budget) (sym (append-nil steps)) are;
+  are = subst (AreSteps e.circuit e.representatives (first_of e) e.settings.budget) (sym (append-nil steps)) are;
   has = subst (λ (t : Texts). HasTexts names t a b)
       (both (texts_so_far steps) _ _ _ _ (sym (append-nil (tests_of steps)))
       (sym (append-nil (proofs_so_far steps)))) h;
 }
 
 pub stops_within : (names : Names) (e : EngineView) (steps : List Step) (step : Step) (a b : DeskView)
-    → AreSteps e.circuit e.representatives e.budget (steps ++ step ∷ [])
+    → AreSteps e.circuit e.representatives (first_of e) e.settings.budget (steps ++ step ∷ [])
     → HasStepPart names step (texts_so_far steps) a b → StopsEarly names e a b
 stops_within names e steps step a b are part = record {
   whole = steps;

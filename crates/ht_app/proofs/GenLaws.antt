@@ -10,32 +10,29 @@ use Rattle.ht_ports.specs.declared.ports.OutPort.TheVariants.{Tests, Report, Pro
 use Rattle.ht_net.specs.Netlist as net
 use Rattle.ht_files.proofs.PlainNameLaws.{plain_names}
 use Rattle.clap.specs.Walk.{Text}
-use Rattle.ht_asked.specs.Asked.{Asked, asked, sim, gen, check, norm}
+use Rattle.ht_asked.specs.Asked.{Asked, asked, sim, gen, check, norm, GenOptions}
 use Rattle.ht_asked.proofs.BudgetLaws.{budget_is_in_range}
 use Rattle.ht_app.specs.declared.run_error.RunError.{RunError}
 use Rattle.ht_app.specs.declared.run_error.RunError.TheVariants.{Denied, Usage, TooLong, Refused, ReadFault, WriteFault, NoMemory, BadTests}
 use Rattle.ht_app.specs.FileTexts.{Names}
 use Rattle.ht_app.specs.Inputs.{IsInput, IsGoodNetlist, AcceptsNetlist}
-use Rattle.ht_app.specs.Jobs.{output_name}
+use Rattle.ht_engine.specs.Steps.{Settings}
+use Rattle.ht_app.specs.Jobs.{settings_of, output_name}
 use Rattle.ht_app.specs.Changed.{ChangedOnly, Ports, job_ports}
 use Rattle.ht_app.specs.Done.{IsDone, IsCreatedAs}
 use Rattle.ht_app.specs.Errors.{exit_status}
 use Rattle.ht_app.specs.Truncated.{HasText, IsEmptiedIf, IsTruncated, StopsInEnd, StopsInFiles, StopsInHead, StopsInLastFile, StopsInSteps}
 use Rattle.ht_app.specs.Run.{HasCause}
-use Rattle.ht_app.specs.Steps.{HasBudget, reading}
+use Rattle.ht_app.specs.Steps.{reading}
 use Rattle.ht_app.specs.Generating.{FillCause, HasGenerated, LeavesFiles, file_name, filling, is_gen_port}
 use Rattle.ht_app.proofs.ChangedLaws.{IsWithin, changed_by_reading, changed_trans, changed_within}
 use Rattle.ht_app.proofs.PortsLaws.{ends_reading, reading_within}
 use Rattle.ht_app.proofs.OutputLaws.{created_as, stops_earlier}
 use Rattle.ht_app.proofs.EndLaws.{fault_later}
 
--- the budget that words ask for is in its range
-pub asked_budget : (words : List Text) (job : Asked) → asked words ≡ Some job → HasBudget job
-asked_budget words (sim netlist tests report) is = tt
-asked_budget words (gen netlist tests report proofs budget) is =
-    budget_is_in_range netlist tests report proofs budget words is
+abbrev pub options_of : ℕ → ℕ → ℕ → GenOptions
+options_of budget random seed = record { budget = budget; random = random; seed = seed }
 asked_budget words (check netlist tests report proofs) is = tt
-asked_budget words (norm netlist out) is = tt
 
 -- ---- what was left before the netlist was read
 
@@ -52,23 +49,23 @@ emptied_earlier false port a m b read is = (
   is.1 ∙ ap (λ f. f port) read.written,
 )
 
-stops_before : (c : net.Netlist) (budget : ℕ) (a m b : DeskView) → InCall Netlist a m
-    → StopsInFiles m b ⊎ (StopsInHead m b ⊎ (StopsInSteps c budget m b ⊎ StopsInEnd c budget m b))
-    → StopsInFiles a b ⊎ (StopsInHead a b ⊎ (StopsInSteps c budget a b ⊎ StopsInEnd c budget a b))
-stops_before c budget a m b read (inl s) = inl (record {
+stops_before : (c : net.Netlist) (settings : Settings) (a m b : DeskView) → InCall Netlist a m
+    → StopsInFiles m b ⊎ (StopsInHead m b ⊎ (StopsInSteps c settings m b ⊎ StopsInEnd c settings m b))
+    → StopsInFiles a b ⊎ (StopsInHead a b ⊎ (StopsInSteps c settings a b ⊎ StopsInEnd c settings a b))
+stops_before c settings a m b read (inl s) = inl (record {
   count = s.count;
   few = s.few;
   tests = emptied_earlier (nat_le 1 s.count) Tests a m b read s.tests;
   report = emptied_earlier (nat_le 2 s.count) Report a m b read s.report;
   proofs = emptied_earlier false Proofs a m b read s.proofs;
 })
-stops_before c budget a m b read (inr (inl s)) = inr (inl (record {
+stops_before c settings a m b read (inr (inl s)) = inr (inl (record {
   count = s.count;
   tests = text_earlier Tests _ a m b read.written s.tests;
   report = text_earlier Report _ a m b read.written s.report;
   proofs = text_earlier Proofs _ a m b read.written s.proofs;
 }))
-stops_before c budget a m b read (inr (inr (inl s))) = inr (inr (inl (record {
+stops_before c settings a m b read (inr (inr (inl s))) = inr (inr (inl (record {
   representatives = s.representatives;
   classes = s.classes;
   whole = s.whole;
@@ -80,7 +77,7 @@ stops_before c budget a m b read (inr (inr (inl s))) = inr (inr (inl (record {
   one = s.one;
   steps_are = s.steps_are;
 })))
-stops_before c budget a m b read (inr (inr (inr s))) = inr (inr (inr (record {
+stops_before c settings a m b read (inr (inr (inr s))) = inr (inr (inr (record {
   representatives = s.representatives;
   classes = s.classes;
   steps = s.steps;
@@ -93,9 +90,9 @@ stops_before c budget a m b read (inr (inr (inr s))) = inr (inr (inr (record {
   short = s.short;
 })))
 
-last_earlier : (c : net.Netlist) (budget : ℕ) (a m b : DeskView) → m.written ≡ a.written
-    → StopsInLastFile c budget m b → StopsInLastFile c budget a b
-last_earlier c budget a m b same s = record {
+last_earlier : (c : net.Netlist) (settings : Settings) (a m b : DeskView) → m.written ≡ a.written
+    → StopsInLastFile c settings m b → StopsInLastFile c settings a b
+last_earlier c settings a m b same s = record {
   tests = s.tests;
   proofs = s.proofs;
   body = s.body;
@@ -127,9 +124,9 @@ written_alike writes tests report proofs out Proofs off = cc
 written_alike writes tests report proofs out Out off = cc
 written_alike writes tests report proofs out Err off = refl
 
-module _ (netlist : List ℕ) (names : Names) (budget : ℕ) where
+module _ (netlist : List ℕ) (names : Names) (options : GenOptions) where
   abbrev job : Asked
-  job = gen netlist names.tests names.report names.proofs budget
+  job = gen netlist names.tests names.report names.proofs options
 
   -- ---- what it touches
 
@@ -204,7 +201,7 @@ module _ (netlist : List ℕ) (names : Names) (budget : ℕ) where
       after_reading 0 a m b refl read (changed_within (filling names) (job_ports job 0) m b finishing x)
 
   pub left_changed : (e : RunError) (c : net.Netlist) (a m b : DeskView) → InCall Netlist a m
-      → LeavesFiles names e c budget m b → FillCause m b e → ChangedOnly (job_ports job (exit_status e)) a b
+      → LeavesFiles names e c (settings_of options) m b → FillCause m b e → ChangedOnly (job_ports job (exit_status e)) a b
   left_changed (Denied trouble) c a m b read left cause = absurd cause
   left_changed Usage c a m b read left cause = absurd cause
   left_changed TooLong c a m b read left cause = absurd cause
@@ -220,16 +217,16 @@ module _ (netlist : List ℕ) (names : Names) (budget : ℕ) where
 
   pub left_files : (e : RunError) (c : net.Netlist) (a m b : DeskView) → InCall Netlist a m
       → ((text : List ℕ) → IsInput Netlist netlist text a → IsGoodNetlist text c)
-      → LeavesFiles names e c budget m b → IsTruncated job a b
+      → LeavesFiles names e c (settings_of options) m b → IsTruncated job a b
   left_files e c a m b read good left = λ text is. record {
     circuit = c;
     good = good text is;
     stops = elim (left.stops (plain_names text c (good text is).stands)) [
       | inl before ↦ inl (record {
         out = before.out ∙ ap (λ f. f Out) read.written;
-        stops = stops_before c budget a m b read before.stops;
+        stops = stops_before c (settings_of options) a m b read before.stops;
       })
-      | inr last ↦ inr (last_earlier c budget a m b read.written last)
+      | inr last ↦ inr (last_earlier c (settings_of options) a m b read.written last)
     ];
   }
 
@@ -245,7 +242,7 @@ module _ (netlist : List ℕ) (names : Names) (budget : ℕ) where
   left_cause NoMemory a m b read accepts cause leaves = inr leaves
   left_cause (BadTests line) a m b read accepts cause leaves = absurd cause
 
-  created : (c : net.Netlist) (a m b : DeskView) → InCall Netlist a m → HasGenerated names c budget m b
+  created : (c : net.Netlist) (a m b : DeskView) → InCall Netlist a m → HasGenerated names c (settings_of options) m b
       → (port : OutPort) (n : List ℕ) → output_name job port ≡ Some n → IsCreatedAs port n a b
   created c a m b read h Tests n e = created_as Tests names.tests n a m b (ap (λ f. f Tests) read.named)
       h.has.tests.created (let s : Some names.tests ≡ Some n = e in cc)
@@ -258,7 +255,7 @@ module _ (netlist : List ℕ) (names : Names) (budget : ℕ) where
 
   pub gen_done : (c : net.Netlist) (a m b : DeskView) → InCall Netlist a m → AcceptsNetlist netlist a
       → ((text : List ℕ) → IsInput Netlist netlist text a → IsGoodNetlist text c)
-      → HasGenerated names c budget m b → IsDone job a b
+      → HasGenerated names c (settings_of options) m b → IsDone job a b
   gen_done c a m b read accepts good h = record {
     inputs = accepts;
     created = created c a m b read h;

@@ -25,11 +25,12 @@ pub accepts_netlist_of : (job : Asked) (name : List ℕ) (a : DeskView) → inpu
     → AcceptsInputs job a → AcceptsNetlist name a
 accepts_netlist_of (sim netlist tests report) name a is h = accepts_named (Some netlist) netlist name a refl is
     h.netlist
-accepts_netlist_of (gen netlist tests report proofs budget) name a is h =
+accepts_netlist_of (gen netlist tests report proofs options) name a is h =
     accepts_named (Some netlist) netlist name a refl is h
 accepts_netlist_of (check netlist tests report proofs) name a is h =
     accepts_named (Some netlist) netlist name a refl is h.report.tests.netlist
 accepts_netlist_of (norm netlist out) name a is h = accepts_named (Some netlist) netlist name a refl is h
+accepts_netlist_of (demo size seed) name a is h = let e : Some name ≡ None = sym is in cc
 
 pub no_bad_netlist : (name : List ℕ) (a : DeskView) → AcceptsNetlist name a → ¬ IsBadNetlist name a
 no_bad_netlist name a accepts bad = let good = accepts.accepted bad.text bad.input in bad.none good.0 good.1
@@ -84,8 +85,9 @@ pub record HasGoodNetlist (job : Asked) (a : DeskView) : Type 0 where
   pub circuit : net.Netlist
   pub good : IsGoodNetlist text circuit
 
-pub good_netlist : (job : Asked) (a : DeskView) → AreGoodInputs job a → HasGoodNetlist job a
-good_netlist (sim netlist tests report) a are = record {
+pub good_netlist : (job : Asked) (a : DeskView) (read : List ℕ) → input_name job Netlist ≡ Some read
+    → AreGoodInputs job a → HasGoodNetlist job a
+good_netlist (sim netlist tests report) a read reads are = record {
   name = netlist;
   reads = refl;
   text = are.netlist;
@@ -93,7 +95,7 @@ good_netlist (sim netlist tests report) a are = record {
   circuit = are.circuit;
   good = are.good;
 }
-good_netlist (gen netlist tests report proofs budget) a is = record {
+good_netlist (gen netlist tests report proofs options) a read reads is = record {
   name = netlist;
   reads = refl;
   text = is.text;
@@ -126,6 +128,6 @@ not_bad_tests (sim netlist tests report) a line are h =
       tests_is = subst (λ (n : List ℕ). IsInput Tests n are.tests a) (let e = h.job_is in cc) are.inputs.tests_is;
     }) in
     not_malformed are.netlist are.tests are.circuit bad.0 are.so.0 line are.good bad.1 are.so.1 bad.2
-not_bad_tests (gen netlist tests report proofs budget) a line is h = let e = h.job_is in cc
+not_bad_tests (gen netlist tests report proofs options) a line is h = let e = h.job_is in cc
 not_bad_tests (check netlist tests report proofs) a line is h = let e = h.job_is in cc
 not_bad_tests (norm netlist out) a line is h = let e = h.job_is in cc

@@ -25,3 +25,4 @@ pub mod StepLaws
 pub mod EndLaws
 pub mod FinishLaws
 pub mod GenLaws
+pub mod DemoLaws

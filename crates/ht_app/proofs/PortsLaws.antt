@@ -37,7 +37,7 @@ reading_within job status ne =
 -- each job reads a netlist
 reads_netlist : (job : Asked) → is_some (input_name job in_port.Netlist) ≡ true
 reads_netlist (sim netlist tests report) = refl
-reads_netlist (gen netlist tests report proofs budget) = refl
+reads_netlist (gen netlist tests report proofs options) = refl
 reads_netlist (check netlist tests report proofs) = refl
 reads_netlist (norm netlist out) = refl
 
@@ -71,10 +71,11 @@ wider false false c is = cc
 -- a run that finishes, or fails in writing
 pub may_begin : (job : Asked) (status : ℕ) → (status == 0 || status == 5) ≡ true → may_create job status ≡ true
 may_begin (sim netlist tests report) status ends = ends
-may_begin (gen netlist tests report proofs budget) status ends =
+may_begin (gen netlist tests report proofs options) status ends =
     wider (status == 0) (status == 5) (status == 6) ends
 may_begin (check netlist tests report proofs) status ends = ends
 may_begin (norm netlist out) status ends = ends
+may_begin (demo size seed) status ends = ends
 
 writing_within : (job : Asked) (status : ℕ) (name : List ℕ) → (status == 0 || status == 5) ≡ true
     → output_name job Report ≡ Some name → IsWithin (writing name (says_on_out job)) (job_ports job status)
@@ -98,7 +99,8 @@ writing_within job status name ends is = record { reads = λ p off. refl; create
         ap (λ b. is_some (if b then output_name job Report else None)) may ∙ ap is_some is in
         cc
     writes Proofs off = refl
-    writes Out off = subst (λ (b : Bool). (b && says_on_out job) ≡ false) ends off
+    writes Out off =
+        subst (λ (b : Bool). ((b || (says_early job && status == 6)) && says_on_out job) ≡ false) ends off
     writes Err off = refl
 
 pub ends_writing : (job : Asked) (status : ℕ) (name : List ℕ) (a m b : DeskView) → (status == 3) ≡ false

@@ -9,7 +9,7 @@ use Rattle.ht_app.specs.declared.run_error.RunError.TheVariants.{Denied, Usage, 
 use Rattle.ht_app.specs.Inputs.{IsBadNetlist, AreBadFiles, AreBadTests, AreGoodInputs, CheckFiles}
 use Rattle.ht_app.specs.Jobs.{input_name, HoldsInputs}
 use Rattle.ht_app.specs.Done.{IsDone}
-use Rattle.ht_app.specs.Errors.{exit_status}
+use Rattle.ht_app.specs.Errors.{exit_status, IsOutputError}
 use Rattle.ht_app.specs.Run.{HasCause, check_of_names}
 use Rattle.ht_app.specs.Changed.{Faultless}
 use Rattle.ht_app.proofs.FileLaws.{accepts_before, no_bad_files, not_denied}
@@ -99,9 +99,9 @@ pub good_status : (job : Asked) (a b : DeskView) (e : RunError) → HasCause job
 good_status job a b (Denied trouble) h are none = absurd (not_denied job trouble a b are h)
 good_status job a b Usage h are none = absurd h
 good_status job a b TooLong h are none =
-    let n = good_netlist job a are in absurd (not_too_long job n.name n.text n.circuit a n.reads h n.input n.good)
+    let n = good_netlist job a h.name h.reads are in absurd (not_too_long job n.name n.text n.circuit a n.reads h n.input n.good)
 good_status job a b (Refused error) h are none =
-    let n = good_netlist job a are in absurd (not_refused job n.name n.text n.circuit error a n.reads h n.input n.good)
+    let n = good_netlist job a h.name h.reads are in absurd (not_refused job n.name n.text n.circuit error a n.reads h n.input n.good)
 good_status job a b ReadFault h are none = absurd (none.reads h.rose)
 good_status job a b WriteFault h are none = absurd (none.writes h.fault.rose)
 good_status job a b NoMemory h are none = inr refl
@@ -129,3 +129,10 @@ faultless_before a m b p none = record {
   reads = λ rose. none.reads (omega (arith, p.in_faults, rose));
   writes = λ rose. none.writes (omega (arith, p.out_faults, rose));
 }
+
+-- ---- a demonstration
+
+pub output_status : (e : RunError) → IsOutputError e
+    → (exit_status e ≡ 0) ⊎ (exit_status e ≡ 5) ⊎ (exit_status e ≡ 6)
+output_status e (inl is) = inr (inl (ap exit_status is))
+output_status e (inr is) = inr (inr (ap exit_status is))

@@ -11,8 +11,8 @@ use Rattle.ht_entries.specs.declared.proof_line.ProofLine.TheVariants as line
 use Rattle.ht_entries.specs.ProofLines.{line_text}
 use Rattle.ht_engine.specs.declared.step.Step.{Step}
 use Rattle.ht_engine.specs.declared.step.Step.TheVariants.{Vectors, Entry, Finished}
-use Rattle.ht_engine.specs.Steps.{AreFinished, one_more}
-use Rattle.ht_engine.specs.EngineStands.{EngineStandsFor, EngineView, HasSameWork, Makes, MakesStep}
+use Rattle.ht_engine.specs.Steps.{AreFinished, first_vectors, one_more}
+use Rattle.ht_engine.specs.EngineStands.{EngineStandsFor, EngineView, HasSameWork, Makes, MakesStep, first_of}
 use Rattle.ht_files.specs.StepTexts.{proofs_so_far, proofs_step, step_text, tests_of, tests_step}
 use Rattle.ht_files.proofs.StepTextLaws.{proofs_begin, proofs_grow, tests_grow}
 use Rattle.ht_app.specs.declared.generate.sizes.Sizes.{Sizes}
@@ -105,10 +105,14 @@ pub stops_in_step : (names : Names) (old new : EngineView) (step : Step) (sizes 
 stops_in_step names old new step sizes first m b other h made part = stops_within names old h.steps step first b
     (one_more h.steps step h.stands.are (makes_step old new h.steps step other made).follows) part
 
-finished_as : (old new : EngineView) (steps : List Step) → HasSameWork old new
-    → AreFinished old.circuit old.representatives steps → AreFinished new.circuit new.representatives steps
-finished_as old new steps same are = subst (λ c. AreFinished c new.representatives steps) (sym same.circuit)
-    (subst (λ r. AreFinished old.circuit r steps) (sym same.representatives) are)
+pub finished_as : (old new : EngineView) (steps : List Step) → HasSameWork old new
+    → AreFinished old.circuit old.representatives (first_of old) steps
+    → AreFinished new.circuit new.representatives (first_of new) steps
+finished_as old new steps same are =
+    subst (λ c. AreFinished c new.representatives (first_vectors c new.settings) steps) (sym same.circuit)
+    (subst (λ r. AreFinished old.circuit r (first_vectors old.circuit new.settings) steps) (sym same.representatives)
+    (subst (λ s. AreFinished old.circuit old.representatives (first_vectors old.circuit s) steps) (sym same.settings)
+    are))
 
 pub all_made : (names : Names) (old new : EngineView) (step : Step) (sizes : Sizes) (first m : DeskView)
     → step ≡ Finished → HasSameWork old new → (h : HasSteps names old sizes first m) → Makes old new h.steps step
@@ -152,11 +156,11 @@ head_part names head first b is part = record {
 -- ---- the work stays
 
 pub same_work : (e : EngineView) → HasSameWork e e
-same_work e = record { circuit = refl; representatives = refl; budget = refl }
+same_work e = record { circuit = refl; representatives = refl; settings = refl }
 
 pub same_work_trans : (a b c : EngineView) → HasSameWork a b → HasSameWork b c → HasSameWork a c
 same_work_trans a b c x y = record {
   circuit = y.circuit ∙ x.circuit;
   representatives = y.representatives ∙ x.representatives;
-  budget = y.budget ∙ x.budget;
+  settings = y.settings ∙ x.settings;
 }

@@ -8,7 +8,7 @@ use Rattle.ht_ports.specs.declared.ports.InPort.{InPort}
 use Rattle.ht_ports.specs.declared.ports.InPort.TheVariants.{Netlist}
 use Rattle.ht_ports.specs.declared.ports.OutPort.{OutPort}
 use Rattle.ht_ports.specs.declared.ports.OutPort.TheVariants.{Out, Err}
-use Rattle.ht_asked.specs.Asked.{Asked, sim, gen, check, norm}
+use Rattle.ht_asked.specs.Asked.{Asked, sim, gen, check, norm, demo}
 use Rattle.ht_app.specs.Jobs.{input_name, output_name}
 
 -- what may be touched: the ports that may be read, those that may be created, with their names, and those that may be
@@ -54,7 +54,7 @@ pub record IsUnread (port : InPort) (old new : DeskView) : Type 0 where
 -- a run creates its output only where it finishes (0) or fails in writing (5); `gen` writes as it works, so memory may
 -- run out after it began (6)
 abbrev pub may_create : Asked → ℕ → Bool
-may_create (gen netlist tests report proofs budget) status = status == 0 || (status == 5 || status == 6)
+may_create (gen netlist tests report proofs options) status = status == 0 || (status == 5 || status == 6)
 may_create job status = status == 0 || status == 5
 
 -- where the netlist is refused (3), no other text is read
@@ -68,13 +68,20 @@ creates_at job status port = if may_create job status then output_name job port 
 -- the commands that say something on Out
 abbrev pub says_on_out : Asked → Bool
 says_on_out (sim netlist tests report) = true
-says_on_out (gen netlist tests report proofs budget) = true
+says_on_out (gen netlist tests report proofs options) = true
 says_on_out (check netlist tests report proofs) = true
 says_on_out (norm netlist out) = false
+says_on_out (demo size seed) = true
 
--- a run says something on Out only where it finishes or fails in writing, and one that doesn't finish says why on Err
+-- those that say something before the work
+abbrev pub says_early : Asked → Bool
+says_early (demo size seed) = true
+says_early job = false
+
+-- A run says something on Out only where it finishes or fails in writing, or where memory runs out after it said
+-- something early. One that doesn't finish says why on Err.
 abbrev pub writes_at : Asked → ℕ → OutPort → Bool
-writes_at job status Out = (status == 0 || status == 5) && says_on_out job
+writes_at job status Out = ((status == 0 || status == 5) || (says_early job && status == 6)) && says_on_out job
 writes_at job status Err = not (status == 0)
 writes_at job status port = is_some (creates_at job status port)
 

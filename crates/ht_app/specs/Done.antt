@@ -9,10 +9,12 @@ use Rattle.ht_ports.specs.declared.ports.OutPort.TheVariants.{Tests, Report, Pro
 use Rattle.ht_net.specs.Netlist as net
 use Rattle.ht_bench.specs.Normal.{normal_text}
 use Rattle.ht_texts.specs.Tests.{IsTestText}
-use Rattle.ht_asked.specs.Asked.{Asked, sim, gen, check, norm}
+use Rattle.ht_asked.specs.Asked.{Asked, sim, gen, check, norm, demo}
 use Rattle.ht_app.specs.Inputs.{IsInput, IsGoodNetlist, AreInputs, AcceptsInputs}
-use Rattle.ht_app.specs.Jobs.{output_name}
+use Rattle.ht_app.specs.Demo.{HasDemoLines}
+use Rattle.ht_app.specs.Jobs.{output_name, settings_of}
 use Rattle.ht_app.specs.Simulation.{IsReportOf}
+use Rattle.ht_engine.specs.Steps.{Settings}
 use Rattle.ht_files.specs.Generated.{IsGenerated}
 
 -- ---- `sim`
@@ -37,14 +39,14 @@ pub record HasReport (netlist tests : List ℕ) (old new : DeskView) : Type 0 wh
 
 -- The tests, the report and the proofs of the netlist's circuit stand, with one true verdict for each fault, and the
 -- report's total line was added to Out.
-pub record HasFiles (netlist : List ℕ) (budget : ℕ) (old new : DeskView) : Type 0 where
+pub record HasFiles (netlist : List ℕ) (settings : Settings) (old new : DeskView) : Type 0 where
   pub circuit : net.Netlist
   pub tests : List ℕ
   pub report : List ℕ
   pub proofs : List ℕ
   pub total : List ℕ
   pub good : IsGoodNetlist netlist circuit
-  pub generated : IsGenerated circuit budget tests report proofs total
+  pub generated : IsGenerated circuit settings tests report proofs total
   pub tests_stand : new.written Tests ≡ option_map (λ _. tests) (old.written Tests)
   pub report_stands : new.written Report ≡ option_map (λ _. report) (old.written Report)
   pub proofs_stand : new.written Proofs ≡ option_map (λ _. proofs) (old.written Proofs)
@@ -63,11 +65,12 @@ valid_line = codes "valid\n"
 abbrev pub HasOutput : Asked → DeskView → DeskView → Type 0
 HasOutput (sim netlist_name tests_name report_name) old new = (netlist tests : List ℕ)
     → AreInputs netlist_name tests_name netlist tests old → HasReport netlist tests old new
-HasOutput (gen netlist_name tests_name report_name proofs_name budget) old new = (netlist : List ℕ)
-    → IsInput Netlist netlist_name netlist old → HasFiles netlist budget old new
+HasOutput (gen netlist_name tests_name report_name proofs_name options) old new = (netlist : List ℕ)
+    → IsInput Netlist netlist_name netlist old → HasFiles netlist (settings_of options) old new
 HasOutput (check netlist tests report proofs) old new = new.written Out ≡ append_known (old.written Out) valid_line
 HasOutput (norm netlist_name out_name) old new = (netlist : List ℕ) → IsInput Netlist netlist_name netlist old
     → HasNormalText netlist old new
+HasOutput (demo size seed) old new = HasDemoLines size seed old new
 
 -- the port was created under this name
 pub record IsCreatedAs (port : OutPort) (name : List ℕ) (old new : DeskView) : Type 0 where

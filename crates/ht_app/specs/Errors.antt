@@ -1,5 +1,5 @@
 -- Why a run ends without its work: each error, its status and its line on Err.
-use Rattle.std.specs.Prelude.{ℕ, List, ◌++◌, codes}
+use Rattle.std.specs.Prelude.{◌≡◌, ◌⊎◌, ℕ, List, ◌++◌, codes}
 use Rattle.ht_ports.specs.Numbered.{numbered}
 use Rattle.ht_bench.specs.RefusalText.{refusal_text}
 use Rattle.ht_bench.specs.declared.error.BenchError.{BenchError}
@@ -21,6 +21,10 @@ abbrev pub judged_error_of : JudgeError → RunError
 judged_error_of (judge.Denied trouble) = Denied trouble
 judged_error_of judge.NoMemory = NoMemory
 
+-- memory ran out, or a write failed
+abbrev pub IsOutputError : RunError → Type 0
+IsOutputError error = (error ≡ WriteFault) ⊎ (error ≡ NoMemory)
+
 abbrev pub exit_status : RunError → ℕ
 exit_status (Denied trouble) = 1
 exit_status Usage = 2
@@ -38,8 +42,9 @@ denied_line (Proofs line) = numbered (codes "denied: proofs line ") line (codes 
 denied_line (Fault number) = numbered (codes "denied: fault ") number (codes "\n")
 
 abbrev pub usage_text : List ℕ
-usage_text = codes "usage: sim NETLIST TESTS REPORT, gen NETLIST TESTS REPORT PROOFS [--budget N], " ++
-    codes "check NETLIST TESTS REPORT PROOFS, norm NETLIST OUT\n"
+usage_text = codes "usage: sim NETLIST TESTS REPORT, " ++
+    codes "gen NETLIST TESTS REPORT PROOFS [--budget N] [--random N] [--seed S], " ++
+    codes "check NETLIST TESTS REPORT PROOFS, norm NETLIST OUT, demo SIZE SEED\n"
 
 abbrev pub err_line : RunError → List ℕ
 err_line (Denied trouble) = denied_line trouble

@@ -11,8 +11,8 @@ use Rattle.ht_texts.specs.SearchReports.{HasPlainNames}
 use Rattle.ht_entries.specs.ProofLines.{line_text}
 use Rattle.ht_entries.specs.declared.proof_line.ProofLine.TheVariants.{End}
 use Rattle.ht_engine.specs.declared.step.Step.{Step}
-use Rattle.ht_engine.specs.Steps.{AreFinished, AreSteps}
-use Rattle.ht_engine.specs.EngineStands.{EngineStandsFor, EngineView}
+use Rattle.ht_engine.specs.Steps.{AreFinished, AreSteps, Settings}
+use Rattle.ht_engine.specs.EngineStands.{EngineStandsFor, EngineView, first_of}
 use Rattle.ht_files.specs.StepTexts.{proofs_so_far, proofs_step, tests_of, tests_step}
 use Rattle.ht_files.specs.Generated.{IsGenerated}
 use Rattle.ht_app.specs.declared.run_error.RunError.{RunError}
@@ -139,7 +139,7 @@ pub record CountsStep (step : Step) (old new : Sizes) : Type 0 where
 -- the same of all steps
 pub record HasAllSteps (names : Names) (e : EngineView) (sizes : Sizes) (old new : DeskView) : Type 0 where
   pub has : HasSteps names e sizes old new
-  pub finished : AreFinished e.circuit e.representatives has.steps
+  pub finished : AreFinished e.circuit e.representatives (first_of e) has.steps
 
 -- a further turn was made, or there is none
 abbrev pub AfterTurn : Bool → Names → EngineView → Sizes → DeskView → DeskView → Type 0
@@ -157,7 +157,7 @@ pub record StopsEarly (names : Names) (e : EngineView) (old new : DeskView) : Ty
   pub begun : List Step
   pub count : ℕ
   pub one : length begun ≤ 1
-  pub are : AreSteps e.circuit e.representatives e.budget (whole ++ begun)
+  pub are : AreSteps e.circuit e.representatives (first_of e) e.settings.budget (whole ++ begun)
   pub has : HasTexts names (texts_part whole begun count) old new
 
 -- ---- the end
@@ -180,17 +180,18 @@ StopsAtEnd names tests proofs body total old new = HasPart names Proofs end_text
     ⊎ StopsLast names tests (proofs ++ end_text) body total old new
 
 -- these texts are generated where no name has the end of a line
-abbrev pub AreGenerated : net.Netlist → ℕ → List ℕ → List ℕ → List ℕ → List ℕ → Type 0
-AreGenerated c budget tests report proofs total = HasPlainNames c → IsGenerated c budget tests report proofs total
+abbrev pub AreGenerated : net.Netlist → Settings → List ℕ → List ℕ → List ℕ → List ℕ → Type 0
+AreGenerated c settings tests report proofs total = HasPlainNames c
+    → IsGenerated c settings tests report proofs total
 
 -- The files stand as they were generated.
-pub record HasGenerated (names : Names) (c : net.Netlist) (budget : ℕ) (old new : DeskView) : Type 0 where
+pub record HasGenerated (names : Names) (c : net.Netlist) (settings : Settings) (old new : DeskView) : Type 0 where
   pub texts : Texts
   pub has : HasTexts names texts old new
-  pub generated : AreGenerated c budget texts.tests texts.report texts.proofs texts.out
+  pub generated : AreGenerated c settings texts.tests texts.report texts.proofs texts.out
 
 -- A write failed after the tests and the proofs were whole.
-pub record StopsInReporting (names : Names) (error : RunError) (c : net.Netlist) (budget : ℕ) (old new : DeskView)
+pub record StopsInReporting (names : Names) (error : RunError) (c : net.Netlist) (settings : Settings) (old new : DeskView)
     : Type 0 where
   pub fault : error ≡ WriteFault
   pub tests : List ℕ
@@ -198,7 +199,7 @@ pub record StopsInReporting (names : Names) (error : RunError) (c : net.Netlist)
   pub body : List ℕ
   pub total : List ℕ
   pub stops : StopsLast names tests proofs body total old new
-  pub generated : AreGenerated c budget tests (body ++ total) proofs total
+  pub generated : AreGenerated c settings tests (body ++ total) proofs total
 
 -- the first line of the proofs isn't whole
 pub record StopsHead (names : Names) (old new : DeskView) : Type 0 where
@@ -209,19 +210,19 @@ pub record StopsHead (names : Names) (old new : DeskView) : Type 0 where
 pub record StopsEnding (names : Names) (e : EngineView) (old new : DeskView) : Type 0 where
   pub steps : List Step
   pub count : ℕ
-  pub are : AreSteps e.circuit e.representatives e.budget steps
-  pub finished : AreFinished e.circuit e.representatives steps
+  pub are : AreSteps e.circuit e.representatives (first_of e) e.settings.budget steps
+  pub finished : AreFinished e.circuit e.representatives (first_of e) steps
   pub short : count < length end_text
   pub has : HasTexts names (bare (tests_of steps) (proofs_so_far steps ++ take count end_text)) old new
 
 -- what is left where the files aren't whole
 abbrev pub StopsFilling : Names → RunError → EngineView → DeskView → DeskView → Type 0
 StopsFilling names error e old new = StopsHead names old new ⊎ (StopsEarly names e old new
-    ⊎ (StopsEnding names e old new ⊎ StopsInReporting names error e.circuit e.budget old new))
+    ⊎ (StopsEnding names e old new ⊎ StopsInReporting names error e.circuit e.settings old new))
 
 -- The same, from before the files were created.
-pub record LeavesFiles (names : Names) (error : RunError) (c : net.Netlist) (budget : ℕ) (old new : DeskView)
+pub record LeavesFiles (names : Names) (error : RunError) (c : net.Netlist) (settings : Settings) (old new : DeskView)
     : Type 0 where
   pub changed : ChangedOnly (filling names) old new
   pub silent : error ≡ NoMemory → new.written Out ≡ old.written Out
-  pub stops : HasPlainNames c → StopsBeforeReport c budget old new ⊎ StopsInLastFile c budget old new
+  pub stops : HasPlainNames c → StopsBeforeReport c settings old new ⊎ StopsInLastFile c settings old new

@@ -10,7 +10,7 @@ use Rattle.ht_collapse.specs.Classes.{AreClasses}
 use Rattle.ht_valid.specs.ValidFiles.{Content, AreValid, AreValidFiles}
 use Rattle.ht_valid.specs.FirstTrouble.{AreReadTo}
 use Rattle.ht_valid.specs.TrueVerdicts.{AreDecided, HaveTrueVerdicts}
-use Rattle.ht_asked.specs.Asked.{Asked, sim, gen, check, norm}
+use Rattle.ht_asked.specs.Asked.{Asked, sim, gen, check, norm, demo}
 
 -- the desk knows that the file of this name holds this text, and knows what is left of the port
 pub record IsInput (port : InPort) (name text : List ℕ) (desk : DeskView) : Type 0 where
@@ -101,10 +101,11 @@ pub record AcceptsFiles (names : CheckFiles) (old : DeskView) : Type 0 where
 
 abbrev pub AcceptsInputs : Asked → DeskView → Type 0
 AcceptsInputs (sim netlist tests report) desk = AcceptsTests netlist tests desk
-AcceptsInputs (gen netlist tests report proofs budget) desk = AcceptsNetlist netlist desk
+AcceptsInputs (gen netlist tests report proofs options) desk = AcceptsNetlist netlist desk
 AcceptsInputs (check netlist tests report proofs) desk =
     AcceptsFiles (check_files_of netlist tests report proofs) desk
 AcceptsInputs (norm netlist out) desk = AcceptsNetlist netlist desk
+AcceptsInputs (demo size seed) desk = Unit {0}
 
 -- ---- inputs that a desk knows
 
@@ -164,6 +165,7 @@ AreBadFiles names desk = AreFiles names desk (λ c representatives texts. ¬ Are
 -- the desk knows all that the job reads, and it is good
 abbrev pub AreGoodInputs : Asked → DeskView → Type 0
 AreGoodInputs (sim netlist tests report) desk = AreGoodTests netlist tests desk
-AreGoodInputs (gen netlist tests report proofs budget) desk = IsGoodNetlistFile netlist desk
+AreGoodInputs (gen netlist tests report proofs options) desk = IsGoodNetlistFile netlist desk
 AreGoodInputs (check netlist tests report proofs) desk = AreGoodFiles (check_files_of netlist tests report proofs) desk
 AreGoodInputs (norm netlist out) desk = IsGoodNetlistFile netlist desk
+AreGoodInputs (demo size seed) desk = Unit {0}

@@ -5,13 +5,18 @@ use Rattle.ht_ports.specs.declared.ports.InPort.{InPort}
 use Rattle.ht_ports.specs.declared.ports.InPort.TheVariants as in_port
 use Rattle.ht_ports.specs.declared.ports.OutPort.{OutPort}
 use Rattle.ht_ports.specs.declared.ports.OutPort.TheVariants.{Tests, Report, Proofs}
-use Rattle.ht_asked.specs.Asked.{Asked, sim, gen, check, norm}
+use Rattle.ht_asked.specs.Asked.{Asked, sim, gen, check, norm, GenOptions}
+use Rattle.ht_engine.specs.Steps.{Settings}
+
+-- what the options of `gen` tell the generator
+abbrev pub settings_of : GenOptions → Settings
+settings_of options = record { budget = options.budget; random = options.random; seed = options.seed }
 
 -- the file that the job reads from the port
 abbrev pub input_name : Asked → InPort → Option (List ℕ)
 input_name (sim netlist tests report) in_port.Netlist = Some netlist
 input_name (sim netlist tests report) in_port.Tests = Some tests
-input_name (gen netlist tests report proofs budget) in_port.Netlist = Some netlist
+input_name (gen netlist tests report proofs options) in_port.Netlist = Some netlist
 input_name (check netlist tests report proofs) in_port.Netlist = Some netlist
 input_name (check netlist tests report proofs) in_port.Tests = Some tests
 input_name (check netlist tests report proofs) in_port.Report = Some report
@@ -22,9 +27,9 @@ input_name _ _ = None
 -- the file that it writes at the port
 abbrev pub output_name : Asked → OutPort → Option (List ℕ)
 output_name (sim netlist tests report) Report = Some report
-output_name (gen netlist tests report proofs budget) Tests = Some tests
-output_name (gen netlist tests report proofs budget) Report = Some report
-output_name (gen netlist tests report proofs budget) Proofs = Some proofs
+output_name (gen netlist tests report proofs options) Tests = Some tests
+output_name (gen netlist tests report proofs options) Report = Some report
+output_name (gen netlist tests report proofs options) Proofs = Some proofs
 output_name (norm netlist out) Report = Some out
 output_name _ _ = None
 

@@ -1,6 +1,7 @@
 pub mod Inputs
 pub mod Jobs
 pub mod Changed
+pub mod Demo
 pub mod Done
 pub mod Truncated
 pub mod Errors

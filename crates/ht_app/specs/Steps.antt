@@ -1,5 +1,5 @@
 -- What the steps of a run promise each other.
-use Rattle.std.specs.Prelude.{◌≡◌, ℕ, ◌≤◌, ◌++◌, List, IsTrue, Bool, true, false, Option, Some, None, is_some, Result, Ok, Err}
+use Rattle.std.specs.Prelude.{◌≡◌, ℕ, ◌<◌, ◌++◌, List, length, take, IsTrue, Bool, true, false, Option, Some, None, is_some, Result, Ok, Err}
 use Rattle.std.specs.Option.{option_map}
 use Rattle.std.specs.Io.KnownBytes.{append_known}
 use Rattle.ht_ports.specs.Causes.{Rose}
@@ -11,8 +11,7 @@ use Rattle.ht_net.specs.Netlist as net
 use Rattle.ht_bench.specs.Normal.{normal_text}
 use Rattle.ht_texts.specs.Tests.{IsMalformedTest}
 use Rattle.ht_valid.specs.declared.trouble.Trouble.TheVariants as trouble
-use Rattle.ht_asked.specs.declared.limits.TheConstants.{MAX_BUDGET, MIN_BUDGET}
-use Rattle.ht_asked.specs.Asked.{Asked, sim, gen}
+use Rattle.ht_asked.specs.Asked.{Asked, sim}
 use Rattle.ht_app.specs.declared.run_error.RunError.{RunError}
 use Rattle.ht_app.specs.declared.run_error.RunError.TheVariants.{Denied, TooLong, Refused, ReadFault, NoMemory, BadTests}
 use Rattle.ht_app.specs.Inputs.{IsInput, IsGoodNetlist, MayHold, AreInputs}
@@ -64,16 +63,19 @@ CheckedTestsCause c name old new _ = ⊥
 pub record SimulateCause (netlist_name tests_name : List ℕ) (old new : DeskView) (error : RunError) : Type 0 where
   pub cause : (report_name : List ℕ) → HasCause (sim netlist_name tests_name report_name) old new error
 
--- the budget that the job gives is in its range
-abbrev pub HasBudget : Asked → Type 0
-HasBudget (gen netlist tests report proofs budget) = (MIN_BUDGET ≤ budget) × (budget ≤ MAX_BUDGET)
-HasBudget job = Unit {0}
-
 -- ---- what the steps touch
 
 -- the inputs of a job
 abbrev pub reading : Asked → Ports
 reading job = record { reads = λ p. is_some (input_name job p); creates = λ p. None; writes = λ p. false }
+
+-- Out alone
+abbrev pub is_out : OutPort → Bool
+is_out Out = true
+is_out port = false
+
+abbrev pub saying : Ports
+saying = record { reads = λ p. false; creates = λ p. None; writes = is_out }
 
 -- Report under this name, and Out where it says something
 abbrev pub report_name_at : List ℕ → OutPort → Option (List ℕ)
@@ -105,6 +107,12 @@ pub record IsBegun (port : OutPort) (name text : List ℕ) (old new : DeskView) 
 pub record IsReported (name body total : List ℕ) (old new : DeskView) : Type 0 where
   pub begun : IsBegun Report name (body ++ total) old new
   pub said : new.written Out ≡ append_known (old.written Out) total
+
+-- a proper front of the text was added to Out
+pub record SaysPart (text : List ℕ) (old new : DeskView) : Type 0 where
+  pub count : ℕ
+  pub short : count < length text
+  pub said : new.written Out ≡ append_known (old.written Out) (take count text)
 
 -- ---- what inputs are worked into
 

@@ -8,12 +8,14 @@ use Rattle.ht_ports.specs.declared.ports.OutPort.{OutPort}
 use Rattle.ht_ports.specs.declared.ports.OutPort.TheVariants.{Tests, Report, Proofs, Out}
 use Rattle.ht_net.specs.Netlist as net
 use Rattle.ht_bench.specs.Normal.{normal_text}
-use Rattle.ht_asked.specs.Asked.{Asked, sim, gen, check, norm}
+use Rattle.ht_asked.specs.Asked.{Asked, sim, gen, check, norm, demo}
 use Rattle.ht_app.specs.Inputs.{IsInput, IsGoodNetlist, AreInputs}
 use Rattle.ht_app.specs.Done.{IsSimulated, valid_line}
+use Rattle.ht_app.specs.Demo.{DemoIsTruncated}
+use Rattle.ht_app.specs.Jobs.{settings_of}
 use Rattle.ht_collapse.specs.Classes.{AreClasses}
 use Rattle.ht_engine.specs.declared.step.Step.{Step}
-use Rattle.ht_engine.specs.Steps.{AreFinished, AreSteps}
+use Rattle.ht_engine.specs.Steps.{AreFinished, AreSteps, Settings, first_vectors}
 use Rattle.ht_entries.specs.ProofLines.{line_text}
 use Rattle.ht_entries.specs.declared.proof_line.ProofLine.TheVariants.{End}
 use Rattle.ht_texts.specs.Lines.{with_lf}
@@ -86,53 +88,53 @@ pub record StopsInHead (old new : DeskView) : Type 0 where
   pub proofs : HasText Proofs (take count (proofs_so_far [])) old new
 
 -- Some steps stand whole, and of the next one, if it was begun, a front; the report is empty.
-pub record StopsInSteps (c : net.Netlist) (budget : ℕ) (old new : DeskView) : Type 0 where
+pub record StopsInSteps (c : net.Netlist) (settings : Settings) (old new : DeskView) : Type 0 where
   pub representatives : List ℕ
   pub whole : List Step
   pub begun : List Step
   pub count : ℕ
   pub classes : AreClasses c representatives
   pub one : length begun ≤ 1
-  pub steps_are : AreSteps c representatives budget (whole ++ begun)
+  pub steps_are : AreSteps c representatives (first_vectors c settings) settings.budget (whole ++ begun)
   pub tests : HasText Tests (tests_of whole ++ take count (flat_map tests_step begun)) old new
   pub proofs : HasText Proofs (proofs_so_far whole ++ take count (flat_map proofs_step begun)) old new
   pub report : HasText Report [] old new
 
 -- All steps stand whole, and the last line of the proofs isn't; the report is empty.
-pub record StopsInEnd (c : net.Netlist) (budget : ℕ) (old new : DeskView) : Type 0 where
+pub record StopsInEnd (c : net.Netlist) (settings : Settings) (old new : DeskView) : Type 0 where
   pub representatives : List ℕ
   pub steps : List Step
   pub count : ℕ
   pub classes : AreClasses c representatives
-  pub steps_are : AreSteps c representatives budget steps
-  pub finished : AreFinished c representatives steps
+  pub steps_are : AreSteps c representatives (first_vectors c settings) settings.budget steps
+  pub finished : AreFinished c representatives (first_vectors c settings) steps
   pub short : count < length (with_lf (line_text End))
   pub tests : HasText Tests (tests_of steps) old new
   pub proofs : HasText Proofs (proofs_so_far steps ++ take count (with_lf (line_text End))) old new
   pub report : HasText Report [] old new
 
 -- It stops before the report is begun, with nothing on Out.
-pub record StopsBeforeReport (c : net.Netlist) (budget : ℕ) (old new : DeskView) : Type 0 where
+pub record StopsBeforeReport (c : net.Netlist) (settings : Settings) (old new : DeskView) : Type 0 where
   pub out : new.written Out ≡ old.written Out
   pub stops : StopsInFiles old new
-      ⊎ (StopsInHead old new ⊎ (StopsInSteps c budget old new ⊎ StopsInEnd c budget old new))
+      ⊎ (StopsInHead old new ⊎ (StopsInSteps c settings old new ⊎ StopsInEnd c settings old new))
 
 -- The tests and the proofs are whole, and the report isn't.
-pub record StopsInLastFile (c : net.Netlist) (budget : ℕ) (old new : DeskView) : Type 0 where
+pub record StopsInLastFile (c : net.Netlist) (settings : Settings) (old new : DeskView) : Type 0 where
   pub tests : List ℕ
   pub proofs : List ℕ
   pub body : List ℕ
   pub total : List ℕ
-  pub generated : IsGenerated c budget tests (body ++ total) proofs total
+  pub generated : IsGenerated c settings tests (body ++ total) proofs total
   pub tests_stand : HasText Tests tests old new
   pub proofs_stand : HasText Proofs proofs old new
   pub stops : StopsInReport body total old new
 
 -- the report isn't whole, and so the three files aren't
-pub record GenIsTruncated (netlist : List ℕ) (budget : ℕ) (old new : DeskView) : Type 0 where
+pub record GenIsTruncated (netlist : List ℕ) (settings : Settings) (old new : DeskView) : Type 0 where
   pub circuit : net.Netlist
   pub good : IsGoodNetlist netlist circuit
-  pub stops : StopsBeforeReport circuit budget old new ⊎ StopsInLastFile circuit budget old new
+  pub stops : StopsBeforeReport circuit settings old new ⊎ StopsInLastFile circuit settings old new
 
 -- what is said of valid files isn't whole
 pub record CheckIsTruncated (old new : DeskView) : Type 0 where
@@ -149,13 +151,14 @@ pub record NormIsTruncated (netlist : List ℕ) (old new : DeskView) : Type 0 wh
 abbrev pub IsTruncated : Asked → DeskView → DeskView → Type 0
 IsTruncated (sim netlist_name tests_name report_name) old new = (netlist tests : List ℕ)
     → AreInputs netlist_name tests_name netlist tests old → SimIsTruncated netlist tests old new
-IsTruncated (gen netlist_name tests_name report_name proofs_name budget) old new = (netlist : List ℕ)
-    → IsInput Netlist netlist_name netlist old → GenIsTruncated netlist budget old new
+IsTruncated (gen netlist_name tests_name report_name proofs_name options) old new = (netlist : List ℕ)
+    → IsInput Netlist netlist_name netlist old → GenIsTruncated netlist (settings_of options) old new
 IsTruncated (check netlist tests report proofs) old new = CheckIsTruncated old new
 IsTruncated (norm netlist_name out_name) old new = (netlist : List ℕ) → IsInput Netlist netlist_name netlist old
     → NormIsTruncated netlist old new
+IsTruncated (demo size seed) old new = DemoIsTruncated size seed old new
 
--- What is left where memory ran out: nothing was written, or the output isn't whole. Only `gen` writes while it still
--- asks for memory.
+-- What is left where memory ran out: nothing was written, or the output isn't whole. Only `gen` and `demo` write while
+-- they still ask for memory.
 abbrev pub RunsOut : Asked → DeskView → DeskView → Type 0
 RunsOut job old new = (new.written ≡ old.written) ⊎ IsTruncated job old new

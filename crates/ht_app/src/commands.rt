@@ -2,16 +2,19 @@
 ghost use Rattle.std.specs.Prelude.{◌≡◌, ◌≢◌, ◌⊎◌, ℕ, List, IfErr, OnOk, IsTrue, IsSome, Some, None};
 ghost use Rattle.ht_ports.specs.declared.ports.InPort.TheVariants as in_port;
 ghost use Rattle.ht_ports.specs.declared.ports.OutPort.TheVariants as out_port;
-ghost use Rattle.ht_asked.specs.Asked.{Asked, asked, words_of, sim};
+ghost use Rattle.ht_asked.specs.Asked.{Asked, asked, demo, words_of, sim};
+ghost use Rattle.ht_asked.specs.Ranges.{IsInRange};
 ghost use Rattle.ht_words.specs.Jobs.{asked_by};
 ghost use Rattle.ht_app.specs.Inputs.{IsBadNetlist, AreBadTests, AreBadFiles, AreGoodInputs, CheckFiles};
 ghost use Rattle.ht_app.specs.Jobs.{input_name, HoldsInputs};
 ghost use Rattle.ht_app.specs.Changed.{ChangedOnly, Faultless, job_ports, ports_at};
 ghost use Rattle.ht_app.specs.Done.{IsDone, AskedIsDone};
+ghost use Rattle.ht_app.specs.Errors.{IsOutputError};
 ghost use Rattle.ht_app.specs.Run.{EndsBy, HasCause, AskedHasCause, check_of_names};
-ghost use Rattle.ht_app.specs.Steps.{HasBudget, status_after};
+ghost use Rattle.ht_app.specs.Steps.{status_after};
 
 use crate::check::check;
+use crate::demo::demo;
 use crate::err_line::write_line;
 use crate::generate::generate;
 use crate::norm::norm;
@@ -21,15 +24,16 @@ use ht_ports::Desk;
 use ht_words::{Job, WordsFault, command};
 use std::alloc::Global;
 
-// Does a job, whose budget is in its range.
+// Does a job, whose numbers are in their ranges.
 fn do_job<D: Desk>(alloc: Global, job: &Job, desk: &mut D) -> Result<(), RunError>
-    requires { HasBudget (asked_by job.now) }
+    requires { IsInRange (asked_by job.now) }
     ensures changed { ChangedOnly (job_ports (asked_by job.now) (status_after result))
         (D.view desk.old) (D.view desk.new) }
     ensures quiet { (D.view desk.new).written out_port.Err
         ≡ (D.view desk.old).written out_port.Err }
     ensures done { OnOk result (IsDone (asked_by job.now) (D.view desk.old) (D.view desk.new)) }
     ensures cause { IfErr result (HasCause (asked_by job.now) (D.view desk.old) (D.view desk.new)) }
+    ensures demo { (size seed : ℕ) → asked_by job.now ≡ demo size seed → IfErr result IsOutputError }
 {
     match job {
         Job::Sim {
@@ -49,6 +53,8 @@ fn do_job<D: Desk>(alloc: Global, job: &Job, desk: &mut D) -> Result<(), RunErro
             report,
             proofs,
             budget,
+            random,
+            seed,
         } => generate(
             alloc,
             netlist.as_str(),
@@ -56,6 +62,8 @@ fn do_job<D: Desk>(alloc: Global, job: &Job, desk: &mut D) -> Result<(), RunErro
             report.as_str(),
             proofs.as_str(),
             *budget,
+            *random,
+            *seed,
             desk,
         ),
         Job::Check {
@@ -72,6 +80,7 @@ fn do_job<D: Desk>(alloc: Global, job: &Job, desk: &mut D) -> Result<(), RunErro
             desk,
         ),
         Job::Norm { netlist, out } => norm(alloc, netlist.as_str(), out.as_str(), desk),
+        Job::Demo { size, seed } => demo(alloc, *size, *seed, desk),
     }
 }
 
@@ -85,6 +94,8 @@ fn work<D: Desk>(alloc: Global, words: &[String], desk: &mut D) -> Result<(), Ru
         (AskedIsDone (asked (words_of words.now)) (D.view desk.old) (D.view desk.new)) }
     ensures cause { IfErr result
         (AskedHasCause (asked (words_of words.now)) (D.view desk.old) (D.view desk.new)) }
+    ensures demo { (size seed : ℕ) → asked (words_of words.now) ≡ Some (demo size seed)
+        → IfErr result IsOutputError }
 {
     match command(alloc, words) {
         Ok(job) => {
@@ -102,9 +113,10 @@ fn work<D: Desk>(alloc: Global, words: &[String], desk: &mut D) -> Result<(), Ru
 /// | Words | Work |
 /// |---|---|
 /// | `sim NETLIST TESTS REPORT` | runs the tests on the netlist, and reports each fault |
-/// | `gen NETLIST TESTS REPORT PROOFS [--budget N]` | generates tests, and reports each fault with its proof |
+/// | `gen NETLIST TESTS REPORT PROOFS [--budget N] [--random N] [--seed S]` | generates tests, random ones of a seed first, and reports each fault with its proof |
 /// | `check NETLIST TESTS REPORT PROOFS` | answers whether the three files are valid for the netlist |
 /// | `norm NETLIST OUT` | writes the netlist in its normal text |
+/// | `demo SIZE SEED` | makes a netlist, generates tests for it with 64 random ones first, and says how many faults it has and how they ended; it opens no file |
 ///
 /// | Status | Comes |
 /// |---|---|
@@ -116,6 +128,8 @@ fn work<D: Desk>(alloc: Global, words: &[String], desk: &mut D) -> Result<(), Ru
 /// | 5 | only where its count of faults of writing rose |
 /// | 6 | out of memory |
 /// | 7 | only for `sim`, exactly where the netlist is accepted and the tests are malformed |
+///
+/// `demo` ends with 0, 5 or 6.
 ///
 /// "Exactly where" yields in 2 to a lack of memory, and in 1, 3 and 7 to a lack of memory and to a counted fault of
 /// reading. A status other than 0 says why in one line on Err. Where that write fails the status stays, which tests show:
@@ -148,6 +162,10 @@ pub fn run<D: Desk>(alloc: Global, words: &[String], desk: &mut D) -> u8
         → asked (words_of words.now) ≡ Some (check_of_names names)
         → AreBadFiles names (D.view desk.old) → Faultless (D.view desk.old) (D.view desk.new)
         → (result ≡ 1) ⊎ (result ≡ 6) }
+
+    // The netlist of `demo` is always accepted.
+    ensures demo { (size seed : ℕ) → asked (words_of words.now) ≡ Some (demo size seed)
+        → (result ≡ 0) ⊎ (result ≡ 5) ⊎ (result ≡ 6) }
 
     // Where no fault was counted, good inputs give the output, or memory ran out.
     ensures complete { (job : Asked) → asked (words_of words.now) ≡ Some job

@@ -51,7 +51,7 @@ pub fn write_line<D: Desk>(desk: &mut D, error: &RunError) -> Result<(), Failed>
         RunError::Usage => write_all(
             desk,
             OutPort::Err,
-            b"usage: sim NETLIST TESTS REPORT, gen NETLIST TESTS REPORT PROOFS [--budget N], check NETLIST TESTS REPORT PROOFS, norm NETLIST OUT\n",
+            b"usage: sim NETLIST TESTS REPORT, gen NETLIST TESTS REPORT PROOFS [--budget N] [--random N] [--seed S], check NETLIST TESTS REPORT PROOFS, norm NETLIST OUT, demo SIZE SEED\n",
         ),
         RunError::TooLong => write_all(desk, OutPort::Err, b"netlist: too long\n"),
         RunError::Refused(error) => write_refused(desk, error),

@@ -39,20 +39,32 @@ fn make_files<D: Desk>(
     report: &str,
     proofs: &str,
     budget: u64,
+    random: u32,
+    seed: u64,
     desk: &mut D,
 ) -> Result<(), RunError>
     requires faults { listed.now.faults ≡ faults_of circuit.now }
     requires classes { AreClasses circuit.now listed.now.classes }
     requires budget { (MIN_BUDGET ≤ budget) × (budget ≤ MAX_BUDGET) }
     ensures wrote { OnOk result
-        (HasGenerated (file_names_of tests.now report.now proofs.now) circuit.now budget
+        (HasGenerated (file_names_of tests.now report.now proofs.now) circuit.now
+        (record { budget = budget; random = random; seed = seed })
         (D.view desk.old) (D.view desk.new)) }
     ensures stops { IfErr result
-        (λ e. LeavesFiles (file_names_of tests.now report.now proofs.now) e circuit.now budget
+        (λ e. LeavesFiles (file_names_of tests.now report.now proofs.now) e circuit.now
+        (record { budget = budget; random = random; seed = seed })
         (D.view desk.old) (D.view desk.new)) }
     ensures cause { IfErr result (FillCause (D.view desk.old) (D.view desk.new)) }
 {
-    let mut engine = Engine::new(alloc, circuit, &listed.faults, &listed.classes, budget)?;
+    let mut engine = Engine::new(
+        alloc,
+        circuit,
+        &listed.faults,
+        &listed.classes,
+        budget,
+        random,
+        seed,
+    )?;
     create_files(desk, tests, report, proofs)?;
     write_files(
         alloc,
@@ -66,7 +78,7 @@ fn make_files<D: Desk>(
 }
 
 /// Runs `gen`: reads the netlist, generates tests, and writes them, the proofs and the report. The budget is that of
-/// each search.
+/// each search; `random` vectors of the seed come first.
 ///
 /// # Errors
 /// Those of the run.
@@ -77,25 +89,30 @@ pub fn generate<D: Desk>(
     report: &str,
     proofs: &str,
     budget: u64,
+    random: u32,
+    seed: u64,
     desk: &mut D,
 ) -> Result<(), RunError>
     requires { (MIN_BUDGET ≤ budget) × (budget ≤ MAX_BUDGET) }
     ensures changed { ChangedOnly
-        (job_ports (asked.gen netlist.now tests.now report.now proofs.now budget)
+        (job_ports (asked.gen netlist.now tests.now report.now proofs.now
+        (record { budget = budget; random = random; seed = seed }))
         (status_after result)) (D.view desk.old) (D.view desk.new) }
     ensures quiet { (D.view desk.new).written out_port.Err
         ≡ (D.view desk.old).written out_port.Err }
     ensures done { OnOk result
-        (IsDone (asked.gen netlist.now tests.now report.now proofs.now budget)
+        (IsDone (asked.gen netlist.now tests.now report.now proofs.now
+        (record { budget = budget; random = random; seed = seed }))
         (D.view desk.old) (D.view desk.new)) }
     ensures cause { IfErr result
-        (HasCause (asked.gen netlist.now tests.now report.now proofs.now budget)
+        (HasCause (asked.gen netlist.now tests.now report.now proofs.now
+        (record { budget = budget; random = random; seed = seed }))
         (D.view desk.old) (D.view desk.new)) }
 {
     let circuit = read_netlist(alloc, desk, netlist)?;
     let listed = list_faults(alloc, &circuit)?;
     make_files(
-        alloc, &circuit, &listed, tests, report, proofs, budget, desk,
+        alloc, &circuit, &listed, tests, report, proofs, budget, random, seed, desk,
     )?;
     Ok(())
 }

@@ -1,7 +1,7 @@
 //! The commands, over a desk.
 //!
 //! `run` is the top call: it takes the words of the command line and a desk, does the work, and answers the status. A
-//! module has one step of it: the top call (`commands`), `sim`, `generate` (the command `gen`), `check`, `norm`, the inputs
+//! module has one step of it: the top call (`commands`), `sim`, `generate` (the command `gen`), `check`, `norm`, `demo`, the inputs
 //! (`netlist`, `vectors_file`, and by `judged_file` `report_file` and `proofs_file`), the faults (`listed`), what is written (`output`), why a run ends without its work (`run_error`) and what it
 //! says of that on Err (`err_line`).
 //!
@@ -11,6 +11,7 @@
 
 mod check;
 mod commands;
+mod demo;
 mod err_line;
 mod generate;
 mod judged_file;

@@ -1,5 +1,6 @@
 //! The file that a command writes, and its total line on Out.
 ghost use Rattle.std.specs.Prelude.{◌≡◌, ◌≢◌, true, false, is_ok, IfErr, OnOk, OnErr};
+ghost use Rattle.std.specs.Io.KnownBytes.{append_known};
 ghost use Rattle.ht_ports.specs.Desk.{DeskView, IsWritable, OutCall, Wrote};
 ghost use Rattle.ht_ports.specs.declared.ports.OutPort.TheVariants as out_port;
 ghost use Rattle.ht_app.specs.FileTexts.{Names, Texts, with_more};
@@ -7,7 +8,7 @@ ghost use Rattle.ht_app.specs.Generating.{HasPart, HasTexts, StaysWritable};
 ghost use Rattle.ht_app.specs.Changed.{ChangedOnly};
 ghost use Rattle.ht_app.specs.Truncated.{StopsInText, StopsInReport};
 ghost use Rattle.ht_app.specs.Run.{IsWriteFault};
-ghost use Rattle.ht_app.specs.Steps.{writing, IsBegun, IsReported};
+ghost use Rattle.ht_app.specs.Steps.{saying, writing, IsBegun, IsReported, SaysPart};
 ghost use Rattle.ht_app.specs.declared.run_error.RunError.TheVariants as error;
 
 use crate::run_error::RunError;
@@ -47,6 +48,22 @@ pub fn put<D: Desk>(desk: &mut D, port: OutPort, text: &[u8]) -> Result<(), RunE
     ensures fault { OnErr result (IsWriteFault (D.view desk.old) (D.view desk.new)) }
 {
     write_text(desk, port, text)?;
+    Ok(())
+}
+
+/// Writes bytes on Out, and nothing else.
+///
+/// # Errors
+/// `WriteFault`: the desk counted a fault, and the bytes aren't whole.
+pub fn say<D: Desk>(desk: &mut D, text: &[u8]) -> Result<(), RunError>
+    ensures changed { ChangedOnly saying (D.view desk.old) (D.view desk.new) }
+    ensures said { OnOk result ((D.view desk.new).written out_port.Out
+        ≡ append_known ((D.view desk.old).written out_port.Out) text.now) }
+    ensures stops { OnErr result (SaysPart text.now (D.view desk.old) (D.view desk.new)) }
+    ensures error { IfErr result (λ e. e ≡ error.WriteFault) }
+    ensures fault { OnErr result (IsWriteFault (D.view desk.old) (D.view desk.new)) }
+{
+    write_text(desk, OutPort::Out, text)?;
     Ok(())
 }
 

@@ -13,7 +13,7 @@ use std::alloc::{AllocError, AllocFailed};
 /// | Error | Status | Line on Err |
 /// |---|---|---|
 /// | `Denied` | 1 | `denied: report line 2` |
-/// | `Usage` | 2 | `usage: sim NETLIST TESTS REPORT, gen NETLIST TESTS REPORT PROOFS [--budget N], check NETLIST TESTS REPORT PROOFS, norm NETLIST OUT` |
+/// | `Usage` | 2 | `usage: sim NETLIST TESTS REPORT, gen NETLIST TESTS REPORT PROOFS [--budget N] [--random N] [--seed S], check NETLIST TESTS REPORT PROOFS, norm NETLIST OUT, demo SIZE SEED` |
 /// | `TooLong` | 3 | `netlist: too long` |
 /// | `Refused` | 3 | `netlist: line 2: undriven b` |
 /// | `ReadFault` | 4 | `read fault` |

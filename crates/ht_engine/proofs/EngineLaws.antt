@@ -397,7 +397,7 @@ nears old new Finished g other = absurd (other refl)
 pub said_is : (e : EngineView) (steps : List Step) → EngineStandsFor e steps → (i : ℕ)
     → IsOwn e.circuit e.representatives i → i < length e.representatives
     → IsFirstDetection e.circuit (fault_at e.circuit i) e.list None
-    → (kind : Option EntryKind) → kind_at e i ≡ kind → IsSaid e steps i (said_by kind)
+    → (kind : Option EntryKind) → kind_at e i ≡ kind → IsSaid e.circuit e.representatives steps i (said_by kind)
 said_is e steps s i own l first None at = record {
   own = own;
   undetected = subst (λ (list : List (List Bool)). IsFirstDetection e.circuit (fault_at e.circuit i) list None) s.list

@@ -111,13 +111,13 @@ MeansOfStep e steps Finished = Unit {0}
 
 -- Detected at the first place where the vectors detect it; where they don't, what its entry says. Undetected is said
 -- only while it awaits its verdict.
-abbrev pub IsSaid : EngineView → List Step → ℕ → Said → Type 0
-IsSaid e steps i (said.Detected place) =
-    IsFirstDetection e.circuit (fault_at e.circuit i) (vectors_of_steps steps) (Some place)
-IsSaid e steps i said.Untestable =
-    IsFirstDetection e.circuit (fault_at e.circuit i) (vectors_of_steps steps) None
+abbrev pub IsSaid : Netlist → List ℕ → List Step → ℕ → Said → Type 0
+IsSaid c representatives steps i (said.Detected place) =
+    IsFirstDetection c (fault_at c i) (vectors_of_steps steps) (Some place)
+IsSaid c representatives steps i said.Untestable =
+    IsFirstDetection c (fault_at c i) (vectors_of_steps steps) None
     × IsKindIn (entries_of steps) i (Some kind.Refuted)
-IsSaid e steps i said.Aborted =
-    IsFirstDetection e.circuit (fault_at e.circuit i) (vectors_of_steps steps) None
+IsSaid c representatives steps i said.Aborted =
+    IsFirstDetection c (fault_at c i) (vectors_of_steps steps) None
     × IsKindIn (entries_of steps) i (Some kind.GivenUp)
-IsSaid e steps i said.Undetected = AwaitsVerdict e.circuit e.representatives steps i
+IsSaid c representatives steps i said.Undetected = AwaitsVerdict c representatives steps i

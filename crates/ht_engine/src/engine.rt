@@ -290,7 +290,7 @@ impl<'c> Engine<'c> {
     pub fn said(&self, fault: u32) -> Said
         requires { IsOwn self.now.circuit self.now.representatives fault }
         ensures said { (steps : List made.Step) → EngineStandsFor self.now steps
-            → IsSaid self.now steps fault result }
+            → IsSaid self.now.circuit self.now.representatives steps fault result }
         ensures sayable { IsSayable self.now.circuit result }
     {
         match self.grader.verdict(fault) {

@@ -1,11 +1,12 @@
 -- What a finished engine's report and the texts of its steps say is true.
-use Rattle.std.proofs.Common.{◌≡◌, ◌≤◌, ◌++◌, ◌+◌, ℕ, List, Some, ◌∙◌}
+use Rattle.std.proofs.Common.{◌≡◌, ◌≤◌, ◌++◌, ◌+◌, ℕ, List, Some, true, ◌∙◌}
 use Rattle.std.proofs.Common.{length, refl, sym, ap, subst, length-append, arith}
 use Rattle.ht_net.specs.Netlist.{IsCircuit, Netlist}
 use Rattle.ht_faults.specs.Sites.{faults_of}
 use Rattle.ht_collapse.specs.Classes.{AreClasses}
 use Rattle.ht_ports.specs.LineRule.{max_text_bytes}
 use Rattle.ht_texts.specs.declared.said.Said.{Said}
+use Rattle.ht_texts.specs.Counts.{sums_of}
 use Rattle.ht_texts.specs.Lines.{with_lf}
 use Rattle.ht_texts.specs.Reports.{report_body, report_sums, report_text, total_line}
 use Rattle.ht_texts.specs.SearchReports.{HasPlainNames, IsBudget}
@@ -16,7 +17,7 @@ use Rattle.ht_valid.proofs.TruthLaws.{true_verdicts}
 use Rattle.ht_engine.specs.declared.step.Step.{Step}
 use Rattle.ht_engine.specs.EngineStands.{EngineStandsFor, EngineView}
 use Rattle.ht_engine.specs.Steps.{AreFinished, first_vectors}
-use Rattle.ht_files.specs.Generated.{content_of, IsGenerated}
+use Rattle.ht_files.specs.Generated.{content_of, IsGenerated, IsTotalOf}
 use Rattle.ht_files.specs.Saids.{AreSaid}
 use Rattle.ht_files.specs.StepTexts.{proofs_of, tests_of}
 use Rattle.ht_files.proofs.ValidLaws.{are_valid, IsFinishedWork}
@@ -96,3 +97,29 @@ module _ (e : EngineView) (saids : List Said) (body total : List ℕ) (steps : L
       (subst (λ (x : List ℕ). Generates e saids body total steps e.circuit x budget) representatives_is
       (subst (λ (x : ℕ). Generates e saids body total steps e.circuit e.representatives x) (sym same_budget)
       by_engine))
+
+-- ---- the total line alone
+
+-- What an engine says of each fault, and that it is finished: so the total line is that of its steps.
+abbrev Totals : EngineView → List Said → List ℕ → List Step → Netlist → List ℕ → Type 0
+Totals e saids total steps c representatives = AreClasses c representatives
+    → AreSaid e (length (faults_of c)) saids → total ≡ with_lf (total_line (sums_of representatives saids true))
+    → AreFinished c representatives (first_vectors c e.settings) steps → IsTotalOf c e.settings total
+
+pub total_is_of : (e : EngineView) (saids : List Said) (total : List ℕ) (steps : List Step) → EngineStandsFor e steps
+    → (c : Netlist) (representatives : List ℕ) → e.circuit ≡ c → e.representatives ≡ representatives
+    → Totals e saids total steps c representatives
+total_is_of e saids total steps stands c representatives circuit_is representatives_is =
+    let by_engine : Totals e saids total steps e.circuit e.representatives =
+    λ classes said total_is finished. record {
+      representatives = e.representatives;
+      steps = steps;
+      saids = saids;
+      classes = classes;
+      steps_are = stands.are;
+      finished = finished;
+      said = λ i own. (said.says i own.listed own).by_steps steps stands;
+      total_is = total_is;
+    } in
+    subst (λ (x : Netlist). Totals e saids total steps x representatives) circuit_is
+    (subst (λ (x : List ℕ). Totals e saids total steps e.circuit x) representatives_is by_engine)

@@ -38,7 +38,7 @@ pub record IsFinishedWork (e : EngineView) (steps : List Step) (saids : List Sai
   pub said : AreSaid e (length (faults_of e.circuit)) saids
 
 module _ (e : EngineView) (steps : List Step) (saids : List Said) (work : IsFinishedWork e steps saids) where
-  says : (i : ℕ) → IsOwn e.circuit e.representatives i → IsSaid e steps i (said_at saids i)
+  says : (i : ℕ) → IsOwn e.circuit e.representatives i → IsSaid e.circuit e.representatives steps i (said_at saids i)
   says i own = (work.said.says i own.listed own).by_steps steps work.stands
 
   -- ---- the report
@@ -46,7 +46,7 @@ module _ (e : EngineView) (steps : List Step) (saids : List Said) (work : IsFini
   is_searched : (i : ℕ) → IsOwn e.circuit e.representatives i → IsSearched e.circuit (said_at saids i)
   is_searched i own = record {
     sayable = (work.said.says i own.listed own).sayable;
-    decided = λ undetected. work.finished.none_awaits i (subst (IsSaid e steps i) undetected (says i own));
+    decided = λ undetected. work.finished.none_awaits i (subst (IsSaid e.circuit e.representatives steps i) undetected (says i own));
   }
 
   is_search : IsSearchOf e.circuit e.representatives (length (faults_of e.circuit)) e.settings.budget saids

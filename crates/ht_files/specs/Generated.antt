@@ -5,9 +5,11 @@ use Rattle.ht_collapse.specs.Classes.{AreClasses}
 use Rattle.ht_texts.specs.declared.said.Said.{Said}
 use Rattle.ht_texts.specs.Lines.{with_lf}
 use Rattle.ht_texts.specs.Reports.{report_text, report_sums, total_line}
-use Rattle.ht_valid.specs.ValidFiles.{Content, AreValid}
+use Rattle.ht_texts.specs.Verdicts.{said_at}
+use Rattle.ht_valid.specs.ValidFiles.{Content, AreValid, IsOwn}
 use Rattle.ht_valid.specs.TrueVerdicts.{AreDecided, HaveTrueVerdicts}
 use Rattle.ht_engine.specs.declared.step.Step.{Step}
+use Rattle.ht_engine.specs.EngineStands.{IsSaid}
 use Rattle.ht_engine.specs.Steps.{AreFinished, AreSteps, Settings, entries_of, first_vectors, vectors_of_steps}
 use Rattle.ht_files.specs.StepTexts.{proofs_of, tests_of}
 
@@ -50,4 +52,16 @@ pub record IsGenerated (c : Netlist) (settings : Settings) (tests report proofs 
   pub tests_are : tests ≡ tests_of steps
   pub report_is : report ≡ report_text c representatives (Some settings.budget) saids
   pub proofs_are : proofs ≡ proofs_of steps
+  pub total_is : total ≡ with_lf (total_line (report_sums representatives (Some settings.budget) saids))
+
+-- The total line of the report on a circuit for which the generator's steps were all made: what they say of each
+-- representative is counted.
+pub record IsTotalOf (c : Netlist) (settings : Settings) (total : List ℕ) : Type 0 where
+  pub representatives : List ℕ
+  pub steps : List Step
+  pub saids : List Said
+  pub classes : AreClasses c representatives
+  pub steps_are : AreSteps c representatives (first_vectors c settings) settings.budget steps
+  pub finished : AreFinished c representatives (first_vectors c settings) steps
+  pub said : (i : ℕ) → IsOwn c representatives i → IsSaid c representatives steps i (said_at saids i)
   pub total_is : total ≡ with_lf (total_line (report_sums representatives (Some settings.budget) saids))

@@ -11,7 +11,7 @@ ghost use Rattle.ht_engine.specs.Steps.{AreFinished, first_vectors};
 ghost use Rattle.ht_engine.specs.EngineStands.{EngineStandsFor};
 ghost use Rattle.ht_files.specs.Saids.{AreSaid, Says};
 ghost use Rattle.ht_files.specs.StepTexts.{proofs_of, tests_of};
-ghost use Rattle.ht_files.specs.Generated.{IsGenerated};
+ghost use Rattle.ht_files.specs.Generated.{IsGenerated, IsTotalOf};
 
 use crate::text_size::TextSize;
 use ht_collapse::Classes;
@@ -60,6 +60,32 @@ pub fn write_report(
     size.add(&body)?;
     size.add(&total)?;
     Ok(Report { body, total })
+}
+
+/// The total line of the report of a generator that is finished.
+///
+/// # Errors
+/// Out of memory.
+pub fn write_total_of(
+    alloc: Global,
+    circuit: &Circuit,
+    faults: &FaultList,
+    classes: &Classes,
+    engine: &Engine,
+) -> Result<Vec<u8>, AllocError>
+    requires circuit { engine.now.circuit ≡ circuit.now }
+    requires faults { faults.now ≡ faults_of circuit.now }
+    requires classes { AreClasses circuit.now classes.now }
+    requires representatives { engine.now.representatives ≡ classes.now }
+    ensures { (steps : List made.Step) → EngineStandsFor engine.now steps
+        → AreFinished circuit.now classes.now
+        (first_vectors circuit.now engine.now.settings) steps
+        → IfOk result (λ total. IsTotalOf circuit.now engine.now.settings total.items) }
+{
+    let saids = find_saids(alloc, faults, classes, engine)?;
+    let sums = Sums::of(classes, &saids, true);
+    let total = write_total(alloc, sums)?;
+    Ok(total)
 }
 
 // What is said of each fault.

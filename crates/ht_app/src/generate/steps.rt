@@ -1,8 +1,8 @@
 //! The steps of the engine, each written before the next.
-ghost use Rattle.std.specs.Prelude.{◌≡◌, ◌≤◌, ◌<◌, true, length, OnOk, OnErr, IfOk, IfErr};
+ghost use Rattle.std.specs.Prelude.{◌≡◌, ◌<◌, true, length, OnOk, OnErr, IfOk, IfErr};
 ghost use Rattle.ht_ports.specs.Desk.{DeskView, IsWritable};
 ghost use Rattle.ht_ports.specs.declared.ports.OutPort.TheVariants as out_port;
-ghost use Rattle.ht_engine.specs.EngineStands.{HasSameWork};
+ghost use Rattle.ht_engine.specs.EngineStands.{HasSameWork, remaining};
 ghost use Rattle.ht_files.specs.StepTexts.{step_text};
 ghost use Rattle.ht_app.specs.FileTexts.{Names, Texts, with_more};
 ghost use Rattle.ht_app.specs.Generating.{AfterTurn, CountsProofs, CountsStep, CountsTests, FillCause, HasAllSteps, HasAtMost, HasStepPart, HasSteps, HasTexts, StaysWritable, StopsEarly, with_step};
@@ -97,8 +97,7 @@ fn turn<D: Desk>(
     requires proofs { IsWritable (D.view desk.old) out_port.Proofs }
     ensures stays { StaysWritable (D.view desk.old) (D.view desk.new) }
     ensures work { HasSameWork engine.old engine.new }
-    ensures nears { IfOk result (λ more. more ≡ true → engine.old.place < engine.new.place) }
-    ensures within { engine.new.place ≤ length engine.new.representatives }
+    ensures nears { IfOk result (λ more. more ≡ true → remaining engine.new < remaining engine.old) }
     ensures wrote { (names : Names) (first : DeskView)
         → HasSteps names engine.old sizes.old first (D.view desk.old)
         → IfOk result (λ more. AfterTurn more names engine.new sizes.new first (D.view desk.new)) }

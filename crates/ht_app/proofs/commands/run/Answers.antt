@@ -8,7 +8,7 @@ use Rattle.ht_app.specs.Changed.{ChangedOnly, ports_at}
 use Rattle.ht_app.specs.Run.{SaysOnErr, check_of_names}
 use Rattle.ht_app.proofs.PortsLaws.{changed_by_line}
 use Rattle.ht_app.proofs.AskedLaws.{cause_of_job, job_done, usage_status, asked_status}
-use Rattle.ht_app.proofs.StatusLaws.{finished_not_refused, finished_not_malformed, finished_not_bad, refused_status, malformed_status, bad_status, denied_status, good_status, steady_status, faultless_before}
+use Rattle.ht_app.proofs.StatusLaws.{finished_not_refused, finished_not_malformed, finished_not_bad, refused_status, malformed_status, bad_status, denied_status, good_status, steady_status, faultless_before, output_status}
 use Rattle.ht_app.proofs.commands.run.Goals as goal
 
 -- ---- after a finished run
@@ -144,3 +144,8 @@ returns-in-Err-clause-steady g c = λ job is steady holds.
     let cause = cause_of_job (asked (words_of c.args.words.now)) job a m c.in-Err.error is c.in-Err.ensures.cause in
     subst (λ (s : ℕ). (s ≢ 4) × (s ≢ 5)) (sym c.status.ensures)
     (steady_status job a m c.in-Err.error cause steady holds)
+
+pub returns-in-Err-clause-demo : goal.returns-in-Err-clause-demo
+returns-in-Err-clause-demo g c = λ size seed is.
+    subst (λ (s : ℕ). (s ≡ 0) ⊎ (s ≡ 5) ⊎ (s ≡ 6)) (sym c.status.ensures)
+    (output_status c.in-Err.error (c.in-Err.ensures.demo size seed is))

@@ -8,15 +8,16 @@ use Rattle.ht_app.specs.Errors.{exit_status}
 use Rattle.ht_app.specs.Run.{HasCause}
 use Rattle.ht_app.specs.Steps.{status_after}
 use Rattle.ht_app.proofs.CauseLaws.{accepts_netlist, netlist_cause}
-use Rattle.ht_app.proofs.GenLaws.{done_changed, gen_done, left_cause, left_changed, left_files, refused_changed}
+use Rattle.ht_app.proofs.GenLaws.{done_changed, gen_done, left_cause, left_changed, left_files, options_of, refused_changed}
 use Rattle.ht_app.proofs.generate.generate.Goals as goal
 
 -- ---- the netlist is refused, or can't be read
 
 pub returns-in_err-circuit-clause-changed : goal.returns-in_err-circuit-clause-changed
 returns-in_err-circuit-clause-changed g c =
+    let options = options_of c.args.budget c.args.random c.args.seed in
     let names = file_names_of c.args.tests.now c.args.report.now c.args.proofs.now in
-    let changed = refused_changed c.args.netlist.now names c.args.budget c.in_err-circuit.field-0.0
+    let changed = refused_changed c.args.netlist.now names options c.in_err-circuit.field-0.0
     (g.D.Desk.view c.args.desk.now) (g.D.Desk.view c.read_netlist.new.desk) c.in_err-circuit.ensures.frame in
     search (rules, changed)
 
@@ -25,7 +26,8 @@ returns-in_err-circuit-clause-quiet g c = ap (λ f. f out_port.Err) c.in_err-cir
 
 pub returns-in_err-circuit-clause-cause : goal.returns-in_err-circuit-clause-cause
 returns-in_err-circuit-clause-cause g c =
-    let job = gen c.args.netlist.now c.args.tests.now c.args.report.now c.args.proofs.now c.args.budget in
+    let options = options_of c.args.budget c.args.random c.args.seed in
+    let job = gen c.args.netlist.now c.args.tests.now c.args.report.now c.args.proofs.now options in
     let cause = netlist_cause job c.args.netlist.now (g.D.Desk.view c.args.desk.now)
     (g.D.Desk.view c.read_netlist.new.desk) c.in_err-circuit.field-0.0 refl c.in_err-circuit.ensures.frame.written
     c.in_err-circuit.ensures.cause in
@@ -35,8 +37,9 @@ returns-in_err-circuit-clause-cause g c =
 
 pub returns-in_err-listed-clause-changed : goal.returns-in_err-listed-clause-changed
 returns-in_err-listed-clause-changed g c =
+    let options = options_of c.args.budget c.args.random c.args.seed in
     let names = file_names_of c.args.tests.now c.args.report.now c.args.proofs.now in
-    let changed = refused_changed c.args.netlist.now names c.args.budget NoMemory (g.D.Desk.view c.args.desk.now)
+    let changed = refused_changed c.args.netlist.now names options NoMemory (g.D.Desk.view c.args.desk.now)
     (g.D.Desk.view c.read_netlist.new.desk) c.in_ok-circuit.ensures.frame in
     search (rules, changed)
 
@@ -45,7 +48,8 @@ returns-in_err-listed-clause-quiet g c = ap (λ f. f out_port.Err) c.in_ok-circu
 
 pub returns-in_err-listed-clause-cause : goal.returns-in_err-listed-clause-cause
 returns-in_err-listed-clause-cause g c =
-    let job = gen c.args.netlist.now c.args.tests.now c.args.report.now c.args.proofs.now c.args.budget in
+    let options = options_of c.args.budget c.args.random c.args.seed in
+    let job = gen c.args.netlist.now c.args.tests.now c.args.report.now c.args.proofs.now options in
     let a = g.D.Desk.view c.args.desk.now in
     let m = g.D.Desk.view c.read_netlist.new.desk in
     let cause : HasCause job a m NoMemory = inl c.in_ok-circuit.ensures.frame.written in
@@ -55,12 +59,13 @@ returns-in_err-listed-clause-cause g c =
 
 pub returns-in_err-make_files-clause-changed : goal.returns-in_err-make_files-clause-changed
 returns-in_err-make_files-clause-changed g c =
+    let options = options_of c.args.budget c.args.random c.args.seed in
     let names = file_names_of c.args.tests.now c.args.report.now c.args.proofs.now in
-    let job = gen c.args.netlist.now c.args.tests.now c.args.report.now c.args.proofs.now c.args.budget in
+    let job = gen c.args.netlist.now c.args.tests.now c.args.report.now c.args.proofs.now options in
     let left = c.in_err-make_files.ensures in
     let a = g.D.Desk.view c.args.desk.now in
     let b = g.D.Desk.view c.make_files.new.desk in
-    let changed = left_changed c.args.netlist.now names c.args.budget c.in_err-make_files.field-0.0
+    let changed = left_changed c.args.netlist.now names options c.in_err-make_files.field-0.0
     c.in_ok-circuit.circuit a (g.D.Desk.view c.read_netlist.new.desk) b c.in_ok-circuit.ensures.frame left.stops
     left.cause in
     let status : status_after c.from_residual-in_err-make_files.result
@@ -73,6 +78,7 @@ returns-in_err-make_files-clause-quiet g c = c.in_err-make_files.ensures.stops.c
 
 pub returns-in_err-make_files-clause-cause : goal.returns-in_err-make_files-clause-cause
 returns-in_err-make_files-clause-cause g c =
+    let options = options_of c.args.budget c.args.random c.args.seed in
     let names = file_names_of c.args.tests.now c.args.report.now c.args.proofs.now in
     let circuit = c.in_ok-circuit.circuit in
     let read = c.in_ok-circuit.ensures in
@@ -81,8 +87,8 @@ returns-in_err-make_files-clause-cause g c =
     let a = g.D.Desk.view c.args.desk.now in
     let m = g.D.Desk.view c.read_netlist.new.desk in
     let b = g.D.Desk.view c.make_files.new.desk in
-    let leaves = left_files c.args.netlist.now names c.args.budget e circuit a m b read.frame read.circuit left.stops in
-    let cause = left_cause c.args.netlist.now names c.args.budget e a m b read.frame
+    let leaves = left_files c.args.netlist.now names options e circuit a m b read.frame read.circuit left.stops in
+    let cause = left_cause c.args.netlist.now names options e a m b read.frame
     (accepts_netlist c.args.netlist.now circuit a read.there read.circuit) left.cause leaves in
     search (rules, cause)
 
@@ -90,8 +96,9 @@ returns-in_err-make_files-clause-cause g c =
 
 pub returns-clause-changed : goal.returns-clause-changed
 returns-clause-changed g c =
+    let options = options_of c.args.budget c.args.random c.args.seed in
     let names = file_names_of c.args.tests.now c.args.report.now c.args.proofs.now in
-    done_changed c.args.netlist.now names c.args.budget (g.D.Desk.view c.args.desk.now)
+    done_changed c.args.netlist.now names options (g.D.Desk.view c.args.desk.now)
     (g.D.Desk.view c.read_netlist.new.desk) (g.D.Desk.view c.make_files.new.desk) c.in_ok-circuit.ensures.frame
     c.in_ok-make_files.ensures.wrote.has.changed
 
@@ -101,10 +108,11 @@ returns-clause-quiet g c = c.in_ok-make_files.ensures.wrote.has.changed.written 
 
 pub returns-clause-done : goal.returns-clause-done
 returns-clause-done g c =
+    let options = options_of c.args.budget c.args.random c.args.seed in
     let names = file_names_of c.args.tests.now c.args.report.now c.args.proofs.now in
     let circuit = c.in_ok-circuit.circuit in
     let read = c.in_ok-circuit.ensures in
     let a = g.D.Desk.view c.args.desk.now in
-    gen_done c.args.netlist.now names c.args.budget circuit a (g.D.Desk.view c.read_netlist.new.desk)
+    gen_done c.args.netlist.now names options circuit a (g.D.Desk.view c.read_netlist.new.desk)
     (g.D.Desk.view c.make_files.new.desk) read.frame
     (accepts_netlist c.args.netlist.now circuit a read.there read.circuit) read.circuit c.in_ok-make_files.ensures.wrote

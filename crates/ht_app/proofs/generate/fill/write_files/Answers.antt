@@ -1,6 +1,8 @@
-use Rattle.std.proofs.Common.{◌≤◌, ◌+◌, List, ℕ, ◌++◌, length, inl, inr, ◌∙◌, ap, subst, rules}
+use Rattle.std.specs.Prelude.{Result, Err, IfErr}
+use Rattle.std.proofs.Common.{◌≡◌, sym, ◌≤◌, ◌+◌, List, ℕ, ◌++◌, length, inl, inr, ◌∙◌, ap, subst, rules}
 use Rattle.ht_ports.specs.LineRule.{max_text_bytes}
 use Rattle.ht_files.specs.StepTexts.{proofs_so_far, tests_of}
+use Rattle.ht_app.specs.declared.run_error.RunError.{RunError}
 use Rattle.ht_app.specs.declared.run_error.RunError.TheVariants.{NoMemory}
 use Rattle.ht_app.specs.Generating.{HasAllSteps, HasTexts, StopsAtEnd, StopsFilling, end_text, whole_texts}
 use Rattle.ht_app.proofs.EndLaws.{cause_later}
@@ -78,7 +80,8 @@ returns-in_err-write_end-clause-stops g c = λ names first has.
     let stops : StopsFilling names c.in_err-write_end.field-0.0 old first b =
     stops_at_end names c.in_err-write_end.field-0.0 old new sizes body total first m b work all
     c.in_err-write_end.ensures.error made ends in
-    search (rules, stops)
+    let is : c.from_residual-in_err-write_end.result ≡ Err c.in_err-write_end.field-0.0 = search rules in
+    subst (λ (r : Result (Unit {0}) RunError). IfErr r (λ e. StopsFilling names e old first b)) (sym is) stops
 
 pub returns-clause-wrote : goal.returns-clause-wrote
 returns-clause-wrote g c = λ names first has.
@@ -106,4 +109,4 @@ returns-clause-wrote g c = λ names first has.
     (subst (λ (l : List ℕ). HasTexts names (whole_texts (tests_of steps) proofs l c.deref-2.result.now) first b)
     c.deref.ensures.value
     (c.in_ok-write_end.ensures.wrote names (tests_of steps) (proofs_so_far steps) first all.has.has)) in
-    all_generated names old.circuit old.budget steps body total first b whole made
+    all_generated names old.circuit old.settings steps body total first b whole made

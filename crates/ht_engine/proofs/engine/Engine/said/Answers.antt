@@ -22,5 +22,5 @@ returns-in-None-clause-said c = λ steps s.
     let count = count_of e now faults grader words c.self.invariant c.self.view_is refl i c.requires in
     let kind = kept_kind e now faults grader words c.self.invariant c.self.view_is refl i c.index.result.now c.requires
     c.index.ensures in
-    subst (IsSaid now steps i) (sym c.said_by.ensures)
+    subst (IsSaid now.circuit now.representatives steps i) (sym c.said_by.ensures)
     (said_is now steps s i c.requires count first c.index.result.now kind)

@@ -1,0 +1,134 @@
+//! The command `demo`.
+ghost use Rattle.std.specs.Prelude.{◌≡◌, ◌≤◌, [], IfOk, IfErr, OnOk};
+ghost use Rattle.ht_ports.specs.declared.ports.OutPort.TheVariants as out_port;
+ghost use Rattle.ht_faults.specs.Sites.{faults_of};
+ghost use Rattle.ht_collapse.specs.Classes.{AreClasses};
+ghost use Rattle.ht_demo.specs.Demo.{demo_netlist};
+ghost use Rattle.ht_engine.specs.EngineStands.{EngineStandsFor, HasSameWork, remaining};
+ghost use Rattle.ht_files.specs.Generated.{IsTotalOf};
+ghost use Rattle.ht_asked.specs.Asked as asked;
+ghost use Rattle.ht_asked.specs.declared.limits.TheConstants.{MAX_SIZE, MIN_SIZE};
+ghost use Rattle.ht_app.specs.Changed.{ChangedOnly, job_ports};
+ghost use Rattle.ht_app.specs.Demo.{HasMadeAll, IsDemoHead, demo_settings};
+ghost use Rattle.ht_app.specs.Done.{IsDone};
+ghost use Rattle.ht_app.specs.Errors.{IsOutputError};
+ghost use Rattle.ht_app.specs.Run.{HasCause};
+ghost use Rattle.ht_app.specs.Steps.{status_after};
+
+use crate::generate::{Listed, list_faults};
+use crate::output::say;
+use crate::run_error::RunError;
+use ht_bench::read;
+use ht_demo::netlist_text;
+use ht_engine::{Engine, Step};
+use ht_files::write_total_of;
+use ht_net::Circuit;
+use ht_ports::Desk;
+use ht_texts::write_head;
+use std::alloc::{AllocError, Global};
+
+/// The budget of each search.
+pub const DEMO_BUDGET: u64 = 10;
+
+/// How many random vectors come first.
+pub const DEMO_RANDOM: u32 = 64;
+
+// The circuit of the netlist, whose text is always accepted: an error is out of memory.
+fn read_circuit(alloc: Global, size: u32, seed: u64) -> Result<Circuit, AllocError>
+    requires { (MIN_SIZE ≤ size) × (size ≤ MAX_SIZE) }
+    ensures { IfOk result (λ circuit. circuit ≡ demo_netlist size seed) }
+{
+    let text = netlist_text(alloc, size, seed)?;
+    match read(alloc, &text) {
+        Ok(circuit) => Ok(circuit),
+        Err(_) => Err(AllocError),
+    }
+}
+
+// The circuit with its faults, and the head line.
+#[derive(Drop)]
+struct Prepared {
+    circuit: Circuit,
+    listed: Listed,
+    head: Vec<u8>,
+}
+
+// All that comes before the work.
+fn prepare(alloc: Global, size: u32, seed: u64) -> Result<Prepared, AllocError>
+    requires { (MIN_SIZE ≤ size) × (size ≤ MAX_SIZE) }
+    ensures circuit { IfOk result (λ prepared. prepared.circuit ≡ demo_netlist size seed) }
+    ensures faults { IfOk result (λ prepared. prepared.listed.faults
+        ≡ faults_of prepared.circuit) }
+    ensures classes { IfOk result (λ prepared. AreClasses prepared.circuit
+        prepared.listed.classes) }
+    ensures head { IfOk result (λ prepared. IsDemoHead size seed prepared.head.items) }
+{
+    let circuit = read_circuit(alloc, size, seed)?;
+    let listed = list_faults(alloc, &circuit)?;
+    let head = write_head(alloc, &circuit, &listed.classes, Some(DEMO_BUDGET))?;
+    Ok(Prepared {
+        circuit,
+        listed,
+        head,
+    })
+}
+
+// Makes all steps of an engine, and keeps none.
+fn make_steps(engine: &mut Engine) -> Result<(), AllocError>
+    requires { EngineStandsFor engine.old [] }
+    ensures work { HasSameWork engine.old engine.new }
+    ensures made { OnOk result (HasMadeAll engine.new) }
+{
+    'steps: loop {
+        let step = engine.next()?;
+        if let Step::Finished = step {
+            return Ok(());
+        }
+    }
+}
+
+// The total line of the report on the circuit.
+fn find_total(alloc: Global, prepared: &Prepared, seed: u64) -> Result<Vec<u8>, AllocError>
+    requires faults { prepared.now.listed.faults ≡ faults_of prepared.now.circuit }
+    requires classes { AreClasses prepared.now.circuit prepared.now.listed.classes }
+    ensures { IfOk result (λ total. IsTotalOf prepared.now.circuit (demo_settings seed) total.items) }
+{
+    let faults = &prepared.listed.faults;
+    let classes = &prepared.listed.classes;
+    let mut engine = Engine::new(
+        alloc,
+        &prepared.circuit,
+        faults,
+        classes,
+        DEMO_BUDGET,
+        DEMO_RANDOM,
+        seed,
+    )?;
+    make_steps(&mut engine)?;
+    let total = write_total_of(alloc, &prepared.circuit, faults, classes, &engine)?;
+    Ok(total)
+}
+
+/// Runs `demo`: makes the netlist of a size and a seed, says the head line of a report on it, generates tests, and says
+/// the total line. No file is opened or created.
+///
+/// # Errors
+/// `NoMemory`, or `WriteFault`.
+pub fn demo<D: Desk>(alloc: Global, size: u32, seed: u64, desk: &mut D) -> Result<(), RunError>
+    requires { (MIN_SIZE ≤ size) × (size ≤ MAX_SIZE) }
+    ensures changed { ChangedOnly (job_ports (asked.demo size seed) (status_after result))
+        (D.view desk.old) (D.view desk.new) }
+    ensures quiet { (D.view desk.new).written out_port.Err
+        ≡ (D.view desk.old).written out_port.Err }
+    ensures done { OnOk result
+        (IsDone (asked.demo size seed) (D.view desk.old) (D.view desk.new)) }
+    ensures cause { IfErr result
+        (HasCause (asked.demo size seed) (D.view desk.old) (D.view desk.new)) }
+    ensures error { IfErr result IsOutputError }
+{
+    let prepared = prepare(alloc, size, seed)?;
+    say(desk, &prepared.head)?;
+    let total = find_total(alloc, &prepared, seed)?;
+    say(desk, &total)?;
+    Ok(())
+}
