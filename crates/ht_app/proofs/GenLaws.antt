@@ -32,7 +32,6 @@ use Rattle.ht_app.proofs.EndLaws.{fault_later}
 
 abbrev pub options_of : ℕ → ℕ → ℕ → GenOptions
 options_of budget random seed = record { budget = budget; random = random; seed = seed }
-asked_budget words (check netlist tests report proofs) is = tt
 
 -- ---- what was left before the netlist was read
 
@@ -192,8 +191,8 @@ module _ (netlist : List ℕ) (names : Names) (options : GenOptions) where
 
   pub refused_changed : (e : RunError) (a b : DeskView) → InCall Netlist a b
       → ChangedOnly (job_ports job (exit_status e)) a b
-  refused_changed e a b read = ends_reading job e a b (changed_by_reading (reading job) Netlist a b refl read)
-      (λ three. read)
+  refused_changed e a b read =
+      ends_reading job e a b refl (changed_by_reading (reading job) Netlist a b refl read) (λ three. read)
 
   pub done_changed : (a m b : DeskView) → InCall Netlist a m → ChangedOnly (filling names) m b
       → ChangedOnly (job_ports job 0) a b

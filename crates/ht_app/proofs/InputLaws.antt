@@ -7,7 +7,7 @@ use Rattle.ht_net.specs.Netlist as net
 use Rattle.ht_bench.specs.declared.error.BenchError.{BenchError}
 use Rattle.ht_texts.specs.Tests.{IsTestText, IsMalformedTest}
 use Rattle.ht_texts.proofs.TestLaws.{never_both}
-use Rattle.ht_asked.specs.Asked.{Asked, sim, gen, check, norm}
+use Rattle.ht_asked.specs.Asked.{Asked, sim, gen, check, norm, demo}
 use Rattle.ht_app.specs.Inputs.{IsInput, IsGoodNetlist, AcceptsNetlist, AcceptsTests, AcceptsInputs, IsBadNetlist, AreBadTests, AreGoodInputs}
 use Rattle.ht_app.specs.Jobs.{input_name}
 use Rattle.ht_app.specs.Run.{IsTooLongNetlist, IsRefused, RefusesNetlist, RefusesTests}
@@ -103,7 +103,7 @@ good_netlist (gen netlist tests report proofs options) a read reads is = record 
   circuit = is.circuit;
   good = is.good;
 }
-good_netlist (check netlist tests report proofs) a are = record {
+good_netlist (check netlist tests report proofs) a read reads are = record {
   name = netlist;
   reads = refl;
   text = are.texts.netlist;
@@ -111,7 +111,8 @@ good_netlist (check netlist tests report proofs) a are = record {
   circuit = are.circuit;
   good = are.good;
 }
-good_netlist (norm netlist out) a is = record {
+good_netlist (demo size seed) a read reads is = let e : Some read ≡ None = sym reads in cc
+good_netlist (norm netlist out) a read reads is = record {
   name = netlist;
   reads = refl;
   text = is.text;
@@ -131,3 +132,4 @@ not_bad_tests (sim netlist tests report) a line are h =
 not_bad_tests (gen netlist tests report proofs options) a line is h = let e = h.job_is in cc
 not_bad_tests (check netlist tests report proofs) a line is h = let e = h.job_is in cc
 not_bad_tests (norm netlist out) a line is h = let e = h.job_is in cc
+not_bad_tests (demo size seed) a line is h = let e = h.job_is in cc

@@ -6,7 +6,7 @@ use Rattle.ht_ports.specs.declared.ports.InPort.{InPort}
 use Rattle.ht_ports.specs.declared.ports.InPort.TheVariants as in_port
 use Rattle.ht_ports.specs.declared.ports.OutPort.{OutPort}
 use Rattle.ht_ports.specs.declared.ports.OutPort.TheVariants.{Tests, Report, Proofs, Out, Err}
-use Rattle.ht_asked.specs.Asked.{Asked, sim, gen, check, norm}
+use Rattle.ht_asked.specs.Asked.{Asked, sim, gen, check, norm, demo}
 use Rattle.ht_app.specs.declared.run_error.RunError.{RunError}
 use Rattle.ht_app.specs.declared.run_error.RunError.TheVariants.{Denied, Usage, TooLong, Refused, ReadFault, WriteFault, NoMemory, BadTests}
 use Rattle.ht_app.specs.Errors.{exit_status}
@@ -34,31 +34,27 @@ pub reading_within : (job : Asked) (status : ℕ) → (status == 3) ≡ false �
 reading_within job status ne =
     record { reads = reads_within job status ne; creates = λ p. inl refl; writes = λ p off. refl }
 
--- each job reads a netlist
-reads_netlist : (job : Asked) → is_some (input_name job in_port.Netlist) ≡ true
-reads_netlist (sim netlist tests report) = refl
-reads_netlist (gen netlist tests report proofs options) = refl
-reads_netlist (check netlist tests report proofs) = refl
-reads_netlist (norm netlist out) = refl
-
 -- the other files are read only after a good netlist
-not_read : (job : Asked) (a b : DeskView) → InCall in_port.Netlist a b → ChangedOnly (job_ports job 3) a b
-not_read job a b x = changed_by_reading (job_ports job 3) in_port.Netlist a b (reads_netlist job) x
+not_read : (job : Asked) (a b : DeskView) → is_some (input_name job in_port.Netlist) ≡ true → InCall in_port.Netlist a b
+    → ChangedOnly (job_ports job 3) a b
+not_read job a b reads x = changed_by_reading (job_ports job 3) in_port.Netlist a b reads x
 
-pub ends_reading : (job : Asked) (e : RunError) (a b : DeskView) → ChangedOnly (reading job) a b
-    → (exit_status e ≡ 3 → InCall in_port.Netlist a b) → ChangedOnly (job_ports job (exit_status e)) a b
-ends_reading job (Denied trouble) a b x first =
+-- a job that reads a netlist
+pub ends_reading : (job : Asked) (e : RunError) (a b : DeskView) → is_some (input_name job in_port.Netlist) ≡ true
+    → ChangedOnly (reading job) a b → (exit_status e ≡ 3 → InCall in_port.Netlist a b)
+    → ChangedOnly (job_ports job (exit_status e)) a b
+ends_reading job (Denied trouble) a b reads x first =
     changed_within (reading job) (job_ports job 1) a b (reading_within job 1 refl) x
-ends_reading job Usage a b x first = changed_within (reading job) (job_ports job 2) a b (reading_within job 2 refl) x
-ends_reading job TooLong a b x first = not_read job a b (first refl)
-ends_reading job (Refused error) a b x first = not_read job a b (first refl)
-ends_reading job ReadFault a b x first = changed_within (reading job) (job_ports job 4) a b (reading_within job 4 refl)
+ends_reading job Usage a b reads x first = changed_within (reading job) (job_ports job 2) a b (reading_within job 2 refl) x
+ends_reading job TooLong a b reads x first = not_read job a b reads (first refl)
+ends_reading job (Refused error) a b reads x first = not_read job a b reads (first refl)
+ends_reading job ReadFault a b reads x first = changed_within (reading job) (job_ports job 4) a b (reading_within job 4 refl)
     x
-ends_reading job WriteFault a b x first =
+ends_reading job WriteFault a b reads x first =
     changed_within (reading job) (job_ports job 5) a b (reading_within job 5 refl) x
-ends_reading job NoMemory a b x first = changed_within (reading job) (job_ports job 6) a b (reading_within job 6 refl)
+ends_reading job NoMemory a b reads x first = changed_within (reading job) (job_ports job 6) a b (reading_within job 6 refl)
     x
-ends_reading job (BadTests line) a b x first =
+ends_reading job (BadTests line) a b reads x first =
     changed_within (reading job) (job_ports job 7) a b (reading_within job 7 refl) x
 
 -- ---- writing

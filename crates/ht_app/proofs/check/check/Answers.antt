@@ -13,7 +13,7 @@ pub returns-in_err-judge-clause-changed : goal.returns-in_err-judge-clause-chang
 returns-in_err-judge-clause-changed g c =
     let names = check_files_of c.args.netlist.now c.args.tests.now c.args.report.now c.args.proofs.now in
     let changed = ends_reading (check_of_names names) c.in_err-judge.field-0.0 (g.D.Desk.view c.args.desk.now)
-    (g.D.Desk.view c.judge.new.desk) c.in_err-judge.ensures.reads c.in_err-judge.ensures.first in
+    (g.D.Desk.view c.judge.new.desk) refl c.in_err-judge.ensures.reads c.in_err-judge.ensures.first in
     search (rules, changed)
 
 pub returns-in_err-judge-clause-quiet : goal.returns-in_err-judge-clause-quiet

@@ -17,7 +17,7 @@ returns-in_err-texts-clause-changed g c =
     let job = sim c.args.netlist.now c.args.tests.now c.args.report.now in
     let failed = c.in_err-texts.ensures in
     let changed = ends_reading job c.in_err-texts.field-0.0 (g.D.Desk.view c.args.desk.now)
-    (g.D.Desk.view c.simulate.new.desk) (failed.reads c.args.report.now) failed.first in
+    (g.D.Desk.view c.simulate.new.desk) refl (failed.reads c.args.report.now) failed.first in
     search (rules, changed)
 
 pub returns-in_err-texts-clause-quiet : goal.returns-in_err-texts-clause-quiet
