@@ -1,6 +1,7 @@
 //! Tests of `run`: the worked examples, over desks in memory, byte for byte.
 
 pub mod cases;
+mod demo;
 mod faults;
 mod generated;
 mod generated_errors;
