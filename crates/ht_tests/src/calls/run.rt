@@ -2,6 +2,7 @@
 
 pub mod cases;
 mod checked;
+mod demo;
 mod faults;
 mod generated;
 mod generated_errors;

@@ -38,6 +38,20 @@ fn is_job(job: &Job, names: &[&str]) -> bool {
                 && names[1] == netlist.as_str()
                 && names[2] == out.as_str()
         }
+        Job::Check {
+            netlist,
+            tests,
+            report,
+            proofs,
+        } => {
+            names.len() == 5
+                && names[0] == "check"
+                && names[1] == netlist.as_str()
+                && names[2] == tests.as_str()
+                && names[3] == report.as_str()
+                && names[4] == proofs.as_str()
+        }
+        Job::Demo { .. } => false,
     }
 }
 
@@ -70,6 +84,14 @@ const ROWS: &[(&[&str], &[&str])] = &[
         &["gen", "--", "n", "-t", "--r", "--budget"],
         &["gen", "n", "-t", "--r", "--budget"],
     ),
+    (
+        &["gen", "n", "--random", "5", "t", "r", "p", "--seed=5"],
+        &["gen", "n", "t", "r", "p"],
+    ),
+    (
+        &["check", "n", "t", "r", "p"],
+        &["check", "n", "t", "r", "p"],
+    ),
     (&["norm", "n", "o"], &["norm", "n", "o"]),
     (&["norm", "--", "-n", "-o"], &["norm", "-n", "-o"]),
     (&[], &[]),
@@ -90,8 +112,10 @@ const ROWS: &[(&[&str], &[&str])] = &[
     (&["sim", "n", "t", "r", "--budget", "5"], &[]),
     (&["gen", "n", "t", "r"], &[]),
     (&["gen", "n", "t", "r", "p", "x"], &[]),
-    (&["gen", "n", "t", "r", "p", "--random", "5"], &[]),
-    (&["gen", "n", "t", "r", "p", "--seed=5"], &[]),
+    (&["gen", "n", "t", "r", "p", "--random", "x"], &[]),
+    (&["check", "n", "t", "r"], &[]),
+    (&["demo", "16"], &[]),
+    (&["demo", "0", "1"], &[]),
     (&["gen", "n", "t", "r", "p", "--help"], &[]),
     (&["norm", "n"], &[]),
     (&["norm", "n", "o", "x"], &[]),

@@ -207,6 +207,27 @@ const EXAMPLES: &[Example<'static>] = &[
             end\n",
         out: b"total 4 detected 4 untestable 0 aborted 0\n",
     },
+    // The random vector detects the faults 2 and 3, so no search is made for them.
+    Example {
+        words: &["gen", "n", "t", "r", "p", "--random", "1", "--seed=2"],
+        netlist: WIRES,
+        tests: b"01\n10\n",
+        report: b"circuit inputs 2 outputs 2 flip-flops 0 gates 0 faults 4 classes 4 budget 1000\n\
+            1 a s-a-0 detected 2 a\n2 a s-a-1 detected 1 a\n3 b s-a-0 detected 1 b\n\
+            4 b s-a-1 detected 2 b\ntotal 4 detected 4 untestable 0 aborted 0\n",
+        proofs: b"proofs 1\nend\n",
+        out: b"total 4 detected 4 untestable 0 aborted 0\n",
+    },
+    // A vector without inputs is an empty line.
+    Example {
+        words: &["gen", "n", "t", "r", "p", "--random", "3"],
+        netlist: b"",
+        tests: b"\n\n\n",
+        report: b"circuit inputs 0 outputs 0 flip-flops 0 gates 0 faults 0 classes 0 budget 1000\n\
+            total 0 detected 0 untestable 0 aborted 0\n",
+        proofs: b"proofs 1\nend\n",
+        out: b"total 0 detected 0 untestable 0 aborted 0\n",
+    },
     // With so small a budget the attempts forward find what the sweep can't.
     Example {
         words: &["gen", "n", "t", "--budget", "3", "r", "p"],

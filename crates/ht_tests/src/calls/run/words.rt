@@ -5,7 +5,7 @@ use ht_samples::SHIFT_REGISTER;
 use std::test::Fail;
 
 const USAGE: &[u8] =
-    b"usage: sim NETLIST TESTS REPORT, gen NETLIST TESTS REPORT PROOFS [--budget N], check NETLIST TESTS REPORT PROOFS, norm NETLIST OUT\n";
+    b"usage: sim NETLIST TESTS REPORT, gen NETLIST TESTS REPORT PROOFS [--budget N] [--random N] [--seed S], check NETLIST TESTS REPORT PROOFS, norm NETLIST OUT, demo SIZE SEED\n";
 
 const WITHOUT_FORM: &[&[&str]] = &[
     &[],
@@ -15,6 +15,8 @@ const WITHOUT_FORM: &[&[&str]] = &[
     &["check", "n", "t", "r"],
     &["gen", "n", "t", "r", "p", "--budget", "0"],
     &["gen", "n", "t", "r", "p", "--budget", "100001"],
+    &["gen", "n", "t", "r", "p", "--random", "100001"],
+    &["demo", "20001", "1"],
 ];
 
 #[test]
