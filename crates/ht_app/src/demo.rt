@@ -15,7 +15,7 @@ ghost use Rattle.ht_app.specs.Errors.{IsOutputError};
 ghost use Rattle.ht_app.specs.Run.{HasCause};
 ghost use Rattle.ht_app.specs.Steps.{status_after};
 
-use crate::generate::{Listed, list_faults};
+use crate::listed::{Listed, list_faults};
 use crate::output::say;
 use crate::run_error::RunError;
 use ht_bench::read;
