@@ -91,12 +91,12 @@ pub cause_by_basis : (v : ReportJudgeView) (basis : ReportBasis) (before : List 
     (e : JudgeError) → v.circuit ≡ basis.circuit → v.representatives ≡ basis.representatives
     → ReportLineHasCause v basis.list before line e → DeniesReport basis before line e
 cause_by_basis v basis before line (judge.Denied (Report number)) circuit representatives h = (
-      h.0,
-      subst (λ c. (¬ IsReportFront c basis.representatives (before ++ line ∷ []))
-          ⊎ ContradictsTests c basis.representatives basis.list (before ++ line ∷ [])) circuit
-          (subst (λ r. (¬ IsReportFront v.circuit r (before ++ line ∷ []))
-          ⊎ ContradictsTests v.circuit r basis.list (before ++ line ∷ [])) representatives h.1),
-    )
+  h.0,
+  subst (λ c. (¬ IsReportFront c basis.representatives (before ++ line ∷ []))
+      ⊎ ContradictsTests c basis.representatives basis.list (before ++ line ∷ [])) circuit
+      (subst (λ r. (¬ IsReportFront v.circuit r (before ++ line ∷ []))
+      ⊎ ContradictsTests v.circuit r basis.list (before ++ line ∷ [])) representatives h.1),
+)
 cause_by_basis v basis before line (judge.Denied (Tests number)) circuit representatives h = absurd h
 cause_by_basis v basis before line (judge.Denied (Proofs number)) circuit representatives h = absurd h
 cause_by_basis v basis before line (judge.Denied (Fault number)) circuit representatives h = absurd h
