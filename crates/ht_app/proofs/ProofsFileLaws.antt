@@ -204,7 +204,8 @@ module _ (basis : ProofBasis) (text : List ℕ) where
         | inr late ↦ inr (inr (subst (λ n. IsTooLong text n) stops.line_is late))
       ])
 
-  pub stops_in_proofs : (e : RunError) → StopsIn (IsFineProofLine basis) (DeniesProofs basis) Proofs MAX_LINE_BYTES text e
+  pub stops_in_proofs : (e : RunError)
+      → StopsIn (IsFineProofLine basis) (DeniesProofs basis) Proofs MAX_LINE_BYTES text e
       → IfDenied (IsProofFileTrouble basis text) e
   stops_in_proofs (Denied (Proofs number)) (inl stops) =
       let inside = length-take-le stops.count lines (omega (arith, stops.there)) in

@@ -48,7 +48,8 @@ last_agrees c r list at before_report budget saids fault said same kept agree sa
 last_agrees c r list at (after_report b s) budget saids fault said same kept agree says = let other = says in cc
 last_agrees c r list at (in_report b []) budget saids fault said same kept agree says = let other = says in cc
 last_agrees c r list before_report (in_report b (s ∷ ss)) budget saids fault said same kept agree says = absurd same
-last_agrees c r list (after_report d t) (in_report b (s ∷ ss)) budget saids fault said same kept agree says = absurd same
+last_agrees c r list (after_report d t) (in_report b (s ∷ ss)) budget saids fault said same kept agree says =
+    absurd same
 last_agrees c r list (in_report d t) (in_report b (s ∷ ss)) budget saids fault said same kept agree says =
     let n = length ss in
     let is = item_is (is_representative r n) n fault (said_at (s ∷ ss) n) said says in

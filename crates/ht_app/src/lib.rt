@@ -1,8 +1,9 @@
 //! The commands, over a desk.
 //!
 //! `run` is the top call: it takes the words of the command line and a desk, does the work, and answers the status. A
-//! module has one step of it: the top call (`commands`), `sim`, `generate` (the command `gen`), `check`, `norm`, the inputs
-//! (`netlist`, `vectors_file`, and by `judged_file` `report_file` and `proofs_file`), the faults (`listed`), what is written (`output`), why a run ends without its work (`run_error`) and what it
+//! module has one step of it: the top call (`commands`), the commands `sim`, `generate` (the command `gen`), `check` and
+//! `norm`, the inputs (`netlist`, `vectors_file`, `report_file`, `proofs_file`; the last two by `judged_file`), the faults
+//! and their classes (`listed`), what is written (`output`), why a run ends without its work (`run_error`) and what it
 //! says of that on Err (`err_line`).
 //!
 //! `specs/Run.antt` says why a run ends without its work, `specs/Done.antt` what a finished one leaves,
