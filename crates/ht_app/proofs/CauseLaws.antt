@@ -92,7 +92,11 @@ tests_cause netlist tests report c a m b (BadTests line) p same known good there
   job_is = refl;
   netlist = accepts_netlist netlist c a there good;
   there = may_hold_before Netlist tests a m p h.there;
-  cause = λ n t inputs. (c, good n inputs.netlist_is, h.cause t (input_later Netlist Tests tests t a m (λ e. cc) p inputs.tests_is));
+  cause = λ n t inputs. (
+    c,
+    good n inputs.netlist_is,
+    h.cause t (input_later Netlist Tests tests t a m (λ e. cc) p inputs.tests_is),
+  );
 }
 
 -- ---- writing

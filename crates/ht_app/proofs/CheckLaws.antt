@@ -1,6 +1,6 @@
 -- What `check` has read, and why it stops there.
 use Rattle.std.proofs.Common.{◌≡◌, ◌≢◌, inl, ℕ, List, [], Bool, true, false, IsTrue, take, refl, sym, ◌∙◌, ap, subst, arith}
-use Rattle.std.specs.Prelude.{IsSome, Option, Some, None, ◌==◌}
+use Rattle.std.specs.Prelude.{IsSome, Some, None, ◌==◌}
 use Rattle.std.specs.Io.KnownBytes.{append_known}
 use Rattle.ht_ports.specs.Causes.{Rose}
 use Rattle.ht_ports.specs.Desk.{AddedPart, DeskView, InCall, Holds, Writes}
@@ -395,8 +395,13 @@ module _ (names : CheckFiles) (c : net.Netlist) (representatives : List ℕ) whe
     proofs_stop b TooLong p first cause = absurd cause
     proofs_stop b (Refused error) p first cause = absurd cause
     proofs_stop b ReadFault p first cause = record {
-      rose = omega (arith, h.tests.netlist.frame.after.in_faults, h.tests.frame.after.in_faults,
-          h.frame.after.in_faults, cause.rose);
+      rose = omega (
+        arith,
+        h.tests.netlist.frame.after.in_faults,
+        h.tests.frame.after.in_faults,
+        h.frame.after.in_faults,
+        cause.rose,
+      );
       lacks = λ steady. record {
         port = in_port.Proofs;
         name = names.proofs;

@@ -11,7 +11,6 @@ use Rattle.ht_net.specs.Netlist as net
 use Rattle.ht_files.proofs.PlainNameLaws.{plain_names}
 use Rattle.clap.specs.Walk.{Text}
 use Rattle.ht_asked.specs.Asked.{Asked, asked, sim, gen, check, norm, GenOptions}
-use Rattle.ht_asked.proofs.BudgetLaws.{budget_is_in_range}
 use Rattle.ht_app.specs.declared.run_error.RunError.{RunError}
 use Rattle.ht_app.specs.declared.run_error.RunError.TheVariants.{Denied, Usage, TooLong, Refused, ReadFault, WriteFault, NoMemory, BadTests}
 use Rattle.ht_app.specs.FileTexts.{Names}

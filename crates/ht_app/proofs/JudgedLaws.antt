@@ -1,5 +1,5 @@
 -- The lines of a file that a judge took so far.
-use Rattle.std.proofs.Common.{◌≡◌, inl, inr, ℕ, ◌+◌, ◌-◌, ◌<◌, ◌≤◌, List, [], ◌∷◌, ◌++◌, length, take, get_or, Some, Option, refl, sym, ◌∙◌, ap, subst, arith}
+use Rattle.std.proofs.Common.{◌≡◌, inl, inr, ℕ, ◌+◌, ◌-◌, ◌<◌, ◌≤◌, List, [], ◌∷◌, ◌++◌, length, take, get_or, Some, Option, sym, ◌∙◌, ap, subst, arith}
 use Rattle.std.specs.Prelude.{Result, Ok, Err, IfErr, IfOk, OnOk}
 use Rattle.std.specs.Prelude.{slice_index}
 use Rattle.std.proofs.lemmas.Bool.{cases_eq, cases_lt}
@@ -20,7 +20,7 @@ use Rattle.ht_app.specs.declared.run_error.RunError.{RunError}
 use Rattle.ht_app.specs.declared.run_error.RunError.TheVariants.{Denied, Usage, TooLong, Refused, ReadFault, WriteFault, NoMemory, BadTests}
 use Rattle.ht_app.specs.Inputs.{IsInput}
 use Rattle.ht_app.specs.Errors.{judged_error_of}
-use Rattle.ht_app.specs.Judging.{AreFine, FileCause, IsReadAs, StandsForFile, StopsAtLine, StopsAtLong, StopsIn}
+use Rattle.ht_app.specs.Judging.{AreFine, FileCause, StandsForFile, StopsAtLine, StopsAtLong, StopsIn}
 use Rattle.ht_app.proofs.LineSoFarLaws.{IsNextLine, LinesSoFar, lines_end, lines_next, lines_start, next_is_long, next_line_is, not_long_before}
 
 -- ---- what an answer says

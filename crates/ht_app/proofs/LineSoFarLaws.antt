@@ -1,5 +1,5 @@
 -- The lines of a text that were read so far, and the next one.
-use Rattle.std.proofs.Common.{◌≡◌, ◌⊎◌, inl, inr, ℕ, zero, suc, ◌+◌, ◌-◌, ◌<◌, ◌≤◌, List, [], ◌∷◌, ◌++◌, length, take, get_or, Some, None, Option, append_assoc, append-nil, refl, sym, ◌∙◌, ap, subst, arith}
+use Rattle.std.proofs.Common.{◌≡◌, ◌⊎◌, inl, inr, ℕ, ◌+◌, ◌-◌, ◌<◌, ◌≤◌, List, [], ◌∷◌, ◌++◌, length, take, get_or, Some, None, Option, append_assoc, append-nil, refl, sym, ◌∙◌, ap, arith}
 use Rattle.std.proofs.lemmas.List.{length-append}
 use Rattle.std.proofs.Math.Seq.{take-append-add, take-append_seam, get_or-append_seam}
 use Rattle.std.specs.Io.KnownBytes.{IsAtEnd}
@@ -60,9 +60,9 @@ pub lines_end : (text : List ℕ) (passed : ℕ) (lines : List (List ℕ)) (rest
     → LinesSoFar text passed lines rest → rest ≡ [] → passed ≤ max_text_bytes
     → (lines_of text ≡ lines) × (length text ≤ max_text_bytes)
 lines_end text passed lines rest so end fits = (
-      so.are ∙ ap (λ l. lines ++ lines_of l) end ∙ append-nil lines,
-      omega (arith, ap length so.whole, length-append so.front rest, so.size, ap length end, fits),
-    )
+  so.are ∙ ap (λ l. lines ++ lines_of l) end ∙ append-nil lines,
+  omega (arith, ap length so.whole, length-append so.front rest, so.size, ap length end, fits),
+)
 
 -- ---- a text that is too long
 

@@ -11,7 +11,7 @@ use Rattle.ht_app.specs.declared.run_error.RunError.{RunError}
 use Rattle.ht_app.specs.declared.run_error.RunError.TheVariants.{Denied, Usage, TooLong, Refused, ReadFault, WriteFault, NoMemory, BadTests}
 use Rattle.ht_app.specs.Errors.{exit_status}
 use Rattle.ht_app.specs.Jobs.{input_name, output_name}
-use Rattle.ht_app.specs.Changed.{ChangedOnly, job_ports, ports_at, may_create, says_on_out}
+use Rattle.ht_app.specs.Changed.{ChangedOnly, job_ports, ports_at, may_create, says_on_out, says_early}
 use Rattle.ht_app.specs.Steps.{reading, writing}
 use Rattle.ht_app.proofs.ChangedLaws.{IsWithin, changed_within, changed_trans, changed_by_reading, changed_by_writing}
 

@@ -1,5 +1,5 @@
 -- The first trouble of proofs that are read line by line.
-use Rattle.std.proofs.Common.{◌≡◌, ◌⊎◌, inl, inr, ℕ, suc, ◌+◌, ◌-◌, ◌<◌, ◌≤◌, List, [], ◌∷◌, ◌++◌, length, map, take, get_or, Some, sym, ◌∙◌, ap, subst, arith}
+use Rattle.std.proofs.Common.{◌≡◌, inl, inr, ℕ, suc, ◌+◌, ◌-◌, ◌<◌, ◌≤◌, List, [], ◌∷◌, ◌++◌, length, map, take, get_or, sym, ◌∙◌, ap, subst, arith}
 use Rattle.std.specs.List.{All}
 use Rattle.std.proofs.lemmas.List.{length-append, length-take-le}
 use Rattle.std.proofs.Math.Seq.{take-suc, get_or-append_seam}
@@ -7,7 +7,7 @@ use Rattle.ht_ports.specs.Desk.{DeskView}
 use Rattle.ht_ports.specs.LineRule.{lines_of, max_text_bytes}
 use Rattle.ht_net.specs.Netlist.{Netlist}
 use Rattle.ht_texts.specs.declared.limits.TheConstants.{MAX_LINE_BYTES}
-use Rattle.ht_texts.specs.Tests.{IsTooLong, line_at}
+use Rattle.ht_texts.specs.Tests.{IsTooLong}
 use Rattle.ht_entries.specs.declared.numbered.Numbered.{Numbered}
 use Rattle.ht_entries.specs.ProofReading.{AreProofLines, IsMalformedAfter, IsProofFront, ProofReading, ProofReadsTo, before_first, after_first, within_entry, after_last, closed_of, lines_taken}
 use Rattle.ht_entries.specs.ProofLines.{line_text}
@@ -18,7 +18,7 @@ use Rattle.ht_entries.proofs.MalformedLaws.{one_place}
 use Rattle.ht_valid.specs.declared.trouble.Trouble.{Trouble}
 use Rattle.ht_valid.specs.declared.trouble.Trouble.TheVariants.{Tests, Report, Proofs, Fault}
 use Rattle.ht_valid.specs.ValidFiles.{Content, IsBacking}
-use Rattle.ht_valid.specs.FirstTrouble.{IsFaultTrouble, IsFaultTroubleAt, IsFirst, IsFirstFault, IsFirstProofLine, IsMissing, IsProofTrouble}
+use Rattle.ht_valid.specs.FirstTrouble.{IsFaultTrouble, IsFaultTroubleAt, IsFirstFault, IsFirstProofLine, IsMissing, IsProofTrouble}
 use Rattle.ht_judge.specs.declared.judge_error.JudgeError.{JudgeError}
 use Rattle.ht_judge.specs.declared.judge_error.JudgeError.TheVariants as judge
 use Rattle.ht_judge.specs.ProofJudging.{AreCompleteProofs, JudgesProofs, ProofEndHasCause, ProofJudgeView, ProofLineHasCause}
@@ -204,7 +204,8 @@ module _ (basis : ProofBasis) (text : List ℕ) where
         | inr late ↦ inr (inr (subst (λ n. IsTooLong text n) stops.line_is late))
       ])
 
-  pub stops_in_proofs : (e : RunError) → StopsIn (IsFineProofLine basis) (DeniesProofs basis) Proofs MAX_LINE_BYTES text e
+  pub stops_in_proofs : (e : RunError)
+      → StopsIn (IsFineProofLine basis) (DeniesProofs basis) Proofs MAX_LINE_BYTES text e
       → IfDenied (IsProofFileTrouble basis text) e
   stops_in_proofs (Denied (Proofs number)) (inl stops) =
       let inside = length-take-le stops.count lines (omega (arith, stops.there)) in

@@ -48,7 +48,8 @@ last_agrees c r list at before_report budget saids fault said same kept agree sa
 last_agrees c r list at (after_report b s) budget saids fault said same kept agree says = let other = says in cc
 last_agrees c r list at (in_report b []) budget saids fault said same kept agree says = let other = says in cc
 last_agrees c r list before_report (in_report b (s ∷ ss)) budget saids fault said same kept agree says = absurd same
-last_agrees c r list (after_report d t) (in_report b (s ∷ ss)) budget saids fault said same kept agree says = absurd same
+last_agrees c r list (after_report d t) (in_report b (s ∷ ss)) budget saids fault said same kept agree says =
+    absurd same
 last_agrees c r list (in_report d t) (in_report b (s ∷ ss)) budget saids fault said same kept agree says =
     let n = length ss in
     let is = item_is (is_representative r n) n fault (said_at (s ∷ ss) n) said says in
@@ -91,12 +92,12 @@ pub cause_by_basis : (v : ReportJudgeView) (basis : ReportBasis) (before : List 
     (e : JudgeError) → v.circuit ≡ basis.circuit → v.representatives ≡ basis.representatives
     → ReportLineHasCause v basis.list before line e → DeniesReport basis before line e
 cause_by_basis v basis before line (judge.Denied (Report number)) circuit representatives h = (
-      h.0,
-      subst (λ c. (¬ IsReportFront c basis.representatives (before ++ line ∷ []))
-          ⊎ ContradictsTests c basis.representatives basis.list (before ++ line ∷ [])) circuit
-          (subst (λ r. (¬ IsReportFront v.circuit r (before ++ line ∷ []))
-          ⊎ ContradictsTests v.circuit r basis.list (before ++ line ∷ [])) representatives h.1),
-    )
+  h.0,
+  subst (λ c. (¬ IsReportFront c basis.representatives (before ++ line ∷ []))
+      ⊎ ContradictsTests c basis.representatives basis.list (before ++ line ∷ [])) circuit
+      (subst (λ r. (¬ IsReportFront v.circuit r (before ++ line ∷ []))
+      ⊎ ContradictsTests v.circuit r basis.list (before ++ line ∷ [])) representatives h.1),
+)
 cause_by_basis v basis before line (judge.Denied (Tests number)) circuit representatives h = absurd h
 cause_by_basis v basis before line (judge.Denied (Proofs number)) circuit representatives h = absurd h
 cause_by_basis v basis before line (judge.Denied (Fault number)) circuit representatives h = absurd h

@@ -1,9 +1,9 @@
 -- What a status tells, whatever the error.
-use Rattle.std.proofs.Common.{◌≡◌, ◌≢◌, ◌⊎◌, inl, inr, ℕ, List, IsTrue, refl, sym, ◌∙◌, ap, subst, arith}
+use Rattle.std.proofs.Common.{◌≡◌, ◌≢◌, ◌⊎◌, inl, inr, ℕ, List, IsTrue, refl, ap, arith}
 use Rattle.std.specs.Prelude.{Some}
 use Rattle.ht_ports.specs.Desk.{DeskView, IsAfter}
 use Rattle.ht_ports.specs.declared.ports.InPort.TheVariants.{Netlist}
-use Rattle.ht_asked.specs.Asked.{Asked, sim, gen, check, norm}
+use Rattle.ht_asked.specs.Asked.{Asked, sim}
 use Rattle.ht_app.specs.declared.run_error.RunError.{RunError}
 use Rattle.ht_app.specs.declared.run_error.RunError.TheVariants.{Denied, Usage, TooLong, Refused, ReadFault, WriteFault, NoMemory, BadTests}
 use Rattle.ht_app.specs.Inputs.{IsBadNetlist, AreBadFiles, AreBadTests, AreGoodInputs, CheckFiles}

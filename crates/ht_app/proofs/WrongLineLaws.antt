@@ -1,6 +1,6 @@
 -- The first line of a tests text that is no vector, or at which the text is too long.
-use Rattle.std.proofs.Common.{◌≡◌, inl, inr, ℕ, ◌+◌, ◌-◌, ◌<◌, ◌≤◌, List, [], Bool, length, get_or, Some, Option, map, sym, ◌∙◌, ap, subst, arith}
-use Rattle.std.proofs.lemmas.List.{length-append, length-map, get_or-map}
+use Rattle.std.proofs.Common.{◌≡◌, inl, inr, ℕ, ◌+◌, ◌-◌, ◌<◌, ◌≤◌, List, [], Bool, length, get_or, Some, Option, map, ◌∙◌, ap, subst, arith}
+use Rattle.std.proofs.lemmas.List.{length-map, get_or-map}
 use Rattle.std.proofs.Math.ListN.{get_or-append}
 use Rattle.ht_ports.specs.LineRule.{NextLine, IsTooLongLine, max_text_bytes, lines_of}
 use Rattle.ht_net.specs.Netlist.{Netlist, max_inputs}

@@ -81,8 +81,8 @@ pub record AcceptsReport (names : CheckFiles) (old : DeskView) : Type 0 where
   pub there : MayHold old names.report
   pub accepted : (texts : CheckFiles) → AreInputsToReport names texts old → AreGoodToReport texts
 
--- The three files are valid for the netlist's circuit: each fault has one verdict, which is true, and what the budget is
--- enough for is decided.
+-- The three files are valid for the netlist's circuit: each fault has one verdict, which is true, and what the budget
+-- is enough for is decided.
 pub record AreTrueFiles (texts : CheckFiles) : Type 0 where
   pub circuit : net.Netlist
   pub representatives : List ℕ

@@ -4,7 +4,7 @@ use Rattle.std.specs.Io.KnownBytes.{append_known}
 use Rattle.ht_ports.specs.Causes.{Rose}
 use Rattle.ht_ports.specs.Desk.{DeskView, IsAfter, Holds, Writes}
 use Rattle.ht_ports.specs.declared.ports.InPort.{InPort}
-use Rattle.ht_ports.specs.declared.ports.InPort.TheVariants.{Netlist, Tests, Report, Proofs}
+use Rattle.ht_ports.specs.declared.ports.InPort.TheVariants.{Netlist, Report, Proofs}
 use Rattle.ht_ports.specs.declared.ports.OutPort.TheVariants.{Err}
 use Rattle.ht_net.specs.Netlist as net
 use Rattle.ht_bench.specs.Text.{max_netlist_bytes, IsNetlistOf, Refuses}

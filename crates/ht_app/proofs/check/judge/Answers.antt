@@ -113,8 +113,8 @@ returns-in_err-claims-clause-first g c =
       there = c.in_ok-list.ensures.there;
       vectors = c.in_ok-list.ensures.list;
     } in
-    let first = subst (λ (l : List (Option Place)). AreFirstDetections circuit classes list l) (sym c.deref.ensures.value)
-    c.in_ok-places.ensures.first in
+    let first = subst (λ (l : List (Option Place)). AreFirstDetections circuit classes list l)
+    (sym c.deref.ensures.value) c.in_ok-places.ensures.first in
     let b = g.D.Desk.view c.read_report.new.desk in
     let other = file_not_refused c.args.report.now IsOfReport n b c.in_err-claims.field-0.0
     (c.in_err-claims.ensures.cause list first) in
@@ -145,8 +145,8 @@ returns-in_err-claims-clause-cause g c =
       there = c.in_ok-list.ensures.there;
       vectors = c.in_ok-list.ensures.list;
     } in
-    let first = subst (λ (l : List (Option Place)). AreFirstDetections circuit classes list l) (sym c.deref.ensures.value)
-    c.in_ok-places.ensures.first in
+    let first = subst (λ (l : List (Option Place)). AreFirstDetections circuit classes list l)
+    (sym c.deref.ensures.value) c.in_ok-places.ensures.first in
     let cause = report_stops names circuit classes list a m n (g.D.Desk.view c.read_report.new.desk)
     c.in_err-claims.field-0.0 tests c.in_err-claims.ensures.frame
     (λ text short input. c.in_err-claims.ensures.trouble list text first short input)
@@ -160,8 +160,8 @@ read_proofs-requires-clause-each g c =
     let circuit = c.in_ok-circuit.circuit in
     let classes = c.in_ok-listed.listed.classes in
     let list = c.in_ok-list.list.list in
-    let first = subst (λ (l : List (Option Place)). AreFirstDetections circuit classes list l) (sym c.deref.ensures.value)
-    c.in_ok-places.ensures.first in
+    let first = subst (λ (l : List (Option Place)). AreFirstDetections circuit classes list l)
+    (sym c.deref.ensures.value) c.in_ok-places.ensures.first in
     (c.in_ok-claims.ensures.read list first).report.report.search.saids_are.each
 
 pub returns-in_err-read_proofs-clause-reads : goal.returns-in_err-read_proofs-clause-reads
@@ -195,8 +195,8 @@ returns-in_err-read_proofs-clause-cause g c =
       there = c.in_ok-list.ensures.there;
       vectors = c.in_ok-list.ensures.list;
     } in
-    let first = subst (λ (l : List (Option Place)). AreFirstDetections circuit classes list l) (sym c.deref.ensures.value)
-    c.in_ok-places.ensures.first in
+    let first = subst (λ (l : List (Option Place)). AreFirstDetections circuit classes list l)
+    (sym c.deref.ensures.value) c.in_ok-places.ensures.first in
     let o = g.D.Desk.view c.read_report.new.desk in
     let budget = c.in_ok-claims.claims.budget in
     let saids = c.in_ok-claims.claims.saids.items in
@@ -206,8 +206,8 @@ returns-in_err-read_proofs-clause-cause g c =
       there = c.in_ok-claims.ensures.there;
       report = c.in_ok-claims.ensures.read list first;
     } in
-    let cause = proofs_stop names circuit classes list budget saids a m n o report (g.D.Desk.view c.read_proofs.new.desk)
-    c.in_err-read_proofs.field-0.0 c.in_err-read_proofs.ensures.frame
+    let cause = proofs_stop names circuit classes list budget saids a m n o report
+    (g.D.Desk.view c.read_proofs.new.desk) c.in_err-read_proofs.field-0.0 c.in_err-read_proofs.ensures.frame
     (λ text input. c.in_err-read_proofs.ensures.trouble (claimed list budget saids) text refl refl input)
     c.in_err-read_proofs.ensures.cause in
     search (rules, cause)
@@ -245,8 +245,8 @@ returns-clause-inputs g c =
       there = c.in_ok-list.ensures.there;
       vectors = c.in_ok-list.ensures.list;
     } in
-    let first = subst (λ (l : List (Option Place)). AreFirstDetections circuit classes list l) (sym c.deref.ensures.value)
-    c.in_ok-places.ensures.first in
+    let first = subst (λ (l : List (Option Place)). AreFirstDetections circuit classes list l)
+    (sym c.deref.ensures.value) c.in_ok-places.ensures.first in
     let o = g.D.Desk.view c.read_report.new.desk in
     let budget = c.in_ok-claims.claims.budget in
     let saids = c.in_ok-claims.claims.saids.items in

@@ -1,5 +1,4 @@
-use Rattle.std.proofs.Common.{◌≡◌, [], ◌∙◌, sym, rules}
-use Rattle.ht_valid.specs.ValidFiles.{Content}
+use Rattle.std.proofs.Common.{[], ◌∙◌, sym, rules}
 use Rattle.ht_valid.specs.declared.trouble.Trouble.TheVariants as trouble
 use Rattle.ht_judge.specs.ProofJudging.{IsClaimed}
 use Rattle.ht_app.specs.Judging.{DeniesProofs, IsDeniedBy, IsOfProofs, StandsForProofs, proof_basis}

@@ -61,7 +61,8 @@ returns-clause-texts g c =
         circuit = c.in_ok-circuit.circuit;
         list = c.in_ok-list.list.list;
         accepted = read.circuit n both.netlist_is;
-        vectors = c.in_ok-list.ensures.list t (input_later Netlist Tests c.args.tests.now t a m (λ e. cc) read.frame both.tests_is);
+        vectors = c.in_ok-list.ensures.list t
+            (input_later Netlist Tests c.args.tests.now t a m (λ e. cc) read.frame both.tests_is);
         reported = c.in_ok-texts.ensures;
       };
     }

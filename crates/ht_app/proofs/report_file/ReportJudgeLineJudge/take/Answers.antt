@@ -1,9 +1,18 @@
 use Rattle.std.proofs.Common.{◌++◌, ◌∷◌, [], ◌∙◌}
 use Rattle.ht_judge.specs.ReportJudging.{JudgesReport, ReportLineHasCause}
-use Rattle.ht_app.specs.Judging.{DeniesReport, IsFineReport}
+use Rattle.ht_app.specs.Judging.{DeniesReport, IsFineReport, StandsForReport}
 use Rattle.ht_app.proofs.JudgedLaws.{if_err_from, on_ok_from}
 use Rattle.ht_app.proofs.ReportFileLaws.{cause_by_basis, judged_is_fine, stands_by}
 use Rattle.ht_app.proofs.report_file.ReportJudgeLineJudge.take.Goals as goal
+
+pub returns-clause-stands : goal.returns-clause-stands
+returns-clause-stands c = λ basis before stands few.
+    let judged = c.line.ensures in
+    let lines = before ++ c.args.line.now ∷ [] in
+    on_ok_from c.line.result (λ u. JudgesReport c.line.new.self basis.list lines)
+    (StandsForReport c.line.new.self basis lines)
+    (λ u judges. stands_by c.line.new.self basis lines stands.well_formed (judged.circuit ∙ stands.circuit)
+    (judged.representatives ∙ stands.representatives) judges) (judged.taken basis.list before stands.judges)
 
 pub returns-clause-fine : goal.returns-clause-fine
 returns-clause-fine c = λ basis before stands few.
