@@ -21,7 +21,7 @@ use Rattle.ht_valid.specs.ValidFiles.{Content, IsBacking}
 use Rattle.ht_valid.specs.FirstTrouble.{IsFaultTrouble, IsFaultTroubleAt, IsFirstFault, IsFirstProofLine, IsMissing, IsProofTrouble}
 use Rattle.ht_judge.specs.declared.judge_error.JudgeError.{JudgeError}
 use Rattle.ht_judge.specs.declared.judge_error.JudgeError.TheVariants as judge
-use Rattle.ht_judge.specs.ProofJudging.{AreCompleteProofs, JudgesProofs, ProofEndHasCause, ProofJudgeView, ProofLineHasCause}
+use Rattle.ht_judge.specs.ProofJudging.{AreCompleteProofs, JudgesProofs, ProofEndHasCause, ProofJudgeView, ProofLineDeniedFor}
 use Rattle.ht_app.specs.declared.run_error.RunError.{RunError}
 use Rattle.ht_app.specs.declared.run_error.RunError.TheVariants.{Denied, Usage, TooLong, Refused, ReadFault, WriteFault, NoMemory, BadTests}
 use Rattle.ht_app.specs.Errors.{judged_error_of}
@@ -88,7 +88,7 @@ fewer_lines (line ∷ lines) at read few = omega (arith, few, first_is_head line
 
 pub cause_by_basis : (v : ProofJudgeView) (basis : ProofBasis) (before : List (List ℕ)) (line : List ℕ)
     (e : JudgeError) → v.circuit ≡ basis.circuit → v.representatives ≡ basis.representatives
-    → ProofLineHasCause v basis.content before line e → DeniesProofs basis before line e
+    → ProofLineDeniedFor v basis.content before line e → DeniesProofs basis before line e
 cause_by_basis v basis before line (judge.Denied (Proofs number)) circuit representatives h = h
 cause_by_basis v basis before line (judge.Denied (Fault number)) circuit representatives h =
     subst (λ c. IsFaultTrouble c basis.representatives basis.content before line number) circuit

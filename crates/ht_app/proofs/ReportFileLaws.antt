@@ -22,7 +22,7 @@ use Rattle.ht_valid.specs.ValidFiles.{AgreesWithTests}
 use Rattle.ht_valid.specs.FirstTrouble.{ContradictsTests, IsFirst, IsReportTrouble}
 use Rattle.ht_judge.specs.declared.judge_error.JudgeError.{JudgeError}
 use Rattle.ht_judge.specs.declared.judge_error.JudgeError.TheVariants as judge
-use Rattle.ht_judge.specs.ReportJudging.{IsKept, IsTrueReport, JudgesReport, ReportEndHasCause, ReportJudgeView, ReportLineHasCause}
+use Rattle.ht_judge.specs.ReportJudging.{KeepsSaid, IsTrueReport, JudgesReport, ReportEndHasCause, ReportJudgeView, ReportLineDeniedFor}
 use Rattle.ht_app.specs.declared.run_error.RunError.{RunError}
 use Rattle.ht_app.specs.declared.run_error.RunError.TheVariants.{Denied, Usage, TooLong, Refused, ReadFault, WriteFault, NoMemory, BadTests}
 use Rattle.ht_app.specs.Errors.{judged_error_of}
@@ -40,7 +40,7 @@ item_is false i fault last said e = let other = e in cc
 -- what the last line says of a fault was judged
 last_agrees : (c : Netlist) (representatives : List ℕ) (list : List (List Bool)) (at there : ReportReading)
     (budget : ℕ) (saids : List Said) (fault : ℕ) (said : Said) → SaySame representatives at there
-    → IsKept at budget saids
+    → KeepsSaid at budget saids
     → ((i : ℕ) → i < length saids → is_representative representatives i ≡ true
     → AgreesWithTests c list i (said_at saids i))
     → last_item representatives there ≡ Some (Verdict fault said) → AgreesWithTests c list fault said
@@ -61,13 +61,13 @@ contradicts_nothing : (v : ReportJudgeView) (list : List (List Bool)) (lines : L
     → JudgesReport v list lines → ¬ ContradictsTests v.circuit v.representatives list lines
 contradicts_nothing v list lines is j wrong = wrong.contradicts
     (last_agrees v.circuit v.representatives list j.at wrong.at v.budget v.saids wrong.fault wrong.said
-    (one_reading v.circuit v.representatives lines j.at wrong.at is j.stands.read wrong.read) j.kept j.agree wrong.says)
+    (one_reading v.circuit v.representatives lines j.at wrong.at is j.read wrong.read) j.kept j.agree wrong.says)
 
 pub judged_is_fine : (v : ReportJudgeView) (basis : ReportBasis) (lines : List (List ℕ))
     → StandsForReport v basis lines → IsFineReport basis lines
 judged_is_fine v basis lines h =
     let is : IsCircuit v.circuit = subst IsCircuit (sym h.circuit) h.well_formed in
-    let front = reading_is_front v.circuit v.representatives lines h.judges.at h.judges.stands.read in
+    let front = reading_is_front v.circuit v.representatives lines h.judges.at h.judges.read in
     let agrees = contradicts_nothing v basis.list lines is h.judges in
     record {
       front = subst (λ c. IsReportFront c basis.representatives lines) h.circuit
@@ -90,7 +90,7 @@ stands_by v basis lines is circuit representatives judges = record {
 
 pub cause_by_basis : (v : ReportJudgeView) (basis : ReportBasis) (before : List (List ℕ)) (line : List ℕ)
     (e : JudgeError) → v.circuit ≡ basis.circuit → v.representatives ≡ basis.representatives
-    → ReportLineHasCause v basis.list before line e → DeniesReport basis before line e
+    → ReportLineDeniedFor v basis.list before line e → DeniesReport basis before line e
 cause_by_basis v basis before line (judge.Denied (Report number)) circuit representatives h = (
   h.0,
   subst (λ c. (¬ IsReportFront c basis.representatives (before ++ line ∷ []))

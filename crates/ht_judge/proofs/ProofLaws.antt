@@ -29,7 +29,7 @@ use Rattle.ht_entries.specs.declared.text_error.TextError.TheVariants as read
 use Rattle.ht_entries.specs.EntryTexts.{numbers_of}
 use Rattle.ht_entries.specs.ProofReading.{ProofReading, before_first, after_first, within_entry, after_last, closed_of, AreProofLines, EndsEntry, IsProofReading, ProofReadsTo}
 use Rattle.ht_entries.specs.declared.reader_state.ReaderState.TheVariants.{AfterEnd}
-use Rattle.ht_entries.specs.ReaderStands.{ProofLineHasCause as ReaderLineHasCause, ProofCalled, ProofReaderView, ProofStands, kept_of, stand_of}
+use Rattle.ht_entries.specs.ReaderStands.{ProofLineDeniedFor as ReaderLineHasCause, ProofCalled, ProofReaderView, ProofStands, kept_of, stand_of}
 use Rattle.ht_entries.proofs.ReaderLaws.{whole_is_at_end}
 use Rattle.ht_entries.proofs.RisesLaws.{rises_tail}
 use Rattle.ht_valid.specs.ValidFiles.{Backs, Content, HasEntry, IsBacking, IsOwn, NeedsEntry}
@@ -39,7 +39,7 @@ use Rattle.ht_judge.specs.declared.judge_error.JudgeError.{JudgeError}
 use Rattle.ht_judge.specs.declared.judge_error.JudgeError.TheVariants.{Denied, NoMemory}
 use Rattle.ht_judge.specs.declared.proof_judge.ProofJudge.TheInside.{Inside}
 use Rattle.ht_judge.specs.JudgingSteps.{DeniesDue, IsNeeded, IsOwnNumber, JudgesDue, JudgesEnded, begun_by, claimed, due_of, stopped_by}
-use Rattle.ht_judge.specs.ProofJudging.{AreCompleteProofs, HasBegun, IsClaimed, JudgesProofs, ProofJudgeView, ProofJudged, ProofLineHasCause}
+use Rattle.ht_judge.specs.ProofJudging.{AreCompleteProofs, HasBegun, IsClaimed, JudgesProofs, ProofJudgeView, ProofJudged, ProofLineDeniedFor}
 use Rattle.ht_judge.specs.ProofJudgeOf.{JudgesClaims, proof_judge_view}
 use Rattle.ht_valid.proofs.NextLaws.{IsNextReading, next_reading}
 
@@ -314,7 +314,7 @@ Stops a r line error =
 
 stops : (a : Inside) (r : ProofReaderView) (line : List ℕ) (error : JudgeError)
     → ((content : Content) (before : List (List ℕ)) → JudgesProofs (proof_judge_view a) content before
-    → length before < max_text_bytes → ProofLineHasCause (proof_judge_view a) content before line error)
+    → length before < max_text_bytes → ProofLineDeniedFor (proof_judge_view a) content before line error)
     → Stops a r line error
 stops a r line error cause = record {
   circuit = refl;
@@ -325,7 +325,7 @@ stops a r line error cause = record {
 }
 
 reader_cause : (v : ProofJudgeView) (content : Content) (before : List (List ℕ)) (line : List ℕ) (error : TextError)
-    → ReaderLineHasCause before line error → ProofLineHasCause v content before line (stopped_by error)
+    → ReaderLineHasCause before line error → ProofLineDeniedFor v content before line (stopped_by error)
 reader_cause v content before line (read.BadText number) cause = cause
 reader_cause v content before line read.NoMemory cause = tt
 
@@ -340,7 +340,7 @@ module _ (a : Inside) (r : ProofReaderView) (line : List ℕ) (ended : Option Nu
   wrong_cause : (content : Content) (before : List (List ℕ)) → JudgesProofs (proof_judge_view a) content before
       → length before < max_text_bytes → (found : Option Numbered) → ended ≡ found → (error : JudgeError)
       → JudgesEnded (proof_judge_view a) found (Err error)
-      → ProofLineHasCause (proof_judge_view a) content before line error
+      → ProofLineDeniedFor (proof_judge_view a) content before line error
   wrong_cause content before j few None same error judged = absurd (false≢true judged)
   wrong_cause content before j few (Some e) same (Denied (trouble.Tests n)) judged = absurd judged
   wrong_cause content before j few (Some e) same (Denied (trouble.Report n)) judged = absurd judged
@@ -374,7 +374,7 @@ module _ (a : Inside) (r : ProofReaderView) (line : List ℕ) (ended : Option Nu
 
     missing_cause : (content : Content) (before : List (List ℕ)) → JudgesProofs (proof_judge_view a) content before
         → length before < max_text_bytes → (error : JudgeError) → DeniesDue (proof_judge_view a) due error
-        → ProofLineHasCause (proof_judge_view a) content before line error
+        → ProofLineDeniedFor (proof_judge_view a) content before line error
     missing_cause content before j few (Denied (trouble.Tests n)) denies = absurd denies
     missing_cause content before j few (Denied (trouble.Report n)) denies = absurd denies
     missing_cause content before j few (Denied (trouble.Proofs n)) denies = absurd denies

@@ -27,7 +27,7 @@ use Rattle.ht_valid.specs.declared.trouble.Trouble.TheVariants.{Report}
 use Rattle.ht_judge.specs.declared.judge_error.JudgeError.{JudgeError}
 use Rattle.ht_judge.specs.declared.judge_error.JudgeError.TheVariants.{Denied}
 use Rattle.ht_judge.specs.declared.report_judge.ReportJudge.TheInside.{Inside}
-use Rattle.ht_judge.specs.ReportJudging.{AgreesWithPlace, AgreesWithPlaces, IsKept, IsTrueReport, JudgesReport, ReportEndHasCause, ReportJudgeView, ReportJudged, budget_with, saids_in}
+use Rattle.ht_judge.specs.ReportJudging.{AgreesWithPlace, AgreesWithPlaces, KeepsSaid, IsTrueReport, JudgesReport, ReportEndHasCause, ReportJudgeView, ReportJudged, budget_with, saids_in}
 use Rattle.ht_judge.specs.ReportJudgeOf.{HasLines, KeepsReport, report_judge_view}
 
 pub starts : (c : Netlist) (representatives : List ℕ) → ReportStands (new_report c representatives) [] before_report
@@ -150,7 +150,7 @@ module _ (c : Netlist) (representatives : List ℕ) (before : List (List ℕ)) (
   kept_on : (at : ReportReading) (item : Item) (budget : ℕ) (saids : List Said)
       → ReportReadsTo c representatives before at
       → ReportReadsTo c representatives (before ++ line ∷ []) (read_on at item)
-      → IsKept at budget saids → IsKept (read_on at item) (budget_with item budget) (saids ++ saids_in item)
+      → KeepsSaid at budget saids → KeepsSaid (read_on at item) (budget_with item budget) (saids ++ saids_in item)
   kept_on before_report (Head b) budget saids old new kept = (refl, ap (λ s. s ++ []) kept)
   kept_on before_report (Verdict i said) budget saids old new kept = absurd (unmoved before_report old new)
   kept_on before_report (Member i) budget saids old new kept = absurd (unmoved before_report old new)
@@ -174,7 +174,7 @@ module _ (c : Netlist) (representatives : List ℕ) (before : List (List ℕ)) (
   next_verdict : (at : ReportReading) (k : ℕ) (said : Said) (budget : ℕ) (saids : List Said)
       → ReportReadsTo c representatives before at
       → ReportReadsTo c representatives (before ++ line ∷ []) (read_on at (Verdict k said))
-      → last_item representatives (read_on at (Verdict k said)) ≡ Some (Verdict k said) → IsKept at budget saids
+      → last_item representatives (read_on at (Verdict k said)) ≡ Some (Verdict k said) → KeepsSaid at budget saids
       → IsNextVerdict saids k
   next_verdict before_report k said budget saids old new says kept = absurd (unmoved before_report old new)
   next_verdict (in_report b s) k said budget saids old new says kept =
@@ -194,7 +194,7 @@ module _ (c : Netlist) (representatives : List ℕ) (before : List (List ℕ)) (
   next_member : (at : ReportReading) (k : ℕ) (budget : ℕ) (saids : List Said)
       → ReportReadsTo c representatives before at
       → ReportReadsTo c representatives (before ++ line ∷ []) (read_on at (Member k))
-      → last_item representatives (read_on at (Member k)) ≡ Some (Member k) → IsKept at budget saids
+      → last_item representatives (read_on at (Member k)) ≡ Some (Member k) → KeepsSaid at budget saids
       → is_representative representatives (length saids) ≡ false
   next_member before_report k budget saids old new says kept = absurd (unmoved before_report old new)
   next_member (in_report b s) k budget saids old new says kept =
@@ -234,7 +234,7 @@ module _ (c : Netlist) (representatives : List ℕ) (before : List (List ℕ)) (
     agree_on : (at : ReportReading) (item : Item) (budget : ℕ) (saids : List Said)
         → ReportReadsTo c representatives before at
         → ReportReadsTo c representatives (before ++ line ∷ []) (read_on at item)
-        → last_item representatives (read_on at item) ≡ Some item → IsKept at budget saids
+        → last_item representatives (read_on at item) ≡ Some item → KeepsSaid at budget saids
         → AgreesWithPlaces places item → AgreeAll saids → AgreeAll (saids ++ saids_in item)
     agree_on at (Head b) budget saids old new says kept agrees all = agree_same saids all
     agree_on at (Verdict k said) budget saids old new says kept agrees all =
@@ -254,7 +254,7 @@ module _ (c : Netlist) (representatives : List ℕ) (before : List (List ℕ)) (
     contradicted : (at : ReportReading) (item : Item) (budget : ℕ) (saids : List Said)
         → ReportReadsTo c representatives before at
         → ReportReadsTo c representatives (before ++ line ∷ []) (read_on at item)
-        → last_item representatives (read_on at item) ≡ Some item → IsKept at budget saids
+        → last_item representatives (read_on at item) ≡ Some item → KeepsSaid at budget saids
         → ¬ AgreesWithPlaces places item → Contradicted saids
     contradicted at (Head b) budget saids old new says kept differs = absurd (differs tt)
     contradicted at (Verdict k said) budget saids old new says kept differs =
@@ -348,8 +348,8 @@ module _ (a : Inside) (r : ReportView) (line : List ℕ) (item : Item) (keeps : 
           read = new;
           lines_read = next.stands.lines_read;
           sums = next.stands.sums;
-          kept = subst (λ b. IsKept (read_on j.at item) b saids) (sym budget_is)
-              (subst (IsKept (read_on j.at item) (budget_with item a.budget)) (sym saids_are) kept);
+          kept = subst (λ b. KeepsSaid (read_on j.at item) b saids) (sym budget_is)
+              (subst (KeepsSaid (read_on j.at item) (budget_with item a.budget)) (sym saids_are) kept);
           agree = subst (AgreeAll r.circuit r.representatives before line list a.detections.now known.first)
               (sym saids_are) agree;
         };
@@ -424,7 +424,7 @@ line_refused a r line malformed error error_is keeps live called = subst (Stops 
 pub record ReadAndKept (c : Netlist) (representatives : List ℕ) (lines : List (List ℕ)) (budget : ℕ)
     (saids : List Said) (at : ReportReading) : Type 0 where
   pub read : ReportReadsTo c representatives lines at
-  pub kept : IsKept at budget saids
+  pub kept : KeepsSaid at budget saids
 
 pub whole_is_true : (v : ReportJudgeView) (list : List (List Bool)) (lines : List (List ℕ))
     → (j : JudgesReport v list lines)

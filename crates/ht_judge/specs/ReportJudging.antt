@@ -33,10 +33,10 @@ pub record ReportJudgeView : Type 0 where
   pub live : Bool
 
 -- what is kept of a report that is read this far
-abbrev pub IsKept : ReportReading → ℕ → List Said → Type 0
-IsKept before_report budget saids = saids ≡ []
-IsKept (in_report said_budget said) budget saids = (budget ≡ said_budget) × (saids ≡ said)
-IsKept (after_report said_budget said) budget saids = (budget ≡ said_budget) × (saids ≡ said)
+abbrev pub KeepsSaid : ReportReading → ℕ → List Said → Type 0
+KeepsSaid before_report budget saids = saids ≡ []
+KeepsSaid (in_report said_budget said) budget saids = (budget ≡ said_budget) × (saids ≡ said)
+KeepsSaid (after_report said_budget said) budget saids = (budget ≡ said_budget) × (saids ≡ said)
 
 -- what a line says of the faults: of one, or of none
 abbrev pub saids_in : Item → List Said
@@ -70,7 +70,7 @@ pub record JudgesReport (v : ReportJudgeView) (list : List (List Bool)) (lines :
   pub first : AreFirstDetections v.circuit v.representatives list v.detections
   pub at : ReportReading
   pub read : ReportReadsTo v.circuit v.representatives lines at
-  pub kept : IsKept at v.budget v.saids
+  pub kept : KeepsSaid at v.budget v.saids
   pub lines_read : v.lines_read ≡ length lines
   pub sums : v.sums ≡ sums_read v.representatives at
   pub agree : (i : ℕ) → i < length v.saids → is_representative v.representatives i ≡ true
@@ -82,11 +82,11 @@ IsRefusedReport v list lines = (¬ IsReportFront v.circuit v.representatives lin
     ⊎ ContradictsTests v.circuit v.representatives list lines
 
 -- why the line was denied after these
-abbrev pub ReportLineHasCause : ReportJudgeView → List (List Bool) → List (List ℕ) → List ℕ → JudgeError → Type 0
-ReportLineHasCause v list before line (Denied (Report number)) =
+abbrev pub ReportLineDeniedFor : ReportJudgeView → List (List Bool) → List (List ℕ) → List ℕ → JudgeError → Type 0
+ReportLineDeniedFor v list before line (Denied (Report number)) =
     (number ≡ length before + 1) × IsRefusedReport v list (before ++ line ∷ [])
-ReportLineHasCause v list before line (Denied other) = ⊥
-ReportLineHasCause v list before line NoMemory = Unit {0}
+ReportLineDeniedFor v list before line (Denied other) = ⊥
+ReportLineDeniedFor v list before line NoMemory = Unit {0}
 
 -- What a call with a line leaves, whatever lines the judge stood for.
 pub record ReportJudged (old new : ReportJudgeView) (line : List ℕ) (result : Result (Unit {0}) JudgeError)
@@ -97,7 +97,7 @@ pub record ReportJudged (old new : ReportJudgeView) (line : List ℕ) (result : 
   pub taken : (list : List (List Bool)) (before : List (List ℕ)) → JudgesReport old list before
       → IfOk result (λ u. JudgesReport new list (before ++ line ∷ []))
   pub cause : (list : List (List Bool)) (before : List (List ℕ)) → JudgesReport old list before
-      → IfErr result (ReportLineHasCause old list before line)
+      → IfErr result (ReportLineDeniedFor old list before line)
 
 -- The lines are a whole report with this budget, which says this and agrees with the vectors.
 pub record IsTrueReport (c : Netlist) (representatives : List ℕ) (list : List (List Bool)) (lines : List (List ℕ))

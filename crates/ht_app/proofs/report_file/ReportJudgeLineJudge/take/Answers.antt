@@ -1,5 +1,5 @@
 use Rattle.std.proofs.Common.{◌++◌, ◌∷◌, [], ◌∙◌}
-use Rattle.ht_judge.specs.ReportJudging.{JudgesReport, ReportLineHasCause}
+use Rattle.ht_judge.specs.ReportJudging.{JudgesReport, ReportLineDeniedFor}
 use Rattle.ht_app.specs.Judging.{DeniesReport, IsFineReport, StandsForReport}
 use Rattle.ht_app.proofs.JudgedLaws.{if_err_from, on_ok_from}
 use Rattle.ht_app.proofs.ReportFileLaws.{cause_by_basis, judged_is_fine, stands_by}
@@ -25,7 +25,7 @@ returns-clause-fine c = λ basis before stands few.
 
 pub returns-clause-denies : goal.returns-clause-denies
 returns-clause-denies c = λ basis before stands few.
-    if_err_from c.line.result (ReportLineHasCause c.args.self.now basis.list before c.args.line.now)
+    if_err_from c.line.result (ReportLineDeniedFor c.args.self.now basis.list before c.args.line.now)
     (DeniesReport basis before c.args.line.now)
     (λ e cause. cause_by_basis c.args.self.now basis before c.args.line.now e stands.circuit stands.representatives
     cause) (c.line.ensures.cause basis.list before stands.judges)
