@@ -12,11 +12,13 @@ use Rattle.ht_tern.specs.declared.tern.Tern.TheVariants.{Zero, One, Unk}
 use Rattle.ht_lanes.specs.Lanes.{Lanes, lane, each_lane, is_set}
 use Rattle.ht_lanes.specs.Rows.{AreApart, value_at, lanes_of, zeros_of, ones_of, is_zero, is_one}
 
+-- a bit is 1 or 0 by a test
 pub bit_by_test : (x : ℕ) → x < 2 → x ≡ cond (eqb x 1) 1 0
 bit_by_test zero h = refl
 bit_by_test (suc zero) h = refl
 bit_by_test (suc (suc x)) h = absurd (omega (arith, h))
 
+-- no lane is in both rows
 pub not_both : (x y : ℕ) → x < 2 → y < 2 → min x y ≡ 0 → (eqb x 1 && eqb y 1) ≡ false
 not_both zero y h k m = refl
 not_both (suc zero) zero h k m = refl
@@ -36,6 +38,7 @@ pub lane_is : (zeros ones k : ℕ) → k < 64 → lane (lanes_of zeros ones) k �
 unfolding lanes_of
 lane_is zeros ones k h = lane_of_each (value_at zeros ones) k h
 
+-- there are 64 lanes
 pub lanes_length : (zeros ones : ℕ) → length (lanes_of zeros ones) ≡ 64
 unfolding lanes_of
 lanes_length zeros ones = length-map-range_with_len (value_at zeros ones) 0 64
@@ -61,6 +64,7 @@ row_back p w bits long fits h =
     ∙ (ap (λ b. cond b 1 0) (get_or-map p w k Unk false (omega (arith, long)) ∙ h k below)
     ∙ sym (bit_by_test (bit_at bits k) (bit_at-lt bits k))))
 
+-- the lanes of a word tell its rows
 pub word_back : (zeros ones : ℕ) → AreApart zeros ones
     → (zeros_of (lanes_of zeros ones) ≡ zeros) × (ones_of (lanes_of zeros ones) ≡ ones)
 word_back zeros ones apart = (

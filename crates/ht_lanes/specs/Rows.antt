@@ -9,6 +9,7 @@ use Rattle.ht_lanes.specs.Lanes.{Lanes, each_lane, is_set}
 abbrev pub value_at : ℕ → ℕ → ℕ → Tern
 value_at zeros ones k = if is_set zeros k then Zero else (if is_set ones k then One else Unk)
 
+-- the word that two rows of bits stand for
 unfoldable pub lanes_of : ℕ → ℕ → Lanes
 lanes_of zeros ones = each_lane (value_at zeros ones)
 
@@ -18,6 +19,7 @@ pub record AreApart (zeros ones : ℕ) : Type 0 where
   pub ones_fit : ones < 2 ^ 64
   pub apart : bit_and zeros ones ≡ 0
 
+-- a lane is Zero, and a lane is One
 abbrev pub is_zero : Tern → Bool
 is_zero Zero = true
 is_zero One = false
