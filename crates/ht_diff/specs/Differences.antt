@@ -5,6 +5,7 @@ use Rattle.ht_tern.specs.declared.tern.Tern.{Tern}
 use Rattle.ht_tern.specs.declared.tern.Tern.TheVariants.{Zero, One, Unk}
 use Rattle.ht_diff.specs.declared.diffs.Diff.{Diff}
 
+-- two values are the same, as a test
 abbrev pub same_value : Tern → Tern → Bool
 same_value Zero Zero = true
 same_value One One = true

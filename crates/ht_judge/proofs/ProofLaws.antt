@@ -29,7 +29,7 @@ use Rattle.ht_entries.specs.declared.text_error.TextError.TheVariants as read
 use Rattle.ht_entries.specs.EntryTexts.{numbers_of}
 use Rattle.ht_entries.specs.ProofReading.{ProofReading, before_first, after_first, within_entry, after_last, closed_of, AreProofLines, EndsEntry, IsProofReading, ProofReadsTo}
 use Rattle.ht_entries.specs.declared.reader_state.ReaderState.TheVariants.{AfterEnd}
-use Rattle.ht_entries.specs.ReaderStands.{ProofLineDeniedFor as ReaderLineHasCause, ProofCalled, ProofReaderView, ProofStands, kept_of, stand_of}
+use Rattle.ht_entries.specs.ReaderStands.{ProofLineHasCause, ProofCalled, ProofReaderView, ProofStands, kept_of, stand_of}
 use Rattle.ht_entries.proofs.ReaderLaws.{whole_is_at_end}
 use Rattle.ht_entries.proofs.RisesLaws.{rises_tail}
 use Rattle.ht_valid.specs.ValidFiles.{Backs, Content, HasEntry, IsBacking, IsOwn, NeedsEntry}
@@ -325,7 +325,7 @@ stops a r line error cause = record {
 }
 
 reader_cause : (v : ProofJudgeView) (content : Content) (before : List (List ℕ)) (line : List ℕ) (error : TextError)
-    → ReaderLineHasCause before line error → ProofLineDeniedFor v content before line (stopped_by error)
+    → ProofLineHasCause before line error → ProofLineDeniedFor v content before line (stopped_by error)
 reader_cause v content before line (read.BadText number) cause = cause
 reader_cause v content before line read.NoMemory cause = tt
 

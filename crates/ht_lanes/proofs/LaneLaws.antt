@@ -13,7 +13,7 @@ use Rattle.ht_tern.specs.Gate.{complement_of, and_of, or_of, xor_of, tern_operat
 use Rattle.ht_tern.proofs.RefinementLaws.{PreservesOperations}
 use Rattle.ht_tern.proofs.GateLaws.{gate_related}
 use Rattle.ht_lanes.specs.Lanes.{Lanes, lane, with_lane, IsLane, lane_operations, gate_lanes, is_set, every_lane}
-use Rattle.ht_lanes.specs.Rows.{AreApart, value_at, lanes_of}
+use Rattle.ht_lanes.specs.Rows.{AreApart, lane_value, lanes_of}
 use Rattle.ht_lanes.specs.Inverse.{apart_at, lane_is, lane_of_each}
 use Rattle.ht_lanes.proofs.OperationLaws.{told, lanes_same, apart_of, and_fits, set_and, not_apart}
 
@@ -44,13 +44,13 @@ lane_told_zero w zeros ones k a h view p e = ap (λ t. told t (is_set ones k)) (
     ∙ lane_told w zeros ones k a (is_set ones k) h view p refl
 
 -- one lane is written
-set_lane : (w : Lanes) (a b c d k : ℕ) (v : Tern) → k < 64 → lanes_of a b ≡ w → value_at c d k ≡ v
-    → ((i : ℕ) → i < 64 → i ≢ k → value_at c d i ≡ value_at a b i) → lanes_of c d ≡ with_lane w k v
+set_lane : (w : Lanes) (a b c d k : ℕ) (v : Tern) → k < 64 → lanes_of a b ≡ w → lane_value c d k ≡ v
+    → ((i : ℕ) → i < 64 → i ≢ k → lane_value c d i ≡ lane_value a b i) → lanes_of c d ≡ with_lane w k v
 unfolding lanes_of
 set_lane w a b c d k v h view here others =
-    lanes_same (value_at c d) (λ i. cond (eqb i k) v (lane w i))
+    lanes_same (lane_value c d) (λ i. cond (eqb i k) v (lane w i))
     (λ i below. elim (eqb_tells i k) [
-      | inl p ↦ rw p.0 (ap (value_at c d) p.1 ∙ here)
+      | inl p ↦ rw p.0 (ap (lane_value c d) p.1 ∙ here)
       | inr p ↦ rw p.0 (others i below p.1 ∙ (sym (lane_is a b i below) ∙ ap (λ (x : Lanes). lane x i) view))
     ])
 

@@ -10,7 +10,7 @@ use Rattle.ht_tern.specs.declared.tern.Tern.{Tern}
 use Rattle.ht_tern.specs.declared.tern.Tern.TheVariants.{Zero, One, Unk}
 use Rattle.ht_tern.specs.Gate.{complement_of, and_of, or_of, xor_of}
 use Rattle.ht_lanes.specs.Lanes.{lane, each_lane, lane_operations, is_set}
-use Rattle.ht_lanes.specs.Rows.{AreApart, value_at, lanes_of}
+use Rattle.ht_lanes.specs.Rows.{AreApart, lane_value, lanes_of}
 use Rattle.ht_lanes.specs.Inverse.{apart_at, lane_is, lane_of_each}
 
 max_test : (x y : ℕ) → x < 2 → y < 2 → eqb (max x y) 1 ≡ (eqb x 1 || eqb y 1)
@@ -107,11 +107,11 @@ lanes_same f g h =
     ∙ (h k below ∙ sym (lane_of_each g k below)))
 
 lanes_two : (op : Tern → Tern → Tern) (z o a b c d : ℕ)
-    → ((k : ℕ) → value_at z o k ≡ op (value_at a b k) (value_at c d k))
+    → ((k : ℕ) → lane_value z o k ≡ op (lane_value a b k) (lane_value c d k))
     → lanes_of z o ≡ each_lane (λ k. op (lane (lanes_of a b) k) (lane (lanes_of c d) k))
 unfolding lanes_of
 lanes_two op z o a b c d h =
-    lanes_same (value_at z o) (λ k. op (lane (lanes_of a b) k) (lane (lanes_of c d) k))
+    lanes_same (lane_value z o) (λ k. op (lane (lanes_of a b) k) (lane (lanes_of c d) k))
     (λ k below. h k ∙ (λ i. op (sym (lane_is a b k below) i) (sym (lane_is c d k below) i)))
 
 pub and_lanes : (a b c d : ℕ) → AreApart a b → AreApart c d
@@ -143,7 +143,7 @@ xor_lanes a b c d p q =
 pub not_lanes : (a b : ℕ) → AreApart a b → lanes_of b a ≡ lane_operations.complement (lanes_of a b)
 unfolding lanes_of
 not_lanes a b p =
-    lanes_same (value_at b a) (λ k. complement_of (lane (lanes_of a b) k))
+    lanes_same (lane_value b a) (λ k. complement_of (lane (lanes_of a b) k))
     (λ k below. not_told (is_set a k) (is_set b k) (apart_at a b k p.apart)
     ∙ ap complement_of (sym (lane_is a b k below)))
 

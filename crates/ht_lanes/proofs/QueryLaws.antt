@@ -8,7 +8,7 @@ use Rattle.ht_tern.specs.declared.tern.Tern.{Tern}
 use Rattle.ht_tern.specs.declared.tern.Tern.TheVariants.{Zero, One, Unk}
 use Rattle.ht_tern.specs.Opposite.{are_opposite}
 use Rattle.ht_lanes.specs.Lanes.{Lanes, lane, is_set}
-use Rattle.ht_lanes.specs.Rows.{AreApart, value_at, lanes_of, zeros_of, ones_of}
+use Rattle.ht_lanes.specs.Rows.{AreApart, lane_value, lanes_of, zero_bits_of, one_bits_of}
 use Rattle.ht_lanes.specs.Inverse.{apart_at, lane_is, word_back}
 use Rattle.ht_lanes.proofs.StuckLaws.{set_not}
 use Rattle.ht_lanes.proofs.OperationLaws.{told, set_or}
@@ -16,8 +16,8 @@ use Rattle.ht_lanes.proofs.OperationLaws.{told, set_or}
 -- a word tells its rows of bits
 pub same_word : (a b c d : ℕ) → lanes_of a b ≡ lanes_of c d → AreApart a b → AreApart c d → (a ≡ c) × (b ≡ d)
 same_word a b c d e p q = (
-  sym (word_back a b p).0 ∙ (ap (λ (w : Lanes). zeros_of w) e ∙ (word_back c d q).0),
-  sym (word_back a b p).1 ∙ (ap (λ (w : Lanes). ones_of w) e ∙ (word_back c d q).1),
+  sym (word_back a b p).0 ∙ (ap (λ (w : Lanes). zero_bits_of w) e ∙ (word_back c d q).0),
+  sym (word_back a b p).1 ∙ (ap (λ (w : Lanes). one_bits_of w) e ∙ (word_back c d q).1),
 )
 
 -- What two bits that are not both set tell of a value.
@@ -55,7 +55,7 @@ other_unknown false true = (λ h e. cc, λ other. refl)
 other_unknown false false = (λ h. cc, λ other. absurd (other refl))
 
 -- a fact of the two bits of a lane, as one of the lane
-on_lane : (w : Lanes) (a b k : ℕ) → k < 64 → lanes_of a b ≡ w → value_at a b k ≡ lane w k
+on_lane : (w : Lanes) (a b k : ℕ) → k < 64 → lanes_of a b ≡ w → lane_value a b k ≡ lane w k
 on_lane w a b k h view = sym (lane_is a b k h) ∙ ap (λ (x : Lanes). lane x k) view
 
 pub opposite_of_zero : (w : Lanes) (a b k : ℕ) → k < 64 → AreApart a b → lanes_of a b ≡ w

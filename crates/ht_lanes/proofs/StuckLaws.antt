@@ -8,7 +8,7 @@ use Rattle.std.specs.Int.{w64}
 use Rattle.ht_tern.specs.declared.tern.Tern.TheVariants.{Zero, One}
 use Rattle.ht_tern.specs.Gate.{tern_of}
 use Rattle.ht_lanes.specs.Lanes.{Lanes, lane, stuck_lanes, is_set}
-use Rattle.ht_lanes.specs.Rows.{AreApart, value_at, lanes_of}
+use Rattle.ht_lanes.specs.Rows.{AreApart, lane_value, lanes_of}
 use Rattle.ht_lanes.specs.Inverse.{apart_at, lane_is}
 use Rattle.ht_lanes.proofs.OperationLaws.{told, lanes_same, apart_below, and_fits, set_and, set_or}
 
@@ -79,7 +79,7 @@ pub rows_stuck : (w : Lanes) (a b l v : ℕ) → l < 2 ^ 64 → v < 2 ^ 64 → l
     → lanes_of (stuck_zeros a l v) (stuck_ones b l v) ≡ stuck_lanes l v w
 unfolding lanes_of
 rows_stuck w a b l v f g view =
-    lanes_same (value_at (stuck_zeros a l v) (stuck_ones b l v))
+    lanes_same (lane_value (stuck_zeros a l v) (stuck_ones b l v))
     (λ k. cond (is_set l k) (tern_of (is_set v k)) (lane w k))
     (λ k h. (λ i. told (zeros_at a l v k f g h i) (ones_at b l v k f h i))
     ∙ (stuck_told (is_set a k) (is_set b k) (is_set l k) (is_set v k)
@@ -98,6 +98,6 @@ stuck_apart a b l v f g p =
 pub none_stuck : (w : Lanes) (a b v : ℕ) → lanes_of a b ≡ w → w ≡ stuck_lanes 0 v w
 unfolding lanes_of
 none_stuck w a b v view =
-    sym view ∙ lanes_same (value_at a b) (λ k. cond (is_set 0 k) (tern_of (is_set v k)) (lane w k))
+    sym view ∙ lanes_same (lane_value a b) (λ k. cond (is_set 0 k) (tern_of (is_set v k)) (lane w k))
     (λ k h. sym (lane_is a b k h) ∙ (ap (λ (x : Lanes). lane x k) view
     ∙ ap (λ n. cond (eqb n 1) (tern_of (is_set v k)) (lane w k)) (sym (bit_at-zero k))))

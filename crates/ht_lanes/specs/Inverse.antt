@@ -10,13 +10,15 @@ use Rattle.std.proofs.lemmas.List.{get_or-map, length-map}
 use Rattle.ht_tern.specs.declared.tern.Tern.{Tern}
 use Rattle.ht_tern.specs.declared.tern.Tern.TheVariants.{Zero, One, Unk}
 use Rattle.ht_lanes.specs.Lanes.{Lanes, lane, each_lane, is_set}
-use Rattle.ht_lanes.specs.Rows.{AreApart, value_at, lanes_of, zeros_of, ones_of, is_zero, is_one}
+use Rattle.ht_lanes.specs.Rows.{AreApart, lane_value, lanes_of, zero_bits_of, one_bits_of, is_zero, is_one}
 
+-- a bit is 1 or 0 by a test
 pub bit_by_test : (x : ℕ) → x < 2 → x ≡ cond (eqb x 1) 1 0
 bit_by_test zero h = refl
 bit_by_test (suc zero) h = refl
 bit_by_test (suc (suc x)) h = absurd (omega (arith, h))
 
+-- no lane is in both rows
 pub not_both : (x y : ℕ) → x < 2 → y < 2 → min x y ≡ 0 → (eqb x 1 && eqb y 1) ≡ false
 not_both zero y h k m = refl
 not_both (suc zero) zero h k m = refl
@@ -32,13 +34,14 @@ apart_at zeros ones k h = not_both _ _ (bit_at-lt zeros k) (bit_at-lt ones k) (s
 pub lane_of_each : (f : ℕ → Tern) (k : ℕ) → k < 64 → lane (each_lane f) k ≡ f k
 lane_of_each f k h = get_or-map-range_with_len f 0 64 k k Unk h (omega arith)
 
-pub lane_is : (zeros ones k : ℕ) → k < 64 → lane (lanes_of zeros ones) k ≡ value_at zeros ones k
+pub lane_is : (zeros ones k : ℕ) → k < 64 → lane (lanes_of zeros ones) k ≡ lane_value zeros ones k
 unfolding lanes_of
-lane_is zeros ones k h = lane_of_each (value_at zeros ones) k h
+lane_is zeros ones k h = lane_of_each (lane_value zeros ones) k h
 
+-- there are 64 lanes
 pub lanes_length : (zeros ones : ℕ) → length (lanes_of zeros ones) ≡ 64
 unfolding lanes_of
-lanes_length zeros ones = length-map-range_with_len (value_at zeros ones) 0 64
+lanes_length zeros ones = length-map-range_with_len (lane_value zeros ones) 0 64
 
 zero_test : (a b : Bool) → is_zero (cond a Zero (cond b One Unk)) ≡ a
 zero_test true b = refl
@@ -61,8 +64,9 @@ row_back p w bits long fits h =
     ∙ (ap (λ b. cond b 1 0) (get_or-map p w k Unk false (omega (arith, long)) ∙ h k below)
     ∙ sym (bit_by_test (bit_at bits k) (bit_at-lt bits k))))
 
+-- the lanes of a word tell its rows
 pub word_back : (zeros ones : ℕ) → AreApart zeros ones
-    → (zeros_of (lanes_of zeros ones) ≡ zeros) × (ones_of (lanes_of zeros ones) ≡ ones)
+    → (zero_bits_of (lanes_of zeros ones) ≡ zeros) × (one_bits_of (lanes_of zeros ones) ≡ ones)
 word_back zeros ones apart = (
   row_back is_zero (lanes_of zeros ones) zeros (lanes_length zeros ones) apart.zeros_fit
       (λ k below. ap is_zero (lane_is zeros ones k below) ∙ zero_test (is_set zeros k) (is_set ones k)),

@@ -6,11 +6,12 @@ use Rattle.ht_tern.specs.declared.tern.Tern.TheVariants.{Zero, One, Unk}
 use Rattle.ht_lanes.specs.Lanes.{Lanes, each_lane, is_set}
 
 -- the value of lane k
-abbrev pub value_at : ℕ → ℕ → ℕ → Tern
-value_at zeros ones k = if is_set zeros k then Zero else (if is_set ones k then One else Unk)
+abbrev pub lane_value : ℕ → ℕ → ℕ → Tern
+lane_value zeros ones k = if is_set zeros k then Zero else (if is_set ones k then One else Unk)
 
+-- the word that two rows of bits stand for
 unfoldable pub lanes_of : ℕ → ℕ → Lanes
-lanes_of zeros ones = each_lane (value_at zeros ones)
+lanes_of zeros ones = each_lane (lane_value zeros ones)
 
 -- two rows of 64 bits, where no lane is both Zero and One
 pub record AreApart (zeros ones : ℕ) : Type 0 where
@@ -18,6 +19,7 @@ pub record AreApart (zeros ones : ℕ) : Type 0 where
   pub ones_fit : ones < 2 ^ 64
   pub apart : bit_and zeros ones ≡ 0
 
+-- a lane is Zero, and a lane is One
 abbrev pub is_zero : Tern → Bool
 is_zero Zero = true
 is_zero One = false
@@ -29,8 +31,8 @@ is_one One = true
 is_one Unk = false
 
 -- the rows of a word
-abbrev pub zeros_of : Lanes → ℕ
-zeros_of w = mask_l (map is_zero w)
+abbrev pub zero_bits_of : Lanes → ℕ
+zero_bits_of w = mask_l (map is_zero w)
 
-abbrev pub ones_of : Lanes → ℕ
-ones_of w = mask_l (map is_one w)
+abbrev pub one_bits_of : Lanes → ℕ
+one_bits_of w = mask_l (map is_one w)

@@ -17,7 +17,7 @@ pub struct Word {
 
 impl Model for Word {
     ghost use Rattle.ht_lanes.specs.Lanes.{Lanes};
-    ghost use Rattle.ht_lanes.specs.Rows.{AreApart, lanes_of, ones_of, zeros_of};
+    ghost use Rattle.ht_lanes.specs.Rows.{AreApart, lanes_of, one_bits_of, zero_bits_of};
     ghost use Rattle.ht_lanes.specs.Inverse.{word_back};
 
     ghost Value = { Lanes };
@@ -26,7 +26,7 @@ impl Model for Word {
 
     ghost invariant = { λ w. AreApart w.zero w.one };
 
-    ghost inverse = { λ w. record { zero = zeros_of w; one = ones_of w } };
+    ghost inverse = { λ w. record { zero = zero_bits_of w; one = one_bits_of w } };
 
     ghost inverse_ok = { λ w apart i. record {
       zero = (word_back w.zero w.one apart).0 i;
