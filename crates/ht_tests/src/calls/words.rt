@@ -32,6 +32,19 @@ fn is_job(job: &Job, names: &[&str]) -> bool {
                 && names[3] == report.as_str()
                 && names[4] == proofs.as_str()
         }
+        Job::Check {
+            netlist,
+            tests,
+            report,
+            proofs,
+        } => {
+            names.len() == 5
+                && names[0] == "check"
+                && names[1] == netlist.as_str()
+                && names[2] == tests.as_str()
+                && names[3] == report.as_str()
+                && names[4] == proofs.as_str()
+        }
         Job::Norm { netlist, out } => {
             names.len() == 3
                 && names[0] == "norm"
@@ -80,6 +93,7 @@ const ROWS: &[(&[&str], &[&str])] = &[
     (&["sim", "--", "--", "t", "r"], &["sim", "--", "t", "r"]),
     (&["sim", "n", "--", "t", "--"], &["sim", "n", "t", "--"]),
     (&["gen", "n", "t", "r", "p"], &["gen", "n", "t", "r", "p"]),
+    (&["check", "n", "t", "--", "-r", "p"], &["check", "n", "t", "-r", "p"]),
     (
         &["gen", "--", "n", "-t", "--r", "--budget"],
         &["gen", "n", "-t", "--r", "--budget"],
