@@ -18,5 +18,5 @@ pub use step_text::write_step;
 pub use text_size::TextSize;
 pub use theorems::{
     accepted_netlists_have_plain_names, accepted_netlists_have_short_names, files_grow_by_steps,
-    proofs_begin_and_end,
+    generated_files_have_no_trouble, proofs_begin_and_end,
 };

@@ -1,12 +1,17 @@
 //! Laws of the files. Each theorem is the contract of a function that does nothing.
 ghost use Rattle.std.specs.Prelude.{◌≡◌, ◌++◌, ◌∷◌, [], ℕ, List};
-ghost use Rattle.ht_net.specs.Netlist.{Netlist};
+ghost use Rattle.ht_net.specs.Netlist.{Netlist, IsCircuit};
 ghost use Rattle.ht_bench.specs.Text.{IsNetlistOf};
+ghost use Rattle.ht_collapse.specs.Classes.{AreClasses};
 ghost use Rattle.ht_texts.specs.Lines.{with_lf};
 ghost use Rattle.ht_texts.specs.SearchReports.{HasPlainNames, HasShortNames};
 ghost use Rattle.ht_entries.specs.declared.proof_line.ProofLine.TheVariants as line;
 ghost use Rattle.ht_entries.specs.ProofLines.{line_text};
+ghost use Rattle.ht_valid.specs.declared.trouble.Trouble.{Trouble};
+ghost use Rattle.ht_valid.specs.FirstTrouble.{IsFirstTrouble};
 ghost use Rattle.ht_engine.specs.declared.step.Step as made;
+ghost use Rattle.ht_engine.specs.Steps.{Settings};
+ghost use Rattle.ht_files.specs.Generated.{IsGenerated};
 ghost use Rattle.ht_files.specs.StepTexts.{proofs_of, proofs_so_far, proofs_step, tests_of, tests_step};
 
 /// No name of a circuit that was read has an LF or a CR.
@@ -32,4 +37,12 @@ pub fn proofs_begin_and_end()
     ensures begin { proofs_so_far [] ≡ with_lf (line_text line.Head) }
     ensures end { (steps : List made.Step)
         → proofs_of steps ≡ proofs_so_far steps ++ with_lf (line_text line.End) }
+{}
+
+/// What a finished generator writes has no trouble, so each checker that keeps the definition accepts it.
+pub fn generated_files_have_no_trouble()
+    ensures { (c : Netlist) (representatives : List ℕ) (settings : Settings)
+        (tests report proofs total : List ℕ) (trouble : Trouble) → IsCircuit c
+        → AreClasses c representatives → IsGenerated c settings tests report proofs total
+        → ¬ IsFirstTrouble c representatives tests report proofs trouble }
 {}
