@@ -51,19 +51,6 @@ fn is_job(job: &Job, names: &[&str]) -> bool {
                 && names[1] == netlist.as_str()
                 && names[2] == out.as_str()
         }
-        Job::Check {
-            netlist,
-            tests,
-            report,
-            proofs,
-        } => {
-            names.len() == 5
-                && names[0] == "check"
-                && names[1] == netlist.as_str()
-                && names[2] == tests.as_str()
-                && names[3] == report.as_str()
-                && names[4] == proofs.as_str()
-        }
         Job::Demo { .. } => false,
     }
 }
