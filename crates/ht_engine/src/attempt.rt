@@ -23,7 +23,7 @@ pub enum Attempted {
 }
 
 // The told frame of a fault that an attempt is made at, and the budget of each search.
-#[derive(Clone, Copy)]
+#[derive(Drop)]
 struct Task<'a> {
     circuit: &'a Circuit,
     fault: Fault,
@@ -55,18 +55,18 @@ pub fn attempt_first(
                 budget,
                 told,
             };
-            attempt(alloc, task)
+            attempt(alloc, &task)
         },
     }
 }
 
 // The attempt at a told frame.
-fn attempt(alloc: Global, task: Task<'_>) -> Result<Attempted, AllocError>
-    requires { IsFrameSpot task.told.now.place }
+fn attempt(alloc: Global, task: &Task<'_>) -> Result<Attempted, AllocError>
+    requires { IsFrameSpot task.now.told.now.place }
     ensures answer { IfOk result
-        (IsAttempted task.circuit.now task.fault task.budget (task.told.now ∷ [])) }
+        (IsAttempted task.now.circuit.now task.now.fault task.now.budget (task.now.told.now ∷ [])) }
     ensures holds { IfOk result
-        (AttemptHolds task.circuit.now task.fault task.budget (task.told.now ∷ [])) }
+        (AttemptHolds task.now.circuit.now task.now.fault task.now.budget (task.now.told.now ∷ [])) }
 {
     let frame = ToldFrame::of(alloc, task.circuit, task.told)?;
     match search_ahead(alloc, task, &frame)? {
@@ -77,13 +77,14 @@ fn attempt(alloc: Global, task: Task<'_>) -> Result<Attempted, AllocError>
 }
 
 // The search ahead of a told frame: none where its place is an output.
-fn search_ahead(alloc: Global, task: Task<'_>, frame: &ToldFrame) -> Result<Ahead, AllocError>
-    requires place { IsFrameSpot task.told.now.place }
-    requires frame { IsFrameOf task.circuit.now task.told.now frame.now }
+fn search_ahead(alloc: Global, task: &Task<'_>, frame: &ToldFrame) -> Result<Ahead, AllocError>
+    requires place { IsFrameSpot task.now.told.now.place }
+    requires frame { IsFrameOf task.now.circuit.now task.now.told.now frame.now }
     ensures answer { IfOk result
-        (IsAheadOf task.circuit.now task.fault task.budget task.told.now task.told.now.place) }
+        (IsAheadOf task.now.circuit.now task.now.fault task.now.budget task.now.told.now
+        task.now.told.now.place) }
     ensures holds { IfOk result
-        (AheadOfHolds task.circuit.now task.fault task.budget task.told.now) }
+        (AheadOfHolds task.now.circuit.now task.now.fault task.now.budget task.now.told.now) }
 {
     match task.told.place {
         Spot::Output(_) | Spot::Cube => Ok(Ahead::Found {
@@ -99,21 +100,22 @@ fn search_ahead(alloc: Global, task: Task<'_>, frame: &ToldFrame) -> Result<Ahea
 // The search back to the latches of a told frame, where a list ahead was found.
 fn search_back(
     alloc: Global,
-    task: Task<'_>,
+    task: &Task<'_>,
     frame: &ToldFrame,
     ahead: Vectors,
 ) -> Result<Attempted, AllocError>
-    requires place { IsFrameSpot task.told.now.place }
-    requires frame { IsFrameOf task.circuit.now task.told.now frame.now }
-    requires found { FindsAhead task.circuit.now task.fault task.budget task.told.now ahead }
-    requires goes { IsListAheadOf task.circuit.now task.fault task.told.now ahead }
+    requires place { IsFrameSpot task.now.told.now.place }
+    requires frame { IsFrameOf task.now.circuit.now task.now.told.now frame.now }
+    requires found { FindsAhead task.now.circuit.now task.now.fault task.now.budget
+        task.now.told.now ahead }
+    requires goes { IsListAheadOf task.now.circuit.now task.now.fault task.now.told.now ahead }
     ensures answer { IfOk result
-        (IsAttempted task.circuit.now task.fault task.budget (task.told.now ∷ [])) }
+        (IsAttempted task.now.circuit.now task.now.fault task.now.budget (task.now.told.now ∷ [])) }
     ensures holds { IfOk result
-        (AttemptHolds task.circuit.now task.fault task.budget (task.told.now ∷ [])) }
+        (AttemptHolds task.now.circuit.now task.now.fault task.now.budget (task.now.told.now ∷ [])) }
 {
     match justify(alloc, task.circuit, &frame.cube, BACK_LIMIT, task.budget)? {
-        Back::Reached { list } => { compose(alloc, task, frame, list, ahead) },
+        Back::Reached { list } => compose(alloc, task, frame, list, ahead),
         Back::Closed { tokens } => Ok(Attempted::Failed(Some(Aim::BackClosed(tokens)))),
         Back::Spent { tokens } => Ok(Attempted::Failed(Some(Aim::BackOpen(tokens)))),
     }
@@ -122,20 +124,21 @@ fn search_back(
 // The list back, the frame's vector and the list ahead, where they detect the fault.
 fn compose(
     alloc: Global,
-    task: Task<'_>,
+    task: &Task<'_>,
     frame: &ToldFrame,
     before: Vectors,
     ahead: Vectors,
 ) -> Result<Attempted, AllocError>
-    requires frame { IsFrameOf task.circuit.now task.told.now frame.now }
-    requires found { FindsBoth task.circuit.now task.fault task.budget task.told.now before ahead }
-    requires back { IsListBack task.circuit.now
-        (told_cube task.circuit.now task.told.now) back_limit before }
-    requires goes { IsListAheadOf task.circuit.now task.fault task.told.now ahead }
+    requires frame { IsFrameOf task.now.circuit.now task.now.told.now frame.now }
+    requires found { FindsBoth task.now.circuit.now task.now.fault task.now.budget
+        task.now.told.now before ahead }
+    requires back { IsListBack task.now.circuit.now
+        (told_cube task.now.circuit.now task.now.told.now) back_limit before }
+    requires goes { IsListAheadOf task.now.circuit.now task.now.fault task.now.told.now ahead }
     ensures answer { IfOk result
-        (IsAttempted task.circuit.now task.fault task.budget (task.told.now ∷ [])) }
+        (IsAttempted task.now.circuit.now task.now.fault task.now.budget (task.now.told.now ∷ [])) }
     ensures holds { IfOk result
-        (AttemptHolds task.circuit.now task.fault task.budget (task.told.now ∷ [])) }
+        (AttemptHolds task.now.circuit.now task.now.fault task.now.budget (task.now.told.now ∷ [])) }
 {
     let list = joined(alloc, task.circuit, &before, &frame.vector, &ahead)?;
     match first(alloc, task.circuit, task.fault, &list)? {
