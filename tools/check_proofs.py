@@ -211,30 +211,33 @@ class Circuit(NamedTuple):
         return self.inputs + len(self.data)
 
 
-def cycle_or_order(reads):
-    """The names of a mapping, each after those in its list that are names of it; or the names of a cycle.
+def cycle_below(root, reads, done):
+    """Adds a name and all that it reads, directly or not, to those that are done, each after what it reads; or gives the
+    names of a cycle among them, each read by the next, and the last by the first. What isn't a name of `reads` is no part."""
+    path, waiting = {}, [(root, None)]
+    while waiting:
+        name, rest = waiting.pop()
+        if rest is None:
+            if name in done:
+                continue
+            if name in path:
+                return list(path)[list(path).index(name) :][::-1]
+            path[name], rest = True, iter(reads[name])
+        argument = next((argument for argument in rest if argument in reads), None)
+        if argument is None:
+            del path[name]
+            done[name] = True
+        else:
+            waiting += [(name, rest), (argument, None)]
+    return None
 
-    In a cycle each name stands in the list of the next, and the last in that of the first.
-    """
-    order, done = [], set()
-    for root in reads:
-        path, waiting = {}, [(root, None)]
-        while waiting:
-            name, rest = waiting.pop()
-            if rest is None:
-                if name in done:
-                    continue
-                if name in path:
-                    return None, list(path)[list(path).index(name) :][::-1]
-                path[name], rest = True, iter(reads[name])
-            argument = next((argument for argument in rest if argument in reads), None)
-            if argument is None:
-                del path[name]
-                done.add(name)
-                order.append(name)
-            else:
-                waiting += [(name, rest), (argument, None)]
-    return order, None
+
+def order_of(reads):
+    """The names of a mapping, each after those that it reads, and a cycle among them or None."""
+    done = {}
+    cycles = (cycle_below(root, reads, done) for root in reads)
+    cycle = next((cycle for cycle in cycles if cycle is not None), None)
+    return list(done), cycle
 
 
 def judge_whole(draft):
@@ -243,7 +246,7 @@ def judge_whole(draft):
         if name not in draft.drivers:
             raise Refused(b"line %d: undriven %s" % (line, name))
     gates = {name: s.names[1:] for name, (_, s) in draft.drivers.items() if s.kind not in (b"INPUT", b"DFF")}
-    order, cycle = cycle_or_order(gates)
+    order, cycle = order_of(gates)
     if cycle is not None:
         in_cycle = set(cycle)
         first = cycle.index(next(name for name in draft.mentions if name in in_cycle))
