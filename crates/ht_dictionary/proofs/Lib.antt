@@ -1,0 +1,5 @@
+pub mod ContradictionLaws
+pub mod ConsistencyLaws
+pub mod DiagnosisLaws
+pub mod RowTextLaws
+pub mod DiagnosisTextLaws

@@ -1,8 +1,8 @@
 //! The first contradiction of one machine with an observation.
 ghost use Rattle.std.specs.Prelude.{◌≡◌, ℕ, ◌<◌, length, IfOk, MatchOption};
 ghost use Rattle.std.specs.Option.{ForSome};
+ghost use Rattle.ht_net.specs.Detection.{IsPlace};
 ghost use Rattle.ht_serial.specs.Opposites.{IsOppositeAt};
-ghost use Rattle.ht_serial.specs.Places.{IsWithin};
 ghost use Rattle.ht_dictionary.specs.Contradictions.{IsFirstContradiction, IsObservedOver};
 
 use crate::observation::Observation;
@@ -43,7 +43,7 @@ pub fn first_contradiction(
     requires { IsObservedOver circuit.now list.now observation.now }
     ensures first { IfOk result (λ place. IsFirstContradiction circuit.now fault
         list.now.list observation.now.rows place) }
-    ensures within { IfOk result (λ place. ForSome place (IsWithin circuit.now list.now.list)) }
+    ensures place { IfOk result (λ place. ForSome place (IsPlace circuit.now)) }
 {
     let mut machine = Machine::start(alloc, circuit, fault)?;
     for t in 0..list.len() {

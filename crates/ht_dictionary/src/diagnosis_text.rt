@@ -4,7 +4,9 @@ ghost use Rattle.std.specs.Option.{ForSome};
 ghost use Rattle.ht_net.specs.Detection.{IsPlace};
 ghost use Rattle.ht_faults.specs.Sites.{faults_of};
 ghost use Rattle.ht_collapse.specs.Classes.{AreClasses, class_count, is_representative};
+ghost use Rattle.std.specs.Fmt.{decimal};
 ghost use Rattle.ht_texts.specs.Lines.{with_lf};
+ghost use Rattle.ht_texts.specs.Sites.{output_text};
 ghost use Rattle.ht_dictionary.specs.Diagnoses.{IsDiagnosisOf};
 ghost use Rattle.ht_dictionary.specs.DiagnosisTexts.{contradiction_text, diagnosis_head, good_line, diagnosed_line};
 ghost use Rattle.ht_dictionary.specs.DiagnosisTexts.{consistent_count, diagnosis_body, diagnosis_total};
@@ -41,7 +43,12 @@ pub fn write_diagnosis_body(
         ≡ diagnosis_body circuit.now classes.now vectors diagnosis.now) }
 {
     let mut body = Vec::new(alloc);
-    push_head(&mut body, vectors, faults.len(), count_classes(classes))?;
+    push_head(
+        &mut body,
+        vectors,
+        u64::from(faults.len()),
+        count_classes(classes),
+    )?;
     push_good(&mut body, circuit, diagnosis.good())?;
     for i in 0..faults.len() {
         push_diagnosed(
@@ -73,10 +80,12 @@ pub fn write_diagnosis_total(
         (λ line. line.items ≡ with_lf (diagnosis_total classes.now diagnosis.now.places)) }
 {
     let mut line = Vec::new(alloc);
-    line.extend_from_slice(b"total ")?;
-    push_number(&mut line, count_classes(classes))?;
-    line.extend_from_slice(b" consistent ")?;
-    push_number(&mut line, count_consistent(classes, diagnosis))?;
+    push_counted(&mut line, b"total ", count_classes(classes))?;
+    push_counted(
+        &mut line,
+        b" consistent ",
+        count_consistent(classes, diagnosis),
+    )?;
     line.extend_from_slice(b"\n")?;
     Ok(line)
 }
@@ -103,17 +112,15 @@ fn count_consistent(classes: &Classes, diagnosis: &Diagnosis) -> u64
 }
 
 // Appends the head line.
-fn push_head(text: &mut Vec<u8>, vectors: u64, faults: u32, classes: u64) -> Result<(), AllocError>
+fn push_head(text: &mut Vec<u8>, vectors: u64, faults: u64, classes: u64) -> Result<(), AllocError>
     ensures { OnOk result
         (text.new.items ≡ text.old.items ++ with_lf (diagnosis_head vectors faults classes)) }
 {
-    text.extend_from_slice(b"diagnosis vectors ")?;
-    push_number(text, vectors)?;
-    text.extend_from_slice(b" faults ")?;
-    push_number(text, u64::from(faults))?;
-    text.extend_from_slice(b" classes ")?;
-    push_number(text, classes)?;
-    text.extend_from_slice(b"\n")
+    push_counted(text, b"diagnosis vectors ", vectors)?;
+    push_counted(text, b" faults ", faults)?;
+    push_counted(text, b" classes ", classes)?;
+    text.extend_from_slice(b"\n")?;
+    Ok(())
 }
 
 // Appends the line of the good machine.
@@ -124,7 +131,8 @@ fn push_good(text: &mut Vec<u8>, circuit: &Circuit, place: Option<Place>) -> Res
 {
     text.extend_from_slice(b"good ")?;
     push_contradiction(text, circuit, place)?;
-    text.extend_from_slice(b"\n")
+    text.extend_from_slice(b"\n")?;
+    Ok(())
 }
 
 // Appends the line of fault `i`.
@@ -146,12 +154,14 @@ fn push_diagnosed(
 {
     let line = write_fault(alloc, circuit, faults, classes, i, Said::Undetected)?;
     if classes.of(i) != i {
-        return text.extend_from_slice(&line);
+        text.extend_from_slice(&line)?;
+        return Ok(());
     }
     // the number and the fault stand in front of the verdict
     text.extend_from_slice(&line[..line.len() - UNDETECTED.len()])?;
     push_contradiction(text, circuit, place)?;
-    text.extend_from_slice(b"\n")
+    text.extend_from_slice(b"\n")?;
+    Ok(())
 }
 
 // Appends where a machine first contradicts the observation, or that it is consistent.
@@ -165,10 +175,30 @@ fn push_contradiction(
         (text.new.items ≡ text.old.items ++ contradiction_text circuit.now place) }
 {
     let Some(place) = place else {
-        return text.extend_from_slice(b"consistent");
+        text.extend_from_slice(b"consistent")?;
+        return Ok(());
     };
-    text.extend_from_slice(b"contradicted ")?;
-    push_number(text, place.vector + 1)?;
+    push_counted(text, b"contradicted ", place.vector + 1)?;
     text.extend_from_slice(b" ")?;
-    text.extend_from_slice(circuit.name(circuit.output(place.output)))
+    text.extend_from_slice(output_name(circuit, place.output))?;
+    Ok(())
+}
+
+// The name of the net of an output.
+fn output_name(circuit: &Circuit, output: u32) -> &[u8]
+    requires { output < length circuit.now.outputs }
+    ensures { result.now ≡ output_text circuit.now output }
+{
+    let net = circuit.output(output);
+    // for the proof: the net is one of the circuit's
+    prove!(net.0 < circuit.nets());
+    circuit.name(net)
+}
+
+// Appends a word and, after it, a number.
+fn push_counted(text: &mut Vec<u8>, word: &[u8], number: u64) -> Result<(), AllocError>
+    ensures { OnOk result (text.new.items ≡ text.old.items ++ word.now ++ decimal number) }
+{
+    text.extend_from_slice(word)?;
+    push_number(text, number)
 }

@@ -11,6 +11,7 @@ ghost use Rattle.ht_dictionary.specs.Contradictions.{Explains, IsFirstContradict
 
 /// A machine that explains an observation is consistent with it: where its two-valued run from some state shows each
 /// definite value that was observed, its run from all-unknown contradicts none.
+#[tactic(auto, using(crate::proofs::ConsistencyLaws::explained_consistent))]
 pub fn explanations_are_consistent()
     ensures { (c : Netlist) (fault : Option Fault) (state : List Bool) (list : List (List Bool))
         (rows : List (List Tern)) → IsState c state → Explains c fault state list rows
