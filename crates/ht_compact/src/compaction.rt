@@ -13,7 +13,7 @@ use ht_net::{Circuit, Vectors};
 use std::alloc::{AllocError, Global};
 
 /// How many vectors a list may have that the program compacts: the time grows with their square, times the classes.
-pub const MAX_VECTORS: u64 = 4_096;
+pub const MAX_COMPACTED: u64 = 4_096;
 
 // One round, from the last vector to the first: leaves out each vector without which every wanted fault is still
 // detected. After an error some vectors may have been left out.

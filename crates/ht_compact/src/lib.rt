@@ -10,5 +10,5 @@ mod compaction_text;
 mod detected;
 mod without;
 
-pub use compaction::{MAX_VECTORS, compact};
+pub use compaction::{MAX_COMPACTED, compact};
 pub use compaction_text::write_compaction;

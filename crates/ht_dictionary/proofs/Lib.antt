@@ -3,3 +3,4 @@ pub mod ConsistencyLaws
 pub mod DiagnosisLaws
 pub mod RowTextLaws
 pub mod DiagnosisTextLaws
+pub mod ResponseLaws

@@ -1,5 +1,5 @@
 -- The text of what was observed: one line for each vector, with one character for each output.
-use Rattle.std.specs.Prelude.{◌≡◌, ◌⊎◌, ◌<◌, ◌≤◌, ℕ, List, length, map}
+use Rattle.std.specs.Prelude.{◌≡◌, ◌⊎◌, ◌<◌, ◌≤◌, ℕ, List, length, map, take}
 use Rattle.std.specs.List.{All}
 use Rattle.ht_tern.specs.declared.tern.Tern.{Tern}
 use Rattle.ht_tern.specs.declared.tern.Tern.TheVariants.{Zero, One, Unk}
@@ -48,3 +48,20 @@ IsWrongResponse width vectors text n =
 pub record IsMalformedResponse (width vectors : ℕ) (text : List ℕ) (n : ℕ) : Type 0 where
   pub wrong : IsWrongResponse width vectors text n
   pub first : (m : ℕ) → m < n → ¬ IsWrongResponse width vectors text m
+
+-- the first lines of the text are those of these rows, which have so many values each
+pub record AreFirstRows (width : ℕ) (text : List ℕ) (rows : List (List Tern)) : Type 0 where
+  pub lines : take (length rows) (lines_of text) ≡ map row_text rows
+  pub there : length rows ≤ length (lines_of text)
+  pub widths : All (λ (row : List Tern). length row ≡ width) rows
+
+-- The text is that of one list of rows, or malformed at one line: never both, and never neither.
+pub record IsResponseOrMalformed (width vectors : ℕ) (text : List ℕ) : Type 0 where
+  pub either : ((rows : List (List Tern)) × IsResponseText width vectors text rows)
+      ⊎ ((n : ℕ) × IsMalformedResponse width vectors text n)
+  pub never_both : (rows : List (List Tern)) (n : ℕ) → IsResponseText width vectors text rows
+      → ¬ IsMalformedResponse width vectors text n
+  pub one_list : (a b : List (List Tern)) → IsResponseText width vectors text a → IsResponseText width vectors text b
+      → a ≡ b
+  pub one_line : (m n : ℕ) → IsMalformedResponse width vectors text m → IsMalformedResponse width vectors text n
+      → m ≡ n

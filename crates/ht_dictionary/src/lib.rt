@@ -22,6 +22,6 @@ pub use diagnosis_text::{write_diagnosis_body, write_diagnosis_total};
 pub use observation::Observation;
 pub use row_text::read_row;
 pub use theorems::{
-    detections_contradict_the_good_machine, explanations_are_consistent,
-    members_are_contradicted_alike,
+    detections_contradict_the_good_machine, explanations_are_consistent, first_wrong_response,
+    members_are_contradicted_alike, texts_are_responses_or_malformed,
 };
