@@ -26,6 +26,17 @@ pub undetected_first : (c : Netlist) (list : List (List Bool)) (i : ℕ) (place 
 undetected_first c list i None none first is = first is.vector is.output is.detects
 undetected_first c list i (Some p) none first is = cc
 
+-- one fault more of a list of faults
+pub each_more : (c : Netlist) (list : List (List Bool)) (wanted : List ℕ) (n : ℕ) → n < length wanted
+    → ((k d : ℕ) → k < n → IsDetectedBy c list (get_or wanted k d)) → IsDetectedBy c list (get_or wanted n 0)
+    → (k d : ℕ) → k < n + 1 → IsDetectedBy c list (get_or wanted k d)
+each_more c list wanted n inside before here k d less = elim (cases_eq k n) [
+  | inl last ↦
+      subst (IsDetectedBy c list)
+      (get_or_default wanted n 0 d inside ∙ ap (λ (j : ℕ). get_or wanted j d) (sym last)) here
+  | inr other ↦ before k d (omega arith)
+]
+
 -- ---- class by class
 
 -- the representative of class k

@@ -1,6 +1,6 @@
 -- The text of a diagnosis: a head line, a line for the good machine and one for each fault, and the total. Lines are
 -- without their LF.
-use Rattle.std.specs.Prelude.{ℕ, List, [], ◌∷◌, ◌++◌, if◌then◌else◌, length, map, Option, Some, None, is_none, count_by, codes}
+use Rattle.std.specs.Prelude.{ℕ, List, ◌∷◌, ◌++◌, if◌then◌else◌, length, map, Option, Some, None, is_none, count_by, codes}
 use Rattle.std.specs.Fmt.{decimal}
 use Rattle.std.specs.List.{range_with_len}
 use Rattle.ht_net.specs.declared.place.Place.{Place}
@@ -8,7 +8,7 @@ use Rattle.ht_net.specs.Netlist.{Netlist}
 use Rattle.ht_faults.specs.Sites.{faults_of}
 use Rattle.ht_collapse.specs.Classes.{is_representative, own_representatives, class_count}
 use Rattle.ht_texts.specs.declared.said.Said.TheVariants.{Undetected}
-use Rattle.ht_texts.specs.Lines.{with_lfs}
+use Rattle.ht_texts.specs.Lines.{with_lf, with_lfs}
 use Rattle.ht_texts.specs.Verdicts.{place_text}
 use Rattle.ht_texts.specs.Reports.{line_front, fault_line}
 use Rattle.ht_dictionary.specs.DiagnosisView.{DiagnosisView}
@@ -27,7 +27,7 @@ diagnosis_head vectors faults classes =
     codes "diagnosis vectors " ++ decimal vectors ++ codes " faults " ++ decimal faults
     ++ codes " classes " ++ decimal classes
 
--- the good machine
+-- the good machine with its contradiction
 abbrev pub good_line : Netlist → Option Place → List ℕ
 good_line c place = codes "good " ++ contradiction_text c place
 
@@ -49,6 +49,7 @@ abbrev pub consistent_count : List ℕ → List (Option Place) → ℕ
 consistent_count representatives places =
     count_by (λ i. is_none (contradiction_at places i)) (own_representatives representatives)
 
+-- how many classes there are, and of how many the representative is consistent
 abbrev pub diagnosis_total : List ℕ → List (Option Place) → List ℕ
 diagnosis_total representatives places =
     codes "total " ++ decimal (class_count representatives) ++ codes " consistent "
@@ -67,7 +68,8 @@ abbrev pub diagnosis_body : Netlist → List ℕ → ℕ → DiagnosisView → L
 diagnosis_body c representatives vectors diagnosis =
     with_lfs (first_diagnosis_lines c representatives vectors diagnosis (length (faults_of c)))
 
+-- the whole text
 abbrev pub diagnosis_text : Netlist → List ℕ → ℕ → DiagnosisView → List ℕ
 diagnosis_text c representatives vectors diagnosis =
     diagnosis_body c representatives vectors diagnosis
-    ++ with_lfs (diagnosis_total representatives diagnosis.places ∷ [])
+    ++ with_lf (diagnosis_total representatives diagnosis.places)

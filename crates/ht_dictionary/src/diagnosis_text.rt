@@ -1,10 +1,10 @@
 //! The text of a diagnosis.
 ghost use Rattle.std.specs.Prelude.{◌≡◌, ◌<◌, ◌++◌, true, length, IfOk, OnOk};
+ghost use Rattle.std.specs.Fmt.{decimal};
 ghost use Rattle.std.specs.Option.{ForSome};
 ghost use Rattle.ht_net.specs.Detection.{IsPlace};
 ghost use Rattle.ht_faults.specs.Sites.{faults_of};
 ghost use Rattle.ht_collapse.specs.Classes.{AreClasses, class_count, is_representative};
-ghost use Rattle.std.specs.Fmt.{decimal};
 ghost use Rattle.ht_texts.specs.Lines.{with_lf};
 ghost use Rattle.ht_texts.specs.Sites.{output_text};
 ghost use Rattle.ht_dictionary.specs.Diagnoses.{IsDiagnosisOf};

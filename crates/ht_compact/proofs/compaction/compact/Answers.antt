@@ -29,7 +29,7 @@ returns-then-len-before-clause-compacted c =
     let wanted = c.in_ok-wanted.wanted.items in
     let round = c.in_ok-leave_out.ensures in
     let same : length kept ≡ length before =
-    sym c.len-in-loop-kept.ensures ∙ c.if-len-before.true ∙ c.len-before.ensures in
+    omega (arith, c.len-in-loop-kept.ensures, c.if-len-before.true, c.len-before.ensures) in
     compacted circuit c.args.classes.now list kept wanted c.in_ok-wanted.ensures
     (leaves_out_more list before kept c.loop-kept.invariant.in_order round.in_order)
     (subst (λ (l : List ℕ). DetectsEach circuit l kept) c.deref.ensures.value round.detected)
