@@ -1,0 +1,9 @@
+pub mod GroupView
+pub mod Overlays
+pub mod OverlayOf
+pub mod Schedules
+pub mod LaneRules
+pub mod StuckTables
+pub mod Pending
+pub mod GoodFrames
+pub mod GroupOf

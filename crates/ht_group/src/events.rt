@@ -1,0 +1,71 @@
+//! One pass of events over the nets, in the order of the schedule.
+ghost use Rattle.std.specs.Prelude.{◌≡◌, ◌<◌, ◌≤◌, ◌+◌, ◌⊎◌, ℕ, true, false, length, get_or, All};
+ghost use Rattle.std.specs.List.{Contains};
+ghost use Rattle.ht_net.specs.Netlist.{first_gate_net, net_count};
+ghost use Rattle.ht_group.specs.LaneRules.{lane_rules};
+ghost use Rattle.ht_group.specs.Overlays.{word_at};
+ghost use Rattle.ht_group.specs.Pending.{QuietHaveValues};
+ghost use Rattle.ht_group.specs.Schedules.{IsSchedule};
+ghost use Rattle.ht_group.specs.StuckTables.{AreStuck};
+
+use crate::bit_set::BitSet;
+use crate::evaluate::{PIN_ROOM, evaluate};
+use crate::overlay::Overlay;
+use crate::schedule::Schedule;
+use crate::stuck_lines::StuckLines;
+use ht_lanes::Word;
+use ht_net::Circuit;
+
+/// Makes nets pending, by their ranks.
+pub fn touch(ranks: &[u32], pending: &mut BitSet)
+{
+    for rank in ranks {
+        pending.insert(*rank);
+    }
+}
+
+// Evaluates the net of a rank, which is pending no more; where its word changes, the nets that read it are pending.
+fn fire(
+    circuit: &Circuit,
+    schedule: &Schedule,
+    lines: &StuckLines,
+    sources: &[Word],
+    pending: &mut BitSet,
+    nets: &mut Overlay,
+    pins: &mut [Word],
+    rank: u32,
+)
+{
+    let net = schedule.order[rank as usize];
+    pending.remove(rank);
+    let word = evaluate(circuit, lines, sources, nets.words(), pins, net);
+    if !word.same(nets.words()[net as usize]) {
+        nets.set(net, word);
+        touch(schedule.readers.row(net as usize), pending);
+    }
+}
+
+/// Evaluates each net that is pending, in the order of the schedule, and then those that read what changed. None is left,
+/// and none is evaluated twice. Says how many of them were gates.
+pub fn settle(
+    circuit: &Circuit,
+    schedule: &Schedule,
+    lines: &StuckLines,
+    sources: &[Word],
+    pending: &mut BitSet,
+    nets: &mut Overlay,
+    pins: &mut [Word],
+) -> u32
+{
+    let first_gate_net = circuit.inputs() + circuit.dffs();
+    let mut gates = 0;
+    let mut from = 0;
+    while let Some(rank) = pending.next(from) {
+        fire(circuit, schedule, lines, sources, pending, nets, pins, rank);
+        if rank >= first_gate_net {
+            gates += 1;
+        }
+        from = rank + 1;
+    }
+    gates
+}
