@@ -8,11 +8,11 @@ use Rattle.ht_net.specs.Netlist.{Netlist, first_gate_net, net_count, IsCircuit}
 use Rattle.ht_net.specs.Frame.{net_value}
 use Rattle.ht_net.specs.Faults.{tern_rules}
 use Rattle.ht_group.specs.GroupView.{FaultyMachine, GroupView}
-use Rattle.ht_group.specs.LaneRules.{lane_rules}
+use Rattle.ht_group.specs.LaneRules.{in_lane}
 use Rattle.ht_group.specs.Overlays.{word_at}
 use Rattle.ht_group.specs.Pending.{QuietHaveValues}
 use Rattle.ht_group.specs.Schedules.{IsSchedule}
-use Rattle.ht_group.specs.StuckTables.{IsStuckTable}
+use Rattle.ht_group.specs.StuckTables.{AreStuck}
 use Rattle.ht_group.specs.GoodFrames.{IsGoodFrame}
 use Rattle.ht_group.specs.declared.group.Group.TheInside.{Inside}
 
@@ -20,7 +20,7 @@ use Rattle.ht_group.specs.declared.group.Group.TheInside.{Inside}
 abbrev pub machines_from : ℕ → List Fault → List Lanes → List FaultyMachine
 machines_from k [] latches = []
 machines_from k (fault ∷ faults) latches =
-    record { fault = fault; latches = map (λ (w : Lanes). lane w k) latches } ∷ machines_from (k + 1) faults latches
+    record { fault = fault; latches = in_lane k latches } ∷ machines_from (k + 1) faults latches
 
 -- the fields as a group
 abbrev pub group_of : Inside → GroupView
@@ -37,7 +37,7 @@ group_of a = record {
 pub record IsGroup (a : Inside) : Type 0 where
   pub circuit : IsCircuit a.circuit.now
   pub schedule : IsSchedule a.circuit.now a.schedule
-  pub stuck : IsStuckTable a.circuit.now a.lines.faults.items a.lines.ones a.lines.table.items
+  pub stuck : AreStuck a.circuit.now a.lines
   pub frame : IsGoodFrame a.circuit.now a.frame
   pub sources : a.sources.good ≡ a.frame.sources.items
   pub nets : a.nets.good ≡ a.frame.values.items
@@ -45,8 +45,7 @@ pub record IsGroup (a : Inside) : Type 0 where
   pub net_words : length a.nets.words ≡ net_count a.circuit.now
   pub marks : length a.pending ≡ net_count a.circuit.now
   pub room : length a.pins.items ≡ 256
-  pub inputs : (x k : ℕ) → x < a.circuit.now.inputs → k < 64 → lane (word_at a.sources.words x) k ≡ get_or a.sources.good x Unk
-  pub spare : (x k : ℕ) → x < first_gate_net a.circuit.now → length a.lines.faults.items ≤ k → k < 64
-      → lane (word_at a.sources.words x) k ≡ get_or a.sources.good x Unk
+  pub inputs : (k : ℕ) → k < 64 → take a.circuit.now.inputs (in_lane k a.sources.words) ≡ take a.circuit.now.inputs a.sources.good
+  pub spare : (k : ℕ) → length a.lines.faults.items ≤ k → k < 64 → in_lane k a.sources.words ≡ a.sources.good
   pub quiet : QuietHaveValues a.circuit.now a.schedule a.lines.faults.items a.sources.words a.pending a.nets.words
   pub settled : a.settled ≡ true → (r : ℕ) → get_or a.pending r false ≡ false

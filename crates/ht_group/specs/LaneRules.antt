@@ -1,6 +1,7 @@
 -- Up to 64 machines in one, a fault to a lane.
-use Rattle.std.specs.Prelude.{◌≡◌, ◌<◌, ◌-◌, ℕ, List, get_or, if◌then◌else◌, nat_lt}
+use Rattle.std.specs.Prelude.{◌≡◌, ◌-◌, ℕ, List, get_or, map, if◌then◌else◌, nat_lt}
 use Rattle.std.specs.List.{slice_get}
+use Rattle.ht_tern.specs.declared.tern.Tern.{Tern}
 use Rattle.ht_tern.specs.declared.tern.Tern.TheVariants.{Unk}
 use Rattle.ht_lanes.specs.Lanes.{Lanes, lane, each_lane, every_lane, gate_lanes}
 use Rattle.ht_net.specs.declared.fault.Fault.{Fault}
@@ -27,3 +28,7 @@ drive_from c r sources env x =
 -- net x has the value that its driver and its stem give it
 abbrev pub HasItsValue : {V : Type 0} → Netlist → Rules V → List V → (ℕ → V) → ℕ → Type 0
 HasItsValue c r sources env x = env x ≡ r.stem x (drive_from c r sources env x)
+
+-- what lane k has of a list of words
+abbrev pub in_lane : ℕ → List Lanes → List Tern
+in_lane k words = map (λ (w : Lanes). lane w k) words

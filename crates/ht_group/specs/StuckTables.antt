@@ -1,11 +1,12 @@
 -- A table that has, for each line, the lanes whose fault stands there.
-use Rattle.std.specs.Prelude.{◌≡◌, ◌<◌, ◌≤◌, ◌+◌, ◌==◌, ℕ, List, Bool, false, length, get_or, Option, Some, None}
+use Rattle.std.specs.Prelude.{◌≡◌, ◌<◌, ◌≤◌, ◌+◌, ◌*◌, ◌%◌, ◌^◌, ◌==◌, ℕ, List, Bool, false, length, get_or, bit_and, bit_or, Option, Some, None, if◌then◌else◌}
+use Rattle.std.specs.Int.{bit_not, w64}
 use Rattle.std.specs.List.{slice_get}
 use Rattle.ht_lanes.specs.Lanes.{is_set}
 use Rattle.ht_net.specs.declared.fault.Site.{Site}
 use Rattle.ht_net.specs.declared.fault.Site.TheVariants.{Stem, DffPin, GatePin}
 use Rattle.ht_net.specs.declared.fault.Fault.{Fault}
-use Rattle.ht_net.specs.Netlist.{Netlist, net_count, IsCircuit}
+use Rattle.ht_net.specs.Netlist.{Netlist, first_gate_net, net_count, IsCircuit}
 use Rattle.ht_group.specs.GroupView.{HasSite, max_machines}
 use Rattle.ht_group.specs.declared.stuck_lines.StuckLines.{StuckLines}
 
@@ -30,6 +31,38 @@ slot_of c (DffPin j) = dff_slot c j
 abbrev pub is_at_slot : Netlist → Option Fault → ℕ → Bool
 is_at_slot c None s = false
 is_at_slot c (Some fault) s = s == slot_of c fault.site
+
+-- the bits with bit k as given
+abbrev pub with_bit : ℕ → ℕ → Bool → ℕ
+with_bit bits k bit =
+    if bit then bit_or bits (1 * 2 ^ k % 2 ^ 64) else bit_and bits (bit_not w64 (1 * 2 ^ k % 2 ^ 64))
+
+-- whether a site is some pin of gate g
+abbrev pub is_pin_of : Site → ℕ → Bool
+is_pin_of (Stem x) g = false
+is_pin_of (DffPin j) g = false
+is_pin_of (GatePin h i) g = g == h
+
+-- whether a site is pin i of some gate
+abbrev pub is_pin_number : Site → ℕ → Bool
+is_pin_number (Stem x) i = false
+is_pin_number (DffPin j) i = false
+is_pin_number (GatePin g k) i = i == k
+
+-- there is a fault, and it is at a pin of gate g
+abbrev pub is_at_gate : Option Fault → ℕ → Bool
+is_at_gate None g = false
+is_at_gate (Some fault) g = is_pin_of fault.site g
+
+-- a set of lanes has those whose fault is at a pin of gate g
+abbrev pub AreGateLanes : List Fault → ℕ → ℕ → Type 0
+AreGateLanes faults g lanes = (k : ℕ) → k < 64 → is_set lanes k ≡ is_at_gate (slice_get faults k) g
+
+-- the net whose driver or stem a fault at a site changes; none where the site is a data pin
+abbrev pub forced_net_of : Netlist → Site → Option ℕ
+forced_net_of c (Stem x) = Some x.0
+forced_net_of c (GatePin g i) = Some (first_gate_net c + g)
+forced_net_of c (DffPin j) = None
 
 -- The table has the faults: at each slot the lanes whose fault is there, and in `ones` the lanes that are stuck at 1.
 pub record IsStuckTable (c : Netlist) (faults : List Fault) (ones : ℕ) (table : List ℕ) : Type 0 where

@@ -1,18 +1,20 @@
 //! The words of a net from those that its driver reads.
 ghost use Rattle.std.specs.Prelude.{◌≡◌, ◌<◌, ◌≤◌, ◌+◌, ◌&&◌, ◌==◌, ℕ, length, get_or, set, if◌then◌else◌};
+ghost use Rattle.std.specs.List.{slice_get};
 ghost use Rattle.ht_tern.specs.Gate.{HasArity, gate_value_over, operation_of, tern_of};
 ghost use Rattle.ht_lanes.specs.Lanes.{lane, with_lane};
 ghost use Rattle.ht_net.specs.Netlist.{first_gate_net, net_count, no_net};
 ghost use Rattle.ht_net.specs.Frame.{gate_output, values_at};
+ghost use Rattle.ht_net.specs.Faults.{tern_rules};
 ghost use Rattle.ht_frame.specs.Values.{env_of};
 ghost use Rattle.ht_group.specs.LaneRules.{drive_from, lane_rules};
 ghost use Rattle.ht_group.specs.Overlays.{word_at};
-ghost use Rattle.ht_group.specs.StuckTables.{AreStuck, is_pin_number};
+ghost use Rattle.ht_group.specs.StuckTables.{AreGateLanes, AreStuck, is_pin_number};
 
 use crate::stuck_lines::StuckLines;
 use ht_lanes::{Word, eval_word};
 use ht_net::{Circuit, Fault, NetId, Site};
-use ht_tern::{GateOperations, Kind};
+use ht_tern::{GateOperations, Kind, Tern};
 
 /// Room for the pins of a gate: one for each number of a pin.
 pub const PIN_ROOM: usize = 256;
@@ -92,18 +94,29 @@ fn stick_pin(pins: &mut [Word], fault: Fault, k: u32)
 }
 
 // Sticks the pins of a gate whose words stand in `pins`, each lane as its fault says.
-fn stick_pins(lines: &StuckLines, lanes: u64, g: u32, pins: &mut [Word])
+fn stick_pins(faults: &[Fault], lanes: u64, g: u32, pins: &mut [Word])
+    requires lanes { AreGateLanes faults.now g lanes }
+    requires room { length pins.old ≡ PIN_ROOM }
+    ensures room { length pins.new ≡ PIN_ROOM }
+    ensures lanes { (i k : ℕ) → i < PIN_ROOM → k < 64 → lane (word_at pins.new i) k
+        ≡ (tern_rules (slice_get faults.now k)).pin g i (lane (word_at pins.old i) k) }
 {
     let mut rest = lanes;
     while rest != 0 {
         let k = rest.trailing_zeros();
-        stick_pin(pins, lines.faults[k as usize], k);
+        stick_pin(pins, faults[k as usize], k);
         rest &= !(1 << k);
     }
 }
 
 // What a gate gives its net, before the net's stem. `pins` is room for the pins of one gate.
-fn gate_output(circuit: &Circuit, lines: &StuckLines, words: &[Word], pins: &mut [Word], g: u32) -> Word
+fn gate_output(
+    circuit: &Circuit,
+    lines: &StuckLines,
+    words: &[Word],
+    pins: &mut [Word],
+    g: u32,
+) -> Word
     requires stuck { AreStuck circuit.now lines.now }
     requires gate { g < length circuit.now.gates }
     requires words { length words.now ≡ net_count circuit.now }
@@ -119,7 +132,7 @@ fn gate_output(circuit: &Circuit, lines: &StuckLines, words: &[Word], pins: &mut
         return eval_nets(kind, args, words);
     }
     read_pins(args, words, pins);
-    stick_pins(lines, lanes, g, pins);
+    stick_pins(&lines.faults, lanes, g, pins);
     eval_word(kind, &pins[..args.len()])
 }
 

@@ -16,8 +16,15 @@ use crate::stuck_lines::StuckLines;
 use ht_lanes::Word;
 use ht_net::Circuit;
 
-/// Makes nets pending, by their ranks.
-pub fn touch(ranks: &[u32], pending: &mut BitSet)
+// Makes nets pending, by their ranks.
+fn touch(ranks: &[u32], pending: &mut BitSet)
+    requires { All (λ r. r < length pending.old) ranks.now }
+    ensures marks { length pending.new ≡ length pending.old }
+    ensures all { (r : ℕ) → Contains ranks.now r → get_or pending.new r false ≡ true }
+    ensures more { (r : ℕ) → get_or pending.old r false ≡ true
+        → get_or pending.new r false ≡ true }
+    ensures rest { (r : ℕ) → ¬ Contains ranks.now r
+        → get_or pending.new r false ≡ get_or pending.old r false }
 {
     for rank in ranks {
         pending.insert(*rank);
@@ -35,6 +42,22 @@ fn fire(
     pins: &mut [Word],
     rank: u32,
 )
+    requires schedule { IsSchedule circuit.now schedule.now }
+    requires stuck { AreStuck circuit.now lines.now }
+    requires sources { length sources.now ≡ first_gate_net circuit.now }
+    requires marks { length pending.old ≡ net_count circuit.now }
+    requires nets { length nets.old.good ≡ net_count circuit.now }
+    requires room { length pins.old ≡ PIN_ROOM }
+    requires rank { rank < net_count circuit.now }
+    requires quiet { QuietHaveValues circuit.now schedule.now lines.now.faults.items sources.now
+        pending.old nets.old.words }
+    ensures quiet { QuietHaveValues circuit.now schedule.now lines.now.faults.items sources.now
+        pending.new nets.new.words }
+    ensures marks { length pending.new ≡ length pending.old }
+    ensures good { nets.new.good ≡ nets.old.good }
+    ensures taken { get_or pending.new rank false ≡ false }
+    ensures before { (r : ℕ) → r < rank
+        → get_or pending.new r false ≡ get_or pending.old r false }
 {
     let net = schedule.order[rank as usize];
     pending.remove(rank);
@@ -56,6 +79,20 @@ pub fn settle(
     nets: &mut Overlay,
     pins: &mut [Word],
 ) -> u32
+    requires schedule { IsSchedule circuit.now schedule.now }
+    requires stuck { AreStuck circuit.now lines.now }
+    requires sources { length sources.now ≡ first_gate_net circuit.now }
+    requires marks { length pending.old ≡ net_count circuit.now }
+    requires nets { length nets.old.good ≡ net_count circuit.now }
+    requires room { length pins.old ≡ PIN_ROOM }
+    requires quiet { QuietHaveValues circuit.now schedule.now lines.now.faults.items sources.now
+        pending.old nets.old.words }
+    ensures quiet { QuietHaveValues circuit.now schedule.now lines.now.faults.items sources.now
+        pending.new nets.new.words }
+    ensures marks { length pending.new ≡ length pending.old }
+    ensures good { nets.new.good ≡ nets.old.good }
+    ensures none { (r : ℕ) → get_or pending.new r false ≡ false }
+    ensures steps { result ≤ length circuit.now.gates }
 {
     let first_gate_net = circuit.inputs() + circuit.dffs();
     let mut gates = 0;

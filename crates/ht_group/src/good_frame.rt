@@ -1,8 +1,8 @@
 //! One frame of the good machine.
-ghost use Rattle.std.specs.Prelude.{◌≡◌, ◌<◌, ◌++◌, ℕ, None, length, get_or, IfOk};
+ghost use Rattle.std.specs.Prelude.{◌≡◌, ◌<◌, ◌+◌, ◌++◌, ℕ, None, length, get_or, IfOk};
 ghost use Rattle.ht_tern.specs.declared.tern.Tern.TheVariants.{Unk};
 ghost use Rattle.ht_net.specs.Detection.{terns_of};
-ghost use Rattle.ht_group.specs.GoodFrames.{IsGoodFrame};
+ghost use Rattle.ht_group.specs.GoodFrames.{HasRoom, IsGoodFrame};
 
 use ht_frame::{MAX_GATE_PINS, settle};
 use ht_net::Circuit;
@@ -32,8 +32,12 @@ fn join(vector: &[bool], latches: &[Tern], sources: &mut [Tern])
 }
 
 impl GoodFrame {
-    /// A frame of a circuit, with sources that are unknown.
+    /// The frame of a circuit with an unknown vector and unknown latches.
+    ///
+    /// # Errors
+    /// Out of memory.
     pub fn new(alloc: Global, circuit: &Circuit) -> Result<GoodFrame, AllocError>
+        ensures { IfOk result (λ frame. IsGoodFrame circuit.now frame) }
     {
         let inputs = circuit.inputs() as usize;
         let sources = vec![in alloc; Tern::Unk; inputs + circuit.dffs() as usize]?;
@@ -48,13 +52,28 @@ impl GoodFrame {
 
     // Gives each net its value.
     fn run(&mut self, circuit: &Circuit)
+        requires { HasRoom circuit.now self.old }
+        ensures frame { IsGoodFrame circuit.now self.new }
+        ensures sources { self.new.sources.items ≡ self.old.sources.items }
     {
         let (vector, latches) = self.sources.split_at(circuit.inputs() as usize);
-        settle(circuit, None, vector, latches, &mut self.values, &mut self.pins);
+        settle(
+            circuit,
+            None,
+            vector,
+            latches,
+            &mut self.values,
+            &mut self.pins,
+        );
     }
 
     /// Takes a vector and latches, and gives each net its value.
     pub fn start(&mut self, circuit: &Circuit, vector: &[bool], latches: &[Tern])
+        requires width { length vector.now ≡ circuit.now.inputs }
+        requires each { length latches.now ≡ length circuit.now.dffs }
+        requires room { HasRoom circuit.now self.old }
+        ensures frame { IsGoodFrame circuit.now self.new }
+        ensures sources { self.new.sources.items ≡ terns_of vector.now ++ latches.now }
     {
         join(vector, latches, &mut self.sources);
         self.run(circuit);

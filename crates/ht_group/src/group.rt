@@ -1,11 +1,16 @@
 //! A group of faulty machines in one frame.
-ghost use Rattle.std.specs.Prelude.{◌≡◌, ◌<◌, ◌≤◌, ◌++◌, ◌∷◌, [], ℕ, Some, true, false, length, IfOk, OnOk, OnErr};
+ghost use Rattle.std.specs.Prelude.{◌≡◌, ◌≢◌, ◌<◌, ◌≤◌, ◌++◌, ◌∷◌, [], ℕ, Some, true, false, length, get_or, take, drop, IfOk, OnOk, OnErr};
 ghost use Rattle.std.specs.List.{slice_get};
 ghost use Rattle.ht_tern.specs.Opposite.{are_opposite};
+ghost use Rattle.ht_net.specs.Netlist.{first_gate_net, net_count};
 ghost use Rattle.ht_net.specs.Detection.{terns_of};
 ghost use Rattle.ht_lanes.specs.Lanes.{is_set, lane};
 ghost use Rattle.ht_diff.specs.Differences.{with_differences};
 ghost use Rattle.ht_group.specs.GroupView.{AreLatches, FaultyMachine, HasSite, faulty_next, faulty_output, good_next, good_output, max_machines};
+ghost use Rattle.ht_group.specs.LaneRules.{in_lane};
+ghost use Rattle.ht_group.specs.Overlays.{word_at};
+ghost use Rattle.ht_group.specs.Schedules.{IsSchedule};
+ghost use Rattle.ht_group.specs.StuckTables.{forced_net_of};
 
 use crate::bit_set::BitSet;
 use crate::evaluate::PIN_ROOM;
@@ -58,7 +63,10 @@ impl<'c> Model for Group<'c> {
 }
 
 // The net whose driver or stem a fault changes; none where it is at a data pin.
-fn forced_net(circuit: &Circuit, site: Site) -> Option<u32> {
+fn forced_net(circuit: &Circuit, site: Site) -> Option<u32>
+    requires { HasSite circuit.now site }
+    ensures { result ≡ forced_net_of circuit.now site }
+{
     match site {
         Site::Stem(net) => Some(net.0),
         Site::GatePin { gate, .. } => Some(circuit.gate_net(gate).0),
@@ -75,7 +83,27 @@ fn put_differences(
     k: u32,
     sources: &mut Overlay,
     pending: &mut BitSet,
-) {
+)
+    requires schedule { IsSchedule circuit.now schedule.now }
+    requires known { AreLatches circuit.now diffs.now }
+    requires lane { k < max_machines }
+    requires count { length sources.old.good ≡ first_gate_net circuit.now }
+    requires marks { length pending.old ≡ net_count circuit.now }
+    requires plain { in_lane k sources.old.words ≡ sources.old.good }
+    ensures good { sources.new.good ≡ sources.old.good }
+    ensures inputs { take circuit.now.inputs (in_lane k sources.new.words)
+        ≡ take circuit.now.inputs sources.old.good }
+    ensures latches { drop circuit.now.inputs (in_lane k sources.new.words)
+        ≡ with_differences (drop circuit.now.inputs sources.old.good) diffs.now }
+    ensures others { (n : ℕ) → n < max_machines → n ≢ k
+        → in_lane n sources.new.words ≡ in_lane n sources.old.words }
+    ensures marks { length pending.new ≡ length pending.old }
+    ensures more { (r : ℕ) → get_or pending.old r false ≡ true
+        → get_or pending.new r false ≡ true }
+    ensures quiet { (r : ℕ) → r < net_count circuit.now → get_or pending.new r false ≡ false
+        → word_at sources.new.words (get_or schedule.now.order.items r 0)
+        ≡ word_at sources.old.words (get_or schedule.now.order.items r 0) }
+{
     let entries = diffs.entries();
     for i in (0..entries.len()).rev() {
         let net = circuit.dff_net(entries[i].latch);
@@ -115,11 +143,11 @@ impl<'c> Group<'c> {
         requires width { length vector.now ≡ self.old.circuit.inputs }
         requires each { length latches.now ≡ length self.old.circuit.dffs }
         ensures { self.new ≡ record {
-            circuit = self.old.circuit;
-            vector = terns_of vector.now;
-            latches = latches.now;
-            machines = [];
-            settled = true;
+          circuit = self.old.circuit;
+          vector = terns_of vector.now;
+          latches = latches.now;
+          machines = [];
+          settled = true;
         } }
     {
         self.frame.start(self.circuit, vector, latches);
@@ -147,19 +175,26 @@ impl<'c> Group<'c> {
         requires site { HasSite self.old.circuit fault.site }
         requires known { AreLatches self.old.circuit diffs.now }
         ensures ok { OnOk result (self.new ≡ record self.old {
-            machines = self.old.machines
-                ++ (record {
-                    fault = fault;
-                    latches = with_differences self.old.latches diffs.now;
-                }) ∷ [];
-            settled = false;
+          machines = self.old.machines
+              ++ (record {
+                fault = fault;
+                latches = with_differences self.old.latches diffs.now;
+              }) ∷ [];
+          settled = false;
         }) }
         ensures err { OnErr result (self.new ≡ self.old) }
     {
         let k = self.lines.faults.len() as u32;
         self.lines.add(self.circuit, fault)?;
         self.settled = false;
-        put_differences(self.circuit, &self.schedule, diffs, k, &mut self.sources, &mut self.pending);
+        put_differences(
+            self.circuit,
+            &self.schedule,
+            diffs,
+            k,
+            &mut self.sources,
+            &mut self.pending,
+        );
         if let Some(net) = forced_net(self.circuit, fault.site) {
             self.pending.insert(self.schedule.ranks[net as usize]);
         }

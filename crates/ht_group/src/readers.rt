@@ -22,7 +22,7 @@ fn empty_rows(alloc: Global, nets: u32) -> Result<Vec<Items<u32>>, AllocError>
 // One more reader of a net.
 fn add_reader(rows: &mut Vec<Items<u32>>, net: usize, rank: u32) -> Result<(), AllocError>
     requires { net < length rows.old.items }
-    ensures { OnOk result (rows.new.items ≡ set rows.old.items net
+    ensures ok { OnOk result (rows.new.items ≡ set rows.old.items net
         (get_or rows.old.items net [] ++ rank ∷ [])) }
     ensures count { length rows.new.items ≡ length rows.old.items }
 {

@@ -1,10 +1,10 @@
 //! The lines that are stuck, each in the lanes of its faults.
-ghost use Rattle.std.specs.Prelude.{◌≡◌, ◌<◌, ◌≤◌, ◌-◌, ◌++◌, ◌∷◌, [], ℕ, length, get_or, set, take, IfOk, OnOk, OnErr, if◌then◌else◌};
+ghost use Rattle.std.specs.Prelude.{◌≡◌, ◌<◌, ◌≤◌, ◌-◌, ◌+◌, ◌++◌, ◌∷◌, [], ℕ, length, get_or, set, take, IfOk, OnOk, OnErr, if◌then◌else◌};
 ghost use Rattle.ht_net.specs.Netlist.{net_count};
 ghost use Rattle.ht_lanes.specs.Lanes.{is_set};
 ghost use Rattle.ht_group.specs.GroupView.{HasSite, max_machines};
 ghost use Rattle.ht_group.specs.LaneRules.{lane_rules};
-ghost use Rattle.ht_group.specs.StuckTables.{AreStuck, dff_slot, gate_slot, slot_count, slot_of, with_bit};
+ghost use Rattle.ht_group.specs.StuckTables.{AreGateLanes, AreStuck, dff_slot, gate_slot, slot_count, slot_of, with_bit};
 
 use ht_lanes::Word;
 use ht_net::{Circuit, Fault, Site};
@@ -152,7 +152,7 @@ impl StuckLines {
     pub fn at_gate(&self, circuit: &Circuit, g: u32) -> u64
         requires stuck { AreStuck circuit.now self.now }
         requires gate { g < length circuit.now.gates }
-        ensures { IsGateLanes self.now.faults.items g result }
+        ensures { AreGateLanes self.now.faults.items g result }
     {
         self.table[slot_of_gate(circuit, g)]
     }
