@@ -1,0 +1,9 @@
+pub mod DriveLaws
+pub mod MachineLaws
+pub mod StuckLaws
+pub mod PinLaws
+pub mod FoldLaws
+pub mod OverlayLaws
+pub mod ReaderLaws
+pub mod RankLaws
+pub mod EventLaws

@@ -1,5 +1,5 @@
 //! A set of numbers below a bound.
-ghost use Rattle.std.specs.Prelude.{◌≡◌, ◌<◌, ◌≤◌, ℕ, true, false, length, get_or, replicate, set, All, IfOk, IfSome, IfNone};
+ghost use Rattle.std.specs.Prelude.{◌≡◌, ◌<◌, ◌≤◌, ◌^◌, ℕ, true, false, length, get_or, replicate, set, IfOk, IfSome, IfNone};
 
 use std::alloc::{AllocError, Global};
 use std::marker::Model;

@@ -1,10 +1,8 @@
 //! One pass of events over the nets, in the order of the schedule.
-ghost use Rattle.std.specs.Prelude.{◌≡◌, ◌<◌, ◌≤◌, ◌+◌, ◌⊎◌, ℕ, true, false, length, get_or, All};
+ghost use Rattle.std.specs.Prelude.{◌≡◌, ◌<◌, ◌≤◌, ℕ, true, false, length, get_or, set, All};
 ghost use Rattle.std.specs.List.{Contains};
 ghost use Rattle.ht_net.specs.Netlist.{first_gate_net, net_count};
-ghost use Rattle.ht_group.specs.LaneRules.{lane_rules};
-ghost use Rattle.ht_group.specs.Overlays.{word_at};
-ghost use Rattle.ht_group.specs.Pending.{QuietHaveValues};
+ghost use Rattle.ht_group.specs.Pending.{QuietHaveValues, driven_word};
 ghost use Rattle.ht_group.specs.Schedules.{IsSchedule};
 ghost use Rattle.ht_group.specs.StuckTables.{AreStuck};
 
@@ -29,6 +27,34 @@ fn touch(ranks: &[u32], pending: &mut BitSet)
     for rank in ranks {
         pending.insert(*rank);
     }
+}
+
+// Evaluates a net, and says whether its word changed.
+fn recompute(
+    circuit: &Circuit,
+    lines: &StuckLines,
+    sources: &[Word],
+    nets: &mut Overlay,
+    pins: &mut [Word],
+    net: u32,
+) -> bool
+    requires stuck { AreStuck circuit.now lines.now }
+    requires sources { length sources.now ≡ first_gate_net circuit.now }
+    requires nets { length nets.old.good ≡ net_count circuit.now }
+    requires room { length pins.old ≡ PIN_ROOM }
+    requires net { net < net_count circuit.now }
+    ensures good { nets.new.good ≡ nets.old.good }
+    ensures words { nets.new.words ≡ set nets.old.words net
+        (driven_word circuit.now lines.now.faults.items sources.now nets.old.words net) }
+    ensures count { length nets.old.words ≡ net_count circuit.now }
+    ensures unchanged { result ≡ false → nets.new.words ≡ nets.old.words }
+{
+    let word = evaluate(circuit, lines, sources, nets.words(), pins, net);
+    if word.same(nets.words()[net as usize]) {
+        return false;
+    }
+    nets.set(net, word);
+    true
 }
 
 // Evaluates the net of a rank, which is pending no more; where its word changes, the nets that read it are pending.
@@ -59,11 +85,9 @@ fn fire(
     ensures before { (r : ℕ) → r < rank
         → get_or pending.new r false ≡ get_or pending.old r false }
 {
-    let net = schedule.order[rank as usize];
+    let net = schedule.net(rank);
     pending.remove(rank);
-    let word = evaluate(circuit, lines, sources, nets.words(), pins, net);
-    if !word.same(nets.words()[net as usize]) {
-        nets.set(net, word);
+    if recompute(circuit, lines, sources, nets, pins, net) {
         touch(schedule.readers.row(net as usize), pending);
     }
 }

@@ -109,7 +109,7 @@ fn put_differences(
         let net = circuit.dff_net(entries[i].latch);
         let word = sources.words()[net.index()];
         sources.set(net.0, word.with(k, entries[i].value));
-        pending.insert(schedule.ranks[net.index()]);
+        pending.insert(schedule.rank(net.0));
     }
 }
 
@@ -196,7 +196,7 @@ impl<'c> Group<'c> {
             &mut self.pending,
         );
         if let Some(net) = forced_net(self.circuit, fault.site) {
-            self.pending.insert(self.schedule.ranks[net as usize]);
+            self.pending.insert(self.schedule.rank(net));
         }
         Ok(())
     }

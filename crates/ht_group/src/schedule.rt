@@ -1,7 +1,7 @@
 //! The order in which nets get their values.
 ghost use Rattle.std.specs.Prelude.{◌≡◌, ◌≢◌, ◌<◌, ◌+◌, ◌^◌, ℕ, length, get_or, IfOk};
-ghost use Rattle.ht_net.specs.Netlist.{IsOrder, first_gate_net, net_count};
-ghost use Rattle.ht_group.specs.Schedules.{IsSchedule};
+ghost use Rattle.ht_net.specs.Netlist.{IsCircuit, IsOrder, first_gate_net, net_count};
+ghost use Rattle.ht_group.specs.Schedules.{AreRanks, IsSchedule};
 
 use crate::readers::readers;
 use ht_items::FlatRows;
@@ -59,6 +59,17 @@ fn ranks_in(alloc: Global, order: &[u32]) -> Result<Vec<u32>, AllocError>
     Ok(ranks)
 }
 
+// All nets in the order of the circuit's gates, and the rank of each.
+fn ranking(alloc: Global, circuit: &Circuit) -> Result<(Vec<u32>, Vec<u32>), AllocError>
+    ensures ranks { IfOk result (λ both. AreRanks circuit.now both.0.items both.1.items) }
+    ensures circuit { IsCircuit circuit.now }
+{
+    let order = net_order(alloc, circuit, circuit.order())?;
+    let _ = circuit.nets();
+    let ranks = ranks_in(alloc, &order)?;
+    Ok((order, ranks))
+}
+
 impl Schedule {
     /// The schedule of a circuit: gates by level.
     ///
@@ -67,14 +78,28 @@ impl Schedule {
     pub fn new(alloc: Global, circuit: &Circuit) -> Result<Schedule, AllocError>
         ensures { IfOk result (λ schedule. IsSchedule circuit.now schedule) }
     {
-        let order = net_order(alloc, circuit, circuit.order())?;
-        let _ = circuit.nets();
-        let ranks = ranks_in(alloc, &order)?;
+        let (order, ranks) = ranking(alloc, circuit)?;
         let readers = readers(alloc, circuit, &ranks)?;
         Ok(Schedule {
             order,
             ranks,
             readers,
         })
+    }
+
+    /// The net of a rank.
+    pub fn net(&self, rank: u32) -> u32
+        requires { rank < length self.now.order.items }
+        ensures { result ≡ get_or self.now.order.items rank 0 }
+    {
+        self.order[rank as usize]
+    }
+
+    /// The rank of a net.
+    pub fn rank(&self, net: u32) -> u32
+        requires { net < length self.now.ranks.items }
+        ensures { result ≡ get_or self.now.ranks.items net 0 }
+    {
+        self.ranks[net as usize]
     }
 }

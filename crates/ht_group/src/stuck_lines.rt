@@ -124,8 +124,7 @@ impl StuckLines {
         ensures stuck { AreStuck circuit.now self.new }
         ensures none { self.new.faults.items ≡ [] }
     {
-        let count = self.faults.len();
-        for _ in 0..count {
+        while !self.faults.is_empty() {
             self.pop(circuit);
         }
     }
