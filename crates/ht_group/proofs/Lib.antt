@@ -7,3 +7,9 @@ pub mod OverlayLaws
 pub mod ReaderLaws
 pub mod RankLaws
 pub mod EventLaws
+pub mod KeptLaws
+pub mod SpreadLaws
+pub mod ViewLaws
+pub mod GroupLaws
+pub mod PutLaws
+pub mod ShownLaws

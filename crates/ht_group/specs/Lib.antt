@@ -6,4 +6,6 @@ pub mod LaneRules
 pub mod StuckTables
 pub mod Pending
 pub mod GoodFrames
+pub mod NetValues
+pub mod LatchWords
 pub mod GroupOf

@@ -1,12 +1,14 @@
 //! A group of faulty machines in one frame.
-ghost use Rattle.std.specs.Prelude.{◌≡◌, ◌≢◌, ◌<◌, ◌≤◌, ◌++◌, ◌∷◌, [], ℕ, Some, true, false, length, get_or, take, drop, IfOk, OnOk, OnErr};
+ghost use Rattle.std.specs.Prelude.{◌≡◌, ◌<◌, ◌≤◌, ◌+◌, ◌++◌, ◌∷◌, [], ℕ, Some, true, false, length, get_or, set, IfOk, OnOk, OnErr};
 ghost use Rattle.std.specs.List.{slice_get};
 ghost use Rattle.ht_tern.specs.Opposite.{are_opposite};
-ghost use Rattle.ht_net.specs.Netlist.{first_gate_net, net_count};
+ghost use Rattle.ht_net.specs.Netlist.{first_gate_net, net_count, no_net};
 ghost use Rattle.ht_net.specs.Detection.{terns_of};
-ghost use Rattle.ht_lanes.specs.Lanes.{is_set, lane};
+ghost use Rattle.ht_lanes.specs.Lanes.{is_set, lane, with_lane};
 ghost use Rattle.ht_diff.specs.Differences.{with_differences};
 ghost use Rattle.ht_group.specs.GroupView.{AreLatches, FaultyMachine, HasSite, faulty_next, faulty_output, good_next, good_output, max_machines};
+ghost use Rattle.ht_group.specs.LatchWords.{HasDifferences};
+ghost use Rattle.ht_group.specs.NetValues.{faulty_value, good_value};
 ghost use Rattle.ht_group.specs.LaneRules.{in_lane};
 ghost use Rattle.ht_group.specs.Overlays.{word_at};
 ghost use Rattle.ht_group.specs.Schedules.{IsSchedule};
@@ -19,9 +21,9 @@ use crate::good_frame::GoodFrame;
 use crate::overlay::Overlay;
 use crate::schedule::Schedule;
 use crate::stuck_lines::StuckLines;
-use ht_diff::Diffs;
+use ht_diff::{Diff, Diffs};
 use ht_lanes::Word;
-use ht_net::{Circuit, Fault, Site};
+use ht_net::{Circuit, Fault, NetId, Site};
 use ht_tern::Tern;
 use std::alloc::{AllocError, Global};
 use std::marker::Model;
@@ -74,6 +76,32 @@ fn forced_net(circuit: &Circuit, site: Site) -> Option<u32>
     }
 }
 
+// Gives the latch of a difference its value in lane `k`, and makes its net pending.
+fn put_difference(
+    circuit: &Circuit,
+    schedule: &Schedule,
+    diff: Diff,
+    k: u32,
+    sources: &mut Overlay,
+    pending: &mut BitSet,
+)
+    requires schedule { IsSchedule circuit.now schedule.now }
+    requires latch { diff.latch < length circuit.now.dffs }
+    requires lane { k < max_machines }
+    requires words { length sources.old.words ≡ first_gate_net circuit.now }
+    requires marks { length pending.old ≡ net_count circuit.now }
+    ensures good { sources.new.good ≡ sources.old.good }
+    ensures words { sources.new.words ≡ set sources.old.words (circuit.now.inputs + diff.latch)
+        (with_lane (word_at sources.old.words (circuit.now.inputs + diff.latch)) k diff.value) }
+    ensures pending { pending.new ≡ set pending.old
+        (get_or schedule.now.ranks.items (circuit.now.inputs + diff.latch) 0) true }
+{
+    let net = circuit.dff_net(diff.latch);
+    let word = sources.words()[net.index()];
+    sources.set(net.0, word.with(k, diff.value));
+    pending.insert(schedule.rank(net.0));
+}
+
 // Gives lane `k`, which has the good latches, those that differ, and makes their nets pending. The last difference comes
 // first, since of two at one latch the first counts.
 fn put_differences(
@@ -87,29 +115,16 @@ fn put_differences(
     requires schedule { IsSchedule circuit.now schedule.now }
     requires known { AreLatches circuit.now diffs.now }
     requires lane { k < max_machines }
-    requires count { length sources.old.good ≡ first_gate_net circuit.now }
+    requires words { length sources.old.words ≡ first_gate_net circuit.now }
     requires marks { length pending.old ≡ net_count circuit.now }
     requires plain { in_lane k sources.old.words ≡ sources.old.good }
     ensures good { sources.new.good ≡ sources.old.good }
-    ensures inputs { take circuit.now.inputs (in_lane k sources.new.words)
-        ≡ take circuit.now.inputs sources.old.good }
-    ensures latches { drop circuit.now.inputs (in_lane k sources.new.words)
-        ≡ with_differences (drop circuit.now.inputs sources.old.good) diffs.now }
-    ensures others { (n : ℕ) → n < max_machines → n ≢ k
-        → in_lane n sources.new.words ≡ in_lane n sources.old.words }
-    ensures marks { length pending.new ≡ length pending.old }
-    ensures more { (r : ℕ) → get_or pending.old r false ≡ true
-        → get_or pending.new r false ≡ true }
-    ensures quiet { (r : ℕ) → r < net_count circuit.now → get_or pending.new r false ≡ false
-        → word_at sources.new.words (get_or schedule.now.order.items r 0)
-        ≡ word_at sources.old.words (get_or schedule.now.order.items r 0) }
+    ensures put { HasDifferences circuit.now schedule.now k diffs.now sources.old pending.old
+        sources.new.words pending.new }
 {
     let entries = diffs.entries();
     for i in (0..entries.len()).rev() {
-        let net = circuit.dff_net(entries[i].latch);
-        let word = sources.words()[net.index()];
-        sources.set(net.0, word.with(k, entries[i].value));
-        pending.insert(schedule.rank(net.0));
+        put_difference(circuit, schedule, entries[i], k, sources, pending);
     }
 }
 
@@ -235,12 +250,53 @@ impl<'c> Group<'c> {
         self.settled = true;
     }
 
+    // The good machine's value of a net.
+    fn good_value(&self, net: NetId) -> Tern
+        requires { net.0 < net_count self.now.circuit }
+        ensures { result ≡ good_value self.now net.0 }
+    {
+        self.nets.good()[net.index()]
+    }
+
+    // Each machine's value of a net; a lane without a machine has the good one.
+    fn word(&self, net: NetId) -> Word
+        requires settled { self.now.settled ≡ true }
+        requires net { net.0 < net_count self.now.circuit }
+        ensures machines { (k : ℕ) (m : FaultyMachine) → slice_get self.now.machines k ≡ Some m
+            → lane result k ≡ faulty_value self.now m net.0 }
+        ensures others { (k : ℕ) → length self.now.machines ≤ k → k < max_machines
+            → lane result k ≡ good_value self.now net.0 }
+        ensures few { length self.now.machines ≤ max_machines }
+    {
+        self.nets.words()[net.index()]
+    }
+
+    // The net of an output.
+    fn output_net(&self, o: u32) -> NetId
+        requires { o < length self.now.circuit.outputs }
+        ensures net { result ≡ get_or self.now.circuit.outputs o no_net }
+        ensures known { result.0 < net_count self.now.circuit }
+    {
+        let _ = self.circuit.nets();
+        self.circuit.output(o)
+    }
+
+    // The net at the data pin of a flip-flop.
+    fn data_net(&self, j: u32) -> NetId
+        requires { j < length self.now.circuit.dffs }
+        ensures net { result ≡ get_or self.now.circuit.dffs j no_net }
+        ensures known { result.0 < net_count self.now.circuit }
+    {
+        let _ = self.circuit.nets();
+        self.circuit.dff_data(j)
+    }
+
     /// What the good machine shows at an output.
     pub fn good_output(&self, o: u32) -> Tern
         requires { o < length self.now.circuit.outputs }
         ensures { result ≡ good_output self.now o }
     {
-        self.nets.good()[self.circuit.output(o).index()]
+        self.good_value(self.output_net(o))
     }
 
     /// What a latch of the good machine is after the frame.
@@ -248,7 +304,7 @@ impl<'c> Group<'c> {
         requires { j < length self.now.circuit.dffs }
         ensures { result ≡ good_next self.now j }
     {
-        self.nets.good()[self.circuit.dff_data(j).index()]
+        self.good_value(self.data_net(j))
     }
 
     /// The set of lanes whose machine shows at an output the definite value opposite to the good machine's.
@@ -260,8 +316,8 @@ impl<'c> Group<'c> {
         ensures others { (k : ℕ) → length self.now.machines ≤ k → k < max_machines
             → is_set result k ≡ false }
     {
-        let net = self.circuit.output(o).index();
-        self.nets.words()[net].opposite(self.nets.good()[net])
+        let net = self.output_net(o);
+        self.word(net).opposite(self.good_value(net))
     }
 
     /// The latch of each lane's machine after the frame; a lane without a machine has the good one.
@@ -273,7 +329,7 @@ impl<'c> Group<'c> {
         ensures others { (k : ℕ) → length self.now.machines ≤ k → k < max_machines
             → lane result k ≡ good_next self.now j }
     {
-        let net = self.circuit.dff_data(j).index();
-        self.lines.data_pin(self.circuit, j, self.nets.words()[net])
+        let word = self.word(self.data_net(j));
+        self.lines.data_pin(self.circuit, j, word)
     }
 }
