@@ -1,5 +1,5 @@
 -- What drives a net, from sources that are the vector and then the latches; nets that all have their values are a frame.
-use Rattle.std.proofs.Common.{◌≡◌, ◌<◌, ◌≤◌, ◌+◌, ◌-◌, ◌∙◌, ℕ, List, length, get_or, take, drop, ap, sym, arith, inl, inr}
+use Rattle.std.proofs.Common.{◌≡◌, ◌<◌, ◌≤◌, ◌+◌, ◌-◌, ◌∙◌, ℕ, List, get_or, take, drop, ap, sym, arith, inl, inr}
 use Rattle.std.proofs.lemmas.Bool.Decides.{nat_tests}
 use Rattle.std.proofs.lemmas.List.{get_or-take, get_or-drop}
 use Rattle.ht_net.specs.Netlist.{Netlist, first_gate_net, net_count, gate_at, no_net, IsCircuit}

@@ -1,17 +1,16 @@
 -- What the nets of a group have.
 use Rattle.std.specs.List.{slice_get}
-use Rattle.std.proofs.Common.{◌≡◌, ◌<◌, ◌≤◌, ◌+◌, ◌∙◌, ℕ, List, true, length, get_or, take, drop, ap, sym, subst, refl, arith, Some, None}
+use Rattle.std.proofs.Common.{◌≡◌, ◌<◌, ◌≤◌, ◌+◌, ◌∙◌, ℕ, List, true, length, get_or, take, drop, ap, sym, subst, arith, Some, None}
 use Rattle.std.proofs.lemmas.Option.{slice_get_past, slice_get_within}
 use Rattle.std.proofs.lemmas.List.{drop-map}
 use Rattle.ht_tern.specs.declared.tern.Tern.{Tern}
 use Rattle.ht_tern.specs.declared.tern.Tern.TheVariants.{Unk}
 use Rattle.ht_lanes.specs.Lanes.{Lanes, lane}
-use Rattle.ht_net.specs.declared.fault.Fault.{Fault}
 use Rattle.ht_net.specs.Netlist.{net_count}
 use Rattle.ht_net.specs.Frame.{net_value}
 use Rattle.ht_net.specs.Faults.{tern_rules}
 use Rattle.ht_group.specs.GroupView.{FaultyMachine}
-use Rattle.ht_group.specs.GroupOf.{IsGroup, group_of, machines_from}
+use Rattle.ht_group.specs.GroupOf.{IsGroup, group_of}
 use Rattle.ht_group.specs.NetValues.{good_value, faulty_value}
 use Rattle.ht_group.specs.LaneRules.{lane_rules, in_lane, HasItsValue}
 use Rattle.ht_group.specs.Overlays.{word_at}

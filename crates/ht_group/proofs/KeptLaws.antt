@@ -1,6 +1,6 @@
 -- One machine more: nets that its fault doesn't touch keep their values.
 use Rattle.std.specs.List.{slice_get}
-use Rattle.std.proofs.Common.{◌≡◌, ◌≢◌, ◌<◌, ◌≤◌, ◌+◌, ◌-◌, ◌∙◌, ◌&&◌, ℕ, List, [], ◌∷◌, ◌++◌, Bool, true, false, length, get_or, cond, eqb, ap, sym, subst, refl, arith, Option, Some, None, inl, inr}
+use Rattle.std.proofs.Common.{◌≡◌, ◌≢◌, ◌+◌, ◌-◌, ◌∙◌, ℕ, List, [], ◌∷◌, ◌++◌, false, length, cond, ap, sym, refl, arith, Option, Some, None, inl, inr}
 use Rattle.std.proofs.lemmas.Bool.Decides.{eqb_tells}
 use Rattle.std.proofs.lemmas.Option.{slice_get_past}
 use Rattle.std.proofs.lemmas.List.{get_or-map}
@@ -11,7 +11,7 @@ use Rattle.ht_lanes.specs.Lanes.{Lanes, lane, every_lane}
 use Rattle.ht_net.specs.declared.fault.Site.{Site}
 use Rattle.ht_net.specs.declared.fault.Site.TheVariants.{Stem, DffPin, GatePin}
 use Rattle.ht_net.specs.declared.fault.Fault.{Fault}
-use Rattle.ht_net.specs.Netlist.{Netlist, first_gate_net, net_count, gate_at}
+use Rattle.ht_net.specs.Netlist.{Netlist, first_gate_net, gate_at}
 use Rattle.ht_net.specs.Frame.{Rules, gate_output}
 use Rattle.ht_net.specs.Faults.{forced, tern_rules, is_stem}
 use Rattle.ht_net.proofs.FrameLaws.{le_or_lt}

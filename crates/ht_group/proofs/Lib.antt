@@ -12,4 +12,5 @@ pub mod SpreadLaws
 pub mod ViewLaws
 pub mod GroupLaws
 pub mod PutLaws
+pub mod ChangeLaws
 pub mod ShownLaws

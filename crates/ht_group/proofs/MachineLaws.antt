@@ -1,6 +1,6 @@
 -- Each lane of machines side by side is a machine of its own.
 use Rattle.std.specs.List.{slice_get}
-use Rattle.std.proofs.Common.{◌≡◌, ◌<◌, ◌≤◌, ◌+◌, ◌-◌, ◌∙◌, ℕ, List, length, get_or, map, take, drop, ap, sym, refl, arith, inl, inr, None}
+use Rattle.std.proofs.Common.{◌≡◌, ◌<◌, ◌-◌, ◌∙◌, ℕ, List, length, take, drop, ap, sym, refl, arith, inl, inr}
 use Rattle.std.proofs.lemmas.List.{get_or-map}
 use Rattle.ht_tern.specs.declared.tern.Tern.{Tern}
 use Rattle.ht_tern.specs.declared.tern.Tern.TheVariants.{Unk}

@@ -1,5 +1,5 @@
 -- Pins of a gate, lane by lane.
-use Rattle.std.specs.Prelude.{bit_and, set}
+use Rattle.std.specs.Prelude.{set}
 use Rattle.std.specs.Int.{bit_at, bit_not, w64, trailing_zeros}
 use Rattle.std.specs.List.{slice_get}
 use Rattle.std.proofs.Common.{◌≡◌, ◌≢◌, ◌<◌, ◌≤◌, ◌^◌, ◌*◌, ◌%◌, ◌+◌, ◌∙◌, ◌&&◌, ℕ, zero, suc, List, [], ◌∷◌, Bool, true, false, length, get_or, map, take, cond, eqb, ap, sym, refl, arith, Option, Some, None, inl, inr}

@@ -1,7 +1,6 @@
 -- Differences are put into the latches of a lane.
 use Rattle.std.specs.Prelude.{set, unwrap_or}
-use Rattle.std.specs.List.{range_with_len}
-use Rattle.std.proofs.Common.{◌≡◌, ◌≢◌, ◌<◌, ◌≤◌, ◌+◌, ◌-◌, ◌∙◌, ◌&&◌, ℕ, List, ◌∷◌, Bool, true, false, length, get_or, take, drop, map, cond, eqb, ap, sym, refl, arith, Option, Some, None, inl, inr}
+use Rattle.std.proofs.Common.{◌≡◌, ◌≢◌, ◌<◌, ◌≤◌, ◌+◌, ◌-◌, ◌∙◌, ◌&&◌, ℕ, List, ◌∷◌, Bool, true, false, length, get_or, take, drop, cond, eqb, ap, sym, refl, arith, Option, Some, inl, inr}
 use Rattle.std.proofs.lemmas.Bool.Decides.{eqb_tells}
 use Rattle.std.proofs.lemmas.List.{ext_get_or, get_or-map, get_or-take, get_or-drop, length-map, length-drop, length-take-le, drop_all, drop_more, get_or-set_other, get_or-set_same, length-set}
 use Rattle.std.proofs.lemmas.Bool.{cases_Bool}

@@ -1,7 +1,7 @@
 -- One more reader of a net.
 use Rattle.std.specs.Prelude.{set}
 use Rattle.std.specs.List.{Contains}
-use Rattle.std.proofs.Common.{◌≡◌, ◌≢◌, ◌<◌, ◌≤◌, ◌+◌, ◌-◌, ◌∙◌, ◌⊎◌, ℕ, List, [], ◌∷◌, ◌++◌, length, get_or, replicate, ap, sym, subst, arith, inl, inr}
+use Rattle.std.proofs.Common.{◌≡◌, ◌≢◌, ◌<◌, ◌+◌, ◌-◌, ◌∙◌, ◌⊎◌, ℕ, List, [], ◌∷◌, ◌++◌, length, get_or, replicate, ap, sym, subst, arith, inl, inr}
 use Rattle.std.proofs.lemmas.Bool.Decides.{eqb_tells}
 use Rattle.std.proofs.lemmas.Bool.{cases_lt}
 use Rattle.std.proofs.lemmas.List.{get_or-set_same, get_or-set_other, get_or-replicate, get_or_past, length-replicate}
@@ -101,30 +101,31 @@ pub pin_added : (c : Netlist) (ranks : List ℕ) (rows new : List (List ℕ)) (g
     → ArePartReaders c ranks rows g → HavePins c ranks rows g i
     → ArePartReaders c ranks new g × HavePins c ranks new g (i + 1)
 pin_added c ranks rows new g i n q inside is same net rank rises small part pins =
-    let more = row_pushed rows new n q inside is in
-    (record {
-      count = same ∙ part.count;
-      complete = λ y x below reads. more.keeps x (get_or ranks y 0) (part.complete y x below reads);
-      later = λ x r h. elim (more.only x r h) [
-        | inl old ↦ part.later x r old
-        | inr e ↦
-            let at = ap (λ (y : ℕ). get_or ranks y 0) e.0 in
-            let is_q = e.1 in
-            omega (arith, at, is_q, rises)
-      ];
-      within = λ x r h. elim (more.only x r h) [
-        | inl old ↦ part.within x r old
-        | inr e ↦ let is_q = e.1 in omega (arith, is_q, small)
-      ];
-    },
-    λ j below. elim (eqb_tells j i) [
-      | inl p ↦
-          let at : n ≡ arg_at c g j = net ∙ ap (arg_at c g) (sym p.1) in
-          subst (λ (y : ℕ). Contains (get_or new y []) (get_or ranks (first_gate_net c + g) 0)) at
-          (subst (λ (l : ℕ). Contains (get_or new n []) l) rank more.has)
-      | inr p ↦ let ne : j ≢ i = p.1 in more.keeps (arg_at c g j) (get_or ranks (first_gate_net c + g) 0)
-          (pins j (omega (arith, below, ne)))
-    ])
+    let more = row_pushed rows new n q inside is in (
+      record {
+        count = same ∙ part.count;
+        complete = λ y x below reads. more.keeps x (get_or ranks y 0) (part.complete y x below reads);
+        later = λ x r h. elim (more.only x r h) [
+          | inl old ↦ part.later x r old
+          | inr e ↦
+              let at = ap (λ (y : ℕ). get_or ranks y 0) e.0 in
+              let is_q = e.1 in
+              omega (arith, at, is_q, rises)
+        ];
+        within = λ x r h. elim (more.only x r h) [
+          | inl old ↦ part.within x r old
+          | inr e ↦ let is_q = e.1 in omega (arith, is_q, small)
+        ];
+      },
+      λ j below. elim (eqb_tells j i) [
+        | inl p ↦
+            let at : n ≡ arg_at c g j = net ∙ ap (arg_at c g) (sym p.1) in
+            subst (λ (y : ℕ). Contains (get_or new y []) (get_or ranks (first_gate_net c + g) 0)) at
+            (subst (λ (l : ℕ). Contains (get_or new n []) l) rank more.has)
+        | inr p ↦ let ne : j ≢ i = p.1 in more.keeps (arg_at c g j) (get_or ranks (first_gate_net c + g) 0)
+            (pins j (omega (arith, below, ne)))
+      ],
+    )
 
 -- one gate more, all of whose pins are there
 pub gate_done : (c : Netlist) (ranks : List ℕ) (rows : List (List ℕ)) (g n : ℕ) → n ≡ length (gate_at c g).args

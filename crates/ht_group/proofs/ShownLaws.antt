@@ -1,5 +1,5 @@
 -- What an output shows and what a latch is after a frame, from the values of nets.
-use Rattle.std.proofs.Common.{◌≡◌, ◌<◌, ◌+◌, ◌∙◌, ℕ, zero, suc, List, [], ◌∷◌, length, get_or, ap, sym, refl, arith, None, Option}
+use Rattle.std.proofs.Common.{◌≡◌, ◌<◌, ◌+◌, ◌∙◌, ℕ, zero, suc, List, [], ◌∷◌, length, get_or, ap, sym, refl, arith, None}
 use Rattle.ht_tern.specs.declared.tern.Tern.{Tern}
 use Rattle.ht_tern.specs.declared.tern.Tern.TheVariants.{Unk}
 use Rattle.ht_net.specs.declared.net.NetId.{NetId}

@@ -1,8 +1,8 @@
 -- A table of lanes that are stuck: what it makes of a line, and one fault more or less.
-use Rattle.std.specs.Prelude.{set, option_map}
+use Rattle.std.specs.Prelude.{set}
 use Rattle.std.specs.Int.{w64}
 use Rattle.std.specs.List.{slice_get}
-use Rattle.std.proofs.Common.{◌≡◌, ◌≢◌, ◌<◌, ◌≤◌, ◌+◌, ◌∙◌, ℕ, zero, suc, List, [], ◌∷◌, ◌++◌, Bool, true, false, length, get_or, cond, eqb, ap, sym, subst, refl, arith, Option, Some, None, inl, inr}
+use Rattle.std.proofs.Common.{◌≡◌, ◌≢◌, ◌<◌, ◌+◌, ◌∙◌, ℕ, zero, suc, List, [], ◌∷◌, ◌++◌, Bool, true, false, length, get_or, cond, eqb, ap, sym, subst, refl, arith, Option, Some, None, inl, inr}
 use Rattle.std.proofs.lemmas.Bool.Decides.{eqb_tells}
 use Rattle.std.proofs.lemmas.List.{get_or-set_same, get_or-set_other, length-set, length-append}
 use Rattle.std.proofs.lemmas.Option.{slice_get_past, slice_get_within}

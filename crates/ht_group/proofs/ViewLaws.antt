@@ -1,7 +1,6 @@
 -- The machines of a group, by their lanes.
 use Rattle.std.specs.List.{slice_get}
-use Rattle.std.proofs.Common.{◌≡◌, ◌<◌, ◌≤◌, ◌+◌, ◌∙◌, ℕ, zero, suc, List, [], ◌∷◌, ◌++◌, length, ap, sym, refl, arith, Option, Some, None}
-use Rattle.ht_tern.specs.declared.tern.Tern.{Tern}
+use Rattle.std.proofs.Common.{◌≡◌, ◌<◌, ◌≤◌, ◌+◌, ◌∙◌, ℕ, zero, suc, List, [], ◌∷◌, ◌++◌, length, ap, sym, refl, arith, Some}
 use Rattle.ht_lanes.specs.Lanes.{Lanes}
 use Rattle.ht_net.specs.declared.fault.Fault.{Fault}
 use Rattle.ht_group.specs.GroupView.{FaultyMachine}

@@ -1,15 +1,10 @@
 -- How a group's fields stand for it.
-use Rattle.std.specs.Prelude.{◌≡◌, ◌<◌, ◌≤◌, ◌+◌, ℕ, List, [], ◌∷◌, true, false, None, map, take, drop, length, get_or}
-use Rattle.ht_tern.specs.declared.tern.Tern.{Tern}
-use Rattle.ht_tern.specs.declared.tern.Tern.TheVariants.{Unk}
-use Rattle.ht_lanes.specs.Lanes.{Lanes, lane}
+use Rattle.std.specs.Prelude.{◌≡◌, ◌<◌, ◌≤◌, ◌+◌, ℕ, List, [], ◌∷◌, true, false, take, drop, length, get_or}
+use Rattle.ht_lanes.specs.Lanes.{Lanes}
 use Rattle.ht_net.specs.declared.fault.Fault.{Fault}
-use Rattle.ht_net.specs.Netlist.{Netlist, first_gate_net, net_count, IsCircuit}
-use Rattle.ht_net.specs.Frame.{net_value}
-use Rattle.ht_net.specs.Faults.{tern_rules}
+use Rattle.ht_net.specs.Netlist.{first_gate_net, net_count, IsCircuit}
 use Rattle.ht_group.specs.GroupView.{FaultyMachine, GroupView}
 use Rattle.ht_group.specs.LaneRules.{in_lane}
-use Rattle.ht_group.specs.Overlays.{word_at}
 use Rattle.ht_group.specs.Pending.{QuietHaveValues}
 use Rattle.ht_group.specs.Schedules.{IsSchedule}
 use Rattle.ht_group.specs.StuckTables.{AreStuck}
@@ -42,7 +37,6 @@ pub record IsGroup (a : Inside) : Type 0 where
   pub sources : a.sources.good ≡ a.frame.sources.items
   pub nets : a.nets.good ≡ a.frame.values.items
   pub source_count : length a.sources.words ≡ first_gate_net a.circuit.now
-  pub net_words : length a.nets.words ≡ net_count a.circuit.now
   pub marks : length a.pending ≡ net_count a.circuit.now
   pub room : length a.pins.items ≡ 256
   pub inputs : (k : ℕ) → k < 64 → take a.circuit.now.inputs (in_lane k a.sources.words) ≡ take a.circuit.now.inputs a.sources.good

@@ -1,5 +1,5 @@
 //! A group of faulty machines in one frame.
-ghost use Rattle.std.specs.Prelude.{◌≡◌, ◌<◌, ◌≤◌, ◌+◌, ◌++◌, ◌∷◌, [], ℕ, Some, true, false, length, get_or, set, IfOk, OnOk, OnErr};
+ghost use Rattle.std.specs.Prelude.{◌≡◌, ◌≢◌, ◌<◌, ◌≤◌, ◌+◌, ◌++◌, ◌∷◌, [], ℕ, Some, true, false, length, get_or, set, IfOk, OnOk, OnErr};
 ghost use Rattle.std.specs.List.{slice_get};
 ghost use Rattle.ht_tern.specs.Opposite.{are_opposite};
 ghost use Rattle.ht_net.specs.Netlist.{first_gate_net, net_count, no_net};
@@ -76,6 +76,21 @@ fn forced_net(circuit: &Circuit, site: Site) -> Option<u32>
     }
 }
 
+// Makes the net pending whose driver or stem a fault changes, if it does any's.
+fn touch_forced_net(circuit: &Circuit, schedule: &Schedule, site: Site, pending: &mut BitSet)
+    requires schedule { IsSchedule circuit.now schedule.now }
+    requires site { HasSite circuit.now site }
+    requires marks { length pending.old ≡ net_count circuit.now }
+    ensures marks { length pending.new ≡ net_count circuit.now }
+    ensures idle { (r : ℕ) → r < net_count circuit.now → get_or pending.new r false ≡ false
+        → (get_or pending.old r false ≡ false)
+        × (forced_net_of circuit.now site ≢ Some (get_or schedule.now.order.items r 0)) }
+{
+    if let Some(net) = forced_net(circuit, site) {
+        pending.insert(schedule.rank(net));
+    }
+}
+
 // Gives the latch of a difference its value in lane `k`, and makes its net pending.
 fn put_difference(
     circuit: &Circuit,
@@ -137,12 +152,13 @@ impl<'c> Group<'c> {
         ensures circuit { IfOk result (λ group. group.circuit ≡ circuit.now) }
         ensures none { IfOk result (λ group. group.machines ≡ []) }
     {
+        let schedule = Schedule::new(alloc, circuit)?;
         let frame = GoodFrame::new(alloc, circuit)?;
         let sources = Overlay::new(alloc, &frame.sources)?;
         let nets = Overlay::new(alloc, &frame.values)?;
         Ok(Group {
             circuit,
-            schedule: Schedule::new(alloc, circuit)?,
+            schedule,
             lines: StuckLines::new(alloc, circuit)?,
             frame,
             sources,
@@ -210,9 +226,7 @@ impl<'c> Group<'c> {
             &mut self.sources,
             &mut self.pending,
         );
-        if let Some(net) = forced_net(self.circuit, fault.site) {
-            self.pending.insert(self.schedule.rank(net));
-        }
+        touch_forced_net(self.circuit, &self.schedule, fault.site, &mut self.pending);
         Ok(())
     }
 

@@ -1,4 +1,4 @@
-use Rattle.std.proofs.Common.{◌+◌, ◌≡◌, ◌<◌, ◌∙◌, ◌-◌, ap, sym, arith, length, get_or, take, drop, List, ℕ}
+use Rattle.std.proofs.Common.{◌+◌, ◌≡◌, ◌<◌, ◌∙◌, ◌-◌, ap, arith, length, get_or, take, drop, List, ℕ}
 use Rattle.std.proofs.lemmas.Grind.{get_or_after_one}
 use Rattle.std.proofs.lemmas.List.{get_or-take, get_or_read}
 use Rattle.ht_tern.specs.Gate.{operation_of, polarity_of}

@@ -1,7 +1,7 @@
-use Rattle.std.proofs.Common.{◌≡◌, ◌<◌, ◌≤◌, ◌+◌, ◌-◌, ◌∙◌, ap, sym, arith, length, get_or, ℕ}
+use Rattle.std.proofs.Common.{◌≡◌, ◌<◌, ◌≤◌, ◌+◌, ◌-◌, ◌∙◌, ap, sym, arith, ℕ}
 use Rattle.std.proofs.lemmas.List.{get_or_read}
 use Rattle.ht_tern.specs.declared.tern.Tern.TheVariants.{Unk}
-use Rattle.ht_lanes.specs.Lanes.{Lanes, lane, every_lane}
+use Rattle.ht_lanes.specs.Lanes.{lane, every_lane}
 use Rattle.ht_net.specs.Netlist.{first_gate_net}
 use Rattle.ht_net.specs.Frame.{gate_output}
 use Rattle.ht_group.specs.LaneRules.{lane_rules}

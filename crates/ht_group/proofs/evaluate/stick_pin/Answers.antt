@@ -1,4 +1,4 @@
-use Rattle.std.proofs.Common.{◌≡◌, ◌<◌, ◌∙◌, ◌&&◌, ap, sym, arith, length, cond, eqb, List}
+use Rattle.std.proofs.Common.{◌<◌, ◌∙◌, ◌&&◌, ap, sym, arith, length, cond, eqb, List}
 use Rattle.ht_tern.specs.Gate.{tern_of}
 use Rattle.ht_lanes.specs.Lanes.{Lanes, lane}
 use Rattle.ht_group.specs.Overlays.{word_at}

@@ -1,10 +1,6 @@
 use Rattle.std.specs.Int.{w64, trailing_zeros}
-use Rattle.std.specs.List.{slice_get}
-use Rattle.std.proofs.Common.{◌≡◌, ◌∙◌, ap, sym, arith, eqb, Some}
-use Rattle.std.proofs.lemmas.Option.{get_or_from_slice_get}
-use Rattle.ht_net.specs.declared.fault.Fault.{Fault}
-use Rattle.ht_group.specs.StuckTables.{is_pin_of}
-use Rattle.ht_group.proofs.PinLaws.{all_left, first_stuck, none_left, first_lane, rest_left, rest_smaller, IsFirstLane}
+use Rattle.std.proofs.Common.{◌∙◌, sym, arith}
+use Rattle.ht_group.proofs.PinLaws.{all_left, first_stuck, none_left, first_lane, rest_left, rest_smaller}
 use Rattle.ht_group.proofs.evaluate.stick_pins.Goals as goal
 
 pub loop-rest-init : goal.loop-rest-init

@@ -1,4 +1,4 @@
-use Rattle.std.proofs.Common.{◌≡◌, ◌<◌, ◌∙◌, ap, set, arith, length}
+use Rattle.std.proofs.Common.{◌<◌, ◌∙◌, ap, set, arith, length}
 use Rattle.std.proofs.lemmas.List.{get_or_read}
 use Rattle.ht_tern.specs.declared.tern.Tern.TheVariants.{Unk}
 use Rattle.ht_lanes.specs.Lanes.{with_lane, every_lane}

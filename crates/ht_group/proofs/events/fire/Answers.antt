@@ -1,8 +1,7 @@
 use Rattle.std.specs.Prelude.{set}
 use Rattle.std.specs.List.{Contains}
-use Rattle.std.proofs.Common.{◌≡◌, ◌≢◌, ◌<◌, ◌∙◌, ℕ, List, [], Bool, false, length, get_or, ap, sym, subst, arith, inl, inr}
+use Rattle.std.proofs.Common.{◌≡◌, ◌∙◌, ℕ, List, [], Bool, false, length, get_or, ap, sym, subst, arith, inl, inr}
 use Rattle.std.proofs.lemmas.List.{get_or-set_other, length-set}
-use Rattle.ht_net.specs.Netlist.{net_count}
 use Rattle.ht_group.specs.Pending.{driven_word}
 use Rattle.ht_group.proofs.EventLaws.{fired_quiet, apart_by_readers, readers_later, readers_known, not_touched, touched_as_before, rank_taken}
 use Rattle.ht_group.proofs.events.fire.Goals as goal
@@ -23,9 +22,11 @@ returns-then-recompute-clause-quiet c =
     let apart = not_touched c.args.pending.now c.remove.new.self c.touch.new.pending c.row.result.now c.args.rank
     c.remove.ensures c.touch.ensures.all c.touch.ensures.rest q idle in
     let before = touched_as_before c.args.pending.now c.remove.new.self c.touch.new.pending c.row.result.now c.args.rank
-    c.remove.ensures c.touch.ensures.all c.touch.ensures.rest q ne apart in
-    (sym before ∙ idle, inl (apart_by_readers n s c.requires.schedule q x within
-    (λ has. apart (subst (λ (l : List ℕ). Contains l q) (sym row) has)))))
+    c.remove.ensures c.touch.ensures.all c.touch.ensures.rest q ne apart in (
+      sym before ∙ idle,
+      inl (apart_by_readers n s c.requires.schedule q x within
+          (λ has. apart (subst (λ (l : List ℕ). Contains l q) (sym row) has))),
+    ))
 
 pub returns-else-recompute-clause-quiet : goal.returns-else-recompute-clause-quiet
 returns-else-recompute-clause-quiet c =
@@ -36,10 +37,11 @@ returns-else-recompute-clause-quiet c =
     c.recompute.new.nets.words c.args.pending.now c.remove.new.self c.args.rank c.requires.rank
     c.recompute.ensures.count c.requires.quiet
     (c.recompute.ensures.words ∙ ap (λ (y : ℕ). set words y (driven y)) c.net-net.ensures)
-    (λ q within ne idle.
-    (sym (get_or-set_other c.args.pending.now c.args.rank q false false ne)
-    ∙ (sym (ap (λ (l : List Bool). get_or l q false) c.remove.ensures) ∙ idle),
-    inr (c.recompute.ensures.unchanged c.if-recompute.false)))
+    (λ q within ne idle. (
+      sym (get_or-set_other c.args.pending.now c.args.rank q false false ne)
+          ∙ (sym (ap (λ (l : List Bool). get_or l q false) c.remove.ensures) ∙ idle),
+      inr (c.recompute.ensures.unchanged c.if-recompute.false),
+    ))
 
 pub touch-requires : goal.touch-requires
 touch-requires c =

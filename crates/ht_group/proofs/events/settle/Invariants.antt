@@ -1,4 +1,4 @@
-use Rattle.std.proofs.Common.{◌≡◌, ◌<◌, ◌≤◌, ◌+◌, ◌-◌, ℕ, false, length, get_or}
+use Rattle.std.proofs.Common.{◌≡◌, ◌<◌, ◌≤◌, ◌-◌, ℕ, false, length, get_or}
 use Rattle.ht_net.specs.Netlist.{first_gate_net, net_count}
 use Rattle.ht_group.specs.Pending.{QuietHaveValues}
 use Rattle.ht_group.proofs.events.settle.Given as goal

@@ -1,5 +1,5 @@
 use Rattle.std.specs.List.{Contains}
-use Rattle.std.proofs.Common.{◌≡◌, ◌<◌, ℕ, true, false, length, get_or, take}
+use Rattle.std.proofs.Common.{◌≡◌, ℕ, true, false, length, get_or, take}
 use Rattle.ht_group.proofs.events.touch.Given as goal
 
 abbrev pub invariant-loop-rank : goal.invariant-loop-rank

@@ -1,4 +1,4 @@
-use Rattle.std.proofs.Common.{◌≡◌, ◌+◌, length, take, map}
+use Rattle.std.proofs.Common.{◌≡◌, ◌+◌, length, take}
 use Rattle.ht_net.specs.Detection.{terns_of}
 use Rattle.ht_group.proofs.good_frame.join.Given as goal
 

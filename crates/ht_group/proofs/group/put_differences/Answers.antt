@@ -1,4 +1,4 @@
-use Rattle.std.proofs.Common.{◌≡◌, ◌<◌, ◌∙◌, ◌+◌, ◌-◌, List, length, All, subst, sym, arith}
+use Rattle.std.proofs.Common.{◌<◌, ◌∙◌, ◌-◌, List, length, All, subst, sym, arith}
 use Rattle.std.proofs.lemmas.List.Elements.{All-get_or}
 use Rattle.ht_diff.specs.declared.diffs.Diff.{Diff}
 use Rattle.ht_group.specs.LatchWords.{HasDifferences}

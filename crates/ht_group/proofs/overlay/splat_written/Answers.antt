@@ -1,4 +1,4 @@
-use Rattle.std.proofs.Common.{◌≡◌, ◌≢◌, ◌<◌, ◌≤◌, ◌+◌, ◌∙◌, ℕ, List, length, get_or, ap, arith, inl, inr}
+use Rattle.std.proofs.Common.{◌<◌, ◌∙◌, length, ap, arith, inl, inr}
 use Rattle.std.proofs.lemmas.Bool.{cases_lt}
 use Rattle.std.proofs.lemmas.List.{length-set, get_or_default}
 use Rattle.ht_tern.specs.declared.tern.Tern.TheVariants.{Unk}

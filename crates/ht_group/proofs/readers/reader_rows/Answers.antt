@@ -1,6 +1,6 @@
-use Rattle.std.proofs.Common.{◌≡◌, ◌<◌, ◌+◌, ◌∙◌, ℕ, List, length, get_or, replicate, [], ap, sym, arith}
+use Rattle.std.proofs.Common.{◌≡◌, ◌<◌, ◌+◌, ◌∙◌, ℕ, List, length, get_or, replicate, [], ap, arith}
 use Rattle.ht_net.specs.declared.net.NetId.{NetId}
-use Rattle.ht_net.specs.Netlist.{no_net, first_gate_net, net_count, arg_at, gate_at}
+use Rattle.ht_net.specs.Netlist.{no_net, first_gate_net, arg_at, gate_at}
 use Rattle.ht_group.proofs.ReaderLaws.{no_readers, pin_added, reads_pin, gate_done, readers_are}
 use Rattle.ht_group.proofs.readers.reader_rows.Goals as goal
 

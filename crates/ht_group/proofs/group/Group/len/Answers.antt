@@ -1,4 +1,4 @@
-use Rattle.std.proofs.Common.{◌≡◌, ◌∙◌, length, drop, ap, sym, arith}
+use Rattle.std.proofs.Common.{length, drop, ap, arith}
 use Rattle.ht_group.specs.GroupView.{GroupView}
 use Rattle.ht_group.proofs.ViewLaws.{machine_count}
 use Rattle.ht_group.proofs.group.Group.len.Goals as goal

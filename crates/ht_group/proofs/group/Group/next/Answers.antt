@@ -1,10 +1,9 @@
 use Rattle.std.specs.List.{slice_get}
-use Rattle.std.proofs.Common.{◌≡◌, ◌≤◌, ◌<◌, ◌∙◌, ◌+◌, ℕ, Some, None, ap, sym, arith, drop, length, get_or}
-use Rattle.std.proofs.lemmas.Option.{slice_get_within, slice_get_past}
+use Rattle.std.proofs.Common.{◌≡◌, ◌<◌, ◌∙◌, Some, None, ap, arith, length}
+use Rattle.std.proofs.lemmas.Option.{slice_get_within}
 use Rattle.ht_lanes.specs.Lanes.{Lanes, lane}
 use Rattle.ht_lanes.specs.Inverse.{lane_of_each}
 use Rattle.ht_net.specs.declared.net.NetId.{NetId}
-use Rattle.ht_net.specs.Netlist.{no_net}
 use Rattle.ht_net.specs.Faults.{tern_rules}
 use Rattle.ht_group.specs.GroupView.{GroupView}
 use Rattle.ht_group.specs.NetValues.{good_value, faulty_value}

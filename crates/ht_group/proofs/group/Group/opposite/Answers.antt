@@ -1,4 +1,4 @@
-use Rattle.std.proofs.Common.{◌≡◌, ◌<◌, ◌∙◌, Some, None, ap, arith}
+use Rattle.std.proofs.Common.{◌<◌, ◌∙◌, Some, None, ap, arith}
 use Rattle.std.proofs.lemmas.Option.{slice_get_within}
 use Rattle.ht_tern.specs.Opposite.{are_opposite}
 use Rattle.ht_net.specs.declared.net.NetId.{NetId}

@@ -1,6 +1,7 @@
 use Rattle.std.specs.List.{slice_get}
-use Rattle.std.proofs.Common.{◌≡◌, ◌<◌, ◌≤◌, ◌∙◌, ℕ, List, true, length, get_or, drop, ap, sym, subst, arith}
+use Rattle.std.proofs.Common.{◌≡◌, ◌<◌, ◌∙◌, List, true, length, drop, ap, arith}
 use Rattle.std.proofs.lemmas.List.{get_or_read}
+use Rattle.ht_tern.specs.declared.tern.Tern.{Tern}
 use Rattle.ht_tern.specs.declared.tern.Tern.TheVariants.{Unk}
 use Rattle.ht_lanes.specs.Lanes.{Lanes, lane, every_lane}
 use Rattle.ht_net.specs.Netlist.{net_count}
@@ -18,9 +19,9 @@ returns-clause-machines c k m has =
     let size = ap (λ (v : GroupView). net_count v.circuit) c.self.view_is in
     let known : c.args.net.0 < net_count a.circuit.now = omega (arith, c.requires.net, size) in
     let settled : a.settled ≡ true = ap (λ (v : GroupView). v.settled) c.self.view_is ∙ c.requires.settled in
-    let same = ap (λ (l : List Lanes). length l) c.words.ensures.words in
+    let same = ap (λ (l : List Tern). length l) c.self.invariant.nets in
     let inside : c.index.result < length c.words.result.now =
-    omega (arith, known, same, c.self.invariant.net_words, c.index.ensures) in
+    omega (arith, known, same, c.words.ensures.count, c.self.invariant.frame.room.value_count, c.index.ensures) in
     let read = get_or_read c.words.result.now c.index.result c.index-words-index.result inside c.index-words-index.is
     (every_lane Unk) in
     ap (λ (w : Lanes). lane w k) (read ∙ (λ i. word_at (c.words.ensures.words i) (c.index.ensures i)))
@@ -36,9 +37,9 @@ returns-clause-others c k past below =
     let known : c.args.net.0 < net_count a.circuit.now = omega (arith, c.requires.net, size) in
     let settled : a.settled ≡ true = ap (λ (v : GroupView). v.settled) c.self.view_is ∙ c.requires.settled in
     let count = ap (λ (v : GroupView). length v.machines) c.self.view_is in
-    let same = ap (λ (l : List Lanes). length l) c.words.ensures.words in
+    let same = ap (λ (l : List Tern). length l) c.self.invariant.nets in
     let inside : c.index.result < length c.words.result.now =
-    omega (arith, known, same, c.self.invariant.net_words, c.index.ensures) in
+    omega (arith, known, same, c.words.ensures.count, c.self.invariant.frame.room.value_count, c.index.ensures) in
     let read = get_or_read c.words.result.now c.index.result c.index-words-index.result inside c.index-words-index.is
     (every_lane Unk) in
     ap (λ (w : Lanes). lane w k) (read ∙ (λ i. word_at (c.words.ensures.words i) (c.index.ensures i)))

@@ -1,4 +1,4 @@
-use Rattle.std.proofs.Common.{◌≡◌, ◌<◌, ◌∙◌, ap, arith, get_or, length, ℕ}
+use Rattle.std.proofs.Common.{◌<◌, ◌∙◌, ap, arith, get_or, length, ℕ}
 use Rattle.std.proofs.lemmas.List.{get_or_read}
 use Rattle.ht_lanes.specs.Lanes.{is_set}
 use Rattle.ht_group.specs.StuckTables.{gate_slot, slot_count}

@@ -1,4 +1,4 @@
-use Rattle.std.proofs.Common.{◌≡◌, ◌<◌, ◌∙◌, ap, arith, get_or, length, ℕ}
+use Rattle.std.proofs.Common.{◌<◌, ◌∙◌, ap, arith, get_or, length, ℕ}
 use Rattle.std.proofs.lemmas.List.{get_or_read}
 use Rattle.ht_lanes.specs.Lanes.{stuck_lanes}
 use Rattle.ht_net.specs.Faults.{is_data_pin}
