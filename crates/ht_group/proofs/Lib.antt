@@ -1,3 +1,4 @@
+pub mod BitLaws
 pub mod DriveLaws
 pub mod MachineLaws
 pub mod StuckLaws

@@ -23,7 +23,8 @@ use Rattle.ht_net.specs.Frame.{Rules, pin_values, values_at}
 use Rattle.ht_net.specs.Faults.{forced, tern_rules, is_pin}
 use Rattle.ht_net.proofs.FrameLaws.{pins_length}
 use Rattle.ht_group.specs.Overlays.{word_at}
-use Rattle.ht_group.specs.StuckTables.{is_at_gate, is_pin_of, is_pin_number, with_bit, AreGateLanes}
+use Rattle.ht_group.specs.BitSets.{with_bit}
+use Rattle.ht_group.specs.StuckTables.{is_at_gate, is_pin_of, is_pin_number, AreGateLanes}
 use Rattle.ht_group.proofs.MachineLaws.{rules_at, lane_env}
 
 -- What a machine's pins make of values, where its fault is at no pin of the gate.

@@ -1,14 +1,13 @@
 -- A table of lanes that are stuck: what it makes of a line, and one fault more or less.
 use Rattle.std.specs.Prelude.{set}
-use Rattle.std.specs.Int.{w64}
 use Rattle.std.specs.List.{slice_get}
 use Rattle.std.proofs.Common.{◌≡◌, ◌≢◌, ◌<◌, ◌+◌, ◌∙◌, ℕ, zero, suc, List, [], ◌∷◌, ◌++◌, Bool, true, false, length, get_or, cond, eqb, ap, sym, subst, refl, arith, Option, Some, None, inl, inr}
 use Rattle.std.proofs.lemmas.Bool.Decides.{eqb_tells}
 use Rattle.std.proofs.lemmas.List.{get_or-set_same, get_or-set_other, length-set, length-append}
 use Rattle.std.proofs.lemmas.Option.{slice_get_past, slice_get_within}
-use Rattle.std.proofs.lemmas.Nat.Bits.{bit_at_set_same, bit_at_set_other, bit_at_clear_same, bit_at_clear_other}
 use Rattle.ht_tern.specs.declared.tern.Tern.{Tern}
 use Rattle.ht_tern.specs.Gate.{tern_of}
+use Rattle.ht_group.proofs.BitLaws.{bit_here, bit_there}
 use Rattle.ht_lanes.specs.Lanes.{Lanes, lane, each_lane, is_set, stuck_lanes}
 use Rattle.ht_lanes.proofs.OperationLaws.{lanes_same}
 use Rattle.ht_net.specs.declared.fault.Site.{Site}
@@ -17,7 +16,8 @@ use Rattle.ht_net.specs.declared.fault.Fault.{Fault}
 use Rattle.ht_net.specs.Netlist.{Netlist, net_count}
 use Rattle.ht_net.specs.Faults.{forced, is_stem, is_data_pin}
 use Rattle.ht_group.specs.GroupView.{HasSite}
-use Rattle.ht_group.specs.StuckTables.{IsStuckTable, gate_slot, dff_slot, slot_count, slot_of, is_at_slot, with_bit, is_pin_of, is_at_gate}
+use Rattle.ht_group.specs.BitSets.{with_bit}
+use Rattle.ht_group.specs.StuckTables.{IsStuckTable, gate_slot, dff_slot, slot_count, slot_of, is_at_slot, is_pin_of, is_at_gate}
 
 -- Two numbers are compared.
 eqb_other : (a b : ℕ) → a ≢ b → eqb a b ≡ false
@@ -87,15 +87,7 @@ gate_lanes_are c faults ones table t g k inside below =
     t.lanes_at (gate_slot c g) k (omega arith) below
     ∙ at_gate_is c (slice_get faults k) g inside (λ f has. t.within k f has)
 
--- One bit is written.
-bit_here : (bits m : ℕ) (bit : Bool) → m < 64 → is_set (with_bit bits m bit) m ≡ bit
-bit_here bits m true below = ap (λ b. eqb b 1) (bit_at_set_same w64 bits m below)
-bit_here bits m false below = ap (λ b. eqb b 1) (bit_at_clear_same w64 bits m below)
-
-bit_there : (bits m : ℕ) (bit : Bool) (k : ℕ) → m < 64 → k < 64 → k ≢ m → is_set (with_bit bits m bit) k ≡ is_set bits k
-bit_there bits m true k below small ne = ap (λ b. eqb b 1) (bit_at_set_other w64 bits m below k ne)
-bit_there bits m false k below small ne = ap (λ b. eqb b 1) (bit_at_clear_other w64 bits m below k small ne)
-
+-- One lane of a slot is written.
 -- lane m of slot n is written
 abbrev lane_written : List ℕ → ℕ → ℕ → Bool → List ℕ
 lane_written table n m bit = set table n (with_bit (get_or table n 0) m bit)

@@ -1,4 +1,5 @@
 pub mod GroupView
+pub mod BitSets
 pub mod Overlays
 pub mod OverlayOf
 pub mod Schedules

@@ -1,6 +1,5 @@
 -- A table that has, for each line, the lanes whose fault stands there.
-use Rattle.std.specs.Prelude.{◌≡◌, ◌<◌, ◌≤◌, ◌+◌, ◌*◌, ◌%◌, ◌^◌, ◌==◌, ℕ, List, Bool, false, length, get_or, bit_and, bit_or, Option, Some, None, if◌then◌else◌}
-use Rattle.std.specs.Int.{bit_not, w64}
+use Rattle.std.specs.Prelude.{◌≡◌, ◌<◌, ◌≤◌, ◌+◌, ◌==◌, ℕ, List, Bool, false, length, get_or, Option, Some, None}
 use Rattle.std.specs.List.{slice_get}
 use Rattle.ht_lanes.specs.Lanes.{is_set}
 use Rattle.ht_net.specs.declared.fault.Site.{Site}
@@ -31,11 +30,6 @@ slot_of c (DffPin j) = dff_slot c j
 abbrev pub is_at_slot : Netlist → Option Fault → ℕ → Bool
 is_at_slot c None s = false
 is_at_slot c (Some fault) s = s == slot_of c fault.site
-
--- the bits with bit k as given
-abbrev pub with_bit : ℕ → ℕ → Bool → ℕ
-with_bit bits k bit =
-    if bit then bit_or bits (1 * 2 ^ k % 2 ^ 64) else bit_and bits (bit_not w64 (1 * 2 ^ k % 2 ^ 64))
 
 -- whether a site is some pin of gate g
 abbrev pub is_pin_of : Site → ℕ → Bool

@@ -163,7 +163,7 @@ impl<'c> Group<'c> {
             frame,
             sources,
             nets,
-            pending: BitSet::new(alloc, circuit.nets() as usize)?,
+            pending: BitSet::new(alloc, circuit.nets())?,
             settled: true,
             pins: vec![in alloc; Word::splat(Tern::Unk); PIN_ROOM]?,
         })

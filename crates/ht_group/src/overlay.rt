@@ -66,7 +66,7 @@ impl Overlay {
         requires { length good.now < 2 ^ 32 }
         ensures { IfOk result (λ overlay. overlay ≡ spread good.now) }
     {
-        let written = BitSet::new(alloc, good.len())?;
+        let written = BitSet::new(alloc, good.len() as u32)?;
         let mut words = vec![in alloc; Word::splat(Tern::Unk); good.len()]?;
         splat_all(good, &mut words);
         Ok(Overlay {

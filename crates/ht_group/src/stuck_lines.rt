@@ -4,8 +4,10 @@ ghost use Rattle.ht_net.specs.Netlist.{net_count};
 ghost use Rattle.ht_lanes.specs.Lanes.{is_set};
 ghost use Rattle.ht_group.specs.GroupView.{HasSite, max_machines};
 ghost use Rattle.ht_group.specs.LaneRules.{lane_rules};
-ghost use Rattle.ht_group.specs.StuckTables.{AreGateLanes, AreStuck, dff_slot, gate_slot, slot_count, slot_of, with_bit};
+ghost use Rattle.ht_group.specs.BitSets.{with_bit};
+ghost use Rattle.ht_group.specs.StuckTables.{AreGateLanes, AreStuck, dff_slot, gate_slot, slot_count, slot_of};
 
+use crate::bit_set::with_bit;
 use ht_lanes::Word;
 use ht_net::{Circuit, Fault, Site};
 use std::alloc::{AllocError, Global};
@@ -50,14 +52,6 @@ fn slot_of(circuit: &Circuit, site: Site) -> usize
         Site::GatePin { gate, .. } => slot_of_gate(circuit, gate),
         Site::DffPin { dff } => slot_of_dff(circuit, dff),
     }
-}
-
-// The bits with bit `k` as given.
-fn with_bit(bits: u64, k: u32, bit: bool) -> u64
-    requires { k < 64 }
-    ensures { result ≡ with_bit bits k bit }
-{
-    if bit { bits | 1 << k } else { bits & !(1 << k) }
 }
 
 // Writes lane `k` of a slot.
