@@ -63,7 +63,8 @@ written words i bit = set words (i / 64) (with_bit (get_or words (i / 64) 0) (i 
 pub mark_here : (words : List ℕ) (i : ℕ) (bit : Bool) → i / 64 < length words
     → is_marked (written words i bit) i ≡ bit
 mark_here words i bit inside =
-    ap (λ w. is_set w (i % 64)) (get_or-set_same words (i / 64) (with_bit (get_or words (i / 64) 0) (i % 64) bit) 0 inside)
+    ap (λ w. is_set w (i % 64)) (get_or-set_same words (i / 64) (with_bit (get_or words (i / 64) 0) (i % 64) bit) 0
+    inside)
     ∙ bit_here (get_or words (i / 64) 0) (i % 64) bit (omega arith)
 
 pub mark_there : (words : List ℕ) (i j : ℕ) (bit : Bool) → i / 64 < length words → j ≢ i

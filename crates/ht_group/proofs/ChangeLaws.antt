@@ -26,8 +26,8 @@ use Rattle.ht_group.proofs.KeptLaws.{value_kept}
 use Rattle.ht_group.proofs.SpreadLaws.{lane_of_spread, spread_has_values}
 use Rattle.ht_group.proofs.ViewLaws.{machine_added}
 
-no_marks : (n r : ℕ) → get_or (replicate n false) r false ≡ false
-no_marks n r = elim (cases_lt r n) [
+none_marked : (n r : ℕ) → get_or (replicate n false) r false ≡ false
+none_marked n r = elim (cases_lt r n) [
   | inl inside ↦ get_or-replicate n r false false inside
   | inr past ↦ get_or_past (replicate n false) r false (let e = length-replicate n false in omega (arith, past, e))
 ]
@@ -64,11 +64,12 @@ fresh_group a circuit schedule stuck none frame sources nets n all marks room =
           (subst (λ (l : List Lanes). P (map every_lane a.frame.sources.items) l x) (sym net_words)
           (spread_has_values a.circuit.now circuit a.lines.faults.items a.frame.sources.items a.frame.values.items none
           frame.room.source_count frame.room.value_count frame.values x (schedule.ranks.known r inside)));
-      settled = λ is r. ap (λ (l : List Bool). get_or l r false) marks ∙ no_marks n r;
+      settled = λ is r. ap (λ (l : List Bool). get_or l r false) marks ∙ none_marked n r;
     }
 
 -- A net that isn't pending once the net that a fault touches is.
-pub forced_pending : (c : Netlist) (s : Schedule) → IsSchedule c s → (site : Site) (net : ℕ) → forced_net_of c site ≡ Some net
+pub forced_pending : (c : Netlist) (s : Schedule) → IsSchedule c s → (site : Site) (net : ℕ) → forced_net_of c site
+    ≡ Some net
     → (put pending : List Bool) → length put ≡ net_count c → pending ≡ set put (get_or s.ranks.items net 0) true
     → (r : ℕ) → r < net_count c → get_or pending r false ≡ false
     → (get_or put r false ≡ false) × (forced_net_of c site ≢ Some (get_or s.order.items r 0))
@@ -114,7 +115,8 @@ with_machine f diffs g = record {
   settled = false;
 }
 
-module _ (a : Inside) (g : IsGroup a) (f : Fault) (diffs : List Diff) (k : ℕ) (lines : StuckLines) (sources : OverlayView)
+module _ (a : Inside) (g : IsGroup a) (f : Fault) (diffs : List Diff) (k : ℕ) (lines : StuckLines)
+    (sources : OverlayView)
     (put : List Bool) (lane_k : k ≡ length a.lines.faults.items) (room : length a.lines.faults.items < 64)
     (stuck : AreStuck a.circuit.now lines) (more : lines.faults.items ≡ a.lines.faults.items ++ f ∷ [])
     (good : sources.good ≡ a.sources.good)
@@ -150,7 +152,8 @@ module _ (a : Inside) (g : IsGroup a) (f : Fault) (diffs : List Diff) (k : ℕ) 
     quiet = λ r inside is.
         let x = get_or a.schedule.order.items r 0 in
         let both = idle r inside is in
-        subst (λ (l : List Fault). HasItsValue a.circuit.now (lane_rules l) sources.words (word_at a.nets.words) x) (sym more)
+        subst (λ (l : List Fault). HasItsValue a.circuit.now (lane_rules l) sources.words (word_at a.nets.words) x)
+        (sym more)
         (value_kept a.circuit.now a.lines.faults.items f a.sources.words sources.words (word_at a.nets.words) x
         g.source_count h.count (h.quiet r inside both.0) both.1
         (g.quiet r inside (was_idle r both.0)));
@@ -184,7 +187,8 @@ module _ (a : Inside) (g : IsGroup a) (f : Fault) (diffs : List Diff) (k : ℕ) 
         vector = take n (good i);
         latches = drop n (good i);
         machines = (ap (λ (l : List Fault). machines_from 0 l new) more ∙ (machines
-            ∙ ap (λ (l : List Tern). machines_from 0 a.lines.faults.items old ++ record { fault = f; latches = l } ∷ []) latches)) i;
+            ∙ ap (λ (l : List Tern). machines_from 0 a.lines.faults.items old ++ record { fault = f; latches = l }
+            ∷ []) latches)) i;
         settled = false;
       }
 

@@ -1,4 +1,5 @@
--- What drives a net, from sources that are the vector and then the latches; nets that all have their values are a frame.
+-- What drives a net, where the sources are the vector and then the latches; where each net has its value, all are a
+-- frame.
 use Rattle.std.proofs.Common.{◌≡◌, ◌<◌, ◌≤◌, ◌+◌, ◌-◌, ◌∙◌, ℕ, List, get_or, take, drop, ap, sym, arith, inl, inr}
 use Rattle.std.proofs.lemmas.Bool.Decides.{nat_tests}
 use Rattle.std.proofs.lemmas.List.{get_or-take, get_or-drop}

@@ -44,7 +44,8 @@ module _ (c : Netlist) (s : Schedule) (is : IsSchedule c s) where
   no_self : (x : ℕ) → ¬ ReadsFrom c x x
   no_self x reads = let less = is.ranks.rises x x reads in absurd (omega (arith, less))
 
-  other_net : (q r : ℕ) → q < net_count c → r < net_count c → q ≢ r → get_or s.order.items q 0 ≢ get_or s.order.items r 0
+  other_net : (q r : ℕ) → q < net_count c → r < net_count c → q ≢ r
+      → get_or s.order.items q 0 ≢ get_or s.order.items r 0
   other_net q r a b ne e = ne (sym (rank_of_net q a)
       ∙ (ap (λ (x : ℕ). get_or s.ranks.items x 0) e ∙ rank_of_net r b))
 
@@ -122,4 +123,5 @@ module _ (pending removed touched : List Bool) (row : List ℕ) (rank : ℕ) (is
 
   pub rank_taken : rank < length pending → ¬ Contains row rank → get_or touched rank false ≡ false
   rank_taken inside apart =
-      rest rank apart ∙ (ap (λ (l : List Bool). get_or l rank false) is ∙ get_or-set_same pending rank false false inside)
+      rest rank apart ∙ (ap (λ (l : List Bool). get_or l rank false) is
+      ∙ get_or-set_same pending rank false false inside)

@@ -73,7 +73,8 @@ pub written_lane : (words : List Lanes) (x k : ℕ) (v : Tern) (y n : ℕ) → x
 written_lane words x k v y n inside below = elim (eqb_tells y x) [
   | inl p ↦
       rw p.0 (ap (λ m. lane (word_at (set words x (with_lane (word_at words x) k v)) m) n) p.1
-      ∙ (ap (λ (w : Lanes). lane w n) (get_or-set_same words x (with_lane (word_at words x) k v) (every_lane Unk) inside)
+      ∙ (ap (λ (w : Lanes). lane w n) (get_or-set_same words x (with_lane (word_at words x) k v) (every_lane Unk)
+      inside)
       ∙ (lane_of_each (λ m. cond (eqb m k) v (lane (word_at words x) m)) n below
       ∙ ap (λ m. cond (eqb n k) v (lane (word_at words m) n)) (sym p.1))))
   | inr p ↦
@@ -90,7 +91,7 @@ by_pin : (b : Bool) (v u : Tern) → cond (b && true) v u ≡ cond b v u
 by_pin true v u = refl
 by_pin false v u = refl
 
-by_none : (b : Bool) (v u : Tern) → cond (b && false) v u ≡ u
+pub by_none : (b : Bool) (v u : Tern) → cond (b && false) v u ≡ u
 by_none true v u = refl
 by_none false v u = refl
 
@@ -105,7 +106,8 @@ all_left faults g lanes old are i k within below =
     left_to_stick (is_set lanes k) (lane (word_at old i) k) ((rules_at faults k).pin g i (lane (word_at old i) k))
     (λ h. plain_pin (slice_get faults k) g i (lane (word_at old i) k) (sym (are k below) ∙ h))
 
-pub none_left : (faults : List Fault) (g rest : ℕ) (old pins : List Lanes) → rest ≡ 0 → ArePinsBut faults g rest old pins
+pub none_left : (faults : List Fault) (g rest : ℕ) (old pins : List Lanes) → rest ≡ 0
+    → ArePinsBut faults g rest old pins
     → (i k : ℕ) → i < 256 → k < 64 → lane (word_at pins i) k ≡ (rules_at faults k).pin g i (lane (word_at old i) k)
 none_left faults g rest old pins none but i k within below =
     but i k within below

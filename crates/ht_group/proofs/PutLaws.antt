@@ -3,7 +3,7 @@ use Rattle.std.specs.Prelude.{set, unwrap_or}
 use Rattle.std.proofs.Common.{◌≡◌, ◌≢◌, ◌<◌, ◌≤◌, ◌+◌, ◌-◌, ◌∙◌, ◌&&◌, ℕ, List, ◌∷◌, Bool, true, false, length, get_or, take, drop, cond, eqb, ap, sym, refl, arith, Option, Some, inl, inr}
 use Rattle.std.proofs.lemmas.Bool.Decides.{eqb_tells}
 use Rattle.std.proofs.lemmas.List.{ext_get_or, get_or-map, get_or-take, get_or-drop, length-map, length-drop, length-take-le, drop_all, drop_more, get_or-set_other, get_or-set_same, length-set}
-use Rattle.std.proofs.lemmas.Bool.{cases_Bool}
+use Rattle.std.proofs.lemmas.Bool.{cases_Bool, eq-eqb, ne_eqb}
 use Rattle.std.proofs.lemmas.List.FromFn.{get_or-map-range_with_len, length-map-range_with_len}
 use Rattle.ht_tern.specs.declared.tern.Tern.{Tern}
 use Rattle.ht_tern.specs.declared.tern.Tern.TheVariants.{Unk}
@@ -16,7 +16,8 @@ use Rattle.ht_group.specs.Overlays.{OverlayView, word_at}
 use Rattle.ht_group.specs.LatchWords.{HasDifferences}
 use Rattle.ht_group.specs.Schedules.{IsSchedule}
 use Rattle.ht_group.specs.declared.schedule.Schedule.{Schedule}
-use Rattle.ht_group.proofs.PinLaws.{written_lane}
+use Rattle.ht_group.proofs.PinLaws.{by_none, written_lane}
+use Rattle.ht_group.proofs.StuckLaws.{eqb_shift}
 
 -- Two lists of words have the same lane where they have it word by word.
 pub same_lane : (k : ℕ) (s t : List Lanes) → length s ≡ length t
@@ -30,29 +31,11 @@ same_lane k s t count same =
     get_or-map f s x (every_lane Unk) Unk at
     ∙ (same x at ∙ sym (get_or-map f t x (every_lane Unk) Unk (omega (arith, at, count)))))
 
-by_choice : (b : Bool) (v g : Tern) (h : Option Tern) → cond (b && true) v (unwrap_or h g) ≡ unwrap_or (cond b (Some v) h)
+by_choice : (b : Bool) (v g : Tern) (h : Option Tern) → cond (b && true) v (unwrap_or h g)
+    ≡ unwrap_or (cond b (Some v) h)
     g
 by_choice true v g h = refl
 by_choice false v g h = refl
-
-by_none : (b : Bool) (v u : Tern) → cond (b && false) v u ≡ u
-by_none true v u = refl
-by_none false v u = refl
-
-eqb_other : (a b : ℕ) → a ≢ b → eqb a b ≡ false
-eqb_other a b ne = elim (eqb_tells a b) [ inl p ↦ absurd (ne p.1) | inr p ↦ p.0 ]
-
-eqb_self : (a : ℕ) → eqb a a ≡ true
-eqb_self a = elim (eqb_tells a a) [ inl p ↦ p.0 | inr p ↦ absurd (p.1 refl) ]
-
-eqb_shift : (n a b : ℕ) → eqb (n + a) (n + b) ≡ eqb a b
-eqb_shift n a b = elim (eqb_tells a b) [
-  | inl p ↦ ap (λ (i : ℕ). eqb (n + i) (n + b)) p.1 ∙ (eqb_self (n + b) ∙ sym p.0)
-  | inr p ↦ elim (eqb_tells (n + a) (n + b)) [
-    | inl q ↦ let ne : a ≢ b = p.1 in let e : n + a ≡ n + b = q.1 in absurd (omega (arith, ne, e))
-    | inr q ↦ q.0 ∙ sym p.0
-  ]
-]
 
 -- Lane k has the differences from i on, and the nets of their latches are pending.
 pub record ArePut (c : Netlist) (ranks : List ℕ) (k : ℕ) (entries : List Diff) (old : OverlayView) (before : List Bool)
@@ -75,7 +58,8 @@ none_put c ranks k entries old before count marks plain = record {
   marks = marks;
   inputs = λ x below. refl;
   put = λ j inside.
-      sym (get_or-map (λ (w : Lanes). lane w k) old.words (c.inputs + j) (every_lane Unk) Unk (omega (arith, inside, count)))
+      sym (get_or-map (λ (w : Lanes). lane w k) old.words (c.inputs + j) (every_lane Unk) Unk
+      (omega (arith, inside, count)))
       ∙ (ap (λ (l : List Tern). get_or l (c.inputs + j) Unk) plain
       ∙ (sym (get_or-drop c.inputs old.good j Unk)
       ∙ ap (λ (l : List Diff). value_but (drop c.inputs old.good) l j)
@@ -94,7 +78,8 @@ marked_more pending r q inside is = elim (eqb_tells q r) [
 ]
 
 module _ (c : Netlist) (ranks : List ℕ) (k : ℕ) (entries : List Diff) (old : OverlayView) (before : List Bool)
-    (words new : List Lanes) (pending pending' : List Bool) (i : ℕ) (d : Diff) (some : 0 < i) (most : i ≤ length entries)
+    (words new : List Lanes) (pending pending' : List Bool) (i : ℕ) (d : Diff) (some : 0 < i)
+    (most : i ≤ length entries)
     (small : k < 64) (latch : (get_or entries (i - 1) d).latch < length c.dffs)
     (rank : get_or ranks (c.inputs + (get_or entries (i - 1) d).latch) 0 < net_count c)
     (written : new ≡ set words (c.inputs + (get_or entries (i - 1) d).latch)
@@ -130,11 +115,11 @@ module _ (c : Netlist) (ranks : List ℕ) (k : ℕ) (entries : List Diff) (old :
         let rest : drop (i - 1) entries ≡ e ∷ drop i entries =
         drop_more entries (i - 1) d (omega (arith, some, most)) ∙ ap (λ (n : ℕ). e ∷ drop n entries) back in
         lane_is (c.inputs + j) k small
-        ∙ ((λ p. cond (eqb_shift c.inputs j e.latch p && eqb_self k p) e.value (h.put j at p))
+        ∙ ((λ p. cond (eqb_shift c.inputs j e.latch p && eq-eqb k k refl p) e.value (h.put j at p))
         ∙ (by_choice (eqb j e.latch) e.value (get_or (drop c.inputs old.good) j Unk) (held (drop i entries) j)
         ∙ ap (λ (l : List Diff). value_but (drop c.inputs old.good) l j) (sym rest)));
     others = λ y n below ne. lane_is y n below
-        ∙ (ap (λ b. cond (eqb y x && b) e.value (lane (word_at words y) n)) (eqb_other n k ne)
+        ∙ (ap (λ b. cond (eqb y x && b) e.value (lane (word_at words y) n)) (ne_eqb n k ne)
         ∙ (by_none (eqb y x) e.value (lane (word_at words y) n) ∙ h.others y n below ne));
     more = λ r is. ap (λ (l : List Bool). get_or l r false) marked
         ∙ marked_more pending (get_or ranks x 0) r (let m = h.marks in omega (arith, rank, m)) (h.more r is);
@@ -143,12 +128,14 @@ module _ (c : Netlist) (ranks : List ℕ) (k : ℕ) (entries : List Diff) (old :
           let there : get_or pending' (get_or ranks x 0) false ≡ true =
           ap (λ (l : List Bool). get_or l (get_or ranks x 0) false) marked
           ∙ get_or-set_same pending (get_or ranks x 0) true false (let m = h.marks in omega (arith, rank, m)) in
-          let bad : true ≡ false = sym there ∙ (ap (λ (z : ℕ). get_or pending' (get_or ranks z 0) false) (sym p.1) ∙ idle)
+          let bad : true ≡ false = sym there ∙ (ap (λ (z : ℕ). get_or pending' (get_or ranks z 0) false) (sym p.1)
+          ∙ idle)
           in cc
       | inr p ↦ other_word y p.1 ∙ h.quiet y (not_marked y idle)
     ];
   } where
-    not_marked : (y : ℕ) → get_or pending' (get_or ranks y 0) false ≡ false → get_or pending (get_or ranks y 0) false ≡ false
+    not_marked : (y : ℕ) → get_or pending' (get_or ranks y 0) false ≡ false → get_or pending (get_or ranks y 0) false
+        ≡ false
     not_marked y idle = elim (cases_Bool (get_or pending (get_or ranks y 0) false)) [
       | inl set_y ↦
           let bad : true ≡ false = sym (ap (λ (l : List Bool). get_or l (get_or ranks y 0) false) marked
@@ -159,7 +146,8 @@ module _ (c : Netlist) (ranks : List ℕ) (k : ℕ) (entries : List Diff) (old :
 
 -- after the last
 pub all_put : (c : Netlist) (s : Schedule) (k : ℕ) (entries : List Diff) (old : OverlayView) (before : List Bool)
-    (words : List Lanes) (pending : List Bool) (i : ℕ) → IsSchedule c s → i ≡ 0 → k < 64 → length old.words ≡ first_gate_net c
+    (words : List Lanes) (pending : List Bool) (i : ℕ) → IsSchedule c s → i ≡ 0 → k < 64 → length old.words
+    ≡ first_gate_net c
     → in_lane k old.words ≡ old.good → ArePut c s.ranks.items k entries old before words pending i
     → HasDifferences c s k entries old before words pending
 all_put c s k entries old before words pending i is end small count plain h =

@@ -6,7 +6,8 @@ use Rattle.ht_group.specs.Schedules.{ReadsFrom, AreRanks}
 
 module _ (c : Netlist) (gates order : List ℕ) (sorted : IsOrder c gates) (count : length order ≡ net_count c)
     (low_are : (x : ℕ) → x < first_gate_net c → get_or order x 0 ≡ x)
-    (gates_are : (k : ℕ) → k < length c.gates → get_or order (first_gate_net c + k) 0 ≡ first_gate_net c + get_or gates k 0)
+    (gates_are : (k : ℕ) → k < length c.gates → get_or order (first_gate_net c + k) 0
+    ≡ first_gate_net c + get_or gates k 0)
   where
     gate_is : (r : ℕ) → first_gate_net c ≤ r → r < net_count c → get_or order r 0
         ≡ first_gate_net c + get_or gates (r - first_gate_net c) 0
@@ -81,7 +82,8 @@ module _ (c : Netlist) (gates order : List ℕ) (sorted : IsOrder c gates) (coun
                 let n = sorted.each.once in
                 let pin : on.pin < length (gate_at c (get_or gates k 0)).args =
                 (let h = on.is_pin in let q = ap (λ (h : ℕ). length (gate_at c h).args) g in omega (arith, h, q)) in
-                let reads : arg_at c (get_or gates k 0) on.pin ≡ x = ap (λ (h : ℕ). arg_at c h on.pin) (sym g) ∙ on.reads
+                let reads : arg_at c (get_or gates k 0) on.pin ≡ x = ap (λ (h : ℕ). arg_at c h on.pin) (sym g)
+                ∙ on.reads
                 in
                 elim (sorted.earlier k on.pin (omega (arith, low, rs, n)) pin) [
                   | inl source ↦
@@ -93,7 +95,8 @@ module _ (c : Netlist) (gates order : List ℕ) (sorted : IsOrder c gates) (coun
                       let jk = gate.1 in
                       let at = gate.2 in
                       let dj = gates_are j (omega (arith, jk, low, rs)) in
-                      let rx = rank_of x (first_gate_net c + j) (omega (arith, jk, low, rs)) (omega (arith, dj, at, reads))
+                      let rx = rank_of x (first_gate_net c + j) (omega (arith, jk, low, rs))
+                      (omega (arith, dj, at, reads))
                       in
                       omega (arith, rx, jk, low)
                 ]

@@ -72,7 +72,8 @@ none_empty row r is h =
 pub no_readers : (c : Netlist) (ranks : List ℕ) (rows : List (List ℕ)) → rows ≡ replicate (net_count c) none
     → ArePartReaders c ranks rows 0
 no_readers c ranks rows is =
-    let row : (x : ℕ) → get_or rows x [] ≡ [] = λ x. ap (λ (r : List (List ℕ)). get_or r x []) is ∙ empty_row (net_count c) x
+    let row : (x : ℕ) → get_or rows x [] ≡ [] = λ x. ap (λ (r : List (List ℕ)). get_or r x []) is
+    ∙ empty_row (net_count c) x
     in
     record {
       count = ap (λ (r : List (List ℕ)). length r) is ∙ length-replicate (net_count c) none;

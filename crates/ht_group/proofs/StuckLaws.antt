@@ -2,6 +2,7 @@
 use Rattle.std.specs.Prelude.{set}
 use Rattle.std.specs.List.{slice_get}
 use Rattle.std.proofs.Common.{◌≡◌, ◌≢◌, ◌<◌, ◌+◌, ◌∙◌, ℕ, zero, suc, List, [], ◌∷◌, ◌++◌, Bool, true, false, length, get_or, cond, eqb, ap, sym, subst, refl, arith, Option, Some, None, inl, inr}
+use Rattle.std.proofs.lemmas.Bool.{eq-eqb, ne_eqb}
 use Rattle.std.proofs.lemmas.Bool.Decides.{eqb_tells}
 use Rattle.std.proofs.lemmas.List.{get_or-set_same, get_or-set_other, length-set, length-append}
 use Rattle.std.proofs.lemmas.Option.{slice_get_past, slice_get_within}
@@ -20,35 +21,29 @@ use Rattle.ht_group.specs.BitSets.{with_bit}
 use Rattle.ht_group.specs.StuckTables.{IsStuckTable, gate_slot, dff_slot, slot_count, slot_of, is_at_slot, is_pin_of, is_at_gate}
 
 -- Two numbers are compared.
-eqb_other : (a b : ℕ) → a ≢ b → eqb a b ≡ false
-eqb_other a b ne = elim (eqb_tells a b) [ inl p ↦ absurd (ne p.1) | inr p ↦ p.0 ]
-
-eqb_same : (a b : ℕ) → a ≡ b → eqb a b ≡ true
-eqb_same a b e = elim (eqb_tells a b) [ inl p ↦ p.0 | inr p ↦ absurd (p.1 e) ]
-
-eqb_shift : (n a b : ℕ) → eqb (n + a) (n + b) ≡ eqb a b
+pub eqb_shift : (n a b : ℕ) → eqb (n + a) (n + b) ≡ eqb a b
 eqb_shift n a b = elim (eqb_tells a b) [
-  | inl p ↦ eqb_same (n + a) (n + b) (ap (λ (i : ℕ). n + i) p.1) ∙ sym p.0
-  | inr p ↦ let ne : a ≢ b = p.1 in eqb_other (n + a) (n + b) (omega (arith, ne)) ∙ sym p.0
+  | inl p ↦ eq-eqb (n + a) (n + b) (ap (λ (i : ℕ). n + i) p.1) ∙ sym p.0
+  | inr p ↦ let ne : a ≢ b = p.1 in ne_eqb (n + a) (n + b) (omega (arith, ne)) ∙ sym p.0
 ]
 
 -- Which slot a line has.
 pub slot_is_stem : (c : Netlist) (x : ℕ) (site : Site) → x < net_count c → HasSite c site
     → eqb x (slot_of c site) ≡ is_stem site x
 slot_is_stem c x (Stem y) inside at = refl
-slot_is_stem c x (GatePin g i) inside at = eqb_other x (gate_slot c g) (omega arith)
-slot_is_stem c x (DffPin j) inside at = eqb_other x (dff_slot c j) (omega arith)
+slot_is_stem c x (GatePin g i) inside at = ne_eqb x (gate_slot c g) (omega arith)
+slot_is_stem c x (DffPin j) inside at = ne_eqb x (dff_slot c j) (omega arith)
 
 pub slot_is_gate : (c : Netlist) (g : ℕ) (site : Site) → g < length c.gates → HasSite c site
     → eqb (gate_slot c g) (slot_of c site) ≡ is_pin_of site g
-slot_is_gate c g (Stem y) inside at = eqb_other (gate_slot c g) y.0 (omega arith)
+slot_is_gate c g (Stem y) inside at = ne_eqb (gate_slot c g) y.0 (omega arith)
 slot_is_gate c g (GatePin h i) inside at = eqb_shift (net_count c) g h
-slot_is_gate c g (DffPin j) inside at = eqb_other (gate_slot c g) (dff_slot c j) (omega arith)
+slot_is_gate c g (DffPin j) inside at = ne_eqb (gate_slot c g) (dff_slot c j) (omega arith)
 
 pub slot_is_data_pin : (c : Netlist) (j : ℕ) (site : Site) → HasSite c site
     → eqb (dff_slot c j) (slot_of c site) ≡ is_data_pin site j
-slot_is_data_pin c j (Stem y) at = eqb_other (dff_slot c j) y.0 (omega arith)
-slot_is_data_pin c j (GatePin h i) at = eqb_other (dff_slot c j) (gate_slot c h) (omega arith)
+slot_is_data_pin c j (Stem y) at = ne_eqb (dff_slot c j) y.0 (omega arith)
+slot_is_data_pin c j (GatePin h i) at = ne_eqb (dff_slot c j) (gate_slot c h) (omega arith)
 slot_is_data_pin c j (DffPin i) at = eqb_shift (net_count c + length c.gates) j i
 
 -- What the lanes of a slot make of a word is what their faults make of it.
@@ -155,7 +150,8 @@ false_if false d h = h
 -- One fault more.
 pub fault_added : (c : Netlist) (faults : List Fault) (ones : ℕ) (table : List ℕ) (f : Fault) (s : ℕ)
     → IsStuckTable c faults ones table → length faults < 64 → HasSite c f.site → s ≡ slot_of c f.site → s < slot_count c
-    → IsStuckTable c (faults ++ f ∷ []) (with_bit ones (length faults) f.value) (lane_written table s (length faults) true)
+    → IsStuckTable c (faults ++ f ∷ []) (with_bit ones (length faults) f.value)
+    (lane_written table s (length faults) true)
 fault_added c faults ones table f s t room site is within =
     let m = length faults in
     let inside : s < length table = omega (arith, within, t.count) in

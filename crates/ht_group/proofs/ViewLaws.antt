@@ -42,6 +42,7 @@ machine_added n [] f old new same =
     ap (λ (i : ℕ). record { fault = f; latches = in_lane i new } ∷ []) at
 machine_added n (g ∷ faults) f old new same =
     let at : n + 1 + length faults ≡ n + suc (length faults) = omega arith in
-    let rest = machine_added (n + 1) faults f old new (λ k from below. same k (omega (arith, from)) (omega (arith, below))) in
+    let rest = machine_added (n + 1) faults f old new
+    (λ k from below. same k (omega (arith, from)) (omega (arith, below))) in
     λ i. record { fault = g; latches = same n (omega arith) (omega arith) i } ∷
     (rest ∙ ap (λ (j : ℕ). machines_from (n + 1) faults old ++ record { fault = f; latches = in_lane j new } ∷ []) at) i

@@ -39,7 +39,8 @@ pub record IsGroup (a : Inside) : Type 0 where
   pub source_count : length a.sources.words ≡ first_gate_net a.circuit.now
   pub marks : length a.pending ≡ net_count a.circuit.now
   pub room : length a.pins.items ≡ 256
-  pub inputs : (k : ℕ) → k < 64 → take a.circuit.now.inputs (in_lane k a.sources.words) ≡ take a.circuit.now.inputs a.sources.good
+  pub inputs : (k : ℕ) → k < 64 → take a.circuit.now.inputs (in_lane k a.sources.words)
+      ≡ take a.circuit.now.inputs a.sources.good
   pub spare : (k : ℕ) → length a.lines.faults.items ≤ k → k < 64 → in_lane k a.sources.words ≡ a.sources.good
   pub quiet : QuietHaveValues a.circuit.now a.schedule a.lines.faults.items a.sources.words a.pending a.nets.words
   pub settled : a.settled ≡ true → (r : ℕ) → get_or a.pending r false ≡ false

@@ -10,7 +10,8 @@ use Rattle.ht_group.specs.declared.schedule.Schedule.{Schedule}
 
 -- Lane k, which had the good sources, has the latches that differ so, and the other lanes are as before. A net whose
 -- source is another word is pending, and so is what was.
-pub record HasDifferences (c : Netlist) (s : Schedule) (k : ℕ) (diffs : List Diff) (old : OverlayView) (before : List Bool)
+pub record HasDifferences (c : Netlist) (s : Schedule) (k : ℕ) (diffs : List Diff) (old : OverlayView)
+    (before : List Bool)
     (words : List Lanes) (pending : List Bool) : Type 0 where
   pub count : length words ≡ first_gate_net c
   pub marks : length pending ≡ net_count c

@@ -136,8 +136,8 @@ fn gate_output(
     eval_word(kind, &pins[..args.len()])
 }
 
-/// The words of a net, from its source or from the nets that its gate reads, and by its stem. The sources are the vector
-/// and then the latches.
+/// The word of a net, from its source or from the nets that its gate reads, and by its stem. The sources are the
+/// vector and then the latches.
 pub fn evaluate(
     circuit: &Circuit,
     lines: &StuckLines,
@@ -152,7 +152,8 @@ pub fn evaluate(
     requires words { length words.now ≡ net_count circuit.now }
     requires room { length pins.old ≡ PIN_ROOM }
     ensures { result ≡ (lane_rules lines.now.faults.items).stem net
-        (drive_from circuit.now (lane_rules lines.now.faults.items) sources.now (word_at words.now) net) }
+        (drive_from circuit.now (lane_rules lines.now.faults.items) sources.now (word_at words.now)
+        net) }
 {
     let first = circuit.inputs() + circuit.dffs();
     if net < first {

@@ -92,8 +92,8 @@ fn fire(
     }
 }
 
-/// Evaluates each net that is pending, in the order of the schedule, and then those that read what changed. None is left,
-/// and none is evaluated twice. Says how many of them were gates.
+/// Evaluates each net that is pending, in the order of the schedule, and then those that read what changed. None is
+/// left, and none is evaluated twice. Says how many of them were gates.
 pub fn settle(
     circuit: &Circuit,
     schedule: &Schedule,

@@ -117,8 +117,8 @@ fn put_difference(
     pending.insert(schedule.rank(net.0));
 }
 
-// Gives lane `k`, which has the good latches, those that differ, and makes their nets pending. The last difference comes
-// first, since of two at one latch the first counts.
+// Gives lane `k`, which has the good latches, those that differ, and makes their nets pending. The last difference
+// comes first, since of two at one latch the first counts.
 fn put_differences(
     circuit: &Circuit,
     schedule: &Schedule,
@@ -230,11 +230,11 @@ impl<'c> Group<'c> {
         Ok(())
     }
 
-    /// Evaluates gates until each net has its value in each machine: only those that an event reaches, each at most once.
-    /// Says how many.
+    /// Evaluates gates until each net has its value in each machine: only those that an event reaches, each at most
+    /// once. Says how many.
     ///
     /// # Errors
-    /// Out of memory; the group is as before. (At present it takes no memory.)
+    /// Out of memory; the group is as before. Nothing is allocated at present.
     pub fn settle(&mut self) -> Result<u32, AllocError>
         ensures ok { OnOk result (self.new ≡ record self.old { settled = true }) }
         ensures steps { IfOk result (λ n. n ≤ length self.old.circuit.gates) }

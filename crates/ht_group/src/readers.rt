@@ -37,8 +37,10 @@ fn reader_rows(
     ranks: &[u32],
 ) -> Result<Vec<Items<u32>>, AllocError>
     requires count { length ranks.now ≡ net_count circuit.now }
-    requires small { (x : ℕ) → x < net_count circuit.now → get_or ranks.now x 0 < net_count circuit.now }
-    requires rises { (y x : ℕ) → ReadsFrom circuit.now y x → get_or ranks.now x 0 < get_or ranks.now y 0 }
+    requires small { (x : ℕ) → x < net_count circuit.now
+        → get_or ranks.now x 0 < net_count circuit.now }
+    requires rises { (y x : ℕ) → ReadsFrom circuit.now y x
+        → get_or ranks.now x 0 < get_or ranks.now y 0 }
     ensures { IfOk result (λ rows. AreReaders circuit.now ranks.now rows.items) }
 {
     let mut rows = empty_rows(alloc, circuit.nets())?;
@@ -69,8 +71,10 @@ fn flattened(alloc: Global, rows: &[Items<u32>]) -> Result<FlatRows<u32>, AllocE
 /// Out of memory.
 pub fn readers(alloc: Global, circuit: &Circuit, ranks: &[u32]) -> Result<FlatRows<u32>, AllocError>
     requires count { length ranks.now ≡ net_count circuit.now }
-    requires small { (x : ℕ) → x < net_count circuit.now → get_or ranks.now x 0 < net_count circuit.now }
-    requires rises { (y x : ℕ) → ReadsFrom circuit.now y x → get_or ranks.now x 0 < get_or ranks.now y 0 }
+    requires small { (x : ℕ) → x < net_count circuit.now
+        → get_or ranks.now x 0 < net_count circuit.now }
+    requires rises { (y x : ℕ) → ReadsFrom circuit.now y x
+        → get_or ranks.now x 0 < get_or ranks.now y 0 }
     ensures { IfOk result (λ readers. AreReaders circuit.now ranks.now readers) }
 {
     let rows = reader_rows(alloc, circuit, ranks)?;

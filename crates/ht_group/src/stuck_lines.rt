@@ -20,8 +20,8 @@ pub struct StuckLines {
     pub faults: Vec<Fault>,
     /// The lanes that are stuck at 1.
     pub ones: u64,
-    /// For each net, then for each gate, then for each flip-flop: the lanes whose fault is its stem, one of its pins, its
-    /// data pin.
+    /// For each net, then for each gate, then for each flip-flop: the lanes whose fault is at its stem, at one of its
+    /// pins, at its data pin.
     pub table: Vec<u64>,
 }
 

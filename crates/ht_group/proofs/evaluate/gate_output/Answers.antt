@@ -22,7 +22,8 @@ returns-then-lanes-eq0 c k below =
     let env = word_at c.args.words.now in
     let args = c.gate_args-args.result.now in
     let plain : is_at_gate (slice_get faults k) c.args.g ≡ false =
-    sym (c.at_gate-lanes.ensures k below) ∙ (ap (λ m. is_set m k) c.if-lanes-eq0.true ∙ ap (λ b. eqb b 1) (bit_at-zero k))
+    sym (c.at_gate-lanes.ensures k below) ∙ (ap (λ m. is_set m k) c.if-lanes-eq0.true
+    ∙ ap (λ b. eqb b 1) (bit_at-zero k))
     in
     gate_from n (rules_at faults k) c.args.g (lane_env k env) c.gate_kind-kind.result args
     (values_at (lane_env k env) args) (lane c.eval_nets.result k) c.gate_kind-kind.ensures c.gate_args-args.ensures.args
@@ -47,7 +48,8 @@ returns c k below =
     let pins = map (λ (w : Lanes). lane w k) (take (length args) c.stick_pins.new.pins) in
     gate_from n (rules_at faults k) c.args.g (lane_env k env) c.gate_kind-kind.result args pins
     (lane c.eval_word.result k) c.gate_kind-kind.ensures c.gate_args-args.ensures.args
-    (stuck_pins faults k c.args.g env args c.read_pins.new.pins c.stick_pins.new.pins below few c.stick_pins.ensures.room
+    (stuck_pins faults k c.args.g env args c.read_pins.new.pins c.stick_pins.new.pins below few
+    c.stick_pins.ensures.room
     c.read_pins.ensures.read (subst stuck c.deref.ensures.value c.stick_pins.ensures.lanes))
     (c.eval_word.ensures.lanes k below)
     ∙ sym (gate_in_lane faults k below n env c.args.g)

@@ -8,7 +8,8 @@ use Rattle.ht_group.proofs.evaluate.stick_pin.Goals as goal
 
 pub returns-in-GatePin-clause-lanes : goal.returns-in-GatePin-clause-lanes
 returns-in-GatePin-clause-lanes c i n below =
-    let inside : c.in-GatePin.pin < length c.args.pins.now = omega (arith, c.write_pin.ensures.within, c.requires.room) in
+    let inside : c.in-GatePin.pin < length c.args.pins.now = omega (arith, c.write_pin.ensures.within, c.requires.room)
+    in
     let v = tern_of c.args.fault.value in
     ap (λ (p : List Lanes). lane (word_at p i) n) c.write_pin.ensures.pins
     ∙ (written_lane c.args.pins.now c.in-GatePin.pin c.args.k v i n inside below

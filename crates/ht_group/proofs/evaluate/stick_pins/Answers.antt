@@ -30,7 +30,8 @@ loop-rest-preserved c =
     c.loop-rest.auto.rest-fits.fits c.loop-rest.invariant.left in
     record {
       room = c.stick_pin.ensures.room;
-      lanes = first_stuck c.args.faults.now c.args.g c.loop-rest.rest (trailing_zeros w64 c.loop-rest.rest) c.args.pins.now
+      lanes = first_stuck c.args.faults.now c.args.g c.loop-rest.rest (trailing_zeros w64 c.loop-rest.rest)
+          c.args.pins.now
           c.loop-rest.pins c.stick_pin.new.pins _ f c.stick_pin.ensures.lanes c.loop-rest.invariant.lanes;
       left = rest_left faults c.args.g c.loop-rest.rest k f.small c.loop-rest.invariant.left;
     }

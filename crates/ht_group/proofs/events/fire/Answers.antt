@@ -12,10 +12,12 @@ returns-then-recompute-clause-quiet c =
     let s = c.args.schedule.now in
     let x = get_or s.order.items c.args.rank 0 in
     let words = c.args.nets.now.words in
-    let row : c.row.result.now ≡ get_or c.args.schedule.now.readers (get_or c.args.schedule.now.order.items c.args.rank 0) []
+    let row : c.row.result.now ≡ get_or c.args.schedule.now.readers
+    (get_or c.args.schedule.now.order.items c.args.rank 0) []
     = c.row.ensures ∙ ap (λ (y : ℕ). get_or c.args.schedule.now.readers y []) c.net-net.ensures in
     let driven = driven_word n c.args.lines.now.faults.items c.args.sources.now words in
-    fired_quiet n s c.requires.schedule c.args.lines.now.faults.items c.args.sources.now words c.recompute.new.nets.words
+    fired_quiet n s c.requires.schedule c.args.lines.now.faults.items c.args.sources.now words
+    c.recompute.new.nets.words
     c.args.pending.now c.touch.new.pending c.args.rank c.requires.rank c.recompute.ensures.count c.requires.quiet
     (c.recompute.ensures.words ∙ ap (λ (y : ℕ). set words y (driven y)) c.net-net.ensures)
     (λ q within ne idle.

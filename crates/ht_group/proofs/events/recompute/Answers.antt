@@ -19,7 +19,8 @@ returns-then-same-clause-words c =
     let same : c.evaluate-word.result ≡ c.index-words-net.result = c.same.ensures.0 c.if-same.true in
     let value : driven c.args.nets.now.words ≡ word_at c.args.nets.now.words c.args.net =
     ap driven (sym c.words.ensures.words)
-    ∙ (sym c.evaluate-word.ensures ∙ (same ∙ (read ∙ ap (λ (l : List Lanes). word_at l c.args.net) c.words-2.ensures.words)))
+    ∙ (sym c.evaluate-word.ensures ∙ (same ∙ (read
+    ∙ ap (λ (l : List Lanes). word_at l c.args.net) c.words-2.ensures.words)))
     in
     sym (ap (set words x) value ∙ set-get_or words x (every_lane Unk))
 

@@ -12,7 +12,8 @@ returns-clause-words c =
     let net = c.dff_net-net.ensures.net in
     let at = c.index.ensures ∙ net in
     let same = ap (λ (l : List Lanes). length l) c.words.ensures.words in
-    let inside : c.index.result < length c.words.result.now = omega (arith, at, same, c.requires.latch, c.requires.words) in
+    let inside : c.index.result < length c.words.result.now = omega
+    (arith, at, same, c.requires.latch, c.requires.words) in
     let read = get_or_read c.words.result.now c.index.result c.index-words-index.result inside c.index-words-index.is
     (every_lane Unk) in
     let word : c.index-words-index.result ≡ word_at c.args.sources.now.words

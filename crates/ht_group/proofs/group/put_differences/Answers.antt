@@ -23,7 +23,8 @@ loop-i-preserved c =
     record {
       good = c.put_difference.ensures.good ∙ c.loop-i.invariant.good;
       put = put_more n c.args.schedule.now.ranks.items c.args.k entries c.args.sources.now c.args.pending.now
-          c.loop-i.sources.words c.put_difference.new.sources.words c.loop-i.pending c.put_difference.new.pending c.loop-i.i
+          c.loop-i.sources.words c.put_difference.new.sources.words c.loop-i.pending c.put_difference.new.pending
+          c.loop-i.i
           _ c.loop-i-test.true c.loop-i.auto.i c.requires.lane latch
           (c.requires.schedule.ranks.small _ (omega (arith, latch))) c.put_difference.ensures.words
           c.put_difference.ensures.pending c.loop-i.invariant.put;
@@ -36,5 +37,6 @@ returns-clause-put c =
     subst (λ (l : List Diff). HasDifferences n s c.args.k l c.args.sources.now c.args.pending.now c.loop-i.sources.words
     c.loop-i.pending) c.entries-entries.ensures
     (all_put n s c.args.k c.entries-entries.result.now c.args.sources.now c.args.pending.now c.loop-i.sources.words
-    c.loop-i.pending c.loop-i.i c.requires.schedule (omega (arith, c.loop-i-test.false)) c.requires.lane c.requires.words
+    c.loop-i.pending c.loop-i.i c.requires.schedule (omega (arith, c.loop-i-test.false)) c.requires.lane
+    c.requires.words
     c.requires.plain c.loop-i.invariant.put)

@@ -18,7 +18,8 @@ loop-arg-preserved c =
     let i = c.loop-arg.arg-index in
     let x = c.index-in-loop-arg.result in
     let args = c.gate_args-arg-items.ensures.args in
-    let gate : c.loop-g.g < length c.args.circuit.now.gates = omega (arith, c.loop-g-test.true, c.gates-g-end.ensures) in
+    let gate : c.loop-g.g < length c.args.circuit.now.gates = omega (arith, c.loop-g-test.true, c.gates-g-end.ensures)
+    in
     let pin : c.loop-arg.arg-index < length (gate_at c.args.circuit.now c.loop-g.g).args =
     let same = ap (λ (l : List NetId). length l) args in omega (arith, c.loop-arg-test.true, same) in
     let net : c.index-in-loop-arg.result ≡ arg_at c.args.circuit.now c.loop-g.g c.loop-arg.arg-index =
@@ -26,7 +27,8 @@ loop-arg-preserved c =
     let inside : c.index-in-loop-arg.result < length c.loop-arg.rows.items =
     let known = c.gate_args-arg-items.ensures.circuit.known c.loop-g.g c.loop-arg.arg-index gate pin in
     omega (arith, known, net, c.loop-arg.invariant.part.count) in
-    let at : c.index.result ≡ first_gate_net c.args.circuit.now + c.loop-g.g = c.index.ensures ∙ c.gate_net.ensures.net in
+    let at : c.index.result ≡ first_gate_net c.args.circuit.now + c.loop-g.g = c.index.ensures
+    ∙ c.gate_net.ensures.net in
     let rank : get_or c.args.ranks.now c.index.result 0
     ≡ get_or c.args.ranks.now (first_gate_net c.args.circuit.now + c.loop-g.g) 0 =
     ap (λ (y : ℕ). get_or c.args.ranks.now y 0) at in

@@ -23,6 +23,7 @@ returns-clause-ranks c =
     let f = c.in_ok-order.ensures in
     let p = c.in_ok-ranks.ensures in
     let v = c.deref.ensures.value in
-    ranks_are c.args.circuit.now c.order.result.now c.in_ok-order.order.items c.order.ensures.order f.count f.low f.gates
+    ranks_are c.args.circuit.now c.order.result.now c.in_ok-order.order.items c.order.ensures.order f.count f.low
+    f.gates
     c.in_ok-ranks.ranks.items (p.count ∙ ap length v)
     (subst (λ (o : List ℕ). (r : ℕ) → r < length o → get_or c.in_ok-ranks.ranks.items (get_or o r 0) 0 ≡ r) v p.ranks)

@@ -4,4 +4,5 @@ use Rattle.ht_group.proofs.BitLaws.{no_marks}
 use Rattle.ht_group.proofs.bit_set.BitSet.new.Goals as goal
 
 pub returns : goal.returns
-returns c = ap (marks_of c.args.bound) (c.in_ok-vec.ensures.items_if_clones_equal (λ y is. is)) ∙ no_marks c.args.bound _
+returns c = ap (marks_of c.args.bound) (c.in_ok-vec.ensures.items_if_clones_equal (λ y is. is))
+    ∙ no_marks c.args.bound _

@@ -22,12 +22,14 @@ returns-then-from-self-clause-none c q from =
 pub returns-in-Some-clause-within : goal.returns-in-Some-clause-within
 returns-in-Some-clause-within c =
     (first_seen c.self.inside c.self.invariant c.args.self.now c.self.view_is c.args.from c.in-Some.i
-    (subst (λ (l : List ℕ). IsFirstMark l c.args.from c.in-Some.i) c.deref.ensures.value c.in-Some.ensures.found)).within
+    (subst (λ (l : List ℕ). IsFirstMark l c.args.from c.in-Some.i) c.deref.ensures.value
+    c.in-Some.ensures.found)).within
 
 pub returns-in-Some-clause-marked : goal.returns-in-Some-clause-marked
 returns-in-Some-clause-marked c =
     (first_seen c.self.inside c.self.invariant c.args.self.now c.self.view_is c.args.from c.in-Some.i
-    (subst (λ (l : List ℕ). IsFirstMark l c.args.from c.in-Some.i) c.deref.ensures.value c.in-Some.ensures.found)).marked
+    (subst (λ (l : List ℕ). IsFirstMark l c.args.from c.in-Some.i) c.deref.ensures.value
+    c.in-Some.ensures.found)).marked
 
 pub returns-in-Some-clause-least : goal.returns-in-Some-clause-least
 returns-in-Some-clause-least c =

@@ -34,7 +34,8 @@ invariant_of-self c =
       few = omega (arith, same, c.self.invariant.few);
       past = λ j from.
           ap (λ n. is_marked (set a.words.items (c.args.i / 64) n) j) word
-          ∙ (mark_there a.words.items i j c.args.mark inside (omega (arith, from, below)) ∙ c.self.invariant.past j from);
+          ∙ (mark_there a.words.items i j c.args.mark inside (omega (arith, from, below))
+          ∙ c.self.invariant.past j from);
     }
 
 pub returns : goal.returns

@@ -7,4 +7,5 @@ pub invariant_of-self : goal.invariant_of-self
 invariant_of-self c =
     let g = c.self.invariant in
     fresh_group _ g.circuit g.schedule c.clear.ensures.stuck c.clear.ensures.none g.frame
-    (c.restore.ensures ∙ ap spread g.sources) (c.restore-2.ensures ∙ ap spread g.nets) _ g.marks c.clear-2.ensures g.room
+    (c.restore.ensures ∙ ap spread g.sources) (c.restore-2.ensures ∙ ap spread g.nets) _ g.marks c.clear-2.ensures
+    g.room

@@ -16,7 +16,8 @@ new-requires-4 c =
 
 pub invariant_of-result-3 : goal.invariant_of-result-3
 invariant_of-result-3 c =
-    fresh_group _ c.in_ok-schedule.ensures.circuit c.in_ok-schedule.ensures c.in_ok-new.ensures.stuck c.in_ok-new.ensures.none c.in_ok-frame.ensures
+    fresh_group _ c.in_ok-schedule.ensures.circuit c.in_ok-schedule.ensures c.in_ok-new.ensures.stuck
+    c.in_ok-new.ensures.none c.in_ok-frame.ensures
     (c.sources.view_is ∙ (c.in_ok-sources.ensures ∙ ap spread c.deref.ensures.value))
     (c.nets.view_is ∙ (c.in_ok-nets.ensures ∙ ap spread c.deref-2.ensures.value)) _ c.nets-2.ensures.count
     c.in_ok-new-2.ensures (omega (arith, c.in_ok-vec.ensures.len))

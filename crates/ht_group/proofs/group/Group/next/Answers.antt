@@ -18,7 +18,8 @@ returns-clause-machines c k m has =
     let a = c.self.inside in
     let j = c.args.j in
     let word = c.word-word.result in
-    let below : k < 64 = let less = slice_get_within g.machines k m has in omega (arith, less, c.word-word.ensures.few) in
+    let below : k < 64 = let less = slice_get_within g.machines k m has in omega (arith, less, c.word-word.ensures.few)
+    in
     let net = c.data_net.ensures.net in
     let held = c.word-word.ensures.machines k m has ∙ ap (λ (n : NetId). faulty_value g m n.0) net in
     let fault : slice_get a.lines.faults.items k ≡ Some m.fault =

@@ -12,7 +12,8 @@ returns c =
     let n = c.args.circuit.now in
     let t = c.requires.stuck.table in
     let slot = c.slot_of_dff.ensures in
-    let within : dff_slot c.args.circuit.now c.args.dff < slot_count c.args.circuit.now = omega (arith, c.requires.dff) in
+    let within : dff_slot c.args.circuit.now c.args.dff < slot_count c.args.circuit.now = omega (arith, c.requires.dff)
+    in
     let inside : c.slot_of_dff.result < length lines.table.items = omega (arith, slot, within, t.count) in
     let entry = get_or_read lines.table.items c.slot_of_dff.result c.index.result.now inside c.index.ensures 0 in
     c.stick.ensures ∙ (ap (λ m. stuck_lanes m lines.ones c.args.word)
