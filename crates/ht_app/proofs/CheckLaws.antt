@@ -16,7 +16,7 @@ use Rattle.ht_texts.specs.SearchReports.{HasShortNames, IsReportText, IsSearchRe
 use Rattle.ht_texts.specs.Tests.{IsTestText}
 use Rattle.ht_texts.specs.declared.said.Said.{Said}
 use Rattle.ht_valid.specs.ValidFiles.{AreValid, Content}
-use Rattle.ht_valid.specs.FirstTrouble.{AreReadTo}
+use Rattle.ht_valid.specs.FirstTrouble.{AreReadTo, IsFirstTrouble}
 use Rattle.ht_valid.specs.declared.trouble.Trouble.{Trouble}
 use Rattle.ht_valid.specs.declared.trouble.Trouble.TheVariants.{Tests, Report, Proofs, Fault}
 use Rattle.ht_valid.proofs.TruthLaws.{true_verdicts}
@@ -32,7 +32,7 @@ use Rattle.ht_app.specs.Done.{IsDone, valid_line}
 use Rattle.ht_app.specs.Jobs.{output_name}
 use Rattle.ht_app.specs.Truncated.{CheckIsTruncated}
 use Rattle.ht_app.specs.Judging.{FileCause, IfDenied, IsOfProofs, IsOfReport, IsProofFileTrouble, IsReportFileTrouble, ProofBasis, ProofsAreRead, ReportIsRead, proof_basis, report_basis}
-use Rattle.ht_app.specs.Run.{HasCause, HaveTrouble, HasGoodReport, HasNetlist, HasTests, check_of_names}
+use Rattle.ht_app.specs.Run.{AcceptsTo, AreInputsTo, Denies, HasCause, HaveTrouble, LeavesUnread, HasGoodReport, HasNetlist, HasTests, check_of_names}
 use Rattle.ht_app.specs.Steps.{CheckedTestsCause, reading}
 use Rattle.ht_app.proofs.ChangedLaws.{changed_by_reading, changed_by_writing, changed_trans, changed_within}
 use Rattle.ht_app.proofs.PortsLaws.{reading_within}
@@ -344,51 +344,45 @@ module _ (names : CheckFiles) (c : net.Netlist) (representatives : List ℕ) whe
     accepted_before there = (accepts_third list budget saids a m n o h, proofs_there list budget saids a m n o h there)
 
     -- what the texts have, where they have a trouble at the proofs
+    have_first : (texts : CheckFiles) (trouble : Trouble) → AreCheckInputs names texts a
+        → IsFirstTrouble c representatives texts.tests texts.report texts.proofs trouble → HaveTrouble texts trouble
+    have_first texts trouble inputs first = record {
+      circuit = c;
+      representatives = representatives;
+      good = h.tests.netlist.good texts.netlist inputs.report_are.tests_are.netlist_is;
+      classes = h.tests.netlist.classes;
+      first = first;
+    }
+
     have : (trouble : Trouble) → ((text : List ℕ) → IsInput in_port.Proofs names.proofs text o
         → IsProofFileTrouble basis text trouble) → IsOfProofs trouble → (texts : CheckFiles)
         → AreCheckInputs names texts a → HaveTrouble texts trouble
-    have (Proofs line) first at texts inputs = record {
-      circuit = c;
-      representatives = representatives;
-      good = h.tests.netlist.good texts.netlist inputs.report_are.tests_are.netlist_is;
-      classes = h.tests.netlist.classes;
-      first = (
-        claimed list budget saids,
-        read_to list budget saids a m n o h texts inputs.report_are,
-        first texts.proofs (proofs_before list budget saids a m n o h texts.proofs inputs.proofs_is),
-      );
-    }
-    have (Fault number) first at texts inputs = record {
-      circuit = c;
-      representatives = representatives;
-      good = h.tests.netlist.good texts.netlist inputs.report_are.tests_are.netlist_is;
-      classes = h.tests.netlist.classes;
-      first = (
-        claimed list budget saids,
-        read_to list budget saids a m n o h texts inputs.report_are,
-        first texts.proofs (proofs_before list budget saids a m n o h texts.proofs inputs.proofs_is),
-      );
-    }
+    have (Proofs line) first at texts inputs = have_first texts (Proofs line) inputs (
+      claimed list budget saids,
+      read_to list budget saids a m n o h texts inputs.report_are,
+      first texts.proofs (proofs_before list budget saids a m n o h texts.proofs inputs.proofs_is),
+    )
+    have (Fault number) first at texts inputs = have_first texts (Fault number) inputs (
+      claimed list budget saids,
+      read_to list budget saids a m n o h texts inputs.report_are,
+      first texts.proofs (proofs_before list budget saids a m n o h texts.proofs inputs.proofs_is),
+    )
     have (Tests line) first at texts inputs = absurd at
     have (Report line) first at texts inputs = absurd at
+
+    denies : (trouble : Trouble) (b : DeskView) → AcceptsTo trouble names a → LeavesUnread trouble a b
+        → ((texts : CheckFiles) → AreInputsTo trouble names texts a → HaveTrouble texts trouble)
+        → Denies job trouble a b
+    denies trouble b accepted unread have =
+        record { names = names; job_is = refl; accepted = accepted; unread = unread; have = have }
 
     pub proofs_stop : (b : DeskView) (e : RunError) → InCall in_port.Proofs o b
         → ((text : List ℕ) → IsInput in_port.Proofs names.proofs text o → IfDenied (IsProofFileTrouble basis text) e)
         → FileCause names.proofs IsOfProofs o b e → HasCause job a b e
-    proofs_stop b (Denied (Proofs line)) p first cause = record {
-      names = names;
-      job_is = refl;
-      accepted = accepted_before cause.0;
-      unread = tt;
-      have = have (Proofs line) first cause.1;
-    }
-    proofs_stop b (Denied (Fault number)) p first cause = record {
-      names = names;
-      job_is = refl;
-      accepted = accepted_before cause.0;
-      unread = tt;
-      have = have (Fault number) first cause.1;
-    }
+    proofs_stop b (Denied (Proofs line)) p first cause =
+        denies (Proofs line) b (accepted_before cause.0) tt (have (Proofs line) first cause.1)
+    proofs_stop b (Denied (Fault number)) p first cause =
+        denies (Fault number) b (accepted_before cause.0) tt (have (Fault number) first cause.1)
     proofs_stop b (Denied (Tests line)) p first cause = absurd cause.1
     proofs_stop b (Denied (Report line)) p first cause = absurd cause.1
     proofs_stop b Usage p first cause = absurd cause
@@ -421,17 +415,6 @@ module _ (names : CheckFiles) (c : net.Netlist) (representatives : List ℕ) whe
     proofs_stop b (BadTests line) p first cause = absurd cause
 
 -- ---- only a netlist is refused with status 3
-
-pub tests_not_refused : (c : net.Netlist) (name : List ℕ) (a b : DeskView) (e : RunError)
-    → CheckedTestsCause c name a b e → exit_status e ≢ 3
-tests_not_refused c name a b (Denied trouble) h three = omega (arith, three)
-tests_not_refused c name a b Usage h three = absurd h
-tests_not_refused c name a b TooLong h three = absurd h
-tests_not_refused c name a b (Refused error) h three = absurd h
-tests_not_refused c name a b ReadFault h three = omega (arith, three)
-tests_not_refused c name a b WriteFault h three = absurd h
-tests_not_refused c name a b NoMemory h three = omega (arith, three)
-tests_not_refused c name a b (BadTests line) h three = absurd h
 
 pub file_not_refused : (name : List ℕ) (P : Trouble → Type 0) (a b : DeskView) (e : RunError)
     → FileCause name P a b e → exit_status e ≢ 3

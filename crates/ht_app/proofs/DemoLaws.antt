@@ -1,8 +1,8 @@
 -- What `demo` leaves.
-use Rattle.std.proofs.Common.{◌≡◌, ◌++◌, inl, inr, ℕ, List, true, false, length, take, refl, sym, ◌∙◌, ap, subst, arith, take_all, le_refl}
-use Rattle.std.specs.Prelude.{IsTrue, Some, None}
+use Rattle.std.proofs.Common.{◌≡◌, ◌++◌, inl, inr, ℕ, List, true, false, length, take, refl, sym, ◌∙◌, ap, subst, take_all, le_refl}
+use Rattle.std.specs.Prelude.{Some, None}
 use Rattle.std.specs.Io.KnownBytes.{append_known}
-use Rattle.ht_ports.specs.Desk.{DeskView, IsAfter}
+use Rattle.ht_ports.specs.Desk.{DeskView}
 use Rattle.ht_ports.specs.declared.ports.OutPort.{OutPort}
 use Rattle.ht_ports.specs.declared.ports.OutPort.TheVariants.{Tests, Report, Proofs, Out, Err}
 use Rattle.ht_ports.proofs.CallLaws.{append_known_more}
@@ -64,12 +64,6 @@ pub said_as : (text bytes : List ℕ) (a b : DeskView) → text ≡ bytes → b.
     → b.written Out ≡ append_known (a.written Out) bytes
 said_as text bytes a b is said = said ∙ ap (λ (l : List ℕ). append_known (a.written Out) l) is
 
-pub fault_after : (a m b : DeskView) → IsAfter a m → IsWriteFault m b → IsWriteFault a b
-fault_after a m b after fault = record {
-  rose = omega (arith, after.out_faults, fault.rose);
-  unsteady = λ steady. fault.unsteady (subst IsTrue (sym after.steady) steady);
-}
-
 pub unchanged : (a : DeskView) → ChangedOnly saying a a
 unchanged a = record {
   after = record { in_faults = le_refl _; out_faults = le_refl _; steady = refl };
@@ -124,7 +118,8 @@ module _ (size seed : ℕ) where
             (sym (take_all _ head (le_refl _)));
       }))
 
-      module _ (total : List ℕ) (b : DeskView) (total_is : IsTotalOf (demo_netlist size seed) (demo_settings seed) total)
+      module _ (total : List ℕ) (b : DeskView)
+          (total_is : IsTotalOf (demo_netlist size seed) (demo_settings seed) total)
         where
           both : (more : List ℕ) → b.written Out ≡ append_known (m.written Out) more
               → b.written Out ≡ append_known (a.written Out) (head ++ more)

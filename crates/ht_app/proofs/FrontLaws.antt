@@ -86,7 +86,8 @@ pub texts_grow : (steps : List Step) (step : Step)
 texts_grow steps step = both (texts_so_far steps) _ _ _ _ (sym (tests_grow steps step)) (sym (proofs_grow steps step))
 
 pub stops_between : (names : Names) (e : EngineView) (steps : List Step) (a b : DeskView)
-    → AreSteps e.circuit e.representatives (first_of e) e.settings.budget steps → HasTexts names (texts_so_far steps) a b
+    → AreSteps e.circuit e.representatives (first_of e) e.settings.budget steps
+    → HasTexts names (texts_so_far steps) a b
     → StopsEarly names e a b
 stops_between names e steps a b are h = record {
   whole = steps;

@@ -9,8 +9,7 @@ use Rattle.ht_ports.specs.declared.ports.OutPort.{OutPort}
 use Rattle.ht_ports.specs.declared.ports.OutPort.TheVariants.{Tests, Report, Proofs, Out, Err}
 use Rattle.ht_net.specs.Netlist as net
 use Rattle.ht_files.proofs.PlainNameLaws.{plain_names}
-use Rattle.clap.specs.Walk.{Text}
-use Rattle.ht_asked.specs.Asked.{Asked, asked, sim, gen, check, norm, GenOptions}
+use Rattle.ht_asked.specs.Asked.{Asked, gen, GenOptions}
 use Rattle.ht_app.specs.declared.run_error.RunError.{RunError}
 use Rattle.ht_app.specs.declared.run_error.RunError.TheVariants.{Denied, Usage, TooLong, Refused, ReadFault, WriteFault, NoMemory, BadTests}
 use Rattle.ht_app.specs.FileTexts.{Names}
@@ -199,7 +198,8 @@ module _ (netlist : List ℕ) (names : Names) (options : GenOptions) where
       after_reading 0 a m b refl read (changed_within (filling names) (job_ports job 0) m b finishing x)
 
   pub left_changed : (e : RunError) (c : net.Netlist) (a m b : DeskView) → InCall Netlist a m
-      → LeavesFiles names e c (settings_of options) m b → FillCause m b e → ChangedOnly (job_ports job (exit_status e)) a b
+      → LeavesFiles names e c (settings_of options) m b → FillCause m b e
+      → ChangedOnly (job_ports job (exit_status e)) a b
   left_changed (Denied trouble) c a m b read left cause = absurd cause
   left_changed Usage c a m b read left cause = absurd cause
   left_changed TooLong c a m b read left cause = absurd cause

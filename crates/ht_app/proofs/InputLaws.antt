@@ -8,7 +8,7 @@ use Rattle.ht_bench.specs.declared.error.BenchError.{BenchError}
 use Rattle.ht_texts.specs.Tests.{IsTestText, IsMalformedTest}
 use Rattle.ht_texts.proofs.TestLaws.{never_both}
 use Rattle.ht_asked.specs.Asked.{Asked, sim, gen, check, norm, demo}
-use Rattle.ht_app.specs.Inputs.{IsInput, IsGoodNetlist, AcceptsNetlist, AcceptsTests, AcceptsInputs, IsBadNetlist, AreBadTests, AreGoodInputs}
+use Rattle.ht_app.specs.Inputs.{IsInput, IsGoodNetlist, IsGoodNetlistFile, AcceptsNetlist, AcceptsTests, AcceptsInputs, IsBadNetlist, AreBadTests, AreGoodInputs}
 use Rattle.ht_app.specs.Jobs.{input_name}
 use Rattle.ht_app.specs.Run.{IsTooLongNetlist, IsRefused, RefusesNetlist, RefusesTests}
 use Rattle.ht_app.proofs.OneReadingLaws.{same_inputs}
@@ -85,6 +85,18 @@ pub record HasGoodNetlist (job : Asked) (a : DeskView) : Type 0 where
   pub circuit : net.Netlist
   pub good : IsGoodNetlist text circuit
 
+-- the file of a good netlist is read, and nothing else
+good_file : (job : Asked) (name : List ℕ) (a : DeskView) → input_name job Netlist ≡ Some name
+    → IsGoodNetlistFile name a → HasGoodNetlist job a
+good_file job name a reads is = record {
+  name = name;
+  reads = reads;
+  text = is.text;
+  input = is.input;
+  circuit = is.circuit;
+  good = is.good;
+}
+
 pub good_netlist : (job : Asked) (a : DeskView) (read : List ℕ) → input_name job Netlist ≡ Some read
     → AreGoodInputs job a → HasGoodNetlist job a
 good_netlist (sim netlist tests report) a read reads are = record {
@@ -95,14 +107,8 @@ good_netlist (sim netlist tests report) a read reads are = record {
   circuit = are.circuit;
   good = are.good;
 }
-good_netlist (gen netlist tests report proofs options) a read reads is = record {
-  name = netlist;
-  reads = refl;
-  text = is.text;
-  input = is.input;
-  circuit = is.circuit;
-  good = is.good;
-}
+good_netlist (gen netlist tests report proofs options) a read reads is =
+    good_file (gen netlist tests report proofs options) netlist a refl is
 good_netlist (check netlist tests report proofs) a read reads are = record {
   name = netlist;
   reads = refl;
@@ -112,14 +118,7 @@ good_netlist (check netlist tests report proofs) a read reads are = record {
   good = are.good;
 }
 good_netlist (demo size seed) a read reads is = let e : Some read ≡ None = sym reads in cc
-good_netlist (norm netlist out) a read reads is = record {
-  name = netlist;
-  reads = refl;
-  text = is.text;
-  input = is.input;
-  circuit = is.circuit;
-  good = is.good;
-}
+good_netlist (norm netlist out) a read reads is = good_file (norm netlist out) netlist a refl is
 
 pub not_bad_tests : (job : Asked) (a : DeskView) (line : ℕ) → AreGoodInputs job a → ¬ RefusesTests job a line
 not_bad_tests (sim netlist tests report) a line are h =

@@ -13,6 +13,7 @@ use Rattle.ht_ports.specs.declared.ports.InPort.{InPort}
 use Rattle.ht_ports.proofs.CallLaws.{in_call_trans}
 use Rattle.std.specs.Io.KnownBytes.{IsAtEnd}
 use Rattle.ht_texts.specs.Tests.{IsTooLong}
+use Rattle.ht_texts.proofs.LinesSoFarLaws.{LinesSoFar, lines_end, lines_next, lines_start, read_lines_fit}
 use Rattle.ht_valid.specs.declared.trouble.Trouble.{Trouble}
 use Rattle.ht_judge.specs.declared.judge_error.JudgeError.{JudgeError}
 use Rattle.ht_judge.specs.declared.judge_error.JudgeError.TheVariants as judge
@@ -21,7 +22,7 @@ use Rattle.ht_app.specs.declared.run_error.RunError.TheVariants.{Denied, Usage, 
 use Rattle.ht_app.specs.Inputs.{IsInput}
 use Rattle.ht_app.specs.Errors.{judged_error_of}
 use Rattle.ht_app.specs.Judging.{AreFine, FileCause, StandsForFile, StopsAtLine, StopsAtLong, StopsIn}
-use Rattle.ht_app.proofs.LineSoFarLaws.{IsNextLine, LinesSoFar, lines_end, lines_next, lines_start, next_is_long, next_line_is, not_long_before}
+use Rattle.ht_app.proofs.NextLineLaws.{IsNextLine, next_is_long, next_line_is}
 
 -- ---- what an answer says
 
@@ -100,7 +101,7 @@ module _ (IsFine : List (List ℕ) → List ℕ → Type 0) where
   nothing_taken : (text : List ℕ) → AreFine IsFine text 0
   nothing_taken text = record {
     each = λ k lt. absurd (omega arith);
-    short = λ n within. not_long_before text 0 [] text (lines_start text) (omega arith) n within;
+    short = λ n within. read_lines_fit text 0 [] text n (lines_start text) (omega arith) within;
   }
 
   -- nothing is wrong with one line more
@@ -150,7 +151,7 @@ module _ (IsFine : List (List ℕ) → List ℕ → Type 0) where
         let step = subst (λ (r : Option (List ℕ)). NextLine line gives.count r (rest_of new b)) before.is gives.next in
         let after = lines_next text old.bytes_read t.lines before.left line gives.count (rest_of new b) before.so step
         in
-        let so = subst (λ n. LinesSoFar text n (t.lines ++ line ∷ []) after.0) (sym gives.bytes_read) after.2 in
+        let so = subst (λ n. LinesSoFar text n (t.lines ++ line ∷ []) after.0) (sym gives.bytes_read) after.3 in
         let next = next_line_is text old.bytes_read t.lines before.left line gives.count (rest_of new b) before.so step
         in
         let size = length-append t.lines (line ∷ []) in
@@ -160,7 +161,7 @@ module _ (IsFine : List (List ℕ) → List ℕ → Type 0) where
           so = so;
           fine = record {
             each = λ k lt. one_more text t.lines line before.fine next is k (omega (arith, lt, size));
-            short = not_long_before text new.bytes_read (t.lines ++ line ∷ []) after.0 so gives.fits;
+            short = λ n. read_lines_fit text new.bytes_read (t.lines ++ line ∷ []) after.0 n so gives.fits;
           };
         };
   }
@@ -175,8 +176,9 @@ module _ (IsFine : List (List ℕ) → List ℕ → Type 0) where
     texts = λ text input.
         let before = t.texts text input in
         let end : before.left ≡ [] = subst IsAtEnd (none.rest ∙ before.is) none.at_end in
-        let whole = lines_end text old.bytes_read t.lines before.left before.so end fits in
-        record { lines_are = whole.0; fine = before.fine; short = whole.1 };
+        let whole = lines_end text old.bytes_read t.lines
+        (subst (LinesSoFar text old.bytes_read t.lines) end before.so) in
+        record { lines_are = whole.0; fine = before.fine; short = omega (arith, whole.1, fits) };
   }
 
   pub stops_at_line : (Stands : List (List ℕ) → Type 0) (IsWrong : List (List ℕ) → List ℕ → Type 0) (port : InPort)
@@ -188,13 +190,13 @@ module _ (IsFine : List (List ℕ) → List ℕ → Type 0) where
       let step = subst (λ (r : Option (List ℕ)). NextLine line gives.count r (rest_of new b)) before.is gives.next in
       let next = next_line_is text old.bytes_read t.lines before.left line gives.count (rest_of new b) before.so step in
       let after = lines_next text old.bytes_read t.lines before.left line gives.count (rest_of new b) before.so step in
-      let so = subst (λ n. LinesSoFar text n (t.lines ++ line ∷ []) after.0) (sym gives.bytes_read) after.2 in
+      let so = subst (λ n. LinesSoFar text n (t.lines ++ line ∷ []) after.0) (sym gives.bytes_read) after.3 in
       record {
         count = length t.lines;
         there = next.there;
         fine = before.fine;
-        short = λ long. not_long_before text new.bytes_read (t.lines ++ line ∷ []) after.0 so gives.fits
-            (length t.lines + 1) (omega (arith, length-append t.lines (line ∷ []))) long;
+        short = read_lines_fit text new.bytes_read (t.lines ++ line ∷ []) after.0 (length t.lines + 1) so gives.fits
+            (omega (arith, length-append t.lines (line ∷ [])));
         wrong = subst (λ l. IsWrong l (get_or (lines_of text) (length t.lines) [])) (sym next.before)
             (subst (IsWrong t.lines) (sym next.at) wrong);
       }

@@ -1,5 +1,4 @@
-pub mod LfLaws
-pub mod LineSoFarLaws
+pub mod NextLineLaws
 pub mod JudgedLaws
 pub mod ReportFileLaws
 pub mod ProofsFileLaws

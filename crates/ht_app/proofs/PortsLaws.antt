@@ -45,14 +45,17 @@ pub ends_reading : (job : Asked) (e : RunError) (a b : DeskView) → is_some (in
     → ChangedOnly (job_ports job (exit_status e)) a b
 ends_reading job (Denied trouble) a b reads x first =
     changed_within (reading job) (job_ports job 1) a b (reading_within job 1 refl) x
-ends_reading job Usage a b reads x first = changed_within (reading job) (job_ports job 2) a b (reading_within job 2 refl) x
+ends_reading job Usage a b reads x first =
+    changed_within (reading job) (job_ports job 2) a b (reading_within job 2 refl) x
 ends_reading job TooLong a b reads x first = not_read job a b reads (first refl)
 ends_reading job (Refused error) a b reads x first = not_read job a b reads (first refl)
-ends_reading job ReadFault a b reads x first = changed_within (reading job) (job_ports job 4) a b (reading_within job 4 refl)
+ends_reading job ReadFault a b reads x first =
+    changed_within (reading job) (job_ports job 4) a b (reading_within job 4 refl)
     x
 ends_reading job WriteFault a b reads x first =
     changed_within (reading job) (job_ports job 5) a b (reading_within job 5 refl) x
-ends_reading job NoMemory a b reads x first = changed_within (reading job) (job_ports job 6) a b (reading_within job 6 refl)
+ends_reading job NoMemory a b reads x first =
+    changed_within (reading job) (job_ports job 6) a b (reading_within job 6 refl)
     x
 ends_reading job (BadTests line) a b reads x first =
     changed_within (reading job) (job_ports job 7) a b (reading_within job 7 refl) x

@@ -6,7 +6,7 @@ use Rattle.std.proofs.lemmas.List.Elements.{All-append}
 use Rattle.ht_ports.specs.LineRule.{NextLine, max_text_bytes}
 use Rattle.ht_net.specs.Netlist.{Netlist}
 use Rattle.ht_texts.specs.Tests.{vector_text, IsTextOf, IsTestText}
-use Rattle.ht_app.proofs.LineSoFarLaws.{LinesSoFar, lines_end, lines_next, lines_start}
+use Rattle.ht_texts.proofs.LinesSoFarLaws.{LinesSoFar, lines_end, lines_next, lines_start}
 
 -- The lines so far are those of the list, and the rest is still to come.
 pub record SoFar (c : Netlist) (text : List ℕ) (passed : ℕ) (list : List (List Bool)) (rest : List ℕ) : Type 0 where
@@ -27,7 +27,7 @@ so_far_next c text passed list rest line count new vector so next is =
       now.0,
       now.1,
       record {
-        lines = subst (λ l. LinesSoFar text (passed + count) l now.0) lines now.2;
+        lines = subst (λ l. LinesSoFar text (passed + count) l now.0) lines now.3;
         widths = All-append (λ (v : List Bool). length v ≡ c.inputs) list (vector ∷ []) so.widths
             (λ k d lt. one_width k d lt);
       },
@@ -41,5 +41,6 @@ so_far_next c text passed list rest line count new vector so next is =
 pub so_far_end : (c : Netlist) (text : List ℕ) (passed : ℕ) (list : List (List Bool)) (rest : List ℕ)
     → SoFar c text passed list rest → rest ≡ [] → passed ≤ max_text_bytes → IsTestText c text list
 so_far_end c text passed list rest so end fits =
-    let whole = lines_end text passed (map vector_text list) rest so.lines end fits in
-    record { lines = whole.0; widths = so.widths; short = whole.1 }
+    let whole = lines_end text passed (map vector_text list)
+    (subst (LinesSoFar text passed (map vector_text list)) end so.lines) in
+    record { lines = whole.0; widths = so.widths; short = omega (arith, whole.1, fits) }

@@ -99,9 +99,11 @@ pub good_status : (job : Asked) (a b : DeskView) (e : RunError) → HasCause job
 good_status job a b (Denied trouble) h are none = absurd (not_denied job trouble a b are h)
 good_status job a b Usage h are none = absurd h
 good_status job a b TooLong h are none =
-    let n = good_netlist job a h.name h.reads are in absurd (not_too_long job n.name n.text n.circuit a n.reads h n.input n.good)
+    let n = good_netlist job a h.name h.reads are in
+    absurd (not_too_long job n.name n.text n.circuit a n.reads h n.input n.good)
 good_status job a b (Refused error) h are none =
-    let n = good_netlist job a h.name h.reads are in absurd (not_refused job n.name n.text n.circuit error a n.reads h n.input n.good)
+    let n = good_netlist job a h.name h.reads are in
+    absurd (not_refused job n.name n.text n.circuit error a n.reads h n.input n.good)
 good_status job a b ReadFault h are none = absurd (none.reads h.rose)
 good_status job a b WriteFault h are none = absurd (none.writes h.fault.rose)
 good_status job a b NoMemory h are none = inr refl

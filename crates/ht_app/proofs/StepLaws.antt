@@ -1,7 +1,6 @@
 -- One step more of the engine, and its text in the files.
-use Rattle.std.proofs.Common.{◌≡◌, ◌≢◌, ℕ, ◌≤◌, ◌+◌, List, [], ◌∷◌, ◌++◌, length, take, refl, sym, ◌∙◌, ap, subst, arith}
+use Rattle.std.proofs.Common.{◌≡◌, ◌≢◌, ℕ, ◌+◌, List, [], ◌∷◌, ◌++◌, length, take, refl, sym, ◌∙◌, ap, subst, arith}
 use Rattle.std.proofs.lemmas.List.{append-nil, length-append}
-use Rattle.ht_ports.specs.LineRule.{max_text_bytes}
 use Rattle.ht_ports.specs.Desk.{DeskView}
 use Rattle.ht_ports.specs.declared.ports.OutPort.TheVariants.{Proofs}
 use Rattle.ht_net.specs.Rows.{Rows}
@@ -15,9 +14,10 @@ use Rattle.ht_engine.specs.Steps.{AreFinished, first_vectors, one_more}
 use Rattle.ht_engine.specs.EngineStands.{EngineStandsFor, EngineView, HasSameWork, Makes, MakesStep, first_of}
 use Rattle.ht_files.specs.StepTexts.{proofs_so_far, proofs_step, step_text, tests_of, tests_step}
 use Rattle.ht_files.proofs.StepTextLaws.{proofs_begin, proofs_grow, tests_grow}
+use Rattle.ht_files.specs.declared.text_size.TextSize.{TextSize}
 use Rattle.ht_app.specs.declared.generate.sizes.Sizes.{Sizes}
 use Rattle.ht_app.specs.FileTexts.{Names, Texts, no_texts, with_more}
-use Rattle.ht_app.specs.Generating.{CountsProofs, CountsStep, CountsTests, HasAllSteps, HasPart, HasStepPart, HasSteps, HasTexts, StopsEarly, StopsHead, bare, texts_so_far, with_step}
+use Rattle.ht_app.specs.Generating.{CountsStep, CountsText, HasAllSteps, HasPart, HasStepPart, HasSteps, HasTexts, StopsEarly, StopsHead, bare, texts_so_far, with_step}
 use Rattle.ht_app.proofs.FrontLaws.{both, stops_within, texts_grow}
 
 -- ---- where the text of a step goes
@@ -43,20 +43,22 @@ nothing_put step texts is = both texts _ _ _ _
 
 -- ---- what is counted
 
-pub counts_tests : (step : Step) (text : List ℕ) (old new : Sizes) → text ≡ tests_step step → proofs_step step ≡ []
-    → CountsTests (length text) old new → CountsStep step old new
+pub counts_tests : (step : Step) (text : List ℕ) (old : Sizes) (new : TextSize) → text ≡ tests_step step
+    → proofs_step step ≡ [] → CountsText (length text) old.tests new
+    → CountsStep step old (record old { tests = new })
 counts_tests step text old new is none counts = record {
   tests = counts.count ∙ ap (λ l. old.tests.bytes + length l) is;
-  proofs = ap (λ s. s.bytes) counts.proofs ∙ omega (arith, ap length none);
+  proofs = omega (arith, ap length none);
   short = λ before. counts.short;
 }
 
-pub counts_proofs : (step : Step) (text : List ℕ) (old new : Sizes) → text ≡ proofs_step step → tests_step step ≡ []
-    → CountsProofs (length text) old new → CountsStep step old new
+pub counts_proofs : (step : Step) (text : List ℕ) (old : Sizes) (new : TextSize) → text ≡ proofs_step step
+    → tests_step step ≡ [] → CountsText (length text) old.proofs new
+    → CountsStep step old (record old { proofs = new })
 counts_proofs step text old new is none counts = record {
-  tests = ap (λ s. s.bytes) counts.tests ∙ omega (arith, ap length none);
+  tests = omega (arith, ap length none);
   proofs = counts.count ∙ ap (λ l. old.proofs.bytes + length l) is;
-  short = λ before. subst (λ (n : ℕ). n ≤ max_text_bytes) (sym (ap (λ s. s.bytes) counts.tests)) before;
+  short = λ before. before;
 }
 
 pub counts_nothing : (step : Step) (sizes : Sizes) → step ≡ Finished → CountsStep step sizes sizes
@@ -74,6 +76,12 @@ makes_step old new steps (Vectors list) other made = made
 makes_step old new steps (Entry fault entry) other made = made
 makes_step old new steps Finished other made = absurd (other refl)
 
+-- the bytes of one step more are counted
+counted_more : (bytes more all : List ℕ) (old new : ℕ) → all ≡ bytes ++ more → old ≡ length bytes
+    → new ≡ old + length more → new ≡ length all
+counted_more bytes more all old new is before counts =
+    omega (arith, counts, before, ap length is, length-append bytes more)
+
 pub has_one_more : (names : Names) (old new : EngineView) (step : Step) (before after : Sizes) (first m b : DeskView)
     → step ≢ Finished → (h : HasSteps names old before first m) → Makes old new h.steps step
     → HasTexts names (with_step step (texts_so_far h.steps)) first b → CountsStep step before after
@@ -82,20 +90,10 @@ has_one_more names old new step before after first m b other h made has counts =
   steps = h.steps ++ step ∷ [];
   stands = (makes_step old new h.steps step other made).stands;
   has = subst (λ (t : Texts). HasTexts names t first b) (texts_grow h.steps step) has;
-  tests_count = omega (
-    arith,
-    counts.tests,
-    h.tests_count,
-    ap length (tests_grow h.steps step),
-    length-append (tests_of h.steps) (tests_step step),
-  );
-  proofs_count = omega (
-    arith,
-    counts.proofs,
-    h.proofs_count,
-    ap length (proofs_grow h.steps step),
-    length-append (proofs_so_far h.steps) (proofs_step step),
-  );
+  tests_count = counted_more (tests_of h.steps) (tests_step step) _ _ _ (tests_grow h.steps step) h.tests_count
+      counts.tests;
+  proofs_count = counted_more (proofs_so_far h.steps) (proofs_step step) _ _ _ (proofs_grow h.steps step)
+      h.proofs_count counts.proofs;
   short = counts.short h.short;
 }
 
@@ -119,10 +117,11 @@ pub all_made : (names : Names) (old new : EngineView) (step : Step) (sizes : Siz
     → HasAllSteps names new sizes first m
 all_made names old new step sizes first m is same h made =
     let last : Makes old new h.steps Finished = subst (Makes old new h.steps) is made in
+    let stands = last.1 in
     record {
       has = record {
         steps = h.steps;
-        stands = last.1;
+        stands = stands;
         has = h.has;
         tests_count = h.tests_count;
         proofs_count = h.proofs_count;

@@ -5,7 +5,8 @@ use Rattle.std.proofs.Math.ListN.{get_or-append}
 use Rattle.ht_ports.specs.LineRule.{NextLine, IsTooLongLine, max_text_bytes, lines_of}
 use Rattle.ht_net.specs.Netlist.{Netlist, max_inputs}
 use Rattle.ht_texts.specs.Tests.{bit_code, vector_text, IsTextOf, IsMalformedTest, IsNoVector, IsTooLong, IsWrongLine, line_at}
-use Rattle.ht_app.proofs.LineSoFarLaws.{IsNextLine, next_is_long, next_line_is, not_long_before}
+use Rattle.ht_texts.proofs.LinesSoFarLaws.{read_lines_fit}
+use Rattle.ht_app.proofs.NextLineLaws.{IsNextLine, next_is_long, next_line_is}
 use Rattle.ht_app.proofs.SoFarLaws.{SoFar}
 
 -- no line so far is wrong
@@ -15,13 +16,13 @@ none_before : (c : Netlist) (text : List ℕ) (passed : ℕ) (list : List (List 
 none_before c text passed list rest so fits m lt (inl none) =
     let inside : m - 1 < length list = omega (arith, lt, none.counted.0) in
     let at : line_at text m ≡ vector_text (get_or list (m - 1) []) =
-    ap (λ l. get_or l (m - 1) []) so.lines.are
+    ap (λ l. get_or l (m - 1) []) so.lines.lines_are
     ∙ get_or-append (map vector_text list) (lines_of rest) [] (m - 1)
     (omega (arith, inside, length-map list vector_text))
     ∙ get_or-map vector_text list (m - 1) [] [] inside in
     none.none (get_or list (m - 1) []) (record { characters = at; bits = so.widths (m - 1) [] inside })
 none_before c text passed list rest so fits m lt (inr long) =
-    not_long_before text passed (map vector_text list) rest so.lines fits m
+    read_lines_fit text passed (map vector_text list) rest m so.lines fits
     (omega (arith, lt, length-map list vector_text)) long
 
 -- the line that comes next is no vector's

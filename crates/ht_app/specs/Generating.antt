@@ -15,6 +15,7 @@ use Rattle.ht_engine.specs.Steps.{AreFinished, AreSteps, Settings}
 use Rattle.ht_engine.specs.EngineStands.{EngineStandsFor, EngineView, first_of}
 use Rattle.ht_files.specs.StepTexts.{proofs_so_far, proofs_step, tests_of, tests_step}
 use Rattle.ht_files.specs.Generated.{IsGenerated}
+use Rattle.ht_files.specs.declared.text_size.TextSize.{TextSize}
 use Rattle.ht_app.specs.declared.run_error.RunError.{RunError}
 use Rattle.ht_app.specs.declared.run_error.RunError.TheVariants.{WriteFault, NoMemory}
 use Rattle.ht_app.specs.declared.generate.sizes.Sizes.{Sizes}
@@ -120,15 +121,10 @@ pub record HasSteps (names : Names) (e : EngineView) (sizes : Sizes) (old new : 
   pub proofs_count : sizes.proofs.bytes ≡ length (proofs_so_far steps)
   pub short : sizes.tests.bytes ≤ max_text_bytes
 
--- this many bytes more are counted, and the tests are no longer than a reader takes
-pub record CountsTests (more : ℕ) (old new : Sizes) : Type 0 where
-  pub count : new.tests.bytes ≡ old.tests.bytes + more
-  pub short : new.tests.bytes ≤ max_text_bytes
-  pub proofs : new.proofs ≡ old.proofs
-
-pub record CountsProofs (more : ℕ) (old new : Sizes) : Type 0 where
-  pub count : new.proofs.bytes ≡ old.proofs.bytes + more
-  pub tests : new.tests ≡ old.tests
+-- this many bytes more are counted, and the text is no longer than a reader takes
+pub record CountsText (more : ℕ) (old new : TextSize) : Type 0 where
+  pub count : new.bytes ≡ old.bytes + more
+  pub short : new.bytes ≤ max_text_bytes
 
 -- the sizes count the text of the step
 pub record CountsStep (step : Step) (old new : Sizes) : Type 0 where
@@ -191,7 +187,8 @@ pub record HasGenerated (names : Names) (c : net.Netlist) (settings : Settings) 
   pub generated : AreGenerated c settings texts.tests texts.report texts.proofs texts.out
 
 -- A write failed after the tests and the proofs were whole.
-pub record StopsInReporting (names : Names) (error : RunError) (c : net.Netlist) (settings : Settings) (old new : DeskView)
+pub record StopsInReporting (names : Names) (error : RunError) (c : net.Netlist) (settings : Settings)
+    (old new : DeskView)
     : Type 0 where
   pub fault : error ≡ WriteFault
   pub tests : List ℕ

@@ -33,7 +33,8 @@ fn do_job<D: Desk>(alloc: Global, job: &Job, desk: &mut D) -> Result<(), RunErro
         ≡ (D.view desk.old).written out_port.Err }
     ensures done { OnOk result (IsDone (asked_by job.now) (D.view desk.old) (D.view desk.new)) }
     ensures cause { IfErr result (HasCause (asked_by job.now) (D.view desk.old) (D.view desk.new)) }
-    ensures demo { (size seed : ℕ) → asked_by job.now ≡ demo size seed → IfErr result IsOutputError }
+    ensures demo { (size seed : ℕ) → asked_by job.now ≡ demo size seed
+        → IfErr result IsOutputError }
 {
     match job {
         Job::Sim {
@@ -48,35 +49,27 @@ fn do_job<D: Desk>(alloc: Global, job: &Job, desk: &mut D) -> Result<(), RunErro
             desk,
         ),
         Job::Gen {
-            netlist,
-            tests,
-            report,
-            proofs,
+            files,
             budget,
             random,
             seed,
         } => generate(
             alloc,
-            netlist.as_str(),
-            tests.as_str(),
-            report.as_str(),
-            proofs.as_str(),
+            files.netlist.as_str(),
+            files.tests.as_str(),
+            files.report.as_str(),
+            files.proofs.as_str(),
             *budget,
             *random,
             *seed,
             desk,
         ),
-        Job::Check {
-            netlist,
-            tests,
-            report,
-            proofs,
-        } => check(
+        Job::Check { files } => check(
             alloc,
-            netlist.as_str(),
-            tests.as_str(),
-            report.as_str(),
-            proofs.as_str(),
+            files.netlist.as_str(),
+            files.tests.as_str(),
+            files.report.as_str(),
+            files.proofs.as_str(),
             desk,
         ),
         Job::Norm { netlist, out } => norm(alloc, netlist.as_str(), out.as_str(), desk),

@@ -91,7 +91,8 @@ fn make_steps(engine: &mut Engine) -> Result<(), AllocError>
 fn find_total(alloc: Global, prepared: &Prepared, seed: u64) -> Result<Vec<u8>, AllocError>
     requires faults { prepared.now.listed.faults ≡ faults_of prepared.now.circuit }
     requires classes { AreClasses prepared.now.circuit prepared.now.listed.classes }
-    ensures { IfOk result (λ total. IsTotalOf prepared.now.circuit (demo_settings seed) total.items) }
+    ensures { IfOk result
+        (λ total. IsTotalOf prepared.now.circuit (demo_settings seed) total.items) }
 {
     let faults = &prepared.listed.faults;
     let classes = &prepared.listed.classes;

@@ -13,23 +13,20 @@ use Rattle.ht_lanes.specs.Lanes.{lane, each_lane, lane_operations, is_set}
 use Rattle.ht_lanes.specs.Rows.{AreApart, lane_value, lanes_of}
 use Rattle.ht_lanes.specs.Inverse.{apart_at, lane_is, lane_of_each}
 
+-- what holds of two bits, each 0 or 1
+by_bits : (P : ℕ → ℕ → Type 0) → P 0 0 → P 0 1 → P 1 0 → P 1 1 → (x y : ℕ) → x < 2 → y < 2 → P x y
+by_bits P none second first both zero zero h k = none
+by_bits P none second first both zero (suc zero) h k = second
+by_bits P none second first both (suc zero) zero h k = first
+by_bits P none second first both (suc zero) (suc zero) h k = both
+by_bits P none second first both (suc (suc x)) y h k = absurd (omega (arith, h))
+by_bits P none second first both x (suc (suc y)) h k = absurd (omega (arith, k))
+
 max_test : (x y : ℕ) → x < 2 → y < 2 → eqb (max x y) 1 ≡ (eqb x 1 || eqb y 1)
-max_test zero zero h k = refl
-max_test zero (suc zero) h k = refl
-max_test zero (suc (suc y)) h k = absurd (omega (arith, k))
-max_test (suc zero) zero h k = refl
-max_test (suc zero) (suc zero) h k = refl
-max_test (suc zero) (suc (suc y)) h k = absurd (omega (arith, k))
-max_test (suc (suc x)) y h k = absurd (omega (arith, h))
+max_test = by_bits (λ x y. eqb (max x y) 1 ≡ (eqb x 1 || eqb y 1)) refl refl refl refl
 
 min_test : (x y : ℕ) → x < 2 → y < 2 → eqb (min x y) 1 ≡ (eqb x 1 && eqb y 1)
-min_test zero zero h k = refl
-min_test zero (suc zero) h k = refl
-min_test zero (suc (suc y)) h k = absurd (omega (arith, k))
-min_test (suc zero) zero h k = refl
-min_test (suc zero) (suc zero) h k = refl
-min_test (suc zero) (suc (suc y)) h k = absurd (omega (arith, k))
-min_test (suc (suc x)) y h k = absurd (omega (arith, h))
+min_test = by_bits (λ x y. eqb (min x y) 1 ≡ (eqb x 1 && eqb y 1)) refl refl refl refl
 
 pub set_or : (a b k : ℕ) → is_set (bit_or a b) k ≡ (is_set a k || is_set b k)
 set_or a b k = ap (λ n. eqb n 1) (bit_at_or a b k) ∙ max_test _ _ (bit_at-lt a k) (bit_at-lt b k)
@@ -51,48 +48,42 @@ apart_from a b h = same_from_bits (bit_and a b) 0 (λ k. unset _ (bit_at-lt (bit
 abbrev pub told : Bool → Bool → Tern
 told a b = cond a Zero (cond b One Unk)
 
+-- what holds of two bits that are not both set: they tell Zero, One or Unk
+by_told : (P : Bool → Bool → Type 0) → P true false → P false true → P false false
+    → (a b : Bool) → (a && b) ≡ false → P a b
+by_told P at_zero at_one at_unk true true h = cc
+by_told P at_zero at_one at_unk true false h = at_zero
+by_told P at_zero at_one at_unk false true h = at_one
+by_told P at_zero at_one at_unk false false h = at_unk
+
+-- what holds of two such pairs
+by_two_told : (P : Bool → Bool → Bool → Bool → Type 0)
+    → P true false true false → P true false false true → P true false false false
+    → P false true true false → P false true false true → P false true false false
+    → P false false true false → P false false false true → P false false false false
+    → (a b a' b' : Bool) → (a && b) ≡ false → (a' && b') ≡ false → P a b a' b'
+by_two_told P zz zo zu oz oo ou uz uo uu a b a' b' h k =
+    by_told (λ x y. P x y a' b') (by_told (P true false) zz zo zu a' b' k) (by_told (P false true) oz oo ou a' b' k)
+    (by_told (P false false) uz uo uu a' b' k) a b h
+
 and_told : (a b a' b' : Bool) → (a && b) ≡ false → (a' && b') ≡ false
     → told (a || a') (b && b') ≡ and_of (told a b) (told a' b')
-and_told true true a' b' h k = cc
-and_told true false a' b' h k = refl
-and_told false true true true h k = cc
-and_told false true true false h k = refl
-and_told false true false b' h k = refl
-and_told false false true true h k = cc
-and_told false false true false h k = refl
-and_told false false false true h k = refl
-and_told false false false false h k = refl
+and_told = by_two_told (λ a b a' b'. told (a || a') (b && b') ≡ and_of (told a b) (told a' b'))
+    refl refl refl refl refl refl refl refl refl
 
 or_told : (a b a' b' : Bool) → (a && b) ≡ false → (a' && b') ≡ false
     → told (a && a') (b || b') ≡ or_of (told a b) (told a' b')
-or_told true true a' b' h k = cc
-or_told true false true true h k = cc
-or_told true false true false h k = refl
-or_told true false false b' h k = refl
-or_told false true a' b' h k = refl
-or_told false false true true h k = cc
-or_told false false true false h k = refl
-or_told false false false true h k = refl
-or_told false false false false h k = refl
+or_told = by_two_told (λ a b a' b'. told (a && a') (b || b') ≡ or_of (told a b) (told a' b'))
+    refl refl refl refl refl refl refl refl refl
 
 xor_told : (a b a' b' : Bool) → (a && b) ≡ false → (a' && b') ≡ false
     → told ((a && a') || (b && b')) ((a && b') || (b && a')) ≡ xor_of (told a b) (told a' b')
-xor_told true true a' b' h k = cc
-xor_told true false true true h k = cc
-xor_told true false true false h k = refl
-xor_told true false false true h k = refl
-xor_told true false false false h k = refl
-xor_told false true true true h k = cc
-xor_told false true true false h k = refl
-xor_told false true false true h k = refl
-xor_told false true false false h k = refl
-xor_told false false a' b' h k = refl
+xor_told = by_two_told
+    (λ a b a' b'. told ((a && a') || (b && b')) ((a && b') || (b && a')) ≡ xor_of (told a b) (told a' b'))
+    refl refl refl refl refl refl refl refl refl
 
 not_told : (a b : Bool) → (a && b) ≡ false → told b a ≡ complement_of (told a b)
-not_told true true h = cc
-not_told true false h = refl
-not_told false true h = refl
-not_told false false h = refl
+not_told = by_told (λ a b. told b a ≡ complement_of (told a b)) refl refl refl
 
 -- the same of the bits of words
 abbrev Apart : ℕ → ℕ → Type 0
@@ -149,37 +140,20 @@ not_lanes a b p =
 
 -- The results of the operations have no lane that is both.
 not_apart_told : (a b : Bool) → (a && b) ≡ false → (b && a) ≡ false
-not_apart_told true true h = cc
-not_apart_told true false h = refl
-not_apart_told false true h = refl
-not_apart_told false false h = refl
+not_apart_told = by_told (λ a b. (b && a) ≡ false) refl refl refl
 
 and_apart_told : (a b c d : Bool) → (a && b) ≡ false → (c && d) ≡ false → ((a || c) && (b && d)) ≡ false
-and_apart_told true true c d h k = cc
-and_apart_told true false c d h k = refl
-and_apart_told false b true true h k = cc
-and_apart_told false true true false h k = refl
-and_apart_told false false true false h k = refl
-and_apart_told false b false d h k = refl
+and_apart_told = by_two_told (λ a b c d. ((a || c) && (b && d)) ≡ false)
+    refl refl refl refl refl refl refl refl refl
 
 or_apart_told : (a b c d : Bool) → (a && b) ≡ false → (c && d) ≡ false → ((a && c) && (b || d)) ≡ false
-or_apart_told true true c d h k = cc
-or_apart_told true false true true h k = cc
-or_apart_told true false true false h k = refl
-or_apart_told true false false d h k = refl
-or_apart_told false b c d h k = refl
+or_apart_told = by_two_told (λ a b c d. ((a && c) && (b || d)) ≡ false)
+    refl refl refl refl refl refl refl refl refl
 
 xor_apart_told : (a b c d : Bool) → (a && b) ≡ false → (c && d) ≡ false
     → (((a && c) || (b && d)) && ((a && d) || (b && c))) ≡ false
-xor_apart_told true true c d h k = cc
-xor_apart_told true false true true h k = cc
-xor_apart_told true false true false h k = refl
-xor_apart_told true false false d h k = refl
-xor_apart_told false true true true h k = cc
-xor_apart_told false true true false h k = refl
-xor_apart_told false true false true h k = refl
-xor_apart_told false true false false h k = refl
-xor_apart_told false false c d h k = refl
+xor_apart_told = by_two_told (λ a b c d. (((a && c) || (b && d)) && ((a && d) || (b && c))) ≡ false)
+    refl refl refl refl refl refl refl refl refl
 
 pub apart_of : (a b : ℕ) → a < 2 ^ 64 → b < 2 ^ 64 → ((k : ℕ) → (is_set a k && is_set b k) ≡ false) → AreApart a b
 apart_of a b f g h = record { zeros_fit = f; ones_fit = g; apart = apart_from a b h }

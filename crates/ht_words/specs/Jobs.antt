@@ -19,9 +19,9 @@ command_of name.Demo = demo_command
 -- what words ask for where they ask for the job
 abbrev pub asked_by : Job → Asked
 asked_by (job.Sim netlist tests report) = sim netlist tests report
-asked_by (job.Gen netlist tests report proofs budget random seed) =
-    gen netlist tests report proofs (record { budget = budget; random = random; seed = seed })
-asked_by (job.Check netlist tests report proofs) = check netlist tests report proofs
+asked_by (job.Gen files budget random seed) = gen files.netlist files.tests files.report files.proofs
+    (record { budget = budget; random = random; seed = seed })
+asked_by (job.Check files) = check files.netlist files.tests files.report files.proofs
 asked_by (job.Norm netlist out) = norm netlist out
 asked_by (job.Demo size seed) = demo size seed
 

@@ -35,11 +35,11 @@ fn option<'a>(alloc: Global, id: &'a str) -> Arg<'a>
     Arg::new(alloc, id).long(id)
 }
 
-/// `sim NETLIST TESTS REPORT`.
-fn define_sim<'a>(alloc: Global) -> Result<Command<'a>, AllocError>
-    ensures { IfOk result (λ c. app_of c ≡ app_with sim_command.name sim_command.form) }
+/// A command with the arguments of `sim`, which `gen` and `check` have too: `NETLIST TESTS REPORT`.
+fn with_report<'a>(alloc: Global, name: &'a str) -> Result<Command<'a>, AllocError>
+    ensures { IfOk result (λ c. app_of c ≡ app_with name.entry.now sim_command.form) }
 {
-    plain_command(alloc, "sim")
+    plain_command(alloc, name)
         .arg(positional(alloc, "netlist"))?
         .arg(positional(alloc, "tests"))?
         .arg(positional(alloc, "report"))
@@ -49,10 +49,7 @@ fn define_sim<'a>(alloc: Global) -> Result<Command<'a>, AllocError>
 fn define_gen<'a>(alloc: Global) -> Result<Command<'a>, AllocError>
     ensures { IfOk result (λ c. app_of c ≡ app_with gen_command.name gen_command.form) }
 {
-    plain_command(alloc, "gen")
-        .arg(positional(alloc, "netlist"))?
-        .arg(positional(alloc, "tests"))?
-        .arg(positional(alloc, "report"))?
+    with_report(alloc, "gen")?
         .arg(positional(alloc, "proofs"))?
         .arg(option(alloc, "budget"))?
         .arg(option(alloc, "random"))?
@@ -63,11 +60,7 @@ fn define_gen<'a>(alloc: Global) -> Result<Command<'a>, AllocError>
 fn define_check<'a>(alloc: Global) -> Result<Command<'a>, AllocError>
     ensures { IfOk result (λ c. app_of c ≡ app_with check_command.name check_command.form) }
 {
-    plain_command(alloc, "check")
-        .arg(positional(alloc, "netlist"))?
-        .arg(positional(alloc, "tests"))?
-        .arg(positional(alloc, "report"))?
-        .arg(positional(alloc, "proofs"))
+    with_report(alloc, "check")?.arg(positional(alloc, "proofs"))
 }
 
 /// `norm NETLIST OUT`.
@@ -93,7 +86,7 @@ pub fn definition<'a>(alloc: Global, name: CommandName) -> Result<Command<'a>, A
     ensures { IfOk result (λ c. app_of c ≡ app_with (command_of name).name (command_of name).form) }
 {
     match name {
-        CommandName::Sim => define_sim(alloc),
+        CommandName::Sim => with_report(alloc, "sim"),
         CommandName::Gen => define_gen(alloc),
         CommandName::Check => define_check(alloc),
         CommandName::Norm => define_norm(alloc),

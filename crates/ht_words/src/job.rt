@@ -6,6 +6,19 @@ use crate::file_name::FileName;
 use std::alloc::AllocError;
 use thiserror::Error;
 
+/// The names of a netlist and of the three files that a search writes for it.
+#[derive(Debug, Drop)]
+pub struct RunFiles {
+    /// The netlist.
+    pub netlist: FileName,
+    /// The tests.
+    pub tests: FileName,
+    /// The report.
+    pub report: FileName,
+    /// The entries of the faults for which no test is found.
+    pub proofs: FileName,
+}
+
 /// A command with the names of its files, and with its numbers.
 #[derive(Debug, Drop)]
 pub enum Job {
@@ -20,14 +33,8 @@ pub enum Job {
     },
     /// Generates tests for the netlist, and reports each fault.
     Gen {
-        /// The netlist to read.
-        netlist: FileName,
-        /// The tests to write.
-        tests: FileName,
-        /// The report to write.
-        report: FileName,
-        /// The entries of the faults for which no test is found, to write.
-        proofs: FileName,
+        /// The netlist to read, and the files to write.
+        files: RunFiles,
         /// The budget of each search, 1 to 100,000.
         budget: u64,
         /// How many random vectors come first, 0 to 100,000.
@@ -37,14 +44,8 @@ pub enum Job {
     },
     /// Judges the tests, the report and the proofs that a search wrote.
     Check {
-        /// The netlist to read.
-        netlist: FileName,
-        /// The tests to read.
-        tests: FileName,
-        /// The report to read.
-        report: FileName,
-        /// The entries of the faults for which no test was found, to read.
-        proofs: FileName,
+        /// The files to read.
+        files: RunFiles,
     },
     /// Writes the netlist in its normal form.
     Norm {

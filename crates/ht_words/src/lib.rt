@@ -19,5 +19,5 @@ mod number;
 mod reading;
 
 pub use file_name::FileName;
-pub use job::{Job, WordsFault};
+pub use job::{Job, RunFiles, WordsFault};
 pub use reading::command;

@@ -10,7 +10,7 @@ ghost use Rattle.ht_words.specs.declared.job.WordsFault.TheVariants as fault;
 use crate::command_name::CommandName;
 use crate::definitions::definition;
 use crate::file_name::FileName;
-use crate::job::{Job, WordsFault};
+use crate::job::{Job, RunFiles, WordsFault};
 use crate::number::{budget, random, seed, size, wanted_number};
 use clap::error::ErrorKind;
 use clap::{ArgMatches, Command};
@@ -80,10 +80,12 @@ fn gen_job(alloc: Global, matches: &ArgMatches<'_>) -> Result<Job, WordsFault>
     ensures { IsAnswer (asked_in_rows gen_command (rows_of (found_of matches.now))) result }
 {
     Ok(Job::Gen {
-        netlist: value(alloc, matches, "netlist")?,
-        tests: value(alloc, matches, "tests")?,
-        report: value(alloc, matches, "report")?,
-        proofs: value(alloc, matches, "proofs")?,
+        files: RunFiles {
+            netlist: value(alloc, matches, "netlist")?,
+            tests: value(alloc, matches, "tests")?,
+            report: value(alloc, matches, "report")?,
+            proofs: value(alloc, matches, "proofs")?,
+        },
         budget: budget(matches)?,
         random: random(matches)?,
         seed: seed(matches)?,
@@ -99,10 +101,12 @@ fn check_job(alloc: Global, matches: &ArgMatches<'_>) -> Result<Job, WordsFault>
     let report = value(alloc, matches, "report")?;
     let proofs = value(alloc, matches, "proofs")?;
     Ok(Job::Check {
-        netlist,
-        tests,
-        report,
-        proofs,
+        files: RunFiles {
+            netlist,
+            tests,
+            report,
+            proofs,
+        },
     })
 }
 

@@ -1,8 +1,18 @@
 //! Tests of ht_words.
 use super::run::cases::words_of;
-use ht_words::{Job, WordsFault, command};
+use ht_words::{Job, RunFiles, WordsFault, command};
 use std::alloc::{AllocError, Global};
 use std::test::Fail;
+
+/// The names are the command's, and then those of the files.
+fn are_files(command: &str, files: &RunFiles, names: &[&str]) -> bool {
+    names.len() == 5
+        && names[0] == command
+        && names[1] == files.netlist.as_str()
+        && names[2] == files.tests.as_str()
+        && names[3] == files.report.as_str()
+        && names[4] == files.proofs.as_str()
+}
 
 /// The job is the command with these names.
 fn is_job(job: &Job, names: &[&str]) -> bool {
@@ -18,33 +28,8 @@ fn is_job(job: &Job, names: &[&str]) -> bool {
                 && names[2] == tests.as_str()
                 && names[3] == report.as_str()
         }
-        Job::Gen {
-            netlist,
-            tests,
-            report,
-            proofs,
-            ..
-        } => {
-            names.len() == 5
-                && names[0] == "gen"
-                && names[1] == netlist.as_str()
-                && names[2] == tests.as_str()
-                && names[3] == report.as_str()
-                && names[4] == proofs.as_str()
-        }
-        Job::Check {
-            netlist,
-            tests,
-            report,
-            proofs,
-        } => {
-            names.len() == 5
-                && names[0] == "check"
-                && names[1] == netlist.as_str()
-                && names[2] == tests.as_str()
-                && names[3] == report.as_str()
-                && names[4] == proofs.as_str()
-        }
+        Job::Gen { files, .. } => are_files("gen", files, names),
+        Job::Check { files } => are_files("check", files, names),
         Job::Norm { netlist, out } => {
             names.len() == 3
                 && names[0] == "norm"

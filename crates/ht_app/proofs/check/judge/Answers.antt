@@ -12,7 +12,60 @@ use Rattle.ht_app.specs.Steps.{reading}
 use Rattle.ht_app.proofs.ChangedLaws.{changed_by_reading}
 use Rattle.ht_app.proofs.CauseLaws.{netlist_cause}
 use Rattle.ht_app.proofs.CheckLaws.{NetlistIsRead, TestsAreRead, ReportWasRead, accepts_all, claimed, file_not_refused, proofs_stop, reads_four, reads_three, reads_two, report_stops, tests_stop}
+use Rattle.ht_app.proofs.check.judge.Given as given
 use Rattle.ht_app.proofs.check.judge.Goals as goal
+use Rattle.ht_app.proofs.check.judge.Goals.{After-deref, In_ok-claims, In_ok-list, In_ok-listed}
+
+-- ---- what was read so far
+
+netlist_read : (g : given.Over) (c : In_ok-listed g)
+    → NetlistIsRead (check_files_of c.args.netlist.now c.args.tests.now c.args.report.now c.args.proofs.now)
+    c.in_ok-circuit.circuit c.in_ok-listed.listed.classes (g.D.Desk.view c.args.desk.now)
+    (g.D.Desk.view c.read_netlist.new.desk)
+netlist_read g c = record {
+  frame = c.in_ok-circuit.ensures.frame;
+  there = c.in_ok-circuit.ensures.there;
+  good = c.in_ok-circuit.ensures.circuit;
+  is_circuit = c.in_ok-circuit.ensures.well_formed;
+  classes = c.in_ok-listed.ensures.classes;
+  known = λ name. g.met.D.Desk.steady_tells c.args.desk.now name;
+}
+
+tests_read : (g : given.Over) (c : In_ok-list g)
+    → NetlistIsRead (check_files_of c.args.netlist.now c.args.tests.now c.args.report.now c.args.proofs.now)
+    c.in_ok-circuit.circuit c.in_ok-listed.listed.classes (g.D.Desk.view c.args.desk.now)
+    (g.D.Desk.view c.read_netlist.new.desk)
+    → TestsAreRead (check_files_of c.args.netlist.now c.args.tests.now c.args.report.now c.args.proofs.now)
+    c.in_ok-circuit.circuit c.in_ok-listed.listed.classes c.in_ok-list.list.list (g.D.Desk.view c.args.desk.now)
+    (g.D.Desk.view c.read_netlist.new.desk) (g.D.Desk.view c.read_checked_tests.new.desk)
+tests_read g c netlist = record {
+  netlist = netlist;
+  frame = c.in_ok-list.ensures.frame;
+  there = c.in_ok-list.ensures.there;
+  vectors = c.in_ok-list.ensures.list;
+}
+
+first_known : (g : given.Over) (c : After-deref g)
+    → AreFirstDetections c.in_ok-circuit.circuit c.in_ok-listed.listed.classes c.in_ok-list.list.list c.deref.result.now
+first_known g c = subst (λ (l : List (Option Place)).
+    AreFirstDetections c.in_ok-circuit.circuit c.in_ok-listed.listed.classes c.in_ok-list.list.list l)
+    (sym c.deref.ensures.value) c.in_ok-places.ensures.first
+
+report_read : (g : given.Over) (c : In_ok-claims g)
+    → TestsAreRead (check_files_of c.args.netlist.now c.args.tests.now c.args.report.now c.args.proofs.now)
+    c.in_ok-circuit.circuit c.in_ok-listed.listed.classes c.in_ok-list.list.list (g.D.Desk.view c.args.desk.now)
+    (g.D.Desk.view c.read_netlist.new.desk) (g.D.Desk.view c.read_checked_tests.new.desk)
+    → AreFirstDetections c.in_ok-circuit.circuit c.in_ok-listed.listed.classes c.in_ok-list.list.list c.deref.result.now
+    → ReportWasRead (check_files_of c.args.netlist.now c.args.tests.now c.args.report.now c.args.proofs.now)
+    c.in_ok-circuit.circuit c.in_ok-listed.listed.classes c.in_ok-list.list.list c.in_ok-claims.claims.budget
+    c.in_ok-claims.claims.saids.items (g.D.Desk.view c.args.desk.now) (g.D.Desk.view c.read_netlist.new.desk)
+    (g.D.Desk.view c.read_checked_tests.new.desk) (g.D.Desk.view c.read_report.new.desk)
+report_read g c tests first = record {
+  tests = tests;
+  frame = c.in_ok-claims.ensures.frame;
+  there = c.in_ok-claims.ensures.there;
+  report = c.in_ok-claims.ensures.read c.in_ok-list.list.list first;
+}
 
 -- ---- the netlist
 
@@ -32,18 +85,18 @@ returns-in_err-circuit-clause-cause g c =
 
 -- ---- memory runs out
 
-pub returns-in_err-listed-clause-reads : goal.returns-in_err-listed-clause-reads
-returns-in_err-listed-clause-reads g c =
-    let names = check_files_of c.args.netlist.now c.args.tests.now c.args.report.now c.args.proofs.now in
-    changed_by_reading (reading (check_of_names names)) in_port.Netlist (g.D.Desk.view c.args.desk.now)
-    (g.D.Desk.view c.read_netlist.new.desk) refl c.in_ok-circuit.ensures.frame
-
 pub returns-in_err-listed-clause-cause : goal.returns-in_err-listed-clause-cause
 returns-in_err-listed-clause-cause g c =
     let names = check_files_of c.args.netlist.now c.args.tests.now c.args.report.now c.args.proofs.now in
     let cause : HasCause (check_of_names names) (g.D.Desk.view c.args.desk.now)
     (g.D.Desk.view c.read_netlist.new.desk) NoMemory = inl c.in_ok-circuit.ensures.frame.written in
     search (rules, cause)
+
+pub returns-in_err-listed-clause-reads : goal.returns-in_err-listed-clause-reads
+returns-in_err-listed-clause-reads g c =
+    let names = check_files_of c.args.netlist.now c.args.tests.now c.args.report.now c.args.proofs.now in
+    changed_by_reading (reading (check_of_names names)) in_port.Netlist (g.D.Desk.view c.args.desk.now)
+    (g.D.Desk.view c.read_netlist.new.desk) refl c.in_ok-circuit.ensures.frame
 
 pub returns-in_err-places-clause-reads : goal.returns-in_err-places-clause-reads
 returns-in_err-places-clause-reads g c =
@@ -63,22 +116,9 @@ returns-in_err-places-clause-cause g c =
 
 pub returns-in_err-list-clause-cause : goal.returns-in_err-list-clause-cause
 returns-in_err-list-clause-cause g c =
-    let names = check_files_of c.args.netlist.now c.args.tests.now c.args.report.now c.args.proofs.now in
-    let circuit = c.in_ok-circuit.circuit in
-    let classes = c.in_ok-listed.listed.classes in
-    let a = g.D.Desk.view c.args.desk.now in
-    let m = g.D.Desk.view c.read_netlist.new.desk in
-    let n = g.D.Desk.view c.read_checked_tests.new.desk in
-    let netlist : NetlistIsRead names circuit classes a m = record {
-      frame = c.in_ok-circuit.ensures.frame;
-      there = c.in_ok-circuit.ensures.there;
-      good = c.in_ok-circuit.ensures.circuit;
-      is_circuit = c.in_ok-circuit.ensures.well_formed;
-      classes = c.in_ok-listed.ensures.classes;
-      known = λ name. g.met.D.Desk.steady_tells c.args.desk.now name;
-    } in
-    let cause = tests_stop names circuit classes a m n c.in_err-list.field-0.0 netlist c.in_err-list.ensures.frame
-    c.in_err-list.ensures.cause in
+    let at = goal.at.returns-in_err-list-clause-cause g c in
+    let cause = tests_stop _ _ _ _ _ (g.D.Desk.view c.read_checked_tests.new.desk) c.in_err-list.field-0.0
+    (netlist_read g at.In_ok-listed) c.in_err-list.ensures.frame c.in_err-list.ensures.cause in
     search (rules, cause)
 
 -- ---- the report
@@ -92,63 +132,21 @@ returns-in_err-claims-clause-reads g c =
 
 pub returns-in_err-claims-clause-first : goal.returns-in_err-claims-clause-first
 returns-in_err-claims-clause-first g c =
-    let names = check_files_of c.args.netlist.now c.args.tests.now c.args.report.now c.args.proofs.now in
-    let circuit = c.in_ok-circuit.circuit in
-    let classes = c.in_ok-listed.listed.classes in
-    let a = g.D.Desk.view c.args.desk.now in
-    let m = g.D.Desk.view c.read_netlist.new.desk in
-    let n = g.D.Desk.view c.read_checked_tests.new.desk in
-    let netlist : NetlistIsRead names circuit classes a m = record {
-      frame = c.in_ok-circuit.ensures.frame;
-      there = c.in_ok-circuit.ensures.there;
-      good = c.in_ok-circuit.ensures.circuit;
-      is_circuit = c.in_ok-circuit.ensures.well_formed;
-      classes = c.in_ok-listed.ensures.classes;
-      known = λ name. g.met.D.Desk.steady_tells c.args.desk.now name;
-    } in
-    let list = c.in_ok-list.list.list in
-    let tests : TestsAreRead names circuit classes list a m n = record {
-      netlist = netlist;
-      frame = c.in_ok-list.ensures.frame;
-      there = c.in_ok-list.ensures.there;
-      vectors = c.in_ok-list.ensures.list;
-    } in
-    let first = subst (λ (l : List (Option Place)). AreFirstDetections circuit classes list l)
-    (sym c.deref.ensures.value) c.in_ok-places.ensures.first in
+    let first = first_known g (goal.at.returns-in_err-claims-clause-first g c).After-deref in
     let b = g.D.Desk.view c.read_report.new.desk in
-    let other = file_not_refused c.args.report.now IsOfReport n b c.in_err-claims.field-0.0
-    (c.in_err-claims.ensures.cause list first) in
-    let none : exit_status c.in_err-claims.field-0.0 ≡ 3 → InCall in_port.Netlist a b =
+    let other = file_not_refused c.args.report.now IsOfReport (g.D.Desk.view c.read_checked_tests.new.desk) b
+    c.in_err-claims.field-0.0 (c.in_err-claims.ensures.cause c.in_ok-list.list.list first) in
+    let none : exit_status c.in_err-claims.field-0.0 ≡ 3 → InCall in_port.Netlist (g.D.Desk.view c.args.desk.now) b =
     λ three. absurd (other three) in
     search (rules, none)
 
 pub returns-in_err-claims-clause-cause : goal.returns-in_err-claims-clause-cause
 returns-in_err-claims-clause-cause g c =
-    let names = check_files_of c.args.netlist.now c.args.tests.now c.args.report.now c.args.proofs.now in
-    let circuit = c.in_ok-circuit.circuit in
-    let classes = c.in_ok-listed.listed.classes in
-    let a = g.D.Desk.view c.args.desk.now in
-    let m = g.D.Desk.view c.read_netlist.new.desk in
-    let n = g.D.Desk.view c.read_checked_tests.new.desk in
-    let netlist : NetlistIsRead names circuit classes a m = record {
-      frame = c.in_ok-circuit.ensures.frame;
-      there = c.in_ok-circuit.ensures.there;
-      good = c.in_ok-circuit.ensures.circuit;
-      is_circuit = c.in_ok-circuit.ensures.well_formed;
-      classes = c.in_ok-listed.ensures.classes;
-      known = λ name. g.met.D.Desk.steady_tells c.args.desk.now name;
-    } in
+    let at = goal.at.returns-in_err-claims-clause-cause g c in
     let list = c.in_ok-list.list.list in
-    let tests : TestsAreRead names circuit classes list a m n = record {
-      netlist = netlist;
-      frame = c.in_ok-list.ensures.frame;
-      there = c.in_ok-list.ensures.there;
-      vectors = c.in_ok-list.ensures.list;
-    } in
-    let first = subst (λ (l : List (Option Place)). AreFirstDetections circuit classes list l)
-    (sym c.deref.ensures.value) c.in_ok-places.ensures.first in
-    let cause = report_stops names circuit classes list a m n (g.D.Desk.view c.read_report.new.desk)
-    c.in_err-claims.field-0.0 tests c.in_err-claims.ensures.frame
+    let first = first_known g at.After-deref in
+    let cause = report_stops _ _ _ list _ _ _ (g.D.Desk.view c.read_report.new.desk) c.in_err-claims.field-0.0
+    (tests_read g at.In_ok-list (netlist_read g at.In_ok-listed)) c.in_err-claims.ensures.frame
     (λ text short input. c.in_err-claims.ensures.trouble list text first short input)
     (c.in_err-claims.ensures.cause list first) in
     search (rules, cause)
@@ -157,12 +155,8 @@ returns-in_err-claims-clause-cause g c =
 
 pub read_proofs-requires-clause-each : goal.read_proofs-requires-clause-each
 read_proofs-requires-clause-each g c =
-    let circuit = c.in_ok-circuit.circuit in
-    let classes = c.in_ok-listed.listed.classes in
-    let list = c.in_ok-list.list.list in
-    let first = subst (λ (l : List (Option Place)). AreFirstDetections circuit classes list l)
-    (sym c.deref.ensures.value) c.in_ok-places.ensures.first in
-    (c.in_ok-claims.ensures.read list first).report.report.search.saids_are.each
+    let first = first_known g (goal.at.read_proofs-requires-clause-each g c).After-deref in
+    (c.in_ok-claims.ensures.read c.in_ok-list.list.list first).report.report.search.saids_are.each
 
 pub returns-in_err-read_proofs-clause-reads : goal.returns-in_err-read_proofs-clause-reads
 returns-in_err-read_proofs-clause-reads g c =
@@ -174,41 +168,13 @@ returns-in_err-read_proofs-clause-reads g c =
 
 pub returns-in_err-read_proofs-clause-cause : goal.returns-in_err-read_proofs-clause-cause
 returns-in_err-read_proofs-clause-cause g c =
-    let names = check_files_of c.args.netlist.now c.args.tests.now c.args.report.now c.args.proofs.now in
-    let circuit = c.in_ok-circuit.circuit in
-    let classes = c.in_ok-listed.listed.classes in
-    let a = g.D.Desk.view c.args.desk.now in
-    let m = g.D.Desk.view c.read_netlist.new.desk in
-    let n = g.D.Desk.view c.read_checked_tests.new.desk in
-    let netlist : NetlistIsRead names circuit classes a m = record {
-      frame = c.in_ok-circuit.ensures.frame;
-      there = c.in_ok-circuit.ensures.there;
-      good = c.in_ok-circuit.ensures.circuit;
-      is_circuit = c.in_ok-circuit.ensures.well_formed;
-      classes = c.in_ok-listed.ensures.classes;
-      known = λ name. g.met.D.Desk.steady_tells c.args.desk.now name;
-    } in
-    let list = c.in_ok-list.list.list in
-    let tests : TestsAreRead names circuit classes list a m n = record {
-      netlist = netlist;
-      frame = c.in_ok-list.ensures.frame;
-      there = c.in_ok-list.ensures.there;
-      vectors = c.in_ok-list.ensures.list;
-    } in
-    let first = subst (λ (l : List (Option Place)). AreFirstDetections circuit classes list l)
-    (sym c.deref.ensures.value) c.in_ok-places.ensures.first in
-    let o = g.D.Desk.view c.read_report.new.desk in
-    let budget = c.in_ok-claims.claims.budget in
-    let saids = c.in_ok-claims.claims.saids.items in
-    let report : ReportWasRead names circuit classes list budget saids a m n o = record {
-      tests = tests;
-      frame = c.in_ok-claims.ensures.frame;
-      there = c.in_ok-claims.ensures.there;
-      report = c.in_ok-claims.ensures.read list first;
-    } in
-    let cause = proofs_stop names circuit classes list budget saids a m n o report
-    (g.D.Desk.view c.read_proofs.new.desk) c.in_err-read_proofs.field-0.0 c.in_err-read_proofs.ensures.frame
-    (λ text input. c.in_err-read_proofs.ensures.trouble (claimed list budget saids) text refl refl input)
+    let at = goal.at.returns-in_err-read_proofs-clause-cause g c in
+    let content = claimed c.in_ok-list.list.list c.in_ok-claims.claims.budget c.in_ok-claims.claims.saids.items in
+    let report = report_read g at.In_ok-claims (tests_read g at.In_ok-list (netlist_read g at.In_ok-listed))
+    (first_known g at.After-deref) in
+    let cause = proofs_stop _ _ _ _ _ _ _ _ _ _ report (g.D.Desk.view c.read_proofs.new.desk)
+    c.in_err-read_proofs.field-0.0 c.in_err-read_proofs.ensures.frame
+    (λ text input. c.in_err-read_proofs.ensures.trouble content text refl refl input)
     c.in_err-read_proofs.ensures.cause in
     search (rules, cause)
 
@@ -224,37 +190,8 @@ returns-clause-reads g c =
 
 pub returns-clause-inputs : goal.returns-clause-inputs
 returns-clause-inputs g c =
-    let names = check_files_of c.args.netlist.now c.args.tests.now c.args.report.now c.args.proofs.now in
-    let circuit = c.in_ok-circuit.circuit in
-    let classes = c.in_ok-listed.listed.classes in
-    let a = g.D.Desk.view c.args.desk.now in
-    let m = g.D.Desk.view c.read_netlist.new.desk in
-    let n = g.D.Desk.view c.read_checked_tests.new.desk in
-    let netlist : NetlistIsRead names circuit classes a m = record {
-      frame = c.in_ok-circuit.ensures.frame;
-      there = c.in_ok-circuit.ensures.there;
-      good = c.in_ok-circuit.ensures.circuit;
-      is_circuit = c.in_ok-circuit.ensures.well_formed;
-      classes = c.in_ok-listed.ensures.classes;
-      known = λ name. g.met.D.Desk.steady_tells c.args.desk.now name;
-    } in
-    let list = c.in_ok-list.list.list in
-    let tests : TestsAreRead names circuit classes list a m n = record {
-      netlist = netlist;
-      frame = c.in_ok-list.ensures.frame;
-      there = c.in_ok-list.ensures.there;
-      vectors = c.in_ok-list.ensures.list;
-    } in
-    let first = subst (λ (l : List (Option Place)). AreFirstDetections circuit classes list l)
-    (sym c.deref.ensures.value) c.in_ok-places.ensures.first in
-    let o = g.D.Desk.view c.read_report.new.desk in
-    let budget = c.in_ok-claims.claims.budget in
-    let saids = c.in_ok-claims.claims.saids.items in
-    let report : ReportWasRead names circuit classes list budget saids a m n o = record {
-      tests = tests;
-      frame = c.in_ok-claims.ensures.frame;
-      there = c.in_ok-claims.ensures.there;
-      report = c.in_ok-claims.ensures.read list first;
-    } in
-    accepts_all names circuit classes list budget saids a m n o report c.in_ok-read_proofs.ensures.there
-    (c.in_ok-read_proofs.ensures.read (claimed list budget saids) refl refl)
+    let at = goal.at.returns-clause-inputs g c in
+    let content = claimed c.in_ok-list.list.list c.in_ok-claims.claims.budget c.in_ok-claims.claims.saids.items in
+    accepts_all _ _ _ _ _ _ _ _ _ _ (report_read g at.In_ok-claims
+    (tests_read g at.In_ok-list (netlist_read g at.In_ok-listed)) (first_known g at.After-deref))
+    c.in_ok-read_proofs.ensures.there (c.in_ok-read_proofs.ensures.read content refl refl)

@@ -1,15 +1,17 @@
-use Rattle.std.proofs.Common.{◌≡◌, ◌⊎◌, ◌≢◌, ℕ, List, Bool, true, false, length, inl, inr, refl, sym, ◌∙◌, ap, subst, take_all, le_refl}
+use Rattle.std.proofs.Common.{◌≡◌, Some, ◌⊎◌, ◌≢◌, ℕ, List, Bool, true, false, length, inl, inr, refl, sym, ◌∙◌, ap, subst, take_all, le_refl}
 use Rattle.std.specs.Io.KnownBytes.{append_known}
 use Rattle.ht_ports.specs.Desk.{DeskView, Wrote}
 use Rattle.ht_ports.specs.declared.ports.OutPort.TheVariants as out_port
-use Rattle.ht_asked.specs.Asked.{asked, words_of, sim}
+use Rattle.ht_asked.specs.Asked.{Asked, asked, words_of, sim}
 use Rattle.ht_app.specs.Errors.{err_line}
-use Rattle.ht_app.specs.Changed.{ChangedOnly, ports_at}
-use Rattle.ht_app.specs.Run.{SaysOnErr, check_of_names}
+use Rattle.ht_app.specs.Changed.{ChangedOnly, Faultless, ports_at}
+use Rattle.ht_app.specs.Run.{HasCause, SaysOnErr, check_of_names}
 use Rattle.ht_app.proofs.PortsLaws.{changed_by_line}
 use Rattle.ht_app.proofs.AskedLaws.{cause_of_job, job_done, usage_status, asked_status}
 use Rattle.ht_app.proofs.StatusLaws.{finished_not_refused, finished_not_malformed, finished_not_bad, refused_status, malformed_status, bad_status, denied_status, good_status, steady_status, faultless_before, output_status}
+use Rattle.ht_app.proofs.commands.run.Given as given
 use Rattle.ht_app.proofs.commands.run.Goals as goal
+use Rattle.ht_app.proofs.commands.run.Goals.{After-write_line, In-Err}
 
 -- ---- after a finished run
 
@@ -90,60 +92,66 @@ returns-in-Err-clause-asked g c = λ two six.
     c.in-Err.error c.in-Err.ensures.cause
     (λ e. two (c.status.ensures ∙ e)) (λ e. six (c.status.ensures ∙ e))
 
+-- the job that the words ask for has the cause
+job_cause : (g : given.Over) (c : In-Err g) (job : Asked) → asked (words_of c.args.words.now) ≡ Some job
+    → HasCause job (g.D.Desk.view c.args.desk.now) (g.D.Desk.view c.work.new.desk) c.in-Err.error
+job_cause g c job is = cause_of_job (asked (words_of c.args.words.now)) job (g.D.Desk.view c.args.desk.now)
+    (g.D.Desk.view c.work.new.desk) c.in-Err.error is c.in-Err.ensures.cause
+
+-- where no fault was counted in all, none was in the work
+faultless_work : (g : given.Over) (c : After-write_line g)
+    → Faultless (g.D.Desk.view c.args.desk.now) (g.D.Desk.view c.write_line.new.desk)
+    → Faultless (g.D.Desk.view c.args.desk.now) (g.D.Desk.view c.work.new.desk)
+faultless_work g c none = faultless_before (g.D.Desk.view c.args.desk.now) (g.D.Desk.view c.work.new.desk)
+    (g.D.Desk.view c.write_line.new.desk) c.write_line.ensures.frame.call.after none
+
 pub returns-in-Err-clause-refused : goal.returns-in-Err-clause-refused
 returns-in-Err-clause-refused g c = λ job name is reads bad.
-    let a = g.D.Desk.view c.args.desk.now in
-    let m = g.D.Desk.view c.work.new.desk in
-    let cause = cause_of_job (asked (words_of c.args.words.now)) job a m c.in-Err.error is c.in-Err.ensures.cause in
+    let at = goal.at.returns-in-Err-clause-refused g c in
+    let cause = job_cause g at.In-Err job is in
     subst (λ (s : ℕ). (s ≡ 3) ⊎ (s ≡ 4) ⊎ (s ≡ 6)) (sym c.status.ensures)
-    (refused_status job name a m c.in-Err.error cause reads bad)
+    (refused_status job name (g.D.Desk.view c.args.desk.now) (g.D.Desk.view c.work.new.desk)
+    c.in-Err.error cause reads bad)
 
 pub returns-in-Err-clause-malformed : goal.returns-in-Err-clause-malformed
 returns-in-Err-clause-malformed g c = λ netlist tests report is bad.
-    let a = g.D.Desk.view c.args.desk.now in
-    let m = g.D.Desk.view c.work.new.desk in
-    let cause = cause_of_job (asked (words_of c.args.words.now)) (sim netlist tests report) a m c.in-Err.error is
-    c.in-Err.ensures.cause in
+    let at = goal.at.returns-in-Err-clause-malformed g c in
+    let cause = job_cause g at.In-Err (sim netlist tests report) is in
     subst (λ (s : ℕ). (s ≡ 7) ⊎ (s ≡ 4) ⊎ (s ≡ 6)) (sym c.status.ensures)
-    (malformed_status netlist tests report a m c.in-Err.error cause bad)
+    (malformed_status netlist tests report (g.D.Desk.view c.args.desk.now) (g.D.Desk.view c.work.new.desk)
+    c.in-Err.error cause bad)
 
 pub returns-in-Err-clause-invalid : goal.returns-in-Err-clause-invalid
 returns-in-Err-clause-invalid g c = λ names is bad.
-    let a = g.D.Desk.view c.args.desk.now in
-    let m = g.D.Desk.view c.work.new.desk in
-    let cause = cause_of_job (asked (words_of c.args.words.now)) (check_of_names names) a m c.in-Err.error is
-    c.in-Err.ensures.cause in
+    let at = goal.at.returns-in-Err-clause-invalid g c in
+    let cause = job_cause g at.In-Err (check_of_names names) is in
     subst (λ (s : ℕ). (s ≡ 1) ⊎ (s ≡ 4) ⊎ (s ≡ 6)) (sym c.status.ensures)
-    (bad_status names a m c.in-Err.error cause bad)
+    (bad_status names (g.D.Desk.view c.args.desk.now) (g.D.Desk.view c.work.new.desk)
+    c.in-Err.error cause bad)
 
 pub returns-in-Err-clause-denied : goal.returns-in-Err-clause-denied
 returns-in-Err-clause-denied g c = λ names is bad none.
-    let a = g.D.Desk.view c.args.desk.now in
-    let m = g.D.Desk.view c.work.new.desk in
-    let b = g.D.Desk.view c.write_line.new.desk in
-    let after = c.write_line.ensures.frame.call.after in
-    let cause = cause_of_job (asked (words_of c.args.words.now)) (check_of_names names) a m c.in-Err.error is
-    c.in-Err.ensures.cause in
+    let at = goal.at.returns-in-Err-clause-denied g c in
+    let cause = job_cause g at.In-Err (check_of_names names) is in
     subst (λ (s : ℕ). (s ≡ 1) ⊎ (s ≡ 6)) (sym c.status.ensures)
-    (denied_status names a m c.in-Err.error cause bad (faultless_before a m b after none))
+    (denied_status names (g.D.Desk.view c.args.desk.now) (g.D.Desk.view c.work.new.desk)
+    c.in-Err.error cause bad (faultless_work g at.After-write_line none))
 
 pub returns-in-Err-clause-complete : goal.returns-in-Err-clause-complete
 returns-in-Err-clause-complete g c = λ job is are none.
-    let a = g.D.Desk.view c.args.desk.now in
-    let m = g.D.Desk.view c.work.new.desk in
-    let b = g.D.Desk.view c.write_line.new.desk in
-    let after = c.write_line.ensures.frame.call.after in
-    let cause = cause_of_job (asked (words_of c.args.words.now)) job a m c.in-Err.error is c.in-Err.ensures.cause in
+    let at = goal.at.returns-in-Err-clause-complete g c in
+    let cause = job_cause g at.In-Err job is in
     subst (λ (s : ℕ). (s ≡ 0) ⊎ (s ≡ 6)) (sym c.status.ensures)
-    (good_status job a m c.in-Err.error cause are (faultless_before a m b after none))
+    (good_status job (g.D.Desk.view c.args.desk.now) (g.D.Desk.view c.work.new.desk)
+    c.in-Err.error cause are (faultless_work g at.After-write_line none))
 
 pub returns-in-Err-clause-steady : goal.returns-in-Err-clause-steady
 returns-in-Err-clause-steady g c = λ job is steady holds.
-    let a = g.D.Desk.view c.args.desk.now in
-    let m = g.D.Desk.view c.work.new.desk in
-    let cause = cause_of_job (asked (words_of c.args.words.now)) job a m c.in-Err.error is c.in-Err.ensures.cause in
+    let at = goal.at.returns-in-Err-clause-steady g c in
+    let cause = job_cause g at.In-Err job is in
     subst (λ (s : ℕ). (s ≢ 4) × (s ≢ 5)) (sym c.status.ensures)
-    (steady_status job a m c.in-Err.error cause steady holds)
+    (steady_status job (g.D.Desk.view c.args.desk.now) (g.D.Desk.view c.work.new.desk)
+    c.in-Err.error cause steady holds)
 
 pub returns-in-Err-clause-demo : goal.returns-in-Err-clause-demo
 returns-in-Err-clause-demo g c = λ size seed is.

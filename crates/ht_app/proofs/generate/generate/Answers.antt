@@ -1,6 +1,9 @@
 use Rattle.std.proofs.Common.{◌≡◌, ℕ, inl, refl, sym, ◌∙◌, ap, subst, rules}
+use Rattle.ht_ports.specs.Desk.{InCall}
+use Rattle.ht_ports.specs.declared.ports.InPort.TheVariants as in_port
 use Rattle.ht_ports.specs.declared.ports.OutPort.TheVariants as out_port
 use Rattle.ht_asked.specs.Asked.{gen}
+use Rattle.ht_app.specs.declared.run_error.RunError.{RunError}
 use Rattle.ht_app.specs.declared.run_error.RunError.TheVariants.{NoMemory}
 use Rattle.ht_app.specs.FileTexts.{file_names_of}
 use Rattle.ht_app.specs.Changed.{ChangedOnly, job_ports}
@@ -9,16 +12,27 @@ use Rattle.ht_app.specs.Run.{HasCause}
 use Rattle.ht_app.specs.Steps.{status_after}
 use Rattle.ht_app.proofs.CauseLaws.{accepts_netlist, netlist_cause}
 use Rattle.ht_app.proofs.GenLaws.{done_changed, gen_done, left_cause, left_changed, left_files, options_of, refused_changed}
+use Rattle.ht_app.proofs.generate.generate.Given as given
 use Rattle.ht_app.proofs.generate.generate.Goals as goal
+use Rattle.ht_app.proofs.generate.generate.Goals.{After-read_netlist}
+
+-- the netlist alone was read
+read_alone : (g : given.Over) (c : After-read_netlist g) (error : RunError)
+    → InCall in_port.Netlist (g.D.Desk.view c.args.desk.now) (g.D.Desk.view c.read_netlist.new.desk)
+    → ChangedOnly (job_ports (gen c.args.netlist.now c.args.tests.now c.args.report.now c.args.proofs.now
+    (options_of c.args.budget c.args.random c.args.seed)) (exit_status error)) (g.D.Desk.view c.args.desk.now)
+    (g.D.Desk.view c.read_netlist.new.desk)
+read_alone g c error frame = refused_changed c.args.netlist.now
+    (file_names_of c.args.tests.now c.args.report.now c.args.proofs.now)
+    (options_of c.args.budget c.args.random c.args.seed) error (g.D.Desk.view c.args.desk.now)
+    (g.D.Desk.view c.read_netlist.new.desk) frame
 
 -- ---- the netlist is refused, or can't be read
 
 pub returns-in_err-circuit-clause-changed : goal.returns-in_err-circuit-clause-changed
 returns-in_err-circuit-clause-changed g c =
-    let options = options_of c.args.budget c.args.random c.args.seed in
-    let names = file_names_of c.args.tests.now c.args.report.now c.args.proofs.now in
-    let changed = refused_changed c.args.netlist.now names options c.in_err-circuit.field-0.0
-    (g.D.Desk.view c.args.desk.now) (g.D.Desk.view c.read_netlist.new.desk) c.in_err-circuit.ensures.frame in
+    let at = (goal.at.returns-in_err-circuit-clause-changed g c).After-read_netlist in
+    let changed = read_alone g at c.in_err-circuit.field-0.0 c.in_err-circuit.ensures.frame in
     search (rules, changed)
 
 pub returns-in_err-circuit-clause-quiet : goal.returns-in_err-circuit-clause-quiet
@@ -37,10 +51,8 @@ returns-in_err-circuit-clause-cause g c =
 
 pub returns-in_err-listed-clause-changed : goal.returns-in_err-listed-clause-changed
 returns-in_err-listed-clause-changed g c =
-    let options = options_of c.args.budget c.args.random c.args.seed in
-    let names = file_names_of c.args.tests.now c.args.report.now c.args.proofs.now in
-    let changed = refused_changed c.args.netlist.now names options NoMemory (g.D.Desk.view c.args.desk.now)
-    (g.D.Desk.view c.read_netlist.new.desk) c.in_ok-circuit.ensures.frame in
+    let at = (goal.at.returns-in_err-listed-clause-changed g c).After-read_netlist in
+    let changed = read_alone g at NoMemory c.in_ok-circuit.ensures.frame in
     search (rules, changed)
 
 pub returns-in_err-listed-clause-quiet : goal.returns-in_err-listed-clause-quiet

@@ -8,6 +8,7 @@ use std::alloc::{AllocError, Global};
 use std::test::Fail;
 
 // The four files; a report that isn't there can't be opened.
+#[derive(Drop)]
 struct Files<'a> {
     netlist: &'a [u8],
     tests: &'a [u8],
@@ -15,13 +16,11 @@ struct Files<'a> {
     proofs: &'a [u8],
 }
 
-// The files, and what must come out: the status, what is on Out and on Err.
-struct Example<'a> {
-    files: Files<'a>,
-    status: u8,
-    out: &'a [u8],
-    err: &'a [u8],
-}
+// The status of a run, and its one line, which is on Out where the files are valid, and else on Err.
+type Answer<'a> = (u8, &'a [u8]);
+
+// The files, and what must come out.
+type Example<'a> = (Files<'a>, Answer<'a>);
 
 fn load(desk: &mut MemoryDesk, files: &Files<'_>) -> Result<(), AllocError> {
     desk.put("n", files.netlist)?;
@@ -33,25 +32,31 @@ fn load(desk: &mut MemoryDesk, files: &Files<'_>) -> Result<(), AllocError> {
     Ok(())
 }
 
-// Whether the desk has this on Out and on Err.
-fn says(desk: &MemoryDesk, example: &Example<'_>) -> bool {
-    desk.out() == example.out && desk.err() == example.err
+// Whether the desk has the line, and nothing else.
+fn says(desk: &MemoryDesk, answer: Answer<'_>) -> bool {
+    let (status, line) = answer;
+    if status == 0 {
+        desk.out() == line && desk.err().is_empty()
+    } else {
+        desk.out().is_empty() && desk.err() == line
+    }
 }
 
 fn answers_on(
     alloc: Global,
     desk: &mut MemoryDesk,
-    example: &Example<'_>,
+    files: &Files<'_>,
+    answer: Answer<'_>,
 ) -> Result<bool, AllocError> {
     let words = words_of(alloc, &["check", "n", "t", "r", "p"])?;
-    load(desk, &example.files)?;
+    load(desk, files)?;
     let status = run(alloc, &words, desk);
-    Ok(status == example.status && says(desk, example))
+    Ok(status == answer.0 && says(desk, answer))
 }
 
-fn answers(alloc: Global, example: &Example<'_>) -> Result<bool, AllocError> {
+fn answers(alloc: Global, files: &Files<'_>, answer: Answer<'_>) -> Result<bool, AllocError> {
     let mut desk = MemoryDesk::new(alloc);
-    answers_on(alloc, &mut desk, example)
+    answers_on(alloc, &mut desk, files, answer)
 }
 
 const ZERO_REPORT: &[u8] =
@@ -67,105 +72,87 @@ const ZERO_PROOFS: &[u8] = b"proofs 1\n\
     entry 3 untestable\nwalk\nhi 1\ndead\ndead\n\
     end\n";
 
+// Reports and proofs of `ALWAYS_ZERO` with the tests `1` and `0`, and what is answered.
+const ZERO_ROWS: &[(Option<&[u8]>, &[u8], Answer<'static>)] = &[
+    (Some(ZERO_REPORT), ZERO_PROOFS, (0, b"valid\n")),
+    (None, ZERO_PROOFS, (4, b"read fault\n")),
+    // The first vector detects fault 4.
+    (
+        Some(
+            b"circuit inputs 1 outputs 1 flip-flops 0 gates 2 faults 10 classes 6 budget 1000\n\
+            1 a s-a-0 untestable\n2 a s-a-1 untestable\n3 n s-a-0 untestable\n\
+            4 n s-a-1 detected 2 z\n",
+        ),
+        ZERO_PROOFS,
+        (1, b"denied: report line 5\n"),
+    ),
+    // A word that is none.
+    (
+        Some(ZERO_REPORT),
+        b"proofs 1\n\
+            entry 1 untestable\nwalk\nhi 1\ndead\ndead\n\
+            entry 2 untestable\nwalk\nhi 1\ndead\ndead\n\
+            entry 3 untestable\nwalk\nhi 1\ndeaf\ndead\n\
+            end\n",
+        (1, b"denied: proofs line 15\n"),
+    ),
+    // The walk of entry 3 isn't complete.
+    (
+        Some(ZERO_REPORT),
+        b"proofs 1\n\
+            entry 1 untestable\nwalk\nhi 1\ndead\ndead\n\
+            entry 2 untestable\nwalk\nhi 1\ndead\ndead\n\
+            entry 3 untestable\nwalk\nhi 1\ndead\n\
+            end\n",
+        (1, b"denied: fault 3\n"),
+    ),
+    // Entry 1 is missing, and so is entry 2: the first is named, as entry 3 begins.
+    (
+        Some(ZERO_REPORT),
+        b"proofs 1\nentry 3 untestable\nwalk\nhi 1\ndeaf\n",
+        (1, b"denied: fault 1\n"),
+    ),
+];
+
+fn zero_answers(
+    alloc: Global,
+    report: Option<&[u8]>,
+    proofs: &[u8],
+    answer: Answer<'_>,
+) -> Result<bool, AllocError> {
+    let files = Files {
+        netlist: ALWAYS_ZERO,
+        tests: b"1\n0\n",
+        report,
+        proofs,
+    };
+    answers(alloc, &files, answer)
+}
+
+#[test]
+fn check_answers_whether_proofs_and_report_are_valid(rt: HostRuntime) -> Result<(), Fail> {
+    let alloc = rt.alloc();
+    for row in ZERO_ROWS {
+        let (report, proofs, answer) = *row;
+        assert!(rt; zero_answers(alloc, report, proofs, answer)?);
+    }
+    Ok(())
+}
+
 const EXAMPLES: &[Example<'static>] = &[
-    Example {
-        files: Files {
-            netlist: ALWAYS_ZERO,
-            tests: b"1\n0\n",
-            report: Some(ZERO_REPORT),
-            proofs: ZERO_PROOFS,
-        },
-        status: 0,
-        out: b"valid\n",
-        err: b"",
-    },
     // Malformed tests are denied also where there is no report.
-    Example {
-        files: Files {
+    (
+        Files {
             netlist: ALWAYS_ZERO,
             tests: b"1\n2\n",
             report: None,
             proofs: ZERO_PROOFS,
         },
-        status: 1,
-        out: b"",
-        err: b"denied: tests line 2\n",
-    },
-    Example {
-        files: Files {
-            netlist: ALWAYS_ZERO,
-            tests: b"1\n0\n",
-            report: None,
-            proofs: ZERO_PROOFS,
-        },
-        status: 4,
-        out: b"",
-        err: b"read fault\n",
-    },
-    // The first vector detects fault 4.
-    Example {
-        files: Files {
-            netlist: ALWAYS_ZERO,
-            tests: b"1\n0\n",
-            report: Some(
-                b"circuit inputs 1 outputs 1 flip-flops 0 gates 2 faults 10 classes 6 budget 1000\n\
-                1 a s-a-0 untestable\n2 a s-a-1 untestable\n3 n s-a-0 untestable\n\
-                4 n s-a-1 detected 2 z\n",
-            ),
-            proofs: ZERO_PROOFS,
-        },
-        status: 1,
-        out: b"",
-        err: b"denied: report line 5\n",
-    },
-    // A word that is none.
-    Example {
-        files: Files {
-            netlist: ALWAYS_ZERO,
-            tests: b"1\n0\n",
-            report: Some(ZERO_REPORT),
-            proofs: b"proofs 1\n\
-                entry 1 untestable\nwalk\nhi 1\ndead\ndead\n\
-                entry 2 untestable\nwalk\nhi 1\ndead\ndead\n\
-                entry 3 untestable\nwalk\nhi 1\ndeaf\ndead\n\
-                end\n",
-        },
-        status: 1,
-        out: b"",
-        err: b"denied: proofs line 15\n",
-    },
-    // The walk of entry 3 isn't complete.
-    Example {
-        files: Files {
-            netlist: ALWAYS_ZERO,
-            tests: b"1\n0\n",
-            report: Some(ZERO_REPORT),
-            proofs: b"proofs 1\n\
-                entry 1 untestable\nwalk\nhi 1\ndead\ndead\n\
-                entry 2 untestable\nwalk\nhi 1\ndead\ndead\n\
-                entry 3 untestable\nwalk\nhi 1\ndead\n\
-                end\n",
-        },
-        status: 1,
-        out: b"",
-        err: b"denied: fault 3\n",
-    },
-    // Entry 1 is missing, and so is entry 2: the first is named, as entry 3 begins.
-    Example {
-        files: Files {
-            netlist: ALWAYS_ZERO,
-            tests: b"1\n0\n",
-            report: Some(ZERO_REPORT),
-            proofs: b"proofs 1\n\
-                entry 3 untestable\nwalk\nhi 1\ndeaf\n",
-        },
-        status: 1,
-        out: b"",
-        err: b"denied: fault 1\n",
-    },
+        (1, b"denied: tests line 2\n"),
+    ),
     // The report says that the fault is untestable, and its entry is that of an aborted one.
-    Example {
-        files: Files {
+    (
+        Files {
             netlist: TOGGLE,
             tests: b"",
             report: Some(
@@ -179,13 +166,11 @@ const EXAMPLES: &[Example<'static>] = &[
                 sweep\nlength 1\ndead\nlength 2\ndead\nlength 3\ndead\nlength 4\ndead\nlength 5\n\
                 end\n",
         },
-        status: 1,
-        out: b"",
-        err: b"denied: fault 1\n",
-    },
+        (1, b"denied: fault 1\n"),
+    ),
     // The entry of a detected fault isn't judged.
-    Example {
-        files: Files {
+    (
+        Files {
             netlist: WIRES,
             tests: b"10\n01\n",
             report: Some(
@@ -195,13 +180,11 @@ const EXAMPLES: &[Example<'static>] = &[
             ),
             proofs: b"proofs 1\nentry 2 untestable\nwalk\nend\n",
         },
-        status: 0,
-        out: b"valid\n",
-        err: b"",
-    },
+        (0, b"valid\n"),
+    ),
     // The proofs end too early.
-    Example {
-        files: Files {
+    (
+        Files {
             netlist: b"",
             tests: b"",
             report: Some(
@@ -210,17 +193,15 @@ const EXAMPLES: &[Example<'static>] = &[
             ),
             proofs: b"proofs 1\n",
         },
-        status: 1,
-        out: b"",
-        err: b"denied: proofs line 2\n",
-    },
+        (1, b"denied: proofs line 2\n"),
+    ),
 ];
 
 #[test]
 fn check_answers_whether_files_are_valid(rt: HostRuntime) -> Result<(), Fail> {
     let alloc = rt.alloc();
     for example in EXAMPLES {
-        assert!(rt; answers(alloc, example)?);
+        assert!(rt; answers(alloc, &example.0, example.1)?);
     }
     Ok(())
 }

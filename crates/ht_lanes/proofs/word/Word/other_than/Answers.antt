@@ -2,13 +2,10 @@ use Rattle.ht_lanes.proofs.QueryLaws.{other_than_zero, other_than_one, other_tha
 use Rattle.ht_lanes.proofs.word.Word.other_than.Goals as goal
 
 pub returns-in-Zero : goal.returns-in-Zero
-returns-in-Zero c k below = rw c.in-Zero.is
-    (other_than_zero c.args.self c.self.inside.zero c.self.inside.one k below c.self.invariant c.self.view_is)
+returns-in-Zero c k below = rw c.in-Zero.is (other_than_zero _ _ _ k below c.self.invariant c.self.view_is)
 
 pub returns-in-One : goal.returns-in-One
-returns-in-One c k below = rw c.in-One.is
-    (other_than_one c.args.self c.self.inside.zero c.self.inside.one k below c.self.invariant c.self.view_is)
+returns-in-One c k below = rw c.in-One.is (other_than_one _ _ _ k below c.self.invariant c.self.view_is)
 
 pub returns-in-Unk : goal.returns-in-Unk
-returns-in-Unk c k below = rw c.in-Unk.is
-    (other_than_unknown c.args.self c.self.inside.zero c.self.inside.one k below c.self.invariant c.self.view_is)
+returns-in-Unk c k below = rw c.in-Unk.is (other_than_unknown _ _ _ k below c.self.invariant c.self.view_is)
