@@ -1,0 +1,2 @@
+pub mod VectorLaws
+pub mod LaneLaws

@@ -1,5 +1,5 @@
 -- What one more vector makes of a grader.
-use Rattle.std.specs.Prelude.{◌≡◌, ◌<◌, ◌+◌, ◌/◌, ℕ, List, [], Bool, true, Option, Some, None, length}
+use Rattle.std.specs.Prelude.{◌≡◌, ◌<◌, ◌+◌, ◌-◌, ◌/◌, ℕ, List, [], Bool, true, Option, Some, None, length}
 use Rattle.std.specs.Option.{is_none}
 use Rattle.std.specs.List.{slice_get, count_by}
 use Rattle.ht_tern.specs.declared.tern.Tern.{Tern}
@@ -9,7 +9,7 @@ use Rattle.ht_net.specs.declared.place.Place.{Place}
 use Rattle.ht_net.specs.Frame.{next_state}
 use Rattle.ht_net.specs.Faults.{tern_rules}
 use Rattle.ht_net.specs.Detection.{terns_of}
-use Rattle.ht_group.specs.GroupView.{GroupView, FaultyMachine, good_output, faulty_output}
+use Rattle.ht_group.specs.GroupView.{GroupView, FaultyMachine, good_output, faulty_output, max_machines}
 use Rattle.ht_proofs.specs.Grades.{Grades, verdict_at, state_at}
 
 -- the next frame of the good machine, and the machine of fault k before it
@@ -59,9 +59,9 @@ pub record IsApplied (g : Grades) (vector : List Bool) (h : Grades) : Type 0 whe
       → state_at h k ≡ faulty_state (grader_frame g vector) (machine_at g k fault)
   pub goes_on : h.live ≡ true
 
--- how many groups of 64 so many faults make
+-- how many groups so many faults make
 abbrev pub full_groups : ℕ → ℕ
-full_groups count = (count + 63) / 64
+full_groups count = (count + (max_machines - 1)) / max_machines
 
 -- how many groups the faults make that aren't detected
 abbrev pub groups_of : Grades → ℕ

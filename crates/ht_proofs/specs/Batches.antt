@@ -1,11 +1,11 @@
--- How the undetected faults of a frame go through the lanes of a group, 64 at a time.
+-- How the undetected faults of a frame go through the lanes of a group.
 use Rattle.std.specs.Prelude.{◌≡◌, ◌<◌, ◌≤◌, ◌+◌, ◌*◌, ℕ, List, Option, Some, None, length, get_or, take}
 use Rattle.std.specs.Option.{is_none}
 use Rattle.std.specs.List.{slice_get, count_by}
 use Rattle.ht_net.specs.declared.fault.Fault.{Fault}
 use Rattle.ht_net.specs.declared.place.Place.{Place}
 use Rattle.ht_diff.specs.Differences.{with_differences}
-use Rattle.ht_group.specs.GroupView.{GroupView, FaultyMachine, AreKnown}
+use Rattle.ht_group.specs.GroupView.{GroupView, FaultyMachine, AreLatches, max_machines}
 use Rattle.ht_proofs.specs.LaneGrades.{no_grade, grade_at, lane_grade, HasNoLane, AreLaneFaults, IsGradedFault}
 use Rattle.ht_proofs.specs.declared.grade.Grade.{Grade}
 
@@ -20,7 +20,7 @@ pub record AreLanesBelow (i : ℕ) (batch : BatchView) (grades : List Grade) : T
   pub machines : length batch.group.machines ≡ length batch.lanes
   pub below : (k : ℕ) → k < length batch.lanes → get_or batch.lanes k 0 < i
   pub moved : (k : ℕ) → k < length batch.lanes → lane_grade grades batch.lanes k ≡ no_grade
-  pub known : (j : ℕ) → AreKnown batch.group.circuit (grade_at grades j).diffs
+  pub known : (j : ℕ) → AreLatches batch.group.circuit (grade_at grades j).diffs
 
 -- the machine of a fault in a frame, from what was kept of the fault before it
 abbrev pub machine_from : GroupView → Fault → Grade → FaultyMachine
@@ -30,7 +30,7 @@ machine_from frame fault grade = record { fault = fault; latches = with_differen
 abbrev pub undetected_count : List Grade → ℕ
 undetected_count grades = count_by (λ (g : Grade). is_none g.verdict) grades
 
--- The faults below i of a list went through a frame, but for those that are still in lanes, in full groups of 64.
+-- The faults below i of a list went through a frame, but for those that are still in lanes, in full groups.
 pub record ArePassed (frame : GroupView) (faults : List Fault) (number : ℕ) (old : List Grade) (i : ℕ)
     (batch : BatchView) (new : List Grade) : Type 0 where
   pub circuit_same : batch.group.circuit ≡ frame.circuit
@@ -53,8 +53,8 @@ pub record IsGradedFrame (frame : GroupView) (faults : List Fault) (number : ℕ
   pub graded : (j : ℕ) (fault : Fault) → slice_get faults j ≡ Some fault → (grade_at old j).verdict ≡ None
       → IsGradedFault frame (machine_from frame fault (grade_at old j)) number (grade_at new j)
 
--- Groups of 64 were graded, and each took at most as many evaluations as there are gates.
+-- Full groups were graded, and each took at most as many evaluations as there are gates.
 pub record AreCounted (gates : ℕ) (old : List Grade) (i waiting before after : ℕ) : Type 0 where
   pub groups : ℕ
-  pub full : 64 * groups + waiting ≡ undetected_count (take i old)
+  pub full : max_machines * groups + waiting ≡ undetected_count (take i old)
   pub steps : after ≤ before + gates * groups

@@ -6,7 +6,7 @@ use Rattle.ht_net.specs.declared.fault.Fault.{Fault}
 use Rattle.ht_net.specs.declared.place.Place.{Place}
 use Rattle.ht_net.specs.Netlist.{Netlist}
 use Rattle.ht_diff.specs.Differences.{with_differences}
-use Rattle.ht_group.specs.GroupView.{IsWithin, AreKnown}
+use Rattle.ht_group.specs.GroupView.{HasSite, AreLatches}
 use Rattle.ht_proofs.specs.Grades.{Grades}
 use Rattle.ht_proofs.specs.LaneGrades.{grade_at}
 use Rattle.ht_proofs.specs.declared.grade.Grade.{Grade}
@@ -38,12 +38,12 @@ pub record IsGrader (c : Netlist) (faults : List Fault) (count : ℕ) (latches :
   pub latch_count : length latches ≡ length c.dffs
   pub verdict_count : length verdicts ≡ length faults
   pub grade_count : length grades ≡ length faults
-  pub sites : (k : ℕ) (fault : Fault) → slice_get faults k ≡ Some fault → IsWithin c fault.site
+  pub sites : (k : ℕ) (fault : Fault) → slice_get faults k ≡ Some fault → HasSite c fault.site
   pub few : count ≤ 2 ^ 62
   pub places : (k : ℕ) (p : Place) → get_or verdicts k None ≡ Some p
       → (p.vector < count) × (p.output < length c.outputs)
   pub same : live ≡ true → verdicts ≡ verdicts_of grades
-  pub known : live ≡ true → (k : ℕ) → AreKnown c (grade_at grades k).diffs
+  pub known : live ≡ true → (k : ℕ) → AreLatches c (grade_at grades k).diffs
 
 abbrev pub AreGraded : Inside → Type 0
 AreGraded a =

@@ -5,7 +5,7 @@ use Rattle.ht_tern.specs.declared.tern.Tern.{Tern}
 use Rattle.ht_net.specs.declared.place.Place.{Place}
 use Rattle.ht_diff.specs.declared.diffs.Diff.{Diff}
 use Rattle.ht_diff.specs.Differences.{same_value, with_differences}
-use Rattle.ht_group.specs.GroupView.{GroupView, FaultyMachine, AreKnown}
+use Rattle.ht_group.specs.GroupView.{GroupView, FaultyMachine, AreLatches, max_machines}
 use Rattle.ht_proofs.specs.Applied.{IsFirstSeen, good_state, faulty_state}
 use Rattle.ht_proofs.specs.declared.grade.Grade.{Grade}
 
@@ -25,9 +25,9 @@ lane_grade grades lanes k = grade_at grades (get_or lanes k 0)
 abbrev pub HasNoLane : List ℕ → ℕ → Type 0
 HasNoLane lanes i = (k : ℕ) → k < length lanes → get_or lanes k 0 ≢ i
 
--- at most 64 lanes, each with another of the faults
+-- as many lanes as a group may have, each with another of the faults
 pub record AreLaneFaults (lanes : List ℕ) (grades : List Grade) : Type 0 where
-  pub few : length lanes ≤ 64
+  pub few : length lanes ≤ max_machines
   pub known : (k : ℕ) → k < length lanes → get_or lanes k 0 < length grades
   pub differ : (j k : ℕ) → j < k → k < length lanes → get_or lanes j 0 ≢ get_or lanes k 0
 
@@ -61,11 +61,11 @@ with_latch latch good value grade =
 pub record HoldsLatches (frame : GroupView) (m : FaultyMachine) (place : Option Place) (grade : Grade) : Type 0 where
   pub verdict_same : grade.verdict ≡ place
   pub state : place ≡ None → with_differences (good_state frame) grade.diffs ≡ faulty_state frame m
-  pub known : AreKnown frame.circuit grade.diffs
+  pub known : AreLatches frame.circuit grade.diffs
 
 -- What is kept of a fault after a frame: the place where it is first seen, and if there is none the latches of its
 -- machine.
 pub record IsGradedFault (frame : GroupView) (m : FaultyMachine) (number : ℕ) (grade : Grade) : Type 0 where
   pub seen : IsFirstSeen frame m number (length frame.circuit.outputs) grade.verdict
   pub state : grade.verdict ≡ None → with_differences (good_state frame) grade.diffs ≡ faulty_state frame m
-  pub known : AreKnown frame.circuit grade.diffs
+  pub known : AreLatches frame.circuit grade.diffs

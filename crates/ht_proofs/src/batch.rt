@@ -3,7 +3,7 @@ ghost use Rattle.std.specs.Prelude.{◌≡◌, ◌<◌, ◌≤◌, ◌+◌, ◌*
 ghost use Rattle.std.specs.List.{slice_get};
 ghost use Rattle.ht_net.specs.declared.fault.Fault.{Fault};
 ghost use Rattle.ht_net.specs.Detection.{terns_of};
-ghost use Rattle.ht_group.specs.GroupView.{AreKnown, FaultyMachine, GroupView, IsWithin};
+ghost use Rattle.ht_group.specs.GroupView.{AreLatches, FaultyMachine, GroupView, HasSite, max_machines};
 ghost use Rattle.ht_proofs.specs.declared.grade.Grade.{Grade};
 ghost use Rattle.ht_proofs.specs.Applied.{IsFirstSeen, full_groups, good_state};
 ghost use Rattle.ht_proofs.specs.LaneGrades.{AreLaneFaults, HasNoLane, HoldsLatches, IsGradedFault, grade_at, lane_grade};
@@ -11,14 +11,11 @@ ghost use Rattle.ht_proofs.specs.Batches.{AreCounted, AreLanesBelow, ArePassed, 
 
 use crate::grade::{Grade, note_latch, note_place};
 use crate::steps::Steps;
-use ht_group::Group;
+use ht_group::{Group, MAX_MACHINES};
 use ht_net::{Circuit, Fault, Place};
 use ht_tern::Tern;
 use std::alloc::{AllocError, Global};
 use std::marker::Model;
-
-/// How many machines run side by side.
-const LANES: usize = 64;
 
 /// A group and the number of the fault in each of its lanes.
 #[derive(Drop)]
@@ -155,9 +152,9 @@ impl<'c> Batch<'c> {
 
     // Gives fault `i` the next lane. What is kept of it goes into its machine.
     fn add(&mut self, fault: Fault, i: usize, grade: &mut Grade) -> Result<(), AllocError>
-        requires room { length self.old.group.machines < 64 }
-        requires site { IsWithin self.old.group.circuit fault.site }
-        requires known { AreKnown self.old.group.circuit grade.old.diffs }
+        requires room { length self.old.group.machines < max_machines }
+        requires site { HasSite self.old.group.circuit fault.site }
+        requires known { AreLatches self.old.group.circuit grade.old.diffs }
         ensures group { OnOk result (self.new.group ≡ record self.old.group {
           machines = self.old.group.machines
               ++ machine_from self.old.group fault grade.old ∷ [];
@@ -183,11 +180,11 @@ impl<'c> Batch<'c> {
         steps: &mut Steps,
     ) -> Result<(), AllocError>
         requires known { i < length grades.old }
-        requires site { IsWithin self.old.group.circuit fault.site }
+        requires site { HasSite self.old.group.circuit fault.site }
         requires lanes { AreLanesBelow i self.old grades.old }
-        requires room { length self.old.lanes < 64 }
+        requires room { length self.old.lanes < max_machines }
         ensures lanes { OnOk result (AreLanesBelow (i + 1) self.new grades.new) }
-        ensures room { OnOk result (length self.new.lanes < 64) }
+        ensures room { OnOk result (length self.new.lanes < max_machines) }
         ensures passed { OnOk result ((frame : GroupView) (faults : List Fault) (before : List Grade)
             → slice_get faults i ≡ Some fault
             → ArePassed frame faults number before i self.old grades.old
@@ -206,7 +203,7 @@ impl<'c> Batch<'c> {
             return Ok(());
         }
         self.add(fault, i, &mut grades[i])?;
-        if self.lanes.len() < LANES {
+        if self.group.len() < MAX_MACHINES {
             return Ok(());
         }
         self.grade_lanes(number, grades, steps)
@@ -225,14 +222,14 @@ impl<'c> Batch<'c> {
     ) -> Result<(), AllocError>
         requires each { length faults.now ≡ length grades.old }
         requires sites { (k : ℕ) (fault : Fault) → slice_get faults.now k ≡ Some fault
-            → IsWithin self.old.group.circuit fault.site }
+            → HasSite self.old.group.circuit fault.site }
         requires known { (k : ℕ)
-            → AreKnown self.old.group.circuit (grade_at grades.old k).diffs }
+            → AreLatches self.old.group.circuit (grade_at grades.old k).diffs }
         requires started { (self.old.lanes ≡ []) × (self.old.group.machines ≡ []) }
         ensures passed { OnOk result (IsGradedFrame self.old.group faults.now number grades.old
             grades.new) }
         ensures known { OnOk result ((k : ℕ)
-            → AreKnown self.old.group.circuit (grade_at grades.new k).diffs) }
+            → AreLatches self.old.group.circuit (grade_at grades.new k).diffs) }
         ensures good { OnOk result (good_state self.new.group ≡ good_state self.old.group) }
         ensures circuit { self.new.group.circuit ≡ self.old.group.circuit }
         ensures steps { steps.new.count ≤ steps.old.count
