@@ -1,2 +1,5 @@
 pub mod VectorLaws
 pub mod LaneLaws
+pub mod SeenLaws
+pub mod DiffLaws
+pub mod FrameLoopLaws
