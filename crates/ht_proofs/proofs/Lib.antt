@@ -3,3 +3,4 @@ pub mod LaneLaws
 pub mod SeenLaws
 pub mod DiffLaws
 pub mod FrameLoopLaws
+pub mod BatchLaws

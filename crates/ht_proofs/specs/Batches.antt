@@ -1,5 +1,5 @@
 -- How the undetected faults of a frame go through the lanes of a group.
-use Rattle.std.specs.Prelude.{◌≡◌, ◌<◌, ◌≤◌, ◌+◌, ◌*◌, ℕ, List, Option, Some, None, length, get_or, take}
+use Rattle.std.specs.Prelude.{◌≡◌, ◌≢◌, ◌<◌, ◌≤◌, ◌+◌, ◌*◌, ◌++◌, ◌∷◌, ℕ, List, [], true, Option, Some, None, length, get_or, take}
 use Rattle.std.specs.Option.{is_none}
 use Rattle.std.specs.List.{slice_get, count_by}
 use Rattle.ht_net.specs.declared.fault.Fault.{Fault}
@@ -22,9 +22,32 @@ pub record AreLanesBelow (i : ℕ) (batch : BatchView) (grades : List Grade) : T
   pub moved : (k : ℕ) → k < length batch.lanes → lane_grade grades batch.lanes k ≡ no_grade
   pub known : (j : ℕ) → AreLatches batch.group.circuit (grade_at grades j).diffs
 
+-- The machines in all lanes went through a frame with this number and were taken out.
+pub record AreLanesGraded (number : ℕ) (before : BatchView) (old : List Grade) (after : BatchView) (new : List Grade)
+    : Type 0 where
+  pub group_is : after.group ≡ record before.group { machines = []; settled = true }
+  pub no_lanes : after.lanes ≡ []
+  pub graded : (k : ℕ) (m : FaultyMachine) → slice_get before.group.machines k ≡ Some m
+      → IsGradedFault before.group m number (lane_grade new before.lanes k)
+  pub others : (i : ℕ) → HasNoLane before.lanes i → grade_at new i ≡ grade_at old i
+
 -- the machine of a fault in a frame, from what was kept of the fault before it
 abbrev pub machine_from : GroupView → Fault → Grade → FaultyMachine
 machine_from frame fault grade = record { fault = fault; latches = with_differences frame.latches grade.diffs }
+
+-- Fault i, which is not detected, has taken the next lane: what was kept of it went into its machine.
+pub record IsAdded (i : ℕ) (fault : Fault) (before : BatchView) (old : List Grade) (after : BatchView)
+    (new : List Grade) : Type 0 where
+  pub circuit_same : after.group.circuit ≡ before.group.circuit
+  pub vector_same : after.group.vector ≡ before.group.vector
+  pub latches_same : after.group.latches ≡ before.group.latches
+  pub machines : after.group.machines ≡ before.group.machines ++ machine_from before.group fault (grade_at old i) ∷ []
+  pub lanes : after.lanes ≡ before.lanes ++ i ∷ []
+  pub count : length new ≡ length old
+  pub known : i < length old
+  pub was : (grade_at old i).verdict ≡ None
+  pub here : grade_at new i ≡ no_grade
+  pub others : (j : ℕ) → j ≢ i → grade_at new j ≡ grade_at old j
 
 -- how many faults aren't detected
 abbrev pub undetected_count : List Grade → ℕ

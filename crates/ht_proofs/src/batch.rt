@@ -1,5 +1,5 @@
 //! A group and its faults: one frame of all undetected faults, 64 at a time.
-ghost use Rattle.std.specs.Prelude.{◌≡◌, ◌<◌, ◌≤◌, ◌+◌, ◌*◌, ◌++◌, ◌∷◌, ℕ, [], List, None, Some, true, false, length, get_or, IfOk, OnOk, OnErr};
+ghost use Rattle.std.specs.Prelude.{◌≡◌, ◌<◌, ◌≤◌, ◌+◌, ◌*◌, ℕ, [], List, None, Some, true, false, length, get_or, IfOk, OnOk, OnErr};
 ghost use Rattle.std.specs.List.{slice_get};
 ghost use Rattle.ht_net.specs.declared.fault.Fault.{Fault};
 ghost use Rattle.ht_net.specs.Detection.{terns_of};
@@ -7,7 +7,7 @@ ghost use Rattle.ht_group.specs.GroupView.{AreLatches, FaultyMachine, GroupView,
 ghost use Rattle.ht_proofs.specs.declared.grade.Grade.{Grade};
 ghost use Rattle.ht_proofs.specs.Applied.{IsFirstSeen, full_groups, good_state};
 ghost use Rattle.ht_proofs.specs.LaneGrades.{AreLaneFaults, HasNoLane, HoldsLatches, IsGradedFault, grade_at, lane_grade};
-ghost use Rattle.ht_proofs.specs.Batches.{AreCounted, AreLanesBelow, ArePassed, IsGradedFrame, machine_from, undetected_count};
+ghost use Rattle.ht_proofs.specs.Batches.{AreCounted, AreLanesBelow, AreLanesGraded, ArePassed, IsAdded, IsGradedFrame, undetected_count};
 
 use crate::grade::{Grade, note_latch, note_place};
 use crate::steps::Steps;
@@ -129,14 +129,8 @@ impl<'c> Batch<'c> {
         steps: &mut Steps,
     ) -> Result<(), AllocError>
         requires { AreLanesBelow (length grades.old) self.old grades.old }
-        ensures group { OnOk result (self.new.group
-            ≡ record self.old.group { machines = []; settled = true }) }
-        ensures lanes { OnOk result (self.new.lanes ≡ []) }
-        ensures graded { OnOk result ((k : ℕ) (m : FaultyMachine)
-            → slice_get self.old.group.machines k ≡ Some m
-            → IsGradedFault self.old.group m number (lane_grade grades.new self.old.lanes k)) }
-        ensures others { OnOk result ((i : ℕ) → HasNoLane self.old.lanes i
-            → grade_at grades.new i ≡ grade_at grades.old i) }
+        ensures graded { OnOk result
+            (AreLanesGraded number self.old grades.old self.new grades.new) }
         ensures circuit { self.new.group.circuit ≡ self.old.group.circuit }
         ensures steps { steps.new.count
             ≤ steps.old.count + length self.old.group.circuit.gates }
@@ -150,23 +144,19 @@ impl<'c> Batch<'c> {
         Ok(())
     }
 
-    // Gives fault `i` the next lane. What is kept of it goes into its machine.
-    fn add(&mut self, fault: Fault, i: usize, grade: &mut Grade) -> Result<(), AllocError>
+    // Gives fault `i`, which isn't detected, the next lane. What is kept of it goes into its machine.
+    fn add(&mut self, fault: Fault, i: usize, grades: &mut [Grade]) -> Result<(), AllocError>
+        requires inside { i < length grades.old }
+        requires undetected { (grade_at grades.old i).verdict ≡ None }
         requires room { length self.old.group.machines < max_machines }
         requires site { HasSite self.old.group.circuit fault.site }
-        requires known { AreLatches self.old.group.circuit grade.old.diffs }
-        ensures group { OnOk result (self.new.group ≡ record self.old.group {
-          machines = self.old.group.machines
-              ++ machine_from self.old.group fault grade.old ∷ [];
-          settled = false;
-        }) }
-        ensures lanes { OnOk result (self.new.lanes ≡ self.old.lanes ++ i ∷ []) }
-        ensures grade { OnOk result (grade.new ≡ record grade.old { diffs = [] }) }
+        requires known { AreLatches self.old.group.circuit (grade_at grades.old i).diffs }
+        ensures added { OnOk result (IsAdded i fault self.old grades.old self.new grades.new) }
         ensures circuit { self.new.group.circuit ≡ self.old.group.circuit }
     {
-        self.group.add(fault, &grade.diffs)?;
+        self.group.add(fault, &grades[i].diffs)?;
         self.lanes.push(i)?;
-        grade.diffs.clear();
+        grades[i].diffs.clear();
         Ok(())
     }
 
@@ -202,7 +192,7 @@ impl<'c> Batch<'c> {
         if grades[i].verdict.is_some() {
             return Ok(());
         }
-        self.add(fault, i, &mut grades[i])?;
+        self.add(fault, i, grades)?;
         if self.group.len() < MAX_MACHINES {
             return Ok(());
         }
