@@ -513,7 +513,7 @@ passing_start start faults number old before empty alone known = record {
   };
   counted = record {
     groups = 0;
-    full = none;
+    full = omega (arith, none);
     steps = omega arith;
   };
 }

@@ -105,7 +105,7 @@ opposite_inside good faulty o h = elim (le_or_lt (length good) o) [
 ]
 
 -- what is detected is detected at a vector of the list, and at an output of the circuit
-found_inside : (c : Netlist) (f : Fault) (list : List (List Bool)) (t o : ℕ) → Detects c f list t o → t < length list
+pub found_inside : (c : Netlist) (f : Fault) (list : List (List Bool)) (t o : ℕ) → Detects c f list t o → t < length list
 found_inside c f list t o d = elim (le_or_lt (length list) t) [
   | inl past ↦
       let none : output_at c None list t o ≡ Unk =
