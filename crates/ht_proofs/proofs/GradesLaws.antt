@@ -15,6 +15,7 @@ use Rattle.ht_net.specs.declared.fault.Site.TheVariants.{Stem, DffPin, GatePin}
 use Rattle.ht_net.specs.declared.fault.Fault.{Fault}
 use Rattle.ht_net.specs.declared.place.Place.{Place}
 use Rattle.ht_net.specs.Netlist.{Netlist}
+use Rattle.ht_net.specs.Faults.{tern_rules}
 use Rattle.ht_net.specs.Detection.{terns_of, unknown_state}
 use Rattle.ht_net.proofs.FrameLaws.{le_or_lt}
 use Rattle.ht_faults.specs.FaultList.{no_fault}
@@ -28,6 +29,7 @@ use Rattle.ht_proofs.specs.Applied.{IsApplied, IsFirstSeen, faulty_state, full_g
 use Rattle.ht_proofs.specs.LaneGrades.{no_grade, grade_at, IsGradedFault}
 use Rattle.ht_proofs.specs.Batches.{IsGradedFrame, machine_from, undetected_count}
 use Rattle.ht_proofs.specs.GradesOf.{IsGrader, faulty_states, verdicts_of}
+use Rattle.ht_proofs.proofs.DiffLaws.{state_length}
 use Rattle.ht_proofs.proofs.VectorLaws.{found_inside}
 
 -- ---- what is read of the grades
@@ -203,59 +205,108 @@ grades_by c faults count latches verdicts grades live = record {
   live = live;
 }
 
-pub is_applied : (c d : Netlist) (faults : List Fault) (count : ℕ) (latches next : List Tern)
-    (verdicts found : List (Option Place)) (old new : List Grade) (vector : List Bool) (live : Bool) (frame : GroupView)
-    → frame ≡ grader_frame (grades_by c faults count latches verdicts old live) vector → d ≡ c
-    → length old ≡ length faults → length new ≡ length old → verdicts ≡ verdicts_of old → found ≡ verdicts_of new
-    → next ≡ good_state frame → IsGradedFrame frame faults count old new
-    → IsApplied (grades_by c faults count latches verdicts old live) vector
-    (grades_by d faults (count + 1) next found new true)
-is_applied c d faults count latches next verdicts found old new vector live frame is same each long was now good all =
-    record {
-      circuit_same = same;
-      faults_same = refl;
-      counted = refl;
-      good = good ∙ ap good_state is;
-      kept = λ k p at. new_verdict k ∙ (ap (λ (g : Grade). g.verdict)
-          (all.kept k p (sym (old_verdict k) ∙ at)) ∙ (sym (old_verdict k) ∙ at));
-      seen = λ k fault has none.
-          let graded = all.graded k fault has (sym (old_verdict k) ∙ none) in
-          let place = (grade_at new k).verdict in
-          subst (IsFirstSeen (grader_frame g vector) (machine_at g k fault) count (length c.outputs)) (sym (new_verdict k))
-          (subst (λ (m : FaultyMachine). IsFirstSeen (grader_frame g vector) m count (length c.outputs) place)
-          (machine k fault has)
-          (subst (λ (f : GroupView). IsFirstSeen f (machine_from f fault (grade_at old k)) count
-          (length f.circuit.outputs) place) is graded.seen));
-      state = λ k fault has none.
-          let not_yet : (grade_at new k).verdict ≡ None = sym (new_verdict k) ∙ none in
-          let graded = all.graded k fault has (still k not_yet) in
-          state_of next new k (omega (arith, slice_get_within faults k fault has, each, long))
-          ∙ (ap (λ (l : List Tern). with_differences l (grade_at new k).diffs) good
-          ∙ (graded.state not_yet
-          ∙ (ap (λ (f : GroupView). faulty_state f (machine_from f fault (grade_at old k))) is
-          ∙ ap (faulty_state (grader_frame g vector)) (machine k fault has))));
-      goes_on = refl;
-    }
+-- A frame of all faults has run: `old` and `new` are what was kept of the faults before it and after it.
+pub record HasRun (g : Grades) (old : List Grade) (vector : List Bool) (frame : GroupView) (h : Grades)
+    (new : List Grade) : Type 0 where
+  pub frame_is : frame ≡ grader_frame g vector
+  pub old_is : g ≡ grades_by g.circuit g.faults g.count g.latches (verdicts_of old) old g.live
+  pub new_is : h ≡ grades_by g.circuit g.faults (g.count + 1) (good_state frame) (verdicts_of new) new true
+  pub each : length old ≡ length g.faults
+  pub long : length new ≡ length old
+  pub all : IsGradedFrame frame g.faults g.count old new
+
+pub is_applied : (g : Grades) (old : List Grade) (vector : List Bool) (frame : GroupView) (h : Grades)
+    (new : List Grade) → HasRun g old vector frame h new → IsApplied g vector h
+is_applied g old vector frame h new run = record {
+  circuit_same = ap (λ (x : Grades). x.circuit) run.new_is;
+  faults_same = ap (λ (x : Grades). x.faults) run.new_is;
+  counted = ap (λ (x : Grades). x.count) run.new_is;
+  good = ap (λ (x : Grades). x.latches) run.new_is ∙ ap good_state run.frame_is;
+  kept = λ k p at. new_verdict k
+      ∙ (ap (λ (x : Grade). x.verdict) (run.all.kept k p (sym (old_verdict k) ∙ at)) ∙ (sym (old_verdict k) ∙ at));
+  seen = λ k fault has none.
+      let graded = run.all.graded k fault has (sym (old_verdict k) ∙ none) in
+      let place = (grade_at new k).verdict in
+      subst (IsFirstSeen (grader_frame g vector) (machine_at g k fault) g.count (length g.circuit.outputs))
+      (sym (new_verdict k))
+      (subst (λ (m : FaultyMachine). IsFirstSeen (grader_frame g vector) m g.count (length g.circuit.outputs) place)
+      (machine k fault has)
+      (subst (λ (f : GroupView). IsFirstSeen f (machine_from f fault (grade_at old k)) g.count
+      (length f.circuit.outputs) place) run.frame_is graded.seen));
+  state = λ k fault has none.
+      let not_yet : (grade_at new k).verdict ≡ None = sym (new_verdict k) ∙ none in
+      let graded = run.all.graded k fault has (still k not_yet) in
+      ap (λ (x : Grades). state_at x k) run.new_is
+      ∙ (state_of (good_state frame) new k (omega (arith, slice_get_within g.faults k fault has, run.each, run.long))
+      ∙ (graded.state not_yet
+      ∙ (ap (λ (f : GroupView). faulty_state f (machine_from f fault (grade_at old k))) run.frame_is
+      ∙ ap (faulty_state (grader_frame g vector)) (machine k fault has))));
+  goes_on = ap (λ (x : Grades). x.live) run.new_is;
+}
   where
-    g : Grades
-    g = grades_by c faults count latches verdicts old live
+    old_verdict : (k : ℕ) → verdict_at g k ≡ (grade_at old k).verdict
+    old_verdict k = ap (λ (x : Grades). verdict_at x k) run.old_is ∙ verdict_of old k
 
-    old_verdict : (k : ℕ) → get_or verdicts k None ≡ (grade_at old k).verdict
-    old_verdict k = ap (λ (l : List (Option Place)). get_or l k None) was ∙ verdict_of old k
-
-    new_verdict : (k : ℕ) → get_or found k None ≡ (grade_at new k).verdict
-    new_verdict k = ap (λ (l : List (Option Place)). get_or l k None) now ∙ verdict_of new k
+    new_verdict : (k : ℕ) → verdict_at h k ≡ (grade_at new k).verdict
+    new_verdict k = ap (λ (x : Grades). verdict_at x k) run.new_is ∙ verdict_of new k
 
     still : (k : ℕ) → (grade_at new k).verdict ≡ None → (grade_at old k).verdict ≡ None
     still k none = elim (option_cases (grade_at old k).verdict) [
       | inl not_yet ↦ not_yet
       | inr p ↦
-          let bad : None ≡ Some p.0 = sym none ∙ (ap (λ (x : Grade). x.verdict) (all.kept k p.0 p.1) ∙ p.1) in
+          let bad : None ≡ Some p.0 = sym none ∙ (ap (λ (x : Grade). x.verdict) (run.all.kept k p.0 p.1) ∙ p.1) in
           cc
     ]
 
-    machine : (k : ℕ) (fault : Fault) → slice_get faults k ≡ Some fault
+    machine : (k : ℕ) (fault : Fault) → slice_get g.faults k ≡ Some fault
         → machine_from (grader_frame g vector) fault (grade_at old k) ≡ machine_at g k fault
     machine k fault has =
         ap (λ (l : List Tern). record { fault = fault; latches = l })
-        (sym (state_of latches old k (omega (arith, slice_get_within faults k fault has, each))))
+        (sym (ap (λ (x : Grades). state_at x k) run.old_is
+        ∙ state_of g.latches old k (omega (arith, slice_get_within g.faults k fault has, run.each))))
+
+-- the fields after it
+pub run_fields : (g : Grades) (old : List Grade) (vector : List Bool) (frame : GroupView) (h : Grades)
+    (new : List Grade) → HasRun g old vector frame h new
+    → IsGrader g.circuit g.faults g.count g.latches g.verdicts old g.live → g.count < 2 ^ 62
+    → ((k : ℕ) → AreLatches frame.circuit (grade_at new k).diffs)
+    → IsGrader h.circuit h.faults h.count h.latches h.verdicts new h.live
+run_fields g old vector frame h new run was few known =
+    let circuit : frame.circuit ≡ g.circuit = ap (λ (f : GroupView). f.circuit) run.frame_is in
+    subst (λ (x : Grades). IsGrader x.circuit x.faults x.count x.latches x.verdicts new x.live) (sym run.new_is)
+    (record {
+      latch_count = state_length frame.circuit (tern_rules None) frame.vector frame.latches
+          ∙ ap (λ (c : Netlist). length c.dffs) circuit;
+      verdict_count = length-map new (λ (x : Grade). x.verdict) ∙ (run.long ∙ run.each);
+      grade_count = run.long ∙ run.each;
+      sites = was.sites;
+      few = omega (arith, few);
+      places = λ k p at. place k p (sym (verdict_of new k) ∙ at);
+      same = λ live. refl;
+      known = λ live k. subst (λ (c : Netlist). AreLatches c (grade_at new k).diffs) circuit (known k);
+    })
+  where
+    new_place : (k : ℕ) (p : Place) → (grade_at new k).verdict ≡ Some p → (grade_at old k).verdict ≡ None
+        → (p.vector < g.count + 1) × (p.output < length g.circuit.outputs)
+    new_place k p at not_yet = elim (le_or_lt (length new) k) [
+      | inl past ↦
+          let bad : None ≡ Some p = ap (λ (x : Grade). x.verdict) (sym (get_or_past new k no_grade past)) ∙ at in
+          cc
+      | inr inside ↦
+          let fault = get_or g.faults k no_fault in
+          let has : slice_get g.faults k ≡ Some fault =
+          slice_get-get_or g.faults k no_fault (omega (arith, inside, run.long, run.each)) in
+          let seen = (run.all.graded k fault has not_yet).seen.found p at in
+          let outputs = ap (λ (f : GroupView). length f.circuit.outputs) run.frame_is in
+          (omega (arith, seen.0), omega (arith, seen.1, outputs))
+    ]
+
+    place : (k : ℕ) (p : Place) → (grade_at new k).verdict ≡ Some p
+        → (p.vector < g.count + 1) × (p.output < length g.circuit.outputs)
+    place k p at = elim (option_cases (grade_at old k).verdict) [
+      | inl not_yet ↦ new_place k p at not_yet
+      | inr q ↦
+          let same : Some q.0 ≡ Some p = sym q.1 ∙ (sym (ap (λ (x : Grade). x.verdict) (run.all.kept k q.0 q.1)) ∙ at) in
+          let here = was.places k p (ap (λ (x : Grades). verdict_at x k) run.old_is ∙ (verdict_of old k ∙ (q.1 ∙ same))) in
+          (omega (arith, here.0), here.1)
+    ]
