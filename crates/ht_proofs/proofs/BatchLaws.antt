@@ -1,11 +1,11 @@
 -- The faults of a frame, one after the other, through the lanes of a group.
-use Rattle.std.proofs.Common.{◌≡◌, ◌≢◌, ◌<◌, ◌≤◌, ◌+◌, ◌*◌, ◌/◌, ◌∙◌, ◌⊎◌, ℕ, zero, suc, List, [], ◌∷◌, ◌++◌, Bool, true, false, Option, Some, None, length, get_or, set, take, cond, inl, inr, refl, sym, ap, subst, arith, length-append}
+use Rattle.std.proofs.Common.{◌≡◌, ◌≢◌, ◌<◌, ◌≤◌, ◌+◌, ◌*◌, ◌∙◌, ◌⊎◌, ℕ, zero, suc, List, [], ◌∷◌, ◌++◌, Bool, true, false, Option, Some, None, length, get_or, set, take, cond, inl, inr, refl, sym, ap, subst, arith, length-append}
 use Rattle.std.specs.Option.{is_none, is_some}
-use Rattle.std.specs.List.{slice_get, count_by}
+use Rattle.std.specs.List.{slice_get}
 use Rattle.std.proofs.lemmas.Bool.{cases_eq}
-use Rattle.std.proofs.lemmas.List.{get_or_append_left, get_or-set_same, get_or-set_other, length-set, take_all}
+use Rattle.std.proofs.lemmas.List.{get_or_append_left, get_or-set_same, get_or-set_other, length-set}
 use Rattle.std.proofs.lemmas.List.Sums.{count_by_more_yes, sum_by-take-le}
-use Rattle.std.proofs.lemmas.Option.{slice_get_within, slice_get-get_or, get_or_from_slice_get}
+use Rattle.std.proofs.lemmas.Option.{slice_get_within, slice_get-get_or}
 use Rattle.std.proofs.Math.Nat.{mul-le-mul_left}
 use Rattle.std.proofs.Math.Seq.{get_or-append_seam}
 use Rattle.ht_net.specs.declared.fault.Fault.{Fault}
@@ -17,7 +17,7 @@ use Rattle.ht_faults.specs.FaultList.{no_fault}
 use Rattle.ht_group.specs.GroupView.{GroupView, FaultyMachine, AreLatches, max_machines}
 use Rattle.ht_proofs.specs.declared.grade.Grade.{Grade}
 use Rattle.ht_proofs.specs.Applied.{IsFirstSeen, full_groups, good_state}
-use Rattle.ht_proofs.specs.LaneGrades.{no_grade, grade_at, lane_grade, HasNoLane, AreLaneFaults, HoldsLatches, IsGradedFault}
+use Rattle.ht_proofs.specs.LaneGrades.{no_grade, grade_at, lane_grade, HasNoLane, HoldsLatches, IsGradedFault}
 use Rattle.ht_proofs.specs.Batches.{BatchView, AreLanesBelow, AreLanesGraded, IsAdded, machine_from, undetected_count, ArePassed, IsGradedFrame, AreCounted}
 
 -- ---- what a frame makes of a fault depends on the circuit, the vector and the latches alone
@@ -288,8 +288,8 @@ added_passed frame faults number before i fault s t old new added same has passe
   ];
   done = λ j f less there none no_lane.
       let other : j ≢ i = λ here. no_lane (length s.lanes)
-          (omega (arith, lane_count i fault s t old new added))
-          (number_last i fault s t old new (length s.lanes) added refl ∙ sym here) in
+      (omega (arith, lane_count i fault s t old new added))
+      (number_last i fault s t old new (length s.lanes) added refl ∙ sym here) in
       subst (IsGradedFault frame (machine_from frame f (grade_at before j)) number) (sym (added.others j other))
       (passed.done j f (omega (arith, less, other)) there none
       (λ k lower e. no_lane k (omega (arith, lower, lane_count i fault s t old new added))
@@ -414,7 +414,7 @@ counted_more gates old i waiting before after more inside none full_lanes few co
   groups = counted.groups + 1;
   full =
       let one = count_by_more_yes (λ (g : Grade). is_none g.verdict) old i no_grade inside
-          (ap (λ (v : Option Place). is_none v) none) in
+      (ap (λ (v : Option Place). is_none v) none) in
       omega (arith, counted.full, one, full_lanes);
   steps = omega (arith, counted.steps, few);
 }
@@ -454,7 +454,7 @@ pub steps_even : (gates : ℕ) (old : List Grade) (n before after : ℕ) → Are
     → after ≤ before + gates * full_groups (undetected_count old)
 steps_even gates old n before after counted =
     let few = groups_full counted.groups (undetected_count (take n old)) (undetected_count old)
-        (omega (arith, counted.full)) (taken_count old n) in
+    (omega (arith, counted.full)) (taken_count old n) in
     omega (arith, counted.steps, mul-le-mul_left gates few)
 
 pub steps_rest : (gates : ℕ) (old : List Grade) (n waiting before after more : ℕ) → 0 < waiting
@@ -462,7 +462,7 @@ pub steps_rest : (gates : ℕ) (old : List Grade) (n waiting before after more :
     → more ≤ before + gates * full_groups (undetected_count old)
 steps_rest gates old n waiting before after more some few counted =
     let within = groups_within counted.groups waiting (undetected_count (take n old)) (undetected_count old)
-        counted.full (taken_count old n) some in
+    counted.full (taken_count old n) some in
     omega (arith, counted.steps, few, mul-le-mul_left gates within)
 
 pub steps_failed : (gates : ℕ) (old : List Grade) (i waiting before after more : ℕ) → i < length old
@@ -470,9 +470,9 @@ pub steps_failed : (gates : ℕ) (old : List Grade) (i waiting before after more
     → more ≤ before + gates * full_groups (undetected_count old)
 steps_failed gates old i waiting before after more inside none few counted =
     let one = count_by_more_yes (λ (g : Grade). is_none g.verdict) old i no_grade inside
-        (ap (λ (v : Option Place). is_none v) none) in
+    (ap (λ (v : Option Place). is_none v) none) in
     let within = groups_within counted.groups (waiting + 1) (undetected_count (take (i + 1) old))
-        (undetected_count old) (omega (arith, counted.full, one)) (taken_count old (i + 1)) (omega arith) in
+    (undetected_count old) (omega (arith, counted.full, one)) (taken_count old (i + 1)) (omega arith) in
     omega (arith, counted.steps, few, mul-le-mul_left gates within)
 
 -- ---- all faults of a frame

@@ -1,5 +1,5 @@
 -- The differences of a faulty machine, one flip-flop after the other.
-use Rattle.std.proofs.Common.{◌≡◌, ◌≢◌, ◌<◌, ◌≤◌, ◌+◌, ◌∙◌, ◌++◌, ◌∷◌, ℕ, zero, suc, List, [], Bool, true, false, All, Option, Some, None, length, get_or, cond, eqb, inl, inr, refl, sym, ap, arith, subst}
+use Rattle.std.proofs.Common.{◌≡◌, ◌≢◌, ◌<◌, ◌≤◌, ◌+◌, ◌∙◌, ◌++◌, ◌∷◌, ℕ, zero, suc, List, [], true, false, All, Option, Some, None, length, get_or, cond, eqb, inl, inr, refl, sym, ap, arith, subst}
 use Rattle.std.specs.Prelude.{unwrap_or, if◌then◌else◌}
 use Rattle.std.specs.Option.{is_none}
 use Rattle.std.proofs.lemmas.Bool.{cases_Bool, cases_eq}
@@ -16,7 +16,7 @@ use Rattle.ht_net.proofs.ValueLaws.{taken_length}
 use Rattle.ht_diff.specs.declared.diffs.Diff.{Diff}
 use Rattle.ht_diff.specs.Differences.{held, same_value, value_but, with_differences}
 use Rattle.std.proofs.lemmas.List.Elements.{All-append}
-use Rattle.ht_group.specs.GroupView.{GroupView, FaultyMachine, AreLatches, good_next, faulty_next}
+use Rattle.ht_group.specs.GroupView.{GroupView, FaultyMachine, good_next, faulty_next}
 use Rattle.ht_proofs.specs.Applied.{good_state, faulty_state}
 use Rattle.ht_proofs.specs.declared.grade.Grade.{Grade}
 use Rattle.ht_proofs.specs.LaneGrades.{HoldsLatches, more_diffs, with_latch}
@@ -90,23 +90,23 @@ diffs_more : (frame : GroupView) (m : FaultyMachine) (j : ℕ) (good value : Ter
     → AreDiffsBelow frame m (j + 1) (more_diffs j good value diffs)
 diffs_more frame m j good value diffs g v below = elim (cases_Bool (same_value value good)) [
   | inl same ↦ rw same (record {
-      lower = lower_more j diffs below.lower;
-      values = λ i less. elim (cases_eq i j) [
-        | inl here ↦
-            rw here (ap (λ h. unwrap_or h (good_next frame j)) (held_none j diffs below.lower)
-            ∙ (sym g ∙ (sym (same_gives value good same) ∙ v)))
-        | inr other ↦ below.values i (omega arith)
-      ];
-    })
+    lower = lower_more j diffs below.lower;
+    values = λ i less. elim (cases_eq i j) [
+      | inl here ↦
+          rw here (ap (λ h. unwrap_or h (good_next frame j)) (held_none j diffs below.lower)
+          ∙ (sym g ∙ (sym (same_gives value good same) ∙ v)))
+      | inr other ↦ below.values i (omega arith)
+    ];
+  })
   | inr differs ↦ rw differs (record {
-      lower = lower_pushed j value diffs below.lower;
-      values = λ i less. elim (cases_eq i j) [
-        | inl here ↦
-            rw here (ap (λ h. unwrap_or h (good_next frame j)) (held_pushed j value diffs below.lower) ∙ v)
-        | inr other ↦
-            ap (λ h. unwrap_or h (good_next frame i)) (held_before i j value diffs other) ∙ below.values i (omega arith)
-      ];
-    })
+    lower = lower_pushed j value diffs below.lower;
+    values = λ i less. elim (cases_eq i j) [
+      | inl here ↦
+          rw here (ap (λ h. unwrap_or h (good_next frame j)) (held_pushed j value diffs below.lower) ∙ v)
+      | inr other ↦
+          ap (λ h. unwrap_or h (good_next frame i)) (held_before i j value diffs other) ∙ below.values i (omega arith)
+    ];
+  })
 ]
 
 -- a frame leaves a latch for each flip-flop
@@ -131,11 +131,11 @@ diffs_all frame m j diffs done below =
 
 -- What is kept of a fault with this verdict, once it has its differences at the flip-flops below j.
 pub record HoldsBelow (frame : GroupView) (m : FaultyMachine) (place : Option Place) (j : ℕ) (grade : Grade) : Type 0
-    where
-  pub verdict_same : grade.verdict ≡ place
-  pub lower : AreLower j grade.diffs
-  pub values : place ≡ None
-      → (i : ℕ) → i < j → unwrap_or (held grade.diffs i) (good_next frame i) ≡ faulty_next frame m i
+  where
+    pub verdict_same : grade.verdict ≡ place
+    pub lower : AreLower j grade.diffs
+    pub values : place ≡ None
+        → (i : ℕ) → i < j → unwrap_or (held grade.diffs i) (good_next frame i) ≡ faulty_next frame m i
 
 pub holds_none : (frame : GroupView) (m : FaultyMachine) (grade : Grade) → grade.diffs ≡ []
     → HoldsBelow frame m grade.verdict 0 grade
@@ -169,7 +169,7 @@ holds_more frame m (Some p) j good value grade g v holds =
 holds_more frame m None j good value grade g v holds =
     let more = undetected_more j good value grade holds.verdict_same in
     let below = diffs_more frame m j good value grade.diffs g v
-        (record { lower = holds.lower; values = holds.values refl }) in
+    (record { lower = holds.lower; values = holds.values refl }) in
     record {
       verdict_same = holds.verdict_same;
       lower = subst (AreLower (j + 1)) (sym more) below.lower;

@@ -1,15 +1,13 @@
 -- What is kept of the faults in lanes, one output and one flip-flop of a frame after the other.
-use Rattle.std.proofs.Common.{◌≡◌, ◌<◌, ◌≤◌, ◌+◌, ◌∙◌, ℕ, List, [], Option, Some, None, length, refl, sym, ap, subst, arith}
+use Rattle.std.proofs.Common.{◌≡◌, ◌<◌, ◌+◌, ◌∙◌, ℕ, List, [], Some, length, refl, sym, ap, subst, arith}
 use Rattle.std.specs.List.{slice_get}
 use Rattle.std.proofs.lemmas.Option.{slice_get_within}
 use Rattle.ht_tern.specs.declared.tern.Tern.{Tern}
 use Rattle.ht_lanes.specs.Lanes.{Lanes, is_set, lane}
-use Rattle.ht_net.specs.declared.place.Place.{Place}
-use Rattle.ht_diff.specs.declared.diffs.Diff.{Diff}
-use Rattle.ht_group.specs.GroupView.{GroupView, FaultyMachine, good_next, faulty_next}
+use Rattle.ht_group.specs.GroupView.{FaultyMachine, good_next, faulty_next}
 use Rattle.ht_proofs.specs.declared.grade.Grade.{Grade}
 use Rattle.ht_proofs.specs.Applied.{IsFirstSeen}
-use Rattle.ht_proofs.specs.LaneGrades.{no_grade, grade_at, lane_grade, HasNoLane, AreLaneFaults, AreChanged, HoldsLatches, with_place, with_latch}
+use Rattle.ht_proofs.specs.LaneGrades.{grade_at, lane_grade, HasNoLane, AreLaneFaults, AreChanged, HoldsLatches, with_place, with_latch}
 use Rattle.ht_proofs.specs.Batches.{BatchView, AreLanesBelow}
 use Rattle.ht_proofs.proofs.SeenLaws.{is_seen_at, seen_none, seen_more}
 use Rattle.ht_proofs.proofs.DiffLaws.{HoldsBelow, holds_none, holds_more, holds_all}

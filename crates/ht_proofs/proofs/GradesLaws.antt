@@ -1,5 +1,5 @@
 -- A grader's fields, before the first vector and after one more.
-use Rattle.std.proofs.Common.{◌≡◌, ◌<◌, ◌≤◌, ◌+◌, ◌^◌, ◌∙◌, ◌⊎◌, ℕ, zero, suc, List, [], ◌∷◌, Bool, true, false, All, Option, Some, None, length, get_or, map, replicate, cond, inl, inr, refl, sym, ap, subst, arith}
+use Rattle.std.proofs.Common.{◌≡◌, ◌<◌, ◌≤◌, ◌+◌, ◌^◌, ◌∙◌, ◌⊎◌, ℕ, zero, suc, List, [], ◌∷◌, Bool, true, All, Option, Some, None, length, get_or, replicate, cond, inl, inr, refl, sym, ap, subst, arith}
 use Rattle.std.specs.Prelude.{unwrap_or}
 use Rattle.std.specs.Option.{is_none}
 use Rattle.std.specs.List.{slice_get, count_by}
@@ -16,7 +16,7 @@ use Rattle.ht_net.specs.declared.fault.Fault.{Fault}
 use Rattle.ht_net.specs.declared.place.Place.{Place}
 use Rattle.ht_net.specs.Netlist.{Netlist}
 use Rattle.ht_net.specs.Faults.{tern_rules}
-use Rattle.ht_net.specs.Detection.{terns_of, unknown_state}
+use Rattle.ht_net.specs.Detection.{unknown_state}
 use Rattle.ht_net.proofs.FrameLaws.{le_or_lt}
 use Rattle.ht_faults.specs.FaultList.{no_fault}
 use Rattle.ht_faults.specs.Sites.{IsFaultSite, faults_of}
@@ -25,8 +25,8 @@ use Rattle.ht_diff.specs.Differences.{held, value_but, with_differences}
 use Rattle.ht_group.specs.GroupView.{GroupView, FaultyMachine, AreLatches, HasSite}
 use Rattle.ht_proofs.specs.declared.grade.Grade.{Grade}
 use Rattle.ht_proofs.specs.Grades.{Grades, GraderStandsFor, chosen_faults, grades_at_start, state_at, verdict_at}
-use Rattle.ht_proofs.specs.Applied.{IsApplied, IsFirstSeen, faulty_state, full_groups, good_state, grader_frame, groups_of, machine_at}
-use Rattle.ht_proofs.specs.LaneGrades.{no_grade, grade_at, IsGradedFault}
+use Rattle.ht_proofs.specs.Applied.{IsApplied, IsFirstSeen, faulty_state, good_state, grader_frame, machine_at}
+use Rattle.ht_proofs.specs.LaneGrades.{no_grade, grade_at}
 use Rattle.ht_proofs.specs.Batches.{IsGradedFrame, machine_from, undetected_count}
 use Rattle.ht_proofs.specs.GradesOf.{IsGrader, faulty_states, verdicts_of}
 use Rattle.ht_proofs.proofs.DiffLaws.{state_length}

@@ -1,6 +1,6 @@
 -- Where a fault is first seen in a frame, one output after the other.
-use Rattle.std.proofs.Common.{◌≡◌, ◌≢◌, ◌<◌, ◌+◌, ◌∙◌, ℕ, Bool, true, false, Option, Some, None, inl, inr, refl, sym, ap, arith, subst}
-use Rattle.std.proofs.lemmas.Bool.{cases_eq, cases_Bool}
+use Rattle.std.proofs.Common.{◌≡◌, ◌<◌, ◌+◌, ◌∙◌, ℕ, Bool, true, false, Option, Some, None, inl, inr, refl, sym, ap, arith, subst}
+use Rattle.std.proofs.lemmas.Bool.{cases_eq}
 use Rattle.ht_tern.specs.Opposite.{are_opposite}
 use Rattle.ht_tern.proofs.OppositeLaws.{opposite_tested}
 use Rattle.ht_net.specs.declared.place.Place.{Place}
@@ -48,7 +48,7 @@ seen_more frame m number o true None is first = record {
         ap (λ (p : Place). p.vector) here,
         omega (arith, at),
         subst (IsSeen frame m) (sym at)
-        ((opposite_tested (good_output frame o) (faulty_output frame m o)).0 (sym is)),
+            ((opposite_tested (good_output frame o) (faulty_output frame m o)).0 (sym is)),
         λ i less. first.none refl i (omega (arith, less, at)),
       );
   none = λ same. cc;

@@ -1,5 +1,5 @@
 -- A grader that stands for a list of vectors, once one more is applied.
-use Rattle.std.proofs.Common.{◌≡◌, ◌<◌, ◌≤◌, ◌+◌, ◌∙◌, ◌⊎◌, ℕ, zero, suc, List, [], ◌∷◌, ◌++◌, Bool, length, get_or, map, refl, ap, sym, arith, subst, Option, Some, None, inl, inr, length-append}
+use Rattle.std.proofs.Common.{◌≡◌, ◌<◌, ◌∙◌, ◌⊎◌, ℕ, zero, suc, List, [], ◌∷◌, ◌++◌, Bool, length, get_or, map, refl, ap, sym, arith, subst, Option, Some, None, inl, inr, length-append}
 use Rattle.std.specs.List.{slice_get}
 use Rattle.std.proofs.lemmas.List.{get_or_past, get_or_append_left, length-map, map-append}
 use Rattle.std.proofs.Math.Seq.{get_or-append_seam}
@@ -16,7 +16,7 @@ use Rattle.ht_net.proofs.FrameLaws.{le_or_lt}
 use Rattle.ht_net.proofs.ValueLaws.{seen_length}
 use Rattle.ht_net.proofs.ApartLaws.{detected_apart}
 use Rattle.ht_group.specs.GroupView.{GroupView, FaultyMachine, good_output, faulty_output}
-use Rattle.ht_proofs.specs.Grades.{Grades, GraderStandsFor, latches_from_unknown, verdict_at, state_at}
+use Rattle.ht_proofs.specs.Grades.{Grades, GraderStandsFor, latches_from_unknown, verdict_at}
 use Rattle.ht_proofs.specs.Applied.{IsApplied, IsFirstSeen, IsSeen, grader_frame, machine_at}
 
 -- ---- runs

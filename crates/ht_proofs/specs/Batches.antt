@@ -1,5 +1,5 @@
 -- How the undetected faults of a frame go through the lanes of a group.
-use Rattle.std.specs.Prelude.{◌≡◌, ◌≢◌, ◌<◌, ◌≤◌, ◌+◌, ◌*◌, ◌++◌, ◌∷◌, ℕ, List, [], true, Option, Some, None, length, get_or, take}
+use Rattle.std.specs.Prelude.{◌≡◌, ◌≢◌, ◌<◌, ◌≤◌, ◌+◌, ◌*◌, ◌++◌, ◌∷◌, ℕ, List, [], true, Some, None, length, get_or, take}
 use Rattle.std.specs.Option.{is_none}
 use Rattle.std.specs.List.{slice_get, count_by}
 use Rattle.ht_net.specs.declared.fault.Fault.{Fault}

@@ -61,6 +61,15 @@ fn choose(alloc: Global, faults: &FaultList, which: &[u32]) -> Result<Vec<Fault>
     Ok(chosen)
 }
 
+// The verdicts on so many faults before the first vector.
+fn verdicts_at_start(alloc: Global, count: usize) -> Result<Vec<Option<Place>>, AllocError>
+    ensures { IfOk result (λ verdicts. verdicts.items ≡ replicate count None) }
+{
+    let mut verdicts = Vec::new(alloc);
+    verdicts.resize(count, None)?;
+    Ok(verdicts)
+}
+
 // What is kept of so many faults before the first vector: the good machine and each faulty one hold the same.
 fn grades_at_start(alloc: Global, count: usize) -> Result<Vec<Grade>, AllocError>
     ensures { IfOk result (λ grades. grades.items ≡ replicate count no_grade) }
@@ -105,8 +114,7 @@ impl<'c> Grader<'c> {
         let faults = choose(alloc, faults, which)?;
         let mut latches = Vec::new(alloc);
         latches.resize(circuit.dffs() as usize, Tern::Unk)?;
-        let mut verdicts = Vec::new(alloc);
-        verdicts.resize(faults.len(), None)?;
+        let verdicts = verdicts_at_start(alloc, faults.len())?;
         let grades = grades_at_start(alloc, faults.len())?;
         let batch = Batch::new(alloc, circuit)?;
         Ok(Grader {

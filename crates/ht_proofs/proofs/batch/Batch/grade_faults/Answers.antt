@@ -1,4 +1,4 @@
-use Rattle.std.proofs.Common.{◌≡◌, ◌<◌, ◌≤◌, ◌*◌, ◌+◌, ◌∙◌, ℕ, List, rules, length, refl, sym, ap, subst, arith}
+use Rattle.std.proofs.Common.{◌≡◌, ◌+◌, ◌∙◌, rules, length, sym, ap, subst, arith}
 use Rattle.std.proofs.lemmas.List.{nil_from_length}
 use Rattle.std.proofs.lemmas.Option.{slice_get-get_or}
 use Rattle.std.proofs.lemmas.Result.{on_ok_weaker}
@@ -7,7 +7,7 @@ use Rattle.ht_group.specs.GroupView.{AreLatches, GroupView}
 use Rattle.ht_proofs.specs.declared.grade.Grade.{Grade}
 use Rattle.ht_proofs.specs.LaneGrades.{grade_at}
 use Rattle.ht_proofs.specs.Batches.{AreCounted, BatchView}
-use Rattle.ht_proofs.proofs.BatchLaws.{flushed_lanes, flushed_passed, passed_all, passing_start, steps_failed}
+use Rattle.ht_proofs.proofs.BatchLaws.{flushed_lanes, flushed_passed, passed_all, steps_failed}
 use Rattle.ht_proofs.proofs.batch.Batch.grade_faults.Goals as goal
 
 pub loop-i-preserved : goal.loop-i-preserved

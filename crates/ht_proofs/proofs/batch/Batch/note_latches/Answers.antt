@@ -37,7 +37,7 @@ pub returns-clause-lanes : goal.returns-clause-lanes
 returns-clause-lanes c =
     let s = c.args.self.now in
     let count = c.dffs-j-end.ensures ∙ ap (λ (n : Netlist). length n.dffs)
-        (sym c.self.invariant ∙ ap (λ (b : BatchView). b.group.circuit) c.self.view_is) in
+    (sym c.self.invariant ∙ ap (λ (b : BatchView). b.group.circuit) c.self.view_is) in
     let done : c.loop-j.j ≡ length s.group.circuit.dffs =
     omega (arith, count, c.loop-j-test.false, c.loop-j.auto.j-end) in
     all_latches s c.loop-j.j c.args.grades.now c.loop-j.grades done c.loop-j.invariant

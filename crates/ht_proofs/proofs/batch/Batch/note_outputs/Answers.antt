@@ -41,7 +41,7 @@ pub returns-clause-lanes : goal.returns-clause-lanes
 returns-clause-lanes c = λ k m has.
     let s = c.args.self.now in
     let count = c.outputs-output-end.ensures ∙ ap (λ (n : Netlist). length n.outputs)
-        (sym c.self.invariant ∙ ap (λ (b : BatchView). b.group.circuit) c.self.view_is) in
+    (sym c.self.invariant ∙ ap (λ (b : BatchView). b.group.circuit) c.self.view_is) in
     let done : c.loop-output.output ≡ length s.group.circuit.outputs =
     omega (arith, count, c.loop-output-test.false, c.loop-output.auto.output-end) in
     subst (λ n. IsFirstSeen s.group m c.args.number n (lane_grade c.loop-output.grades s.lanes k).verdict) done

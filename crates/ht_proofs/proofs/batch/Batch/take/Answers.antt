@@ -1,12 +1,12 @@
-use Rattle.std.proofs.Common.{◌≡◌, ◌+◌, ◌∙◌, List, length, false, None, refl, sym, ap, subst, arith}
+use Rattle.std.proofs.Common.{◌+◌, ◌∙◌, length, sym, ap, arith}
 use Rattle.std.specs.Option.{is_some}
 use Rattle.std.proofs.lemmas.List.{get_or_default}
 use Rattle.std.proofs.lemmas.Result.{on_ok_weaker}
 use Rattle.ht_proofs.specs.declared.grade.Grade.{Grade}
 use Rattle.ht_net.specs.Netlist.{Netlist}
 use Rattle.ht_proofs.specs.Batches.{BatchView}
-use Rattle.ht_proofs.specs.LaneGrades.{no_grade, grade_at}
-use Rattle.ht_proofs.proofs.BatchLaws.{added_lanes, added_passed, counted_full, flushed_lanes, flushed_passed, lanes_weaker, not_some, passed_by}
+use Rattle.ht_proofs.specs.LaneGrades.{no_grade}
+use Rattle.ht_proofs.proofs.BatchLaws.{added_lanes, added_passed, counted_full, flushed_lanes, flushed_passed, lanes_weaker, passed_by}
 use Rattle.ht_proofs.proofs.batch.Batch.take.Goals as goal
 
 pub returns-then-is_some-clause-passed : goal.returns-then-is_some-clause-passed
@@ -33,7 +33,7 @@ grade_lanes-requires c =
 pub returns-clause-lanes : goal.returns-clause-lanes
 returns-clause-lanes c =
     let lanes = added_lanes c.args.i c.args.fault c.args.self.now c.add.new.self c.args.grades.now c.add.new.grades
-        c.in_ok-add.ensures.added c.requires.room c.requires.lanes in
+    c.in_ok-add.ensures.added c.requires.room c.requires.lanes in
     on_ok_weaker c.grade_lanes.result
     (λ graded. flushed_lanes c.args.number (c.args.i + 1) c.add.new.self c.grade_lanes.new.self c.add.new.grades
     c.grade_lanes.new.grades lanes graded)

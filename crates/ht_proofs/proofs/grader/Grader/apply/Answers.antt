@@ -1,15 +1,14 @@
-use Rattle.std.proofs.Common.{◌≡◌, ◌≤◌, ◌<◌, ◌+◌, ◌∙◌, [], true, ℕ, List, Option, length, rules, refl, sym, ap, subst, arith}
+use Rattle.std.proofs.Common.{◌≡◌, ◌+◌, ◌∙◌, [], true, List, Option, length, rules, sym, ap, subst, arith}
 use Rattle.std.specs.Vec.{with_items}
 use Rattle.std.proofs.lemmas.List.{with_items_is}
 use Rattle.ht_tern.specs.declared.tern.Tern.{Tern}
 use Rattle.ht_net.specs.declared.fault.Fault.{Fault}
 use Rattle.ht_net.specs.declared.place.Place.{Place}
-use Rattle.ht_net.specs.Netlist.{Netlist}
 use Rattle.ht_net.specs.Detection.{terns_of}
 use Rattle.ht_group.specs.GroupView.{AreLatches, GroupView}
 use Rattle.ht_proofs.specs.declared.grade.Grade.{Grade}
 use Rattle.ht_proofs.specs.Grades.{Grades}
-use Rattle.ht_proofs.specs.Applied.{IsApplied, good_state}
+use Rattle.ht_proofs.specs.Applied.{IsApplied}
 use Rattle.ht_proofs.specs.Batches.{IsGradedFrame}
 use Rattle.ht_proofs.specs.LaneGrades.{grade_at}
 use Rattle.ht_proofs.specs.GradesOf.{grades_of, verdicts_of}
@@ -38,18 +37,18 @@ has_run c =
     let live : a.live ≡ true = search rules in
     let long : length c.grade_faults.new.grades ≡ length a.grades.items = search rules in
     let latches = with_items_is a.latches c.read_latches.new.latches (search rules)
-        ∙ (c.read_latches.ensures ∙ c.in_ok-grade_faults.ensures.good) in
+    ∙ (c.read_latches.ensures ∙ c.in_ok-grade_faults.ensures.good) in
     let verdicts = with_items_is a.verdicts c.copy_verdicts.new.verdicts (search rules)
-        ∙ (c.copy_verdicts.ensures ∙ ap verdicts_of c.deref-3.ensures.value) in
+    ∙ (c.copy_verdicts.ensures ∙ ap verdicts_of c.deref-3.ensures.value) in
     let circuit = c.grade_faults.ensures.circuit ∙ ap (λ (g : GroupView). g.circuit) c.start.ensures.group in
     record {
       frame_is = c.start.ensures.group ∙ ap (λ (l : List Tern). record {
-            circuit = a.batch.group.circuit;
-            vector = terns_of c.args.vector.now;
-            latches = l;
-            machines = [];
-            settled = true;
-          }) c.deref.ensures.value;
+        circuit = a.batch.group.circuit;
+        vector = terns_of c.args.vector.now;
+        latches = l;
+        machines = [];
+        settled = true;
+      }) c.deref.ensures.value;
       old_is = ap (λ (v : List (Option Place)). grades_by a.batch.group.circuit a.faults.items a.count
           a.latches.items v a.grades.items a.live) (c.self.invariant.same live);
       new_is = λ i. grades_by (circuit i) a.faults.items (a.count + 1) (latches i) (verdicts i) (graded c) true;

@@ -1,6 +1,5 @@
-use Rattle.std.proofs.Common.{◌≡◌, ◌∙◌, List, length, get_or, ap, arith}
+use Rattle.std.proofs.Common.{◌∙◌, length, get_or, ap, arith}
 use Rattle.std.specs.Prelude.{unwrap_or}
-use Rattle.ht_tern.specs.declared.tern.Tern.{Tern}
 use Rattle.ht_tern.specs.declared.tern.Tern.TheVariants.{Unk}
 use Rattle.ht_proofs.specs.Grades.{Grades, state_at}
 use Rattle.ht_proofs.proofs.GradesLaws.{latch_is}
