@@ -94,6 +94,15 @@ fn copy_verdicts(grades: &[Grade], verdicts: &mut [Option<Place>])
     }
 }
 
+// A latch for each flip-flop of a circuit, all unknown.
+fn unknown_latches(alloc: Global, circuit: &Circuit) -> Result<Vec<Tern>, AllocError>
+    ensures { IfOk result (λ latches. latches.items ≡ unknown_state circuit.now) }
+{
+    let mut latches = Vec::new(alloc);
+    latches.resize(circuit.dffs() as usize, Tern::Unk)?;
+    Ok(latches)
+}
+
 impl<'c> Grader<'c> {
     /// The faults of a circuit's list that have these numbers, from 0, in this order, before the first vector.
     ///
@@ -112,8 +121,7 @@ impl<'c> Grader<'c> {
         ensures stands { IfOk result (λ grader. GraderStandsFor grader []) }
     {
         let faults = choose(alloc, faults, which)?;
-        let mut latches = Vec::new(alloc);
-        latches.resize(circuit.dffs() as usize, Tern::Unk)?;
+        let latches = unknown_latches(alloc, circuit)?;
         let verdicts = verdicts_at_start(alloc, faults.len())?;
         let grades = grades_at_start(alloc, faults.len())?;
         let batch = Batch::new(alloc, circuit)?;

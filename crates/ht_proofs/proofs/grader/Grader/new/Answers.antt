@@ -1,5 +1,4 @@
 use Rattle.std.proofs.Common.{◌≡◌, ◌∙◌, [], None, length, replicate, rules, sym, ap, subst}
-use Rattle.ht_net.specs.Detection.{unknown_state}
 use Rattle.ht_proofs.specs.Grades.{Grades, GraderStandsFor, chosen_faults, grades_at_start}
 use Rattle.ht_proofs.specs.LaneGrades.{no_grade}
 use Rattle.ht_proofs.proofs.GradesLaws.{start_fields, start_stands, start_view}
@@ -7,21 +6,20 @@ use Rattle.ht_proofs.proofs.grader.Grader.new.Goals as goal
 
 pub invariant_of-result : goal.invariant_of-result
 invariant_of-result c =
-    let latches : c.resize.new.self.items ≡ unknown_state c.args.circuit.now = search rules in
     let verdicts : c.in_ok-verdicts.verdicts.items ≡ replicate (length c.in_ok-faults.faults.items) None = search rules in
     let grades : c.in_ok-grades.grades.items ≡ replicate (length c.in_ok-faults.faults.items) no_grade = search rules in
     start_fields c.args.circuit.now c.in_ok-batch.batch.group.circuit c.args.faults.now c.args.which.now
-    c.in_ok-faults.faults.items c.resize.new.self.items c.in_ok-verdicts.verdicts.items c.in_ok-grades.grades.items
-    c.requires.faults c.requires.known c.in_ok-batch.ensures c.in_ok-faults.ensures latches verdicts grades
+    c.in_ok-faults.faults.items c.in_ok-latches.latches.items c.in_ok-verdicts.verdicts.items c.in_ok-grades.grades.items
+    c.requires.faults c.requires.known c.in_ok-batch.ensures c.in_ok-faults.ensures
+    c.in_ok-latches.ensures verdicts grades
 
 pub returns-clause-start : goal.returns-clause-start
 returns-clause-start c =
-    let latches : c.resize.new.self.items ≡ unknown_state c.args.circuit.now = search rules in
     let verdicts : c.in_ok-verdicts.verdicts.items ≡ replicate (length c.in_ok-faults.faults.items) None = search rules in
     let grades : c.in_ok-grades.grades.items ≡ replicate (length c.in_ok-faults.faults.items) no_grade = search rules in
     start_view c.args.circuit.now c.in_ok-batch.batch.group.circuit c.in_ok-faults.faults.items
-    c.resize.new.self.items c.in_ok-verdicts.verdicts.items c.in_ok-grades.grades.items c.in_ok-batch.ensures latches
-    verdicts grades
+    c.in_ok-latches.latches.items c.in_ok-verdicts.verdicts.items c.in_ok-grades.grades.items c.in_ok-batch.ensures
+    c.in_ok-latches.ensures verdicts grades
     ∙ ap (grades_at_start c.args.circuit.now) c.in_ok-faults.ensures
 
 pub returns-clause-stands : goal.returns-clause-stands
