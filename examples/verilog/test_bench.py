@@ -126,12 +126,11 @@ TASKS = """
 
 
 def ports_by_name(bits):
-    """The bits of each port of the design, highest first, from (bench name, bit of a port)."""
+    """The bits of each port of the design as Verilog joins them, from (bench name, port), the lowest first."""
     ports = {}
-    for name, wire in bits:
-        base, _, number = wire.rstrip("]").partition("[")
-        ports.setdefault(base, []).append((int(number or 0), name))
-    return {base: [name for _, name in sorted(named, reverse=True)] for base, named in ports.items()}
+    for name, port in bits:
+        ports.setdefault(port, []).insert(0, name)
+    return ports
 
 
 def design_lines(machine, names_text):

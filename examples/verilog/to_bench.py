@@ -10,9 +10,9 @@ equal. Other nets are called w1, w2 and so on. NAMES says what was done, a line 
 
     module NAME
     clock NAME
-    input BENCH VERILOG        the .bench name of an input, and its bit of a port of the module
-    output BENCH VERILOG       the same of an output; one net may be several outputs
-    net BENCH VERILOG          a net inside whose name was changed
+    input BENCH PORT           an input, and the port of the module that has it; the bits of a port come lowest first
+    output BENCH PORT          the same of an output; one net may be several outputs
+    net BENCH VERILOG          another net whose name was changed
 
 Ends with 0, or with 1 and a line on standard error where the module has something that a .bench file can't hold: a constant,
 another cell, two clocks, or a clock that is also a signal.
@@ -47,10 +47,10 @@ def bits_of(name, net):
 
 
 def port_bits(module, direction):
-    """(Verilog name, bit) of the ports of a direction, in the order of the module."""
+    """(port, bit) of the ports of a direction, in the order of the module, the bits of each the lowest first."""
     for name, port in module["ports"].items():
         if port["direction"] == direction:
-            yield from bits_of(name, port)
+            yield from ((name, bit) for bit in port["bits"])
 
 
 def clock_of(module):
@@ -64,21 +64,20 @@ def clock_of(module):
 def verilog_names(module):
     """A name of the design for each bit that has one: that of a port, or of a wire that isn't hidden."""
     names = {}
-    for direction in ("input", "output", "inout"):
-        for name, bit in port_bits(module, direction):
-            names.setdefault(bit, name)
-    for name, net in module["netnames"].items():
-        if not net["hide_name"]:
-            for wire, bit in bits_of(name, net):
-                names.setdefault(bit, wire)
+    inputs_first = sorted(module["ports"].items(), key=lambda port: port[1]["direction"] != "input")
+    shown = [(name, net) for name, net in module["netnames"].items() if not net["hide_name"]]
+    for name, net in inputs_first + shown:
+        for wire, bit in bits_of(name, net):
+            names.setdefault(bit, wire)
     return names
 
 
 def bench_names(verilog, bits):
-    """A name of its own for each bit, as a .bench file can hold it. Those that the design names come first."""
+    """A name of its own for each bit, as a .bench file can hold it. Names that need no change come first."""
+    held = {bit: STRANGE.sub("_", name)[: MAX_NAME_BYTES - 10] for bit, name in verilog.items()}
     taken, names = set(), {}
-    for bit in sorted(bits, key=lambda bit: bit not in verilog):
-        wanted = STRANGE.sub("_", verilog[bit])[: MAX_NAME_BYTES - 10] if bit in verilog else ""
+    for bit in sorted(bits, key=lambda bit: (bit not in held, held.get(bit) != verilog.get(bit))):
+        wanted = held.get(bit, "")
         tries = itertools.chain([wanted] * bool(wanted), (f"{wanted}_{k}" if wanted else f"w{k}" for k in itertools.count(1)))
         names[bit] = next(name for name in tries if name not in taken)
         taken.add(names[bit])
@@ -114,7 +113,7 @@ def converted(name, module):
     """The lines of the netlist and those of the names."""
     clock, verilog = clock_of(module), verilog_names(module)
     refuse_what_bench_lacks(module, clock)
-    inputs = [(wire, bit) for wire, bit in port_bits(module, "input") if bit != clock]
+    inputs = [(port, bit) for port, bit in port_bits(module, "input") if bit != clock]
     outputs = list(port_bits(module, "output"))
     cells = sorted(module["cells"].values(), key=lambda cell: cell["type"] != FLIP_FLOP)
     driven = [bit for cell in cells for pin in ("Q", "Y") for bit in cell["connections"].get(pin, [])]
@@ -122,9 +121,9 @@ def converted(name, module):
     netlist = [f"INPUT({names[bit]})" for _, bit in inputs]
     netlist += dict.fromkeys(f"OUTPUT({names[bit]})" for _, bit in outputs)
     netlist += [statement(cell, names) for cell in cells]
-    kept = [f"module {name}"] + [f"clock {verilog[clock]}"] * (clock is not None)
-    kept += [f"input {names[bit]} {wire}" for wire, bit in inputs]
-    kept += [f"output {names[bit]} {wire}" for wire, bit in outputs]
+    kept = [f"module {name}"] + ([f"clock {verilog[clock]}"] if clock is not None else [])
+    kept += [f"input {names[bit]} {port}" for port, bit in inputs]
+    kept += [f"output {names[bit]} {port}" for port, bit in outputs]
     kept += [f"net {names[bit]} {verilog[bit]}" for bit in driven if bit in verilog and names[bit] != verilog[bit]]
     return netlist, kept
 
@@ -132,11 +131,14 @@ def converted(name, module):
 def main():
     if len(sys.argv) != 4:
         sys.exit("usage: to_bench.py GATES.json NETLIST NAMES")
-    with open(sys.argv[1]) as file:
-        texts = converted(*top_of(json.load(file)))
-    for path, lines in zip(sys.argv[2:], texts):
-        with open(path, "w") as file:
-            file.writelines(line + "\n" for line in lines)
+    try:
+        with open(sys.argv[1]) as file:
+            texts = converted(*top_of(json.load(file)))
+        for path, lines in zip(sys.argv[2:], texts):
+            with open(path, "w") as file:
+                file.writelines(line + "\n" for line in lines)
+    except OSError as error:
+        sys.exit(f"to_bench: {error}")
 
 
 if __name__ == "__main__":
