@@ -1,9 +1,10 @@
-// Serial fault simulation in plain Rust, to be timed beside the program `ht_cli` on the same files.
+// Packed, event-driven fault simulation in plain Rust (PROOFS 1992), to be timed beside the program `ht_cli` on the same
+// files.
 //
-// It reads a netlist in normal text and its tests, runs the good machine once over the vectors, and for the representative
-// of each class of faults a faulty machine from all-unknown up to its first detection. It writes the report and the total
-// line that `sim` writes, and on standard error how many gates it evaluated. The files have to be ones that `sim` accepts:
-// they aren't judged here.
+// It reads a netlist in normal text and its tests, and simulates the representatives of all classes of faults, 64 to a
+// word, vector by vector: the good machine whole, and of each group only the gates that an event reaches. It writes the
+// report and the total line that `sim` writes, and on standard error how many gates it evaluated. The files have to be
+// ones that `sim` accepts: they aren't judged here.
 use std::collections::HashMap;
 use std::error::Error;
 use std::fmt::{self, Display, Formatter};
@@ -24,41 +25,82 @@ impl Value {
     fn of(bit: bool) -> Value {
         if bit { One } else { Zero }
     }
+}
 
-    fn complement(self) -> Value {
-        match self {
-            Zero => One,
-            One => Zero,
-            Unknown => Unknown,
+/// Three-valued values in 64 lanes. No lane is both Zero and One; an unknown one is neither.
+#[derive(Clone, Copy, PartialEq, Eq)]
+struct Word {
+    zero: u64,
+    one: u64,
+}
+
+impl Word {
+    fn splat(value: Value) -> Word {
+        match value {
+            Zero => Word { zero: !0, one: 0 },
+            One => Word { zero: 0, one: !0 },
+            Unknown => Word { zero: 0, one: 0 },
         }
     }
 
-    fn and(self, other: Value) -> Value {
-        match (self, other) {
-            (Zero, _) | (_, Zero) => Zero,
-            (One, One) => One,
+    fn lane(self, k: u32) -> Value {
+        match (self.zero >> k & 1, self.one >> k & 1) {
+            (1, _) => Zero,
+            (_, 1) => One,
             _ => Unknown,
         }
     }
 
-    fn or(self, other: Value) -> Value {
-        match (self, other) {
-            (One, _) | (_, One) => One,
-            (Zero, Zero) => Zero,
-            _ => Unknown,
+    fn with(self, k: usize, value: Value) -> Word {
+        let bit = 1 << k;
+        let cleared = Word { zero: self.zero & !bit, one: self.one & !bit };
+        match value {
+            Zero => Word { zero: cleared.zero | bit, ..cleared },
+            One => Word { one: cleared.one | bit, ..cleared },
+            Unknown => cleared,
         }
     }
 
-    fn xor(self, other: Value) -> Value {
-        match (self, other) {
-            (Unknown, _) | (_, Unknown) => Unknown,
-            (a, b) => Value::of(a != b),
+    /// A set of lanes stuck, each at its bit.
+    fn stuck(self, lanes: u64, bits: u64) -> Word {
+        Word {
+            zero: self.zero & !lanes | lanes & !bits,
+            one: self.one & !lanes | lanes & bits,
         }
     }
 
-    /// Both are definite, and opposite.
-    fn is_opposite(self, other: Value) -> bool {
-        matches!((self, other), (Zero, One) | (One, Zero))
+    /// The lanes that have the definite value opposite to this one.
+    fn opposite(self, good: Value) -> u64 {
+        match good {
+            Zero => self.one,
+            One => self.zero,
+            Unknown => 0,
+        }
+    }
+
+    /// The lanes that have another value than this one.
+    fn other_than(self, good: Value) -> u64 {
+        let good = Word::splat(good);
+        self.zero ^ good.zero | self.one ^ good.one
+    }
+
+    fn complement(self) -> Word {
+        Word { zero: self.one, one: self.zero }
+    }
+
+    fn and(self, other: Word) -> Word {
+        Word { zero: self.zero | other.zero, one: self.one & other.one }
+    }
+
+    fn or(self, other: Word) -> Word {
+        Word { zero: self.zero & other.zero, one: self.one | other.one }
+    }
+
+    fn xor(self, other: Word) -> Word {
+        Word {
+            zero: self.zero & other.zero | self.one & other.one,
+            one: self.zero & other.one | self.one & other.zero,
+        }
     }
 }
 
@@ -102,15 +144,15 @@ impl Kind {
         }
     }
 
-    fn value(self, mut args: impl Iterator<Item = Value>) -> Value {
-        let first = args.next().unwrap_or(Unknown);
+    fn value(self, mut args: impl Iterator<Item = Word>) -> Word {
+        let first = args.next().unwrap_or(Word::splat(Unknown));
         match self {
-            Kind::And => args.fold(first, Value::and),
-            Kind::Nand => args.fold(first, Value::and).complement(),
-            Kind::Or => args.fold(first, Value::or),
-            Kind::Nor => args.fold(first, Value::or).complement(),
-            Kind::Xor => args.fold(first, Value::xor),
-            Kind::Xnor => args.fold(first, Value::xor).complement(),
+            Kind::And => args.fold(first, Word::and),
+            Kind::Nand => args.fold(first, Word::and).complement(),
+            Kind::Or => args.fold(first, Word::or),
+            Kind::Nor => args.fold(first, Word::or).complement(),
+            Kind::Xor => args.fold(first, Word::xor),
+            Kind::Xnor => args.fold(first, Word::xor).complement(),
             Kind::Not => first.complement(),
             Kind::Buff => first,
         }
@@ -268,59 +310,8 @@ fn root_of(parents: &[usize], mut i: usize) -> usize {
     i
 }
 
-struct Machine<'c> {
-    circuit: &'c Circuit,
-    fault: Option<Fault>,
-    latches: Vec<Value>,
-    values: Vec<Value>,
-}
-
-impl<'c> Machine<'c> {
-    fn start(circuit: &'c Circuit, fault: Option<Fault>) -> Machine<'c> {
-        Machine {
-            circuit,
-            fault,
-            latches: vec![Unknown; circuit.data_pins.len()],
-            values: vec![Unknown; circuit.names.len()],
-        }
-    }
-
-    /// What a line shows that carries a value.
-    fn shown(&self, site: Site, value: Value) -> Value {
-        match self.fault {
-            Some(fault) if fault.site == site => Value::of(fault.bit),
-            _ => value,
-        }
-    }
-
-    fn drive(&mut self, net: usize, value: Value) {
-        self.values[net] = self.shown(Site::Stem(net), value);
-    }
-
-    /// Runs one frame: every net gets its value, and then each flip-flop takes the value at its data pin.
-    fn step(&mut self, vector: &[bool]) {
-        let circuit = self.circuit;
-        for (net, bit) in vector.iter().enumerate() {
-            self.drive(net, Value::of(*bit));
-        }
-        for j in 0..self.latches.len() {
-            self.drive(circuit.inputs + j, self.latches[j]);
-        }
-        for (gate, g) in circuit.gates.iter().enumerate() {
-            let args = g.args.iter().enumerate();
-            let pins = args.map(|(pin, net)| self.shown(Site::GatePin { gate, pin }, self.values[*net]));
-            let value = g.kind.value(pins);
-            self.drive(circuit.first_gate_net() + gate, value);
-        }
-        for (j, net) in circuit.data_pins.iter().enumerate() {
-            self.latches[j] = self.shown(Site::DataPin(j), self.values[*net]);
-        }
-    }
-
-    fn outputs(&self) -> impl Iterator<Item = Value> + '_ {
-        self.circuit.outputs.iter().map(|net| self.values[*net])
-    }
-}
+/// The latches of a faulty machine that aren't the good one's, each by its flip-flop.
+type Differences = Vec<(usize, Value)>;
 
 #[derive(Clone, Copy)]
 struct Place {
@@ -328,50 +319,236 @@ struct Place {
     output: usize,
 }
 
-/// A circuit, its vectors, and what the good machine shows at each of them.
-struct Simulation<'c> {
-    circuit: &'c Circuit,
-    vectors: &'c [Vec<bool>],
-    good: Vec<Vec<Value>>,
-    frames: u64,
+/// For each net the gates that read it, in one row.
+struct Loads {
+    starts: Vec<usize>,
+    gates: Vec<u32>,
 }
 
-impl<'c> Simulation<'c> {
-    fn new(circuit: &'c Circuit, vectors: &'c [Vec<bool>]) -> Simulation<'c> {
-        let mut machine = Machine::start(circuit, None);
-        let good = vectors
-            .iter()
-            .map(|vector| {
-                machine.step(vector);
-                machine.outputs().collect()
-            })
-            .collect();
-        Simulation {
-            circuit,
-            vectors,
-            good,
-            frames: vectors.len() as u64,
-        }
-    }
-
-    fn first_detection(&mut self, fault: Fault) -> Option<Place> {
-        let mut machine = Machine::start(self.circuit, Some(fault));
-        for (t, vector) in self.vectors.iter().enumerate() {
-            machine.step(vector);
-            self.frames += 1;
-            let opposite = self.good[t]
-                .iter()
-                .zip(machine.outputs())
-                .position(|(good, bad)| good.is_opposite(bad));
-            if let Some(output) = opposite {
-                return Some(Place { vector: t, output });
+impl Loads {
+    fn of(circuit: &Circuit) -> Loads {
+        let mut rows = vec![Vec::new(); circuit.names.len()];
+        for (g, gate) in circuit.gates.iter().enumerate() {
+            for net in &gate.args {
+                rows[*net].push(g as u32);
             }
         }
-        None
+        let mut starts = vec![0];
+        starts.extend(rows.iter().scan(0, |end, row| {
+            *end += row.len();
+            Some(*end)
+        }));
+        Loads { starts, gates: rows.concat() }
+    }
+}
+
+/// The faulty machines of one frame, one in each lane, and the lines that are stuck in them.
+struct Group<'c> {
+    circuit: &'c Circuit,
+    loads: Loads,
+    faults: Vec<Fault>,
+    /// The lanes that are stuck at 1.
+    bits: u64,
+    /// The lanes that are stuck, by the stem of a net, the pins of a gate, and the data pin of a flip-flop.
+    stems: Vec<u64>,
+    pins: Vec<u64>,
+    data_pins: Vec<u64>,
+    words: Vec<Word>,
+    good: Vec<Value>,
+    /// The nets that aren't as in the good machine, and the gates to be evaluated, a bit for each.
+    written: Vec<usize>,
+    pending: Vec<u64>,
+    evaluations: u64,
+}
+
+impl<'c> Group<'c> {
+    fn new(circuit: &'c Circuit) -> Group<'c> {
+        let nets = circuit.names.len();
+        Group {
+            circuit,
+            loads: Loads::of(circuit),
+            faults: Vec::new(),
+            bits: 0,
+            stems: vec![0; nets],
+            pins: vec![0; circuit.gates.len()],
+            data_pins: vec![0; circuit.data_pins.len()],
+            words: vec![Word::splat(Unknown); nets],
+            good: vec![Unknown; nets],
+            written: Vec::new(),
+            pending: vec![0; circuit.gates.len().div_ceil(64)],
+            evaluations: 0,
+        }
     }
 
-    fn gate_evaluations(&self) -> u64 {
-        self.frames * self.circuit.gates.len() as u64
+    /// Begins a frame: the good machine alone, in every lane.
+    fn start(&mut self, vector: &[bool], latches: &[Value]) {
+        let bits = vector.iter().map(|bit| Value::of(*bit));
+        for (net, value) in bits.chain(latches.iter().copied()).enumerate() {
+            self.words[net] = Word::splat(value);
+        }
+        let first = self.circuit.first_gate_net();
+        for (g, gate) in self.circuit.gates.iter().enumerate() {
+            self.words[first + g] = gate.kind.value(gate.args.iter().map(|net| self.words[*net]));
+        }
+        self.evaluations += self.circuit.gates.len() as u64;
+        for (value, word) in self.good.iter_mut().zip(&self.words) {
+            *value = word.lane(0);
+        }
+    }
+
+    fn touch(&mut self, gate: usize) {
+        self.pending[gate / 64] |= 1 << (gate % 64);
+    }
+
+    fn touch_loads(&mut self, net: usize) {
+        for i in self.loads.starts[net]..self.loads.starts[net + 1] {
+            self.touch(self.loads.gates[i] as usize);
+        }
+    }
+
+    fn write(&mut self, net: usize, word: Word) {
+        if word != self.words[net] {
+            self.words[net] = word;
+            self.written.push(net);
+            self.touch_loads(net);
+        }
+    }
+
+    /// Gives the next lane a machine.
+    fn add(&mut self, fault: Fault, differences: &Differences) {
+        let k = self.faults.len();
+        self.faults.push(fault);
+        self.bits |= u64::from(fault.bit) << k;
+        for (j, value) in differences {
+            let net = self.circuit.inputs + j;
+            self.write(net, self.words[net].with(k, *value));
+        }
+        match fault.site {
+            Site::Stem(net) => self.stems[net] |= 1 << k,
+            Site::DataPin(j) => self.data_pins[j] |= 1 << k,
+            Site::GatePin { gate, .. } => self.pins[gate] |= 1 << k,
+        }
+    }
+
+    fn gate_word(&self, g: usize) -> Word {
+        let gate = &self.circuit.gates[g];
+        if self.pins[g] == 0 {
+            return gate.kind.value(gate.args.iter().map(|net| self.words[*net]));
+        }
+        gate.kind.value(gate.args.iter().enumerate().map(|(pin, net)| {
+            let here = Site::GatePin { gate: g, pin };
+            let lanes = self.faults.iter().enumerate().filter(|(_, fault)| fault.site == here);
+            let lanes = lanes.fold(0, |lanes, (k, _)| lanes | 1 << k);
+            self.words[*net].stuck(lanes, self.bits)
+        }))
+    }
+
+    /// Evaluates the gates that events reach, each once: those that drive a gate's arguments come before it.
+    fn settle(&mut self) {
+        let first = self.circuit.first_gate_net();
+        for k in 0..self.faults.len() {
+            match self.faults[k].site {
+                Site::Stem(net) if net < first => self.write(net, self.words[net].stuck(self.stems[net], self.bits)),
+                Site::Stem(net) => self.touch(net - first),
+                Site::GatePin { gate, .. } => self.touch(gate),
+                Site::DataPin(_) => {}
+            }
+        }
+        for row in 0..self.pending.len() {
+            while self.pending[row] != 0 {
+                let g = row * 64 + self.pending[row].trailing_zeros() as usize;
+                self.pending[row] &= self.pending[row] - 1;
+                let net = first + g;
+                self.evaluations += 1;
+                self.write(net, self.gate_word(g).stuck(self.stems[net], self.bits));
+            }
+        }
+    }
+
+    fn next(&self, j: usize) -> Word {
+        self.words[self.circuit.data_pins[j]].stuck(self.data_pins[j], self.bits)
+    }
+
+    /// Takes all machines away.
+    fn clear(&mut self) {
+        for net in self.written.drain(..) {
+            self.words[net] = Word::splat(self.good[net]);
+        }
+        for fault in self.faults.drain(..) {
+            match fault.site {
+                Site::Stem(net) => self.stems[net] = 0,
+                Site::DataPin(j) => self.data_pins[j] = 0,
+                Site::GatePin { gate, .. } => self.pins[gate] = 0,
+            }
+        }
+        self.bits = 0;
+    }
+}
+
+/// What the vectors so far say of each fault.
+struct Grader<'c> {
+    circuit: &'c Circuit,
+    group: Group<'c>,
+    faults: Vec<Fault>,
+    verdicts: Vec<Option<Place>>,
+    differences: Vec<Differences>,
+    latches: Vec<Value>,
+}
+
+impl<'c> Grader<'c> {
+    fn new(circuit: &'c Circuit, faults: Vec<Fault>) -> Grader<'c> {
+        Grader {
+            circuit,
+            group: Group::new(circuit),
+            verdicts: vec![None; faults.len()],
+            differences: vec![Vec::new(); faults.len()],
+            faults,
+            latches: vec![Unknown; circuit.data_pins.len()],
+        }
+    }
+
+    fn apply(&mut self, vector: usize, bits: &[bool]) {
+        self.group.start(bits, &self.latches);
+        let live: Vec<usize> = (0..self.faults.len()).filter(|i| self.verdicts[*i].is_none()).collect();
+        for lanes in live.chunks(64) {
+            for i in lanes {
+                self.group.add(self.faults[*i], &self.differences[*i]);
+            }
+            self.group.settle();
+            self.note_verdicts(vector, lanes);
+            self.note_differences(lanes);
+            self.group.clear();
+        }
+        for (latch, net) in self.latches.iter_mut().zip(&self.circuit.data_pins) {
+            *latch = self.group.good[*net];
+        }
+    }
+
+    fn note_verdicts(&mut self, vector: usize, lanes: &[usize]) {
+        let mut seen = 0;
+        for (output, net) in self.circuit.outputs.iter().enumerate() {
+            let mut found = self.group.words[*net].opposite(self.group.good[*net]) & !seen;
+            seen |= found;
+            while found != 0 {
+                self.verdicts[lanes[found.trailing_zeros() as usize]] = Some(Place { vector, output });
+                found &= found - 1;
+            }
+        }
+    }
+
+    fn note_differences(&mut self, lanes: &[usize]) {
+        for i in lanes {
+            self.differences[*i].clear();
+        }
+        for j in 0..self.circuit.data_pins.len() {
+            let word = self.group.next(j);
+            let mut others = word.other_than(self.group.good[self.circuit.data_pins[j]]);
+            while others != 0 {
+                let k = others.trailing_zeros();
+                self.differences[lanes[k as usize]].push((j, word.lane(k)));
+                others &= others - 1;
+            }
+        }
     }
 }
 
@@ -408,11 +585,15 @@ impl Display for SiteText<'_> {
     }
 }
 
-fn write_report(circuit: &Circuit, simulation: &mut Simulation, report: impl Write) -> Result<(), Box<dyn Error>> {
+fn write_report(
+    circuit: &Circuit,
+    faults: &[Fault],
+    representatives: &[usize],
+    verdicts: &[Option<Place>],
+    report: impl Write,
+) -> Result<(), Box<dyn Error>> {
     let mut report = BufWriter::new(report);
-    let faults = circuit.faults();
-    let representatives = circuit.representatives(&faults);
-    let classes = representatives.iter().enumerate().filter(|(i, r)| i == *r).count();
+    let classes = verdicts.len();
     writeln!(
         report,
         "circuit inputs {} outputs {} flip-flops {} gates {} faults {} classes {classes}",
@@ -422,7 +603,8 @@ fn write_report(circuit: &Circuit, simulation: &mut Simulation, report: impl Wri
         circuit.gates.len(),
         faults.len(),
     )?;
-    let mut detected = 0;
+    let detected = verdicts.iter().flatten().count();
+    let mut verdicts = verdicts.iter();
     for (i, fault) in faults.iter().enumerate() {
         let bit = u8::from(fault.bit);
         write!(report, "{} {} s-a-{bit} ", i + 1, SiteText(circuit, fault.site))?;
@@ -430,9 +612,7 @@ fn write_report(circuit: &Circuit, simulation: &mut Simulation, report: impl Wri
             writeln!(report, "as {}", representatives[i] + 1)?;
             continue;
         }
-        let place = simulation.first_detection(*fault);
-        detected += usize::from(place.is_some());
-        writeln!(report, "{}", Verdict(circuit, place))?;
+        writeln!(report, "{}", Verdict(circuit, verdicts.next().copied().flatten()))?;
     }
     let total = format!("total {classes} detected {detected}");
     writeln!(report, "{total}")?;
@@ -448,9 +628,15 @@ fn run(netlist: &str, tests: &str, report: &str) -> Result<(), Box<dyn Error>> {
         .lines()
         .map(|line| line.bytes().map(|byte| byte == b'1').collect())
         .collect();
-    let mut simulation = Simulation::new(&circuit, &vectors);
-    write_report(&circuit, &mut simulation, File::create(report)?)?;
-    eprintln!("gate evaluations {}", simulation.gate_evaluations());
+    let faults = circuit.faults();
+    let representatives = circuit.representatives(&faults);
+    let own = (0..faults.len()).filter(|i| representatives[*i] == *i).map(|i| faults[i]);
+    let mut grader = Grader::new(&circuit, own.collect());
+    for (vector, bits) in vectors.iter().enumerate() {
+        grader.apply(vector, bits);
+    }
+    write_report(&circuit, &faults, &representatives, &grader.verdicts, File::create(report)?)?;
+    eprintln!("gate evaluations {}", grader.group.evaluations);
     Ok(())
 }
 

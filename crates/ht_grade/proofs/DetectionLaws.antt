@@ -1,15 +1,24 @@
--- First detections, class by class.
-use Rattle.std.proofs.Common.{◌≡◌, ◌<◌, ◌≤◌, ◌+◌, inl, inr, ℕ, List, Bool, length, get_or, set, Option, None, sym, ◌∙◌, ap, subst, arith}
-use Rattle.std.specs.Option.{ForSome}
+-- First detections, class by class, from what a packed grader keeps of the representatives.
+use Rattle.std.proofs.Common.{◌≡◌, ◌<◌, ◌≤◌, ◌+◌, inl, inr, ℕ, List, [], Bool, length, get_or, set, Option, Some, None, refl, sym, ◌∙◌, ap, subst, arith}
+use Rattle.std.specs.List.{slice_get}
+use Rattle.std.specs.Option.{ForSome, option_map}
+use Rattle.std.proofs.Math.ListN.{get_or-eq_default}
+use Rattle.std.proofs.lemmas.Option.{slice_get-map, slice_get-get_or}
 use Rattle.std.proofs.lemmas.Bool.{cases_eq}
 use Rattle.std.proofs.lemmas.List.{length-set, get_or-set_same, get_or-set_other}
+use Rattle.ht_tern.specs.declared.tern.Tern.{Tern}
+use Rattle.ht_net.specs.declared.fault.Fault.{Fault}
 use Rattle.ht_net.specs.declared.place.Place.{Place}
 use Rattle.ht_net.specs.Netlist.{Netlist}
-use Rattle.ht_net.specs.Detection.{IsFirstDetection}
+use Rattle.ht_net.specs.Detection.{Detects, IsFirstDetection, tern_outputs}
+use Rattle.ht_net.proofs.FrameLaws.{le_or_lt}
 use Rattle.ht_faults.specs.Sites.{faults_of}
 use Rattle.ht_collapse.specs.Classes.{fault_at, own_representatives}
 use Rattle.ht_collapse.proofs.OwnLaws.{representative_is_own}
+use Rattle.ht_serial.specs.Opposites.{IsOppositeAt}
 use Rattle.ht_serial.specs.Places.{IsWithin}
+use Rattle.ht_serial.proofs.DetectionLaws.{frames_count, place_within}
+use Rattle.ht_proofs.specs.Grades.{Grades, GraderStandsFor, chosen_faults, verdict_at}
 use Rattle.ht_grade.specs.Detections.{place_at, AreFirstDetections, AreWithin}
 
 -- the first detections of the first k classes
@@ -67,3 +76,46 @@ all_first c representatives list places k every so_far done = record {
       subst (λ n. IsFirstDetection c (fault_at c n) list (place_at places n)) found.2
       (so_far.first found.0 (omega (arith, found.1, done)));
 }
+
+-- a place where a list detects a fault is one of the circuit and of the list
+pub detected_within : (c : Netlist) (fault : Fault) (list : List (List Bool)) (p : Place)
+    → Detects c fault list p.vector p.output → IsWithin c list p
+detected_within c fault list p d = elim (le_or_lt (length list) p.vector) [
+  | inl beyond ↦
+      let row : get_or rows p.vector [] ≡ [] = get_or-eq_default rows [] (omega (arith, beyond, frames_count c None list))
+      in
+      absurd (subst (λ (shown : List Tern). IsOppositeAt shown faulty p.output) row d)
+  | inr inside ↦ place_within c list p (get_or rows p.vector []) faulty inside refl d
+]
+  where
+    rows : List (List Tern)
+    rows = tern_outputs c None list
+
+    faulty : List Tern
+    faulty = get_or (tern_outputs c (Some fault) list) p.vector []
+
+-- The verdict of a packed grader on the k-th representative is its first detection.
+pub own_verdict : (c : Netlist) (representatives : List ℕ) (list : List (List Bool)) (packed : Grades) (k : ℕ)
+    → packed.circuit ≡ c → packed.faults ≡ chosen_faults (faults_of c) (own_representatives representatives)
+    → k < length (own_representatives representatives) → GraderStandsFor packed list
+    → IsFirstDetection c (fault_at c (get_or (own_representatives representatives) k 0)) list (verdict_at packed k)
+own_verdict c representatives list packed k circuit faults inside stands =
+    subst (λ (n : Netlist). IsFirstDetection n (fault_at c (get_or own k 0)) list (verdict_at packed k)) circuit
+    (stands.first k (fault_at c (get_or own k 0)) (ap (λ (l : List Fault). slice_get l k) faults
+    ∙ (slice_get-map (fault_at c) own k ∙ ap (option_map (fault_at c)) (slice_get-get_or own k 0 inside))))
+  where
+    own : List ℕ
+    own = own_representatives representatives
+
+-- a first detection is within the circuit and the list
+pub first_within : (c : Netlist) (fault : Fault) (list : List (List Bool)) (place : Option Place)
+    → IsFirstDetection c fault list place → ForSome place (IsWithin c list)
+first_within c fault list place first =
+    λ p is. detected_within c fault list p (subst (IsFirstDetection c fault list) is first).0
+
+-- the representatives of the circuit of a packed grader are its faults, whatever the circuit is called
+pub chosen_again : (c d : Netlist) (representatives : List ℕ) (faults : List Fault) → d ≡ c
+    → faults ≡ chosen_faults (faults_of c) (own_representatives representatives)
+    → faults ≡ chosen_faults (faults_of d) (own_representatives representatives)
+chosen_again c d representatives faults same is =
+    is ∙ ap (λ (n : Netlist). chosen_faults (faults_of n) (own_representatives representatives)) (sym same)

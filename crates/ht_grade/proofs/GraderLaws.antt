@@ -1,26 +1,61 @@
--- A grader's fields, as vectors are added.
-use Rattle.std.proofs.Common.{◌≡◌, ◌+◌, ◌<◌, ℕ, List, [], ◌∷◌, ◌++◌, Bool, true, None, length, get_or, sym, ◌∙◌, ap, subst, arith, length-append}
-use Rattle.std.proofs.lemmas.List.{flat_map_more}
-use Rattle.ht_tern.specs.declared.tern.Tern.{Tern}
+-- What a grader's fields say of its value, and how they change as vectors are added.
+use Rattle.std.proofs.Common.{◌≡◌, ◌<◌, ◌^◌, ℕ, List, [], ◌∷◌, ◌++◌, Bool, true, Option, None, length, get_or, sym, ◌∙◌, ap, subst, arith}
+use Rattle.std.specs.Option.{ForSome}
+use Rattle.std.proofs.lemmas.List.{flat_map_more, get_or_read}
 use Rattle.ht_net.specs.declared.fault.Fault.{Fault}
+use Rattle.ht_net.specs.declared.place.Place.{Place}
+use Rattle.ht_net.specs.Netlist.{Netlist}
+use Rattle.ht_net.specs.Detection.{IsFirstDetection, IsPlace, Apart}
 use Rattle.ht_net.specs.Rows.{Rows}
-use Rattle.ht_collapse.specs.Classes.{fault_at, is_representative}
+use Rattle.ht_net.proofs.ApartLaws.{detected_apart}
+use Rattle.ht_faults.specs.Sites.{faults_of}
+use Rattle.ht_collapse.specs.Classes.{AreClasses, fault_at, is_representative, own_representatives}
+use Rattle.ht_serial.specs.Places.{IsWithin}
+use Rattle.ht_proofs.specs.Grades.{Grades, GraderStandsFor, chosen_faults}
+use Rattle.ht_grade.specs.Detections.{AreFirstDetections, AreWithin, place_at}
 use Rattle.ht_grade.specs.GraderView.{GraderView}
-use Rattle.ht_grade.specs.KeptFaults.{KeptFault, nothing_kept, latches_from_unknown, AreKept, KeepsFault}
 use Rattle.ht_grade.specs.GraderOf.{all_vectors, grader_of, IsGraded, AreGraderFields}
 use Rattle.ht_grade.specs.declared.grader.Grader.TheInside.{Inside}
 
 -- what the fields of a grader say of its value
 pub graded : (a : Inside) (v : GraderView) → grader_of a ≡ v → AreGraderFields a
-    → IsGraded v a.faults.now a.count a.good.items a.kept.items
-graded a v is fields =
-    subst (λ (x : GraderView). IsGraded x a.faults.now a.count a.good.items a.kept.items) is fields
+    → IsGraded v a.count a.places.items a.machines a.live
+graded a v is fields = subst (λ (x : GraderView). IsGraded x a.count a.places.items a.machines a.live) is fields
 
--- what is kept of a representative
-pub keeps_at : (v : GraderView) (faults : List Fault) (count : ℕ) (good : List Tern) (kept : List KeptFault) (i : ℕ)
-    → IsGraded v faults count good kept → i < length v.representatives → is_representative v.representatives i ≡ true
-    → KeepsFault v.circuit (fault_at v.circuit i) v.list (get_or kept i nothing_kept)
-keeps_at v faults count good kept i is inside own = is.every i (omega (arith, inside, is.each)) own
+-- a verdict on fault i, and what a detection means
+pub record IsVerdictOn (v : GraderView) (i : ℕ) (place : Option Place) : Type 0 where
+  pub first : IsFirstDetection v.circuit (fault_at v.circuit i) v.list place
+  pub within : ForSome place (IsWithin v.circuit v.list)
+  pub apart : ForSome place (λ p. Apart v.circuit (fault_at v.circuit i) v.list p.vector p.output)
+
+-- what stands at a representative is the verdict on it
+pub verdict_on : (a : Inside) (v : GraderView) (i : ℕ) (place : Option Place) → grader_of a ≡ v → AreGraderFields a
+    → i < length (faults_of v.circuit) → is_representative v.representatives i ≡ true
+    → place ≡ get_or a.places.items i place → IsVerdictOn v i place
+verdict_on a v i place is fields inside own read = record {
+  first = first;
+  within = subst (λ (p : Option Place). ForSome p (IsWithin v.circuit v.list)) (sym here) (kept.within i);
+  apart = λ p found. detected_apart v.circuit fault v.list p.vector p.output
+      (subst (IsFirstDetection v.circuit fault v.list) found first).0;
+}
+  where
+    kept : IsGraded v a.count a.places.items a.machines a.live
+    kept = graded a v is fields
+
+    fault : Fault
+    fault = fault_at v.circuit i
+
+    here : place ≡ place_at a.places.items i
+    here = get_or_read a.places.items i place (omega (arith, inside, kept.first.each)) read None
+
+    first : IsFirstDetection v.circuit fault v.list place
+    first = subst (IsFirstDetection v.circuit fault v.list) (sym here) (kept.first.first i inside own)
+
+-- a place within fewer than 2^64 vectors is one of the circuit
+pub within_is_place : (v : GraderView) (place : Option Place) → ForSome place (IsWithin v.circuit v.list)
+    → length v.list < 2 ^ 64 → ForSome place (IsPlace v.circuit)
+within_is_place v place within few =
+    λ p is. let found = within p is in record { output = found.output; vector = omega (arith, found.vector, few) }
 
 -- one list more
 pub vectors_more : (lists more : List Rows) (copy rows : Rows) → more ≡ lists ++ copy ∷ [] → copy ≡ rows
@@ -29,18 +64,24 @@ vectors_more lists more copy rows pushed same =
     ap all_vectors pushed ∙ (sym (flat_map_more (λ (r : Rows). r.list) [] lists copy)
     ∙ ap (λ (r : Rows). all_vectors lists ++ r.list) same)
 
--- What is kept of the vectors so far and one list more is kept of all.
-pub graded_more : (old new : GraderView) (faults : List Fault) (before count : ℕ) (latches good : List Tern)
-    (kept more : List KeptFault) (list : List (List Bool)) → IsGraded old faults before latches kept
-    → new ≡ record old { list = old.list ++ list } → count ≡ before + length list
-    → good ≡ latches_from_unknown old.circuit None (old.list ++ list) → length more ≡ length old.representatives
-    → AreKept old.circuit old.representatives (old.list ++ list) more → IsGraded new faults count good more
-graded_more old new faults before count latches good kept more list was is count_is good_is each every =
-    subst (λ (v : GraderView). IsGraded v faults count good more) (sym is) (record {
-      all_faults = was.all_faults;
-      all_classes = was.all_classes;
-      counted = omega (arith, count_is, was.counted, length-append old.list list);
-      good_latches = good_is;
-      each = each;
-      every = every;
-    })
+-- Machines that stand for a list, and the places that they tell, are those of a grader of the list.
+pub is_graded : (v : GraderView) (list : List (List Bool)) (count : ℕ) (places : List (Option Place)) (machines : Grades)
+    → AreClasses v.circuit v.representatives → v.list ≡ list → count ≡ length list → machines.circuit ≡ v.circuit
+    → machines.faults ≡ chosen_faults (faults_of v.circuit) (own_representatives v.representatives)
+    → GraderStandsFor machines list
+    → ((l : List (List Bool)) → GraderStandsFor machines l
+    → AreFirstDetections machines.circuit v.representatives l places)
+    → ((l : List (List Bool)) → GraderStandsFor machines l → AreWithin machines.circuit l places)
+    → IsGraded v count places machines true
+is_graded v list count places machines classes is counted same faults stands first within = record {
+  all_classes = classes;
+  counted = counted ∙ ap (λ (l : List (List Bool)). length l) (sym is);
+  first = subst (λ (n : Netlist). AreFirstDetections n v.representatives v.list places) same (first v.list stands_here);
+  within = subst (λ (n : Netlist). AreWithin n v.list places) same (within v.list stands_here);
+  same = same;
+  all_faults = faults;
+  stands = λ live. stands_here;
+}
+  where
+    stands_here : GraderStandsFor machines v.list
+    stands_here = subst (GraderStandsFor machines) (sym is) stands

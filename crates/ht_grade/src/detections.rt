@@ -4,15 +4,15 @@ ghost use Rattle.ht_faults.specs.Sites.{faults_of};
 ghost use Rattle.ht_collapse.specs.Classes.{AreClasses};
 ghost use Rattle.ht_grade.specs.Detections.{AreFirstDetections, AreWithin};
 
+use crate::packed::{apply_all, places_of, start};
 use ht_collapse::Classes;
 use ht_faults::FaultList;
 use ht_net::{Circuit, Place, Vectors};
-use ht_serial::GoodRun;
 use std::alloc::{AllocError, Global};
 
 /// The first place where the vectors detect the representative of each class, or none, at the number of that fault,
-/// from 0. There are as many entries as faults; what stands at another fault's number has no meaning. Each
-/// representative is simulated from the first vector to its detection.
+/// from 0. There are as many entries as faults; what stands at another fault's number has no meaning. All
+/// representatives are simulated side by side, each from the first vector to its detection.
 ///
 /// # Errors
 ///
@@ -31,11 +31,7 @@ pub fn first_detections(
         (λ places. AreFirstDetections circuit.now classes.now list.now.list places.items) }
     ensures within { IfOk result (λ places. AreWithin circuit.now list.now.list places.items) }
 {
-    let good = GoodRun::record(alloc, circuit, list)?;
-    let mut places = Vec::new(alloc);
-    places.resize(faults.len() as usize, None)?;
-    for i in classes.representatives() {
-        places[*i as usize] = good.first_detection(alloc, faults.get(*i))?;
-    }
-    Ok(places)
+    let mut packed = start(alloc, circuit, faults, classes)?;
+    apply_all(&mut packed, list)?;
+    places_of(alloc, classes, &packed)
 }

@@ -1,12 +1,18 @@
-use Rattle.std.proofs.Common.{rules, ◌≡◌, ◌+◌, ◌++◌, ◌∙◌, List, Bool, length, ap}
+use Rattle.std.proofs.Common.{rules, ◌≡◌, ◌+◌, ◌++◌, ◌∙◌, length, arith, length-append}
 use Rattle.ht_grade.specs.GraderView.{GraderView}
 use Rattle.ht_grade.specs.GraderOf.{all_vectors}
-use Rattle.ht_grade.proofs.GraderLaws.{graded, graded_more, vectors_more}
+use Rattle.ht_grade.proofs.DetectionLaws.{chosen_again}
+use Rattle.ht_grade.proofs.GraderLaws.{is_graded, vectors_more}
 use Rattle.ht_grade.proofs.grader.Grader.apply.Goals as goal
+
+pub places_of-requires-clause-faults : goal.places_of-requires-clause-faults
+places_of-requires-clause-faults c =
+    chosen_again c.self.inside.circuit.now c.apply_all.new.packed.circuit c.self.inside.classes.now
+    c.apply_all.new.packed.faults (c.apply_all.ensures.circuit ∙ c.self.invariant.same)
+    (c.apply_all.ensures.faults ∙ c.self.invariant.all_faults)
 
 pub invariant_of-self-2 : goal.invariant_of-self-2
 invariant_of-self-2 c =
-    let s = c.args.self.now in
     let a = c.self.inside in
     let list = c.args.list.now.list in
     let new : GraderView = record {
@@ -14,12 +20,12 @@ invariant_of-self-2 c =
       representatives = a.classes.now;
       list = all_vectors c.push.new.self.items;
     } in
-    let vectors = vectors_more a.lists.items c.push.new.self.items c.in_ok-copy.copy c.args.list.now
+    let before = all_vectors a.lists.items in
+    let more = vectors_more a.lists.items c.push.new.self.items c.in_ok-copy.copy c.args.list.now
     c.in_ok-push.ensures.items c.in_ok-copy.ensures in
-    let is : new ≡ record s { list = s.list ++ list } =
-    ap (λ (l : List (List Bool)). record { circuit = a.circuit.now; representatives = a.classes.now; list = l }) vectors
-    ∙ ap (λ (v : GraderView). record v { list = v.list ++ list }) c.self.view_is in
-    let count : c.in-Some.count ≡ a.count + length list = search rules in
-    graded_more s new a.faults.now a.count c.in-Some.count a.good.items c.in_ok-good.good.latches.items a.kept.items
-    c.in_ok-kept.kept.items list (graded a s c.self.view_is c.self.invariant) is count c.in_ok-good.ensures.latches
-    c.in_ok-kept.ensures.each c.in_ok-kept.ensures.kept
+    let added : c.in-Some.count ≡ a.count + length list = search rules in
+    is_graded new (before ++ list) c.in-Some.count c.in_ok-places.places.items c.apply_all.new.packed
+    c.self.invariant.all_classes more (omega (arith, added, c.self.invariant.counted, length-append before list))
+    (c.apply_all.ensures.circuit ∙ c.self.invariant.same) (c.apply_all.ensures.faults ∙ c.self.invariant.all_faults)
+    (c.in_ok-apply_all.ensures.stands before (c.self.invariant.stands c.if-not-self.false)) c.in_ok-places.ensures.first
+    c.in_ok-places.ensures.within

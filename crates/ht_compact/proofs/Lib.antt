@@ -1,0 +1,4 @@
+pub mod WithoutLaws
+pub mod KeptLaws
+pub mod DetectedLaws
+pub mod CompactionLaws

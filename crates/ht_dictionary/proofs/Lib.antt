@@ -1,0 +1,6 @@
+pub mod ContradictionLaws
+pub mod ConsistencyLaws
+pub mod DiagnosisLaws
+pub mod RowTextLaws
+pub mod DiagnosisTextLaws
+pub mod ResponseLaws

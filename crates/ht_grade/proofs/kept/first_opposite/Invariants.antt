@@ -1,6 +1,0 @@
-use Rattle.std.proofs.Common.{◌<◌, ℕ}
-use Rattle.ht_serial.specs.Opposites.{IsOppositeAt}
-use Rattle.ht_grade.proofs.kept.first_opposite.Given as goal
-
-abbrev pub invariant-loop-o : goal.invariant-loop-o
-invariant-loop-o l = (o : ℕ) → o < l.o → ¬ IsOppositeAt l.good l.faulty.outputs o

@@ -1,0 +1,16 @@
+-- A fold over the values of nets.
+use Rattle.std.proofs.Common.{◌≡◌, ◌<◌, ◌+◌, ◌∙◌, ℕ, List, length, get_or, drop, ap, sym}
+use Rattle.std.proofs.lemmas.List.{drop_more}
+use Rattle.ht_tern.specs.Gate.{folded}
+use Rattle.ht_net.specs.declared.net.NetId.{NetId}
+use Rattle.ht_net.specs.Netlist.{no_net}
+use Rattle.ht_net.specs.Frame.{values_at}
+
+-- one more net is folded in
+pub fold_next : {V : Type 0} → (op : V → V → V) (env : ℕ → V) (items : List NetId) (i : ℕ) (value next : V)
+    → i < length items → next ≡ op value (env (get_or items i no_net).0)
+    → folded op next (values_at env (drop (i + 1) items)) ≡ folded op value (values_at env (drop i items))
+fold_next op env items i value next inside is =
+    let more = drop_more items i no_net inside in
+    ap (λ v. folded op v (values_at env (drop (i + 1) items))) is
+    ∙ ap (λ (l : List NetId). folded op value (values_at env l)) (sym more)

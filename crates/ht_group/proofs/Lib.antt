@@ -1,0 +1,17 @@
+pub mod BitLaws
+pub mod DriveLaws
+pub mod MachineLaws
+pub mod StuckLaws
+pub mod PinLaws
+pub mod FoldLaws
+pub mod OverlayLaws
+pub mod ReaderLaws
+pub mod RankLaws
+pub mod EventLaws
+pub mod KeptLaws
+pub mod SpreadLaws
+pub mod ViewLaws
+pub mod GroupLaws
+pub mod PutLaws
+pub mod ChangeLaws
+pub mod ShownLaws

@@ -1,0 +1,22 @@
+use Rattle.std.proofs.Common.{◌<◌, ◌∙◌, List, length, get_or, ap, arith}
+use Rattle.std.proofs.lemmas.List.{get_or_default}
+use Rattle.ht_tern.specs.declared.tern.Tern.{Tern}
+use Rattle.ht_tern.specs.declared.tern.Tern.TheVariants.{Unk, Zero}
+use Rattle.ht_net.specs.Netlist.{net_count}
+use Rattle.ht_group.specs.GroupView.{GroupView}
+use Rattle.ht_group.specs.NetValues.{good_value}
+use Rattle.ht_group.proofs.GroupLaws.{good_of}
+use Rattle.ht_group.proofs.group.Group.good_value.Goals as goal
+
+pub returns : goal.returns
+returns c =
+    let a = c.self.inside in
+    let g = c.self.invariant in
+    let x = c.args.net.0 in
+    let size = ap (λ (v : GroupView). net_count v.circuit) c.self.view_is in
+    let known : x < net_count a.circuit.now = omega (arith, c.requires, size) in
+    let same = ap (λ (l : List Tern). length l) g.nets in
+    let inside : x < length a.nets.good = omega (arith, known, same, g.frame.room.value_count) in
+    (λ i. get_or (c.good.ensures i) (c.index.ensures i) Zero)
+    ∙ (get_or_default a.nets.good x Zero Unk inside
+    ∙ (good_of a g x known ∙ ap (λ (v : GroupView). good_value v x) c.self.view_is))

@@ -1,0 +1,53 @@
+-- A group of faulty machines in one frame of a circuit, as contracts see it.
+use Rattle.std.specs.Prelude.{◌<◌, ℕ, List, Bool, All, Some, None, length, get_or}
+use Rattle.ht_tern.specs.declared.tern.Tern.{Tern}
+use Rattle.ht_tern.specs.declared.tern.Tern.TheVariants.{Unk}
+use Rattle.ht_net.specs.declared.fault.Site.{Site}
+use Rattle.ht_net.specs.declared.fault.Site.TheVariants.{Stem, DffPin, GatePin}
+use Rattle.ht_net.specs.declared.fault.Fault.{Fault}
+use Rattle.ht_net.specs.Netlist.{Netlist, net_count}
+use Rattle.ht_net.specs.Frame.{frame_outputs, next_state}
+use Rattle.ht_net.specs.Faults.{tern_rules}
+use Rattle.ht_diff.specs.declared.diffs.Diff.{Diff}
+
+-- A machine with a fault, and what its flip-flops hold before the frame.
+pub record FaultyMachine : Type 0 where
+  pub fault : Fault
+  pub latches : List Tern
+
+-- A frame of a circuit: the good machine's vector and latches, and the faulty machines that run beside it, one a lane.
+pub record GroupView : Type 0 where
+  pub circuit : Netlist
+  pub vector : List Tern
+  pub latches : List Tern
+  pub machines : List FaultyMachine
+  -- whether each net has its value in each machine
+  pub settled : Bool
+
+-- what the good machine shows at output o in the frame, and what its latch j is after it
+abbrev pub good_output : GroupView → ℕ → Tern
+good_output g o = get_or (frame_outputs g.circuit (tern_rules None) g.vector g.latches) o Unk
+
+abbrev pub good_next : GroupView → ℕ → Tern
+good_next g j = get_or (next_state g.circuit (tern_rules None) g.vector g.latches) j Unk
+
+-- what a machine shows at output o in the frame, and what its latch j is after it
+abbrev pub faulty_output : GroupView → FaultyMachine → ℕ → Tern
+faulty_output g m o = get_or (frame_outputs g.circuit (tern_rules (Some m.fault)) g.vector m.latches) o Unk
+
+abbrev pub faulty_next : GroupView → FaultyMachine → ℕ → Tern
+faulty_next g m j = get_or (next_state g.circuit (tern_rules (Some m.fault)) g.vector m.latches) j Unk
+
+-- the circuit has the net, the gate or the flip-flop of a site
+abbrev pub HasSite : Netlist → Site → Type 0
+HasSite c (Stem x) = x.0 < net_count c
+HasSite c (DffPin j) = j < length c.dffs
+HasSite c (GatePin g i) = g < length c.gates
+
+-- each difference is at a flip-flop of the circuit
+abbrev pub AreLatches : Netlist → List Diff → Type 0
+AreLatches c diffs = All (λ (d : Diff). d.latch < length c.dffs) diffs
+
+-- the most machines of a group: the lanes of a word
+abbrev pub max_machines : ℕ
+max_machines = 64

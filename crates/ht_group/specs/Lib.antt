@@ -1,0 +1,12 @@
+pub mod GroupView
+pub mod BitSets
+pub mod Overlays
+pub mod OverlayOf
+pub mod Schedules
+pub mod LaneRules
+pub mod StuckTables
+pub mod Pending
+pub mod GoodFrames
+pub mod NetValues
+pub mod LatchWords
+pub mod GroupOf

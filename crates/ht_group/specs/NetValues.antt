@@ -1,0 +1,13 @@
+-- The values of a net in the machines of a group.
+use Rattle.std.specs.Prelude.{ℕ, Some, None}
+use Rattle.ht_tern.specs.declared.tern.Tern.{Tern}
+use Rattle.ht_net.specs.Frame.{net_value}
+use Rattle.ht_net.specs.Faults.{tern_rules}
+use Rattle.ht_group.specs.GroupView.{FaultyMachine, GroupView}
+
+-- in the good machine, and in a faulty one
+abbrev pub good_value : GroupView → ℕ → Tern
+good_value g x = net_value g.circuit (tern_rules None) g.vector g.latches x
+
+abbrev pub faulty_value : GroupView → FaultyMachine → ℕ → Tern
+faulty_value g m x = net_value g.circuit (tern_rules (Some m.fault)) g.vector m.latches x

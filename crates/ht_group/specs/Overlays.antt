@@ -1,0 +1,18 @@
+-- Words that lie over values of the good machine.
+use Rattle.std.specs.Prelude.{ℕ, List, map, get_or}
+use Rattle.ht_tern.specs.declared.tern.Tern.{Tern}
+use Rattle.ht_tern.specs.declared.tern.Tern.TheVariants.{Unk}
+use Rattle.ht_lanes.specs.Lanes.{Lanes, every_lane}
+
+-- values of the good machine, and a word for each
+pub record OverlayView : Type 0 where
+  pub good : List Tern
+  pub words : List Lanes
+
+-- each word has its good value in every lane
+abbrev pub spread : List Tern → OverlayView
+spread good = record { good = good; words = map every_lane good }
+
+-- word x of a list
+abbrev pub word_at : List Lanes → ℕ → Lanes
+word_at words x = get_or words x (every_lane Unk)

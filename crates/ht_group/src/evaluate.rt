@@ -1,0 +1,165 @@
+//! The words of a net from those that its driver reads.
+ghost use Rattle.std.specs.Prelude.{◌≡◌, ◌<◌, ◌≤◌, ◌+◌, ◌&&◌, ◌==◌, ℕ, length, get_or, set, if◌then◌else◌};
+ghost use Rattle.std.specs.List.{slice_get};
+ghost use Rattle.ht_tern.specs.Gate.{HasArity, gate_value_over, operation_of, tern_of};
+ghost use Rattle.ht_lanes.specs.Lanes.{lane, with_lane};
+ghost use Rattle.ht_net.specs.Netlist.{first_gate_net, net_count, no_net};
+ghost use Rattle.ht_net.specs.Frame.{gate_output, values_at};
+ghost use Rattle.ht_net.specs.Faults.{tern_rules};
+ghost use Rattle.ht_frame.specs.Values.{env_of};
+ghost use Rattle.ht_group.specs.LaneRules.{drive_from, lane_rules};
+ghost use Rattle.ht_group.specs.Overlays.{word_at};
+ghost use Rattle.ht_group.specs.StuckTables.{AreGateLanes, AreStuck, is_pin_number};
+
+use crate::stuck_lines::StuckLines;
+use ht_lanes::{Word, eval_word};
+use ht_net::{Circuit, Fault, NetId, Site};
+use ht_tern::{GateOperations, Kind, Tern};
+
+/// Room for the pins of a gate: one for each number of a pin.
+pub const PIN_ROOM: usize = 256;
+
+// What the operation of a kind makes of the value so far and of the next one.
+fn combined<V: GateOperations>(kind: Kind, value: V, other: V) -> V
+    ensures { result ≡ operation_of V.operations kind value other }
+{
+    match kind {
+        Kind::And | Kind::Nand => value.conjunction(other),
+        Kind::Or | Kind::Nor => value.disjunction(other),
+        Kind::Xor | Kind::Xnor => value.parity(other),
+        Kind::Not | Kind::Buf => value,
+    }
+}
+
+// The value of a gate whose pins read these nets. It takes no room for the pins, as `eval_word` would.
+fn eval_nets<V: GateOperations>(kind: Kind, args: &[NetId], values: &[V]) -> V
+    requires arity { HasArity kind (length args.now) }
+    requires known { (i : ℕ) → i < length args.now
+        → (get_or args.now i no_net).0 < length values.now }
+    ensures { (blank : V) → result ≡ gate_value_over V.operations blank kind
+        (values_at (env_of blank values.now) args.now) }
+{
+    let mut value = values[args[0].index()];
+    for arg in &args[1..] {
+        value = combined(kind, value, values[arg.index()]);
+    }
+    if kind.inverts() {
+        value.complement()
+    } else {
+        value
+    }
+}
+
+// Puts the words of the nets at a gate's pins into `pins`.
+fn read_pins(args: &[NetId], words: &[Word], pins: &mut [Word])
+    requires few { length args.now ≤ 255 }
+    requires known { (i : ℕ) → i < length args.now
+        → (get_or args.now i no_net).0 < length words.now }
+    requires room { length pins.old ≡ PIN_ROOM }
+    ensures room { length pins.new ≡ PIN_ROOM }
+    ensures read { (i : ℕ) → i < length args.now
+        → word_at pins.new i ≡ word_at words.now (get_or args.now i no_net).0 }
+{
+    for (i, arg) in args.iter().enumerate() {
+        pins[i] = words[arg.index()];
+    }
+}
+
+// Writes a definite value into lane `k` of a pin.
+fn write_pin(pins: &mut [Word], pin: u8, k: u32, value: bool)
+    requires room { length pins.old ≡ PIN_ROOM }
+    requires lane { k < 64 }
+    ensures pins { pins.new ≡ set pins.old pin
+        (with_lane (word_at pins.old pin) k (tern_of value)) }
+    ensures within { pin < PIN_ROOM }
+{
+    let pin = pin as usize;
+    pins[pin] = pins[pin].with(k, Tern::from(value));
+}
+
+// Sticks lane `k` of the pin that a fault stands on, if it stands on a pin of a gate.
+fn stick_pin(pins: &mut [Word], fault: Fault, k: u32)
+    requires room { length pins.old ≡ PIN_ROOM }
+    requires lane { k < 64 }
+    ensures room { length pins.new ≡ PIN_ROOM }
+    ensures lanes { (i n : ℕ) → n < 64 → lane (word_at pins.new i) n
+        ≡ (if is_pin_number fault.site i && n == k then tern_of fault.value
+        else lane (word_at pins.old i) n) }
+{
+    match fault.site {
+        Site::GatePin { pin, .. } => write_pin(pins, pin, k, fault.value),
+        Site::Stem(_) => {},
+        Site::DffPin { .. } => {},
+    }
+}
+
+// Sticks the pins of a gate whose words stand in `pins`, each lane as its fault says.
+fn stick_pins(faults: &[Fault], lanes: u64, g: u32, pins: &mut [Word])
+    requires lanes { AreGateLanes faults.now g lanes }
+    requires room { length pins.old ≡ PIN_ROOM }
+    ensures room { length pins.new ≡ PIN_ROOM }
+    ensures lanes { (i k : ℕ) → i < PIN_ROOM → k < 64 → lane (word_at pins.new i) k
+        ≡ (tern_rules (slice_get faults.now k)).pin g i (lane (word_at pins.old i) k) }
+{
+    let mut rest = lanes;
+    while rest != 0 {
+        let k = rest.trailing_zeros();
+        stick_pin(pins, faults[k as usize], k);
+        rest &= !(1 << k);
+    }
+}
+
+// What a gate gives its net, before the net's stem. `pins` is room for the pins of one gate.
+fn gate_output(
+    circuit: &Circuit,
+    lines: &StuckLines,
+    words: &[Word],
+    pins: &mut [Word],
+    g: u32,
+) -> Word
+    requires stuck { AreStuck circuit.now lines.now }
+    requires gate { g < length circuit.now.gates }
+    requires words { length words.now ≡ net_count circuit.now }
+    requires room { length pins.old ≡ PIN_ROOM }
+    ensures { (k : ℕ) → k < 64 → lane result k
+        ≡ lane (gate_output circuit.now (lane_rules lines.now.faults.items) (word_at words.now) g) k }
+{
+    let args = circuit.gate_args(g);
+    let kind = circuit.gate_kind(g);
+    let lanes = lines.at_gate(circuit, g);
+    // most gates have no stuck pin
+    if lanes == 0 {
+        return eval_nets(kind, args, words);
+    }
+    read_pins(args, words, pins);
+    stick_pins(&lines.faults, lanes, g, pins);
+    eval_word(kind, &pins[..args.len()])
+}
+
+/// The word of a net, from its source or from the nets that its gate reads, and by its stem. The sources are the
+/// vector and then the latches.
+pub fn evaluate(
+    circuit: &Circuit,
+    lines: &StuckLines,
+    sources: &[Word],
+    words: &[Word],
+    pins: &mut [Word],
+    net: u32,
+) -> Word
+    requires stuck { AreStuck circuit.now lines.now }
+    requires net { net < net_count circuit.now }
+    requires sources { length sources.now ≡ first_gate_net circuit.now }
+    requires words { length words.now ≡ net_count circuit.now }
+    requires room { length pins.old ≡ PIN_ROOM }
+    ensures { result ≡ (lane_rules lines.now.faults.items).stem net
+        (drive_from circuit.now (lane_rules lines.now.faults.items) sources.now (word_at words.now)
+        net) }
+{
+    let first = circuit.inputs() + circuit.dffs();
+    if net < first {
+        lines.stem(circuit, net, sources[net as usize])
+    } else {
+        let word = gate_output(circuit, lines, words, pins, net - first);
+        lines.stem(circuit, net, word)
+    }
+}

@@ -1,0 +1,312 @@
+-- A grader's fields, before the first vector and after one more.
+use Rattle.std.proofs.Common.{◌≡◌, ◌<◌, ◌≤◌, ◌+◌, ◌^◌, ◌∙◌, ◌⊎◌, ℕ, zero, suc, List, [], ◌∷◌, Bool, true, All, Option, Some, None, length, get_or, replicate, cond, inl, inr, refl, sym, ap, subst, arith}
+use Rattle.std.specs.Prelude.{unwrap_or}
+use Rattle.std.specs.Option.{is_none}
+use Rattle.std.specs.List.{slice_get, count_by}
+use Rattle.std.proofs.lemmas.List.{ext_get_or, get_or-map, get_or_past, get_or-replicate, get_or_read, length-map, length-replicate}
+use Rattle.std.proofs.lemmas.List.Folds.{fold-map}
+use Rattle.std.proofs.lemmas.List.FromFn.{get_or-map-range_with_len, length-map-range_with_len}
+use Rattle.std.proofs.lemmas.List.Elements.{All-get_or}
+use Rattle.std.proofs.lemmas.Option.{get_or_from_slice_get, slice_get_within, slice_get-get_or}
+use Rattle.ht_tern.specs.declared.tern.Tern.{Tern}
+use Rattle.ht_tern.specs.declared.tern.Tern.TheVariants.{Unk}
+use Rattle.ht_net.specs.declared.fault.Site.{Site}
+use Rattle.ht_net.specs.declared.fault.Site.TheVariants.{Stem, DffPin, GatePin}
+use Rattle.ht_net.specs.declared.fault.Fault.{Fault}
+use Rattle.ht_net.specs.declared.place.Place.{Place}
+use Rattle.ht_net.specs.Netlist.{Netlist}
+use Rattle.ht_net.specs.Faults.{tern_rules}
+use Rattle.ht_net.specs.Detection.{unknown_state}
+use Rattle.ht_net.proofs.FrameLaws.{le_or_lt}
+use Rattle.ht_faults.specs.FaultList.{no_fault}
+use Rattle.ht_faults.specs.Sites.{IsFaultSite, faults_of}
+use Rattle.ht_faults.proofs.MemberLaws.{fault_site}
+use Rattle.ht_diff.specs.Differences.{held, value_but, with_differences}
+use Rattle.ht_group.specs.GroupView.{GroupView, FaultyMachine, AreLatches, HasSite}
+use Rattle.ht_proofs.specs.declared.grade.Grade.{Grade}
+use Rattle.ht_proofs.specs.Grades.{Grades, GraderStandsFor, chosen_faults, grades_at_start, state_at, verdict_at}
+use Rattle.ht_proofs.specs.Applied.{IsApplied, IsFirstSeen, faulty_state, good_state, grader_frame, machine_at}
+use Rattle.ht_proofs.specs.LaneGrades.{no_grade, grade_at}
+use Rattle.ht_proofs.specs.Batches.{IsGradedFrame, machine_from, undetected_count}
+use Rattle.ht_proofs.specs.GradesOf.{IsGrader, faulty_states, verdicts_of}
+use Rattle.ht_proofs.proofs.DiffLaws.{state_length}
+use Rattle.ht_proofs.proofs.VectorLaws.{found_inside}
+
+-- ---- what is read of the grades
+
+option_cases : {X : Type 0} → (x : Option X) → (x ≡ None) ⊎ ((p : X) × (x ≡ Some p))
+option_cases None = inl refl
+option_cases (Some p) = inr (p, refl)
+
+-- the verdict of fault k, also where there is no such fault
+pub verdict_of : (grades : List Grade) (k : ℕ) → get_or (verdicts_of grades) k None ≡ (grade_at grades k).verdict
+verdict_of [] k = refl
+verdict_of (g ∷ grades) zero = refl
+verdict_of (g ∷ grades) (suc k) = verdict_of grades k
+
+pub state_of : (latches : List Tern) (grades : List Grade) (k : ℕ) → k < length grades
+    → get_or (faulty_states latches grades) k [] ≡ with_differences latches (grade_at grades k).diffs
+state_of latches grades k inside =
+    get_or-map (λ (g : Grade). with_differences latches g.diffs) grades k no_grade [] inside
+
+pub verdicts_copied : (grades : List Grade) (verdicts : List (Option Place)) (n : ℕ) → length verdicts ≡ length grades
+    → length grades ≤ n → ((k : ℕ) → k < n → get_or verdicts k None ≡ (grade_at grades k).verdict)
+    → verdicts ≡ verdicts_of grades
+verdicts_copied grades verdicts n same done copied =
+    ext_get_or None verdicts (verdicts_of grades) (same ∙ sym (length-map grades (λ (g : Grade). g.verdict)))
+    (λ k inside. copied k (omega (arith, inside, same, done)) ∙ sym (verdict_of grades k))
+
+-- the latch of a fault's machine
+pub latch_is : (latches : List Tern) (grades : List Grade) (k j : ℕ) (grade : Grade) (good value : Tern)
+    → k < length grades → j < length latches → grade ≡ get_or grades k grade → good ≡ get_or latches j good
+    → value ≡ unwrap_or (held grade.diffs j) good
+    → value ≡ get_or (get_or (faulty_states latches grades) k []) j Unk
+latch_is latches grades k j grade good value known inside at good_at is =
+    let here : grade ≡ grade_at grades k = get_or_read grades k grade known at no_grade in
+    let there : good ≡ get_or latches j Unk = get_or_read latches j good inside good_at Unk in
+    is ∙ (ap (λ (g : Grade). unwrap_or (held g.diffs j) good) here
+    ∙ (ap (λ v. unwrap_or (held (grade_at grades k).diffs j) v) there
+    ∙ (sym (get_or-map-range_with_len (value_but latches (grade_at grades k).diffs) 0 (length latches) j j Unk inside
+    (omega arith))
+    ∙ ap (λ (l : List Tern). get_or l j Unk) (sym (state_of latches grades k known)))))
+
+-- how many aren't detected
+pub undetected_same : (grades : List Grade) → count_by is_none (verdicts_of grades) ≡ undetected_count grades
+undetected_same grades =
+    fold-map (λ (n : ℕ) (v : Option Place). n + cond (is_none v) 1 0) (λ (g : Grade). g.verdict) 0 grades
+
+-- ---- before the first vector
+
+-- no difference gives the good latches
+no_differences : (latches : List Tern) → with_differences latches [] ≡ latches
+no_differences latches =
+    let count = length-map-range_with_len (value_but latches []) 0 (length latches) in
+    ext_get_or Unk (with_differences latches []) latches count
+    (λ j inside. get_or-map-range_with_len (value_but latches []) 0 (length latches) j j Unk
+    (omega (arith, inside, count)) (omega arith))
+
+none_at_start : (n k : ℕ) → get_or {A = Option Place} (replicate n None) k None ≡ None
+none_at_start n k = elim (le_or_lt n k) [
+  | inl past ↦ get_or_past (replicate n None) k None (omega (arith, past, length-replicate {A = Option Place} n None))
+  | inr inside ↦ get_or-replicate n k None None inside
+]
+
+grade_at_start : (n k : ℕ) → grade_at (replicate n no_grade) k ≡ no_grade
+grade_at_start n k = elim (le_or_lt n k) [
+  | inl past ↦ get_or_past (replicate n no_grade) k no_grade (omega (arith, past, length-replicate n no_grade))
+  | inr inside ↦ get_or-replicate n k no_grade no_grade inside
+]
+
+states_at_start : (latches : List Tern) (n : ℕ) → faulty_states latches (replicate n no_grade) ≡ replicate n latches
+states_at_start latches zero = refl
+states_at_start latches (suc n) =
+    ap (λ (l : List Tern). l ∷ faulty_states latches (replicate n no_grade)) (no_differences latches)
+    ∙ ap (λ l. latches ∷ l) (states_at_start latches n)
+
+verdicts_at_start : (n : ℕ) → replicate n None ≡ verdicts_of (replicate n no_grade)
+verdicts_at_start zero = refl
+verdicts_at_start (suc n) = ap (λ l. None ∷ l) (verdicts_at_start n)
+
+pub start_stands : (c : Netlist) (faults : List Fault) → GraderStandsFor (grades_at_start c faults) []
+start_stands c faults = record {
+  counted = refl;
+  good = refl;
+  first = λ k fault has.
+      rw (none_at_start (length faults) k) (λ t o d. absurd (omega (arith, found_inside c fault [] t o d)));
+  state = λ k fault has none.
+      get_or-replicate (length faults) k (unknown_state c) [] (slice_get_within faults k fault has);
+}
+
+-- a site of the fault list is there
+site_there : (c : Netlist) (site : Site) → IsFaultSite c site → HasSite c site
+site_there c (Stem x) h = h
+site_there c (DffPin j) h = h.0
+site_there c (GatePin g i) h = h.0
+
+chosen_sites : (c : Netlist) (faults : List Fault) (which : List ℕ) (k : ℕ) (fault : Fault) → faults ≡ faults_of c
+    → All (λ i. i < length faults) which → slice_get (chosen_faults faults which) k ≡ Some fault
+    → HasSite c fault.site
+chosen_sites c faults which k fault is known has =
+    let pick : ℕ → Fault = λ i. get_or faults i no_fault in
+    let inside : k < length which =
+    omega (arith, slice_get_within (chosen_faults faults which) k fault has, length-map which pick) in
+    let at : fault ≡ pick (get_or which k 0) =
+    sym (get_or_from_slice_get (chosen_faults faults which) k fault no_fault has)
+    ∙ get_or-map pick which k 0 no_fault inside in
+    let below : get_or which k 0 < length faults = All-get_or (λ i. i < length faults) which k 0 inside known in
+    let there : fault ≡ get_or (faults_of c) (get_or which k 0) no_fault =
+    at ∙ ap (λ (l : List Fault). get_or l (get_or which k 0) no_fault) is in
+    subst (λ (f : Fault). HasSite c f.site) (sym there)
+    (site_there c _ (fault_site c (get_or which k 0)
+    (omega (arith, below, ap (λ (l : List Fault). length l) is))))
+
+-- the fields at the start
+pub start_fields : (c d : Netlist) (faults : List Fault) (which : List ℕ) (chosen : List Fault) (latches : List Tern)
+    (verdicts : List (Option Place)) (grades : List Grade) → faults ≡ faults_of c
+    → All (λ i. i < length faults) which → d ≡ c → chosen ≡ chosen_faults faults which → latches ≡ unknown_state c
+    → verdicts ≡ replicate (length chosen) None → grades ≡ replicate (length chosen) no_grade
+    → IsGrader d chosen 0 latches verdicts grades true
+start_fields c d faults which chosen latches verdicts grades is known same picked unknown none empty =
+    subst (λ (x : Netlist). IsGrader x chosen 0 latches verdicts grades true) (sym same) (record {
+      latch_count = ap (λ (l : List Tern). length l) unknown ∙ length-replicate (length c.dffs) Unk;
+      verdict_count = ap (λ (l : List (Option Place)). length l) none ∙ length-replicate (length chosen) None;
+      grade_count = ap (λ (l : List Grade). length l) empty ∙ length-replicate (length chosen) no_grade;
+      sites = λ k fault has. chosen_sites c faults which k fault is known
+          (ap (λ (l : List Fault). slice_get l k) (sym picked) ∙ has);
+      few = omega arith;
+      places = λ k p at.
+          let bad : None ≡ Some p =
+          sym (ap (λ (l : List (Option Place)). get_or l k None) none ∙ none_at_start (length chosen) k) ∙ at in
+          cc;
+      same = λ live. none ∙ (verdicts_at_start (length chosen) ∙ ap verdicts_of (sym empty));
+      known = λ live k.
+          subst (λ (g : Grade). AreLatches c g.diffs)
+          (sym (ap (λ (l : List Grade). grade_at l k) empty ∙ grade_at_start (length chosen) k))
+          (λ i d less. absurd (omega arith));
+    })
+
+pub start_view : (c d : Netlist) (faults : List Fault) (latches : List Tern) (verdicts : List (Option Place))
+    (grades : List Grade) → d ≡ c → latches ≡ unknown_state c → verdicts ≡ replicate (length faults) None
+    → grades ≡ replicate (length faults) no_grade
+    → record {
+      circuit = d;
+      faults = faults;
+      count = 0;
+      latches = latches;
+      verdicts = verdicts;
+      states = faulty_states latches grades;
+      live = true;
+    } ≡ grades_at_start c faults
+start_view c d faults latches verdicts grades same unknown none empty =
+    let states : faulty_states latches grades ≡ replicate (length faults) (unknown_state c) =
+    ap (faulty_states latches) empty
+    ∙ (states_at_start latches (length faults) ∙ ap (replicate (length faults)) unknown) in
+    λ i. record {
+      circuit = same i;
+      faults = faults;
+      count = 0;
+      latches = unknown i;
+      verdicts = none i;
+      states = states i;
+      live = true;
+    }
+
+-- ---- after one more vector
+
+-- a grader by its parts
+abbrev pub grades_by : Netlist → List Fault → ℕ → List Tern → List (Option Place) → List Grade → Bool → Grades
+grades_by c faults count latches verdicts grades live = record {
+  circuit = c;
+  faults = faults;
+  count = count;
+  latches = latches;
+  verdicts = verdicts;
+  states = faulty_states latches grades;
+  live = live;
+}
+
+-- A frame of all faults has run: `old` and `new` are what was kept of the faults before it and after it.
+pub record HasRun (g : Grades) (old : List Grade) (vector : List Bool) (frame : GroupView) (h : Grades)
+    (new : List Grade) : Type 0 where
+  pub frame_is : frame ≡ grader_frame g vector
+  pub old_is : g ≡ grades_by g.circuit g.faults g.count g.latches (verdicts_of old) old g.live
+  pub new_is : h ≡ grades_by g.circuit g.faults (g.count + 1) (good_state frame) (verdicts_of new) new true
+  pub each : length old ≡ length g.faults
+  pub long : length new ≡ length old
+  pub all : IsGradedFrame frame g.faults g.count old new
+
+pub is_applied : (g : Grades) (old : List Grade) (vector : List Bool) (frame : GroupView) (h : Grades)
+    (new : List Grade) → HasRun g old vector frame h new → IsApplied g vector h
+is_applied g old vector frame h new run = record {
+  circuit_same = ap (λ (x : Grades). x.circuit) run.new_is;
+  faults_same = ap (λ (x : Grades). x.faults) run.new_is;
+  counted = ap (λ (x : Grades). x.count) run.new_is;
+  good = ap (λ (x : Grades). x.latches) run.new_is ∙ ap good_state run.frame_is;
+  kept = λ k p at. new_verdict k
+      ∙ (ap (λ (x : Grade). x.verdict) (run.all.kept k p (sym (old_verdict k) ∙ at)) ∙ (sym (old_verdict k) ∙ at));
+  seen = λ k fault has none.
+      let graded = run.all.graded k fault has (sym (old_verdict k) ∙ none) in
+      let place = (grade_at new k).verdict in
+      subst (IsFirstSeen (grader_frame g vector) (machine_at g k fault) g.count (length g.circuit.outputs))
+      (sym (new_verdict k))
+      (subst (λ (m : FaultyMachine). IsFirstSeen (grader_frame g vector) m g.count (length g.circuit.outputs) place)
+      (machine k fault has)
+      (subst (λ (f : GroupView). IsFirstSeen f (machine_from f fault (grade_at old k)) g.count
+      (length f.circuit.outputs) place) run.frame_is graded.seen));
+  state = λ k fault has none.
+      let not_yet : (grade_at new k).verdict ≡ None = sym (new_verdict k) ∙ none in
+      let graded = run.all.graded k fault has (still k not_yet) in
+      ap (λ (x : Grades). state_at x k) run.new_is
+      ∙ (state_of (good_state frame) new k (omega (arith, slice_get_within g.faults k fault has, run.each, run.long))
+      ∙ (graded.state not_yet
+      ∙ (ap (λ (f : GroupView). faulty_state f (machine_from f fault (grade_at old k))) run.frame_is
+      ∙ ap (faulty_state (grader_frame g vector)) (machine k fault has))));
+  goes_on = ap (λ (x : Grades). x.live) run.new_is;
+}
+  where
+    old_verdict : (k : ℕ) → verdict_at g k ≡ (grade_at old k).verdict
+    old_verdict k = ap (λ (x : Grades). verdict_at x k) run.old_is ∙ verdict_of old k
+
+    new_verdict : (k : ℕ) → verdict_at h k ≡ (grade_at new k).verdict
+    new_verdict k = ap (λ (x : Grades). verdict_at x k) run.new_is ∙ verdict_of new k
+
+    still : (k : ℕ) → (grade_at new k).verdict ≡ None → (grade_at old k).verdict ≡ None
+    still k none = elim (option_cases (grade_at old k).verdict) [
+      | inl not_yet ↦ not_yet
+      | inr p ↦
+          let bad : None ≡ Some p.0 = sym none ∙ (ap (λ (x : Grade). x.verdict) (run.all.kept k p.0 p.1) ∙ p.1) in
+          cc
+    ]
+
+    machine : (k : ℕ) (fault : Fault) → slice_get g.faults k ≡ Some fault
+        → machine_from (grader_frame g vector) fault (grade_at old k) ≡ machine_at g k fault
+    machine k fault has =
+        ap (λ (l : List Tern). record { fault = fault; latches = l })
+        (sym (ap (λ (x : Grades). state_at x k) run.old_is
+        ∙ state_of g.latches old k (omega (arith, slice_get_within g.faults k fault has, run.each))))
+
+-- the fields after it
+pub run_fields : (g : Grades) (old : List Grade) (vector : List Bool) (frame : GroupView) (h : Grades)
+    (new : List Grade) → HasRun g old vector frame h new
+    → IsGrader g.circuit g.faults g.count g.latches g.verdicts old g.live → g.count < 2 ^ 62
+    → ((k : ℕ) → AreLatches frame.circuit (grade_at new k).diffs)
+    → IsGrader h.circuit h.faults h.count h.latches h.verdicts new h.live
+run_fields g old vector frame h new run was few known =
+    let circuit : frame.circuit ≡ g.circuit = ap (λ (f : GroupView). f.circuit) run.frame_is in
+    subst (λ (x : Grades). IsGrader x.circuit x.faults x.count x.latches x.verdicts new x.live) (sym run.new_is)
+    (record {
+      latch_count = state_length frame.circuit (tern_rules None) frame.vector frame.latches
+          ∙ ap (λ (c : Netlist). length c.dffs) circuit;
+      verdict_count = length-map new (λ (x : Grade). x.verdict) ∙ (run.long ∙ run.each);
+      grade_count = run.long ∙ run.each;
+      sites = was.sites;
+      few = omega (arith, few);
+      places = λ k p at. place k p (sym (verdict_of new k) ∙ at);
+      same = λ live. refl;
+      known = λ live k. subst (λ (c : Netlist). AreLatches c (grade_at new k).diffs) circuit (known k);
+    })
+  where
+    new_place : (k : ℕ) (p : Place) → (grade_at new k).verdict ≡ Some p → (grade_at old k).verdict ≡ None
+        → (p.vector < g.count + 1) × (p.output < length g.circuit.outputs)
+    new_place k p at not_yet = elim (le_or_lt (length new) k) [
+      | inl past ↦
+          let bad : None ≡ Some p = ap (λ (x : Grade). x.verdict) (sym (get_or_past new k no_grade past)) ∙ at in
+          cc
+      | inr inside ↦
+          let fault = get_or g.faults k no_fault in
+          let has : slice_get g.faults k ≡ Some fault =
+          slice_get-get_or g.faults k no_fault (omega (arith, inside, run.long, run.each)) in
+          let seen = (run.all.graded k fault has not_yet).seen.found p at in
+          let outputs = ap (λ (f : GroupView). length f.circuit.outputs) run.frame_is in
+          (omega (arith, seen.0), omega (arith, seen.1, outputs))
+    ]
+
+    place : (k : ℕ) (p : Place) → (grade_at new k).verdict ≡ Some p
+        → (p.vector < g.count + 1) × (p.output < length g.circuit.outputs)
+    place k p at = elim (option_cases (grade_at old k).verdict) [
+      | inl not_yet ↦ new_place k p at not_yet
+      | inr q ↦
+          let same : Some q.0 ≡ Some p = sym q.1 ∙ (sym (ap (λ (x : Grade). x.verdict) (run.all.kept k q.0 q.1)) ∙ at) in
+          let here = was.places k p (ap (λ (x : Grades). verdict_at x k) run.old_is ∙ (verdict_of old k ∙ (q.1 ∙ same))) in
+          (omega (arith, here.0), here.1)
+    ]

@@ -1,0 +1,7 @@
+pub mod VectorLaws
+pub mod LaneLaws
+pub mod SeenLaws
+pub mod DiffLaws
+pub mod FrameLoopLaws
+pub mod BatchLaws
+pub mod GradesLaws

@@ -1,0 +1,280 @@
+-- A grader that stands for a list of vectors, once one more is applied.
+use Rattle.std.proofs.Common.{◌≡◌, ◌<◌, ◌∙◌, ◌⊎◌, ℕ, zero, suc, List, [], ◌∷◌, ◌++◌, Bool, length, get_or, map, refl, ap, sym, arith, subst, Option, Some, None, inl, inr, length-append}
+use Rattle.std.specs.List.{slice_get}
+use Rattle.std.proofs.lemmas.List.{get_or_past, get_or_append_left, length-map, map-append}
+use Rattle.std.proofs.Math.Seq.{get_or-append_seam}
+use Rattle.ht_tern.specs.declared.tern.Tern.{Tern}
+use Rattle.ht_tern.specs.declared.tern.Tern.TheVariants.{Zero, One, Unk}
+use Rattle.ht_tern.specs.Opposite.{Opposite}
+use Rattle.ht_net.specs.declared.fault.Fault.{Fault}
+use Rattle.ht_net.specs.declared.place.Place.{Place}
+use Rattle.ht_net.specs.Netlist.{Netlist}
+use Rattle.ht_net.specs.Frame.{Rules, net_value, run_state, run_outputs, next_state, frame_outputs}
+use Rattle.ht_net.specs.Faults.{tern_rules}
+use Rattle.ht_net.specs.Detection.{terns_of, unknown_state, tern_outputs, output_at, Detects, IsBefore, IsFirstDetection, Apart}
+use Rattle.ht_net.proofs.FrameLaws.{le_or_lt}
+use Rattle.ht_net.proofs.ValueLaws.{seen_length}
+use Rattle.ht_net.proofs.ApartLaws.{detected_apart}
+use Rattle.ht_group.specs.GroupView.{GroupView, FaultyMachine, good_output, faulty_output}
+use Rattle.ht_proofs.specs.Grades.{Grades, GraderStandsFor, latches_from_unknown, verdict_at}
+use Rattle.ht_proofs.specs.Applied.{IsApplied, IsFirstSeen, IsSeen, grader_frame, machine_at}
+
+-- ---- runs
+
+-- a run over one more vector
+state_more : {V : Type 0} → (c : Netlist) (r : Rules V) (latches : List V) (vectors : List (List V)) (v : List V)
+    → run_state c r latches (vectors ++ v ∷ []) ≡ next_state c r v (run_state c r latches vectors)
+state_more c r latches [] v = refl
+state_more c r latches (w ∷ vectors) v = state_more c r (next_state c r w latches) vectors v
+
+outputs_more : {V : Type 0} → (c : Netlist) (r : Rules V) (latches : List V) (vectors : List (List V)) (v : List V)
+    → run_outputs c r latches (vectors ++ v ∷ [])
+    ≡ run_outputs c r latches vectors ++ frame_outputs c r v (run_state c r latches vectors) ∷ []
+outputs_more c r latches [] v = refl
+outputs_more c r latches (w ∷ vectors) v =
+    ap (λ t. frame_outputs c r w latches ∷ t) (outputs_more c r (next_state c r w latches) vectors v)
+
+outputs_count : {V : Type 0} → (c : Netlist) (r : Rules V) (latches : List V) (vectors : List (List V))
+    → length (run_outputs c r latches vectors) ≡ length vectors
+outputs_count c r latches [] = refl
+outputs_count c r latches (w ∷ vectors) = ap suc (outputs_count c r (next_state c r w latches) vectors)
+
+-- a frame shows as many values as there are outputs, and so does each frame of a run
+row_width : {V : Type 0} → (c : Netlist) (r : Rules V) (vector latches : List V)
+    → length (frame_outputs c r vector latches) ≡ length c.outputs
+unfolding frame_outputs
+row_width c r vector latches = seen_length (net_value c r vector latches) c.outputs
+
+run_width : {V : Type 0} → (c : Netlist) (r : Rules V) (latches : List V) (vectors : List (List V)) (t : ℕ)
+    → t < length vectors → length (get_or (run_outputs c r latches vectors) t []) ≡ length c.outputs
+run_width c r latches [] t h = absurd (omega arith)
+run_width c r latches (w ∷ vectors) zero h = row_width c r w latches
+run_width c r latches (w ∷ vectors) (suc t) h = run_width c r (next_state c r w latches) vectors t (omega arith)
+
+-- ---- runs of lists of bits, from all-unknown
+
+latches_more : (c : Netlist) (f : Option Fault) (list : List (List Bool)) (v : List Bool)
+    → latches_from_unknown c f (list ++ v ∷ [])
+    ≡ next_state c (tern_rules f) (terns_of v) (latches_from_unknown c f list)
+latches_more c f list v =
+    ap (λ (l : List (List Tern)). run_state c (tern_rules f) (unknown_state c) l) (map-append terns_of list (v ∷ []))
+    ∙ state_more c (tern_rules f) (unknown_state c) (map terns_of list) (terns_of v)
+
+rows_more : (c : Netlist) (f : Option Fault) (list : List (List Bool)) (v : List Bool)
+    → tern_outputs c f (list ++ v ∷ [])
+    ≡ tern_outputs c f list ++ frame_outputs c (tern_rules f) (terns_of v) (latches_from_unknown c f list) ∷ []
+rows_more c f list v =
+    ap (λ (l : List (List Tern)). run_outputs c (tern_rules f) (unknown_state c) l) (map-append terns_of list (v ∷ []))
+    ∙ outputs_more c (tern_rules f) (unknown_state c) (map terns_of list) (terns_of v)
+
+rows_count : (c : Netlist) (f : Option Fault) (list : List (List Bool)) → length (tern_outputs c f list) ≡ length list
+rows_count c f list = outputs_count c (tern_rules f) (unknown_state c) (map terns_of list) ∙ length-map list terns_of
+
+-- what is shown before the last vector, and at it
+shown_before : (c : Netlist) (f : Option Fault) (list : List (List Bool)) (v : List Bool) (t o : ℕ) → t < length list
+    → output_at c f (list ++ v ∷ []) t o ≡ output_at c f list t o
+shown_before c f list v t o h = ap (λ (row : List Tern). get_or row o Unk)
+    (ap (λ (rows : List (List Tern)). get_or rows t []) (rows_more c f list v)
+    ∙ get_or_append_left (tern_outputs c f list) _ [] t (omega (arith, h, rows_count c f list)))
+
+shown_last : (c : Netlist) (f : Option Fault) (list : List (List Bool)) (v : List Bool) (t o : ℕ) → t ≡ length list
+    → output_at c f (list ++ v ∷ []) t o
+    ≡ get_or (frame_outputs c (tern_rules f) (terns_of v) (latches_from_unknown c f list)) o Unk
+shown_last c f list v t o h =
+    let last = frame_outputs c (tern_rules f) (terns_of v) (latches_from_unknown c f list) in
+    ap (λ (row : List Tern). get_or row o Unk)
+    (ap (λ (rows : List (List Tern)). get_or rows t []) (rows_more c f list v)
+    ∙ (ap (λ (n : ℕ). get_or (tern_outputs c f list ++ last ∷ []) n []) (h ∙ sym (rows_count c f list))
+    ∙ get_or-append_seam (tern_outputs c f list) last [] []))
+
+-- ---- what is detected
+
+not_unknown : (b : Tern) → ¬ Opposite Unk b
+not_unknown Zero h = h
+not_unknown One h = h
+not_unknown Unk h = h
+
+opposite_along : (a b x y : Tern) → a ≡ x → b ≡ y → Opposite a b → Opposite x y
+opposite_along a b x y p q h = subst (λ t. Opposite x t) q (subst (λ t. Opposite t b) p h)
+
+-- what is opposite stands at a value of the good row
+opposite_inside : (good : List Tern) (faulty : Tern) (o : ℕ) → Opposite (get_or good o Unk) faulty → o < length good
+opposite_inside good faulty o h = elim (le_or_lt (length good) o) [
+  | inl past ↦ absurd (not_unknown faulty (subst (λ t. Opposite t faulty) (get_or_past good o Unk past) h))
+  | inr inside ↦ inside
+]
+
+-- what is detected is detected at a vector of the list, and at an output of the circuit
+pub found_inside : (c : Netlist) (f : Fault) (list : List (List Bool)) (t o : ℕ) → Detects c f list t o → t < length list
+found_inside c f list t o d = elim (le_or_lt (length list) t) [
+  | inl past ↦
+      let none : output_at c None list t o ≡ Unk =
+      ap (λ (row : List Tern). get_or row o Unk)
+      (get_or_past (tern_outputs c None list) t [] (omega (arith, past, rows_count c None list))) in
+      absurd (not_unknown (output_at c (Some f) list t o)
+      (subst (λ v. Opposite v (output_at c (Some f) list t o)) none d))
+  | inr inside ↦ inside
+]
+
+found_output : (c : Netlist) (f : Fault) (list : List (List Bool)) (t o : ℕ) → Detects c f list t o
+    → o < length c.outputs
+found_output c f list t o d =
+    let inside = found_inside c f list t o d in
+    let width = run_width c (tern_rules None) (unknown_state c) (map terns_of list) t
+    (omega (arith, inside, length-map list terns_of)) in
+    omega (arith, width, opposite_inside (get_or (tern_outputs c None list) t []) (output_at c (Some f) list t o) o d)
+
+-- What the longer list detects before its last vector is what the list detects.
+detects_shorter : (c : Netlist) (f : Fault) (list : List (List Bool)) (v : List Bool) (t o : ℕ) → t < length list
+    → Detects c f (list ++ v ∷ []) t o → Detects c f list t o
+detects_shorter c f list v t o h d =
+    opposite_along _ _ _ _ (shown_before c None list v t o h) (shown_before c (Some f) list v t o h) d
+
+detects_longer : (c : Netlist) (f : Fault) (list : List (List Bool)) (v : List Bool) (t o : ℕ) → t < length list
+    → Detects c f list t o → Detects c f (list ++ v ∷ []) t o
+detects_longer c f list v t o h d =
+    opposite_along _ _ _ _ (sym (shown_before c None list v t o h)) (sym (shown_before c (Some f) list v t o h)) d
+
+before_inside : (t o n : ℕ) (p : Place) → IsBefore t o p → p.vector < n → t < n
+before_inside t o n p (inl less) h = omega (arith, less, h)
+before_inside t o n p (inr same) h = omega (arith, same.0, h)
+
+-- a first detection stays the first
+first_kept : (c : Netlist) (f : Fault) (list : List (List Bool)) (v : List Bool) (p : Place)
+    → IsFirstDetection c f list (Some p) → IsFirstDetection c f (list ++ v ∷ []) (Some p)
+first_kept c f list v p first =
+    let inside : p.vector < length list = found_inside c f list p.vector p.output first.0 in (
+      detects_longer c f list v p.vector p.output inside first.0,
+      λ t o before d. first.1 t o before
+          (detects_shorter c f list v t o (before_inside t o (length list) p before inside) d),
+    )
+
+-- What the last vector detects is seen in its frame.
+pub record IsLast (frame : GroupView) (m : FaultyMachine) (list : List (List Bool)) (v : List Bool) : Type 0 where
+  pub vector : frame.vector ≡ terns_of v
+  pub good : frame.latches ≡ latches_from_unknown frame.circuit None list
+  pub faulty : m.latches ≡ latches_from_unknown frame.circuit (Some m.fault) list
+
+good_last : (frame : GroupView) (m : FaultyMachine) (list : List (List Bool)) (v : List Bool) (t o : ℕ)
+    → IsLast frame m list v → t ≡ length list
+    → output_at frame.circuit None (list ++ v ∷ []) t o ≡ good_output frame o
+good_last frame m list v t o last at =
+    shown_last frame.circuit None list v t o at
+    ∙ (ap (λ (s : List Tern). get_or (frame_outputs frame.circuit (tern_rules None) (terns_of v) s) o Unk)
+    (sym last.good)
+    ∙ ap (λ (w : List Tern). get_or (frame_outputs frame.circuit (tern_rules None) w frame.latches) o Unk)
+    (sym last.vector))
+
+faulty_last : (frame : GroupView) (m : FaultyMachine) (list : List (List Bool)) (v : List Bool) (t o : ℕ)
+    → IsLast frame m list v → t ≡ length list
+    → output_at frame.circuit (Some m.fault) (list ++ v ∷ []) t o ≡ faulty_output frame m o
+faulty_last frame m list v t o last at =
+    let r = tern_rules (Some m.fault) in
+    shown_last frame.circuit (Some m.fault) list v t o at
+    ∙ (ap (λ (s : List Tern). get_or (frame_outputs frame.circuit r (terns_of v) s) o Unk) (sym last.faulty)
+    ∙ ap (λ (w : List Tern). get_or (frame_outputs frame.circuit r w m.latches) o Unk) (sym last.vector))
+
+detects_last : (frame : GroupView) (m : FaultyMachine) (list : List (List Bool)) (v : List Bool) (t o : ℕ)
+    → IsLast frame m list v → t ≡ length list → IsSeen frame m o
+    → Detects frame.circuit m.fault (list ++ v ∷ []) t o
+detects_last frame m list v t o last at h =
+    opposite_along _ _ _ _ (sym (good_last frame m list v t o last at)) (sym (faulty_last frame m list v t o last at)) h
+
+seen_last : (frame : GroupView) (m : FaultyMachine) (list : List (List Bool)) (v : List Bool) (t o : ℕ)
+    → IsLast frame m list v → t ≡ length list → Detects frame.circuit m.fault (list ++ v ∷ []) t o
+    → IsSeen frame m o
+seen_last frame m list v t o last at d =
+    opposite_along _ _ _ _ (good_last frame m list v t o last at) (faulty_last frame m list v t o last at) d
+
+-- what is seen is seen at an output
+seen_inside : (frame : GroupView) (m : FaultyMachine) (o : ℕ) → IsSeen frame m o → o < length frame.circuit.outputs
+seen_inside frame m o h =
+    let row = frame_outputs frame.circuit (tern_rules None) frame.vector frame.latches in
+    omega (
+      arith,
+      row_width frame.circuit (tern_rules None) frame.vector frame.latches,
+      opposite_inside row (faulty_output frame m o) o h,
+    )
+
+-- Where no vector before detects the fault, the last one decides.
+first_new : (frame : GroupView) (m : FaultyMachine) (list : List (List Bool)) (v : List Bool) (number : ℕ)
+    (verdict : Option Place) → IsLast frame m list v → number ≡ length list
+    → IsFirstDetection frame.circuit m.fault list None
+    → IsFirstSeen frame m number (length frame.circuit.outputs) verdict
+    → IsFirstDetection frame.circuit m.fault (list ++ v ∷ []) verdict
+first_new frame m list v number (Some p) last count none is =
+    let found = is.found p refl in
+    let at : p.vector ≡ length list = found.0 ∙ count in (
+      detects_last frame m list v p.vector p.output last at found.2,
+      λ t o before d. elim before [
+        | inl earlier ↦
+            none t o (detects_shorter frame.circuit m.fault list v t o (omega (arith, earlier, at)) d)
+        | inr same ↦ found.3 o same.1 (seen_last frame m list v t o last (same.0 ∙ at) d)
+      ],
+    )
+first_new frame m list v number None last count none is = λ t o d. elim (le_or_lt (length list) t) [
+  | inl from ↦
+      let inside : t < length (list ++ v ∷ []) = found_inside frame.circuit m.fault (list ++ v ∷ []) t o d in
+      let at : t ≡ length list = omega (arith, from, inside, length-append list (v ∷ [])) in
+      let seen = seen_last frame m list v t o last at d in
+      is.none refl o (seen_inside frame m o seen) seen
+  | inr before ↦ none t o (detects_shorter frame.circuit m.fault list v t o before d)
+]
+
+option_cases : {X : Type 0} → (x : Option X) → (x ≡ None) ⊎ ((p : X) × (x ≡ Some p))
+option_cases None = inl refl
+option_cases (Some p) = inr (p, refl)
+
+-- a fault that isn't detected wasn't before
+still_undetected : (g : Grades) (v : List Bool) (h : Grades) (k : ℕ) → IsApplied g v h → verdict_at h k ≡ None
+    → verdict_at g k ≡ None
+still_undetected g v h k a e = elim (option_cases (verdict_at g k)) [
+  | inl was ↦ was
+  | inr p ↦ let bad : None ≡ Some p.0 = sym e ∙ a.kept k p.0 p.1 in cc
+]
+
+last_frame : (g : Grades) (list : List (List Bool)) (v : List Bool) (k : ℕ) (f : Fault) → GraderStandsFor g list
+    → slice_get g.faults k ≡ Some f → verdict_at g k ≡ None → IsLast (grader_frame g v) (machine_at g k f) list v
+last_frame g list v k f s has none = record {
+  vector = refl;
+  good = s.good;
+  faulty = s.state k f has none;
+}
+
+pub applied_stands : (g h : Grades) (list : List (List Bool)) (v : List Bool) → GraderStandsFor g list
+    → IsApplied g v h → GraderStandsFor h (list ++ v ∷ [])
+applied_stands g h list v s a = record {
+  counted = omega (arith, a.counted, s.counted, length-append list (v ∷ []));
+  good =
+      rw a.circuit_same
+      (a.good ∙ (ap (next_state g.circuit (tern_rules None) (terns_of v)) s.good ∙ sym (latches_more g.circuit None list v)));
+  first = λ k f has.
+      let had : slice_get g.faults k ≡ Some f = ap (λ (l : List Fault). slice_get l k) (sym a.faults_same) ∙ has in
+      let first = s.first k f had in
+      rw a.circuit_same (elim (option_cases (verdict_at g k)) [
+        | inl e ↦
+            first_new (grader_frame g v) (machine_at g k f) list v g.count (verdict_at h k)
+            (last_frame g list v k f s had e) s.counted (subst (IsFirstDetection g.circuit f list) e first)
+            (a.seen k f had e)
+        | inr p ↦
+            subst (IsFirstDetection g.circuit f (list ++ v ∷ [])) (sym (a.kept k p.0 p.1))
+            (first_kept g.circuit f list v p.0 (subst (IsFirstDetection g.circuit f list) p.1 first))
+      ]);
+  state = λ k f has e.
+      let had : slice_get g.faults k ≡ Some f = ap (λ (l : List Fault). slice_get l k) (sym a.faults_same) ∙ has in
+      let was = still_undetected g v h k a e in
+      rw a.circuit_same (a.state k f had e
+      ∙ (ap (next_state g.circuit (tern_rules (Some f)) (terns_of v)) (s.state k f had was)
+      ∙ sym (latches_more g.circuit (Some f) list v)));
+}
+
+-- Where a grader stands for a list, its verdicts are within it, and apart.
+pub verdict_within : (g : Grades) (list : List (List Bool)) (k : ℕ) (f : Fault) (p : Place) → GraderStandsFor g list
+    → slice_get g.faults k ≡ Some f → verdict_at g k ≡ Some p
+    → (p.vector < length list) × (p.output < length g.circuit.outputs) × Apart g.circuit f list p.vector p.output
+verdict_within g list k f p s has is =
+    let first = subst (IsFirstDetection g.circuit f list) is (s.first k f has) in (
+      found_inside g.circuit f list p.vector p.output first.0,
+      found_output g.circuit f list p.vector p.output first.0,
+      detected_apart g.circuit f list p.vector p.output first.0,
+    )

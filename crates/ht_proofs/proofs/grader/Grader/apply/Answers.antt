@@ -1,0 +1,81 @@
+use Rattle.std.proofs.Common.{◌≡◌, ◌+◌, ◌∙◌, [], true, List, Option, length, rules, sym, ap, subst, arith}
+use Rattle.std.specs.Vec.{with_items}
+use Rattle.std.proofs.lemmas.List.{with_items_is}
+use Rattle.ht_tern.specs.declared.tern.Tern.{Tern}
+use Rattle.ht_net.specs.declared.fault.Fault.{Fault}
+use Rattle.ht_net.specs.declared.place.Place.{Place}
+use Rattle.ht_net.specs.Detection.{terns_of}
+use Rattle.ht_group.specs.GroupView.{AreLatches, GroupView}
+use Rattle.ht_proofs.specs.declared.grade.Grade.{Grade}
+use Rattle.ht_proofs.specs.Grades.{Grades}
+use Rattle.ht_proofs.specs.Applied.{IsApplied}
+use Rattle.ht_proofs.specs.Batches.{IsGradedFrame}
+use Rattle.ht_proofs.specs.LaneGrades.{grade_at}
+use Rattle.ht_proofs.specs.GradesOf.{grades_of, verdicts_of}
+use Rattle.ht_proofs.proofs.GradesLaws.{HasRun, grades_by, is_applied, run_fields}
+use Rattle.ht_proofs.proofs.VectorLaws.{applied_stands}
+use Rattle.ht_proofs.proofs.grader.Grader.apply.Goals as goal
+
+-- what is kept of each fault after the frame, and the grader then
+abbrev graded : goal.After-self-6-1 → List Grade
+graded c = (with_items c.self.inside.grades c.grade_faults.new.grades).items
+
+abbrev after : goal.After-self-6-1 → Grades
+after c =
+    grades_by c.grade_faults.new.self.group.circuit c.self.inside.faults.items (c.self.inside.count + 1)
+    (with_items c.self.inside.latches c.read_latches.new.latches).items
+    (with_items c.self.inside.verdicts c.copy_verdicts.new.verdicts).items (graded c) true
+
+graded_is : (c : goal.After-self-6-1) → graded c ≡ c.grade_faults.new.grades
+graded_is c = with_items_is c.self.inside.grades c.grade_faults.new.grades (search rules)
+
+has_run : (c : goal.After-self-6-1)
+    → HasRun (grades_of c.self.inside) c.self.inside.grades.items c.args.vector.now c.start.new.self.group (after c)
+    (graded c)
+has_run c =
+    let a = c.self.inside in
+    let live : a.live ≡ true = search rules in
+    let long : length c.grade_faults.new.grades ≡ length a.grades.items = search rules in
+    let latches = with_items_is a.latches c.read_latches.new.latches (search rules)
+    ∙ (c.read_latches.ensures ∙ c.in_ok-grade_faults.ensures.good) in
+    let verdicts = with_items_is a.verdicts c.copy_verdicts.new.verdicts (search rules)
+    ∙ (c.copy_verdicts.ensures ∙ ap verdicts_of c.deref-3.ensures.value) in
+    let circuit = c.grade_faults.ensures.circuit ∙ ap (λ (g : GroupView). g.circuit) c.start.ensures.group in
+    record {
+      frame_is = c.start.ensures.group ∙ ap (λ (l : List Tern). record {
+        circuit = a.batch.group.circuit;
+        vector = terns_of c.args.vector.now;
+        latches = l;
+        machines = [];
+        settled = true;
+      }) c.deref.ensures.value;
+      old_is = ap (λ (v : List (Option Place)). grades_by a.batch.group.circuit a.faults.items a.count
+          a.latches.items v a.grades.items a.live) (c.self.invariant.same live);
+      new_is = λ i. grades_by (circuit i) a.faults.items (a.count + 1) (latches i) (verdicts i) (graded c) true;
+      each = c.self.invariant.grade_count;
+      long = ap (λ (l : List Grade). length l) (graded_is c) ∙ long;
+      all =
+          subst (IsGradedFrame c.start.new.self.group a.faults.items a.count a.grades.items) (sym (graded_is c))
+          (subst (λ (l : List Fault). IsGradedFrame c.start.new.self.group l a.count a.grades.items
+          c.grade_faults.new.grades) c.deref-2.ensures.value
+          (subst (λ (l : List Grade). IsGradedFrame c.start.new.self.group c.deref-2.result.now a.count l
+          c.grade_faults.new.grades) c.deref_mut.ensures.value c.in_ok-grade_faults.ensures.passed));
+    }
+
+pub returns-clause-applied : goal.returns-clause-applied
+returns-clause-applied c =
+    subst (λ (g : Grades). IsApplied g c.args.vector.now (after c)) c.self.view_is
+    (is_applied (grades_of c.self.inside) c.self.inside.grades.items c.args.vector.now c.start.new.self.group (after c)
+    (graded c) (has_run c))
+
+pub returns-clause-stands : goal.returns-clause-stands
+returns-clause-stands c = λ list stands.
+    applied_stands c.args.self.now (after c) list c.args.vector.now stands (returns-clause-applied c)
+
+pub invariant_of-self-2 : goal.invariant_of-self-2
+invariant_of-self-2 c =
+    let few : c.self.inside.count ≡ c.args.self.now.count = ap (λ (g : Grades). g.count) c.self.view_is in
+    run_fields (grades_of c.self.inside) c.self.inside.grades.items c.args.vector.now c.start.new.self.group (after c)
+    (graded c) (has_run c) c.self.invariant (omega (arith, few, c.requires.few))
+    (λ k. subst (λ (l : List Grade). AreLatches c.start.new.self.group.circuit (grade_at l k).diffs)
+    (sym (graded_is c)) (c.in_ok-grade_faults.ensures.known k))

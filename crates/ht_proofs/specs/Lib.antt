@@ -1,0 +1,5 @@
+pub mod Grades
+pub mod Applied
+pub mod LaneGrades
+pub mod Batches
+pub mod GradesOf

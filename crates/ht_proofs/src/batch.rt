@@ -1,0 +1,236 @@
+//! A group and its faults: one frame of all undetected faults, 64 at a time.
+ghost use Rattle.std.specs.Prelude.{◌≡◌, ◌<◌, ◌≤◌, ◌+◌, ◌*◌, ℕ, [], List, None, Some, true, false, length, get_or, IfOk, OnOk, OnErr};
+ghost use Rattle.std.specs.List.{slice_get};
+ghost use Rattle.ht_net.specs.declared.fault.Fault.{Fault};
+ghost use Rattle.ht_net.specs.Detection.{terns_of};
+ghost use Rattle.ht_group.specs.GroupView.{AreLatches, FaultyMachine, GroupView, HasSite, max_machines};
+ghost use Rattle.ht_proofs.specs.declared.grade.Grade.{Grade};
+ghost use Rattle.ht_proofs.specs.Applied.{IsFirstSeen, full_groups, good_state};
+ghost use Rattle.ht_proofs.specs.LaneGrades.{AreLaneFaults, HasNoLane, HoldsLatches, IsGradedFault, grade_at, lane_grade};
+ghost use Rattle.ht_proofs.specs.Batches.{AreCounted, AreLanesBelow, AreLanesGraded, ArePassed, IsAdded, IsGradedFrame, undetected_count};
+
+use crate::grade::{Grade, note_latch, note_place};
+use crate::steps::Steps;
+use ht_group::{Group, MAX_MACHINES};
+use ht_net::{Circuit, Fault, Place};
+use ht_tern::Tern;
+use std::alloc::{AllocError, Global};
+use std::marker::Model;
+
+/// A group and the number of the fault in each of its lanes.
+#[derive(Drop)]
+pub struct Batch<'c> {
+    circuit: &'c Circuit,
+    group: Group<'c>,
+    lanes: Vec<usize>,
+}
+
+impl<'c> Model for Batch<'c> {
+    ghost use Rattle.std.specs.Prelude.{◌≡◌};
+    ghost use Rattle.ht_proofs.specs.Batches.{BatchView};
+
+    ghost Value = { BatchView };
+
+    ghost view = { λ a. record { group = a.group; lanes = a.lanes.items } };
+
+    ghost invariant = { λ a. a.group.circuit ≡ a.circuit.now };
+}
+
+impl<'c> Batch<'c> {
+    /// No faults, and no frame yet.
+    pub fn new(alloc: Global, circuit: &'c Circuit) -> Result<Batch<'c>, AllocError>
+        ensures { IfOk result (λ batch. batch.group.circuit ≡ circuit.now) }
+    {
+        let group = Group::new(alloc, circuit)?;
+        Ok(Batch {
+            circuit,
+            group,
+            lanes: Vec::new(alloc),
+        })
+    }
+
+    /// Begins a frame with the good machine, each of whose gates is evaluated once.
+    pub fn start(&mut self, vector: &[bool], latches: &[Tern], steps: &mut Steps)
+        requires width { length vector.now ≡ self.old.group.circuit.inputs }
+        requires each { length latches.now ≡ length self.old.group.circuit.dffs }
+        ensures group { self.new.group ≡ record {
+          circuit = self.old.group.circuit;
+          vector = terns_of vector.now;
+          latches = latches.now;
+          machines = [];
+          settled = true;
+        } }
+        ensures lanes { self.new.lanes ≡ [] }
+        ensures steps { steps.new.count
+            ≤ steps.old.count + length self.old.group.circuit.gates }
+    {
+        self.lanes.clear();
+        self.group.start(vector, latches);
+        steps.add(self.circuit.gates());
+    }
+
+    /// Writes the latches of the good machine after the frame.
+    pub fn read_latches(&self, latches: &mut [Tern])
+        requires { length latches.old ≡ length self.now.group.circuit.dffs }
+        ensures { latches.new ≡ good_state self.now.group }
+    {
+        for j in 0..self.circuit.dffs() {
+            latches[j as usize] = self.group.good_next(j);
+        }
+    }
+
+    // Keeps the first place where the fault in each lane is seen in the frame with this number.
+    fn note_outputs(&self, number: u64, grades: &mut [Grade])
+        requires settled { self.now.group.settled ≡ true }
+        requires lanes { AreLanesBelow (length grades.old) self.now grades.old }
+        ensures lanes { (k : ℕ) (m : FaultyMachine) → slice_get self.now.group.machines k ≡ Some m
+            → IsFirstSeen self.now.group m number (length self.now.group.circuit.outputs)
+            (lane_grade grades.new self.now.lanes k).verdict }
+        ensures diffs { (k : ℕ) → k < length self.now.lanes
+            → (lane_grade grades.new self.now.lanes k).diffs ≡ [] }
+        ensures others { (i : ℕ) → HasNoLane self.now.lanes i
+            → grade_at grades.new i ≡ grade_at grades.old i }
+    {
+        for output in 0..self.circuit.outputs() {
+            let place = Place {
+                vector: number,
+                output,
+            };
+            note_place(self.group.opposite(output), place, &self.lanes, grades);
+        }
+    }
+
+    // Keeps where the latches of the machine in each lane differ from the good ones after the frame.
+    fn note_latches(&self, grades: &mut [Grade]) -> Result<(), AllocError>
+        requires settled { self.now.group.settled ≡ true }
+        requires faults { AreLaneFaults self.now.lanes grades.old }
+        requires machines { length self.now.group.machines ≡ length self.now.lanes }
+        requires empty { (k : ℕ) → k < length self.now.lanes
+            → (lane_grade grades.old self.now.lanes k).diffs ≡ [] }
+        ensures lanes { OnOk result ((k : ℕ) (m : FaultyMachine)
+            → slice_get self.now.group.machines k ≡ Some m
+            → HoldsLatches self.now.group m (lane_grade grades.old self.now.lanes k).verdict
+            (lane_grade grades.new self.now.lanes k)) }
+        ensures others { OnOk result ((i : ℕ) → HasNoLane self.now.lanes i
+            → grade_at grades.new i ≡ grade_at grades.old i) }
+    {
+        for j in 0..self.circuit.dffs() {
+            let good = self.group.good_next(j);
+            note_latch(j, good, self.group.next(j), &self.lanes, grades)?;
+        }
+        Ok(())
+    }
+
+    // Runs the machines in the lanes through the frame, and takes them out.
+    fn grade_lanes(
+        &mut self,
+        number: u64,
+        grades: &mut [Grade],
+        steps: &mut Steps,
+    ) -> Result<(), AllocError>
+        requires { AreLanesBelow (length grades.old) self.old grades.old }
+        ensures graded { OnOk result
+            (AreLanesGraded number self.old grades.old self.new grades.new) }
+        ensures circuit { self.new.group.circuit ≡ self.old.group.circuit }
+        ensures steps { steps.new.count
+            ≤ steps.old.count + length self.old.group.circuit.gates }
+    {
+        let evaluated = self.group.settle()?;
+        steps.add(evaluated);
+        self.note_outputs(number, grades);
+        self.note_latches(grades)?;
+        self.group.clear();
+        self.lanes.clear();
+        Ok(())
+    }
+
+    // Gives fault `i`, which isn't detected, the next lane. What is kept of it goes into its machine.
+    fn add(&mut self, fault: Fault, i: usize, grades: &mut [Grade]) -> Result<(), AllocError>
+        requires inside { i < length grades.old }
+        requires undetected { (grade_at grades.old i).verdict ≡ None }
+        requires room { length self.old.group.machines < max_machines }
+        requires site { HasSite self.old.group.circuit fault.site }
+        requires known { AreLatches self.old.group.circuit (grade_at grades.old i).diffs }
+        ensures added { OnOk result (IsAdded i fault self.old grades.old self.new grades.new) }
+        ensures circuit { self.new.group.circuit ≡ self.old.group.circuit }
+    {
+        self.group.add(fault, &grades[i].diffs)?;
+        self.lanes.push(i)?;
+        grades[i].diffs.clear();
+        Ok(())
+    }
+
+    // Takes fault `i` through the frame, with the others in the lanes once these are full.
+    fn take(
+        &mut self,
+        fault: Fault,
+        i: usize,
+        number: u64,
+        grades: &mut [Grade],
+        steps: &mut Steps,
+    ) -> Result<(), AllocError>
+        requires known { i < length grades.old }
+        requires site { HasSite self.old.group.circuit fault.site }
+        requires lanes { AreLanesBelow i self.old grades.old }
+        requires room { length self.old.lanes < max_machines }
+        ensures lanes { OnOk result (AreLanesBelow (i + 1) self.new grades.new) }
+        ensures room { OnOk result (length self.new.lanes < max_machines) }
+        ensures passed { OnOk result ((frame : GroupView) (faults : List Fault) (before : List Grade)
+            → slice_get faults i ≡ Some fault
+            → ArePassed frame faults number before i self.old grades.old
+            → ArePassed frame faults number before (i + 1) self.new grades.new) }
+        ensures counted { OnOk result ((before : List Grade) (start : ℕ)
+            → length before ≡ length grades.old → grade_at grades.old i ≡ grade_at before i
+            → AreCounted (length self.old.group.circuit.gates) before i (length self.old.lanes)
+            start steps.old.count
+            → AreCounted (length self.old.group.circuit.gates) before (i + 1)
+            (length self.new.lanes) start steps.new.count) }
+        ensures circuit { self.new.group.circuit ≡ self.old.group.circuit }
+        ensures steps { OnErr result ((grade_at grades.old i).verdict ≡ None
+            × (steps.new.count ≤ steps.old.count + length self.old.group.circuit.gates)) }
+    {
+        if grades[i].verdict.is_some() {
+            return Ok(());
+        }
+        self.add(fault, i, grades)?;
+        if self.group.len() < MAX_MACHINES {
+            return Ok(());
+        }
+        self.grade_lanes(number, grades, steps)
+    }
+
+    /// Takes each undetected fault through the frame that has begun.
+    ///
+    /// # Errors
+    /// Out of memory; then what is kept of the faults has no meaning.
+    pub fn grade_faults(
+        &mut self,
+        faults: &[Fault],
+        number: u64,
+        grades: &mut [Grade],
+        steps: &mut Steps,
+    ) -> Result<(), AllocError>
+        requires each { length faults.now ≡ length grades.old }
+        requires sites { (k : ℕ) (fault : Fault) → slice_get faults.now k ≡ Some fault
+            → HasSite self.old.group.circuit fault.site }
+        requires known { (k : ℕ)
+            → AreLatches self.old.group.circuit (grade_at grades.old k).diffs }
+        requires started { (self.old.lanes ≡ []) × (self.old.group.machines ≡ []) }
+        ensures passed { OnOk result (IsGradedFrame self.old.group faults.now number grades.old
+            grades.new) }
+        ensures known { OnOk result ((k : ℕ)
+            → AreLatches self.old.group.circuit (grade_at grades.new k).diffs) }
+        ensures good { OnOk result (good_state self.new.group ≡ good_state self.old.group) }
+        ensures circuit { self.new.group.circuit ≡ self.old.group.circuit }
+        ensures steps { steps.new.count ≤ steps.old.count
+            + length self.old.group.circuit.gates * full_groups (undetected_count grades.old) }
+    {
+        for (i, fault) in faults.iter().enumerate() {
+            self.take(*fault, i, number, grades, steps)?;
+        }
+        if self.lanes.is_empty() {
+            return Ok(());
+        }
+        self.grade_lanes(number, grades, steps)
+    }
+}

@@ -1,0 +1,200 @@
+//! Faults graded by vectors that come one by one.
+ghost use Rattle.std.specs.Prelude.{◌≡◌, ◌<◌, ◌≤◌, ◌+◌, ◌*◌, ◌++◌, ◌∷◌, ◌^◌, ℕ, [], List, Bool, None, true, false, length, get_or, map, replicate, IfOk, OnOk, OnErr, IsErr};
+ghost use Rattle.std.specs.List.{All};
+ghost use Rattle.std.specs.Option.{ForSome};
+ghost use Rattle.ht_tern.specs.declared.tern.Tern.TheVariants.{Unk};
+ghost use Rattle.ht_net.specs.Detection.{IsPlace, unknown_state};
+ghost use Rattle.ht_faults.specs.Sites.{faults_of};
+ghost use Rattle.ht_proofs.specs.Grades.{GraderStandsFor, chosen_faults, grades_at_start, state_at, verdict_at};
+ghost use Rattle.ht_proofs.specs.Applied.{IsApplied, groups_of};
+ghost use Rattle.ht_proofs.specs.LaneGrades.{no_grade};
+ghost use Rattle.ht_proofs.specs.GradesOf.{verdicts_of};
+
+use crate::batch::Batch;
+use crate::grade::Grade;
+use crate::steps::Steps;
+use ht_diff::Diffs;
+use ht_faults::FaultList;
+use ht_net::{Circuit, Fault, Place};
+use ht_tern::Tern;
+use std::alloc::{AllocError, Global};
+use std::marker::Model;
+
+/// Faults of a circuit, and what the vectors applied so far say of them. Faults count from 0, in the order in which they
+/// were given; vectors, outputs and flip-flops count from 0.
+#[derive(Drop)]
+pub struct Grader<'c> {
+    faults: Vec<Fault>,
+    // how many vectors were applied
+    count: u64,
+    // the latches of the good machine
+    latches: Vec<Tern>,
+    // what the vectors so far say; a frame that ends early leaves it as it was
+    verdicts: Vec<Option<Place>>,
+    // what a frame works on
+    grades: Vec<Grade>,
+    batch: Batch<'c>,
+    // whether no allocation has failed
+    live: bool,
+}
+
+impl<'c> Model for Grader<'c> {
+    ghost use Rattle.ht_proofs.specs.Grades.{Grades};
+    ghost use Rattle.ht_proofs.specs.GradesOf.{AreGraded, grades_of};
+
+    ghost Value = { Grades };
+
+    ghost view = { grades_of };
+
+    ghost invariant = { AreGraded };
+}
+
+// The faults of a list that have these numbers.
+fn choose(alloc: Global, faults: &FaultList, which: &[u32]) -> Result<Vec<Fault>, AllocError>
+    requires { All (λ i. i < length faults.now) which.now }
+    ensures { IfOk result (λ chosen. chosen.items ≡ chosen_faults faults.now which.now) }
+{
+    let mut chosen = Vec::new(alloc);
+    for i in which {
+        chosen.push(faults.get(*i))?;
+    }
+    Ok(chosen)
+}
+
+// The verdicts on so many faults before the first vector.
+fn verdicts_at_start(alloc: Global, count: usize) -> Result<Vec<Option<Place>>, AllocError>
+    ensures { IfOk result (λ verdicts. verdicts.items ≡ replicate count None) }
+{
+    let mut verdicts = Vec::new(alloc);
+    verdicts.resize(count, None)?;
+    Ok(verdicts)
+}
+
+// What is kept of so many faults before the first vector: the good machine and each faulty one hold the same.
+fn grades_at_start(alloc: Global, count: usize) -> Result<Vec<Grade>, AllocError>
+    ensures { IfOk result (λ grades. grades.items ≡ replicate count no_grade) }
+{
+    let mut grades = Vec::new(alloc);
+    for _ in 0..count {
+        grades.push(Grade {
+            verdict: None,
+            diffs: Diffs::new(alloc),
+        })?;
+    }
+    Ok(grades)
+}
+
+// Writes the verdict of each fault.
+fn copy_verdicts(grades: &[Grade], verdicts: &mut [Option<Place>])
+    requires { length verdicts.old ≡ length grades.now }
+    ensures { verdicts.new ≡ verdicts_of grades.now }
+{
+    for (i, grade) in grades.iter().enumerate() {
+        verdicts[i] = grade.verdict;
+    }
+}
+
+// A latch for each flip-flop of a circuit, all unknown.
+fn unknown_latches(alloc: Global, circuit: &Circuit) -> Result<Vec<Tern>, AllocError>
+    ensures { IfOk result (λ latches. latches.items ≡ unknown_state circuit.now) }
+{
+    let mut latches = Vec::new(alloc);
+    latches.resize(circuit.dffs() as usize, Tern::Unk)?;
+    Ok(latches)
+}
+
+impl<'c> Grader<'c> {
+    /// The faults of a circuit's list that have these numbers, from 0, in this order, before the first vector.
+    ///
+    /// # Errors
+    /// Out of memory.
+    pub fn new(
+        alloc: Global,
+        circuit: &'c Circuit,
+        faults: &FaultList,
+        which: &[u32],
+    ) -> Result<Grader<'c>, AllocError>
+        requires faults { faults.now ≡ faults_of circuit.now }
+        requires known { All (λ i. i < length faults.now) which.now }
+        ensures start { IfOk result (λ grader. grader
+            ≡ grades_at_start circuit.now (chosen_faults faults.now which.now)) }
+        ensures stands { IfOk result (λ grader. GraderStandsFor grader []) }
+    {
+        let faults = choose(alloc, faults, which)?;
+        let latches = unknown_latches(alloc, circuit)?;
+        let verdicts = verdicts_at_start(alloc, faults.len())?;
+        let grades = grades_at_start(alloc, faults.len())?;
+        let batch = Batch::new(alloc, circuit)?;
+        Ok(Grader {
+            faults,
+            count: 0,
+            latches,
+            verdicts,
+            grades,
+            batch,
+            live: true,
+        })
+    }
+
+    /// Applies one more vector: a frame of the good machine, and one of the machine of each fault that isn't detected,
+    /// 64 at a time. Each gate is evaluated once for the good machine and at most once a group, and each evaluation is
+    /// counted in `steps`.
+    ///
+    /// # Errors
+    /// Out of memory; the verdicts are as before, and every later call fails.
+    pub fn apply(&mut self, vector: &[bool], steps: &mut Steps) -> Result<(), AllocError>
+        requires width { length vector.now ≡ self.old.circuit.inputs }
+        requires few { self.old.count < 2 ^ 62 }
+        ensures applied { OnOk result (IsApplied self.old vector.now self.new) }
+        ensures stands { OnOk result ((list : List (List Bool)) → GraderStandsFor self.old list
+            → GraderStandsFor self.new (list ++ vector.now ∷ [])) }
+        ensures err { OnErr result ((self.new.verdicts ≡ self.old.verdicts)
+            × (self.new.live ≡ false)) }
+        ensures dead { self.old.live ≡ false → IsErr result }
+        ensures same { (self.new.circuit ≡ self.old.circuit)
+            × (self.new.faults ≡ self.old.faults) }
+        ensures steps { steps.new.count ≤ steps.old.count
+            + length self.old.circuit.gates * (1 + groups_of self.old) }
+    {
+        if !self.live {
+            return Err(AllocError);
+        }
+        self.live = false;
+        self.batch.start(vector, &self.latches, steps);
+        self.batch
+            .grade_faults(&self.faults, self.count, &mut self.grades, steps)?;
+        self.batch.read_latches(&mut self.latches);
+        copy_verdicts(&self.grades, &mut self.verdicts);
+        self.count += 1;
+        self.live = true;
+        Ok(())
+    }
+
+    /// How many vectors were applied.
+    pub fn count(&self) -> u64
+        ensures same { result ≡ self.now.count }
+        ensures few { result ≤ 2 ^ 62 }
+    {
+        self.count
+    }
+
+    /// The first place where the vectors so far detect fault `k`, or none.
+    pub fn verdict(&self, k: u32) -> Option<Place>
+        requires { k < length self.now.faults }
+        ensures verdict { result ≡ verdict_at self.now k }
+        ensures place { ForSome result (IsPlace self.now.circuit) }
+    {
+        self.verdicts[k as usize]
+    }
+
+    /// What flip-flop `j` of the machine of fault `k` holds after the vectors so far, where the fault isn't detected.
+    pub fn state(&self, k: u32, j: u32) -> Tern
+        requires fault { k < length self.now.faults }
+        requires undetected { verdict_at self.now k ≡ None }
+        requires dff { j < length self.now.circuit.dffs }
+        ensures { result ≡ get_or (state_at self.now k) j Unk }
+    {
+        let differs = self.grades[k as usize].diffs.get(j);
+        differs.unwrap_or(self.latches[j as usize])
+    }
+}
