@@ -32,13 +32,15 @@ given_up_backs c budget i (entries.Aborted told walk aim sweep) is passes = pass
 
 module _ (e : EngineView) (steps : List Step) (i : ℕ)
     (finished : ¬ AwaitsVerdict e.circuit e.representatives steps i) where
-  pub agrees_if_said : (said : Said) → IsSaid e.circuit e.representatives steps i said → AgreesWithTests e.circuit (vectors_of_steps steps) i said
+  pub agrees_if_said : (said : Said) → IsSaid e.circuit e.representatives steps i said
+      → AgreesWithTests e.circuit (vectors_of_steps steps) i said
   agrees_if_said (Detected place) is = is
   agrees_if_said Untestable is = is.0
   agrees_if_said Aborted is = is.0
   agrees_if_said Undetected is = absurd (finished is)
 
-  pub has_entry_if_said : (said : Said) → IsSaid e.circuit e.representatives steps i said → NeedsEntry said → HasEntry (entries_of steps) i
+  pub has_entry_if_said : (said : Said) → IsSaid e.circuit e.representatives steps i said → NeedsEntry said
+      → HasEntry (entries_of steps) i
   has_entry_if_said (Detected place) is needs = absurd needs
   has_entry_if_said Untestable is needs = record { entry = is.1.0; among = is.1.1 }
   has_entry_if_said Aborted is needs = record { entry = is.1.0; among = is.1.1 }
@@ -53,7 +55,8 @@ module _ (e : EngineView) (steps : List Step) (i : ℕ)
     same_entry other has = ap (λ (n : Numbered). n.entry)
         (one_entry (entries_of steps) (record { number = i + 1; entry = other }) entry rises has among (sym numbered))
 
-    pub backs_if_said : (said : Said) → IsSaid e.circuit e.representatives steps i said → Backs e.circuit e.settings.budget i entry.entry said
+    pub backs_if_said : (said : Said) → IsSaid e.circuit e.representatives steps i said
+        → Backs e.circuit e.settings.budget i entry.entry said
     backs_if_said (Detected place) is = tt
     backs_if_said Untestable is = refuted_backs e.circuit e.settings.budget i entry.entry
         (subst (IsOfKind kind.Refuted) (same_entry is.1.0 is.1.1) is.1.2) passes

@@ -46,7 +46,8 @@ module _ (e : EngineView) (steps : List Step) (saids : List Said) (work : IsFini
   is_searched : (i : ℕ) → IsOwn e.circuit e.representatives i → IsSearched e.circuit (said_at saids i)
   is_searched i own = record {
     sayable = (work.said.says i own.listed own).sayable;
-    decided = λ undetected. work.finished.none_awaits i (subst (IsSaid e.circuit e.representatives steps i) undetected (says i own));
+    decided = λ undetected. work.finished.none_awaits i
+        (subst (IsSaid e.circuit e.representatives steps i) undetected (says i own));
   }
 
   is_search : IsSearchOf e.circuit e.representatives (length (faults_of e.circuit)) e.settings.budget saids
@@ -98,8 +99,8 @@ module _ (e : EngineView) (steps : List Step) (saids : List Said) (work : IsFini
       record {
         own = number.own;
         counted = counted;
-        backs = backs_if_said e steps i (work.finished.none_awaits i) in_order.rises entry (omega (arith, counted)) among
-            (passes entry among) (said_at saids i) (says i number.own);
+        backs = backs_if_said e steps i (work.finished.none_awaits i) in_order.rises entry (omega (arith, counted))
+            among (passes entry among) (said_at saids i) (says i number.own);
       }
 
   -- ---- the three together
@@ -112,11 +113,12 @@ module _ (e : EngineView) (steps : List Step) (saids : List Said) (work : IsFini
       (content_of e.settings.budget steps saids)
   are_valid names short_tests short_proofs short_report = record {
     vectors = written_is_test_text e.circuit (vectors_of_steps steps) work.stands.wide short_tests;
-    reported = written_is_report e.circuit e.representatives e.settings.budget saids work.circuit work.classes names is_search
-        short_report;
+    reported = written_is_report e.circuit e.representatives e.settings.budget saids work.circuit work.classes names
+        is_search short_report;
     agrees = λ i own. agrees_if_said e steps i (work.finished.none_awaits i) (said_at saids i) (says i own);
     proved = written_is_proof_text (entries_of steps) have_texts short_proofs;
-    backed = all_from (IsBacking e.circuit e.representatives (content_of e.settings.budget steps saids)) (entries_of steps)
-        is_backing;
-    complete = λ i own needs. has_entry_if_said e steps i (work.finished.none_awaits i) (said_at saids i) (says i own) needs;
+    backed = all_from (IsBacking e.circuit e.representatives (content_of e.settings.budget steps saids))
+        (entries_of steps) is_backing;
+    complete = λ i own needs. has_entry_if_said e steps i (work.finished.none_awaits i) (said_at saids i)
+        (says i own) needs;
   }

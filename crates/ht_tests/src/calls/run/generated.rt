@@ -47,6 +47,7 @@ pub fn leaves(alloc: Global, start: &Setup<'_>, left: &Left<'_>) -> Result<bool,
 }
 
 // A run that finishes: its words, the netlist, the three files, and the line on Out.
+#[derive(Drop)]
 struct Example<'a> {
     words: &'a [&'a str],
     netlist: &'a [u8],
@@ -72,6 +73,51 @@ fn gives(alloc: Global, example: &Example<'_>) -> Result<bool, AllocError> {
         err: b"",
     };
     leaves(alloc, &start, &left)
+}
+
+// The words of runs over the empty netlist, and their report.
+const EMPTY: &[(&[&str], &[u8])] = &[
+    (
+        GEN,
+        b"circuit inputs 0 outputs 0 flip-flops 0 gates 0 faults 0 classes 0 budget 1000\n\
+            total 0 detected 0 untestable 0 aborted 0\n",
+    ),
+    (
+        &["gen", "n", "t", "r", "p", "--budget", "1"],
+        b"circuit inputs 0 outputs 0 flip-flops 0 gates 0 faults 0 classes 0 budget 1\n\
+            total 0 detected 0 untestable 0 aborted 0\n",
+    ),
+    (
+        &["gen", "--budget=100000", "n", "t", "r", "p"],
+        b"circuit inputs 0 outputs 0 flip-flops 0 gates 0 faults 0 classes 0 budget 100000\n\
+            total 0 detected 0 untestable 0 aborted 0\n",
+    ),
+];
+
+fn empty_gives<'a>(
+    alloc: Global,
+    words: &'a [&'a str],
+    report: &'a [u8],
+) -> Result<bool, AllocError> {
+    let example = Example {
+        words,
+        netlist: b"",
+        tests: b"",
+        report,
+        proofs: b"proofs 1\nend\n",
+        out: b"total 0 detected 0 untestable 0 aborted 0\n",
+    };
+    gives(alloc, &example)
+}
+
+#[test]
+fn the_empty_netlist_gives_a_report_without_lines(rt: HostRuntime) -> Result<(), Fail> {
+    let alloc = rt.alloc();
+    for row in EMPTY {
+        let (words, report) = *row;
+        assert!(rt; empty_gives(alloc, words, report)?);
+    }
+    Ok(())
 }
 
 // Each line of the proofs of an entry begins with the entry, or with its sweep.
@@ -117,33 +163,6 @@ const EXAMPLES: &[Example<'static>] = &[
             sweep\nlength 1\ndead\nlength 2\ndead\nlength 3\ndead\nlength 4\ndead\nlength 5\n\
             end\n",
         out: b"total 4 detected 0 untestable 0 aborted 4\n",
-    },
-    Example {
-        words: GEN,
-        netlist: b"",
-        tests: b"",
-        report: b"circuit inputs 0 outputs 0 flip-flops 0 gates 0 faults 0 classes 0 budget 1000\n\
-            total 0 detected 0 untestable 0 aborted 0\n",
-        proofs: b"proofs 1\nend\n",
-        out: b"total 0 detected 0 untestable 0 aborted 0\n",
-    },
-    Example {
-        words: &["gen", "n", "t", "r", "p", "--budget", "1"],
-        netlist: b"",
-        tests: b"",
-        report: b"circuit inputs 0 outputs 0 flip-flops 0 gates 0 faults 0 classes 0 budget 1\n\
-            total 0 detected 0 untestable 0 aborted 0\n",
-        proofs: b"proofs 1\nend\n",
-        out: b"total 0 detected 0 untestable 0 aborted 0\n",
-    },
-    Example {
-        words: &["gen", "--budget=100000", "n", "t", "r", "p"],
-        netlist: b"",
-        tests: b"",
-        report: b"circuit inputs 0 outputs 0 flip-flops 0 gates 0 faults 0 classes 0 budget 100000\n\
-            total 0 detected 0 untestable 0 aborted 0\n",
-        proofs: b"proofs 1\nend\n",
-        out: b"total 0 detected 0 untestable 0 aborted 0\n",
     },
     // A flip-flop that takes its own value: a difference stays in it, and there is no output.
     Example {
