@@ -9,4 +9,4 @@ mod gate;
 mod word;
 
 pub use gate::eval_word;
-pub use word::Word;
+pub use word::{Word, has_lane};

@@ -67,9 +67,9 @@ impl GateOperations for Word {
     }
 }
 
-// Whether a set of lanes has lane `k`.
+/// Whether a set of lanes has lane `k`.
 #[tactic(auto, using(crate::proofs::LaneLaws::test_is_set))]
-fn has_lane(lanes: u64, k: u32) -> bool
+pub fn has_lane(lanes: u64, k: u32) -> bool
     requires { k < 64 }
     ensures { result ≡ is_set lanes k }
 {

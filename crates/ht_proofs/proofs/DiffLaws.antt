@@ -1,13 +1,12 @@
 -- The differences of a faulty machine, one flip-flop after the other.
-use Rattle.std.proofs.Common.{◌≡◌, ◌≢◌, ◌<◌, ◌≤◌, ◌+◌, ◌∙◌, ◌++◌, ◌∷◌, ℕ, zero, suc, List, [], true, false, All, Option, Some, None, length, get_or, cond, eqb, inl, inr, refl, sym, ap, arith, subst}
+use Rattle.std.proofs.Common.{◌≡◌, ◌≢◌, ◌<◌, ◌≤◌, ◌+◌, ◌∙◌, ◌++◌, ◌∷◌, ℕ, zero, suc, List, [], All, Option, Some, None, length, get_or, cond, eqb, inl, inr, refl, sym, ap, arith, subst}
 use Rattle.std.specs.Prelude.{unwrap_or, if◌then◌else◌}
 use Rattle.std.specs.Option.{is_none}
-use Rattle.std.proofs.lemmas.Bool.{cases_Bool, cases_eq}
-use Rattle.std.proofs.lemmas.Bool.Decides.{eqb_tells}
+use Rattle.std.proofs.lemmas.Bool.{cases_Bool, cases_eq, eq-eqb}
 use Rattle.std.proofs.lemmas.List.{ext_get_or}
 use Rattle.std.proofs.lemmas.List.FromFn.{get_or-map-range_with_len, length-map-range_with_len}
 use Rattle.ht_tern.specs.declared.tern.Tern.{Tern}
-use Rattle.ht_tern.specs.declared.tern.Tern.TheVariants.{Zero, One, Unk}
+use Rattle.ht_tern.specs.declared.tern.Tern.TheVariants.{Unk}
 use Rattle.ht_net.specs.declared.place.Place.{Place}
 use Rattle.ht_net.specs.Frame.{Rules, net_value, next_state}
 use Rattle.ht_net.specs.Faults.{tern_rules}
@@ -16,6 +15,7 @@ use Rattle.ht_net.proofs.ValueLaws.{taken_length}
 use Rattle.ht_diff.specs.declared.diffs.Diff.{Diff}
 use Rattle.ht_diff.specs.Differences.{held, same_value, value_but, with_differences}
 use Rattle.std.proofs.lemmas.List.Elements.{All-append}
+use Rattle.ht_diff.proofs.DifferenceLaws.{eqb_other, same_gives}
 use Rattle.ht_group.specs.GroupView.{GroupView, FaultyMachine, good_next, faulty_next}
 use Rattle.ht_proofs.specs.Applied.{good_state, faulty_state}
 use Rattle.ht_proofs.specs.declared.grade.Grade.{Grade}
@@ -41,24 +41,6 @@ lower_pushed j value diffs h =
 lower_rest : (j : ℕ) (d : Diff) (diffs : List Diff) → AreLower j (d ∷ diffs) → AreLower j diffs
 lower_rest j d diffs h = λ k e less. h (suc k) e (omega arith)
 
--- two values that are the same by the test
-same_gives : (a b : Tern) → same_value a b ≡ true → a ≡ b
-same_gives Zero Zero h = refl
-same_gives One One h = refl
-same_gives Unk Unk h = refl
-same_gives Zero One h = cc
-same_gives Zero Unk h = cc
-same_gives One Zero h = cc
-same_gives One Unk h = cc
-same_gives Unk Zero h = cc
-same_gives Unk One h = cc
-
-eqb_other : (a b : ℕ) → a ≢ b → eqb a b ≡ false
-eqb_other a b ne = elim (eqb_tells a b) [ inl p ↦ absurd (ne p.1) | inr p ↦ p.0 ]
-
-eqb_same : (a b : ℕ) → a ≡ b → eqb a b ≡ true
-eqb_same a b e = elim (eqb_tells a b) [ inl p ↦ p.0 | inr p ↦ absurd (p.1 e) ]
-
 -- nothing is held for a flip-flop that is not lower
 held_none : (j : ℕ) (diffs : List Diff) → AreLower j diffs → held diffs j ≡ None
 held_none j [] h = refl
@@ -68,7 +50,7 @@ held_none j (d ∷ diffs) h =
 
 held_pushed : (j : ℕ) (value : Tern) (diffs : List Diff) → AreLower j diffs
     → held (diffs ++ record { latch = j; value = value } ∷ []) j ≡ Some value
-held_pushed j value [] h = ap (λ b. cond b (Some value) None) (eqb_same j j refl)
+held_pushed j value [] h = ap (λ b. cond b (Some value) None) (eq-eqb j j refl)
 held_pushed j value (d ∷ diffs) h =
     let lower : d.latch < j = h 0 d (omega arith) in
     let more = diffs ++ record { latch = j; value = value } ∷ [] in
