@@ -440,6 +440,7 @@ pub record ArePassing (start : BatchView) (faults : List Fault) (number : ℕ) (
   pub room : length s.lanes < max_machines
   pub passed : ArePassed start.group faults number old i s new
   pub counted : AreCounted (length start.group.circuit.gates) old i (length s.lanes) before after
+  pub rises : before ≤ after
 
 -- all faults went through, and none is left in a lane
 pub passed_all : (frame : GroupView) (faults : List Fault) (number : ℕ) (old : List Grade) (n : ℕ) (s : BatchView)

@@ -19,6 +19,7 @@ loop-i-preserved c =
     ap (λ (n : Netlist). length n.gates) inv.passed.circuit_same in
     let took = c.in_ok-take.ensures in
     record {
+      rises = omega (arith, inv.rises, took.rises);
       lanes = took.lanes;
       room = took.room;
       passed = took.passed s.group c.args.faults.now old
