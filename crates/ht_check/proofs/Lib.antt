@@ -6,6 +6,7 @@ pub mod FreshLaws
 pub mod PlaceLaws
 pub mod WantedLaws
 pub mod StatusLaws
+pub mod BegunLaws
 pub mod CubeLaws
 pub mod ToldLaws
 pub mod VectorRunLaws

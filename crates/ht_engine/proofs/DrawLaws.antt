@@ -34,11 +34,11 @@ module _ (e now : EngineView) (listed : List Fault) (grader : GraderView) (words
         faults = is.faults;
         classes = is.classes;
         circuit = is.circuit;
+        left = omega (arith, left);
         representatives = is.representatives;
         budget = is.budget;
         kinds = is.kinds;
         place = is.place;
-        left = omega (arith, left);
         words =
             after_is
             ∙ ap (λ (k : ℕ). after_words k words) width_is

@@ -30,7 +30,6 @@ use Rattle.ht_engine.specs.declared.step.Step.TheVariants.{Vectors, Entry, Finis
 use Rattle.ht_engine.specs.declared.work.Work.{Work}
 use Rattle.ht_engine.specs.EngineOf.{IsEngine}
 use Rattle.ht_engine.specs.EngineStands.{AllPass, EngineStandsFor, EngineView, HasSameWork, IsKindIn, IsOfKind, IsSaid, Makes, MakesStep, MeansOfStep, first_of, kind_at, remaining}
-use Rattle.ht_engine.specs.FaultWork.{IsWork, WorkHolds}
 use Rattle.ht_engine.specs.OneStep.{Advances, Ends, GivesEntry, GivesList, GivesRandom, IsNextUndetected, IsUndetected, MakesNone, kind_of_entry, said_by}
 use Rattle.ht_engine.specs.Steps.{AwaitsVerdict, Follows, IsNextFault, entries_of, one_more, one_vector, vectors_of_steps}
 use Rattle.ht_engine.proofs.StepLaws.{awaited_before, contains_last, entries_more, entries_with_list, has_cases, has_last, numbered, vectors_more, vectors_with_entry}
@@ -465,16 +464,11 @@ module _ (e now : EngineView) (listed : List Fault) (grader : GraderView) (words
   fault_of : (i : ℕ) (f : Fault) → f ≡ get_or listed i no_fault → f ≡ fault_at now.circuit i
   fault_of i f got = got ∙ ap (λ (l : List Fault). get_or l i no_fault) known.faults
 
-  pub work_of : (i : ℕ) (f : Fault) → f ≡ get_or listed i no_fault → (w given : Work) → w ≡ given
-      → IsWork e.circuit f e.settings.budget w → IsWork now.circuit (fault_at now.circuit i) now.settings.budget given
-  work_of i f got w given is_given h =
-      subst (IsWork now.circuit (fault_at now.circuit i) now.settings.budget) is_given
-      (subst (λ (f : Fault). IsWork now.circuit f now.settings.budget w) (fault_of i f got)
-      (subst (λ (v : EngineView). IsWork v.circuit f v.settings.budget w) at h))
-
-  pub holds_of : (i : ℕ) (f : Fault) → f ≡ get_or listed i no_fault → (w given : Work) → w ≡ given
-      → WorkHolds e.circuit f e.settings.budget w → WorkHolds now.circuit (fault_at now.circuit i) now.settings.budget given
-  holds_of i f got w given is_given h =
-      subst (WorkHolds now.circuit (fault_at now.circuit i) now.settings.budget) is_given
-      (subst (λ (f : Fault). WorkHolds now.circuit f now.settings.budget w) (fault_of i f got)
-      (subst (λ (v : EngineView). WorkHolds v.circuit f v.settings.budget w) at h))
+  -- what holds of the work on a listed fault holds of what it gave
+  pub of_work : (P : Netlist → Fault → ℕ → Work → Type 0) (i : ℕ) (f : Fault) → f ≡ get_or listed i no_fault
+      → (w given : Work) → w ≡ given → P e.circuit f e.settings.budget w
+      → P now.circuit (fault_at now.circuit i) now.settings.budget given
+  of_work P i f got w given is_given h =
+      subst (P now.circuit (fault_at now.circuit i) now.settings.budget) is_given
+      (subst (λ (f : Fault). P now.circuit f now.settings.budget w) (fault_of i f got)
+      (subst (λ (v : EngineView). P v.circuit f v.settings.budget w) at h))

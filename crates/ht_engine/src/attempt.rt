@@ -22,6 +22,15 @@ pub enum Attempted {
     Failed(Option<Aim>),
 }
 
+// The told frame of a fault that an attempt is made at, and the budget of each search.
+#[derive(Drop)]
+struct Task<'a> {
+    circuit: &'a Circuit,
+    fault: Fault,
+    budget: u64,
+    told: &'a Told,
+}
+
 /// The attempt at the first of some told frames, or none where nothing was told. The budget is that of each search.
 ///
 /// # Errors
@@ -39,51 +48,51 @@ pub fn attempt_first(
 {
     match told.first() {
         None => Ok(Attempted::Failed(None)),
-        Some(first) => attempt(alloc, circuit, fault, budget, first),
+        Some(told) => {
+            let task = Task {
+                circuit,
+                fault,
+                budget,
+                told,
+            };
+            attempt(alloc, &task)
+        },
     }
 }
 
 // The attempt at a told frame.
-fn attempt(
-    alloc: Global,
-    circuit: &Circuit,
-    fault: Fault,
-    budget: u64,
-    told: &Told,
-) -> Result<Attempted, AllocError>
-    requires { IsFrameSpot told.now.place }
-    ensures answer { IfOk result (IsAttempted circuit.now fault budget (told.now ∷ [])) }
-    ensures holds { IfOk result (AttemptHolds circuit.now fault budget (told.now ∷ [])) }
+fn attempt(alloc: Global, task: &Task<'_>) -> Result<Attempted, AllocError>
+    requires { IsFrameSpot task.now.told.now.place }
+    ensures answer { IfOk result
+        (IsAttempted task.now.circuit.now task.now.fault task.now.budget (task.now.told.now ∷ [])) }
+    ensures holds { IfOk result
+        (AttemptHolds task.now.circuit.now task.now.fault task.now.budget (task.now.told.now ∷ [])) }
 {
-    let frame = ToldFrame::of(alloc, circuit, told)?;
-    match search_ahead(alloc, circuit, fault, budget, told, &frame)? {
-        Ahead::Found { list } => search_back(alloc, circuit, fault, budget, told, &frame, list),
+    let frame = ToldFrame::of(alloc, task.circuit, task.told)?;
+    match search_ahead(alloc, task, &frame)? {
+        Ahead::Found { list } => search_back(alloc, task, &frame, list),
         Ahead::Closed { tokens } => Ok(Attempted::Failed(Some(Aim::ForwardClosed(tokens)))),
         Ahead::Spent { tokens } => Ok(Attempted::Failed(Some(Aim::ForwardOpen(tokens)))),
     }
 }
 
 // The search ahead of a told frame: none where its place is an output.
-fn search_ahead(
-    alloc: Global,
-    circuit: &Circuit,
-    fault: Fault,
-    budget: u64,
-    told: &Told,
-    frame: &ToldFrame,
-) -> Result<Ahead, AllocError>
-    requires place { IsFrameSpot told.now.place }
-    requires frame { IsFrameOf circuit.now told.now frame.now }
-    ensures answer { IfOk result (IsAheadOf circuit.now fault budget told.now told.now.place) }
-    ensures holds { IfOk result (AheadOfHolds circuit.now fault budget told.now) }
+fn search_ahead(alloc: Global, task: &Task<'_>, frame: &ToldFrame) -> Result<Ahead, AllocError>
+    requires place { IsFrameSpot task.now.told.now.place }
+    requires frame { IsFrameOf task.now.circuit.now task.now.told.now frame.now }
+    ensures answer { IfOk result
+        (IsAheadOf task.now.circuit.now task.now.fault task.now.budget task.now.told.now
+        task.now.told.now.place) }
+    ensures holds { IfOk result
+        (AheadOfHolds task.now.circuit.now task.now.fault task.now.budget task.now.told.now) }
 {
-    match told.place {
+    match task.told.place {
         Spot::Output(_) | Spot::Cube => Ok(Ahead::Found {
-            list: Vectors::new(alloc, circuit.inputs()),
+            list: Vectors::new(alloc, task.circuit.inputs()),
         }),
         Spot::State(_) => {
-            let states = frame.states_after(alloc, circuit, fault, told)?;
-            propagate(alloc, circuit, fault, &states, budget)
+            let states = frame.states_after(alloc, task.circuit, task.fault, task.told)?;
+            propagate(alloc, task.circuit, task.fault, &states, task.budget)
         },
     }
 }
@@ -91,24 +100,22 @@ fn search_ahead(
 // The search back to the latches of a told frame, where a list ahead was found.
 fn search_back(
     alloc: Global,
-    circuit: &Circuit,
-    fault: Fault,
-    budget: u64,
-    told: &Told,
+    task: &Task<'_>,
     frame: &ToldFrame,
     ahead: Vectors,
 ) -> Result<Attempted, AllocError>
-    requires place { IsFrameSpot told.now.place }
-    requires frame { IsFrameOf circuit.now told.now frame.now }
-    requires found { FindsAhead circuit.now fault budget told.now ahead }
-    requires goes { IsListAheadOf circuit.now fault told.now ahead }
-    ensures answer { IfOk result (IsAttempted circuit.now fault budget (told.now ∷ [])) }
-    ensures holds { IfOk result (AttemptHolds circuit.now fault budget (told.now ∷ [])) }
+    requires place { IsFrameSpot task.now.told.now.place }
+    requires frame { IsFrameOf task.now.circuit.now task.now.told.now frame.now }
+    requires found { FindsAhead task.now.circuit.now task.now.fault task.now.budget
+        task.now.told.now ahead }
+    requires goes { IsListAheadOf task.now.circuit.now task.now.fault task.now.told.now ahead }
+    ensures answer { IfOk result
+        (IsAttempted task.now.circuit.now task.now.fault task.now.budget (task.now.told.now ∷ [])) }
+    ensures holds { IfOk result
+        (AttemptHolds task.now.circuit.now task.now.fault task.now.budget (task.now.told.now ∷ [])) }
 {
-    match justify(alloc, circuit, &frame.cube, BACK_LIMIT, budget)? {
-        Back::Reached { list } => {
-            compose(alloc, circuit, fault, budget, told, frame, list, ahead)
-        },
+    match justify(alloc, task.circuit, &frame.cube, BACK_LIMIT, task.budget)? {
+        Back::Reached { list } => compose(alloc, task, frame, list, ahead),
         Back::Closed { tokens } => Ok(Attempted::Failed(Some(Aim::BackClosed(tokens)))),
         Back::Spent { tokens } => Ok(Attempted::Failed(Some(Aim::BackOpen(tokens)))),
     }
@@ -117,25 +124,24 @@ fn search_back(
 // The list back, the frame's vector and the list ahead, where they detect the fault.
 fn compose(
     alloc: Global,
-    circuit: &Circuit,
-    fault: Fault,
-    budget: u64,
-    told: &Told,
+    task: &Task<'_>,
     frame: &ToldFrame,
     before: Vectors,
     ahead: Vectors,
 ) -> Result<Attempted, AllocError>
-    requires frame { IsFrameOf circuit.now told.now frame.now }
-    requires found { FindsBoth circuit.now fault budget told.now before ahead }
-    requires back { IsListBack circuit.now (told_cube circuit.now told.now) back_limit before }
-    requires goes { IsListAheadOf circuit.now fault told.now ahead }
-    ensures answer { IfOk result (IsAttempted circuit.now fault budget (told.now ∷ [])) }
-    ensures holds { IfOk result (AttemptHolds circuit.now fault budget (told.now ∷ [])) }
+    requires frame { IsFrameOf task.now.circuit.now task.now.told.now frame.now }
+    requires found { FindsBoth task.now.circuit.now task.now.fault task.now.budget
+        task.now.told.now before ahead }
+    requires back { IsListBack task.now.circuit.now
+        (told_cube task.now.circuit.now task.now.told.now) back_limit before }
+    requires goes { IsListAheadOf task.now.circuit.now task.now.fault task.now.told.now ahead }
+    ensures answer { IfOk result
+        (IsAttempted task.now.circuit.now task.now.fault task.now.budget (task.now.told.now ∷ [])) }
+    ensures holds { IfOk result
+        (AttemptHolds task.now.circuit.now task.now.fault task.now.budget (task.now.told.now ∷ [])) }
 {
-    let _ = budget;
-    let _ = told;
-    let list = joined(alloc, circuit, &before, &frame.vector, &ahead)?;
-    match first(alloc, circuit, fault, &list)? {
+    let list = joined(alloc, task.circuit, &before, &frame.vector, &ahead)?;
+    match first(alloc, task.circuit, task.fault, &list)? {
         Some(_) => Ok(Attempted::Detected(list)),
         None => Ok(Attempted::Failed(Some(Aim::Attempt {
             back: before,

@@ -55,7 +55,7 @@ pub record ReadsOn (c : Netlist) (representatives : List ℕ) (lines : List (Lis
   pub sums_are : sums ≡ sums_read representatives (read_on at item)
 
 -- what the last line says of the last fault
-last_item_push : (representatives : List ℕ) (budget : ℕ) (saids : List Said) (said : Said)
+pub last_item_push : (representatives : List ℕ) (budget : ℕ) (saids : List Said) (said : Said)
     → last_item representatives (in_report budget (saids ++ said ∷ []))
     ≡ Some (fault_item representatives (length saids) said)
 last_item_push representatives budget [] said = refl

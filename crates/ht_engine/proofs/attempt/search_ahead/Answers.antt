@@ -9,22 +9,22 @@ use Rattle.ht_engine.proofs.attempt.search_ahead.Goals as goal
 
 pub propagate-requires-clause-good : goal.propagate-requires-clause-good
 propagate-requires-clause-good c =
-    let n = c.args.circuit.now in
-    let told = c.args.told.now in
+    let n = c.args.task.now.circuit.now in
+    let told = c.args.task.now.told.now in
     ap length c.in_ok-states-in-State.ensures.good
     ∙ next_long n (tern_rules None) (terns_of (told_vector n told)) (told_cube n told)
 
 pub propagate-requires-clause-bad : goal.propagate-requires-clause-bad
 propagate-requires-clause-bad c =
-    let n = c.args.circuit.now in
-    let told = c.args.told.now in
+    let n = c.args.task.now.circuit.now in
+    let told = c.args.task.now.told.now in
     ap length c.in_ok-states-in-State.ensures.faulty
-    ∙ next_long n (tern_rules (Some c.args.fault)) (terns_of (told_vector n told)) (told_cube n told)
+    ∙ next_long n (tern_rules (Some c.args.task.now.fault)) (terns_of (told_vector n told)) (told_cube n told)
 
 pub returns-in_ok-states-in-State-clause-holds : goal.returns-in_ok-states-in-State-clause-holds
 returns-in_ok-states-in-State-clause-holds c =
     let states = c.in_ok-states-in-State.states in
     IfOk-weaker c.propagate.result _ _
-    (ahead_means c.args.circuit.now c.args.fault c.args.budget c.args.told.now c.in-State.field-0 c.in-State.is
+    (ahead_means c.args.task.now.circuit.now c.args.task.now.fault c.args.task.now.budget c.args.task.now.told.now c.in-State.field-0 c.in-State.is
     states.good states.bad c.in_ok-states-in-State.ensures.good c.in_ok-states-in-State.ensures.faulty)
     c.propagate.ensures.holds

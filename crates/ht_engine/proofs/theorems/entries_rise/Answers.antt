@@ -6,4 +6,5 @@ returns-clause-rise d =
     λ c representatives first budget steps are. (steps_in_order c representatives first budget steps are).rises
 
 pub returns-clause-own : goal.returns-clause-own
-returns-clause-own d = λ c representatives first budget steps are. (steps_in_order c representatives first budget steps are).own
+returns-clause-own d =
+    λ c representatives first budget steps are. (steps_in_order c representatives first budget steps are).own

@@ -1,4 +1,4 @@
-use Rattle.std.proofs.Common.{◌≢◌, ◌++◌, ap, ◌∙◌, rules}
+use Rattle.std.proofs.Common.{◌++◌, ap, ◌∙◌, rules}
 use Rattle.std.specs.Prelude.{codes}
 use Rattle.ht_texts.specs.Verdicts.{place_text}
 use Rattle.ht_texts.proofs.FrontLaws.{rest_of_text, no_rest, the_rest, differs_after}
@@ -9,9 +9,7 @@ pub returns-in_err-rest : goal.returns-in_err-rest
 returns-in_err-rest c =
     let circuit = c.args.circuit.now in
     let text = c.args.text.now in
-    let untestable : text ≢ codes "untestable" = search rules in
-    let aborted : text ≢ codes "aborted" = search rules in
-    rw c.from_residual.ensures (no_verdict circuit text untestable aborted (λ place is e.
+    rw c.from_residual.ensures (no_verdict circuit text (search rules) (search rules) (λ place is e.
     no_rest (codes "detected ") text c.strip_word.result c.in_err-rest.was (rest_of_text c.strip_word.ensures)
     (place_text circuit place) e))
 
@@ -19,11 +17,9 @@ pub returns-in_err-place : goal.returns-in_err-place
 returns-in_err-place c =
     let circuit = c.args.circuit.now in
     let text = c.args.text.now in
-    let untestable : text ≢ codes "untestable" = search rules in
-    let aborted : text ≢ codes "aborted" = search rules in
     let front = the_rest (codes "detected ") text c.strip_word.result c.in_ok-rest.rest c.in_ok-rest.was
     (rest_of_text c.strip_word.ensures) in
-    rw c.from_residual-in_err-place.ensures (no_verdict circuit text untestable aborted (λ place is e.
+    rw c.from_residual-in_err-place.ensures (no_verdict circuit text (search rules) (search rules) (λ place is e.
     differs_after (codes "detected ") (place_text circuit place) text c.in_ok-rest.rest.now front
     (c.in_err-place.ensures place is) e))
 

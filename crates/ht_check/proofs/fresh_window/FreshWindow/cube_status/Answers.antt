@@ -13,6 +13,7 @@ use Rattle.ht_check.specs.FreshWindowOf.{window_of}
 use Rattle.ht_check.specs.WantedLatches.{status_by_met, met_in, wanted_in}
 use Rattle.ht_check.proofs.CubeLaws.{cube_status_is}
 use Rattle.ht_check.proofs.StatusLaws.{cube_next}
+use Rattle.ht_check.proofs.BegunLaws.{frame_begun, frame_ran}
 use Rattle.ht_check.proofs.fresh_window.FreshWindow.cube_status.Goals as goal
 
 pub returns-clause-status : goal.returns-clause-status
@@ -33,24 +34,13 @@ returns-clause-status c =
     ap (λ (s : Start). record w { start = start_at w.circuit n s }) (sym start_is)
     ∙ ap (λ (w : SearchWindow). window_at w n) c.self.view_is in
     let D : List (Option Tern) = c.enter_node.new.decisions in
-    let s : FrameState = c.begin.new.self in
-    let new : FrameState = c.run.new.self in
-    let len = c.enter_node.ensures.room in
-    let all = ap length c.deref_mut.ensures.value in
-    let kept = c.self.invariant.decisions in
-    let room : w.frames * w.circuit.inputs + 2 * length w.circuit.dffs ≤ length D = omega (arith, len, all, kept) in
-    let d1 : c.deref.result.now ≡ D = c.deref.ensures.value ∙ with_items_is a.decisions D (omega (arith, len, all)) in
-    let d2 : c.deref-2.result.now ≡ D =
-    c.deref-2.ensures.value ∙ with_items_is a.decisions D (omega (arith, len, all)) in
-    let written : IsWritten D path = c.enter_node.ensures.written in
-    let begun : s ≡ record a.frame { latches = latches_by a.start D a.frame.circuit } =
-    c.begin.ensures ∙ (λ i. record a.frame { latches = latches_by a.start (d1 i) a.frame.circuit }) in
-    let ran : new ≡ frame_after s (inputs_by D 0 s.circuit.inputs) =
-    c.run.ensures ∙ (λ i. frame_after s (inputs_by (d2 i) 0 s.circuit.inputs)) in
-    let circuit = ap (λ (t : FrameState). t.circuit) begun in
+    let begun = frame_begun a _ D c.deref_mut.ensures.value c.enter_node.ensures.room _ _ c.self.invariant
+    c.deref.ensures.value c.begin.ensures in
+    let ran = frame_ran a _ D c.deref_mut.ensures.value c.enter_node.ensures.room _ c.begin.new.self c.run.new.self
+    c.deref-2.ensures.value c.run.ensures in
     let next =
-    cube_next there path D a.start cube given left c.args.limit refl start_is fits.0 written room s new circuit
-    (ap (λ (t : FrameState). t.fault) begun) (ap (λ (t : FrameState). t.latches) begun) ran in
+    cube_next there path D a.start cube given left c.args.limit refl start_is fits.0 c.enter_node.ensures.written
+    begun.room c.begin.new.self c.run.new.self begun.circuit begun.fault begun.latches ran in
     let sets = c.latches.ensures.latches ∙ next in
     let entered : c.enter_node.new.cube ≡ cube =
     c.enter_node.ensures.cube ∙ ap (λ (n : Netlist). cube_at n given c.args.node.now) c.circuit.ensures.circuit in
@@ -64,7 +54,7 @@ returns-clause-status c =
     omega (arith, e, auto, own, held) in
     let count : length c.latches.result.now ≡ length w.circuit.dffs =
     c.latches.ensures.count ∙ (ap (λ (t : FrameState). length t.circuit.dffs) ran
-    ∙ ap (λ (t : FrameState). length t.circuit.dffs) begun) in
+    ∙ ap (λ (n : Netlist). length n.dffs) begun.circuit) in
     let left_is : c.saturating_sub-left.result ≡ left =
     c.saturating_sub-left.ensures ∙ ap (λ (k : ℕ). c.args.limit - k) c.depth.ensures in
     c.cube_status.ensures

@@ -7,8 +7,8 @@ use Rattle.ht_engine.proofs.engine.Engine.said.Goals as goal
 pub returns-in-Some-clause-said : goal.returns-in-Some-clause-said
 returns-in-Some-clause-said c = λ steps s.
     said_detected c.args.self.now steps s c.args.fault c.in-Some.place
-    (detection_of (engine_of c.self.inside) c.args.self.now c.self.inside.faults.now c.self.inside.grader c.self.inside.words c.self.invariant
-    c.self.view_is refl c.args.fault (Some c.in-Some.place) c.in-Some.ensures.first)
+    (detection_of (engine_of c.self.inside) c.args.self.now c.self.inside.faults.now c.self.inside.grader
+    c.self.inside.words c.self.invariant c.self.view_is refl c.args.fault (Some c.in-Some.place) c.in-Some.ensures.first)
 
 pub returns-in-None-clause-said : goal.returns-in-None-clause-said
 returns-in-None-clause-said c = λ steps s.
@@ -18,7 +18,8 @@ returns-in-None-clause-said c = λ steps s.
     let grader = c.self.inside.grader in
     let words = c.self.inside.words in
     let i = c.args.fault in
-    let first = detection_of e now faults grader words c.self.invariant c.self.view_is refl i None c.in-None.ensures.first in
+    let first = detection_of e now faults grader words c.self.invariant c.self.view_is refl i None
+    c.in-None.ensures.first in
     let count = count_of e now faults grader words c.self.invariant c.self.view_is refl i c.requires in
     let kind = kept_kind e now faults grader words c.self.invariant c.self.view_is refl i c.index.result.now c.requires
     c.index.ensures in
