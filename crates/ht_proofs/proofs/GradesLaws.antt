@@ -299,7 +299,9 @@ run_fields g old vector frame h new run was few known =
     place k p at = elim (option_cases (grade_at old k).verdict) [
       | inl not_yet ↦ new_place k p at not_yet
       | inr q ↦
-          let same : Some q.0 ≡ Some p = sym q.1 ∙ (sym (ap (λ (x : Grade). x.verdict) (run.all.kept k q.0 q.1)) ∙ at) in
-          let here = was.places k p (ap (λ (x : Grades). verdict_at x k) run.old_is ∙ (verdict_of old k ∙ (q.1 ∙ same))) in
+          let kept = ap (λ (x : Grade). x.verdict) (run.all.kept k q.0 q.1) in
+          let same : Some q.0 ≡ Some p = sym q.1 ∙ (sym kept ∙ at) in
+          let before = ap (λ (x : Grades). verdict_at x k) run.old_is ∙ verdict_of old k in
+          let here = was.places k p (before ∙ (q.1 ∙ same)) in
           (omega (arith, here.0), here.1)
     ]

@@ -44,8 +44,8 @@ good_state frame = next_state frame.circuit (tern_rules None) frame.vector frame
 abbrev pub faulty_state : GroupView → FaultyMachine → List Tern
 faulty_state frame m = next_state frame.circuit (tern_rules (Some m.fault)) frame.vector m.latches
 
--- One more vector was applied: a fault that was detected stays so, and each other one is detected where it is first seen
--- in the frame, or else its machine has taken its latches.
+-- One more vector was applied: a fault that was detected stays so, and each other one is detected where it is first
+-- seen in the frame, or else its machine has taken its latches.
 pub record IsApplied (g : Grades) (vector : List Bool) (h : Grades) : Type 0 where
   pub circuit_same : h.circuit ≡ g.circuit
   pub faults_same : h.faults ≡ g.faults

@@ -178,7 +178,8 @@ impl<'c> Batch<'c> {
         requires room { length self.old.lanes < max_machines }
         ensures lanes { OnOk result (AreLanesBelow (i + 1) self.new grades.new) }
         ensures room { OnOk result (length self.new.lanes < max_machines) }
-        ensures passed { OnOk result ((frame : GroupView) (faults : List Fault) (before : List Grade)
+        ensures passed { OnOk result
+            ((frame : GroupView) (faults : List Fault) (before : List Grade)
             → slice_get faults i ≡ Some fault
             → ArePassed frame faults number before i self.old grades.old
             → ArePassed frame faults number before (i + 1) self.new grades.new) }

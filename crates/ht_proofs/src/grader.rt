@@ -20,8 +20,8 @@ use ht_tern::Tern;
 use std::alloc::{AllocError, Global};
 use std::marker::Model;
 
-/// Faults of a circuit, and what the vectors applied so far say of them. Faults count from 0, in the order in which they
-/// were given; vectors, outputs and flip-flops count from 0.
+/// Faults of a circuit, and what the vectors applied so far say of them. Faults count from 0, in the order in which
+/// they were given; vectors, outputs and flip-flops count from 0.
 #[derive(Drop)]
 pub struct Grader<'c> {
     faults: Vec<Fault>,

@@ -28,7 +28,8 @@ loop-i-preserved c =
           (λ n. AreCounted n old (c.loop-i.i + 1) (length c.take.new.self.lanes) c.args.steps.now.count
           c.take.new.steps.count)
           gates
-          (took.counted old c.args.steps.now.count (sym c.loop-i.auto.grades) (inv.passed.later c.loop-i.i (omega arith))
+          (took.counted old c.args.steps.now.count (sym c.loop-i.auto.grades)
+          (inv.passed.later c.loop-i.i (omega arith))
           (subst (λ n. AreCounted n old c.loop-i.i (length c.loop-i.self.lanes) c.args.steps.now.count
           c.loop-i.steps.count) (sym gates) inv.counted));
     }
