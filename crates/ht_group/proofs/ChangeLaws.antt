@@ -4,7 +4,7 @@ use Rattle.std.proofs.Common.{◌≡◌, ◌≢◌, ◌<◌, ◌≤◌, ◌+◌,
 use Rattle.std.proofs.lemmas.Bool.{cases_Bool, cases_eq, cases_lt}
 use Rattle.std.proofs.lemmas.List.{length-map, length-append, drop-map, get_or-set_same, get_or-set_other, get_or-replicate, get_or_past, length-replicate}
 use Rattle.ht_tern.specs.declared.tern.Tern.{Tern}
-use Rattle.ht_lanes.specs.Lanes.{Lanes, lane, every_lane}
+use Rattle.ht_lanes.specs.Lanes.{Lanes, lane, every_lane, word_at}
 use Rattle.ht_diff.specs.declared.diffs.Diff.{Diff}
 use Rattle.ht_diff.specs.Differences.{with_differences}
 use Rattle.ht_net.specs.declared.fault.Site.{Site}
@@ -15,7 +15,7 @@ use Rattle.ht_group.specs.GroupView.{GroupView}
 use Rattle.ht_group.specs.GroupOf.{IsGroup, group_of, machines_from}
 use Rattle.ht_group.specs.LaneRules.{lane_rules, in_lane, HasItsValue}
 use Rattle.ht_group.specs.LatchWords.{HasDifferences}
-use Rattle.ht_group.specs.Overlays.{OverlayView, spread, word_at}
+use Rattle.ht_group.specs.Overlays.{OverlayView, spread}
 use Rattle.ht_group.specs.Pending.{QuietHaveValues}
 use Rattle.ht_group.specs.Schedules.{IsSchedule}
 use Rattle.ht_group.specs.StuckTables.{AreStuck, forced_net_of}
