@@ -19,7 +19,7 @@ use Rattle.ht_texts.specs.SearchReports.{IsBudget, IsSearchReport}
 use Rattle.ht_texts.specs.ReportReading.{ReportReading, before_report, in_report, after_report, ReportReadsTo, IsReportReading, fault_item, last_item, read_on}
 use Rattle.ht_texts.specs.ReportStands.{EndsReport, ReportView, ReportStands, ReportCalled, new_report}
 use Rattle.ht_texts.proofs.SaidLaws.{said_before, said_last}
-use Rattle.ht_texts.proofs.ReadingLaws.{length-in_report}
+use Rattle.ht_texts.proofs.ReadingLaws.{last_item_push, length-in_report}
 use Rattle.ht_grade.specs.Detections.{AreFirstDetections, place_at}
 use Rattle.ht_valid.specs.ValidFiles.{AgreesWithTests}
 use Rattle.ht_valid.specs.FirstTrouble.{ContradictsTests}
@@ -92,38 +92,6 @@ agrees_with_place c list i None Undetected is agrees = absurd agrees
 
 -- ---- what the next line says
 
-last_item_push : (representatives : List ℕ) (budget : ℕ) (saids : List Said) (said : Said)
-    → last_item representatives (in_report budget (saids ++ said ∷ []))
-    ≡ Some (fault_item representatives (length saids) said)
-last_item_push representatives budget [] said = refl
-last_item_push representatives budget (first ∷ more) said =
-    let all = first ∷ (more ++ said ∷ []) in
-    let count : length (more ++ said ∷ []) ≡ length (first ∷ more) = omega (arith, length-append more (said ∷ [])) in
-    ap (λ k. Some (fault_item representatives k (said_at all k))) count
-    ∙ ap (λ s. Some (fault_item representatives (length (first ∷ more)) s)) (said_last (first ∷ more) said)
-
--- the fault of a line, 0 where it has none
-abbrev item_fault : Item → ℕ
-item_fault (Head budget) = 0
-item_fault (Verdict i said) = i
-item_fault (Member i) = i
-item_fault Total = 0
-
-abbrev fault_in : Option Item → ℕ
-fault_in None = 0
-fault_in (Some item) = item_fault item
-
--- the budget of a head
-abbrev item_budget : Item → ℕ
-item_budget (Head budget) = budget
-item_budget (Verdict i said) = 0
-item_budget (Member i) = 0
-item_budget Total = 0
-
-abbrev budget_in : Option Item → ℕ
-budget_in None = 0
-budget_in (Some item) = item_budget item
-
 no_head : (own : Bool) (n b : ℕ) (s : Said)
     → ¬ ◌≡◌ {A = Option Item} (Some (cond own (Verdict n s) (Member n))) (Some (Head b))
 no_head true n b s e = cc
@@ -132,7 +100,7 @@ no_head false n b s e = cc
 -- the line of a verdict is that of a representative, and the other way round
 own_item : (own : Bool) (n k : ℕ) (s said : Said)
     → ◌≡◌ {A = Option Item} (Some (cond own (Verdict n s) (Member n))) (Some (Verdict k said)) → (own ≡ true) × (n ≡ k)
-own_item true n k s said e = (refl, ap fault_in e)
+own_item true n k s said e = (refl, cc)
 own_item false n k s said e = absurd cc
 
 other_item : (own : Bool) (n k : ℕ) (s : Said)
@@ -380,7 +348,10 @@ module _ (a : Inside) (r : ReportView) (line : List ℕ) (item : Item) (keeps : 
   head_budget : (at : ReportReading) (b : ℕ) → IsReportReading r.circuit r.representatives at
       → last_item r.representatives at ≡ Some (Head b) → IsBudget b
   head_budget before_report b is says = absurd cc
-  head_budget (in_report k []) b is says = subst IsBudget (ap budget_in says) is.budget_is
+  head_budget (in_report k []) b is says =
+      let e : ◌≡◌ {A = Option Item} (Some (Head k)) (Some (Head b)) = says in
+      let same : k ≡ b = cc in
+      subst IsBudget same is.budget_is
   head_budget (in_report k (said ∷ saids)) b is says =
       absurd (no_head (is_representative r.representatives (length saids)) (length saids) b
       (said_at (said ∷ saids) (length saids)) says)
