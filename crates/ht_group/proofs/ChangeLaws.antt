@@ -194,30 +194,20 @@ module _ (a : Inside) (g : IsGroup a) (f : Fault) (diffs : List Diff) (k : ℕ) 
 
 -- Lines with the same faults.
 pub same_lines : (a : Inside) → IsGroup a → (lines : StuckLines) → AreStuck a.circuit.now lines
-    → lines.faults.items ≡ a.lines.faults.items → IsGroup (record {
-      circuit = a.circuit;
-      schedule = a.schedule;
-      lines = lines;
-      frame = a.frame;
-      sources = a.sources;
-      nets = a.nets;
-      pending = a.pending;
-      settled = a.settled;
-      pins = a.pins;
-    })
+    → lines.faults.items ≡ a.lines.faults.items → IsGroup (record a { lines = lines })
 same_lines a g lines stuck same = record {
   circuit = g.circuit;
   schedule = g.schedule;
   stuck = stuck;
+  spare = λ k past below. g.spare k (let e = ap (λ (l : List Fault). length l) same in omega (arith, past, e)) below;
   frame = g.frame;
   sources = g.sources;
   nets = g.nets;
+  quiet = subst (λ (l : List Fault). QuietHaveValues a.circuit.now a.schedule l a.sources.words a.pending a.nets.words)
+      (sym same) g.quiet;
   source_count = g.source_count;
   marks = g.marks;
   room = g.room;
   inputs = g.inputs;
-  spare = λ k past below. g.spare k (let e = ap (λ (l : List Fault). length l) same in omega (arith, past, e)) below;
-  quiet = subst (λ (l : List Fault). QuietHaveValues a.circuit.now a.schedule l a.sources.words a.pending a.nets.words)
-      (sym same) g.quiet;
   settled = g.settled;
 }
