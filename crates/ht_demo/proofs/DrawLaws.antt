@@ -10,12 +10,12 @@ use Rattle.ht_net.specs.Lists.{AllDiffer}
 use Rattle.std.proofs.lemmas.List.FromFn.{length-map-range_with_len}
 use Rattle.rand_pcg.specs.Lcg.{Lcg}
 use Rattle.ht_tern.specs.declared.gate.Kind.{Kind}
-use Rattle.ht_tern.specs.declared.gate.Kind.TheVariants.{And, Nand, Or, Nor, Xor, Xnor, Not, Buf}
 use Rattle.ht_tern.specs.Gate.{HasArity}
 use Rattle.ht_net.specs.declared.net.NetId.{NetId}
 use Rattle.ht_random.specs.Words.{next_word, after_words}
 use Rattle.ht_demo.specs.Counts.{first_gate}
 use Rattle.ht_demo.specs.Draws.{argument_count, argument_by_word, drawn_arguments, after_gate, after_gates, gate_by_word, drawn_gate_net, includes_net, with_net, drawn_outputs}
+use Rattle.ht_demo.proofs.KindLaws.{by_kind}
 use Rattle.ht_demo.proofs.RangeLaws.{All-map_always}
 
 abbrev pub IsBelow : ℕ → NetId → Type 0
@@ -40,24 +40,11 @@ arguments_count nets kind g =
     length-map-range_with_len (λ i. argument_by_word nets (next_word (after_words i g))) 0 (argument_count kind)
 
 pub count_is_arity : (kind : Kind) → HasArity kind (argument_count kind)
-count_is_arity And = refl
-count_is_arity Nand = refl
-count_is_arity Or = refl
-count_is_arity Nor = refl
-count_is_arity Xor = refl
-count_is_arity Xnor = refl
-count_is_arity Not = refl
-count_is_arity Buf = refl
+count_is_arity = by_kind (λ kind. HasArity kind (argument_count kind)) refl refl refl refl refl refl refl refl
 
 pub at_most_two : (kind : Kind) → argument_count kind ≤ 2
-at_most_two And = omega arith
-at_most_two Nand = omega arith
-at_most_two Or = omega arith
-at_most_two Nor = omega arith
-at_most_two Xor = omega arith
-at_most_two Xnor = omega arith
-at_most_two Not = omega arith
-at_most_two Buf = omega arith
+at_most_two = by_kind (λ kind. argument_count kind ≤ 2)
+    (omega arith) (omega arith) (omega arith) (omega arith) (omega arith) (omega arith) (omega arith) (omega arith)
 
 -- ---- flip-flops and outputs
 

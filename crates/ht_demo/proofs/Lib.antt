@@ -1,3 +1,4 @@
+pub mod KindLaws
 pub mod RangeLaws
 pub mod DrawLaws
 pub mod NameLaws

@@ -7,7 +7,6 @@ use Rattle.std.proofs.lemmas.List.Elements.{All-head, All-tail, All-map, All-wea
 use Rattle.std.proofs.lemmas.List.Concat.{length-flat_map}
 use Rattle.std.proofs.lemmas.List.FromFn.{length-range_with_len, get_or-range_with_len}
 use Rattle.ht_tern.specs.declared.gate.Kind.{Kind}
-use Rattle.ht_tern.specs.declared.gate.Kind.TheVariants.{And, Nand, Or, Nor, Xor, Xnor, Not, Buf}
 use Rattle.ht_net.specs.Named.{Name}
 use Rattle.ht_statement.specs.Statement.{input_line, output_line, dff_line, gate_line}
 use Rattle.ht_statement.specs.StatementText.{kind_text, arguments_text, statement_line}
@@ -19,6 +18,7 @@ use Rattle.ht_demo.specs.Draws.{kind_by_word, drawn_gate_net, after_gates}
 use Rattle.ht_demo.specs.Demo.{output_draws}
 use Rattle.ht_demo.specs.DemoText.{demo_name_of, demo_input_line, demo_output_line, drawn_dff_line, drawn_gate_line, demo_input_lines, demo_output_lines, demo_dff_lines, demo_gate_lines}
 use Rattle.ht_demo.proofs.RangeLaws.{sum_at_most}
+use Rattle.ht_demo.proofs.KindLaws.{by_kind}
 use Rattle.ht_demo.proofs.DrawLaws.{IsBelow, arguments_are_below, arguments_count, at_most_two, gate_is_below, outputs_are_below, outputs_at_most}
 use Rattle.ht_demo.proofs.NameLaws.{demo_name_is_name}
 use Rattle.ht_demo.proofs.CircuitLaws.{demo, before_gate, gate_drawn, few_dffs}
@@ -40,14 +40,8 @@ dff_line_is_short : (out data_pin : Name) → IsShortName out → IsShortName da
 dff_line_is_short out data_pin short also = grind (arith, common_steps, length-append)
 
 kind_is_short : (kind : Kind) → length (kind_text kind) ≤ 4
-kind_is_short And = omega arith
-kind_is_short Nand = omega arith
-kind_is_short Or = omega arith
-kind_is_short Nor = omega arith
-kind_is_short Xor = omega arith
-kind_is_short Xnor = omega arith
-kind_is_short Not = omega arith
-kind_is_short Buf = omega arith
+kind_is_short = by_kind (λ kind. length (kind_text kind) ≤ 4)
+    (omega arith) (omega arith) (omega arith) (omega arith) (omega arith) (omega arith) (omega arith) (omega arith)
 
 arguments_are_short : (args : List Name) → length args ≤ 2 → All IsShortName args → length (arguments_text args) ≤ 14
 arguments_are_short [] few all = omega arith

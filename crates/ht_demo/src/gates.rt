@@ -7,8 +7,9 @@ ghost use Rattle.ht_demo.specs.Draws.{argument_count, argument_by_word, drawn_ar
 ghost use Rattle.ht_demo.specs.DemoText.{demo_name_of, drawn_gate_line, demo_gate_lines};
 
 use crate::counts::{first_gate, push_name};
-use crate::kind::{is_unary, kind_by_word, kind_text};
+use crate::kind::{is_unary, kind_by_word};
 use ht_random::Words;
+use ht_statement::kind_text;
 use ht_tern::Kind;
 use std::alloc::{AllocError, Global};
 

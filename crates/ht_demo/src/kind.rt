@@ -1,6 +1,5 @@
 //! The kinds of gates, by words.
 ghost use Rattle.std.specs.Prelude.{◌≡◌};
-ghost use Rattle.ht_statement.specs.StatementText.{kind_text};
 ghost use Rattle.ht_demo.specs.Draws.{kind_by_word, is_unary};
 
 use ht_tern::Kind;
@@ -28,20 +27,4 @@ pub fn is_unary(kind: Kind) -> bool
     ensures { result ≡ is_unary kind }
 {
     matches!(kind, Kind::Not | Kind::Buf)
-}
-
-/// The word of a kind in a netlist.
-pub fn kind_text(kind: Kind) -> &'static [u8]
-    ensures { result.now ≡ kind_text kind }
-{
-    match kind {
-        Kind::And => b"AND",
-        Kind::Nand => b"NAND",
-        Kind::Or => b"OR",
-        Kind::Nor => b"NOR",
-        Kind::Xor => b"XOR",
-        Kind::Xnor => b"XNOR",
-        Kind::Not => b"NOT",
-        Kind::Buf => b"BUFF",
-    }
 }

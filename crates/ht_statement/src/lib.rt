@@ -3,8 +3,8 @@
 //! `read_line` gives what a line states, or the first cause why it is refused: bad line, bad name, bad kind, bad count.
 //! `specs/Reading.antt` has the whole rule. What lines state together is ht_bench's.
 //!
-//! `push_input`, `push_output`, `push_dff` and `push_gate` write a statement as its normal line;
-//! `specs/StatementText.antt` has that text.
+//! `push_input`, `push_output`, `push_dff` and `push_gate` write a statement as its normal line, and `kind_text` is the
+//! word of a kind; `specs/StatementText.antt` has that text.
 //!
 //! `normal_text_is_read` and `stated_is_sound` are theorems: they run nothing, and their contracts hold of all lines.
 #![tactic(auto)]
@@ -24,5 +24,5 @@ mod token;
 pub use error::{LineRefusal, StatementError};
 pub use reading::read_line;
 pub use statement::Statement;
-pub use statement_text::{push_dff, push_gate, push_input, push_output};
+pub use statement_text::{kind_text, push_dff, push_gate, push_input, push_output};
 pub use theorems::{normal_text_is_read, stated_is_sound};

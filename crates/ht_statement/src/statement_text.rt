@@ -62,7 +62,7 @@ pub fn push_gate(
         (text.new.items ≡ text.old.items
         ++ statement_line (gate_line out.now kind (map (name_of circuit.now) args.now))) }
 {
-    push_definition(text, out, word_of(kind))?;
+    push_definition(text, out, kind_text(kind))?;
     push_arguments(text, circuit, args)?;
     push_end(text)
 }
@@ -117,8 +117,8 @@ fn push_arguments(text: &mut Vec<u8>, circuit: &Circuit, args: &[NetId]) -> Resu
     Ok(())
 }
 
-// The word of a kind of gate, in capitals: BUFF and not BUF.
-fn word_of(kind: Kind) -> &'static [u8]
+/// The word of a kind of gate, in capitals: BUFF and not BUF.
+pub fn kind_text(kind: Kind) -> &'static [u8]
     ensures { result.now ≡ kind_text kind }
 {
     match kind {
