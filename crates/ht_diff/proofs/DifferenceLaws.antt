@@ -9,7 +9,8 @@ use Rattle.ht_tern.specs.declared.tern.Tern.{Tern}
 use Rattle.ht_tern.specs.declared.tern.Tern.TheVariants.{Zero, One, Unk}
 use Rattle.ht_diff.specs.Differences.{held, differences, with_differences, same_value}
 
-same_gives : (a b : Tern) → same_value a b ≡ true → a ≡ b
+-- two values that are the same by the test
+pub same_gives : (a b : Tern) → same_value a b ≡ true → a ≡ b
 same_gives Zero Zero h = refl
 same_gives One One h = refl
 same_gives Unk Unk h = refl
@@ -20,7 +21,8 @@ same_gives One Unk h = cc
 same_gives Unk Zero h = cc
 same_gives Unk One h = cc
 
-eqb_other : (a b : ℕ) → a ≢ b → eqb a b ≡ false
+-- the test of two numbers that differ
+pub eqb_other : (a b : ℕ) → a ≢ b → eqb a b ≡ false
 eqb_other a b ne = elim (eqb_tells a b) [ inl p ↦ absurd (ne p.1) | inr p ↦ p.0 ]
 
 eqb_same : (a b : ℕ) → a ≡ b → eqb a b ≡ true

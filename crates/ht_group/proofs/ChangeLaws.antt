@@ -4,7 +4,7 @@ use Rattle.std.proofs.Common.{◌≡◌, ◌≢◌, ◌<◌, ◌≤◌, ◌+◌,
 use Rattle.std.proofs.lemmas.Bool.{cases_Bool, cases_eq, cases_lt}
 use Rattle.std.proofs.lemmas.List.{length-map, length-append, drop-map, get_or-set_same, get_or-set_other, get_or-replicate, get_or_past, length-replicate}
 use Rattle.ht_tern.specs.declared.tern.Tern.{Tern}
-use Rattle.ht_lanes.specs.Lanes.{Lanes, lane, every_lane}
+use Rattle.ht_lanes.specs.Lanes.{Lanes, lane, every_lane, word_at}
 use Rattle.ht_diff.specs.declared.diffs.Diff.{Diff}
 use Rattle.ht_diff.specs.Differences.{with_differences}
 use Rattle.ht_net.specs.declared.fault.Site.{Site}
@@ -15,7 +15,7 @@ use Rattle.ht_group.specs.GroupView.{GroupView}
 use Rattle.ht_group.specs.GroupOf.{IsGroup, group_of, machines_from}
 use Rattle.ht_group.specs.LaneRules.{lane_rules, in_lane, HasItsValue}
 use Rattle.ht_group.specs.LatchWords.{HasDifferences}
-use Rattle.ht_group.specs.Overlays.{OverlayView, spread, word_at}
+use Rattle.ht_group.specs.Overlays.{OverlayView, spread}
 use Rattle.ht_group.specs.Pending.{QuietHaveValues}
 use Rattle.ht_group.specs.Schedules.{IsSchedule}
 use Rattle.ht_group.specs.StuckTables.{AreStuck, forced_net_of}
@@ -194,30 +194,20 @@ module _ (a : Inside) (g : IsGroup a) (f : Fault) (diffs : List Diff) (k : ℕ) 
 
 -- Lines with the same faults.
 pub same_lines : (a : Inside) → IsGroup a → (lines : StuckLines) → AreStuck a.circuit.now lines
-    → lines.faults.items ≡ a.lines.faults.items → IsGroup (record {
-      circuit = a.circuit;
-      schedule = a.schedule;
-      lines = lines;
-      frame = a.frame;
-      sources = a.sources;
-      nets = a.nets;
-      pending = a.pending;
-      settled = a.settled;
-      pins = a.pins;
-    })
+    → lines.faults.items ≡ a.lines.faults.items → IsGroup (record a { lines = lines })
 same_lines a g lines stuck same = record {
   circuit = g.circuit;
   schedule = g.schedule;
   stuck = stuck;
+  spare = λ k past below. g.spare k (let e = ap (λ (l : List Fault). length l) same in omega (arith, past, e)) below;
   frame = g.frame;
   sources = g.sources;
   nets = g.nets;
+  quiet = subst (λ (l : List Fault). QuietHaveValues a.circuit.now a.schedule l a.sources.words a.pending a.nets.words)
+      (sym same) g.quiet;
   source_count = g.source_count;
   marks = g.marks;
   room = g.room;
   inputs = g.inputs;
-  spare = λ k past below. g.spare k (let e = ap (λ (l : List Fault). length l) same in omega (arith, past, e)) below;
-  quiet = subst (λ (l : List Fault). QuietHaveValues a.circuit.now a.schedule l a.sources.words a.pending a.nets.words)
-      (sym same) g.quiet;
   settled = g.settled;
 }

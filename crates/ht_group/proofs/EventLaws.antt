@@ -6,13 +6,12 @@ use Rattle.std.proofs.lemmas.Bool.Decides.{eqb_tells}
 use Rattle.std.proofs.lemmas.List.{get_or-set_same, get_or-set_other}
 use Rattle.std.proofs.lemmas.List.Elements.{Contains-get_or}
 use Rattle.ht_tern.specs.declared.tern.Tern.TheVariants.{Unk}
-use Rattle.ht_lanes.specs.Lanes.{Lanes, every_lane}
+use Rattle.ht_lanes.specs.Lanes.{Lanes, every_lane, word_at}
 use Rattle.ht_net.specs.declared.fault.Fault.{Fault}
 use Rattle.ht_net.specs.Netlist.{Netlist, first_gate_net, net_count, arg_at}
 use Rattle.ht_net.specs.Frame.{Rules}
 use Rattle.ht_net.proofs.FrameLaws.{le_or_lt, gate_same}
 use Rattle.ht_group.specs.LaneRules.{lane_rules, drive_from, HasItsValue}
-use Rattle.ht_group.specs.Overlays.{word_at}
 use Rattle.ht_group.specs.Pending.{QuietHaveValues, driven_word}
 use Rattle.ht_group.specs.Schedules.{ReadsFrom, IsSchedule}
 use Rattle.ht_group.specs.declared.schedule.Schedule.{Schedule}

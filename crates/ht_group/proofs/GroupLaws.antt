@@ -5,7 +5,7 @@ use Rattle.std.proofs.lemmas.Option.{slice_get_past, slice_get_within}
 use Rattle.std.proofs.lemmas.List.{drop-map}
 use Rattle.ht_tern.specs.declared.tern.Tern.{Tern}
 use Rattle.ht_tern.specs.declared.tern.Tern.TheVariants.{Unk}
-use Rattle.ht_lanes.specs.Lanes.{Lanes, lane}
+use Rattle.ht_lanes.specs.Lanes.{Lanes, lane, word_at}
 use Rattle.ht_net.specs.Netlist.{net_count}
 use Rattle.ht_net.specs.Frame.{net_value}
 use Rattle.ht_net.specs.Faults.{tern_rules}
@@ -13,7 +13,6 @@ use Rattle.ht_group.specs.GroupView.{FaultyMachine}
 use Rattle.ht_group.specs.GroupOf.{IsGroup, group_of}
 use Rattle.ht_group.specs.NetValues.{good_value, faulty_value}
 use Rattle.ht_group.specs.LaneRules.{lane_rules, in_lane, HasItsValue}
-use Rattle.ht_group.specs.Overlays.{word_at}
 use Rattle.ht_group.specs.declared.group.Group.TheInside.{Inside}
 use Rattle.ht_group.proofs.MachineLaws.{rules_at, lane_is_frame}
 use Rattle.ht_group.proofs.ViewLaws.{machine_at, machine_count}

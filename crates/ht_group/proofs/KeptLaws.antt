@@ -7,7 +7,7 @@ use Rattle.std.proofs.lemmas.List.{get_or-map}
 use Rattle.ht_tern.specs.declared.tern.Tern.{Tern}
 use Rattle.ht_tern.specs.declared.tern.Tern.TheVariants.{Unk}
 use Rattle.ht_tern.specs.Gate.{gate_value, tern_of}
-use Rattle.ht_lanes.specs.Lanes.{Lanes, lane, every_lane}
+use Rattle.ht_lanes.specs.Lanes.{Lanes, lane, every_lane, word_at}
 use Rattle.ht_net.specs.declared.fault.Site.{Site}
 use Rattle.ht_net.specs.declared.fault.Site.TheVariants.{Stem, DffPin, GatePin}
 use Rattle.ht_net.specs.declared.fault.Fault.{Fault}
@@ -16,7 +16,6 @@ use Rattle.ht_net.specs.Frame.{Rules, gate_output}
 use Rattle.ht_net.specs.Faults.{forced, tern_rules, is_stem}
 use Rattle.ht_net.proofs.FrameLaws.{le_or_lt}
 use Rattle.ht_group.specs.LaneRules.{lane_rules, drive_from, in_lane, HasItsValue}
-use Rattle.ht_group.specs.Overlays.{word_at}
 use Rattle.ht_group.specs.StuckTables.{forced_net_of, is_pin_of}
 use Rattle.ht_group.proofs.DriveLaws.{drive_low, drive_gate}
 use Rattle.ht_group.proofs.MachineLaws.{rules_at, lane_env, drive_in_lane, value_by_lanes}

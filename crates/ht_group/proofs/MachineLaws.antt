@@ -4,7 +4,7 @@ use Rattle.std.proofs.Common.{◌≡◌, ◌<◌, ◌-◌, ◌∙◌, ℕ, List,
 use Rattle.std.proofs.lemmas.List.{get_or-map}
 use Rattle.ht_tern.specs.declared.tern.Tern.{Tern}
 use Rattle.ht_tern.specs.declared.tern.Tern.TheVariants.{Unk}
-use Rattle.ht_lanes.specs.Lanes.{Lanes, lane, IsLane, each_lane, every_lane}
+use Rattle.ht_lanes.specs.Lanes.{Lanes, lane, IsLane, each_lane, every_lane, word_at}
 use Rattle.ht_lanes.specs.Inverse.{lane_of_each}
 use Rattle.ht_lanes.proofs.OperationLaws.{lanes_same}
 use Rattle.ht_lanes.proofs.LaneLaws.{gate_lane}
@@ -15,7 +15,6 @@ use Rattle.ht_net.specs.Faults.{tern_rules}
 use Rattle.ht_net.proofs.FrameLaws.{le_or_lt}
 use Rattle.ht_net.proofs.RelationLaws.{Preserves, pins_related}
 use Rattle.ht_group.specs.LaneRules.{lane_rules, drive_from, in_lane, HasItsValue}
-use Rattle.ht_group.specs.Overlays.{word_at}
 use Rattle.ht_group.proofs.DriveLaws.{drive_low, drive_gate, values_are_frame}
 
 -- the rules of the machine in lane k

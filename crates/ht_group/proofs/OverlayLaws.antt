@@ -6,8 +6,7 @@ use Rattle.std.proofs.lemmas.Bool.{cases_lt}
 use Rattle.std.proofs.lemmas.List.{ext_get_or, get_or-map, length-map, get_or-set_same, get_or-set_other}
 use Rattle.ht_tern.specs.declared.tern.Tern.{Tern}
 use Rattle.ht_tern.specs.declared.tern.Tern.TheVariants.{Unk}
-use Rattle.ht_lanes.specs.Lanes.{Lanes, every_lane}
-use Rattle.ht_group.specs.Overlays.{word_at}
+use Rattle.ht_lanes.specs.Lanes.{Lanes, every_lane, word_at}
 
 -- word i has its good value in every lane
 abbrev pub IsGoodWord : List Tern → List Lanes → ℕ → Type 0

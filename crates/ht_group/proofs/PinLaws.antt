@@ -12,7 +12,7 @@ use Rattle.std.proofs.lemmas.List.{get_or-set_same, get_or-set_other, ext_get_or
 use Rattle.ht_tern.specs.declared.tern.Tern.{Tern}
 use Rattle.ht_tern.specs.declared.tern.Tern.TheVariants.{Unk}
 use Rattle.ht_tern.specs.Gate.{tern_of}
-use Rattle.ht_lanes.specs.Lanes.{Lanes, lane, with_lane, every_lane, is_set}
+use Rattle.ht_lanes.specs.Lanes.{Lanes, lane, with_lane, every_lane, is_set, word_at}
 use Rattle.ht_lanes.specs.Inverse.{lane_of_each}
 use Rattle.ht_net.specs.declared.net.NetId.{NetId}
 use Rattle.ht_net.specs.declared.fault.Site.{Site}
@@ -22,7 +22,6 @@ use Rattle.ht_net.specs.Netlist.{no_net}
 use Rattle.ht_net.specs.Frame.{Rules, pin_values, values_at}
 use Rattle.ht_net.specs.Faults.{forced, tern_rules, is_pin}
 use Rattle.ht_net.proofs.FrameLaws.{pins_length}
-use Rattle.ht_group.specs.Overlays.{word_at}
 use Rattle.ht_group.specs.BitSets.{with_bit}
 use Rattle.ht_group.specs.StuckTables.{is_at_gate, is_pin_of, is_pin_number, AreGateLanes}
 use Rattle.ht_group.proofs.MachineLaws.{rules_at, lane_env}

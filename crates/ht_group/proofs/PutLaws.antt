@@ -7,12 +7,12 @@ use Rattle.std.proofs.lemmas.Bool.{cases_Bool, eq-eqb, ne_eqb}
 use Rattle.std.proofs.lemmas.List.FromFn.{get_or-map-range_with_len, length-map-range_with_len}
 use Rattle.ht_tern.specs.declared.tern.Tern.{Tern}
 use Rattle.ht_tern.specs.declared.tern.Tern.TheVariants.{Unk}
-use Rattle.ht_lanes.specs.Lanes.{Lanes, lane, with_lane, every_lane}
+use Rattle.ht_lanes.specs.Lanes.{Lanes, lane, with_lane, every_lane, word_at}
 use Rattle.ht_diff.specs.declared.diffs.Diff.{Diff}
 use Rattle.ht_diff.specs.Differences.{held, value_but, with_differences}
 use Rattle.ht_net.specs.Netlist.{Netlist, first_gate_net, net_count}
 use Rattle.ht_group.specs.LaneRules.{in_lane}
-use Rattle.ht_group.specs.Overlays.{OverlayView, word_at}
+use Rattle.ht_group.specs.Overlays.{OverlayView}
 use Rattle.ht_group.specs.LatchWords.{HasDifferences}
 use Rattle.ht_group.specs.Schedules.{IsSchedule}
 use Rattle.ht_group.specs.declared.schedule.Schedule.{Schedule}

@@ -5,14 +5,13 @@ use Rattle.std.proofs.lemmas.Option.{slice_get_past}
 use Rattle.std.proofs.lemmas.List.{length-map}
 use Rattle.ht_tern.specs.declared.tern.Tern.{Tern}
 use Rattle.ht_tern.specs.declared.tern.Tern.TheVariants.{Unk}
-use Rattle.ht_lanes.specs.Lanes.{Lanes, lane, every_lane}
+use Rattle.ht_lanes.specs.Lanes.{Lanes, lane, every_lane, word_at}
 use Rattle.ht_lanes.specs.Inverse.{lane_of_each}
 use Rattle.ht_net.specs.declared.fault.Fault.{Fault}
 use Rattle.ht_net.specs.Netlist.{Netlist, first_gate_net, net_count, IsCircuit}
 use Rattle.ht_net.specs.Frame.{Rules, net_value}
 use Rattle.ht_net.specs.Faults.{tern_rules}
 use Rattle.ht_group.specs.LaneRules.{lane_rules, drive_from, in_lane, HasItsValue}
-use Rattle.ht_group.specs.Overlays.{word_at}
 use Rattle.ht_group.proofs.DriveLaws.{frame_has_values, drive_same}
 use Rattle.ht_group.proofs.MachineLaws.{rules_at, lane_env, value_by_lanes}
 use Rattle.ht_group.proofs.OverlayLaws.{spread_word}

@@ -7,13 +7,13 @@ use Rattle.ht_net.specs.Faults.{tern_rules}
 use Rattle.ht_group.specs.declared.good_frame.GoodFrame.{GoodFrame}
 
 -- there is room for the sources, for the value of each net and for the pins of a gate
-pub record HasRoom (c : Netlist) (frame : GoodFrame) : Type 0 where
+pub record HasFrameRoom (c : Netlist) (frame : GoodFrame) : Type 0 where
   pub source_count : length frame.sources.items ≡ first_gate_net c
   pub value_count : length frame.values.items ≡ net_count c
   pub room : length frame.pins.items ≡ 255
 
 -- each net has its value in a frame from the sources
 pub record IsGoodFrame (c : Netlist) (frame : GoodFrame) : Type 0 where
-  pub room : HasRoom c frame
+  pub room : HasFrameRoom c frame
   pub values : (x : ℕ) → x < net_count c → get_or frame.values.items x Unk
       ≡ net_value c (tern_rules None) (take c.inputs frame.sources.items) (drop c.inputs frame.sources.items) x

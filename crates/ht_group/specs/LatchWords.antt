@@ -1,11 +1,11 @@
 -- The latches of a lane that has the good ones but for differences.
 use Rattle.std.specs.Prelude.{◌≡◌, ◌≢◌, ◌<◌, ℕ, List, Bool, true, false, length, get_or, take, drop}
-use Rattle.ht_lanes.specs.Lanes.{Lanes}
+use Rattle.ht_lanes.specs.Lanes.{Lanes, word_at}
 use Rattle.ht_diff.specs.declared.diffs.Diff.{Diff}
 use Rattle.ht_diff.specs.Differences.{with_differences}
 use Rattle.ht_net.specs.Netlist.{Netlist, first_gate_net, net_count}
 use Rattle.ht_group.specs.LaneRules.{in_lane}
-use Rattle.ht_group.specs.Overlays.{OverlayView, word_at}
+use Rattle.ht_group.specs.Overlays.{OverlayView}
 use Rattle.ht_group.specs.declared.schedule.Schedule.{Schedule}
 
 -- Lane k, which had the good sources, has the latches that differ so, and the other lanes are as before. A net whose

@@ -1,8 +1,7 @@
 -- How an overlay's fields stand for it: a word that wasn't written has its good value in every lane.
 use Rattle.std.specs.Prelude.{◌≡◌, ◌<◌, ◌^◌, ℕ, false, length, get_or}
 use Rattle.ht_tern.specs.declared.tern.Tern.TheVariants.{Unk}
-use Rattle.ht_lanes.specs.Lanes.{every_lane}
-use Rattle.ht_group.specs.Overlays.{word_at}
+use Rattle.ht_lanes.specs.Lanes.{every_lane, word_at}
 use Rattle.ht_group.specs.declared.overlay.Overlay.TheInside.{Inside}
 
 pub record IsOverlay (a : Inside) : Type 0 where

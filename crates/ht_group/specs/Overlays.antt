@@ -1,7 +1,6 @@
 -- Words that lie over values of the good machine.
-use Rattle.std.specs.Prelude.{ℕ, List, map, get_or}
+use Rattle.std.specs.Prelude.{List, map}
 use Rattle.ht_tern.specs.declared.tern.Tern.{Tern}
-use Rattle.ht_tern.specs.declared.tern.Tern.TheVariants.{Unk}
 use Rattle.ht_lanes.specs.Lanes.{Lanes, every_lane}
 
 -- values of the good machine, and a word for each
@@ -12,7 +11,3 @@ pub record OverlayView : Type 0 where
 -- each word has its good value in every lane
 abbrev pub spread : List Tern → OverlayView
 spread good = record { good = good; words = map every_lane good }
-
--- word x of a list
-abbrev pub word_at : List Lanes → ℕ → Lanes
-word_at words x = get_or words x (every_lane Unk)

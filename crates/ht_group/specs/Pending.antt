@@ -1,10 +1,9 @@
 -- Nets that are pending, and nets that have their value.
 use Rattle.std.specs.Prelude.{◌≡◌, ◌<◌, ℕ, List, Bool, false, get_or}
-use Rattle.ht_lanes.specs.Lanes.{Lanes}
+use Rattle.ht_lanes.specs.Lanes.{Lanes, word_at}
 use Rattle.ht_net.specs.declared.fault.Fault.{Fault}
 use Rattle.ht_net.specs.Netlist.{Netlist, net_count}
 use Rattle.ht_group.specs.LaneRules.{lane_rules, drive_from, HasItsValue}
-use Rattle.ht_group.specs.Overlays.{word_at}
 use Rattle.ht_group.specs.declared.schedule.Schedule.{Schedule}
 
 -- each net whose rank isn't pending has the value that its driver and its stem give it

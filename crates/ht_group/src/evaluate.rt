@@ -2,13 +2,12 @@
 ghost use Rattle.std.specs.Prelude.{◌≡◌, ◌<◌, ◌≤◌, ◌+◌, ◌&&◌, ◌==◌, ℕ, length, get_or, set, if◌then◌else◌};
 ghost use Rattle.std.specs.List.{slice_get};
 ghost use Rattle.ht_tern.specs.Gate.{HasArity, gate_value_over, operation_of, tern_of};
-ghost use Rattle.ht_lanes.specs.Lanes.{lane, with_lane};
+ghost use Rattle.ht_lanes.specs.Lanes.{lane, with_lane, word_at};
 ghost use Rattle.ht_net.specs.Netlist.{first_gate_net, net_count, no_net};
 ghost use Rattle.ht_net.specs.Frame.{gate_output, values_at};
 ghost use Rattle.ht_net.specs.Faults.{tern_rules};
 ghost use Rattle.ht_frame.specs.Values.{env_of};
 ghost use Rattle.ht_group.specs.LaneRules.{drive_from, lane_rules};
-ghost use Rattle.ht_group.specs.Overlays.{word_at};
 ghost use Rattle.ht_group.specs.StuckTables.{AreGateLanes, AreStuck, is_pin_number};
 
 use crate::stuck_lines::StuckLines;

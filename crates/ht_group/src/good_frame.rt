@@ -1,8 +1,8 @@
 //! One frame of the good machine.
-ghost use Rattle.std.specs.Prelude.{◌≡◌, ◌<◌, ◌+◌, ◌++◌, ℕ, None, length, get_or, IfOk};
+ghost use Rattle.std.specs.Prelude.{◌≡◌, ◌<◌, ◌+◌, ◌++◌, None, length, IfOk};
 ghost use Rattle.ht_tern.specs.declared.tern.Tern.TheVariants.{Unk};
 ghost use Rattle.ht_net.specs.Detection.{terns_of};
-ghost use Rattle.ht_group.specs.GoodFrames.{HasRoom, IsGoodFrame};
+ghost use Rattle.ht_group.specs.GoodFrames.{HasFrameRoom, IsGoodFrame};
 
 use ht_frame::{MAX_GATE_PINS, settle};
 use ht_net::Circuit;
@@ -52,7 +52,7 @@ impl GoodFrame {
 
     // Gives each net its value.
     fn run(&mut self, circuit: &Circuit)
-        requires { HasRoom circuit.now self.old }
+        requires { HasFrameRoom circuit.now self.old }
         ensures frame { IsGoodFrame circuit.now self.new }
         ensures sources { self.new.sources.items ≡ self.old.sources.items }
     {
@@ -71,7 +71,7 @@ impl GoodFrame {
     pub fn start(&mut self, circuit: &Circuit, vector: &[bool], latches: &[Tern])
         requires width { length vector.now ≡ circuit.now.inputs }
         requires each { length latches.now ≡ length circuit.now.dffs }
-        requires room { HasRoom circuit.now self.old }
+        requires room { HasFrameRoom circuit.now self.old }
         ensures frame { IsGoodFrame circuit.now self.new }
         ensures sources { self.new.sources.items ≡ terns_of vector.now ++ latches.now }
     {

@@ -4,13 +4,12 @@ ghost use Rattle.std.specs.List.{slice_get};
 ghost use Rattle.ht_tern.specs.Opposite.{are_opposite};
 ghost use Rattle.ht_net.specs.Netlist.{first_gate_net, net_count, no_net};
 ghost use Rattle.ht_net.specs.Detection.{terns_of};
-ghost use Rattle.ht_lanes.specs.Lanes.{is_set, lane, with_lane};
+ghost use Rattle.ht_lanes.specs.Lanes.{is_set, lane, with_lane, word_at};
 ghost use Rattle.ht_diff.specs.Differences.{with_differences};
 ghost use Rattle.ht_group.specs.GroupView.{AreLatches, FaultyMachine, HasSite, faulty_next, faulty_output, good_next, good_output, max_machines};
 ghost use Rattle.ht_group.specs.LatchWords.{HasDifferences};
 ghost use Rattle.ht_group.specs.NetValues.{faulty_value, good_value};
 ghost use Rattle.ht_group.specs.LaneRules.{in_lane};
-ghost use Rattle.ht_group.specs.Overlays.{word_at};
 ghost use Rattle.ht_group.specs.Schedules.{IsSchedule};
 ghost use Rattle.ht_group.specs.StuckTables.{forced_net_of};
 

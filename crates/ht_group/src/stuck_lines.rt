@@ -1,7 +1,6 @@
 //! The lines that are stuck, each in the lanes of its faults.
-ghost use Rattle.std.specs.Prelude.{◌≡◌, ◌<◌, ◌≤◌, ◌-◌, ◌+◌, ◌++◌, ◌∷◌, [], ℕ, length, get_or, set, take, IfOk, OnOk, OnErr, if◌then◌else◌};
+ghost use Rattle.std.specs.Prelude.{◌≡◌, ◌<◌, ◌-◌, ◌+◌, ◌++◌, ◌∷◌, [], length, get_or, set, take, IfOk, OnOk, OnErr};
 ghost use Rattle.ht_net.specs.Netlist.{net_count};
-ghost use Rattle.ht_lanes.specs.Lanes.{is_set};
 ghost use Rattle.ht_group.specs.GroupView.{HasSite, max_machines};
 ghost use Rattle.ht_group.specs.LaneRules.{lane_rules};
 ghost use Rattle.ht_group.specs.BitSets.{with_bit};

@@ -27,6 +27,10 @@ each_lane value = map value (range_with_len 0 64)
 abbrev pub every_lane : Tern → Lanes
 every_lane value = each_lane (λ k. value)
 
+-- word i of a list
+abbrev pub word_at : List Lanes → ℕ → Lanes
+word_at words i = get_or words i (every_lane Unk)
+
 -- the operations of three values, lane by lane
 abbrev pub lane_operations : Operations Lanes
 lane_operations = record {

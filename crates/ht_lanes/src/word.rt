@@ -1,10 +1,12 @@
 //! Words of 64 three-valued lanes: how one is made, read, written, stuck and compared.
 ghost use Rattle.std.specs.Prelude.{◌≡◌, ◌≢◌, ◌<◌, ◌↔◌, ℕ, IsTrue};
 ghost use Rattle.ht_tern.specs.Opposite.{are_opposite};
+ghost use Rattle.ht_lanes.specs.Four.{AreEachApart, AreFourRows};
 ghost use Rattle.ht_lanes.specs.Lanes.{every_lane, is_set, lane, lane_operations, stuck_lanes, with_lane};
 
 use ht_tern::{GateOperations, Tern};
 use std::marker::Model;
+use std::simd::u64x4;
 
 /// 64 three-valued values, one in each lane. Lanes count from 0; a set of lanes is a number with a bit for each.
 #[derive(Clone, Copy, Debug)]
@@ -67,9 +69,9 @@ impl GateOperations for Word {
     }
 }
 
-// Whether a set of lanes has lane `k`.
+/// Whether a set of lanes has lane `k`.
 #[tactic(auto, using(crate::proofs::LaneLaws::test_is_set))]
-fn has_lane(lanes: u64, k: u32) -> bool
+pub fn has_lane(lanes: u64, k: u32) -> bool
     requires { k < 64 }
     ensures { result ≡ is_set lanes k }
 {
@@ -172,4 +174,42 @@ impl Word {
     {
         self.zero == other.zero && self.one == other.one
     }
+}
+
+// The lanes that are Zero, and those that are One, of each of four words.
+pub(crate) fn four_rows(four: &[Word; 4]) -> (u64x4, u64x4)
+    ensures { AreFourRows four.now result.0 result.1 }
+{
+    let [a, b, c, d] = *four;
+    (
+        u64x4::from_array([a.zero, b.zero, c.zero, d.zero]),
+        u64x4::from_array([a.one, b.one, c.one, d.one]),
+    )
+}
+
+// The four words of such rows of bits.
+pub(crate) fn four_words(zeros: u64x4, ones: u64x4) -> [Word; 4]
+    requires { AreEachApart zeros ones }
+    ensures { AreFourRows result zeros ones }
+{
+    let zero = zeros.to_array();
+    let one = ones.to_array();
+    [
+        Word {
+            zero: zero[0],
+            one: one[0],
+        },
+        Word {
+            zero: zero[1],
+            one: one[1],
+        },
+        Word {
+            zero: zero[2],
+            one: one[2],
+        },
+        Word {
+            zero: zero[3],
+            one: one[3],
+        },
+    ]
 }

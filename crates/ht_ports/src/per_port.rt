@@ -87,6 +87,21 @@ pub struct PerOutPort<T> {
     pub err: T,
 }
 
+impl<T: Copy> PerOutPort<T> {
+    /// The same value for each port.
+    pub fn all(value: T) -> Self
+        ensures { (p : OutPort) → at_out_port result p ≡ value }
+    {
+        PerOutPort {
+            tests: value,
+            report: value,
+            proofs: value,
+            out: value,
+            err: value,
+        }
+    }
+}
+
 impl<T> PerOutPort<Option<T>> {
     /// No value for any port.
     pub fn none() -> Self

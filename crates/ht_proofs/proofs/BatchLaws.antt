@@ -1,9 +1,9 @@
 -- The faults of a frame, one after the other, through the lanes of a group.
-use Rattle.std.proofs.Common.{◌≡◌, ◌≢◌, ◌<◌, ◌≤◌, ◌+◌, ◌*◌, ◌∙◌, ◌⊎◌, ℕ, zero, suc, List, [], ◌∷◌, ◌++◌, Bool, true, false, Option, Some, None, length, get_or, set, take, cond, inl, inr, refl, sym, ap, subst, arith, length-append}
+use Rattle.std.proofs.Common.{◌≡◌, ◌≢◌, ◌<◌, ◌≤◌, ◌+◌, ◌*◌, ◌∙◌, ◌⊎◌, ℕ, zero, suc, List, [], ◌∷◌, ◌++◌, Bool, true, false, Option, Some, None, length, get_or, take, cond, inl, inr, refl, sym, ap, subst, arith, length-append}
 use Rattle.std.specs.Option.{is_none, is_some}
 use Rattle.std.specs.List.{slice_get}
 use Rattle.std.proofs.lemmas.Bool.{cases_eq}
-use Rattle.std.proofs.lemmas.List.{get_or_append_left, get_or-set_same, get_or-set_other, length-set}
+use Rattle.std.proofs.lemmas.List.{get_or_append_left}
 use Rattle.std.proofs.lemmas.List.Sums.{count_by_more_yes, sum_by-take-le}
 use Rattle.std.proofs.lemmas.Option.{slice_get_within, slice_get-get_or}
 use Rattle.std.proofs.Math.Nat.{mul-le-mul_left}
@@ -16,7 +16,7 @@ use Rattle.ht_diff.specs.Differences.{with_differences}
 use Rattle.ht_faults.specs.FaultList.{no_fault}
 use Rattle.ht_group.specs.GroupView.{GroupView, FaultyMachine, AreLatches, max_machines}
 use Rattle.ht_proofs.specs.declared.grade.Grade.{Grade}
-use Rattle.ht_proofs.specs.Applied.{IsFirstSeen, full_groups, good_state}
+use Rattle.ht_proofs.specs.Applied.{IsFirstSeen, full_groups}
 use Rattle.ht_proofs.specs.LaneGrades.{no_grade, grade_at, lane_grade, HasNoLane, HoldsLatches, IsGradedFault}
 use Rattle.ht_proofs.specs.Batches.{BatchView, AreLanesBelow, AreLanesGraded, IsAdded, machine_from, undetected_count, ArePassed, IsGradedFrame, AreCounted}
 
@@ -94,27 +94,6 @@ passed_by frame faults number old i s new detected passed = record {
 }
 
 -- ---- a fault that takes the next lane
-
-pub is_added : (i : ℕ) (fault : Fault) (s t : BatchView) (old : List Grade) (here changed : Grade) → i < length old
-    → here ≡ grade_at old i → here.verdict ≡ None
-    → t.group
-    ≡ record s.group { machines = s.group.machines ++ machine_from s.group fault here ∷ []; settled = false }
-    → t.lanes ≡ s.lanes ++ i ∷ [] → changed ≡ record here { diffs = [] }
-    → IsAdded i fault s old t (set old i changed)
-is_added i fault s t old here changed inside at none group lanes emptied = record {
-  circuit_same = ap (λ (g : GroupView). g.circuit) group;
-  vector_same = ap (λ (g : GroupView). g.vector) group;
-  latches_same = ap (λ (g : GroupView). g.latches) group;
-  machines = ap (λ (g : GroupView). g.machines) group
-      ∙ ap (λ (x : Grade). s.group.machines ++ machine_from s.group fault x ∷ []) at;
-  lanes = lanes;
-  count = length-set old i changed;
-  known = inside;
-  was = sym (ap (λ (x : Grade). x.verdict) at) ∙ none;
-  here = get_or-set_same old i changed no_grade inside
-      ∙ (emptied ∙ ap (λ (v : Option Place). record { verdict = v; diffs = [] }) none);
-  others = λ j other. get_or-set_other old i j changed no_grade other;
-}
 
 -- the number in a lane before the last one, and in the last one
 lane_before : (lanes : List ℕ) (i k : ℕ) → k < length lanes → get_or (lanes ++ i ∷ []) k 0 ≡ get_or lanes k 0
@@ -419,10 +398,6 @@ counted_more gates old i waiting before after more inside none full_lanes few co
   steps = omega (arith, counted.steps, few);
 }
 
-pub not_some : {X : Type 0} → (x : Option X) → is_some x ≡ false → x ≡ None
-not_some None h = refl
-not_some (Some x) h = cc
-
 -- the lanes were full, and are empty
 pub counted_full : (number i : ℕ) (fault : Fault) (s t u : BatchView) (old mid new : List Grade) (gates : ℕ)
     (first : List Grade) (before after more : ℕ) → IsAdded i fault s old t mid
@@ -444,26 +419,8 @@ groups_within : (groups waiting count all : ℕ) → max_machines * groups + wai
     → groups + 1 ≤ full_groups all
 groups_within groups waiting count all full few some = omega arith
 
-groups_full : (groups count all : ℕ) → max_machines * groups ≡ count → count ≤ all → groups ≤ full_groups all
-groups_full groups count all full few = omega arith
-
 taken_count : (old : List Grade) (n : ℕ) → undetected_count (take n old) ≤ undetected_count old
 taken_count old n = sum_by-take-le (λ (g : Grade). cond (is_none g.verdict) 1 0) old n
-
-pub steps_even : (gates : ℕ) (old : List Grade) (n before after : ℕ) → AreCounted gates old n 0 before after
-    → after ≤ before + gates * full_groups (undetected_count old)
-steps_even gates old n before after counted =
-    let few = groups_full counted.groups (undetected_count (take n old)) (undetected_count old)
-    (omega (arith, counted.full)) (taken_count old n) in
-    omega (arith, counted.steps, mul-le-mul_left gates few)
-
-pub steps_rest : (gates : ℕ) (old : List Grade) (n waiting before after more : ℕ) → 0 < waiting
-    → more ≤ after + gates → AreCounted gates old n waiting before after
-    → more ≤ before + gates * full_groups (undetected_count old)
-steps_rest gates old n waiting before after more some few counted =
-    let within = groups_within counted.groups waiting (undetected_count (take n old)) (undetected_count old)
-    counted.full (taken_count old n) some in
-    omega (arith, counted.steps, few, mul-le-mul_left gates within)
 
 pub steps_failed : (gates : ℕ) (old : List Grade) (i waiting before after more : ℕ) → i < length old
     → (grade_at old i).verdict ≡ None → more ≤ after + gates → AreCounted gates old i waiting before after
@@ -483,43 +440,7 @@ pub record ArePassing (start : BatchView) (faults : List Fault) (number : ℕ) (
   pub room : length s.lanes < max_machines
   pub passed : ArePassed start.group faults number old i s new
   pub counted : AreCounted (length start.group.circuit.gates) old i (length s.lanes) before after
-
-pub passing_start : (start : BatchView) (faults : List Fault) (number : ℕ) (old : List Grade) (before : ℕ)
-    → start.lanes ≡ [] → start.group.machines ≡ []
-    → ((k : ℕ) → AreLatches start.group.circuit (grade_at old k).diffs)
-    → ArePassing start faults number old before 0 start old before
-passing_start start faults number old before empty alone known = record {
-  lanes = record {
-    faults = record {
-      few = omega (arith, none);
-      known = λ k less. absurd (omega (arith, less, none));
-      differ = λ j k order less. absurd (omega (arith, less, none));
-    };
-    machines = ap (λ (l : List FaultyMachine). length l) alone ∙ sym none;
-    below = λ k less. absurd (omega (arith, less, none));
-    moved = λ k less. absurd (omega (arith, less, none));
-    known = known;
-  };
-  room = omega (arith, none);
-  passed = record {
-    circuit_same = refl;
-    vector_same = refl;
-    latches_same = refl;
-    in_lanes = λ k fault less. absurd (omega (arith, less, none));
-    undetected = λ k less. absurd (omega (arith, less, none));
-    later = λ j less. refl;
-    kept = λ j p found. refl;
-    done = λ j fault less. absurd (omega arith);
-  };
-  counted = record {
-    groups = 0;
-    full = omega (arith, none);
-    steps = omega arith;
-  };
-}
-  where
-    none : length start.lanes ≡ 0
-    none = ap (λ (l : List ℕ). length l) empty
+  pub rises : before ≤ after
 
 -- all faults went through, and none is left in a lane
 pub passed_all : (frame : GroupView) (faults : List Fault) (number : ℕ) (old : List Grade) (n : ℕ) (s : BatchView)
@@ -530,9 +451,3 @@ passed_all frame faults number old n s new all empty passed = record {
   graded = λ j fault has none. passed.done j fault (omega (arith, slice_get_within faults j fault has, all)) has none
       (no_lane_in_empty s.lanes j empty);
 }
-
--- the good machine's latches after the frame are those of any group in it
-pub good_same : (g frame : GroupView) → g.circuit ≡ frame.circuit → g.vector ≡ frame.vector
-    → g.latches ≡ frame.latches → good_state g ≡ good_state frame
-good_same g frame c v l =
-    ap (λ (f : GroupView). good_state f) (same_frame g frame c v l)

@@ -1,10 +1,8 @@
 -- A grader's fields, before the first vector and after one more.
-use Rattle.std.proofs.Common.{◌≡◌, ◌<◌, ◌≤◌, ◌+◌, ◌^◌, ◌∙◌, ◌⊎◌, ℕ, zero, suc, List, [], ◌∷◌, Bool, true, All, Option, Some, None, length, get_or, replicate, cond, inl, inr, refl, sym, ap, subst, arith}
+use Rattle.std.proofs.Common.{◌≡◌, ◌<◌, ◌≤◌, ◌+◌, ◌^◌, ◌∙◌, ◌⊎◌, ℕ, zero, suc, List, [], ◌∷◌, Bool, true, All, Option, Some, None, length, get_or, replicate, inl, inr, refl, sym, ap, subst, arith}
 use Rattle.std.specs.Prelude.{unwrap_or}
-use Rattle.std.specs.Option.{is_none}
-use Rattle.std.specs.List.{slice_get, count_by}
+use Rattle.std.specs.List.{slice_get}
 use Rattle.std.proofs.lemmas.List.{ext_get_or, get_or-map, get_or_past, get_or-replicate, get_or_read, length-map, length-replicate}
-use Rattle.std.proofs.lemmas.List.Folds.{fold-map}
 use Rattle.std.proofs.lemmas.List.FromFn.{get_or-map-range_with_len, length-map-range_with_len}
 use Rattle.std.proofs.lemmas.List.Elements.{All-get_or}
 use Rattle.std.proofs.lemmas.Option.{get_or_from_slice_get, slice_get_within, slice_get-get_or}
@@ -27,7 +25,7 @@ use Rattle.ht_proofs.specs.declared.grade.Grade.{Grade}
 use Rattle.ht_proofs.specs.Grades.{Grades, GraderStandsFor, chosen_faults, grades_at_start, state_at, verdict_at}
 use Rattle.ht_proofs.specs.Applied.{IsApplied, IsFirstSeen, faulty_state, good_state, grader_frame, machine_at}
 use Rattle.ht_proofs.specs.LaneGrades.{no_grade, grade_at}
-use Rattle.ht_proofs.specs.Batches.{IsGradedFrame, machine_from, undetected_count}
+use Rattle.ht_proofs.specs.Batches.{IsGradedFrame, machine_from}
 use Rattle.ht_proofs.specs.GradesOf.{IsGrader, faulty_states, verdicts_of}
 use Rattle.ht_proofs.proofs.DiffLaws.{state_length}
 use Rattle.ht_proofs.proofs.VectorLaws.{found_inside}
@@ -69,11 +67,6 @@ latch_is latches grades k j grade good value known inside at good_at is =
     ∙ (sym (get_or-map-range_with_len (value_but latches (grade_at grades k).diffs) 0 (length latches) j j Unk inside
     (omega arith))
     ∙ ap (λ (l : List Tern). get_or l j Unk) (sym (state_of latches grades k known)))))
-
--- how many aren't detected
-pub undetected_same : (grades : List Grade) → count_by is_none (verdicts_of grades) ≡ undetected_count grades
-undetected_same grades =
-    fold-map (λ (n : ℕ) (v : Option Place). n + cond (is_none v) 1 0) (λ (g : Grade). g.verdict) 0 grades
 
 -- ---- before the first vector
 
@@ -306,7 +299,9 @@ run_fields g old vector frame h new run was few known =
     place k p at = elim (option_cases (grade_at old k).verdict) [
       | inl not_yet ↦ new_place k p at not_yet
       | inr q ↦
-          let same : Some q.0 ≡ Some p = sym q.1 ∙ (sym (ap (λ (x : Grade). x.verdict) (run.all.kept k q.0 q.1)) ∙ at) in
-          let here = was.places k p (ap (λ (x : Grades). verdict_at x k) run.old_is ∙ (verdict_of old k ∙ (q.1 ∙ same))) in
+          let kept = ap (λ (x : Grade). x.verdict) (run.all.kept k q.0 q.1) in
+          let same : Some q.0 ≡ Some p = sym q.1 ∙ (sym kept ∙ at) in
+          let before = ap (λ (x : Grades). verdict_at x k) run.old_is ∙ verdict_of old k in
+          let here = was.places k p (before ∙ (q.1 ∙ same)) in
           (omega (arith, here.0), here.1)
     ]

@@ -3,7 +3,7 @@ use Rattle.std.proofs.Common.{◌≡◌, ◌≢◌, ◌<◌, ◌≤◌, ◌+◌,
 use Rattle.std.proofs.lemmas.Bool.{cases_eq}
 use Rattle.std.proofs.lemmas.List.{get_or-set_same, get_or-set_other, get_or-take, get_or_read, length-take-le, take_all}
 use Rattle.ht_proofs.specs.declared.grade.Grade.{Grade}
-use Rattle.ht_proofs.specs.LaneGrades.{no_grade, grade_at, lane_grade, HasNoLane, AreLaneFaults, AreChanged}
+use Rattle.ht_proofs.specs.LaneGrades.{no_grade, grade_at, HasNoLane, AreLaneFaults, AreChanged}
 
 -- the faults of two lanes differ
 lanes_differ : (lanes : List ℕ) (grades : List Grade) (j k : ℕ) → AreLaneFaults lanes grades → j ≢ k → j < length lanes
@@ -21,14 +21,6 @@ lanes_differ lanes grades j k faults other below inside same = elim (order j k o
       | inl less ↦ inl (omega arith)
       | inr more ↦ inr (omega arith)
     ]
-
--- no fault has changed before the first lane
-pub none_changed : (lanes : List ℕ) (change : ℕ → Grade → Grade) (grades : List Grade)
-    → AreChanged (take 0 lanes) change grades grades
-none_changed lanes change grades = record {
-  each = λ k less. absurd (omega arith);
-  others = λ i none. refl;
-}
 
 -- One lane more, whose fault is written.
 pub changed_more : (lanes : List ℕ) (change : ℕ → Grade → Grade) (old mid new : List Grade) (k i : ℕ)
@@ -86,11 +78,3 @@ pub all_changed : (lanes : List ℕ) (change : ℕ → Grade → Grade) (old new
     → AreChanged (take k lanes) change old new → AreChanged lanes change old new
 all_changed lanes change old new k done changed =
     subst (λ (l : List ℕ). AreChanged l change old new) (take_all k lanes done) changed
-
--- Where the change leaves each lane as it is, nothing changes.
-pub unchanged : (lanes : List ℕ) (change : ℕ → Grade → Grade) (grades : List Grade)
-    → ((k : ℕ) → k < length lanes → (grade : Grade) → change k grade ≡ grade) → AreChanged lanes change grades grades
-unchanged lanes change grades same = record {
-  each = λ k less. sym (same k less (lane_grade grades lanes k));
-  others = λ i none. refl;
-}

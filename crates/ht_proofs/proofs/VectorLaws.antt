@@ -105,7 +105,8 @@ opposite_inside good faulty o h = elim (le_or_lt (length good) o) [
 ]
 
 -- what is detected is detected at a vector of the list, and at an output of the circuit
-pub found_inside : (c : Netlist) (f : Fault) (list : List (List Bool)) (t o : ℕ) → Detects c f list t o → t < length list
+pub found_inside : (c : Netlist) (f : Fault) (list : List (List Bool)) (t o : ℕ) → Detects c f list t o
+    → t < length list
 found_inside c f list t o d = elim (le_or_lt (length list) t) [
   | inl past ↦
       let none : output_at c None list t o ≡ Unk =
@@ -247,7 +248,8 @@ applied_stands g h list v s a = record {
   counted = omega (arith, a.counted, s.counted, length-append list (v ∷ []));
   good =
       rw a.circuit_same
-      (a.good ∙ (ap (next_state g.circuit (tern_rules None) (terns_of v)) s.good ∙ sym (latches_more g.circuit None list v)));
+      (a.good ∙ (ap (next_state g.circuit (tern_rules None) (terns_of v)) s.good
+      ∙ sym (latches_more g.circuit None list v)));
   first = λ k f has.
       let had : slice_get g.faults k ≡ Some f = ap (λ (l : List Fault). slice_get l k) (sym a.faults_same) ∙ has in
       let first = s.first k f had in

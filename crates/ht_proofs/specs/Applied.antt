@@ -1,5 +1,5 @@
 -- What one more vector makes of a grader.
-use Rattle.std.specs.Prelude.{◌≡◌, ◌<◌, ◌+◌, ◌-◌, ◌/◌, ℕ, List, [], Bool, true, Option, Some, None, length}
+use Rattle.std.specs.Prelude.{◌≡◌, ◌<◌, ◌+◌, ◌-◌, ◌/◌, ◌^◌, ℕ, List, [], Bool, true, Option, Some, None, length}
 use Rattle.std.specs.Option.{is_none}
 use Rattle.std.specs.List.{slice_get, count_by}
 use Rattle.ht_tern.specs.declared.tern.Tern.{Tern}
@@ -44,8 +44,8 @@ good_state frame = next_state frame.circuit (tern_rules None) frame.vector frame
 abbrev pub faulty_state : GroupView → FaultyMachine → List Tern
 faulty_state frame m = next_state frame.circuit (tern_rules (Some m.fault)) frame.vector m.latches
 
--- One more vector was applied: a fault that was detected stays so, and each other one is detected where it is first seen
--- in the frame, or else its machine has taken its latches.
+-- One more vector was applied: a fault that was detected stays so, and each other one is detected where it is first
+-- seen in the frame, or else its machine has taken its latches.
 pub record IsApplied (g : Grades) (vector : List Bool) (h : Grades) : Type 0 where
   pub circuit_same : h.circuit ≡ g.circuit
   pub faults_same : h.faults ≡ g.faults
@@ -58,6 +58,10 @@ pub record IsApplied (g : Grades) (vector : List Bool) (h : Grades) : Type 0 whe
   pub state : (k : ℕ) (fault : Fault) → slice_get g.faults k ≡ Some fault → verdict_at h k ≡ None
       → state_at h k ≡ faulty_state (grader_frame g vector) (machine_at g k fault)
   pub goes_on : h.live ≡ true
+
+-- where a count of evaluations stays
+abbrev pub max_steps : ℕ
+max_steps = 2 ^ 64 - 1
 
 -- how many groups so many faults make
 abbrev pub full_groups : ℕ → ℕ

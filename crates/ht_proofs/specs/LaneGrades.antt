@@ -56,8 +56,8 @@ abbrev pub with_latch : ℕ → Tern → Tern → Grade → Grade
 with_latch latch good value grade =
     record grade { diffs = if is_none grade.verdict then more_diffs latch good value grade.diffs else grade.diffs }
 
--- The verdict is this one, and if that is none the good latches after a frame with the differences are those of a faulty
--- machine.
+-- The verdict is this one, and if that is none the good latches after a frame with the differences are those of a
+-- faulty machine.
 pub record HoldsLatches (frame : GroupView) (m : FaultyMachine) (place : Option Place) (grade : Grade) : Type 0 where
   pub verdict_same : grade.verdict ≡ place
   pub state : place ≡ None → with_differences (good_state frame) grade.diffs ≡ faulty_state frame m

@@ -1,11 +1,11 @@
 //! A group and its faults: one frame of all undetected faults, 64 at a time.
-ghost use Rattle.std.specs.Prelude.{◌≡◌, ◌<◌, ◌≤◌, ◌+◌, ◌*◌, ℕ, [], List, None, Some, true, false, length, get_or, IfOk, OnOk, OnErr};
+ghost use Rattle.std.specs.Prelude.{◌≡◌, ◌<◌, ◌≤◌, ◌+◌, ◌*◌, ℕ, [], List, None, Some, true, false, min, length, get_or, IfOk, OnOk, OnErr};
 ghost use Rattle.std.specs.List.{slice_get};
 ghost use Rattle.ht_net.specs.declared.fault.Fault.{Fault};
 ghost use Rattle.ht_net.specs.Detection.{terns_of};
 ghost use Rattle.ht_group.specs.GroupView.{AreLatches, FaultyMachine, GroupView, HasSite, max_machines};
 ghost use Rattle.ht_proofs.specs.declared.grade.Grade.{Grade};
-ghost use Rattle.ht_proofs.specs.Applied.{IsFirstSeen, full_groups, good_state};
+ghost use Rattle.ht_proofs.specs.Applied.{IsFirstSeen, full_groups, good_state, max_steps};
 ghost use Rattle.ht_proofs.specs.LaneGrades.{AreLaneFaults, HasNoLane, HoldsLatches, IsGradedFault, grade_at, lane_grade};
 ghost use Rattle.ht_proofs.specs.Batches.{AreCounted, AreLanesBelow, AreLanesGraded, ArePassed, IsAdded, IsGradedFrame, undetected_count};
 
@@ -63,6 +63,8 @@ impl<'c> Batch<'c> {
         ensures lanes { self.new.lanes ≡ [] }
         ensures steps { steps.new.count
             ≤ steps.old.count + length self.old.group.circuit.gates }
+        ensures counted { min (steps.old.count + length self.old.group.circuit.gates) max_steps
+            ≤ steps.new.count }
     {
         self.lanes.clear();
         self.group.start(vector, latches);
@@ -134,6 +136,7 @@ impl<'c> Batch<'c> {
         ensures circuit { self.new.group.circuit ≡ self.old.group.circuit }
         ensures steps { steps.new.count
             ≤ steps.old.count + length self.old.group.circuit.gates }
+        ensures rises { steps.old.count ≤ steps.new.count }
     {
         let evaluated = self.group.settle()?;
         steps.add(evaluated);
@@ -175,7 +178,8 @@ impl<'c> Batch<'c> {
         requires room { length self.old.lanes < max_machines }
         ensures lanes { OnOk result (AreLanesBelow (i + 1) self.new grades.new) }
         ensures room { OnOk result (length self.new.lanes < max_machines) }
-        ensures passed { OnOk result ((frame : GroupView) (faults : List Fault) (before : List Grade)
+        ensures passed { OnOk result
+            ((frame : GroupView) (faults : List Fault) (before : List Grade)
             → slice_get faults i ≡ Some fault
             → ArePassed frame faults number before i self.old grades.old
             → ArePassed frame faults number before (i + 1) self.new grades.new) }
@@ -188,6 +192,7 @@ impl<'c> Batch<'c> {
         ensures circuit { self.new.group.circuit ≡ self.old.group.circuit }
         ensures steps { OnErr result ((grade_at grades.old i).verdict ≡ None
             × (steps.new.count ≤ steps.old.count + length self.old.group.circuit.gates)) }
+        ensures rises { steps.old.count ≤ steps.new.count }
     {
         if grades[i].verdict.is_some() {
             return Ok(());
@@ -224,6 +229,7 @@ impl<'c> Batch<'c> {
         ensures circuit { self.new.group.circuit ≡ self.old.group.circuit }
         ensures steps { steps.new.count ≤ steps.old.count
             + length self.old.group.circuit.gates * full_groups (undetected_count grades.old) }
+        ensures rises { steps.old.count ≤ steps.new.count }
     {
         for (i, fault) in faults.iter().enumerate() {
             self.take(*fault, i, number, grades, steps)?;

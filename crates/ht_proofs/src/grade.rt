@@ -4,7 +4,7 @@ ghost use Rattle.ht_lanes.specs.Lanes.{is_set, lane};
 ghost use Rattle.ht_proofs.specs.LaneGrades.{AreChanged, AreLaneFaults, with_latch, with_place};
 
 use ht_diff::{Diff, Diffs};
-use ht_lanes::Word;
+use ht_lanes::{Word, has_lane};
 use ht_net::Place;
 use ht_tern::Tern;
 use std::alloc::AllocError;
@@ -15,15 +15,6 @@ use std::alloc::AllocError;
 pub struct Grade {
     pub verdict: Option<Place>,
     pub diffs: Diffs,
-}
-
-// Whether a set of lanes has lane `k`.
-#[tactic(auto, using(ht_lanes::proofs::LaneLaws::test_is_set))]
-fn has_lane(lanes: u64, k: u32) -> bool
-    requires { k < 64 }
-    ensures { result ≡ is_set lanes k }
-{
-    (lanes >> k) & 1 == 1
 }
 
 impl Grade {

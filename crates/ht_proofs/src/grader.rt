@@ -1,12 +1,12 @@
 //! Faults graded by vectors that come one by one.
-ghost use Rattle.std.specs.Prelude.{◌≡◌, ◌<◌, ◌≤◌, ◌+◌, ◌*◌, ◌++◌, ◌∷◌, ◌^◌, ℕ, [], List, Bool, None, true, false, length, get_or, map, replicate, IfOk, OnOk, OnErr, IsErr};
+ghost use Rattle.std.specs.Prelude.{◌≡◌, ◌<◌, ◌≤◌, ◌+◌, ◌*◌, ◌++◌, ◌∷◌, ◌^◌, ℕ, [], List, Bool, None, true, false, min, length, get_or, map, replicate, IfOk, OnOk, OnErr, IsErr};
 ghost use Rattle.std.specs.List.{All};
 ghost use Rattle.std.specs.Option.{ForSome};
 ghost use Rattle.ht_tern.specs.declared.tern.Tern.TheVariants.{Unk};
 ghost use Rattle.ht_net.specs.Detection.{IsPlace, unknown_state};
 ghost use Rattle.ht_faults.specs.Sites.{faults_of};
 ghost use Rattle.ht_proofs.specs.Grades.{GraderStandsFor, chosen_faults, grades_at_start, state_at, verdict_at};
-ghost use Rattle.ht_proofs.specs.Applied.{IsApplied, groups_of};
+ghost use Rattle.ht_proofs.specs.Applied.{IsApplied, groups_of, max_steps};
 ghost use Rattle.ht_proofs.specs.LaneGrades.{no_grade};
 ghost use Rattle.ht_proofs.specs.GradesOf.{verdicts_of};
 
@@ -20,8 +20,8 @@ use ht_tern::Tern;
 use std::alloc::{AllocError, Global};
 use std::marker::Model;
 
-/// Faults of a circuit, and what the vectors applied so far say of them. Faults count from 0, in the order in which they
-/// were given; vectors, outputs and flip-flops count from 0.
+/// Faults of a circuit, and what the vectors applied so far say of them. Faults count from 0, in the order in which
+/// they were given; vectors, outputs and flip-flops count from 0.
 #[derive(Drop)]
 pub struct Grader<'c> {
     faults: Vec<Fault>,
@@ -155,6 +155,8 @@ impl<'c> Grader<'c> {
             × (self.new.faults ≡ self.old.faults) }
         ensures steps { steps.new.count ≤ steps.old.count
             + length self.old.circuit.gates * (1 + groups_of self.old) }
+        ensures counted { OnOk result (min (steps.old.count + length self.old.circuit.gates)
+            max_steps ≤ steps.new.count) }
     {
         if !self.live {
             return Err(AllocError);

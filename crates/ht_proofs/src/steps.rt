@@ -1,5 +1,6 @@
 //! A counter of evaluations.
-ghost use Rattle.std.specs.Prelude.{◌≡◌, ◌+◌, ◌-◌, ◌^◌, min};
+ghost use Rattle.std.specs.Prelude.{◌≡◌, ◌≤◌, ◌+◌, min};
+ghost use Rattle.ht_proofs.specs.Applied.{max_steps};
 
 /// A count of evaluations of a gate, each for the good machine or for one group. At the last value of `u64` it stays.
 #[derive(Drop)]
@@ -24,7 +25,8 @@ impl Steps {
 
     /// Counts more evaluations.
     pub(crate) fn add(&mut self, more: u32)
-        ensures { self.new.count ≡ min (self.old.count + more) (2 ^ 64 - 1) }
+        ensures count { self.new.count ≡ min (self.old.count + more) max_steps }
+        ensures rises { self.old.count ≤ self.new.count }
     {
         self.count = self.count.saturating_add(u64::from(more));
     }

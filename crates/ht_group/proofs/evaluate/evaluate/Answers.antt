@@ -1,11 +1,10 @@
 use Rattle.std.proofs.Common.{◌≡◌, ◌<◌, ◌≤◌, ◌+◌, ◌-◌, ◌∙◌, ap, sym, arith, ℕ}
 use Rattle.std.proofs.lemmas.List.{get_or_read}
 use Rattle.ht_tern.specs.declared.tern.Tern.TheVariants.{Unk}
-use Rattle.ht_lanes.specs.Lanes.{lane, every_lane}
+use Rattle.ht_lanes.specs.Lanes.{lane, every_lane, word_at}
 use Rattle.ht_net.specs.Netlist.{first_gate_net}
 use Rattle.ht_net.specs.Frame.{gate_output}
 use Rattle.ht_group.specs.LaneRules.{lane_rules}
-use Rattle.ht_group.specs.Overlays.{word_at}
 use Rattle.ht_group.proofs.DriveLaws.{drive_low, drive_gate}
 use Rattle.ht_group.proofs.MachineLaws.{stem_same}
 use Rattle.ht_group.proofs.evaluate.evaluate.Goals as goal

@@ -3,13 +3,12 @@ use Rattle.std.proofs.Common.{◌≡◌, ◌<◌, ◌≤◌, ◌∙◌, ap, sym,
 use Rattle.std.proofs.lemmas.Nat.Bits.{bit_at-zero}
 use Rattle.ht_tern.specs.declared.tern.Tern.TheVariants.{Unk}
 use Rattle.ht_tern.specs.Gate.{gate_value}
-use Rattle.ht_lanes.specs.Lanes.{Lanes, lane, every_lane, is_set}
+use Rattle.ht_lanes.specs.Lanes.{Lanes, lane, every_lane, is_set, word_at}
 use Rattle.ht_lanes.proofs.LaneLaws.{gate_at_lane}
 use Rattle.ht_net.specs.declared.net.NetId.{NetId}
 use Rattle.ht_net.specs.declared.fault.Fault.{Fault}
 use Rattle.ht_net.specs.Frame.{values_at}
 use Rattle.ht_net.proofs.FrameLaws.{gate_from}
-use Rattle.ht_group.specs.Overlays.{word_at}
 use Rattle.ht_group.specs.StuckTables.{is_at_gate}
 use Rattle.ht_group.proofs.MachineLaws.{rules_at, lane_env, gate_in_lane}
 use Rattle.ht_group.proofs.PinLaws.{plain_pins, values_in_lane, stuck_pins}

@@ -1,6 +1,6 @@
 use Rattle.std.proofs.Common.{◌≡◌, ◌<◌, ℕ, length, get_or}
 use Rattle.ht_net.specs.Netlist.{no_net}
-use Rattle.ht_group.specs.Overlays.{word_at}
+use Rattle.ht_lanes.specs.Lanes.{word_at}
 use Rattle.ht_group.proofs.evaluate.read_pins.Given as goal
 
 abbrev pub invariant-loop-i : goal.invariant-loop-i

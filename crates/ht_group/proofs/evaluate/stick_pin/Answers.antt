@@ -1,7 +1,6 @@
 use Rattle.std.proofs.Common.{◌<◌, ◌∙◌, ◌&&◌, ap, sym, arith, length, cond, eqb, List}
 use Rattle.ht_tern.specs.Gate.{tern_of}
-use Rattle.ht_lanes.specs.Lanes.{Lanes, lane}
-use Rattle.ht_group.specs.Overlays.{word_at}
+use Rattle.ht_lanes.specs.Lanes.{Lanes, lane, word_at}
 use Rattle.ht_group.specs.StuckTables.{is_pin_number}
 use Rattle.ht_group.proofs.PinLaws.{written_lane}
 use Rattle.ht_group.proofs.evaluate.stick_pin.Goals as goal

@@ -1,8 +1,8 @@
 use Rattle.std.proofs.Common.{◌≡◌, ◌<◌, ◌∙◌, ap, sym, arith, length, set, List}
 use Rattle.std.proofs.lemmas.List.{get_or_read, set-get_or}
 use Rattle.ht_tern.specs.declared.tern.Tern.TheVariants.{Unk}
-use Rattle.ht_lanes.specs.Lanes.{Lanes, every_lane}
-use Rattle.ht_group.specs.Overlays.{OverlayView, word_at}
+use Rattle.ht_lanes.specs.Lanes.{Lanes, every_lane, word_at}
+use Rattle.ht_group.specs.Overlays.{OverlayView}
 use Rattle.ht_group.specs.Pending.{driven_word}
 use Rattle.ht_group.proofs.events.recompute.Goals as goal
 

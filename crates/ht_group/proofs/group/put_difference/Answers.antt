@@ -2,8 +2,8 @@ use Rattle.std.specs.Prelude.{set}
 use Rattle.std.proofs.Common.{◌≡◌, ◌<◌, ◌+◌, ◌∙◌, List, length, ap, arith}
 use Rattle.std.proofs.lemmas.List.{get_or_read}
 use Rattle.ht_tern.specs.declared.tern.Tern.TheVariants.{Unk}
-use Rattle.ht_lanes.specs.Lanes.{Lanes, with_lane, every_lane}
-use Rattle.ht_group.specs.Overlays.{OverlayView, word_at}
+use Rattle.ht_lanes.specs.Lanes.{Lanes, with_lane, every_lane, word_at}
+use Rattle.ht_group.specs.Overlays.{OverlayView}
 use Rattle.ht_group.proofs.group.put_difference.Goals as goal
 
 pub returns-clause-words : goal.returns-clause-words

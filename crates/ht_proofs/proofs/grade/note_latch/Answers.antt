@@ -17,4 +17,6 @@ loop-k-preserved c =
     (omega (arith, c.requires.known k c.loop-k-test.true, c.loop-k.auto.grades)) c.index-grades-i.is is refl
 
 pub returns : goal.returns
-returns c = all_changed c.args.lanes.now _ c.args.grades.now c.loop-k.grades c.loop-k.k c.loop-k-test.false c.loop-k.invariant
+returns c =
+    all_changed c.args.lanes.now _ c.args.grades.now c.loop-k.grades c.loop-k.k c.loop-k-test.false
+    c.loop-k.invariant

@@ -3,11 +3,10 @@ use Rattle.std.proofs.Common.{◌≡◌, ◌<◌, ◌∙◌, List, true, length,
 use Rattle.std.proofs.lemmas.List.{get_or_read}
 use Rattle.ht_tern.specs.declared.tern.Tern.{Tern}
 use Rattle.ht_tern.specs.declared.tern.Tern.TheVariants.{Unk}
-use Rattle.ht_lanes.specs.Lanes.{Lanes, lane, every_lane}
+use Rattle.ht_lanes.specs.Lanes.{Lanes, lane, every_lane, word_at}
 use Rattle.ht_net.specs.Netlist.{net_count}
 use Rattle.ht_group.specs.GroupView.{GroupView}
 use Rattle.ht_group.specs.NetValues.{good_value, faulty_value}
-use Rattle.ht_group.specs.Overlays.{word_at}
 use Rattle.ht_group.proofs.ViewLaws.{machine_count}
 use Rattle.ht_group.proofs.GroupLaws.{machine_value, spare_value}
 use Rattle.ht_group.proofs.group.Group.word.Goals as goal

@@ -19,6 +19,7 @@ loop-i-preserved c =
     ap (λ (n : Netlist). length n.gates) inv.passed.circuit_same in
     let took = c.in_ok-take.ensures in
     record {
+      rises = omega (arith, inv.rises, took.rises);
       lanes = took.lanes;
       room = took.room;
       passed = took.passed s.group c.args.faults.now old
@@ -27,7 +28,8 @@ loop-i-preserved c =
           (λ n. AreCounted n old (c.loop-i.i + 1) (length c.take.new.self.lanes) c.args.steps.now.count
           c.take.new.steps.count)
           gates
-          (took.counted old c.args.steps.now.count (sym c.loop-i.auto.grades) (inv.passed.later c.loop-i.i (omega arith))
+          (took.counted old c.args.steps.now.count (sym c.loop-i.auto.grades)
+          (inv.passed.later c.loop-i.i (omega arith))
           (subst (λ n. AreCounted n old c.loop-i.i (length c.loop-i.self.lanes) c.args.steps.now.count
           c.loop-i.steps.count) (sym gates) inv.counted));
     }

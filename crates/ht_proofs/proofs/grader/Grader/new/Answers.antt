@@ -6,16 +6,18 @@ use Rattle.ht_proofs.proofs.grader.Grader.new.Goals as goal
 
 pub invariant_of-result : goal.invariant_of-result
 invariant_of-result c =
-    let verdicts : c.in_ok-verdicts.verdicts.items ≡ replicate (length c.in_ok-faults.faults.items) None = search rules in
+    let verdicts : c.in_ok-verdicts.verdicts.items ≡ replicate (length c.in_ok-faults.faults.items) None =
+    search rules in
     let grades : c.in_ok-grades.grades.items ≡ replicate (length c.in_ok-faults.faults.items) no_grade = search rules in
     start_fields c.args.circuit.now c.in_ok-batch.batch.group.circuit c.args.faults.now c.args.which.now
-    c.in_ok-faults.faults.items c.in_ok-latches.latches.items c.in_ok-verdicts.verdicts.items c.in_ok-grades.grades.items
-    c.requires.faults c.requires.known c.in_ok-batch.ensures c.in_ok-faults.ensures
+    c.in_ok-faults.faults.items c.in_ok-latches.latches.items c.in_ok-verdicts.verdicts.items
+    c.in_ok-grades.grades.items c.requires.faults c.requires.known c.in_ok-batch.ensures c.in_ok-faults.ensures
     c.in_ok-latches.ensures verdicts grades
 
 pub returns-clause-start : goal.returns-clause-start
 returns-clause-start c =
-    let verdicts : c.in_ok-verdicts.verdicts.items ≡ replicate (length c.in_ok-faults.faults.items) None = search rules in
+    let verdicts : c.in_ok-verdicts.verdicts.items ≡ replicate (length c.in_ok-faults.faults.items) None =
+    search rules in
     let grades : c.in_ok-grades.grades.items ≡ replicate (length c.in_ok-faults.faults.items) no_grade = search rules in
     start_view c.args.circuit.now c.in_ok-batch.batch.group.circuit c.in_ok-faults.faults.items
     c.in_ok-latches.latches.items c.in_ok-verdicts.verdicts.items c.in_ok-grades.grades.items c.in_ok-batch.ensures
