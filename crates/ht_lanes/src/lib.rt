@@ -2,8 +2,8 @@
 //! PROOFS 1992).
 //!
 //! `Word` keeps two bits for each lane, and contracts see it as the list of its lanes. It has the operations that gates
-//! are made of, and `eval_word` is a gate's value in each lane. `eval_four` is the same of four words at a time, in wide
-//! registers. The other calls read, write, stick and compare lanes.
+//! are made of, and `eval_word` is a gate's value in each lane. `eval_four` is the same of four words at a time, by
+//! wide registers. The other calls read, write, stick and compare lanes.
 #![tactic(auto)]
 
 mod four;
