@@ -73,7 +73,8 @@ compacted c representatives list kept wanted are in_order each needed = record {
       let misses = needed t inside in
       record {
         lost = misses.missed;
-        detected = All-contains (IsDetectedClass c representatives list) wanted misses.missed are.sound misses.is_wanted;
+        detected = All-contains (IsDetectedClass c representatives list) wanted misses.missed are.sound
+            misses.is_wanted;
         undetected = misses.undetected;
       };
 }

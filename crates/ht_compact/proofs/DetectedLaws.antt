@@ -79,12 +79,14 @@ detected_more c representatives list k detected more i classes so_far inside is 
       sound = All-push (IsDetectedClass c representatives list) detected i so_far.sound (record {
         fault = omega (arith, is, own_is_fault representatives k inside, classes.every);
         representative =
-            subst (λ (n : ℕ). is_representative representatives n ≡ true) (sym is) (own_passes representatives k inside);
+            subst (λ (n : ℕ). is_representative representatives n ≡ true) (sym is)
+            (own_passes representatives k inside);
         detected = here;
       });
       complete = λ j less found. elim (cases_eq j k) [
         | inl same ↦
-            subst (Contains (detected ++ i ∷ [])) (is ∙ ap (own_at representatives) (sym same)) (Contains-push detected i)
+            subst (Contains (detected ++ i ∷ [])) (is ∙ ap (own_at representatives) (sym same))
+            (Contains-push detected i)
         | inr other ↦
             Contains-append_left detected (i ∷ []) (own_at representatives j)
             (so_far.complete j (omega arith) found)

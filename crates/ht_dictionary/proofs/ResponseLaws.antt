@@ -162,7 +162,8 @@ rows_read width vectors text right =
     let few : length (lines_of text) ≤ vectors = elim (cases_lt vectors (length (lines_of text))) [
       | inr few ↦ few
       | inl many ↦
-          absurd (right (vectors + 1) (inl (record { counted = (omega arith, omega arith); wrong = inl (omega arith) })))
+          absurd (right (vectors + 1)
+          (inl (record { counted = (omega arith, omega arith); wrong = inl (omega arith) })))
     ] in
     let enough : vectors ≤ length (lines_of text) = elim (cases_lt (length (lines_of text)) vectors) [
       | inr enough ↦ enough

@@ -82,8 +82,8 @@ pub detected_within : (c : Netlist) (fault : Fault) (list : List (List Bool)) (p
     → Detects c fault list p.vector p.output → IsWithin c list p
 detected_within c fault list p d = elim (le_or_lt (length list) p.vector) [
   | inl beyond ↦
-      let row : get_or rows p.vector [] ≡ [] = get_or-eq_default rows [] (omega (arith, beyond, frames_count c None list))
-      in
+      let row : get_or rows p.vector [] ≡ [] =
+      get_or-eq_default rows [] (omega (arith, beyond, frames_count c None list)) in
       absurd (subst (λ (shown : List Tern). IsOppositeAt shown faulty p.output) row d)
   | inr inside ↦ place_within c list p (get_or rows p.vector []) faulty inside refl d
 ]

@@ -65,7 +65,8 @@ vectors_more lists more copy rows pushed same =
     ∙ ap (λ (r : Rows). all_vectors lists ++ r.list) same)
 
 -- Machines that stand for a list, and the places that they tell, are those of a grader of the list.
-pub is_graded : (v : GraderView) (list : List (List Bool)) (count : ℕ) (places : List (Option Place)) (machines : Grades)
+pub is_graded : (v : GraderView) (list : List (List Bool)) (count : ℕ) (places : List (Option Place))
+    (machines : Grades)
     → AreClasses v.circuit v.representatives → v.list ≡ list → count ≡ length list → machines.circuit ≡ v.circuit
     → machines.faults ≡ chosen_faults (faults_of v.circuit) (own_representatives v.representatives)
     → GraderStandsFor machines list

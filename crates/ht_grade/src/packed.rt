@@ -69,9 +69,11 @@ pub fn places_of(
     requires classes { AreClasses packed.now.circuit classes.now }
     requires faults { packed.now.faults ≡ chosen_faults (faults_of packed.now.circuit)
         (own_representatives classes.now) }
-    ensures first { IfOk result (λ places. (list : List (List Bool)) → GraderStandsFor packed.now list
+    ensures first { IfOk result (λ places. (list : List (List Bool))
+        → GraderStandsFor packed.now list
         → AreFirstDetections packed.now.circuit classes.now list places.items) }
-    ensures within { IfOk result (λ places. (list : List (List Bool)) → GraderStandsFor packed.now list
+    ensures within { IfOk result (λ places. (list : List (List Bool))
+        → GraderStandsFor packed.now list
         → AreWithin packed.now.circuit list places.items) }
 {
     let mut places = Vec::new(alloc);

@@ -121,7 +121,8 @@ fn gate_output(
     requires words { length words.now ≡ net_count circuit.now }
     requires room { length pins.old ≡ PIN_ROOM }
     ensures { (k : ℕ) → k < 64 → lane result k
-        ≡ lane (gate_output circuit.now (lane_rules lines.now.faults.items) (word_at words.now) g) k }
+        ≡ lane (gate_output circuit.now (lane_rules lines.now.faults.items) (word_at words.now) g)
+        k }
 {
     let args = circuit.gate_args(g);
     let kind = circuit.gate_kind(g);

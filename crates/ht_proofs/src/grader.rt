@@ -141,7 +141,7 @@ impl<'c> Grader<'c> {
     /// counted in `steps`.
     ///
     /// # Errors
-    /// Out of memory; the verdicts are as before, and every later call fails.
+    /// Out of memory; the verdicts and the count are as before, and every later `apply` fails.
     pub fn apply(&mut self, vector: &[bool], steps: &mut Steps) -> Result<(), AllocError>
         requires width { length vector.now ≡ self.old.circuit.inputs }
         requires few { self.old.count < 2 ^ 62 }
@@ -150,6 +150,7 @@ impl<'c> Grader<'c> {
             → GraderStandsFor self.new (list ++ vector.now ∷ [])) }
         ensures err { OnErr result ((self.new.verdicts ≡ self.old.verdicts)
             × (self.new.live ≡ false)) }
+        ensures uncounted { OnErr result (self.new.count ≡ self.old.count) }
         ensures dead { self.old.live ≡ false → IsErr result }
         ensures same { (self.new.circuit ≡ self.old.circuit)
             × (self.new.faults ≡ self.old.faults) }

@@ -12,7 +12,8 @@ loop-kept-init c =
     let circuit = c.args.circuit.now in
     let list = c.args.list.now.list in
     let all : list ≡ c.in_ok-kept.kept.list =
-    sym (ap (λ (r : Rows). r.list) c.in_ok-kept.ensures ∙ remove_past list c.len.result (omega (arith, c.len.ensures))) in
+    sym (ap (λ (r : Rows). r.list) c.in_ok-kept.ensures
+    ∙ remove_past list c.len.result (omega (arith, c.len.ensures))) in
     record {
       width = ap (λ (r : Rows). r.width) c.in_ok-kept.ensures ∙ c.inputs.ensures;
       in_order = subst (LeavesOut list) all (leaves_out_none list);

@@ -20,7 +20,8 @@ loop-i-preserved c =
     let k = c.loop-i.i-index in
     let i : ℕ = get_or c.representatives-i-items.result.now k 0 in
     let own = c.representatives-i-items.ensures in
-    let inside : k < length (own_representatives classes) = subst (λ (l : List ℕ). k < length l) own c.loop-i-test.true in
+    let inside : k < length (own_representatives classes) =
+    subst (λ (l : List ℕ). k < length l) own c.loop-i-test.true in
     let is : i ≡ own_at classes k = ap (λ (l : List ℕ). get_or l k 0) own in
     let first = own_first circuit classes list c.in_ok-places.places.items k i c.index.result.now c.requires.classes
     c.in_ok-places.ensures.first inside is c.index.ensures in

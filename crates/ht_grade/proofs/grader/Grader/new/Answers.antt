@@ -17,6 +17,7 @@ invariant_of-result c =
       representatives = c.args.classes.now;
       list = all_vectors c.new.result.items;
     } in
-    is_graded empty [] 0 c.in_ok-places.places.items c.in_ok-machines.machines c.requires.classes (ap all_vectors c.new.ensures.items) refl
+    is_graded empty [] 0 c.in_ok-places.places.items c.in_ok-machines.machines c.requires.classes
+    (ap all_vectors c.new.ensures.items) refl
     c.in_ok-machines.ensures.circuit c.in_ok-machines.ensures.faults c.in_ok-machines.ensures.stands
     c.in_ok-places.ensures.first c.in_ok-places.ensures.within
