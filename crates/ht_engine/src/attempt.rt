@@ -66,7 +66,8 @@ fn attempt(alloc: Global, task: &Task<'_>) -> Result<Attempted, AllocError>
     ensures answer { IfOk result
         (IsAttempted task.now.circuit.now task.now.fault task.now.budget (task.now.told.now ∷ [])) }
     ensures holds { IfOk result
-        (AttemptHolds task.now.circuit.now task.now.fault task.now.budget (task.now.told.now ∷ [])) }
+        (AttemptHolds task.now.circuit.now task.now.fault task.now.budget
+        (task.now.told.now ∷ [])) }
 {
     let frame = ToldFrame::of(alloc, task.circuit, task.told)?;
     match search_ahead(alloc, task, &frame)? {
@@ -112,7 +113,8 @@ fn search_back(
     ensures answer { IfOk result
         (IsAttempted task.now.circuit.now task.now.fault task.now.budget (task.now.told.now ∷ [])) }
     ensures holds { IfOk result
-        (AttemptHolds task.now.circuit.now task.now.fault task.now.budget (task.now.told.now ∷ [])) }
+        (AttemptHolds task.now.circuit.now task.now.fault task.now.budget
+        (task.now.told.now ∷ [])) }
 {
     match justify(alloc, task.circuit, &frame.cube, BACK_LIMIT, task.budget)? {
         Back::Reached { list } => compose(alloc, task, frame, list, ahead),
@@ -138,7 +140,8 @@ fn compose(
     ensures answer { IfOk result
         (IsAttempted task.now.circuit.now task.now.fault task.now.budget (task.now.told.now ∷ [])) }
     ensures holds { IfOk result
-        (AttemptHolds task.now.circuit.now task.now.fault task.now.budget (task.now.told.now ∷ [])) }
+        (AttemptHolds task.now.circuit.now task.now.fault task.now.budget
+        (task.now.told.now ∷ [])) }
 {
     let list = joined(alloc, task.circuit, &before, &frame.vector, &ahead)?;
     match first(alloc, task.circuit, task.fault, &list)? {

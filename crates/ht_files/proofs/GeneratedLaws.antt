@@ -71,7 +71,8 @@ Generates e saids body total steps c representatives budget = IsCircuit c → Ar
     → IsGenerated c e.settings (tests_of steps) (body ++ total) (proofs_of steps) total
 
 module _ (e : EngineView) (saids : List Said) (body total : List ℕ) (steps : List Step)
-    (budget_is : IsBudget e.settings.budget) (short : length body + length total ≤ max_text_bytes) (stands : EngineStandsFor e steps)
+    (budget_is : IsBudget e.settings.budget) (short : length body + length total ≤ max_text_bytes)
+    (stands : EngineStandsFor e steps)
     (short_tests : length (tests_of steps) ≤ max_text_bytes)
     (short_proofs : length (proofs_of steps) ≤ max_text_bytes) where
   by_engine : Generates e saids body total steps e.circuit e.representatives e.settings.budget

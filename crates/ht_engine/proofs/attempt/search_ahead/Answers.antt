@@ -25,6 +25,7 @@ pub returns-in_ok-states-in-State-clause-holds : goal.returns-in_ok-states-in-St
 returns-in_ok-states-in-State-clause-holds c =
     let states = c.in_ok-states-in-State.states in
     IfOk-weaker c.propagate.result _ _
-    (ahead_means c.args.task.now.circuit.now c.args.task.now.fault c.args.task.now.budget c.args.task.now.told.now c.in-State.field-0 c.in-State.is
+    (ahead_means c.args.task.now.circuit.now c.args.task.now.fault c.args.task.now.budget c.args.task.now.told.now
+    c.in-State.field-0 c.in-State.is
     states.good states.bad c.in_ok-states-in-State.ensures.good c.in_ok-states-in-State.ensures.faulty)
     c.propagate.ensures.holds

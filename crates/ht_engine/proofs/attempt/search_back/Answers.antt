@@ -4,4 +4,5 @@ use Rattle.ht_engine.proofs.attempt.search_back.Goals as goal
 
 pub justify-requires : goal.justify-requires
 justify-requires c =
-    ap length c.deref.ensures.value ∙ cube_long c.args.task.now.circuit.now c.args.task.now.told.now c.args.frame.now c.requires.frame
+    ap length c.deref.ensures.value ∙ cube_long c.args.task.now.circuit.now c.args.task.now.told.now
+    c.args.frame.now c.requires.frame

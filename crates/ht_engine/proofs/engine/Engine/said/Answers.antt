@@ -8,7 +8,8 @@ pub returns-in-Some-clause-said : goal.returns-in-Some-clause-said
 returns-in-Some-clause-said c = λ steps s.
     said_detected c.args.self.now steps s c.args.fault c.in-Some.place
     (detection_of (engine_of c.self.inside) c.args.self.now c.self.inside.faults.now c.self.inside.grader
-    c.self.inside.words c.self.invariant c.self.view_is refl c.args.fault (Some c.in-Some.place) c.in-Some.ensures.first)
+    c.self.inside.words c.self.invariant c.self.view_is refl c.args.fault (Some c.in-Some.place)
+    c.in-Some.ensures.first)
 
 pub returns-in-None-clause-said : goal.returns-in-None-clause-said
 returns-in-None-clause-said c = λ steps s.
