@@ -1,7 +1,8 @@
-use Rattle.std.specs.Prelude.{◌≡◌, ◌<◌, ℕ, [], None, length, refl}
-use Rattle.std.proofs.Common.{arith, ap, subst, sym}
+use Rattle.std.specs.Prelude.{◌≡◌, ◌<◌, ◌-◌, ℕ, [], None, length, refl}
+use Rattle.std.proofs.Common.{arith, ap, subst, sym, ◌∙◌}
 use Rattle.std.proofs.lemmas.List.Elements.{All-nil}
 use Rattle.ht_grade.specs.GraderView.{GraderView}
+use Rattle.ht_random.specs.RandomVectors.{generator_after}
 use Rattle.ht_valid.specs.ValidFiles.{HasEntry}
 use Rattle.ht_engine.specs.EngineStands.{EngineStandsFor, EngineView, IsKindIn, kind_at}
 use Rattle.ht_engine.specs.Steps.{none}
@@ -24,6 +25,23 @@ new_stands e list empty place left = record {
   wide = All-nil _;
   pass = All-nil _;
 }
+
+pub invariant_of-result : goal.invariant_of-result
+invariant_of-result c =
+    let started = c.in_ok-grader.ensures in
+    let none_drawn : c.args.random - c.args.random ≡ 0 = omega arith in
+    record {
+      faults = c.requires.faults;
+      classes = c.requires.classes;
+      circuit = ap (λ (g : GraderView). g.circuit) started;
+      representatives = ap (λ (g : GraderView). g.representatives) started;
+      budget = c.requires.budget;
+      kinds = c.in_ok-kinds.ensures.each ∙ c.len.ensures;
+      place = omega arith;
+      left = omega arith;
+      words = c.from_seed.ensures
+          ∙ ap (λ k. generator_after c.args.circuit.now.inputs k c.args.seed) (sym none_drawn);
+    }
 
 pub returns-clause-none : goal.returns-clause-none
 returns-clause-none c =
