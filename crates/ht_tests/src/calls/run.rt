@@ -3,10 +3,12 @@
 pub mod cases;
 mod checked;
 mod demo;
+mod failures;
 mod faults;
 mod generated;
 mod generated_errors;
 mod generated_parts;
+mod limits;
 mod memory;
 mod mute;
 mod norm;

@@ -59,14 +59,16 @@ fn answers(alloc: Global, files: &Files<'_>, answer: Answer<'_>) -> Result<bool,
     answers_on(alloc, &mut desk, files, answer)
 }
 
-const ZERO_REPORT: &[u8] =
+/// The report of `gen` for the constant output.
+pub const ZERO_REPORT: &[u8] =
     b"circuit inputs 1 outputs 1 flip-flops 0 gates 2 faults 10 classes 6 budget 1000\n\
     1 a s-a-0 untestable\n2 a s-a-1 untestable\n3 n s-a-0 untestable\n\
     4 n s-a-1 detected 1 z\n5 z s-a-0 as 3\n6 z s-a-1 detected 1 z\n7 n(1) s-a-0 as 4\n\
     8 n(1) s-a-1 as 3\n9 z(1) s-a-0 as 3\n10 z(1) s-a-1 detected 2 z\n\
     total 6 detected 3 untestable 3 aborted 0\n";
 
-const ZERO_PROOFS: &[u8] = b"proofs 1\n\
+/// Its proofs.
+pub const ZERO_PROOFS: &[u8] = b"proofs 1\n\
     entry 1 untestable\nwalk\nhi 1\ndead\ndead\n\
     entry 2 untestable\nwalk\nhi 1\ndead\ndead\n\
     entry 3 untestable\nwalk\nhi 1\ndead\ndead\n\

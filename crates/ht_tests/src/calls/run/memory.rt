@@ -16,8 +16,8 @@ const START: Setup<'static> = Setup {
     fails: None,
 };
 
-// The line on Err where memory may be refused; a desk in memory counts a refused growth as a fault.
-fn line_at(status: u8) -> Option<&'static [u8]> {
+/// The line on Err where calls or memory may be refused; a desk in memory counts a refused growth as a fault.
+pub fn line_at(status: u8) -> Option<&'static [u8]> {
     match status {
         0 => Some(b""),
         4 => Some(b"read fault\n"),
