@@ -1,5 +1,5 @@
 -- The job that the words ask for.
-use Rattle.std.proofs.Common.{◌≡◌, ◌≢◌, inl, refl, sym, ◌∙◌, subst, arith}
+use Rattle.std.proofs.Common.{◌≡◌, ◌≢◌, refl, sym, ◌∙◌, subst, arith}
 use Rattle.std.specs.Prelude.{Option, Some, None, IsSome}
 use Rattle.ht_ports.specs.Desk.{DeskView}
 use Rattle.ht_asked.specs.Asked.{Asked}
@@ -30,23 +30,6 @@ cause_of_job (Some other) job a b NoMemory is h = subst (λ (j : Asked). HasCaus
     (one_job (Some other) h.0 job h.1 is) h.2
 cause_of_job asked job a b (BadTests line) is h = subst (λ (j : Asked). HasCause j a b (BadTests line))
     (one_job asked h.0 job h.1 is) h.2
-
-pub cause_asked : (asked : Option Asked) (job : Asked) (a b : DeskView) (e : RunError) → asked ≡ Some job
-    → HasCause job a b e → AskedHasCause asked a b e
-cause_asked asked job a b (Denied trouble) is h = (job, is, h)
-cause_asked asked job a b Usage is h = absurd h
-cause_asked asked job a b TooLong is h = (job, is, h)
-cause_asked asked job a b (Refused error) is h = (job, is, h)
-cause_asked asked job a b ReadFault is h = (job, is, h)
-cause_asked asked job a b WriteFault is h = (job, is, h)
-cause_asked None job a b NoMemory is h = let none : Some job ≡ None = sym is in cc
-cause_asked (Some other) job a b NoMemory is h = (job, is, h)
-cause_asked asked job a b (BadTests line) is h = (job, is, h)
-
--- memory runs out before the words are read
-pub no_memory : (asked : Option Asked) (a : DeskView) → AskedHasCause asked a a NoMemory
-no_memory None a = refl
-no_memory (Some job) a = (job, refl, inl refl)
 
 pub job_done : (asked : Option Asked) (job : Asked) (a b : DeskView) → asked ≡ Some job → AskedIsDone asked a b
     → IsDone job a b

@@ -2,13 +2,12 @@
 use Rattle.std.proofs.Common.{◌≡◌, ◌<◌, ◌+◌, ◌++◌, ◌∷◌, [], inl, inr, ℕ, List, Bool, true, length, Option, Some, None, sym, ◌∙◌, ap, subst, arith, length-append}
 use Rattle.std.specs.Option.{ForSome}
 use Rattle.std.proofs.lemmas.Bool.{cases_eq}
-use Rattle.std.proofs.lemmas.List.{get_or_append_left, get_or_past}
+use Rattle.std.proofs.lemmas.List.{get_or_append_left}
 use Rattle.std.proofs.Math.Seq.{get_or-append_seam}
 use Rattle.ht_tern.specs.declared.tern.Tern.{Tern}
 use Rattle.ht_net.specs.declared.place.Place.{Place}
 use Rattle.ht_net.specs.Netlist.{Netlist}
 use Rattle.ht_net.specs.Detection.{IsPlace}
-use Rattle.ht_net.proofs.FrameLaws.{le_or_lt}
 use Rattle.ht_collapse.specs.Classes.{fault_at, is_representative}
 use Rattle.ht_dictionary.specs.Contradictions.{IsFirstContradiction}
 use Rattle.ht_dictionary.specs.Diagnoses.{contradiction_at}
@@ -53,14 +52,3 @@ one_place_more c representatives list rows n places more place so_far pushed one
         subst (IsPlaceOf c representatives list rows i) (sym here) (so_far.every i below)
   ];
 }
-
--- what is said of any number is a place or nothing
-pub places_within : (c : Netlist) (representatives : List ℕ) (list : List (List Bool)) (rows : List (List Tern))
-    (n : ℕ) (places : List (Option Place)) → ArePlacesOf c representatives list rows n places
-    → (i : ℕ) → ForSome (contradiction_at places i) (IsPlace c)
-places_within c representatives list rows n places are i = elim (le_or_lt n i) [
-  | inl past ↦
-      let none : contradiction_at places i ≡ None = get_or_past places i None (omega (arith, past, are.each)) in
-      λ x e. cc
-  | inr inside ↦ (are.every i inside).within
-]

@@ -30,7 +30,7 @@ use Rattle.ht_engine.specs.declared.step.Step.TheVariants.{Vectors, Entry, Finis
 use Rattle.ht_engine.specs.declared.work.Work.{Work}
 use Rattle.ht_engine.specs.EngineOf.{IsEngine}
 use Rattle.ht_engine.specs.EngineStands.{AllPass, EngineStandsFor, EngineView, HasSameWork, IsKindIn, IsOfKind, IsSaid, Makes, MakesStep, MeansOfStep, first_of, kind_at, remaining}
-use Rattle.ht_engine.specs.OneStep.{Advances, Ends, GivesEntry, GivesList, GivesRandom, IsNextUndetected, IsUndetected, MakesNone, kind_of_entry, said_by}
+use Rattle.ht_engine.specs.OneStep.{Advances, Ends, GivesEntry, GivesList, GivesRandom, IsNextUndetected, IsUndetected, kind_of_entry, said_by}
 use Rattle.ht_engine.specs.Steps.{AwaitsVerdict, Follows, IsNextFault, entries_of, one_more, one_vector, vectors_of_steps}
 use Rattle.ht_engine.proofs.StepLaws.{awaited_before, contains_last, entries_more, entries_with_list, has_cases, has_last, numbered, vectors_more, vectors_with_entry}
 
@@ -359,9 +359,6 @@ same_work old new (Vectors list) (inr g) =
 same_work old new (Entry fault made) g =
     same_by old new old.list (set old.kinds fault (Some (kind_of_entry made))) (fault + 1) old.left g.after
 same_work old new Finished g = same_by old new old.list old.kinds (length old.representatives) old.left g.after
-
-pub same_work_none : (old new : EngineView) → MakesNone old new → HasSameWork old new
-same_work_none old new is = same_by old new old.list old.kinds old.place new.left is
 
 -- a random vector less, or a place further
 fewer_left : (old new : EngineView) → 0 < old.left → new.left ≡ old.left - 1 → new.place ≡ old.place

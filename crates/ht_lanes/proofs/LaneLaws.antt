@@ -38,11 +38,6 @@ pub lane_told : (w : Lanes) (zeros ones k : ℕ) (a b : Bool) → k < 64 → lan
 lane_told w zeros ones k a b h view p q = (λ i. told (p i) (q i))
     ∙ (sym (lane_is zeros ones k h) ∙ ap (λ v. lane v k) view)
 
-pub lane_told_zero : (w : Lanes) (zeros ones k : ℕ) (a : Bool) → k < 64 → lanes_of zeros ones ≡ w → a ≡ is_set zeros k
-    → a ≡ true → Zero ≡ lane w k
-lane_told_zero w zeros ones k a h view p e = ap (λ t. told t (is_set ones k)) (sym e)
-    ∙ lane_told w zeros ones k a (is_set ones k) h view p refl
-
 -- one lane is written
 set_lane : (w : Lanes) (a b c d k : ℕ) (v : Tern) → k < 64 → lanes_of a b ≡ w → lane_value c d k ≡ v
     → ((i : ℕ) → i < 64 → i ≢ k → lane_value c d i ≡ lane_value a b i) → lanes_of c d ≡ with_lane w k v

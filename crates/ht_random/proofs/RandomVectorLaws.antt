@@ -1,26 +1,17 @@
 -- Laws of random words and vectors.
-use Rattle.std.proofs.Common.{◌≡◌, ℕ, zero, suc, ◌+◌, [], ◌∷◌, ◌++◌, length, refl, add-one, arith, length-append}
+use Rattle.std.proofs.Common.{◌≡◌, ℕ, zero, suc, ◌+◌, length, refl, add-one, arith, length-append}
 use Rattle.std.proofs.lemmas.Grind.{common_steps}
 use Rattle.rand_pcg.specs.Lcg.{Lcg}
-use Rattle.ht_random.specs.Words.{after_word, next_word, after_words}
-use Rattle.ht_random.specs.RandomVectors.{is_odd, random_vector, generator_after, random_vectors}
+use Rattle.ht_random.specs.Words.{after_word, after_words}
+use Rattle.ht_random.specs.RandomVectors.{random_vector, generator_after, random_vectors}
 
 -- one word more
 pub after_words_more : (n : ℕ) (g : Lcg) → after_words (n + 1) g ≡ after_word (after_words n g)
 after_words_more n g = rw add-one refl
 
--- one bit more
-pub random_vector_more : (n : ℕ) (g : Lcg)
-    → random_vector (n + 1) g ≡ random_vector n g ++ is_odd (next_word (after_words n g)) ∷ []
-random_vector_more n g = rw add-one refl
-
 -- one vector more
 pub generator_after_more : (n k seed : ℕ) → generator_after n (k + 1) seed ≡ after_words n (generator_after n k seed)
 generator_after_more n k seed = rw add-one refl
-
-pub random_vectors_more : (n k seed : ℕ)
-    → random_vectors n (k + 1) seed ≡ random_vectors n k seed ++ random_vector n (generator_after n k seed) ∷ []
-random_vectors_more n k seed = rw add-one refl
 
 -- how many bits and vectors there are
 pub random_vector_length : (n : ℕ) (g : Lcg) → length (random_vector n g) ≡ n
