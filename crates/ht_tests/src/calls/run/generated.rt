@@ -114,8 +114,7 @@ fn empty_gives<'a>(
 fn the_empty_netlist_gives_a_report_without_lines(rt: HostRuntime) -> Result<(), Fail> {
     let alloc = rt.alloc();
     for row in EMPTY {
-        let (words, report) = *row;
-        assert!(rt; empty_gives(alloc, words, report)?);
+        assert!(rt; empty_gives(alloc, row.0, row.1)?);
     }
     Ok(())
 }

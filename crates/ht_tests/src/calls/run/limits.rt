@@ -50,8 +50,7 @@ const PASSED_LIMITS: &[(Counting<'static>, &[u8])] = &[
 fn limits_are_named(rt: HostRuntime) -> Result<(), Fail> {
     let alloc = rt.alloc();
     for row in PASSED_LIMITS {
-        let (lines, line) = *row;
-        assert!(rt; counting_is_refused(alloc, lines, line)?);
+        assert!(rt; counting_is_refused(alloc, row.0, row.1)?);
     }
     Ok(())
 }
@@ -88,8 +87,7 @@ const WIDE: &[(Wide<'static>, &[u8])] = &[
 fn wide_gates_are_refused(rt: HostRuntime) -> Result<(), Fail> {
     let alloc = rt.alloc();
     for row in WIDE {
-        let (lines, line) = *row;
-        assert!(rt; wide_is_refused(alloc, lines, line)?);
+        assert!(rt; wide_is_refused(alloc, row.0, row.1)?);
     }
     Ok(())
 }
@@ -111,8 +109,7 @@ const COMMENTS: &[(usize, bool)] = &[(16_777_216, false), (16_777_217, true)];
 fn a_netlist_of_one_byte_too_many_is_too_long(rt: HostRuntime) -> Result<(), Fail> {
     let alloc = rt.alloc();
     for row in COMMENTS {
-        let (count, too_long) = *row;
-        assert!(rt; comment_ends(alloc, count, too_long)?);
+        assert!(rt; comment_ends(alloc, row.0, row.1)?);
     }
     Ok(())
 }

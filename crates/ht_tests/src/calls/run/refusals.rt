@@ -30,8 +30,7 @@ const REFUSED: &[(&[u8], &[u8])] = &[
 fn refused_netlists_name_their_line(rt: HostRuntime) -> Result<(), Fail> {
     let alloc = rt.alloc();
     for row in REFUSED {
-        let (netlist, line) = *row;
-        assert!(rt; both_refuse(alloc, netlist, line)?);
+        assert!(rt; both_refuse(alloc, row.0, row.1)?);
     }
     Ok(())
 }
