@@ -42,8 +42,8 @@ impl Finding {
     }
 }
 
-/// Judges tokens as a walk of a window, one evaluation for each. It reserves for all of them first, so memory is refused
-/// before a token is judged, or not at all.
+/// Judges tokens as a walk of a window, one evaluation for each. It reserves for all of them first, so memory is
+/// refused before a token is judged, or not at all.
 ///
 /// # Errors
 /// Out of memory.
