@@ -1,5 +1,5 @@
 //! Walks of any window, judged token by token.
-ghost use Rattle.std.specs.Prelude.{◌≡◌, ◌<◌, ◌≤◌, ◌+◌, ◌↔◌, true, IfOk, IsTrue};
+ghost use Rattle.std.specs.Prelude.{◌≡◌, ◌<◌, ◌≤◌, ◌+◌, ◌↔◌, true, IfOk, OnErr, IsTrue};
 ghost use Rattle.ht_tree.specs.Walks.{IsComplete};
 ghost use Rattle.ht_tree.specs.WalkOf.{fed};
 ghost use Rattle.ht_check.specs.Findings.{FitsAnew, FitsAnewOnTop, FitsOnTop, IsCompleteFinding, IsFinding, IsOpenFinding};
@@ -46,14 +46,15 @@ impl Finding {
 /// refused before a token is judged, or not at all.
 ///
 /// # Errors
-/// Out of memory.
+/// Out of memory; the window wasn't asked.
 pub fn judge_walk<W: JudgedWindow>(
     alloc: Global,
     window: &mut W,
     tokens: &[Token],
 ) -> Result<Finding, AllocError>
-    ensures { IfOk result
+    ensures finding { IfOk result
         (λ finding. IsFinding (W.judge window.old) (W.unit window.old) tokens.now finding) }
+    ensures unasked { OnErr result (window.new ≡ window.old) }
 {
     let mut walk = Walk::new(alloc, window.token_weight() as u64);
     walk.reserve(tokens.len() as u64)?;

@@ -10,8 +10,8 @@ use Rattle.ht_check.specs.Findings.{FitsOnTop}
 use Rattle.ht_check.proofs.FindingLaws.{no_token, one_more, fits_at}
 use Rattle.ht_check.proofs.walks.judge_walk.Goals as goal
 
-pub returns-then-not-take : goal.returns-then-not-take
-returns-then-not-take g c = λ all.
+pub returns-then-not-take-clause-finding : goal.returns-then-not-take-clause-finding
+returns-then-not-take-clause-finding g c = λ all.
     let w = g.W.JudgedWindow in
     let now = c.loop-token in
     let t = get_or c.args.tokens.now now.token-index no_token in
