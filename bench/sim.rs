@@ -355,6 +355,8 @@ struct Group<'c> {
     data_pins: Vec<u64>,
     words: Vec<Word>,
     good: Vec<Value>,
+    /// Room for the pins of one gate.
+    pin_words: Vec<Word>,
     /// The nets that aren't as in the good machine, and the gates to be evaluated, a bit for each.
     written: Vec<usize>,
     pending: Vec<u64>,
@@ -374,6 +376,7 @@ impl<'c> Group<'c> {
             data_pins: vec![0; circuit.data_pins.len()],
             words: vec![Word::splat(Unknown); nets],
             good: vec![Unknown; nets],
+            pin_words: Vec::new(),
             written: Vec::new(),
             pending: vec![0; circuit.gates.len().div_ceil(64)],
             evaluations: 0,
@@ -430,17 +433,22 @@ impl<'c> Group<'c> {
         }
     }
 
-    fn gate_word(&self, g: usize) -> Word {
+    fn gate_word(&mut self, g: usize) -> Word {
         let gate = &self.circuit.gates[g];
-        if self.pins[g] == 0 {
+        let mut stuck = self.pins[g];
+        if stuck == 0 {
             return gate.kind.value(gate.args.iter().map(|net| self.words[*net]));
         }
-        gate.kind.value(gate.args.iter().enumerate().map(|(pin, net)| {
-            let here = Site::GatePin { gate: g, pin };
-            let lanes = self.faults.iter().enumerate().filter(|(_, fault)| fault.site == here);
-            let lanes = lanes.fold(0, |lanes, (k, _)| lanes | 1 << k);
-            self.words[*net].stuck(lanes, self.bits)
-        }))
+        self.pin_words.clear();
+        self.pin_words.extend(gate.args.iter().map(|net| self.words[*net]));
+        while stuck != 0 {
+            let k = stuck.trailing_zeros() as usize;
+            if let Fault { site: Site::GatePin { pin, .. }, bit } = self.faults[k] {
+                self.pin_words[pin] = self.pin_words[pin].with(k, Value::of(bit));
+            }
+            stuck &= stuck - 1;
+        }
+        gate.kind.value(self.pin_words.iter().copied())
     }
 
     /// Evaluates the gates that events reach, each once: those that drive a gate's arguments come before it.
@@ -460,7 +468,8 @@ impl<'c> Group<'c> {
                 self.pending[row] &= self.pending[row] - 1;
                 let net = first + g;
                 self.evaluations += 1;
-                self.write(net, self.gate_word(g).stuck(self.stems[net], self.bits));
+                let word = self.gate_word(g);
+                self.write(net, word.stuck(self.stems[net], self.bits));
             }
         }
     }
