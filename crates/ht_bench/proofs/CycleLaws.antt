@@ -7,7 +7,7 @@ use Rattle.ht_net.specs.Netlist.{Netlist, Gate, IsCircuit, first_gate_net, gate_
 use Rattle.ht_net.specs.Named.{Name, NamedGate, NamedNetlist, name_of, named_gates, named_of}
 use Rattle.ht_net.proofs.CycleLaws.{no_cycle}
 use Rattle.ht_statement.specs.Statement.{Statement}
-use Rattle.ht_bench.specs.Contents.{stated_gates, named_of_statements}
+use Rattle.ht_bench.specs.Contents.{named_of_statements}
 use Rattle.ht_bench.specs.EndOfText.{Feeds}
 use Rattle.ht_bench.proofs.ListLaws.{contains_none, contains_cases}
 use Rattle.ht_bench.proofs.PlaceLaws.{place_in, place_at}
@@ -55,7 +55,7 @@ module _ (c : Netlist) (is : IsCircuit c) (statements : List Statement)
     (named : named_of c ≡ named_of_statements statements) where
   pin_of : (a b : Name) → Feeds statements a b → IsPin c a b
   pin_of a b feeds =
-      let gates : stated_gates statements ≡ named_gates c (first_gate_net c) c.gates = sym
+      let gates : (named_of_statements statements).gates ≡ named_gates c (first_gate_net c) c.gates = sym
       (ap (λ (n : NamedNetlist). n.gates) named) in
       let g = named_gate c (first_gate_net c) c.gates feeds.gate
       (subst (λ l. Contains l feeds.gate) gates feeds.is_gate) in

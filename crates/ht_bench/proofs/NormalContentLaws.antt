@@ -1,13 +1,43 @@
 -- What the statements of a circuit say together: its inputs, outputs, flip-flops and gates.
-use Rattle.std.proofs.Common.{◌≡◌, List, [], ◌∷◌, ◌++◌, map, append-nil, refl, ap, ◌∙◌}
+use Rattle.std.proofs.Common.{◌≡◌, List, [], ◌∷◌, ◌++◌, map, append-nil, append_assoc, refl, ap, sym, ◌∙◌}
+use Rattle.std.specs.Prelude.{fold}
 use Rattle.std.specs.List.{flat_map}
 use Rattle.std.proofs.lemmas.List.Concat.{flat_map-append, flat_map_single}
 use Rattle.std.proofs.lemmas.List.Folds.{flat_map-map}
-use Rattle.ht_net.specs.Named.{NamedDff, NamedGate, NamedNetlist}
-use Rattle.ht_statement.specs.Statement.{Statement, input_line, output_line}
-use Rattle.ht_bench.specs.Contents.{inputs_in, outputs_in, dffs_in, gates_in, driven_in, stated_inputs, stated_dffs, stated_gates, driven_by}
+use Rattle.std.proofs.lemmas.List.Sums.{fold-append}
+use Rattle.ht_net.specs.Named.{Name, NamedDff, NamedGate, NamedNetlist}
+use Rattle.ht_statement.specs.Statement.{input_line, output_line}
+use Rattle.ht_bench.specs.Different.{with_name, with_names, different}
+use Rattle.ht_bench.specs.Contents.{no_parts, with_statement, named_of_statements, driven_in, driven_by}
 use Rattle.ht_bench.specs.Normal.{dff_statement, gate_statement, named_statements}
-use Rattle.ht_bench.proofs.NamedPartLaws.{dff_outs, gate_outs}
+use Rattle.ht_bench.proofs.NamedPartLaws.{dff_outs, drivers}
+
+-- ---- what lines of one kind add
+
+inputs_said : (n : NamedNetlist) (xs : List Name) → fold with_statement n (map input_line xs)
+    ≡ record n { inputs = n.inputs ++ xs }
+inputs_said n [] = ap (λ l. record n { inputs = l }) (sym (append-nil n.inputs))
+inputs_said n (x ∷ xs) = inputs_said (record n { inputs = n.inputs ++ x ∷ [] }) xs
+    ∙ ap (λ l. record n { inputs = l }) (append_assoc n.inputs (x ∷ []) xs)
+
+outputs_said : (n : NamedNetlist) (xs : List Name) → fold with_statement n (map output_line xs)
+    ≡ record n { outputs = with_names n.outputs xs }
+outputs_said n [] = refl
+outputs_said n (x ∷ xs) = outputs_said (record n { outputs = with_name n.outputs x }) xs
+
+dffs_said : (n : NamedNetlist) (xs : List NamedDff) → fold with_statement n (map dff_statement xs)
+    ≡ record n { dffs = n.dffs ++ xs }
+dffs_said n [] = ap (λ l. record n { dffs = l }) (sym (append-nil n.dffs))
+dffs_said n (x ∷ xs) = dffs_said (record n { dffs = n.dffs ++ x ∷ [] }) xs
+    ∙ ap (λ l. record n { dffs = l }) (append_assoc n.dffs (x ∷ []) xs)
+
+gates_said : (n : NamedNetlist) (xs : List NamedGate) → fold with_statement n (map gate_statement xs)
+    ≡ record n { gates = n.gates ++ xs }
+gates_said n [] = ap (λ l. record n { gates = l }) (sym (append-nil n.gates))
+gates_said n (x ∷ xs) = gates_said (record n { gates = n.gates ++ x ∷ [] }) xs
+    ∙ ap (λ l. record n { gates = l }) (append_assoc n.gates (x ∷ []) xs)
+
+-- ---- all of them
 
 flat_none : {A B : Type 0} (xs : List A) → flat_map {X = A} {A = B} (λ x. []) xs ≡ []
 flat_none [] = refl
@@ -17,53 +47,36 @@ flat_self : {A : Type 0} (xs : List A) → flat_map (λ (x : A). x ∷ []) xs �
 flat_self [] = refl
 flat_self (x ∷ xs) = ap (λ l. x ∷ l) (flat_self xs)
 
-four_parts : {A : Type 0} (a b d e a' b' d' e' : List A) → a ≡ a' → b ≡ b' → d ≡ d' → e ≡ e' → ((a ++ b) ++ d) ++ e
-    ≡ ((a' ++ b') ++ d') ++ e'
-four_parts a b d e a' b' d' e' p q r s = cc
-
-module _ {B : Type 0} (f : Statement → List B) (n : NamedNetlist) where
-  pub content : (a b d e : List B) → flat_map (λ x. f (input_line x)) n.inputs ≡ a
-      → flat_map (λ x. f (output_line x)) n.outputs
-      ≡ b
-      → flat_map (λ x. f (dff_statement x)) n.dffs ≡ d → flat_map (λ x. f (gate_statement x)) n.gates ≡ e
-      → flat_map f (named_statements n) ≡ ((a ++ b) ++ d) ++ e
-  content a b d e is_a is_b is_d is_e =
+module _ (n : NamedNetlist) where
+  pub named_said : named_of_statements (named_statements n) ≡ record n { outputs = different n.outputs }
+  named_said =
       let inputs = map input_line n.inputs in
       let outputs = map output_line n.outputs in
       let dffs = map dff_statement n.dffs in
       let gates = map gate_statement n.gates in
-      flat_map-append f ((inputs ++ outputs) ++ dffs) gates
-      ∙ ap (λ l. l ++ flat_map f gates)
-      (flat_map-append f (inputs ++ outputs) dffs ∙ ap (λ l. l ++ flat_map f dffs)
-      (flat_map-append f inputs outputs))
-      ∙ four_parts (flat_map f inputs) (flat_map f outputs) (flat_map f dffs) (flat_map f gates) a b d e
-      (flat_map-map f input_line n.inputs ∙ is_a) (flat_map-map f output_line n.outputs ∙ is_b)
-      (flat_map-map f dff_statement n.dffs ∙ is_d) (flat_map-map f gate_statement n.gates ∙ is_e)
+      fold-append with_statement no_parts ((inputs ++ outputs) ++ dffs) gates
+      ∙ ap (λ m. fold with_statement m gates) (fold-append with_statement no_parts (inputs ++ outputs) dffs
+      ∙ ap (λ m. fold with_statement m dffs) (fold-append with_statement no_parts inputs outputs
+      ∙ ap (λ m. fold with_statement m outputs) (inputs_said no_parts n.inputs)
+      ∙ outputs_said (record no_parts { inputs = n.inputs }) n.outputs)
+      ∙ dffs_said (record no_parts { inputs = n.inputs; outputs = different n.outputs }) n.dffs)
+      ∙ gates_said (record no_parts { inputs = n.inputs; outputs = different n.outputs; dffs = n.dffs }) n.gates
 
-first_part : {A : Type 0} (xs : List A) → ((xs ++ []) ++ []) ++ [] ≡ xs
-first_part xs = append-nil ((xs ++ []) ++ []) ∙ append-nil (xs ++ []) ∙ append-nil xs
-
-module _ (n : NamedNetlist) where
-  pub inputs_are : stated_inputs (named_statements n) ≡ n.inputs
-  inputs_are = content inputs_in n n.inputs [] [] [] (flat_self n.inputs) (flat_none n.outputs) (flat_none n.dffs)
-      (flat_none n.gates) ∙ first_part n.inputs
-
-  pub outputs_are : flat_map outputs_in (named_statements n) ≡ n.outputs
-  outputs_are = content outputs_in n [] n.outputs [] [] (flat_none n.inputs) (flat_self n.outputs) (flat_none n.dffs)
-      (flat_none n.gates) ∙ (append-nil (n.outputs ++ []) ∙ append-nil n.outputs)
-
-  pub dffs_are : stated_dffs (named_statements n) ≡ n.dffs
-  dffs_are = content dffs_in n [] [] n.dffs [] (flat_none n.inputs) (flat_none n.outputs) (flat_self n.dffs)
-      (flat_none n.gates) ∙ append-nil n.dffs
-
-  pub gates_are : stated_gates (named_statements n) ≡ n.gates
-  gates_are = content gates_in n [] [] [] n.gates (flat_none n.inputs) (flat_none n.outputs) (flat_none n.dffs)
-      (flat_self n.gates)
-
-  pub driven_are : driven_by (named_statements n) ≡ (n.inputs ++ dff_outs n.dffs) ++ gate_outs n.gates
+  pub driven_are : driven_by (named_statements n) ≡ drivers n
   driven_are =
-      content driven_in n n.inputs [] (dff_outs n.dffs) (gate_outs n.gates)
-      (flat_self n.inputs) (flat_none n.outputs) (flat_map_single (λ (d : NamedDff). d.out) n.dffs)
-      (flat_map_single (λ (g : NamedGate). g.out) n.gates)
-      ∙ ap (λ l. (l ++ dff_outs n.dffs) ++ gate_outs n.gates)
-      (append-nil n.inputs)
+      let inputs = map input_line n.inputs in
+      let outputs = map output_line n.outputs in
+      let dffs = map dff_statement n.dffs in
+      let gates = map gate_statement n.gates in
+      let is_inputs = flat_map-map driven_in input_line n.inputs ∙ flat_self n.inputs in
+      let is_outputs = flat_map-map driven_in output_line n.outputs ∙ flat_none n.outputs in
+      let is_dffs = flat_map-map driven_in dff_statement n.dffs
+      ∙ flat_map_single (λ (d : NamedDff). d.out) n.dffs in
+      let is_gates = flat_map-map driven_in gate_statement n.gates
+      ∙ flat_map_single (λ (g : NamedGate). g.out) n.gates in
+      flat_map-append driven_in ((inputs ++ outputs) ++ dffs) gates
+      ∙ ap (λ l. l ++ driven_by gates) (flat_map-append driven_in (inputs ++ outputs) dffs
+      ∙ ap (λ l. l ++ driven_by dffs) (flat_map-append driven_in inputs outputs
+      ∙ ap (λ l. l ++ driven_by outputs) is_inputs ∙ ap (λ l. n.inputs ++ l) is_outputs ∙ append-nil n.inputs)
+      ∙ ap (λ l. n.inputs ++ l) is_dffs)
+      ∙ ap (λ l. (n.inputs ++ dff_outs n.dffs) ++ l) is_gates

@@ -1,15 +1,15 @@
 use Rattle.std.proofs.Common.{[], refl}
 use Rattle.ht_statement.specs.Statement.{input_line}
 use Rattle.ht_bench.proofs.AddErrorLaws.{passes_on}
-use Rattle.ht_bench.proofs.AcceptedLaws.{driver_refused}
-use Rattle.ht_bench.proofs.PortStatementLaws.{input_accepted, input_refused}
+use Rattle.ht_bench.proofs.RefuseLaws.{driver_refused}
+use Rattle.ht_bench.proofs.StatementLaws.{input_accepted, input_refused}
 use Rattle.ht_bench.proofs.add_line.add_input.Goals as goal
 
 pub returns-in_err-id-clause-refusal : goal.returns-in_err-id-clause-refusal
 returns-in_err-id-clause-refusal c =
     passes_on _ c.from_residual.result c.from_residual.ensures.1
-    (driver_refused c.args.builder.now (input_line c.args.name.now) c.args.name.now []
-    c.in_err-id.field-0.0 refl refl c.in_err-id.ensures.refusal)
+    (driver_refused c.args.builder.now (input_line c.args.name.now) c.args.name.now [] refl refl
+    c.in_err-id.field-0.0 c.in_err-id.ensures.refusal)
 
 pub returns-in_err-input-clause-refusal : goal.returns-in_err-input-clause-refusal
 returns-in_err-input-clause-refusal c =

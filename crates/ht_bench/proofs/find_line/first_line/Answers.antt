@@ -1,4 +1,4 @@
-use Rattle.std.proofs.Common.{rules, refl}
+use Rattle.std.proofs.Common.{rules}
 use Rattle.ht_statement.specs.StatementOf.{statement_of}
 use Rattle.ht_bench.proofs.FindLineLaws.{nothing_before, line_states, line_found, line_passed, not_at_end}
 use Rattle.ht_bench.proofs.find_line.first_line.Goals as goal
@@ -15,7 +15,7 @@ pub returns-then-has_net : goal.returns-then-has_net
 returns-then-has_net c =
     line_found c.args.text.now c.loop-line.rest.now c.in-Some.line.now c.in-Some.more.now c.loop-line.number c.args.role
     c.args.name.now c.loop-line.invariant c.in-Some.ensures.first
-    (statement_of c.in_ok-statement.statement) c.in_ok-statement.ensures (c.if-has_net.ensures.0 refl)
+    (statement_of c.in_ok-statement.statement) c.in_ok-statement.ensures (search rules)
 
 pub loop-line-preserved-else-has_net : goal.loop-line-preserved-else-has_net
 loop-line-preserved-else-has_net c =

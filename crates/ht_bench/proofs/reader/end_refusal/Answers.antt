@@ -3,12 +3,13 @@ use Rattle.ht_net.specs.declared.names.NameId.{NameId}
 use Rattle.ht_net.specs.Draft.{Draft, IsName, no_name}
 use Rattle.ht_net.specs.Named.{Name}
 use Rattle.ht_net.specs.Built.{draft_name}
+use Rattle.std.specs.Prelude.{Some}
 use Rattle.std.specs.List.{All}
-use Rattle.ht_bench.specs.Role.{HasNet, IsFirstLine}
-use Rattle.ht_bench.specs.Text.{IsUndriven, IsLoop}
+use Rattle.ht_bench.specs.Progress.{HasNet, IsFirstLine}
+use Rattle.ht_bench.specs.Text.{refusal_of, IsLoop}
 use Rattle.ht_bench.specs.declared.find_line.Role.TheVariants.{Mentioned, Driven}
-use Rattle.ht_bench.proofs.EndOfTextLaws.{net_is_mentioned}
-use Rattle.ht_bench.proofs.UndrivenLaws.{undriven_is}
+use Rattle.ht_bench.specs.declared.error.BenchError.TheVariants.{Undriven}
+use Rattle.ht_bench.proofs.EndOfTextLaws.{net_is_mentioned, undriven_is}
 use Rattle.ht_bench.proofs.NetCycleLaws.{known_net, known_nets, first_is_driven, loop_found}
 use Rattle.ht_bench.proofs.reader.end_refusal.Goals as goal
 
@@ -23,7 +24,7 @@ returns-in_ok-name-in-Undriven c =
     let free = rw c.in-Undriven.is at c.requires.refused in
     let first = subst (λ n. IsFirstLine c.args.text.now Mentioned n c.in_ok-line-in-Undriven.line) c.name-name.ensures
     c.in_ok-line-in-Undriven.ensures in
-    subst (IsUndriven c.args.text.now c.in_ok-line-in-Undriven.line)
+    subst (λ n. refusal_of c.args.text.now ≡ Some (Undriven c.in_ok-line-in-Undriven.line n))
     (sym (c.in_ok-name-in-Undriven.ensures ∙ c.name-name.ensures))
     (undriven_is c.args.text.now c.args.builder.now c.requires.read c.in-Undriven.name free
     c.in_ok-line-in-Undriven.line first)
