@@ -21,13 +21,12 @@ pub mod EndOfTextLaws
 pub mod NetCycleLaws
 pub mod CycleLaws
 pub mod ExcludeLaws
-pub mod NetsByNameLaws
-pub mod OneLaws
 pub mod NormalLaws
 pub mod AllLaws
 pub mod NormalLineLaws
 pub mod NormalContentLaws
 pub mod NormalNameLaws
 pub mod NormalMentionLaws
+pub mod OneLaws
 pub mod NormalRoundLaws
 pub mod NormalBackLaws

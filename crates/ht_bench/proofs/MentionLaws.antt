@@ -1,9 +1,8 @@
 -- Names that are mentioned, one by one, and their numbers.
-use Rattle.std.proofs.Common.{◌≡◌, inl, inr, ⊎_elim, ℕ, ◌<◌, ◌+◌, List, [], ◌∷◌, ◌++◌, length, get_or, map, take, drop, refl, sym, ◌∙◌, ap, append_assoc, take-append-drop, arith}
+use Rattle.std.proofs.Common.{◌≡◌, inl, inr, ⊎_elim, ℕ, ◌<◌, ◌+◌, List, [], ◌∷◌, ◌++◌, length, get_or, map, take, drop, refl, sym, ◌∙◌, ap, subst, take-append-drop, arith}
 use Rattle.std.specs.Borrow.{Bor}
 use Rattle.std.proofs.lemmas.Bool.{cond_both, cond-false, false_from_ne_true}
 use Rattle.std.proofs.lemmas.List.{get_or-map, take_more, length-map, length-append, map_push}
-use Rattle.std.proofs.lemmas.List.Elements.{All-nil, All-push, All-weaker}
 use Rattle.std.proofs.lemmas.List.Sums.{fold-append}
 use Rattle.ht_net.specs.declared.names.NameId.{NameId}
 use Rattle.ht_net.specs.declared.error.NetError.{NetError}
@@ -12,16 +11,16 @@ use Rattle.ht_net.specs.declared.error.Limit.TheVariants.{Nets, Pins, Inputs, Df
 use Rattle.ht_net.specs.Names.{IsNewName}
 use Rattle.ht_net.specs.Netlist.{max_nets}
 use Rattle.ht_net.specs.Named.{Name}
-use Rattle.ht_net.specs.Draft.{Draft, IsDraft}
+use Rattle.ht_net.specs.Draft.{Draft, IsDraft, IsDriven}
 use Rattle.ht_net.specs.Refusals.{RefusesName}
 use Rattle.ht_statement.specs.StatementOf.{texts_of}
 use Rattle.ht_bench.specs.Different.{has_name, with_name, with_names}
 use Rattle.ht_bench.specs.AddErrors.{add_error_of}
-use Rattle.ht_bench.specs.Drafts.{IsNumberOf, AreNumbersOf, Mentions, RefusesMentions}
+use Rattle.ht_bench.specs.Drafts.{IsNumberOf, AreNumbersOf, Mentions, MentionsFree, RefusesMentions}
 use Rattle.ht_bench.specs.declared.add_error.AddError.{AddError}
 use Rattle.ht_bench.specs.declared.add_error.AddError.TheVariants.{Limit, NoMemory}
 use Rattle.ht_bench.proofs.NameListLaws.{new_name, known_name, with_names-long}
-use Rattle.ht_bench.proofs.SaysLaws.{number_stays, names_more, stays_known}
+use Rattle.ht_bench.proofs.SaysLaws.{number_stays, names_more, after_more}
 
 -- what a builder's `net` does to a draft
 pub net_mentions : (d new : Draft) (name : Name) → (¬ IsNewName d.names name → new ≡ d)
@@ -49,7 +48,7 @@ net_refuses d name NetNoMemory refused = inl refl
 
 -- ---- more names
 
-pub mentions_then : (a b c : Draft) (names others : List Name) → Mentions a names b → Mentions b others c
+mentions_then : (a b c : Draft) (names others : List Name) → Mentions a names b → Mentions b others c
     → Mentions a (names ++ others) c
 mentions_then a b c names others first last = record {
   is = last.is ∙ ap (λ (x : Draft). record x { names = with_names x.names others }) first.is
@@ -58,35 +57,33 @@ mentions_then a b c names others first last = record {
 }
 
 module _ (b c : Draft) (names : List Name) (m : Mentions b names c) where
-  pub number_in : (id : NameId) (name : Name) → IsNumberOf b.names id name → IsNumberOf c.names id name
+  number_in : (id : NameId) (name : Name) → IsNumberOf b.names id name → IsNumberOf c.names id name
   number_in id name at =
       let more = names_more b c names m in (
-        stays_known b c names m id at.0,
+        omega (arith, at.0, ap length more.1, length-append b.names more.0),
         ap (λ (l : List Name). get_or l id.0 []) more.1 ∙ number_stays b.names more.0 id name at,
       )
 
   numbers_in : (ids : List NameId) (texts : List Name) → AreNumbersOf b.names ids texts → AreNumbersOf c.names ids texts
-  numbers_in ids texts are =
-      let more = names_more b c names m in
-      record {
-        known = All-weaker (λ (id : NameId). id.0 < length b.names) (λ (id : NameId). id.0 < length c.names)
-            (stays_known b c names m) ids are.known;
-        named = λ after.
-            ap (λ (l : List Name). map (λ (id : NameId). get_or l id.0 []) ids)
-            (ap (λ l. l ++ after) more.1 ∙ append_assoc b.names more.0 after) ∙ are.named (more.0 ++ after);
-      }
+  numbers_in ids texts are more = ap (λ (l : List Name). map (λ (id : NameId). get_or l id.0 []) ids)
+      (after_more b c names m more) ∙ are ((names_more b c names m).0 ++ more)
 
-pub no_numbers : (names : List Name) → AreNumbersOf names [] []
-no_numbers names = record { known = All-nil (λ (id : NameId). id.0 < length names); named = λ more. refl }
+-- a net that is free stays free
+pub free_then : {a b c : Draft} {before names : List Name} {name : Name} {id : NameId} → MentionsFree a before name id b
+    → Mentions b names c → MentionsFree a (before ++ names) name id c
+free_then {a} {b} {c} {before} {names} {name} {id} found m = record {
+  mentions = mentions_then a b c before names found.mentions m;
+  number = number_in b c names m id name found.number;
+  free = λ driven. found.free (subst (λ (x : Draft). IsDriven x id) m.is driven);
+}
 
 numbers_push : (names : List Name) (ids : List NameId) (texts : List Name) (id : NameId) (name : Name)
     → AreNumbersOf names ids texts → IsNumberOf names id name → AreNumbersOf names (ids ++ id ∷ []) (texts ++ name ∷ [])
-numbers_push names ids texts id name are at = record {
-  known = All-push (λ (x : NameId). x.0 < length names) ids id are.known at.0;
-  named = λ more. let f : NameId → Name = λ x. get_or (names ++ more) x.0 [] in
-      map_push f ids id ∙ ap (λ l. l ++ f id ∷ []) (are.named more)
-      ∙ ap (λ n. texts ++ n ∷ []) (number_stays names more id name at);
-}
+numbers_push names ids texts id name are at more =
+    let pushed = map_push (λ (x : NameId). get_or (names ++ more) x.0 []) ids id in
+    let texts_are = are more in
+    let named = number_stays names more id name at in
+    cc
 
 -- ---- the step of a loop over names
 

@@ -1,11 +1,11 @@
 -- The cycle of a text, by the names of its nets, and the line that drives its first net.
-use Rattle.std.proofs.Common.{◌≡◌, ℕ, zero, suc, ◌<◌, ◌+◌, ◌-◌, List, [], length, get_or, map, sym, ◌∙◌, ap, subst, arith}
+use Rattle.std.proofs.Common.{◌≡◌, ℕ, zero, suc, ◌<◌, ◌+◌, ◌-◌, List, [], ◌++◌, length, get_or, map, sym, ◌∙◌, ap, subst, arith}
 use Rattle.std.specs.List.{All, Contains}
 use Rattle.std.proofs.lemmas.List.{length-map, get_or-map, get_or_default}
-use Rattle.std.proofs.lemmas.List.Elements.{Contains-get_or}
+use Rattle.std.proofs.lemmas.List.Elements.{All-contains, Contains-append_right, Contains-get_or}
 use Rattle.ht_net.specs.declared.names.NameId.{NameId}
 use Rattle.ht_net.specs.Named.{NamedNetlist}
-use Rattle.ht_net.specs.Draft.{Draft, IsName, part_at, no_name, no_part}
+use Rattle.ht_net.specs.Draft.{Draft, DraftGate, IsName, driven_names, latch_names, gate_names, part_at, no_name, no_part}
 use Rattle.ht_net.specs.Built.{AllDriven, draft_name}
 use Rattle.ht_net.specs.Finish.{IsNameCycle, BeginsWithLeast, FeedsName}
 use Rattle.ht_net.proofs.CycleLaws.{cycle_map}
@@ -16,7 +16,7 @@ use Rattle.ht_bench.specs.Progress.{IsRead, HasNet, IsFirstLine}
 use Rattle.ht_bench.specs.declared.find_line.Role.TheVariants.{Driven}
 use Rattle.ht_bench.proofs.NamedPartLaws.{no_named_gate}
 use Rattle.ht_bench.proofs.PlaceLaws.{place_in, place_at}
-use Rattle.ht_bench.proofs.SaysLaws.{gate_by_name, says_named}
+use Rattle.ht_bench.proofs.SaysLaws.{gate_by_name, says_named, known_drivers}
 use Rattle.ht_bench.proofs.EndOfTextLaws.{net_is_driven, accepted_text}
 
 -- what a list has at a place, mapped
@@ -34,7 +34,11 @@ module _ (text : List ℕ) (d : Draft) (is : IsRead text d) where
   feeds_by_name : (a b : NameId) → FeedsName d a b → IsName d b × Feeds is.statements (draft_name d a) (draft_name d b)
   feeds_by_name a b feeds =
       let part = part_at d feeds.gate in (
-        subst (IsName d) feeds.out (is.draft.says.gates feeds.gate no_part feeds.is_gate),
+        subst (IsName d) feeds.out (All-contains (IsName d) (driven_names d) part.out
+            (known_drivers is.statements d is.draft.says)
+            (Contains-append_right d.inputs (latch_names d ++ gate_names d) part.out
+            (Contains-append_right (latch_names d) (gate_names d) part.out
+            (mapped_at (λ (g : DraftGate). g.out) d.gates feeds.gate no_part no_name feeds.is_gate)))),
         record {
           gate = gate_by_name d part;
           is_gate = subst (λ (n : NamedNetlist). Contains n.gates (gate_by_name d part))

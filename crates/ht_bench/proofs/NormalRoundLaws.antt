@@ -1,11 +1,11 @@
 -- The normal text of a circuit is a netlist of that circuit.
-use Rattle.std.proofs.Common.{◌≡◌, ◌≤◌, List, [], ◌∷◌, ◌++◌, Bool, true, false, not, length, get_or, map, append_assoc, append-nil, refl, sym, ap, subst, ◌∙◌, arith}
+use Rattle.std.proofs.Common.{◌≡◌, ℕ, ◌≤◌, List, [], ◌∷◌, ◌++◌, Bool, true, false, not, length, get_or, map, append_assoc, append-nil, refl, sym, ap, subst, ◌∙◌, arith}
 use Rattle.std.specs.Prelude.{fold, find, Some, None, option_map}
 use Rattle.std.specs.List.{All, Contains}
 use Rattle.std.proofs.lemmas.Bool.{cond-false, not_from_true}
 use Rattle.std.proofs.lemmas.List.{length-append, length-take}
 use Rattle.std.proofs.lemmas.List.Concat.{flat_map-append}
-use Rattle.std.proofs.lemmas.List.Sums.{fold-append, sum_by_push}
+use Rattle.std.proofs.lemmas.List.Sums.{fold-append, sum_by_push, list_all-from_AllPass}
 use Rattle.std.proofs.lemmas.List.Elements.{All-nil, All-append, All-head, All-tail, All-map, All-weaker, All-contains, Contains-append_left, Contains-get_or}
 use Rattle.ht_tern.specs.Gate.{HasArity}
 use Rattle.ht_net.specs.Lists.{AllDiffer}
@@ -31,7 +31,7 @@ use Rattle.ht_bench.proofs.NameListLaws.{has_name-Decides, has_no_name, All-with
 use Rattle.ht_bench.proofs.LimitLaws.{within_passes_none}
 use Rattle.ht_bench.proofs.ProgressLaws.{refusal_by, no_error}
 use Rattle.ht_bench.proofs.NormalLineLaws.{lines_of_statements}
-use Rattle.ht_bench.proofs.AllLaws.{all_from_test, test_from_all, AreNames, All-left, All-flat_map}
+use Rattle.ht_bench.proofs.AllLaws.{all_from_test, AreNames, All-left, All-flat_map}
 use Rattle.ht_bench.proofs.DifferLaws.{differ_apart, length-different}
 use Rattle.ht_bench.proofs.NormalNameLaws.{driven_are_names, statements_say, pins_are}
 use Rattle.ht_bench.proofs.NormalMentionLaws.{statements_made, gates_have_counts}
@@ -48,34 +48,23 @@ texts_read (s ∷ statements) can =
 
 -- ---- more statements say no less
 
-record SaysNoMore (n m : NamedNetlist) : Type 0 where
-  inputs : length n.inputs ≤ length m.inputs
-  dffs : length n.dffs ≤ length m.dffs
-  pins : named_pins n ≤ named_pins m
-
-no_more : (n : NamedNetlist) (s : Statement) → SaysNoMore n (with_statement n s)
-no_more n blank_line = record { inputs = omega arith; dffs = omega arith; pins = omega arith }
-no_more n (output_line name) = record { inputs = omega arith; dffs = omega arith; pins = omega arith }
-no_more n (input_line name) = record
-    { inputs = omega (arith, length-append n.inputs (name ∷ [])); dffs = omega arith; pins = omega arith }
-no_more n (dff_line out data_pin) =
+says_no_less : (n : NamedNetlist) (s : Statement) → (length n.inputs ≤ length (with_statement n s).inputs)
+    × (length n.dffs ≤ length (with_statement n s).dffs) × (named_pins n ≤ named_pins (with_statement n s))
+says_no_less n blank_line = (omega arith, omega arith, omega arith)
+says_no_less n (output_line name) = (omega arith, omega arith, omega arith)
+says_no_less n (input_line name) = (omega (arith, length-append n.inputs (name ∷ [])), omega arith, omega arith)
+says_no_less n (dff_line out data_pin) =
     let more = length-append n.dffs (record { out = out; data_pin = data_pin } ∷ []) in
-    record { inputs = omega arith; dffs = omega (arith, more); pins = omega (arith, more) }
-no_more n (gate_line out kind args) =
+    (omega arith, omega (arith, more), omega (arith, more))
+says_no_less n (gate_line out kind args) =
     let more = sum_by_push (λ (g : NamedGate). length g.args) n.gates
     (record { kind = kind; out = out; args = args }) in
-    record { inputs = omega arith; dffs = omega arith; pins = omega (arith, more) }
+    (omega arith, omega arith, omega (arith, more))
 
-first_say_less : (n : NamedNetlist) (statements : List Statement) → SaysNoMore n (fold with_statement n statements)
-first_say_less n [] = record { inputs = omega arith; dffs = omega arith; pins = omega arith }
-first_say_less n (s ∷ statements) =
-    let one = no_more n s in
-    let rest = first_say_less (with_statement n s) statements in
-    record {
-      inputs = omega (arith, one.inputs, rest.inputs);
-      dffs = omega (arith, one.dffs, rest.dffs);
-      pins = omega (arith, one.pins, rest.pins);
-    }
+grows : (count : NamedNetlist → ℕ) → ((n : NamedNetlist) (s : Statement) → count n ≤ count (with_statement n s))
+    → (n : NamedNetlist) (statements : List Statement) → count n ≤ count (fold with_statement n statements)
+grows count step n [] = omega arith
+grows count step n (s ∷ statements) = omega (arith, step n s, grows count step (with_statement n s) statements)
 
 find_none : (p : Name → Bool) (names : List Name) → All (λ name. p name ≡ false) names → find p names ≡ None
 find_none p [] all = refl
@@ -110,7 +99,9 @@ module _ (c : Netlist) (is : IsCircuit c) where
       (mentions_of rest) (subst (All (Contains c.names)) parts mentioned)) in
       let all : fold with_statement n rest ≡ named_of c = sym (fold-append with_statement no_parts first rest)
       ∙ ap named_of_statements (sym split) ∙ statements_say c is in
-      let less = first_say_less n rest in
+      let inputs = grows (λ m. length m.inputs) (λ m s. (says_no_less m s).0) n rest in
+      let dffs = grows (λ m. length m.dffs) (λ m s. (says_no_less m s).1) n rest in
+      let pins = grows named_pins (λ m s. (says_no_less m s).2) n rest in
       let named = is.named in
       let few_nets = is.few_nets in
       let few_pins = is.few_pins in
@@ -118,17 +109,17 @@ module _ (c : Netlist) (is : IsCircuit c) where
       let few_dffs = is.few_dffs in
       within_passes_none (length (stated_nets first)) (named_pins n) (length n.inputs) (length n.dffs) (record {
         few_nets = omega arith;
-        few_pins = omega (arith, less.pins, ap named_pins all, pins_are c is);
+        few_pins = omega (arith, pins, ap named_pins all, pins_are c is);
         few_inputs = omega (
           arith,
-          less.inputs,
+          inputs,
           ap (λ (m : NamedNetlist). length m.inputs) all,
           length-take c.inputs
               c.names,
         );
         few_dffs = omega (
           arith,
-          less.dffs,
+          dffs,
           ap (λ (m : NamedNetlist). length m.dffs) all,
           named_dffs_count c c.inputs
               c.dffs,
@@ -195,7 +186,7 @@ module _ (c : Netlist) (is : IsCircuit c) where
     can_be_stated : All CanBeStated (statements_of c)
     can_be_stated k d below =
         let s = get_or (statements_of c) k d in
-        record { names = test_from_all is_name (names_in s) (have_names k d below); count = have_counts k d below }
+        record { names = list_all-from_AllPass is_name (names_in s) (have_names k d below); count = have_counts k d below }
 
     pub normal_is_netlist : IsNetlistOf (normal_text c) c
     normal_is_netlist =

@@ -3,10 +3,8 @@ use Rattle.std.proofs.Common.{◌≡◌, ⊎_elim, ℕ, ◌<◌, ◌≤◌, ◌+
 use Rattle.std.specs.Prelude.{Option, Some, None, option_map}
 use Rattle.std.specs.Option.{option_or}
 use Rattle.std.proofs.lemmas.List.{length-append, map_push}
-use Rattle.std.proofs.lemmas.List.Elements.{All-nil}
 use Rattle.ht_ports.specs.LineRule.{lines_of}
-use Rattle.ht_net.specs.declared.draft.DraftDff.{DraftDff}
-use Rattle.ht_net.specs.Draft.{Draft, DraftGate, IsName}
+use Rattle.ht_net.specs.Draft.{Draft}
 use Rattle.ht_statement.specs.Statement.{Statement}
 use Rattle.ht_statement.specs.Reading.{Reading, stated, reading_of}
 use Rattle.ht_statement.specs.declared.error.LineRefusal.TheVariants.{BadLine, BadName, BadKind, BadCount}
@@ -25,21 +23,6 @@ pub record IsReading (text rest : List ℕ) (count : ℕ) (d : Draft) : Type 0 w
   pub is_count : count ≡ length before
   pub short : count + length rest ≤ length text
   pub draft : IsDraftOf before d
-
-pub no_lines : IsDraftOf [] (record { names = []; inputs = []; dffs = []; gates = []; outputs = [] })
-no_lines =
-    let d : Draft = record { names = []; inputs = []; dffs = []; gates = []; outputs = [] } in
-    record {
-      names = refl;
-      names_differ = λ i j e before below. absurd (omega arith);
-      says = record {
-        named = λ more. refl;
-        inputs = All-nil (IsName d);
-        dffs = All-nil (λ (f : DraftDff). IsName d f.out);
-        gates = All-nil (λ (g : DraftGate). IsName d g.out);
-      };
-      limits = refl;
-    }
 
 pub reading_none : (text : List ℕ) (d : Draft) → IsDraftOf [] d → IsReading text text 0 d
 reading_none text d draft = record {

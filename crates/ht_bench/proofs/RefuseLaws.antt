@@ -35,10 +35,10 @@ module _ (before : List Statement) (s : Statement) (name : Name) (drives : drive
       ∙ cond-true (has_name (driven_by before) name) (Some name) None has)
 
   -- a net that is free after its mention was free before
-  pub free_before : (old first : Draft) (out : NameId) → MentionsFree old name out first → IsDraftOf before old
-      → second_driver before s ≡ None
-  free_before old first out found is = no_second (false_from_ne_true (has_name (driven_by before) name)
-      (λ yes. found.free (is_driven before first (says_more old first (name ∷ []) found.mentions before is.says)
+  pub free_before : (old first : Draft) (names : List Name) (out : NameId) → MentionsFree old names name out first
+      → IsDraftOf before old → second_driver before s ≡ None
+  free_before old first names out found is = no_second (false_from_ne_true (has_name (driven_by before) name)
+      (λ yes. found.free (is_driven before first (says_more old first names found.mentions before is.says)
       found.mentions.is_draft.names_differ out name found.number yes)))
 
 -- ---- limits
@@ -100,10 +100,10 @@ module _ (old : Draft) (s : Statement) (name : Name) (others : List Name) (names
       × ((b : List Statement) → IsDraftOf b old → has_name (driven_by b) name ≡ true)).
       inr (is_second before s name drives (second.1 before is) ∙ ap Some (sym second.0))) refused
 
-  pub others_refused : (first : Draft) (out : NameId) (error : AddError) → MentionsFree old name out first
-      → RefusesMentions first others error → RefusesStatement old s error
-  others_refused first out error found refused before is =
-      nets_refuse before s (free_before before s name drives old first out found is) old error is
+  pub others_refused : {first : Draft} {out : NameId} (error : AddError)
+      → MentionsFree old (name ∷ []) name out first → RefusesMentions first others error → RefusesStatement old s error
+  others_refused {first} {out} error found refused before is =
+      nets_refuse before s (free_before before s name drives old first (name ∷ []) out found is) old error is
       (subst (λ l. RefusesMentions old l error) (sym names)
       (subst (λ (x : Draft). (error ≡ NoMemory) ⊎ ((error ≡ Limit Nets)
       × (max_nets < length (with_names x.names others)))) found.mentions.is refused))

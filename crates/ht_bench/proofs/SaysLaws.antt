@@ -1,20 +1,20 @@
 -- What a draft says by names: with more names, its counts, and which nets are driven.
-use Rattle.std.proofs.Common.{◌≡◌, ℕ, ◌<◌, List, [], ◌∷◌, ◌++◌, true, length, get_or, map, sum_by, refl, sym, ◌∙◌, ap, subst, append-nil, append_assoc, arith}
+use Rattle.std.proofs.Common.{◌≡◌, ⊎_elim, ℕ, ◌<◌, ◌≤◌, ◌+◌, ◌-◌, List, [], ◌∷◌, ◌++◌, true, length, get_or, map, replicate, sum_by, refl, sym, ◌∙◌, ap, append-nil, append_assoc, arith}
 use Rattle.std.specs.List.{All, Contains}
-use Rattle.std.proofs.lemmas.List.{length-append, length-map, get_or_append_left, get_or-map, get_or_default, map-append}
+use Rattle.std.proofs.lemmas.Bool.{cases_lt}
+use Rattle.std.proofs.lemmas.List.{length-map, get_or_append_left, get_or-append_right, get_or-replicate, get_or-map, get_or_default, map-append}
 use Rattle.std.proofs.lemmas.Simd.{map-map}
 use Rattle.std.proofs.lemmas.List.Sums.{sum_by-cons}
-use Rattle.std.proofs.lemmas.List.Elements.{All-append, All-map, All-weaker}
 use Rattle.ht_net.specs.declared.names.NameId.{NameId}
 use Rattle.ht_net.specs.declared.draft.DraftDff.{DraftDff}
 use Rattle.ht_net.specs.Lists.{AllDiffer}
 use Rattle.ht_net.specs.Named.{Name, NamedGate, NamedNetlist}
-use Rattle.ht_net.specs.Draft.{Draft, DraftGate, IsDriven, IsName, driven_names, latch_names, gate_names, draft_pins, no_name}
+use Rattle.ht_net.specs.Draft.{Draft, DraftGate, IsDriven, IsName, driven_names, draft_pins, no_name}
 use Rattle.ht_net.specs.Built.{draft_name, named_draft}
 use Rattle.ht_statement.specs.Statement.{Statement}
 use Rattle.ht_bench.specs.Different.{has_name}
 use Rattle.ht_bench.specs.Contents.{named_of_statements, driven_by, named_pins}
-use Rattle.ht_bench.specs.Drafts.{IsNumberOf, Says, Mentions, longer}
+use Rattle.ht_bench.specs.Drafts.{IsNumberOf, AreNumbersOf, Says, Mentions, longer}
 use Rattle.ht_bench.proofs.NameListLaws.{has_name-Decides, with_names-grow}
 use Rattle.ht_bench.proofs.NamedPartLaws.{drivers}
 use Rattle.ht_bench.proofs.DriverLaws.{drivers_are}
@@ -25,33 +25,40 @@ pub number_stays : (names more : List Name) (id : NameId) (name : Name) → IsNu
     → get_or (names ++ more) id.0 [] ≡ name
 number_stays names more id name at = get_or_append_left names more [] id.0 at.0 ∙ at.1
 
+-- a number that has one name whatever names come after is that of a name
+pub stable_is_known : (names : List Name) (n : ℕ) (name : Name)
+    → ((more : List Name) → get_or (names ++ more) n [] ≡ name) → n < length names
+stable_is_known names n name stable =
+    ⊎_elim (λ (known : n < length names). known)
+    (λ (past : length names ≤ n).
+    let filled : List Name = replicate (n - length names + 1) (0 ∷ []) in
+    let none : get_or (names ++ []) n [] ≡ [] = get_or-append_right names [] (length names) n [] refl past in
+    let some : get_or (names ++ filled) n [] ≡ 0 ∷ [] = get_or-append_right names filled (length names) n [] refl past
+    ∙ get_or-replicate (n - length names + 1) (n - length names) (0 ∷ []) [] (omega arith) in
+    let e : [] ≡ 0 ∷ [] = sym none ∙ stable [] ∙ sym (stable filled) ∙ some in
+    absurd (omega (arith, ap length e)))
+    (cases_lt n (length names))
+
+pub numbers_are_known : (names : List Name) (ids : List NameId) (texts : List Name) → AreNumbersOf names ids texts
+    → All (λ (id : NameId). id.0 < length names) ids
+numbers_are_known names ids texts are k d lt =
+    let f : List Name → NameId → Name = λ more id. get_or (names ++ more) id.0 [] in
+    stable_is_known names (get_or ids k d).0 (get_or texts k [])
+    (λ more. sym (get_or-map (f more) ids k d [] lt) ∙ ap (λ l. get_or l k []) (are more))
+
 -- ---- more names
 
 module _ (old new : Draft) (names : List Name) (m : Mentions old names new) where
   pub names_more : (rest : List Name) × (new.names ≡ old.names ++ rest)
   names_more = let on = with_names-grow old.names names in (on.0, ap (λ (x : Draft). x.names) m.is ∙ on.1)
 
-  pub stays_known : (id : NameId) → IsName old id → IsName new id
-  stays_known id known = omega (arith, known, ap length names_more.1, length-append old.names names_more.0)
-
-  longer_is : (more : List Name) → longer new more ≡ longer old (names_more.0 ++ more)
-  longer_is more =
-      ap (λ (x : Draft). record x { names = new.names ++ more }) m.is
-      ∙ ap (λ l. record old { names = l })
-      (ap (λ l. l ++ more) names_more.1 ∙ append_assoc old.names names_more.0 more)
+  pub after_more : (more : List Name) → new.names ++ more ≡ old.names ++ (names_more.0 ++ more)
+  after_more more = ap (λ l. l ++ more) names_more.1 ∙ append_assoc old.names names_more.0 more
 
   pub says_more : (statements : List Statement) → Says statements old → Says statements new
-  says_more statements says = record {
-    named = λ more. ap named_draft (longer_is more) ∙ says.named (names_more.0 ++ more);
-    inputs = subst (λ (x : Draft). All (IsName new) x.inputs) (sym m.is)
-        (All-weaker (IsName old) (IsName new) stays_known old.inputs says.inputs);
-    dffs = subst (λ (x : Draft). All (λ (f : DraftDff). IsName new f.out) x.dffs) (sym m.is)
-        (All-weaker (λ (f : DraftDff). IsName old f.out) (λ (f : DraftDff). IsName new f.out)
-        (λ f. stays_known f.out) old.dffs says.dffs);
-    gates = subst (λ (x : Draft). All (λ (g : DraftGate). IsName new g.out) x.gates) (sym m.is)
-        (All-weaker (λ (g : DraftGate). IsName old g.out) (λ (g : DraftGate). IsName new g.out)
-        (λ g. stays_known g.out) old.gates says.gates);
-  }
+  says_more statements says more =
+      ap named_draft (ap (λ (x : Draft). record x { names = new.names ++ more }) m.is
+      ∙ ap (λ l. record old { names = l }) (after_more more)) ∙ says (names_more.0 ++ more)
 
 -- ---- numbers of names that differ
 
@@ -94,9 +101,12 @@ pins_named d (g ∷ gates) =
       pins_named d gates,
     )
 
+drivers_named : (d : Draft) → drivers (named_draft d) ≡ map (draft_name d) (driven_names d)
+drivers_named d = simp (map-append, map-map, append_assoc)
+
 module _ (statements : List Statement) (d : Draft) (says : Says statements d) where
   pub says_named : named_draft d ≡ named_of_statements statements
-  says_named = ap (λ l. named_draft (record d { names = l })) (sym (append-nil d.names)) ∙ says.named []
+  says_named = ap (λ l. named_draft (record d { names = l })) (sym (append-nil d.names)) ∙ says []
 
   pub inputs_count : length d.inputs ≡ length (named_of_statements statements).inputs
   inputs_count = sym (length-map d.inputs (draft_name d)) ∙ ap (λ (n : NamedNetlist). length n.inputs) says_named
@@ -111,19 +121,18 @@ module _ (statements : List Statement) (d : Draft) (says : Says statements d) wh
       let sums = ap (λ (n : NamedNetlist). sum_by (λ (g : NamedGate). length g.args) n.gates) says_named in
       omega (arith, dffs_count, pins_named d d.gates, sums)
 
-  drivers_named : drivers (named_draft d) ≡ map (draft_name d) (driven_names d)
-  drivers_named = simp (map-append, map-map, append_assoc)
+  -- the numbers that are driven are those of the drivers
+  pub driven_are_numbers : AreNumbersOf d.names (driven_names d) (drivers (named_of_statements statements))
+  driven_are_numbers more = sym (drivers_named (longer d more)) ∙ ap drivers (says more)
 
-  pub driven_named : (name : Name) → has_name (driven_by statements) name
+  pub known_drivers : All (IsName d) (driven_names d)
+  known_drivers = numbers_are_known d.names (driven_names d) (drivers (named_of_statements statements))
+      driven_are_numbers
+
+  driven_named : (name : Name) → has_name (driven_by statements) name
       ≡ has_name (map (draft_name d) (driven_names d)) name
   driven_named name = sym (drivers_are name statements) ∙ ap (λ n. has_name (drivers n) name) (sym says_named)
-      ∙ ap (λ l. has_name l name) drivers_named
-
-  known_drivers : All (IsName d) (driven_names d)
-  known_drivers = All-append (IsName d) d.inputs (latch_names d ++ gate_names d) says.inputs
-      (All-append (IsName d) (latch_names d) (gate_names d)
-      (All-map (IsName d) (λ (f : DraftDff). f.out) d.dffs says.dffs)
-      (All-map (IsName d) (λ (g : DraftGate). g.out) d.gates says.gates))
+      ∙ ap (λ l. has_name l name) (drivers_named d)
 
   -- what is driven has a name of the draft
   pub driven_has_name : (name : Name) → has_name (driven_by statements) name ≡ true → has_name d.names name ≡ true

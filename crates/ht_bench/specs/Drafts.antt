@@ -1,13 +1,12 @@
 -- How a builder's draft stands for the statements that were added to it.
-use Rattle.std.specs.Prelude.{◌≡◌, ◌⊎◌, ℕ, ◌<◌, ◌≤◌, List, [], ◌∷◌, ◌++◌, length, map, get_or, All, true, None}
+use Rattle.std.specs.Prelude.{◌≡◌, ◌⊎◌, ℕ, ◌<◌, ◌≤◌, List, [], ◌∷◌, ◌++◌, length, map, get_or, true, None}
 use Rattle.ht_tern.specs.Gate.{HasArity}
 use Rattle.ht_net.specs.declared.names.NameId.{NameId}
-use Rattle.ht_net.specs.declared.draft.DraftDff.{DraftDff}
 use Rattle.ht_net.specs.declared.error.Limit.TheVariants.{Nets}
 use Rattle.ht_net.specs.Lists.{AllDiffer}
 use Rattle.ht_net.specs.Names.{IsNameAt}
 use Rattle.ht_net.specs.Named.{Name}
-use Rattle.ht_net.specs.Draft.{Draft, DraftGate, IsDraft, IsDriven, IsName}
+use Rattle.ht_net.specs.Draft.{Draft, IsDraft, IsDriven}
 use Rattle.ht_net.specs.Built.{named_draft}
 use Rattle.ht_net.specs.Netlist.{max_nets, max_arguments}
 use Rattle.ht_statement.specs.Statement.{Statement, gate_line}
@@ -23,19 +22,15 @@ abbrev pub IsNumberOf : List Name → NameId → Name → Type 0
 IsNumberOf names id name = IsNameAt names id.0 name
 
 -- numbers of these names, whatever names come after
-pub record AreNumbersOf (names : List Name) (ids : List NameId) (texts : List Name) : Type 0 where
-  pub known : All (λ (id : NameId). id.0 < length names) ids
-  pub named : (more : List Name) → map (λ (id : NameId). get_or (names ++ more) id.0 []) ids ≡ texts
+abbrev pub AreNumbersOf : List Name → List NameId → List Name → Type 0
+AreNumbersOf names ids texts = (more : List Name) → map (λ (id : NameId). get_or (names ++ more) id.0 []) ids ≡ texts
 
 abbrev pub longer : Draft → List Name → Draft
 longer d more = record d { names = d.names ++ more }
 
--- a draft says by names what the statements say, whatever names come after; the numbers that are driven are its own
-pub record Says (statements : List Statement) (d : Draft) : Type 0 where
-  pub named : (more : List Name) → named_draft (longer d more) ≡ named_of_statements statements
-  pub inputs : All (IsName d) d.inputs
-  pub dffs : All (λ (f : DraftDff). IsName d f.out) d.dffs
-  pub gates : All (λ (g : DraftGate). IsName d g.out) d.gates
+-- a draft says by names what the statements say, whatever names come after
+abbrev pub Says : List Statement → Draft → Type 0
+Says statements d = (more : List Name) → named_draft (longer d more) ≡ named_of_statements statements
 
 pub record IsDraftOf (statements : List Statement) (d : Draft) : Type 0 where
   pub names : d.names ≡ stated_nets statements
@@ -48,9 +43,9 @@ pub record Mentions (old : Draft) (names : List Name) (new : Draft) : Type 0 whe
   pub is : new ≡ record old { names = with_names old.names names }
   pub is_draft : IsDraft new
 
--- a draft in which a net is mentioned, by its number, that no line drives so far
-pub record MentionsFree (old : Draft) (name : Name) (id : NameId) (new : Draft) : Type 0 where
-  pub mentions : Mentions old (name ∷ []) new
+-- a draft in which names are mentioned, and this is the number of one that no line drives so far
+pub record MentionsFree (old : Draft) (names : List Name) (name : Name) (id : NameId) (new : Draft) : Type 0 where
+  pub mentions : Mentions old names new
   pub number : IsNumberOf new.names id name
   pub free : ¬ IsDriven new id
 

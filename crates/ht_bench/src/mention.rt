@@ -45,7 +45,8 @@ pub(crate) fn mention_driven(
     builder: &mut Builder,
     name: &[u8],
 ) -> Result<NameId, AddError>
-    ensures found { IfOk result (λ id. MentionsFree builder.old name.now id builder.new) }
+    ensures found { IfOk result (λ id.
+        MentionsFree builder.old (name.now ∷ []) name.now id builder.new) }
     ensures refusal { IfErr result (RefusesDriver builder.old name.now) }
 {
     let id = mention(builder, name)?;

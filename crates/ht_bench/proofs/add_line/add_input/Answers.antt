@@ -14,10 +14,8 @@ returns-in_err-id-clause-refusal c =
 pub returns-in_err-input-clause-refusal : goal.returns-in_err-input-clause-refusal
 returns-in_err-input-clause-refusal c =
     passes_on _ c.from_residual-in_err-input.result c.from_residual-in_err-input.ensures.1
-    (input_refused c.args.builder.now c.mention_driven.new.builder c.in_ok-id.id c.args.name.now
-    c.in_ok-id.ensures.found c.in_err-input.field-0.0 c.in_err-input.ensures.refusal)
+    (input_refused c.in_ok-id.ensures.found c.in_err-input.field-0.0 c.in_err-input.ensures.refusal)
 
 pub returns-clause-accepts : goal.returns-clause-accepts
 returns-clause-accepts c =
-    input_accepted c.args.builder.now c.mention_driven.new.builder c.in_ok-id.id c.args.name.now
-    c.in_ok-id.ensures.found c.input.new.self c.in_ok-input.ensures.ok c.in_ok-input.ensures.accepts
+    input_accepted c.in_ok-id.ensures.found c.in_ok-input.ensures.ok c.in_ok-input.ensures.accepts

@@ -19,5 +19,5 @@ returns-in_err-output-clause-refusal c =
 
 pub returns-clause-accepts : goal.returns-clause-accepts
 returns-clause-accepts c =
-    output_accepted c.args.builder.now c.mention.new.builder c.output.new.self c.in_ok-id.id c.args.name.now
-    c.in_ok-id.ensures.mentions c.in_ok-id.ensures.number c.in_ok-output.ensures.known c.in_ok-output.ensures.new
+    output_accepted c.output.new.self c.in_ok-id.id c.in_ok-id.ensures.mentions c.in_ok-id.ensures.number
+    c.in_ok-output.ensures.known c.in_ok-output.ensures.new

@@ -1,14 +1,14 @@
 use Rattle.std.proofs.Common.{arith, [], ◌<◌, length, refl, sym, subst}
 use Rattle.ht_bench.specs.Drafts.{AreNumbersOf}
 use Rattle.ht_bench.proofs.AddErrorLaws.{passes_on}
-use Rattle.ht_bench.proofs.MentionLaws.{no_numbers, step_mentions, step_numbers, step_refuses}
+use Rattle.ht_bench.proofs.MentionLaws.{step_mentions, step_numbers, step_refuses}
 use Rattle.ht_bench.proofs.mention.mention_all.Goals as goal
 
 pub loop-name-init : goal.loop-name-init
 loop-name-init c = record {
   mentions = record { is = refl; is_draft = c.requires };
   numbers = subst (λ ids. AreNumbersOf c.args.builder.now.names ids []) (sym c.new-ids.ensures)
-      (no_numbers c.args.builder.now.names);
+      (λ more. refl);
 }
 
 pub returns-in_err-id-clause-refusal : goal.returns-in_err-id-clause-refusal
