@@ -40,7 +40,8 @@ module _ (c : Netlist) (is : IsCircuit c) (statements : List Statement)
       (arith, there.1, length-map (gate_at c at.0).args (name_of c)) in
       let name : get_or c.names (arg_at c at.0 there.0) []
       ≡ a = sym (get_or-map (name_of c) (gate_at c at.0).args there.0 no_net a inside) ∙ there.2 in
-      let out_name : get_or c.names (first_gate_net c + at.0) [] ≡ b = ap (λ (g : NamedGate). g.out) gate_is ∙ feeds.out in
+      let out_name : get_or c.names (first_gate_net c + at.0) [] ≡ b =
+      ap (λ (g : NamedGate). g.out) gate_is ∙ feeds.out in
       record {
         gate = at.0;
         is_gate = within;

@@ -25,7 +25,8 @@ differ_apart xs ys name differ here there =
 module _ (p q : Name → Bool) (wider : (x : Name) → p x ≡ true → q x ≡ true) (name : Name) (old : p name ≡ false)
     (new : q name ≡ true) where
   no_less : (x : Name) → cond (p x) 1 0 ≤ cond (q x) 1 0
-  no_less x = ⊎_elim (λ (yes : p x ≡ true). omega (arith, ap {B = ℕ} (λ b. cond b 1 0) yes, ap {B = ℕ} (λ b. cond b 1 0) (wider x yes)))
+  no_less x = ⊎_elim
+      (λ (yes : p x ≡ true). omega (arith, ap {B = ℕ} (λ b. cond b 1 0) yes, ap {B = ℕ} (λ b. cond b 1 0) (wider x yes)))
       (λ (no : p x ≡ false). omega (arith, ap {B = ℕ} (λ b. cond b 1 0) no)) (cases_Bool (p x))
 
   counts_more : (others : List Name) → Contains others name → count_by p others + 1 ≤ count_by q others
@@ -63,7 +64,8 @@ counted names (name ∷ more) others few all =
       arith,
       length-append names (name ∷ []),
       counts_more (has_name names) (has_name after) wider name new
-          ((has_name-Decides after name).1 (Contains-push names name)) others (All-head (Contains others) name more all),
+          ((has_name-Decides after name).1 (Contains-push names name)) others
+          (All-head (Contains others) name more all),
     )))
     (cases_Bool (has_name names name))) (All-tail (Contains others) name more all)
 

@@ -39,8 +39,8 @@ module _ (name : Name) where
   driver_more n blank_line = or_none (has_name (drivers n) name)
   driver_more n (output_line net) = or_none (has_name (drivers n) name)
   driver_more n (input_line net) =
-      moved (drivers (with_statement n (input_line net))) (drivers n) n.inputs (dff_outs n.dffs ++ gate_outs n.gates) net
-      (simp append_assoc) (simp append_assoc)
+      moved (drivers (with_statement n (input_line net))) (drivers n) n.inputs (dff_outs n.dffs ++ gate_outs n.gates)
+      net (simp append_assoc) (simp append_assoc)
   driver_more n (dff_line out data_pin) =
       moved (drivers (with_statement n (dff_line out data_pin))) (drivers n) (n.inputs ++ dff_outs n.dffs)
       (gate_outs n.gates) out

@@ -71,5 +71,6 @@ with_names-differ names (name ∷ others) differ =
     differ c.0 (length names) name c.1 (omega (arith, length-append names (name ∷ others)))
     (get_or_append_left names (name ∷ others) name c.0 c.1 ∙ c.2 ∙ sym last)) in
     ap (λ l. with_names l others) (cond-false (has_name names name) names (names ++ name ∷ []) new)
-    ∙ with_names-differ (names ++ name ∷ []) others (subst AllDiffer (sym (append_assoc names (name ∷ []) others)) differ)
+    ∙ with_names-differ (names ++ name ∷ []) others
+    (subst AllDiffer (sym (append_assoc names (name ∷ []) others)) differ)
     ∙ append_assoc names (name ∷ []) others

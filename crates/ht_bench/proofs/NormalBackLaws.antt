@@ -3,7 +3,7 @@
 use Rattle.std.proofs.Common.{◌≡◌, ℕ, List, [], ◌∷◌, true, map, refl, sym, ap, ◌∙◌}
 use Rattle.std.specs.List.{All}
 use Rattle.std.proofs.lemmas.List.Elements.{All-nil, All-cons, All-head, All-weaker, All-contains}
-use Rattle.std.proofs.lemmas.List.Sums.{list_all-from_AllPass}
+use Rattle.std.proofs.lemmas.List.Sums.{list_all-from_AllPass, AllPass-from_list_all}
 use Rattle.ht_net.specs.Netlist.{Netlist, IsCircuit}
 use Rattle.ht_net.specs.Named.{Name, named_of}
 use Rattle.ht_ports.specs.LineRule.{lines_of}
@@ -18,7 +18,7 @@ use Rattle.ht_bench.specs.Text.{IsNetlistOf, IsOfNoCircuit}
 use Rattle.ht_bench.specs.Normal.{normal_text, HasFormatNames}
 use Rattle.ht_bench.specs.declared.error.BenchError.{BenchError}
 use Rattle.ht_bench.specs.declared.error.BenchError.TheVariants.{BadLine, BadName, BadKind, BadCount, Twice, TooMany, Undriven, Loop, NoMemory}
-use Rattle.ht_bench.proofs.AllLaws.{all_from, all_from_test, AreNames, All-flat_map}
+use Rattle.ht_bench.proofs.AllLaws.{all_from, AreNames, All-flat_map}
 use Rattle.ht_bench.proofs.NameListLaws.{has_name-Decides}
 use Rattle.ht_bench.proofs.DriverLaws.{drivers_are}
 use Rattle.ht_bench.proofs.NamedPartLaws.{drivers}
@@ -55,7 +55,7 @@ names_were_read text c is =
     let driven = driven_by is.statements in
     let good : AreNames driven = All-flat_map IsGood driven_in is.statements
     (All-weaker CanBeStated (λ s. AreNames (driven_in s)) (λ s stated. drives_its_names s
-    (all_from_test is_name IsGood (λ name yes. yes) (names_in s) stated.names)) is.statements
+    (AllPass-from_list_all is_name (names_in s) stated.names)) is.statements
     (can_be_stated (lines_of text) is.statements is.read.lines)) in
     let names : drivers (named_of c) ≡ c.names = sym (driven_are (named_of c)) ∙ driven_are_names c is.is_circuit in
     list_all-from_AllPass is_name c.names (all_from IsGood c.names (λ name c_has.

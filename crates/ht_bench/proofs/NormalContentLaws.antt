@@ -8,9 +8,9 @@ use Rattle.std.proofs.lemmas.List.Sums.{fold-append}
 use Rattle.ht_net.specs.Named.{Name, NamedDff, NamedGate, NamedNetlist}
 use Rattle.ht_statement.specs.Statement.{input_line, output_line}
 use Rattle.ht_bench.specs.Different.{with_name, with_names, different}
-use Rattle.ht_bench.specs.Contents.{no_parts, with_statement, named_of_statements, driven_in, driven_by}
+use Rattle.ht_bench.specs.Contents.{with_statement, named_of_statements, driven_by}
 use Rattle.ht_bench.specs.Normal.{dff_statement, gate_statement, named_statements}
-use Rattle.ht_bench.proofs.NamedPartLaws.{dff_outs, drivers}
+use Rattle.ht_bench.proofs.NamedPartLaws.{drivers}
 
 -- ---- what lines of one kind add
 
@@ -49,34 +49,15 @@ flat_self (x ∷ xs) = ap (λ l. x ∷ l) (flat_self xs)
 
 module _ (n : NamedNetlist) where
   pub named_said : named_of_statements (named_statements n) ≡ record n { outputs = different n.outputs }
-  named_said =
-      let inputs = map input_line n.inputs in
-      let outputs = map output_line n.outputs in
-      let dffs = map dff_statement n.dffs in
-      let gates = map gate_statement n.gates in
-      fold-append with_statement no_parts ((inputs ++ outputs) ++ dffs) gates
-      ∙ ap (λ m. fold with_statement m gates) (fold-append with_statement no_parts (inputs ++ outputs) dffs
-      ∙ ap (λ m. fold with_statement m dffs) (fold-append with_statement no_parts inputs outputs
-      ∙ ap (λ m. fold with_statement m outputs) (inputs_said no_parts n.inputs)
-      ∙ outputs_said (record no_parts { inputs = n.inputs }) n.outputs)
-      ∙ dffs_said (record no_parts { inputs = n.inputs; outputs = different n.outputs }) n.dffs)
-      ∙ gates_said (record no_parts { inputs = n.inputs; outputs = different n.outputs; dffs = n.dffs }) n.gates
+  named_said = simp (fold-append, inputs_said, outputs_said, dffs_said, gates_said)
 
   pub driven_are : driven_by (named_statements n) ≡ drivers n
-  driven_are =
-      let inputs = map input_line n.inputs in
-      let outputs = map output_line n.outputs in
-      let dffs = map dff_statement n.dffs in
-      let gates = map gate_statement n.gates in
-      let is_inputs = flat_map-map driven_in input_line n.inputs ∙ flat_self n.inputs in
-      let is_outputs = flat_map-map driven_in output_line n.outputs ∙ flat_none n.outputs in
-      let is_dffs = flat_map-map driven_in dff_statement n.dffs
-      ∙ flat_map_single (λ (d : NamedDff). d.out) n.dffs in
-      let is_gates = flat_map-map driven_in gate_statement n.gates
-      ∙ flat_map_single (λ (g : NamedGate). g.out) n.gates in
-      flat_map-append driven_in ((inputs ++ outputs) ++ dffs) gates
-      ∙ ap (λ l. l ++ driven_by gates) (flat_map-append driven_in (inputs ++ outputs) dffs
-      ∙ ap (λ l. l ++ driven_by dffs) (flat_map-append driven_in inputs outputs
-      ∙ ap (λ l. l ++ driven_by outputs) is_inputs ∙ ap (λ l. n.inputs ++ l) is_outputs ∙ append-nil n.inputs)
-      ∙ ap (λ l. n.inputs ++ l) is_dffs)
-      ∙ ap (λ l. (n.inputs ++ dff_outs n.dffs) ++ l) is_gates
+  driven_are = simp (
+    flat_map-append,
+    flat_map-map,
+    flat_none {A = Name} {B = Name},
+    flat_self {A = Name},
+    flat_map_single (λ (d : NamedDff). d.out),
+    flat_map_single (λ (g : NamedGate). g.out),
+    append-nil,
+  )

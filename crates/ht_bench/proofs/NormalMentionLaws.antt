@@ -1,19 +1,32 @@
 -- The statements of a circuit mention no net but its own, and its gates have as many arguments as they may have.
-use Rattle.std.proofs.Common.{◌+◌, ◌<◌, ◌≤◌, [], ◌∷◌, ◌++◌, length, get_or, map, sym, subst, arith}
+use Rattle.std.proofs.Common.{◌≡◌, ℕ, ◌+◌, ◌<◌, [], ◌∷◌, ◌++◌, true, length, get_or, map, take, refl, sym, subst, arith}
 use Rattle.std.specs.List.{All, Contains}
 use Rattle.std.proofs.lemmas.List.{length-map}
 use Rattle.std.proofs.lemmas.List.Elements.{All-nil, All-cons, All-append, All-map, All-take, All-weaker, All-contains_itself, All-from_get_or, Contains-get_or}
 use Rattle.ht_tern.specs.Gate.{HasArity}
-use Rattle.ht_net.specs.declared.net.NetId.{NetId}
-use Rattle.ht_net.specs.Netlist.{Netlist, IsCircuit, first_gate_net, net_count, gate_at, no_net, max_arguments}
-use Rattle.ht_net.specs.Named.{Name, NamedGate, name_of, named_of}
+use Rattle.ht_net.specs.Netlist.{Netlist, IsCircuit, first_gate_net, net_count, gate_at, no_net}
+use Rattle.ht_net.specs.Named.{Name, NamedDff, NamedGate, NamedNetlist, name_of, named_of}
 use Rattle.ht_statement.specs.Statement.{Statement, input_line, output_line, names_in}
-use Rattle.ht_bench.specs.Normal.{dff_statement, gate_statement, statements_of}
+use Rattle.ht_statement.specs.StatementText.{has_its_count}
+use Rattle.ht_statement.proofs.StatedLaws.{arity_is_count}
+use Rattle.ht_bench.specs.Normal.{dff_statement, gate_statement, named_statements, statements_of}
 use Rattle.ht_bench.proofs.NamedPartLaws.{All-named_dffs, All-named_gates}
 
+All-statements : (P : Statement → Type 0) (n : NamedNetlist) → All (λ name. P (input_line name)) n.inputs
+    → All (λ name. P (output_line name)) n.outputs → All (λ (d : NamedDff). P (dff_statement d)) n.dffs
+    → All (λ (g : NamedGate). P (gate_statement g)) n.gates → All P (named_statements n)
+All-statements P n inputs outputs dffs gates =
+    let in_lines = map input_line n.inputs in
+    let out_lines = map output_line n.outputs in
+    let dff_lines = map dff_statement n.dffs in
+    All-append P ((in_lines ++ out_lines) ++ dff_lines) (map gate_statement n.gates)
+    (All-append P (in_lines ++ out_lines) dff_lines
+    (All-append P in_lines out_lines (All-map P input_line n.inputs inputs) (All-map P output_line n.outputs outputs))
+    (All-map P dff_statement n.dffs dffs)) (All-map P gate_statement n.gates gates)
+
 module _ (c : Netlist) (is : IsCircuit c) where
-  net_has_name : (net : NetId) → net.0 < net_count c → Contains c.names (name_of c net)
-  net_has_name net below = let named = is.named in Contains-get_or c.names net.0 [] (omega arith)
+  has_net : (x : ℕ) → x < net_count c → Contains c.names (get_or c.names x [])
+  has_net x below = let named = is.named in Contains-get_or c.names x [] (omega arith)
 
   abbrev IsMade : Statement → Type 0
   IsMade s = All (Contains c.names) (names_in s)
@@ -21,58 +34,32 @@ module _ (c : Netlist) (is : IsCircuit c) where
   only_one : (name : Name) → Contains c.names name → All (Contains c.names) (name ∷ [])
   only_one name has = All-cons (Contains c.names) name [] has (All-nil (Contains c.names))
 
-  inputs_made : All IsMade (map input_line (named_of c).inputs)
-  inputs_made =
-      All-map IsMade input_line (named_of c).inputs
-      (All-weaker (Contains c.names) (λ name. IsMade (input_line name)) only_one (named_of c).inputs
+  -- each name in each statement is a net's
+  pub statements_made : All (λ s. All (Contains c.names) (names_in s)) (statements_of c)
+  statements_made = All-statements IsMade (named_of c)
+      (All-weaker (Contains c.names) (λ name. IsMade (input_line name)) only_one (take c.inputs c.names)
       (All-take (Contains c.names) c.inputs c.names (All-contains_itself c.names)))
-
-  outputs_made : All IsMade (map output_line (named_of c).outputs)
-  outputs_made =
-      All-map IsMade output_line (named_of c).outputs
       (All-map (λ name. IsMade (output_line name)) (name_of c) c.outputs
       (All-from_get_or (λ net. IsMade (output_line (name_of c net))) c.outputs no_net
       (λ o below. only_one (name_of c (get_or c.outputs o no_net))
-      (net_has_name (get_or c.outputs o no_net) (is.outputs_known o below)))))
-
-  dffs_made : All IsMade (map dff_statement (named_of c).dffs)
-  dffs_made =
-      All-map IsMade dff_statement (named_of c).dffs
-      (All-named_dffs c c.inputs (λ d. IsMade (dff_statement d)) c.dffs
-      (λ j inside.
-      let named = is.named in
+      (has_net (get_or c.outputs o no_net).0 (is.outputs_known o below)))))
+      (All-named_dffs c c.inputs (λ d. IsMade (dff_statement d)) c.dffs (λ j inside.
       All-cons (Contains c.names) (get_or c.names (c.inputs + j) []) (name_of c (get_or c.dffs j no_net) ∷ [])
-      (Contains-get_or c.names (c.inputs + j) [] (omega arith))
-      (only_one (name_of c (get_or c.dffs j no_net))
-      (net_has_name (get_or c.dffs j no_net) (is.data_known j inside)))))
-
-  gates_made : All IsMade (map gate_statement (named_of c).gates)
-  gates_made =
-      All-map IsMade gate_statement (named_of c).gates
-      (All-named_gates c (first_gate_net c) (λ g. IsMade (gate_statement g)) c.gates
-      (λ g inside.
-      let named = is.named in
+      (has_net (c.inputs + j) (omega arith))
+      (only_one (name_of c (get_or c.dffs j no_net)) (has_net (get_or c.dffs j no_net).0 (is.data_known j inside)))))
+      (All-named_gates c (first_gate_net c) (λ g. IsMade (gate_statement g)) c.gates (λ g inside.
       All-cons (Contains c.names) (get_or c.names (first_gate_net c + g) []) (map (name_of c) (gate_at c g).args)
-      (Contains-get_or c.names (first_gate_net c + g) [] (omega arith))
+      (has_net (first_gate_net c + g) (omega arith))
       (All-map (Contains c.names) (name_of c) (gate_at c g).args
       (All-from_get_or (λ net. Contains c.names (name_of c net)) (gate_at c g).args no_net
-      (λ i within. net_has_name (get_or (gate_at c g).args i no_net) (is.known g i inside within))))))
+      (λ i within. has_net (get_or (gate_at c g).args i no_net).0 (is.known g i inside within))))))
 
-  -- each name in each statement is a net's
-  pub statements_made : All (λ s. All (Contains c.names) (names_in s)) (statements_of c)
-  statements_made =
-      let n = named_of c in
-      All-append IsMade ((map input_line n.inputs ++ map output_line n.outputs) ++ map dff_statement n.dffs)
-      (map gate_statement n.gates)
-      (All-append IsMade (map input_line n.inputs ++ map output_line n.outputs) (map dff_statement n.dffs)
-      (All-append IsMade (map input_line n.inputs) (map output_line n.outputs) inputs_made outputs_made) dffs_made)
-      gates_made
-
-  -- each gate has as many arguments as its kind may have
-  pub gates_have_counts : All (λ (g : NamedGate). HasArity g.kind (length g.args) × (length g.args ≤ max_arguments))
-      (named_of c).gates
-  gates_have_counts = All-named_gates c (first_gate_net c)
-      (λ (g : NamedGate). HasArity g.kind (length g.args) × (length g.args ≤ max_arguments)) c.gates (λ g inside.
+  pub have_counts : All (λ s. has_its_count s ≡ true) (statements_of c)
+  have_counts =
+      let HasIts : Statement → Type 0 = λ s. has_its_count s ≡ true in
+      All-statements HasIts (named_of c) (λ k d below. refl) (λ k d below. refl) (λ k d below. refl)
+      (All-named_gates c (first_gate_net c) (λ g. HasIts (gate_statement g)) c.gates (λ g inside.
       let count = length-map (gate_at c g).args (name_of c) in
       let few = is.few_args g inside in
-      (subst (HasArity (gate_at c g).kind) (sym count) (is.arities g inside), omega arith))
+      arity_is_count (gate_at c g).kind (length (map (name_of c) (gate_at c g).args))
+      (subst (HasArity (gate_at c g).kind) (sym count) (is.arities g inside)) (omega arith)))

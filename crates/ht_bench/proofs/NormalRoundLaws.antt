@@ -5,17 +5,15 @@ use Rattle.std.specs.List.{All, Contains}
 use Rattle.std.proofs.lemmas.Bool.{cond-false, not_from_true}
 use Rattle.std.proofs.lemmas.List.{length-append, length-take}
 use Rattle.std.proofs.lemmas.List.Concat.{flat_map-append}
-use Rattle.std.proofs.lemmas.List.Sums.{fold-append, sum_by_push, list_all-from_AllPass}
-use Rattle.std.proofs.lemmas.List.Elements.{All-nil, All-append, All-head, All-tail, All-map, All-weaker, All-contains, Contains-append_left, Contains-get_or}
-use Rattle.ht_tern.specs.Gate.{HasArity}
+use Rattle.std.proofs.lemmas.List.Sums.{fold-append, sum_by_push, list_all-from_AllPass, AllPass-from_list_all}
+use Rattle.std.proofs.lemmas.List.Elements.{All-nil, All-head, All-tail, All-weaker, All-contains, Contains-append_left, Contains-get_or}
 use Rattle.ht_net.specs.Lists.{AllDiffer}
-use Rattle.ht_net.specs.Netlist.{Netlist, IsCircuit, max_arguments}
+use Rattle.ht_net.specs.Netlist.{Netlist, IsCircuit}
 use Rattle.ht_net.specs.Named.{Name, NamedGate, NamedNetlist, named_of}
 use Rattle.ht_statement.specs.Name.{is_name}
 use Rattle.ht_statement.specs.Statement.{Statement, blank_line, input_line, output_line, dff_line, gate_line, names_in}
 use Rattle.ht_statement.specs.Reading.{stated, reading_of}
-use Rattle.ht_statement.specs.StatementText.{statement_text, has_its_count, CanBeStated}
-use Rattle.ht_statement.proofs.StatedLaws.{arity_is_count}
+use Rattle.ht_statement.specs.StatementText.{statement_text, CanBeStated}
 use Rattle.ht_statement.proofs.StatementTextLaws.{normal_reads}
 use Rattle.ht_bench.specs.Different.{has_name}
 use Rattle.ht_bench.specs.Contents.{no_parts, with_statement, named_of_statements, named_pins, driven_in, driven_by, mentions_of, stated_nets}
@@ -23,7 +21,7 @@ use Rattle.ht_bench.specs.Accepted.{limit_passed, second_driver, reading_error}
 use Rattle.ht_bench.specs.Role.{line_of}
 use Rattle.ht_bench.specs.EndOfText.{undriven_refusal}
 use Rattle.ht_bench.specs.Text.{IsNetlistOf, readings_of, refusal_after}
-use Rattle.ht_bench.specs.Normal.{dff_statement, gate_statement, statements_of, normal_text, HasFormatNames}
+use Rattle.ht_bench.specs.Normal.{statements_of, normal_text, HasFormatNames}
 use Rattle.ht_bench.specs.declared.find_line.Role.TheVariants.{Mentioned}
 use Rattle.ht_bench.specs.declared.error.BenchError.TheVariants.{Undriven}
 use Rattle.ht_bench.proofs.NamedPartLaws.{named_dffs_count}
@@ -31,10 +29,10 @@ use Rattle.ht_bench.proofs.NameListLaws.{has_name-Decides, has_no_name, All-with
 use Rattle.ht_bench.proofs.LimitLaws.{within_passes_none}
 use Rattle.ht_bench.proofs.ProgressLaws.{refusal_by, no_error}
 use Rattle.ht_bench.proofs.NormalLineLaws.{lines_of_statements}
-use Rattle.ht_bench.proofs.AllLaws.{all_from_test, AreNames, All-left, All-flat_map}
+use Rattle.ht_bench.proofs.AllLaws.{AreNames, All-left, All-flat_map}
 use Rattle.ht_bench.proofs.DifferLaws.{differ_apart, length-different}
 use Rattle.ht_bench.proofs.NormalNameLaws.{driven_are_names, statements_say, pins_are}
-use Rattle.ht_bench.proofs.NormalMentionLaws.{statements_made, gates_have_counts}
+use Rattle.ht_bench.proofs.NormalMentionLaws.{statements_made, have_counts}
 
 -- ---- each line is read
 
@@ -155,29 +153,10 @@ module _ (c : Netlist) (is : IsCircuit c) where
 
   -- ---- the statements can be stated
 
-  have_counts : All (λ s. has_its_count s ≡ true) (statements_of c)
-  have_counts =
-      let n = named_of c in
-      let HasIts : Statement → Type 0 = λ s. has_its_count s ≡ true in
-      let gates : All HasIts (map gate_statement n.gates) =
-      All-map HasIts gate_statement n.gates
-      (All-weaker (λ (g : NamedGate). HasArity g.kind (length g.args) × (length g.args ≤ max_arguments))
-      (λ g. HasIts (gate_statement g))
-      (λ g has. arity_is_count g.kind (length g.args) has.0 has.1) n.gates (gates_have_counts c is)) in
-      All-append HasIts ((map input_line n.inputs ++ map output_line n.outputs) ++ map dff_statement n.dffs)
-      (map gate_statement n.gates)
-      (All-append HasIts (map input_line n.inputs ++ map output_line n.outputs) (map dff_statement n.dffs)
-      (All-append HasIts (map input_line n.inputs) (map output_line n.outputs)
-      (All-map HasIts input_line n.inputs (λ k d below. refl))
-      (All-map HasIts output_line n.outputs (λ k d below. refl)))
-      (All-map HasIts dff_statement n.dffs (λ k d below. refl)))
-      gates
-
   module _ (good : HasFormatNames c) where
     have_names : All (λ s. AreNames (names_in s)) (statements_of c)
     have_names =
-        let all : AreNames c.names = all_from_test is_name (λ name. is_name name ≡ true) (λ name yes. yes) c.names good
-        in
+        let all = AllPass-from_list_all is_name c.names good in
         All-weaker (λ s. All (Contains c.names) (names_in s)) (λ s. AreNames (names_in s))
         (λ s made. All-weaker (Contains c.names) (λ name. is_name name ≡ true)
         (λ name has. All-contains (λ n. is_name n ≡ true) c.names name all has) (names_in s) made)
@@ -186,7 +165,7 @@ module _ (c : Netlist) (is : IsCircuit c) where
     can_be_stated : All CanBeStated (statements_of c)
     can_be_stated k d below =
         let s = get_or (statements_of c) k d in
-        record { names = list_all-from_AllPass is_name (names_in s) (have_names k d below); count = have_counts k d below }
+        record { names = list_all-from_AllPass is_name (names_in s) (have_names k d below); count = have_counts c is k d below }
 
     pub normal_is_netlist : IsNetlistOf (normal_text c) c
     normal_is_netlist =

@@ -1,19 +1,18 @@
 -- Reading a text line by line.
-use Rattle.std.proofs.Common.{◌≡◌, ⊎_elim, ℕ, ◌<◌, ◌≤◌, ◌+◌, List, [], ◌∷◌, ◌++◌, length, map, refl, sym, ◌∙◌, ap, subst, append_assoc, arith}
-use Rattle.std.specs.Prelude.{Option, Some, None, option_map}
+use Rattle.std.proofs.Common.{◌≡◌, ℕ, ◌<◌, ◌≤◌, ◌+◌, List, [], ◌∷◌, ◌++◌, length, map, refl, sym, ◌∙◌, ap, append_assoc, arith}
+use Rattle.std.specs.Prelude.{Option, None, option_map}
 use Rattle.std.specs.Option.{option_or}
 use Rattle.std.proofs.lemmas.List.{length-append, map_push}
 use Rattle.ht_ports.specs.LineRule.{lines_of}
 use Rattle.ht_net.specs.Draft.{Draft}
 use Rattle.ht_statement.specs.Statement.{Statement}
 use Rattle.ht_statement.specs.Reading.{Reading, stated, reading_of}
-use Rattle.ht_statement.specs.declared.error.LineRefusal.TheVariants.{BadLine, BadName, BadKind, BadCount}
 use Rattle.ht_bench.specs.Accepted.{second_driver, limit_passed, driver_or_limit, reading_error}
 use Rattle.ht_bench.specs.AddErrors.{error_at}
-use Rattle.ht_bench.specs.Text.{readings_of, statement_in, refusal_after, refusal_of, Refuses}
-use Rattle.ht_bench.specs.Drafts.{IsDraftOf, AddsLine, RefusesLine}
+use Rattle.ht_bench.specs.Text.{readings_of, statement_in, refusal_after, refusal_of}
+use Rattle.ht_bench.specs.Drafts.{IsDraftOf, AddsLine}
 use Rattle.ht_bench.specs.declared.add_error.AddError.{AddError}
-use Rattle.ht_bench.specs.declared.add_error.AddError.TheVariants.{Refused, SecondDriver, Limit, NoMemory}
+use Rattle.ht_bench.specs.declared.add_error.AddError.TheVariants.{Limit}
 
 -- some lines are read and the rest is not; the draft is that of the statements so far
 pub record IsReading (text rest : List ℕ) (count : ℕ) (d : Draft) : Type 0 where
@@ -54,16 +53,6 @@ pub no_error : (before : List Statement) (s : Statement) → second_driver befor
 no_error before s free limits = ap (λ net. driver_or_limit net (limit_passed (before ++ s ∷ []))) free
     ∙ ap (option_map Limit) limits
 
-refuses_at : (text : List ℕ) (error : AddError) (line : ℕ) → refusal_of text ≡ Some (error_at error line)
-    → Refuses text (error_at error line)
-refuses_at text (Refused BadLine) line e = e
-refuses_at text (Refused BadName) line e = e
-refuses_at text (Refused BadKind) line e = e
-refuses_at text (Refused BadCount) line e = e
-refuses_at text (SecondDriver name) line e = e
-refuses_at text (Limit what) line e = e
-refuses_at text NoMemory line e = tt
-
 module _ (text rest line more : List ℕ) (count : ℕ) (old : Draft) (is : IsReading text rest count old)
     (first : lines_of rest ≡ line ∷ lines_of more) where
   refusal_here : refusal_of text ≡ refusal_after is.before (reading_of line ∷ readings_of more)
@@ -88,11 +77,3 @@ module _ (text rest line more : List ℕ) (count : ℕ) (old : Draft) (is : IsRe
         short = omega (arith, is.short, shorter);
         draft = r.1;
       }
-
-  pub line_refused : (error : AddError) → RefusesLine old line error → Refuses text (error_at error (count + 1))
-  line_refused error refused =
-      ⊎_elim (λ (memory : error ≡ NoMemory). subst (λ e. Refuses text (error_at e (count + 1))) (sym memory) tt)
-      (λ (found : reading_error is.before (reading_of line) ≡ Some error).
-      refuses_at text error (count + 1) (refusal_here
-      ∙ refusal_by is.before (reading_of line) (readings_of more) (Some error) found
-      ∙ ap (λ n. Some (error_at error (n + 1))) (sym is.is_count))) (refused is.before is.draft)

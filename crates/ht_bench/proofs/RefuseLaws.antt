@@ -56,7 +56,12 @@ module _ (before : List Statement) (s : Statement) (free : second_driver before 
       subst (λ e. IsAddError e (reading_error before (stated s))) (sym many.0)
       (let n = named_of_statements (before ++ s ∷ []) in
       limit_refuses Nets (passes_nets (length (stated_nets (before ++ s ∷ []))) (named_pins n) (length n.inputs)
-      (length n.dffs) (omega (arith, many.1, ap (λ l. length (with_names l (names_in s))) is.names, ap length (nets_push before s))))))
+      (length n.dffs) (omega (
+        arith,
+        many.1,
+        ap (λ l. length (with_names l (names_in s))) is.names,
+        ap length (nets_push before s),
+      )))))
       refused
 
   -- the limit that a draft with the statement's names passes with the statement

@@ -13,7 +13,8 @@ use Rattle.ht_bench.specs.declared.add_error.AddError.TheVariants.{Refused, Seco
 
 -- the first limit that so many nets, pins, inputs and flip-flops pass
 abbrev pub limit_passed_by : ℕ → ℕ → ℕ → ℕ → Option NetLimit
-limit_passed_by nets pins inputs dffs = cond (ltb max_nets nets) (Some Nets) (cond (ltb max_pins pins) (Some Pins)
+limit_passed_by nets pins inputs dffs = cond (ltb max_nets nets) (Some Nets)
+    (cond (ltb max_pins pins) (Some Pins)
     (cond (ltb max_inputs inputs) (Some Inputs) (cond (ltb max_dffs dffs) (Some Dffs) None)))
 
 -- the first limit that statements pass
@@ -33,4 +34,5 @@ driver_or_limit None limit = option_map Limit limit
 -- why a line isn't accepted after these statements, if it isn't
 abbrev pub reading_error : List Statement → Reading → Option AddError
 reading_error before (unreadable refusal) = Some (Refused refusal)
-reading_error before (stated s) = driver_or_limit (second_driver before s) (limit_passed (before ++ s ∷ []))
+reading_error before (stated s) = driver_or_limit (second_driver before s)
+    (limit_passed (before ++ s ∷ []))

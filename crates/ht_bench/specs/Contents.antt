@@ -43,7 +43,8 @@ stated_nets statements = different (mentions_of statements)
 
 -- the place of a net in the order of first mention
 abbrev pub mention_rank : List Statement → Name → ℕ
-mention_rank statements name = position_or_len (λ other. bytes_eq other name) (stated_nets statements)
+mention_rank statements name = position_or_len (λ other. bytes_eq other name)
+    (stated_nets statements)
 
 -- pins are the data pins of flip-flops and the arguments of gates
 abbrev pub named_pins : NamedNetlist → ℕ

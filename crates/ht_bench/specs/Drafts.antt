@@ -23,14 +23,16 @@ IsNumberOf names id name = IsNameAt names id.0 name
 
 -- numbers of these names, whatever names come after
 abbrev pub AreNumbersOf : List Name → List NameId → List Name → Type 0
-AreNumbersOf names ids texts = (more : List Name) → map (λ (id : NameId). get_or (names ++ more) id.0 []) ids ≡ texts
+AreNumbersOf names ids texts = (more : List Name)
+    → map (λ (id : NameId). get_or (names ++ more) id.0 []) ids ≡ texts
 
 abbrev pub longer : Draft → List Name → Draft
 longer d more = record d { names = d.names ++ more }
 
 -- a draft says by names what the statements say, whatever names come after
 abbrev pub Says : List Statement → Draft → Type 0
-Says statements d = (more : List Name) → named_draft (longer d more) ≡ named_of_statements statements
+Says statements d = (more : List Name)
+    → named_draft (longer d more) ≡ named_of_statements statements
 
 pub record IsDraftOf (statements : List Statement) (d : Draft) : Type 0 where
   pub names : d.names ≡ stated_nets statements
@@ -44,7 +46,8 @@ pub record Mentions (old : Draft) (names : List Name) (new : Draft) : Type 0 whe
   pub is_draft : IsDraft new
 
 -- a draft in which names are mentioned, and this is the number of one that no line drives so far
-pub record MentionsFree (old : Draft) (names : List Name) (name : Name) (id : NameId) (new : Draft) : Type 0 where
+pub record MentionsFree (old : Draft) (names : List Name) (name : Name) (id : NameId)
+    (new : Draft) : Type 0 where
   pub mentions : Mentions old names new
   pub number : IsNumberOf new.names id name
   pub free : ¬ IsDriven new id

@@ -12,7 +12,8 @@ use Rattle.ht_bench.specs.declared.error.BenchError.TheVariants.{Undriven}
 
 -- the net that is mentioned first of those that no line drives: the leftmost on the first line that mentions one
 abbrev pub first_undriven : List Statement → Option Name
-first_undriven statements = find (λ net. not (has_name (driven_by statements) net)) (stated_nets statements)
+first_undriven statements = find (λ net. not (has_name (driven_by statements) net))
+    (stated_nets statements)
 
 abbrev pub undriven_refusal : List Statement → Option BenchError
 undriven_refusal statements = option_map (λ net. Undriven (line_of Mentioned statements net) net)
@@ -29,5 +30,5 @@ pub record Feeds (statements : List Statement) (a b : Name) : Type 0 where
 -- that drives the first; the first is the one that is mentioned first.
 pub record IsNetCycle (statements : List Statement) (cycle : List Name) : Type 0 where
   pub is_cycle : IsCycle (Feeds statements) cycle
-  pub least : (k : ℕ) → k < length cycle → mention_rank statements (get_or cycle 0 []) ≤ mention_rank statements
-      (get_or cycle k [])
+  pub least : (k : ℕ) → k < length cycle → mention_rank statements (get_or cycle 0 [])
+      ≤ mention_rank statements (get_or cycle k [])

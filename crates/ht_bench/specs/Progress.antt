@@ -26,5 +26,5 @@ pub record HasNet (text : List ℕ) (role : Role) (name : Name) : Type 0 where
 
 -- the number of the first line that has it
 abbrev pub IsFirstLine : List ℕ → Role → Name → ℕ → Type 0
-IsFirstLine text role name number = (statements : List Statement) → readings_of text ≡ map stated statements
-    → number ≡ line_of role statements name
+IsFirstLine text role name number = (statements : List Statement)
+    → readings_of text ≡ map stated statements → number ≡ line_of role statements name

@@ -32,7 +32,8 @@ statement_in (unreadable refusal) = []
 abbrev pub refusal_after : List Statement → List Reading → Option BenchError
 refusal_after before [] = undriven_refusal before
 refusal_after before (reading ∷ readings) =
-    option_or (option_map (λ error. error_at error (length before + 1)) (reading_error before reading))
+    option_or
+    (option_map (λ error. error_at error (length before + 1)) (reading_error before reading))
     (refusal_after (before ++ statement_in reading) readings)
 
 -- the refusal of a text, cycles of gates apart
