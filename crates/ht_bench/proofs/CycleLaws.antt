@@ -10,7 +10,7 @@ use Rattle.ht_statement.specs.Statement.{Statement}
 use Rattle.ht_bench.specs.Contents.{named_of_statements}
 use Rattle.ht_bench.specs.EndOfText.{Feeds}
 use Rattle.ht_bench.proofs.NamedPartLaws.{no_named_gate, gate_named, named_gates_count, get_or-named_gates}
-use Rattle.ht_bench.proofs.PlaceLaws.{place_in, place_at}
+use Rattle.ht_bench.proofs.NameListLaws.{place_in, place_at}
 
 -- a pin of a gate in a circuit, by the places of its net and of the gate's net
 pub record IsPin (c : Netlist) (a b : Name) : Type 0 where

@@ -23,7 +23,7 @@ use Rattle.ht_bench.specs.declared.error.BenchError.TheVariants.{Undriven}
 use Rattle.ht_bench.proofs.NameListLaws.{has_name-Decides, All-with_names}
 use Rattle.ht_bench.proofs.SaysLaws.{driven_is, is_driven, says_named}
 
-module _ (text : List ℕ) (d : Draft) (is : IsRead text d) where
+module _ {text : List ℕ} {d : Draft} (is : IsRead text d) where
   -- whether a net of the draft is driven
   net_driven : (id : NameId) → IsName d id → IsDriven d id → has_name (driven_by is.statements) (draft_name d id) ≡ true
   net_driven id known driven = driven_is is.statements d is.draft.says is.draft.names_differ id (draft_name d id)

@@ -51,7 +51,7 @@ nothing_before text role name has = record {
       omega (arith, same);
 }
 
-module _ (text rest line more : List ℕ) (count : ℕ) (role : Role) (name : Name)
+module _ {text rest : List ℕ} (line more : List ℕ) {count : ℕ} {role : Role} {name : Name}
     (is : IsAhead text rest count role name) (first : lines_of rest ≡ line ∷ lines_of more) where
   next_stated : FirstStated (reading_of line) (readings_of more) is.after
   next_stated = first_stated (reading_of line) (readings_of more) is.after
@@ -90,9 +90,9 @@ module _ (text rest line more : List ℕ) (count : ℕ) (role : Role) (name : Na
     }
 
 -- the line comes before the text ends
-pub not_at_end : (text rest : List ℕ) (count : ℕ) (role : Role) (name : Name) → IsAhead text rest count role name
+pub not_at_end : {text rest : List ℕ} {count : ℕ} {role : Role} {name : Name} → IsAhead text rest count role name
     → rest ≡ [] → ⊥
-not_at_end text rest count role name is none = ended is.after (ap readings_of (sym none) ∙ is.rest_lines) is.has
+not_at_end {text} {rest} {count} {role} {name} is none = ended is.after (ap readings_of (sym none) ∙ is.rest_lines) is.has
   where
     ended : (after : List Statement) → [] ≡ map stated after → has_name (flat_map (nets_in role) after) name ≡ true → ⊥
     ended [] e has = cc

@@ -1,7 +1,6 @@
 pub mod LineLaws
 pub mod ListLaws
 pub mod NameListLaws
-pub mod PlaceLaws
 pub mod DifferLaws
 pub mod LimitLaws
 pub mod NamedPartLaws
@@ -12,7 +11,6 @@ pub mod MentionLaws
 pub mod AddLaws
 pub mod RefuseLaws
 pub mod StatementLaws
-pub mod CountLaws
 pub mod ProgressLaws
 pub mod OneOfLaws
 pub mod FindLineLaws
@@ -23,10 +21,8 @@ pub mod CycleLaws
 pub mod ExcludeLaws
 pub mod NormalLaws
 pub mod AllLaws
-pub mod NormalLineLaws
 pub mod NormalContentLaws
 pub mod NormalNameLaws
-pub mod NormalMentionLaws
 pub mod OneLaws
 pub mod NormalRoundLaws
 pub mod NormalBackLaws

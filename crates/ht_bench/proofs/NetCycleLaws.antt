@@ -15,7 +15,7 @@ use Rattle.ht_bench.specs.Text.{IsLoop}
 use Rattle.ht_bench.specs.Progress.{IsRead, HasNet, IsFirstLine}
 use Rattle.ht_bench.specs.declared.find_line.Role.TheVariants.{Driven}
 use Rattle.ht_bench.proofs.NamedPartLaws.{no_named_gate}
-use Rattle.ht_bench.proofs.PlaceLaws.{place_in, place_at}
+use Rattle.ht_bench.proofs.NameListLaws.{place_in, place_at}
 use Rattle.ht_bench.proofs.SaysLaws.{gate_by_name, says_named, known_drivers}
 use Rattle.ht_bench.proofs.EndOfTextLaws.{net_is_driven, accepted_text}
 
@@ -25,7 +25,7 @@ mapped_at : {A B : Type 0} (f : A → B) (xs : List A) (k : ℕ) (d : A) (e : B)
 mapped_at f xs k d e lt = subst (Contains (map f xs)) (get_or-map f xs k d e lt)
     (Contains-get_or (map f xs) k e (omega (arith, lt, length-map xs f)))
 
-module _ (text : List ℕ) (d : Draft) (is : IsRead text d) where
+module _ {text : List ℕ} {d : Draft} (is : IsRead text d) where
   place_is : (id : NameId) → IsName d id → mention_rank is.statements (draft_name d id) ≡ id.0
   place_is id known = ap (λ l. place_in l (draft_name d id)) (sym is.draft.names) ∙ place_at d.names id.0
       is.draft.names_differ known
@@ -90,14 +90,14 @@ module _ (text : List ℕ) (d : Draft) (is : IsRead text d) where
     pub first_is_driven : AllDriven d → HasNet text Driven (draft_name d (get_or nets 0 no_name))
     first_is_driven all =
         let known = known_net 0 cycle.some in
-        net_is_driven text d is (get_or nets 0 no_name) known (all (get_or nets 0 no_name) known)
+        net_is_driven is (get_or nets 0 no_name) known (all (get_or nets 0 no_name) known)
 
     pub loop_found : AllDriven d → BeginsWithLeast nets → (number : ℕ)
         → IsFirstLine text Driven (draft_name d (get_or nets 0 no_name)) number
         → IsLoop text number (map (draft_name d) nets)
     loop_found all least number first = record {
       statements = is.statements;
-      read = accepted_text text d is all;
+      read = accepted_text is all;
       is_cycle = cycle_is least;
       line = subst (λ n. IsFirstLine text Driven n number)
           (sym (get_or-map (draft_name d) nets 0 no_name [] cycle.some)) first is.statements is.lines;

@@ -1,7 +1,6 @@
 -- The normal text of a circuit is a netlist of that circuit.
 use Rattle.std.proofs.Common.{◌≡◌, ℕ, ◌≤◌, List, [], ◌∷◌, ◌++◌, Bool, true, false, not, length, get_or, map, append_assoc, append-nil, refl, sym, ap, subst, ◌∙◌, arith}
-use Rattle.std.specs.Prelude.{fold, find, Some, None, option_map}
-use Rattle.std.specs.List.{All, Contains}
+use Rattle.std.specs.Prelude.{fold, find, Some, None, option_map, All, Contains}
 use Rattle.std.proofs.lemmas.Bool.{cond-false, not_from_true}
 use Rattle.std.proofs.lemmas.List.{length-append, length-take}
 use Rattle.std.proofs.lemmas.List.Concat.{flat_map-append}
@@ -28,11 +27,11 @@ use Rattle.ht_bench.proofs.NamedPartLaws.{named_dffs_count}
 use Rattle.ht_bench.proofs.NameListLaws.{has_name-Decides, has_no_name, All-with_names}
 use Rattle.ht_bench.proofs.LimitLaws.{within_passes_none}
 use Rattle.ht_bench.proofs.ProgressLaws.{refusal_by, no_error}
-use Rattle.ht_bench.proofs.NormalLineLaws.{lines_of_statements}
+use Rattle.ht_bench.proofs.LineLaws.{lines_of_statements}
 use Rattle.ht_bench.proofs.AllLaws.{AreNames, All-left, All-flat_map}
 use Rattle.ht_bench.proofs.DifferLaws.{differ_apart, length-different}
 use Rattle.ht_bench.proofs.NormalNameLaws.{driven_are_names, statements_say, pins_are}
-use Rattle.ht_bench.proofs.NormalMentionLaws.{statements_made, have_counts}
+use Rattle.ht_bench.proofs.NormalContentLaws.{statements_made, have_counts}
 
 -- ---- each line is read
 

@@ -9,7 +9,7 @@ use Rattle.ht_net.specs.Netlist.{Netlist, Gate, IsCircuit, first_gate_net, no_ga
 use Rattle.ht_net.specs.Named.{Name, NamedDff, NamedGate, NamedNetlist, name_of, named_dffs, named_gates, named_of}
 use Rattle.ht_bench.specs.Contents.{named_of_statements}
 use Rattle.ht_bench.specs.Text.{IsNetlistOf}
-use Rattle.ht_bench.proofs.PlaceLaws.{place_in, place_at}
+use Rattle.ht_bench.proofs.NameListLaws.{place_in, place_at}
 use Rattle.ht_bench.proofs.StatedLaws.{same_statements}
 use Rattle.ht_bench.proofs.NamedPartLaws.{drivers}
 use Rattle.ht_bench.proofs.NormalContentLaws.{driven_are}

@@ -53,14 +53,14 @@ pub no_error : (before : List Statement) (s : Statement) → second_driver befor
 no_error before s free limits = ap (λ net. driver_or_limit net (limit_passed (before ++ s ∷ []))) free
     ∙ ap (option_map Limit) limits
 
-module _ (text rest line more : List ℕ) (count : ℕ) (old : Draft) (is : IsReading text rest count old)
+module _ {text rest : List ℕ} (line more : List ℕ) {count : ℕ} {old : Draft} (is : IsReading text rest count old)
     (first : lines_of rest ≡ line ∷ lines_of more) where
   refusal_here : refusal_of text ≡ refusal_after is.before (reading_of line ∷ readings_of more)
   refusal_here = is.refusal ∙ ap (refusal_after is.before) (readings_from rest line more first)
 
-  pub reading_more : length more < length rest → (new : Draft) → AddsLine old line new
+  pub reading_more : length more < length rest → {new : Draft} → AddsLine old line new
       → IsReading text more (count + 1) new
-  reading_more shorter new adds =
+  reading_more shorter {new} adds =
       let s = adds.statement in
       let r = adds.accepts is.before is.draft in
       record {

@@ -65,19 +65,16 @@ module _ (before : List Statement) (s : Statement) (free : second_driver before 
       refused
 
   -- the limit that a draft with the statement's names passes with the statement
-  pub passes : (old d : Draft) (what : NetLimit) → IsDraftOf before old → Mentions old (names_in s) d
+  pub passes : {old d : Draft} (what : NetLimit) → IsDraftOf before old → Mentions old (names_in s) d
       → limit_passed_by (length d.names) (named_pins (with_statement (named_of_statements before) s))
       (length (with_statement (named_of_statements before) s).inputs)
       (length (with_statement (named_of_statements before) s).dffs) ≡ Some what
       → IsAddError (Limit what) (reading_error before (stated s))
-  passes old d what is m passed =
+  passes {old} {d} what is m passed =
       let nets = nets_are before s old d is m in
       let named = named_push before s in
-      limit_refuses what (subst (λ l. limit_passed_by (length l) (named_pins (named_of_statements (before ++ s ∷ [])))
-      (length (named_of_statements (before ++ s ∷ [])).inputs) (length (named_of_statements (before ++ s ∷ [])).dffs)
-      ≡ Some what) nets
-      (subst (λ n. limit_passed_by (length d.names) (named_pins n) (length n.inputs) (length n.dffs) ≡ Some what)
-      (sym named) passed))
+      let all : limit_passed (before ++ s ∷ []) ≡ Some what = cc in
+      limit_refuses what all
 
 -- ---- the net that a statement drives, and the others
 

@@ -15,10 +15,9 @@ use Rattle.ht_statement.specs.Statement.{Statement}
 use Rattle.ht_bench.specs.Different.{has_name}
 use Rattle.ht_bench.specs.Contents.{named_of_statements, driven_by, named_pins}
 use Rattle.ht_bench.specs.Drafts.{IsNumberOf, AreNumbersOf, Says, Mentions, longer}
-use Rattle.ht_bench.proofs.NameListLaws.{has_name-Decides, with_names-grow}
+use Rattle.ht_bench.proofs.NameListLaws.{has_name-Decides, with_names-grow, one_place}
 use Rattle.ht_bench.proofs.NamedPartLaws.{drivers}
 use Rattle.ht_bench.proofs.DriverLaws.{drivers_are}
-use Rattle.ht_bench.proofs.PlaceLaws.{one_place}
 
 -- a longer list of names keeps the numbers
 pub number_stays : (names more : List Name) (id : NameId) (name : Name) → IsNumberOf names id name

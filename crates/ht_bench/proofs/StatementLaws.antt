@@ -1,7 +1,6 @@
 -- When a statement is accepted after those of a draft, and why a builder refuses it.
 use Rattle.std.proofs.Common.{◌≡◌, inl, ◌+◌, List, [], ◌∷◌, ◌++◌, length, get_or, refl, sym, ◌∙◌, ap, arith}
-use Rattle.std.specs.Prelude.{None}
-use Rattle.std.specs.List.{Contains}
+use Rattle.std.specs.Prelude.{None, Contains}
 use Rattle.std.proofs.lemmas.List.{length-append, length-map}
 use Rattle.std.proofs.lemmas.List.Sums.{sum_by_push}
 use Rattle.ht_tern.specs.declared.gate.Kind.{Kind}
@@ -52,7 +51,7 @@ module _ {old d : Draft} {id : NameId} {name : Name} (found : MentionsFree old (
       let n = named_of_statements before in
       let draft = found.mentions.is_draft in
       let says = says_now s refl found before is in
-      passes before s (free_now s refl found before is) old d Inputs is found.mentions
+      passes before s (free_now s refl found before is) Inputs is found.mentions
       (passes_inputs (length d.names) (named_pins n) (length (n.inputs ++ name ∷ [])) (length n.dffs) draft.few_names
       (omega (arith, draft.few_pins, pins_count before d says))
       (omega (arith, refused.1, inputs_count before d says, length-append n.inputs (name ∷ []))))
@@ -110,7 +109,7 @@ module _ {old d : Draft} {out : NameId} {name data_pin : Name}
       let s = dff_line name data_pin in
       let n = with_statement (named_of_statements before) s in
       let says = says_now s refl found before is in
-      passes before s (free_now s refl found before is) old d Pins is found.mentions
+      passes before s (free_now s refl found before is) Pins is found.mentions
       (passes_pins (length d.names) (named_pins n) (length n.inputs) (length n.dffs) found.mentions.is_draft.few_names
       (omega (arith, refused.1, pins_count before d says, one_dff before name data_pin)))
   dff_refused (TooMany Dffs) refused = λ before is.
@@ -118,7 +117,7 @@ module _ {old d : Draft} {out : NameId} {name data_pin : Name}
       let n = with_statement (named_of_statements before) s in
       let says = says_now s refl found before is in
       let draft = found.mentions.is_draft in
-      passes before s (free_now s refl found before is) old d Dffs is found.mentions
+      passes before s (free_now s refl found before is) Dffs is found.mentions
       (passes_dffs (length d.names) (named_pins n) (length n.inputs) (length n.dffs) draft.few_names
       (omega (arith, refused.1, pins_count before d says, one_dff before name data_pin))
       (omega (arith, draft.few_inputs, inputs_count before d says))
@@ -157,7 +156,7 @@ module _ {old d : Draft} {out : NameId} {name : Name} {args : List Name}
       let s = gate_line name kind args in
       let n = with_statement (named_of_statements before) s in
       let says = says_now s refl found before is in
-      passes before s (free_now s refl found before is) old d Pins is found.mentions
+      passes before s (free_now s refl found before is) Pins is found.mentions
       (passes_pins (length d.names) (named_pins n) (length n.inputs) (length n.dffs) found.mentions.is_draft.few_names
       (omega (
         arith,
@@ -167,10 +166,10 @@ module _ {old d : Draft} {out : NameId} {name : Name} {args : List Name}
         sum_by_push (λ (g : NamedGate). length g.args) (named_of_statements before).gates
             (record { kind = kind; out = name; args = args }),
       )))
-  gate_refused (Twice other) refused = absurd (found.free refused.1)
   gate_refused (TooMany Nets) refused = absurd refused
   gate_refused (TooMany Inputs) refused = absurd refused
   gate_refused (TooMany Dffs) refused = absurd refused
+  gate_refused NoMemory refused = λ before is. inl refl
+  gate_refused (Twice other) refused = absurd (found.free refused.1)
   gate_refused (Undriven other) refused = absurd refused
   gate_refused (Loop nets) refused = absurd refused
-  gate_refused NoMemory refused = λ before is. inl refl
