@@ -1,8 +1,8 @@
 -- The nets that statements drive are those of what they say together.
-use Rattle.std.proofs.Common.{◌≡◌, List, [], ◌∷◌, ◌++◌, Bool, true, false, ◌||◌, refl, sym, ◌∙◌, ap, append-nil, append_assoc}
+use Rattle.std.proofs.Common.{◌≡◌, List, [], ◌∷◌, ◌++◌, ◌||◌, refl, sym, ◌∙◌, ap, append-nil, append_assoc}
 use Rattle.std.specs.Prelude.{fold}
 use Rattle.std.specs.Str.{bytes_eq}
-use Rattle.std.proofs.Math.Bool.{or_assoc}
+use Rattle.std.proofs.Math.Bool.{or_assoc, or_comm, or-false}
 use Rattle.std.proofs.lemmas.List.{map_push}
 use Rattle.std.proofs.lemmas.List.Folds.{list_any-append}
 use Rattle.ht_net.specs.Named.{Name, NamedDff, NamedGate, NamedNetlist}
@@ -11,21 +11,12 @@ use Rattle.ht_bench.specs.Different.{has_name}
 use Rattle.ht_bench.specs.Contents.{no_parts, with_statement, named_of_statements, driven_in, driven_by}
 use Rattle.ht_bench.proofs.NamedPartLaws.{dff_outs, gate_outs, drivers}
 
-or_none : (b : Bool) → b ≡ (b || false)
-or_none true = refl
-or_none false = refl
-
-or_back : (a b : Bool) → (a || b) ≡ (b || (a || false))
-or_back true true = refl
-or_back true false = refl
-or_back false true = refl
-or_back false false = refl
-
 module _ (name : Name) where
   -- a name that stands in the middle may as well stand last
   has_moved : (xs ys : List Name) (x : Name) → has_name (xs ++ x ∷ ys) name
       ≡ (has_name (xs ++ ys) name || has_name (x ∷ []) name)
-  has_moved [] ys x = or_back (bytes_eq x name) (has_name ys name)
+  has_moved [] ys x = or_comm (bytes_eq x name) (has_name ys name)
+      ∙ ap (λ b. has_name ys name || b) (sym (or-false (bytes_eq x name)))
   has_moved (z ∷ xs) ys x = ap (λ b. bytes_eq z name || b) (has_moved xs ys x)
       ∙ sym (or_assoc (bytes_eq z name) (has_name (xs ++ ys) name) (has_name (x ∷ []) name))
 
@@ -36,8 +27,8 @@ module _ (name : Name) where
 
   driver_more : (n : NamedNetlist) (s : Statement) → has_name (drivers (with_statement n s)) name
       ≡ (has_name (drivers n) name || has_name (driven_in s) name)
-  driver_more n blank_line = or_none (has_name (drivers n) name)
-  driver_more n (output_line net) = or_none (has_name (drivers n) name)
+  driver_more n blank_line = sym (or-false (has_name (drivers n) name))
+  driver_more n (output_line net) = sym (or-false (has_name (drivers n) name))
   driver_more n (input_line net) =
       moved (drivers (with_statement n (input_line net))) (drivers n) n.inputs (dff_outs n.dffs ++ gate_outs n.gates)
       net (simp append_assoc) (simp append_assoc)
@@ -55,7 +46,7 @@ module _ (name : Name) where
   drivers_from : (n : NamedNetlist) (statements : List Statement)
       → has_name (drivers (fold with_statement n statements)) name
       ≡ (has_name (drivers n) name || has_name (driven_by statements) name)
-  drivers_from n [] = or_none (has_name (drivers n) name)
+  drivers_from n [] = sym (or-false (has_name (drivers n) name))
   drivers_from n (s ∷ statements) =
       drivers_from (with_statement n s) statements
       ∙ ap (λ b. b || has_name (driven_by statements) name) (driver_more n s)

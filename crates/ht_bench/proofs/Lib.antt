@@ -12,7 +12,6 @@ pub mod AddLaws
 pub mod RefuseLaws
 pub mod StatementLaws
 pub mod ProgressLaws
-pub mod OneOfLaws
 pub mod FindLineLaws
 pub mod StatedLaws
 pub mod EndOfTextLaws

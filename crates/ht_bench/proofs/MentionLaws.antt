@@ -1,7 +1,7 @@
 -- Names that are mentioned, one by one, and their numbers.
-use Rattle.std.proofs.Common.{◌≡◌, inl, inr, ⊎_elim, ℕ, ◌<◌, ◌+◌, List, [], ◌∷◌, ◌++◌, length, get_or, map, take, drop, refl, sym, ◌∙◌, ap, subst, take-append-drop, arith}
+use Rattle.std.proofs.Common.{◌≡◌, inl, inr, ⊎_elim, ℕ, ◌<◌, ◌+◌, List, [], ◌∷◌, ◌++◌, length, get_or, map, take, drop, refl, sym, ◌∙◌, ap, subst, take-append-drop, arith, ◌≢◌, true, false}
 use Rattle.std.specs.Borrow.{Bor}
-use Rattle.std.proofs.lemmas.Bool.{cond_both, cond-false, false_from_ne_true}
+use Rattle.std.proofs.lemmas.Bool.{cond_both, cond-false, false_from_ne_true, or_from}
 use Rattle.std.proofs.lemmas.List.{get_or-map, take_more, length-map, length-append, map_push}
 use Rattle.std.proofs.lemmas.List.Sums.{fold-append}
 use Rattle.ht_net.specs.declared.names.NameId.{NameId}
@@ -19,8 +19,13 @@ use Rattle.ht_bench.specs.AddErrors.{add_error_of}
 use Rattle.ht_bench.specs.Drafts.{IsNumberOf, AreNumbersOf, Mentions, MentionsFree, RefusesMentions}
 use Rattle.ht_bench.specs.declared.add_error.AddError.{AddError}
 use Rattle.ht_bench.specs.declared.add_error.AddError.TheVariants.{Limit, NoMemory}
-use Rattle.ht_bench.proofs.NameListLaws.{new_name, known_name, with_names-long}
+use Rattle.ht_bench.proofs.NameListLaws.{new_name, known_name, with_names-long, has_name-Decides}
 use Rattle.ht_bench.proofs.SaysLaws.{number_stays, names_more, after_more}
+use Rattle.std.specs.List.{Contains}
+use Rattle.std.specs.Str.{bytes_eq}
+use Rattle.std.proofs.lemmas.Slice.Eq.{bytes_eq-Decides}
+use Rattle.std.proofs.lemmas.List.Elements.{Contains-get_or}
+use Rattle.std.proofs.lemmas.List.Folds.{list_any-append}
 
 -- what a builder's `net` does to a draft
 pub net_mentions : (d new : Draft) (name : Name) → (¬ IsNewName d.names name → new ≡ d)
@@ -129,3 +134,20 @@ module _ (a b : Draft) (texts : List (Bor (List ℕ))) (i : ℕ) (d : Bor (List 
       ⊎_elim (λ (memory : error ≡ NoMemory). inl memory)
       (λ (many : (error ≡ Limit Nets) × (max_nets < length (with_names b.names (name ∷ [])))).
       inr (many.0, omega (arith, many.1, front, whole, long, here))) refused
+
+-- ---- whether a name is one of some
+
+module _ (texts : List (Bor (List ℕ))) (i : ℕ) (d : Bor (List ℕ)) (lt : i < length texts) (name : Name) where
+  pub one_is : (get_or texts i d).now ≡ name → has_name (texts_of texts) name ≡ true
+  one_is e = (has_name-Decides (texts_of texts) name).1 (subst (Contains (texts_of texts)) (text_at texts i d lt ∙ e)
+      (Contains-get_or (texts_of texts) i d.now (omega (arith, lt, length-texts_of texts))))
+
+  pub one_more_is_not : has_name (take i (texts_of texts)) name ≡ false → (get_or texts i d).now ≢ name
+      → has_name (take (i + 1) (texts_of texts)) name ≡ false
+  one_more_is_not absent other =
+      let text = (get_or texts i d).now in
+      let front = take i (texts_of texts) in
+      rw (more_texts texts i d lt) (list_any-append (λ x. bytes_eq x name) front (text ∷ [])
+      ∙ or_from (has_name front name) (has_name (text ∷ []) name) absent
+      (or_from (bytes_eq text name) false (false_from_ne_true (bytes_eq text name)
+      (λ yes. other ((bytes_eq-Decides text name).0 yes))) refl))

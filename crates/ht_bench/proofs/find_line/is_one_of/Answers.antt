@@ -1,5 +1,5 @@
 use Rattle.std.proofs.Common.{rules, arith, sym, [], ◌<◌, length}
-use Rattle.ht_bench.proofs.OneOfLaws.{one_is, one_more_is_not}
+use Rattle.ht_bench.proofs.MentionLaws.{one_is, one_more_is_not}
 use Rattle.ht_bench.proofs.find_line.is_one_of.Goals as goal
 
 pub returns-then-eq : goal.returns-then-eq
