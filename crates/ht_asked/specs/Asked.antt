@@ -28,6 +28,8 @@ pub data Asked : Type 0 where
   check : Text → Text → Text → Text → Asked
   norm : Text → Text → Asked
   demo : ℕ → ℕ → Asked
+  compact : Text → Text → Text → Asked
+  diagnose : Text → Text → Text → Text → Asked
 
 -- a command: its name in lower case, the form of the words after it, and what they ask for
 pub record Command : Type 0 where
@@ -35,11 +37,17 @@ pub record Command : Type 0 where
   pub form : Form
   pub asks : Given → Option Asked
 
--- `sim NETLIST TESTS REPORT`
-abbrev pub sim_of : List Text → Option Asked
-sim_of (netlist ∷ tests ∷ report ∷ []) = Some (sim netlist tests report)
-sim_of _ = None
+-- a command of three names
+abbrev pub of_three : (Text → Text → Text → Asked) → List Text → Option Asked
+of_three job (first ∷ second ∷ third ∷ []) = Some (job first second third)
+of_three job _ = None
 
+-- a command of four names
+abbrev pub of_four : (Text → Text → Text → Text → Asked) → List Text → Option Asked
+of_four job (first ∷ second ∷ third ∷ fourth ∷ []) = Some (job first second third fourth)
+of_four job _ = None
+
+-- `sim NETLIST TESTS REPORT`
 abbrev pub sim_command : Command
 sim_command = record {
   name = codes "sim";
@@ -47,7 +55,7 @@ sim_command = record {
     positionals = codes "netlist" ∷ codes "tests" ∷ codes "report" ∷ [];
     options = [];
   };
-  asks = λ g. sim_of g.positionals;
+  asks = λ g. of_three sim g.positionals;
 }
 
 -- the budget of a search, where the option's text is one or is left out
@@ -86,10 +94,6 @@ gen_command = record {
 }
 
 -- `check NETLIST TESTS REPORT PROOFS`
-abbrev pub check_of : List Text → Option Asked
-check_of (netlist ∷ tests ∷ report ∷ proofs ∷ []) = Some (check netlist tests report proofs)
-check_of _ = None
-
 abbrev pub check_command : Command
 check_command = record {
   name = codes "check";
@@ -97,7 +101,7 @@ check_command = record {
     positionals = codes "netlist" ∷ codes "tests" ∷ codes "report" ∷ codes "proofs" ∷ [];
     options = [];
   };
-  asks = λ g. check_of g.positionals;
+  asks = λ g. of_four check g.positionals;
 }
 
 -- `norm NETLIST OUT`
@@ -137,9 +141,32 @@ demo_command = record {
   asks = λ g. demo_of g.positionals;
 }
 
+-- `compact NETLIST TESTS OUT`
+abbrev pub compact_command : Command
+compact_command = record {
+  name = codes "compact";
+  form = record {
+    positionals = codes "netlist" ∷ codes "tests" ∷ codes "out" ∷ [];
+    options = [];
+  };
+  asks = λ g. of_three compact g.positionals;
+}
+
+-- `diagnose NETLIST TESTS RESPONSES OUT`
+abbrev pub diagnose_command : Command
+diagnose_command = record {
+  name = codes "diagnose";
+  form = record {
+    positionals = codes "netlist" ∷ codes "tests" ∷ codes "responses" ∷ codes "out" ∷ [];
+    options = [];
+  };
+  asks = λ g. of_four diagnose g.positionals;
+}
+
 -- the commands, in the order of the usage line
 abbrev pub commands : List Command
-commands = sim_command ∷ gen_command ∷ check_command ∷ norm_command ∷ demo_command ∷ []
+commands = sim_command ∷ gen_command ∷ check_command ∷ norm_command ∷ demo_command
+    ∷ compact_command ∷ diagnose_command ∷ []
 
 abbrev pub command_named : Text → Option Command
 command_named name = find (λ c. bytes_eq name c.name) commands

@@ -16,6 +16,10 @@ pub enum CommandName {
     Norm,
     /// `demo`.
     Demo,
+    /// `compact`.
+    Compact,
+    /// `diagnose`.
+    Diagnose,
 }
 
 impl CommandName {
@@ -29,6 +33,8 @@ impl CommandName {
             "check" => Some(CommandName::Check),
             "norm" => Some(CommandName::Norm),
             "demo" => Some(CommandName::Demo),
+            "compact" => Some(CommandName::Compact),
+            "diagnose" => Some(CommandName::Diagnose),
             _ => None,
         }
     }

@@ -1,8 +1,8 @@
 //! One `clap` command for each command of the program.
 ghost use Rattle.std.specs.Prelude.{◌≡◌, IfOk, false};
 ghost use Rattle.clap.specs.Words.{app_of, rule_of};
-ghost use Rattle.ht_asked.specs.Asked.{check_command, demo_command, gen_command};
-ghost use Rattle.ht_asked.specs.Asked.{norm_command, sim_command};
+ghost use Rattle.ht_asked.specs.Asked.{check_command, compact_command, demo_command};
+ghost use Rattle.ht_asked.specs.Asked.{diagnose_command, gen_command, norm_command, sim_command};
 ghost use Rattle.ht_asked.specs.ByClap.{app_named, app_with, optional, wanted};
 ghost use Rattle.ht_words.specs.Jobs.{command_of};
 
@@ -81,6 +81,27 @@ fn define_demo<'a>(alloc: Global) -> Result<Command<'a>, AllocError>
         .arg(positional(alloc, "seed"))
 }
 
+/// `compact NETLIST TESTS OUT`.
+fn define_compact<'a>(alloc: Global) -> Result<Command<'a>, AllocError>
+    ensures { IfOk result (λ c. app_of c ≡ app_with compact_command.name compact_command.form) }
+{
+    plain_command(alloc, "compact")
+        .arg(positional(alloc, "netlist"))?
+        .arg(positional(alloc, "tests"))?
+        .arg(positional(alloc, "out"))
+}
+
+/// `diagnose NETLIST TESTS RESPONSES OUT`.
+fn define_diagnose<'a>(alloc: Global) -> Result<Command<'a>, AllocError>
+    ensures { IfOk result (λ c. app_of c ≡ app_with diagnose_command.name diagnose_command.form) }
+{
+    plain_command(alloc, "diagnose")
+        .arg(positional(alloc, "netlist"))?
+        .arg(positional(alloc, "tests"))?
+        .arg(positional(alloc, "responses"))?
+        .arg(positional(alloc, "out"))
+}
+
 /// The definition of a command.
 pub fn definition<'a>(alloc: Global, name: CommandName) -> Result<Command<'a>, AllocError>
     ensures { IfOk result (λ c. app_of c ≡ app_with (command_of name).name (command_of name).form) }
@@ -91,5 +112,7 @@ pub fn definition<'a>(alloc: Global, name: CommandName) -> Result<Command<'a>, A
         CommandName::Check => define_check(alloc),
         CommandName::Norm => define_norm(alloc),
         CommandName::Demo => define_demo(alloc),
+        CommandName::Compact => define_compact(alloc),
+        CommandName::Diagnose => define_diagnose(alloc),
     }
 }

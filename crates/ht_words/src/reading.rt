@@ -1,7 +1,8 @@
 //! From words to a job.
 ghost use Rattle.std.specs.Prelude.{◌≡◌, IfOk, None, Some, codes, false, option_and_then, true};
 ghost use Rattle.clap.specs.Words.{app_of, first_of, found_of, is_simple_and_free, matches_of, rows_of};
-ghost use Rattle.ht_asked.specs.Asked.{asked, check_command, gen_command, words_of};
+ghost use Rattle.ht_asked.specs.Asked.{asked, check_command, compact_command, diagnose_command};
+ghost use Rattle.ht_asked.specs.Asked.{gen_command, words_of};
 ghost use Rattle.ht_asked.specs.Asked.{demo_with, seed_in, size_in};
 ghost use Rattle.ht_asked.specs.ByClap.{asked_by_clap, asked_in_rows, is_taken};
 ghost use Rattle.ht_words.specs.Jobs.{IsAnswer, command_of};
@@ -72,6 +73,8 @@ fn job(alloc: Global, name: CommandName, matches: &ArgMatches<'_>) -> Result<Job
             out: value(alloc, matches, "out")?,
         }),
         CommandName::Demo => demo_job(matches),
+        CommandName::Compact => compact_job(alloc, matches),
+        CommandName::Diagnose => diagnose_job(alloc, matches),
     }
 }
 
@@ -120,6 +123,36 @@ fn demo_job(matches: &ArgMatches<'_>) -> Result<Job, WordsFault>
     Ok(Job::Demo {
         size: size(matches)?,
         seed: wanted_number(matches, "seed", 0, MAX_SEED)?,
+    })
+}
+
+/// The job of `compact`.
+fn compact_job(alloc: Global, matches: &ArgMatches<'_>) -> Result<Job, WordsFault>
+    ensures { IsAnswer (asked_in_rows compact_command (rows_of (found_of matches.now))) result }
+{
+    let netlist = value(alloc, matches, "netlist")?;
+    let tests = value(alloc, matches, "tests")?;
+    let out = value(alloc, matches, "out")?;
+    Ok(Job::Compact {
+        netlist,
+        tests,
+        out,
+    })
+}
+
+/// The job of `diagnose`.
+fn diagnose_job(alloc: Global, matches: &ArgMatches<'_>) -> Result<Job, WordsFault>
+    ensures { IsAnswer (asked_in_rows diagnose_command (rows_of (found_of matches.now))) result }
+{
+    let netlist = value(alloc, matches, "netlist")?;
+    let tests = value(alloc, matches, "tests")?;
+    let responses = value(alloc, matches, "responses")?;
+    let out = value(alloc, matches, "out")?;
+    Ok(Job::Diagnose {
+        netlist,
+        tests,
+        responses,
+        out,
     })
 }
 
