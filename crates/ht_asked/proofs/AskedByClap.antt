@@ -15,13 +15,19 @@ AreSound (c ∷ cs) = IsSound c.form × AreSound cs
 commands_are_sound : AreSound commands
 commands_are_sound = (
   record { differ = refl; few = omega arith },
-  record { differ = refl; few = omega arith },
-  record { differ = refl; few = omega arith },
-  record { differ = refl; few = omega arith },
-  record { differ = refl; few = omega arith },
-  record { differ = refl; few = omega arith },
-  record { differ = refl; few = omega arith },
-  tt,
+  (
+    record { differ = refl; few = omega arith },
+    (
+      record { differ = refl; few = omega arith },
+      (
+        record { differ = refl; few = omega arith },
+        (
+          record { differ = refl; few = omega arith },
+          (record { differ = refl; few = omega arith }, (record { differ = refl; few = omega arith }, tt)),
+        ),
+      ),
+    ),
+  ),
 )
 
 -- two answers that are the same for each of the commands are so for the one that is found

@@ -113,13 +113,22 @@ All (c ∷ cs) = ((g : Given) → AsksInRange (c.asks g)) × All cs
 commands_ask_in_range : All commands
 commands_ask_in_range = (
   λ g. by_three sim (λ a b c. tt) g.positionals,
-  λ g. by_gen g.positionals g.options,
-  λ g. by_four check (λ a b c d. tt) g.positionals,
-  λ g. by_norm g.positionals,
-  λ g. by_demo g.positionals,
-  λ g. by_three compact (λ a b c. tt) g.positionals,
-  λ g. by_four diagnose (λ a b c d. tt) g.positionals,
-  tt,
+  (
+    λ g. by_gen g.positionals g.options,
+    (
+      λ g. by_four check (λ a b c d. tt) g.positionals,
+      (
+        λ g. by_norm g.positionals,
+        (
+          λ g. by_demo g.positionals,
+          (
+            λ g. by_three compact (λ a b c. tt) g.positionals,
+            (λ g. by_four diagnose (λ a b c d. tt) g.positionals, tt),
+          ),
+        ),
+      ),
+    ),
+  ),
 )
 
 by_given : (c : Command) → ((g : Given) → AsksInRange (c.asks g)) → (o : Option Given)
