@@ -12,6 +12,7 @@ pub mod ChangedLaws
 pub mod PortsLaws
 pub mod ReadLaws
 pub mod CauseLaws
+pub mod ReadFilesLaws
 pub mod CheckLaws
 pub mod OutputLaws
 pub mod AskedLaws

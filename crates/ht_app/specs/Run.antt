@@ -20,7 +20,7 @@ use Rattle.ht_valid.specs.FirstTrouble.{IsFirstTrouble}
 use Rattle.ht_asked.specs.Asked.{Asked, sim, check, compact, diagnose}
 use Rattle.ht_app.specs.declared.run_error.RunError.{RunError}
 use Rattle.ht_app.specs.declared.run_error.RunError.TheVariants.{Denied, Usage, TooLong, Refused, ReadFault, WriteFault, NoMemory, BadTests, TooManyVectors, BadResponses}
-use Rattle.ht_app.specs.Inputs.{IsInput, IsGoodNetlist, MayHold, AreInputs, AcceptsNetlist, AcceptsTests, AcceptsReport, AcceptsInputs, CheckFiles, AreInputsToReport, AreCheckInputs, ReadsTests, ReadsResponses, diagnosis_files_of}
+use Rattle.ht_app.specs.Inputs.{IsInput, IsGoodNetlist, MayHold, AreInputs, AcceptsNetlist, AcceptsTests, AcceptsReport, AcceptsInputs, CheckFiles, AreInputsToReport, AreCheckInputs, ReadsTests, ReadsResponses, DiagnosisFiles}
 use Rattle.ht_app.specs.Jobs.{input_name}
 use Rattle.ht_app.specs.Changed.{IsUnread}
 use Rattle.ht_app.specs.Truncated.{IsTruncated, RunsOut}
@@ -55,18 +55,21 @@ RefusesTests (diagnose netlist tests responses out) old line =
     ReadsTests netlist tests old (λ c text. IsMalformedTest c text line)
 RefusesTests job old line = ⊥
 
--- Of `compact`: they begin with more vectors than are compacted.
-abbrev pub RefusesMany : Asked → DeskView → Type 0
-RefusesMany (compact netlist tests out) old = ReadsTests netlist tests old HasTooManyVectors
-RefusesMany job old = ⊥
+-- Of `compact`: the netlist is accepted, the tests are there, and begin with more vectors than are compacted.
+pub record RefusesMany (job : Asked) (old : DeskView) : Type 0 where
+  pub netlist_name : List ℕ
+  pub tests_name : List ℕ
+  pub out_name : List ℕ
+  pub job_is : job ≡ compact netlist_name tests_name out_name
+  pub reads : ReadsTests netlist_name tests_name old HasTooManyVectors
 
 -- Of `diagnose`: the netlist and the tests are accepted, the responses are there, and this is the first line that
 -- shows that they aren't a row for each vector.
-abbrev pub RefusesResponses : Asked → DeskView → ℕ → Type 0
-RefusesResponses (diagnose netlist tests responses out) old line = ReadsResponses
-    (diagnosis_files_of netlist tests responses) old
-    (λ width vectors text. IsMalformedResponse width vectors text line)
-RefusesResponses job old line = ⊥
+pub record RefusesResponses (job : Asked) (old : DeskView) (line : ℕ) : Type 0 where
+  pub names : DiagnosisFiles
+  pub out_name : List ℕ
+  pub job_is : job ≡ diagnose names.netlist names.tests names.responses out_name
+  pub reads : ReadsResponses names old (λ width vectors text. IsMalformedResponse width vectors text line)
 
 -- ---- files that aren't valid
 
