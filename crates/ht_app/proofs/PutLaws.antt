@@ -17,7 +17,7 @@ use Rattle.ht_app.proofs.ChangedLaws.{changed_trans, changed_by_writing}
 
 -- ---- what was written
 
-appended : (known : Option (List ℕ)) (xs ys : List ℕ)
+pub appended : (known : Option (List ℕ)) (xs ys : List ℕ)
     → append_known (option_map (λ (_ : List ℕ). xs) known) ys ≡ option_map (λ (_ : List ℕ). xs ++ ys) known
 appended None xs ys = refl
 appended (Some zs) xs ys = refl
@@ -26,7 +26,7 @@ pub nothing_appended : (known : Option (List ℕ)) → append_known known [] ≡
 nothing_appended None = refl
 nothing_appended (Some xs) = ap Some (append-nil xs)
 
-begun_more : (port : OutPort) (name text more : List ℕ) (a m b : DeskView) → IsBegun port name text a m
+pub begun_more : (port : OutPort) (name text more : List ℕ) (a m b : DeskView) → IsBegun port name text a m
     → Writes port m b → b.written port ≡ append_known (m.written port) more → IsBegun port name (text ++ more) a b
 begun_more port name text more a m b begun w e = record {
   created = record {
@@ -36,7 +36,7 @@ begun_more port name text more a m b begun w e = record {
   written = e ∙ ap (λ known. append_known known more) begun.written ∙ appended (a.written port) text more;
 }
 
-begun_beside : (port p : OutPort) (name text : List ℕ) (a m b : DeskView) → p ≢ port → IsBegun p name text a m
+pub begun_beside : (port p : OutPort) (name text : List ℕ) (a m b : DeskView) → p ≢ port → IsBegun p name text a m
     → Writes port m b → IsBegun p name text a b
 begun_beside port p name text a m b other begun w = record {
   created = record {
@@ -48,7 +48,7 @@ begun_beside port p name text a m b other begun w = record {
 
 -- ---- which files change
 
-other_name : (known before : Option (List ℕ)) (name n : List ℕ) → known ≡ option_map (λ (_ : List ℕ). name) before
+pub other_name : (known before : Option (List ℕ)) (name n : List ℕ) → known ≡ option_map (λ (_ : List ℕ). name) before
     → IsOtherFile (Some name) known n → IsOtherName known n
 other_name known None name n is other = let none : false ≡ true = subst IsSome is other.0 in cc
 other_name known (Some old) name n is other = subst (λ (k : Option (List ℕ)). IsOtherName k n) (sym is) other.1

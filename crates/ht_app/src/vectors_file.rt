@@ -100,7 +100,8 @@ pub fn read_tests<D: Desk>(
     ensures cause { IfErr result
         (TestsCause circuit.now name.now (D.view desk.old) (D.view desk.new)) }
 {
-    read_first_tests(alloc, desk, name, circuit, u64::MAX)
+    let list = read_first_tests(alloc, desk, name, circuit, u64::MAX)?;
+    Ok(list)
 }
 
 /// Opens the tests and reads their vectors, up to the first line that is none or that is one vector more than is

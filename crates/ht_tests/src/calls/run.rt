@@ -2,7 +2,9 @@
 
 pub mod cases;
 mod checked;
+mod compacted;
 mod demo;
+mod diagnosed;
 mod failures;
 mod faults;
 mod generated;
