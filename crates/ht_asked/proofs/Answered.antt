@@ -60,44 +60,43 @@ module _ (ws : List (String Global)) (first : String Global) (is : Some first �
   not_named : command_named (string_bytes first) ≡ None → asked (words_of ws) ≡ None
   not_named = by_no_name ws is
 
-  -- ---- the definition for the first word, and what `clap` answered by it
+-- ---- the definition that the first word names, and what `clap` answered by it
 
+module _ (ws : List (String Global)) (first : String Global) (is : Some first ≡ slice_get ws 0) (word : Text)
+    (word_is : word ≡ string_bytes first) where
   abbrev Defines : Option App → Option Command → Type 0
   Defines app found = app ≡ option_map (λ (c : Command). app_with c.name c.form) found
 
-  abbrev IsDefined : Option App → Type 0
-  IsDefined app = Defines app (command_named (string_bytes first))
-
-  pub undefined_words : IsDefined None → asked (words_of ws) ≡ None
-  undefined_words defined = go (command_named (string_bytes first)) refl defined
+  pub undefined_words : Defines None (command_named word) → asked (words_of ws) ≡ None
+  undefined_words defined = go (command_named word) refl defined
     where
-      go : (found : Option Command) → command_named (string_bytes first) ≡ found → Defines None found
-          → asked (words_of ws) ≡ None
-      go None e d = not_named e
+      go : (found : Option Command) → command_named word ≡ found → Defines None found → asked (words_of ws) ≡ None
+      go None e d = not_named ws first is (ap command_named (sym word_is) ∙ e)
       go (Some c) e d = cc
 
-  pub refused_words : (app : App) → IsDefined (Some app) → is_taken app (words_of ws) ≡ false
+  pub refused_words : (app : App) → Defines (Some app) (command_named word) → is_taken app (words_of ws) ≡ false
       → asked (words_of ws) ≡ None
-  refused_words app defined refuses = go (command_named (string_bytes first)) refl defined
+  refused_words app defined refuses = go (command_named word) refl defined
     where
-      go : (found : Option Command) → command_named (string_bytes first) ≡ found → Defines (Some app) found
+      go : (found : Option Command) → command_named word ≡ found → Defines (Some app) found
           → asked (words_of ws) ≡ None
       go None e d = cc
       go (Some c) e d =
           let same : app ≡ app_with c.name c.form = cc in
-          named c e ∙ refused c app (words_of ws) same refuses
+          named ws first is c (ap command_named (sym word_is) ∙ e) ∙ refused c app (words_of ws) same refuses
 
-  pub answered_words : (app : App) (rows : List Row) → IsDefined (Some app) → rows ≡ matches_of app (words_of ws)
-      → is_taken app (words_of ws) ≡ true
-      → asked (words_of ws) ≡ option_and_then (λ c. asked_in_rows c rows) (command_named (string_bytes first))
-  answered_words app rows defined rows_are taken = go (command_named (string_bytes first)) refl defined
+  pub answered_words : (app : App) (rows : List Row) → Defines (Some app) (command_named word)
+      → rows ≡ matches_of app (words_of ws) → is_taken app (words_of ws) ≡ true
+      → asked (words_of ws) ≡ option_and_then (λ c. asked_in_rows c rows) (command_named word)
+  answered_words app rows defined rows_are taken = go (command_named word) refl defined
     where
-      go : (found : Option Command) → command_named (string_bytes first) ≡ found → Defines (Some app) found
-          → asked (words_of ws) ≡ option_and_then (λ c. asked_in_rows c rows) (command_named (string_bytes first))
+      go : (found : Option Command) → command_named word ≡ found → Defines (Some app) found
+          → asked (words_of ws) ≡ option_and_then (λ c. asked_in_rows c rows) (command_named word)
       go None e d = cc
       go (Some c) e d =
           let same : app ≡ app_with c.name c.form = cc in
-          named c e ∙ answered c app (words_of ws) same rows rows_are taken
+          named ws first is c (ap command_named (sym word_is) ∙ e)
+          ∙ answered c app (words_of ws) same rows rows_are taken
           ∙ ap (option_and_then (λ (d : Command). asked_in_rows d rows)) (sym e)
 
 pub no_words : (ws : List (String Global)) → None ≡ slice_get ws 0 → asked (words_of ws) ≡ None

@@ -27,14 +27,15 @@ pub fn command(alloc: Global, words: &[String]) -> Result<Job, WordsFault>
     // `clap` takes the words by its definitions of the commands exactly where they ask for a job in plain steps.
     ensures by_clap { asked (words_of words.now) ≡ asked_by_clap (words_of words.now) }
 {
-    let Some(name) = words.first() else {
+    let Some(first) = words.first() else {
         return Err(WordsFault::Usage);
     };
-    let Some(definition) = definition(alloc, name.as_str())? else {
+    let word = first.as_str();
+    let Some(definition) = definition(alloc, word)? else {
         return Err(WordsFault::Usage);
     };
     let matches = matches_for(definition, words)?;
-    job(alloc, name.as_str(), &matches)
+    job(alloc, word, &matches)
 }
 
 /// How `clap` reads the words.
