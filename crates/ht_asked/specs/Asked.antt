@@ -8,7 +8,7 @@ use Rattle.clap.specs.Walk.{Text}
 use Rattle.ht_asked.specs.declared.limits.TheConstants.{DEFAULT_BUDGET, MAX_BUDGET, MIN_BUDGET}
 use Rattle.ht_asked.specs.declared.limits.TheConstants.{DEFAULT_RANDOM, DEFAULT_SEED, MAX_RANDOM, MAX_SEED}
 use Rattle.ht_asked.specs.declared.limits.TheConstants.{MAX_SIZE, MIN_SIZE}
-use Rattle.ht_asked.specs.Forms.{Form, Given, given}
+use Rattle.ht_asked.specs.Forms.{Form, Given, given, names_form}
 use Rattle.ht_asked.specs.Numbers.{number_in, number_or}
 
 -- the words as their bytes
@@ -51,10 +51,7 @@ of_four job _ = None
 abbrev pub sim_command : Command
 sim_command = record {
   name = codes "sim";
-  form = record {
-    positionals = codes "netlist" ∷ codes "tests" ∷ codes "report" ∷ [];
-    options = [];
-  };
+  form = names_form (codes "netlist" ∷ codes "tests" ∷ codes "report" ∷ []);
   asks = λ g. of_three sim g.positionals;
 }
 
@@ -97,10 +94,7 @@ gen_command = record {
 abbrev pub check_command : Command
 check_command = record {
   name = codes "check";
-  form = record {
-    positionals = codes "netlist" ∷ codes "tests" ∷ codes "report" ∷ codes "proofs" ∷ [];
-    options = [];
-  };
+  form = names_form (codes "netlist" ∷ codes "tests" ∷ codes "report" ∷ codes "proofs" ∷ []);
   asks = λ g. of_four check g.positionals;
 }
 
@@ -112,7 +106,7 @@ norm_of _ = None
 abbrev pub norm_command : Command
 norm_command = record {
   name = codes "norm";
-  form = record { positionals = codes "netlist" ∷ codes "out" ∷ []; options = [] };
+  form = names_form (codes "netlist" ∷ codes "out" ∷ []);
   asks = λ g. norm_of g.positionals;
 }
 
@@ -137,7 +131,7 @@ demo_of _ = None
 abbrev pub demo_command : Command
 demo_command = record {
   name = codes "demo";
-  form = record { positionals = codes "size" ∷ codes "seed" ∷ []; options = [] };
+  form = names_form (codes "size" ∷ codes "seed" ∷ []);
   asks = λ g. demo_of g.positionals;
 }
 
@@ -145,10 +139,7 @@ demo_command = record {
 abbrev pub compact_command : Command
 compact_command = record {
   name = codes "compact";
-  form = record {
-    positionals = codes "netlist" ∷ codes "tests" ∷ codes "out" ∷ [];
-    options = [];
-  };
+  form = names_form (codes "netlist" ∷ codes "tests" ∷ codes "out" ∷ []);
   asks = λ g. of_three compact g.positionals;
 }
 
@@ -156,10 +147,7 @@ compact_command = record {
 abbrev pub diagnose_command : Command
 diagnose_command = record {
   name = codes "diagnose";
-  form = record {
-    positionals = codes "netlist" ∷ codes "tests" ∷ codes "responses" ∷ codes "out" ∷ [];
-    options = [];
-  };
+  form = names_form (codes "netlist" ∷ codes "tests" ∷ codes "responses" ∷ codes "out" ∷ []);
   asks = λ g. of_four diagnose g.positionals;
 }
 

@@ -1,23 +1,10 @@
 -- Jobs as what words ask for.
 use Rattle.std.specs.Prelude.{◌≡◌, Option, Some, None, Result, Err, IfOk}
 use Rattle.ht_asked.specs.Asked.{Asked, check, compact, demo, diagnose, gen, norm, sim}
-use Rattle.ht_asked.specs.Asked.{Command, check_command, compact_command, demo_command, diagnose_command}
-use Rattle.ht_asked.specs.Asked.{gen_command, norm_command, sim_command}
 use Rattle.ht_words.specs.declared.job.Job.{Job}
 use Rattle.ht_words.specs.declared.job.Job.TheVariants as job
 use Rattle.ht_words.specs.declared.job.WordsFault.{WordsFault}
 use Rattle.ht_words.specs.declared.job.WordsFault.TheVariants.{Usage}
-use Rattle.ht_words.specs.declared.command_name.CommandName.{CommandName}
-use Rattle.ht_words.specs.declared.command_name.CommandName.TheVariants as name
-
-abbrev pub command_of : CommandName → Command
-command_of name.Sim = sim_command
-command_of name.Gen = gen_command
-command_of name.Check = check_command
-command_of name.Norm = norm_command
-command_of name.Demo = demo_command
-command_of name.Compact = compact_command
-command_of name.Diagnose = diagnose_command
 
 -- what words ask for where they ask for the job
 abbrev pub asked_by : Job → Asked

@@ -11,7 +11,6 @@
 //! own reading.
 #![tactic(auto)]
 
-mod command_name;
 mod definitions;
 mod file_name;
 mod job;
