@@ -28,7 +28,13 @@ fn vectors_that_are_not_needed_are_left_out(rt: HostRuntime) -> Result<(), Fail>
     let alloc = rt.alloc();
     for row in ROWS {
         let (netlist, tests, kept, line) = *row;
-        assert!(rt; holds(alloc, &given(COMPACT, netlist, tests), &finished(kept, line))?);
+        assert!(rt;
+            holds(
+                alloc,
+                &given(COMPACT, netlist, tests),
+                &finished(kept, line)
+            )?
+        );
     }
     Ok(())
 }
@@ -45,7 +51,11 @@ fn long_tests_end(
         tests.extend_from_slice(b"0\n")?;
     }
     tests.extend_from_slice(lines)?;
-    holds(alloc, &given(COMPACT, SHIFT_REGISTER, &tests), &refused(status, line))
+    holds(
+        alloc,
+        &given(COMPACT, SHIFT_REGISTER, &tests),
+        &refused(status, line),
+    )
 }
 
 const LONG: &[(&[u8], u8, &[u8])] = &[

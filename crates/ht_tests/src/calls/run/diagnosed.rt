@@ -12,7 +12,12 @@ const DIAGNOSE: &[&str] = &["diagnose", "n", "t", "s", "r"];
 fn diagnosis_ends(alloc: Global, responses: &[u8], end: &End<'_>) -> Result<bool, AllocError> {
     let mut desk = MemoryDesk::new(alloc);
     desk.put("s", responses)?;
-    holds_on(alloc, &mut desk, &given(DIAGNOSE, SHIFT_REGISTER, b"1\n0\n0\n"), end)
+    holds_on(
+        alloc,
+        &mut desk,
+        &given(DIAGNOSE, SHIFT_REGISTER, b"1\n0\n0\n"),
+        end,
+    )
 }
 
 const ZERO_AT_LAST: &[u8] = b"diagnosis vectors 3 faults 6 classes 6\ngood contradicted 3 r\n\
@@ -25,10 +30,7 @@ const TWO_ONES: &[u8] = b"diagnosis vectors 3 faults 6 classes 6\ngood consisten
     4 q s-a-1 consistent\n5 r s-a-0 contradicted 2 r\n6 r s-a-1 consistent\n\
     total 6 consistent 3\n";
 
-const OBSERVED: &[(&[u8], &[u8])] = &[
-    (b"X\nX\n0\n", ZERO_AT_LAST),
-    (b"X\n1\n1", TWO_ONES),
-];
+const OBSERVED: &[(&[u8], &[u8])] = &[(b"X\nX\n0\n", ZERO_AT_LAST), (b"X\n1\n1", TWO_ONES)];
 
 #[test]
 fn faults_that_explain_the_responses_are_consistent(rt: HostRuntime) -> Result<(), Fail> {
