@@ -95,20 +95,32 @@ created_at : (creates : OutPort → Option (List ℕ)) (port p : OutPort) (name 
     → IsFilePort port → OutCall port a b → creates port ≡ Some name
     → b.named port ≡ option_map (λ (_ : List ℕ). name) (a.named port) → IsCreatedOnly (creates p) p a b
 created_at creates Tests Tests name a b file x is named = created_here (creates Tests) Tests name a b is named
-created_at creates Tests Report name a b file x is named = created_beside (creates Report) Tests Report a b x (λ e. cc)
-created_at creates Tests Proofs name a b file x is named = created_beside (creates Proofs) Tests Proofs a b x (λ e. cc)
-created_at creates Tests Out name a b file x is named = created_beside (creates Out) Tests Out a b x (λ e. cc)
-created_at creates Tests Err name a b file x is named = created_beside (creates Err) Tests Err a b x (λ e. cc)
-created_at creates Report Tests name a b file x is named = created_beside (creates Tests) Report Tests a b x (λ e. cc)
+created_at creates Tests Report name a b file x is named =
+    created_beside (creates Report) Tests Report a b x (λ e. cc)
+created_at creates Tests Proofs name a b file x is named =
+    created_beside (creates Proofs) Tests Proofs a b x (λ e. cc)
+created_at creates Tests Out name a b file x is named =
+    created_beside (creates Out) Tests Out a b x (λ e. cc)
+created_at creates Tests Err name a b file x is named =
+    created_beside (creates Err) Tests Err a b x (λ e. cc)
+created_at creates Report Tests name a b file x is named =
+    created_beside (creates Tests) Report Tests a b x (λ e. cc)
 created_at creates Report Report name a b file x is named = created_here (creates Report) Report name a b is named
-created_at creates Report Proofs name a b file x is named = created_beside (creates Proofs) Report Proofs a b x (λ e. cc)
-created_at creates Report Out name a b file x is named = created_beside (creates Out) Report Out a b x (λ e. cc)
-created_at creates Report Err name a b file x is named = created_beside (creates Err) Report Err a b x (λ e. cc)
-created_at creates Proofs Tests name a b file x is named = created_beside (creates Tests) Proofs Tests a b x (λ e. cc)
-created_at creates Proofs Report name a b file x is named = created_beside (creates Report) Proofs Report a b x (λ e. cc)
+created_at creates Report Proofs name a b file x is named =
+    created_beside (creates Proofs) Report Proofs a b x (λ e. cc)
+created_at creates Report Out name a b file x is named =
+    created_beside (creates Out) Report Out a b x (λ e. cc)
+created_at creates Report Err name a b file x is named =
+    created_beside (creates Err) Report Err a b x (λ e. cc)
+created_at creates Proofs Tests name a b file x is named =
+    created_beside (creates Tests) Proofs Tests a b x (λ e. cc)
+created_at creates Proofs Report name a b file x is named =
+    created_beside (creates Report) Proofs Report a b x (λ e. cc)
 created_at creates Proofs Proofs name a b file x is named = created_here (creates Proofs) Proofs name a b is named
-created_at creates Proofs Out name a b file x is named = created_beside (creates Out) Proofs Out a b x (λ e. cc)
-created_at creates Proofs Err name a b file x is named = created_beside (creates Err) Proofs Err a b x (λ e. cc)
+created_at creates Proofs Out name a b file x is named =
+    created_beside (creates Out) Proofs Out a b x (λ e. cc)
+created_at creates Proofs Err name a b file x is named =
+    created_beside (creates Err) Proofs Err a b x (λ e. cc)
 created_at creates Out p name a b file x is named = absurd file
 created_at creates Err p name a b file x is named = absurd file
 

@@ -74,6 +74,10 @@ reads_responses names c list a m n AreSo h there so = record {
   };
 }
 
+-- the sizes of responses are those of the circuit and of the tests
+pub at_sizes : (P : ℕ → ℕ → Type 0) (m n p q : ℕ) → m ≡ p → n ≡ q → P m n → P p q
+at_sizes P m n p q width vectors is = subst (λ (v : ℕ). P p v) vectors (subst (λ (w : ℕ). P w n) width is)
+
 -- ---- where the next file isn't there
 
 module _ (job : Asked) (netlist : List ℕ) (c : net.Netlist) (a m : DeskView)

@@ -27,7 +27,15 @@ module _ {V : Type 0} (code : V → ℕ) (width most : ℕ) (port : InPort) (nam
 
   pub rows_start : (now : DeskView) (reader : LinesView) (rows : List (List V)) → InCall port first now
       → Opened port name first now → rows ≡ []
-      → reader ≡ record { port = port; max_len = most; ahead = []; line = []; lines_read = 0; bytes_read = 0; live = true }
+      → reader ≡ record {
+        port = port;
+        max_len = most;
+        ahead = [];
+        line = [];
+        lines_read = 0;
+        bytes_read = 0;
+        live = true;
+      }
       → ReadsRows now reader rows
   rows_start now reader rows frame opened none made = record {
     port_is = ap (λ l. l.port) made;
@@ -98,8 +106,8 @@ module _ {V : Type 0} (code : V → ℕ) (width most : ℕ) (port : InPort) (nam
     rows_widths text is = (h.so_far text is).2.widths
 
     -- the next line is too long
-    pub next_long : ((text : List ℕ) → rest_of reader a ≡ Some text → IsTooLongLine reader.max_len reader.bytes_read text)
-        → (text : List ℕ) → IsInput port name text first → IsNextLong most text (map (map code) rows)
+    pub next_long : ((text : List ℕ) → rest_of reader a ≡ Some text
+        → IsTooLongLine reader.max_len reader.bytes_read text) → (text : List ℕ) → IsInput port name text first → IsNextLong most text (map (map code) rows)
     next_long long text is =
         let before = h.so_far text is in
         next_is_long most text reader.bytes_read (map (map code) rows) before.0 before.2.lines h.fits

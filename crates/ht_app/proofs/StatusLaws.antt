@@ -1,5 +1,5 @@
 -- What a status tells, whatever the error.
-use Rattle.std.proofs.Common.{◌≡◌, ◌≢◌, ◌⊎◌, inl, inr, ℕ, List, IsTrue, refl, ap, arith}
+use Rattle.std.proofs.Common.{◌≡◌, ◌≢◌, ◌⊎◌, inl, inr, ℕ, List, IsTrue, refl, ap, arith, subst}
 use Rattle.std.specs.Prelude.{Some}
 use Rattle.ht_ports.specs.Desk.{DeskView, IsAfter}
 use Rattle.ht_ports.specs.declared.ports.InPort.TheVariants.{Netlist}
@@ -138,7 +138,8 @@ pub many_status : (netlist tests out : List ℕ) (a b : DeskView) (e : RunError)
     → (exit_status e ≡ 9) ⊎ (exit_status e ≡ 4) ⊎ (exit_status e ≡ 6)
 many_status netlist tests out a b e h many =
     let job = compact netlist tests out in
-    ends_as job 9 a b (good_tests job netlist tests a _ refl many) (λ accepts. not_many netlist tests out a accepts many)
+    ends_as job 9 a b (good_tests job netlist tests a _ refl many)
+    (λ accepts. not_many netlist tests out a accepts many)
     (λ trouble denies. let other = denies.job_is in cc)
     (λ line refuses. absurd (tests_differ netlist tests a _ _ refuses many
     (λ c text bad more. malformed_or_many c text line bad more)))
@@ -228,7 +229,8 @@ steady_status job a b WriteFault h steady holds = absurd (h.fault.unsteady stead
 steady_status job a b NoMemory h steady holds = (λ e. absurd (omega (arith, e)), λ e. absurd (omega (arith, e)))
 steady_status job a b (BadTests line) h steady holds = (λ e. absurd (omega (arith, e)), λ e. absurd (omega (arith, e)))
 steady_status job a b TooManyVectors h steady holds = (λ e. absurd (omega (arith, e)), λ e. absurd (omega (arith, e)))
-steady_status job a b (BadResponses line) h steady holds = (λ e. absurd (omega (arith, e)), λ e. absurd (omega (arith, e)))
+steady_status job a b (BadResponses line) h steady holds =
+    (λ e. absurd (omega (arith, e)), λ e. absurd (omega (arith, e)))
 
 -- ---- the line
 

@@ -14,7 +14,7 @@ use Rattle.ht_texts.specs.Tests.{IsMalformedTest}
 use Rattle.ht_compact.specs.TestsToCompact.{HasTooManyVectors, IsMalformedEarly}
 use Rattle.ht_dictionary.specs.ResponseTexts.{IsMalformedResponse}
 use Rattle.ht_valid.specs.declared.trouble.Trouble.TheVariants as trouble
-use Rattle.ht_asked.specs.Asked.{Asked}
+use Rattle.ht_asked.specs.Asked.{Asked, sim, compact, diagnose}
 use Rattle.ht_app.specs.declared.run_error.RunError.{RunError}
 use Rattle.ht_app.specs.declared.run_error.RunError.TheVariants.{Denied, TooLong, Refused, ReadFault, NoMemory, BadTests, TooManyVectors, BadResponses}
 use Rattle.ht_app.specs.Inputs.{IsInput, IsGoodNetlist, MayHold, AreInputs, DiagnosisFiles, AreDiagnosisInputs}
@@ -83,9 +83,15 @@ ResponsesCause width vectors name old new ReadFault = IsReadFault name old new
 ResponsesCause width vectors name old new NoMemory = Unit {0}
 ResponsesCause width vectors name old new _ = ⊥
 
--- why the texts of a job weren't made, whatever the name of its output
-pub record HasCauseAs (job_as : List ℕ → Asked) (old new : DeskView) (error : RunError) : Type 0 where
-  pub cause : (name : List ℕ) → HasCause (job_as name) old new error
+-- why the output of each of three commands wasn't made, whatever its name
+pub record SimulateCause (netlist tests : List ℕ) (old new : DeskView) (error : RunError) : Type 0 where
+  pub cause : (report : List ℕ) → HasCause (sim netlist tests report) old new error
+
+pub record CompactCause (netlist tests : List ℕ) (old new : DeskView) (error : RunError) : Type 0 where
+  pub cause : (out : List ℕ) → HasCause (compact netlist tests out) old new error
+
+pub record DiagnoseCause (netlist tests responses : List ℕ) (old new : DeskView) (error : RunError) : Type 0 where
+  pub cause : (out : List ℕ) → HasCause (diagnose netlist tests responses out) old new error
 
 -- ---- what the steps touch
 

@@ -10,7 +10,7 @@ ghost use Rattle.ht_app.specs.Changed.{ChangedOnly, job_ports};
 ghost use Rattle.ht_app.specs.Done.{IsDone};
 ghost use Rattle.ht_app.specs.Errors.{exit_status};
 ghost use Rattle.ht_app.specs.Run.{HasCause};
-ghost use Rattle.ht_app.specs.Steps.{reading, HasCauseAs, AreWorkedInto, status_after};
+ghost use Rattle.ht_app.specs.Steps.{reading, CompactCause, AreWorkedInto, status_after};
 
 use crate::listed::list_faults;
 use crate::made::Made;
@@ -53,8 +53,8 @@ fn make_tests<D: Desk>(
         (ReadsTests netlist.now tests.now (D.view desk.old) AreFewVectors) }
     ensures texts { IfOk result (λ made. AreWorkedInto netlist.now tests.now (D.view desk.old)
         (λ n t. IsCompacted n t made.body.items made.total.items)) }
-    ensures cause { IfErr result (HasCauseAs (λ out. asked.compact netlist.now tests.now out)
-        (D.view desk.old) (D.view desk.new)) }
+    ensures cause { IfErr result
+        (CompactCause netlist.now tests.now (D.view desk.old) (D.view desk.new)) }
 {
     let circuit = read_netlist(alloc, desk, netlist)?;
     let list = read_few_tests(alloc, desk, tests, &circuit)?;

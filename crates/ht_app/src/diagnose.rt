@@ -11,7 +11,7 @@ ghost use Rattle.ht_app.specs.Changed.{ChangedOnly, IsUnread, job_ports};
 ghost use Rattle.ht_app.specs.Done.{IsDone};
 ghost use Rattle.ht_app.specs.Errors.{exit_status};
 ghost use Rattle.ht_app.specs.Run.{HasCause};
-ghost use Rattle.ht_app.specs.Steps.{reading, HasCauseAs, AreDiagnosedInto, status_after};
+ghost use Rattle.ht_app.specs.Steps.{reading, DiagnoseCause, AreDiagnosedInto, status_after};
 
 use crate::listed::list_faults;
 use crate::made::Made;
@@ -65,8 +65,7 @@ fn make_report<D: Desk>(
     ensures texts { IfOk result (λ made. AreDiagnosedInto
         (diagnosis_files_of netlist.now tests.now responses.now) (D.view desk.old)
         made.body.items made.total.items) }
-    ensures cause { IfErr result (HasCauseAs
-        (λ out. asked.diagnose netlist.now tests.now responses.now out)
+    ensures cause { IfErr result (DiagnoseCause netlist.now tests.now responses.now
         (D.view desk.old) (D.view desk.new)) }
 {
     let circuit = read_netlist(alloc, desk, netlist)?;

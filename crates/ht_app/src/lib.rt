@@ -3,8 +3,8 @@
 //! `run` is the top call: it takes the words of the command line and a desk, does the work, and answers the status. A
 //! module has one step of it: the top call (`commands`), the commands (`sim`, `generate` for `gen`, `check`, `norm`,
 //! `demo`, `compact`, `diagnose`), the inputs (`netlist`, `vectors_file`, `responses_file`, and by `judged_file`
-//! `report_file` and `proofs_file`), the faults (`listed`), what is made and written (`made`, `output`), why a run ends without its work (`run_error`) and what it says of that on Err
-//! (`err_line`).
+//! `report_file` and `proofs_file`), the faults (`listed`), what is made and written (`made`, `output`), why a run ends
+//! without its work (`run_error`) and what it says of that on Err (`err_line`).
 //!
 //! `specs/Run.antt` says why a run ends without its work, `specs/Done.antt` what a finished one leaves,
 //! `specs/Truncated.antt` what a failed write leaves, and `specs/Changed.antt` what each run leaves as it was.

@@ -12,7 +12,7 @@ ghost use Rattle.ht_app.specs.Done.{IsDone, IsSimulated};
 ghost use Rattle.ht_app.specs.Errors.{exit_status};
 ghost use Rattle.ht_app.specs.Run.{HasCause};
 ghost use Rattle.ht_app.specs.Simulation.{IsReportOf};
-ghost use Rattle.ht_app.specs.Steps.{reading, HasCauseAs, AreWorkedInto, status_after};
+ghost use Rattle.ht_app.specs.Steps.{reading, SimulateCause, AreWorkedInto, status_after};
 
 use crate::made::Made;
 use crate::netlist::read_netlist;
@@ -59,8 +59,8 @@ fn simulate<D: Desk>(
     ensures texts { IfOk result
         (λ texts. AreWorkedInto netlist.now tests.now (D.view desk.old)
         (λ n t. IsSimulated n t (texts.body.items ++ texts.total.items) texts.total.items)) }
-    ensures cause { IfErr result (HasCauseAs (λ report. asked.sim netlist.now tests.now report)
-        (D.view desk.old) (D.view desk.new)) }
+    ensures cause { IfErr result
+        (SimulateCause netlist.now tests.now (D.view desk.old) (D.view desk.new)) }
 {
     let circuit = read_netlist(alloc, desk, netlist)?;
     let list = read_tests(alloc, desk, tests, &circuit)?;

@@ -2,7 +2,7 @@ use Rattle.std.proofs.Common.{refl, rules}
 use Rattle.ht_ports.specs.declared.ports.InPort.TheVariants.{Netlist, Tests}
 use Rattle.ht_asked.specs.Asked.{sim}
 use Rattle.ht_app.specs.Inputs.{AreVectors}
-use Rattle.ht_app.specs.Steps.{HasCauseAs}
+use Rattle.ht_app.specs.Steps.{SimulateCause}
 use Rattle.ht_app.proofs.CauseLaws.{input_later, netlist_cause}
 use Rattle.ht_app.proofs.ReadFilesLaws.{NetlistWasRead, reads_tests, tests_cause}
 use Rattle.ht_app.proofs.sim.simulate.Given as given
@@ -22,7 +22,7 @@ pub returns-in_err-circuit-clause-cause : goal.returns-in_err-circuit-clause-cau
 returns-in_err-circuit-clause-cause g c =
     let a = g.D.Desk.view c.args.desk.now in
     let m = g.D.Desk.view c.read_netlist.new.desk in
-    let cause : HasCauseAs (λ report. sim c.args.netlist.now c.args.tests.now report) a m
+    let cause : SimulateCause c.args.netlist.now c.args.tests.now a m
     c.in_err-circuit.field-0.0 = record {
       cause = λ report. netlist_cause (sim c.args.netlist.now c.args.tests.now report) c.args.netlist.now a m
           c.in_err-circuit.field-0.0 refl c.in_err-circuit.ensures.frame.written c.in_err-circuit.ensures.cause;
@@ -35,7 +35,7 @@ returns-in_err-list-clause-cause g c =
     let a = g.D.Desk.view c.args.desk.now in
     let m = g.D.Desk.view c.read_netlist.new.desk in
     let b = g.D.Desk.view c.read_tests.new.desk in
-    let cause : HasCauseAs (λ report. sim c.args.netlist.now c.args.tests.now report) a b
+    let cause : SimulateCause c.args.netlist.now c.args.tests.now a b
     c.in_err-list.field-0.0 = record {
       cause = λ report. tests_cause (sim c.args.netlist.now c.args.tests.now report) c.args.netlist.now
           c.in_ok-circuit.circuit a m refl (netlist_read g at.In_ok-circuit) c.args.tests.now b

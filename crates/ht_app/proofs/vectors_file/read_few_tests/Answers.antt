@@ -23,5 +23,6 @@ returns-then-len-gt-MAX_COMPACTED-clause-cause g c =
 pub returns-clause-list : goal.returns-clause-list
 returns-clause-list g c = λ text is.
     let read = c.in_ok-list.ensures in
-    let few : length c.in_ok-list.list.list ≤ MAX_COMPACTED = omega (arith, c.len.ensures, c.if-len-gt-MAX_COMPACTED.false) in
+    let few : length c.in_ok-list.list.list ≤ MAX_COMPACTED =
+    omega (arith, c.len.ensures, c.if-len-gt-MAX_COMPACTED.false) in
     record { vectors = read.list text is (omega (arith, few)); few = few }

@@ -69,14 +69,15 @@ returns-then-not-branch-clause-cause g c =
     let gives = next_some c.next.follows.holds-at-none c.in-Ok-Some.is c.in-Ok-Some.field-0-is in
     let refused : (c.push_line.new.list ≡ c.lines.list)
     × ((vector : List Bool) → ¬ IsTextOf c.lines.list.width line vector) = search rules in
-    let at : c.len-then-not-branch.result ≡ length list = c.len-then-not-branch.ensures ∙ ap (λ v. length v.list) refused.0 in
+    let at : c.len-then-not-branch.result ≡ length list =
+    c.len-then-not-branch.ensures ∙ ap (λ v. length v.list) refused.0 in
     let none : (vector : List Bool) → ¬ IsTextOf of.inputs line vector =
     subst (λ (w : ℕ). (vector : List Bool) → ¬ IsTextOf w line vector) before.width refused.1 in
     record {
       there = rows.there;
       cause = λ text is. subst (λ (n : ℕ). IsMalformedTest of text (n + 1)) (sym at)
-          (bad_line of text list (rows_begin _ _ _ _ _ _ _ _ _ rows text is) (rows_widths _ _ _ _ _ _ _ _ _ rows text is)
-          line (next_row _ _ _ _ _ _ _ _ _ _ _ rows line gives text is) none);
+          (bad_line of text list (rows_begin _ _ _ _ _ _ _ _ _ rows text is)
+          (rows_widths _ _ _ _ _ _ _ _ _ rows text is) line (next_row _ _ _ _ _ _ _ _ _ _ _ rows line gives text is) none);
     }
 
 pub returns-then-not-branch-clause-early : goal.returns-then-not-branch-clause-early
@@ -97,8 +98,8 @@ returns-in-Err-TooLong-clause-cause g c =
     record {
       there = rows.there;
       cause = λ text is. subst (λ (n : ℕ). IsMalformedTest of text n) (omega (arith, cause.0, rows.counted))
-          (too_long of text list (rows_begin _ _ _ _ _ _ _ _ _ rows text is) (rows_widths _ _ _ _ _ _ _ _ _ rows text is)
-          few (next_long _ _ _ _ _ _ _ _ _ rows cause.1 text is));
+          (too_long of text list (rows_begin _ _ _ _ _ _ _ _ _ rows text is)
+          (rows_widths _ _ _ _ _ _ _ _ _ rows text is) few (next_long _ _ _ _ _ _ _ _ _ rows cause.1 text is));
     }
 
 pub returns-in-Err-TooLong-clause-early : goal.returns-in-Err-TooLong-clause-early
