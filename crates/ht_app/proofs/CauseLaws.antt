@@ -3,22 +3,22 @@ use Rattle.std.proofs.Common.{◌≡◌, ◌≢◌, inl, ℕ, List, true, false,
 use Rattle.std.specs.Prelude.{IsSome, Option, Some, None}
 use Rattle.ht_ports.specs.Desk.{DeskView, InCall, Holds}
 use Rattle.ht_ports.specs.declared.ports.InPort.{InPort}
-use Rattle.ht_ports.specs.declared.ports.InPort.TheVariants.{Netlist, Tests}
+use Rattle.ht_ports.specs.declared.ports.InPort.TheVariants.{Netlist}
 use Rattle.ht_net.specs.Netlist as net
-use Rattle.ht_asked.specs.Asked.{Asked, sim}
+use Rattle.ht_asked.specs.Asked.{Asked}
 use Rattle.ht_app.specs.declared.run_error.RunError.{RunError}
-use Rattle.ht_app.specs.declared.run_error.RunError.TheVariants.{Denied, Usage, TooLong, Refused, ReadFault, WriteFault, NoMemory, BadTests}
+use Rattle.ht_app.specs.declared.run_error.RunError.TheVariants.{Denied, Usage, TooLong, Refused, ReadFault, WriteFault, NoMemory, BadTests, TooManyVectors, BadResponses}
 use Rattle.ht_app.specs.Inputs.{IsInput, MayHold, IsGoodNetlist, AcceptsNetlist, AcceptsInputs}
 use Rattle.ht_app.specs.Jobs.{input_name}
 use Rattle.ht_app.specs.Changed.{ChangedOnly}
 use Rattle.ht_app.specs.Truncated.{IsTruncated}
 use Rattle.ht_app.specs.Run.{HasCause, RefusesNetlist, IsWriteFault}
-use Rattle.ht_app.specs.Steps.{NetlistCause, TestsCause, RefusesText, reading}
+use Rattle.ht_app.specs.Steps.{NetlistCause, RefusesText, reading}
 
 -- ---- the netlist
 
 refuses : (job : Asked) (name : List ℕ) (a : DeskView) (IsCause : List ℕ → Type 0) → input_name job Netlist ≡ Some name
-    → RefusesText name a IsCause → RefusesNetlist job a IsCause
+    → RefusesText Netlist name a IsCause → RefusesNetlist job a IsCause
 refuses job name a IsCause is h = record { name = name; reads = is; there = h.there; cause = h.cause }
 
 pub netlist_cause : (job : Asked) (name : List ℕ) (a b : DeskView) (e : RunError) → input_name job Netlist ≡ Some name
@@ -34,12 +34,14 @@ netlist_cause job name a b ReadFault is same h = record {
 netlist_cause job name a b WriteFault is same h = absurd h
 netlist_cause job name a b NoMemory is same h = inl same
 netlist_cause job name a b (BadTests line) is same h = absurd h
+netlist_cause job name a b TooManyVectors is same h = absurd h
+netlist_cause job name a b (BadResponses line) is same h = absurd h
 
 pub accepts_netlist : (name : List ℕ) (c : net.Netlist) (a : DeskView) → MayHold a name
     → ((text : List ℕ) → IsInput Netlist name text a → IsGoodNetlist text c) → AcceptsNetlist name a
 accepts_netlist name c a there good = record { there = there; accepted = λ text input. (c, good text input) }
 
--- ---- the tests, after the netlist
+-- ---- a file that is read after another
 
 -- what is known of a file stays known while another is read
 pub input_later : (read port : InPort) (name text : List ℕ) (a m : DeskView) → port ≢ read → InCall read a m
@@ -62,42 +64,6 @@ pub known_holds : (file : Option (Option (List ℕ))) → IsSome file → file �
 known_holds None known there = let e : false ≡ true = known in cc
 known_holds (Some None) known there = absurd (there refl)
 known_holds (Some (Some bytes)) known there = (bytes, refl)
-
-pub tests_cause : (netlist tests report : List ℕ) (c : net.Netlist) (a m b : DeskView) (e : RunError)
-    → InCall Netlist a m → b.written ≡ m.written → (IsTrue a.steady → IsSome (a.file netlist))
-    → ((text : List ℕ) → IsInput Netlist netlist text a → IsGoodNetlist text c) → MayHold a netlist
-    → TestsCause c tests m b e → HasCause (sim netlist tests report) a b e
-tests_cause netlist tests report c a m b (Denied trouble) p same known good there h = absurd h
-tests_cause netlist tests report c a m b Usage p same known good there h = absurd h
-tests_cause netlist tests report c a m b TooLong p same known good there h = absurd h
-tests_cause netlist tests report c a m b (Refused error) p same known good there h = absurd h
-tests_cause netlist tests report c a m b ReadFault p same known good there h = record {
-  rose = omega (arith, p.after.in_faults, h.rose);
-  lacks = λ steady. record {
-    port = Tests;
-    name = tests;
-    reads = refl;
-    lacks = λ holds. h.lacks (subst IsTrue (sym p.after.steady) steady) (holds_later Netlist tests a m p holds);
-    reached = λ name is. subst (λ (n : List ℕ). Holds a n × AcceptsNetlist n a)
-        (let e : Some netlist ≡ Some name = is in cc)
-        (known_holds (a.file netlist) (known steady) there, accepts_netlist netlist c a there good);
-  };
-}
-tests_cause netlist tests report c a m b WriteFault p same known good there h = absurd h
-tests_cause netlist tests report c a m b NoMemory p same known good there h = inl (same ∙ p.written)
-tests_cause netlist tests report c a m b (BadTests line) p same known good there h = record {
-  netlist_name = netlist;
-  tests_name = tests;
-  report_name = report;
-  job_is = refl;
-  netlist = accepts_netlist netlist c a there good;
-  there = may_hold_before Netlist tests a m p h.there;
-  cause = λ n t inputs. (
-    c,
-    good n inputs.netlist_is,
-    h.cause t (input_later Netlist Tests tests t a m (λ e. cc) p inputs.tests_is),
-  );
-}
 
 -- ---- writing
 

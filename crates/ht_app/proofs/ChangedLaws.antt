@@ -1,9 +1,11 @@
 -- What calls leave as it was.
 use Rattle.std.proofs.Common.{◌≡◌, ◌≢◌, ◌⊎◌, inl, inr, ℕ, List, true, false, sym, ◌∙◌, ap, subst}
-use Rattle.std.specs.Prelude.{Option, None}
-use Rattle.ht_ports.specs.Desk.{DeskView, InCall, Writes, IsFilePort, IsOtherName}
+use Rattle.std.specs.Prelude.{Option, Some, None}
+use Rattle.std.specs.Option.{option_map}
+use Rattle.ht_ports.specs.Desk.{Created, DeskView, InCall, IsFilePort, IsOtherName, NotCreated, OutCall, Writes}
 use Rattle.ht_ports.specs.declared.ports.InPort.{InPort}
 use Rattle.ht_ports.specs.declared.ports.OutPort.{OutPort}
+use Rattle.ht_ports.specs.declared.ports.OutPort.TheVariants.{Tests, Report, Proofs, Out, Err}
 use Rattle.ht_ports.proofs.CallLaws.{after_trans}
 use Rattle.ht_app.specs.Changed.{Ports, ChangedOnly, IsCreatedOnly, IsOtherFile}
 use Rattle.ht_app.proofs.CreatedLaws.{kept, created_trans, other_later}
@@ -76,4 +78,72 @@ changed_by_writing ports port a b on others x = record {
   created = λ p. kept (ports.creates p) p a b (ap (λ f. f p) x.named, ap (λ f. f p) x.is_created);
   file = λ n other. x.call.other_files n (λ file. subst (λ (known : Option (List ℕ)). IsOtherName known n)
       (sym (ap (λ f. f port) x.named)) (others n (other port) file));
+}
+
+-- ---- the creation of a file
+
+created_here : (created : Option (List ℕ)) (port : OutPort) (name : List ℕ) (a b : DeskView) → created ≡ Some name
+    → b.named port ≡ option_map (λ (_ : List ℕ). name) (a.named port) → IsCreatedOnly created port a b
+created_here created port name a b is named =
+    subst (λ (known : Option (List ℕ)). IsCreatedOnly known port a b) (sym is) (inr named)
+
+created_beside : (created : Option (List ℕ)) (port p : OutPort) (a b : DeskView) → OutCall port a b → p ≢ port
+    → IsCreatedOnly created p a b
+created_beside created port p a b x other = kept created p a b (x.named.others p other, x.is_created.others p other)
+
+created_at : (creates : OutPort → Option (List ℕ)) (port p : OutPort) (name : List ℕ) (a b : DeskView)
+    → IsFilePort port → OutCall port a b → creates port ≡ Some name
+    → b.named port ≡ option_map (λ (_ : List ℕ). name) (a.named port) → IsCreatedOnly (creates p) p a b
+created_at creates Tests Tests name a b file x is named = created_here (creates Tests) Tests name a b is named
+created_at creates Tests Report name a b file x is named =
+    created_beside (creates Report) Tests Report a b x (λ e. cc)
+created_at creates Tests Proofs name a b file x is named =
+    created_beside (creates Proofs) Tests Proofs a b x (λ e. cc)
+created_at creates Tests Out name a b file x is named =
+    created_beside (creates Out) Tests Out a b x (λ e. cc)
+created_at creates Tests Err name a b file x is named =
+    created_beside (creates Err) Tests Err a b x (λ e. cc)
+created_at creates Report Tests name a b file x is named =
+    created_beside (creates Tests) Report Tests a b x (λ e. cc)
+created_at creates Report Report name a b file x is named = created_here (creates Report) Report name a b is named
+created_at creates Report Proofs name a b file x is named =
+    created_beside (creates Proofs) Report Proofs a b x (λ e. cc)
+created_at creates Report Out name a b file x is named =
+    created_beside (creates Out) Report Out a b x (λ e. cc)
+created_at creates Report Err name a b file x is named =
+    created_beside (creates Err) Report Err a b x (λ e. cc)
+created_at creates Proofs Tests name a b file x is named =
+    created_beside (creates Tests) Proofs Tests a b x (λ e. cc)
+created_at creates Proofs Report name a b file x is named =
+    created_beside (creates Report) Proofs Report a b x (λ e. cc)
+created_at creates Proofs Proofs name a b file x is named = created_here (creates Proofs) Proofs name a b is named
+created_at creates Proofs Out name a b file x is named =
+    created_beside (creates Out) Proofs Out a b x (λ e. cc)
+created_at creates Proofs Err name a b file x is named =
+    created_beside (creates Err) Proofs Err a b x (λ e. cc)
+created_at creates Out p name a b file x is named = absurd file
+created_at creates Err p name a b file x is named = absurd file
+
+pub changed_by_creating : (ports : Ports) (port : OutPort) (name : List ℕ) (a b : DeskView)
+    → IsFilePort port → ports.creates port ≡ Some name → ports.writes port ≡ true → OutCall port a b
+    → Created port name a b → ChangedOnly ports a b
+changed_by_creating ports port name a b file_port is on x made = record {
+  after = x.after;
+  left = λ p off. ap (λ f. f p) x.left;
+  is_open = λ p off. ap (λ f. f p) x.is_open;
+  written = λ p off. x.written.others p (other_out ports port p on off);
+  created = λ p. created_at ports.creates port p name a b file_port x is made.named;
+  file = λ n other. made.others n (λ file.
+      (subst (λ (created : Option (List ℕ)). IsOtherFile created (a.named port) n) is (other port)).1);
+}
+
+pub not_created : (ports : Ports) (port : OutPort) (a b : DeskView) → OutCall port a b → NotCreated port a b
+    → ChangedOnly ports a b
+not_created ports port a b x failed = record {
+  after = x.after;
+  left = λ p off. ap (λ f. f p) x.left;
+  is_open = λ p off. ap (λ f. f p) x.is_open;
+  written = λ p off. ap (λ f. f p) failed.written;
+  created = λ p. kept (ports.creates p) p a b (ap (λ f. f p) failed.named, ap (λ f. f p) failed.is_created);
+  file = λ n other. ap (λ f. f n) failed.file;
 }

@@ -1,6 +1,6 @@
 -- What `check` has read, and why it stops there.
 use Rattle.std.proofs.Common.{◌≡◌, ◌≢◌, inl, ℕ, List, [], Bool, true, false, IsTrue, take, refl, sym, ◌∙◌, ap, subst, arith}
-use Rattle.std.specs.Prelude.{IsSome, Some, None, ◌==◌}
+use Rattle.std.specs.Prelude.{IsSome, Some, None, ◌==◌, ◌||◌}
 use Rattle.std.specs.Io.KnownBytes.{append_known}
 use Rattle.ht_ports.specs.Causes.{Rose}
 use Rattle.ht_ports.specs.Desk.{AddedPart, DeskView, InCall, Holds, Writes}
@@ -24,7 +24,7 @@ use Rattle.ht_valid.proofs.DecidedLaws.{are_decided}
 use Rattle.ht_files.proofs.ShortNameLaws.{short_names}
 use Rattle.ht_asked.specs.Asked.{Asked}
 use Rattle.ht_app.specs.declared.run_error.RunError.{RunError}
-use Rattle.ht_app.specs.declared.run_error.RunError.TheVariants.{Denied, Usage, TooLong, Refused, ReadFault, WriteFault, NoMemory, BadTests}
+use Rattle.ht_app.specs.declared.run_error.RunError.TheVariants.{Denied, Usage, TooLong, Refused, ReadFault, WriteFault, NoMemory, BadTests, TooManyVectors, BadResponses}
 use Rattle.ht_app.specs.Inputs.{AcceptsFiles, AcceptsNetlist, AcceptsReport, AcceptsTests, AreCheckInputs, AreInputsToReport, CheckFiles, IsGoodNetlist, IsInput, MayHold}
 use Rattle.ht_app.specs.Errors.{exit_status}
 use Rattle.ht_app.specs.Changed.{ChangedOnly, IsUnread, job_ports}
@@ -90,7 +90,7 @@ module _ (names : CheckFiles) (c : net.Netlist) (representatives : List ℕ) whe
   accepts_second list a m n h = record {
     netlist = accepts_first a m h.netlist;
     there = may_hold_before in_port.Netlist names.tests a m h.netlist.frame h.there;
-    accepted = λ netlist tests both. (
+    so = λ netlist tests both. (
       c,
       h.netlist.good netlist both.netlist_is,
       (list, h.vectors tests (tests_before a m tests h.netlist both.tests_is)),
@@ -268,14 +268,18 @@ module _ (names : CheckFiles) (c : net.Netlist) (representatives : List ℕ) whe
   tests_stop a m b WriteFault h p cause = absurd cause
   tests_stop a m b NoMemory h p cause = inl (p.written ∙ h.frame.written)
   tests_stop a m b (BadTests line) h p cause = absurd cause
+  tests_stop a m b TooManyVectors h p cause = absurd cause
+  tests_stop a m b (BadResponses line) h p cause = absurd cause
 
   has_tests : (list : List (List Bool)) (a m n : DeskView) → IsTrue a.steady → TestsAreRead list a m n
       → HasTests job a
-  has_tests list a m n steady h = λ others is.
+  has_tests list a m n steady h = λ netlist tests of_netlist of_tests.
       let mine : Holds a names.tests = known_holds (a.file names.tests) (h.netlist.known names.tests steady)
       (may_hold_before in_port.Netlist names.tests a m h.netlist.frame h.there) in
-      subst (λ (f : CheckFiles). Holds a f.tests × AcceptsTests f.netlist f.tests a) (same_names names others is)
-      (mine, accepts_second list a m n h)
+      subst (λ (t : List ℕ). Holds a t × AcceptsTests netlist t a)
+      (let e : Some names.tests ≡ Some tests = of_tests in cc)
+      (mine, subst (λ (t : List ℕ). AcceptsTests t names.tests a)
+      (let e : Some names.netlist ≡ Some netlist = of_netlist in cc) (accepts_second list a m n h))
 
   pub report_stops : (list : List (List Bool)) (a m n b : DeskView) (e : RunError) → TestsAreRead list a m n
       → InCall in_port.Report n b
@@ -327,6 +331,8 @@ module _ (names : CheckFiles) (c : net.Netlist) (representatives : List ℕ) whe
   report_stops list a m n b WriteFault h p first cause = absurd cause
   report_stops list a m n b NoMemory h p first cause = inl (p.written ∙ h.frame.written ∙ h.netlist.frame.written)
   report_stops list a m n b (BadTests line) h p first cause = absurd cause
+  report_stops list a m n b TooManyVectors h p first cause = absurd cause
+  report_stops list a m n b (BadResponses line) h p first cause = absurd cause
 
   module _ (list : List (List Bool)) (budget : ℕ) (saids : List Said) (a m n o : DeskView)
       (h : ReportWasRead list budget saids a m n o) where
@@ -413,6 +419,8 @@ module _ (names : CheckFiles) (c : net.Netlist) (representatives : List ℕ) whe
     proofs_stop b NoMemory p first cause =
         inl (p.written ∙ h.frame.written ∙ h.tests.frame.written ∙ h.tests.netlist.frame.written)
     proofs_stop b (BadTests line) p first cause = absurd cause
+    proofs_stop b TooManyVectors p first cause = absurd cause
+    proofs_stop b (BadResponses line) p first cause = absurd cause
 
 -- ---- only a netlist is refused with status 3
 
@@ -426,6 +434,8 @@ file_not_refused name P a b ReadFault h three = omega (arith, three)
 file_not_refused name P a b WriteFault h three = absurd h
 file_not_refused name P a b NoMemory h three = omega (arith, three)
 file_not_refused name P a b (BadTests line) h three = absurd h
+file_not_refused name P a b TooManyVectors h three = absurd h
+file_not_refused name P a b (BadResponses line) h three = absurd h
 
 -- ---- what was touched
 
@@ -446,7 +456,7 @@ reads_four names a m n o b p q r s = let ports = reading (check_of_names names) 
     changed_trans ports a o b (reads_three names a m n o p q r) (changed_by_reading ports in_port.Proofs o b refl s)
 
 -- what it reads and then says on Out
-pub says_after : (names : CheckFiles) (status : ℕ) (a m b : DeskView) → (status == 3) ≡ false
+pub says_after : (names : CheckFiles) (status : ℕ) (a m b : DeskView) → (status == 3 || status == 7) ≡ false
     → (job_ports (check_of_names names) status).writes Out ≡ true → ChangedOnly (reading (check_of_names names)) a m
     → Writes Out m b → ChangedOnly (job_ports (check_of_names names) status) a b
 says_after names status a m b other on read says =

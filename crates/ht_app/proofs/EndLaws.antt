@@ -12,7 +12,7 @@ use Rattle.ht_engine.specs.Steps.{Settings}
 use Rattle.ht_engine.specs.EngineStands.{EngineView}
 use Rattle.ht_texts.specs.SearchReports.{HasPlainNames}
 use Rattle.ht_app.specs.declared.run_error.RunError.{RunError}
-use Rattle.ht_app.specs.declared.run_error.RunError.TheVariants.{Denied, Usage, TooLong, Refused, ReadFault, WriteFault, NoMemory, BadTests}
+use Rattle.ht_app.specs.declared.run_error.RunError.TheVariants.{Denied, Usage, TooLong, Refused, ReadFault, WriteFault, NoMemory, BadTests, TooManyVectors, BadResponses}
 use Rattle.ht_app.specs.FileTexts.{Names, Texts, with_more}
 use Rattle.ht_app.specs.Truncated.{StopsBeforeReport, StopsInLastFile}
 use Rattle.ht_app.specs.Run.{IsWriteFault}
@@ -58,6 +58,8 @@ cause_later a m b ReadFault p h = h
 cause_later a m b WriteFault p h = fault_later a m b p h
 cause_later a m b NoMemory p h = h
 cause_later a m b (BadTests line) p h = h
+cause_later a m b TooManyVectors p h = h
+cause_later a m b (BadResponses line) p h = h
 
 -- ---- the report isn't whole
 
@@ -69,7 +71,7 @@ module _ (names : Names) (tests proofs body total : List ℕ) (a b : DeskView) w
     tests_are = refl;
     proofs_are = refl;
     stops = inl (record {
-      report = inr (part.count, part.short, part.has.report.written);
+      text = inr (part.count, part.short, part.has.report.written);
       out = part.has.out ∙ nothing_appended (a.written Out);
     });
   }
@@ -84,7 +86,7 @@ module _ (names : Names) (tests proofs body total : List ℕ) (a b : DeskView) w
     stops = inr (inl (record {
       count = part.count;
       short = part.short;
-      report = part.has.report.written;
+      text = part.has.report.written;
       out = part.has.out;
     }));
   }

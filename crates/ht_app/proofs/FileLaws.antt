@@ -8,7 +8,7 @@ use Rattle.ht_collapse.proofs.ClassLaws.{one_list}
 use Rattle.ht_valid.specs.declared.trouble.Trouble.{Trouble}
 use Rattle.ht_valid.specs.declared.trouble.Trouble.TheVariants.{Tests, Report, Proofs, Fault}
 use Rattle.ht_valid.proofs.TroubleLaws.{valid_has_no_trouble}
-use Rattle.ht_asked.specs.Asked.{Asked, sim, gen, check, norm, demo}
+use Rattle.ht_asked.specs.Asked.{Asked, sim, gen, check, norm, demo, compact, diagnose}
 use Rattle.ht_app.specs.Inputs.{AcceptsFiles, AcceptsNetlist, AreBadFiles, AreCheckInputs, AreGoodFiles, AreGoodInputs, AreTrueFiles, AreValidFor, CheckFiles, IsGoodNetlist, check_files_of}
 use Rattle.ht_app.specs.Run.{AcceptsTo, AreInputsTo, Denies, check_of_names}
 use Rattle.ht_app.proofs.CheckLaws.{same_names}
@@ -64,3 +64,5 @@ not_denied (check netlist tests report proofs) trouble a b good h =
     good_not_denied (check_files_of netlist tests report proofs) trouble a b good h
 not_denied (norm netlist out) trouble a b good h = let other = h.job_is in cc
 not_denied (demo size seed) trouble a b good h = let other = h.job_is in cc
+not_denied (compact netlist tests out) trouble a b good h = let other = h.job_is in cc
+not_denied (diagnose netlist tests responses out) trouble a b good h = let other = h.job_is in cc

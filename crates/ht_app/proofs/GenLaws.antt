@@ -1,6 +1,6 @@
 -- The files of `gen`, carried to the run.
 use Rattle.std.proofs.Common.{◌≡◌, ◌⊎◌, inl, inr, ℕ, List, [], Bool, true, false, refl, sym, ◌∙◌, ap}
-use Rattle.std.specs.Prelude.{Option, Some, None, ◌==◌, nat_le}
+use Rattle.std.specs.Prelude.{Option, Some, None, ◌==◌, nat_le, ◌||◌}
 use Rattle.std.specs.Option.{option_map}
 use Rattle.std.specs.Io.KnownBytes.{append_known}
 use Rattle.ht_ports.specs.Desk.{DeskView, InCall}
@@ -11,7 +11,7 @@ use Rattle.ht_net.specs.Netlist as net
 use Rattle.ht_files.proofs.PlainNameLaws.{plain_names}
 use Rattle.ht_asked.specs.Asked.{Asked, gen, GenOptions}
 use Rattle.ht_app.specs.declared.run_error.RunError.{RunError}
-use Rattle.ht_app.specs.declared.run_error.RunError.TheVariants.{Denied, Usage, TooLong, Refused, ReadFault, WriteFault, NoMemory, BadTests}
+use Rattle.ht_app.specs.declared.run_error.RunError.TheVariants.{Denied, Usage, TooLong, Refused, ReadFault, WriteFault, NoMemory, BadTests, TooManyVectors, BadResponses}
 use Rattle.ht_app.specs.FileTexts.{Names}
 use Rattle.ht_app.specs.Inputs.{IsInput, IsGoodNetlist, AcceptsNetlist}
 use Rattle.ht_engine.specs.Steps.{Settings}
@@ -24,7 +24,7 @@ use Rattle.ht_app.specs.Run.{HasCause}
 use Rattle.ht_app.specs.Steps.{reading}
 use Rattle.ht_app.specs.Generating.{FillCause, HasGenerated, LeavesFiles, file_name, filling, is_gen_port}
 use Rattle.ht_app.proofs.ChangedLaws.{IsWithin, changed_by_reading, changed_trans, changed_within}
-use Rattle.ht_app.proofs.PortsLaws.{ends_reading, reading_within}
+use Rattle.ht_app.proofs.PortsLaws.{never_answered, ends_reading, reading_within}
 use Rattle.ht_app.proofs.OutputLaws.{created_as, stops_earlier}
 use Rattle.ht_app.proofs.EndLaws.{fault_later}
 
@@ -181,7 +181,7 @@ module _ (netlist : List ℕ) (names : Names) (options : GenOptions) where
       writes Out off = refl
       writes Err off = refl
 
-  after_reading : (status : ℕ) (a m b : DeskView) → (status == 3) ≡ false → InCall Netlist a m
+  after_reading : (status : ℕ) (a m b : DeskView) → (status == 3 || status == 7) ≡ false → InCall Netlist a m
       → ChangedOnly (job_ports job status) m b → ChangedOnly (job_ports job status) a b
   after_reading status a m b ne read x = changed_trans (job_ports job status) a m b
       (changed_within (reading job) (job_ports job status) a m (reading_within job status ne)
@@ -190,7 +190,8 @@ module _ (netlist : List ℕ) (names : Names) (options : GenOptions) where
   pub refused_changed : (e : RunError) (a b : DeskView) → InCall Netlist a b
       → ChangedOnly (job_ports job (exit_status e)) a b
   refused_changed e a b read =
-      ends_reading job e a b refl (changed_by_reading (reading job) Netlist a b refl read) (λ three. read)
+      let x = changed_by_reading (reading job) Netlist a b refl read in
+      ends_reading job a b refl x e (λ three. read) (λ seven. never_answered job a b refl x)
 
   pub done_changed : (a m b : DeskView) → InCall Netlist a m → ChangedOnly (filling names) m b
       → ChangedOnly (job_ports job 0) a b
@@ -210,6 +211,8 @@ module _ (netlist : List ℕ) (names : Names) (options : GenOptions) where
   left_changed NoMemory c a m b read left cause = after_reading 6 a m b refl read
       (changed_within files (job_ports job 6) m b running_out (files_only m b left.changed (left.silent refl)))
   left_changed (BadTests line) c a m b read left cause = absurd cause
+  left_changed TooManyVectors c a m b read left cause = absurd cause
+  left_changed (BadResponses line) c a m b read left cause = absurd cause
 
   -- ---- what it leaves
 
@@ -239,6 +242,8 @@ module _ (netlist : List ℕ) (names : Names) (options : GenOptions) where
       record { fault = fault_later a m b read.after cause; inputs = accepts; leaves = leaves }
   left_cause NoMemory a m b read accepts cause leaves = inr leaves
   left_cause (BadTests line) a m b read accepts cause leaves = absurd cause
+  left_cause TooManyVectors a m b read accepts cause leaves = absurd cause
+  left_cause (BadResponses line) a m b read accepts cause leaves = absurd cause
 
   created : (c : net.Netlist) (a m b : DeskView) → InCall Netlist a m → HasGenerated names c (settings_of options) m b
       → (port : OutPort) (n : List ℕ) → output_name job port ≡ Some n → IsCreatedAs port n a b

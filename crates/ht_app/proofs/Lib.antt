@@ -4,14 +4,15 @@ pub mod ReportFileLaws
 pub mod ProofsFileLaws
 pub mod SoFarLaws
 pub mod WrongLineLaws
+pub mod WrongRowLaws
 pub mod ReportLaws
-pub mod OneReadingLaws
 pub mod RefusalLaws
 pub mod CreatedLaws
 pub mod ChangedLaws
 pub mod PortsLaws
 pub mod ReadLaws
 pub mod CauseLaws
+pub mod ReadFilesLaws
 pub mod CheckLaws
 pub mod OutputLaws
 pub mod AskedLaws
@@ -19,6 +20,7 @@ pub mod InputLaws
 pub mod FileLaws
 pub mod StatusLaws
 pub mod PutLaws
+pub mod BeginLaws
 pub mod FrontLaws
 pub mod StepLaws
 pub mod EndLaws

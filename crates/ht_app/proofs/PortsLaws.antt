@@ -6,31 +6,40 @@ use Rattle.ht_ports.specs.declared.ports.InPort.{InPort}
 use Rattle.ht_ports.specs.declared.ports.InPort.TheVariants as in_port
 use Rattle.ht_ports.specs.declared.ports.OutPort.{OutPort}
 use Rattle.ht_ports.specs.declared.ports.OutPort.TheVariants.{Tests, Report, Proofs, Out, Err}
-use Rattle.ht_asked.specs.Asked.{Asked, sim, gen, check, norm, demo}
+use Rattle.ht_asked.specs.Asked.{Asked, sim, gen, check, norm, demo, compact, diagnose}
 use Rattle.ht_app.specs.declared.run_error.RunError.{RunError}
-use Rattle.ht_app.specs.declared.run_error.RunError.TheVariants.{Denied, Usage, TooLong, Refused, ReadFault, WriteFault, NoMemory, BadTests}
+use Rattle.ht_app.specs.declared.run_error.RunError.TheVariants.{Denied, Usage, TooLong, Refused, ReadFault, WriteFault, NoMemory, BadTests, TooManyVectors, BadResponses}
 use Rattle.ht_app.specs.Errors.{exit_status}
 use Rattle.ht_app.specs.Jobs.{input_name, output_name}
-use Rattle.ht_app.specs.Changed.{ChangedOnly, job_ports, ports_at, may_create, says_on_out, says_early}
+use Rattle.ht_app.specs.Changed.{ChangedOnly, IsUnread, job_ports, ports_at, may_create, says_on_out, says_early}
 use Rattle.ht_app.specs.Steps.{reading, writing}
+use Rattle.ht_app.proofs.CreatedLaws.{kept}
 use Rattle.ht_app.proofs.ChangedLaws.{IsWithin, changed_within, changed_trans, changed_by_reading, changed_by_writing}
 
 -- ---- reading
 
-reads_within : (job : Asked) (status : ℕ) → (status == 3) ≡ false → (p : InPort) → (job_ports job status).reads p
-    ≡ false
-    → is_some (input_name job p) ≡ false
-reads_within job status ne in_port.Netlist off = off
-reads_within job status ne in_port.Tests off =
-    subst (λ (b : Bool). (not b && is_some (input_name job in_port.Tests)) ≡ false) ne off
-reads_within job status ne in_port.Report off =
-    subst (λ (b : Bool). (not b && is_some (input_name job in_port.Report)) ≡ false) ne off
-reads_within job status ne in_port.Proofs off =
-    subst (λ (b : Bool). (not b && is_some (input_name job in_port.Proofs)) ≡ false) ne off
-reads_within job status ne in_port.Extra off =
-    subst (λ (b : Bool). (not b && is_some (input_name job in_port.Extra)) ≡ false) ne off
+neither_left : (a b : Bool) → (a || b) ≡ false → a ≡ false
+neither_left true b off = cc
+neither_left false b off = refl
 
-pub reading_within : (job : Asked) (status : ℕ) → (status == 3) ≡ false → IsWithin (reading job) (job_ports job status)
+reads_within : (job : Asked) (status : ℕ) → (status == 3 || status == 7) ≡ false → (p : InPort)
+    → (job_ports job status).reads p ≡ false → is_some (input_name job p) ≡ false
+reads_within job status ne = reads
+  where
+    after_netlist : (p : InPort) → (not (status == 3) && is_some (input_name job p)) ≡ false
+        → is_some (input_name job p) ≡ false
+    after_netlist p off = subst (λ (b : Bool). (not b && is_some (input_name job p)) ≡ false)
+        (neither_left (status == 3) (status == 7) ne) off
+
+    reads : (p : InPort) → (job_ports job status).reads p ≡ false → is_some (input_name job p) ≡ false
+    reads in_port.Netlist off = off
+    reads in_port.Tests off = after_netlist in_port.Tests off
+    reads in_port.Report off = after_netlist in_port.Report off
+    reads in_port.Proofs off = after_netlist in_port.Proofs off
+    reads in_port.Extra off = subst (λ (b : Bool). (not b && is_some (input_name job in_port.Extra)) ≡ false) ne off
+
+pub reading_within : (job : Asked) (status : ℕ) → (status == 3 || status == 7) ≡ false
+    → IsWithin (reading job) (job_ports job status)
 reading_within job status ne =
     record { reads = reads_within job status ne; creates = λ p. inl refl; writes = λ p off. refl }
 
@@ -39,26 +48,57 @@ not_read : (job : Asked) (a b : DeskView) → is_some (input_name job in_port.Ne
     → ChangedOnly (job_ports job 3) a b
 not_read job a b reads x = changed_by_reading (job_ports job 3) in_port.Netlist a b reads x
 
+-- responses are read only after good tests
+not_answered : (job : Asked) (a b : DeskView) → ChangedOnly (reading job) a b → IsUnread in_port.Extra a b
+    → ChangedOnly (job_ports job 7) a b
+not_answered job a b x unread = record {
+  after = x.after;
+  left = left;
+  is_open = is_open;
+  written = λ p off. x.written p refl;
+  created = λ p. kept ((job_ports job 7).creates p) p a b (x.created p);
+  file = λ n other. x.file n (λ p. tt);
+}
+  where
+    left : (p : InPort) → (job_ports job 7).reads p ≡ false → b.left p ≡ a.left p
+    left in_port.Netlist off = x.left in_port.Netlist off
+    left in_port.Tests off = x.left in_port.Tests off
+    left in_port.Report off = x.left in_port.Report off
+    left in_port.Proofs off = x.left in_port.Proofs off
+    left in_port.Extra off = unread.left
+
+    is_open : (p : InPort) → (job_ports job 7).reads p ≡ false → b.is_open p ≡ a.is_open p
+    is_open in_port.Netlist off = x.is_open in_port.Netlist off
+    is_open in_port.Tests off = x.is_open in_port.Tests off
+    is_open in_port.Report off = x.is_open in_port.Report off
+    is_open in_port.Proofs off = x.is_open in_port.Proofs off
+    is_open in_port.Extra off = unread.is_open
+
 -- a job that reads a netlist
-pub ends_reading : (job : Asked) (e : RunError) (a b : DeskView) → is_some (input_name job in_port.Netlist) ≡ true
-    → ChangedOnly (reading job) a b → (exit_status e ≡ 3 → InCall in_port.Netlist a b)
-    → ChangedOnly (job_ports job (exit_status e)) a b
-ends_reading job (Denied trouble) a b reads x first =
-    changed_within (reading job) (job_ports job 1) a b (reading_within job 1 refl) x
-ends_reading job Usage a b reads x first =
-    changed_within (reading job) (job_ports job 2) a b (reading_within job 2 refl) x
-ends_reading job TooLong a b reads x first = not_read job a b reads (first refl)
-ends_reading job (Refused error) a b reads x first = not_read job a b reads (first refl)
-ends_reading job ReadFault a b reads x first =
-    changed_within (reading job) (job_ports job 4) a b (reading_within job 4 refl)
-    x
-ends_reading job WriteFault a b reads x first =
-    changed_within (reading job) (job_ports job 5) a b (reading_within job 5 refl) x
-ends_reading job NoMemory a b reads x first =
-    changed_within (reading job) (job_ports job 6) a b (reading_within job 6 refl)
-    x
-ends_reading job (BadTests line) a b reads x first =
-    changed_within (reading job) (job_ports job 7) a b (reading_within job 7 refl) x
+module _ (job : Asked) (a b : DeskView) (reads : is_some (input_name job in_port.Netlist) ≡ true)
+    (x : ChangedOnly (reading job) a b)
+  where
+  reads_all : (status : ℕ) → (status == 3 || status == 7) ≡ false → ChangedOnly (job_ports job status) a b
+  reads_all status ne =
+      changed_within (reading job) (job_ports job status) a b (reading_within job status ne) x
+
+  pub ends_reading : (e : RunError) → (exit_status e ≡ 3 → InCall in_port.Netlist a b)
+      → (exit_status e ≡ 7 → IsUnread in_port.Extra a b) → ChangedOnly (job_ports job (exit_status e)) a b
+  ends_reading (Denied trouble) first second = reads_all 1 refl
+  ends_reading Usage first second = reads_all 2 refl
+  ends_reading TooLong first second = not_read job a b reads (first refl)
+  ends_reading (Refused error) first second = not_read job a b reads (first refl)
+  ends_reading ReadFault first second = reads_all 4 refl
+  ends_reading WriteFault first second = reads_all 5 refl
+  ends_reading NoMemory first second = reads_all 6 refl
+  ends_reading (BadTests line) first second = not_answered job a b x (second refl)
+  ends_reading TooManyVectors first second = reads_all 9 refl
+  ends_reading (BadResponses line) first second = reads_all 10 refl
+
+-- a job that asks for no responses doesn't read them
+pub never_answered : (job : Asked) (a b : DeskView) → is_some (input_name job in_port.Extra) ≡ false
+    → ChangedOnly (reading job) a b → IsUnread in_port.Extra a b
+never_answered job a b none x = record { left = x.left in_port.Extra none; is_open = x.is_open in_port.Extra none }
 
 -- ---- writing
 
@@ -75,46 +115,42 @@ may_begin (gen netlist tests report proofs options) status ends =
 may_begin (check netlist tests report proofs) status ends = ends
 may_begin (norm netlist out) status ends = ends
 may_begin (demo size seed) status ends = ends
+may_begin (compact netlist tests out) status ends = ends
+may_begin (diagnose netlist tests responses out) status ends = ends
 
-writing_within : (job : Asked) (status : ℕ) (name : List ℕ) → (status == 0 || status == 5) ≡ true
-    → output_name job Report ≡ Some name → IsWithin (writing name (says_on_out job)) (job_ports job status)
-writing_within job status name ends is = record { reads = λ p off. refl; creates = creates; writes = writes }
+writing_within : (job : Asked) (status : ℕ) → (status == 0 || status == 5) ≡ true
+    → IsWithin (writing job) (job_ports job status)
+writing_within job status ends = record { reads = λ p off. refl; creates = creates; writes = writes }
   where
     may : may_create job status ≡ true
     may = may_begin job status ends
 
-    creates : (p : OutPort) → ((writing name (says_on_out job)).creates p ≡ None)
-        ⊎ ((writing name (says_on_out job)).creates p ≡ (job_ports job status).creates p)
-    creates Tests = inl refl
-    creates Report = inr (sym (ap (λ b. if b then output_name job Report else None) may ∙ is))
-    creates Proofs = inl refl
-    creates Out = inl refl
-    creates Err = inl refl
+    creates : (p : OutPort) → ((writing job).creates p ≡ None)
+        ⊎ ((writing job).creates p ≡ (job_ports job status).creates p)
+    creates p = inr (sym (ap (λ b. if b then output_name job p else None) may))
 
-    writes : (p : OutPort) → (job_ports job status).writes p ≡ false → (writing name (says_on_out job)).writes p ≡ false
-    writes Tests off = refl
-    writes Report off =
-        let on : (job_ports job status).writes Report ≡ true =
-        ap (λ b. is_some (if b then output_name job Report else None)) may ∙ ap is_some is in
-        cc
-    writes Proofs off = refl
+    off_there : (p : OutPort) → is_some ((job_ports job status).creates p) ≡ false → is_some (output_name job p) ≡ false
+    off_there p off = subst (λ (b : Bool). is_some (if b then output_name job p else None) ≡ false) may off
+
+    writes : (p : OutPort) → (job_ports job status).writes p ≡ false → (writing job).writes p ≡ false
+    writes Tests off = off_there Tests off
+    writes Report off = off_there Report off
+    writes Proofs off = off_there Proofs off
     writes Out off =
         subst (λ (b : Bool). ((b || (says_early job && status == 6)) && says_on_out job) ≡ false) ends off
     writes Err off = refl
 
-pub ends_writing : (job : Asked) (status : ℕ) (name : List ℕ) (a m b : DeskView) → (status == 3) ≡ false
-    → (status == 0 || status == 5) ≡ true → output_name job Report ≡ Some name → ChangedOnly (reading job) a m
-    → ChangedOnly (writing name (says_on_out job)) m b → ChangedOnly (job_ports job status) a b
-ends_writing job status name a m b ne ends is x y = changed_trans (job_ports job status) a m b
+pub ends_writing : (job : Asked) (status : ℕ) (a m b : DeskView) → (status == 3 || status == 7) ≡ false
+    → (status == 0 || status == 5) ≡ true → ChangedOnly (reading job) a m → ChangedOnly (writing job) m b
+    → ChangedOnly (job_ports job status) a b
+ends_writing job status a m b ne ends x y = changed_trans (job_ports job status) a m b
     (changed_within (reading job) (job_ports job status) a m (reading_within job status ne) x)
-    (changed_within (writing name (says_on_out job)) (job_ports job status) m b (writing_within job status name ends is)
-    y)
+    (changed_within (writing job) (job_ports job status) m b (writing_within job status ends) y)
 
-pub fails_writing : (job : Asked) (e : RunError) (name : List ℕ) (a m b : DeskView) → e ≡ WriteFault
-    → output_name job Report ≡ Some name → ChangedOnly (reading job) a m
-    → ChangedOnly (writing name (says_on_out job)) m b → ChangedOnly (job_ports job (exit_status e)) a b
-fails_writing job e name a m b is of x y = subst (λ (t : RunError). ChangedOnly (job_ports job (exit_status t)) a b)
-    (sym is) (ends_writing job 5 name a m b refl refl of x y)
+pub fails_writing : (job : Asked) (e : RunError) (a m b : DeskView) → e ≡ WriteFault → ChangedOnly (reading job) a m
+    → ChangedOnly (writing job) m b → ChangedOnly (job_ports job (exit_status e)) a b
+fails_writing job e a m b is x y = subst (λ (t : RunError). ChangedOnly (job_ports job (exit_status t)) a b)
+    (sym is) (ends_writing job 5 a m b refl refl x y)
 
 -- ---- the line on Err
 
@@ -128,6 +164,8 @@ err_may (Some job) ReadFault = refl
 err_may (Some job) WriteFault = refl
 err_may (Some job) NoMemory = refl
 err_may (Some job) (BadTests line) = refl
+err_may (Some job) TooManyVectors = refl
+err_may (Some job) (BadResponses line) = refl
 
 pub changed_by_line : (asked : Option Asked) (e : RunError) (a m b : DeskView)
     → ChangedOnly (ports_at asked (exit_status e)) a m → Writes Err m b

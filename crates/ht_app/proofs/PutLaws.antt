@@ -4,21 +4,20 @@ use Rattle.std.specs.Prelude.{Option, Some, None, IsSome}
 use Rattle.std.specs.Option.{option_map}
 use Rattle.std.specs.Io.KnownBytes.{append_known}
 use Rattle.std.proofs.lemmas.List.{append-nil}
-use Rattle.ht_ports.specs.Desk.{DeskView, Created, NotCreated, OutCall, Writes, IsOtherName}
+use Rattle.ht_ports.specs.Desk.{DeskView, IsFilePort, OutCall, Writes, IsOtherName}
 use Rattle.ht_ports.specs.declared.ports.OutPort.{OutPort}
 use Rattle.ht_ports.specs.declared.ports.OutPort.TheVariants.{Tests, Report, Proofs, Out, Err}
 use Rattle.ht_ports.proofs.CallLaws.{append_known_more}
 use Rattle.ht_app.specs.FileTexts.{Names, Texts, no_texts, with_more}
-use Rattle.ht_app.specs.Changed.{ChangedOnly, IsCreatedOnly, IsOtherFile}
+use Rattle.ht_app.specs.Changed.{ChangedOnly, IsOtherFile}
 use Rattle.ht_app.specs.Truncated.{IsEmptiedIf}
 use Rattle.ht_app.specs.Steps.{IsBegun}
 use Rattle.ht_app.specs.Generating.{HasTexts, IsUntouched, StopsCreating, file_name, filling, is_gen_port}
-use Rattle.ht_app.proofs.CreatedLaws.{kept}
 use Rattle.ht_app.proofs.ChangedLaws.{changed_trans, changed_by_writing}
 
 -- ---- what was written
 
-appended : (known : Option (List ℕ)) (xs ys : List ℕ)
+pub appended : (known : Option (List ℕ)) (xs ys : List ℕ)
     → append_known (option_map (λ (_ : List ℕ). xs) known) ys ≡ option_map (λ (_ : List ℕ). xs ++ ys) known
 appended None xs ys = refl
 appended (Some zs) xs ys = refl
@@ -27,7 +26,7 @@ pub nothing_appended : (known : Option (List ℕ)) → append_known known [] ≡
 nothing_appended None = refl
 nothing_appended (Some xs) = ap Some (append-nil xs)
 
-begun_more : (port : OutPort) (name text more : List ℕ) (a m b : DeskView) → IsBegun port name text a m
+pub begun_more : (port : OutPort) (name text more : List ℕ) (a m b : DeskView) → IsBegun port name text a m
     → Writes port m b → b.written port ≡ append_known (m.written port) more → IsBegun port name (text ++ more) a b
 begun_more port name text more a m b begun w e = record {
   created = record {
@@ -37,7 +36,7 @@ begun_more port name text more a m b begun w e = record {
   written = e ∙ ap (λ known. append_known known more) begun.written ∙ appended (a.written port) text more;
 }
 
-begun_beside : (port p : OutPort) (name text : List ℕ) (a m b : DeskView) → p ≢ port → IsBegun p name text a m
+pub begun_beside : (port p : OutPort) (name text : List ℕ) (a m b : DeskView) → p ≢ port → IsBegun p name text a m
     → Writes port m b → IsBegun p name text a b
 begun_beside port p name text a m b other begun w = record {
   created = record {
@@ -49,7 +48,7 @@ begun_beside port p name text a m b other begun w = record {
 
 -- ---- which files change
 
-other_name : (known before : Option (List ℕ)) (name n : List ℕ) → known ≡ option_map (λ (_ : List ℕ). name) before
+pub other_name : (known before : Option (List ℕ)) (name n : List ℕ) → known ≡ option_map (λ (_ : List ℕ). name) before
     → IsOtherFile (Some name) known n → IsOtherName known n
 other_name known None name n is other = let none : false ≡ true = subst IsSome is other.0 in cc
 other_name known (Some old) name n is other = subst (λ (k : Option (List ℕ)). IsOtherName k n) (sym is) other.1
@@ -106,65 +105,13 @@ has_put names texts Err more a m b ne h w e = absurd (ne refl)
 
 -- ---- creation
 
-created_beside : (created : Option (List ℕ)) (port p : OutPort) (a b : DeskView) → OutCall port a b → p ≢ port
-    → IsCreatedOnly created p a b
-created_beside created port p a b x other = kept created p a b (x.named.others p other, x.is_created.others p other)
-
-created_at : (names : Names) (port p : OutPort) (name : List ℕ) (a b : DeskView) → OutCall port a b
-    → file_name names port ≡ Some name → b.named port ≡ option_map (λ (_ : List ℕ). name) (a.named port)
-    → IsCreatedOnly (file_name names p) p a b
-created_at names Tests Tests name a b x is e = inr (e ∙ ap (λ l. option_map (λ (_ : List ℕ). l) (a.named Tests))
-    (let s : Some names.tests ≡ Some name = is in let t : name ≡ names.tests = cc in t))
-created_at names Tests Report name a b x is e = created_beside (Some names.report) Tests Report a b x (λ p. cc)
-created_at names Tests Proofs name a b x is e = created_beside (Some names.proofs) Tests Proofs a b x (λ p. cc)
-created_at names Tests Out name a b x is e = created_beside None Tests Out a b x (λ p. cc)
-created_at names Tests Err name a b x is e = created_beside None Tests Err a b x (λ p. cc)
-created_at names Report Tests name a b x is e = created_beside (Some names.tests) Report Tests a b x (λ p. cc)
-created_at names Report Report name a b x is e = inr (e ∙ ap (λ l. option_map (λ (_ : List ℕ). l) (a.named Report))
-    (let s : Some names.report ≡ Some name = is in let t : name ≡ names.report = cc in t))
-created_at names Report Proofs name a b x is e = created_beside (Some names.proofs) Report Proofs a b x (λ p. cc)
-created_at names Report Out name a b x is e = created_beside None Report Out a b x (λ p. cc)
-created_at names Report Err name a b x is e = created_beside None Report Err a b x (λ p. cc)
-created_at names Proofs Tests name a b x is e = created_beside (Some names.tests) Proofs Tests a b x (λ p. cc)
-created_at names Proofs Report name a b x is e = created_beside (Some names.report) Proofs Report a b x (λ p. cc)
-created_at names Proofs Proofs name a b x is e = inr (e ∙ ap (λ l. option_map (λ (_ : List ℕ). l) (a.named Proofs))
-    (let s : Some names.proofs ≡ Some name = is in let t : name ≡ names.proofs = cc in t))
-created_at names Proofs Out name a b x is e = created_beside None Proofs Out a b x (λ p. cc)
-created_at names Proofs Err name a b x is e = created_beside None Proofs Err a b x (λ p. cc)
-created_at names Out p name a b x is e = let none : Some name ≡ None = sym is in cc
-created_at names Err p name a b x is e = let none : Some name ≡ None = sym is in cc
-
-not_err : (names : Names) (port p : OutPort) (name : List ℕ) → file_name names port ≡ Some name
-    → is_gen_port p ≡ false → p ≢ port
-not_err names port Tests name is off e = cc
-not_err names port Report name is off e = cc
-not_err names port Proofs name is off e = cc
-not_err names port Out name is off e = cc
-not_err names port Err name is off e =
-    let none : None ≡ Some name = ap (file_name names) e ∙ is in cc
-
-pub created_only_there : (names : Names) (port : OutPort) (name : List ℕ) (a b : DeskView) → OutCall port a b
-    → file_name names port ≡ Some name → Created port name a b → ChangedOnly (filling names) a b
-created_only_there names port name a b x is made = record {
-  after = x.after;
-  left = λ p off. ap (λ f. f p) x.left;
-  is_open = λ p off. ap (λ f. f p) x.is_open;
-  written = λ p off. x.written.others p (not_err names port p name is off);
-  created = λ p. created_at names port p name a b x is made.named;
-  file = λ n other. made.others n (λ file.
-      (subst (λ (created : Option (List ℕ)). IsOtherFile created (a.named port) n) is (other port)).1);
-}
-
-pub not_created : (names : Names) (port : OutPort) (a b : DeskView) → OutCall port a b → NotCreated port a b
-    → ChangedOnly (filling names) a b
-not_created names port a b x failed = record {
-  after = x.after;
-  left = λ p off. ap (λ f. f p) x.left;
-  is_open = λ p off. ap (λ f. f p) x.is_open;
-  written = λ p off. ap (λ f. f p) failed.written;
-  created = λ p. kept (file_name names p) p a b (ap (λ f. f p) failed.named, ap (λ f. f p) failed.is_created);
-  file = λ n other. ap (λ f. f n) failed.file;
-}
+pub is_gen_file : (names : Names) (port : OutPort) (name : List ℕ) → file_name names port ≡ Some name
+    → IsFilePort port × (is_gen_port port ≡ true)
+is_gen_file names Tests name is = (tt, refl)
+is_gen_file names Report name is = (tt, refl)
+is_gen_file names Proofs name is = (tt, refl)
+is_gen_file names Out name is = let none : None ≡ Some name = is in cc
+is_gen_file names Err name is = let none : None ≡ Some name = is in cc
 
 pub untouched_beside : (port p : OutPort) (a b : DeskView) → OutCall port a b → p ≢ port → IsUntouched p a b
 untouched_beside port p a b x other = record {

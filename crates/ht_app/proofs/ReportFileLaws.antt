@@ -24,7 +24,7 @@ use Rattle.ht_judge.specs.declared.judge_error.JudgeError.{JudgeError}
 use Rattle.ht_judge.specs.declared.judge_error.JudgeError.TheVariants as judge
 use Rattle.ht_judge.specs.ReportJudging.{KeepsSaid, IsTrueReport, JudgesReport, ReportEndHasCause, ReportJudgeView, ReportLineDeniedFor}
 use Rattle.ht_app.specs.declared.run_error.RunError.{RunError}
-use Rattle.ht_app.specs.declared.run_error.RunError.TheVariants.{Denied, Usage, TooLong, Refused, ReadFault, WriteFault, NoMemory, BadTests}
+use Rattle.ht_app.specs.declared.run_error.RunError.TheVariants.{Denied, Usage, TooLong, Refused, ReadFault, WriteFault, NoMemory, BadTests, TooManyVectors, BadResponses}
 use Rattle.ht_app.specs.Errors.{judged_error_of}
 use Rattle.ht_app.specs.Inputs.{MayHold}
 use Rattle.ht_app.specs.Judging.{AreFine, DeniesReport, FileCause, IfDenied, IsDeniedBy, IsOfReport, IsFineReport, IsReadAs, IsReportFileTrouble, ReportBasis, StandsForReport, StopsAtLong, StopsIn}
@@ -238,6 +238,8 @@ module _ (basis : ReportBasis) (text : List ℕ) where
   stops_in_report WriteFault is classes names stops = tt
   stops_in_report NoMemory is classes names stops = tt
   stops_in_report (BadTests line) is classes names stops = tt
+  stops_in_report TooManyVectors is classes names stops = tt
+  stops_in_report (BadResponses line) is classes names stops = tt
 
   -- what the end of a report denies
   pub ends_in_report : (v : ReportJudgeView) (read : List (List ℕ)) (e : JudgeError) → IsCircuit basis.circuit

@@ -1,64 +1,67 @@
 -- The first line of a tests text that is no vector, or at which the text is too long.
-use Rattle.std.proofs.Common.{◌≡◌, inl, inr, ℕ, ◌+◌, ◌-◌, ◌<◌, ◌≤◌, List, [], Bool, length, get_or, Some, Option, map, ◌∙◌, ap, subst, arith}
-use Rattle.std.proofs.lemmas.List.{length-map, get_or-map}
-use Rattle.std.proofs.Math.ListN.{get_or-append}
-use Rattle.ht_ports.specs.LineRule.{NextLine, IsTooLongLine, max_text_bytes, lines_of}
+use Rattle.std.proofs.Common.{◌≡◌, inl, inr, ℕ, ◌+◌, ◌<◌, ◌≤◌, List, Bool, length, map, ap, subst, arith}
+use Rattle.std.specs.Prelude.{All}
+use Rattle.std.proofs.lemmas.List.{length-map}
 use Rattle.ht_net.specs.Netlist.{Netlist, max_inputs}
-use Rattle.ht_texts.specs.Tests.{bit_code, vector_text, IsTextOf, IsMalformedTest, IsNoVector, IsTooLong, IsWrongLine, line_at}
-use Rattle.ht_texts.proofs.LinesSoFarLaws.{read_lines_fit}
-use Rattle.ht_app.proofs.NextLineLaws.{IsNextLine, next_is_long, next_line_is}
-use Rattle.ht_app.proofs.SoFarLaws.{SoFar}
+use Rattle.ht_texts.specs.Tests.{bit_code, vector_text, IsTextOf, IsMalformedTest, IsNoVector, IsTooLong, IsWrongLine}
+use Rattle.ht_ports.specs.Desk.{DeskView}
+use Rattle.ht_compact.specs.TestsToCompact.{AreFirstVectors}
+use Rattle.ht_compact.specs.declared.compaction.TheConstants.{MAX_COMPACTED}
+use Rattle.ht_compact.proofs.FirstVectorLaws.{first_are_right}
+use Rattle.ht_app.specs.declared.run_error.RunError.{RunError}
+use Rattle.ht_app.specs.declared.run_error.RunError.TheVariants.{Denied, Usage, TooLong, Refused, ReadFault, WriteFault, NoMemory, BadTests, TooManyVectors, BadResponses}
+use Rattle.ht_app.specs.Steps.{FewTestsCause, IsWithinFirst, TestsCause}
+use Rattle.ht_app.proofs.NextLineLaws.{IsNextLine, IsNextLong}
+use Rattle.ht_app.proofs.SoFarLaws.{BeginsWith, next_at}
 
--- no line so far is wrong
-none_before : (c : Netlist) (text : List ℕ) (passed : ℕ) (list : List (List Bool)) (rest : List ℕ)
-    → SoFar c text passed list rest → passed ≤ max_text_bytes
-    → (m : ℕ) → m < length list + 1 → ¬ IsWrongLine c text m
-none_before c text passed list rest so fits m lt (inl none) =
-    let inside : m - 1 < length list = omega (arith, lt, none.counted.0) in
-    let at : line_at text m ≡ vector_text (get_or list (m - 1) []) =
-    ap (λ l. get_or l (m - 1) []) so.lines.lines_are
-    ∙ get_or-append (map vector_text list) (lines_of rest) [] (m - 1)
-    (omega (arith, inside, length-map list vector_text))
-    ∙ get_or-map vector_text list (m - 1) [] [] inside in
-    none.none (get_or list (m - 1) []) (record { characters = at; bits = so.widths (m - 1) [] inside })
-none_before c text passed list rest so fits m lt (inr long) =
-    read_lines_fit text passed (map vector_text list) rest m so.lines fits
-    (omega (arith, lt, length-map list vector_text)) long
+module _ (c : Netlist) (text : List ℕ) (list : List (List Bool)) (begins : BeginsWith bit_code c.inputs text list)
+    (widths : All (λ (vector : List Bool). length vector ≡ c.inputs) list)
+  where
+  pub first_vectors_are : AreFirstVectors c text list
+  first_vectors_are =
+      record { lines = begins.lines; there = begins.there; widths = widths; short = begins.short }
 
--- the line that comes next is no vector's
-no_vector : (c : Netlist) (text : List ℕ) (list : List (List Bool)) (line : List ℕ)
-    → IsNextLine text (map vector_text list) line
-    → ((vector : List Bool) → ¬ IsTextOf c.inputs line vector) → IsNoVector c text (length list + 1)
-no_vector c text list line next none =
-    let size = length-map list vector_text in
-    let at : line_at text (length list + 1) ≡ line =
-    ap (λ n. get_or (lines_of text) n []) (omega (arith, size)) ∙ next.at in
-    record {
-      counted = (omega arith, omega (arith, next.there, size));
-      none = λ vector of. none vector (subst (λ (l : List ℕ). IsTextOf c.inputs l vector) at of);
-    }
+  malformed_next : IsWrongLine c text (length list + 1) → IsMalformedTest c text (length list + 1)
+  malformed_next wrong = record {
+    wrong = wrong;
+    first = λ m lt. first_are_right c text list m first_vectors_are (omega (arith, lt));
+  }
 
-pub bad_line : (c : Netlist) (text : List ℕ) (passed : ℕ) (list : List (List Bool)) (rest line : List ℕ) (count : ℕ)
-    (new : Option (List ℕ))
-    → SoFar c text passed list rest → passed ≤ max_text_bytes → NextLine line count (Some rest) new
-    → ((vector : List Bool) → ¬ IsTextOf c.inputs line vector)
-    → IsMalformedTest c text (length list + 1)
-bad_line c text passed list rest line count new so fits next none = record {
-  wrong = inl (no_vector c text list line
-      (next_line_is text passed (map vector_text list) rest line count new so.lines next) none);
-  first = none_before c text passed list rest so fits;
+  -- the line that comes next is no vector's
+  no_vector : (line : List ℕ) → IsNextLine text (map vector_text list) line
+      → ((vector : List Bool) → ¬ IsTextOf c.inputs line vector) → IsNoVector c text (length list + 1)
+  no_vector line next none =
+      let at = next_at bit_code c.inputs text list line next in
+      record {
+        counted = (omega arith, at.0);
+        none = λ vector of. none vector (subst (λ (l : List ℕ). IsTextOf c.inputs l vector) at.1 of);
+      }
+
+  pub bad_line : (line : List ℕ) → IsNextLine text (map vector_text list) line
+      → ((vector : List Bool) → ¬ IsTextOf c.inputs line vector) → IsMalformedTest c text (length list + 1)
+  bad_line line next none = malformed_next (inl (no_vector line next none))
+
+  pub too_long : c.inputs ≤ max_inputs → IsNextLong max_inputs text (map vector_text list)
+      → IsMalformedTest c text (length list + 1)
+  too_long few next = malformed_next (elim next.long [
+    | inl wide ↦ inl (no_vector next.line next.next (λ vector of.
+        absurd (omega (arith, wide, few, of.bits, ap length of.characters, length-map vector bit_code))))
+    | inr late ↦ inr (subst (λ n. IsTooLong text (n + 1)) (length-map list vector_text) late)
+  ])
+
+-- a malformed line among the first is one that `compact` reads
+pub few_cause : (c : Netlist) (name : List ℕ) (a b : DeskView) (e : RunError) → TestsCause c name a b e
+    → IsWithinFirst (MAX_COMPACTED + 1) e → FewTestsCause c name a b e
+few_cause c name a b (Denied trouble) cause early = cause
+few_cause c name a b Usage cause early = cause
+few_cause c name a b TooLong cause early = cause
+few_cause c name a b (Refused error) cause early = cause
+few_cause c name a b ReadFault cause early = cause
+few_cause c name a b WriteFault cause early = cause
+few_cause c name a b NoMemory cause early = cause
+few_cause c name a b (BadTests line) cause early = record {
+  there = cause.there;
+  cause = λ text is. record { malformed = cause.cause text is; early = early };
 }
-
-pub too_long : (c : Netlist) (text : List ℕ) (passed : ℕ) (list : List (List Bool)) (rest : List ℕ)
-    → SoFar c text passed list rest → passed ≤ max_text_bytes → c.inputs ≤ max_inputs
-    → IsTooLongLine max_inputs passed rest → IsMalformedTest c text (length list + 1)
-too_long c text passed list rest so fits few long =
-    let next = next_is_long max_inputs text passed (map vector_text list) rest so.lines fits long in
-    record {
-      wrong = elim next.long [
-        | inl wide ↦ inl (no_vector c text list next.line next.next (λ vector of.
-            absurd (omega (arith, wide, few, of.bits, ap length of.characters, length-map vector bit_code))))
-        | inr late ↦ inr (subst (λ n. IsTooLong text (n + 1)) (length-map list vector_text) late)
-      ];
-      first = none_before c text passed list rest so fits;
-    }
+few_cause c name a b TooManyVectors cause early = absurd cause
+few_cause c name a b (BadResponses line) cause early = cause

@@ -9,8 +9,11 @@ use Rattle.ht_ports.specs.declared.ports.OutPort.TheVariants.{Tests, Report, Pro
 use Rattle.ht_net.specs.Netlist as net
 use Rattle.ht_bench.specs.Normal.{normal_text}
 use Rattle.ht_texts.specs.Tests.{IsTestText}
-use Rattle.ht_asked.specs.Asked.{Asked, sim, gen, check, norm, demo}
+use Rattle.ht_asked.specs.Asked.{Asked, sim, gen, check, norm, demo, compact, diagnose}
 use Rattle.ht_app.specs.Inputs.{IsInput, IsGoodNetlist, AreInputs, AcceptsInputs}
+use Rattle.ht_app.specs.Inputs.{DiagnosisFiles, AreDiagnosisInputs, diagnosis_files_of}
+use Rattle.ht_app.specs.CompactedTests.{IsCompacted}
+use Rattle.ht_app.specs.DiagnosisReports.{IsDiagnosed}
 use Rattle.ht_app.specs.Demo.{HasDemoLines}
 use Rattle.ht_app.specs.Jobs.{output_name, settings_of}
 use Rattle.ht_app.specs.Simulation.{IsReportOf}
@@ -29,12 +32,12 @@ pub record IsSimulated (netlist tests report total : List ℕ) : Type 0 where
 
 -- ---- the output
 
--- the report of the two files stands, and its total line was added to Out
-pub record HasReport (netlist tests : List ℕ) (old new : DeskView) : Type 0 where
-  pub report : List ℕ
+-- a text stands at the port, its total line was added to Out, and they are so
+pub record HasTextWithTotal (port : OutPort) (AreSo : List ℕ → List ℕ → Type 0) (old new : DeskView) : Type 0 where
+  pub text : List ℕ
   pub total : List ℕ
-  pub simulated : IsSimulated netlist tests report total
-  pub stands : new.written Report ≡ option_map (λ _. report) (old.written Report)
+  pub so : AreSo text total
+  pub stands : new.written port ≡ option_map (λ _. text) (old.written port)
   pub said : new.written Out ≡ append_known (old.written Out) total
 
 -- The tests, the report and the proofs of the netlist's circuit stand, with one true verdict for each fault, and the
@@ -64,13 +67,20 @@ valid_line = codes "valid\n"
 
 abbrev pub HasOutput : Asked → DeskView → DeskView → Type 0
 HasOutput (sim netlist_name tests_name report_name) old new = (netlist tests : List ℕ)
-    → AreInputs netlist_name tests_name netlist tests old → HasReport netlist tests old new
+    → AreInputs netlist_name tests_name netlist tests old
+    → HasTextWithTotal Report (IsSimulated netlist tests) old new
 HasOutput (gen netlist_name tests_name report_name proofs_name options) old new = (netlist : List ℕ)
     → IsInput Netlist netlist_name netlist old → HasFiles netlist (settings_of options) old new
 HasOutput (check netlist tests report proofs) old new = new.written Out ≡ append_known (old.written Out) valid_line
 HasOutput (norm netlist_name out_name) old new = (netlist : List ℕ) → IsInput Netlist netlist_name netlist old
     → HasNormalText netlist old new
 HasOutput (demo size seed) old new = HasDemoLines size seed old new
+HasOutput (compact netlist_name tests_name out_name) old new = (netlist tests : List ℕ)
+    → AreInputs netlist_name tests_name netlist tests old
+    → HasTextWithTotal Tests (IsCompacted netlist tests) old new
+HasOutput (diagnose netlist tests responses out) old new = (texts : DiagnosisFiles)
+    → AreDiagnosisInputs (diagnosis_files_of netlist tests responses) texts old
+    → HasTextWithTotal Report (IsDiagnosed texts) old new
 
 -- the port was created under this name
 pub record IsCreatedAs (port : OutPort) (name : List ℕ) (old new : DeskView) : Type 0 where

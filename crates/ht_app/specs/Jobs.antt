@@ -5,7 +5,7 @@ use Rattle.ht_ports.specs.declared.ports.InPort.{InPort}
 use Rattle.ht_ports.specs.declared.ports.InPort.TheVariants as in_port
 use Rattle.ht_ports.specs.declared.ports.OutPort.{OutPort}
 use Rattle.ht_ports.specs.declared.ports.OutPort.TheVariants.{Tests, Report, Proofs}
-use Rattle.ht_asked.specs.Asked.{Asked, sim, gen, check, norm, GenOptions}
+use Rattle.ht_asked.specs.Asked.{Asked, sim, gen, check, norm, compact, diagnose, GenOptions}
 use Rattle.ht_engine.specs.Steps.{Settings}
 
 -- what the options of `gen` tell the generator
@@ -22,6 +22,11 @@ input_name (check netlist tests report proofs) in_port.Tests = Some tests
 input_name (check netlist tests report proofs) in_port.Report = Some report
 input_name (check netlist tests report proofs) in_port.Proofs = Some proofs
 input_name (norm netlist out) in_port.Netlist = Some netlist
+input_name (compact netlist tests out) in_port.Netlist = Some netlist
+input_name (compact netlist tests out) in_port.Tests = Some tests
+input_name (diagnose netlist tests responses out) in_port.Netlist = Some netlist
+input_name (diagnose netlist tests responses out) in_port.Tests = Some tests
+input_name (diagnose netlist tests responses out) in_port.Extra = Some responses
 input_name _ _ = None
 
 -- the file that it writes at the port
@@ -31,6 +36,8 @@ output_name (gen netlist tests report proofs options) Tests = Some tests
 output_name (gen netlist tests report proofs options) Report = Some report
 output_name (gen netlist tests report proofs options) Proofs = Some proofs
 output_name (norm netlist out) Report = Some out
+output_name (compact netlist tests out) Tests = Some out
+output_name (diagnose netlist tests responses out) Report = Some out
 output_name _ _ = None
 
 -- the desk holds the files that the job reads

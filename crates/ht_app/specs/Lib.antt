@@ -10,4 +10,6 @@ pub mod Steps
 pub mod FileTexts
 pub mod Generating
 pub mod Simulation
+pub mod CompactedTests
+pub mod DiagnosisReports
 pub mod Judging

@@ -4,21 +4,23 @@ use Rattle.std.specs.Io.KnownBytes.{append_known}
 use Rattle.ht_ports.specs.Causes.{Rose}
 use Rattle.ht_ports.specs.Desk.{DeskView, IsAfter, Holds, Writes}
 use Rattle.ht_ports.specs.declared.ports.InPort.{InPort}
-use Rattle.ht_ports.specs.declared.ports.InPort.TheVariants.{Netlist, Report, Proofs}
+use Rattle.ht_ports.specs.declared.ports.InPort.TheVariants.{Netlist, Tests, Report, Proofs, Extra}
 use Rattle.ht_ports.specs.declared.ports.OutPort.TheVariants.{Err}
 use Rattle.ht_net.specs.Netlist as net
 use Rattle.ht_bench.specs.Text.{max_netlist_bytes, IsNetlistOf, Refuses}
 use Rattle.ht_bench.specs.declared.error.BenchError.{BenchError}
 use Rattle.ht_bench.specs.declared.error.BenchError.TheVariants as bench
 use Rattle.ht_texts.specs.Tests.{IsMalformedTest}
+use Rattle.ht_compact.specs.TestsToCompact.{HasTooManyVectors, IsMalformedEarly}
+use Rattle.ht_dictionary.specs.ResponseTexts.{IsMalformedResponse}
 use Rattle.ht_collapse.specs.Classes.{AreClasses}
 use Rattle.ht_valid.specs.declared.trouble.Trouble.{Trouble}
 use Rattle.ht_valid.specs.declared.trouble.Trouble.TheVariants as trouble
 use Rattle.ht_valid.specs.FirstTrouble.{IsFirstTrouble}
-use Rattle.ht_asked.specs.Asked.{Asked, sim, check}
+use Rattle.ht_asked.specs.Asked.{Asked, sim, check, compact, diagnose}
 use Rattle.ht_app.specs.declared.run_error.RunError.{RunError}
-use Rattle.ht_app.specs.declared.run_error.RunError.TheVariants.{Denied, Usage, TooLong, Refused, ReadFault, WriteFault, NoMemory, BadTests}
-use Rattle.ht_app.specs.Inputs.{IsInput, IsGoodNetlist, MayHold, AreInputs, AcceptsNetlist, AcceptsTests, AcceptsReport, AcceptsInputs, CheckFiles, AreInputsToReport, AreCheckInputs}
+use Rattle.ht_app.specs.declared.run_error.RunError.TheVariants.{Denied, Usage, TooLong, Refused, ReadFault, WriteFault, NoMemory, BadTests, TooManyVectors, BadResponses}
+use Rattle.ht_app.specs.Inputs.{IsInput, IsGoodNetlist, MayHold, AreInputs, AcceptsNetlist, AcceptsTests, AcceptsReport, AcceptsInputs, CheckFiles, AreInputsToReport, AreCheckInputs, ReadsTests, ReadsResponses, DiagnosisFiles}
 use Rattle.ht_app.specs.Jobs.{input_name}
 use Rattle.ht_app.specs.Changed.{IsUnread}
 use Rattle.ht_app.specs.Truncated.{IsTruncated, RunsOut}
@@ -43,16 +45,31 @@ pub record IsRefused (error : BenchError) (text : List ℕ) : Type 0 where
   pub none : (c : net.Netlist) → ¬ IsNetlistOf text c
   pub not_memory : error ≢ bench.NoMemory
 
--- Of `sim`: the netlist is accepted, the tests are there, and this is their first line that is no vector.
-pub record RefusesTests (job : Asked) (old : DeskView) (line : ℕ) : Type 0 where
+-- The netlist is accepted, the tests are there, and this is their first line that is no vector; of `compact` it is one
+-- of the lines that are read. `check` denies such tests.
+abbrev pub RefusesTests : Asked → DeskView → ℕ → Type 0
+RefusesTests (sim netlist tests report) old line = ReadsTests netlist tests old (λ c text. IsMalformedTest c text line)
+RefusesTests (compact netlist tests out) old line =
+    ReadsTests netlist tests old (λ c text. IsMalformedEarly c text line)
+RefusesTests (diagnose netlist tests responses out) old line =
+    ReadsTests netlist tests old (λ c text. IsMalformedTest c text line)
+RefusesTests job old line = ⊥
+
+-- Of `compact`: the netlist is accepted, the tests are there, and begin with more vectors than are compacted.
+pub record RefusesMany (job : Asked) (old : DeskView) : Type 0 where
   pub netlist_name : List ℕ
   pub tests_name : List ℕ
-  pub report_name : List ℕ
-  pub job_is : job ≡ sim netlist_name tests_name report_name
-  pub netlist : AcceptsNetlist netlist_name old
-  pub there : MayHold old tests_name
-  pub cause : (netlist tests : List ℕ) → AreInputs netlist_name tests_name netlist tests old
-      → (c : net.Netlist) × IsGoodNetlist netlist c × IsMalformedTest c tests line
+  pub out_name : List ℕ
+  pub job_is : job ≡ compact netlist_name tests_name out_name
+  pub reads : ReadsTests netlist_name tests_name old HasTooManyVectors
+
+-- Of `diagnose`: the netlist and the tests are accepted, the responses are there, and this is the first line that
+-- shows that they aren't a row for each vector.
+pub record RefusesResponses (job : Asked) (old : DeskView) (line : ℕ) : Type 0 where
+  pub names : DiagnosisFiles
+  pub out_name : List ℕ
+  pub job_is : job ≡ diagnose names.netlist names.tests names.responses out_name
+  pub reads : ReadsResponses names old (λ width vectors text. IsMalformedResponse width vectors text line)
 
 -- ---- files that aren't valid
 
@@ -104,12 +121,12 @@ pub record Denies (job : Asked) (trouble : Trouble) (old new : DeskView) : Type 
 abbrev pub HasNetlist : Asked → DeskView → Type 0
 HasNetlist job desk = (name : List ℕ) → input_name job Netlist ≡ Some name → Holds desk name × AcceptsNetlist name desk
 
--- of `check`: the tests are, for the netlist's circuit
+-- the tests are, for the netlist's circuit
 abbrev pub HasTests : Asked → DeskView → Type 0
-HasTests job desk = (names : CheckFiles) → job ≡ check_of_names names
-    → Holds desk names.tests × AcceptsTests names.netlist names.tests desk
+HasTests job desk = (netlist tests : List ℕ) → input_name job Netlist ≡ Some netlist → input_name job Tests ≡ Some tests
+    → Holds desk tests × AcceptsTests netlist tests desk
 
--- and the report is, which agrees with them
+-- of `check`: and the report is, which agrees with them
 abbrev pub HasGoodReport : Asked → DeskView → Type 0
 HasGoodReport job desk = (names : CheckFiles) → job ≡ check_of_names names
     → Holds desk names.report × AcceptsReport names desk
@@ -118,6 +135,7 @@ HasGoodReport job desk = (names : CheckFiles) → job ≡ check_of_names names
 abbrev pub IsReached : Asked → InPort → DeskView → Type 0
 IsReached job Netlist desk = Unit {0}
 IsReached job Report desk = HasNetlist job desk × HasTests job desk
+IsReached job Extra desk = HasNetlist job desk × HasTests job desk
 IsReached job Proofs desk = HasNetlist job desk × HasTests job desk × HasGoodReport job desk
 IsReached job port desk = HasNetlist job desk
 
@@ -157,6 +175,8 @@ HasCause job old new ReadFault = FailsToRead job old new
 HasCause job old new WriteFault = FailsToWrite job old new
 HasCause job old new NoMemory = RunsOut job old new
 HasCause job old new (BadTests line) = RefusesTests job old line
+HasCause job old new TooManyVectors = RefusesMany job old
+HasCause job old new (BadResponses line) = RefusesResponses job old line
 
 -- The same where words ask for a job or for none. Where they have no form, the desk isn't touched; memory may run out
 -- before they are read.

@@ -8,8 +8,11 @@ use Rattle.ht_ports.specs.declared.ports.OutPort.{OutPort}
 use Rattle.ht_ports.specs.declared.ports.OutPort.TheVariants.{Tests, Report, Proofs, Out}
 use Rattle.ht_net.specs.Netlist as net
 use Rattle.ht_bench.specs.Normal.{normal_text}
-use Rattle.ht_asked.specs.Asked.{Asked, sim, gen, check, norm, demo}
+use Rattle.ht_asked.specs.Asked.{Asked, sim, gen, check, norm, demo, compact, diagnose}
 use Rattle.ht_app.specs.Inputs.{IsInput, IsGoodNetlist, AreInputs}
+use Rattle.ht_app.specs.Inputs.{DiagnosisFiles, AreDiagnosisInputs, diagnosis_files_of}
+use Rattle.ht_app.specs.CompactedTests.{IsCompacted}
+use Rattle.ht_app.specs.DiagnosisReports.{IsDiagnosed}
 use Rattle.ht_app.specs.Done.{IsSimulated, valid_line}
 use Rattle.ht_app.specs.Demo.{DemoIsTruncated}
 use Rattle.ht_app.specs.Jobs.{settings_of}
@@ -23,24 +26,24 @@ use Rattle.ht_files.specs.StepTexts.{proofs_so_far, proofs_step, tests_of, tests
 use Rattle.ht_app.specs.Changed.{IsNotCreated}
 use Rattle.ht_files.specs.Generated.{IsGenerated}
 
--- Report is as it was, or has a proper front of this text
-abbrev pub StopsInText : List ℕ → DeskView → DeskView → Type 0
-StopsInText text old new = (new.written Report ≡ old.written Report)
+-- the port is as it was, or has a proper front of this text
+abbrev pub StopsInText : OutPort → List ℕ → DeskView → DeskView → Type 0
+StopsInText port text old new = (new.written port ≡ old.written port)
     ⊎ ((count : ℕ) × (count < length text)
-    × (new.written Report ≡ option_map (λ _. take count text) (old.written Report)))
+    × (new.written port ≡ option_map (λ _. take count text) (old.written port)))
 
 -- ---- the three places at which the writing of a report stops: its body, the total line on Out, its last line
 
 -- the body is short, and nothing is said on Out
-pub record StopsInBody (body : List ℕ) (old new : DeskView) : Type 0 where
-  pub report : StopsInText body old new
+pub record StopsInBody (port : OutPort) (body : List ℕ) (old new : DeskView) : Type 0 where
+  pub text : StopsInText port body old new
   pub out : new.written Out ≡ old.written Out
 
 -- the whole body stands, and a proper front of the total line is on Out
-pub record StopsInTotal (body total : List ℕ) (old new : DeskView) : Type 0 where
+pub record StopsInTotal (port : OutPort) (body total : List ℕ) (old new : DeskView) : Type 0 where
   pub count : ℕ
   pub short : count < length total
-  pub report : new.written Report ≡ option_map (λ _. body) (old.written Report)
+  pub text : new.written port ≡ option_map (λ _. body) (old.written port)
   pub out : new.written Out ≡ append_known (old.written Out) (take count total)
 
 -- the whole total line is on Out, and a proper front of it ends the report
@@ -52,16 +55,27 @@ pub record StopsInLastLine (body total : List ℕ) (old new : DeskView) : Type 0
 
 abbrev pub StopsInReport : List ℕ → List ℕ → DeskView → DeskView → Type 0
 StopsInReport body total old new =
-    StopsInBody body old new ⊎ StopsInTotal body total old new ⊎ StopsInLastLine body total old new
+    StopsInBody Report body old new ⊎ StopsInTotal Report body total old new ⊎ StopsInLastLine body total old new
+
+-- tests have no last line of which Out is told, and so their writing stops in one of two places
+abbrev pub StopsInTests : List ℕ → List ℕ → DeskView → DeskView → Type 0
+StopsInTests text total old new = StopsInBody Tests text old new ⊎ StopsInTotal Tests text total old new
 
 -- ---- each command
 
 -- The report isn't whole. What is on Out isn't without the whole body before it, nor without it the report's last line.
-pub record SimIsTruncated (netlist tests : List ℕ) (old new : DeskView) : Type 0 where
+pub record ReportIsTruncated (AreSo : List ℕ → List ℕ → Type 0) (old new : DeskView) : Type 0 where
   pub body : List ℕ
   pub total : List ℕ
-  pub simulated : IsSimulated netlist tests (body ++ total) total
+  pub so : AreSo (body ++ total) total
   pub stops : StopsInReport body total old new
+
+-- The tests or their total line on Out aren't whole; nothing is on Out without the whole tests.
+pub record CompactIsTruncated (netlist tests : List ℕ) (old new : DeskView) : Type 0 where
+  pub text : List ℕ
+  pub total : List ℕ
+  pub compacted : IsCompacted netlist tests text total
+  pub stops : StopsInTests text total old new
 
 -- the port has this text
 abbrev pub HasText : OutPort → List ℕ → DeskView → DeskView → Type 0
@@ -146,17 +160,23 @@ pub record CheckIsTruncated (old new : DeskView) : Type 0 where
 pub record NormIsTruncated (netlist : List ℕ) (old new : DeskView) : Type 0 where
   pub circuit : net.Netlist
   pub good : IsGoodNetlist netlist circuit
-  pub stops : StopsInText (normal_text circuit) old new
+  pub stops : StopsInText Report (normal_text circuit) old new
 
 abbrev pub IsTruncated : Asked → DeskView → DeskView → Type 0
 IsTruncated (sim netlist_name tests_name report_name) old new = (netlist tests : List ℕ)
-    → AreInputs netlist_name tests_name netlist tests old → SimIsTruncated netlist tests old new
+    → AreInputs netlist_name tests_name netlist tests old
+    → ReportIsTruncated (IsSimulated netlist tests) old new
 IsTruncated (gen netlist_name tests_name report_name proofs_name options) old new = (netlist : List ℕ)
     → IsInput Netlist netlist_name netlist old → GenIsTruncated netlist (settings_of options) old new
 IsTruncated (check netlist tests report proofs) old new = CheckIsTruncated old new
 IsTruncated (norm netlist_name out_name) old new = (netlist : List ℕ) → IsInput Netlist netlist_name netlist old
     → NormIsTruncated netlist old new
 IsTruncated (demo size seed) old new = DemoIsTruncated size seed old new
+IsTruncated (compact netlist_name tests_name out_name) old new = (netlist tests : List ℕ)
+    → AreInputs netlist_name tests_name netlist tests old → CompactIsTruncated netlist tests old new
+IsTruncated (diagnose netlist tests responses out) old new = (texts : DiagnosisFiles)
+    → AreDiagnosisInputs (diagnosis_files_of netlist tests responses) texts old
+    → ReportIsTruncated (IsDiagnosed texts) old new
 
 -- What is left where memory ran out: nothing was written, or the output isn't whole. Only `gen` and `demo` write while
 -- they still ask for memory.

@@ -2,10 +2,12 @@
 ghost use Rattle.std.specs.Prelude.{◌≡◌, ◌≢◌, ◌⊎◌, ℕ, List, IfErr, OnOk, IsTrue, IsSome, Some, None};
 ghost use Rattle.ht_ports.specs.declared.ports.InPort.TheVariants as in_port;
 ghost use Rattle.ht_ports.specs.declared.ports.OutPort.TheVariants as out_port;
-ghost use Rattle.ht_asked.specs.Asked.{Asked, asked, demo, words_of, sim};
+ghost use Rattle.ht_asked.specs.Asked.{Asked, asked, compact, demo, diagnose, words_of};
 ghost use Rattle.ht_asked.specs.Ranges.{IsInRange};
 ghost use Rattle.ht_words.specs.Jobs.{asked_by};
-ghost use Rattle.ht_app.specs.Inputs.{IsBadNetlist, AreBadTests, AreBadFiles, AreGoodInputs, CheckFiles};
+ghost use Rattle.ht_compact.specs.TestsToCompact.{HasTooManyVectors};
+ghost use Rattle.ht_app.specs.Inputs.{IsBadNetlist, AreTests, AreBadFiles, AreBadResponses, HasBadTests};
+ghost use Rattle.ht_app.specs.Inputs.{AreGoodInputs, CheckFiles, DiagnosisFiles};
 ghost use Rattle.ht_app.specs.Jobs.{input_name, HoldsInputs};
 ghost use Rattle.ht_app.specs.Changed.{ChangedOnly, Faultless, job_ports, ports_at};
 ghost use Rattle.ht_app.specs.Done.{IsDone, AskedIsDone};
@@ -14,7 +16,9 @@ ghost use Rattle.ht_app.specs.Run.{EndsBy, HasCause, AskedHasCause, check_of_nam
 ghost use Rattle.ht_app.specs.Steps.{status_after};
 
 use crate::check::check;
+use crate::compact::compact;
 use crate::demo::demo;
+use crate::diagnose::diagnose;
 use crate::err_line::write_line;
 use crate::generate::generate;
 use crate::norm::norm;
@@ -74,6 +78,30 @@ fn do_job<D: Desk>(alloc: Global, job: &Job, desk: &mut D) -> Result<(), RunErro
         ),
         Job::Norm { netlist, out } => norm(alloc, netlist.as_str(), out.as_str(), desk),
         Job::Demo { size, seed } => demo(alloc, *size, *seed, desk),
+        Job::Compact {
+            netlist,
+            tests,
+            out,
+        } => compact(
+            alloc,
+            netlist.as_str(),
+            tests.as_str(),
+            out.as_str(),
+            desk,
+        ),
+        Job::Diagnose {
+            netlist,
+            tests,
+            responses,
+            out,
+        } => diagnose(
+            alloc,
+            netlist.as_str(),
+            tests.as_str(),
+            responses.as_str(),
+            out.as_str(),
+            desk,
+        ),
     }
 }
 
@@ -110,6 +138,8 @@ fn work<D: Desk>(alloc: Global, words: &[String], desk: &mut D) -> Result<(), Ru
 /// | `check NETLIST TESTS REPORT PROOFS` | answers whether the three files are valid for the netlist |
 /// | `norm NETLIST OUT` | writes the netlist in its normal text |
 /// | `demo SIZE SEED` | makes a netlist, generates tests for it with 64 random ones first, and says how many faults it has and how they ended; it opens no file |
+/// | `compact NETLIST TESTS OUT` | writes the tests without those that can be left out, and says how many are kept |
+/// | `diagnose NETLIST TESTS RESPONSES OUT` | reports of each fault where it first contradicts the responses that were observed, or that it is consistent |
 ///
 /// | Status | Comes |
 /// |---|---|
@@ -120,12 +150,14 @@ fn work<D: Desk>(alloc: Global, words: &[String], desk: &mut D) -> Result<(), Ru
 /// | 4 | only where the desk's count of faults of reading rose |
 /// | 5 | only where its count of faults of writing rose |
 /// | 6 | out of memory |
-/// | 7 | only for `sim`, exactly where the netlist is accepted and the tests are malformed |
+/// | 7 | only for `sim`, `compact` and `diagnose`, exactly where the netlist is accepted and the tests are malformed; of `compact` in one of their first 4,097 lines |
+/// | 9 | only for `compact`, exactly where the netlist is accepted and the first 4,097 lines of the tests are vectors |
+/// | 10 | only for `diagnose`, exactly where the netlist and the tests are accepted and the responses aren't a row for each vector |
 ///
 /// `demo` ends with 0, 5 or 6.
 ///
-/// "Exactly where" yields in 2 to a lack of memory, and in 1, 3 and 7 to a lack of memory and to a counted fault of
-/// reading. A status other than 0 says why in one line on Err. Where that write fails the status stays, which tests show:
+/// "Exactly where" yields in 2 to a lack of memory, and in 1, 3, 7, 9 and 10 to a lack of memory and to a counted fault
+/// of reading. A status other than 0 says why in one line on Err. Where that write fails the status stays, which tests show:
 /// with one count of faults for all out-ports no clause can say it.
 pub fn run<D: Desk>(alloc: Global, words: &[String], desk: &mut D) -> u8
     // What a status says, and what it leaves.
@@ -142,10 +174,17 @@ pub fn run<D: Desk>(alloc: Global, words: &[String], desk: &mut D) -> u8
     ensures refused { (job : Asked) (name : List ℕ) → asked (words_of words.now) ≡ Some job
         → input_name job in_port.Netlist ≡ Some name → IsBadNetlist name (D.view desk.old)
         → (result ≡ 3) ⊎ (result ≡ 4) ⊎ (result ≡ 6) }
-    ensures malformed { (netlist tests report : List ℕ)
-        → asked (words_of words.now) ≡ Some (sim netlist tests report)
-        → AreBadTests netlist tests (D.view desk.old)
-        → (result ≡ 7) ⊎ (result ≡ 4) ⊎ (result ≡ 6) }
+    ensures malformed { (job : Asked) → asked (words_of words.now) ≡ Some job
+        → HasBadTests job (D.view desk.old) → (result ≡ 7) ⊎ (result ≡ 4) ⊎ (result ≡ 6) }
+    ensures many { (netlist tests out : List ℕ)
+        → asked (words_of words.now) ≡ Some (compact netlist tests out)
+        → AreTests netlist tests (D.view desk.old) HasTooManyVectors
+        → (result ≡ 9) ⊎ (result ≡ 4) ⊎ (result ≡ 6) }
+    ensures responses { (names : DiagnosisFiles) (out : List ℕ)
+        → asked (words_of words.now)
+        ≡ Some (diagnose names.netlist names.tests names.responses out)
+        → AreBadResponses names (D.view desk.old)
+        → (result ≡ 10) ⊎ (result ≡ 4) ⊎ (result ≡ 6) }
 
     ensures invalid { (names : CheckFiles)
         → asked (words_of words.now) ≡ Some (check_of_names names)

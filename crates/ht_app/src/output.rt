@@ -1,14 +1,16 @@
 //! The file that a command writes, and its total line on Out.
-ghost use Rattle.std.specs.Prelude.{◌≡◌, ◌≢◌, true, false, is_ok, IfErr, OnOk, OnErr};
+ghost use Rattle.std.specs.Prelude.{◌≡◌, ◌≢◌, ◌++◌, true, Some, is_ok, IfErr, OnOk, OnErr};
 ghost use Rattle.std.specs.Io.KnownBytes.{append_known};
-ghost use Rattle.ht_ports.specs.Desk.{DeskView, IsWritable, OutCall, Wrote};
+ghost use Rattle.ht_ports.specs.Desk.{DeskView, IsFilePort, IsWritable, OutCall, Wrote};
 ghost use Rattle.ht_ports.specs.declared.ports.OutPort.TheVariants as out_port;
 ghost use Rattle.ht_app.specs.FileTexts.{Names, Texts, with_more};
 ghost use Rattle.ht_app.specs.Generating.{HasPart, HasTexts, StaysWritable};
-ghost use Rattle.ht_app.specs.Changed.{ChangedOnly};
-ghost use Rattle.ht_app.specs.Truncated.{StopsInText, StopsInReport};
+ghost use Rattle.ht_asked.specs.Asked.{Asked};
+ghost use Rattle.ht_app.specs.Jobs.{output_name};
+ghost use Rattle.ht_app.specs.Changed.{ChangedOnly, says_on_out};
+ghost use Rattle.ht_app.specs.Truncated.{StopsInText, StopsInReport, StopsInTests};
 ghost use Rattle.ht_app.specs.Run.{IsWriteFault};
-ghost use Rattle.ht_app.specs.Steps.{saying, writing, IsBegun, IsReported, SaysPart};
+ghost use Rattle.ht_app.specs.Steps.{saying, writing, IsBegun, IsTotalled, SaysPart};
 ghost use Rattle.ht_app.specs.declared.run_error.RunError.TheVariants as error;
 
 use crate::run_error::RunError;
@@ -67,23 +69,30 @@ pub fn say<D: Desk>(desk: &mut D, text: &[u8]) -> Result<(), RunError>
     Ok(())
 }
 
-/// Creates Report under this name, and begins it with this text.
+/// Creates a file under this name, and begins it with this text.
 ///
 /// # Errors
 /// `WriteFault`: the desk counted a fault, and the text isn't whole.
-pub fn begin_report<D: Desk>(desk: &mut D, name: &str, text: &[u8]) -> Result<(), RunError>
-    ensures frame { OutCall out_port.Report (D.view desk.old) (D.view desk.new) }
-    ensures changed { ChangedOnly (writing name.now false) (D.view desk.old) (D.view desk.new) }
+pub fn begin_file<D: Desk>(
+    desk: &mut D,
+    port: OutPort,
+    name: &str,
+    text: &[u8],
+) -> Result<(), RunError>
+    requires { IsFilePort port }
+    ensures frame { OutCall port (D.view desk.old) (D.view desk.new) }
+    ensures changed { (job : Asked) → output_name job port ≡ Some name.now
+        → ChangedOnly (writing job) (D.view desk.old) (D.view desk.new) }
     ensures begun { OnOk result
-        (IsBegun out_port.Report name.now text.now (D.view desk.old) (D.view desk.new)) }
-    ensures stops { OnErr result (StopsInText text.now (D.view desk.old) (D.view desk.new)) }
+        (IsBegun port name.now text.now (D.view desk.old) (D.view desk.new)) }
+    ensures stops { OnErr result (StopsInText port text.now (D.view desk.old) (D.view desk.new)) }
     ensures error { IfErr result (λ e. e ≡ error.WriteFault) }
     ensures fault { OnErr result (IsWriteFault (D.view desk.old) (D.view desk.new)) }
 {
-    if let Err(Failed) = desk.create(OutPort::Report, name) {
+    if let Err(Failed) = desk.create(port, name) {
         return Err(RunError::WriteFault);
     }
-    write_text(desk, OutPort::Report, text)?;
+    write_text(desk, port, text)?;
     // for the proof: a tail call would lose what the branch above says of the desk
     Ok(())
 }
@@ -99,16 +108,41 @@ pub fn write_report<D: Desk>(
     body: &[u8],
     total: &[u8],
 ) -> Result<(), RunError>
-    ensures changed { ChangedOnly (writing name.now true) (D.view desk.old) (D.view desk.new) }
-    ensures report { OnOk result
-        (IsReported name.now body.now total.now (D.view desk.old) (D.view desk.new)) }
+    ensures changed { (job : Asked) → output_name job out_port.Report ≡ Some name.now
+        → says_on_out job ≡ true → ChangedOnly (writing job) (D.view desk.old) (D.view desk.new) }
+    ensures report { OnOk result (IsTotalled out_port.Report name.now (body.now ++ total.now)
+        total.now (D.view desk.old) (D.view desk.new)) }
     ensures stops { OnErr result
         (StopsInReport body.now total.now (D.view desk.old) (D.view desk.new)) }
     ensures error { IfErr result (λ e. e ≡ error.WriteFault) }
     ensures fault { OnErr result (IsWriteFault (D.view desk.old) (D.view desk.new)) }
 {
-    begin_report(desk, name, body)?;
+    begin_file(desk, OutPort::Report, name, body)?;
     write_text(desk, OutPort::Out, total)?;
     write_text(desk, OutPort::Report, total)?;
+    Ok(())
+}
+
+/// Creates the tests and writes them, and then the total line on Out.
+///
+/// # Errors
+/// `WriteFault`: the desk counted a fault, and the tests or the total line aren't whole.
+pub fn write_tests<D: Desk>(
+    desk: &mut D,
+    name: &str,
+    text: &[u8],
+    total: &[u8],
+) -> Result<(), RunError>
+    ensures changed { (job : Asked) → output_name job out_port.Tests ≡ Some name.now
+        → says_on_out job ≡ true → ChangedOnly (writing job) (D.view desk.old) (D.view desk.new) }
+    ensures tests { OnOk result (IsTotalled out_port.Tests name.now text.now total.now
+        (D.view desk.old) (D.view desk.new)) }
+    ensures stops { OnErr result
+        (StopsInTests text.now total.now (D.view desk.old) (D.view desk.new)) }
+    ensures error { IfErr result (λ e. e ≡ error.WriteFault) }
+    ensures fault { OnErr result (IsWriteFault (D.view desk.old) (D.view desk.new)) }
+{
+    begin_file(desk, OutPort::Tests, name, text)?;
+    write_text(desk, OutPort::Out, total)?;
     Ok(())
 }

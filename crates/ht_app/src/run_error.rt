@@ -13,13 +13,15 @@ use std::alloc::{AllocError, AllocFailed};
 /// | Error | Status | Line on Err |
 /// |---|---|---|
 /// | `Denied` | 1 | `denied: report line 2` |
-/// | `Usage` | 2 | `usage: sim NETLIST TESTS REPORT, gen NETLIST TESTS REPORT PROOFS [--budget N] [--random N] [--seed S], check NETLIST TESTS REPORT PROOFS, norm NETLIST OUT, demo SIZE SEED` |
+/// | `Usage` | 2 | `usage: sim NETLIST TESTS REPORT, gen NETLIST TESTS REPORT PROOFS [--budget N] [--random N] [--seed S], check NETLIST TESTS REPORT PROOFS, norm NETLIST OUT, demo SIZE SEED, compact NETLIST TESTS OUT, diagnose NETLIST TESTS RESPONSES OUT` |
 /// | `TooLong` | 3 | `netlist: too long` |
 /// | `Refused` | 3 | `netlist: line 2: undriven b` |
 /// | `ReadFault` | 4 | `read fault` |
 /// | `WriteFault` | 5 | `write fault` |
 /// | `NoMemory` | 6 | `no memory` |
 /// | `BadTests` | 7 | `tests: line 2` |
+/// | `TooManyVectors` | 9 | `tests: too many vectors` |
+/// | `BadResponses` | 10 | `responses: line 2` |
 #[derive(Debug, Drop)]
 pub enum RunError {
     /// The files of `check` aren't valid.
@@ -39,9 +41,16 @@ pub enum RunError {
     WriteFault,
     /// Out of memory.
     NoMemory,
-    /// A line of the tests of `sim` is no vector of the circuit.
+    /// A line of the tests is no vector of the circuit; never of `check`, which denies such tests.
     BadTests {
         /// The first such line.
+        line: u64,
+    },
+    /// The tests of `compact` have too many vectors.
+    TooManyVectors,
+    /// The responses aren't a row of the circuit's outputs for each vector.
+    BadResponses {
+        /// The first line that is wrong, too many or missing.
         line: u64,
     },
 }
@@ -97,6 +106,8 @@ impl RunError {
             RunError::WriteFault => 5,
             RunError::NoMemory => 6,
             RunError::BadTests { .. } => 7,
+            RunError::TooManyVectors => 9,
+            RunError::BadResponses { .. } => 10,
         }
     }
 }

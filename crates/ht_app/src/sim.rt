@@ -8,12 +8,13 @@ ghost use Rattle.ht_net.specs.Netlist.{IsCircuit};
 ghost use Rattle.ht_asked.specs.Asked as asked;
 ghost use Rattle.ht_app.specs.Inputs.{AcceptsTests};
 ghost use Rattle.ht_app.specs.Changed.{ChangedOnly, job_ports};
-ghost use Rattle.ht_app.specs.Done.{IsDone};
+ghost use Rattle.ht_app.specs.Done.{IsDone, IsSimulated};
 ghost use Rattle.ht_app.specs.Errors.{exit_status};
 ghost use Rattle.ht_app.specs.Run.{HasCause};
 ghost use Rattle.ht_app.specs.Simulation.{IsReportOf};
 ghost use Rattle.ht_app.specs.Steps.{reading, SimulateCause, AreWorkedInto, status_after};
 
+use crate::made::Made;
 use crate::netlist::read_netlist;
 use crate::output::write_report;
 use crate::run_error::RunError;
@@ -25,15 +26,8 @@ use ht_ports::Desk;
 use ht_texts::{Sums, saids_of, write_body, write_total};
 use std::alloc::{AllocError, Global};
 
-// The report without its last line, and that line.
-#[derive(Drop)]
-struct Texts {
-    body: Vec<u8>,
-    total: Vec<u8>,
-}
-
 // Simulates the representative of each class of faults over the vectors.
-fn report_texts(alloc: Global, circuit: &Circuit, list: &Vectors) -> Result<Texts, AllocError>
+fn report_texts(alloc: Global, circuit: &Circuit, list: &Vectors) -> Result<Made, AllocError>
     requires width { list.now.width ≡ circuit.now.inputs }
     requires few { length list.now.list ≤ max_text_bytes }
     ensures { IfOk result
@@ -46,7 +40,7 @@ fn report_texts(alloc: Global, circuit: &Circuit, list: &Vectors) -> Result<Text
     let saids = saids_of(alloc, &places)?;
     let body = write_body(alloc, circuit, &faults, &classes, None, &saids)?;
     let total = write_total(alloc, Sums::of(&classes, &saids, false))?;
-    Ok(Texts { body, total })
+    Ok(Made { body, total })
 }
 
 // Reads the netlist and then the tests, and simulates.
@@ -55,7 +49,7 @@ fn simulate<D: Desk>(
     netlist: &str,
     tests: &str,
     desk: &mut D,
-) -> Result<Texts, RunError>
+) -> Result<Made, RunError>
     ensures reads { (report : List ℕ)
         → ChangedOnly (reading (asked.sim netlist.now tests.now report)) (D.view desk.old)
         (D.view desk.new) }
@@ -63,8 +57,8 @@ fn simulate<D: Desk>(
         → InCall in_port.Netlist (D.view desk.old) (D.view desk.new)) }
     ensures inputs { OnOk result (AcceptsTests netlist.now tests.now (D.view desk.old)) }
     ensures texts { IfOk result
-        (λ texts. AreWorkedInto netlist.now tests.now (D.view desk.old) texts.body.items
-        texts.total.items) }
+        (λ texts. AreWorkedInto netlist.now tests.now (D.view desk.old)
+        (λ n t. IsSimulated n t (texts.body.items ++ texts.total.items) texts.total.items)) }
     ensures cause { IfErr result
         (SimulateCause netlist.now tests.now (D.view desk.old) (D.view desk.new)) }
 {

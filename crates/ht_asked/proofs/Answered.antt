@@ -1,6 +1,6 @@
 -- What the words ask for, by their first word and by what `clap` answered.
-use Rattle.std.proofs.Common.{◌≡◌, ◌∙◌, ◌∷◌, true, false, cond, refl, sym, ap, List, [], Some, None, string_bytes, String, Global}
-use Rattle.std.specs.Prelude.{option_and_then, slice_get}
+use Rattle.std.proofs.Common.{◌≡◌, ◌∙◌, ◌∷◌, true, false, cond, refl, sym, ap, List, [], Option, Some, None, string_bytes, String, Global}
+use Rattle.std.specs.Prelude.{option_and_then, option_map, slice_get}
 use Rattle.clap.specs.Walk.{Row, Text, first_of}
 use Rattle.clap.specs.Simple.{App, matches_of}
 use Rattle.ht_asked.specs.Forms.{given}
@@ -14,12 +14,12 @@ module _ (c : Command) (app : App) (words : List Text) (is : app ≡ app_with c.
   same_taken : is_taken (app_with c.name c.form) words ≡ is_taken app words
   same_taken = ap (λ a. is_taken a words) (sym is)
 
-  pub refused : is_taken app words ≡ false → command_by_clap c words ≡ None
+  refused : is_taken app words ≡ false → command_by_clap c words ≡ None
   unfolding command_by_clap
   refused e = ap (λ b. option_and_then c.asks
       (cond b (given_values c.form (value_of (app_with c.name c.form) words)) None)) (same_taken ∙ e)
 
-  pub answered : (rows : List Row) → rows ≡ matches_of app words → is_taken app words ≡ true
+  answered : (rows : List Row) → rows ≡ matches_of app words → is_taken app words ≡ true
       → command_by_clap c words ≡ asked_in_rows c rows
   unfolding command_by_clap
   answered rows rows_are taken =
@@ -44,7 +44,7 @@ module _ (ws : List (String Global)) (first : String Global) (is : Some first �
       (given_by_clap (app_with d.name d.form) d.form (d.name ∷ words_of rest))))
       (ap (λ s. command_named (string_bytes s)) (sym same) ∙ found)
 
-  pub named : (c : Command) → command_named (string_bytes first) ≡ Some c
+  named : (c : Command) → command_named (string_bytes first) ≡ Some c
       → asked (words_of ws) ≡ command_by_clap c (words_of ws)
   named c found = asked_is_by_clap ws ∙ by_name ws is c found
 
@@ -57,8 +57,47 @@ module _ (ws : List (String Global)) (first : String Global) (is : Some first �
       ap (option_and_then (λ (d : Command). option_and_then d.asks (given d.form (words_of rest))))
       (ap (λ s. command_named (string_bytes s)) (sym same) ∙ none)
 
-  pub not_named : command_named (string_bytes first) ≡ None → asked (words_of ws) ≡ None
+  not_named : command_named (string_bytes first) ≡ None → asked (words_of ws) ≡ None
   not_named = by_no_name ws is
+
+-- ---- the definition that the first word names, and what `clap` answered by it
+
+module _ (ws : List (String Global)) (first : String Global) (is : Some first ≡ slice_get ws 0) (word : Text)
+    (word_is : word ≡ string_bytes first) where
+  abbrev Defines : Option App → Option Command → Type 0
+  Defines app found = app ≡ option_map (λ (c : Command). app_with c.name c.form) found
+
+  pub undefined_words : Defines None (command_named word) → asked (words_of ws) ≡ None
+  undefined_words defined = go (command_named word) refl defined
+    where
+      go : (found : Option Command) → command_named word ≡ found → Defines None found → asked (words_of ws) ≡ None
+      go None e d = not_named ws first is (ap command_named (sym word_is) ∙ e)
+      go (Some c) e d = cc
+
+  pub refused_words : (app : App) → Defines (Some app) (command_named word) → is_taken app (words_of ws) ≡ false
+      → asked (words_of ws) ≡ None
+  refused_words app defined refuses = go (command_named word) refl defined
+    where
+      go : (found : Option Command) → command_named word ≡ found → Defines (Some app) found
+          → asked (words_of ws) ≡ None
+      go None e d = cc
+      go (Some c) e d =
+          let same : app ≡ app_with c.name c.form = cc in
+          named ws first is c (ap command_named (sym word_is) ∙ e) ∙ refused c app (words_of ws) same refuses
+
+  pub answered_words : (app : App) (rows : List Row) → Defines (Some app) (command_named word)
+      → rows ≡ matches_of app (words_of ws) → is_taken app (words_of ws) ≡ true
+      → asked (words_of ws) ≡ option_and_then (λ c. asked_in_rows c rows) (command_named word)
+  answered_words app rows defined rows_are taken = go (command_named word) refl defined
+    where
+      go : (found : Option Command) → command_named word ≡ found → Defines (Some app) found
+          → asked (words_of ws) ≡ option_and_then (λ c. asked_in_rows c rows) (command_named word)
+      go None e d = cc
+      go (Some c) e d =
+          let same : app ≡ app_with c.name c.form = cc in
+          named ws first is c (ap command_named (sym word_is) ∙ e)
+          ∙ answered c app (words_of ws) same rows rows_are taken
+          ∙ ap (option_and_then (λ (d : Command). asked_in_rows d rows)) (sym e)
 
 pub no_words : (ws : List (String Global)) → None ≡ slice_get ws 0 → asked (words_of ws) ≡ None
 unfolding asked

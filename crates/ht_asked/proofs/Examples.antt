@@ -2,7 +2,7 @@
 use Rattle.std.proofs.Common.{◌≡◌, ◌∷◌, ℕ, List, [], map, Option, Some, None, refl, arith, codes}
 use Rattle.clap.specs.Walk.{Text}
 use Rattle.ht_asked.specs.Forms.{given, parts}
-use Rattle.ht_asked.specs.Asked.{Asked, asked, budget_of, check, demo, gen, gen_command}
+use Rattle.ht_asked.specs.Asked.{Asked, asked, budget_of, check, compact, demo, diagnose, gen, gen_command}
 use Rattle.ht_asked.specs.ByClap.{app_with, given_by_clap}
 use Rattle.ht_asked.proofs.States.{AreReadable}
 use Rattle.ht_asked.proofs.FormByClap.{form_by_clap}
@@ -95,6 +95,22 @@ checks : map (λ words. asked (codes "check" ∷ words)) (
     ≡ Some (check (codes "n") (codes "t") (codes "r") (codes "p")) ∷ None ∷ None ∷ []
 unfolding asked given parts
 checks = refl
+
+-- `compact` has three names, `diagnose` four, and neither has an option
+further : map asked (
+    (codes "compact" ∷ codes "n" ∷ codes "t" ∷ codes "o" ∷ [])
+    ∷ (codes "compact" ∷ codes "n" ∷ codes "--" ∷ codes "-t" ∷ codes "-" ∷ [])
+    ∷ (codes "compact" ∷ codes "n" ∷ codes "t" ∷ [])
+    ∷ (codes "compact" ∷ codes "n" ∷ codes "t" ∷ codes "o" ∷ codes "p" ∷ [])
+    ∷ (codes "Compact" ∷ codes "n" ∷ codes "t" ∷ codes "o" ∷ [])
+    ∷ (codes "diagnose" ∷ codes "n" ∷ codes "t" ∷ codes "r" ∷ codes "o" ∷ [])
+    ∷ (codes "diagnose" ∷ codes "n" ∷ codes "t" ∷ codes "r" ∷ [])
+    ∷ (codes "diagnose" ∷ codes "n" ∷ codes "t" ∷ codes "r" ∷ codes "o" ∷ codes "--seed=3" ∷ [])
+    ∷ [])
+    ≡ Some (compact (codes "n") (codes "t") (codes "o")) ∷ Some (compact (codes "n") (codes "-t") (codes "-"))
+    ∷ None ∷ None ∷ None ∷ Some (diagnose (codes "n") (codes "t") (codes "r") (codes "o")) ∷ None ∷ None ∷ []
+unfolding asked given parts
+further = refl
 
 -- `clap` reads the command's form as the plain reading does
 by_clap : (words : List Text) → AreReadable words

@@ -9,7 +9,8 @@ use Rattle.clap.proofs.WalkLemmas.{both}
 use Rattle.ht_asked.specs.declared.limits.TheConstants.{MAX_BUDGET, MAX_RANDOM, MAX_SEED, MAX_SIZE, MIN_BUDGET, MIN_SIZE}
 use Rattle.ht_asked.specs.Forms.{Given, given}
 use Rattle.ht_asked.specs.Numbers.{is_number, number_in, number_or}
-use Rattle.ht_asked.specs.Asked.{Asked, Command, asked, check_of, commands, demo_of, demo_with, gen, gen_of, norm_of, options_with, sim_of}
+use Rattle.ht_asked.specs.Asked.{Asked, Command, asked, commands, demo_of, demo_with, gen, gen_of, norm_of, of_four, of_three, options_with}
+use Rattle.ht_asked.specs.Asked.{check, compact, diagnose, sim}
 use Rattle.ht_asked.specs.Asked.{budget_of, random_of, seed_in, seed_of, size_in}
 use Rattle.ht_asked.specs.Ranges.{IsInRange}
 
@@ -42,12 +43,22 @@ option_is_in_range default least most within (Some text) = number_is_in_range le
 abbrev AsksInRange : Option Asked → Type 0
 AsksInRange asks = IfSome asks IsInRange
 
-by_sim : (names : List Text) → AsksInRange (sim_of names)
-by_sim [] = tt
-by_sim (a ∷ []) = tt
-by_sim (a ∷ b ∷ []) = tt
-by_sim (a ∷ b ∷ c ∷ []) = tt
-by_sim (a ∷ b ∷ c ∷ d ∷ rest) = tt
+by_three : (job : Text → Text → Text → Asked) → ((a b c : Text) → IsInRange (job a b c)) → (names : List Text)
+    → AsksInRange (of_three job names)
+by_three job so [] = tt
+by_three job so (a ∷ []) = tt
+by_three job so (a ∷ b ∷ []) = tt
+by_three job so (a ∷ b ∷ c ∷ []) = so a b c
+by_three job so (a ∷ b ∷ c ∷ d ∷ rest) = tt
+
+by_four : (job : Text → Text → Text → Text → Asked) → ((a b c d : Text) → IsInRange (job a b c d))
+    → (names : List Text) → AsksInRange (of_four job names)
+by_four job so [] = tt
+by_four job so (a ∷ []) = tt
+by_four job so (a ∷ b ∷ []) = tt
+by_four job so (a ∷ b ∷ c ∷ []) = tt
+by_four job so (a ∷ b ∷ c ∷ d ∷ []) = so a b c d
+by_four job so (a ∷ b ∷ c ∷ d ∷ x ∷ rest) = tt
 
 by_options : (netlist tests report proofs : Text) (budget random seed : Option ℕ)
     → IfSome budget (InRange MIN_BUDGET MAX_BUDGET) → IfSome random (InRange 0 MAX_RANDOM)
@@ -73,14 +84,6 @@ by_gen (a ∷ b ∷ c ∷ d ∷ []) (t ∷ u ∷ v ∷ []) = by_options a b c d 
     (option_is_in_range 1000 MIN_BUDGET MAX_BUDGET (omega arith, omega arith) t)
     (option_is_in_range 0 0 MAX_RANDOM (omega arith, omega arith) u)
     (option_is_in_range 0 0 MAX_SEED (omega arith, omega arith) v)
-
-by_check : (names : List Text) → AsksInRange (check_of names)
-by_check [] = tt
-by_check (a ∷ []) = tt
-by_check (a ∷ b ∷ []) = tt
-by_check (a ∷ b ∷ c ∷ []) = tt
-by_check (a ∷ b ∷ c ∷ d ∷ []) = tt
-by_check (a ∷ b ∷ c ∷ d ∷ x ∷ rest) = tt
 
 by_norm : (names : List Text) → AsksInRange (norm_of names)
 by_norm [] = tt
@@ -109,10 +112,22 @@ All (c ∷ cs) = ((g : Given) → AsksInRange (c.asks g)) × All cs
 
 commands_ask_in_range : All commands
 commands_ask_in_range = (
-  λ g. by_sim g.positionals,
+  λ g. by_three sim (λ a b c. tt) g.positionals,
   (
     λ g. by_gen g.positionals g.options,
-    (λ g. by_check g.positionals, (λ g. by_norm g.positionals, (λ g. by_demo g.positionals, tt))),
+    (
+      λ g. by_four check (λ a b c d. tt) g.positionals,
+      (
+        λ g. by_norm g.positionals,
+        (
+          λ g. by_demo g.positionals,
+          (
+            λ g. by_three compact (λ a b c. tt) g.positionals,
+            (λ g. by_four diagnose (λ a b c d. tt) g.positionals, tt),
+          ),
+        ),
+      ),
+    ),
   ),
 )
 

@@ -8,7 +8,7 @@ use Rattle.clap.specs.Walk.{Text}
 use Rattle.ht_asked.specs.declared.limits.TheConstants.{DEFAULT_BUDGET, MAX_BUDGET, MIN_BUDGET}
 use Rattle.ht_asked.specs.declared.limits.TheConstants.{DEFAULT_RANDOM, DEFAULT_SEED, MAX_RANDOM, MAX_SEED}
 use Rattle.ht_asked.specs.declared.limits.TheConstants.{MAX_SIZE, MIN_SIZE}
-use Rattle.ht_asked.specs.Forms.{Form, Given, given}
+use Rattle.ht_asked.specs.Forms.{Form, Given, given, names_form}
 use Rattle.ht_asked.specs.Numbers.{number_in, number_or}
 
 -- the words as their bytes
@@ -28,6 +28,8 @@ pub data Asked : Type 0 where
   check : Text → Text → Text → Text → Asked
   norm : Text → Text → Asked
   demo : ℕ → ℕ → Asked
+  compact : Text → Text → Text → Asked
+  diagnose : Text → Text → Text → Text → Asked
 
 -- a command: its name in lower case, the form of the words after it, and what they ask for
 pub record Command : Type 0 where
@@ -35,19 +37,22 @@ pub record Command : Type 0 where
   pub form : Form
   pub asks : Given → Option Asked
 
--- `sim NETLIST TESTS REPORT`
-abbrev pub sim_of : List Text → Option Asked
-sim_of (netlist ∷ tests ∷ report ∷ []) = Some (sim netlist tests report)
-sim_of _ = None
+-- a command of three names
+abbrev pub of_three : (Text → Text → Text → Asked) → List Text → Option Asked
+of_three job (first ∷ second ∷ third ∷ []) = Some (job first second third)
+of_three job _ = None
 
+-- a command of four names
+abbrev pub of_four : (Text → Text → Text → Text → Asked) → List Text → Option Asked
+of_four job (first ∷ second ∷ third ∷ fourth ∷ []) = Some (job first second third fourth)
+of_four job _ = None
+
+-- `sim NETLIST TESTS REPORT`
 abbrev pub sim_command : Command
 sim_command = record {
   name = codes "sim";
-  form = record {
-    positionals = codes "netlist" ∷ codes "tests" ∷ codes "report" ∷ [];
-    options = [];
-  };
-  asks = λ g. sim_of g.positionals;
+  form = names_form (codes "netlist" ∷ codes "tests" ∷ codes "report" ∷ []);
+  asks = λ g. of_three sim g.positionals;
 }
 
 -- the budget of a search, where the option's text is one or is left out
@@ -86,18 +91,11 @@ gen_command = record {
 }
 
 -- `check NETLIST TESTS REPORT PROOFS`
-abbrev pub check_of : List Text → Option Asked
-check_of (netlist ∷ tests ∷ report ∷ proofs ∷ []) = Some (check netlist tests report proofs)
-check_of _ = None
-
 abbrev pub check_command : Command
 check_command = record {
   name = codes "check";
-  form = record {
-    positionals = codes "netlist" ∷ codes "tests" ∷ codes "report" ∷ codes "proofs" ∷ [];
-    options = [];
-  };
-  asks = λ g. check_of g.positionals;
+  form = names_form (codes "netlist" ∷ codes "tests" ∷ codes "report" ∷ codes "proofs" ∷ []);
+  asks = λ g. of_four check g.positionals;
 }
 
 -- `norm NETLIST OUT`
@@ -108,7 +106,7 @@ norm_of _ = None
 abbrev pub norm_command : Command
 norm_command = record {
   name = codes "norm";
-  form = record { positionals = codes "netlist" ∷ codes "out" ∷ []; options = [] };
+  form = names_form (codes "netlist" ∷ codes "out" ∷ []);
   asks = λ g. norm_of g.positionals;
 }
 
@@ -133,13 +131,30 @@ demo_of _ = None
 abbrev pub demo_command : Command
 demo_command = record {
   name = codes "demo";
-  form = record { positionals = codes "size" ∷ codes "seed" ∷ []; options = [] };
+  form = names_form (codes "size" ∷ codes "seed" ∷ []);
   asks = λ g. demo_of g.positionals;
+}
+
+-- `compact NETLIST TESTS OUT`
+abbrev pub compact_command : Command
+compact_command = record {
+  name = codes "compact";
+  form = names_form (codes "netlist" ∷ codes "tests" ∷ codes "out" ∷ []);
+  asks = λ g. of_three compact g.positionals;
+}
+
+-- `diagnose NETLIST TESTS RESPONSES OUT`
+abbrev pub diagnose_command : Command
+diagnose_command = record {
+  name = codes "diagnose";
+  form = names_form (codes "netlist" ∷ codes "tests" ∷ codes "responses" ∷ codes "out" ∷ []);
+  asks = λ g. of_four diagnose g.positionals;
 }
 
 -- the commands, in the order of the usage line
 abbrev pub commands : List Command
-commands = sim_command ∷ gen_command ∷ check_command ∷ norm_command ∷ demo_command ∷ []
+commands = sim_command ∷ gen_command ∷ check_command ∷ norm_command ∷ demo_command
+    ∷ compact_command ∷ diagnose_command ∷ []
 
 abbrev pub command_named : Text → Option Command
 command_named name = find (λ c. bytes_eq name c.name) commands

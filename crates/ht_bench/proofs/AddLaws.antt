@@ -17,7 +17,7 @@ use Rattle.ht_statement.specs.Statement.{Statement, blank_line, input_line, outp
 use Rattle.ht_bench.specs.Different.{has_name, with_name, with_names, different}
 use Rattle.ht_bench.specs.Contents.{no_parts, with_statement, named_of_statements, mentions_of, stated_nets, named_pins}
 use Rattle.ht_bench.specs.Accepted.{second_driver, limit_passed}
-use Rattle.ht_bench.specs.Drafts.{IsNumberOf, AreNumbersOf, Says, IsDraftOf, Mentions, Accepts, longer}
+use Rattle.ht_bench.specs.Drafts.{IsNumberOf, AreNumbersOf, SaysByName, IsDraftOf, Mentions, Accepts, longer}
 use Rattle.ht_bench.proofs.ListLaws.{flat_map-push}
 use Rattle.ht_bench.proofs.LimitLaws.{within_passes_none}
 use Rattle.ht_bench.proofs.SaysLaws.{gate_by_name, number_stays, says_named, inputs_count, dffs_count, pins_count, has_named, named_has}
@@ -34,7 +34,7 @@ module _ (before : List Statement) (s : Statement) where
     pub nets_are : d.names ≡ stated_nets (before ++ s ∷ [])
     nets_are = ap (λ (x : Draft). x.names) m.is ∙ ap (λ l. with_names l (names_in s)) is.names ∙ sym nets_push
 
-    pub accepted : (made new : Draft) → new ≡ made → made.names ≡ d.names → Says (before ++ s ∷ []) made
+    pub accepted : (made new : Draft) → new ≡ made → made.names ≡ d.names → SaysByName (before ++ s ∷ []) made
         → second_driver before s ≡ None → draft_pins made ≤ max_pins → length made.inputs ≤ max_inputs
         → length made.dffs ≤ max_dffs → (second_driver before s ≡ None) × IsDraftOf (before ++ s ∷ []) new
     accepted made new e same says free pins inputs dffs =
@@ -57,21 +57,21 @@ module _ (before : List Statement) (s : Statement) where
 
 -- ---- what a draft says with one more part
 
-module _ (before : List Statement) (d : Draft) (says : Says before d) where
+module _ (before : List Statement) (d : Draft) (says : SaysByName before d) where
   said : (s : Statement) (new : Draft)
       → ((more : List Name) → named_draft (longer new more) ≡ with_statement (named_draft (longer d more)) s)
-      → Says (before ++ s ∷ []) new
+      → SaysByName (before ++ s ∷ []) new
   said s new adds more = adds more ∙ ap (λ n. with_statement n s) (says more) ∙ sym (named_push before s)
 
   pub says_input : (id : NameId) (name : Name) → IsNumberOf d.names id name
-      → Says (before ++ input_line name ∷ []) (record d { inputs = d.inputs ++ id ∷ [] })
+      → SaysByName (before ++ input_line name ∷ []) (record d { inputs = d.inputs ++ id ∷ [] })
   says_input id name at = said (input_line name) (record d { inputs = d.inputs ++ id ∷ [] }) (λ more.
       let pushed = map_push (draft_name (longer d more)) d.inputs id in
       let named = number_stays d.names more id name at in
       cc)
 
   pub says_dff : (out pin : NameId) (name data_pin : Name) → IsNumberOf d.names out name
-      → IsNumberOf d.names pin data_pin → Says (before ++ dff_line name data_pin ∷ [])
+      → IsNumberOf d.names pin data_pin → SaysByName (before ++ dff_line name data_pin ∷ [])
       (record d { dffs = d.dffs ++ record { out = out; data_pin = pin } ∷ [] })
   says_dff out pin name data_pin at pin_at =
       let part : DraftDff = record { out = out; data_pin = pin } in
@@ -84,7 +84,7 @@ module _ (before : List Statement) (d : Draft) (says : Says before d) where
       cc)
 
   pub says_gate : (kind : Kind) (out : NameId) (ids : List NameId) (name : Name) (args : List Name)
-      → IsNumberOf d.names out name → AreNumbersOf d.names ids args → Says (before ++ gate_line name kind args ∷ [])
+      → IsNumberOf d.names out name → AreNumbersOf d.names ids args → SaysByName (before ++ gate_line name kind args ∷ [])
       (record d { gates = d.gates ++ record { kind = kind; out = out; args = ids } ∷ [] })
   says_gate kind out ids name args at are =
       let part : DraftGate = record { kind = kind; out = out; args = ids } in
@@ -98,7 +98,7 @@ module _ (before : List Statement) (d : Draft) (says : Says before d) where
   pub says_output : (id : NameId) (name : Name) → IsDraft d → IsNumberOf d.names id name → (new : Draft)
       → (Contains d.outputs id → new ≡ d)
       → (¬ Contains d.outputs id → new ≡ record d { outputs = d.outputs ++ id ∷ [] })
-      → (l : List NameId) × (new ≡ record d { outputs = l }) × Says (before ++ output_line name ∷ [])
+      → (l : List NameId) × (new ≡ record d { outputs = l }) × SaysByName (before ++ output_line name ∷ [])
       (record d { outputs = l })
   says_output id name is_draft at new known added =
       let s = output_line name in

@@ -14,7 +14,7 @@ use Rattle.ht_net.specs.Built.{draft_name, named_draft}
 use Rattle.ht_statement.specs.Statement.{Statement}
 use Rattle.ht_bench.specs.Different.{has_name}
 use Rattle.ht_bench.specs.Contents.{named_of_statements, driven_by, named_pins}
-use Rattle.ht_bench.specs.Drafts.{IsNumberOf, AreNumbersOf, Says, Mentions, longer}
+use Rattle.ht_bench.specs.Drafts.{IsNumberOf, AreNumbersOf, SaysByName, Mentions, longer}
 use Rattle.ht_bench.proofs.NameListLaws.{has_name-Decides, with_names-grow, one_place}
 use Rattle.ht_bench.proofs.NamedPartLaws.{drivers}
 use Rattle.ht_bench.proofs.DriverLaws.{drivers_are}
@@ -54,7 +54,7 @@ module _ (old new : Draft) (names : List Name) (m : Mentions old names new) wher
   pub after_more : (more : List Name) → new.names ++ more ≡ old.names ++ (names_more.0 ++ more)
   after_more more = ap (λ l. l ++ more) names_more.1 ∙ append_assoc old.names names_more.0 more
 
-  pub says_more : (statements : List Statement) → Says statements old → Says statements new
+  pub says_more : (statements : List Statement) → SaysByName statements old → SaysByName statements new
   says_more statements says more =
       ap named_draft (ap (λ (x : Draft). record x { names = new.names ++ more }) m.is
       ∙ ap (λ l. record old { names = l }) (after_more more)) ∙ says (names_more.0 ++ more)
@@ -103,7 +103,7 @@ pins_named d (g ∷ gates) =
 drivers_named : (d : Draft) → drivers (named_draft d) ≡ map (draft_name d) (driven_names d)
 drivers_named d = simp (map-append, map-map, append_assoc)
 
-module _ (statements : List Statement) (d : Draft) (says : Says statements d) where
+module _ (statements : List Statement) (d : Draft) (says : SaysByName statements d) where
   pub says_named : named_draft d ≡ named_of_statements statements
   says_named = ap (λ l. named_draft (record d { names = l })) (sym (append-nil d.names)) ∙ says []
 

@@ -16,7 +16,7 @@ use Rattle.ht_statement.specs.Statement.{Statement, input_line, output_line, dff
 use Rattle.ht_bench.specs.Contents.{with_statement, named_of_statements, driven_in, named_pins}
 use Rattle.ht_bench.specs.Accepted.{second_driver}
 use Rattle.ht_bench.specs.AddErrors.{add_error_of}
-use Rattle.ht_bench.specs.Drafts.{IsNumberOf, AreNumbersOf, Says, IsDraftOf, Mentions, MentionsFree, Accepts, RefusesStatement}
+use Rattle.ht_bench.specs.Drafts.{IsNumberOf, AreNumbersOf, SaysByName, IsDraftOf, Mentions, MentionsFree, Accepts, RefusesStatement}
 use Rattle.ht_bench.proofs.LimitLaws.{passes_pins, passes_inputs, passes_dffs}
 use Rattle.ht_bench.proofs.SaysLaws.{says_more, inputs_count, dffs_count, pins_count}
 use Rattle.ht_bench.proofs.AddLaws.{accepted, says_input, says_output, says_dff, says_gate}
@@ -25,7 +25,7 @@ use Rattle.ht_bench.proofs.RefuseLaws.{free_before, passes}
 -- what a statement that drives a net finds in the draft with its names
 module _ {old d : Draft} (s : Statement) {name : Name} {id : NameId} (drives : driven_in s ≡ name ∷ [])
     (found : MentionsFree old (names_in s) name id d) (before : List Statement) (is : IsDraftOf before old) where
-  says_now : Says before d
+  says_now : SaysByName before d
   says_now = says_more old d (names_in s) found.mentions before is.says
 
   free_now : second_driver before s ≡ None

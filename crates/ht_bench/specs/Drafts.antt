@@ -30,14 +30,14 @@ abbrev pub longer : Draft → List Name → Draft
 longer d more = record d { names = d.names ++ more }
 
 -- a draft says by names what the statements say, whatever names come after
-abbrev pub Says : List Statement → Draft → Type 0
-Says statements d = (more : List Name)
+abbrev pub SaysByName : List Statement → Draft → Type 0
+SaysByName statements d = (more : List Name)
     → named_draft (longer d more) ≡ named_of_statements statements
 
 pub record IsDraftOf (statements : List Statement) (d : Draft) : Type 0 where
   pub names : d.names ≡ stated_nets statements
   pub names_differ : AllDiffer d.names
-  pub says : Says statements d
+  pub says : SaysByName statements d
   pub limits : limit_passed statements ≡ None
 
 -- a draft in which more names are mentioned, and nothing else is new

@@ -2,3 +2,4 @@ pub mod WithoutLaws
 pub mod KeptLaws
 pub mod DetectedLaws
 pub mod CompactionLaws
+pub mod FirstVectorLaws

@@ -1,3 +1,4 @@
 pub mod Kept
 pub mod Compacts
 pub mod CompactionText
+pub mod TestsToCompact

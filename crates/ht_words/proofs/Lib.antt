@@ -1,3 +1,2 @@
 mod DefinitionLaws
-mod DemoLaws
 mod NumberLaws

@@ -1,12 +1,12 @@
 //! One `clap` command for each command of the program.
-ghost use Rattle.std.specs.Prelude.{◌≡◌, IfOk, false};
-ghost use Rattle.clap.specs.Words.{app_of, rule_of};
-ghost use Rattle.ht_asked.specs.Asked.{check_command, demo_command, gen_command};
+ghost use Rattle.std.specs.Prelude.{◌≡◌, ◌∷◌, IfOk, IfSome, [], codes, false, option_map, true};
+ghost use Rattle.clap.specs.Words.{app_of, is_simple_and_free, rule_of};
+ghost use Rattle.ht_asked.specs.Forms.{names_form};
+ghost use Rattle.ht_asked.specs.Asked.{check_command, command_named, compact_command};
+ghost use Rattle.ht_asked.specs.Asked.{demo_command, diagnose_command, gen_command};
 ghost use Rattle.ht_asked.specs.Asked.{norm_command, sim_command};
 ghost use Rattle.ht_asked.specs.ByClap.{app_named, app_with, optional, wanted};
-ghost use Rattle.ht_words.specs.Jobs.{command_of};
 
-use crate::command_name::CommandName;
 use clap::{Arg, Command};
 use std::alloc::{AllocError, Global};
 
@@ -35,14 +35,21 @@ fn option<'a>(alloc: Global, id: &'a str) -> Arg<'a>
     Arg::new(alloc, id).long(id)
 }
 
+/// A command whose first arguments are `NETLIST TESTS`.
+fn with_tests<'a>(alloc: Global, name: &'a str) -> Result<Command<'a>, AllocError>
+    ensures { IfOk result (λ c. app_of c
+        ≡ app_with name.entry.now (names_form (codes "netlist" ∷ codes "tests" ∷ []))) }
+{
+    plain_command(alloc, name)
+        .arg(positional(alloc, "netlist"))?
+        .arg(positional(alloc, "tests"))
+}
+
 /// A command with the arguments of `sim`, which `gen` and `check` have too: `NETLIST TESTS REPORT`.
 fn with_report<'a>(alloc: Global, name: &'a str) -> Result<Command<'a>, AllocError>
     ensures { IfOk result (λ c. app_of c ≡ app_with name.entry.now sim_command.form) }
 {
-    plain_command(alloc, name)
-        .arg(positional(alloc, "netlist"))?
-        .arg(positional(alloc, "tests"))?
-        .arg(positional(alloc, "report"))
+    with_tests(alloc, name)?.arg(positional(alloc, "report"))
 }
 
 /// `gen NETLIST TESTS REPORT PROOFS [--budget N] [--random N] [--seed S]`.
@@ -81,15 +88,37 @@ fn define_demo<'a>(alloc: Global) -> Result<Command<'a>, AllocError>
         .arg(positional(alloc, "seed"))
 }
 
-/// The definition of a command.
-pub fn definition<'a>(alloc: Global, name: CommandName) -> Result<Command<'a>, AllocError>
-    ensures { IfOk result (λ c. app_of c ≡ app_with (command_of name).name (command_of name).form) }
+/// `compact NETLIST TESTS OUT`.
+fn define_compact<'a>(alloc: Global) -> Result<Command<'a>, AllocError>
+    ensures { IfOk result (λ c. app_of c ≡ app_with compact_command.name compact_command.form) }
 {
-    match name {
-        CommandName::Sim => with_report(alloc, "sim"),
-        CommandName::Gen => define_gen(alloc),
-        CommandName::Check => define_check(alloc),
-        CommandName::Norm => define_norm(alloc),
-        CommandName::Demo => define_demo(alloc),
+    with_tests(alloc, "compact")?.arg(positional(alloc, "out"))
+}
+
+/// `diagnose NETLIST TESTS RESPONSES OUT`.
+fn define_diagnose<'a>(alloc: Global) -> Result<Command<'a>, AllocError>
+    ensures { IfOk result (λ c. app_of c ≡ app_with diagnose_command.name diagnose_command.form) }
+{
+    with_tests(alloc, "diagnose")?
+        .arg(positional(alloc, "responses"))?
+        .arg(positional(alloc, "out"))
+}
+
+/// The definition of the command that the word names, in lower case.
+pub fn definition<'a>(alloc: Global, word: &str) -> Result<Option<Command<'a>>, AllocError>
+    ensures named { IfOk result (λ found. option_map app_of found
+        ≡ option_map (λ c. app_with c.name c.form) (command_named word.now)) }
+    ensures simple { IfOk result
+        (λ found. IfSome found (λ c. is_simple_and_free (app_of c) ≡ true)) }
+{
+    match word {
+        "sim" => Ok(Some(with_report(alloc, "sim")?)),
+        "gen" => Ok(Some(define_gen(alloc)?)),
+        "check" => Ok(Some(define_check(alloc)?)),
+        "norm" => Ok(Some(define_norm(alloc)?)),
+        "demo" => Ok(Some(define_demo(alloc)?)),
+        "compact" => Ok(Some(define_compact(alloc)?)),
+        "diagnose" => Ok(Some(define_diagnose(alloc)?)),
+        _ => Ok(None),
     }
 }

@@ -61,6 +61,26 @@ pub enum Job {
         /// The seed of the netlist and of the random vectors.
         seed: u64,
     },
+    /// Leaves out the tests that the netlist's faults don't need.
+    Compact {
+        /// The netlist to read.
+        netlist: FileName,
+        /// The tests to read.
+        tests: FileName,
+        /// The compacted tests to write.
+        out: FileName,
+    },
+    /// Says which of the netlist's faults explain the responses to the tests.
+    Diagnose {
+        /// The netlist to read.
+        netlist: FileName,
+        /// The tests to read.
+        tests: FileName,
+        /// The responses to read.
+        responses: FileName,
+        /// The diagnosis to write.
+        out: FileName,
+    },
 }
 
 /// Why words are no job.

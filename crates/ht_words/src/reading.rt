@@ -1,13 +1,12 @@
 //! From words to a job.
 ghost use Rattle.std.specs.Prelude.{◌≡◌, IfOk, None, Some, codes, false, option_and_then, true};
 ghost use Rattle.clap.specs.Words.{app_of, first_of, found_of, is_simple_and_free, matches_of, rows_of};
-ghost use Rattle.ht_asked.specs.Asked.{asked, check_command, gen_command, words_of};
+ghost use Rattle.ht_asked.specs.Asked.{asked, check_command, command_named, gen_command, words_of};
 ghost use Rattle.ht_asked.specs.Asked.{demo_with, seed_in, size_in};
 ghost use Rattle.ht_asked.specs.ByClap.{asked_by_clap, asked_in_rows, is_taken};
-ghost use Rattle.ht_words.specs.Jobs.{IsAnswer, command_of};
+ghost use Rattle.ht_words.specs.Jobs.{IsAnswer};
 ghost use Rattle.ht_words.specs.declared.job.WordsFault.TheVariants as fault;
 
-use crate::command_name::CommandName;
 use crate::definitions::definition;
 use crate::file_name::FileName;
 use crate::job::{Job, RunFiles, WordsFault};
@@ -31,11 +30,12 @@ pub fn command(alloc: Global, words: &[String]) -> Result<Job, WordsFault>
     let Some(first) = words.first() else {
         return Err(WordsFault::Usage);
     };
-    let Some(name) = CommandName::from_word(first.as_str()) else {
+    let word = first.as_str();
+    let Some(definition) = definition(alloc, word)? else {
         return Err(WordsFault::Usage);
     };
-    let matches = matches_for(definition(alloc, name)?, words)?;
-    job(alloc, name, &matches)
+    let matches = matches_for(definition, words)?;
+    job(alloc, word, &matches)
 }
 
 /// How `clap` reads the words.
@@ -55,23 +55,36 @@ fn matches_for<'a>(command: Command<'a>, words: &'a [String]) -> Result<ArgMatch
     }
 }
 
-/// The job of a command by the values that `clap` found.
-fn job(alloc: Global, name: CommandName, matches: &ArgMatches<'_>) -> Result<Job, WordsFault>
-    ensures { IsAnswer (asked_in_rows (command_of name) (rows_of (found_of matches.now))) result }
+/// The job of the command that the word names, by the values that `clap` found.
+fn job(alloc: Global, word: &str, matches: &ArgMatches<'_>) -> Result<Job, WordsFault>
+    ensures { IsAnswer (option_and_then
+        (λ c. asked_in_rows c (rows_of (found_of matches.now))) (command_named word.now)) result }
 {
-    match name {
-        CommandName::Sim => Ok(Job::Sim {
+    match word {
+        "sim" => Ok(Job::Sim {
             netlist: value(alloc, matches, "netlist")?,
             tests: value(alloc, matches, "tests")?,
             report: value(alloc, matches, "report")?,
         }),
-        CommandName::Gen => gen_job(alloc, matches),
-        CommandName::Check => check_job(alloc, matches),
-        CommandName::Norm => Ok(Job::Norm {
+        "gen" => gen_job(alloc, matches),
+        "check" => check_job(alloc, matches),
+        "norm" => Ok(Job::Norm {
             netlist: value(alloc, matches, "netlist")?,
             out: value(alloc, matches, "out")?,
         }),
-        CommandName::Demo => demo_job(matches),
+        "demo" => demo_job(matches),
+        "compact" => Ok(Job::Compact {
+            netlist: value(alloc, matches, "netlist")?,
+            tests: value(alloc, matches, "tests")?,
+            out: value(alloc, matches, "out")?,
+        }),
+        "diagnose" => Ok(Job::Diagnose {
+            netlist: value(alloc, matches, "netlist")?,
+            tests: value(alloc, matches, "tests")?,
+            responses: value(alloc, matches, "responses")?,
+            out: value(alloc, matches, "out")?,
+        }),
+        _ => Err(WordsFault::Usage),
     }
 }
 

@@ -2,8 +2,10 @@
 
 pub mod cases;
 mod checked;
+mod compacted;
 mod damaged;
 mod demo;
+mod diagnosed;
 mod failures;
 mod faults;
 mod generated;

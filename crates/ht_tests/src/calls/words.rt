@@ -1,17 +1,40 @@
 //! Tests of ht_words.
 use super::run::cases::words_of;
-use ht_words::{Job, RunFiles, WordsFault, command};
+use ht_words::{FileName, Job, RunFiles, WordsFault, command};
 use std::alloc::{AllocError, Global};
 use std::test::Fail;
 
+/// The names are the command's, and then those of three files.
+fn are_three(command: &str, a: &FileName, b: &FileName, c: &FileName, names: &[&str]) -> bool {
+    names.len() == 4
+        && names[0] == command
+        && names[1] == a.as_str()
+        && names[2] == b.as_str()
+        && names[3] == c.as_str()
+}
+
+/// The last is that of a fourth file, after those of three.
+fn are_four(
+    command: &str,
+    a: &FileName,
+    b: &FileName,
+    c: &FileName,
+    d: &FileName,
+    names: &[&str],
+) -> bool {
+    names.len() == 5 && are_three(command, a, b, c, &names[..4]) && names[4] == d.as_str()
+}
+
 /// The names are the command's, and then those of the files.
 fn are_files(command: &str, files: &RunFiles, names: &[&str]) -> bool {
-    names.len() == 5
-        && names[0] == command
-        && names[1] == files.netlist.as_str()
-        && names[2] == files.tests.as_str()
-        && names[3] == files.report.as_str()
-        && names[4] == files.proofs.as_str()
+    are_four(
+        command,
+        &files.netlist,
+        &files.tests,
+        &files.report,
+        &files.proofs,
+        names,
+    )
 }
 
 /// The job is the command with these names.
@@ -21,13 +44,7 @@ fn is_job(job: &Job, names: &[&str]) -> bool {
             netlist,
             tests,
             report,
-        } => {
-            names.len() == 4
-                && names[0] == "sim"
-                && names[1] == netlist.as_str()
-                && names[2] == tests.as_str()
-                && names[3] == report.as_str()
-        }
+        } => are_three("sim", netlist, tests, report, names),
         Job::Gen { files, .. } => are_files("gen", files, names),
         Job::Check { files } => are_files("check", files, names),
         Job::Norm { netlist, out } => {
@@ -37,6 +54,17 @@ fn is_job(job: &Job, names: &[&str]) -> bool {
                 && names[2] == out.as_str()
         }
         Job::Demo { .. } => false,
+        Job::Compact {
+            netlist,
+            tests,
+            out,
+        } => are_three("compact", netlist, tests, out, names),
+        Job::Diagnose {
+            netlist,
+            tests,
+            responses,
+            out,
+        } => are_four("diagnose", netlist, tests, responses, out, names),
     }
 }
 
@@ -82,6 +110,12 @@ const ROWS: &[(&[&str], &[&str])] = &[
         &["check", "n", "t", "r", "p"],
     ),
     (&["norm", "n", "o"], &["norm", "n", "o"]),
+    (&["compact", "n", "t", "o"], &["compact", "n", "t", "o"]),
+    (
+        &["diagnose", "n", "t", "s", "o"],
+        &["diagnose", "n", "t", "s", "o"],
+    ),
+    (&["diagnose", "n", "t", "o"], &[]),
     (&["norm", "--", "-n", "-o"], &["norm", "-n", "-o"]),
     (&[], &[]),
     (&["SIM", "n", "t", "r"], &[]),

@@ -4,7 +4,7 @@ use Rattle.ht_app.specs.Inputs.{check_files_of}
 use Rattle.ht_app.specs.Run.{check_of_names}
 use Rattle.ht_app.proofs.CauseLaws.{write_cause}
 use Rattle.ht_app.proofs.CheckLaws.{check_done, check_truncated, fails_to_say, says_after}
-use Rattle.ht_app.proofs.PortsLaws.{ends_reading}
+use Rattle.ht_app.proofs.PortsLaws.{ends_reading, never_answered}
 use Rattle.ht_app.proofs.check.check.Goals as goal
 
 -- ---- the files are denied, or can't be read
@@ -12,8 +12,12 @@ use Rattle.ht_app.proofs.check.check.Goals as goal
 pub returns-in_err-judge-clause-changed : goal.returns-in_err-judge-clause-changed
 returns-in_err-judge-clause-changed g c =
     let names = check_files_of c.args.netlist.now c.args.tests.now c.args.report.now c.args.proofs.now in
-    let changed = ends_reading (check_of_names names) c.in_err-judge.field-0.0 (g.D.Desk.view c.args.desk.now)
-    (g.D.Desk.view c.judge.new.desk) refl c.in_err-judge.ensures.reads c.in_err-judge.ensures.first in
+    let job = check_of_names names in
+    let a = g.D.Desk.view c.args.desk.now in
+    let m = g.D.Desk.view c.judge.new.desk in
+    let reads = c.in_err-judge.ensures.reads in
+    let changed = ends_reading job a m refl reads c.in_err-judge.field-0.0 c.in_err-judge.ensures.first
+    (λ seven. never_answered job a m refl reads) in
     search (rules, changed)
 
 pub returns-in_err-judge-clause-quiet : goal.returns-in_err-judge-clause-quiet

@@ -2,13 +2,13 @@ use Rattle.std.proofs.Common.{◌≡◌, Some, ◌⊎◌, ◌≢◌, ℕ, List, 
 use Rattle.std.specs.Io.KnownBytes.{append_known}
 use Rattle.ht_ports.specs.Desk.{DeskView, Wrote}
 use Rattle.ht_ports.specs.declared.ports.OutPort.TheVariants as out_port
-use Rattle.ht_asked.specs.Asked.{Asked, asked, words_of, sim}
+use Rattle.ht_asked.specs.Asked.{Asked, asked, compact, diagnose, words_of}
 use Rattle.ht_app.specs.Errors.{err_line}
 use Rattle.ht_app.specs.Changed.{ChangedOnly, Faultless, ports_at}
 use Rattle.ht_app.specs.Run.{HasCause, SaysOnErr, check_of_names}
 use Rattle.ht_app.proofs.PortsLaws.{changed_by_line}
 use Rattle.ht_app.proofs.AskedLaws.{cause_of_job, job_done, usage_status, asked_status}
-use Rattle.ht_app.proofs.StatusLaws.{finished_not_refused, finished_not_malformed, finished_not_bad, refused_status, malformed_status, bad_status, denied_status, good_status, steady_status, faultless_before, output_status}
+use Rattle.ht_app.proofs.StatusLaws.{finished_not_refused, finished_not_malformed, finished_not_bad, many_status, no_bad_responses, not_many, refused_status, responses_status, malformed_status, bad_status, denied_status, good_status, steady_status, faultless_before, output_status}
 use Rattle.ht_app.proofs.commands.run.Given as given
 use Rattle.ht_app.proofs.commands.run.Goals as goal
 use Rattle.ht_app.proofs.commands.run.Goals.{After-write_line, In-Err}
@@ -23,11 +23,26 @@ returns-in-Ok-clause-refused g c = λ job name is reads bad.
     (job_done (asked (words_of c.args.words.now)) job a b is c.in-Ok.ensures.done) reads bad)
 
 pub returns-in-Ok-clause-malformed : goal.returns-in-Ok-clause-malformed
-returns-in-Ok-clause-malformed g c = λ netlist tests report is bad.
+returns-in-Ok-clause-malformed g c = λ job is bad.
     let a = g.D.Desk.view c.args.desk.now in
     let b = g.D.Desk.view c.work.new.desk in
-    absurd (finished_not_malformed netlist tests report a b
-    (job_done (asked (words_of c.args.words.now)) (sim netlist tests report) a b is c.in-Ok.ensures.done) bad)
+    absurd (finished_not_malformed job a b
+    (job_done (asked (words_of c.args.words.now)) job a b is c.in-Ok.ensures.done) bad)
+
+pub returns-in-Ok-clause-many : goal.returns-in-Ok-clause-many
+returns-in-Ok-clause-many g c = λ netlist tests out is many.
+    let a = g.D.Desk.view c.args.desk.now in
+    let b = g.D.Desk.view c.work.new.desk in
+    absurd (not_many netlist tests out a
+    (job_done (asked (words_of c.args.words.now)) (compact netlist tests out) a b is c.in-Ok.ensures.done).inputs many)
+
+pub returns-in-Ok-clause-responses : goal.returns-in-Ok-clause-responses
+returns-in-Ok-clause-responses g c = λ names out is bad.
+    let a = g.D.Desk.view c.args.desk.now in
+    let b = g.D.Desk.view c.work.new.desk in
+    absurd (no_bad_responses names out a
+    (job_done (asked (words_of c.args.words.now)) (diagnose names.netlist names.tests names.responses out) a b is
+    c.in-Ok.ensures.done).inputs bad)
 
 pub returns-in-Ok-clause-invalid : goal.returns-in-Ok-clause-invalid
 returns-in-Ok-clause-invalid g c = λ names is bad.
@@ -114,12 +129,27 @@ returns-in-Err-clause-refused g c = λ job name is reads bad.
     c.in-Err.error cause reads bad)
 
 pub returns-in-Err-clause-malformed : goal.returns-in-Err-clause-malformed
-returns-in-Err-clause-malformed g c = λ netlist tests report is bad.
+returns-in-Err-clause-malformed g c = λ job is bad.
     let at = goal.at.returns-in-Err-clause-malformed g c in
-    let cause = job_cause g at.In-Err (sim netlist tests report) is in
+    let cause = job_cause g at.In-Err job is in
     subst (λ (s : ℕ). (s ≡ 7) ⊎ (s ≡ 4) ⊎ (s ≡ 6)) (sym c.status.ensures)
-    (malformed_status netlist tests report (g.D.Desk.view c.args.desk.now) (g.D.Desk.view c.work.new.desk)
-    c.in-Err.error cause bad)
+    (malformed_status job (g.D.Desk.view c.args.desk.now) (g.D.Desk.view c.work.new.desk) c.in-Err.error cause bad)
+
+pub returns-in-Err-clause-many : goal.returns-in-Err-clause-many
+returns-in-Err-clause-many g c = λ netlist tests out is many.
+    let at = goal.at.returns-in-Err-clause-many g c in
+    let cause = job_cause g at.In-Err (compact netlist tests out) is in
+    subst (λ (s : ℕ). (s ≡ 9) ⊎ (s ≡ 4) ⊎ (s ≡ 6)) (sym c.status.ensures)
+    (many_status netlist tests out (g.D.Desk.view c.args.desk.now) (g.D.Desk.view c.work.new.desk) c.in-Err.error
+    cause many)
+
+pub returns-in-Err-clause-responses : goal.returns-in-Err-clause-responses
+returns-in-Err-clause-responses g c = λ names out is bad.
+    let at = goal.at.returns-in-Err-clause-responses g c in
+    let cause = job_cause g at.In-Err (diagnose names.netlist names.tests names.responses out) is in
+    subst (λ (s : ℕ). (s ≡ 10) ⊎ (s ≡ 4) ⊎ (s ≡ 6)) (sym c.status.ensures)
+    (responses_status names out (g.D.Desk.view c.args.desk.now) (g.D.Desk.view c.work.new.desk) c.in-Err.error cause
+    bad)
 
 pub returns-in-Err-clause-invalid : goal.returns-in-Err-clause-invalid
 returns-in-Err-clause-invalid g c = λ names is bad.

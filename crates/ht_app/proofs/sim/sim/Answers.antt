@@ -1,11 +1,11 @@
-use Rattle.std.proofs.Common.{◌≡◌, List, ℕ, refl, sym, ◌∙◌, subst, rules}
+use Rattle.std.proofs.Common.{◌≡◌, ◌++◌, List, ℕ, refl, sym, ◌∙◌, subst, rules}
 use Rattle.ht_ports.specs.declared.ports.OutPort.TheVariants as out_port
 use Rattle.ht_asked.specs.Asked.{sim}
 use Rattle.ht_app.specs.Errors.{exit_status}
 use Rattle.ht_app.specs.Changed.{ChangedOnly, job_ports}
 use Rattle.ht_app.specs.Truncated.{StopsInReport}
-use Rattle.ht_app.specs.Steps.{IsReported, status_after}
-use Rattle.ht_app.proofs.PortsLaws.{ends_reading, ends_writing, fails_writing}
+use Rattle.ht_app.specs.Steps.{IsTotalled, status_after}
+use Rattle.ht_app.proofs.PortsLaws.{ends_reading, ends_writing, fails_writing, never_answered}
 use Rattle.ht_app.proofs.CauseLaws.{write_cause}
 use Rattle.ht_app.proofs.OutputLaws.{sim_done, sim_truncated}
 use Rattle.ht_app.proofs.sim.sim.Goals as goal
@@ -16,8 +16,11 @@ pub returns-in_err-texts-clause-changed : goal.returns-in_err-texts-clause-chang
 returns-in_err-texts-clause-changed g c =
     let job = sim c.args.netlist.now c.args.tests.now c.args.report.now in
     let failed = c.in_err-texts.ensures in
-    let changed = ends_reading job c.in_err-texts.field-0.0 (g.D.Desk.view c.args.desk.now)
-    (g.D.Desk.view c.simulate.new.desk) refl (failed.reads c.args.report.now) failed.first in
+    let reads = failed.reads c.args.report.now in
+    let a = g.D.Desk.view c.args.desk.now in
+    let m = g.D.Desk.view c.simulate.new.desk in
+    let changed = ends_reading job a m refl reads c.in_err-texts.field-0.0 failed.first
+    (λ seven. never_answered job a m refl reads) in
     search (rules, changed)
 
 pub returns-in_err-texts-clause-quiet : goal.returns-in_err-texts-clause-quiet
@@ -36,15 +39,16 @@ returns-in_err-write_report-clause-changed g c =
     let a = g.D.Desk.view c.args.desk.now in
     let m = g.D.Desk.view c.simulate.new.desk in
     let b = g.D.Desk.view c.write_report.new.desk in
-    let changed = fails_writing job c.in_err-write_report.field-0.0 c.args.report.now a m b
-    c.in_err-write_report.ensures.error refl (c.in_ok-texts.ensures.reads c.args.report.now)
-    c.in_err-write_report.ensures.changed in
+    let changed = fails_writing job c.in_err-write_report.field-0.0 a m b c.in_err-write_report.ensures.error
+    (c.in_ok-texts.ensures.reads c.args.report.now) (c.in_err-write_report.ensures.changed job refl refl) in
     let status : status_after c.from_residual-in_err-write_report.result
     ≡ exit_status c.in_err-write_report.field-0.0 = search rules in
     subst (λ (s : ℕ). ChangedOnly (job_ports job s) a b) (sym status) changed
 
 pub returns-in_err-write_report-clause-quiet : goal.returns-in_err-write_report-clause-quiet
-returns-in_err-write_report-clause-quiet g c = c.in_err-write_report.ensures.changed.written out_port.Err refl
+returns-in_err-write_report-clause-quiet g c =
+    let job = sim c.args.netlist.now c.args.tests.now c.args.report.now in
+    (c.in_err-write_report.ensures.changed job refl refl).written out_port.Err refl
     ∙ (c.in_ok-texts.ensures.reads c.args.report.now).written out_port.Err refl
 
 pub returns-in_err-write_report-clause-cause : goal.returns-in_err-write_report-clause-cause
@@ -69,14 +73,16 @@ returns-in_err-write_report-clause-cause g c =
 -- ---- the report stands
 
 pub returns-clause-changed : goal.returns-clause-changed
-returns-clause-changed g c = ends_writing (sim c.args.netlist.now c.args.tests.now c.args.report.now) 0
-    c.args.report.now
-    (g.D.Desk.view c.args.desk.now) (g.D.Desk.view c.simulate.new.desk) (g.D.Desk.view c.write_report.new.desk) refl
-    refl
-    refl (c.in_ok-texts.ensures.reads c.args.report.now) c.in_ok-write_report.ensures.changed
+returns-clause-changed g c =
+    let job = sim c.args.netlist.now c.args.tests.now c.args.report.now in
+    ends_writing job 0 (g.D.Desk.view c.args.desk.now) (g.D.Desk.view c.simulate.new.desk)
+    (g.D.Desk.view c.write_report.new.desk) refl refl (c.in_ok-texts.ensures.reads c.args.report.now)
+    (c.in_ok-write_report.ensures.changed job refl refl)
 
 pub returns-clause-quiet : goal.returns-clause-quiet
-returns-clause-quiet g c = c.in_ok-write_report.ensures.changed.written out_port.Err refl
+returns-clause-quiet g c =
+    let job = sim c.args.netlist.now c.args.tests.now c.args.report.now in
+    (c.in_ok-write_report.ensures.changed job refl refl).written out_port.Err refl
     ∙ (c.in_ok-texts.ensures.reads c.args.report.now).written out_port.Err refl
 
 pub returns-clause-done : goal.returns-clause-done
@@ -86,9 +92,9 @@ returns-clause-done g c =
     let total = c.in_ok-texts.texts.total.items in
     let m = g.D.Desk.view c.simulate.new.desk in
     let b = g.D.Desk.view c.write_report.new.desk in
-    let report : IsReported c.args.report.now body total m b =
-    subst (λ (l : List ℕ). IsReported c.args.report.now body l m b) c.deref-2.ensures.value
-    (subst (λ (l : List ℕ). IsReported c.args.report.now l c.deref-2.result.now m b) c.deref.ensures.value
-    c.in_ok-write_report.ensures.report) in
+    let report : IsTotalled out_port.Report c.args.report.now (body ++ total) total m b =
+    subst (λ (l : List ℕ). IsTotalled out_port.Report c.args.report.now (body ++ l) l m b) c.deref-2.ensures.value
+    (subst (λ (l : List ℕ). IsTotalled out_port.Report c.args.report.now (l ++ c.deref-2.result.now)
+    c.deref-2.result.now m b) c.deref.ensures.value c.in_ok-write_report.ensures.report) in
     sim_done c.args.netlist.now c.args.tests.now c.args.report.now body total (g.D.Desk.view c.args.desk.now) m b
     (texts.reads c.args.report.now) report texts.inputs texts.texts

@@ -96,8 +96,8 @@ pub fn status_on(
     Ok(run(alloc, &words, desk))
 }
 
-// Whether the run comes out as it must, over a desk without files.
-fn holds_on(
+/// Whether the run comes out as it must, over a desk without these files.
+pub fn holds_on(
     alloc: Global,
     desk: &mut MemoryDesk,
     start: &Setup<'_>,
