@@ -12,7 +12,7 @@ use Rattle.ht_compact.proofs.FirstVectorLaws.{few_or_many}
 use Rattle.ht_dictionary.proofs.ResponseLaws.{never_both as never_responses}
 use Rattle.ht_asked.specs.Asked.{Asked, sim, gen, check, norm, demo, compact, diagnose}
 use Rattle.ht_app.specs.Inputs.{IsInput, IsGoodNetlist, IsGoodNetlistFile, AcceptsNetlist, AcceptsInputs, IsBadNetlist, AreGoodInputs, HasBadTests}
-use Rattle.ht_app.specs.Inputs.{AreResponseFiles, AreTests, AreVectors, DiagnosisFiles, ReadsResponses, ReadsTests, diagnosis_files_of}
+use Rattle.ht_app.specs.Inputs.{AreResponseFiles, AreTests, AreTestVectors, DiagnosisFiles, ReadsResponses, ReadsTests, diagnosis_files_of}
 use Rattle.ht_app.specs.Jobs.{input_name}
 use Rattle.ht_app.specs.Run.{IsTooLongNetlist, IsRefused, RefusesMany, RefusesNetlist, RefusesResponses, RefusesTests}
 
@@ -90,7 +90,7 @@ responses_differ names a P Q reads files differ =
 
 -- the tests among the files of `diagnose`
 pub tests_among : (names : DiagnosisFiles) (a : DeskView) (Q : ℕ → ℕ → List ℕ → Type 0) → AreResponseFiles names a Q
-    → AreTests names.netlist names.tests a AreVectors
+    → AreTests names.netlist names.tests a AreTestVectors
 tests_among names a Q files = record {
   netlist = files.texts.netlist;
   tests = files.texts.tests;

@@ -107,7 +107,8 @@ module _ {V : Type 0} (code : V → ℕ) (width most : ℕ) (port : InPort) (nam
 
     -- the next line is too long
     pub next_long : ((text : List ℕ) → rest_of reader a ≡ Some text
-        → IsTooLongLine reader.max_len reader.bytes_read text) → (text : List ℕ) → IsInput port name text first → IsNextLong most text (map (map code) rows)
+        → IsTooLongLine reader.max_len reader.bytes_read text)
+        → (text : List ℕ) → IsInput port name text first → IsNextLong most text (map (map code) rows)
     next_long long text is =
         let before = h.so_far text is in
         next_is_long most text reader.bytes_read (map (map code) rows) before.0 before.2.lines h.fits

@@ -72,8 +72,8 @@ MayHold desk name = desk.file name ≢ Some None
 -- ---- texts of tests and of responses
 
 -- each line of the tests is a vector of the circuit
-abbrev pub AreVectors : net.Netlist → List ℕ → Type 0
-AreVectors c text = (list : List (List Bool)) × IsTestText c text list
+abbrev pub AreTestVectors : net.Netlist → List ℕ → Type 0
+AreTestVectors c text = (list : List (List Bool)) × IsTestText c text list
 
 -- and they are few enough to be compacted
 abbrev pub AreFewVectors : net.Netlist → List ℕ → Type 0
@@ -109,7 +109,7 @@ pub record ReadsTests (netlist_name tests_name : List ℕ) (old : DeskView) (Are
 
 -- The tests are vectors of the circuit.
 abbrev pub AcceptsTests : List ℕ → List ℕ → DeskView → Type 0
-AcceptsTests netlist_name tests_name old = ReadsTests netlist_name tests_name old AreVectors
+AcceptsTests netlist_name tests_name old = ReadsTests netlist_name tests_name old AreTestVectors
 
 -- The netlist and the tests are accepted; the responses are there, and are so for its outputs and for so many vectors.
 pub record ReadsResponses (names : DiagnosisFiles) (old : DeskView) (AreSo : ℕ → ℕ → List ℕ → Type 0) : Type 0 where
@@ -233,7 +233,7 @@ AreBadFiles names desk = AreFiles names desk (λ c representatives texts. ¬ Are
 
 -- the desk knows all that the job reads, and it is good
 abbrev pub AreGoodInputs : Asked → DeskView → Type 0
-AreGoodInputs (sim netlist tests report) desk = AreTests netlist tests desk AreVectors
+AreGoodInputs (sim netlist tests report) desk = AreTests netlist tests desk AreTestVectors
 AreGoodInputs (gen netlist tests report proofs options) desk = IsGoodNetlistFile netlist desk
 AreGoodInputs (check netlist tests report proofs) desk = AreGoodFiles (check_files_of netlist tests report proofs) desk
 AreGoodInputs (norm netlist out) desk = IsGoodNetlistFile netlist desk

@@ -26,7 +26,11 @@ module _ (p q : Name → Bool) (wider : (x : Name) → p x ≡ true → q x ≡ 
     (new : q name ≡ true) where
   no_less : (x : Name) → cond (p x) 1 0 ≤ cond (q x) 1 0
   no_less x = ⊎_elim
-      (λ (yes : p x ≡ true). omega (arith, ap {B = ℕ} (λ b. cond b 1 0) yes, ap {B = ℕ} (λ b. cond b 1 0) (wider x yes)))
+      (λ (yes : p x ≡ true). omega (
+        arith,
+        ap {B = ℕ} (λ b. cond b 1 0) yes,
+        ap {B = ℕ} (λ b. cond b 1 0) (wider x yes),
+      ))
       (λ (no : p x ≡ false). omega (arith, ap {B = ℕ} (λ b. cond b 1 0) no)) (cases_Bool (p x))
 
   counts_more : (others : List Name) → Contains others name → count_by p others + 1 ≤ count_by q others

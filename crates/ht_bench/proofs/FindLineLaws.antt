@@ -92,7 +92,8 @@ module _ {text rest : List ℕ} (line more : List ℕ) {count : ℕ} {role : Rol
 -- the line comes before the text ends
 pub not_at_end : {text rest : List ℕ} {count : ℕ} {role : Role} {name : Name} → IsAhead text rest count role name
     → rest ≡ [] → ⊥
-not_at_end {text} {rest} {count} {role} {name} is none = ended is.after (ap readings_of (sym none) ∙ is.rest_lines) is.has
+not_at_end {text} {rest} {count} {role} {name} is none =
+    ended is.after (ap readings_of (sym none) ∙ is.rest_lines) is.has
   where
     ended : (after : List Statement) → [] ≡ map stated after → has_name (flat_map (nets_in role) after) name ≡ true → ⊥
     ended [] e has = cc

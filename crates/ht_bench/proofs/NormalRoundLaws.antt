@@ -164,7 +164,10 @@ module _ (c : Netlist) (is : IsCircuit c) where
     can_be_stated : All CanBeStated (statements_of c)
     can_be_stated k d below =
         let s = get_or (statements_of c) k d in
-        record { names = list_all-from_AllPass is_name (names_in s) (have_names k d below); count = have_counts c is k d below }
+        record {
+          names = list_all-from_AllPass is_name (names_in s) (have_names k d below);
+          count = have_counts c is k d below;
+        }
 
     pub normal_is_netlist : IsNetlistOf (normal_text c) c
     normal_is_netlist =

@@ -94,6 +94,7 @@ returns-clause-done g c =
     let b = g.D.Desk.view c.write_tests.new.desk in
     let report : IsTotalled out_port.Tests c.args.out.now body total m b =
     subst (λ (l : List ℕ). IsTotalled out_port.Tests c.args.out.now body l m b) c.deref-2.ensures.value
-    (subst (λ (l : List ℕ). IsTotalled out_port.Tests c.args.out.now l c.deref-2.result.now m b) c.deref.ensures.value c.in_ok-write_tests.ensures.tests) in
+    (subst (λ (l : List ℕ). IsTotalled out_port.Tests c.args.out.now l c.deref-2.result.now m b) c.deref.ensures.value
+    c.in_ok-write_tests.ensures.tests) in
     compact_done c.args.netlist.now c.args.tests.now c.args.out.now body total (g.D.Desk.view c.args.desk.now) m b
     (texts.reads c.args.out.now) report texts.inputs texts.texts

@@ -1,7 +1,7 @@
 use Rattle.std.proofs.Common.{refl, rules}
 use Rattle.ht_ports.specs.declared.ports.InPort.TheVariants.{Netlist, Tests}
 use Rattle.ht_asked.specs.Asked.{sim}
-use Rattle.ht_app.specs.Inputs.{AreVectors}
+use Rattle.ht_app.specs.Inputs.{AreTestVectors}
 use Rattle.ht_app.specs.Steps.{SimulateCause}
 use Rattle.ht_app.proofs.CauseLaws.{input_later, netlist_cause}
 use Rattle.ht_app.proofs.ReadFilesLaws.{NetlistWasRead, reads_tests, tests_cause}
@@ -48,7 +48,7 @@ pub returns-clause-inputs : goal.returns-clause-inputs
 returns-clause-inputs g c =
     let at = goal.at.returns-clause-inputs g c in
     reads_tests c.args.netlist.now c.args.tests.now c.in_ok-circuit.circuit (g.D.Desk.view c.args.desk.now)
-    (g.D.Desk.view c.read_netlist.new.desk) AreVectors (netlist_read g at.In_ok-circuit) c.in_ok-list.ensures.there
+    (g.D.Desk.view c.read_netlist.new.desk) AreTestVectors (netlist_read g at.In_ok-circuit) c.in_ok-list.ensures.there
     (λ text is. (c.in_ok-list.list.list, c.in_ok-list.ensures.list text is))
 
 pub returns-clause-texts : goal.returns-clause-texts

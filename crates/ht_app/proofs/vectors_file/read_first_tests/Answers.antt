@@ -77,7 +77,8 @@ returns-then-not-branch-clause-cause g c =
       there = rows.there;
       cause = λ text is. subst (λ (n : ℕ). IsMalformedTest of text (n + 1)) (sym at)
           (bad_line of text list (rows_begin _ _ _ _ _ _ _ _ _ rows text is)
-          (rows_widths _ _ _ _ _ _ _ _ _ rows text is) line (next_row _ _ _ _ _ _ _ _ _ _ _ rows line gives text is) none);
+          (rows_widths _ _ _ _ _ _ _ _ _ rows text is) line
+          (next_row _ _ _ _ _ _ _ _ _ _ _ rows line gives text is) none);
     }
 
 pub returns-then-not-branch-clause-early : goal.returns-then-not-branch-clause-early
