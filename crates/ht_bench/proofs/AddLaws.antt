@@ -84,7 +84,8 @@ module _ (before : List Statement) (d : Draft) (says : SaysByName before d) wher
       cc)
 
   pub says_gate : (kind : Kind) (out : NameId) (ids : List NameId) (name : Name) (args : List Name)
-      → IsNumberOf d.names out name → AreNumbersOf d.names ids args → SaysByName (before ++ gate_line name kind args ∷ [])
+      → IsNumberOf d.names out name → AreNumbersOf d.names ids args
+      → SaysByName (before ++ gate_line name kind args ∷ [])
       (record d { gates = d.gates ++ record { kind = kind; out = out; args = ids } ∷ [] })
   says_gate kind out ids name args at are =
       let part : DraftGate = record { kind = kind; out = out; args = ids } in
