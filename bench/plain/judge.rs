@@ -2,13 +2,14 @@
 use crate::circuit::Circuit;
 use crate::faults::{Fault, FaultList, SiteText};
 use crate::grading::{Group, Place, detects, step_both};
+use crate::guide::{Choice, wants};
 use crate::parse::{Mark, Reader, lines, number};
 use crate::search::{Token, Tree};
 use crate::sets;
 use crate::texts::{Said, head, total};
-use crate::windows::{Choice, Plan, Spot, Start, Window, wants};
-use crate::work::{Aim, BACK_LIMIT, Entry, FORWARD_FRAMES, Told, ToldFrame};
+use crate::windows::{Plan, Spot, Start, Window};
 use crate::words::Value::{self, Unknown};
+use crate::work::{Aim, BACK_LIMIT, Entry, FORWARD_FRAMES, Told, ToldFrame};
 
 const MAX_BUDGET: u64 = 100_000;
 
@@ -90,9 +91,9 @@ impl<'c> Judge<'c> {
         loop {
             let mark = reader.mark(last).ok_or_else(|| malformed(&reader))?;
             if let Some(entry) = entry.take() {
-                let right = own.binary_search(&(last - 1)).is_ok_and(|k| {
-                    self.is_right(list.faults[last as usize - 1], said[k], &entry)
-                });
+                let right = own
+                    .binary_search(&(last - 1))
+                    .is_ok_and(|k| self.is_right(list.faults[last as usize - 1], said[k], &entry));
                 if !right {
                     return Err(format!("fault {last}"));
                 }

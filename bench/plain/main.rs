@@ -7,6 +7,7 @@
 mod circuit;
 mod faults;
 mod grading;
+mod guide;
 mod judge;
 mod parse;
 mod random;

@@ -1,7 +1,8 @@
 //! Proofs, as they are read: each entry once the line after it is read.
+use crate::guide::Choice;
 use crate::search::Token;
 use crate::texts::{END, HEAD};
-use crate::windows::{Choice, Spot};
+use crate::windows::Spot;
 use crate::work::{Aim, Entry, Told};
 
 const MAX_LINE: usize = 4_104;
@@ -121,7 +122,13 @@ impl<'a> Reader<'a> {
         let mut sets: Vec<(u32, bool)> = Vec::new();
         while let Some(set) = self.take(|line| {
             let (front, bit) = line.strip_prefix(b"set ")?.split_at_checked(line.len().checked_sub(6)?)?;
-            let bit = if bit == b" 1" { true } else if bit == b" 0" { false } else { return None };
+            let bit = if bit == b" 1" {
+                true
+            } else if bit == b" 0" {
+                false
+            } else {
+                return None;
+            };
             let var = index(front)?;
             sets.last().is_none_or(|last| last.0 < var).then_some((var, bit))
         }) {

@@ -1,6 +1,7 @@
 //! One search over a window, or over back windows one under the other, and the judging of its walk.
 use crate::faults::Fault;
-use crate::windows::{Choice, Plan, Start, Status, Window, WindowPlace};
+use crate::guide::{Choice, Status};
+use crate::windows::{Plan, Start, Window, WindowPlace};
 use crate::words::Value::{self, One, Unknown, Zero};
 
 #[derive(Clone, Copy, PartialEq, Eq)]

@@ -2,8 +2,9 @@
 use crate::circuit::Circuit;
 use crate::faults::{FaultList, SiteText};
 use crate::grading::Place;
+use crate::guide::Choice;
 use crate::search::Token;
-use crate::windows::{Choice, Spot};
+use crate::windows::Spot;
 use crate::work::{Aim, Entry, Told};
 use std::io::{self, Write};
 

@@ -52,10 +52,7 @@ impl Word {
 
     /// A set of lanes stuck, each at its bit.
     pub fn stuck(self, lanes: u64, bits: u64) -> Word {
-        Word {
-            zero: self.zero & !lanes | lanes & !bits,
-            one: self.one & !lanes | lanes & bits,
-        }
+        Word { zero: self.zero & !lanes | lanes & !bits, one: self.one & !lanes | lanes & bits }
     }
 
     /// The lanes that have the definite value opposite to this one.
@@ -86,10 +83,7 @@ impl Word {
     }
 
     fn xor(self, other: Word) -> Word {
-        Word {
-            zero: self.zero & other.zero | self.one & other.one,
-            one: self.zero & other.one | self.one & other.zero,
-        }
+        Word { zero: self.zero & other.zero | self.one & other.one, one: self.zero & other.one | self.one & other.zero }
     }
 
     /// What a gate gives for its arguments, of which there is at least one.

@@ -2,8 +2,9 @@
 use crate::circuit::Circuit;
 use crate::faults::Fault;
 use crate::grading::{Group, detects, step_both};
+use crate::guide::wants;
 use crate::search::{End, Token, Tree};
-use crate::windows::{Plan, Spot, Start, WindowPlace, wants};
+use crate::windows::{Plan, Spot, Start, WindowPlace};
 use crate::words::Value::{self, Unknown};
 
 pub const FORWARD_FRAMES: usize = 16;
