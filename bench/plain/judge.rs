@@ -236,6 +236,7 @@ impl Window<'_> {
             }
             self.decide(*var, Value::of(*bit));
         }
+        self.refresh();
         let set = match told.place {
             Spot::Output(o) => self.circuit().outputs.get(o as usize).map(|net| self.cell(0, *net)),
             Spot::State(j) => self.outside(j as usize).then(|| self.next_state(0, j as usize)),

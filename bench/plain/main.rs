@@ -43,10 +43,14 @@ fn read_circuit(name: &str) -> Result<Circuit, Box<dyn Error>> {
     Circuit::read(&fs::read_to_string(name)?, order)
 }
 
-/// How windows get their first sets: by events, but where `PLAIN_FILL` says `whole`.
+/// How windows get their sets: by events, but where `PLAIN_FILL` says `whole` or `anew`.
 fn plan(circuit: &Circuit) -> Plan<'_> {
-    let is_whole = env::var("PLAIN_FILL").as_deref() == Ok("whole");
-    Plan::new(circuit, if is_whole { Fill::Whole } else { Fill::Events })
+    let fill = match env::var("PLAIN_FILL").as_deref() {
+        Ok("whole") => Fill::Whole,
+        Ok("anew") => Fill::Anew,
+        _ => Fill::Events,
+    };
+    Plan::new(circuit, fill)
 }
 
 /// A grader of the representatives.

@@ -143,6 +143,7 @@ impl<'c> Tree<'c> {
             if complete {
                 return None;
             }
+            self.windows[self.level].refresh();
             match (*token, self.here().status()) {
                 (Token::Dead, Status::Dead) => complete = !self.go_back(),
                 (Token::Before, Status::Sure(_)) => {

@@ -28,11 +28,13 @@ pub struct WindowPlace {
     pub spot: Spot,
 }
 
-/// How a window gets its first sets: each net by itself, or from those of the circuit without a fault by events.
+/// How a window gets its sets: the first ones each net by itself, or from those of the circuit without a fault by events,
+/// and later ones by events; or all anew whenever they are looked at.
 #[derive(Clone, Copy, PartialEq, Eq)]
 pub enum Fill {
     Whole,
     Events,
+    Anew,
 }
 
 /// What reads each net, flip-flops and gates by the nets that they drive, and the sets of windows without a fault.
@@ -151,6 +153,14 @@ impl<'c> Window<'c> {
         match self.plan.fill {
             Fill::Whole => self.fill_whole(),
             Fill::Events => self.fill_by_events(),
+            Fill::Anew => self.fill_whole(),
+        }
+    }
+
+    /// Has the sets follow the decisions where they don't yet.
+    pub fn refresh(&mut self) {
+        if self.plan.fill == Fill::Anew {
+            self.fill_whole();
         }
     }
 
@@ -325,6 +335,9 @@ impl<'c> Window<'c> {
         let circuit = self.plan.circuit;
         self.path.push(Decision { var, mark: self.trail.len() });
         self.values[var as usize] = value as u8;
+        if self.plan.fill == Fill::Anew {
+            return;
+        }
         let var = var as usize;
         let (frame, net) = if var < self.frames * circuit.inputs {
             (var / circuit.inputs, var % circuit.inputs)
