@@ -108,15 +108,20 @@ impl<'c> Group<'c> {
         if self.pins[g as usize] == 0 {
             return Word::gate(kind, args.iter().map(|net| self.words[*net as usize]));
         }
-        Word::gate(
-            kind,
-            args.iter().enumerate().map(|(pin, net)| {
-                let here = Site::GatePin { gate: g, pin: pin as u32 };
-                let lanes = self.faults.iter().enumerate().filter(|(_, fault)| fault.site == here);
-                let lanes = lanes.fold(0, |lanes, (k, _)| lanes | 1 << k);
-                self.words[*net as usize].stuck(lanes, self.bits)
-            }),
-        )
+        let pins = args.iter().enumerate();
+        Word::gate(kind, pins.map(|(pin, net)| self.words[*net as usize].stuck(self.stuck_at(g, pin), self.bits)))
+    }
+
+    /// The lanes in which a pin of a gate is stuck.
+    fn stuck_at(&self, gate: u32, pin: usize) -> u64 {
+        let here = Site::GatePin { gate, pin: pin as u32 };
+        let (mut lanes, mut left) = (0, self.pins[gate as usize]);
+        while left != 0 {
+            let k = left.trailing_zeros();
+            lanes |= u64::from(self.faults[k as usize].site == here) << k;
+            left &= left - 1;
+        }
+        lanes
     }
 
     /// Evaluates the gates that events reach, each once: those that drive a gate's arguments come before it.

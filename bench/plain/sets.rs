@@ -1,6 +1,6 @@
 //! Sets of pairs (good, faulty) of three-valued values, each a bit of nine: the lowest is 00, the highest XX.
 use crate::circuit::Kind;
-use crate::words::Value;
+use crate::words::{Value, folded};
 
 pub type Set = u16;
 
@@ -148,15 +148,6 @@ fn xor(s: Set, t: Set) -> Set {
 #[inline(always)]
 fn complement(set: Set) -> Set {
     complemented(complemented(set, Faulty), Good)
-}
-
-#[inline(always)]
-fn folded(first: Set, args: impl Iterator<Item = Set>, combine: impl Fn(Set, Set) -> Set) -> Set {
-    let mut set = first;
-    for arg in args {
-        set = combine(set, arg);
-    }
-    set
 }
 
 /// The set of a gate: its pairs for every choice of one pair from each argument's set.

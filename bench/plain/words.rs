@@ -90,15 +90,22 @@ impl Word {
     #[inline(always)]
     pub fn gate(kind: Kind, mut args: impl Iterator<Item = Word>) -> Word {
         let first = args.next().unwrap_or(Word::splat(Unknown));
-        match kind {
-            Kind::And => args.fold(first, Word::and),
-            Kind::Nand => args.fold(first, Word::and).complement(),
-            Kind::Or => args.fold(first, Word::or),
-            Kind::Nor => args.fold(first, Word::or).complement(),
-            Kind::Xor => args.fold(first, Word::xor),
-            Kind::Xnor => args.fold(first, Word::xor).complement(),
-            Kind::Not => first.complement(),
-            Kind::Buff => first,
-        }
+        let word = match kind {
+            Kind::And | Kind::Nand => folded(first, args, Word::and),
+            Kind::Or | Kind::Nor => folded(first, args, Word::or),
+            Kind::Xor | Kind::Xnor => folded(first, args, Word::xor),
+            Kind::Not | Kind::Buff => first,
+        };
+        if kind.inverts() { word.complement() } else { word }
     }
+}
+
+/// What an operation makes of values, one after the other.
+#[inline(always)]
+pub fn folded<T>(first: T, args: impl Iterator<Item = T>, combine: impl Fn(T, T) -> T) -> T {
+    let mut value = first;
+    for arg in args {
+        value = combine(value, arg);
+    }
+    value
 }
