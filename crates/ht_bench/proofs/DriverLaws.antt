@@ -1,102 +1,59 @@
--- One more driver in a draft, and what a statement leaves as it is.
-use Rattle.std.proofs.Common.{◌≡◌, ◌⊎◌, inl, inr, ⊎_elim, List, [], ◌∷◌, ◌++◌, sym, ◌∙◌, ap, subst}
-use Rattle.std.specs.List.{AllZip, Contains}
-use Rattle.std.proofs.lemmas.List.Elements.{Contains-append_left, Contains-append_right, Contains-append_cases, Contains-push, Contains-push_cases}
-use Rattle.ht_net.specs.declared.names.NameId.{NameId}
-use Rattle.ht_net.specs.Named.{Name}
-use Rattle.ht_net.specs.Draft.{Draft, driven_names}
-use Rattle.ht_bench.specs.Different.{different}
-use Rattle.ht_statement.specs.Statement.{Statement}
-use Rattle.ht_bench.specs.Contents.{inputs_in, outputs_in, dffs_in, gates_in, driven_in, stated_inputs, stated_outputs, stated_dffs, stated_gates, driven_by}
-use Rattle.ht_bench.specs.Drafts.{IsNumberOf, IsDffOf, IsGateOf, IsDraftWith}
-use Rattle.ht_bench.proofs.ListLaws.{flat_map-push, flat_map-push_none}
+-- The nets that statements drive are those of what they say together.
+use Rattle.std.proofs.Common.{◌≡◌, List, [], ◌∷◌, ◌++◌, ◌||◌, refl, sym, ◌∙◌, ap, append-nil, append_assoc}
+use Rattle.std.specs.Prelude.{fold}
+use Rattle.std.specs.Str.{bytes_eq}
+use Rattle.std.proofs.Math.Bool.{or_assoc, or_comm, or-false}
+use Rattle.std.proofs.lemmas.List.{map_push}
+use Rattle.std.proofs.lemmas.List.Folds.{list_any-append}
+use Rattle.ht_net.specs.Named.{Name, NamedDff, NamedGate, NamedNetlist}
+use Rattle.ht_statement.specs.Statement.{Statement, blank_line, input_line, output_line, dff_line, gate_line}
+use Rattle.ht_bench.specs.Different.{has_name}
+use Rattle.ht_bench.specs.Contents.{no_parts, with_statement, named_of_statements, driven_in, driven_by}
+use Rattle.ht_bench.proofs.NamedPartLaws.{dff_outs, gate_outs, drivers}
 
--- ---- a list with one more member
+module _ (name : Name) where
+  -- a name that stands in the middle may as well stand last
+  has_moved : (xs ys : List Name) (x : Name) → has_name (xs ++ x ∷ ys) name
+      ≡ (has_name (xs ++ ys) name || has_name (x ∷ []) name)
+  has_moved [] ys x = or_comm (bytes_eq x name) (has_name ys name)
+      ∙ ap (λ b. has_name ys name || b) (sym (or-false (bytes_eq x name)))
+  has_moved (z ∷ xs) ys x = ap (λ b. bytes_eq z name || b) (has_moved xs ys x)
+      ∙ sym (or_assoc (bytes_eq z name) (has_name (xs ++ ys) name) (has_name (x ∷ []) name))
 
-pub record AddsMember (old new : List NameId) (id : NameId) : Type 0 where
-  pub stays : (x : NameId) → Contains old x → Contains new x
-  pub is_there : Contains new id
-  pub only : (x : NameId) → Contains new x → Contains old x ⊎ (id ≡ x)
+  moved : (all rest xs ys : List Name) (x : Name) → all ≡ xs ++ x ∷ ys → xs ++ ys ≡ rest
+      → has_name all name ≡ (has_name rest name || has_name (x ∷ []) name)
+  moved all rest xs ys x e f = ap (λ l. has_name l name) e ∙ has_moved xs ys x
+      ∙ ap (λ l. has_name l name || has_name (x ∷ []) name) f
 
-pub adds_push : (xs : List NameId) (id : NameId) → AddsMember xs (xs ++ id ∷ []) id
-adds_push xs id = record {
-  stays = λ x c. Contains-append_left xs (id ∷ []) x c;
-  is_there = Contains-push xs id;
-  only = λ x c. Contains-push_cases xs id x c;
-}
+  driver_more : (n : NamedNetlist) (s : Statement) → has_name (drivers (with_statement n s)) name
+      ≡ (has_name (drivers n) name || has_name (driven_in s) name)
+  driver_more n blank_line = sym (or-false (has_name (drivers n) name))
+  driver_more n (output_line net) = sym (or-false (has_name (drivers n) name))
+  driver_more n (input_line net) =
+      moved (drivers (with_statement n (input_line net))) (drivers n) n.inputs (dff_outs n.dffs ++ gate_outs n.gates)
+      net (simp append_assoc) (simp append_assoc)
+  driver_more n (dff_line out data_pin) =
+      moved (drivers (with_statement n (dff_line out data_pin))) (drivers n) (n.inputs ++ dff_outs n.dffs)
+      (gate_outs n.gates) out
+      (ap (λ l. (n.inputs ++ l) ++ gate_outs n.gates)
+      (map_push (λ (d : NamedDff). d.out) n.dffs (record { out = out; data_pin = data_pin })) ∙ simp append_assoc) refl
+  driver_more n (gate_line out kind args) =
+      moved (drivers (with_statement n (gate_line out kind args))) (drivers n) (drivers n) [] out
+      (ap (λ l. (n.inputs ++ dff_outs n.dffs) ++ l)
+      (map_push (λ (g : NamedGate). g.out) n.gates (record { kind = kind; out = out; args = args }))
+      ∙ simp append_assoc) (append-nil (drivers n))
 
-pub adds_left : (xs ys rest : List NameId) (id : NameId) → AddsMember xs ys id → AddsMember (xs ++ rest) (ys ++ rest) id
-adds_left xs ys rest id adds = record {
-  stays = λ x c. ⊎_elim
-      (λ (l : Contains xs x). Contains-append_left ys rest x (adds.stays x l))
-      (λ (r : Contains rest x). Contains-append_right ys rest x r) (Contains-append_cases xs rest x c);
-  is_there = Contains-append_left ys rest id adds.is_there;
-  only = λ x c. ⊎_elim
-      (λ (l : Contains ys x). ⊎_elim (λ (o : Contains xs x). inl (Contains-append_left xs rest x o))
-      (λ (e : id ≡ x). inr e) (adds.only x l))
-      (λ (r : Contains rest x). inl (Contains-append_right xs rest x r)) (Contains-append_cases ys rest x c);
-}
+  drivers_from : (n : NamedNetlist) (statements : List Statement)
+      → has_name (drivers (fold with_statement n statements)) name
+      ≡ (has_name (drivers n) name || has_name (driven_by statements) name)
+  drivers_from n [] = sym (or-false (has_name (drivers n) name))
+  drivers_from n (s ∷ statements) =
+      drivers_from (with_statement n s) statements
+      ∙ ap (λ b. b || has_name (driven_by statements) name) (driver_more n s)
+      ∙ or_assoc (has_name (drivers n) name) (has_name (driven_in s) name) (has_name (driven_by statements) name)
+      ∙ ap (λ b. has_name (drivers n) name || b)
+      (sym (list_any-append (λ other. bytes_eq other name) (driven_in s) (driven_by statements)))
 
-pub adds_right : (first xs ys : List NameId) (id : NameId) → AddsMember xs ys id
-    → AddsMember (first ++ xs) (first ++ ys) id
-adds_right first xs ys id adds = record {
-  stays = λ x c. ⊎_elim
-      (λ (l : Contains first x). Contains-append_left first ys x l)
-      (λ (r : Contains xs x). Contains-append_right first ys x (adds.stays x r)) (Contains-append_cases first xs x c);
-  is_there = Contains-append_right first ys id adds.is_there;
-  only = λ x c. ⊎_elim
-      (λ (l : Contains first x). inl (Contains-append_left first xs x l))
-      (λ (r : Contains ys x). ⊎_elim (λ (o : Contains xs x). inl (Contains-append_right first xs x o))
-      (λ (e : id ≡ x). inr e) (adds.only x r)) (Contains-append_cases first ys x c);
-}
-
--- ---- one more driver
-
-module _ (mentioned : List Name) (statements : List Statement) (d : Draft) (is : IsDraftWith mentioned statements d)
-    (s : Statement) where
-  pub inputs_stay : inputs_in s ≡ [] → AllZip (IsNumberOf d.names) d.inputs (stated_inputs (statements ++ s ∷ []))
-  inputs_stay none = subst (AllZip (IsNumberOf d.names) d.inputs) (sym (flat_map-push_none inputs_in statements s none))
-      is.inputs
-
-  pub outputs_stay : outputs_in s ≡ [] → AllZip (IsNumberOf d.names) d.outputs (stated_outputs (statements ++ s ∷ []))
-  outputs_stay none = subst (λ l. AllZip (IsNumberOf d.names) d.outputs (different l))
-      (sym (flat_map-push_none outputs_in statements s none)) is.outputs
-
-  pub dffs_stay : dffs_in s ≡ [] → AllZip (IsDffOf d.names) d.dffs (stated_dffs (statements ++ s ∷ []))
-  dffs_stay none = subst (AllZip (IsDffOf d.names) d.dffs) (sym (flat_map-push_none dffs_in statements s none)) is.dffs
-
-  pub gates_stay : gates_in s ≡ [] → AllZip (IsGateOf d.names) d.gates (stated_gates (statements ++ s ∷ []))
-  gates_stay none = subst (AllZip (IsGateOf d.names) d.gates) (sym (flat_map-push_none gates_in statements s none))
-      is.gates
-
-  module _ (new : List NameId) (id : NameId) (name : Name) (at : IsNumberOf d.names id name)
-      (adds : AddsMember (driven_names d) new id) (drives : driven_in s ≡ name ∷ []) where
-    driven_now : driven_by (statements ++ s ∷ []) ≡ driven_by statements ++ name ∷ []
-    driven_now = flat_map-push driven_in statements s ∙ ap (λ l. driven_by statements ++ l) drives
-
-    pub driven_has : (n : Name) → Contains (driven_by (statements ++ s ∷ [])) n → (x : NameId) × Contains new x
-        × IsNumberOf d.names x n
-    driven_has n c =
-        ⊎_elim
-        (λ (old : Contains (driven_by statements) n). let r = is.driven n old in (r.0, adds.stays r.0 r.1, r.2))
-        (λ (e : name ≡ n). (id, adds.is_there, subst (IsNumberOf d.names id) e at))
-        (Contains-push_cases (driven_by statements) name n (subst (λ l. Contains l n) driven_now c))
-
-    pub drives_has : (x : NameId) → Contains new x → (n : Name) × IsNumberOf d.names x n
-        × Contains (driven_by (statements ++ s ∷ [])) n
-    drives_has x c =
-        ⊎_elim
-        (λ (old : Contains (driven_names d) x).
-        let r = is.drives x old in (
-          r.0,
-          r.1,
-          subst (λ l. Contains l r.0) (sym driven_now)
-              (Contains-append_left (driven_by statements) (name ∷ []) r.0 r.2),
-        ))
-        (λ (e : id ≡ x). (
-          name,
-          subst (λ y. IsNumberOf d.names y name) e at,
-          subst (λ l. Contains l name)
-              (sym driven_now) (Contains-push (driven_by statements) name),
-        ))
-        (adds.only x c)
+  pub drivers_are : (statements : List Statement) → has_name (drivers (named_of_statements statements)) name
+      ≡ has_name (driven_by statements) name
+  drivers_are statements = drivers_from no_parts statements

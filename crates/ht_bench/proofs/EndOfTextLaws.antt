@@ -1,54 +1,90 @@
--- A text whose lines are all accepted: its nets, and the circuit where all of them are driven.
-use Rattle.std.proofs.Common.{◌≡◌, ℕ, List, [], get_or, refl, sym, ◌∙◌, subst}
-use Rattle.std.specs.List.{Contains}
+-- A text whose lines are all accepted: its nets, the first that is undriven, and the circuit where none is.
+use Rattle.std.proofs.Common.{◌≡◌, ℕ, ◌<◌, ◌≤◌, List, [], Bool, true, not, length, get_or, refl, sym, ◌∙◌, ap, subst, arith}
+use Rattle.std.specs.Prelude.{Some, find, option_map}
+use Rattle.std.specs.List.{All, Contains, slice_get}
+use Rattle.std.proofs.lemmas.Bool.{false_from_ne_true, not_from_true, not_from_false}
+use Rattle.std.proofs.lemmas.List.Elements.{All-nil, All-contains_itself}
+use Rattle.std.proofs.lemmas.List.Folds.{find_at}
+use Rattle.std.proofs.lemmas.List.Sums.{position_or_len_is}
+use Rattle.std.proofs.lemmas.Option.{slice_get_past, slice_get-get_or}
 use Rattle.ht_net.specs.declared.names.NameId.{NameId}
 use Rattle.ht_net.specs.Netlist.{Netlist, IsCircuit}
-use Rattle.ht_net.specs.Named.{named_of}
+use Rattle.ht_net.specs.Named.{Name, named_of}
 use Rattle.ht_net.specs.Draft.{Draft, IsDriven, IsName}
-use Rattle.ht_net.specs.Built.{AllDriven, named_draft}
+use Rattle.ht_net.specs.Built.{AllDriven, IsLeastUndriven, draft_name, named_draft}
+use Rattle.ht_bench.specs.Different.{has_name}
 use Rattle.ht_bench.specs.Contents.{driven_by, mentions_of}
-use Rattle.ht_bench.specs.EndOfText.{AreDriven}
-use Rattle.ht_bench.specs.Text.{IsNetlistOf}
-use Rattle.ht_bench.specs.Progress.{IsRead}
-use Rattle.ht_bench.specs.Role.{HasNet}
+use Rattle.ht_bench.specs.EndOfText.{first_undriven}
+use Rattle.ht_bench.specs.Text.{IsAcceptedText, IsNetlistOf, refusal_of}
+use Rattle.ht_bench.specs.Progress.{IsRead, HasNet, IsFirstLine}
+use Rattle.ht_bench.specs.Role.{line_of}
 use Rattle.ht_bench.specs.declared.find_line.Role.TheVariants.{Mentioned, Driven}
-use Rattle.ht_bench.proofs.DifferentLaws.{name_at_contained, contained_name_at}
-use Rattle.ht_bench.proofs.DifferentMemberLaws.{contains_in_different, contains_different}
-use Rattle.ht_bench.proofs.MentionLaws.{driven_is}
-use Rattle.ht_bench.proofs.ProgressLaws.{named_draft_is}
-use Rattle.ht_bench.proofs.AllLaws.{all_from}
+use Rattle.ht_bench.specs.declared.error.BenchError.TheVariants.{Undriven}
+use Rattle.ht_bench.proofs.NameListLaws.{has_name-Decides, All-with_names}
+use Rattle.ht_bench.proofs.SaysLaws.{driven_is, is_driven, says_named}
 
-module _ (text : List ℕ) (d : Draft) (is : IsRead text d) where
-  pub net_is_mentioned : (id : NameId) → IsName d id → HasNet text Mentioned (get_or d.names id.0 [])
-  net_is_mentioned id known = record {
-    statements = is.statements;
-    lines = is.read.lines;
-    has = contains_in_different (mentions_of is.statements) (get_or d.names id.0 [])
-        (subst (λ l. Contains l (get_or d.names id.0 [])) is.draft.names
-        (contained_name_at d.names id.0 (get_or d.names id.0 []) (known, refl)));
-  }
+module _ {text : List ℕ} {d : Draft} (is : IsRead text d) where
+  -- whether a net of the draft is driven
+  net_driven : (id : NameId) → IsName d id → IsDriven d id → has_name (driven_by is.statements) (draft_name d id) ≡ true
+  net_driven id known driven = driven_is is.statements d is.draft.says is.draft.names_differ id (draft_name d id)
+      (known, refl) driven
 
-  pub net_is_driven : (id : NameId) → IsName d id → IsDriven d id → HasNet text Driven (get_or d.names id.0 [])
+  pub net_is_mentioned : (id : NameId) → IsName d id → HasNet text Mentioned (draft_name d id)
+  net_is_mentioned id known =
+      let all = mentions_of is.statements in
+      record {
+        statements = is.statements;
+        lines = is.lines;
+        has = (has_name-Decides all (draft_name d id)).1
+            (subst (All (Contains all)) (sym is.draft.names)
+            (All-with_names (Contains all) [] all (All-nil (Contains all)) (All-contains_itself all)) id.0 [] known);
+      }
+
+  pub net_is_driven : (id : NameId) → IsName d id → IsDriven d id → HasNet text Driven (draft_name d id)
   net_is_driven id known driven = record {
     statements = is.statements;
-    lines = is.read.lines;
-    has = driven_is (mentions_of is.statements) is.statements d id (get_or d.names id.0 []) is.draft (known, refl)
-        driven;
+    lines = is.lines;
+    has = net_driven id known driven;
   }
 
-  pub all_driven : AllDriven d → AreDriven is.statements (mentions_of is.statements)
-  all_driven all = all_from (Contains (driven_by is.statements)) (mentions_of is.statements) (λ name c.
-      let at = name_at_contained d.names name
-      (subst (λ l. Contains l name) (sym is.draft.names) (contains_different (mentions_of is.statements) name c)) in
-      driven_is (mentions_of is.statements) is.statements d (record { 0 = at.0 }) name is.draft at.1
-      (all (record { 0 = at.0 }) at.1.0))
+  -- the first net without a driver stands at a place before which all are driven
+  undriven_at : (k : ℕ) → k ≤ length d.names → ((j : ℕ) → j < k → IsDriven d (record { 0 = j }))
+      → (k < length d.names → ¬ IsDriven d (record { 0 = k })) → first_undriven is.statements ≡ slice_get d.names k
+  undriven_at k below driven free =
+      let p : Name → Bool = λ net. not (has_name (driven_by is.statements) net) in
+      ap (find p) (sym is.draft.names) ∙ find_at p d.names
+      ∙ ap (slice_get d.names) (position_or_len_is p d.names k [] below
+      (λ j less. not_from_true (has_name (driven_by is.statements) (get_or d.names j []))
+      (net_driven (record { 0 = j }) (omega arith) (driven j less)))
+      (λ known. not_from_false (has_name (driven_by is.statements) (get_or d.names k []))
+      (false_from_ne_true (has_name (driven_by is.statements) (get_or d.names k [])) (λ yes.
+      free known (is_driven is.statements d is.draft.says is.draft.names_differ (record { 0 = k })
+      (get_or d.names k []) (known, refl) yes)))))
+
+  pub accepted_text : AllDriven d → IsAcceptedText text is.statements
+  accepted_text all = record {
+    lines = is.lines;
+    unrefused = is.refusal ∙ ap (option_map (λ net. Undriven (line_of Mentioned is.statements net) net))
+        (undriven_at (length d.names) (omega arith) (λ j less. all (record { 0 = j }) less)
+        (λ known. absurd (omega arith)) ∙ slice_get_past d.names (length d.names) (omega arith));
+  }
 
   pub netlist_is : (circuit : Netlist) → AllDriven d → IsCircuit circuit → named_of circuit ≡ named_draft d
       → IsNetlistOf text circuit
   netlist_is circuit all is_circuit named = record {
     statements = is.statements;
-    read = is.read;
-    driven = all_driven all;
+    read = accepted_text all;
     is_circuit = is_circuit;
-    named = named ∙ named_draft_is (mentions_of is.statements) is.statements d is.draft;
+    named = named ∙ says_named is.statements d is.draft.says;
   }
+
+  pub undriven_is : (id : NameId) → IsLeastUndriven d id → (number : ℕ)
+      → IsFirstLine text Mentioned (draft_name d id) number
+      → refusal_of text ≡ Some (Undriven number (draft_name d id))
+  undriven_is id free number first =
+      let known : id.0 < length d.names = free.0 in
+      is.refusal
+      ∙ ap (option_map (λ net. Undriven (line_of Mentioned is.statements net) net))
+      (undriven_at id.0 (omega arith) (λ j less. free.2 (record { 0 = j }) less) (λ _. free.1)
+      ∙ slice_get-get_or d.names id.0 [] known)
+      ∙ ap (λ n. Some (Undriven n (draft_name d id))) (sym (first is.statements is.lines))

@@ -1,37 +1,36 @@
 -- Finding the first line that has a net in a role.
-use Rattle.std.proofs.Common.{◌≡◌, ⊎_elim, ℕ, ◌<◌, ◌≤◌, ◌+◌, List, [], ◌∷◌, ◌++◌, length, map, refl, sym, ◌∙◌, ap, subst, append_assoc, arith}
-use Rattle.std.specs.List.{Contains, flat_map}
-use Rattle.std.proofs.lemmas.List.{length-append}
-use Rattle.std.proofs.lemmas.List.Elements.{Contains-append_cases}
+use Rattle.std.proofs.Common.{◌≡◌, ℕ, ◌<◌, ◌≤◌, ◌+◌, List, [], ◌∷◌, Bool, true, false, cond, not, ◌||◌, length, map, refl, sym, ◌∙◌, ap, arith}
+use Rattle.std.specs.List.{flat_map, position_or_len}
+use Rattle.std.specs.Str.{bytes_eq}
+use Rattle.std.proofs.lemmas.List.Folds.{list_any-append}
 use Rattle.ht_ports.specs.LineRule.{lines_of}
 use Rattle.ht_net.specs.Named.{Name}
 use Rattle.ht_statement.specs.Statement.{Statement}
 use Rattle.ht_statement.specs.Reading.{Reading, stated, reading_of}
+use Rattle.ht_bench.specs.Different.{has_name}
 use Rattle.ht_bench.specs.Text.{readings_of}
-use Rattle.ht_bench.specs.Role.{nets_in, HasNet, IsFirstLine}
+use Rattle.ht_bench.specs.Role.{nets_in, line_of}
+use Rattle.ht_bench.specs.Progress.{HasNet, IsFirstLine}
 use Rattle.ht_bench.specs.declared.find_line.Role.{Role}
-use Rattle.ht_bench.proofs.ListLaws.{contains_none, flat_map-push}
-use Rattle.ht_bench.proofs.StatedLaws.{states_one}
+use Rattle.ht_bench.proofs.StatedLaws.{states_one, same_statements}
 use Rattle.ht_bench.proofs.ProgressLaws.{readings_from}
 
--- The lines read so far don't have the net in this role, and a line of the rest has it.
+-- a line of the rest has the net in this role, and the first one is the first of the text
 pub record IsAhead (text rest : List ℕ) (count : ℕ) (role : Role) (name : Name) : Type 0 where
-  pub before : List Statement
   pub after : List Statement
-  pub lines : readings_of text ≡ map stated (before ++ after)
   pub rest_lines : readings_of rest ≡ map stated after
-  pub is_count : count ≡ length before
   pub short : count + length rest ≤ length text
-  pub earlier : ¬ Contains (flat_map (nets_in role) before) name
-  pub has : Contains (flat_map (nets_in role) after) name
+  pub has : has_name (flat_map (nets_in role) after) name ≡ true
+  pub line : (statements : List Statement) → readings_of text ≡ map stated statements
+      → line_of role statements name ≡ count + line_of role after name
 
 -- the first of some lines that state something
-abbrev pub FirstStated : Reading → List Reading → List Statement → Type 0
+abbrev FirstStated : Reading → List Reading → List Statement → Type 0
 FirstStated reading readings statements =
     (s : Statement) × (rest : List Statement) × (statements ≡ s ∷ rest) × (reading ≡ stated s)
     × (readings ≡ map stated rest)
 
-pub first_stated : (reading : Reading) (readings : List Reading) (statements : List Statement) → reading ∷ readings
+first_stated : (reading : Reading) (readings : List Reading) (statements : List Statement) → reading ∷ readings
     ≡ map stated statements → FirstStated reading readings statements
 first_stated reading readings [] e = absurd (omega (arith, ap length e))
 first_stated reading readings (s ∷ statements) e =
@@ -42,19 +41,18 @@ first_stated reading readings (s ∷ statements) e =
 pub nothing_before : (text : List ℕ) (role : Role) (name : Name) → HasNet text role name
     → IsAhead text text 0 role name
 nothing_before text role name has = record {
-  before = [];
   after = has.statements;
-  lines = has.lines;
   rest_lines = has.lines;
-  is_count = refl;
   short = omega arith;
-  earlier = λ c. contains_none name c;
   has = has.has;
+  line = λ statements lines.
+      let same : line_of role statements name ≡ line_of role has.statements name = ap (λ l. line_of role l name)
+      (same_statements statements has.statements (sym lines ∙ has.lines)) in
+      omega (arith, same);
 }
 
-module _ (text rest line more : List ℕ) (count : ℕ) (role : Role) (name : Name)
-    (is : IsAhead text rest count role name)
-    (first : lines_of rest ≡ line ∷ lines_of more) where
+module _ {text rest : List ℕ} (line more : List ℕ) {count : ℕ} {role : Role} {name : Name}
+    (is : IsAhead text rest count role name) (first : lines_of rest ≡ line ∷ lines_of more) where
   next_stated : FirstStated (reading_of line) (readings_of more) is.after
   next_stated = first_stated (reading_of line) (readings_of more) is.after
       (sym (readings_from rest line more first) ∙ is.rest_lines)
@@ -63,49 +61,39 @@ module _ (text rest line more : List ℕ) (count : ℕ) (role : Role) (name : Na
   line_states = (next_stated.0, next_stated.3)
 
   module _ (statement : Statement) (states : reading_of line ≡ stated statement) where
-    is_next : next_stated.0 ≡ statement
-    is_next = states_one next_stated.0 statement (sym next_stated.3 ∙ states)
-
     after_is : is.after ≡ statement ∷ next_stated.1
-    after_is = next_stated.2 ∙ ap (λ s. s ∷ next_stated.1) is_next
+    after_is = next_stated.2 ∙ ap (λ s. s ∷ next_stated.1) (states_one next_stated.0 statement
+        (sym next_stated.3 ∙ states))
 
-    pub line_found : Contains (nets_in role statement) name → IsFirstLine text role name (count + 1)
-    line_found has = record {
-      before = is.before;
-      statement = statement;
-      after = next_stated.1;
-      lines = is.lines ∙ ap (λ l. map stated (is.before ++ l)) after_is;
-      is_number = ap (λ n. n + 1) is.is_count;
-      has = has;
-      earlier = is.earlier;
-    }
+    -- the line of the net, by whether this one has it
+    line_by : (b : Bool) → has_name (nets_in role statement) name ≡ b → (statements : List Statement)
+        → readings_of text ≡ map stated statements → line_of role statements name
+        ≡ count + (cond (not b) (1 + position_or_len (λ s. has_name (nets_in role s) name) next_stated.1) 0 + 1)
+    line_by b e statements lines = is.line statements lines ∙ ap (λ l. count + line_of role l name) after_is
+        ∙ ap (λ x. count + (cond (not x) (1 + position_or_len (λ s. has_name (nets_in role s) name) next_stated.1) 0
+        + 1)) e
 
-    pub line_passed : length more < length rest → ¬ Contains (nets_in role statement) name
+    pub line_found : has_name (nets_in role statement) name ≡ true → IsFirstLine text role name (count + 1)
+    line_found has statements lines = sym (line_by true has statements lines)
+
+    pub line_passed : length more < length rest → has_name (nets_in role statement) name ≡ false
         → IsAhead text more (count + 1) role name
     line_passed shorter absent = record {
-      before = is.before ++ statement ∷ [];
       after = next_stated.1;
-      lines = is.lines ∙ ap (map stated)
-          (ap (λ l. is.before ++ l) after_is ∙ sym (append_assoc is.before (statement ∷ []) next_stated.1));
       rest_lines = next_stated.4;
-      is_count = omega (arith, is.is_count, length-append is.before (statement ∷ []));
       short = omega (arith, is.short, shorter);
-      earlier = λ c.
-          ⊎_elim is.earlier absent
-          (Contains-append_cases (flat_map (nets_in role) is.before) (nets_in role statement) name
-          (subst (λ l. Contains l name) (flat_map-push (nets_in role) is.before statement) c));
-      has =
-          ⊎_elim (λ (here : Contains (nets_in role statement) name). absurd (absent here))
-          (λ (later : Contains (flat_map (nets_in role) next_stated.1) name). later)
-          (Contains-append_cases (nets_in role statement) (flat_map (nets_in role) next_stated.1) name
-          (subst (λ l. Contains (flat_map (nets_in role) l) name) after_is is.has));
+      has = ap (λ b. b || has_name (flat_map (nets_in role) next_stated.1) name) (sym absent)
+          ∙ sym (list_any-append (λ other. bytes_eq other name) (nets_in role statement)
+          (flat_map (nets_in role) next_stated.1))
+          ∙ ap (λ l. has_name (flat_map (nets_in role) l) name) (sym after_is) ∙ is.has;
+      line = λ statements lines. omega (arith, line_by false absent statements lines);
     }
 
 -- the line comes before the text ends
-pub not_at_end : (text rest : List ℕ) (count : ℕ) (role : Role) (name : Name) → IsAhead text rest count role name
+pub not_at_end : {text rest : List ℕ} {count : ℕ} {role : Role} {name : Name} → IsAhead text rest count role name
     → rest ≡ [] → ⊥
-not_at_end text rest count role name is none = ended is.after (ap readings_of (sym none) ∙ is.rest_lines) is.has
+not_at_end {text} {rest} {count} {role} {name} is none = ended is.after (ap readings_of (sym none) ∙ is.rest_lines) is.has
   where
-    ended : (after : List Statement) → [] ≡ map stated after → ¬ Contains (flat_map (nets_in role) after) name
-    ended [] e c = contains_none name c
-    ended (s ∷ after) e c = absurd (omega (arith, ap length e))
+    ended : (after : List Statement) → [] ≡ map stated after → has_name (flat_map (nets_in role) after) name ≡ true → ⊥
+    ended [] e has = cc
+    ended (s ∷ after) e has = absurd (omega (arith, ap length e))

@@ -1,137 +1,153 @@
--- Numbers of names in a draft, and what one more name changes.
-use Rattle.std.proofs.Common.{◌≡◌, ◌⊎◌, inl, inr, ⊎_elim, ℕ, ◌<◌, List, [], ◌∷◌, ◌++◌, sym, ◌∙◌, ap, subst, arith}
-use Rattle.std.specs.List.{Contains}
-use Rattle.std.proofs.lemmas.Bool.{cases_lt}
-use Rattle.std.proofs.lemmas.List.{length-append, get_or_append_left}
+-- Names that are mentioned, one by one, and their numbers.
+use Rattle.std.proofs.Common.{◌≡◌, inl, inr, ⊎_elim, ℕ, ◌<◌, ◌+◌, List, [], ◌∷◌, ◌++◌, length, get_or, map, take, drop, refl, sym, ◌∙◌, ap, subst, take-append-drop, arith, ◌≢◌, true, false}
+use Rattle.std.specs.Borrow.{Bor}
+use Rattle.std.proofs.lemmas.Bool.{cond_both, cond-false, false_from_ne_true, or_from}
+use Rattle.std.proofs.lemmas.List.{get_or-map, take_more, length-map, length-append, map_push}
+use Rattle.std.proofs.lemmas.List.Sums.{fold-append}
 use Rattle.ht_net.specs.declared.names.NameId.{NameId}
-use Rattle.ht_net.specs.declared.draft.DraftDff.{DraftDff}
+use Rattle.ht_net.specs.declared.error.NetError.{NetError}
+use Rattle.ht_net.specs.declared.error.NetError.TheVariants.{Twice, TooMany, Undriven, Loop, NoMemory as NetNoMemory}
+use Rattle.ht_net.specs.declared.error.Limit.TheVariants.{Nets, Pins, Inputs, Dffs}
 use Rattle.ht_net.specs.Names.{IsNewName}
-use Rattle.ht_net.specs.Lists.{AllDiffer}
-use Rattle.ht_net.specs.Named.{Name, NamedDff, NamedGate}
-use Rattle.ht_net.specs.Draft.{Draft, DraftGate, IsDraft, IsDriven}
-use Rattle.ht_bench.specs.Different.{different}
-use Rattle.ht_statement.specs.Statement.{Statement}
-use Rattle.ht_bench.specs.Contents.{driven_by, mentions_of}
-use Rattle.ht_bench.specs.Drafts.{IsNumberOf, IsDffOf, IsGateOf, IsDraftWith, IsDraftOf, Mentions, MentionsFree}
-use Rattle.ht_bench.proofs.ListLaws.{AllZip-weaker}
-use Rattle.ht_bench.proofs.DifferentLaws.{different-push, new_or_contained, contains_not_new}
-
--- a longer list of names keeps the numbers
-pub number_stays : (names more : List Name) (id : NameId) (name : Name) → IsNumberOf names id name
-    → IsNumberOf (names ++ more) id name
-number_stays names more id name at =
-    (omega (arith, at.0, length-append names more), get_or_append_left names more [] id.0 at.0 ∙ at.1)
-
-abbrev pub KeepsNumbers : List Name → List Name → Type 0
-KeepsNumbers names new_names = (id : NameId) (name : Name) → IsNumberOf names id name → IsNumberOf new_names id name
-
-dff_stays : (names new_names : List Name) → KeepsNumbers names new_names → (part : DraftDff) (dff : NamedDff)
-    → IsDffOf names part dff → IsDffOf new_names part dff
-dff_stays names new_names keeps part dff is = record
-    { out = keeps part.out dff.out is.out; data_pin = keeps part.data_pin dff.data_pin is.data_pin }
-
-gate_stays : (names new_names : List Name) → KeepsNumbers names new_names → (part : DraftGate) (gate : NamedGate)
-    → IsGateOf names part gate → IsGateOf new_names part gate
-gate_stays names new_names keeps part gate is = record {
-  kind = is.kind;
-  out = keeps part.out gate.out is.out;
-  args = AllZip-weaker (IsNumberOf names) (IsNumberOf new_names) keeps part.args gate.args is.args;
-}
-
--- a draft with other names that keep the numbers
-pub with_other_names : (mentioned more : List Name) (statements : List Statement) (d : Draft) (names : List Name)
-    → IsDraftWith mentioned statements d → names ≡ different more → AllDiffer names → KeepsNumbers d.names names
-    → IsDraftWith more statements (record d { names = names })
-with_other_names mentioned more statements d names is e differ keeps = record {
-  names = e;
-  names_differ = differ;
-  inputs = AllZip-weaker (IsNumberOf d.names) (IsNumberOf names) keeps d.inputs _ is.inputs;
-  outputs = AllZip-weaker (IsNumberOf d.names) (IsNumberOf names) keeps d.outputs _ is.outputs;
-  dffs = AllZip-weaker (IsDffOf d.names) (IsDffOf names) (dff_stays d.names names keeps) d.dffs _ is.dffs;
-  gates = AllZip-weaker (IsGateOf d.names) (IsGateOf names) (gate_stays d.names names keeps) d.gates _ is.gates;
-  driven = λ name c. let r = is.driven name c in (r.0, r.1, keeps r.0 name r.2);
-  drives = λ id driven. let r = is.drives id driven in (r.0, keeps id r.0 r.1, r.2);
-}
+use Rattle.ht_net.specs.Netlist.{max_nets}
+use Rattle.ht_net.specs.Named.{Name}
+use Rattle.ht_net.specs.Draft.{Draft, IsDraft, IsDriven}
+use Rattle.ht_net.specs.Refusals.{RefusesName}
+use Rattle.ht_statement.specs.StatementOf.{texts_of}
+use Rattle.ht_bench.specs.Different.{has_name, with_name, with_names}
+use Rattle.ht_bench.specs.AddErrors.{add_error_of}
+use Rattle.ht_bench.specs.Drafts.{IsNumberOf, AreNumbersOf, Mentions, MentionsFree, RefusesMentions}
+use Rattle.ht_bench.specs.declared.add_error.AddError.{AddError}
+use Rattle.ht_bench.specs.declared.add_error.AddError.TheVariants.{Limit, NoMemory}
+use Rattle.ht_bench.proofs.NameListLaws.{new_name, known_name, with_names-long, has_name-Decides}
+use Rattle.ht_bench.proofs.SaysLaws.{number_stays, names_more, after_more}
+use Rattle.std.specs.List.{Contains}
+use Rattle.std.specs.Str.{bytes_eq}
+use Rattle.std.proofs.lemmas.Slice.Eq.{bytes_eq-Decides}
+use Rattle.std.proofs.lemmas.List.Elements.{Contains-get_or}
+use Rattle.std.proofs.lemmas.List.Folds.{list_any-append}
 
 -- what a builder's `net` does to a draft
-module _ (d new : Draft) (name : Name)
-    (known : ¬ IsNewName d.names name → new ≡ d)
-    (added : IsNewName d.names name → new ≡ record d { names = d.names ++ name ∷ [] }) where
-  net_cases : (new ≡ d) ⊎ (new ≡ record d { names = d.names ++ name ∷ [] })
-  net_cases =
-      ⊎_elim (λ (is_new : IsNewName d.names name). inr (added is_new))
-      (λ (old : Contains d.names name). inl (known (contains_not_new d.names name old))) (new_or_contained d.names name)
+pub net_mentions : (d new : Draft) (name : Name) → (¬ IsNewName d.names name → new ≡ d)
+    → (IsNewName d.names name → new ≡ record d { names = d.names ++ name ∷ [] }) → IsDraft new
+    → Mentions d (name ∷ []) new
+net_mentions d new name known added is_draft = record {
+  is = cond_both (has_name d.names name) d.names (d.names ++ name ∷ []) (λ l. new ≡ record d { names = l })
+      (λ yes. known (known_name d.names name yes)) (λ no. added (new_name d.names name no));
+  is_draft = is_draft;
+}
 
-  net_keeps : new ≡ record d { names = new.names }
-  net_keeps =
-      ⊎_elim (λ (e : new ≡ d). e ∙ ap (λ (x : Draft). record d { names = x.names }) (sym e))
-      (λ (e : new ≡ record d { names = d.names ++ name ∷ [] }). e ∙ ap (λ (x : Draft). record d { names = x.names })
-      (sym e)) net_cases
+pub net_refuses : (d : Draft) (name : Name) (error : NetError) → RefusesName d name error
+    → RefusesMentions d (name ∷ []) (add_error_of error)
+net_refuses d name (TooMany Nets) refused =
+    let new = cond-false (has_name d.names name) d.names (d.names ++ name ∷ [])
+    (false_from_ne_true (has_name d.names name) (λ yes. known_name d.names name yes refused.0)) in
+    inr (refl, omega (arith, refused.1, ap length new, length-append d.names (name ∷ [])))
+net_refuses d name (TooMany Pins) refused = absurd refused
+net_refuses d name (TooMany Inputs) refused = absurd refused
+net_refuses d name (TooMany Dffs) refused = absurd refused
+net_refuses d name (Twice other) refused = absurd refused
+net_refuses d name (Undriven other) refused = absurd refused
+net_refuses d name (Loop nets) refused = absurd refused
+net_refuses d name NetNoMemory refused = inl refl
 
-  net_grows : KeepsNumbers d.names new.names
-  net_grows id other at =
-      ⊎_elim (λ (e : new ≡ d). subst (λ (x : Draft). IsNumberOf x.names id other) (sym e) at)
-      (λ (e : new ≡ record d { names = d.names ++ name ∷ [] }). subst (λ (x : Draft). IsNumberOf x.names id other)
-      (sym e) (number_stays d.names (name ∷ []) id other at)) net_cases
+-- ---- more names
 
-  net_with_name : IsDraft new → (mentioned : List Name) (statements : List Statement)
-      → IsDraftWith mentioned statements d → IsDraftWith (mentioned ++ name ∷ []) statements new
-  net_with_name is_draft mentioned statements is =
-      ⊎_elim
-      (λ (old : Contains (different mentioned) name × (different (mentioned ++ name ∷ []) ≡ different mentioned)).
-      let e : new ≡ d = known (contains_not_new d.names name (subst (λ l. Contains l name) (sym is.names) old.0)) in
-      subst (IsDraftWith (mentioned ++ name ∷ []) statements) (sym e)
-      (with_other_names mentioned (mentioned ++ name ∷ []) statements d d.names is (is.names ∙ sym old.1)
-      is.names_differ (λ id other at. at)))
-      (λ (fresh : IsNewName (different mentioned) name
-      × (different (mentioned ++ name ∷ []) ≡ different mentioned ++ name ∷ [])).
-      let e : new ≡ record d { names = d.names ++ name ∷ [] } = added
-      (subst (λ l. IsNewName l name) (sym is.names) fresh.0) in
-      subst (IsDraftWith (mentioned ++ name ∷ []) statements) (sym e)
-      (with_other_names mentioned (mentioned ++ name ∷ []) statements d (d.names ++ name ∷ []) is
-      (ap (λ l. l ++ name ∷ []) is.names ∙ sym fresh.1)
-      (subst (λ (x : Draft). AllDiffer x.names) e is_draft.names_differ) (number_stays d.names (name ∷ []))))
-      (different-push mentioned name)
+mentions_then : (a b c : Draft) (names others : List Name) → Mentions a names b → Mentions b others c
+    → Mentions a (names ++ others) c
+mentions_then a b c names others first last = record {
+  is = last.is ∙ ap (λ (x : Draft). record x { names = with_names x.names others }) first.is
+      ∙ ap (λ l. record a { names = l }) (sym (fold-append with_name a.names names others));
+  is_draft = last.is_draft;
+}
 
-  pub net_mentions : IsDraft new → Mentions d (name ∷ []) new
-  net_mentions is_draft = record {
-    with_names = net_with_name is_draft;
-    keeps = net_keeps;
-    grows = net_grows;
-    is_draft = is_draft;
-  }
+module _ (b c : Draft) (names : List Name) (m : Mentions b names c) where
+  number_in : (id : NameId) (name : Name) → IsNumberOf b.names id name → IsNumberOf c.names id name
+  number_in id name at =
+      let more = names_more b c names m in (
+        omega (arith, at.0, ap length more.1, length-append b.names more.0),
+        ap (λ (l : List Name). get_or l id.0 []) more.1 ∙ number_stays b.names more.0 id name at,
+      )
 
--- names that differ have one number each
-pub one_number : (names : List Name) (a b : NameId) (name : Name) → AllDiffer names → IsNumberOf names a name
-    → IsNumberOf names b name → a ≡ b
-one_number names a b name differ at_a at_b =
-    ⊎_elim
-    (λ (lt : a.0 < b.0). absurd (differ a.0 b.0 [] lt at_b.0 (at_a.1 ∙ sym at_b.1)))
-    (λ ge.
-    ⊎_elim
-    (λ (lt : b.0 < a.0). absurd (differ b.0 a.0 [] lt at_a.0 (at_b.1 ∙ sym at_a.1)))
-    (λ le. let number : ℕ → NameId = λ n. record { 0 = n } in let e : a.0 ≡ b.0 = omega arith in ap number e)
-    (cases_lt b.0 a.0))
-    (cases_lt a.0 b.0)
+  numbers_in : (ids : List NameId) (texts : List Name) → AreNumbersOf b.names ids texts → AreNumbersOf c.names ids texts
+  numbers_in ids texts are more = ap (λ (l : List Name). map (λ (id : NameId). get_or l id.0 []) ids)
+      (after_more b c names m more) ∙ are ((names_more b c names m).0 ++ more)
 
-pub driven_is : (mentioned : List Name) (statements : List Statement) (d : Draft) (id : NameId) (name : Name)
-    → IsDraftWith mentioned statements d → IsNumberOf d.names id name → IsDriven d id
-    → Contains (driven_by statements) name
-driven_is mentioned statements d id name is at driven =
-    let r = is.drives id driven in
-    let same : r.0 ≡ name = sym r.1.1 ∙ at.1 in
-    subst (Contains (driven_by statements)) same r.2
+-- a net that is free stays free
+pub free_then : {a b c : Draft} {before names : List Name} {name : Name} {id : NameId} → MentionsFree a before name id b
+    → Mentions b names c → MentionsFree a (before ++ names) name id c
+free_then {a} {b} {c} {before} {names} {name} {id} found m = record {
+  mentions = mentions_then a b c before names found.mentions m;
+  number = number_in b c names m id name found.number;
+  free = λ driven. found.free (subst (λ (x : Draft). IsDriven x id) m.is driven);
+}
 
-pub is_driven : (mentioned : List Name) (statements : List Statement) (d : Draft) (id : NameId) (name : Name)
-    → IsDraftWith mentioned statements d → IsNumberOf d.names id name → Contains (driven_by statements) name
-    → IsDriven d id
-is_driven mentioned statements d id name is at contains =
-    let r = is.driven name contains in
-    subst (IsDriven d) (one_number d.names r.0 id name is.names_differ r.2 at) r.1
+numbers_push : (names : List Name) (ids : List NameId) (texts : List Name) (id : NameId) (name : Name)
+    → AreNumbersOf names ids texts → IsNumberOf names id name → AreNumbersOf names (ids ++ id ∷ []) (texts ++ name ∷ [])
+numbers_push names ids texts id name are at more =
+    let pushed = map_push (λ (x : NameId). get_or (names ++ more) x.0 []) ids id in
+    let texts_are = are more in
+    let named = number_stays names more id name at in
+    cc
 
--- a net that is free after its mention was free before
-pub free_before : (old first : Draft) (out : NameId) (name : Name) → MentionsFree old name out first
-    → (before : List Statement) → IsDraftOf before old → ¬ Contains (driven_by before) name
-free_before old first out name found before is c =
-    found.free (is_driven (mentions_of before ++ name ∷ []) before first out name
-    (found.mentions.with_names (mentions_of before) before is) found.number c)
+-- ---- the step of a loop over names
+
+pub text_at : (texts : List (Bor (List ℕ))) (i : ℕ) (d : Bor (List ℕ)) → i < length texts
+    → get_or (texts_of texts) i d.now ≡ (get_or texts i d).now
+text_at texts i d lt = get_or-map (λ (t : Bor (List ℕ)). t.now) texts i d d.now lt
+
+pub length-texts_of : (texts : List (Bor (List ℕ))) → length (texts_of texts) ≡ length texts
+length-texts_of texts = length-map texts (λ (t : Bor (List ℕ)). t.now)
+
+pub more_texts : (texts : List (Bor (List ℕ))) (i : ℕ) (d : Bor (List ℕ)) → i < length texts
+    → take (i + 1) (texts_of texts) ≡ take i (texts_of texts) ++ (get_or texts i d).now ∷ []
+more_texts texts i d lt =
+    take_more (texts_of texts) i d.now (omega (arith, lt, length-texts_of texts))
+    ∙ ap (λ t. take i (texts_of texts) ++ t ∷ []) (text_at texts i d lt)
+
+module _ (a b : Draft) (texts : List (Bor (List ℕ))) (i : ℕ) (d : Bor (List ℕ)) (lt : i < length texts)
+    (first : Mentions a (take i (texts_of texts)) b) where
+  pub step_mentions : (c : Draft) → Mentions b ((get_or texts i d).now ∷ []) c
+      → Mentions a (take (i + 1) (texts_of texts)) c
+  step_mentions c last = rw (more_texts texts i d lt)
+      (mentions_then a b c (take i (texts_of texts)) ((get_or texts i d).now ∷ []) first last)
+
+  pub step_numbers : (c : Draft) (ids new : List NameId) (id : NameId) → new ≡ ids ++ id ∷ []
+      → AreNumbersOf b.names ids (take i (texts_of texts)) → Mentions b ((get_or texts i d).now ∷ []) c
+      → IsNumberOf c.names id (get_or texts i d).now → AreNumbersOf c.names new (take (i + 1) (texts_of texts))
+  step_numbers c ids new id e are last at = rw (e, more_texts texts i d lt)
+      (numbers_push c.names ids (take i (texts_of texts)) id (get_or texts i d).now
+      (numbers_in b c ((get_or texts i d).now ∷ []) last ids (take i (texts_of texts)) are) at)
+
+  -- one name that finds no room refuses them all
+  pub step_refuses : (error : AddError) → RefusesMentions b ((get_or texts i d).now ∷ []) error
+      → RefusesMentions a (texts_of texts) error
+  step_refuses error refused =
+      let all = texts_of texts in
+      let name = (get_or texts i d).now in
+      let front = ap (λ l. length (with_names a.names l)) (more_texts texts i d lt)
+      ∙ ap length (fold-append with_name a.names (take i all) (name ∷ [])) in
+      let whole = ap (λ l. length (with_names a.names l)) (sym (take-append-drop (i + 1) all))
+      ∙ ap length (fold-append with_name a.names (take (i + 1) all) (drop (i + 1) all)) in
+      let long = with_names-long (with_names a.names (take (i + 1) all)) (drop (i + 1) all) in
+      let here = ap (λ (x : Draft). length (with_names x.names (name ∷ []))) first.is in
+      ⊎_elim (λ (memory : error ≡ NoMemory). inl memory)
+      (λ (many : (error ≡ Limit Nets) × (max_nets < length (with_names b.names (name ∷ [])))).
+      inr (many.0, omega (arith, many.1, front, whole, long, here))) refused
+
+-- ---- whether a name is one of some
+
+module _ (texts : List (Bor (List ℕ))) (i : ℕ) (d : Bor (List ℕ)) (lt : i < length texts) (name : Name) where
+  pub one_is : (get_or texts i d).now ≡ name → has_name (texts_of texts) name ≡ true
+  one_is e = (has_name-Decides (texts_of texts) name).1 (subst (Contains (texts_of texts)) (text_at texts i d lt ∙ e)
+      (Contains-get_or (texts_of texts) i d.now (omega (arith, lt, length-texts_of texts))))
+
+  pub one_more_is_not : has_name (take i (texts_of texts)) name ≡ false → (get_or texts i d).now ≢ name
+      → has_name (take (i + 1) (texts_of texts)) name ≡ false
+  one_more_is_not absent other =
+      let text = (get_or texts i d).now in
+      let front = take i (texts_of texts) in
+      rw (more_texts texts i d lt) (list_any-append (λ x. bytes_eq x name) front (text ∷ [])
+      ∙ or_from (has_name front name) (has_name (text ∷ []) name) absent
+      (or_from (bytes_eq text name) false (false_from_ne_true (bytes_eq text name)
+      (λ yes. other ((bytes_eq-Decides text name).0 yes))) refl))

@@ -1,12 +1,12 @@
 -- Flip-flops and gates of a circuit by name.
-use Rattle.std.proofs.Common.{◌≡◌, ℕ, zero, suc, ◌+◌, ◌<◌, List, [], ◌∷◌, length, get_or, map, refl, sym, ap, subst, ◌∙◌, arith}
+use Rattle.std.proofs.Common.{◌≡◌, ℕ, zero, suc, ◌+◌, ◌<◌, List, [], ◌∷◌, ◌++◌, length, get_or, map, refl, sym, ap, subst, ◌∙◌, arith}
 use Rattle.std.specs.List.{All}
 use Rattle.std.proofs.lemmas.List.{get_or-map}
 use Rattle.std.proofs.lemmas.List.Elements.{All-from_get_or}
 use Rattle.ht_tern.specs.declared.gate.Kind.TheVariants.{Buf}
 use Rattle.ht_net.specs.declared.net.NetId.{NetId}
 use Rattle.ht_net.specs.Netlist.{Netlist, Gate, no_net, no_gate}
-use Rattle.ht_net.specs.Named.{Name, NamedDff, NamedGate, name_of, named_dffs, named_gates}
+use Rattle.ht_net.specs.Named.{Name, NamedDff, NamedGate, NamedNetlist, name_of, named_dffs, named_gates}
 
 -- ---- lists whose members are numbered from a start on
 
@@ -50,6 +50,10 @@ dff_outs dffs = map (λ (d : NamedDff). d.out) dffs
 
 abbrev pub gate_outs : List NamedGate → List Name
 gate_outs gates = map (λ (g : NamedGate). g.out) gates
+
+-- all the nets that are driven
+abbrev pub drivers : NamedNetlist → List Name
+drivers n = (n.inputs ++ dff_outs n.dffs) ++ gate_outs n.gates
 
 module _ (c : Netlist) (n : ℕ) where
   pub named_dffs_count : (dffs : List NetId) → length (named_dffs c n dffs) ≡ length dffs

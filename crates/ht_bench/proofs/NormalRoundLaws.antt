@@ -1,32 +1,37 @@
 -- The normal text of a circuit is a netlist of that circuit.
-use Rattle.std.proofs.Common.{◌≡◌, ℕ, ◌≤◌, List, [], ◌∷◌, ◌++◌, true, length, get_or, map, sum_by, append_assoc, refl, sym, ap, subst, ◌∙◌, arith}
-use Rattle.std.specs.List.{All, Contains, flat_map}
+use Rattle.std.proofs.Common.{◌≡◌, ℕ, ◌≤◌, List, [], ◌∷◌, ◌++◌, Bool, true, false, not, length, get_or, map, append_assoc, append-nil, refl, sym, ap, subst, ◌∙◌, arith}
+use Rattle.std.specs.Prelude.{fold, find, Some, None, option_map, All, Contains}
+use Rattle.std.proofs.lemmas.Bool.{cond-false, not_from_true}
 use Rattle.std.proofs.lemmas.List.{length-append, length-take}
 use Rattle.std.proofs.lemmas.List.Concat.{flat_map-append}
-use Rattle.std.proofs.lemmas.List.Sums.{sum_by-append}
-use Rattle.std.proofs.lemmas.List.Elements.{All-append, All-head, All-tail, All-map, All-weaker, All-contains, Contains-append_left, Contains-get_or}
-use Rattle.ht_tern.specs.Gate.{HasArity}
-use Rattle.ht_net.specs.Netlist.{Netlist, IsCircuit, max_arguments}
-use Rattle.ht_net.specs.Named.{NamedGate, named_of}
-use Rattle.ht_statement.specs.Name.{is_name}
-use Rattle.ht_statement.specs.Statement.{Statement, input_line, output_line, names_in}
-use Rattle.ht_statement.specs.Reading.{stated, reading_of}
-use Rattle.ht_statement.specs.StatementText.{statement_text, has_its_count, CanBeStated}
-use Rattle.ht_statement.proofs.StatedLaws.{arity_is_count}
-use Rattle.ht_statement.proofs.StatementTextLaws.{normal_reads}
-use Rattle.ht_bench.specs.Contents.{inputs_in, dffs_in, gates_in, driven_in, stated_gates, driven_by, mentions_of, stated_nets, stated_pins}
-use Rattle.ht_bench.specs.Accepted.{IsWithinLimits, HasNewDriver, AreAccepted}
-use Rattle.ht_bench.specs.EndOfText.{AreDriven}
-use Rattle.ht_bench.specs.Text.{IsNetlistOf}
-use Rattle.ht_bench.specs.Normal.{dff_statement, gate_statement, statements_of, normal_text, HasFormatNames}
-use Rattle.ht_bench.proofs.NamedPartLaws.{named_dffs_count}
-use Rattle.ht_bench.proofs.NormalLineLaws.{lines_of_statements}
-use Rattle.ht_bench.proofs.AllLaws.{all_from_test, test_from_all, AreNames, All-left, All-flat_map}
-use Rattle.ht_bench.proofs.DifferLaws.{differ_apart, length-different}
+use Rattle.std.proofs.lemmas.List.Sums.{fold-append, sum_by_push, list_all-from_AllPass, AllPass-from_list_all}
+use Rattle.std.proofs.lemmas.List.Elements.{All-nil, All-head, All-tail, All-weaker, All-contains, Contains-append_left, Contains-get_or}
 use Rattle.ht_net.specs.Lists.{AllDiffer}
-use Rattle.ht_bench.proofs.NormalContentLaws.{inputs_are, dffs_are}
+use Rattle.ht_net.specs.Netlist.{Netlist, IsCircuit}
+use Rattle.ht_net.specs.Named.{Name, NamedGate, NamedNetlist, named_of}
+use Rattle.ht_statement.specs.Name.{is_name}
+use Rattle.ht_statement.specs.Statement.{Statement, blank_line, input_line, output_line, dff_line, gate_line, names_in}
+use Rattle.ht_statement.specs.Reading.{stated, reading_of}
+use Rattle.ht_statement.specs.StatementText.{statement_text, CanBeStated}
+use Rattle.ht_statement.proofs.StatementTextLaws.{normal_reads}
+use Rattle.ht_bench.specs.Different.{has_name}
+use Rattle.ht_bench.specs.Contents.{no_parts, with_statement, named_of_statements, named_pins, driven_in, driven_by, mentions_of, stated_nets}
+use Rattle.ht_bench.specs.Accepted.{limit_passed, second_driver, reading_error}
+use Rattle.ht_bench.specs.Role.{line_of}
+use Rattle.ht_bench.specs.EndOfText.{undriven_refusal}
+use Rattle.ht_bench.specs.Text.{IsNetlistOf, readings_of, refusal_after}
+use Rattle.ht_bench.specs.Normal.{statements_of, normal_text, HasFormatNames}
+use Rattle.ht_bench.specs.declared.find_line.Role.TheVariants.{Mentioned}
+use Rattle.ht_bench.specs.declared.error.BenchError.TheVariants.{Undriven}
+use Rattle.ht_bench.proofs.NamedPartLaws.{named_dffs_count}
+use Rattle.ht_bench.proofs.NameListLaws.{has_name-Decides, has_no_name, All-with_names}
+use Rattle.ht_bench.proofs.LimitLaws.{within_passes_none}
+use Rattle.ht_bench.proofs.ProgressLaws.{refusal_by, no_error}
+use Rattle.ht_bench.proofs.LineLaws.{lines_of_statements}
+use Rattle.ht_bench.proofs.AllLaws.{AreNames, All-left, All-flat_map}
+use Rattle.ht_bench.proofs.DifferLaws.{differ_apart, length-different}
 use Rattle.ht_bench.proofs.NormalNameLaws.{driven_are_names, statements_say, pins_are}
-use Rattle.ht_bench.proofs.NormalMentionLaws.{statements_made, gates_have_counts}
+use Rattle.ht_bench.proofs.NormalContentLaws.{statements_made, have_counts}
 
 -- ---- each line is read
 
@@ -38,97 +43,119 @@ texts_read (s ∷ statements) can =
     let rest = texts_read statements (All-tail CanBeStated s statements can) in
     cc
 
--- ---- the first of the statements say no more than all
+-- ---- more statements say no less
 
-first_say_less : {B : Type 0} (f : Statement → List B) (first rest : List Statement)
-    → length (flat_map f first) ≤ length (flat_map f (first ++ rest))
-first_say_less f first rest = omega
-    (arith, ap length (flat_map-append f first rest), length-append (flat_map f first) (flat_map f rest))
+says_no_less : (n : NamedNetlist) (s : Statement) → (length n.inputs ≤ length (with_statement n s).inputs)
+    × (length n.dffs ≤ length (with_statement n s).dffs) × (named_pins n ≤ named_pins (with_statement n s))
+says_no_less n blank_line = (omega arith, omega arith, omega arith)
+says_no_less n (output_line name) = (omega arith, omega arith, omega arith)
+says_no_less n (input_line name) = (omega (arith, length-append n.inputs (name ∷ [])), omega arith, omega arith)
+says_no_less n (dff_line out data_pin) =
+    let more = length-append n.dffs (record { out = out; data_pin = data_pin } ∷ []) in
+    (omega arith, omega (arith, more), omega (arith, more))
+says_no_less n (gate_line out kind args) =
+    let more = sum_by_push (λ (g : NamedGate). length g.args) n.gates
+    (record { kind = kind; out = out; args = args }) in
+    (omega arith, omega arith, omega (arith, more))
 
-fewer_pins : (first rest : List Statement) → stated_pins first ≤ stated_pins (first ++ rest)
-fewer_pins first rest =
-    let args : NamedGate → ℕ = λ g. length g.args in
-    let dffs = first_say_less dffs_in first rest in
-    let gates = ap (sum_by args) (flat_map-append gates_in first rest) in
-    let sums = sum_by-append args (stated_gates first) (stated_gates rest) in
-    omega arith
+grows : (count : NamedNetlist → ℕ) → ((n : NamedNetlist) (s : Statement) → count n ≤ count (with_statement n s))
+    → (n : NamedNetlist) (statements : List Statement) → count n ≤ count (fold with_statement n statements)
+grows count step n [] = omega arith
+grows count step n (s ∷ statements) = omega (arith, step n s, grows count step (with_statement n s) statements)
+
+find_none : (p : Name → Bool) (names : List Name) → All (λ name. p name ≡ false) names → find p names ≡ None
+find_none p [] all = refl
+find_none p (name ∷ names) all =
+    cond-false (p name) (Some name) (find p names) (All-head (λ n. p n ≡ false) name names all)
+    ∙ find_none p names (All-tail (λ n. p n ≡ false) name names all)
+
+-- statements of which none is refused are accepted up to the end
+accepted_to_end : (before after : List Statement)
+    → ((first : List Statement) (s : Statement) (rest : List Statement) → before ++ after ≡ first ++ s ∷ rest
+    → reading_error first (stated s) ≡ None)
+    → refusal_after before (map stated after) ≡ undriven_refusal (before ++ after)
+accepted_to_end before [] each = ap undriven_refusal (sym (append-nil before))
+accepted_to_end before (s ∷ after) each =
+    refusal_by before (stated s) (map stated after) None (each before s after refl)
+    ∙ accepted_to_end (before ++ s ∷ []) after
+    (λ first t rest e. each first t rest (sym (append_assoc before (s ∷ []) after) ∙ e))
+    ∙ ap undriven_refusal (append_assoc before (s ∷ []) after)
 
 module _ (c : Netlist) (is : IsCircuit c) where
   -- ---- the statements are accepted
 
-  say_no_more : {B : Type 0} (f : Statement → List B) (first rest : List Statement) → statements_of c ≡ first ++ rest
-      → length (flat_map f first) ≤ length (flat_map f (statements_of c))
-  say_no_more f first rest split = omega (arith, first_say_less f first rest, ap (λ s. length (flat_map f s)) split)
+  mentioned : All (Contains c.names) (mentions_of (statements_of c))
+  mentioned = All-flat_map (Contains c.names) names_in (statements_of c) (statements_made c is)
 
-  within_limits : (first rest : List Statement) → statements_of c ≡ first ++ rest → IsWithinLimits first
+  within_limits : (first rest : List Statement) → statements_of c ≡ first ++ rest → limit_passed first ≡ None
   within_limits first rest split =
-      let made : All (Contains c.names) (mentions_of (statements_of c)) = All-flat_map (Contains c.names) names_in
-      (statements_of c) (statements_made c is) in
+      let n = named_of_statements first in
       let parts : mentions_of (statements_of c) ≡ mentions_of first ++ mentions_of rest = ap mentions_of split ∙
       flat_map-append names_in first rest in
-      let mentioned : All (Contains c.names) (mentions_of first) = All-left (Contains c.names) (mentions_of first)
-      (mentions_of rest) (subst (All (Contains c.names)) parts made) in
-      let nets : length (stated_nets first) ≤ length c.names = length-different (mentions_of first) c.names mentioned in
+      let nets = length-different (mentions_of first) c.names (All-left (Contains c.names) (mentions_of first)
+      (mentions_of rest) (subst (All (Contains c.names)) parts mentioned)) in
+      let all : fold with_statement n rest ≡ named_of c = sym (fold-append with_statement no_parts first rest)
+      ∙ ap named_of_statements (sym split) ∙ statements_say c is in
+      let inputs = grows (λ m. length m.inputs) (λ m s. (says_no_less m s).0) n rest in
+      let dffs = grows (λ m. length m.dffs) (λ m s. (says_no_less m s).1) n rest in
+      let pins = grows named_pins (λ m s. (says_no_less m s).2) n rest in
       let named = is.named in
       let few_nets = is.few_nets in
       let few_pins = is.few_pins in
       let few_inputs = is.few_inputs in
       let few_dffs = is.few_dffs in
-      let inputs = say_no_more inputs_in first rest split in
-      let dffs = say_no_more dffs_in first rest split in
-      record {
-        nets = omega arith;
-        pins = omega (arith, fewer_pins first rest, ap stated_pins split, pins_are c is);
-        inputs = omega (arith, inputs, ap length (inputs_are (named_of c)), length-take c.inputs c.names);
-        dffs = omega (arith, dffs, ap length (dffs_are (named_of c)), named_dffs_count c c.inputs c.dffs);
-      }
+      within_passes_none (length (stated_nets first)) (named_pins n) (length n.inputs) (length n.dffs) (record {
+        few_nets = omega arith;
+        few_pins = omega (arith, pins, ap named_pins all, pins_are c is);
+        few_inputs = omega (
+          arith,
+          inputs,
+          ap (λ (m : NamedNetlist). length m.inputs) all,
+          length-take c.inputs
+              c.names,
+        );
+        few_dffs = omega (
+          arith,
+          dffs,
+          ap (λ (m : NamedNetlist). length m.dffs) all,
+          named_dffs_count c c.inputs
+              c.dffs,
+        );
+      })
 
   new_driver : (before after : List Statement) (s : Statement) → statements_of c ≡ before ++ s ∷ after
-      → HasNewDriver before s
-  new_driver before after s split k d below driven =
+      → second_driver before s ≡ None
+  new_driver before after s split = find_none (has_name (driven_by before)) (driven_in s) (λ k d below.
+      has_no_name (driven_by before) (get_or (driven_in s) k d) (λ driven.
       let parts : c.names ≡ driven_by before ++ (driven_in s ++ driven_by after) = sym (driven_are_names c is) ∙ ap
       driven_by split ∙ flat_map-append driven_in before (s ∷ after) in
       differ_apart (driven_by before) (driven_in s ++ driven_by after) (get_or (driven_in s) k d)
       (subst AllDiffer parts is.names_differ) driven
       (Contains-append_left (driven_in s) (driven_by after) (get_or (driven_in s) k d)
-      (Contains-get_or (driven_in s) k d below))
+      (Contains-get_or (driven_in s) k d below))))
 
-  accepted : AreAccepted (statements_of c)
-  accepted before after s split = record {
-    new_driver = new_driver before after s split;
-    limits = within_limits (before ++ s ∷ []) after (split ∙ sym (append_assoc before (s ∷ []) after));
-  }
-
-  all_driven : AreDriven (statements_of c) (mentions_of (statements_of c))
+  all_driven : undriven_refusal (statements_of c) ≡ None
   all_driven =
-      subst (λ names. All (Contains names) (mentions_of (statements_of c))) (sym (driven_are_names c is))
-      (All-flat_map (Contains c.names) names_in (statements_of c) (statements_made c is))
+      let drives = has_name (driven_by (statements_of c)) in
+      let is_driven : (name : Name) → Contains c.names name → not (drives name) ≡ false = λ name has.
+      not_from_true (drives name) ((has_name-Decides (driven_by (statements_of c)) name).1
+      (subst (λ l. Contains l name) (sym (driven_are_names c is)) has)) in
+      ap (option_map (λ net. Undriven (line_of Mentioned (statements_of c) net) net))
+      (find_none (λ net. not (drives net)) (stated_nets (statements_of c))
+      (All-weaker (Contains c.names) (λ name. not (drives name) ≡ false) is_driven (stated_nets (statements_of c))
+      (All-with_names (Contains c.names) [] (mentions_of (statements_of c)) (All-nil (Contains c.names)) mentioned)))
+
+  accepted : refusal_after [] (map stated (statements_of c)) ≡ None
+  accepted = accepted_to_end [] (statements_of c) (λ first s rest split. no_error first s
+      (new_driver first rest s split)
+      (within_limits (first ++ s ∷ []) rest (split ∙ sym (append_assoc first (s ∷ []) rest)))) ∙ all_driven
 
   -- ---- the statements can be stated
-
-  have_counts : All (λ s. has_its_count s ≡ true) (statements_of c)
-  have_counts =
-      let n = named_of c in
-      let HasIts : Statement → Type 0 = λ s. has_its_count s ≡ true in
-      let gates : All HasIts (map gate_statement n.gates) =
-      All-map HasIts gate_statement n.gates
-      (All-weaker (λ (g : NamedGate). HasArity g.kind (length g.args) × (length g.args ≤ max_arguments))
-      (λ g. HasIts (gate_statement g))
-      (λ g has. arity_is_count g.kind (length g.args) has.0 has.1) n.gates (gates_have_counts c is)) in
-      All-append HasIts ((map input_line n.inputs ++ map output_line n.outputs) ++ map dff_statement n.dffs)
-      (map gate_statement n.gates)
-      (All-append HasIts (map input_line n.inputs ++ map output_line n.outputs) (map dff_statement n.dffs)
-      (All-append HasIts (map input_line n.inputs) (map output_line n.outputs)
-      (All-map HasIts input_line n.inputs (λ k d below. refl))
-      (All-map HasIts output_line n.outputs (λ k d below. refl)))
-      (All-map HasIts dff_statement n.dffs (λ k d below. refl)))
-      gates
 
   module _ (good : HasFormatNames c) where
     have_names : All (λ s. AreNames (names_in s)) (statements_of c)
     have_names =
-        let all : AreNames c.names = all_from_test is_name (λ name. is_name name ≡ true) (λ name yes. yes) c.names good
-        in
+        let all = AllPass-from_list_all is_name c.names good in
         All-weaker (λ s. All (Contains c.names) (names_in s)) (λ s. AreNames (names_in s))
         (λ s made. All-weaker (Contains c.names) (λ name. is_name name ≡ true)
         (λ name has. All-contains (λ n. is_name n ≡ true) c.names name all has) (names_in s) made)
@@ -137,17 +164,16 @@ module _ (c : Netlist) (is : IsCircuit c) where
     can_be_stated : All CanBeStated (statements_of c)
     can_be_stated k d below =
         let s = get_or (statements_of c) k d in
-        record { names = test_from_all is_name (names_in s) (have_names k d below); count = have_counts k d below }
+        record { names = list_all-from_AllPass is_name (names_in s) (have_names k d below); count = have_counts c is k d below }
 
     pub normal_is_netlist : IsNetlistOf (normal_text c) c
-    normal_is_netlist = record {
-      statements = statements_of c;
-      read = record {
-        lines = ap (map reading_of) (lines_of_statements (statements_of c) can_be_stated) ∙ texts_read (statements_of c)
-            can_be_stated;
-        accepted = accepted;
-      };
-      driven = all_driven;
-      is_circuit = is;
-      named = statements_say c is;
-    }
+    normal_is_netlist =
+        let lines : readings_of (normal_text c) ≡ map stated (statements_of c) =
+        ap (map reading_of) (lines_of_statements (statements_of c) can_be_stated)
+        ∙ texts_read (statements_of c) can_be_stated in
+        record {
+          statements = statements_of c;
+          read = record { lines = lines; unrefused = ap (refusal_after []) lines ∙ accepted };
+          is_circuit = is;
+          named = sym (statements_say c is);
+        }

@@ -1,112 +1,101 @@
 -- A circuit is told by the names of its nets, so a text is the netlist of one circuit.
-use Rattle.std.proofs.Common.{◌≡◌, ⊎_elim, ℕ, suc, ◌<◌, ◌≤◌, ◌+◌, ◌-◌, List, [], ◌∷◌, length, get_or, map, refl, sym, ◌∙◌, ap, subst, arith}
-use Rattle.std.proofs.lemmas.Bool.{cases_lt}
-use Rattle.std.proofs.lemmas.List.{length-take-le, get_or-take}
+use Rattle.std.proofs.Common.{◌≡◌, ℕ, ◌<◌, ◌+◌, List, [], ◌∷◌, length, get_or, map, refl, sym, ◌∙◌, ap, arith}
+use Rattle.std.proofs.lemmas.List.{length-take-le}
+use Rattle.std.specs.List.{All}
+use Rattle.std.proofs.lemmas.List.Elements.{All-head, All-tail, All-from_get_or}
 use Rattle.ht_net.specs.declared.net.NetId.{NetId}
-use Rattle.ht_net.specs.Netlist.{Netlist, Gate, IsCircuit, first_gate_net}
-use Rattle.ht_net.specs.Named.{Name, NamedNetlist, named_dffs, named_gates, named_of}
-use Rattle.ht_bench.proofs.NamedPartLaws.{named_dffs_count, named_gates_count, dff_outs, gate_outs, dff_out, gate_out}
+use Rattle.ht_net.specs.Lists.{AllDiffer}
+use Rattle.ht_net.specs.Netlist.{Netlist, Gate, IsCircuit, first_gate_net, no_gate, no_net}
+use Rattle.ht_net.specs.Named.{Name, NamedDff, NamedGate, NamedNetlist, name_of, named_dffs, named_gates, named_of}
 use Rattle.ht_bench.specs.Contents.{named_of_statements}
 use Rattle.ht_bench.specs.Text.{IsNetlistOf}
+use Rattle.ht_bench.proofs.NameListLaws.{place_in, place_at}
 use Rattle.ht_bench.proofs.StatedLaws.{same_statements}
-use Rattle.ht_bench.proofs.NetsByNameLaws.{named_net, same_nets, same_data, same_gates}
+use Rattle.ht_bench.proofs.NamedPartLaws.{drivers}
+use Rattle.ht_bench.proofs.NormalContentLaws.{driven_are}
+use Rattle.ht_bench.proofs.NormalNameLaws.{driven_are_names}
 
-same_lists : {A : Type 0} (xs ys : List A) (d : A) → length xs ≡ length ys
-    → ((k : ℕ) → k < length xs → get_or xs k d ≡ get_or ys k d) → xs ≡ ys
-same_lists [] [] d e h = refl
-same_lists [] (y ∷ ys) d e h = absurd (omega (arith, e))
-same_lists (x ∷ xs) [] d e h = absurd (omega (arith, e))
-same_lists (x ∷ xs) (y ∷ ys) d e h =
-    let heads : x ≡ y = h 0 (omega arith) in
-    let tails : xs ≡ ys = same_lists xs ys d (omega (arith, e)) (λ k lt. h (suc k) (omega (arith, lt))) in
-    cc
+-- the net of a name, and the circuit of what is said by names
+abbrev net_in : List Name → Name → NetId
+net_in names name = record { 0 = place_in names name }
 
--- ---- two circuits with the same names
+abbrev gate_in : List Name → NamedGate → Gate
+gate_in names g = record { kind = g.kind; args = map (net_in names) g.args }
 
-module _ (c e : Netlist) (is_c : IsCircuit c) (is_e : IsCircuit e) (same : named_of c ≡ named_of e) where
-  same_inputs : c.inputs ≡ e.inputs
-  same_inputs =
-      let first = length-take-le c.inputs c.names (omega (arith, is_c.named)) in
-      let second = length-take-le e.inputs e.names (omega (arith, is_e.named)) in
-      omega (arith, first, second, ap (λ (n : NamedNetlist). length n.inputs) same)
+abbrev circuit_of_parts : ℕ → List NetId → List Gate → List NetId → List Name → Netlist
+circuit_of_parts inputs dffs gates outputs names = record
+    { inputs = inputs; dffs = dffs; gates = gates; outputs = outputs; names = names }
 
-  dff_count : length c.dffs ≡ length e.dffs
-  dff_count = sym (named_dffs_count c c.inputs c.dffs) ∙ ap (λ (n : NamedNetlist). length n.dffs) same ∙
-      named_dffs_count e e.inputs e.dffs
+abbrev circuit_by : List Name → NamedNetlist → Netlist
+circuit_by names n = circuit_of_parts (length n.inputs) (map (λ (d : NamedDff). net_in names d.data_pin) n.dffs)
+    (map (gate_in names) n.gates) (map (net_in names) n.outputs) names
 
-  gate_count : length c.gates ≡ length e.gates
-  gate_count = sym (named_gates_count c (first_gate_net c) c.gates) ∙ ap (λ (n : NamedNetlist). length n.gates) same ∙
-      named_gates_count e (first_gate_net e) e.gates
+module _ (c : Netlist) (differ : AllDiffer c.names) where
+  net_back : (net : NetId) → net.0 < length c.names → net_in c.names (name_of c net) ≡ net
+  net_back net known =
+      let number : ℕ → NetId = λ n. record { 0 = n } in
+      ap number (place_at c.names net.0 differ known)
 
-  first_gates : first_gate_net c ≡ first_gate_net e
-  first_gates = omega (arith, same_inputs, dff_count)
+  nets_back : (nets : List NetId) → All (λ (net : NetId). net.0 < length c.names) nets
+      → map (net_in c.names) (map (name_of c) nets) ≡ nets
+  nets_back [] known = refl
+  nets_back (net ∷ nets) known =
+      let head = net_back net (All-head (λ (n : NetId). n.0 < length c.names) net nets known) in
+      let tail = nets_back nets (All-tail (λ (n : NetId). n.0 < length c.names) net nets known) in
+      cc
 
-  dffs_at : named_dffs c c.inputs c.dffs ≡ named_dffs e c.inputs e.dffs
-  dffs_at = ap (λ (n : NamedNetlist). n.dffs) same ∙ ap (λ x. named_dffs e x e.dffs) (sym same_inputs)
+  dffs_back : (x : ℕ) (dffs : List NetId) → All (λ (net : NetId). net.0 < length c.names) dffs
+      → map (λ (d : NamedDff). net_in c.names d.data_pin) (named_dffs c x dffs) ≡ dffs
+  dffs_back x [] known = refl
+  dffs_back x (net ∷ nets) known =
+      let head = net_back net (All-head (λ (n : NetId). n.0 < length c.names) net nets known) in
+      let tail = dffs_back (x + 1) nets (All-tail (λ (n : NetId). n.0 < length c.names) net nets known) in
+      cc
 
-  gates_at : named_gates c (first_gate_net c) c.gates ≡ named_gates e (first_gate_net c) e.gates
-  gates_at = ap (λ (n : NamedNetlist). n.gates) same ∙ ap (λ x. named_gates e x e.gates) (sym first_gates)
+  gates_back : (x : ℕ) (gates : List Gate)
+      → All (λ (g : Gate). All (λ (net : NetId). net.0 < length c.names) g.args) gates
+      → map (gate_in c.names) (named_gates c x gates) ≡ gates
+  gates_back x [] known = refl
+  gates_back x (g ∷ gates) known =
+      let IsKnown : Gate → Type 0 = λ g. All (λ (net : NetId). net.0 < length c.names) g.args in
+      let made : List NetId → Gate = λ l. record { kind = g.kind; args = l } in
+      let head = ap made (nets_back g.args (All-head IsKnown g gates known)) in
+      let tail = gates_back (x + 1) gates (All-tail IsKnown g gates known) in
+      cc
 
-  dff_net : (j : ℕ) → j < length c.dffs → get_or c.names (c.inputs + j) [] ≡ get_or e.names (c.inputs + j) []
-  dff_net j lt = sym (dff_out c c.inputs c.dffs j lt) ∙ ap (λ l. get_or (dff_outs l) j []) dffs_at ∙
-      dff_out e c.inputs e.dffs j (omega (arith, lt, dff_count))
+same_parts : (i j : ℕ) (d e : List NetId) (g h : List Gate) (o p : List NetId) (n : List Name) → i ≡ j → d ≡ e → g ≡ h
+    → o ≡ p → circuit_of_parts i d g o n ≡ circuit_of_parts j e h p n
+same_parts i j d e g h o p n is_i is_d is_g is_o = cc
 
-  gate_net : (j : ℕ) → j < length c.gates
-      → get_or c.names (first_gate_net c + j) [] ≡ get_or e.names (first_gate_net c + j) []
-  gate_net j lt = sym (gate_out c (first_gate_net c) c.gates j lt) ∙ ap (λ l. get_or (gate_outs l) j []) gates_at ∙
-      gate_out e (first_gate_net c) e.gates j (omega (arith, lt, gate_count))
+module _ (c : Netlist) (is : IsCircuit c) where
+  back : circuit_by c.names (named_of c) ≡ c
+  back =
+      let IsKnown : NetId → Type 0 = λ net. net.0 < length c.names in
+      let named = is.named in
+      let inputs : length (named_of c).inputs ≡ c.inputs = length-take-le c.inputs c.names (omega arith) in
+      let dffs = dffs_back c is.names_differ c.inputs c.dffs (All-from_get_or IsKnown c.dffs no_net
+      (λ j lt. omega (arith, is.data_known j lt))) in
+      let gates = gates_back c is.names_differ (first_gate_net c) c.gates
+      (All-from_get_or (λ (g : Gate). All IsKnown g.args) c.gates no_gate
+      (λ g lt. All-from_get_or IsKnown (get_or c.gates g no_gate).args no_net
+      (λ i inside. omega (arith, is.known g i lt inside)))) in
+      let outputs = nets_back c is.names_differ c.outputs (All-from_get_or IsKnown c.outputs no_net
+      (λ o lt. omega (arith, is.outputs_known o lt))) in
+      same_parts (length (named_of c).inputs) c.inputs
+      (map (λ (d : NamedDff). net_in c.names d.data_pin) (named_of c).dffs) c.dffs
+      (map (gate_in c.names) (named_of c).gates) c.gates (map (net_in c.names) (named_of c).outputs) c.outputs c.names
+      inputs dffs gates outputs
 
-  same_name : (k : ℕ) → k < length c.names → get_or c.names k [] ≡ get_or e.names k []
-  same_name k lt =
-      ⊎_elim
-      (λ (input : k < c.inputs).
-      sym (get_or-take c.inputs c.names k [] input) ∙ ap (λ (n : NamedNetlist). get_or n.inputs k []) same ∙ get_or-take
-      e.inputs e.names k [] (omega (arith, input, same_inputs)))
-      (λ (above : c.inputs ≤ k).
-      ⊎_elim
-      (λ (latch : k < first_gate_net c).
-      let z : c.inputs + (k - c.inputs) ≡ k = omega (arith, above) in
-      subst (λ n. get_or c.names n [] ≡ get_or e.names n []) z
-      (dff_net (k - c.inputs) (omega (arith, latch, above))))
-      (λ (gate : first_gate_net c ≤ k).
-      let z : first_gate_net c + (k - first_gate_net c) ≡ k = omega (arith, gate) in
-      subst (λ n. get_or c.names n [] ≡ get_or e.names n []) z
-      (gate_net (k - first_gate_net c) (omega (arith, gate, lt, is_c.named))))
-      (cases_lt k (first_gate_net c)))
-      (cases_lt k c.inputs)
+  -- the names are those of what is driven
+  names_back : drivers (named_of c) ≡ c.names
+  names_back = sym (driven_are (named_of c)) ∙ driven_are_names c is
 
-  same_names : e.names ≡ c.names
-  same_names = sym (same_lists c.names e.names []
-      (omega (arith, is_c.named, is_e.named, same_inputs, dff_count, gate_count)) same_name)
-
-  count_e : length e.names ≡ length c.names
-  count_e = ap length same_names
-
-  pub same_circuit : c ≡ e
-  same_circuit =
-      let dffs : c.dffs ≡ e.dffs =
-      same_data c.names is_c.names_differ c e refl same_names c.inputs c.dffs e.dffs
-      (λ j lt. omega (arith, is_c.data_known j lt, is_c.named))
-      (λ j lt. omega (arith, is_e.data_known j lt, is_e.named, count_e)) dffs_at in
-      let gates : c.gates ≡ e.gates =
-      same_gates c.names is_c.names_differ c e refl same_names (first_gate_net c) c.gates e.gates
-      (λ g lt i inside. omega (arith, is_c.known g i lt inside, is_c.named))
-      (λ g lt i inside. omega (arith, is_e.known g i lt inside, is_e.named, count_e)) gates_at in
-      let by_names : map (named_net c.names) c.outputs ≡ map (named_net c.names) e.outputs =
-      ap (λ (n : NamedNetlist). n.outputs) same ∙ ap (λ l. map (named_net l) e.outputs) same_names in
-      let outputs : c.outputs ≡ e.outputs =
-      same_nets c.names is_c.names_differ c.outputs e.outputs
-      (λ o lt. omega (arith, is_c.outputs_known o lt, is_c.named))
-      (λ o lt. omega (arith, is_e.outputs_known o lt, is_e.named, count_e)) by_names in
-      let make : ℕ → List NetId → List Gate → List NetId → List Name
-      → Netlist = λ i d g o n. record { inputs = i; dffs = d; gates = g; outputs = o; names = n } in
-      ap (λ i. make i c.dffs c.gates c.outputs c.names) same_inputs
-      ∙ ap (λ d. make e.inputs d c.gates c.outputs c.names) dffs
-      ∙ ap (λ g. make e.inputs e.dffs g c.outputs c.names) gates
-      ∙ ap (λ o. make e.inputs e.dffs e.gates o c.names) outputs
-      ∙ ap (make e.inputs e.dffs e.gates e.outputs) (sym same_names)
+  told : circuit_by (drivers (named_of c)) (named_of c) ≡ c
+  told = ap (λ names. circuit_by names (named_of c)) names_back ∙ back
 
 pub one_circuit : (text : List ℕ) (c e : Netlist) → IsNetlistOf text c → IsNetlistOf text e → c ≡ e
 one_circuit text c e is_c is_e =
     let same = same_statements is_c.statements is_e.statements (sym is_c.read.lines ∙ is_e.read.lines) in
-    same_circuit c e is_c.is_circuit is_e.is_circuit (is_c.named ∙ ap named_of_statements same ∙ sym is_e.named)
+    sym (told c is_c.is_circuit)
+    ∙ ap (λ n. circuit_by (drivers n) n) (is_c.named ∙ ap named_of_statements same ∙ sym is_e.named)
+    ∙ told e is_e.is_circuit

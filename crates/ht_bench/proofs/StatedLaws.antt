@@ -1,7 +1,10 @@
--- Readings determine the statements.
-use Rattle.std.proofs.Common.{◌≡◌, List, [], ◌∷◌, length, map, refl, ap, arith}
-use Rattle.ht_statement.specs.Statement.{Statement}
-use Rattle.ht_statement.specs.Reading.{stated}
+-- What lines state: readings determine the statements, and a gate has as many arguments as its kind may have.
+use Rattle.std.proofs.Common.{◌≡◌, List, [], ◌∷◌, length, map, refl, ap, arith, ℕ, true}
+use Rattle.ht_statement.specs.Statement.{Statement, blank_line, input_line, output_line, dff_line, gate_line}
+use Rattle.ht_statement.specs.Reading.{stated, reading_of}
+use Rattle.ht_statement.specs.StatementText.{has_its_count}
+use Rattle.ht_statement.proofs.StatedLaws.{count_is_arity, stated_sound}
+use Rattle.ht_bench.specs.Drafts.{HasArguments}
 
 pub states_one : (s t : Statement) → stated s ≡ stated t → s ≡ t
 states_one s t e = cc
@@ -16,3 +19,13 @@ same_statements (b ∷ some) (s ∷ others) e =
     let same : b ≡ s = states_one b s heads in
     let rest : some ≡ others = same_statements some others tails in
     cc
+
+has_arguments : (s : Statement) → has_its_count s ≡ true → HasArguments s
+has_arguments blank_line count = tt
+has_arguments (input_line name) count = tt
+has_arguments (output_line name) count = tt
+has_arguments (dff_line out data_pin) count = tt
+has_arguments (gate_line out kind args) count = count_is_arity kind (length args) count
+
+pub stated_arguments : (line : List ℕ) (s : Statement) → reading_of line ≡ stated s → HasArguments s
+stated_arguments line s e = has_arguments s (stated_sound line s e).count

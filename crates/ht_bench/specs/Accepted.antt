@@ -1,54 +1,38 @@
--- When a statement is accepted after those before it, and why it isn't.
-use Rattle.std.specs.Prelude.{◌≡◌, ◌≤◌, ◌<◌, List, [], ◌∷◌, ◌++◌, length, All, Contains}
-use Rattle.ht_net.specs.declared.error.Limit.{Limit}
+-- When a line is accepted after the statements before it, and why it isn't.
+use Rattle.std.specs.Prelude.{ℕ, List, [], ◌∷◌, ◌++◌, length, cond, ltb, find, Option, Some, None, option_map}
+use Rattle.ht_net.specs.declared.error.Limit.{Limit as NetLimit}
 use Rattle.ht_net.specs.declared.error.Limit.TheVariants.{Nets, Pins, Inputs, Dffs}
 use Rattle.ht_net.specs.Named.{Name}
-use Rattle.ht_statement.specs.Statement.{Statement}
-use Rattle.ht_statement.specs.Reading.{Reading, stated}
-use Rattle.ht_bench.specs.Contents.{driven_in, driven_by, stated_nets, stated_pins, stated_inputs, stated_dffs}
 use Rattle.ht_net.specs.Netlist.{max_nets, max_pins, max_inputs, max_dffs}
+use Rattle.ht_statement.specs.Statement.{Statement}
+use Rattle.ht_statement.specs.Reading.{Reading, stated, unreadable}
+use Rattle.ht_bench.specs.Different.{has_name}
+use Rattle.ht_bench.specs.Contents.{driven_in, driven_by, stated_nets, named_pins, named_of_statements}
+use Rattle.ht_bench.specs.declared.add_error.AddError.{AddError}
+use Rattle.ht_bench.specs.declared.add_error.AddError.TheVariants.{Refused, SecondDriver, Limit}
 
--- the limits of a netlist
-pub record IsWithinLimits (statements : List Statement) : Type 0 where
-  pub nets : length (stated_nets statements) ≤ max_nets
-  pub pins : stated_pins statements ≤ max_pins
-  pub inputs : length (stated_inputs statements) ≤ max_inputs
-  pub dffs : length (stated_dffs statements) ≤ max_dffs
+-- the first limit that so many nets, pins, inputs and flip-flops pass
+abbrev pub limit_passed_by : ℕ → ℕ → ℕ → ℕ → Option NetLimit
+limit_passed_by nets pins inputs dffs = cond (ltb max_nets nets) (Some Nets)
+    (cond (ltb max_pins pins) (Some Pins)
+    (cond (ltb max_inputs inputs) (Some Inputs) (cond (ltb max_dffs dffs) (Some Dffs) None)))
 
 -- the first limit that statements pass
-abbrev pub IsFirstPassed : List Statement → Limit → Type 0
-IsFirstPassed s Nets = max_nets < length (stated_nets s)
-IsFirstPassed s Pins = (length (stated_nets s) ≤ max_nets) × (max_pins < stated_pins s)
-IsFirstPassed s Inputs = (length (stated_nets s) ≤ max_nets) × (stated_pins s ≤ max_pins)
-    × (max_inputs < length (stated_inputs s))
-IsFirstPassed s Dffs = (length (stated_nets s) ≤ max_nets) × (stated_pins s ≤ max_pins)
-    × (length (stated_inputs s) ≤ max_inputs) × (max_dffs < length (stated_dffs s))
+abbrev pub limit_passed : List Statement → Option NetLimit
+limit_passed s = limit_passed_by (length (stated_nets s)) (named_pins (named_of_statements s))
+    (length (named_of_statements s).inputs) (length (named_of_statements s).dffs)
 
--- no earlier line drives the net that the statement drives
-abbrev pub HasNewDriver : List Statement → Statement → Type 0
-HasNewDriver before statement = All (λ net. ¬ Contains (driven_by before) net) (driven_in statement)
+-- the net that a statement drives, where one before it drives that net
+abbrev pub second_driver : List Statement → Statement → Option Name
+second_driver before s = find (has_name (driven_by before)) (driven_in s)
 
--- a statement after those before it
-pub record IsAcceptedAfter (before : List Statement) (statement : Statement) : Type 0 where
-  pub new_driver : HasNewDriver before statement
-  pub limits : IsWithinLimits (before ++ statement ∷ [])
+-- a second driver is judged before the limits
+abbrev pub driver_or_limit : Option Name → Option NetLimit → Option AddError
+driver_or_limit (Some name) limit = Some (SecondDriver name)
+driver_or_limit None limit = option_map Limit limit
 
--- each statement is accepted after those before it
-abbrev pub AreAccepted : List Statement → Type 0
-AreAccepted statements =
-    (before after : List Statement) (statement : Statement) → statements ≡ before ++ statement ∷ after
-    → IsAcceptedAfter before statement
-
--- a line drives a net that an earlier line drives
-pub record IsSecondDriver (name : Name) (before : List Statement) (reading : Reading) : Type 0 where
-  pub statement : Statement
-  pub states : reading ≡ stated statement
-  pub drives : driven_in statement ≡ name ∷ []
-  pub driven : Contains (driven_by before) name
-
--- a line that is no second driver makes a count pass its limit
-pub record PassesLimit (what : Limit) (before : List Statement) (reading : Reading) : Type 0 where
-  pub statement : Statement
-  pub states : reading ≡ stated statement
-  pub new_driver : HasNewDriver before statement
-  pub passed : IsFirstPassed (before ++ statement ∷ []) what
+-- why a line isn't accepted after these statements, if it isn't
+abbrev pub reading_error : List Statement → Reading → Option AddError
+reading_error before (unreadable refusal) = Some (Refused refusal)
+reading_error before (stated s) = driver_or_limit (second_driver before s)
+    (limit_passed (before ++ s ∷ []))

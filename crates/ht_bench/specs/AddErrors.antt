@@ -1,27 +1,20 @@
 -- Why a line isn't added to a netlist in the making.
-use Rattle.std.specs.Prelude.{ℕ, List}
+use Rattle.std.specs.Prelude.{◌≡◌, ℕ, ◌⊎◌, Option, Some}
 use Rattle.ht_net.specs.declared.error.NetError.{NetError}
 use Rattle.ht_net.specs.declared.error.NetError.TheVariants.{TooMany as NetTooMany}
-use Rattle.ht_statement.specs.Statement.{Statement}
-use Rattle.ht_statement.specs.Reading.{Reading}
 use Rattle.ht_statement.specs.declared.error.LineRefusal.TheVariants.{BadLine as LineIsBad, BadName as NameIsBad, BadKind as KindIsBad, BadCount as CountIsBad}
 use Rattle.ht_statement.specs.declared.error.StatementError.{StatementError}
 use Rattle.ht_statement.specs.declared.error.StatementError.TheVariants.{Refused as LineRefused, NoMemory as LineNoMemory}
-use Rattle.ht_bench.specs.Accepted.{IsSecondDriver, PassesLimit}
-use Rattle.ht_bench.specs.Text.{IsUnreadable}
 use Rattle.ht_bench.specs.declared.error.BenchError.{BenchError}
 use Rattle.ht_bench.specs.declared.error.BenchError.TheVariants.{BadLine, BadName, BadKind, BadCount, Twice, TooMany, NoMemory}
 use Rattle.ht_bench.specs.declared.add_error.AddError.{AddError}
 use Rattle.ht_bench.specs.declared.add_error.AddError.TheVariants.{Refused, SecondDriver, Limit, NoMemory as AddNoMemory}
 
--- a line after the statements before it is refused for this cause
-abbrev pub IsAddError : AddError → List Statement → Reading → Type 0
-IsAddError (Refused refusal) before reading = IsUnreadable refusal before reading
-IsAddError (SecondDriver name) before reading = IsSecondDriver name before reading
-IsAddError (Limit what) before reading = PassesLimit what before reading
-IsAddError AddNoMemory before reading = Unit {0}
+-- the error that there is; memory may run out at any line
+abbrev pub IsAddError : AddError → Option AddError → Type 0
+IsAddError error found = (error ≡ AddNoMemory) ⊎ (found ≡ Some error)
 
--- the refusal of a line for a cause
+-- the refusal of a line for an error
 abbrev pub error_at : AddError → ℕ → BenchError
 error_at (Refused LineIsBad) line = BadLine line
 error_at (Refused NameIsBad) line = BadName line

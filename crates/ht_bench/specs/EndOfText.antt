@@ -1,32 +1,28 @@
 -- What is judged after the last line: nets that no line drives, and cycles of gates.
-use Rattle.std.specs.Prelude.{◌≡◌, ℕ, ◌+◌, ◌<◌, ◌≤◌, List, [], ◌∷◌, ◌++◌, length, get_or, All, Contains}
+use Rattle.std.specs.Prelude.{◌≡◌, ℕ, ◌<◌, ◌≤◌, List, [], length, get_or, Contains, not, find, Option, option_map}
 use Rattle.ht_net.specs.Lists.{IsCycle}
 use Rattle.ht_net.specs.Named.{Name, NamedGate}
-use Rattle.ht_statement.specs.Statement.{Statement, names_in}
-use Rattle.ht_bench.specs.Contents.{driven_in, driven_by, mentions_of, stated_gates, mention_rank}
+use Rattle.ht_statement.specs.Statement.{Statement}
+use Rattle.ht_bench.specs.Different.{has_name}
+use Rattle.ht_bench.specs.Contents.{driven_by, stated_nets, named_of_statements, mention_rank}
+use Rattle.ht_bench.specs.Role.{line_of}
+use Rattle.ht_bench.specs.declared.find_line.Role.TheVariants.{Mentioned}
+use Rattle.ht_bench.specs.declared.error.BenchError.{BenchError}
+use Rattle.ht_bench.specs.declared.error.BenchError.TheVariants.{Undriven}
 
--- all the nets are driven by some line
-abbrev pub AreDriven : List Statement → List Name → Type 0
-AreDriven statements names = All (Contains (driven_by statements)) names
+-- the net that is mentioned first of those that no line drives: the leftmost on the first line that mentions one
+abbrev pub first_undriven : List Statement → Option Name
+first_undriven statements = find (λ net. not (has_name (driven_by statements) net))
+    (stated_nets statements)
 
--- The first line that mentions a net that no line drives, and the leftmost such net on it. Lines count from 1.
-pub record IsFirstUndriven (statements : List Statement) (number : ℕ) (name : Name) : Type 0 where
-  pub before : List Statement
-  pub statement : Statement
-  pub after : List Statement
-  pub split : statements ≡ before ++ statement ∷ after
-  pub is_number : number ≡ length before + 1
-  pub earlier : AreDriven statements (mentions_of before)
-  pub left : List Name
-  pub right : List Name
-  pub names : names_in statement ≡ left ++ name ∷ right
-  pub leftmost : AreDriven statements left
-  pub undriven : ¬ Contains (driven_by statements) name
+abbrev pub undriven_refusal : List Statement → Option BenchError
+undriven_refusal statements = option_map (λ net. Undriven (line_of Mentioned statements net) net)
+    (first_undriven statements)
 
 -- a is an argument of the gate that drives b
 pub record Feeds (statements : List Statement) (a b : Name) : Type 0 where
   pub gate : NamedGate
-  pub is_gate : Contains (stated_gates statements) gate
+  pub is_gate : Contains (named_of_statements statements).gates gate
   pub out : gate.out ≡ b
   pub arg : Contains gate.args a
 
@@ -34,14 +30,5 @@ pub record Feeds (statements : List Statement) (a b : Name) : Type 0 where
 -- that drives the first; the first is the one that is mentioned first.
 pub record IsNetCycle (statements : List Statement) (cycle : List Name) : Type 0 where
   pub is_cycle : IsCycle (Feeds statements) cycle
-  pub least : (k : ℕ) → k < length cycle → mention_rank statements (get_or cycle 0 []) ≤ mention_rank statements
-      (get_or cycle k [])
-
--- the line that drives a net
-pub record IsDriverLine (statements : List Statement) (name : Name) (number : ℕ) : Type 0 where
-  pub before : List Statement
-  pub statement : Statement
-  pub after : List Statement
-  pub split : statements ≡ before ++ statement ∷ after
-  pub is_number : number ≡ length before + 1
-  pub drives : driven_in statement ≡ name ∷ []
+  pub least : (k : ℕ) → k < length cycle → mention_rank statements (get_or cycle 0 [])
+      ≤ mention_rank statements (get_or cycle k [])

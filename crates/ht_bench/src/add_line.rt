@@ -84,7 +84,7 @@ fn add(alloc: Global, builder: &mut Builder, statement: &Statement<'_>) -> Resul
 }
 
 /// Adds what a line states.
-#[tactic(auto, using(crate::proofs::CountLaws::stated_arguments))]
+#[tactic(auto, using(crate::proofs::StatedLaws::stated_arguments))]
 pub(crate) fn add_line(alloc: Global, builder: &mut Builder, line: &[u8]) -> Result<(), AddError>
     ensures adds { OnOk result (AddsLine builder.old line.now builder.new) }
     ensures refusal { IfErr result (RefusesLine builder.old line.now) }

@@ -1,11 +1,13 @@
 //! The first line that mentions or drives a net, in a text whose lines were all read.
-ghost use Rattle.std.specs.Prelude.{◌≡◌, ◌≤◌, ◌↔◌, IsTrue, IfOk, length, Contains};
+ghost use Rattle.std.specs.Prelude.{◌≡◌, ◌≤◌, IfOk, length};
 ghost use Rattle.ht_statement.specs.Statement.{Statement as Stated, names_in};
 ghost use Rattle.ht_statement.specs.Reading.{stated, reading_of};
 ghost use Rattle.ht_statement.specs.StatementOf.{statement_of, texts_of};
+ghost use Rattle.ht_bench.specs.Different.{has_name};
 ghost use Rattle.ht_bench.specs.Contents.{driven_in};
 ghost use Rattle.ht_bench.specs.Text.{max_netlist_bytes};
-ghost use Rattle.ht_bench.specs.Role.{nets_in, HasNet, IsFirstLine};
+ghost use Rattle.ht_bench.specs.Role.{nets_in};
+ghost use Rattle.ht_bench.specs.Progress.{HasNet, IsFirstLine};
 
 use crate::lines::next_line;
 use ht_statement::{Statement, StatementError, read_line};
@@ -20,7 +22,7 @@ pub(crate) enum Role {
 
 /// Whether a statement drives a net.
 fn drives(statement: &Statement<'_>, name: &[u8]) -> bool
-    ensures { IsTrue result ↔ Contains (driven_in (statement_of statement.now)) name.now }
+    ensures { result ≡ has_name (driven_in (statement_of statement.now)) name.now }
 {
     match statement {
         Statement::Nothing | Statement::Output(_) => false,
@@ -32,7 +34,7 @@ fn drives(statement: &Statement<'_>, name: &[u8]) -> bool
 
 /// Whether a name is one of these.
 fn is_one_of(name: &[u8], names: &[&[u8]]) -> bool
-    ensures { IsTrue result ↔ Contains (texts_of names.now) name.now }
+    ensures { result ≡ has_name (texts_of names.now) name.now }
 {
     for other in names {
         if *other == name {
@@ -44,7 +46,7 @@ fn is_one_of(name: &[u8], names: &[&[u8]]) -> bool
 
 /// Whether a statement mentions a net.
 fn mentions(statement: &Statement<'_>, name: &[u8]) -> bool
-    ensures { IsTrue result ↔ Contains (names_in (statement_of statement.now)) name.now }
+    ensures { result ≡ has_name (names_in (statement_of statement.now)) name.now }
 {
     match statement {
         Statement::Nothing => false,
@@ -56,7 +58,7 @@ fn mentions(statement: &Statement<'_>, name: &[u8]) -> bool
 
 /// Whether a statement has a net in a role.
 fn has_net(statement: &Statement<'_>, role: Role, name: &[u8]) -> bool
-    ensures { IsTrue result ↔ Contains (nets_in role (statement_of statement.now)) name.now }
+    ensures { result ≡ has_name (nets_in role (statement_of statement.now)) name.now }
 {
     match role {
         Role::Mentioned => mentions(statement, name),

@@ -1,9 +1,8 @@
 //! Names that lines mention, and their numbers.
 ghost use Rattle.std.specs.Prelude.{[], ◌∷◌, IfOk, OnOk, IfErr};
-ghost use Rattle.std.specs.List.{AllZip};
 ghost use Rattle.ht_net.specs.Draft.{IsDraft};
 ghost use Rattle.ht_statement.specs.StatementOf.{texts_of};
-ghost use Rattle.ht_bench.specs.Drafts.{IsNumberOf, Mentions, MentionsFree, RefusesMention, RefusesMentions, RefusesDriver};
+ghost use Rattle.ht_bench.specs.Drafts.{IsNumberOf, AreNumbersOf, Mentions, MentionsFree, RefusesMentions, RefusesDriver};
 
 use crate::add_error::AddError;
 use ht_items::Items;
@@ -14,7 +13,7 @@ use std::alloc::Global;
 pub(crate) fn mention(builder: &mut Builder, name: &[u8]) -> Result<NameId, AddError>
     ensures number { IfOk result (λ id. IsNumberOf builder.new.names id name.now) }
     ensures mentions { OnOk result (Mentions builder.old (name.now ∷ []) builder.new) }
-    ensures refusal { IfErr result (RefusesMention builder.old name.now) }
+    ensures refusal { IfErr result (RefusesMentions builder.old (name.now ∷ [])) }
 {
     Ok(builder.net(name)?)
 }
@@ -27,7 +26,7 @@ pub(crate) fn mention_all(
 ) -> Result<Items<NameId>, AddError>
     requires { IsDraft builder.old }
     ensures numbers { IfOk result
-        (λ ids. AllZip (IsNumberOf builder.new.names) ids (texts_of names.now)) }
+        (λ ids. AreNumbersOf builder.new.names ids (texts_of names.now)) }
     ensures mentions { OnOk result
         (Mentions builder.old (texts_of names.now) builder.new) }
     ensures refusal { IfErr result (RefusesMentions builder.old (texts_of names.now)) }
@@ -46,7 +45,8 @@ pub(crate) fn mention_driven(
     builder: &mut Builder,
     name: &[u8],
 ) -> Result<NameId, AddError>
-    ensures found { IfOk result (λ id. MentionsFree builder.old name.now id builder.new) }
+    ensures found { IfOk result (λ id.
+        MentionsFree builder.old (name.now ∷ []) name.now id builder.new) }
     ensures refusal { IfErr result (RefusesDriver builder.old name.now) }
 {
     let id = mention(builder, name)?;

@@ -1,9 +1,9 @@
 //! Theorems on netlists and their texts: each is the contract of a function that does nothing.
-ghost use Rattle.std.specs.Prelude.{◌≡◌, ℕ, List, Some};
+ghost use Rattle.std.specs.Prelude.{◌≡◌, ℕ, List, Option, Some};
 ghost use Rattle.ht_net.specs.Netlist.{Netlist, IsCircuit};
 ghost use Rattle.ht_bench.specs.Normal.{normal_text, HasFormatNames};
 ghost use Rattle.ht_bench.specs.Text.{IsNetlistOf, Refuses, IsOfNoCircuit};
-ghost use Rattle.ht_bench.specs.TextRefusal.{TextRefusal, text_refusal_of};
+ghost use Rattle.ht_bench.specs.TextRefusal.{text_refusal_of};
 ghost use Rattle.ht_bench.specs.declared.error.BenchError.{BenchError};
 ghost use Rattle.ht_bench.specs.declared.error.BenchError.TheVariants.{NoMemory};
 
@@ -15,7 +15,7 @@ pub fn one_circuit_per_text()
 
 /// A text has at most one refusal, up to the choice of a cycle.
 pub fn one_refusal_per_text()
-    ensures { (text : List ℕ) (error other : BenchError) (v w : TextRefusal)
+    ensures { (text : List ℕ) (error other : BenchError) (v w : Option BenchError)
         → Refuses text error → Refuses text other
         → text_refusal_of error ≡ Some v → text_refusal_of other ≡ Some w → v ≡ w }
 {}

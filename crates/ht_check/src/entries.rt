@@ -29,8 +29,8 @@ use std::alloc::{AllocError, Global};
 /// walk after the chain, the aim at the first frame, and the sweep (`IsAbortRecord`). Then each set that seals the fault
 /// has the flip-flops that were told, and no list of fewer vectors than the sweep has walks detects it (`AbortMeans`).
 ///
-/// It evaluates a frame once for each told frame, and the frames of a window once for each token, and keeps the longest
-/// path.
+/// It evaluates a frame once for each told frame, and the frames of a window once for each token. It reserves for a whole
+/// walk before it judges the first token of it.
 ///
 /// # Errors
 /// Out of memory.

@@ -1,5 +1,5 @@
 //! Walks of any window, judged token by token.
-ghost use Rattle.std.specs.Prelude.{◌≡◌, ◌↔◌, true, IfOk, IsTrue};
+ghost use Rattle.std.specs.Prelude.{◌≡◌, ◌<◌, ◌≤◌, ◌+◌, ◌↔◌, true, IfOk, OnErr, IsTrue};
 ghost use Rattle.ht_tree.specs.Walks.{IsComplete};
 ghost use Rattle.ht_tree.specs.WalkOf.{fed};
 ghost use Rattle.ht_check.specs.Findings.{FitsAnew, FitsAnewOnTop, FitsOnTop, IsCompleteFinding, IsFinding, IsOpenFinding};
@@ -42,21 +42,24 @@ impl Finding {
     }
 }
 
-/// Judges tokens as a walk of a window, one evaluation for each. It keeps the longest path.
+/// Judges tokens as a walk of a window, one evaluation for each. It reserves for all of them first, so memory is
+/// refused before a token is judged, or not at all.
 ///
 /// # Errors
-/// Out of memory.
+/// Out of memory; the window wasn't asked.
 pub fn judge_walk<W: JudgedWindow>(
     alloc: Global,
     window: &mut W,
     tokens: &[Token],
 ) -> Result<Finding, AllocError>
-    ensures { IfOk result
+    ensures finding { IfOk result
         (λ finding. IsFinding (W.judge window.old) (W.unit window.old) tokens.now finding) }
+    ensures unasked { OnErr result (window.new ≡ window.old) }
 {
     let mut walk = Walk::new(alloc, window.token_weight() as u64);
+    walk.reserve(tokens.len() as u64)?;
     for token in tokens {
-        if !take(window, &mut walk, *token)? {
+        if !take(window, &mut walk, *token) {
             return Ok(Finding::Unfit);
         }
     }
@@ -84,25 +87,29 @@ pub fn is_complete<W: JudgedWindow>(
     Ok(finding.is_complete())
 }
 
-// Follows a token where it fits.
-fn take<W: JudgedWindow>(window: &mut W, walk: &mut Walk, token: Token) -> Result<bool, AllocError>
+// Follows a token where it fits. There is room for it.
+fn take<W: JudgedWindow>(window: &mut W, walk: &mut Walk, token: Token) -> bool
+    requires room { 0 < walk.old.spare }
     ensures judge { W.judge window.new ≡ W.judge window.old }
     ensures unit { W.unit window.new ≡ W.unit window.old }
-    ensures fits { IfOk result
-        (λ taken. IsTrue taken ↔ FitsOnTop (W.judge window.old) walk.old.stack token) }
-    ensures fed { IfOk result (λ taken. taken ≡ true → walk.new ≡ fed walk.old token) }
+    ensures fits { IsTrue result ↔ FitsOnTop (W.judge window.old) walk.old.state.stack token }
+    ensures fed { result ≡ true → walk.new.state ≡ fed walk.old.state token }
+    ensures lowered { walk.old.spare ≤ walk.new.spare + 1 }
 {
     if !fits_on_top(window, walk, token) {
-        return Ok(false);
+        return false;
     }
-    walk.feed(token)
+    match walk.feed(token) {
+        Ok(taken) => taken,
+        Err(_) => unreachable!(),
+    }
 }
 
 // Whether a token fits at the node that comes next, if it decides no variable again.
 fn fits_on_top<W: JudgedWindow>(window: &mut W, walk: &Walk, token: Token) -> bool
     ensures judge { W.judge window.new ≡ W.judge window.old }
     ensures unit { W.unit window.new ≡ W.unit window.old }
-    ensures fits { IsTrue result ↔ FitsAnewOnTop (W.judge window.old) walk.now.stack token }
+    ensures fits { IsTrue result ↔ FitsAnewOnTop (W.judge window.old) walk.now.state.stack token }
 {
     match walk.node() {
         Some(node) => fits(window, &node, token),

@@ -18,7 +18,7 @@ use Rattle.ht_collapse.proofs.OwnLaws.{representative_is_own}
 use Rattle.ht_serial.specs.Opposites.{IsOppositeAt}
 use Rattle.ht_serial.specs.Places.{IsWithin}
 use Rattle.ht_serial.proofs.DetectionLaws.{frames_count, place_within}
-use Rattle.ht_proofs.specs.Grades.{Grades, GraderStandsFor, chosen_faults, verdict_at}
+use Rattle.ht_proofs.specs.PackedView.{PackedView, GraderStandsFor, chosen_faults, verdict_at}
 use Rattle.ht_grade.specs.Detections.{place_at, AreFirstDetections, AreWithin}
 
 -- the first detections of the first k classes
@@ -95,7 +95,7 @@ detected_within c fault list p d = elim (le_or_lt (length list) p.vector) [
     faulty = get_or (tern_outputs c (Some fault) list) p.vector []
 
 -- The verdict of a packed grader on the k-th representative is its first detection.
-pub own_verdict : (c : Netlist) (representatives : List ℕ) (list : List (List Bool)) (packed : Grades) (k : ℕ)
+pub own_verdict : (c : Netlist) (representatives : List ℕ) (list : List (List Bool)) (packed : PackedView) (k : ℕ)
     → packed.circuit ≡ c → packed.faults ≡ chosen_faults (faults_of c) (own_representatives representatives)
     → k < length (own_representatives representatives) → GraderStandsFor packed list
     → IsFirstDetection c (fault_at c (get_or (own_representatives representatives) k 0)) list (verdict_at packed k)

@@ -11,7 +11,7 @@ use Rattle.ht_net.proofs.ApartLaws.{detected_apart}
 use Rattle.ht_faults.specs.Sites.{faults_of}
 use Rattle.ht_collapse.specs.Classes.{AreClasses, fault_at, is_representative, own_representatives}
 use Rattle.ht_serial.specs.Places.{IsWithin}
-use Rattle.ht_proofs.specs.Grades.{Grades, GraderStandsFor, chosen_faults}
+use Rattle.ht_proofs.specs.PackedView.{PackedView, GraderStandsFor, chosen_faults}
 use Rattle.ht_grade.specs.Detections.{AreFirstDetections, AreWithin, place_at}
 use Rattle.ht_grade.specs.GraderView.{GraderView}
 use Rattle.ht_grade.specs.GraderOf.{all_vectors, grader_of, IsGraded, AreGraderFields}
@@ -66,7 +66,7 @@ vectors_more lists more copy rows pushed same =
 
 -- Machines that stand for a list, and the places that they tell, are those of a grader of the list.
 pub is_graded : (v : GraderView) (list : List (List Bool)) (count : ℕ) (places : List (Option Place))
-    (machines : Grades)
+    (machines : PackedView)
     → AreClasses v.circuit v.representatives → v.list ≡ list → count ≡ length list → machines.circuit ≡ v.circuit
     → machines.faults ≡ chosen_faults (faults_of v.circuit) (own_representatives v.representatives)
     → GraderStandsFor machines list

@@ -5,7 +5,7 @@ use Rattle.ht_net.specs.declared.place.Place.{Place}
 use Rattle.ht_net.specs.Rows.{Rows}
 use Rattle.ht_collapse.specs.Classes.{AreClasses, own_representatives}
 use Rattle.ht_faults.specs.Sites.{faults_of}
-use Rattle.ht_proofs.specs.Grades.{Grades, GraderStandsFor, chosen_faults}
+use Rattle.ht_proofs.specs.PackedView.{PackedView, GraderStandsFor, chosen_faults}
 use Rattle.ht_grade.specs.Detections.{AreFirstDetections, AreWithin}
 use Rattle.ht_grade.specs.GraderView.{GraderView}
 use Rattle.ht_grade.specs.declared.grader.Grader.TheInside.{Inside}
@@ -22,7 +22,7 @@ grader_of a = record {
 }
 
 -- What is counted and found is that of all vectors so far, and live machines stand behind them.
-pub record IsGraded (v : GraderView) (count : ℕ) (places : List (Option Place)) (machines : Grades) (live : Bool)
+pub record IsGraded (v : GraderView) (count : ℕ) (places : List (Option Place)) (machines : PackedView) (live : Bool)
     : Type 0 where
   pub all_classes : AreClasses v.circuit v.representatives
   pub counted : count ≡ length v.list

@@ -2,7 +2,7 @@
 ghost use Rattle.std.specs.Prelude.{◌≡◌, ◌++◌, [], List, Bool, IfOk, OnOk};
 ghost use Rattle.ht_faults.specs.Sites.{faults_of};
 ghost use Rattle.ht_collapse.specs.Classes.{AreClasses, own_representatives};
-ghost use Rattle.ht_proofs.specs.Grades.{GraderStandsFor, chosen_faults};
+ghost use Rattle.ht_proofs.specs.PackedView.{GraderStandsFor, chosen_faults};
 ghost use Rattle.ht_grade.specs.Detections.{AreFirstDetections, AreWithin};
 
 use ht_collapse::Classes;

@@ -4,7 +4,8 @@ use Rattle.std.proofs.Common.{◌≡◌, ◌≢◌, ◌<◌, ◌≤◌, ◌+◌,
 use Rattle.std.proofs.lemmas.Bool.{cases_Bool, cases_eq, cases_lt}
 use Rattle.std.proofs.lemmas.List.{length-map, length-append, drop-map, get_or-set_same, get_or-set_other, get_or-replicate, get_or_past, length-replicate}
 use Rattle.ht_tern.specs.declared.tern.Tern.{Tern}
-use Rattle.ht_lanes.specs.Lanes.{Lanes, lane, every_lane, word_at}
+use Rattle.ht_tern.specs.declared.tern.Tern.TheVariants.{Unk}
+use Rattle.ht_lanes.specs.Lanes.{Lanes, lane, every_lane}
 use Rattle.ht_diff.specs.declared.diffs.Diff.{Diff}
 use Rattle.ht_diff.specs.Differences.{with_differences}
 use Rattle.ht_net.specs.declared.fault.Site.{Site}
@@ -13,7 +14,7 @@ use Rattle.ht_net.specs.Netlist.{Netlist, net_count, IsCircuit}
 use Rattle.ht_group.specs.GoodFrames.{IsGoodFrame}
 use Rattle.ht_group.specs.GroupView.{GroupView}
 use Rattle.ht_group.specs.GroupOf.{IsGroup, group_of, machines_from}
-use Rattle.ht_group.specs.LaneRules.{lane_rules, in_lane, HasItsValue}
+use Rattle.ht_group.specs.LaneRules.{rules_at, in_lane, lane_env, HasItsValue}
 use Rattle.ht_group.specs.LatchWords.{HasDifferences}
 use Rattle.ht_group.specs.Overlays.{OverlayView, spread}
 use Rattle.ht_group.specs.Pending.{QuietHaveValues}
@@ -23,7 +24,7 @@ use Rattle.ht_group.specs.declared.schedule.Schedule.{Schedule}
 use Rattle.ht_group.specs.declared.stuck_lines.StuckLines.{StuckLines}
 use Rattle.ht_group.specs.declared.group.Group.TheInside.{Inside}
 use Rattle.ht_group.proofs.KeptLaws.{value_kept}
-use Rattle.ht_group.proofs.SpreadLaws.{lane_of_spread, spread_has_values}
+use Rattle.ht_group.proofs.SpreadLaws.{lane_of_spread, good_has_values}
 use Rattle.ht_group.proofs.ViewLaws.{machine_added}
 
 none_marked : (n r : ℕ) → get_or (replicate n false) r false ≡ false
@@ -43,8 +44,8 @@ fresh_group a circuit schedule stuck none frame sources nets n all marks room =
     let net_words : a.nets.words ≡ map every_lane a.frame.values.items = ap (λ (o : OverlayView). o.words) nets in
     let same : (k : ℕ) → k < 64 → in_lane k a.sources.words ≡ a.sources.good =
     λ k below. ap (in_lane k) words ∙ (lane_of_spread k below a.frame.sources.items ∙ sym good) in
-    let P : List Lanes → List Lanes → ℕ → Type 0 = λ (s l : List Lanes) (x : ℕ).
-    HasItsValue a.circuit.now (lane_rules a.lines.faults.items) s (word_at l) x in
+    let P : ℕ → List Tern → List Tern → ℕ → Type 0 = λ (k : ℕ) (s l : List Tern) (x : ℕ).
+    HasItsValue a.circuit.now (rules_at a.lines.faults.items k) s (λ y. get_or l y Unk) x in
     record {
       circuit = circuit;
       schedule = schedule;
@@ -58,12 +59,14 @@ fresh_group a circuit schedule stuck none frame sources nets n all marks room =
       room = room;
       inputs = λ k below. ap (take a.circuit.now.inputs) (same k below);
       spare = λ k past below. same k below;
-      quiet = λ r inside idle.
+      quiet = λ k r below inside idle.
           let x = get_or a.schedule.order.items r 0 in
-          subst (λ (s : List Lanes). P s a.nets.words x) (sym words)
-          (subst (λ (l : List Lanes). P (map every_lane a.frame.sources.items) l x) (sym net_words)
-          (spread_has_values a.circuit.now circuit a.lines.faults.items a.frame.sources.items a.frame.values.items none
-          frame.room.source_count frame.room.value_count frame.values x (schedule.ranks.known r inside)));
+          let lane : in_lane k a.nets.words ≡ a.frame.values.items =
+          ap (in_lane k) net_words ∙ lane_of_spread k below a.frame.values.items in
+          subst (λ (s : List Tern). P k s (in_lane k a.nets.words) x) (sym (same k below ∙ good))
+          (subst (λ (l : List Tern). P k a.frame.sources.items l x) (sym lane)
+          (good_has_values a.circuit.now circuit a.lines.faults.items k none a.frame.sources.items
+          a.frame.values.items frame.values x (schedule.ranks.known r inside)));
       settled = λ is r. ap (λ (l : List Bool). get_or l r false) marks ∙ none_marked n r;
     }
 
@@ -149,14 +152,14 @@ module _ (a : Inside) (g : IsGroup a) (f : Fault) (diffs : List Diff) (k : ℕ) 
     spare = λ n past below.
         let free : length a.lines.faults.items + 1 ≤ n = omega (arith, past, count_more) in
         h.others n below (omega (arith, free, lane_k)) ∙ (g.spare n (omega (arith, free)) below ∙ sym good);
-    quiet = λ r inside is.
+    quiet = λ n r below inside is.
         let x = get_or a.schedule.order.items r 0 in
         let both = idle r inside is in
-        subst (λ (l : List Fault). HasItsValue a.circuit.now (lane_rules l) sources.words (word_at a.nets.words) x)
-        (sym more)
-        (value_kept a.circuit.now a.lines.faults.items f a.sources.words sources.words (word_at a.nets.words) x
-        g.source_count h.count (h.quiet r inside both.0) both.1
-        (g.quiet r inside (was_idle r both.0)));
+        subst (λ (l : List Fault). HasItsValue a.circuit.now (rules_at l n) (in_lane n sources.words)
+        (lane_env n a.nets.words) x) (sym more)
+        (value_kept a.circuit.now a.lines.faults.items f (in_lane n a.sources.words) (in_lane n sources.words)
+        (lane_env n a.nets.words) x n (sym (h.quiet n r below inside both.0)) both.1
+        (g.quiet n r below inside (was_idle r both.0)));
     settled = λ is. let bad : false ≡ true = is in cc;
   } where
     was_idle : (r : ℕ) → get_or put r false ≡ false → get_or a.pending r false ≡ false

@@ -1,13 +1,14 @@
 -- What drives a net, where the sources are the vector and then the latches; where each net has its value, all are a
 -- frame.
-use Rattle.std.proofs.Common.{◌≡◌, ◌<◌, ◌≤◌, ◌+◌, ◌-◌, ◌∙◌, ℕ, List, get_or, take, drop, ap, sym, arith, inl, inr}
+use Rattle.std.proofs.Common.{◌≡◌, ◌<◌, ◌≤◌, ◌+◌, ◌-◌, ◌∙◌, ℕ, List, length, get_or, take, drop, ap, sym, subst, refl, arith, inl, inr}
 use Rattle.std.proofs.lemmas.Bool.Decides.{nat_tests}
 use Rattle.std.proofs.lemmas.List.{get_or-take, get_or-drop}
-use Rattle.ht_net.specs.Netlist.{Netlist, first_gate_net, net_count, gate_at, no_net, IsCircuit}
+use Rattle.ht_net.specs.Netlist.{Netlist, first_gate_net, net_count, arg_at, IsCircuit}
 use Rattle.ht_net.specs.Frame.{Rules, net_value, net_value_over, driver_value, gate_output}
 use Rattle.ht_net.proofs.FrameLaws.{le_or_lt, driven_input, driven_latch, driven_gate, gate_same, frame_settled, settled_is_frame}
 use Rattle.ht_net.proofs.DepthLaws.{circuit_depth}
-use Rattle.ht_group.specs.LaneRules.{drive_from, HasItsValue}
+use Rattle.ht_group.specs.LaneRules.{drive_from, given_value, HasItsValue}
+use Rattle.ht_group.specs.Schedules.{ReadsFrom}
 
 -- an input or a flip-flop is driven by its source, and another net by its gate
 pub drive_low : {V : Type 0} → (c : Netlist) (r : Rules V) (sources : List V) (env : ℕ → V) (x : ℕ)
@@ -40,7 +41,7 @@ drive_is c r sources env x =
 
 over_is : {V : Type 0} → (c : Netlist) (r : Rules V) (sources : List V) (env : ℕ → V) (x : ℕ)
     → net_value_over c r (take c.inputs sources) (drop c.inputs sources) env x
-    ≡ r.stem x (drive_from c r sources env x)
+    ≡ given_value c r sources env x
 unfolding net_value_over
 over_is c r sources env x = ap (r.stem x) (drive_is c r sources env x)
 
@@ -64,17 +65,31 @@ frame_has_values c circuit r sources x inside =
     (frame_settled c depth.0 depth.1 r vector latches).settled x inside
     ∙ over_is c r sources (net_value c r vector latches) x
 
--- Where two have the same values at a gate's pins, they drive its net alike.
-pub drive_same : {V : Type 0} → (c : Netlist) → IsCircuit c → (r : Rules V) (sources : List V) (e f : ℕ → V)
-    → ((x : ℕ) → x < net_count c → e x ≡ f x) → (x : ℕ) → x < net_count c
-    → drive_from c r sources e x ≡ drive_from c r sources f x
-drive_same c circuit r sources e f same x inside = elim (le_or_lt (first_gate_net c) x) [
+-- Where two have the same values at the nets that its gate reads, they drive a net alike.
+pub drive_same : {V : Type 0} → (c : Netlist) (r : Rules V) (sources : List V) (e f : ℕ → V) (y : ℕ)
+    → y < net_count c → ((x : ℕ) → ReadsFrom c y x → e x ≡ f x)
+    → drive_from c r sources e y ≡ drive_from c r sources f y
+drive_same c r sources e f y inside same = elim (le_or_lt (first_gate_net c) y) [
   | inl high ↦
-      let g = x - first_gate_net c in
-      drive_gate c r sources e x high
-      ∙ (gate_same c r e f (x - first_gate_net c)
-      (λ j at. same (get_or (gate_at c (x - first_gate_net c)).args j no_net).0
-      (circuit.known (x - first_gate_net c) j (omega arith) at))
-      ∙ sym (drive_gate c r sources f x high))
-  | inr low ↦ drive_low c r sources e x low ∙ sym (drive_low c r sources f x low)
+      drive_gate c r sources e y high
+      ∙ (gate_same c r e f (y - first_gate_net c)
+      (λ i pin. same (arg_at c (y - first_gate_net c) i)
+      (record { pin = i; is_gate = high; known = inside; is_pin = pin; reads = refl }))
+      ∙ sym (drive_gate c r sources f y high))
+  | inr low ↦ drive_low c r sources e y low ∙ sym (drive_low c r sources f y low)
+]
+
+-- What a gate reads is a net.
+pub read_known : (c : Netlist) → IsCircuit c → (y x : ℕ) → ReadsFrom c y x → x < net_count c
+read_known c circuit y x read =
+    let gate : y - first_gate_net c < length c.gates = let k = read.known in omega (arith, read.is_gate, k) in
+    subst (λ (n : ℕ). n < net_count c) read.reads
+    (circuit.known (y - first_gate_net c) read.pin gate read.is_pin)
+
+-- The same source drives it alike.
+pub source_same : {V : Type 0} → (c : Netlist) (r : Rules V) (s t : List V) (env : ℕ → V) (y : ℕ)
+    → get_or s y r.blank ≡ get_or t y r.blank → drive_from c r s env y ≡ drive_from c r t env y
+source_same c r s t env y same = elim (le_or_lt (first_gate_net c) y) [
+  | inl high ↦ drive_gate c r s env y high ∙ sym (drive_gate c r t env y high)
+  | inr low ↦ drive_low c r s env y low ∙ (same ∙ sym (drive_low c r t env y low))
 ]

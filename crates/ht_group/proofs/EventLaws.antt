@@ -1,39 +1,16 @@
 -- A net is evaluated: those that don't read it keep their values.
 use Rattle.std.specs.Prelude.{set}
 use Rattle.std.specs.List.{Contains}
-use Rattle.std.proofs.Common.{◌≡◌, ◌≢◌, ◌<◌, ◌≤◌, ◌-◌, ◌∙◌, ◌⊎◌, ℕ, List, [], Bool, true, false, length, get_or, ap, sym, subst, arith, inl, inr}
+use Rattle.std.proofs.Common.{◌≡◌, ◌≢◌, ◌<◌, ◌≤◌, ◌∙◌, ℕ, List, [], Bool, true, false, length, get_or, ap, sym, subst, arith, inl, inr}
 use Rattle.std.proofs.lemmas.Bool.Decides.{eqb_tells}
 use Rattle.std.proofs.lemmas.List.{get_or-set_same, get_or-set_other}
 use Rattle.std.proofs.lemmas.List.Elements.{Contains-get_or}
-use Rattle.ht_tern.specs.declared.tern.Tern.TheVariants.{Unk}
-use Rattle.ht_lanes.specs.Lanes.{Lanes, every_lane, word_at}
-use Rattle.ht_net.specs.declared.fault.Fault.{Fault}
-use Rattle.ht_net.specs.Netlist.{Netlist, first_gate_net, net_count, arg_at}
+use Rattle.ht_net.specs.Netlist.{Netlist, net_count}
 use Rattle.ht_net.specs.Frame.{Rules}
-use Rattle.ht_net.proofs.FrameLaws.{le_or_lt, gate_same}
-use Rattle.ht_group.specs.LaneRules.{lane_rules, drive_from, HasItsValue}
-use Rattle.ht_group.specs.Pending.{QuietHaveValues, driven_word}
+use Rattle.ht_group.specs.LaneRules.{given_value, HasItsValue}
 use Rattle.ht_group.specs.Schedules.{ReadsFrom, IsSchedule}
 use Rattle.ht_group.specs.declared.schedule.Schedule.{Schedule}
-use Rattle.ht_group.proofs.DriveLaws.{drive_low, drive_gate}
-
--- a write of one net doesn't change what drives another that doesn't read it
-drive_kept : (c : Netlist) (r : Rules Lanes) (sources words : List Lanes) (x : ℕ) (v : Lanes) (y : ℕ)
-    → y < net_count c → ¬ ReadsFrom c y x
-    → drive_from c r sources (word_at (set words x v)) y ≡ drive_from c r sources (word_at words) y
-drive_kept c r sources words x v y inside apart =
-    let new = word_at (set words x v) in
-    let old = word_at words in
-    elim (le_or_lt (first_gate_net c) y) [
-      | inl high ↦
-          let g = y - first_gate_net c in
-          drive_gate c r sources new y high
-          ∙ (gate_same c r new old (y - first_gate_net c)
-          (λ i pin. get_or-set_other words x (arg_at c (y - first_gate_net c) i) v (every_lane Unk)
-          (λ e. apart (record { pin = i; is_gate = high; known = inside; is_pin = pin; reads = e })))
-          ∙ sym (drive_gate c r sources old y high))
-      | inr low ↦ drive_low c r sources new y low ∙ sym (drive_low c r sources old y low)
-    ]
+use Rattle.ht_group.proofs.DriveLaws.{drive_same}
 
 module _ (c : Netlist) (s : Schedule) (is : IsSchedule c s) where
   rank_of_net : (r : ℕ) → r < net_count c → get_or s.ranks.items (get_or s.order.items r 0) 0 ≡ r
@@ -48,42 +25,33 @@ module _ (c : Netlist) (s : Schedule) (is : IsSchedule c s) where
   other_net q r a b ne e = ne (sym (rank_of_net q a)
       ∙ (ap (λ (x : ℕ). get_or s.ranks.items x 0) e ∙ rank_of_net r b))
 
-  -- The net of a rank gets its value. Another that isn't pending afterwards wasn't before, and it doesn't read the net,
-  -- or the net's word is as it was.
-  pub fired_quiet : (faults : List Fault) (sources words words' : List Lanes) (pending pending' : List Bool) (rank : ℕ)
-      → rank < net_count c → length words ≡ net_count c
-      → QuietHaveValues c s faults sources pending words
-      → words' ≡ set words (get_or s.order.items rank 0)
-      (driven_word c faults sources words (get_or s.order.items rank 0))
+  -- The net of a rank gets its value, and no other changes. Another that isn't pending afterwards wasn't before, and
+  -- what it reads is as it was.
+  pub fired_quiet : {V : Type 0} → (r : Rules V) (sources : List V) (e f : ℕ → V) (pending pending' : List Bool)
+      (rank x : ℕ)
+      → rank < net_count c → x ≡ get_or s.order.items rank 0
+      → f x ≡ given_value c r sources e x → ((y : ℕ) → y ≢ x → f y ≡ e y)
       → ((q : ℕ) → q < net_count c → q ≢ rank → get_or pending' q false ≡ false
-      → (get_or pending q false ≡ false)
-      × (¬ ReadsFrom c (get_or s.order.items q 0) (get_or s.order.items rank 0) ⊎ (words' ≡ words)))
-      → QuietHaveValues c s faults sources pending' words'
-  fired_quiet faults sources words words' pending pending' rank inside count quiet written kept q within idle =
-      let r = lane_rules faults in
-      let x = get_or s.order.items rank 0 in
+      → (get_or pending q false ≡ false) × ((z : ℕ) → ReadsFrom c (get_or s.order.items q 0) z → f z ≡ e z))
+      → ((q : ℕ) → q < net_count c → get_or pending q false ≡ false
+      → HasItsValue c r sources e (get_or s.order.items q 0))
+      → (q : ℕ) → q < net_count c → get_or pending' q false ≡ false
+      → HasItsValue c r sources f (get_or s.order.items q 0)
+  fired_quiet r sources e f pending pending' rank x inside net given others kept quiet q within idle =
       let y = get_or s.order.items q 0 in
-      let v = driven_word c faults sources words x in
-      let at : x < length words = let k = is.ranks.known rank inside in omega (arith, k, count) in
+      let same : (z : ℕ) → ((v : ℕ) → ReadsFrom c z v → f v ≡ e v) → z < net_count c
+      → given_value c r sources e z ≡ given_value c r sources f z =
+      λ z reads known. ap (r.stem z) (drive_same c r sources e f z known (λ v read. sym (reads v read))) in
       elim (eqb_tells q rank) [
         | inl p ↦
-            let here : HasItsValue c r sources (word_at (set words x v)) x =
-            get_or-set_same words x v (every_lane Unk) at
-            ∙ ap (r.stem x) (sym (drive_kept c r sources words x v x (omega (arith, at, count)) (no_self x))) in
-            subst (λ (n : ℕ). HasItsValue c r sources (word_at words') (get_or s.order.items n 0)) (sym p.1)
-            (subst (λ (l : List Lanes). HasItsValue c r sources (word_at l) x) (sym written) here)
+            subst (λ (z : ℕ). HasItsValue c r sources f z) (net ∙ ap (λ (n : ℕ). get_or s.order.items n 0) (sym p.1))
+            (given ∙ same x
+            (λ v read. others v (λ is_x. no_self x (subst (λ (z : ℕ). ReadsFrom c x z) is_x read)))
+            (subst (λ (z : ℕ). z < net_count c) (sym net) (is.ranks.known rank inside)))
         | inr p ↦
             let k = kept q within p.1 idle in
-            let old : HasItsValue c r sources (word_at words) y = quiet q within k.0 in
-            elim k.1 [
-              | inl apart ↦
-                  let there : HasItsValue c r sources (word_at (set words x v)) y =
-                  get_or-set_other words x y v (every_lane Unk) (other_net q rank within inside p.1)
-                  ∙ (old ∙ ap (r.stem y)
-                  (sym (drive_kept c r sources words x v y (is.ranks.known q within) apart))) in
-                  subst (λ (l : List Lanes). HasItsValue c r sources (word_at l) y) (sym written) there
-              | inr same ↦ subst (λ (l : List Lanes). HasItsValue c r sources (word_at l) y) (sym same) old
-            ]
+            others y (λ is_x. other_net q rank within inside p.1 (is_x ∙ net))
+            ∙ (quiet q within k.0 ∙ same y k.1 (is.ranks.known q within))
       ]
 
   -- A net that isn't among the readers of another doesn't read it.

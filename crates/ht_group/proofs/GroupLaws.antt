@@ -5,16 +5,16 @@ use Rattle.std.proofs.lemmas.Option.{slice_get_past, slice_get_within}
 use Rattle.std.proofs.lemmas.List.{drop-map}
 use Rattle.ht_tern.specs.declared.tern.Tern.{Tern}
 use Rattle.ht_tern.specs.declared.tern.Tern.TheVariants.{Unk}
-use Rattle.ht_lanes.specs.Lanes.{Lanes, lane, word_at}
+use Rattle.ht_lanes.specs.Lanes.{Lanes, lane}
 use Rattle.ht_net.specs.Netlist.{net_count}
 use Rattle.ht_net.specs.Frame.{net_value}
 use Rattle.ht_net.specs.Faults.{tern_rules}
 use Rattle.ht_group.specs.GroupView.{FaultyMachine}
 use Rattle.ht_group.specs.GroupOf.{IsGroup, group_of}
 use Rattle.ht_group.specs.NetValues.{good_value, faulty_value}
-use Rattle.ht_group.specs.LaneRules.{lane_rules, in_lane, HasItsValue}
+use Rattle.ht_group.specs.LaneRules.{rules_at, in_lane, lane_env, HasItsValue}
 use Rattle.ht_group.specs.declared.group.Group.TheInside.{Inside}
-use Rattle.ht_group.proofs.MachineLaws.{rules_at, lane_is_frame}
+use Rattle.ht_group.proofs.DriveLaws.{values_are_frame}
 use Rattle.ht_group.proofs.ViewLaws.{machine_at, machine_count}
 
 module _ (a : Inside) (g : IsGroup a) where
@@ -25,27 +25,28 @@ module _ (a : Inside) (g : IsGroup a) where
       ∙ ap (λ (l : List Tern). net_value a.circuit.now (tern_rules None) (take a.circuit.now.inputs l)
       (drop a.circuit.now.inputs l) x) (sym g.sources))
 
-  has_value : a.settled ≡ true → (x : ℕ) → x < net_count a.circuit.now
-      → HasItsValue a.circuit.now (lane_rules a.lines.faults.items) a.sources.words (word_at a.nets.words) x
-  has_value settled x inside =
+  has_value : a.settled ≡ true → (k : ℕ) → k < 64 → (x : ℕ) → x < net_count a.circuit.now
+      → HasItsValue a.circuit.now (rules_at a.lines.faults.items k) (in_lane k a.sources.words)
+      (lane_env k a.nets.words) x
+  has_value settled k below x inside =
       let r = get_or a.schedule.ranks.items x 0 in
-      subst (λ (y : ℕ). HasItsValue a.circuit.now (lane_rules a.lines.faults.items) a.sources.words
-      (word_at a.nets.words) y) (g.schedule.ranks.back x inside)
-      (g.quiet r (g.schedule.ranks.small x inside) (g.settled settled r))
+      subst (λ (y : ℕ). HasItsValue a.circuit.now (rules_at a.lines.faults.items k) (in_lane k a.sources.words)
+      (lane_env k a.nets.words) y) (g.schedule.ranks.back x inside)
+      (g.quiet k r below (g.schedule.ranks.small x inside) (g.settled settled r))
 
   lane_value : a.settled ≡ true → (x : ℕ) → x < net_count a.circuit.now → (k : ℕ) → k < 64
-      → lane (word_at a.nets.words x) k
+      → lane_env k a.nets.words x
       ≡ net_value a.circuit.now (rules_at a.lines.faults.items k) (take a.circuit.now.inputs a.sources.good)
       (drop a.circuit.now.inputs (in_lane k a.sources.words)) x
   lane_value settled x inside k below =
-      lane_is_frame a.lines.faults.items k below a.circuit.now g.circuit a.sources.words a.nets.words g.source_count
-      (has_value settled) x inside
+      values_are_frame a.circuit.now g.circuit (rules_at a.lines.faults.items k) (in_lane k a.sources.words)
+      (lane_env k a.nets.words) (has_value settled k below) x inside
       ∙ ap (λ (v : List Tern). net_value a.circuit.now (rules_at a.lines.faults.items k) v
       (drop a.circuit.now.inputs (in_lane k a.sources.words)) x) (g.inputs k below)
 
   -- each machine's value of a net, and the good one in a lane without a machine
   pub machine_value : a.settled ≡ true → (x : ℕ) → x < net_count a.circuit.now → (k : ℕ) (m : FaultyMachine)
-      → slice_get (group_of a).machines k ≡ Some m → lane (word_at a.nets.words x) k ≡ faulty_value (group_of a) m x
+      → slice_get (group_of a).machines k ≡ Some m → lane_env k a.nets.words x ≡ faulty_value (group_of a) m x
   machine_value settled x inside k m has =
       let c = a.circuit.now in
       let latches = drop a.circuit.now.inputs a.sources.words in
@@ -60,7 +61,7 @@ module _ (a : Inside) (g : IsGroup a) where
       ∙ (λ i. net_value c (tern_rules (is.fault i)) (take a.circuit.now.inputs a.sources.good) (held i) x)
 
   pub spare_value : a.settled ≡ true → (x : ℕ) → x < net_count a.circuit.now → (k : ℕ)
-      → length (group_of a).machines ≤ k → k < 64 → lane (word_at a.nets.words x) k ≡ good_value (group_of a) x
+      → length (group_of a).machines ≤ k → k < 64 → lane_env k a.nets.words x ≡ good_value (group_of a) x
   spare_value settled x inside k past below =
       let c = a.circuit.now in
       let count = machine_count 0 a.lines.faults.items (drop a.circuit.now.inputs a.sources.words) in

@@ -1,24 +1,21 @@
 -- One machine more: nets that its fault doesn't touch keep their values.
 use Rattle.std.specs.List.{slice_get}
-use Rattle.std.proofs.Common.{◌≡◌, ◌≢◌, ◌+◌, ◌-◌, ◌∙◌, ℕ, List, [], ◌∷◌, ◌++◌, false, length, cond, ap, sym, refl, arith, Option, Some, None, inl, inr}
+use Rattle.std.proofs.Common.{◌≡◌, ◌≢◌, ◌+◌, ◌-◌, ◌∙◌, ℕ, List, [], ◌∷◌, ◌++◌, false, length, get_or, cond, ap, sym, refl, arith, Some, None, inl, inr}
 use Rattle.std.proofs.lemmas.Bool.Decides.{eqb_tells}
 use Rattle.std.proofs.lemmas.Option.{slice_get_past}
-use Rattle.std.proofs.lemmas.List.{get_or-map}
 use Rattle.ht_tern.specs.declared.tern.Tern.{Tern}
 use Rattle.ht_tern.specs.declared.tern.Tern.TheVariants.{Unk}
 use Rattle.ht_tern.specs.Gate.{gate_value, tern_of}
-use Rattle.ht_lanes.specs.Lanes.{Lanes, lane, every_lane, word_at}
 use Rattle.ht_net.specs.declared.fault.Site.{Site}
 use Rattle.ht_net.specs.declared.fault.Site.TheVariants.{Stem, DffPin, GatePin}
 use Rattle.ht_net.specs.declared.fault.Fault.{Fault}
 use Rattle.ht_net.specs.Netlist.{Netlist, first_gate_net, gate_at}
-use Rattle.ht_net.specs.Frame.{Rules, gate_output}
+use Rattle.ht_net.specs.Frame.{gate_output}
 use Rattle.ht_net.specs.Faults.{forced, tern_rules, is_stem}
 use Rattle.ht_net.proofs.FrameLaws.{le_or_lt}
-use Rattle.ht_group.specs.LaneRules.{lane_rules, drive_from, in_lane, HasItsValue}
+use Rattle.ht_group.specs.LaneRules.{rules_at, drive_from, given_value, HasItsValue}
 use Rattle.ht_group.specs.StuckTables.{forced_net_of, is_pin_of}
-use Rattle.ht_group.proofs.DriveLaws.{drive_low, drive_gate}
-use Rattle.ht_group.proofs.MachineLaws.{rules_at, lane_env, drive_in_lane, value_by_lanes}
+use Rattle.ht_group.proofs.DriveLaws.{drive_low, drive_gate, source_same}
 use Rattle.ht_group.proofs.PinLaws.{plain_pins}
 use Rattle.ht_group.proofs.StuckLaws.{slice_at_end, slice_other}
 
@@ -70,12 +67,8 @@ same_drive c f s e y ne = elim (le_or_lt (first_gate_net c) y) [
   | inr low ↦ drive_low c (tern_rules None) s e y low ∙ sym (drive_low c (tern_rules (Some f)) s e y low)
 ]
 
--- what a machine gives net y
-abbrev given : Netlist → Option Fault → List Tern → (ℕ → Tern) → ℕ → Tern
-given c fault s e y = (tern_rules fault).stem y (drive_from c (tern_rules fault) s e y)
-
 same_given : (c : Netlist) (f : Fault) (s : List Tern) (e : ℕ → Tern) (y : ℕ) → forced_net_of c f.site ≢ Some y
-    → given c None s e y ≡ given c (Some f) s e y
+    → given_value c (tern_rules None) s e y ≡ given_value c (tern_rules (Some f)) s e y
 same_given c f s e y ne =
     good_stem y (drive_from c (tern_rules None) s e y)
     ∙ (same_drive c f s e y ne
@@ -84,40 +77,21 @@ same_given c f s e y ne =
 -- and so does the machine of each lane
 lane_given : (c : Netlist) (faults : List Fault) (f : Fault) (s : List Tern) (e : ℕ → Tern) (y k : ℕ)
     → forced_net_of c f.site ≢ Some y
-    → given c (slice_get faults k) s e y ≡ given c (slice_get (faults ++ f ∷ []) k) s e y
+    → given_value c (rules_at faults k) s e y ≡ given_value c (rules_at (faults ++ f ∷ []) k) s e y
 lane_given c faults f s e y k ne = elim (eqb_tells k (length faults)) [
   | inl p ↦
-      ap (λ fault. given c fault s e y)
+      ap (λ fault. given_value c (tern_rules fault) s e y)
       (ap (slice_get faults) p.1 ∙ slice_get_past faults (length faults) (omega arith))
       ∙ (same_given c f s e y ne
-      ∙ ap (λ fault. given c fault s e y)
+      ∙ ap (λ fault. given_value c (tern_rules fault) s e y)
       (sym (slice_at_end faults f) ∙ ap (slice_get (faults ++ f ∷ [])) (sym p.1)))
-  | inr p ↦ ap (λ fault. given c fault s e y) (sym (slice_other faults f k p.1))
-]
-
--- other sources with the same one for this net
-same_sources : (c : Netlist) (r : Rules Tern) (s t : List Lanes) (e : ℕ → Tern) (k y : ℕ)
-    → length s ≡ first_gate_net c → length t ≡ first_gate_net c → word_at t y ≡ word_at s y
-    → drive_from c r (in_lane k s) e y ≡ drive_from c r (in_lane k t) e y
-same_sources c r s t e k y a b same = elim (le_or_lt (first_gate_net c) y) [
-  | inl high ↦ drive_gate c r (in_lane k s) e y high ∙ sym (drive_gate c r (in_lane k t) e y high)
-  | inr low ↦
-      drive_low c r (in_lane k s) e y low
-      ∙ (get_or-map (λ (w : Lanes). lane w k) s y (every_lane Unk) r.blank (omega (arith, low, a))
-      ∙ (ap (λ (w : Lanes). lane w k) (sym same)
-      ∙ (sym (get_or-map (λ (w : Lanes). lane w k) t y (every_lane Unk) r.blank (omega (arith, low, b)))
-      ∙ sym (drive_low c r (in_lane k t) e y low))))
+  | inr p ↦ ap (λ fault. given_value c (tern_rules fault) s e y) (sym (slice_other faults f k p.1))
 ]
 
 -- A net that neither the new fault nor a new source touches keeps its value.
-pub value_kept : (c : Netlist) (faults : List Fault) (f : Fault) (s t : List Lanes) (env : ℕ → Lanes) (y : ℕ)
-    → length s ≡ first_gate_net c → length t ≡ first_gate_net c → word_at t y ≡ word_at s y
-    → forced_net_of c f.site ≢ Some y
-    → HasItsValue c (lane_rules faults) s env y → HasItsValue c (lane_rules (faults ++ f ∷ [])) t env y
-value_kept c faults f s t env y a b same ne has =
-    let drive = drive_from c (lane_rules faults) s env y in
-    value_by_lanes (faults ++ f ∷ []) c t env b y (λ k. (rules_at faults k).stem y (lane drive k)) has
-    (λ k below.
-    let r = rules_at faults k in
-    ap (r.stem y) (drive_in_lane faults k below c s env a y ∙ same_sources c r s t (lane_env k env) k y a b same)
-    ∙ lane_given c faults f (in_lane k t) (lane_env k env) y k ne)
+pub value_kept : (c : Netlist) (faults : List Fault) (f : Fault) (s t : List Tern) (e : ℕ → Tern) (y k : ℕ)
+    → get_or s y Unk ≡ get_or t y Unk → forced_net_of c f.site ≢ Some y
+    → HasItsValue c (rules_at faults k) s e y → HasItsValue c (rules_at (faults ++ f ∷ []) k) t e y
+value_kept c faults f s t e y k same ne has =
+    has ∙ (ap ((rules_at faults k).stem y) (source_same c (rules_at faults k) s t e y same)
+    ∙ lane_given c faults f t e y k ne)

@@ -1,6 +1,6 @@
 pub mod BitLaws
 pub mod DriveLaws
-pub mod MachineLaws
+pub mod InLaneLaws
 pub mod StuckLaws
 pub mod PinLaws
 pub mod FoldLaws

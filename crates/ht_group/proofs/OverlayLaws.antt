@@ -19,9 +19,6 @@ good_words good words count each =
     (λ i inside. let at : i < length good = omega (arith, inside, count) in
     each i at ∙ sym (get_or-map every_lane good i Unk (every_lane Unk) at))
 
-pub spread_word : (good : List Tern) (i : ℕ) → i < length good → IsGoodWord good (map every_lane good) i
-spread_word good i at = get_or-map every_lane good i Unk (every_lane Unk) at
-
 -- a word gets its good value
 pub good_written : (good : List Tern) (words : List Lanes) (x : ℕ) (word : Lanes) → x < length words
     → word ≡ every_lane (get_or good x Unk) → (i : ℕ) → (i ≢ x → IsGoodWord good words i)

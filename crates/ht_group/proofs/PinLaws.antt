@@ -24,7 +24,8 @@ use Rattle.ht_net.specs.Faults.{forced, tern_rules, is_pin}
 use Rattle.ht_net.proofs.FrameLaws.{pins_length}
 use Rattle.ht_group.specs.BitSets.{with_bit}
 use Rattle.ht_group.specs.StuckTables.{is_at_gate, is_pin_of, is_pin_number, AreGateLanes}
-use Rattle.ht_group.proofs.MachineLaws.{rules_at, lane_env}
+use Rattle.ht_group.specs.LaneRules.{rules_at, lane_env}
+use Rattle.ht_group.proofs.InLaneLaws.{lane_get}
 
 -- What a machine's pins make of values, where its fault is at no pin of the gate.
 kept_pin : (b : Bool) (v u : Tern) → b ≡ false → cond b v u ≡ u
@@ -49,10 +50,11 @@ plain_pins fault g env n (a ∷ args) h =
     λ i. plain_pin fault g n (env a.0) h i ∷ plain_pins fault g env (n + 1) args h i
 
 -- the values of nets in one lane
-pub values_in_lane : (k : ℕ) (env : ℕ → Lanes) (args : List NetId)
-    → map (λ (w : Lanes). lane w k) (values_at env args) ≡ values_at (lane_env k env) args
-values_in_lane k env [] = refl
-values_in_lane k env (a ∷ args) = ap (λ (t : List Tern). lane (env a.0) k ∷ t) (values_in_lane k env args)
+pub values_in_lane : (k : ℕ) → k < 64 → (words : List Lanes) (args : List NetId)
+    → map (λ (w : Lanes). lane w k) (values_at (word_at words) args) ≡ values_at (lane_env k words) args
+values_in_lane k below words [] = refl
+values_in_lane k below words (a ∷ args) =
+    λ i. sym (lane_get k below words a.0) i ∷ values_in_lane k below words args i
 
 -- where its fault is at some pin of the gate
 stuck_number : (site : Site) (g i : ℕ) → is_pin_of site g ≡ true → is_pin site g i ≡ is_pin_number site i
@@ -215,18 +217,19 @@ pin_get r g e n (a ∷ args) (suc i) d h =
     let same : n + 1 + i ≡ n + suc i = omega arith in
     pin_get r g e (n + 1) args i d (omega arith) ∙ ap (λ m. r.pin g m (e (get_or args i no_net).0)) same
 
-pub stuck_pins : (faults : List Fault) (k g : ℕ) (env : ℕ → Lanes) (args : List NetId) (old pins : List Lanes)
+pub stuck_pins : (faults : List Fault) (k g : ℕ) (words : List Lanes) (args : List NetId) (old pins : List Lanes)
     → k < 64 → length args ≤ 255 → length pins ≡ 256
-    → ((i : ℕ) → i < length args → word_at old i ≡ env (get_or args i no_net).0)
+    → ((i : ℕ) → i < length args → word_at old i ≡ word_at words (get_or args i no_net).0)
     → ((i n : ℕ) → i < 256 → n < 64 → lane (word_at pins i) n ≡ (rules_at faults n).pin g i (lane (word_at old i) n))
     → map (λ (w : Lanes). lane w k) (take (length args) pins)
-    ≡ pin_values (rules_at faults k) g (lane_env k env) 0 args
-stuck_pins faults k g env args old pins below few room read stuck =
+    ≡ pin_values (rules_at faults k) g (lane_env k words) 0 args
+stuck_pins faults k g words args old pins below few room read stuck =
     let all = map (λ (w : Lanes). lane w k) (take (length args) pins) in
-    let want = pin_values (rules_at faults k) g (lane_env k env) 0 args in
+    let env = lane_env k words in
+    let want = pin_values (rules_at faults k) g (lane_env k words) 0 args in
     let short : length (take (length args) pins) ≡ length args = length-take-le (length args) pins (omega arith) in
     let a : length all ≡ length args = length-map (take (length args) pins) (λ (w : Lanes). lane w k) ∙ short in
-    let b : length want ≡ length args = pins_length (rules_at faults k) g (lane_env k env) 0 args in
+    let b : length want ≡ length args = pins_length (rules_at faults k) g (lane_env k words) 0 args in
     ext_get_or Unk all want (a ∙ sym b)
     (λ i inside.
     let within : i < length args = omega (arith, a, inside) in
@@ -234,6 +237,7 @@ stuck_pins faults k g env args old pins below few room read stuck =
     get_or-map (λ (w : Lanes). lane w k) (take (length args) pins) i (every_lane Unk) Unk (omega (arith, short, within))
     ∙ (ap (λ (w : Lanes). lane w k) (get_or-take (length args) pins i (every_lane Unk) within)
     ∙ (stuck i k (omega arith) below
-    ∙ (ap (λ (w : Lanes). (rules_at faults k).pin g i (lane w k)) (read i within)
-    ∙ (ap (λ m. (rules_at faults k).pin g m (lane (env (get_or args i no_net).0) k)) (sym start)
-    ∙ sym (pin_get (rules_at faults k) g (lane_env k env) 0 args i Unk within))))))
+    ∙ (ap ((rules_at faults k).pin g i)
+    (ap (λ (w : Lanes). lane w k) (read i within) ∙ sym (lane_get k below words (get_or args i no_net).0))
+    ∙ (ap (λ m. (rules_at faults k).pin g m (env (get_or args i no_net).0)) (sym start)
+    ∙ sym (pin_get (rules_at faults k) g env 0 args i Unk within))))))

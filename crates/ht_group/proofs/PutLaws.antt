@@ -16,6 +16,7 @@ use Rattle.ht_group.specs.Overlays.{OverlayView}
 use Rattle.ht_group.specs.LatchWords.{HasDifferences}
 use Rattle.ht_group.specs.Schedules.{IsSchedule}
 use Rattle.ht_group.specs.declared.schedule.Schedule.{Schedule}
+use Rattle.ht_group.proofs.InLaneLaws.{lane_get}
 use Rattle.ht_group.proofs.PinLaws.{by_none, written_lane}
 use Rattle.ht_group.proofs.StuckLaws.{eqb_shift}
 
@@ -187,6 +188,10 @@ all_put c s k entries old before words pending i is end small count plain h =
           (omega arith))))));
       others = λ m below ne. same_lane m words old.words (h.count ∙ sym count) (λ x at. h.others x m below ne);
       more = h.more;
-      quiet = λ q inside idle. h.quiet (get_or s.order.items q 0)
-          (ap (λ (p : ℕ). get_or pending p false) (is.ranks.forth q inside) ∙ idle);
+      quiet = λ m q below inside idle.
+          let y = get_or s.order.items q 0 in
+          lane_get m below words y
+          ∙ (ap (λ (w : Lanes). lane w m) (h.quiet (get_or s.order.items q 0)
+          (ap (λ (p : ℕ). get_or pending p false) (is.ranks.forth q inside) ∙ idle))
+          ∙ sym (lane_get m below old.words y));
     }

@@ -9,8 +9,8 @@ use Rattle.std.proofs.lemmas.Option.{slice_get_past, slice_get_within}
 use Rattle.ht_tern.specs.declared.tern.Tern.{Tern}
 use Rattle.ht_tern.specs.Gate.{tern_of}
 use Rattle.ht_group.proofs.BitLaws.{bit_here, bit_there}
-use Rattle.ht_lanes.specs.Lanes.{Lanes, lane, each_lane, is_set, stuck_lanes}
-use Rattle.ht_lanes.proofs.OperationLaws.{lanes_same}
+use Rattle.ht_lanes.specs.Lanes.{Lanes, lane, is_set, stuck_lanes}
+use Rattle.ht_lanes.specs.Inverse.{lane_of_each}
 use Rattle.ht_net.specs.declared.fault.Site.{Site}
 use Rattle.ht_net.specs.declared.fault.Site.TheVariants.{Stem, DffPin, GatePin}
 use Rattle.ht_net.specs.declared.fault.Fault.{Fault}
@@ -60,14 +60,12 @@ forced_by c (Some f) s is_site stuck value v at is =
 pub slot_forces : (c : Netlist) (faults : List Fault) (ones : ℕ) (table : List ℕ) → IsStuckTable c faults ones table
     → (s : ℕ) → s < slot_count c → (is_site : Site → Bool)
     → ((site : Site) → HasSite c site → eqb s (slot_of c site) ≡ is_site site)
-    → (w : Lanes) → stuck_lanes (get_or table s 0) ones w
-    ≡ each_lane (λ k. forced (λ bit u. tern_of bit) (slice_get faults k) is_site (lane w k))
-slot_forces c faults ones table t s inside is_site is w =
-    lanes_same (λ k. cond (is_set (get_or table s 0) k) (tern_of (is_set ones k)) (lane w k))
-    (λ k. forced (λ bit u. tern_of bit) (slice_get faults k) is_site (lane w k))
-    (λ k below. forced_by c (slice_get faults k) s is_site (is_set (get_or table s 0) k) (is_set ones k) (lane w k)
-    (t.lanes_at s k inside below)
-    (λ f has. (t.ones_at k f below has, is f.site (t.within k f has))))
+    → (w : Lanes) (k : ℕ) → k < 64 → lane (stuck_lanes (get_or table s 0) ones w) k
+    ≡ forced (λ bit u. tern_of bit) (slice_get faults k) is_site (lane w k)
+slot_forces c faults ones table t s inside is_site is w k below =
+    lane_of_each (λ i. cond (is_set (get_or table s 0) i) (tern_of (is_set ones i)) (lane w i)) k below
+    ∙ forced_by c (slice_get faults k) s is_site (is_set (get_or table s 0) k) (is_set ones k) (lane w k)
+    (t.lanes_at s k inside below) (λ f has. (t.ones_at k f below has, is f.site (t.within k f has)))
 
 -- the lanes at a gate
 at_gate_is : (c : Netlist) (fault : Option Fault) (g : ℕ) → g < length c.gates

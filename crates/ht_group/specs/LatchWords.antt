@@ -1,10 +1,10 @@
 -- The latches of a lane that has the good ones but for differences.
 use Rattle.std.specs.Prelude.{◌≡◌, ◌≢◌, ◌<◌, ℕ, List, Bool, true, false, length, get_or, take, drop}
-use Rattle.ht_lanes.specs.Lanes.{Lanes, word_at}
+use Rattle.ht_lanes.specs.Lanes.{Lanes}
 use Rattle.ht_diff.specs.declared.diffs.Diff.{Diff}
 use Rattle.ht_diff.specs.Differences.{with_differences}
 use Rattle.ht_net.specs.Netlist.{Netlist, first_gate_net, net_count}
-use Rattle.ht_group.specs.LaneRules.{in_lane}
+use Rattle.ht_group.specs.LaneRules.{in_lane, lane_env}
 use Rattle.ht_group.specs.Overlays.{OverlayView}
 use Rattle.ht_group.specs.declared.schedule.Schedule.{Schedule}
 
@@ -19,5 +19,5 @@ pub record HasDifferences (c : Netlist) (s : Schedule) (k : ℕ) (diffs : List D
   pub latches : drop c.inputs (in_lane k words) ≡ with_differences (drop c.inputs old.good) diffs
   pub others : (n : ℕ) → n < 64 → n ≢ k → in_lane n words ≡ in_lane n old.words
   pub more : (r : ℕ) → get_or before r false ≡ true → get_or pending r false ≡ true
-  pub quiet : (r : ℕ) → r < net_count c → get_or pending r false ≡ false
-      → word_at words (get_or s.order.items r 0) ≡ word_at old.words (get_or s.order.items r 0)
+  pub quiet : (n r : ℕ) → n < 64 → r < net_count c → get_or pending r false ≡ false
+      → lane_env n words (get_or s.order.items r 0) ≡ lane_env n old.words (get_or s.order.items r 0)

@@ -7,7 +7,8 @@ ghost use Rattle.ht_net.specs.Netlist.{first_gate_net, net_count, no_net};
 ghost use Rattle.ht_net.specs.Frame.{gate_output, values_at};
 ghost use Rattle.ht_net.specs.Faults.{tern_rules};
 ghost use Rattle.ht_frame.specs.Values.{env_of};
-ghost use Rattle.ht_group.specs.LaneRules.{drive_from, lane_rules};
+ghost use Rattle.ht_group.specs.LaneRules.{lane_env, rules_at};
+ghost use Rattle.ht_group.specs.Pending.{AreGiven};
 ghost use Rattle.ht_group.specs.StuckTables.{AreGateLanes, AreStuck, is_pin_number};
 
 use crate::stuck_lines::StuckLines;
@@ -121,8 +122,7 @@ fn gate_output(
     requires words { length words.now ≡ net_count circuit.now }
     requires room { length pins.old ≡ PIN_ROOM }
     ensures { (k : ℕ) → k < 64 → lane result k
-        ≡ lane (gate_output circuit.now (lane_rules lines.now.faults.items) (word_at words.now) g)
-        k }
+        ≡ gate_output circuit.now (rules_at lines.now.faults.items k) (lane_env k words.now) g }
 {
     let args = circuit.gate_args(g);
     let kind = circuit.gate_kind(g);
@@ -151,9 +151,7 @@ pub fn evaluate(
     requires sources { length sources.now ≡ first_gate_net circuit.now }
     requires words { length words.now ≡ net_count circuit.now }
     requires room { length pins.old ≡ PIN_ROOM }
-    ensures { result ≡ (lane_rules lines.now.faults.items).stem net
-        (drive_from circuit.now (lane_rules lines.now.faults.items) sources.now (word_at words.now)
-        net) }
+    ensures { AreGiven circuit.now lines.now.faults.items sources.now words.now net (lane result) }
 {
     let first = circuit.inputs() + circuit.dffs();
     if net < first {

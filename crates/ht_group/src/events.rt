@@ -1,8 +1,9 @@
 //! One pass of events over the nets, in the order of the schedule.
-ghost use Rattle.std.specs.Prelude.{◌≡◌, ◌<◌, ◌≤◌, ℕ, true, false, length, get_or, set, All};
+ghost use Rattle.std.specs.Prelude.{◌≡◌, ◌≢◌, ◌<◌, ◌≤◌, ℕ, true, false, length, get_or, All};
 ghost use Rattle.std.specs.List.{Contains};
 ghost use Rattle.ht_net.specs.Netlist.{first_gate_net, net_count};
-ghost use Rattle.ht_group.specs.Pending.{QuietHaveValues, driven_word};
+ghost use Rattle.ht_group.specs.LaneRules.{lane_env};
+ghost use Rattle.ht_group.specs.Pending.{AreGiven, QuietHaveValues};
 ghost use Rattle.ht_group.specs.Schedules.{IsSchedule};
 ghost use Rattle.ht_group.specs.StuckTables.{AreStuck};
 
@@ -44,9 +45,10 @@ fn recompute(
     requires room { length pins.old ≡ PIN_ROOM }
     requires net { net < net_count circuit.now }
     ensures good { nets.new.good ≡ nets.old.good }
-    ensures words { nets.new.words ≡ set nets.old.words net
-        (driven_word circuit.now lines.now.faults.items sources.now nets.old.words net) }
-    ensures count { length nets.old.words ≡ net_count circuit.now }
+    ensures given { AreGiven circuit.now lines.now.faults.items sources.now nets.old.words net
+        (λ k. lane_env k nets.new.words net) }
+    ensures others { (k x : ℕ) → x ≢ net
+        → lane_env k nets.new.words x ≡ lane_env k nets.old.words x }
     ensures unchanged { result ≡ false → nets.new.words ≡ nets.old.words }
 {
     let word = evaluate(circuit, lines, sources, nets.words(), pins, net);

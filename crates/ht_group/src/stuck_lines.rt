@@ -1,8 +1,9 @@
 //! The lines that are stuck, each in the lanes of its faults.
-ghost use Rattle.std.specs.Prelude.{◌≡◌, ◌<◌, ◌-◌, ◌+◌, ◌++◌, ◌∷◌, [], length, get_or, set, take, IfOk, OnOk, OnErr};
+ghost use Rattle.std.specs.Prelude.{◌≡◌, ◌<◌, ◌-◌, ◌+◌, ◌++◌, ◌∷◌, [], ℕ, length, get_or, set, take, IfOk, OnOk, OnErr};
 ghost use Rattle.ht_net.specs.Netlist.{net_count};
 ghost use Rattle.ht_group.specs.GroupView.{HasSite, max_machines};
-ghost use Rattle.ht_group.specs.LaneRules.{lane_rules};
+ghost use Rattle.ht_lanes.specs.Lanes.{lane};
+ghost use Rattle.ht_group.specs.LaneRules.{rules_at};
 ghost use Rattle.ht_group.specs.BitSets.{with_bit};
 ghost use Rattle.ht_group.specs.StuckTables.{AreGateLanes, AreStuck, dff_slot, gate_slot, slot_count, slot_of};
 
@@ -126,7 +127,8 @@ impl StuckLines {
     pub fn stem(&self, circuit: &Circuit, net: u32, word: Word) -> Word
         requires stuck { AreStuck circuit.now self.now }
         requires net { net < net_count circuit.now }
-        ensures { result ≡ (lane_rules self.now.faults.items).stem net word }
+        ensures { (k : ℕ) → k < max_machines
+            → lane result k ≡ (rules_at self.now.faults.items k).stem net (lane word k) }
     {
         word.stick(self.table[net as usize], self.ones)
     }
@@ -135,7 +137,8 @@ impl StuckLines {
     pub fn data_pin(&self, circuit: &Circuit, dff: u32, word: Word) -> Word
         requires stuck { AreStuck circuit.now self.now }
         requires dff { dff < length circuit.now.dffs }
-        ensures { result ≡ (lane_rules self.now.faults.items).data_pin dff word }
+        ensures { (k : ℕ) → k < max_machines
+            → lane result k ≡ (rules_at self.now.faults.items k).data_pin dff (lane word k) }
     {
         word.stick(self.table[slot_of_dff(circuit, dff)], self.ones)
     }

@@ -25,7 +25,7 @@ use Rattle.ht_proofs.specs.Batches.{BatchView, AreLanesBelow, AreLanesGraded, Is
 graded_beside : (g : GroupView) (ms : List FaultyMachine) (b : Bool) (m : FaultyMachine) (number : ℕ) (grade : Grade)
     → IsGradedFault g m number grade → IsGradedFault (record g { machines = ms; settled = b }) m number grade
 graded_beside g ms b m number grade h = record {
-  seen = record { found = h.seen.found; none = h.seen.none };
+  seen = h.seen;
   state = h.state;
   known = h.known;
 }

@@ -4,4 +4,4 @@ pub mod SeenLaws
 pub mod DiffLaws
 pub mod FrameLoopLaws
 pub mod BatchLaws
-pub mod GradesLaws
+pub mod PackedLaws

@@ -11,10 +11,8 @@ use Rattle.ht_proofs.specs.LaneGrades.{first_place}
 -- nothing is seen before the first output
 pub seen_none : (frame : GroupView) (m : FaultyMachine) (number : ℕ) (place : Option Place) → place ≡ None
     → IsFirstSeen frame m number 0 place
-seen_none frame m number place none = record {
-  found = λ p is. let bad : Some p ≡ None = sym is ∙ none in cc;
-  none = λ is o less. absurd (omega arith);
-}
+seen_none frame m number place none =
+    subst (IsFirstSeen frame m number 0) (sym none) (λ o less. absurd (omega arith))
 
 -- whether a fault is seen, as a test
 abbrev pub is_seen_at : GroupView → FaultyMachine → ℕ → Bool
@@ -35,25 +33,11 @@ unseen_more frame m o not_here below i less seen = elim (cases_eq i o) [
 pub seen_more : (frame : GroupView) (m : FaultyMachine) (number o : ℕ) (seen : Bool) (place : Option Place)
     → seen ≡ is_seen_at frame m o → IsFirstSeen frame m number o place
     → IsFirstSeen frame m number (o + 1) (first_place seen (record { vector = number; output = o }) place)
-seen_more frame m number o seen (Some p) is first = record {
-  found = λ q same.
-      let found = first.found q same in
-      (found.0, omega (arith, found.1), found.2, found.3);
-  none = λ same. cc;
-}
-seen_more frame m number o true None is first = record {
-  found = λ q same.
-      let here : q ≡ record { vector = number; output = o } = cc in
-      let at : q.output ≡ o = ap (λ (p : Place). p.output) here in (
-        ap (λ (p : Place). p.vector) here,
-        omega (arith, at),
-        subst (IsSeen frame m) (sym at)
-            ((opposite_tested (good_output frame o) (faulty_output frame m o)).0 (sym is)),
-        λ i less. first.none refl i (omega (arith, less, at)),
-      );
-  none = λ same. cc;
-}
-seen_more frame m number o false None is first = record {
-  found = λ q same. cc;
-  none = λ same. unseen_more frame m o (sym is) (first.none refl);
-}
+seen_more frame m number o seen (Some p) is first = (first.0, omega (arith, first.1), first.2, first.3)
+seen_more frame m number o true None is first = (
+  refl,
+  omega arith,
+  (opposite_tested (good_output frame o) (faulty_output frame m o)).0 (sym is),
+  first,
+)
+seen_more frame m number o false None is first = unseen_more frame m o (sym is) first

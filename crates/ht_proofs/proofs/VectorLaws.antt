@@ -16,7 +16,7 @@ use Rattle.ht_net.proofs.FrameLaws.{le_or_lt}
 use Rattle.ht_net.proofs.ValueLaws.{seen_length}
 use Rattle.ht_net.proofs.ApartLaws.{detected_apart}
 use Rattle.ht_group.specs.GroupView.{GroupView, FaultyMachine, good_output, faulty_output}
-use Rattle.ht_proofs.specs.Grades.{Grades, GraderStandsFor, latches_from_unknown, verdict_at}
+use Rattle.ht_proofs.specs.PackedView.{PackedView, GraderStandsFor, latches_from_unknown, verdict_at}
 use Rattle.ht_proofs.specs.Applied.{IsApplied, IsFirstSeen, IsSeen, grader_frame, machine_at}
 
 -- ---- runs
@@ -204,13 +204,12 @@ first_new : (frame : GroupView) (m : FaultyMachine) (list : List (List Bool)) (v
     → IsFirstSeen frame m number (length frame.circuit.outputs) verdict
     → IsFirstDetection frame.circuit m.fault (list ++ v ∷ []) verdict
 first_new frame m list v number (Some p) last count none is =
-    let found = is.found p refl in
-    let at : p.vector ≡ length list = found.0 ∙ count in (
-      detects_last frame m list v p.vector p.output last at found.2,
+    let at : p.vector ≡ length list = is.0 ∙ count in (
+      detects_last frame m list v p.vector p.output last at is.2,
       λ t o before d. elim before [
         | inl earlier ↦
             none t o (detects_shorter frame.circuit m.fault list v t o (omega (arith, earlier, at)) d)
-        | inr same ↦ found.3 o same.1 (seen_last frame m list v t o last (same.0 ∙ at) d)
+        | inr same ↦ is.3 o same.1 (seen_last frame m list v t o last (same.0 ∙ at) d)
       ],
     )
 first_new frame m list v number None last count none is = λ t o d. elim (le_or_lt (length list) t) [
@@ -218,7 +217,7 @@ first_new frame m list v number None last count none is = λ t o d. elim (le_or_
       let inside : t < length (list ++ v ∷ []) = found_inside frame.circuit m.fault (list ++ v ∷ []) t o d in
       let at : t ≡ length list = omega (arith, from, inside, length-append list (v ∷ [])) in
       let seen = seen_last frame m list v t o last at d in
-      is.none refl o (seen_inside frame m o seen) seen
+      is o (seen_inside frame m o seen) seen
   | inr before ↦ none t o (detects_shorter frame.circuit m.fault list v t o before d)
 ]
 
@@ -227,14 +226,14 @@ option_cases None = inl refl
 option_cases (Some p) = inr (p, refl)
 
 -- a fault that isn't detected wasn't before
-still_undetected : (g : Grades) (v : List Bool) (h : Grades) (k : ℕ) → IsApplied g v h → verdict_at h k ≡ None
+still_undetected : (g : PackedView) (v : List Bool) (h : PackedView) (k : ℕ) → IsApplied g v h → verdict_at h k ≡ None
     → verdict_at g k ≡ None
 still_undetected g v h k a e = elim (option_cases (verdict_at g k)) [
   | inl was ↦ was
   | inr p ↦ let bad : None ≡ Some p.0 = sym e ∙ a.kept k p.0 p.1 in cc
 ]
 
-last_frame : (g : Grades) (list : List (List Bool)) (v : List Bool) (k : ℕ) (f : Fault) → GraderStandsFor g list
+last_frame : (g : PackedView) (list : List (List Bool)) (v : List Bool) (k : ℕ) (f : Fault) → GraderStandsFor g list
     → slice_get g.faults k ≡ Some f → verdict_at g k ≡ None → IsLast (grader_frame g v) (machine_at g k f) list v
 last_frame g list v k f s has none = record {
   vector = refl;
@@ -242,7 +241,7 @@ last_frame g list v k f s has none = record {
   faulty = s.state k f has none;
 }
 
-pub applied_stands : (g h : Grades) (list : List (List Bool)) (v : List Bool) → GraderStandsFor g list
+pub applied_stands : (g h : PackedView) (list : List (List Bool)) (v : List Bool) → GraderStandsFor g list
     → IsApplied g v h → GraderStandsFor h (list ++ v ∷ [])
 applied_stands g h list v s a = record {
   counted = omega (arith, a.counted, s.counted, length-append list (v ∷ []));
@@ -271,7 +270,7 @@ applied_stands g h list v s a = record {
 }
 
 -- Where a grader stands for a list, its verdicts are within it, and apart.
-pub verdict_within : (g : Grades) (list : List (List Bool)) (k : ℕ) (f : Fault) (p : Place) → GraderStandsFor g list
+pub verdict_within : (g : PackedView) (list : List (List Bool)) (k : ℕ) (f : Fault) (p : Place) → GraderStandsFor g list
     → slice_get g.faults k ≡ Some f → verdict_at g k ≡ Some p
     → (p.vector < length list) × (p.output < length g.circuit.outputs) × Apart g.circuit f list p.vector p.output
 verdict_within g list k f p s has is =

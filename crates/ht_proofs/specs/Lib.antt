@@ -1,5 +1,5 @@
-pub mod Grades
+pub mod PackedView
 pub mod Applied
 pub mod LaneGrades
 pub mod Batches
-pub mod GradesOf
+pub mod PackedOf

@@ -5,10 +5,10 @@ ghost use Rattle.std.specs.Option.{ForSome};
 ghost use Rattle.ht_tern.specs.declared.tern.Tern.TheVariants.{Unk};
 ghost use Rattle.ht_net.specs.Detection.{IsPlace, unknown_state};
 ghost use Rattle.ht_faults.specs.Sites.{faults_of};
-ghost use Rattle.ht_proofs.specs.Grades.{GraderStandsFor, chosen_faults, grades_at_start, state_at, verdict_at};
+ghost use Rattle.ht_proofs.specs.PackedView.{GraderStandsFor, chosen_faults, grades_at_start, state_at, verdict_at};
 ghost use Rattle.ht_proofs.specs.Applied.{IsApplied, groups_of, max_steps};
 ghost use Rattle.ht_proofs.specs.LaneGrades.{no_grade};
-ghost use Rattle.ht_proofs.specs.GradesOf.{verdicts_of};
+ghost use Rattle.ht_proofs.specs.PackedOf.{verdicts_of};
 
 use crate::batch::Batch;
 use crate::grade::Grade;
@@ -39,14 +39,14 @@ pub struct Grader<'c> {
 }
 
 impl<'c> Model for Grader<'c> {
-    ghost use Rattle.ht_proofs.specs.Grades.{Grades};
-    ghost use Rattle.ht_proofs.specs.GradesOf.{AreGraded, grades_of};
+    ghost use Rattle.ht_proofs.specs.PackedView.{PackedView};
+    ghost use Rattle.ht_proofs.specs.PackedOf.{ArePackedFields, packed_of};
 
-    ghost Value = { Grades };
+    ghost Value = { PackedView };
 
-    ghost view = { grades_of };
+    ghost view = { packed_of };
 
-    ghost invariant = { AreGraded };
+    ghost invariant = { ArePackedFields };
 }
 
 // The faults of a list that have these numbers.
@@ -54,7 +54,7 @@ fn choose(alloc: Global, faults: &FaultList, which: &[u32]) -> Result<Vec<Fault>
     requires { All (λ i. i < length faults.now) which.now }
     ensures { IfOk result (λ chosen. chosen.items ≡ chosen_faults faults.now which.now) }
 {
-    let mut chosen = Vec::new(alloc);
+    let mut chosen = Vec::with_capacity(alloc, which.len())?;
     for i in which {
         chosen.push(faults.get(*i))?;
     }
@@ -65,7 +65,7 @@ fn choose(alloc: Global, faults: &FaultList, which: &[u32]) -> Result<Vec<Fault>
 fn verdicts_at_start(alloc: Global, count: usize) -> Result<Vec<Option<Place>>, AllocError>
     ensures { IfOk result (λ verdicts. verdicts.items ≡ replicate count None) }
 {
-    let mut verdicts = Vec::new(alloc);
+    let mut verdicts = Vec::with_capacity(alloc, count)?;
     verdicts.resize(count, None)?;
     Ok(verdicts)
 }
@@ -74,7 +74,7 @@ fn verdicts_at_start(alloc: Global, count: usize) -> Result<Vec<Option<Place>>, 
 fn grades_at_start(alloc: Global, count: usize) -> Result<Vec<Grade>, AllocError>
     ensures { IfOk result (λ grades. grades.items ≡ replicate count no_grade) }
 {
-    let mut grades = Vec::new(alloc);
+    let mut grades = Vec::with_capacity(alloc, count)?;
     for _ in 0..count {
         grades.push(Grade {
             verdict: None,

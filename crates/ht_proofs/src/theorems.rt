@@ -4,12 +4,12 @@ ghost use Rattle.std.specs.List.{slice_get};
 ghost use Rattle.ht_net.specs.declared.fault.Fault.{Fault};
 ghost use Rattle.ht_net.specs.declared.place.Place.{Place};
 ghost use Rattle.ht_net.specs.Detection.{Apart};
-ghost use Rattle.ht_proofs.specs.Grades.{GraderStandsFor, Grades, verdict_at};
+ghost use Rattle.ht_proofs.specs.PackedView.{GraderStandsFor, PackedView, verdict_at};
 ghost use Rattle.ht_proofs.specs.Applied.{IsApplied};
 
 /// A grader that stands for a list stands, once one more vector is applied, for the list with that vector.
 pub fn applied_vector_is_added()
-    ensures { (g h : Grades) (list : List (List Bool)) (vector : List Bool)
+    ensures { (g h : PackedView) (list : List (List Bool)) (vector : List Bool)
         → GraderStandsFor g list → IsApplied g vector h
         → GraderStandsFor h (list ++ vector ∷ []) }
 {}
@@ -17,7 +17,7 @@ pub fn applied_vector_is_added()
 /// The verdict of a grader that stands for a list is at a vector of the list and an output of the circuit. There the
 /// good and the faulty machine show opposite bits in two-valued runs from any two states.
 pub fn verdicts_are_within()
-    ensures { (g : Grades) (list : List (List Bool)) (k : ℕ) (fault : Fault) (p : Place)
+    ensures { (g : PackedView) (list : List (List Bool)) (k : ℕ) (fault : Fault) (p : Place)
         → GraderStandsFor g list → slice_get g.faults k ≡ Some fault → verdict_at g k ≡ Some p
         → (p.vector < length list) × (p.output < length g.circuit.outputs)
         × Apart g.circuit fault list p.vector p.output }

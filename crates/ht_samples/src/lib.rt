@@ -50,6 +50,33 @@ pub const CHANGE: &[u8] = b"INPUT(a)\nOUTPUT(z)\np = DFF(a)\nz = XOR(p, a)\n";
 /// The first input is an output too, so its stem and its pin at the gate are two lines.
 pub const AND_GATE: &[u8] = b"INPUT(a)\nINPUT(b)\nOUTPUT(a)\nOUTPUT(z)\nz = AND(a, b)\n";
 
+/// Forty buffers, each from its input to its output. The inputs' faults are the representatives.
+pub const BUFFERS: &[u8] =
+    b"INPUT(a1)\nINPUT(a2)\nINPUT(a3)\nINPUT(a4)\nINPUT(a5)\nINPUT(a6)\nINPUT(a7)\nINPUT(a8)\n\
+    INPUT(a9)\nINPUT(a10)\nINPUT(a11)\nINPUT(a12)\nINPUT(a13)\nINPUT(a14)\nINPUT(a15)\n\
+    INPUT(a16)\nINPUT(a17)\nINPUT(a18)\nINPUT(a19)\nINPUT(a20)\nINPUT(a21)\nINPUT(a22)\n\
+    INPUT(a23)\nINPUT(a24)\nINPUT(a25)\nINPUT(a26)\nINPUT(a27)\nINPUT(a28)\nINPUT(a29)\n\
+    INPUT(a30)\nINPUT(a31)\nINPUT(a32)\nINPUT(a33)\nINPUT(a34)\nINPUT(a35)\nINPUT(a36)\n\
+    INPUT(a37)\nINPUT(a38)\nINPUT(a39)\nINPUT(a40)\nOUTPUT(z1)\nOUTPUT(z2)\nOUTPUT(z3)\n\
+    OUTPUT(z4)\nOUTPUT(z5)\nOUTPUT(z6)\nOUTPUT(z7)\nOUTPUT(z8)\nOUTPUT(z9)\nOUTPUT(z10)\n\
+    OUTPUT(z11)\nOUTPUT(z12)\nOUTPUT(z13)\nOUTPUT(z14)\nOUTPUT(z15)\nOUTPUT(z16)\nOUTPUT(z17)\n\
+    OUTPUT(z18)\nOUTPUT(z19)\nOUTPUT(z20)\nOUTPUT(z21)\nOUTPUT(z22)\nOUTPUT(z23)\nOUTPUT(z24)\n\
+    OUTPUT(z25)\nOUTPUT(z26)\nOUTPUT(z27)\nOUTPUT(z28)\nOUTPUT(z29)\nOUTPUT(z30)\nOUTPUT(z31)\n\
+    OUTPUT(z32)\nOUTPUT(z33)\nOUTPUT(z34)\nOUTPUT(z35)\nOUTPUT(z36)\nOUTPUT(z37)\nOUTPUT(z38)\n\
+    OUTPUT(z39)\nOUTPUT(z40)\nz1 = BUFF(a1)\nz2 = BUFF(a2)\nz3 = BUFF(a3)\nz4 = BUFF(a4)\n\
+    z5 = BUFF(a5)\nz6 = BUFF(a6)\nz7 = BUFF(a7)\nz8 = BUFF(a8)\nz9 = BUFF(a9)\n\
+    z10 = BUFF(a10)\nz11 = BUFF(a11)\nz12 = BUFF(a12)\nz13 = BUFF(a13)\nz14 = BUFF(a14)\n\
+    z15 = BUFF(a15)\nz16 = BUFF(a16)\nz17 = BUFF(a17)\nz18 = BUFF(a18)\nz19 = BUFF(a19)\n\
+    z20 = BUFF(a20)\nz21 = BUFF(a21)\nz22 = BUFF(a22)\nz23 = BUFF(a23)\nz24 = BUFF(a24)\n\
+    z25 = BUFF(a25)\nz26 = BUFF(a26)\nz27 = BUFF(a27)\nz28 = BUFF(a28)\nz29 = BUFF(a29)\n\
+    z30 = BUFF(a30)\nz31 = BUFF(a31)\nz32 = BUFF(a32)\nz33 = BUFF(a33)\nz34 = BUFF(a34)\n\
+    z35 = BUFF(a35)\nz36 = BUFF(a36)\nz37 = BUFF(a37)\nz38 = BUFF(a38)\nz39 = BUFF(a39)\n\
+    z40 = BUFF(a40)\n";
+
+/// The input is an output, and drives an inverter and a flip-flop that are outputs too, so its stem and
+/// the two pins are three lines.
+pub const BRANCHES: &[u8] = b"INPUT(a)\nOUTPUT(a)\nOUTPUT(z)\nOUTPUT(q)\nq = DFF(a)\nz = NOT(a)\n";
+
 /// s27 as it is known, with its header.
 pub const S27: &[u8] = b"# s27
 # 4 inputs

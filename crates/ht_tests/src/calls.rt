@@ -4,6 +4,7 @@ mod bench;
 mod net;
 mod pairs;
 mod ports;
+mod proofs;
 mod run;
 mod serial;
 mod statement;

@@ -59,7 +59,13 @@ const ROWS: &[Row] = &[
     (1, &[SPLIT, B, D], At::Node(&[ZERO], 0)),
 ];
 
+// Whether a walk makes room for tokens and takes each of them.
 fn takes(walk: &mut Walk, tokens: &[Token]) -> Result<bool, AllocError> {
+    let room = tokens.len() as u64;
+    walk.reserve(room)?;
+    if walk.spare() < room {
+        return Ok(false);
+    }
     for token in tokens {
         if !walk.feed(*token)? {
             return Ok(false);

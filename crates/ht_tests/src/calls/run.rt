@@ -2,6 +2,7 @@
 
 pub mod cases;
 mod checked;
+mod damaged;
 mod demo;
 mod failures;
 mod faults;

@@ -2,7 +2,7 @@ use Rattle.std.proofs.Common.{OnOk, subst}
 use Rattle.ht_statement.specs.Statement.{gate_line}
 use Rattle.ht_statement.specs.StatementOf.{texts_of}
 use Rattle.ht_bench.specs.Drafts.{Accepts}
-use Rattle.ht_bench.proofs.AcceptedLaws.{nothing_accepted}
+use Rattle.ht_bench.proofs.AddLaws.{nothing_accepted}
 use Rattle.ht_bench.proofs.add_line.add.Goals as goal
 
 pub returns-in-Nothing-clause-accepts : goal.returns-in-Nothing-clause-accepts

@@ -6,6 +6,5 @@ loop-line-init c = reading_none c.args.text.now c.args.builder.now c.requires.ne
 
 pub loop-line-preserved : goal.loop-line-preserved
 loop-line-preserved c =
-    reading_more c.args.text.now c.loop-line.rest.now c.in-Some.line.now c.in-Some.more.now c.loop-line.number
-    c.loop-line.builder c.loop-line.invariant c.in-Some.ensures.first c.in-Some.ensures.shorter
-    c.add_line.new.builder c.in_default-add_line.ensures.adds
+    reading_more c.in-Some.line.now c.in-Some.more.now c.loop-line.invariant c.in-Some.ensures.first
+    c.in-Some.ensures.shorter c.in_default-add_line.ensures.adds

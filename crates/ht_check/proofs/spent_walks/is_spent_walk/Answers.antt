@@ -11,7 +11,7 @@ returns c =
     let finding = c.in_ok-finding.finding in
     let unit : c.token_weight-unit.result ≡ token_weight w = c.token_weight-unit.ensures.unit in
     let few = c.requires in
-    let found = found_spent w b c.args.tokens.now finding (omega (arith, few)) c.in_ok-finding.ensures in (
+    let found = found_spent w b c.args.tokens.now finding (omega (arith, few)) c.in_ok-finding.ensures.finding in (
       λ yes. found.0 (subst (λ (u : ℕ). IsSpentFinding b u finding) unit (c.is_spent.ensures.0 yes)),
       λ spent. c.is_spent.ensures.1 (subst (λ (u : ℕ). IsSpentFinding b u finding) (sym unit) (found.1 spent)),
     )

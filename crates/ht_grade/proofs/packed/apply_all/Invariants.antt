@@ -1,5 +1,5 @@
 use Rattle.std.proofs.Common.{◌≡◌, ◌++◌, List, Bool, take}
-use Rattle.ht_proofs.specs.Grades.{GraderStandsFor}
+use Rattle.ht_proofs.specs.PackedView.{GraderStandsFor}
 use Rattle.ht_grade.proofs.packed.apply_all.Given as goal
 
 abbrev pub invariant-loop-t : goal.invariant-loop-t

@@ -3,7 +3,7 @@ use Rattle.std.proofs.lemmas.List.{length-set}
 use Rattle.ht_net.specs.Detection.{IsFirstDetection}
 use Rattle.ht_collapse.specs.Classes.{fault_at, own_representatives}
 use Rattle.ht_collapse.proofs.OwnLaws.{own_below, own_within}
-use Rattle.ht_proofs.specs.Grades.{verdict_at}
+use Rattle.ht_proofs.specs.PackedView.{verdict_at}
 use Rattle.ht_grade.proofs.DetectionLaws.{one_more, all_first, own_verdict, first_within}
 use Rattle.ht_grade.proofs.packed.places_of.Goals as goal
 

@@ -1,5 +1,5 @@
 use Rattle.std.proofs.Common.{◌≡◌, List, Bool, length}
-use Rattle.ht_proofs.specs.Grades.{GraderStandsFor}
+use Rattle.ht_proofs.specs.PackedView.{GraderStandsFor}
 use Rattle.ht_grade.proofs.DetectionLaws.{AreFirstSoFar}
 use Rattle.ht_grade.proofs.packed.places_of.Given as goal
 

@@ -1,5 +1,5 @@
 use Rattle.std.proofs.Common.{◌∙◌}
-use Rattle.ht_proofs.proofs.GradesLaws.{verdicts_copied}
+use Rattle.ht_proofs.proofs.PackedLaws.{verdicts_copied}
 use Rattle.ht_proofs.proofs.grader.copy_verdicts.Goals as goal
 
 pub returns : goal.returns

@@ -16,8 +16,8 @@ struct Files<'a> {
     proofs: &'a [u8],
 }
 
-// The status of a run, and its one line, which is on Out where the files are valid, and else on Err.
-type Answer<'a> = (u8, &'a [u8]);
+/// The status of a run, and its one line, which is on Out where the files are valid, and else on Err.
+pub type Answer<'a> = (u8, &'a [u8]);
 
 // The files, and what must come out.
 type Example<'a> = (Files<'a>, Answer<'a>);
@@ -74,7 +74,7 @@ pub const ZERO_PROOFS: &[u8] = b"proofs 1\n\
     entry 3 untestable\nwalk\nhi 1\ndead\ndead\n\
     end\n";
 
-// Reports and proofs of `ALWAYS_ZERO` with the tests `1` and `0`, and what is answered.
+// Reports and proofs of `ALWAYS_ZERO`, and what is answered.
 const ZERO_ROWS: &[(Option<&[u8]>, &[u8], Answer<'static>)] = &[
     (Some(ZERO_REPORT), ZERO_PROOFS, (0, b"valid\n")),
     (None, ZERO_PROOFS, (4, b"read fault\n")),
@@ -116,7 +116,8 @@ const ZERO_ROWS: &[(Option<&[u8]>, &[u8], Answer<'static>)] = &[
     ),
 ];
 
-fn zero_answers(
+/// Whether `check` answers so on `ALWAYS_ZERO` with the tests `1` and `0`.
+pub fn zero_answers(
     alloc: Global,
     report: Option<&[u8]>,
     proofs: &[u8],

@@ -4,6 +4,20 @@ use super::cases::{NORM, finished, given, holds, refused};
 use std::alloc::{AllocError, Global};
 use std::test::Fail;
 
+/// Adds so many lines that count up from 1, with what stands before and after the count.
+pub fn push_counting(
+    alloc: Global,
+    text: &mut Vec<u8>,
+    before: &str,
+    count: u32,
+    after: &str,
+) -> Result<(), AllocError> {
+    for k in 1..=count {
+        text.extend_from_slice(format!(in alloc; "{before}{k}{after}")?.as_bytes())?;
+    }
+    Ok(())
+}
+
 // A netlist: some lines, and then so many lines that count up, with what stands before and after the count.
 type Counting<'a> = (&'a str, &'a str, u32, &'a str);
 
@@ -11,9 +25,7 @@ fn counting(alloc: Global, lines: Counting<'_>) -> Result<Vec<u8>, AllocError> {
     let (first, before, count, after) = lines;
     let mut netlist = Vec::new(alloc);
     netlist.extend_from_slice(first.as_bytes())?;
-    for k in 1..=count {
-        netlist.extend_from_slice(format!(in alloc; "{before}{k}{after}")?.as_bytes())?;
-    }
+    push_counting(alloc, &mut netlist, before, count, after)?;
     Ok(netlist)
 }
 

@@ -1,7 +1,8 @@
 //! `sim` finishes.
 
-use super::cases::{SIM, finished, given, holds};
-use ht_samples::{AND_GATE, S27, SHIFT_REGISTER, SHIFT_REGISTER_REPORT};
+use super::cases::{SIM, Setup, finished, given, holds, status_on};
+use ht_ports::MemoryDesk;
+use ht_samples::{AND_GATE, BUFFERS, S27, SHIFT_REGISTER, SHIFT_REGISTER_REPORT};
 use std::alloc::{AllocError, Global};
 use std::test::Fail;
 
@@ -127,5 +128,27 @@ fn good_inputs_give_the_report(rt: HostRuntime) -> Result<(), Fail> {
         let (netlist, tests, report, total) = *row;
         assert!(rt; holds(alloc, &given(SIM, netlist, tests), &finished(report, total))?);
     }
+    Ok(())
+}
+
+const BUFFER_TESTS: &[u8] =
+    b"1111111111111111111111111111111111111111\n0000000000000000000000000000000000000000\n";
+
+// Whether a run finishes with this on Out, over a desk without files.
+fn says(
+    alloc: Global,
+    desk: &mut MemoryDesk,
+    start: &Setup<'_>,
+    out: &[u8],
+) -> Result<bool, AllocError> {
+    Ok(status_on(alloc, desk, start)? == 0 && desk.out() == out)
+}
+
+// More classes than a group has faults.
+#[test]
+fn all_faults_of_the_buffers_are_detected(rt: HostRuntime) -> Result<(), Fail> {
+    let mut desk = MemoryDesk::new(rt.alloc());
+    let start = given(SIM, BUFFERS, BUFFER_TESTS);
+    assert!(rt; says(rt.alloc(), &mut desk, &start, b"total 80 detected 80\n")?);
     Ok(())
 }

@@ -1,12 +1,11 @@
 use Rattle.std.specs.List.{slice_get}
 use Rattle.std.proofs.Common.{◌≡◌, ◌<◌, ◌∙◌, List, true, length, drop, ap, arith}
-use Rattle.std.proofs.lemmas.List.{get_or_read}
 use Rattle.ht_tern.specs.declared.tern.Tern.{Tern}
-use Rattle.ht_tern.specs.declared.tern.Tern.TheVariants.{Unk}
-use Rattle.ht_lanes.specs.Lanes.{Lanes, lane, every_lane, word_at}
 use Rattle.ht_net.specs.Netlist.{net_count}
 use Rattle.ht_group.specs.GroupView.{GroupView}
 use Rattle.ht_group.specs.NetValues.{good_value, faulty_value}
+use Rattle.ht_group.specs.LaneRules.{lane_env}
+use Rattle.ht_group.proofs.InLaneLaws.{lane_read}
 use Rattle.ht_group.proofs.ViewLaws.{machine_count}
 use Rattle.ht_group.proofs.GroupLaws.{machine_value, spare_value}
 use Rattle.ht_group.proofs.group.Group.word.Goals as goal
@@ -21,12 +20,11 @@ returns-clause-machines c k m has =
     let same = ap (λ (l : List Tern). length l) c.self.invariant.nets in
     let inside : c.index.result < length c.words.result.now =
     omega (arith, known, same, c.words.ensures.count, c.self.invariant.frame.room.value_count, c.index.ensures) in
-    let read = get_or_read c.words.result.now c.index.result c.index-words-index.result inside c.index-words-index.is
-    (every_lane Unk) in
-    ap (λ (w : Lanes). lane w k) (read ∙ (λ i. word_at (c.words.ensures.words i) (c.index.ensures i)))
+    lane_read c.words.result.now c.index.result c.index-words-index.result inside c.index-words-index.is k
+    ∙ ((λ i. lane_env k (c.words.ensures.words i) (c.index.ensures i))
     ∙ (machine_value a c.self.invariant settled x known k m
     (ap (λ (v : GroupView). slice_get v.machines k) c.self.view_is ∙ has)
-    ∙ ap (λ (v : GroupView). faulty_value v m x) c.self.view_is)
+    ∙ ap (λ (v : GroupView). faulty_value v m x) c.self.view_is))
 
 pub returns-clause-others : goal.returns-clause-others
 returns-clause-others c k past below =
@@ -39,11 +37,10 @@ returns-clause-others c k past below =
     let same = ap (λ (l : List Tern). length l) c.self.invariant.nets in
     let inside : c.index.result < length c.words.result.now =
     omega (arith, known, same, c.words.ensures.count, c.self.invariant.frame.room.value_count, c.index.ensures) in
-    let read = get_or_read c.words.result.now c.index.result c.index-words-index.result inside c.index-words-index.is
-    (every_lane Unk) in
-    ap (λ (w : Lanes). lane w k) (read ∙ (λ i. word_at (c.words.ensures.words i) (c.index.ensures i)))
+    lane_read c.words.result.now c.index.result c.index-words-index.result inside c.index-words-index.is k
+    ∙ ((λ i. lane_env k (c.words.ensures.words i) (c.index.ensures i))
     ∙ (spare_value a c.self.invariant settled x known k (omega (arith, past, count)) below
-    ∙ ap (λ (v : GroupView). good_value v x) c.self.view_is)
+    ∙ ap (λ (v : GroupView). good_value v x) c.self.view_is))
 
 pub returns-clause-few : goal.returns-clause-few
 returns-clause-few c =

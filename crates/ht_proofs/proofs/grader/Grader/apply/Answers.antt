@@ -1,4 +1,4 @@
-use Rattle.std.proofs.Common.{◌≡◌, ◌+◌, ◌∙◌, [], true, List, Option, length, rules, sym, ap, subst, arith}
+use Rattle.std.proofs.Common.{◌≡◌, ◌≤◌, ◌+◌, ◌*◌, ◌∙◌, [], true, List, Option, length, rules, refl, sym, ap, subst, arith}
 use Rattle.std.specs.Vec.{with_items}
 use Rattle.std.proofs.lemmas.List.{with_items_is}
 use Rattle.ht_tern.specs.declared.tern.Tern.{Tern}
@@ -7,12 +7,12 @@ use Rattle.ht_net.specs.declared.place.Place.{Place}
 use Rattle.ht_net.specs.Detection.{terns_of}
 use Rattle.ht_group.specs.GroupView.{AreLatches, GroupView}
 use Rattle.ht_proofs.specs.declared.grade.Grade.{Grade}
-use Rattle.ht_proofs.specs.Grades.{Grades}
-use Rattle.ht_proofs.specs.Applied.{IsApplied}
+use Rattle.ht_proofs.specs.PackedView.{PackedView}
+use Rattle.ht_proofs.specs.Applied.{IsApplied, groups_of}
 use Rattle.ht_proofs.specs.Batches.{IsGradedFrame}
 use Rattle.ht_proofs.specs.LaneGrades.{grade_at}
-use Rattle.ht_proofs.specs.GradesOf.{grades_of, verdicts_of}
-use Rattle.ht_proofs.proofs.GradesLaws.{HasRun, grades_by, is_applied, run_fields}
+use Rattle.ht_proofs.specs.PackedOf.{packed_of, verdicts_of}
+use Rattle.ht_proofs.proofs.PackedLaws.{HasRun, grades_by, is_applied, run_fields, steps_within}
 use Rattle.ht_proofs.proofs.VectorLaws.{applied_stands}
 use Rattle.ht_proofs.proofs.grader.Grader.apply.Goals as goal
 
@@ -20,7 +20,7 @@ use Rattle.ht_proofs.proofs.grader.Grader.apply.Goals as goal
 abbrev graded : goal.After-self-6-1 → List Grade
 graded c = (with_items c.self.inside.grades c.grade_faults.new.grades).items
 
-abbrev after : goal.After-self-6-1 → Grades
+abbrev after : goal.After-self-6-1 → PackedView
 after c =
     grades_by c.grade_faults.new.self.group.circuit c.self.inside.faults.items (c.self.inside.count + 1)
     (with_items c.self.inside.latches c.read_latches.new.latches).items
@@ -30,7 +30,7 @@ graded_is : (c : goal.After-self-6-1) → graded c ≡ c.grade_faults.new.grades
 graded_is c = with_items_is c.self.inside.grades c.grade_faults.new.grades (search rules)
 
 has_run : (c : goal.After-self-6-1)
-    → HasRun (grades_of c.self.inside) c.self.inside.grades.items c.args.vector.now c.start.new.self.group (after c)
+    → HasRun (packed_of c.self.inside) c.self.inside.grades.items c.args.vector.now c.start.new.self.group (after c)
     (graded c)
 has_run c =
     let a = c.self.inside in
@@ -64,18 +64,30 @@ has_run c =
 
 pub returns-clause-applied : goal.returns-clause-applied
 returns-clause-applied c =
-    subst (λ (g : Grades). IsApplied g c.args.vector.now (after c)) c.self.view_is
-    (is_applied (grades_of c.self.inside) c.self.inside.grades.items c.args.vector.now c.start.new.self.group (after c)
+    subst (λ (g : PackedView). IsApplied g c.args.vector.now (after c)) c.self.view_is
+    (is_applied (packed_of c.self.inside) c.self.inside.grades.items c.args.vector.now c.start.new.self.group (after c)
     (graded c) (has_run c))
 
 pub returns-clause-stands : goal.returns-clause-stands
 returns-clause-stands c = λ list stands.
     applied_stands c.args.self.now (after c) list c.args.vector.now stands (returns-clause-applied c)
 
+pub returns-in_err-grade_faults-clause-steps : goal.returns-in_err-grade_faults-clause-steps
+returns-in_err-grade_faults-clause-steps c =
+    steps_within _ _ _ _ c.start.new.self.group _ _ _ _ c.self.view_is (c.self.invariant.same (search rules))
+    c.self.invariant.grade_count c.deref_mut.ensures.value c.start.ensures.group refl c.start.ensures.steps
+    c.grade_faults.ensures.steps
+
+pub returns-clause-steps : goal.returns-clause-steps
+returns-clause-steps c =
+    steps_within _ _ _ _ c.start.new.self.group _ _ _ _ c.self.view_is (c.self.invariant.same (search rules))
+    c.self.invariant.grade_count c.deref_mut.ensures.value c.start.ensures.group refl c.start.ensures.steps
+    c.grade_faults.ensures.steps
+
 pub invariant_of-self-2 : goal.invariant_of-self-2
 invariant_of-self-2 c =
-    let few : c.self.inside.count ≡ c.args.self.now.count = ap (λ (g : Grades). g.count) c.self.view_is in
-    run_fields (grades_of c.self.inside) c.self.inside.grades.items c.args.vector.now c.start.new.self.group (after c)
+    let few : c.self.inside.count ≡ c.args.self.now.count = ap (λ (g : PackedView). g.count) c.self.view_is in
+    run_fields (packed_of c.self.inside) c.self.inside.grades.items c.args.vector.now c.start.new.self.group (after c)
     (graded c) (has_run c) c.self.invariant (omega (arith, few, c.requires.few))
     (λ k. subst (λ (l : List Grade). AreLatches c.start.new.self.group.circuit (grade_at l k).diffs)
     (sym (graded_is c)) (c.in_ok-grade_faults.ensures.known k))

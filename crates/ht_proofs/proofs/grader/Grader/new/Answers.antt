@@ -1,7 +1,7 @@
 use Rattle.std.proofs.Common.{◌≡◌, ◌∙◌, [], None, length, replicate, rules, sym, ap, subst}
-use Rattle.ht_proofs.specs.Grades.{Grades, GraderStandsFor, chosen_faults, grades_at_start}
+use Rattle.ht_proofs.specs.PackedView.{PackedView, GraderStandsFor, chosen_faults, grades_at_start}
 use Rattle.ht_proofs.specs.LaneGrades.{no_grade}
-use Rattle.ht_proofs.proofs.GradesLaws.{start_fields, start_stands, start_view}
+use Rattle.ht_proofs.proofs.PackedLaws.{start_fields, start_stands, start_view}
 use Rattle.ht_proofs.proofs.grader.Grader.new.Goals as goal
 
 pub invariant_of-result : goal.invariant_of-result
@@ -26,5 +26,5 @@ returns-clause-start c =
 
 pub returns-clause-stands : goal.returns-clause-stands
 returns-clause-stands c =
-    subst (λ (g : Grades). GraderStandsFor g []) (sym (returns-clause-start c))
+    subst (λ (g : PackedView). GraderStandsFor g []) (sym (returns-clause-start c))
     (start_stands c.args.circuit.now (chosen_faults c.args.faults.now c.args.which.now))

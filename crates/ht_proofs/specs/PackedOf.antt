@@ -7,7 +7,7 @@ use Rattle.ht_net.specs.declared.place.Place.{Place}
 use Rattle.ht_net.specs.Netlist.{Netlist}
 use Rattle.ht_diff.specs.Differences.{with_differences}
 use Rattle.ht_group.specs.GroupView.{HasSite, AreLatches}
-use Rattle.ht_proofs.specs.Grades.{Grades}
+use Rattle.ht_proofs.specs.PackedView.{PackedView}
 use Rattle.ht_proofs.specs.LaneGrades.{grade_at}
 use Rattle.ht_proofs.specs.declared.grade.Grade.{Grade}
 use Rattle.ht_proofs.specs.declared.grader.Grader.TheInside.{Inside}
@@ -20,8 +20,8 @@ faulty_states latches grades = map (λ (g : Grade). with_differences latches g.d
 abbrev pub verdicts_of : List Grade → List (Option Place)
 verdicts_of grades = map (λ (g : Grade). g.verdict) grades
 
-abbrev pub grades_of : Inside → Grades
-grades_of a = record {
+abbrev pub packed_of : Inside → PackedView
+packed_of a = record {
   circuit = a.batch.group.circuit;
   faults = a.faults.items;
   count = a.count;
@@ -33,7 +33,7 @@ grades_of a = record {
 
 -- There is a latch for each flip-flop, and a verdict for each fault, at a place of the vectors so far; and while the
 -- grader can go on, what is kept of each fault is its verdict and differences at flip-flops of the circuit.
-pub record IsGrader (c : Netlist) (faults : List Fault) (count : ℕ) (latches : List Tern)
+pub record IsPackedGrader (c : Netlist) (faults : List Fault) (count : ℕ) (latches : List Tern)
     (verdicts : List (Option Place)) (grades : List Grade) (live : Bool) : Type 0 where
   pub latch_count : length latches ≡ length c.dffs
   pub verdict_count : length verdicts ≡ length faults
@@ -45,6 +45,6 @@ pub record IsGrader (c : Netlist) (faults : List Fault) (count : ℕ) (latches :
   pub same : live ≡ true → verdicts ≡ verdicts_of grades
   pub known : live ≡ true → (k : ℕ) → AreLatches c (grade_at grades k).diffs
 
-abbrev pub AreGraded : Inside → Type 0
-AreGraded a =
-    IsGrader a.batch.group.circuit a.faults.items a.count a.latches.items a.verdicts.items a.grades.items a.live
+abbrev pub ArePackedFields : Inside → Type 0
+ArePackedFields a =
+    IsPackedGrader a.batch.group.circuit a.faults.items a.count a.latches.items a.verdicts.items a.grades.items a.live

@@ -1,7 +1,8 @@
 -- A grader's fields, before the first vector and after one more.
-use Rattle.std.proofs.Common.{◌≡◌, ◌<◌, ◌≤◌, ◌+◌, ◌^◌, ◌∙◌, ◌⊎◌, ℕ, zero, suc, List, [], ◌∷◌, Bool, true, All, Option, Some, None, length, get_or, replicate, inl, inr, refl, sym, ap, subst, arith}
+use Rattle.std.proofs.Common.{◌≡◌, ◌<◌, ◌≤◌, ◌+◌, ◌*◌, ◌^◌, ◌∙◌, ◌⊎◌, ℕ, zero, suc, List, [], ◌∷◌, Bool, true, All, Option, Some, None, length, get_or, map, replicate, cond, inl, inr, refl, sym, ap, subst, arith}
 use Rattle.std.specs.Prelude.{unwrap_or}
-use Rattle.std.specs.List.{slice_get}
+use Rattle.std.specs.Option.{is_none}
+use Rattle.std.specs.List.{slice_get, count_by, fold, range_with_len}
 use Rattle.std.proofs.lemmas.List.{ext_get_or, get_or-map, get_or_past, get_or-replicate, get_or_read, length-map, length-replicate}
 use Rattle.std.proofs.lemmas.List.FromFn.{get_or-map-range_with_len, length-map-range_with_len}
 use Rattle.std.proofs.lemmas.List.Elements.{All-get_or}
@@ -22,11 +23,11 @@ use Rattle.ht_faults.proofs.MemberLaws.{fault_site}
 use Rattle.ht_diff.specs.Differences.{held, value_but, with_differences}
 use Rattle.ht_group.specs.GroupView.{GroupView, FaultyMachine, AreLatches, HasSite}
 use Rattle.ht_proofs.specs.declared.grade.Grade.{Grade}
-use Rattle.ht_proofs.specs.Grades.{Grades, GraderStandsFor, chosen_faults, grades_at_start, state_at, verdict_at}
-use Rattle.ht_proofs.specs.Applied.{IsApplied, IsFirstSeen, faulty_state, good_state, grader_frame, machine_at}
+use Rattle.ht_proofs.specs.PackedView.{PackedView, GraderStandsFor, chosen_faults, grades_at_start, state_at, verdict_at}
+use Rattle.ht_proofs.specs.Applied.{IsApplied, IsFirstSeen, faulty_state, full_groups, good_state, grader_frame, groups_of, live_count, machine_at}
 use Rattle.ht_proofs.specs.LaneGrades.{no_grade, grade_at}
-use Rattle.ht_proofs.specs.Batches.{IsGradedFrame, machine_from}
-use Rattle.ht_proofs.specs.GradesOf.{IsGrader, faulty_states, verdicts_of}
+use Rattle.ht_proofs.specs.Batches.{IsGradedFrame, machine_from, undetected_count}
+use Rattle.ht_proofs.specs.PackedOf.{IsPackedGrader, faulty_states, verdicts_of}
 use Rattle.ht_proofs.proofs.DiffLaws.{state_length}
 use Rattle.ht_proofs.proofs.VectorLaws.{found_inside}
 
@@ -67,6 +68,47 @@ latch_is latches grades k j grade good value known inside at good_at is =
     ∙ (sym (get_or-map-range_with_len (value_but latches (grade_at grades k).diffs) 0 (length latches) j j Unk inside
     (omega arith))
     ∙ ap (λ (l : List Tern). get_or l j Unk) (sym (state_of latches grades k known)))))
+
+-- ---- what isn't detected
+
+counted_mapped : {X Y : Type 0} → (p : Y → Bool) (f : X → Y) (xs : List X) (start : ℕ)
+    → fold (λ n y. n + cond (p y) 1 0) start (map f xs) ≡ fold (λ n x. n + cond (p (f x)) 1 0) start xs
+counted_mapped p f [] start = refl
+counted_mapped p f (x ∷ xs) start = counted_mapped p f xs (start + cond (p (f x)) 1 0)
+
+-- as many faults aren't detected as grades have no verdict
+live_grades : (g : PackedView) (grades : List Grade) → g.verdicts ≡ verdicts_of grades
+    → length grades ≡ length g.faults → undetected_count grades ≡ live_count g
+live_grades g grades is each =
+    let numbers = range_with_len 0 (length g.faults) in
+    let read : map (grade_at grades) numbers ≡ grades = ext_get_or no_grade (map (grade_at grades) numbers) grades
+    (length-map-range_with_len (grade_at grades) 0 (length g.faults) ∙ sym each)
+    (λ k inside. get_or-map-range_with_len (grade_at grades) 0 (length g.faults) k k no_grade (omega (
+      arith,
+      inside,
+      length-map-range_with_len (grade_at grades) 0 (length g.faults),
+    )) (omega arith)) in
+    ap undetected_count (sym read)
+    ∙ (counted_mapped (λ (x : Grade). is_none x.verdict) (grade_at grades) numbers 0
+    ∙ ap (λ (f : ℕ → Option Place). count_by (λ k. is_none (f k)) numbers)
+    (λ i k. (sym (verdict_of grades k) ∙ ap (λ (l : List (Option Place)). get_or l k None) (sym is)) i))
+
+-- the steps of the good machine and of all groups
+pub steps_within : (g h : PackedView) (grades given : List Grade) (frame start : GroupView) (before mid after : ℕ)
+    → g ≡ h → g.verdicts ≡ verdicts_of grades → length grades ≡ length g.faults → given ≡ grades → frame ≡ start
+    → start.circuit ≡ g.circuit → mid ≤ before + length start.circuit.gates
+    → after ≤ mid + length frame.circuit.gates * full_groups (undetected_count given)
+    → after ≤ before + length h.circuit.gates * (1 + groups_of h)
+steps_within g h grades given frame start before mid after view is each same begun circuit good more =
+    let live = ap undetected_count same ∙ (live_grades g grades is each ∙ ap live_count view) in
+    let here = subst (λ n. after ≤ mid + length frame.circuit.gates * full_groups n) live more in
+    let there = circuit ∙ ap (λ (x : PackedView). x.circuit) view in
+    subst (λ (c : Netlist). after ≤ before + length c.gates * (1 + groups_of h)) there
+    (omega (
+      arith,
+      good,
+      subst (λ (f : GroupView). after ≤ mid + length f.circuit.gates * groups_of h) begun here,
+    ))
 
 -- ---- before the first vector
 
@@ -138,9 +180,9 @@ pub start_fields : (c d : Netlist) (faults : List Fault) (which : List ℕ) (cho
     (verdicts : List (Option Place)) (grades : List Grade) → faults ≡ faults_of c
     → All (λ i. i < length faults) which → d ≡ c → chosen ≡ chosen_faults faults which → latches ≡ unknown_state c
     → verdicts ≡ replicate (length chosen) None → grades ≡ replicate (length chosen) no_grade
-    → IsGrader d chosen 0 latches verdicts grades true
+    → IsPackedGrader d chosen 0 latches verdicts grades true
 start_fields c d faults which chosen latches verdicts grades is known same picked unknown none empty =
-    subst (λ (x : Netlist). IsGrader x chosen 0 latches verdicts grades true) (sym same) (record {
+    subst (λ (x : Netlist). IsPackedGrader x chosen 0 latches verdicts grades true) (sym same) (record {
       latch_count = ap (λ (l : List Tern). length l) unknown ∙ length-replicate (length c.dffs) Unk;
       verdict_count = ap (λ (l : List (Option Place)). length l) none ∙ length-replicate (length chosen) None;
       grade_count = ap (λ (l : List Grade). length l) empty ∙ length-replicate (length chosen) no_grade;
@@ -187,7 +229,7 @@ start_view c d faults latches verdicts grades same unknown none empty =
 -- ---- after one more vector
 
 -- a grader by its parts
-abbrev pub grades_by : Netlist → List Fault → ℕ → List Tern → List (Option Place) → List Grade → Bool → Grades
+abbrev pub grades_by : Netlist → List Fault → ℕ → List Tern → List (Option Place) → List Grade → Bool → PackedView
 grades_by c faults count latches verdicts grades live = record {
   circuit = c;
   faults = faults;
@@ -199,7 +241,7 @@ grades_by c faults count latches verdicts grades live = record {
 }
 
 -- A frame of all faults has run: `old` and `new` are what was kept of the faults before it and after it.
-pub record HasRun (g : Grades) (old : List Grade) (vector : List Bool) (frame : GroupView) (h : Grades)
+pub record HasRun (g : PackedView) (old : List Grade) (vector : List Bool) (frame : GroupView) (h : PackedView)
     (new : List Grade) : Type 0 where
   pub frame_is : frame ≡ grader_frame g vector
   pub old_is : g ≡ grades_by g.circuit g.faults g.count g.latches (verdicts_of old) old g.live
@@ -208,13 +250,13 @@ pub record HasRun (g : Grades) (old : List Grade) (vector : List Bool) (frame : 
   pub long : length new ≡ length old
   pub all : IsGradedFrame frame g.faults g.count old new
 
-pub is_applied : (g : Grades) (old : List Grade) (vector : List Bool) (frame : GroupView) (h : Grades)
+pub is_applied : (g : PackedView) (old : List Grade) (vector : List Bool) (frame : GroupView) (h : PackedView)
     (new : List Grade) → HasRun g old vector frame h new → IsApplied g vector h
 is_applied g old vector frame h new run = record {
-  circuit_same = ap (λ (x : Grades). x.circuit) run.new_is;
-  faults_same = ap (λ (x : Grades). x.faults) run.new_is;
-  counted = ap (λ (x : Grades). x.count) run.new_is;
-  good = ap (λ (x : Grades). x.latches) run.new_is ∙ ap good_state run.frame_is;
+  circuit_same = ap (λ (x : PackedView). x.circuit) run.new_is;
+  faults_same = ap (λ (x : PackedView). x.faults) run.new_is;
+  counted = ap (λ (x : PackedView). x.count) run.new_is;
+  good = ap (λ (x : PackedView). x.latches) run.new_is ∙ ap good_state run.frame_is;
   kept = λ k p at. new_verdict k
       ∙ (ap (λ (x : Grade). x.verdict) (run.all.kept k p (sym (old_verdict k) ∙ at)) ∙ (sym (old_verdict k) ∙ at));
   seen = λ k fault has none.
@@ -229,19 +271,19 @@ is_applied g old vector frame h new run = record {
   state = λ k fault has none.
       let not_yet : (grade_at new k).verdict ≡ None = sym (new_verdict k) ∙ none in
       let graded = run.all.graded k fault has (still k not_yet) in
-      ap (λ (x : Grades). state_at x k) run.new_is
+      ap (λ (x : PackedView). state_at x k) run.new_is
       ∙ (state_of (good_state frame) new k (omega (arith, slice_get_within g.faults k fault has, run.each, run.long))
       ∙ (graded.state not_yet
       ∙ (ap (λ (f : GroupView). faulty_state f (machine_from f fault (grade_at old k))) run.frame_is
       ∙ ap (faulty_state (grader_frame g vector)) (machine k fault has))));
-  goes_on = ap (λ (x : Grades). x.live) run.new_is;
+  goes_on = ap (λ (x : PackedView). x.live) run.new_is;
 }
   where
     old_verdict : (k : ℕ) → verdict_at g k ≡ (grade_at old k).verdict
-    old_verdict k = ap (λ (x : Grades). verdict_at x k) run.old_is ∙ verdict_of old k
+    old_verdict k = ap (λ (x : PackedView). verdict_at x k) run.old_is ∙ verdict_of old k
 
     new_verdict : (k : ℕ) → verdict_at h k ≡ (grade_at new k).verdict
-    new_verdict k = ap (λ (x : Grades). verdict_at x k) run.new_is ∙ verdict_of new k
+    new_verdict k = ap (λ (x : PackedView). verdict_at x k) run.new_is ∙ verdict_of new k
 
     still : (k : ℕ) → (grade_at new k).verdict ≡ None → (grade_at old k).verdict ≡ None
     still k none = elim (option_cases (grade_at old k).verdict) [
@@ -255,19 +297,19 @@ is_applied g old vector frame h new run = record {
         → machine_from (grader_frame g vector) fault (grade_at old k) ≡ machine_at g k fault
     machine k fault has =
         ap (λ (l : List Tern). record { fault = fault; latches = l })
-        (sym (ap (λ (x : Grades). state_at x k) run.old_is
+        (sym (ap (λ (x : PackedView). state_at x k) run.old_is
         ∙ state_of g.latches old k (omega (arith, slice_get_within g.faults k fault has, run.each))))
 
 -- the fields after it
-pub run_fields : (g : Grades) (old : List Grade) (vector : List Bool) (frame : GroupView) (h : Grades)
+pub run_fields : (g : PackedView) (old : List Grade) (vector : List Bool) (frame : GroupView) (h : PackedView)
     (new : List Grade) → HasRun g old vector frame h new
-    → IsGrader g.circuit g.faults g.count g.latches g.verdicts old g.live → g.count < 2 ^ 62
+    → IsPackedGrader g.circuit g.faults g.count g.latches g.verdicts old g.live → g.count < 2 ^ 62
     → ((k : ℕ) → AreLatches frame.circuit (grade_at new k).diffs)
-    → IsGrader h.circuit h.faults h.count h.latches h.verdicts new h.live
+    → IsPackedGrader h.circuit h.faults h.count h.latches h.verdicts new h.live
 run_fields g old vector frame h new run was few known =
     let circuit : frame.circuit ≡ g.circuit = ap (λ (f : GroupView). f.circuit) run.frame_is in
-    subst (λ (x : Grades). IsGrader x.circuit x.faults x.count x.latches x.verdicts new x.live) (sym run.new_is)
-    (record {
+    subst (λ (x : PackedView). IsPackedGrader x.circuit x.faults x.count x.latches x.verdicts new x.live)
+    (sym run.new_is) (record {
       latch_count = state_length frame.circuit (tern_rules None) frame.vector frame.latches
           ∙ ap (λ (c : Netlist). length c.dffs) circuit;
       verdict_count = length-map new (λ (x : Grade). x.verdict) ∙ (run.long ∙ run.each);
@@ -289,7 +331,8 @@ run_fields g old vector frame h new run was few known =
           let fault = get_or g.faults k no_fault in
           let has : slice_get g.faults k ≡ Some fault =
           slice_get-get_or g.faults k no_fault (omega (arith, inside, run.long, run.each)) in
-          let seen = (run.all.graded k fault has not_yet).seen.found p at in
+          let seen = subst (IsFirstSeen frame (machine_from frame fault (grade_at old k)) g.count
+          (length frame.circuit.outputs)) at (run.all.graded k fault has not_yet).seen in
           let outputs = ap (λ (f : GroupView). length f.circuit.outputs) run.frame_is in
           (omega (arith, seen.0), omega (arith, seen.1, outputs))
     ]
@@ -301,7 +344,7 @@ run_fields g old vector frame h new run was few known =
       | inr q ↦
           let kept = ap (λ (x : Grade). x.verdict) (run.all.kept k q.0 q.1) in
           let same : Some q.0 ≡ Some p = sym q.1 ∙ (sym kept ∙ at) in
-          let before = ap (λ (x : Grades). verdict_at x k) run.old_is ∙ verdict_of old k in
+          let before = ap (λ (x : PackedView). verdict_at x k) run.old_is ∙ verdict_of old k in
           let here = was.places k p (before ∙ (q.1 ∙ same)) in
           (omega (arith, here.0), here.1)
     ]

@@ -15,7 +15,7 @@ abbrev pub latches_from_unknown : Netlist → Option Fault → List (List Bool) 
 latches_from_unknown c fault list = run_state c (tern_rules fault) (unknown_state c) (map terns_of list)
 
 -- What a grader keeps of the given faults.
-pub record Grades : Type 0 where
+pub record PackedView : Type 0 where
   pub circuit : Netlist
   pub faults : List Fault
   -- how many vectors were applied
@@ -30,10 +30,10 @@ pub record Grades : Type 0 where
   pub live : Bool
 
 -- the first detection of fault k, and the latches of its machine
-abbrev pub verdict_at : Grades → ℕ → Option Place
+abbrev pub verdict_at : PackedView → ℕ → Option Place
 verdict_at g k = get_or g.verdicts k None
 
-abbrev pub state_at : Grades → ℕ → List Tern
+abbrev pub state_at : PackedView → ℕ → List Tern
 state_at g k = get_or g.states k []
 
 -- the faults of a list that have these numbers
@@ -41,7 +41,7 @@ abbrev pub chosen_faults : List Fault → List ℕ → List Fault
 chosen_faults faults numbers = map (λ i. get_or faults i no_fault) numbers
 
 -- A grader before the first vector: every latch is unknown, and no fault is detected.
-abbrev pub grades_at_start : Netlist → List Fault → Grades
+abbrev pub grades_at_start : Netlist → List Fault → PackedView
 grades_at_start c faults = record {
   circuit = c;
   faults = faults;
@@ -54,7 +54,7 @@ grades_at_start c faults = record {
 
 -- The grader stands for a list of vectors: it keeps the first detection of each fault over the list, and after the list
 -- the latches of the good machine and of each fault's machine that is not detected.
-pub record GraderStandsFor (g : Grades) (list : List (List Bool)) : Type 0 where
+pub record GraderStandsFor (g : PackedView) (list : List (List Bool)) : Type 0 where
   pub counted : g.count ≡ length list
   pub good : g.latches ≡ latches_from_unknown g.circuit None list
   pub first : (k : ℕ) (fault : Fault) → slice_get g.faults k ≡ Some fault

@@ -1,0 +1,94 @@
+-- Names in a list: their places, and lists to which names are added.
+use Rattle.std.proofs.Common.{◌≡◌, ℕ, ◌<◌, List, [], length, get_or, sym, ◌∙◌, ap, arith, refl, ◌≤◌, ◌-◌, ◌∷◌, ◌++◌, true, false, subst, append-nil, append_assoc}
+use Rattle.std.specs.List.{position_or_len, All, Contains}
+use Rattle.std.specs.Str.{bytes_eq}
+use Rattle.std.proofs.lemmas.Bool.{false_from_ne_true, both_ways, cond_both, cond-false}
+use Rattle.std.proofs.lemmas.List.Sums.{position_or_len_is}
+use Rattle.std.proofs.lemmas.Slice.Eq.{bytes_eq-Decides}
+use Rattle.ht_net.specs.Lists.{AllDiffer}
+use Rattle.ht_net.specs.Named.{Name}
+use Rattle.std.specs.Bool.{Decides}
+use Rattle.std.proofs.lemmas.List.{get_or_append_left, get_or-append_right, get_or_default, length-append}
+use Rattle.std.proofs.lemmas.List.Folds.{Any-from_list_any, list_any-from_Any}
+use Rattle.std.proofs.lemmas.List.Elements.{All-push, All-head, All-tail}
+use Rattle.ht_net.specs.Names.{IsNewName}
+use Rattle.ht_bench.specs.Different.{has_name, with_name, with_names}
+
+abbrev pub place_in : List Name → Name → ℕ
+place_in names name = position_or_len (λ other. bytes_eq other name) names
+
+pub place_at : (names : List Name) (k : ℕ) → AllDiffer names → k < length names → place_in names (get_or names k [])
+    ≡ k
+place_at names k differ lt =
+    position_or_len_is (λ other. bytes_eq other (get_or names k [])) names k [] (omega (arith, lt))
+    (λ j less. false_from_ne_true (bytes_eq (get_or names j []) (get_or names k []))
+    (λ same. differ j k [] less lt ((bytes_eq-Decides (get_or names j []) (get_or names k [])).0 same)))
+    (λ less. (bytes_eq-Decides (get_or names k []) (get_or names k [])).1 refl)
+
+-- two places of one name are one
+pub one_place : (names : List Name) (a b : ℕ) → AllDiffer names → a < length names → b < length names
+    → get_or names a [] ≡ get_or names b [] → a ≡ b
+one_place names a b differ in_a in_b same =
+    sym (place_at names a differ in_a) ∙ ap (place_in names) same ∙ place_at names b differ in_b
+
+pub has_name-Decides : (names : List Name) (name : Name) → Decides (has_name names name) (Contains names name)
+has_name-Decides names name = (
+  λ yes. let any = Any-from_list_any (λ other. bytes_eq other name) names yes in
+      subst (Contains names) ((bytes_eq-Decides any.1 name).0 any.4) (any.0, any.2, any.3),
+  λ c. list_any-from_Any (λ other. bytes_eq other name) names
+      (c.0, name, c.1, c.2, (bytes_eq-Decides name name).1 refl),
+)
+
+pub has_no_name : (names : List Name) (name : Name) → ¬ Contains names name → has_name names name ≡ false
+has_no_name names name none = false_from_ne_true (has_name names name)
+    (λ yes. none ((has_name-Decides names name).0 yes))
+
+pub new_name : (names : List Name) (name : Name) → has_name names name ≡ false → IsNewName names name
+new_name names name lacks k lt e = both_ways (has_name names name) lacks
+    ((has_name-Decides names name).1 (k, lt, get_or_default names k name [] lt ∙ e))
+
+pub known_name : (names : List Name) (name : Name) → has_name names name ≡ true → ¬ IsNewName names name
+known_name names name has new =
+    let c = (has_name-Decides names name).0 has in
+    new c.0 c.1 (get_or_default names c.0 [] name c.1 ∙ c.2)
+
+-- ---- names that are added
+
+pub with_names-grow : (names others : List Name) → (rest : List Name) × (with_names names others ≡ names ++ rest)
+with_names-grow names [] = ([], sym (append-nil names))
+with_names-grow names (name ∷ others) =
+    cond_both (has_name names name) names (names ++ name ∷ [])
+    (λ l. (rest : List Name) × (with_names l others ≡ names ++ rest)) (λ _. with_names-grow names others)
+    (λ _. let on = with_names-grow (names ++ name ∷ []) others in
+    (name ∷ on.0, on.1 ∙ append_assoc names (name ∷ []) on.0))
+
+pub with_names-long : (names others : List Name) → length names ≤ length (with_names names others)
+with_names-long names others =
+    let on = with_names-grow names others in
+    omega (arith, ap length on.1, length-append names on.0)
+
+pub All-with_names : (P : Name → Type 0) (names others : List Name) → All P names → All P others
+    → All P (with_names names others)
+All-with_names P names [] all more = all
+All-with_names P names (name ∷ others) all more =
+    All-with_names P (with_name names name) others
+    (cond_both (has_name names name) names (names ++ name ∷ []) (All P) (λ _. all)
+    (λ _. All-push P names name all (All-head P name others more)))
+    (All-tail P name others more)
+
+-- names that differ from those before and from one another are all added
+pub with_names-differ : (names others : List Name) → AllDiffer (names ++ others)
+    → with_names names others ≡ names ++ others
+with_names-differ names [] differ = sym (append-nil names)
+with_names-differ names (name ∷ others) differ =
+    let new : has_name names name ≡ false = has_no_name names name (λ c.
+    let none : length names - length names ≡ 0 = omega arith in
+    let last : get_or (names ++ name ∷ others) (length names) name ≡ name =
+    get_or-append_right names (name ∷ others) (length names) (length names) name refl (omega arith)
+    ∙ ap (λ k. get_or (name ∷ others) k name) none in
+    differ c.0 (length names) name c.1 (omega (arith, length-append names (name ∷ others)))
+    (get_or_append_left names (name ∷ others) name c.0 c.1 ∙ c.2 ∙ sym last)) in
+    ap (λ l. with_names l others) (cond-false (has_name names name) names (names ++ name ∷ []) new)
+    ∙ with_names-differ (names ++ name ∷ []) others
+    (subst AllDiffer (sym (append_assoc names (name ∷ []) others)) differ)
+    ∙ append_assoc names (name ∷ []) others
