@@ -1,0 +1,179 @@
+//! Fault simulation, test generation and the checking of its files in plain Rust, to be timed beside the program
+//! `ht_cli` on the same files.
+//!
+//! The commands do the work of those of `ht_cli` by the same methods, and write the same files: faulty machines are
+//! simulated 64 to a word and by events, windows are changed in place by events and by a trail. A netlist is read in
+//! normal text. It and the tests of `sim` have to be ones that `ht_cli` accepts: they aren't judged here.
+mod circuit;
+mod faults;
+mod grading;
+mod guide;
+mod judge;
+mod parse;
+mod random;
+mod search;
+mod sets;
+mod texts;
+mod windows;
+mod words;
+mod work;
+
+use circuit::{Circuit, Order};
+use faults::FaultList;
+use grading::{Grader, Place};
+use random::Words;
+use std::error::Error;
+use std::fs::{self, File};
+use std::io::{BufWriter, Write};
+use std::{env, process};
+use texts::Said;
+use windows::{Fill, Plan};
+use work::{Entry, Work, Worker};
+
+const USAGE: &str = "usage: sim NETLIST TESTS REPORT, gen NETLIST TESTS REPORT PROOFS BUDGET RANDOM SEED, \
+                     check NETLIST TESTS REPORT PROOFS";
+
+/// The circuit of a netlist. `PLAIN_ORDER` says in which order its gates have their places: `lines`, `level` or `kind`.
+fn read_circuit(name: &str) -> Result<Circuit, Box<dyn Error>> {
+    let order = match env::var("PLAIN_ORDER").as_deref() {
+        Ok("lines") => Order::Lines,
+        Ok("level") => Order::Level,
+        _ => Order::Kind,
+    };
+    Circuit::read(&fs::read_to_string(name)?, order)
+}
+
+/// How windows get their sets: by events, but where `PLAIN_FILL` says `whole` or `anew`.
+fn plan(circuit: &Circuit) -> Plan<'_> {
+    let fill = match env::var("PLAIN_FILL").as_deref() {
+        Ok("whole") => Fill::Whole,
+        Ok("anew") => Fill::Anew,
+        _ => Fill::Events,
+    };
+    Plan::new(circuit, fill)
+}
+
+/// A grader of the representatives.
+fn grader<'c>(circuit: &'c Circuit, list: &FaultList) -> Grader<'c> {
+    Grader::new(circuit, list.own().into_iter().map(|i| list.faults[i as usize]).collect())
+}
+
+fn said_of(verdict: Option<Place>, otherwise: Said) -> Said {
+    verdict.map_or(otherwise, Said::Detected)
+}
+
+fn sim(netlist: &str, tests: &str, report: &str) -> Result<(), Box<dyn Error>> {
+    let circuit = read_circuit(netlist)?;
+    let vectors = judge::read_tests(&circuit, &fs::read(tests)?)?;
+    let list = FaultList::of(&circuit);
+    let mut grader = grader(&circuit, &list);
+    for bits in &vectors {
+        grader.apply(bits);
+    }
+    let said: Vec<Said> = grader.verdicts.iter().map(|verdict| said_of(*verdict, Said::Undetected)).collect();
+    texts::write_report(&circuit, &list, &said, None, &mut BufWriter::new(File::create(report)?))?;
+    eprintln!("gate evaluations {}", grader.group.evaluations);
+    Ok(())
+}
+
+/// The tests of a run that are written, and what they say.
+struct Tests<'c> {
+    grader: Grader<'c>,
+    text: BufWriter<File>,
+}
+
+impl Tests<'_> {
+    fn add(&mut self, vector: &[bool]) -> Result<(), Box<dyn Error>> {
+        writeln!(self.text, "{}", texts::bits(vector))?;
+        self.grader.apply(vector);
+        Ok(())
+    }
+}
+
+fn generate(names: [&str; 4], budget: usize, random: usize, seed: u64) -> Result<(), Box<dyn Error>> {
+    let circuit = read_circuit(names[0])?;
+    let list = FaultList::of(&circuit);
+    let plan = plan(&circuit);
+    let mut tests = Tests { grader: grader(&circuit, &list), text: BufWriter::new(File::create(names[1])?) };
+    let report = File::create(names[2])?;
+    let mut proofs = BufWriter::new(File::create(names[3])?);
+    writeln!(proofs, "{}", texts::HEAD)?;
+    let mut words = Words::from_seed(seed);
+    for _ in 0..random {
+        tests.add(&words.vector(circuit.inputs))?;
+    }
+    let mut worker = Worker::new(&plan, budget);
+    let own = list.own();
+    let mut otherwise = vec![Said::Undetected; own.len()];
+    for (k, i) in own.iter().enumerate() {
+        if tests.grader.verdicts[k].is_some() {
+            continue;
+        }
+        match worker.work_on(list.faults[*i as usize]) {
+            Work::List(vectors) => vectors.iter().try_for_each(|vector| tests.add(vector))?,
+            Work::Entry(entry) => {
+                texts::write_entry(i + 1, &entry, &mut proofs)?;
+                otherwise[k] = if let Entry::Untestable { .. } = entry { Said::Untestable } else { Said::Aborted };
+            }
+        }
+    }
+    writeln!(proofs, "{}", texts::END)?;
+    proofs.flush()?;
+    tests.text.flush()?;
+    let said = tests.grader.verdicts.iter().zip(otherwise).map(|(verdict, otherwise)| said_of(*verdict, otherwise));
+    let said: Vec<Said> = said.collect();
+    Ok(texts::write_report(&circuit, &list, &said, Some(budget), &mut BufWriter::new(report))?)
+}
+
+/// The first trouble of some files, if there is one.
+fn check(names: [&str; 4]) -> Result<Result<(), String>, Box<dyn Error>> {
+    let circuit = read_circuit(names[0])?;
+    let list = FaultList::of(&circuit);
+    let vectors = match judge::read_tests(&circuit, &fs::read(names[1])?) {
+        Ok(vectors) => vectors,
+        Err(trouble) => return Ok(Err(trouble)),
+    };
+    let mut grader = grader(&circuit, &list);
+    for bits in &vectors {
+        grader.apply(bits);
+    }
+    let (budget, said) = match judge::read_report(&circuit, &list, &grader.verdicts, &fs::read(names[2])?) {
+        Ok(read) => read,
+        Err(trouble) => return Ok(Err(trouble)),
+    };
+    let plan = plan(&circuit);
+    Ok(judge::Judge::new(&plan, budget).judge(&list, &said, &fs::read(names[3])?))
+}
+
+fn run(words: &[&str]) -> Result<i32, Box<dyn Error>> {
+    match *words {
+        ["sim", netlist, tests, report] => sim(netlist, tests, report).map(|()| 0),
+        ["gen", netlist, tests, report, proofs, budget, random, seed] => {
+            let names = [netlist, tests, report, proofs];
+            generate(names, budget.parse()?, random.parse()?, seed.parse()?).map(|()| 0)
+        }
+        ["check", netlist, tests, report, proofs] => match check([netlist, tests, report, proofs])? {
+            Ok(()) => {
+                println!("valid");
+                Ok(0)
+            }
+            Err(trouble) => {
+                eprintln!("denied: {trouble}");
+                Ok(1)
+            }
+        },
+        _ => Err(USAGE.into()),
+    }
+}
+
+fn main() {
+    let words: Vec<String> = env::args().skip(1).collect();
+    let words: Vec<&str> = words.iter().map(String::as_str).collect();
+    match run(&words) {
+        Ok(status) => process::exit(status),
+        Err(error) => {
+            eprintln!("plain: {error}");
+            process::exit(2);
+        }
+    }
+}

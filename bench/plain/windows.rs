@@ -1,0 +1,375 @@
+//! Some frames of the good and of the faulty machine over sets of pairs, changed in place: by events when a variable is
+//! decided, and by a trail when decisions are taken back.
+use crate::circuit::{Circuit, Rows};
+use crate::faults::{Fault, Site};
+use crate::sets::{self, Set};
+use crate::words::Value::{self, One, Unknown, Zero};
+use std::cell::RefCell;
+
+/// How a window starts: both machines in one state but for these flip-flops; all unknown; from a state of each machine;
+/// or one frame of the good machine alone, back to a cube of latches, with so many frames before it at most.
+pub enum Start {
+    OneFrame { z: Vec<bool> },
+    Unknown,
+    Pair { good: Vec<Value>, faulty: Vec<Value> },
+    Back { cube: Vec<Value>, limit: u32 },
+}
+
+/// Where a difference is looked for.
+#[derive(Clone, Copy, PartialEq, Eq)]
+pub enum Spot {
+    Output(u32),
+    State(u32),
+}
+
+#[derive(Clone, Copy, PartialEq, Eq)]
+pub struct WindowPlace {
+    pub frame: u32,
+    pub spot: Spot,
+}
+
+/// How a window gets its sets: the first ones each net by itself, or from those of the circuit without a fault by events,
+/// and later ones by events; or all anew whenever they are looked at.
+#[derive(Clone, Copy, PartialEq, Eq)]
+pub enum Fill {
+    Whole,
+    Events,
+    Anew,
+}
+
+/// What reads each net, flip-flops and gates by the nets that they drive, and the sets of windows without a fault.
+pub struct Plan<'c> {
+    pub circuit: &'c Circuit,
+    fill: Fill,
+    readers: Rows,
+    /// The sets before any decision, frame by frame, by how a window starts.
+    bases: [RefCell<Vec<Set>>; 3],
+}
+
+impl<'c> Plan<'c> {
+    pub fn new(circuit: &'c Circuit, fill: Fill) -> Plan<'c> {
+        let first = circuit.first_gate_net() as u32;
+        let latches = circuit.data_pins.iter().enumerate().map(|(j, net)| (*net, (circuit.inputs + j) as u32));
+        let gates = (0..circuit.gates() as u32)
+            .flat_map(|g| circuit.args.row(g as usize).iter().map(move |net| (*net, first + g)));
+        let readers = Rows::gathered(circuit.nets(), latches.chain(gates));
+        Plan { circuit, fill, readers, bases: Default::default() }
+    }
+
+    /// Writes the sets of a window without a fault. More frames than are asked for are kept for the next time.
+    fn copy_base(&self, frames: usize, start: &Start, cells: &mut Vec<Set>) {
+        let (which, start) = match start {
+            Start::OneFrame { z } => (0, Start::OneFrame { z: vec![false; z.len()] }),
+            Start::Unknown | Start::Pair { .. } => (1, Start::Unknown),
+            Start::Back { .. } => (2, Start::Back { cube: Vec::new(), limit: 0 }),
+        };
+        let mut base = self.bases[which].borrow_mut();
+        let count = frames * self.circuit.nets();
+        if base.len() < count {
+            let mut window = Window::new(self);
+            window.clear(None, if which == 1 { 2 * frames } else { 1 }, start);
+            window.fill_whole();
+            *base = window.cells;
+        }
+        cells.clear();
+        cells.extend_from_slice(&base[..count]);
+    }
+}
+
+const NONE: u32 = u32::MAX;
+const UNDECIDED: u8 = 3;
+
+/// The line that is stuck, if any, by its kind.
+#[derive(Clone, Copy)]
+struct Stuck {
+    bit: bool,
+    stem: u32,
+    data_pin: u32,
+    gate: u32,
+    pin: u32,
+}
+
+impl Stuck {
+    fn of(fault: Option<Fault>) -> Stuck {
+        let none = Stuck { bit: false, stem: NONE, data_pin: NONE, gate: NONE, pin: NONE };
+        let Some(fault) = fault else { return none };
+        let none = Stuck { bit: fault.bit, ..none };
+        match fault.site {
+            Site::Stem(net) => Stuck { stem: net, ..none },
+            Site::DataPin(j) => Stuck { data_pin: j, ..none },
+            Site::GatePin { gate, pin } => Stuck { gate, pin, ..none },
+        }
+    }
+
+    fn at(self, is_there: bool, set: Set) -> Set {
+        if is_there { sets::stuck(set, self.bit) } else { set }
+    }
+}
+
+struct Decision {
+    var: u32,
+    /// How long the trail was before it.
+    mark: usize,
+}
+
+pub struct Window<'c> {
+    plan: &'c Plan<'c>,
+    stuck: Stuck,
+    pub frames: usize,
+    pub start: Start,
+    /// The set of each net, frame by frame, and what cells held before the decisions.
+    cells: Vec<Set>,
+    trail: Vec<(u32, Set)>,
+    values: Vec<u8>,
+    path: Vec<Decision>,
+    /// A bit for each flip-flop and gate of each frame that is to be evaluated, in rows of 64, from row `low` to `high`.
+    pending: Vec<u64>,
+    frame_rows: usize,
+    low: usize,
+    high: usize,
+}
+
+impl<'c> Window<'c> {
+    pub fn new(plan: &'c Plan<'c>) -> Window<'c> {
+        Window {
+            plan,
+            stuck: Stuck::of(None),
+            frames: 0,
+            start: Start::Unknown,
+            cells: Vec::new(),
+            trail: Vec::new(),
+            values: Vec::new(),
+            path: Vec::new(),
+            pending: Vec::new(),
+            frame_rows: (plan.circuit.dffs() + plan.circuit.gates()).div_ceil(64),
+            low: usize::MAX,
+            high: 0,
+        }
+    }
+
+    /// Makes this a window before its first decision.
+    pub fn begin(&mut self, fault: Option<Fault>, frames: usize, start: Start) {
+        self.clear(fault, frames, start);
+        match self.plan.fill {
+            Fill::Whole => self.fill_whole(),
+            Fill::Events => self.fill_by_events(),
+            Fill::Anew => self.fill_whole(),
+        }
+    }
+
+    /// Has the sets follow the decisions where they don't yet.
+    pub fn refresh(&mut self) {
+        if self.plan.fill == Fill::Anew {
+            self.fill_whole();
+        }
+    }
+
+    fn clear(&mut self, fault: Option<Fault>, frames: usize, start: Start) {
+        let circuit = self.plan.circuit;
+        self.stuck = Stuck::of(fault);
+        self.frames = frames;
+        self.start = start;
+        self.trail.clear();
+        self.path.clear();
+        self.values.clear();
+        self.values.resize(frames * circuit.inputs + 2 * circuit.dffs(), UNDECIDED);
+        self.pending.clear();
+        self.pending.resize(frames * self.frame_rows, 0);
+    }
+
+    fn fill_whole(&mut self) {
+        let nets = self.plan.circuit.nets();
+        self.cells.clear();
+        self.cells.resize(self.frames * nets, sets::SAME);
+        for frame in 0..self.frames {
+            for net in 0..nets {
+                let set = self.evaluate(frame, net);
+                self.cells[frame * nets + net] = set;
+            }
+        }
+    }
+
+    fn fill_by_events(&mut self) {
+        let circuit = self.plan.circuit;
+        self.plan.copy_base(self.frames, &self.start, &mut self.cells);
+        let other_latches: Vec<usize> = match &self.start {
+            Start::OneFrame { z } => (0..z.len()).filter(|j| z[*j]).collect(),
+            Start::Pair { good, .. } => (0..good.len()).collect(),
+            Start::Unknown | Start::Back { .. } => Vec::new(),
+        };
+        for j in other_latches {
+            self.touch(0, circuit.inputs + j);
+        }
+        for frame in 0..self.frames {
+            self.touch_stuck(frame);
+        }
+        self.settle();
+        self.trail.clear();
+    }
+
+    /// The nets of a frame that a stuck line changes by itself.
+    fn touch_stuck(&mut self, frame: usize) {
+        let circuit = self.plan.circuit;
+        let Stuck { stem, data_pin, gate, .. } = self.stuck;
+        if (stem as usize) < circuit.inputs {
+            self.update(frame, stem as usize);
+        } else if stem != NONE {
+            self.touch(frame, stem as usize);
+        } else if gate != NONE {
+            self.touch(frame, circuit.first_gate_net() + gate as usize);
+        } else if data_pin != NONE && frame > 0 {
+            self.touch(frame, circuit.inputs + data_pin as usize);
+        }
+    }
+
+    pub fn circuit(&self) -> &'c Circuit {
+        self.plan.circuit
+    }
+
+    pub fn cell(&self, frame: usize, net: u32) -> Set {
+        self.cells[frame * self.plan.circuit.nets() + net as usize]
+    }
+
+    /// What the decisions give a variable.
+    pub fn decided(&self, var: usize) -> Option<Value> {
+        [Some(Zero), Some(One), Some(Unknown), None][self.values[var] as usize]
+    }
+
+    pub fn decisions(&self) -> usize {
+        self.path.len()
+    }
+
+    /// What a flip-flop takes at the end of a frame.
+    pub fn next_state(&self, frame: usize, j: usize) -> Set {
+        let set = self.cell(frame, self.plan.circuit.data_pins[j]);
+        self.stuck.at(self.stuck.data_pin == j as u32, set)
+    }
+
+    /// The set of a latch in the first frame.
+    fn first_latch(&self, j: usize) -> Set {
+        let good = self.plan.circuit.inputs + j;
+        match &self.start {
+            Start::OneFrame { z } if z[j] => {
+                sets::independent(self.decided(good), self.decided(good + self.plan.circuit.dffs()))
+            }
+            Start::OneFrame { .. } => sets::same(self.decided(good)),
+            Start::Unknown => sets::single(Unknown, Unknown),
+            Start::Pair { good, faulty } => sets::single(good[j], faulty[j]),
+            Start::Back { .. } => self.decided(good).map_or(sets::SAME_OR_UNKNOWN, |value| sets::single(value, value)),
+        }
+    }
+
+    fn gate(&self, frame: usize, gate: usize) -> Set {
+        let circuit = self.plan.circuit;
+        let row = &self.cells[frame * circuit.nets()..][..circuit.nets()];
+        let args = circuit.args.row(gate).iter().map(|net| row[*net as usize]);
+        if self.stuck.gate != gate as u32 {
+            return sets::lift(circuit.kinds[gate], args);
+        }
+        let stuck = self.stuck;
+        sets::lift(circuit.kinds[gate], args.enumerate().map(|(i, set)| stuck.at(stuck.pin == i as u32, set)))
+    }
+
+    /// The set that a net gets from the decisions and from what its driver reads.
+    fn evaluate(&self, frame: usize, net: usize) -> Set {
+        let circuit = self.plan.circuit;
+        let set = if net >= circuit.first_gate_net() {
+            self.gate(frame, net - circuit.first_gate_net())
+        } else if net < circuit.inputs {
+            sets::same(self.decided(frame * circuit.inputs + net))
+        } else if frame == 0 {
+            self.first_latch(net - circuit.inputs)
+        } else {
+            self.next_state(frame - 1, net - circuit.inputs)
+        };
+        self.stuck.at(self.stuck.stem == net as u32, set)
+    }
+
+    /// Evaluates a net; where it changes, what reads it is pending.
+    fn update(&mut self, frame: usize, net: usize) {
+        let set = self.evaluate(frame, net);
+        let circuit = self.plan.circuit;
+        let index = frame * circuit.nets() + net;
+        if self.cells[index] == set {
+            return;
+        }
+        self.trail.push((index as u32, self.cells[index]));
+        self.cells[index] = set;
+        for reader in self.plan.readers.row(net) {
+            let reader = *reader as usize;
+            self.touch(if reader < circuit.first_gate_net() { frame + 1 } else { frame }, reader);
+        }
+    }
+
+    /// Makes a flip-flop or a gate of a frame pending, by its net, if there is such a frame.
+    #[inline(always)]
+    fn touch(&mut self, frame: usize, net: usize) {
+        let item = net - self.plan.circuit.inputs;
+        let row = frame * self.frame_rows + item / 64;
+        if row < self.pending.len() {
+            self.pending[row] |= 1 << (item % 64);
+            self.low = self.low.min(row);
+            self.high = self.high.max(row + 1);
+        }
+    }
+
+    fn settle(&mut self) {
+        let inputs = self.plan.circuit.inputs;
+        let mut row = self.low;
+        while row < self.high {
+            let frame = row / self.frame_rows;
+            let first = inputs + row % self.frame_rows * 64;
+            while self.pending[row] != 0 {
+                let net = first + self.pending[row].trailing_zeros() as usize;
+                self.pending[row] &= self.pending[row] - 1;
+                self.update(frame, net);
+            }
+            row += 1;
+        }
+        self.low = usize::MAX;
+        self.high = 0;
+    }
+
+    /// Decides a variable.
+    pub fn decide(&mut self, var: u32, value: Value) {
+        let circuit = self.plan.circuit;
+        self.path.push(Decision { var, mark: self.trail.len() });
+        self.values[var as usize] = value as u8;
+        if self.plan.fill == Fill::Anew {
+            return;
+        }
+        let var = var as usize;
+        let (frame, net) = if var < self.frames * circuit.inputs {
+            (var / circuit.inputs, var % circuit.inputs)
+        } else if var < circuit.first_gate_net() {
+            (0, var)
+        } else {
+            (0, var - circuit.dffs())
+        };
+        self.update(frame, net);
+        self.settle();
+    }
+
+    /// Takes back all decisions but the first ones.
+    pub fn undo_to(&mut self, count: usize) {
+        let Some(decision) = self.path.get(count) else { return };
+        for (index, set) in self.trail.drain(decision.mark..).rev() {
+            self.cells[index as usize] = set;
+        }
+        for decision in self.path.drain(count..) {
+            self.values[decision.var as usize] = UNDECIDED;
+        }
+    }
+
+    /// The set at a pin of a gate.
+    pub fn pin(&self, frame: usize, gate: usize, i: usize) -> Set {
+        let set = self.cell(frame, self.plan.circuit.args.row(gate)[i]);
+        self.stuck.at(self.stuck.gate == gate as u32 && self.stuck.pin == i as u32, set)
+    }
+
+    /// The vector of a frame, with 0 for each input that is undecided.
+    pub fn vector(&self, frame: usize) -> Vec<bool> {
+        let inputs = self.plan.circuit.inputs;
+        (frame * inputs..(frame + 1) * inputs).map(|var| self.values[var] == One as u8).collect()
+    }
+}
