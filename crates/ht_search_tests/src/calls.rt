@@ -14,4 +14,5 @@ mod tokens;
 mod trail;
 mod tree;
 mod walks;
+mod wide;
 mod window;

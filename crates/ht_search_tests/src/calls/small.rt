@@ -10,9 +10,9 @@ use ht_window::PairState;
 use std::alloc::{AllocError, Global};
 use std::test::Fail;
 
-/// The circuit of a text of at most 1,000 bytes.
+/// The circuit of a text of at most 100,000 bytes.
 pub fn circuit_of(alloc: Global, text: &[u8]) -> Result<Circuit, Fail> {
-    Ok(read(alloc, &text[..text.len().min(1000)])?)
+    Ok(read(alloc, &text[..text.len().min(100_000)])?)
 }
 
 /// The stem of a net stuck at a value.
