@@ -1,11 +1,11 @@
 -- What each call leaves is a group again.
 use Rattle.std.specs.Prelude.{set}
-use Rattle.std.proofs.Common.{◌≡◌, ◌≢◌, ◌<◌, ◌≤◌, ◌+◌, ◌∙◌, ℕ, List, [], ◌∷◌, ◌++◌, Bool, true, false, length, get_or, map, take, drop, replicate, ap, sym, subst, arith, Some, inl, inr}
+use Rattle.std.proofs.Common.{◌≡◌, ◌≢◌, ◌<◌, ◌≤◌, ◌+◌, ◌∙◌, ℕ, List, [], ◌∷◌, ◌++◌, Bool, true, false, length, get_or, take, drop, replicate, ap, sym, subst, arith, Some, inl, inr}
 use Rattle.std.proofs.lemmas.Bool.{cases_Bool, cases_eq, cases_lt}
 use Rattle.std.proofs.lemmas.List.{length-map, length-append, drop-map, get_or-set_same, get_or-set_other, get_or-replicate, get_or_past, length-replicate}
 use Rattle.ht_tern.specs.declared.tern.Tern.{Tern}
 use Rattle.ht_tern.specs.declared.tern.Tern.TheVariants.{Unk}
-use Rattle.ht_lanes.specs.Lanes.{Lanes, lane, every_lane}
+use Rattle.ht_lanes.specs.Lanes.{Lanes, lane}
 use Rattle.ht_diff.specs.declared.diffs.Diff.{Diff}
 use Rattle.ht_diff.specs.Differences.{with_differences}
 use Rattle.ht_net.specs.declared.fault.Site.{Site}
@@ -16,7 +16,7 @@ use Rattle.ht_group.specs.GroupView.{GroupView}
 use Rattle.ht_group.specs.GroupOf.{IsGroup, group_of, machines_from}
 use Rattle.ht_group.specs.LaneRules.{rules_at, in_lane, lane_env, HasItsValue}
 use Rattle.ht_group.specs.LatchWords.{HasDifferences}
-use Rattle.ht_group.specs.Overlays.{OverlayView, spread}
+use Rattle.ht_group.specs.Overlays.{OverlayView, IsSpread}
 use Rattle.ht_group.specs.Pending.{QuietHaveValues}
 use Rattle.ht_group.specs.Schedules.{IsSchedule}
 use Rattle.ht_group.specs.StuckTables.{AreStuck, forced_net_of}
@@ -24,7 +24,7 @@ use Rattle.ht_group.specs.declared.schedule.Schedule.{Schedule}
 use Rattle.ht_group.specs.declared.stuck_lines.StuckLines.{StuckLines}
 use Rattle.ht_group.specs.declared.group.Group.TheInside.{Inside}
 use Rattle.ht_group.proofs.KeptLaws.{value_kept}
-use Rattle.ht_group.proofs.SpreadLaws.{lane_of_spread, good_has_values}
+use Rattle.ht_group.proofs.SpreadLaws.{good_has_values}
 use Rattle.ht_group.proofs.ViewLaws.{machine_added}
 
 none_marked : (n r : ℕ) → get_or (replicate n false) r false ≡ false
@@ -36,14 +36,12 @@ none_marked n r = elim (cases_lt r n) [
 -- The good machine in every lane.
 pub fresh_group : (a : Inside) → IsCircuit a.circuit.now → IsSchedule a.circuit.now a.schedule
     → AreStuck a.circuit.now a.lines → a.lines.faults.items ≡ [] → IsGoodFrame a.circuit.now a.frame
-    → a.sources ≡ spread a.frame.sources.items → a.nets ≡ spread a.frame.values.items
+    → IsSpread a.frame.sources.items a.sources → IsSpread a.frame.values.items a.nets
     → (n : ℕ) → n ≡ net_count a.circuit.now → a.pending ≡ replicate n false → length a.pins.items ≡ 256 → IsGroup a
 fresh_group a circuit schedule stuck none frame sources nets n all marks room =
-    let good = ap (λ (o : OverlayView). o.good) sources in
-    let words : a.sources.words ≡ map every_lane a.frame.sources.items = ap (λ (o : OverlayView). o.words) sources in
-    let net_words : a.nets.words ≡ map every_lane a.frame.values.items = ap (λ (o : OverlayView). o.words) nets in
+    let good = sources.good in
     let same : (k : ℕ) → k < 64 → in_lane k a.sources.words ≡ a.sources.good =
-    λ k below. ap (in_lane k) words ∙ (lane_of_spread k below a.frame.sources.items ∙ sym good) in
+    λ k below. sources.lanes k below ∙ sym sources.good in
     let P : ℕ → List Tern → List Tern → ℕ → Type 0 = λ (k : ℕ) (s l : List Tern) (x : ℕ).
     HasItsValue a.circuit.now (rules_at a.lines.faults.items k) s (λ y. get_or l y Unk) x in
     record {
@@ -52,19 +50,17 @@ fresh_group a circuit schedule stuck none frame sources nets n all marks room =
       stuck = stuck;
       frame = frame;
       sources = good;
-      nets = ap (λ (o : OverlayView). o.good) nets;
-      source_count = ap (λ (l : List Lanes). length l) words
-          ∙ (length-map a.frame.sources.items every_lane ∙ frame.room.source_count);
+      nets = nets.good;
+      source_count = sym (length-map a.sources.words (λ (w : Lanes). lane w 0))
+          ∙ (ap (λ (l : List Tern). length l) (sources.lanes 0 (omega arith)) ∙ frame.room.source_count);
       marks = ap (λ (l : List Bool). length l) marks ∙ (length-replicate n false ∙ all);
       room = room;
       inputs = λ k below. ap (take a.circuit.now.inputs) (same k below);
       spare = λ k past below. same k below;
       quiet = λ k r below inside idle.
           let x = get_or a.schedule.order.items r 0 in
-          let lane : in_lane k a.nets.words ≡ a.frame.values.items =
-          ap (in_lane k) net_words ∙ lane_of_spread k below a.frame.values.items in
-          subst (λ (s : List Tern). P k s (in_lane k a.nets.words) x) (sym (same k below ∙ good))
-          (subst (λ (l : List Tern). P k a.frame.sources.items l x) (sym lane)
+          subst (λ (s : List Tern). P k s (in_lane k a.nets.words) x) (sym (sources.lanes k below))
+          (subst (λ (l : List Tern). P k a.frame.sources.items l x) (sym (nets.lanes k below))
           (good_has_values a.circuit.now circuit a.lines.faults.items k none a.frame.sources.items
           a.frame.values.items frame.values x (schedule.ranks.known r inside)));
       settled = λ is r. ap (λ (l : List Bool). get_or l r false) marks ∙ none_marked n r;

@@ -67,26 +67,10 @@ stuck_pin : (f : Fault) (g i : ℕ) (v : Tern) → is_pin_of f.site g ≡ true
 unfolding forced
 stuck_pin f g i v here = ap (λ b. cond b (tern_of f.value) v) (stuck_number f.site g i here)
 
--- One lane of one word is written.
-pub written_lane : (words : List Lanes) (x k : ℕ) (v : Tern) (y n : ℕ) → x < length words → n < 64
-    → lane (word_at (set words x (with_lane (word_at words x) k v)) y) n
-    ≡ cond (eqb y x && eqb n k) v (lane (word_at words y) n)
-written_lane words x k v y n inside below = elim (eqb_tells y x) [
-  | inl p ↦
-      rw p.0 (ap (λ m. lane (word_at (set words x (with_lane (word_at words x) k v)) m) n) p.1
-      ∙ (ap (λ (w : Lanes). lane w n) (get_or-set_same words x (with_lane (word_at words x) k v) (every_lane Unk)
-      inside)
-      ∙ (lane_of_each (λ m. cond (eqb m k) v (lane (word_at words x) m)) n below
-      ∙ ap (λ m. cond (eqb n k) v (lane (word_at words m) n)) (sym p.1))))
-  | inr p ↦
-      rw p.0 (ap (λ (w : Lanes). lane w n)
-      (get_or-set_other words x y (with_lane (word_at words x) k v) (every_lane Unk) p.1))
-]
-
 -- The pins with the lanes of `rest` still to be stuck.
 abbrev pub ArePinsBut : List Fault → ℕ → ℕ → List Lanes → List Lanes → Type 0
-ArePinsBut faults g rest old pins = (i k : ℕ) → i < 256 → k < 64 → lane (word_at pins i) k
-    ≡ cond (is_set rest k) (lane (word_at old i) k) ((rules_at faults k).pin g i (lane (word_at old i) k))
+ArePinsBut faults g rest old pins = (i k : ℕ) → i < 256 → k < 64 → lane_env k pins i
+    ≡ cond (is_set rest k) (lane_env k old i) ((rules_at faults k).pin g i (lane_env k old i))
 
 by_pin : (b : Bool) (v u : Tern) → cond (b && true) v u ≡ cond b v u
 by_pin true v u = refl
@@ -104,22 +88,22 @@ left_to_stick false v u h = sym (h refl)
 pub all_left : (faults : List Fault) (g lanes : ℕ) (old : List Lanes) → AreGateLanes faults g lanes
     → ArePinsBut faults g lanes old old
 all_left faults g lanes old are i k within below =
-    left_to_stick (is_set lanes k) (lane (word_at old i) k) ((rules_at faults k).pin g i (lane (word_at old i) k))
-    (λ h. plain_pin (slice_get faults k) g i (lane (word_at old i) k) (sym (are k below) ∙ h))
+    left_to_stick (is_set lanes k) (lane_env k old i) ((rules_at faults k).pin g i (lane_env k old i))
+    (λ h. plain_pin (slice_get faults k) g i (lane_env k old i) (sym (are k below) ∙ h))
 
 pub none_left : (faults : List Fault) (g rest : ℕ) (old pins : List Lanes) → rest ≡ 0
     → ArePinsBut faults g rest old pins
-    → (i k : ℕ) → i < 256 → k < 64 → lane (word_at pins i) k ≡ (rules_at faults k).pin g i (lane (word_at old i) k)
+    → (i k : ℕ) → i < 256 → k < 64 → lane_env k pins i ≡ (rules_at faults k).pin g i (lane_env k old i)
 none_left faults g rest old pins none but i k within below =
     but i k within below
-    ∙ ap (λ b. cond (eqb b 1) (lane (word_at old i) k) ((rules_at faults k).pin g i (lane (word_at old i) k)))
+    ∙ ap (λ b. cond (eqb b 1) (lane_env k old i) ((rules_at faults k).pin g i (lane_env k old i)))
     (ap (λ n. bit_at n k) none ∙ bit_at-zero k)
 
 -- one more lane is stuck
 one_stuck : (faults : List Fault) (g rest k : ℕ) (old pins next : List Lanes) (f : Fault)
     → k < 64 → slice_get faults k ≡ Some f → is_pin_of f.site g ≡ true → is_set rest k ≡ true
-    → ((i n : ℕ) → n < 64 → lane (word_at next i) n
-    ≡ cond (is_pin_number f.site i && eqb n k) (tern_of f.value) (lane (word_at pins i) n))
+    → ((i n : ℕ) → n < 64 → lane_env n next i
+    ≡ cond (is_pin_number f.site i && eqb n k) (tern_of f.value) (lane_env n pins i))
     → ArePinsBut faults g rest old pins → ArePinsBut faults g (with_bit rest k false) old next
 one_stuck faults g rest k old pins next f small has here set_k written before i n within below =
     written i n below ∙ elim (eqb_tells n k) [
@@ -127,15 +111,15 @@ one_stuck faults g rest k old pins next f small has here set_k written before i 
           let cleared : is_set (with_bit rest k false) n ≡ false =
           ap (λ m. is_set (with_bit rest k false) m) p.1 ∙ ap (λ b. eqb b 1) (bit_at_clear_same w64 rest k small) in
           let had : is_set rest n ≡ true = ap (is_set rest) p.1 ∙ set_k in
-          let at : lane (word_at pins i) n ≡ lane (word_at old i) n = before i n within below
-          ∙ ap (λ b. cond b (lane (word_at old i) n) ((rules_at faults n).pin g i (lane (word_at old i) n))) had in
+          let at : lane_env n pins i ≡ lane_env n old i = before i n within below
+          ∙ ap (λ b. cond b (lane_env n old i) ((rules_at faults n).pin g i (lane_env n old i))) had in
           let fault : slice_get faults n ≡ Some f = ap (slice_get faults) p.1 ∙ has in
-          rw (p.0, cleared, at, fault) (by_pin (is_pin_number f.site i) (tern_of f.value) (lane (word_at old i) n)
-          ∙ sym (stuck_pin f g i (lane (word_at old i) n) here))
+          rw (p.0, cleared, at, fault) (by_pin (is_pin_number f.site i) (tern_of f.value) (lane_env n old i)
+          ∙ sym (stuck_pin f g i (lane_env n old i) here))
       | inr p ↦
           let kept : is_set (with_bit rest k false) n ≡ is_set rest n =
           ap (λ b. eqb b 1) (bit_at_clear_other w64 rest k small n below p.1) in
-          rw (p.0, kept) (by_none (is_pin_number f.site i) (tern_of f.value) (lane (word_at pins i) n)
+          rw (p.0, kept) (by_none (is_pin_number f.site i) (tern_of f.value) (lane_env n pins i)
           ∙ before i n within below)
     ]
 
@@ -176,9 +160,9 @@ first_lane faults g rest some fits left =
 -- the first lane of the rest is stuck
 pub first_stuck : (faults : List Fault) (g rest k : ℕ) (old pins next : List Lanes) (d : Fault)
     → IsFirstLane faults g rest k
-    → ((i n : ℕ) → n < 64 → lane (word_at next i) n
+    → ((i n : ℕ) → n < 64 → lane_env n next i
     ≡ cond (is_pin_number (get_or faults k d).site i && eqb n k) (tern_of (get_or faults k d).value)
-    (lane (word_at pins i) n))
+    (lane_env n pins i))
     → ArePinsBut faults g rest old pins → ArePinsBut faults g (with_bit rest k false) old next
 first_stuck faults g rest k old pins next d first written before =
     let same : first.fault ≡ get_or faults k d = sym (get_or_from_slice_get faults k first.fault d first.has) in
@@ -219,8 +203,8 @@ pin_get r g e n (a ∷ args) (suc i) d h =
 
 pub stuck_pins : (faults : List Fault) (k g : ℕ) (words : List Lanes) (args : List NetId) (old pins : List Lanes)
     → k < 64 → length args ≤ 255 → length pins ≡ 256
-    → ((i : ℕ) → i < length args → word_at old i ≡ word_at words (get_or args i no_net).0)
-    → ((i n : ℕ) → i < 256 → n < 64 → lane (word_at pins i) n ≡ (rules_at faults n).pin g i (lane (word_at old i) n))
+    → ((i n : ℕ) → i < length args → lane_env n old i ≡ lane_env n words (get_or args i no_net).0)
+    → ((i n : ℕ) → i < 256 → n < 64 → lane_env n pins i ≡ (rules_at faults n).pin g i (lane_env n old i))
     → map (λ (w : Lanes). lane w k) (take (length args) pins)
     ≡ pin_values (rules_at faults k) g (lane_env k words) 0 args
 stuck_pins faults k g words args old pins below few room read stuck =
@@ -236,8 +220,9 @@ stuck_pins faults k g words args old pins below few room read stuck =
     let start : 0 + i ≡ i = omega arith in
     get_or-map (λ (w : Lanes). lane w k) (take (length args) pins) i (every_lane Unk) Unk (omega (arith, short, within))
     ∙ (ap (λ (w : Lanes). lane w k) (get_or-take (length args) pins i (every_lane Unk) within)
+    ∙ (sym (lane_get k below pins i)
     ∙ (stuck i k (omega arith) below
     ∙ (ap ((rules_at faults k).pin g i)
-    (ap (λ (w : Lanes). lane w k) (read i within) ∙ sym (lane_get k below words (get_or args i no_net).0))
+    (read i k within)
     ∙ (ap (λ m. (rules_at faults k).pin g m (env (get_or args i no_net).0)) (sym start)
-    ∙ sym (pin_get (rules_at faults k) g env 0 args i Unk within))))))
+    ∙ sym (pin_get (rules_at faults k) g env 0 args i Unk within)))))))

@@ -4,19 +4,12 @@ use Rattle.std.proofs.Common.{◌≡◌, ◌<◌, ◌∙◌, ℕ, List, [], ◌�
 use Rattle.std.proofs.lemmas.Option.{slice_get_past}
 use Rattle.ht_tern.specs.declared.tern.Tern.{Tern}
 use Rattle.ht_tern.specs.declared.tern.Tern.TheVariants.{Unk}
-use Rattle.ht_lanes.specs.Lanes.{every_lane}
-use Rattle.ht_lanes.specs.Inverse.{lane_of_each}
 use Rattle.ht_net.specs.declared.fault.Fault.{Fault}
 use Rattle.ht_net.specs.Netlist.{Netlist, net_count, IsCircuit}
 use Rattle.ht_net.specs.Frame.{Rules, net_value}
 use Rattle.ht_net.specs.Faults.{tern_rules}
-use Rattle.ht_group.specs.LaneRules.{rules_at, in_lane, HasItsValue}
+use Rattle.ht_group.specs.LaneRules.{rules_at, HasItsValue}
 use Rattle.ht_group.proofs.DriveLaws.{frame_has_values, drive_same, read_known}
-
--- a lane of values that stand in every lane
-pub lane_of_spread : (k : ℕ) → k < 64 → (values : List Tern) → in_lane k (map every_lane values) ≡ values
-lane_of_spread k below [] = refl
-lane_of_spread k below (v ∷ values) = λ i. lane_of_each (λ n. v) k below i ∷ lane_of_spread k below values i
 
 -- a lane without a fault has the good machine
 pub good_has_values : (c : Netlist) → IsCircuit c → (faults : List Fault) (k : ℕ) → faults ≡ []

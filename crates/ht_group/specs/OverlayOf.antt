@@ -1,7 +1,6 @@
 -- How an overlay's fields stand for it: a word that wasn't written has its good value in every lane.
 use Rattle.std.specs.Prelude.{◌≡◌, ◌<◌, ◌^◌, ℕ, false, length, get_or}
-use Rattle.ht_tern.specs.declared.tern.Tern.TheVariants.{Unk}
-use Rattle.ht_lanes.specs.Lanes.{every_lane, word_at}
+use Rattle.ht_group.specs.Overlays.{IsGoodWord}
 use Rattle.ht_group.specs.declared.overlay.Overlay.TheInside.{Inside}
 
 pub record IsOverlay (a : Inside) : Type 0 where
@@ -9,4 +8,4 @@ pub record IsOverlay (a : Inside) : Type 0 where
   pub count : length a.words.items ≡ length a.good.items
   pub marks : length a.written ≡ length a.good.items
   pub rest : (x : ℕ) → x < length a.good.items → get_or a.written x false ≡ false
-      → word_at a.words.items x ≡ every_lane (get_or a.good.items x Unk)
+      → IsGoodWord a.good.items a.words.items x

@@ -1,11 +1,9 @@
 //! The words of a net from those that its driver reads.
-ghost use Rattle.std.specs.Prelude.{◌≡◌, ◌<◌, ◌≤◌, ◌+◌, ◌&&◌, ◌==◌, ℕ, length, get_or, set, if◌then◌else◌};
-ghost use Rattle.std.specs.List.{slice_get};
+ghost use Rattle.std.specs.Prelude.{◌≡◌, ◌<◌, ◌≤◌, ◌+◌, ◌&&◌, ◌==◌, ℕ, length, get_or, if◌then◌else◌};
 ghost use Rattle.ht_tern.specs.Gate.{HasArity, gate_value_over, operation_of, tern_of};
-ghost use Rattle.ht_lanes.specs.Lanes.{lane, with_lane, word_at};
+ghost use Rattle.ht_lanes.specs.Lanes.{lane};
 ghost use Rattle.ht_net.specs.Netlist.{first_gate_net, net_count, no_net};
 ghost use Rattle.ht_net.specs.Frame.{gate_output, values_at};
-ghost use Rattle.ht_net.specs.Faults.{tern_rules};
 ghost use Rattle.ht_frame.specs.Values.{env_of};
 ghost use Rattle.ht_group.specs.LaneRules.{lane_env, rules_at};
 ghost use Rattle.ht_group.specs.Pending.{AreGiven};
@@ -57,8 +55,8 @@ fn read_pins(args: &[NetId], words: &[Word], pins: &mut [Word])
         → (get_or args.now i no_net).0 < length words.now }
     requires room { length pins.old ≡ PIN_ROOM }
     ensures room { length pins.new ≡ PIN_ROOM }
-    ensures read { (i : ℕ) → i < length args.now
-        → word_at pins.new i ≡ word_at words.now (get_or args.now i no_net).0 }
+    ensures read { (i k : ℕ) → i < length args.now
+        → lane_env k pins.new i ≡ lane_env k words.now (get_or args.now i no_net).0 }
 {
     for (i, arg) in args.iter().enumerate() {
         pins[i] = words[arg.index()];
@@ -69,9 +67,9 @@ fn read_pins(args: &[NetId], words: &[Word], pins: &mut [Word])
 fn write_pin(pins: &mut [Word], pin: u8, k: u32, value: bool)
     requires room { length pins.old ≡ PIN_ROOM }
     requires lane { k < 64 }
-    ensures pins { pins.new ≡ set pins.old pin
-        (with_lane (word_at pins.old pin) k (tern_of value)) }
-    ensures within { pin < PIN_ROOM }
+    ensures room { length pins.new ≡ PIN_ROOM }
+    ensures lanes { (i n : ℕ) → n < 64 → lane_env n pins.new i
+        ≡ (if i == pin && n == k then tern_of value else lane_env n pins.old i) }
 {
     let pin = pin as usize;
     pins[pin] = pins[pin].with(k, Tern::from(value));
@@ -82,9 +80,9 @@ fn stick_pin(pins: &mut [Word], fault: Fault, k: u32)
     requires room { length pins.old ≡ PIN_ROOM }
     requires lane { k < 64 }
     ensures room { length pins.new ≡ PIN_ROOM }
-    ensures lanes { (i n : ℕ) → n < 64 → lane (word_at pins.new i) n
+    ensures lanes { (i n : ℕ) → n < 64 → lane_env n pins.new i
         ≡ (if is_pin_number fault.site i && n == k then tern_of fault.value
-        else lane (word_at pins.old i) n) }
+        else lane_env n pins.old i) }
 {
     match fault.site {
         Site::GatePin { pin, .. } => write_pin(pins, pin, k, fault.value),
@@ -98,8 +96,8 @@ fn stick_pins(faults: &[Fault], lanes: u64, g: u32, pins: &mut [Word])
     requires lanes { AreGateLanes faults.now g lanes }
     requires room { length pins.old ≡ PIN_ROOM }
     ensures room { length pins.new ≡ PIN_ROOM }
-    ensures lanes { (i k : ℕ) → i < PIN_ROOM → k < 64 → lane (word_at pins.new i) k
-        ≡ (tern_rules (slice_get faults.now k)).pin g i (lane (word_at pins.old i) k) }
+    ensures lanes { (i k : ℕ) → i < PIN_ROOM → k < 64 → lane_env k pins.new i
+        ≡ (rules_at faults.now k).pin g i (lane_env k pins.old i) }
 {
     let mut rest = lanes;
     while rest != 0 {

@@ -1,15 +1,15 @@
 //! A group of faulty machines in one frame.
-ghost use Rattle.std.specs.Prelude.{◌≡◌, ◌≢◌, ◌<◌, ◌≤◌, ◌+◌, ◌++◌, ◌∷◌, [], ℕ, Some, true, false, length, get_or, set, IfOk, OnOk, OnErr};
+ghost use Rattle.std.specs.Prelude.{◌≡◌, ◌≢◌, ◌<◌, ◌≤◌, ◌+◌, ◌++◌, ◌∷◌, ◌&&◌, ◌==◌, [], ℕ, Some, true, false, length, get_or, set, if◌then◌else◌, IfOk, OnOk, OnErr};
 ghost use Rattle.std.specs.List.{slice_get};
 ghost use Rattle.ht_tern.specs.Opposite.{are_opposite};
 ghost use Rattle.ht_net.specs.Netlist.{first_gate_net, net_count, no_net};
 ghost use Rattle.ht_net.specs.Detection.{terns_of};
-ghost use Rattle.ht_lanes.specs.Lanes.{is_set, lane, with_lane, word_at};
+ghost use Rattle.ht_lanes.specs.Lanes.{is_set, lane};
 ghost use Rattle.ht_diff.specs.Differences.{with_differences};
 ghost use Rattle.ht_group.specs.GroupView.{AreLatches, FaultyMachine, HasSite, faulty_next, faulty_output, good_next, good_output, max_machines};
 ghost use Rattle.ht_group.specs.LatchWords.{HasDifferences};
 ghost use Rattle.ht_group.specs.NetValues.{faulty_value, good_value};
-ghost use Rattle.ht_group.specs.LaneRules.{in_lane};
+ghost use Rattle.ht_group.specs.LaneRules.{in_lane, lane_env};
 ghost use Rattle.ht_group.specs.Schedules.{IsSchedule};
 ghost use Rattle.ht_group.specs.StuckTables.{forced_net_of};
 
@@ -105,8 +105,10 @@ fn put_difference(
     requires words { length sources.old.words ≡ first_gate_net circuit.now }
     requires marks { length pending.old ≡ net_count circuit.now }
     ensures good { sources.new.good ≡ sources.old.good }
-    ensures words { sources.new.words ≡ set sources.old.words (circuit.now.inputs + diff.latch)
-        (with_lane (word_at sources.old.words (circuit.now.inputs + diff.latch)) k diff.value) }
+    ensures count { length sources.new.words ≡ first_gate_net circuit.now }
+    ensures lanes { (x n : ℕ) → n < max_machines → lane_env n sources.new.words x
+        ≡ (if x == circuit.now.inputs + diff.latch && n == k then diff.value
+        else lane_env n sources.old.words x) }
     ensures pending { pending.new ≡ set pending.old
         (get_or schedule.now.ranks.items (circuit.now.inputs + diff.latch) 0) true }
 {

@@ -1,8 +1,7 @@
 //! Words that lie over values of the good machine.
-ghost use Rattle.std.specs.Prelude.{◌≡◌, ◌<◌, ◌^◌, ℕ, false, length, get_or, set, map, IfOk};
-ghost use Rattle.ht_tern.specs.declared.tern.Tern.TheVariants.{Unk};
-ghost use Rattle.ht_lanes.specs.Lanes.{every_lane};
-ghost use Rattle.ht_group.specs.Overlays.{OverlayView, spread};
+ghost use Rattle.std.specs.Prelude.{◌≡◌, ◌<◌, ◌^◌, ℕ, false, length, get_or, set, IfOk};
+ghost use Rattle.ht_group.specs.LaneRules.{in_lane};
+ghost use Rattle.ht_group.specs.Overlays.{IsGoodWord, IsSpread, OverlayView};
 
 use crate::bit_set::BitSet;
 use ht_lanes::Word;
@@ -34,7 +33,7 @@ impl Model for Overlay {
 // Gives each word its good value in every lane.
 fn splat_all(good: &[Tern], words: &mut [Word])
     requires { length words.old ≡ length good.now }
-    ensures { words.new ≡ map every_lane good.now }
+    ensures { (k : ℕ) → k < 64 → in_lane k words.new ≡ good.now }
 {
     for x in 0..good.len() {
         words[x] = Word::splat(good[x]);
@@ -47,8 +46,8 @@ fn splat_written(good: &[Tern], written: &BitSet, words: &mut [Word])
     requires marks { length written.now ≡ length good.now }
     requires few { length good.now < 2 ^ 32 }
     requires rest { (x : ℕ) → x < length good.now → get_or written.now x false ≡ false
-        → get_or words.old x (every_lane Unk) ≡ every_lane (get_or good.now x Unk) }
-    ensures { words.new ≡ map every_lane good.now }
+        → IsGoodWord good.now words.old x }
+    ensures { (k : ℕ) → k < 64 → in_lane k words.new ≡ good.now }
 {
     let mut from = 0;
     while let Some(x) = written.next(from) {
@@ -64,7 +63,7 @@ impl Overlay {
     /// Out of memory.
     pub fn new(alloc: Global, good: &[Tern]) -> Result<Overlay, AllocError>
         requires { length good.now < 2 ^ 32 }
-        ensures { IfOk result (λ overlay. overlay ≡ spread good.now) }
+        ensures { IfOk result (λ overlay. IsSpread good.now overlay) }
     {
         let written = BitSet::new(alloc, good.len() as u32)?;
         let mut words = vec![in alloc; Word::splat(Tern::Unk); good.len()]?;
@@ -94,7 +93,7 @@ impl Overlay {
     /// Lays words over other values, as many.
     pub fn reset(&mut self, good: &[Tern])
         requires { length good.now ≡ length self.old.good }
-        ensures { self.new ≡ spread good.now }
+        ensures { IsSpread good.now self.new }
     {
         self.good.copy_from_slice(good);
         splat_all(good, &mut self.words);
@@ -103,7 +102,7 @@ impl Overlay {
 
     /// Puts back the words that were written.
     pub fn restore(&mut self)
-        ensures { self.new ≡ spread self.old.good }
+        ensures { IsSpread self.old.good self.new }
     {
         splat_written(&self.good, &self.written, &mut self.words);
         self.written.clear();

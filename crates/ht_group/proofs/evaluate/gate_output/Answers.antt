@@ -41,8 +41,8 @@ returns c k below =
     let same = ap (λ (l : List NetId). length l) c.gate_args-args.ensures.args in
     let few : length args ≤ 255 = omega (arith, most, same) in
     let stuck : List Fault → Type 0 = λ (l : List Fault). (i m : ℕ) → i < 256 → m < 64
-    → lane (word_at c.stick_pins.new.pins i) m
-    ≡ (rules_at l m).pin c.args.g i (lane (word_at c.read_pins.new.pins i) m) in
+    → lane_env m c.stick_pins.new.pins i
+    ≡ (rules_at l m).pin c.args.g i (lane_env m c.read_pins.new.pins i) in
     let pins = map (λ (w : Lanes). lane w k) (take (length args) c.stick_pins.new.pins) in
     gate_from n (rules_at faults k) c.args.g env c.gate_kind-kind.result args pins
     (lane c.eval_word.result k) c.gate_kind-kind.ensures c.gate_args-args.ensures.args

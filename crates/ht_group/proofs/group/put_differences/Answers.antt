@@ -26,8 +26,8 @@ loop-i-preserved c =
           c.loop-i.sources.words c.put_difference.new.sources.words c.loop-i.pending c.put_difference.new.pending
           c.loop-i.i
           _ c.loop-i-test.true c.loop-i.auto.i c.requires.lane latch
-          (c.requires.schedule.ranks.small _ (omega (arith, latch))) c.put_difference.ensures.words
-          c.put_difference.ensures.pending c.loop-i.invariant.put;
+          (c.requires.schedule.ranks.small _ (omega (arith, latch))) c.put_difference.ensures.count
+          c.put_difference.ensures.lanes c.put_difference.ensures.pending c.loop-i.invariant.put;
     }
 
 pub returns-clause-put : goal.returns-clause-put

@@ -18,8 +18,7 @@ loop-x-preserved c =
       count = length-set c.loop-x.words c.in-Some.x c.splat.result ∙ c.loop-x.invariant.count;
       within = omega (arith, within);
       done = good_up_to c.args.good.now c.loop-x.words c.args.written.now c.loop-x.from c.in-Some.x c.splat.result
-          inside
-          c.loop-x.invariant.count is c.loop-x.invariant.done c.loop-x.invariant.rest c.in-Some.ensures.least;
+          inside is c.loop-x.invariant.done c.loop-x.invariant.rest c.in-Some.ensures.least;
       rest = λ n at none. good_written c.args.good.now c.loop-x.words c.in-Some.x c.splat.result inside is n
           (λ ne. c.loop-x.invariant.rest n at none);
     }

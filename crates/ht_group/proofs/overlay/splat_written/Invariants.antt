@@ -1,5 +1,5 @@
 use Rattle.std.proofs.Common.{◌≡◌, ◌<◌, ◌≤◌, ◌-◌, ℕ, false, length, get_or}
-use Rattle.ht_group.proofs.OverlayLaws.{IsGoodWord}
+use Rattle.ht_group.specs.Overlays.{IsGoodWord}
 use Rattle.ht_group.proofs.overlay.splat_written.Given as goal
 
 abbrev pub invariant-loop-x : goal.invariant-loop-x

@@ -9,3 +9,6 @@ returns-clause-count c =
     let count = machine_count 0 a.lines.faults.items (drop a.circuit.now.inputs a.sources.words) in
     let view = ap (λ (v : GroupView). length v.machines) c.self.view_is in
     omega (arith, count, view, c.len.ensures)
+
+pub returns-clause-few : goal.returns-clause-few
+returns-clause-few c = omega (arith, c.len.ensures, c.self.invariant.stuck.table.few)

@@ -1,6 +1,5 @@
-use Rattle.std.proofs.Common.{◌∙◌, List, length, ap, arith}
+use Rattle.std.proofs.Common.{◌∙◌, List, length, ap, sym, arith}
 use Rattle.ht_tern.specs.declared.tern.Tern.{Tern}
-use Rattle.ht_group.specs.Overlays.{spread}
 use Rattle.ht_group.proofs.ChangeLaws.{fresh_group}
 use Rattle.ht_group.proofs.group.Group.new.Goals as goal
 
@@ -18,6 +17,6 @@ pub invariant_of-result-3 : goal.invariant_of-result-3
 invariant_of-result-3 c =
     fresh_group _ c.in_ok-schedule.ensures.circuit c.in_ok-schedule.ensures c.in_ok-new.ensures.stuck
     c.in_ok-new.ensures.none c.in_ok-frame.ensures
-    (c.sources.view_is ∙ (c.in_ok-sources.ensures ∙ ap spread c.deref.ensures.value))
-    (c.nets.view_is ∙ (c.in_ok-nets.ensures ∙ ap spread c.deref-2.ensures.value)) _ c.nets-2.ensures.count
+    (rw (c.sources.view_is, sym c.deref.ensures.value) c.in_ok-sources.ensures)
+    (rw (c.nets.view_is, sym c.deref-2.ensures.value) c.in_ok-nets.ensures) _ c.nets-2.ensures.count
     c.in_ok-new-2.ensures (omega (arith, c.in_ok-vec.ensures.len))
