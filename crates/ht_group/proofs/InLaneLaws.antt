@@ -56,4 +56,5 @@ same_lane k s t count same =
     let f = λ (w : Lanes). lane w k in
     let a = length-map s f in
     let b = length-map t f in
-    ext_get_or Unk (in_lane k s) (in_lane k t) (omega (arith, a, b, count)) (λ x inside. same x (omega (arith, inside, a)))
+    ext_get_or Unk (in_lane k s) (in_lane k t) (omega (arith, a, b, count))
+    (λ x inside. same x (omega (arith, inside, a)))
