@@ -38,22 +38,26 @@ says_more job a b says w = changed_by_writing (writing job) Out a b says (λ n o
 
 module _ (port : OutPort) (name text : List ℕ) (a m b : DeskView) (made : Created port name a m) (w : Writes port m b)
   where
-  created_empty : IsBegun port name [] a m
-  created_empty = record {
-    created = record { is_created = made.is_created; named = made.named };
-    written = made.written;
-  }
+    created_empty : IsBegun port name [] a m
+    created_empty = record {
+      created = record { is_created = made.is_created; named = made.named };
+      written = made.written;
+    }
 
-  pub begins_changed : (job : Asked) → IsFilePort port → OutCall port a m → output_name job port ≡ Some name
-      → ChangedOnly (writing job) a b
-  begins_changed job file x is = changed_trans (writing job) a m b
-      (changed_by_creating (writing job) port name a m file is (file_is_written job port name file is) x made)
-      (writes_more job port name a m b file is created_empty.created w)
+    pub begins_changed : (job : Asked) → IsFilePort port → OutCall port a m → output_name job port ≡ Some name
+        → ChangedOnly (writing job) a b
+    begins_changed job file x is = changed_trans (writing job) a m b
+        (changed_by_creating (writing job) port name a m file is (file_is_written job port name file is) x made)
+        (writes_more job port name a m b file is created_empty.created w)
 
-  pub begins : b.written port ≡ append_known (m.written port) text → IsBegun port name text a b
-  begins added = begun_more port name [] text a m b created_empty w added
+    pub begins : b.written port ≡ append_known (m.written port) text → IsBegun port name text a b
+    begins added = begun_more port name [] text a m b created_empty w added
 
-  pub begins_partly : AddedPart port text m b → StopsInText port text a b
-  begins_partly part = inr (part.count, part.proper, part.part.written
-      ∙ ap (λ known. append_known known (take part.count text)) made.written
-      ∙ appended (a.written port) [] (take part.count text))
+    pub begins_partly : AddedPart port text m b → StopsInText port text a b
+    begins_partly part = inr (
+      part.count,
+      part.proper,
+      part.part.written
+          ∙ ap (λ known. append_known known (take part.count text)) made.written
+          ∙ appended (a.written port) [] (take part.count text),
+    )

@@ -277,9 +277,11 @@ module _ (names : CheckFiles) (c : net.Netlist) (representatives : List ℕ) whe
       let mine : Holds a names.tests = known_holds (a.file names.tests) (h.netlist.known names.tests steady)
       (may_hold_before in_port.Netlist names.tests a m h.netlist.frame h.there) in
       subst (λ (t : List ℕ). Holds a t × AcceptsTests netlist t a)
-      (let e : Some names.tests ≡ Some tests = of_tests in cc)
-      (mine, subst (λ (t : List ℕ). AcceptsTests t names.tests a)
-      (let e : Some names.netlist ≡ Some netlist = of_netlist in cc) (accepts_second list a m n h))
+      (let e : Some names.tests ≡ Some tests = of_tests in cc) (
+        mine,
+        subst (λ (t : List ℕ). AcceptsTests t names.tests a)
+            (let e : Some names.netlist ≡ Some netlist = of_netlist in cc) (accepts_second list a m n h),
+      )
 
   pub report_stops : (list : List (List Bool)) (a m n b : DeskView) (e : RunError) → TestsAreRead list a m n
       → InCall in_port.Report n b

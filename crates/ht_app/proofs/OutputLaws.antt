@@ -129,16 +129,16 @@ short_earlier port text a m b same (inr is) =
 module _ (port : OutPort) (a m b : DeskView) (same : m.written port ≡ a.written port)
     (silent : m.written Out ≡ a.written Out)
   where
-  body_earlier : (body : List ℕ) → StopsInBody port body m b → StopsInBody port body a b
-  body_earlier body s = record { text = short_earlier port body a m b same s.text; out = s.out ∙ silent }
+    body_earlier : (body : List ℕ) → StopsInBody port body m b → StopsInBody port body a b
+    body_earlier body s = record { text = short_earlier port body a m b same s.text; out = s.out ∙ silent }
 
-  total_earlier : (body total : List ℕ) → StopsInTotal port body total m b → StopsInTotal port body total a b
-  total_earlier body total s = record {
-    count = s.count;
-    short = s.short;
-    text = s.text ∙ ap (λ known. option_map (λ (_ : List ℕ). body) known) same;
-    out = s.out ∙ ap (λ known. append_known known (take s.count total)) silent;
-  }
+    total_earlier : (body total : List ℕ) → StopsInTotal port body total m b → StopsInTotal port body total a b
+    total_earlier body total s = record {
+      count = s.count;
+      short = s.short;
+      text = s.text ∙ ap (λ known. option_map (λ (_ : List ℕ). body) known) same;
+      out = s.out ∙ ap (λ known. append_known known (take s.count total)) silent;
+    }
 
 pub stops_earlier : (body total : List ℕ) (a m b : DeskView) → m.written Report ≡ a.written Report
     → m.written Out ≡ a.written Out → StopsInReport body total m b → StopsInReport body total a b

@@ -78,22 +78,22 @@ not_answered job a b x unread = record {
 module _ (job : Asked) (a b : DeskView) (reads : is_some (input_name job in_port.Netlist) ≡ true)
     (x : ChangedOnly (reading job) a b)
   where
-  reads_all : (status : ℕ) → (status == 3 || status == 7) ≡ false → ChangedOnly (job_ports job status) a b
-  reads_all status ne =
-      changed_within (reading job) (job_ports job status) a b (reading_within job status ne) x
+    reads_all : (status : ℕ) → (status == 3 || status == 7) ≡ false → ChangedOnly (job_ports job status) a b
+    reads_all status ne =
+        changed_within (reading job) (job_ports job status) a b (reading_within job status ne) x
 
-  pub ends_reading : (e : RunError) → (exit_status e ≡ 3 → InCall in_port.Netlist a b)
-      → (exit_status e ≡ 7 → IsUnread in_port.Extra a b) → ChangedOnly (job_ports job (exit_status e)) a b
-  ends_reading (Denied trouble) first second = reads_all 1 refl
-  ends_reading Usage first second = reads_all 2 refl
-  ends_reading TooLong first second = not_read job a b reads (first refl)
-  ends_reading (Refused error) first second = not_read job a b reads (first refl)
-  ends_reading ReadFault first second = reads_all 4 refl
-  ends_reading WriteFault first second = reads_all 5 refl
-  ends_reading NoMemory first second = reads_all 6 refl
-  ends_reading (BadTests line) first second = not_answered job a b x (second refl)
-  ends_reading TooManyVectors first second = reads_all 9 refl
-  ends_reading (BadResponses line) first second = reads_all 10 refl
+    pub ends_reading : (e : RunError) → (exit_status e ≡ 3 → InCall in_port.Netlist a b)
+        → (exit_status e ≡ 7 → IsUnread in_port.Extra a b) → ChangedOnly (job_ports job (exit_status e)) a b
+    ends_reading (Denied trouble) first second = reads_all 1 refl
+    ends_reading Usage first second = reads_all 2 refl
+    ends_reading TooLong first second = not_read job a b reads (first refl)
+    ends_reading (Refused error) first second = not_read job a b reads (first refl)
+    ends_reading ReadFault first second = reads_all 4 refl
+    ends_reading WriteFault first second = reads_all 5 refl
+    ends_reading NoMemory first second = reads_all 6 refl
+    ends_reading (BadTests line) first second = not_answered job a b x (second refl)
+    ends_reading TooManyVectors first second = reads_all 9 refl
+    ends_reading (BadResponses line) first second = reads_all 10 refl
 
 -- a job that asks for no responses doesn't read them
 pub never_answered : (job : Asked) (a b : DeskView) → is_some (input_name job in_port.Extra) ≡ false

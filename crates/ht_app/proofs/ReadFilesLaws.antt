@@ -83,39 +83,39 @@ at_sizes P m n p q width vectors is = subst (λ (v : ℕ). P p v) vectors (subst
 module _ (job : Asked) (netlist : List ℕ) (c : net.Netlist) (a m : DeskView)
     (of_netlist : input_name job Netlist ≡ Some netlist) (h : NetlistWasRead netlist c a m)
   where
-  has_netlist : IsTrue a.steady → HasNetlist job a
-  has_netlist steady = λ name is. subst (λ (n : List ℕ). Holds a n × AcceptsNetlist n a)
-      (let e : Some netlist ≡ Some name = sym of_netlist ∙ is in cc)
-      (known_holds (a.file netlist) (h.known netlist steady) h.there, accepts_netlist netlist c a h.there h.good)
+    has_netlist : IsTrue a.steady → HasNetlist job a
+    has_netlist steady = λ name is. subst (λ (n : List ℕ). Holds a n × AcceptsNetlist n a)
+        (let e : Some netlist ≡ Some name = sym of_netlist ∙ is in cc)
+        (known_holds (a.file netlist) (h.known netlist steady) h.there, accepts_netlist netlist c a h.there h.good)
 
-  fails_at_tests : (tests : List ℕ) (b : DeskView) → input_name job Tests ≡ Some tests → IsReadFault tests m b
-      → FailsToRead job a b
-  fails_at_tests tests b is fault = record {
-    rose = omega (arith, h.frame.after.in_faults, fault.rose);
-    lacks = λ steady. record {
-      port = Tests;
-      name = tests;
-      reads = is;
-      lacks = λ holds. fault.lacks (steady_before a m h.frame.after.steady steady)
-          (holds_later Netlist tests a m h.frame holds);
-      reached = has_netlist steady;
-    };
-  }
+    fails_at_tests : (tests : List ℕ) (b : DeskView) → input_name job Tests ≡ Some tests → IsReadFault tests m b
+        → FailsToRead job a b
+    fails_at_tests tests b is fault = record {
+      rose = omega (arith, h.frame.after.in_faults, fault.rose);
+      lacks = λ steady. record {
+        port = Tests;
+        name = tests;
+        reads = is;
+        lacks = λ holds. fault.lacks (steady_before a m h.frame.after.steady steady)
+            (holds_later Netlist tests a m h.frame holds);
+        reached = has_netlist steady;
+      };
+    }
 
-  pub tests_cause : (tests : List ℕ) (b : DeskView) (e : RunError) → input_name job Tests ≡ Some tests
-      → ((line : ℕ) → ReadsTests netlist tests a (λ d text. IsMalformedTest d text line) → RefusesTests job a line)
-      → b.written ≡ m.written → TestsCause c tests m b e → HasCause job a b e
-  tests_cause tests b (Denied trouble) is refuses same cause = absurd cause
-  tests_cause tests b Usage is refuses same cause = absurd cause
-  tests_cause tests b TooLong is refuses same cause = absurd cause
-  tests_cause tests b (Refused error) is refuses same cause = absurd cause
-  tests_cause tests b ReadFault is refuses same cause = fails_at_tests tests b is cause
-  tests_cause tests b WriteFault is refuses same cause = absurd cause
-  tests_cause tests b NoMemory is refuses same cause = inl (same ∙ h.frame.written)
-  tests_cause tests b (BadTests line) is refuses same cause = refuses line
-      (reads_tests netlist tests c a m (λ d text. IsMalformedTest d text line) h cause.there cause.cause)
-  tests_cause tests b TooManyVectors is refuses same cause = absurd cause
-  tests_cause tests b (BadResponses line) is refuses same cause = absurd cause
+    pub tests_cause : (tests : List ℕ) (b : DeskView) (e : RunError) → input_name job Tests ≡ Some tests
+        → ((line : ℕ) → ReadsTests netlist tests a (λ d text. IsMalformedTest d text line) → RefusesTests job a line)
+        → b.written ≡ m.written → TestsCause c tests m b e → HasCause job a b e
+    tests_cause tests b (Denied trouble) is refuses same cause = absurd cause
+    tests_cause tests b Usage is refuses same cause = absurd cause
+    tests_cause tests b TooLong is refuses same cause = absurd cause
+    tests_cause tests b (Refused error) is refuses same cause = absurd cause
+    tests_cause tests b ReadFault is refuses same cause = fails_at_tests tests b is cause
+    tests_cause tests b WriteFault is refuses same cause = absurd cause
+    tests_cause tests b NoMemory is refuses same cause = inl (same ∙ h.frame.written)
+    tests_cause tests b (BadTests line) is refuses same cause = refuses line
+        (reads_tests netlist tests c a m (λ d text. IsMalformedTest d text line) h cause.there cause.cause)
+    tests_cause tests b TooManyVectors is refuses same cause = absurd cause
+    tests_cause tests b (BadResponses line) is refuses same cause = absurd cause
 
 -- the same of `compact`
 pub few_tests_cause : (netlist tests out : List ℕ) (c : net.Netlist) (a m b : DeskView) (e : RunError)
@@ -145,45 +145,47 @@ few_tests_cause netlist tests out c a m b (BadResponses line) h same cause = abs
 module _ (names : DiagnosisFiles) (out : List ℕ) (c : net.Netlist) (list : List (List Bool)) (a m n b : DeskView)
     (h : TestsWereRead names.netlist names.tests c list a m n)
   where
-  abbrev job : Asked
-  job = diagnose names.netlist names.tests names.responses out
+    abbrev job : Asked
+    job = diagnose names.netlist names.tests names.responses out
 
-  has_tests : IsTrue a.steady → HasTests job a
-  has_tests steady = λ netlist tests of_netlist of_tests.
-      let mine : Holds a names.tests = known_holds (a.file names.tests) (h.netlist_read.known names.tests steady)
-      (may_hold_before Netlist names.tests a m h.netlist_read.frame h.there) in
-      subst (λ (t : List ℕ). Holds a t × AcceptsTests netlist t a)
-      (let e : Some names.tests ≡ Some tests = of_tests in cc)
-      (mine, subst (λ (t : List ℕ). AcceptsTests t names.tests a)
-      (let e : Some names.netlist ≡ Some netlist = of_netlist in cc)
-      (accepts_tests names.netlist names.tests c list a m n h))
+    has_tests : IsTrue a.steady → HasTests job a
+    has_tests steady = λ netlist tests of_netlist of_tests.
+        let mine : Holds a names.tests = known_holds (a.file names.tests) (h.netlist_read.known names.tests steady)
+        (may_hold_before Netlist names.tests a m h.netlist_read.frame h.there) in
+        subst (λ (t : List ℕ). Holds a t × AcceptsTests netlist t a)
+        (let e : Some names.tests ≡ Some tests = of_tests in cc) (
+          mine,
+          subst (λ (t : List ℕ). AcceptsTests t names.tests a)
+              (let e : Some names.netlist ≡ Some netlist = of_netlist in cc)
+              (accepts_tests names.netlist names.tests c list a m n h),
+        )
 
-  pub responses_cause : (e : RunError) → b.written ≡ n.written
-      → ResponsesCause (length c.outputs) (length list) names.responses n b e → HasCause job a b e
-  responses_cause (Denied trouble) same cause = absurd cause
-  responses_cause Usage same cause = absurd cause
-  responses_cause TooLong same cause = absurd cause
-  responses_cause (Refused error) same cause = absurd cause
-  responses_cause ReadFault same cause = record {
-    rose = omega (arith, h.netlist_read.frame.after.in_faults, h.frame.after.in_faults, cause.rose);
-    lacks = λ steady. record {
-      port = Extra;
-      name = names.responses;
-      reads = refl;
-      lacks = λ holds. cause.lacks
-          (steady_before m n h.frame.after.steady (steady_before a m h.netlist_read.frame.after.steady steady))
-          (holds_later Tests names.responses m n h.frame
-          (holds_later Netlist names.responses a m h.netlist_read.frame holds));
-      reached = (has_netlist job names.netlist c a m refl h.netlist_read steady, has_tests steady);
-    };
-  }
-  responses_cause WriteFault same cause = absurd cause
-  responses_cause NoMemory same cause = inl (same ∙ h.frame.written ∙ h.netlist_read.frame.written)
-  responses_cause (BadTests line) same cause = absurd cause
-  responses_cause TooManyVectors same cause = absurd cause
-  responses_cause (BadResponses line) same cause = record {
-    names = names;
-    out_name = out;
-    job_is = refl;
-    reads = reads_responses names c list a m n _ h cause.there cause.cause;
-  }
+    pub responses_cause : (e : RunError) → b.written ≡ n.written
+        → ResponsesCause (length c.outputs) (length list) names.responses n b e → HasCause job a b e
+    responses_cause (Denied trouble) same cause = absurd cause
+    responses_cause Usage same cause = absurd cause
+    responses_cause TooLong same cause = absurd cause
+    responses_cause (Refused error) same cause = absurd cause
+    responses_cause ReadFault same cause = record {
+      rose = omega (arith, h.netlist_read.frame.after.in_faults, h.frame.after.in_faults, cause.rose);
+      lacks = λ steady. record {
+        port = Extra;
+        name = names.responses;
+        reads = refl;
+        lacks = λ holds. cause.lacks
+            (steady_before m n h.frame.after.steady (steady_before a m h.netlist_read.frame.after.steady steady))
+            (holds_later Tests names.responses m n h.frame
+            (holds_later Netlist names.responses a m h.netlist_read.frame holds));
+        reached = (has_netlist job names.netlist c a m refl h.netlist_read steady, has_tests steady);
+      };
+    }
+    responses_cause WriteFault same cause = absurd cause
+    responses_cause NoMemory same cause = inl (same ∙ h.frame.written ∙ h.netlist_read.frame.written)
+    responses_cause (BadTests line) same cause = absurd cause
+    responses_cause TooManyVectors same cause = absurd cause
+    responses_cause (BadResponses line) same cause = record {
+      names = names;
+      out_name = out;
+      job_is = refl;
+      reads = reads_responses names c list a m n _ h cause.there cause.cause;
+    }

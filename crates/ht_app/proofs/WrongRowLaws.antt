@@ -17,47 +17,47 @@ use Rattle.ht_app.proofs.SoFarLaws.{BeginsWith, next_at}
 module _ (width vectors : ℕ) (text : List ℕ) (rows : List (List Tern)) (begins : BeginsWith tern_code width text rows)
     (widths : All (λ (row : List Tern). length row ≡ width) rows) (few : length rows ≤ vectors)
   where
-  wrong_next : IsWrongResponse width vectors text (length rows + 1)
-      → IsMalformedResponse width vectors text (length rows + 1)
-  wrong_next wrong =
-      let first : AreFirstRows width text rows =
-      record { lines = begins.lines; there = begins.there; widths = widths } in
-      stopped_at width vectors text rows first few begins.short wrong
+    wrong_next : IsWrongResponse width vectors text (length rows + 1)
+        → IsMalformedResponse width vectors text (length rows + 1)
+    wrong_next wrong =
+        let first : AreFirstRows width text rows =
+        record { lines = begins.lines; there = begins.there; widths = widths } in
+        stopped_at width vectors text rows first few begins.short wrong
 
-  -- the line that comes next is no row's or has no vector
-  no_row : (line : List ℕ) → IsNextLine text (map row_text rows) line
-      → ((row : List Tern) → IsRowText width line row → vectors ≤ length rows)
-      → IsNoResponse width vectors text (length rows + 1)
-  no_row line next none =
-      let at = next_at tern_code width text rows line next in
-      record {
-        counted = (omega arith, at.0);
-        wrong = elim (cases_lt vectors (length rows + 1)) [
-          | inl many ↦ inl many
-          | inr fits ↦ inr (λ row of. absurd (let late =
-              none row (subst (λ (l : List ℕ). IsRowText width l row) at.1 of) in omega (arith, fits, late)))
-        ];
-      }
+    -- the line that comes next is no row's or has no vector
+    no_row : (line : List ℕ) → IsNextLine text (map row_text rows) line
+        → ((row : List Tern) → IsRowText width line row → vectors ≤ length rows)
+        → IsNoResponse width vectors text (length rows + 1)
+    no_row line next none =
+        let at = next_at tern_code width text rows line next in
+        record {
+          counted = (omega arith, at.0);
+          wrong = elim (cases_lt vectors (length rows + 1)) [
+            | inl many ↦ inl many
+            | inr fits ↦ inr (λ row of. absurd (let late =
+                none row (subst (λ (l : List ℕ). IsRowText width l row) at.1 of) in omega (arith, fits, late)))
+          ];
+        }
 
-  pub bad_row : (line : List ℕ) → IsNextLine text (map row_text rows) line
-      → ((row : List Tern) → IsRowText width line row → vectors ≤ length rows)
-      → IsMalformedResponse width vectors text (length rows + 1)
-  bad_row line next none = wrong_next (inl (no_row line next none))
+    pub bad_row : (line : List ℕ) → IsNextLine text (map row_text rows) line
+        → ((row : List Tern) → IsRowText width line row → vectors ≤ length rows)
+        → IsMalformedResponse width vectors text (length rows + 1)
+    bad_row line next none = wrong_next (inl (no_row line next none))
 
-  pub long_row : width ≤ max_nets → IsNextLong max_nets text (map row_text rows)
-      → IsMalformedResponse width vectors text (length rows + 1)
-  long_row fits next = wrong_next (elim next.long [
-    | inl wide ↦ inl (no_row next.line next.next (λ row of.
-        absurd (omega (arith, wide, fits, of.values, ap length of.characters, length-map row tern_code))))
-    | inr late ↦ inr (inr (subst (λ n. IsTooLong text (n + 1)) (length-map rows row_text) late))
-  ])
+    pub long_row : width ≤ max_nets → IsNextLong max_nets text (map row_text rows)
+        → IsMalformedResponse width vectors text (length rows + 1)
+    long_row fits next = wrong_next (elim next.long [
+      | inl wide ↦ inl (no_row next.line next.next (λ row of.
+          absurd (omega (arith, wide, fits, of.values, ap length of.characters, length-map row tern_code))))
+      | inr late ↦ inr (inr (subst (λ n. IsTooLong text (n + 1)) (length-map rows row_text) late))
+    ])
 
-  pub missing_row : lines_of text ≡ map row_text rows → length rows < vectors
-      → IsMalformedResponse width vectors text (length rows + 1)
-  missing_row all awaited = wrong_next (inr (inl (record {
-    missing = omega (arith, ap length all, length-map rows row_text);
-    awaited = omega (arith, awaited);
-  })))
+    pub missing_row : lines_of text ≡ map row_text rows → length rows < vectors
+        → IsMalformedResponse width vectors text (length rows + 1)
+    missing_row all awaited = wrong_next (inr (inl (record {
+      missing = omega (arith, ap length all, length-map rows row_text);
+      awaited = omega (arith, awaited);
+    })))
 
 -- all rows were read, if there are as many as vectors
 pub whole_rows : (width vectors : ℕ) (Is : List ℕ → Type 0) (read : ObservationView)

@@ -82,13 +82,7 @@ fn do_job<D: Desk>(alloc: Global, job: &Job, desk: &mut D) -> Result<(), RunErro
             netlist,
             tests,
             out,
-        } => compact(
-            alloc,
-            netlist.as_str(),
-            tests.as_str(),
-            out.as_str(),
-            desk,
-        ),
+        } => compact(alloc, netlist.as_str(), tests.as_str(), out.as_str(), desk),
         Job::Diagnose {
             netlist,
             tests,

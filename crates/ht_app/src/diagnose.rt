@@ -70,8 +70,7 @@ fn make_report<D: Desk>(
 {
     let circuit = read_netlist(alloc, desk, netlist)?;
     let list = read_tests(alloc, desk, tests, &circuit)?;
-    let observation =
-        read_responses(alloc, desk, responses, circuit.outputs(), list.len())?;
+    let observation = read_responses(alloc, desk, responses, circuit.outputs(), list.len())?;
     let made = diagnosis_texts(alloc, &circuit, &list, &observation)?;
     Ok(made)
 }

@@ -20,8 +20,14 @@ first_are_right c text list n are upto (inr long) = are.short n upto long
 -- a text is of few enough vectors, or begins with too many, or has a malformed line before: no two of these hold
 pub few_or_many : (c : Netlist) (text : List ℕ) (list : List (List Bool)) → IsShortTestText c text list
     → ¬ HasTooManyVectors c text
-few_or_many c text list is many = omega (arith, is.few, many.many, many.first.there, ap length is.vectors.lines,
-    length-map list vector_text)
+few_or_many c text list is many = omega (
+  arith,
+  is.few,
+  many.many,
+  many.first.there,
+  ap length is.vectors.lines,
+  length-map list vector_text,
+)
 
 pub malformed_or_many : (c : Netlist) (text : List ℕ) (n : ℕ) → IsMalformedEarly c text n → ¬ HasTooManyVectors c text
 malformed_or_many c text n bad many =
