@@ -2,7 +2,7 @@
 use Rattle.std.proofs.Common.{◌≡◌, ℕ, List, length, refl, sym, ◌∙◌, ap, subst, arith}
 use Rattle.std.specs.Prelude.{Option, Some, None}
 use Rattle.ht_ports.specs.Desk.{DeskView}
-use Rattle.ht_ports.specs.declared.ports.InPort.TheVariants.{Netlist, Tests}
+use Rattle.ht_ports.specs.declared.ports.InPort.TheVariants.{Netlist}
 use Rattle.ht_net.specs.Netlist as net
 use Rattle.ht_bench.proofs.OneLaws.{one_circuit}
 use Rattle.ht_bench.specs.declared.error.BenchError.{BenchError}

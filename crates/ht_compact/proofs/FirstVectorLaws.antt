@@ -1,5 +1,5 @@
 -- The first lines of a text, where they are those of vectors.
-use Rattle.std.proofs.Common.{◌≡◌, inl, inr, ℕ, ◌-◌, ◌<◌, ◌≤◌, List, [], Bool, length, take, get_or, map, sym, ◌∙◌, ap, arith}
+use Rattle.std.proofs.Common.{◌≡◌, inl, inr, ℕ, ◌-◌, ◌<◌, ◌≤◌, List, [], Bool, length, get_or, sym, ◌∙◌, ap, arith}
 use Rattle.std.proofs.lemmas.List.{length-map, get_or-map, get_or-take}
 use Rattle.ht_ports.specs.LineRule.{lines_of}
 use Rattle.ht_net.specs.Netlist.{Netlist}
