@@ -1,5 +1,5 @@
 -- What the steps of a job touch is what a run of the job may touch.
-use Rattle.std.proofs.Common.{◌≡◌, ◌⊎◌, inl, inr, ℕ, List, Bool, true, false, refl, sym, ◌∙◌, ap, subst}
+use Rattle.std.proofs.Common.{◌≡◌, ◌⊎◌, inl, inr, ℕ, Bool, true, false, refl, sym, ap, subst}
 use Rattle.std.specs.Prelude.{Option, Some, None, is_some, not, ◌&&◌, ◌||◌, ◌==◌, if◌then◌else◌}
 use Rattle.ht_ports.specs.Desk.{DeskView, InCall, Writes}
 use Rattle.ht_ports.specs.declared.ports.InPort.{InPort}

@@ -1,5 +1,5 @@
 -- The netlist, the tests and the responses, as they are read one after the other, and why the next isn't.
-use Rattle.std.proofs.Common.{◌≡◌, inl, ℕ, List, Bool, length, IsTrue, refl, sym, ◌∙◌, ap, subst, arith}
+use Rattle.std.proofs.Common.{◌≡◌, inl, ℕ, List, Bool, length, IsTrue, refl, sym, ◌∙◌, subst, arith}
 use Rattle.std.specs.Prelude.{IsSome, Some}
 use Rattle.ht_ports.specs.Desk.{DeskView, InCall, Holds}
 use Rattle.ht_ports.specs.declared.ports.InPort.TheVariants.{Netlist, Tests, Extra}

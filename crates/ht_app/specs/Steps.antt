@@ -1,5 +1,5 @@
 -- What the steps of a run promise each other.
-use Rattle.std.specs.Prelude.{◌≡◌, ℕ, ◌<◌, ◌≤◌, ◌++◌, List, length, take, IsTrue, Bool, true, false, Option, Some, None, is_some, Result, Ok, Err}
+use Rattle.std.specs.Prelude.{◌≡◌, ℕ, ◌<◌, ◌≤◌, ◌++◌, List, length, take, IsTrue, Bool, true, false, None, is_some, Result, Ok, Err}
 use Rattle.std.specs.Option.{option_map}
 use Rattle.std.specs.Io.KnownBytes.{append_known}
 use Rattle.ht_ports.specs.Causes.{Rose}
@@ -7,7 +7,7 @@ use Rattle.ht_ports.specs.Desk.{DeskView, Holds}
 use Rattle.ht_ports.specs.declared.ports.InPort.TheVariants.{Netlist, Tests, Extra}
 use Rattle.ht_ports.specs.declared.ports.InPort.{InPort}
 use Rattle.ht_ports.specs.declared.ports.OutPort.{OutPort}
-use Rattle.ht_ports.specs.declared.ports.OutPort.TheVariants.{Report, Out, Err}
+use Rattle.ht_ports.specs.declared.ports.OutPort.TheVariants.{Out, Err}
 use Rattle.ht_net.specs.Netlist as net
 use Rattle.ht_bench.specs.Normal.{normal_text}
 use Rattle.ht_texts.specs.Tests.{IsMalformedTest}

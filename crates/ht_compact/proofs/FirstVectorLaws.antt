@@ -1,5 +1,5 @@
 -- The first lines of a text, where they are those of vectors.
-use Rattle.std.proofs.Common.{◌≡◌, inl, inr, ℕ, ◌-◌, ◌<◌, ◌≤◌, List, [], Bool, length, take, get_or, map, sym, ◌∙◌, ap, arith}
+use Rattle.std.proofs.Common.{◌≡◌, inl, inr, ℕ, ◌-◌, ◌<◌, ◌≤◌, List, [], Bool, length, get_or, sym, ◌∙◌, ap, arith}
 use Rattle.std.proofs.lemmas.List.{length-map, get_or-map, get_or-take}
 use Rattle.ht_ports.specs.LineRule.{lines_of}
 use Rattle.ht_net.specs.Netlist.{Netlist}
@@ -20,8 +20,14 @@ first_are_right c text list n are upto (inr long) = are.short n upto long
 -- a text is of few enough vectors, or begins with too many, or has a malformed line before: no two of these hold
 pub few_or_many : (c : Netlist) (text : List ℕ) (list : List (List Bool)) → IsShortTestText c text list
     → ¬ HasTooManyVectors c text
-few_or_many c text list is many = omega (arith, is.few, many.many, many.first.there, ap length is.vectors.lines,
-    length-map list vector_text)
+few_or_many c text list is many = omega (
+  arith,
+  is.few,
+  many.many,
+  many.first.there,
+  ap length is.vectors.lines,
+  length-map list vector_text,
+)
 
 pub malformed_or_many : (c : Netlist) (text : List ℕ) (n : ℕ) → IsMalformedEarly c text n → ¬ HasTooManyVectors c text
 malformed_or_many c text n bad many =

@@ -1,9 +1,7 @@
-use Rattle.std.proofs.Common.{◌≡◌, refl, length, ◌∙◌, rules}
+use Rattle.std.proofs.Common.{refl, rules}
 use Rattle.ht_ports.specs.declared.ports.InPort.TheVariants.{Netlist, Tests, Extra}
 use Rattle.ht_asked.specs.Asked.{diagnose}
-use Rattle.ht_app.specs.Changed.{IsUnread}
-use Rattle.ht_app.specs.Errors.{exit_status}
-use Rattle.ht_app.specs.Inputs.{AreRows, DiagnosisFiles, diagnosis_files_of}
+use Rattle.ht_app.specs.Inputs.{AreRows, diagnosis_files_of}
 use Rattle.ht_dictionary.specs.ResponseTexts.{IsResponseText}
 use Rattle.ht_app.specs.Steps.{DiagnoseCause, ResponsesCause}
 use Rattle.ht_app.proofs.CauseLaws.{input_later, netlist_cause}
