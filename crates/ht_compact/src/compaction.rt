@@ -1,5 +1,5 @@
 //! Leaving out vectors in rounds.
-ghost use Rattle.std.specs.Prelude.{◌≡◌, ◌<◌, All, length, IfOk, OnOk};
+ghost use Rattle.std.specs.Prelude.{◌≡◌, ◌<◌, ◌^◌, All, length, IfOk, OnOk};
 ghost use Rattle.ht_faults.specs.Sites.{faults_of};
 ghost use Rattle.ht_collapse.specs.Classes.{AreClasses};
 ghost use Rattle.ht_compact.specs.Kept.{LeavesOut};
@@ -26,6 +26,7 @@ fn leave_out(
 ) -> Result<(), AllocError>
     requires faults { faults.now ≡ faults_of circuit.now }
     requires wanted { All (λ i. i < length faults.now) wanted.now }
+    requires few { length wanted.now < 2 ^ 32 }
     requires width { kept.old.width ≡ circuit.now.inputs }
     requires detected { DetectsEach circuit.now wanted.now kept.old.list }
     ensures width { kept.new.width ≡ circuit.now.inputs }
@@ -66,6 +67,8 @@ pub fn compact(
         (λ kept. Compacts circuit.now classes.now list.now.list kept.list) }
 {
     let wanted = detected_classes(alloc, circuit, faults, classes, list)?;
+    // for the proof: there are fewer faults than 2^32
+    let _count = faults.len();
     let mut kept = without(alloc, circuit.inputs(), list, list.len())?;
     loop {
         let before = kept.len();

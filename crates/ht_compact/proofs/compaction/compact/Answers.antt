@@ -18,7 +18,7 @@ loop-kept-init c =
       width = ap (λ (r : Rows). r.width) c.in_ok-kept.ensures ∙ c.inputs.ensures;
       in_order = subst (LeavesOut list) all (leaves_out_none list);
       detected = subst (DetectsEach circuit c.in_ok-wanted.wanted.items) all
-          (given_detects circuit c.args.classes.now list c.in_ok-wanted.wanted.items c.in_ok-wanted.ensures);
+          (given_detects circuit c.args.classes.now list c.in_ok-wanted.wanted.items c.in_ok-wanted.ensures.detected);
     }
 
 pub returns-then-len-before-clause-compacted : goal.returns-then-len-before-clause-compacted
@@ -31,7 +31,7 @@ returns-then-len-before-clause-compacted c =
     let round = c.in_ok-leave_out.ensures in
     let same : length kept ≡ length before =
     omega (arith, c.len-in-loop-kept.ensures, c.if-len-before.true, c.len-before.ensures) in
-    compacted circuit c.args.classes.now list kept wanted c.in_ok-wanted.ensures
+    compacted circuit c.args.classes.now list kept wanted c.in_ok-wanted.ensures.detected
     (leaves_out_more list before kept c.loop-kept.invariant.in_order round.in_order)
     (subst (λ (l : List ℕ). DetectsEach circuit l kept) c.deref.ensures.value round.detected)
     (subst (λ (l : List ℕ). AreNeeded circuit l kept) c.deref.ensures.value (round.needed same))

@@ -1,7 +1,8 @@
 use Rattle.std.proofs.Common.{◌≡◌, ◌<◌, ◌+◌, ℕ, List, Vec, length, get_or, refl, sym, ◌∙◌, ap, subst, arith}
 use Rattle.std.specs.declared.alloc.Global.{Global}
+use Rattle.ht_net.specs.declared.fault.Fault.{Fault}
 use Rattle.ht_collapse.specs.Classes.{own_representatives}
-use Rattle.ht_collapse.proofs.OwnLaws.{own_below}
+use Rattle.ht_collapse.proofs.OwnLaws.{own_below, own_within}
 use Rattle.ht_compact.proofs.DetectedLaws.{AreDetectedSoFar, own_at, own_first, detected_first, undetected_first, detected_more, detected_same, all_detected}
 use Rattle.ht_compact.proofs.detected.detected_classes.Goals as goal
 use Rattle.ht_compact.proofs.detected.detected_classes.Goals.{then-is_some+in_ok-push, else-is_some}
@@ -33,12 +34,18 @@ loop-i-preserved c =
           (ap (λ (v : Vec ℕ Global). v.items) w.detected-is ∙ w.in_ok-push.ensures.items)
       | else-is_some w ↦
           subst (λ (v : Vec ℕ Global). AreDetectedSoFar circuit classes list (k + 1) v.items) (sym w.detected-is)
-          (detected_same circuit classes list k c.loop-i.detected.items i c.loop-i.invariant is
+          (detected_same circuit classes list k c.loop-i.detected.items i c.loop-i.invariant is inside
           (undetected_first circuit list i c.index.result.now (sym c.is_some.ensures ∙ w.if-is_some.false) first))
     ]
 
 pub returns : goal.returns
 returns c =
+    let classes = c.args.classes.now in
     let own = ap (λ (l : List ℕ). length l) c.representatives-i-items.ensures in
-    all_detected c.args.circuit.now c.args.classes.now c.args.list.now.list c.loop-i.i-index c.loop-i.detected.items
-    c.requires.classes c.loop-i.invariant (omega (arith, own, c.loop-i-test.false))
+    let faults = ap (λ (l : List Fault). length l) c.requires.faults in
+    let so_far = c.loop-i.invariant in
+    record {
+      detected = all_detected c.args.circuit.now classes c.args.list.now.list c.loop-i.i-index
+          c.loop-i.detected.items c.requires.classes so_far (omega (arith, own, c.loop-i-test.false));
+      few = omega (arith, so_far.few, so_far.some, own_within classes, c.requires.classes.every, faults);
+    }
