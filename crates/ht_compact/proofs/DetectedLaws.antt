@@ -51,16 +51,6 @@ pub record AreSeenSoFar (c : Netlist) (wanted : List ℕ) (list : List (List Boo
   pub detected : (k d : ℕ) → k < seen → IsDetectedBy c list (get_or wanted k d)
   pub next : seen < length wanted → ¬ IsDetectedBy c (take t list) (get_or wanted seen 0)
 
-pub none_seen : (c : Netlist) (wanted : List ℕ) (list : List (List Bool)) → AreSeenSoFar c wanted list 0 0
-none_seen c wanted list = record {
-  some = omega arith;
-  detected = λ k d less. absurd (omega arith);
-  next = λ inside is. absurd (omega (
-    arith,
-    detects_inside c (fault_at c (get_or wanted 0 0)) [] is.vector is.output is.detects,
-  ));
-}
-
 -- one vector more
 pub more_seen : (c : Netlist) (wanted : List ℕ) (list : List (List Bool)) (t seen u more : ℕ) (grader : PackedView)
     → AreSeenSoFar c wanted list t seen → grader.circuit ≡ c → grader.faults ≡ chosen_faults (faults_of c) wanted

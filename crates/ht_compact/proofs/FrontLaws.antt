@@ -8,7 +8,7 @@ use Rattle.ht_net.specs.declared.fault.Fault.{Fault}
 use Rattle.ht_net.specs.Netlist.{Netlist}
 use Rattle.ht_net.specs.Frame.{Rules, run_outputs, next_state, frame_outputs}
 use Rattle.ht_net.specs.Faults.{tern_rules}
-use Rattle.ht_net.specs.Detection.{terns_of, unknown_state, output_at, Detects}
+use Rattle.ht_net.specs.Detection.{terns_of, unknown_state, output_at}
 use Rattle.ht_serial.proofs.DetectionLaws.{detects_inside}
 use Rattle.ht_collapse.specs.Classes.{fault_at}
 use Rattle.ht_compact.specs.Compacts.{IsDetectedBy}
@@ -30,13 +30,6 @@ front_shows c fault list n t o before =
     (sym (take-map terns_of n list))
     ∙ (ap (λ (rows : List (List Tern)). get_or rows t []) (front_run c r latches n (map terns_of list))
     ∙ get_or-take n (run_outputs c r latches (map terns_of list)) t [] before))
-
--- the first vectors detect at one of them what the list detects there
-pub front_detects : (c : Netlist) (fault : Fault) (list : List (List Bool)) (n t o : ℕ) → t < n
-    → Detects c fault list t o → Detects c fault (take n list) t o
-front_detects c fault list n t o before d =
-    subst (λ v. Opposite v (output_at c (Some fault) (take n list) t o)) (sym (front_shows c None list n t o before))
-    (subst (λ v. Opposite (output_at c None list t o) v) (sym (front_shows c (Some fault) list n t o before)) d)
 
 -- what the first vectors detect, the list detects
 pub detected_in_front : (c : Netlist) (list : List (List Bool)) (n i : ℕ) → IsDetectedBy c (take n list) i

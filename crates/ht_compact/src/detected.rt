@@ -27,8 +27,8 @@ pub fn detected_classes(
     requires faults { faults.now ≡ faults_of circuit.now }
     requires classes { AreClasses circuit.now classes.now }
     requires width { list.now.width ≡ circuit.now.inputs }
-    ensures detected { IfOk result (λ detected. AreDetectedClasses circuit.now classes.now list.now.list
-        detected.items) }
+    ensures detected { IfOk result (λ detected.
+        AreDetectedClasses circuit.now classes.now list.now.list detected.items) }
     ensures few { IfOk result (λ detected. length detected.items ≤ length faults.now) }
 {
     let places = first_detections(alloc, circuit, faults, classes, list)?;

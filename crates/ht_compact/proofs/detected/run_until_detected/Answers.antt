@@ -13,7 +13,8 @@ loop-t-preserved c =
     let circuit = c.in_ok-apply.ensures.same.0 ∙ c.loop-t.invariant.circuit in
     let faults = c.in_ok-apply.ensures.same.1 ∙ c.loop-t.invariant.faults in
     let vectors : take t list ++ vector ∷ [] ≡ take (t + 1) list =
-    ap (λ (v : List Bool). take t list ++ v ∷ []) c.get.ensures.row ∙ sym (take_more list t [] (omega (arith, c.loop-t-test.true, c.len-t-end.ensures))) in
+    ap (λ (v : List Bool). take t list ++ v ∷ []) c.get.ensures.row
+    ∙ sym (take_more list t [] (omega (arith, c.loop-t-test.true, c.len-t-end.ensures))) in
     let stands = subst (GraderStandsFor grader) vectors
     (c.in_ok-apply.ensures.stands (take t list) c.loop-t.invariant.stands) in
     record {
