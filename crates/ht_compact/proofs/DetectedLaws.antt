@@ -1,12 +1,11 @@
--- Which classes a list detects, by the first detections of their representatives.
-use Rattle.std.proofs.Common.{◌≡◌, ◌<◌, ◌≤◌, ◌+◌, ◌++◌, ◌∷◌, [], inl, inr, ℕ, List, Bool, true, false, length, get_or, take, Option, Some, None, sym, ◌∙◌, ap, subst, arith, length-append}
-use Rattle.std.specs.Prelude.{is_some, nat_eq, MatchBool}
+-- Which faults a list detects, by their first detections.
+use Rattle.std.proofs.Common.{◌≡◌, ◌<◌, ◌≤◌, ◌+◌, ◌^◌, ◌++◌, ◌∷◌, [], inl, inr, ℕ, List, Bool, true, false, length, get_or, take, Option, Some, None, sym, ◌∙◌, ap, subst, arith, length-append}
+use Rattle.std.specs.Prelude.{is_some}
 use Rattle.std.specs.List.{All, Contains, range_with_len, slice_get}
 use Rattle.std.specs.Option.{option_map}
 use Rattle.std.proofs.lemmas.Bool.{cases_eq}
-use Rattle.std.proofs.lemmas.Bool.Decides.{eqb_tells}
-use Rattle.std.proofs.lemmas.List.{get_or_default, take_all}
-use Rattle.std.proofs.lemmas.List.Elements.{All-push, filter_passes, Contains-append_left, Contains-get_or, Contains-push}
+use Rattle.std.proofs.lemmas.List.{get_or_default, take_all, take_more, map-append}
+use Rattle.std.proofs.lemmas.List.Elements.{All-push, All-weaker, filter_passes, Contains-append_left, Contains-get_or, Contains-push}
 use Rattle.std.proofs.lemmas.Option.{slice_get-map, slice_get-get_or}
 use Rattle.ht_net.specs.declared.fault.Fault.{Fault}
 use Rattle.ht_net.specs.declared.place.Place.{Place}
@@ -15,12 +14,13 @@ use Rattle.ht_net.specs.Detection.{IsFirstDetection}
 use Rattle.ht_net.proofs.FrameLaws.{le_or_lt}
 use Rattle.ht_faults.specs.Sites.{faults_of}
 use Rattle.ht_collapse.specs.Classes.{AreClasses, fault_at, is_representative, own_representatives}
-use Rattle.ht_collapse.proofs.OwnLaws.{own_is_fault, representative_is_own}
-use Rattle.ht_serial.proofs.DetectionLaws.{detects_inside}
+use Rattle.ht_collapse.proofs.OwnLaws.{own_is_fault, own_within, representative_is_own}
 use Rattle.ht_proofs.specs.PackedView.{PackedView, GraderStandsFor, chosen_faults, verdict_at}
 use Rattle.ht_grade.specs.Detections.{place_at, AreFirstDetections}
-use Rattle.ht_compact.specs.Compacts.{IsDetectedBy, IsDetectedClass, AreDetectedClasses, DetectsEach, MissesOne}
-use Rattle.ht_compact.proofs.FrontLaws.{detected_in_front}
+use Rattle.ht_compact.specs.declared.detected.DetectedFault.{DetectedFault}
+use Rattle.ht_compact.specs.Compacts.{IsDetectedBy, IsDetectedClass, AreDetectedClasses, MissesOne}
+use Rattle.ht_compact.specs.DetectedFaults.{AreDetectedFaults, AreDetections, HasRunWanted, IsDetectedFault, fault_numbers}
+use Rattle.ht_compact.proofs.FrontLaws.{detects_in_front, detected_in_more}
 
 -- a first detection is a detection, and where there is none the list detects nothing
 pub detected_first : (c : Netlist) (list : List (List Bool)) (i : ℕ) (place : Option Place) → is_some place ≡ true
@@ -44,54 +44,98 @@ chosen_first c wanted list grader k circuit faults inside stands =
     (stands.first k (fault_at c (get_or wanted k 0)) (ap (λ (l : List Fault). slice_get l k) faults
     ∙ (slice_get-map (fault_at c) wanted k ∙ ap (option_map (fault_at c)) (slice_get-get_or wanted k 0 inside))))
 
--- Where a grader stands at vector t that has seen the first faults: each of them is detected by the list, and the next
--- isn't by the vectors so far.
+-- The first faults, as many as a grader has seen, are detected by the first t vectors.
 pub record AreSeenSoFar (c : Netlist) (wanted : List ℕ) (list : List (List Bool)) (t seen : ℕ) : Type 0 where
   pub some : seen ≤ length wanted
-  pub detected : (k d : ℕ) → k < seen → IsDetectedBy c list (get_or wanted k d)
-  pub next : seen < length wanted → ¬ IsDetectedBy c (take t list) (get_or wanted seen 0)
+  pub detected : (k d : ℕ) → k < seen → IsDetectedBy c (take t list) (get_or wanted k d)
 
 -- one vector more
-pub more_seen : (c : Netlist) (wanted : List ℕ) (list : List (List Bool)) (t seen u more : ℕ) (grader : PackedView)
+pub more_seen : (c : Netlist) (wanted : List ℕ) (list : List (List Bool)) (t seen more : ℕ) (grader : PackedView)
     → AreSeenSoFar c wanted list t seen → grader.circuit ≡ c → grader.faults ≡ chosen_faults (faults_of c) wanted
-    → GraderStandsFor grader (take u list) → more ≤ length wanted
+    → GraderStandsFor grader (take (t + 1) list) → more ≤ length wanted
     → ((k : ℕ) → seen ≤ k → k < more → is_some (verdict_at grader k) ≡ true)
-    → (more < length wanted → verdict_at grader more ≡ None) → AreSeenSoFar c wanted list u more
-more_seen c wanted list t seen u more grader so_far circuit faults stands some found none = record {
+    → AreSeenSoFar c wanted list (t + 1) more
+more_seen c wanted list t seen more grader so_far circuit faults stands some found = record {
   some = some;
   detected = λ k d less. elim (le_or_lt seen k) [
     | inl from ↦
         let inside : k < length wanted = omega (arith, less, some) in
-        subst (IsDetectedBy c list) (get_or_default wanted k 0 d inside)
-        (detected_in_front c list u (get_or wanted k 0)
-        (detected_first c (take u list) (get_or wanted k 0) (verdict_at grader k) (found k from less)
-        (chosen_first c wanted (take u list) grader k circuit faults inside stands)))
-    | inr before ↦ so_far.detected k d before
+        subst (IsDetectedBy c (take (t + 1) list)) (get_or_default wanted k 0 d inside)
+        (detected_first c (take (t + 1) list) (get_or wanted k 0) (verdict_at grader k) (found k from less)
+        (chosen_first c wanted (take (t + 1) list) grader k circuit faults inside stands))
+    | inr before ↦
+        detected_in_more c list t (t + 1) (get_or wanted k d) (omega arith) (so_far.detected k d before)
   ];
-  next = λ inside.
-      undetected_first c (take u list) (get_or wanted more 0) (verdict_at grader more)
-      (ap (λ (p : Option Place). is_some p) (none inside))
-      (chosen_first c wanted (take u list) grader more circuit faults inside stands);
 }
 
--- the whole list detects each, or misses the next
-pub seen_or_missed : (c : Netlist) (wanted : List ℕ) (list : List (List Bool)) (t seen : ℕ)
-    → AreSeenSoFar c wanted list t seen → length list ≤ t
-    → MatchBool (nat_eq seen (length wanted)) (DetectsEach c wanted list) (MissesOne c wanted list)
-seen_or_missed c wanted list t seen so_far done =
-    let Told : Bool → Type 0 = λ b. MatchBool b (DetectsEach c wanted list) (MissesOne c wanted list) in
-    elim (eqb_tells seen (length wanted)) [
-      | inl p ↦ subst Told (sym p.0) (λ k d less. so_far.detected k d (omega (arith, less, p.1)))
-      | inr p ↦
-          let inside : seen < length wanted = omega (arith, so_far.some, p.1) in
-          subst Told (sym p.0) (record {
-            missed = get_or wanted seen 0;
-            is_wanted = Contains-get_or wanted seen 0 inside;
-            undetected =
-                subst (λ (l : List (List Bool)). ¬ IsDetectedBy c l (get_or wanted seen 0)) (take_all t list done)
-                (so_far.next inside);
-          })
-    ]
+-- a grader that has applied all vectors, or has seen all faults
+pub run_to_end : (c : Netlist) (wanted : List ℕ) (list : List (List Bool)) (t : ℕ) (grader : PackedView)
+    → grader.circuit ≡ c → grader.faults ≡ chosen_faults (faults_of c) wanted
+    → GraderStandsFor grader (take t list) → length list ≤ t → HasRunWanted c wanted list grader
+run_to_end c wanted list t grader circuit faults stands done = record {
+  count = t;
+  stands = stands;
+  missed = λ k inside none.
+      subst (λ (l : List (List Bool)). ¬ IsDetectedBy c l (get_or wanted k 0)) (take_all t list done)
+      (undetected_first c (take t list) (get_or wanted k 0) (verdict_at grader k)
+      (ap (λ (p : Option Place). is_some p) none)
+      (chosen_first c wanted (take t list) grader k circuit faults inside stands));
+}
+
+pub run_to_last : (c : Netlist) (wanted : List ℕ) (list : List (List Bool)) (t seen : ℕ) (grader : PackedView)
+    → AreSeenSoFar c wanted list t seen → grader.circuit ≡ c → grader.faults ≡ chosen_faults (faults_of c) wanted
+    → GraderStandsFor grader (take t list) → seen ≡ length wanted → HasRunWanted c wanted list grader
+run_to_last c wanted list t seen grader so_far circuit faults stands all = record {
+  count = t;
+  stands = stands;
+  missed = λ k inside none.
+      absurd (undetected_first c (take t list) (get_or wanted k 0) (verdict_at grader k)
+      (ap (λ (p : Option Place). is_some p) none)
+      (chosen_first c wanted (take t list) grader k circuit faults inside stands)
+      (so_far.detected k 0 (omega (arith, inside, all))));
+}
+
+-- ---- fault by fault
+
+-- a first detection in the first vectors
+detected_there : (c : Netlist) (fault : ℕ) (list : List (List Bool)) (n : ℕ) (place : Place) (verdict : Option Place)
+    → verdict ≡ Some place → IsFirstDetection c (fault_at c fault) (take n list) verdict
+    → IsDetectedFault c list (record { fault = fault; vector = place.vector })
+detected_there c fault list n place verdict is first = record {
+  output = place.output;
+  detects =
+      detects_in_front c (fault_at c fault) list n place.vector place.output
+      (subst (IsFirstDetection c (fault_at c fault) (take n list)) is first).0;
+}
+
+-- one fault more
+pub one_detected : (c : Netlist) (wanted : List ℕ) (list : List (List Bool)) (k : ℕ)
+    (detected more : List DetectedFault) (grader : PackedView) (place : Place) → HasRunWanted c wanted list grader
+    → grader.circuit ≡ c → grader.faults ≡ chosen_faults (faults_of c) wanted
+    → AreDetections c (take k wanted) list detected → k < length wanted → verdict_at grader k ≡ Some place
+    → more ≡ detected ++ record { fault = get_or wanted k 0; vector = place.vector } ∷ []
+    → AreDetections c (take (k + 1) wanted) list more
+one_detected c wanted list k detected more grader place run circuit faults so_far inside is pushed =
+    let fault : ℕ = get_or wanted k 0 in
+    let one : DetectedFault = record { fault = fault; vector = place.vector } in
+    subst (AreDetections c (take (k + 1) wanted) list) (sym pushed) (record {
+      faults =
+          map-append (λ (d : DetectedFault). d.fault) detected (one ∷ [])
+          ∙ (ap (λ (l : List ℕ). l ++ fault ∷ []) so_far.faults ∙ sym (take_more wanted k 0 inside));
+      each =
+          All-push (IsDetectedFault c list) detected one so_far.each
+          (detected_there c fault list run.count place (verdict_at grader k) is
+          (chosen_first c wanted (take run.count list) grader k circuit faults inside run.stands));
+    })
+
+-- a fault that the grader has missed
+pub one_missed : (c : Netlist) (wanted : List ℕ) (list : List (List Bool)) (k : ℕ) (grader : PackedView)
+    → HasRunWanted c wanted list grader → k < length wanted → verdict_at grader k ≡ None → MissesOne c wanted list
+one_missed c wanted list k grader run inside none = record {
+  missed = get_or wanted k 0;
+  is_wanted = Contains-get_or wanted k 0 inside;
+  undetected = run.missed k inside none;
+}
 
 -- ---- class by class
 
@@ -119,48 +163,56 @@ own_first c representatives list places k i place classes are inside is read =
 
 -- The representatives of the first k classes that the list detects.
 pub record AreDetectedSoFar (c : Netlist) (representatives : List ℕ) (list : List (List Bool)) (k : ℕ)
-    (detected : List ℕ) : Type 0 where
+    (detected : List DetectedFault) : Type 0 where
   pub some : k ≤ length (own_representatives representatives)
   pub few : length detected ≤ k
-  pub sound : All (IsDetectedClass c representatives list) detected
+  pub each : All (IsDetectedFault c list) detected
+  pub sound : All (IsDetectedClass c representatives list) (fault_numbers detected)
   pub complete : (j : ℕ) → j < k → IsDetectedBy c list (own_at representatives j)
-      → Contains detected (own_at representatives j)
+      → Contains (fault_numbers detected) (own_at representatives j)
 
 -- one class more is detected
 pub detected_more : (c : Netlist) (representatives : List ℕ) (list : List (List Bool)) (k : ℕ)
-    (detected more : List ℕ) (i : ℕ) → AreClasses c representatives
+    (detected more : List DetectedFault) (one : DetectedFault) → AreClasses c representatives
     → AreDetectedSoFar c representatives list k detected → k < length (own_representatives representatives)
-    → i ≡ own_at representatives k → IsDetectedBy c list i → more ≡ detected ++ i ∷ []
+    → one.fault ≡ own_at representatives k → IsDetectedFault c list one → more ≡ detected ++ one ∷ []
     → AreDetectedSoFar c representatives list (k + 1) more
-detected_more c representatives list k detected more i classes so_far inside is here pushed =
+detected_more c representatives list k detected more one classes so_far inside is here pushed =
+    let numbers : fault_numbers (detected ++ one ∷ []) ≡ fault_numbers detected ++ one.fault ∷ [] =
+    map-append (λ (d : DetectedFault). d.fault) detected (one ∷ []) in
     subst (AreDetectedSoFar c representatives list (k + 1)) (sym pushed) (record {
       some = omega (arith, inside);
-      few = omega (arith, so_far.few, length-append detected (i ∷ []));
-      sound = All-push (IsDetectedClass c representatives list) detected i so_far.sound (record {
-        fault = omega (arith, is, own_is_fault representatives k inside, classes.every);
-        representative =
-            subst (λ (n : ℕ). is_representative representatives n ≡ true) (sym is)
-            (own_passes representatives k inside);
-        detected = here;
-      });
-      complete = λ j less found. elim (cases_eq j k) [
-        | inl same ↦
-            subst (Contains (detected ++ i ∷ [])) (is ∙ ap (own_at representatives) (sym same))
-            (Contains-push detected i)
-        | inr other ↦
-            Contains-append_left detected (i ∷ []) (own_at representatives j)
-            (so_far.complete j (omega arith) found)
-      ];
+      few = omega (arith, so_far.few, length-append detected (one ∷ []));
+      each = All-push (IsDetectedFault c list) detected one so_far.each here;
+      sound =
+          subst (All (IsDetectedClass c representatives list)) (sym numbers)
+          (All-push (IsDetectedClass c representatives list) (fault_numbers detected) one.fault so_far.sound (record {
+            fault = omega (arith, is, own_is_fault representatives k inside, classes.every);
+            representative =
+                subst (λ (n : ℕ). is_representative representatives n ≡ true) (sym is)
+                (own_passes representatives k inside);
+            detected = record { vector = one.vector; output = here.output; detects = here.detects };
+          }));
+      complete = λ j less found.
+          subst (λ (l : List ℕ). Contains l (own_at representatives j)) (sym numbers) (elim (cases_eq j k) [
+            | inl same ↦
+                subst (Contains (fault_numbers detected ++ one.fault ∷ []))
+                (is ∙ ap (own_at representatives) (sym same)) (Contains-push (fault_numbers detected) one.fault)
+            | inr other ↦
+                Contains-append_left (fault_numbers detected) (one.fault ∷ []) (own_at representatives j)
+                (so_far.complete j (omega arith) found)
+          ]);
     })
 
 -- one class more isn't
-pub detected_same : (c : Netlist) (representatives : List ℕ) (list : List (List Bool)) (k : ℕ) (detected : List ℕ)
-    (i : ℕ) → AreDetectedSoFar c representatives list k detected → i ≡ own_at representatives k
-    → k < length (own_representatives representatives) → ¬ IsDetectedBy c list i
+pub detected_same : (c : Netlist) (representatives : List ℕ) (list : List (List Bool)) (k : ℕ)
+    (detected : List DetectedFault) (i : ℕ) → AreDetectedSoFar c representatives list k detected
+    → i ≡ own_at representatives k → k < length (own_representatives representatives) → ¬ IsDetectedBy c list i
     → AreDetectedSoFar c representatives list (k + 1) detected
 detected_same c representatives list k detected i so_far is inside none = record {
   some = omega (arith, inside);
   few = omega (arith, so_far.few);
+  each = so_far.each;
   sound = so_far.sound;
   complete = λ j less found. elim (cases_eq j k) [
     | inl same ↦
@@ -169,14 +221,34 @@ detected_same c representatives list k detected i so_far is inside none = record
   ];
 }
 
+-- a place that is read of a class
+pub class_detected : (c : Netlist) (list : List (List Bool)) (i : ℕ) (place : Place) (read : Option Place)
+    → read ≡ Some place → IsFirstDetection c (fault_at c i) list read
+    → IsDetectedFault c list (record { fault = i; vector = place.vector })
+class_detected c list i place read is first =
+    record { output = place.output; detects = (subst (IsFirstDetection c (fault_at c i) list) is first).0 }
+
 -- all classes
-pub all_detected : (c : Netlist) (representatives : List ℕ) (list : List (List Bool)) (k : ℕ) (detected : List ℕ)
-    → AreClasses c representatives → AreDetectedSoFar c representatives list k detected
-    → length (own_representatives representatives) ≤ k → AreDetectedClasses c representatives list detected
+pub all_detected : (c : Netlist) (representatives : List ℕ) (list : List (List Bool)) (k : ℕ)
+    (detected : List DetectedFault) → AreClasses c representatives
+    → AreDetectedSoFar c representatives list k detected → length (own_representatives representatives) ≤ k
+    → AreDetectedClasses c representatives list (fault_numbers detected)
 all_detected c representatives list k detected classes so_far done = record {
   sound = so_far.sound;
   complete = λ i is.
       let own = representative_is_own representatives i (omega (arith, is.fault, classes.every)) is.representative in
-      subst (Contains detected) own.2
+      subst (Contains (fault_numbers detected)) own.2
       (so_far.complete own.0 (omega (arith, own.1, done)) (subst (IsDetectedBy c list) (sym own.2) is.detected));
+}
+
+-- and they are faults of the circuit
+pub all_known : (c : Netlist) (representatives : List ℕ) (list : List (List Bool)) (k : ℕ)
+    (detected : List DetectedFault) → AreDetectedSoFar c representatives list k detected
+    → length representatives < 2 ^ 32 → AreDetectedFaults c list detected
+all_known c representatives list k detected so_far few = record {
+  each = so_far.each;
+  known =
+      All-weaker (IsDetectedClass c representatives list) (λ i. i < length (faults_of c)) (λ i is. is.fault)
+      (fault_numbers detected) so_far.sound;
+  few = omega (arith, few, so_far.few, so_far.some, own_within representatives);
 }
