@@ -1,6 +1,7 @@
 //! What stems and pins make of the values that they carry.
 ghost use Rattle.std.specs.Prelude.{◌≡◌, Option};
 ghost use Rattle.ht_net.specs.Faults.{rules_of};
+ghost use Rattle.ht_frame.specs.StuckPins.{is_at_gate};
 
 use crate::domain::Domain;
 use ht_net::{Fault, NetId, Site};
@@ -24,6 +25,16 @@ pub fn gate_pin<V: Domain>(fault: Option<Fault>, gate: u32, pin: u8, value: V) -
     match fault {
         Some(fault) if fault.site == Site::GatePin { gate, pin } => value.stick(fault.value),
         _ => value,
+    }
+}
+
+/// Whether there is a fault, and it is at a pin of a gate. Gates count from 0.
+pub(crate) fn is_at_gate(fault: Option<Fault>, gate: u32) -> bool
+    ensures { result ≡ is_at_gate fault gate }
+{
+    match fault {
+        Some(fault) => matches!(fault.site, Site::GatePin { gate: g, pin: _ } if g == gate),
+        None => false,
     }
 }
 

@@ -14,9 +14,10 @@ use Rattle.ht_net.specs.Frame.{gate_output}
 use Rattle.ht_net.specs.Faults.{forced, tern_rules, is_stem}
 use Rattle.ht_net.proofs.FrameLaws.{le_or_lt}
 use Rattle.ht_group.specs.LaneRules.{rules_at, drive_from, given_value, HasItsValue}
-use Rattle.ht_group.specs.StuckTables.{forced_net_of, is_pin_of}
+use Rattle.ht_frame.specs.StuckPins.{is_pin_of}
+use Rattle.ht_group.specs.StuckTables.{forced_net_of}
 use Rattle.ht_group.proofs.DriveLaws.{drive_low, drive_gate, source_same}
-use Rattle.ht_group.proofs.PinLaws.{plain_pins}
+use Rattle.ht_frame.proofs.PinLaws.{plain_pins}
 use Rattle.ht_group.proofs.StuckLaws.{slice_at_end, slice_other}
 
 -- A fault that changes another net's driver or stem, if any's, is at no stem and no pin of this net.
@@ -49,8 +50,8 @@ plain_gate : (c : Netlist) (f : Fault) (e : ℕ → Tern) (g : ℕ) → is_pin_o
     → gate_output c (tern_rules None) e g ≡ gate_output c (tern_rules (Some f)) e g
 unfolding gate_output
 plain_gate c f e g h =
-    ap (gate_value (gate_at c g).kind) (plain_pins None g e 0 (gate_at c g).args refl
-    ∙ sym (plain_pins (Some f) g e 0 (gate_at c g).args h))
+    ap (gate_value (gate_at c g).kind) (plain_pins Unk gate_value _ None g e 0 (gate_at c g).args refl
+    ∙ sym (plain_pins Unk gate_value _ (Some f) g e 0 (gate_at c g).args h))
 
 -- So the machine with the fault gives it what the good one does.
 same_drive : (c : Netlist) (f : Fault) (s : List Tern) (e : ℕ → Tern) (y : ℕ) → forced_net_of c f.site ≢ Some y

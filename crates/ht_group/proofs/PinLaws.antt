@@ -22,32 +22,12 @@ use Rattle.ht_net.specs.Netlist.{no_net}
 use Rattle.ht_net.specs.Frame.{Rules, pin_values, values_at}
 use Rattle.ht_net.specs.Faults.{forced, tern_rules, is_pin}
 use Rattle.ht_net.proofs.FrameLaws.{pins_length}
+use Rattle.ht_frame.specs.StuckPins.{is_at_gate, is_pin_of}
+use Rattle.ht_frame.proofs.PinLaws.{plain_pin}
 use Rattle.ht_group.specs.BitSets.{with_bit}
-use Rattle.ht_group.specs.StuckTables.{is_at_gate, is_pin_of, is_pin_number, AreGateLanes}
+use Rattle.ht_group.specs.StuckTables.{is_pin_number, AreGateLanes}
 use Rattle.ht_group.specs.LaneRules.{rules_at, lane_env}
 use Rattle.ht_group.proofs.InLaneLaws.{lane_get}
-
--- What a machine's pins make of values, where its fault is at no pin of the gate.
-kept_pin : (b : Bool) (v u : Tern) → b ≡ false → cond b v u ≡ u
-kept_pin true v u h = cc
-kept_pin false v u h = refl
-
-no_pin : (site : Site) (g i : ℕ) → is_pin_of site g ≡ false → is_pin site g i ≡ false
-no_pin (Stem x) g i h = refl
-no_pin (DffPin j) g i h = refl
-no_pin (GatePin h k) g i e = ap (λ b. b && eqb i k) e
-
-pub plain_pin : (fault : Option Fault) (g i : ℕ) (v : Tern) → is_at_gate fault g ≡ false
-    → (tern_rules fault).pin g i v ≡ v
-unfolding forced
-plain_pin None g i v h = refl
-plain_pin (Some f) g i v h = kept_pin (is_pin f.site g i) (tern_of f.value) v (no_pin f.site g i h)
-
-pub plain_pins : (fault : Option Fault) (g : ℕ) (env : ℕ → Tern) (n : ℕ) (args : List NetId)
-    → is_at_gate fault g ≡ false → pin_values (tern_rules fault) g env n args ≡ values_at env args
-plain_pins fault g env n [] h = refl
-plain_pins fault g env n (a ∷ args) h =
-    λ i. plain_pin fault g n (env a.0) h i ∷ plain_pins fault g env (n + 1) args h i
 
 -- the values of nets in one lane
 pub values_in_lane : (k : ℕ) → k < 64 → (words : List Lanes) (args : List NetId)
@@ -89,7 +69,7 @@ pub all_left : (faults : List Fault) (g lanes : ℕ) (old : List Lanes) → AreG
     → ArePinsBut faults g lanes old old
 all_left faults g lanes old are i k within below =
     left_to_stick (is_set lanes k) (lane_env k old i) ((rules_at faults k).pin g i (lane_env k old i))
-    (λ h. plain_pin (slice_get faults k) g i (lane_env k old i) (sym (are k below) ∙ h))
+    (λ h. plain_pin _ (slice_get faults k) g i (lane_env k old i) (sym (are k below) ∙ h))
 
 pub none_left : (faults : List Fault) (g rest : ℕ) (old pins : List Lanes) → rest ≡ 0
     → ArePinsBut faults g rest old pins

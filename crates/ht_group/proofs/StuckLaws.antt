@@ -18,7 +18,8 @@ use Rattle.ht_net.specs.Netlist.{Netlist, net_count}
 use Rattle.ht_net.specs.Faults.{forced, is_stem, is_data_pin}
 use Rattle.ht_group.specs.GroupView.{HasSite}
 use Rattle.ht_group.specs.BitSets.{with_bit}
-use Rattle.ht_group.specs.StuckTables.{IsStuckTable, gate_slot, dff_slot, slot_count, slot_of, is_at_slot, is_pin_of, is_at_gate}
+use Rattle.ht_frame.specs.StuckPins.{is_at_gate, is_pin_of}
+use Rattle.ht_group.specs.StuckTables.{IsStuckTable, gate_slot, dff_slot, slot_count, slot_of, is_at_slot}
 
 -- Two numbers are compared.
 pub eqb_shift : (n a b : ℕ) → eqb (n + a) (n + b) ≡ eqb a b

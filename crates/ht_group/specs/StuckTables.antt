@@ -6,6 +6,7 @@ use Rattle.ht_net.specs.declared.fault.Site.{Site}
 use Rattle.ht_net.specs.declared.fault.Site.TheVariants.{Stem, DffPin, GatePin}
 use Rattle.ht_net.specs.declared.fault.Fault.{Fault}
 use Rattle.ht_net.specs.Netlist.{Netlist, first_gate_net, net_count, IsCircuit}
+use Rattle.ht_frame.specs.StuckPins.{is_at_gate}
 use Rattle.ht_group.specs.GroupView.{HasSite, max_machines}
 use Rattle.ht_group.specs.declared.stuck_lines.StuckLines.{StuckLines}
 
@@ -31,22 +32,11 @@ abbrev pub is_at_slot : Netlist → Option Fault → ℕ → Bool
 is_at_slot c None s = false
 is_at_slot c (Some fault) s = s == slot_of c fault.site
 
--- whether a site is some pin of gate g
-abbrev pub is_pin_of : Site → ℕ → Bool
-is_pin_of (Stem x) g = false
-is_pin_of (DffPin j) g = false
-is_pin_of (GatePin h i) g = g == h
-
 -- whether a site is pin i of some gate
 abbrev pub is_pin_number : Site → ℕ → Bool
 is_pin_number (Stem x) i = false
 is_pin_number (DffPin j) i = false
 is_pin_number (GatePin g k) i = i == k
-
--- there is a fault, and it is at a pin of gate g
-abbrev pub is_at_gate : Option Fault → ℕ → Bool
-is_at_gate None g = false
-is_at_gate (Some fault) g = is_pin_of fault.site g
 
 -- a set of lanes has those whose fault is at a pin of gate g
 abbrev pub AreGateLanes : List Fault → ℕ → ℕ → Type 0

@@ -1,6 +1,6 @@
 //! The words of a net from those that its driver reads.
 ghost use Rattle.std.specs.Prelude.{◌≡◌, ◌<◌, ◌≤◌, ◌+◌, ◌&&◌, ◌==◌, ℕ, length, get_or, if◌then◌else◌};
-ghost use Rattle.ht_tern.specs.Gate.{HasArity, gate_value_over, operation_of, tern_of};
+ghost use Rattle.ht_tern.specs.Gate.{HasArity, gate_value_over, tern_of};
 ghost use Rattle.ht_lanes.specs.Lanes.{lane};
 ghost use Rattle.ht_net.specs.Netlist.{first_gate_net, net_count, no_net};
 ghost use Rattle.ht_net.specs.Frame.{gate_output, values_at};
@@ -10,24 +10,13 @@ ghost use Rattle.ht_group.specs.Pending.{AreGiven};
 ghost use Rattle.ht_group.specs.StuckTables.{AreGateLanes, AreStuck, is_pin_number};
 
 use crate::stuck_lines::StuckLines;
+use ht_frame::operate;
 use ht_lanes::{Word, eval_word};
 use ht_net::{Circuit, Fault, NetId, Site};
 use ht_tern::{GateOperations, Kind, Tern};
 
 /// Room for the pins of a gate: one for each number of a pin.
 pub const PIN_ROOM: usize = 256;
-
-// What the operation of a kind makes of the value so far and of the next one.
-fn combined<V: GateOperations>(kind: Kind, value: V, other: V) -> V
-    ensures { result ≡ operation_of V.operations kind value other }
-{
-    match kind {
-        Kind::And | Kind::Nand => value.conjunction(other),
-        Kind::Or | Kind::Nor => value.disjunction(other),
-        Kind::Xor | Kind::Xnor => value.parity(other),
-        Kind::Not | Kind::Buf => value,
-    }
-}
 
 // The value of a gate whose pins read these nets. It takes no room for the pins, as `eval_word` would.
 fn eval_nets<V: GateOperations>(kind: Kind, args: &[NetId], values: &[V]) -> V
@@ -39,7 +28,7 @@ fn eval_nets<V: GateOperations>(kind: Kind, args: &[NetId], values: &[V]) -> V
 {
     let mut value = values[args[0].index()];
     for arg in &args[1..] {
-        value = combined(kind, value, values[arg.index()]);
+        value = operate(kind, value, values[arg.index()]);
     }
     if kind.inverts() {
         value.complement()

@@ -1,5 +1,5 @@
 //! A gate over sets of pairs.
-ghost use Rattle.std.specs.Prelude.{◌≡◌, ◌↔◌, length};
+ghost use Rattle.std.specs.Prelude.{◌≡◌, ◌↔◌, ◌∷◌, List, length};
 ghost use Rattle.ht_tern.specs.Gate.{HasArity, operation_of, polarity_of};
 ghost use Rattle.ht_pairs.specs.Pairs.{Arises, IsMember, Pair, lifted_set, pair_operations};
 ghost use Rattle.ht_pairs.specs.Results.{IsImage, IsImageOfTwo};
@@ -10,7 +10,6 @@ use ht_tern::Kind;
 /// The set of a gate: its values for every choice of one member from each argument's set, in the order of the pins.
 ///
 /// Each argument varies by itself, also where two pins carry one net.
-#[tactic(auto, using(crate::proofs::FoldLaws::folds_more))]
 pub fn lift(kind: Kind, args: &[PairSet]) -> PairSet
     requires { HasArity kind (length args.now) }
     ensures exact { (r : Pair) → IsMember r result ↔ Arises kind args.now r }
@@ -26,9 +25,12 @@ pub fn lift(kind: Kind, args: &[PairSet]) -> PairSet
     value
 }
 
-// The results of the operation that a kind folds over its arguments.
-fn combined(kind: Kind, set: PairSet, arg: PairSet) -> PairSet
-    ensures { IsImageOfTwo (operation_of pair_operations kind) set arg result }
+/// The set that stands for two arguments of a gate: the results of the operation that its kind folds over them.
+#[tactic(auto, using(crate::proofs::FoldLaws::two_in_one))]
+pub fn combined(kind: Kind, set: PairSet, arg: PairSet) -> PairSet
+    ensures results { IsImageOfTwo (operation_of pair_operations kind) set arg result }
+    ensures gate { (rest : List (List Pair)) → lifted_set kind (result ∷ rest)
+        ≡ lifted_set kind (set ∷ arg ∷ rest) }
 {
     match kind {
         Kind::And | Kind::Nand => set.conjunction(arg),

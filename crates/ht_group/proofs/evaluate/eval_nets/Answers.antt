@@ -23,8 +23,8 @@ loop-arg-preserved g c blank =
     c.index-values-index-in-loop-arg.is blank in
     ap (polarity_of g.V.GateOperations.operations c.args.kind)
     (fold_next (operation_of g.V.GateOperations.operations c.args.kind) (env_of blank c.args.values.now) items
-    c.loop-arg.arg-index c.loop-arg.value c.combined-value.result c.loop-arg-test.true
-    (c.combined-value.ensures ∙ ap
+    c.loop-arg.arg-index c.loop-arg.value c.operate-value.result c.loop-arg-test.true
+    (c.operate-value.ensures ∙ ap
     (λ v. operation_of g.V.GateOperations.operations c.args.kind c.loop-arg.value v)
     (read ∙ ap (λ (n : ℕ). env_of blank c.args.values.now n) net)))
     ∙ c.loop-arg.invariant blank

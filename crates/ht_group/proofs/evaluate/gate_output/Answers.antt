@@ -9,9 +9,10 @@ use Rattle.ht_net.specs.declared.net.NetId.{NetId}
 use Rattle.ht_net.specs.declared.fault.Fault.{Fault}
 use Rattle.ht_net.specs.Frame.{values_at}
 use Rattle.ht_net.proofs.FrameLaws.{gate_from}
-use Rattle.ht_group.specs.StuckTables.{is_at_gate}
+use Rattle.ht_frame.specs.StuckPins.{is_at_gate}
+use Rattle.ht_frame.proofs.PinLaws.{plain_pins}
 use Rattle.ht_group.specs.LaneRules.{rules_at, lane_env}
-use Rattle.ht_group.proofs.PinLaws.{plain_pins, values_in_lane, stuck_pins}
+use Rattle.ht_group.proofs.PinLaws.{values_in_lane, stuck_pins}
 use Rattle.ht_group.proofs.evaluate.gate_output.Goals as goal
 
 pub returns-then-lanes-eq0 : goal.returns-then-lanes-eq0
@@ -26,7 +27,7 @@ returns-then-lanes-eq0 c k below =
     in
     gate_from n (rules_at faults k) c.args.g env c.gate_kind-kind.result args
     (values_at env args) (lane c.eval_nets.result k) c.gate_kind-kind.ensures c.gate_args-args.ensures.args
-    (sym (plain_pins (slice_get faults k) c.args.g env 0 args plain))
+    (sym (plain_pins Unk gate_value _ (slice_get faults k) c.args.g env 0 args plain))
     (ap (λ (w : Lanes). lane w k) (c.eval_nets.ensures (every_lane Unk))
     ∙ (gate_at_lane k below c.gate_kind-kind.result (values_at (word_at c.args.words.now) args)
     ∙ ap (gate_value c.gate_kind-kind.result) (values_in_lane k below c.args.words.now args)))
