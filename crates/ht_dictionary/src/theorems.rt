@@ -1,4 +1,5 @@
-//! What a contradiction means, and which texts are responses. Each theorem is the contract of a function that does nothing.
+//! What a contradiction means, and which texts are responses. Each theorem is the contract of a function that does
+//! nothing.
 ghost use Rattle.std.specs.Prelude.{◌≡◌, ◌<◌, ◌≤◌, ◌+◌, ℕ, List, Bool, Option, Some, None, ◌↔◌, length, get_or};
 ghost use Rattle.ht_tern.specs.declared.tern.Tern.{Tern};
 ghost use Rattle.ht_net.specs.declared.fault.Fault.{Fault};

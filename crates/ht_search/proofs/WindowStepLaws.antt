@@ -120,14 +120,3 @@ pub window_node : (ds : List Assign3) → node_of (steps_under [] ds) ≡ record
 window_node ds =
     node_decided (reverse ds) []
     ∙ ap (λ (xs : List Assign3). let n : Node = record { decisions = xs; windows = [] } in n) (reverse-reverse ds)
-
--- as many windows as stand above the last one
-windows_above : (above : List (List Assign3)) → length (node_of (steps_above above)).windows ≡ length above
-windows_above [] = refl
-windows_above (ds ∷ above) =
-    let t = steps_above above in
-    let e = ap (λ (n : Node). length n.windows) (node_decided (reverse ds) t) in
-    let h = windows_above above in
-    let n = node_of (steps_of ds ++ t) in
-    let l = length_push n.windows (length n.decisions) in
-    omega (arith, e, h, l)

@@ -77,16 +77,6 @@ first_lines text passed lines rest so = (
   omega (arith, ap length so.lines_are, length-append lines (lines_of rest)),
 )
 
--- with the line that comes next
-pub with_next_line : (text : List ℕ) (passed : ℕ) (lines : List (List ℕ)) (rest line : List ℕ) (more : List (List ℕ))
-    → LinesSoFar text passed lines rest → lines_of rest ≡ line ∷ more
-    → (take (length lines + 1) (lines_of text) ≡ lines ++ line ∷ []) × (length lines + 1 ≤ length (lines_of text))
-with_next_line text passed lines rest line more so is =
-    let whole : lines_of text ≡ lines ++ line ∷ more = so.lines_are ∙ ap (λ l. lines ++ l) is in (
-      ap (take (length lines + 1)) whole ∙ take-append-add lines (line ∷ more) 1,
-      omega (arith, ap length whole, length-append lines (line ∷ more)),
-    )
-
 -- ---- where a text gets too long
 
 -- the byte at which it does comes after the lines so far
