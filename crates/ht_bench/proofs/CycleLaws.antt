@@ -8,9 +8,10 @@ use Rattle.ht_net.specs.Named.{Name, NamedGate, NamedNetlist, name_of, named_gat
 use Rattle.ht_net.proofs.CycleLaws.{no_cycle}
 use Rattle.ht_statement.specs.Statement.{Statement}
 use Rattle.ht_bench.specs.Contents.{named_of_statements}
-use Rattle.ht_bench.specs.EndOfText.{Feeds}
-use Rattle.ht_bench.proofs.NamedPartLaws.{no_named_gate, gate_named, named_gates_count, get_or-named_gates}
-use Rattle.ht_bench.proofs.NameListLaws.{place_in, place_at}
+use Rattle.ht_net.specs.Finish.{Feeds}
+use Rattle.ht_bench.proofs.NamedPartLaws.{gate_named, named_gates_count, get_or-named_gates}
+use Rattle.ht_net.proofs.NameCycleLaws.{no_named_gate}
+use Rattle.ht_net.proofs.PlaceLaws.{place_in, place_at}
 
 -- a pin of a gate in a circuit, by the places of its net and of the gate's net
 pub record IsPin (c : Netlist) (a b : Name) : Type 0 where
@@ -23,7 +24,7 @@ pub record IsPin (c : Netlist) (a b : Name) : Type 0 where
 
 module _ (c : Netlist) (is : IsCircuit c) (statements : List Statement)
     (named : named_of c ≡ named_of_statements statements) where
-  pin_of : (a b : Name) → Feeds statements a b → IsPin c a b
+  pin_of : (a b : Name) → Feeds (named_of_statements statements).gates a b → IsPin c a b
   pin_of a b feeds =
       let gates : (named_of_statements statements).gates ≡ named_gates c (first_gate_net c) c.gates = sym
       (ap (λ (n : NamedNetlist). n.gates) named) in
@@ -67,7 +68,7 @@ module _ (c : Netlist) (is : IsCircuit c) (statements : List Statement)
       subst (λ n. is.ranked.0 n < is.ranked.0 (place_in c.names b - first_gate_net c)) (sym from)
       (subst (λ n. is.ranked.0 (arg_at c pin.gate pin.pin - first_gate_net c) < is.ranked.0 n) (sym to) up)
 
-  module _ (cycle : List Name) (h : IsCycle (Feeds statements) cycle) where
+  module _ (cycle : List Name) (h : IsCycle (Feeds (named_of_statements statements).gates) cycle) where
     -- each net of the cycle is driven by a gate
     driven_at : (k : ℕ) → k < length cycle → first_gate_net c ≤ place_in c.names (get_or cycle k [])
     driven_at zero lt =
@@ -84,5 +85,5 @@ module _ (c : Netlist) (is : IsCircuit c) (statements : List Statement)
         (driven_at at.0 at.1)
 
     pub no_circuit : ⊥
-    no_circuit = no_cycle (Feeds statements) rank_at cycle [] (λ a b at _ feeds. rises a b (pin_of a b feeds)
-        (is_driven a at)) h
+    no_circuit = no_cycle (Feeds (named_of_statements statements).gates) rank_at cycle []
+        (λ a b at _ feeds. rises a b (pin_of a b feeds) (is_driven a at)) h

@@ -9,7 +9,7 @@ use Rattle.ht_net.specs.Named.{Name, NamedDff, NamedGate, NamedNetlist}
 use Rattle.ht_statement.specs.Statement.{Statement, blank_line, input_line, output_line, dff_line, gate_line}
 use Rattle.ht_bench.specs.Different.{has_name}
 use Rattle.ht_bench.specs.Contents.{no_parts, with_statement, named_of_statements, driven_in, driven_by}
-use Rattle.ht_bench.proofs.NamedPartLaws.{dff_outs, gate_outs, drivers}
+use Rattle.ht_net.specs.Draft.{dff_outs, gate_outs, drivers}
 
 module _ (name : Name) where
   -- a name that stands in the middle may as well stand last

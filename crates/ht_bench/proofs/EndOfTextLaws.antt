@@ -1,5 +1,5 @@
 -- A text whose lines are all accepted: its nets, the first that is undriven, and the circuit where none is.
-use Rattle.std.proofs.Common.{◌≡◌, ℕ, ◌<◌, ◌≤◌, List, [], Bool, true, not, length, get_or, refl, sym, ◌∙◌, ap, subst, arith}
+use Rattle.std.proofs.Common.{◌≡◌, ℕ, ◌<◌, ◌≤◌, List, [], Bool, true, not, length, get_or, sym, ◌∙◌, ap, subst, arith}
 use Rattle.std.specs.Prelude.{Some, find, option_map}
 use Rattle.std.specs.List.{All, Contains, slice_get}
 use Rattle.std.proofs.lemmas.Bool.{false_from_ne_true, not_from_true, not_from_false}
@@ -10,10 +10,10 @@ use Rattle.std.proofs.lemmas.Option.{slice_get_past, slice_get-get_or}
 use Rattle.ht_net.specs.declared.names.NameId.{NameId}
 use Rattle.ht_net.specs.Netlist.{Netlist, IsCircuit}
 use Rattle.ht_net.specs.Named.{Name, named_of}
-use Rattle.ht_net.specs.Draft.{Draft, IsDriven, IsName}
-use Rattle.ht_net.specs.Built.{AllDriven, IsLeastUndriven, draft_name, named_draft}
+use Rattle.ht_net.specs.Draft.{Draft, IsDriven, IsName, draft_name, named_draft, driven_names}
+use Rattle.ht_net.specs.Built.{AllDriven, IsLeastUndriven}
 use Rattle.ht_bench.specs.Different.{has_name}
-use Rattle.ht_bench.specs.Contents.{driven_by, mentions_of}
+use Rattle.ht_bench.specs.Contents.{driven_by, mentions_of, stated_nets, named_of_statements}
 use Rattle.ht_bench.specs.EndOfText.{first_undriven}
 use Rattle.ht_bench.specs.Text.{IsAcceptedText, IsNetlistOf, refusal_of}
 use Rattle.ht_bench.specs.Progress.{IsRead, HasNet, IsFirstLine}
@@ -21,13 +21,22 @@ use Rattle.ht_bench.specs.Role.{line_of}
 use Rattle.ht_bench.specs.declared.find_line.Role.TheVariants.{Mentioned, Driven}
 use Rattle.ht_bench.specs.declared.error.BenchError.TheVariants.{Undriven}
 use Rattle.ht_bench.proofs.NameListLaws.{has_name-Decides, All-with_names}
-use Rattle.ht_bench.proofs.SaysLaws.{driven_is, is_driven, says_named}
+use Rattle.ht_bench.proofs.DriverLaws.{drivers_are}
 
 module _ {text : List ℕ} {d : Draft} (is : IsRead text d) where
-  -- whether a net of the draft is driven
-  net_driven : (id : NameId) → IsName d id → IsDriven d id → has_name (driven_by is.statements) (draft_name d id) ≡ true
-  net_driven id known driven = driven_is is.statements d is.draft.says is.draft.names_differ id (draft_name d id)
-      (known, refl) driven
+  names_are : d.names ≡ stated_nets is.statements
+  names_are = ap (λ (x : Draft). x.names) is.draft.is
+
+  pub says_named : named_draft d ≡ named_of_statements is.statements
+  says_named = ap named_draft is.draft.is
+
+  -- whether a net is driven
+  same_drivers : (name : Name) → has_name (driven_by is.statements) name ≡ has_name (driven_names d) name
+  same_drivers name = sym (drivers_are name is.statements) ∙ ap (λ (x : Draft). has_name (driven_names x) name)
+      (sym is.draft.is)
+
+  net_driven : (id : NameId) → IsDriven d id → has_name (driven_by is.statements) (draft_name d id) ≡ true
+  net_driven id driven = same_drivers (draft_name d id) ∙ (has_name-Decides (driven_names d) (draft_name d id)).1 driven
 
   pub net_is_mentioned : (id : NameId) → IsName d id → HasNet text Mentioned (draft_name d id)
   net_is_mentioned id known =
@@ -36,15 +45,15 @@ module _ {text : List ℕ} {d : Draft} (is : IsRead text d) where
         statements = is.statements;
         lines = is.lines;
         has = (has_name-Decides all (draft_name d id)).1
-            (subst (All (Contains all)) (sym is.draft.names)
+            (subst (All (Contains all)) (sym names_are)
             (All-with_names (Contains all) [] all (All-nil (Contains all)) (All-contains_itself all)) id.0 [] known);
       }
 
-  pub net_is_driven : (id : NameId) → IsName d id → IsDriven d id → HasNet text Driven (draft_name d id)
-  net_is_driven id known driven = record {
+  pub net_is_driven : (id : NameId) → IsDriven d id → HasNet text Driven (draft_name d id)
+  net_is_driven id driven = record {
     statements = is.statements;
     lines = is.lines;
-    has = net_driven id known driven;
+    has = net_driven id driven;
   }
 
   -- the first net without a driver stands at a place before which all are driven
@@ -52,14 +61,14 @@ module _ {text : List ℕ} {d : Draft} (is : IsRead text d) where
       → (k < length d.names → ¬ IsDriven d (record { 0 = k })) → first_undriven is.statements ≡ slice_get d.names k
   undriven_at k below driven free =
       let p : Name → Bool = λ net. not (has_name (driven_by is.statements) net) in
-      ap (find p) (sym is.draft.names) ∙ find_at p d.names
+      ap (find p) (sym names_are) ∙ find_at p d.names
       ∙ ap (slice_get d.names) (position_or_len_is p d.names k [] below
       (λ j less. not_from_true (has_name (driven_by is.statements) (get_or d.names j []))
-      (net_driven (record { 0 = j }) (omega arith) (driven j less)))
+      (net_driven (record { 0 = j }) (driven j less)))
       (λ known. not_from_false (has_name (driven_by is.statements) (get_or d.names k []))
       (false_from_ne_true (has_name (driven_by is.statements) (get_or d.names k [])) (λ yes.
-      free known (is_driven is.statements d is.draft.says is.draft.names_differ (record { 0 = k })
-      (get_or d.names k []) (known, refl) yes)))))
+      free known ((has_name-Decides (driven_names d) (get_or d.names k [])).0
+      (sym (same_drivers (get_or d.names k [])) ∙ yes))))))
 
   pub accepted_text : AllDriven d → IsAcceptedText text is.statements
   accepted_text all = record {
@@ -75,7 +84,7 @@ module _ {text : List ℕ} {d : Draft} (is : IsRead text d) where
     statements = is.statements;
     read = accepted_text all;
     is_circuit = is_circuit;
-    named = named ∙ says_named is.statements d is.draft.says;
+    named = named ∙ says_named;
   }
 
   pub undriven_is : (id : NameId) → IsLeastUndriven d id → (number : ℕ)

@@ -5,12 +5,9 @@ pub mod DifferLaws
 pub mod LimitLaws
 pub mod NamedPartLaws
 pub mod DriverLaws
-pub mod SaysLaws
 pub mod AddErrorLaws
 pub mod MentionLaws
 pub mod AddLaws
-pub mod RefuseLaws
-pub mod StatementLaws
 pub mod ProgressLaws
 pub mod FindLineLaws
 pub mod StatedLaws

@@ -1,9 +1,14 @@
 -- Names that are mentioned, one by one, and their numbers.
 use Rattle.std.proofs.Common.{◌≡◌, inl, inr, ⊎_elim, ℕ, ◌<◌, ◌+◌, List, [], ◌∷◌, ◌++◌, length, get_or, map, take, drop, refl, sym, ◌∙◌, ap, subst, take-append-drop, arith, ◌≢◌, true, false}
 use Rattle.std.specs.Borrow.{Bor}
-use Rattle.std.proofs.lemmas.Bool.{cond_both, cond-false, false_from_ne_true, or_from}
+use Rattle.std.specs.List.{All, Contains}
+use Rattle.std.specs.Str.{bytes_eq}
+use Rattle.std.proofs.lemmas.Bool.{cond_both, cond-true, cond-false, false_from_ne_true, or_from, cases_Bool}
 use Rattle.std.proofs.lemmas.List.{get_or-map, take_more, length-map, length-append, map_push}
+use Rattle.std.proofs.lemmas.List.Elements.{All-weaker, All-push, All-contains, Contains-get_or}
+use Rattle.std.proofs.lemmas.List.Folds.{list_any-append}
 use Rattle.std.proofs.lemmas.List.Sums.{fold-append}
+use Rattle.std.proofs.lemmas.Slice.Eq.{bytes_eq-Decides}
 use Rattle.ht_net.specs.declared.names.NameId.{NameId}
 use Rattle.ht_net.specs.declared.error.NetError.{NetError}
 use Rattle.ht_net.specs.declared.error.NetError.TheVariants.{Twice, TooMany, Undriven, Loop, NoMemory as NetNoMemory}
@@ -11,21 +16,16 @@ use Rattle.ht_net.specs.declared.error.Limit.TheVariants.{Nets, Pins, Inputs, Df
 use Rattle.ht_net.specs.Names.{IsNewName}
 use Rattle.ht_net.specs.Netlist.{max_nets}
 use Rattle.ht_net.specs.Named.{Name}
-use Rattle.ht_net.specs.Draft.{Draft, IsDraft, IsDriven}
+use Rattle.ht_net.specs.Draft.{Draft, IsDraft, IsName, draft_name, driven_names}
 use Rattle.ht_net.specs.Refusals.{RefusesName}
+use Rattle.ht_net.proofs.KeptLaws.{same_name, same_names}
 use Rattle.ht_statement.specs.StatementOf.{texts_of}
 use Rattle.ht_bench.specs.Different.{has_name, with_name, with_names}
 use Rattle.ht_bench.specs.AddErrors.{add_error_of}
-use Rattle.ht_bench.specs.Drafts.{IsNumberOf, AreNumbersOf, Mentions, MentionsFree, RefusesMentions}
+use Rattle.ht_bench.specs.Drafts.{Mentions, MentionsFree, RefusesMentions, RefusesDriver}
 use Rattle.ht_bench.specs.declared.add_error.AddError.{AddError}
 use Rattle.ht_bench.specs.declared.add_error.AddError.TheVariants.{Limit, NoMemory}
-use Rattle.ht_bench.proofs.NameListLaws.{new_name, known_name, with_names-long, has_name-Decides}
-use Rattle.ht_bench.proofs.SaysLaws.{number_stays, names_more, after_more}
-use Rattle.std.specs.List.{Contains}
-use Rattle.std.specs.Str.{bytes_eq}
-use Rattle.std.proofs.lemmas.Slice.Eq.{bytes_eq-Decides}
-use Rattle.std.proofs.lemmas.List.Elements.{Contains-get_or}
-use Rattle.std.proofs.lemmas.List.Folds.{list_any-append}
+use Rattle.ht_bench.proofs.NameListLaws.{new_name, known_name, with_names-long, with_names-grow, has_name-Decides}
 
 -- what a builder's `net` does to a draft
 pub net_mentions : (d new : Draft) (name : Name) → (¬ IsNewName d.names name → new ≡ d)
@@ -51,6 +51,21 @@ net_refuses d name (Undriven other) refused = absurd refused
 net_refuses d name (Loop nets) refused = absurd refused
 net_refuses d name NetNoMemory refused = inl refl
 
+-- a name that finds no room, and isn't driven
+pub driver_refuses : (old : Draft) (name : Name) (error : AddError) → IsDraft old
+    → RefusesMentions old (name ∷ []) error → RefusesDriver old name error
+driver_refuses old name error is refused =
+    let driven = has_name (driven_names old) name in
+    ⊎_elim (λ (memory : error ≡ NoMemory). inr (inr memory))
+    (λ (many : (error ≡ Limit Nets) × (max_nets < length (with_names old.names (name ∷ [])))).
+    ⊎_elim
+    (λ (yes : driven ≡ true).
+    let known = (has_name-Decides old.names name).1 (All-contains (Contains old.names) (driven_names old) name
+    is.drivers_known ((has_name-Decides (driven_names old) name).0 yes)) in
+    let same = ap length (cond-true (has_name old.names name) old.names (old.names ++ name ∷ []) known) in
+    absurd (omega (arith, many.1, same, is.few_names)))
+    (λ (no : driven ≡ false). inr (inl (no, inr many))) (cases_Bool driven)) refused
+
 -- ---- more names
 
 mentions_then : (a b c : Draft) (names others : List Name) → Mentions a names b → Mentions b others c
@@ -62,33 +77,30 @@ mentions_then a b c names others first last = record {
 }
 
 module _ (b c : Draft) (names : List Name) (m : Mentions b names c) where
-  number_in : (id : NameId) (name : Name) → IsNumberOf b.names id name → IsNumberOf c.names id name
-  number_in id name at =
-      let more = names_more b c names m in (
-        omega (arith, at.0, ap length more.1, length-append b.names more.0),
-        ap (λ (l : List Name). get_or l id.0 []) more.1 ∙ number_stays b.names more.0 id name at,
-      )
+  names_more : (rest : List Name) × (c.names ≡ b.names ++ rest)
+  names_more = let on = with_names-grow b.names names in (on.0, ap (λ (x : Draft). x.names) m.is ∙ on.1)
 
-  numbers_in : (ids : List NameId) (texts : List Name) → AreNumbersOf b.names ids texts → AreNumbersOf c.names ids texts
-  numbers_in ids texts are more = ap (λ (l : List Name). map (λ (id : NameId). get_or l id.0 []) ids)
-      (after_more b c names m more) ∙ are ((names_more b c names m).0 ++ more)
+  still_name : (id : NameId) → IsName b id → IsName c id
+  still_name id known = omega (arith, known, ap length names_more.1, length-append b.names names_more.0)
+
+  still_named : (id : NameId) → IsName b id → draft_name c id ≡ draft_name b id
+  still_named id known = ap (λ (l : List Name). get_or l id.0 []) names_more.1 ∙ same_name b.names names_more.0 id known
+
+  still_names : (ids : List NameId) → All (IsName b) ids → All (IsName c) ids
+  still_names ids known = All-weaker (IsName b) (IsName c) still_name ids known
+
+  all_named : (ids : List NameId) → All (IsName b) ids → map (draft_name c) ids ≡ map (draft_name b) ids
+  all_named ids known = ap (λ (l : List Name). map (λ (id : NameId). get_or l id.0 []) ids) names_more.1
+      ∙ same_names b.names names_more.0 ids known
 
 -- a net that is free stays free
 pub free_then : {a b c : Draft} {before names : List Name} {name : Name} {id : NameId} → MentionsFree a before name id b
     → Mentions b names c → MentionsFree a (before ++ names) name id c
 free_then {a} {b} {c} {before} {names} {name} {id} found m = record {
   mentions = mentions_then a b c before names found.mentions m;
-  number = number_in b c names m id name found.number;
-  free = λ driven. found.free (subst (λ (x : Draft). IsDriven x id) m.is driven);
+  number = (still_name b c names m id found.number.0, still_named b c names m id found.number.0 ∙ found.number.1);
+  free = found.free;
 }
-
-numbers_push : (names : List Name) (ids : List NameId) (texts : List Name) (id : NameId) (name : Name)
-    → AreNumbersOf names ids texts → IsNumberOf names id name → AreNumbersOf names (ids ++ id ∷ []) (texts ++ name ∷ [])
-numbers_push names ids texts id name are at more =
-    let pushed = map_push (λ (x : NameId). get_or (names ++ more) x.0 []) ids id in
-    let texts_are = are more in
-    let named = number_stays names more id name at in
-    cc
 
 -- ---- the step of a loop over names
 
@@ -112,12 +124,18 @@ module _ (a b : Draft) (texts : List (Bor (List ℕ))) (i : ℕ) (d : Bor (List 
   step_mentions c last = rw (more_texts texts i d lt)
       (mentions_then a b c (take i (texts_of texts)) ((get_or texts i d).now ∷ []) first last)
 
-  pub step_numbers : (c : Draft) (ids new : List NameId) (id : NameId) → new ≡ ids ++ id ∷ []
-      → AreNumbersOf b.names ids (take i (texts_of texts)) → Mentions b ((get_or texts i d).now ∷ []) c
-      → IsNumberOf c.names id (get_or texts i d).now → AreNumbersOf c.names new (take (i + 1) (texts_of texts))
-  step_numbers c ids new id e are last at = rw (e, more_texts texts i d lt)
-      (numbers_push c.names ids (take i (texts_of texts)) id (get_or texts i d).now
-      (numbers_in b c ((get_or texts i d).now ∷ []) last ids (take i (texts_of texts)) are) at)
+  pub step_known : (c : Draft) (ids : List NameId) (id : NameId) → All (IsName b) ids
+      → Mentions b ((get_or texts i d).now ∷ []) c → IsName c id → All (IsName c) (ids ++ id ∷ [])
+  step_known c ids id known last here =
+      All-push (IsName c) ids id (still_names b c ((get_or texts i d).now ∷ []) last ids known) here
+
+  pub step_numbers : (c : Draft) (ids : List NameId) (id : NameId) → All (IsName b) ids
+      → map (draft_name b) ids ≡ take i (texts_of texts) → Mentions b ((get_or texts i d).now ∷ []) c
+      → draft_name c id ≡ (get_or texts i d).now → map (draft_name c) (ids ++ id ∷ []) ≡ take (i + 1) (texts_of texts)
+  step_numbers c ids id known are last here =
+      map_push (draft_name c) ids id
+      ∙ ap (λ l. l ++ draft_name c id ∷ []) (all_named b c ((get_or texts i d).now ∷ []) last ids known ∙ are)
+      ∙ ap (λ n. take i (texts_of texts) ++ n ∷ []) here ∙ sym (more_texts texts i d lt)
 
   -- one name that finds no room refuses them all
   pub step_refuses : (error : AddError) → RefusesMentions b ((get_or texts i d).now ∷ []) error

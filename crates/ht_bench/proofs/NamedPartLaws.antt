@@ -1,12 +1,13 @@
 -- Flip-flops and gates of a circuit by name.
-use Rattle.std.proofs.Common.{◌≡◌, ℕ, zero, suc, ◌+◌, ◌<◌, List, [], ◌∷◌, ◌++◌, length, get_or, map, refl, sym, ap, subst, ◌∙◌, arith}
+use Rattle.std.proofs.Common.{◌≡◌, ℕ, zero, suc, ◌+◌, ◌<◌, List, [], ◌∷◌, length, get_or, map, refl, sym, ap, subst, ◌∙◌, arith}
 use Rattle.std.specs.List.{All}
 use Rattle.std.proofs.lemmas.List.{get_or-map}
 use Rattle.std.proofs.lemmas.List.Elements.{All-from_get_or}
-use Rattle.ht_tern.specs.declared.gate.Kind.TheVariants.{Buf}
 use Rattle.ht_net.specs.declared.net.NetId.{NetId}
 use Rattle.ht_net.specs.Netlist.{Netlist, Gate, no_net, no_gate}
-use Rattle.ht_net.specs.Named.{Name, NamedDff, NamedGate, NamedNetlist, name_of, named_dffs, named_gates}
+use Rattle.ht_net.specs.Draft.{dff_outs, gate_outs}
+use Rattle.ht_net.proofs.NameCycleLaws.{no_named_gate}
+use Rattle.ht_net.specs.Named.{NamedDff, NamedGate, name_of, named_dffs, named_gates}
 
 -- ---- lists whose members are numbered from a start on
 
@@ -35,25 +36,11 @@ module _ {A B : Type 0} (f : ℕ → A → B) (g : ℕ → List A → List B) (n
 abbrev pub no_named_dff : NamedDff
 no_named_dff = record { out = []; data_pin = [] }
 
-abbrev pub no_named_gate : NamedGate
-no_named_gate = record { kind = Buf; out = []; args = [] }
-
 abbrev pub dff_named : Netlist → ℕ → NetId → NamedDff
 dff_named c x d = record { out = get_or c.names x []; data_pin = name_of c d }
 
 abbrev pub gate_named : Netlist → ℕ → Gate → NamedGate
 gate_named c x g = record { kind = g.kind; out = get_or c.names x []; args = map (name_of c) g.args }
-
--- the nets that flip-flops and gates drive
-abbrev pub dff_outs : List NamedDff → List Name
-dff_outs dffs = map (λ (d : NamedDff). d.out) dffs
-
-abbrev pub gate_outs : List NamedGate → List Name
-gate_outs gates = map (λ (g : NamedGate). g.out) gates
-
--- all the nets that are driven
-abbrev pub drivers : NamedNetlist → List Name
-drivers n = (n.inputs ++ dff_outs n.dffs) ++ gate_outs n.gates
 
 module _ (c : Netlist) (n : ℕ) where
   pub named_dffs_count : (dffs : List NetId) → length (named_dffs c n dffs) ≡ length dffs

@@ -21,7 +21,7 @@ use Rattle.ht_bench.specs.declared.error.BenchError.TheVariants.{BadLine, BadNam
 use Rattle.ht_bench.proofs.AllLaws.{all_from, AreNames, All-flat_map}
 use Rattle.ht_bench.proofs.NameListLaws.{has_name-Decides}
 use Rattle.ht_bench.proofs.DriverLaws.{drivers_are}
-use Rattle.ht_bench.proofs.NamedPartLaws.{drivers}
+use Rattle.ht_net.specs.Draft.{drivers}
 use Rattle.ht_bench.proofs.NormalRoundLaws.{normal_is_netlist}
 use Rattle.ht_bench.proofs.NormalContentLaws.{driven_are}
 use Rattle.ht_bench.proofs.NormalNameLaws.{driven_are_names}

@@ -9,7 +9,8 @@ use Rattle.ht_statement.specs.Statement.{input_line, output_line, Statement, nam
 use Rattle.ht_bench.specs.Different.{with_name, with_names, different}
 use Rattle.ht_bench.specs.Contents.{with_statement, named_of_statements, driven_by}
 use Rattle.ht_bench.specs.Normal.{dff_statement, gate_statement, named_statements, statements_of}
-use Rattle.ht_bench.proofs.NamedPartLaws.{drivers, All-named_dffs, All-named_gates}
+use Rattle.ht_bench.proofs.NamedPartLaws.{All-named_dffs, All-named_gates}
+use Rattle.ht_net.specs.Draft.{drivers}
 use Rattle.std.proofs.lemmas.List.{length-map}
 use Rattle.std.proofs.lemmas.List.Elements.{All-nil, All-cons, All-append, All-map, All-take, All-weaker, All-contains_itself, All-from_get_or, Contains-get_or}
 use Rattle.ht_tern.specs.Gate.{HasArity}

@@ -4,7 +4,7 @@ use Rattle.std.proofs.lemmas.List.{take_all}
 use Rattle.std.proofs.lemmas.List.Concat.{flat_map-append}
 use Rattle.ht_statement.specs.Statement.{Statement}
 use Rattle.ht_statement.specs.StatementText.{statement_line}
-use Rattle.ht_net.proofs.NetLaws.{map_take_more}
+use Rattle.std.proofs.lemmas.List.{map_more}
 use Rattle.ht_bench.specs.Normal.{statement_lines}
 
 -- a text to which the line of one more member was added
@@ -17,7 +17,7 @@ adds_line f xs k d x old before after below is_member is_before is_after =
     ∙ append_assoc old (statement_lines (map f (take k xs))) (statement_line (f x))
     ∙ ap (λ y. old ++ (statement_lines (map f (take k xs)) ++ statement_line (f y))) (sym is_member)
     ∙ ap (λ text. old ++ text) (sym (
-    ap statement_lines (map_take_more f xs k d below)
+    ap statement_lines (map_more f xs k d below)
     ∙ flat_map-append statement_line (map f (take k xs)) (f (get_or xs k d) ∷ [])
     ∙ ap (λ text. statement_lines (map f (take k xs)) ++ text) (append-nil (statement_line (f (get_or xs k d))))))
 

@@ -6,10 +6,12 @@ use Rattle.ht_net.specs.declared.net.NetId.{NetId}
 use Rattle.ht_net.specs.Lists.{AllDiffer}
 use Rattle.ht_net.specs.Netlist.{Netlist, Gate, IsCircuit, first_gate_net, pin_count, no_net}
 use Rattle.ht_net.specs.Named.{Name, NamedDff, NamedGate, name_of, named_gates, named_of}
-use Rattle.ht_bench.specs.Contents.{driven_by, named_pins, named_of_statements}
+use Rattle.ht_bench.specs.Contents.{driven_by, named_of_statements}
+use Rattle.ht_net.specs.Draft.{named_pins, dff_outs, gate_outs}
 use Rattle.ht_bench.specs.Normal.{statements_of}
-use Rattle.ht_bench.proofs.NameListLaws.{with_names-differ, one_place}
-use Rattle.ht_bench.proofs.NamedPartLaws.{gate_named, named_dffs_count, named_gates_count, dff_outs, gate_outs, dff_out, gate_out}
+use Rattle.ht_bench.proofs.NameListLaws.{with_names-differ}
+use Rattle.ht_net.proofs.PlaceLaws.{one_place}
+use Rattle.ht_bench.proofs.NamedPartLaws.{gate_named, named_dffs_count, named_gates_count, dff_out, gate_out}
 use Rattle.ht_bench.proofs.NormalContentLaws.{named_said, driven_are}
 
 -- names from n on, after those before it

@@ -15,7 +15,8 @@ use Rattle.ht_statement.specs.Reading.{stated, reading_of}
 use Rattle.ht_statement.specs.StatementText.{statement_text, CanBeStated}
 use Rattle.ht_statement.proofs.StatementTextLaws.{normal_reads}
 use Rattle.ht_bench.specs.Different.{has_name}
-use Rattle.ht_bench.specs.Contents.{no_parts, with_statement, named_of_statements, named_pins, driven_in, driven_by, mentions_of, stated_nets}
+use Rattle.ht_bench.specs.Contents.{no_parts, with_statement, named_of_statements, driven_in, driven_by, mentions_of, stated_nets}
+use Rattle.ht_net.specs.Draft.{named_pins}
 use Rattle.ht_bench.specs.Accepted.{limit_passed, second_driver, reading_error}
 use Rattle.ht_bench.specs.Role.{line_of}
 use Rattle.ht_bench.specs.EndOfText.{undriven_refusal}

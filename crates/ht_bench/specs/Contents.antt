@@ -1,9 +1,9 @@
 -- What the statements of a netlist say together (ISCAS-89 format): inputs, outputs, flip-flops, gates, and which nets
 -- are driven and mentioned.
-use Rattle.std.specs.Prelude.{ℕ, ◌+◌, List, [], ◌∷◌, ◌++◌, length, flat_map, fold, sum_by}
+use Rattle.std.specs.Prelude.{ℕ, List, [], ◌∷◌, ◌++◌, flat_map, fold}
 use Rattle.std.specs.List.{position_or_len}
 use Rattle.std.specs.Str.{bytes_eq}
-use Rattle.ht_net.specs.Named.{Name, NamedGate, NamedNetlist}
+use Rattle.ht_net.specs.Named.{Name, NamedNetlist}
 use Rattle.ht_statement.specs.Statement.{Statement, blank_line, input_line, output_line, dff_line, gate_line, names_in}
 use Rattle.ht_bench.specs.Different.{with_name, different}
 
@@ -45,7 +45,3 @@ stated_nets statements = different (mentions_of statements)
 abbrev pub mention_rank : List Statement → Name → ℕ
 mention_rank statements name = position_or_len (λ other. bytes_eq other name)
     (stated_nets statements)
-
--- pins are the data pins of flip-flops and the arguments of gates
-abbrev pub named_pins : NamedNetlist → ℕ
-named_pins n = length n.dffs + sum_by (λ (g : NamedGate). length g.args) n.gates

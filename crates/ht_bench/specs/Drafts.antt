@@ -1,44 +1,41 @@
--- How a builder's draft stands for the statements that were added to it.
-use Rattle.std.specs.Prelude.{◌≡◌, ◌⊎◌, ℕ, ◌<◌, ◌≤◌, List, [], ◌∷◌, ◌++◌, length, map, get_or, true, None}
+-- The draft of the statements that were added to a builder.
+use Rattle.std.specs.Prelude.{◌≡◌, ◌⊎◌, ℕ, ◌<◌, ◌≤◌, List, [], ◌∷◌, length, find, true, false, Option, None}
 use Rattle.ht_tern.specs.Gate.{HasArity}
 use Rattle.ht_net.specs.declared.names.NameId.{NameId}
+use Rattle.ht_net.specs.declared.error.Limit.{Limit as NetLimit}
 use Rattle.ht_net.specs.declared.error.Limit.TheVariants.{Nets}
-use Rattle.ht_net.specs.Lists.{AllDiffer}
 use Rattle.ht_net.specs.Names.{IsNameAt}
-use Rattle.ht_net.specs.Named.{Name}
-use Rattle.ht_net.specs.Draft.{Draft, IsDraft, IsDriven}
-use Rattle.ht_net.specs.Built.{named_draft}
+use Rattle.ht_net.specs.Named.{Name, NamedNetlist}
+use Rattle.ht_net.specs.Draft.{Draft, IsDraft, named_draft, draft_pins, driven_names}
 use Rattle.ht_net.specs.Netlist.{max_nets, max_arguments}
-use Rattle.ht_statement.specs.Statement.{Statement, gate_line}
+use Rattle.ht_statement.specs.Statement.{Statement, gate_line, names_in}
 use Rattle.ht_statement.specs.Reading.{stated, reading_of}
 use Rattle.ht_bench.specs.Different.{has_name, with_names}
-use Rattle.ht_bench.specs.Contents.{driven_by, stated_nets, named_of_statements}
-use Rattle.ht_bench.specs.Accepted.{second_driver, limit_passed, reading_error}
+use Rattle.ht_bench.specs.Contents.{with_statement, driven_in, stated_nets, named_of_statements}
+use Rattle.ht_bench.specs.Accepted.{limit_passed, limit_passed_by, driver_or_limit, reading_error}
 use Rattle.ht_bench.specs.AddErrors.{IsAddError}
 use Rattle.ht_bench.specs.declared.add_error.AddError.{AddError}
 use Rattle.ht_bench.specs.declared.add_error.AddError.TheVariants.{SecondDriver, Limit, NoMemory}
 
-abbrev pub IsNumberOf : List Name → NameId → Name → Type 0
-IsNumberOf names id name = IsNameAt names id.0 name
+abbrev pub drafted : List Name → NamedNetlist → Draft
+drafted names n = record { names = names; inputs = n.inputs; outputs = n.outputs; dffs = n.dffs; gates = n.gates }
 
--- numbers of these names, whatever names come after
-abbrev pub AreNumbersOf : List Name → List NameId → List Name → Type 0
-AreNumbersOf names ids texts = (more : List Name)
-    → map (λ (id : NameId). get_or (names ++ more) id.0 []) ids ≡ texts
-
-abbrev pub longer : Draft → List Name → Draft
-longer d more = record d { names = d.names ++ more }
-
--- a draft says by names what the statements say, whatever names come after
-abbrev pub SaysByName : List Statement → Draft → Type 0
-SaysByName statements d = (more : List Name)
-    → named_draft (longer d more) ≡ named_of_statements statements
-
+-- the draft of statements that are within the limits
 pub record IsDraftOf (statements : List Statement) (d : Draft) : Type 0 where
-  pub names : d.names ≡ stated_nets statements
-  pub names_differ : AllDiffer d.names
-  pub says : SaysByName statements d
+  pub is : d ≡ drafted (stated_nets statements) (named_of_statements statements)
   pub limits : limit_passed statements ≡ None
+
+-- a draft with one more statement
+abbrev pub with_line : Draft → Statement → Draft
+with_line d s = drafted (with_names d.names (names_in s)) (with_statement (named_draft d) s)
+
+-- the first limit that a draft passes
+abbrev pub draft_limit : Draft → Option NetLimit
+draft_limit d = limit_passed_by (length d.names) (draft_pins d) (length d.inputs) (length d.dffs)
+
+-- why a statement isn't accepted after those of a draft, if it isn't
+abbrev pub draft_error : Draft → Statement → Option AddError
+draft_error d s = driver_or_limit (find (has_name (driven_names d)) (driven_in s)) (draft_limit (with_line d s))
 
 -- a draft in which more names are mentioned, and nothing else is new
 pub record Mentions (old : Draft) (names : List Name) (new : Draft) : Type 0 where
@@ -49,28 +46,26 @@ pub record Mentions (old : Draft) (names : List Name) (new : Draft) : Type 0 whe
 pub record MentionsFree (old : Draft) (names : List Name) (name : Name) (id : NameId)
     (new : Draft) : Type 0 where
   pub mentions : Mentions old names new
-  pub number : IsNumberOf new.names id name
-  pub free : ¬ IsDriven new id
+  pub number : IsNameAt new.names id.0 name
+  pub free : has_name (driven_names old) name ≡ false
 
 -- the names are too many
 abbrev pub RefusesMentions : Draft → List Name → AddError → Type 0
 RefusesMentions old names error = (error ≡ NoMemory)
     ⊎ ((error ≡ Limit Nets) × (max_nets < length (with_names old.names names)))
 
--- the net is driven already, or no name is left for it
+-- the net is driven already, or it isn't and no name is left for it
 abbrev pub RefusesDriver : Draft → Name → AddError → Type 0
-RefusesDriver old name error = RefusesMentions old (name ∷ []) error ⊎ ((error ≡ SecondDriver name)
-    × ((before : List Statement) → IsDraftOf before old → has_name (driven_by before) name ≡ true))
+RefusesDriver old name error = ((error ≡ SecondDriver name) × (has_name (driven_names old) name ≡ true))
+    ⊎ (((has_name (driven_names old) name ≡ false) × RefusesMentions old (name ∷ []) error)
+    ⊎ (error ≡ NoMemory))
 
--- the statement is accepted after those of the old draft, and the new draft is theirs and its
+-- the statement is accepted after those of the old draft, and the new draft has it too
 abbrev pub Accepts : Draft → Statement → Draft → Type 0
-Accepts old s new = (before : List Statement) → IsDraftOf before old
-    → (second_driver before s ≡ None) × IsDraftOf (before ++ s ∷ []) new
+Accepts old s new = (new ≡ with_line old s) × (draft_error old s ≡ None)
 
--- it is refused after them
 abbrev pub RefusesStatement : Draft → Statement → AddError → Type 0
-RefusesStatement old s error = (before : List Statement) → IsDraftOf before old
-    → IsAddError error (reading_error before (stated s))
+RefusesStatement old s error = IsAddError error (draft_error old s)
 
 -- one argument for NOT and BUFF, at least one for the other gates, and no more than the limit
 abbrev pub HasArguments : Statement → Type 0

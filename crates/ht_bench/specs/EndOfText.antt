@@ -1,7 +1,7 @@
 -- What is judged after the last line: nets that no line drives, and cycles of gates.
-use Rattle.std.specs.Prelude.{◌≡◌, ℕ, ◌<◌, ◌≤◌, List, [], length, get_or, Contains, not, find, Option, option_map}
-use Rattle.ht_net.specs.Lists.{IsCycle}
-use Rattle.ht_net.specs.Named.{Name, NamedGate}
+use Rattle.std.specs.Prelude.{ℕ, ◌<◌, ◌≤◌, List, [], length, get_or, not, find, Option, option_map}
+use Rattle.ht_net.specs.Finish.{IsNameCycle}
+use Rattle.ht_net.specs.Named.{Name}
 use Rattle.ht_statement.specs.Statement.{Statement}
 use Rattle.ht_bench.specs.Different.{has_name}
 use Rattle.ht_bench.specs.Contents.{driven_by, stated_nets, named_of_statements, mention_rank}
@@ -19,16 +19,9 @@ abbrev pub undriven_refusal : List Statement → Option BenchError
 undriven_refusal statements = option_map (λ net. Undriven (line_of Mentioned statements net) net)
     (first_undriven statements)
 
--- a is an argument of the gate that drives b
-pub record Feeds (statements : List Statement) (a b : Name) : Type 0 where
-  pub gate : NamedGate
-  pub is_gate : Contains (named_of_statements statements).gates gate
-  pub out : gate.out ≡ b
-  pub arg : Contains gate.args a
-
 -- A cycle of gates: different nets, each an argument of the gate that drives the next, and the last one of the gate
 -- that drives the first; the first is the one that is mentioned first.
 pub record IsNetCycle (statements : List Statement) (cycle : List Name) : Type 0 where
-  pub is_cycle : IsCycle (Feeds statements) cycle
+  pub is_cycle : IsNameCycle (named_of_statements statements).gates cycle
   pub least : (k : ℕ) → k < length cycle → mention_rank statements (get_or cycle 0 [])
       ≤ mention_rank statements (get_or cycle k [])

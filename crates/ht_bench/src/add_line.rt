@@ -1,10 +1,10 @@
 //! Adding what a line states.
-ghost use Rattle.std.specs.Prelude.{◌≡◌, ◌≤◌, length, OnOk, IfErr};
+ghost use Rattle.std.specs.Prelude.{◌≡◌, ◌≤◌, length, None, OnOk, IfErr};
 ghost use Rattle.ht_tern.specs.Gate.{HasArity};
 ghost use Rattle.ht_net.specs.Netlist.{max_arguments};
 ghost use Rattle.ht_statement.specs.Statement.{blank_line, input_line, output_line, dff_line, gate_line};
 ghost use Rattle.ht_statement.specs.StatementOf.{statement_of, texts_of};
-ghost use Rattle.ht_bench.specs.Drafts.{Accepts, RefusesStatement, HasArguments, AddsLine, RefusesLine};
+ghost use Rattle.ht_bench.specs.Drafts.{draft_limit, Accepts, RefusesStatement, HasArguments, AddsLine, RefusesLine};
 
 use crate::add_error::AddError;
 use crate::mention::{mention, mention_all, mention_driven};
@@ -69,7 +69,8 @@ fn add_gate(
 }
 
 fn add(alloc: Global, builder: &mut Builder, statement: &Statement<'_>) -> Result<(), AddError>
-    requires { HasArguments (statement_of statement.now) }
+    requires within { draft_limit builder.old ≡ None }
+    requires arguments { HasArguments (statement_of statement.now) }
     ensures accepts { OnOk result
         (Accepts builder.old (statement_of statement.now) builder.new) }
     ensures refusal { IfErr result (RefusesStatement builder.old (statement_of statement.now)) }
@@ -86,6 +87,7 @@ fn add(alloc: Global, builder: &mut Builder, statement: &Statement<'_>) -> Resul
 /// Adds what a line states.
 #[tactic(auto, using(crate::proofs::StatedLaws::stated_arguments))]
 pub(crate) fn add_line(alloc: Global, builder: &mut Builder, line: &[u8]) -> Result<(), AddError>
+    requires { draft_limit builder.old ≡ None }
     ensures adds { OnOk result (AddsLine builder.old line.now builder.new) }
     ensures refusal { IfErr result (RefusesLine builder.old line.now) }
 {

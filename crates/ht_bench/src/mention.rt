@@ -1,8 +1,9 @@
 //! Names that lines mention, and their numbers.
-ghost use Rattle.std.specs.Prelude.{[], ◌∷◌, IfOk, OnOk, IfErr};
-ghost use Rattle.ht_net.specs.Draft.{IsDraft};
+ghost use Rattle.std.specs.Prelude.{◌≡◌, [], ◌∷◌, map, All, IfOk, OnOk, IfErr, OnErr};
+ghost use Rattle.ht_net.specs.Draft.{IsDraft, IsName, draft_name};
+ghost use Rattle.ht_net.specs.Names.{IsNameAt};
 ghost use Rattle.ht_statement.specs.StatementOf.{texts_of};
-ghost use Rattle.ht_bench.specs.Drafts.{IsNumberOf, AreNumbersOf, Mentions, MentionsFree, RefusesMentions, RefusesDriver};
+ghost use Rattle.ht_bench.specs.Drafts.{Mentions, MentionsFree, RefusesMentions, RefusesDriver};
 
 use crate::add_error::AddError;
 use ht_items::Items;
@@ -11,9 +12,10 @@ use std::alloc::Global;
 
 /// The number of a name, which is mentioned from here on.
 pub(crate) fn mention(builder: &mut Builder, name: &[u8]) -> Result<NameId, AddError>
-    ensures number { IfOk result (λ id. IsNumberOf builder.new.names id name.now) }
+    ensures number { IfOk result (λ id. IsNameAt builder.new.names id.0 name.now) }
     ensures mentions { OnOk result (Mentions builder.old (name.now ∷ []) builder.new) }
     ensures refusal { IfErr result (RefusesMentions builder.old (name.now ∷ [])) }
+    ensures draft { OnErr result (IsDraft builder.old) }
 {
     Ok(builder.net(name)?)
 }
@@ -25,8 +27,9 @@ pub(crate) fn mention_all(
     names: &[&[u8]],
 ) -> Result<Items<NameId>, AddError>
     requires { IsDraft builder.old }
+    ensures known { IfOk result (λ ids. All (IsName builder.new) ids) }
     ensures numbers { IfOk result
-        (λ ids. AreNumbersOf builder.new.names ids (texts_of names.now)) }
+        (λ ids. map (draft_name builder.new) ids ≡ texts_of names.now) }
     ensures mentions { OnOk result
         (Mentions builder.old (texts_of names.now) builder.new) }
     ensures refusal { IfErr result (RefusesMentions builder.old (texts_of names.now)) }

@@ -1,112 +1,120 @@
--- A circuit says by names what its draft says.
-use Rattle.std.proofs.Common.{◌≡◌, ◌<◌, ◌+◌, ◌++◌, ℕ, suc, List, [], ◌∷◌, length, get_or, map, take, refl, sym, ◌∙◌, ap, arith}
-use Rattle.std.proofs.lemmas.List.{length-map, map-append}
+-- The circuit of a netlist by names says what the netlist says.
+use Rattle.std.proofs.Common.{◌≡◌, ◌<◌, ◌+◌, ◌++◌, ℕ, suc, List, [], ◌∷◌, length, get_or, map, take, refl, ◌∙◌, ap, subst, length-append, append_assoc, arith}
+use Rattle.std.specs.List.{All, Contains}
+use Rattle.std.proofs.lemmas.List.{length-map, get_or_default, get_or_append_left, get_or-append-add}
+use Rattle.std.proofs.lemmas.List.Elements.{All-head, All-tail, All-weaker}
 use Rattle.std.proofs.Math.Seq.{take-append_seam}
-use Rattle.ht_net.specs.declared.draft.DraftDff.{DraftDff}
-use Rattle.ht_net.specs.declared.builder.Driver.{Driver}
-use Rattle.ht_net.specs.Netlist.{Netlist, first_gate_net}
+use Rattle.ht_net.specs.declared.names.NameId.{NameId}
+use Rattle.ht_net.specs.declared.net.NetId.{NetId}
+use Rattle.ht_net.specs.Netlist.{Netlist, Gate, first_gate_net, net_count}
 use Rattle.ht_net.specs.Named.{Name, NamedDff, NamedGate, NamedNetlist, name_of, named_dffs, named_gates, named_of}
-use Rattle.ht_net.specs.Draft.{Draft, DraftGate, IsDraft, no_name, no_part, no_dff, latch_names, gate_names, driven_names}
-use Rattle.ht_net.specs.DraftOf.{AreDrivers}
-use Rattle.ht_net.specs.Built.{net_of, draft_name, draft_gates, circuit_of, named_draft, AllDriven}
-use Rattle.ht_net.proofs.CircuitLaws.{latch_name, gate_name, length_driven}
-use Rattle.ht_net.proofs.DrivenLaws.{driven_name_at, name_back}
+use Rattle.ht_net.specs.Draft.{Draft, IsDraft, named_draft, driven_names, dff_outs, gate_outs, drivers}
+use Rattle.ht_net.specs.Built.{net_of, circuit_gates, circuit_of, AllDriven}
+use Rattle.ht_net.proofs.PlaceLaws.{at_its_place}
 
-abbrev dff_by : Draft → DraftDff → NamedDff
-dff_by d f = record { out = draft_name d f.out; data_pin = draft_name d f.data_pin }
-
-abbrev gate_by : Draft → DraftGate → NamedGate
-gate_by d g = record { kind = g.kind; out = draft_name d g.out; args = map (draft_name d) g.args }
-
-map_same : {A B C : Type 0} (f : B → C) (g : A → B) (h : A → C) (xs : List A) (d : A)
-    → ((i : ℕ) → i < length xs → f (g (get_or xs i d)) ≡ h (get_or xs i d)) → map f (map g xs) ≡ map h xs
-map_same f g h [] d e = refl
-map_same f g h (x ∷ xs) d e =
-    let here = e 0 (omega arith) in
-    let rest = map_same f g h xs d (λ i l. e (suc i) (omega arith)) in
+map_back : {X Y : Type 0} (f : X → Y) (g : Y → X) (xs : List X) → All (λ x. g (f x) ≡ x) xs → map g (map f xs) ≡ xs
+map_back f g [] all = refl
+map_back f g (x ∷ xs) all =
+    let here : g (f x) ≡ x = All-head (λ y. g (f y) ≡ y) x xs all in
+    let rest = map_back f g xs (All-tail (λ y. g (f y) ≡ y) x xs all) in
     cc
 
-dffs_same : (c : Netlist) (d : Draft) (x : ℕ) (dffs : List DraftDff)
-    → ((j : ℕ) → j < length dffs → get_or c.names (x + j) [] ≡ draft_name d (get_or dffs j no_dff).out)
-    → ((j : ℕ) → j < length dffs → name_of c (net_of d (get_or dffs j no_dff).data_pin)
-    ≡ draft_name d (get_or dffs j no_dff).data_pin)
-    → named_dffs c x (map (λ (f : DraftDff). net_of d f.data_pin) dffs) ≡ map (dff_by d) dffs
-dffs_same c d x [] outs pins = refl
-dffs_same c d x (f ∷ dffs) outs pins =
-    let z : x + 0 ≡ x = omega arith in
-    let out : get_or c.names x [] ≡ draft_name d f.out = ap (λ (n : ℕ). get_or c.names n []) (sym z) ∙ outs 0
-    (omega arith) in
-    let pin : name_of c (net_of d f.data_pin) ≡ draft_name d f.data_pin = pins 0 (omega arith) in
-    let rest : named_dffs c (x + 1) (map (λ (g : DraftDff). net_of d g.data_pin) dffs)
-    ≡ map (dff_by d) dffs = dffs_same c d (x + 1) dffs
-    (λ j l. let s : x + 1 + j ≡ x + suc j = omega arith in ap (λ (n : ℕ). get_or c.names n []) s ∙ outs (suc j)
-    (omega arith)) (λ j l. pins (suc j) (omega arith)) in
-    let made : Name → Name → NamedDff = λ n m. record { out = n; data_pin = m } in
-    rw (out, pin, rest) refl
+module _ (c : Netlist) (f : Name → NetId) where
+  -- a name whose net has it
+  abbrev IsBack : Name → Type 0
+  IsBack name = name_of c (f name) ≡ name
 
-gates_same : (c : Netlist) (d : Draft) (x : ℕ) (gates : List DraftGate)
-    → ((j : ℕ) → j < length gates → get_or c.names (x + j) [] ≡ draft_name d (get_or gates j no_part).out)
-    → ((j i : ℕ) → j < length gates → i < length (get_or gates j no_part).args
-    → name_of c (net_of d (get_or (get_or gates j no_part).args i no_name))
-    ≡ draft_name d (get_or (get_or gates j no_part).args i no_name))
-    → named_gates c x (map (λ (g : DraftGate). record { kind = g.kind; args = map (net_of d) g.args }) gates)
-    ≡ map (gate_by d) gates
-gates_same c d x [] outs pins = refl
-gates_same c d x (g ∷ gates) outs pins =
-    let z : x + 0 ≡ x = omega arith in
-    let out : get_or c.names x [] ≡ draft_name d g.out = ap (λ (n : ℕ). get_or c.names n []) (sym z) ∙ outs 0
-    (omega arith) in
-    let args : map (name_of c) (map (net_of d) g.args) ≡ map (draft_name d) g.args = map_same (name_of c) (net_of d)
-    (draft_name d) g.args no_name (λ i l. pins 0 i (omega arith) l) in
-    let rest : named_gates c (x + 1)
-    (map (λ (p : DraftGate). record { kind = p.kind; args = map (net_of d) p.args }) gates)
-    ≡ map (gate_by d) gates = gates_same c d (x + 1) gates
-    (λ j l. let s : x + 1 + j ≡ x + suc j = omega arith in ap (λ (n : ℕ). get_or c.names n []) s ∙ outs (suc j)
-    (omega arith)) (λ j i l m. pins (suc j) i (omega arith) m) in
-    rw (out, args, rest) refl
+  dffs_back : (x : ℕ) (dffs : List NamedDff)
+      → ((j : ℕ) → j < length dffs → get_or c.names (x + j) [] ≡ get_or (dff_outs dffs) j [])
+      → All (λ (d : NamedDff). IsBack d.data_pin) dffs
+      → named_dffs c x (map (λ (d : NamedDff). f d.data_pin) dffs) ≡ dffs
+  dffs_back x [] outs pins = refl
+  dffs_back x (d ∷ dffs) outs pins =
+      let z : x ≡ x + 0 = omega arith in
+      let out : get_or c.names x [] ≡ d.out = ap (λ n. get_or c.names n []) z ∙ outs 0 (omega arith) in
+      let pin : name_of c (f d.data_pin) ≡ d.data_pin = All-head (λ (e : NamedDff). IsBack e.data_pin) d dffs pins in
+      let rest : named_dffs c (x + 1) (map (λ (e : NamedDff). f e.data_pin) dffs) ≡ dffs = dffs_back (x + 1) dffs
+      (λ j l. let s : x + 1 + j ≡ x + suc j = omega arith in ap (λ n. get_or c.names n []) s ∙ outs (suc j)
+      (omega arith)) (All-tail (λ (e : NamedDff). IsBack e.data_pin) d dffs pins) in
+      rw (out, pin, rest) refl
 
-module _ (d : Draft) (drivers : List Driver) (wired : AreDrivers d drivers)
-    (all : AllDriven d) (draft : IsDraft d) where
-  inputs_named : take (length d.inputs) (map (draft_name d) (driven_names d)) ≡ map (draft_name d) d.inputs
-  inputs_named =
-      let long : length (map (draft_name d) d.inputs) ≡ length d.inputs = length-map d.inputs (draft_name d) in
-      ap (λ (n : ℕ). take n (map (draft_name d) (driven_names d))) (sym long)
-      ∙ (ap (λ (l : List Name). take (length (map (draft_name d) d.inputs)) l)
-      (map-append (draft_name d) d.inputs (latch_names d ++ gate_names d))
-      ∙ take-append_seam (map (draft_name d) d.inputs) (map (draft_name d) (latch_names d ++ gate_names d)))
+  gates_back : (x : ℕ) (gates : List NamedGate)
+      → ((j : ℕ) → j < length gates → get_or c.names (x + j) [] ≡ get_or (gate_outs gates) j [])
+      → All (λ (g : NamedGate). All IsBack g.args) gates
+      → named_gates c x (map (λ (g : NamedGate). record { kind = g.kind; args = map f g.args }) gates) ≡ gates
+  gates_back x [] outs pins = refl
+  gates_back x (g ∷ gates) outs pins =
+      let z : x ≡ x + 0 = omega arith in
+      let out : get_or c.names x [] ≡ g.out = ap (λ n. get_or c.names n []) z ∙ outs 0 (omega arith) in
+      let args : map (name_of c) (map f g.args) ≡ g.args = map_back f (name_of c) g.args
+      (All-head (λ (e : NamedGate). All IsBack e.args) g gates pins) in
+      let rest : named_gates c (x + 1)
+      (map (λ (e : NamedGate). record { kind = e.kind; args = map f e.args }) gates) ≡ gates = gates_back (x + 1) gates
+      (λ j l. let s : x + 1 + j ≡ x + suc j = omega arith in ap (λ n. get_or c.names n []) s ∙ outs (suc j)
+      (omega arith)) (All-tail (λ (e : NamedGate). All IsBack e.args) g gates pins) in
+      rw (out, args, rest) refl
 
-  pub named_is : named_of (circuit_of d) ≡ named_draft d
+-- the first gate's net, and how many nets there are
+pub first_is : (n : NamedNetlist) → first_gate_net (circuit_of n) ≡ length (n.inputs ++ dff_outs n.dffs)
+first_is n = omega (
+  arith,
+  length-append n.inputs (dff_outs n.dffs),
+  length-map n.dffs (λ (f : NamedDff). f.out),
+  length-map n.dffs (λ (f : NamedDff). net_of n f.data_pin),
+)
+
+pub count_is : (n : NamedNetlist) → net_count (circuit_of n) ≡ length (drivers n)
+count_is n = omega (
+  arith,
+  first_is n,
+  length-append (n.inputs ++ dff_outs n.dffs) (gate_outs n.gates),
+  length-map n.gates (λ (g : NamedGate). g.out),
+  length-map n.gates (λ (g : NamedGate). let made : Gate = record { kind = g.kind; args = map (net_of n) g.args }
+      in made),
+)
+
+-- the name of a gate's net
+pub gate_name : (n : NamedNetlist) (g : ℕ) → get_or (drivers n) (first_gate_net (circuit_of n) + g) []
+    ≡ get_or (gate_outs n.gates) g []
+gate_name n g = ap (λ k. get_or (drivers n) (k + g) []) (first_is n)
+    ∙ get_or-append-add (n.inputs ++ dff_outs n.dffs) (gate_outs n.gates) g []
+
+module _ (d : Draft) (is : IsDraft d) (all : AllDriven d) where
+  known_driven : (name : Name) → Contains d.names name → Contains (driven_names d) name
+  known_driven name at =
+      let id : NameId = record { 0 = at.0 } in
+      subst (Contains (driven_names d)) (get_or_default d.names at.0 [] name at.1 ∙ at.2) (all id at.1)
+
+  -- a name has a net, and the net has the name
+  pub net_back : (name : Name) → Contains d.names name → ((net_of (named_draft d) name).0 < length (driven_names d))
+      × (name_of (circuit_of (named_draft d)) (net_of (named_draft d) name) ≡ name)
+  net_back name at = at_its_place (driven_names d) name is.drivers_differ (known_driven name at)
+
+  abbrev HasBack : Name → Type 0
+  HasBack name = IsBack (circuit_of (named_draft d)) (net_of (named_draft d)) name
+
+  has_back : (xs : List Name) → All (Contains d.names) xs → All HasBack xs
+  has_back xs known = All-weaker (Contains d.names) HasBack (λ name at. (net_back name at).1) xs known
+
+  pub named_is : named_of (circuit_of (named_draft d)) ≡ named_draft d
   named_is =
-      let long = length_driven d in
-      let count : length (map (λ (f : DraftDff). net_of d f.data_pin) d.dffs)
-      ≡ length d.dffs = length-map d.dffs (λ (f : DraftDff). net_of d f.data_pin) in
-      let outputs : map (name_of (circuit_of d)) (map (net_of d) d.outputs) ≡ map (draft_name d) d.outputs =
-      map_same (name_of (circuit_of d)) (net_of d) (draft_name d) d.outputs no_name
-      (λ o l. name_back d drivers wired all draft _ (draft.outputs_known o l)) in
-      let dffs : named_dffs (circuit_of d) (length d.inputs) (map (λ (f : DraftDff). net_of d f.data_pin) d.dffs)
-      ≡ map (dff_by d) d.dffs =
-      dffs_same (circuit_of d) d (length d.inputs) d.dffs
-      (λ j l. driven_name_at d drivers wired all draft (length d.inputs + j) (omega arith) ∙ ap (draft_name d)
-      (latch_name d j l))
-      (λ j l. name_back d drivers wired all draft _ (draft.data_known j l)) in
-      let gates : named_gates (circuit_of d) (length d.inputs + length d.dffs) (draft_gates d)
-      ≡ map (gate_by d) d.gates =
-      gates_same (circuit_of d) d (length d.inputs + length d.dffs) d.gates
-      (λ j l. driven_name_at d drivers wired all draft (length d.inputs + length d.dffs + j) (omega arith) ∙ ap
-      (draft_name d) (gate_name d j l))
-      (λ j i l m. name_back d drivers wired all draft _ (draft.args_known j i l m)) in
-      let gates' : named_gates (circuit_of d) (first_gate_net (circuit_of d)) (draft_gates d)
-      ≡ map (gate_by d) d.gates =
-      ap (λ (n : ℕ). named_gates (circuit_of d) (length d.inputs + n) (draft_gates d)) count ∙ gates in
-      let make : List Name → List Name → List NamedDff → List NamedGate
-      → NamedNetlist = λ i o f g. record { inputs = i; outputs = o; dffs = f; gates = g } in
-      ap (λ (i : List Name). make i (map (name_of (circuit_of d)) (map (net_of d) d.outputs))
-      (named_dffs (circuit_of d) (length d.inputs) (map (λ (f : DraftDff). net_of d f.data_pin) d.dffs))
-      (named_gates (circuit_of d) (first_gate_net (circuit_of d)) (draft_gates d))) inputs_named
-      ∙ (ap (λ (o : List Name). make (map (draft_name d) d.inputs) o
-      (named_dffs (circuit_of d) (length d.inputs) (map (λ (f : DraftDff). net_of d f.data_pin) d.dffs))
-      (named_gates (circuit_of d) (first_gate_net (circuit_of d)) (draft_gates d))) outputs
-      ∙ (ap (λ (f : List NamedDff). make (map (draft_name d) d.inputs) (map (draft_name d) d.outputs) f
-      (named_gates (circuit_of d) (first_gate_net (circuit_of d)) (draft_gates d))) dffs
-      ∙ ap (λ (g : List NamedGate). make (map (draft_name d) d.inputs) (map (draft_name d) d.outputs)
-      (map (dff_by d) d.dffs) g) gates'))
+      let n = named_draft d in
+      let c = circuit_of n in
+      let outs = dff_outs d.dffs in
+      let many = length-map d.dffs (λ (f : NamedDff). f.out) in
+      let inputs : take (length d.inputs) (drivers n) ≡ d.inputs =
+      ap (take (length d.inputs)) (append_assoc d.inputs outs (gate_outs d.gates))
+      ∙ take-append_seam d.inputs (outs ++ gate_outs d.gates) in
+      let outputs : map (name_of c) (map (net_of n) d.outputs) ≡ d.outputs =
+      map_back (net_of n) (name_of c) d.outputs (has_back d.outputs is.outputs_known) in
+      let dffs : named_dffs c (length d.inputs) (map (λ (f : NamedDff). net_of n f.data_pin) d.dffs) ≡ d.dffs =
+      dffs_back c (net_of n) (length d.inputs) d.dffs
+      (λ j l. get_or_append_left (d.inputs ++ outs) (gate_outs d.gates) [] (length d.inputs + j)
+      (omega (arith, l, many, length-append d.inputs outs)) ∙ get_or-append-add d.inputs outs j [])
+      (All-weaker (λ (f : NamedDff). Contains d.names f.data_pin) (λ (f : NamedDff). HasBack f.data_pin)
+      (λ f at. (net_back f.data_pin at).1) d.dffs is.data_known) in
+      let gates : named_gates c (first_gate_net c) (circuit_gates n) ≡ d.gates =
+      gates_back c (net_of n) (first_gate_net c) d.gates (λ j l. gate_name n j)
+      (All-weaker (λ (g : NamedGate). All (Contains d.names) g.args) (λ (g : NamedGate). All HasBack g.args)
+      (λ g known. has_back g.args known) d.gates is.args_known) in
+      rw (inputs, outputs, dffs, gates) refl

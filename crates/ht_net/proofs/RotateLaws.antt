@@ -1,13 +1,16 @@
 -- A cycle of names begins with its least.
-use Rattle.std.proofs.Common.{◌≡◌, ◌<◌, ◌≤◌, ◌+◌, ◌-◌, ◌++◌, ℕ, List, length, get_or, take, drop, sym, ◌∙◌, ap, arith, inl, inr, subst, Result, Ok, Err, IfOk, Vec, Global}
+use Rattle.std.proofs.Common.{◌≡◌, ◌<◌, ◌≤◌, ◌+◌, ◌-◌, ◌++◌, ℕ, List, length, get_or, map, take, drop, sym, ◌∙◌, ap, arith, inl, inr, subst, Result, Ok, Err, IfOk, Vec, Global}
+use Rattle.std.specs.List.{All}
 use Rattle.std.proofs.lemmas.Bool.{cases_lt}
+use Rattle.std.proofs.lemmas.List.{length-map, map-append, take-map, drop-map}
+use Rattle.std.proofs.lemmas.List.Elements.{All-append, All-take, All-drop}
 use Rattle.ht_net.specs.declared.names.NameId.{NameId}
-use Rattle.ht_net.specs.Draft.{Draft, no_name}
-use Rattle.ht_net.specs.Finish.{FeedsName, IsNameCycle, BeginsWithLeast}
+use Rattle.ht_net.specs.Draft.{Draft, IsName, draft_name}
+use Rattle.ht_net.specs.Finish.{Feeds, IsNameCycle, BeginsWithLeast, IsDraftLoop, no_name}
 use Rattle.ht_net.specs.Rotate.{IsLeastFirst}
 use Rattle.ht_net.proofs.CycleLaws.{turned_cycle, turned_early, turned_late, turned_long}
 
-pub turned_least : (m : ℕ) (xs : List NameId) → m < length xs
+turned_least : (m : ℕ) (xs : List NameId) → m < length xs
     → ((k : ℕ) → k < length xs → (get_or xs m no_name).0 ≤ (get_or xs k no_name).0)
     → BeginsWithLeast (drop m xs ++ take m xs)
 turned_least m xs h least = λ k l0.
@@ -23,22 +26,26 @@ turned_least m xs h least = λ k l0.
           in let b = least (k - (length xs - m)) (omega arith) in omega (arith, first, e, b)
     ]
 
-pub least_cycle : (d : Draft) (names rotated : List NameId) → IsLeastFirst names rotated → IsNameCycle d names
-    → IsNameCycle d rotated
-least_cycle d names rotated h c = subst (λ (l : List NameId). IsNameCycle d l) (sym h.is)
-    (turned_cycle (FeedsName d) h.place names h.is_place c)
+turned_loop : (d : Draft) (m : ℕ) (ids : List NameId) → m < length ids
+    → ((k : ℕ) → k < length ids → (get_or ids m no_name).0 ≤ (get_or ids k no_name).0) → All (IsName d) ids
+    → IsNameCycle d.gates (map (draft_name d) ids) → IsDraftLoop d (drop m ids ++ take m ids)
+turned_loop d m ids is_place least known cycle = record {
+  known = All-append (IsName d) (drop m ids) (take m ids) (All-drop (IsName d) m ids known)
+      (All-take (IsName d) m ids known);
+  cycle =
+      let f = draft_name d in
+      let mapped : map f (drop m ids ++ take m ids) ≡ drop m (map f ids) ++ take m (map f ids) =
+      map-append f (drop m ids) (take m ids) ∙ ap (λ l. l ++ map f (take m ids)) (sym (drop-map f m ids))
+      ∙ ap (λ l. drop m (map f ids) ++ l) (sym (take-map f m ids)) in
+      subst (λ l. IsNameCycle d.gates l) (sym mapped)
+      (turned_cycle (Feeds d.gates) m (map f ids) (omega (arith, is_place, length-map ids f)) cycle);
+  least = turned_least m ids is_place least;
+}
 
-pub least_begins : (names rotated : List NameId) → IsLeastFirst names rotated → BeginsWithLeast rotated
-least_begins names rotated h = subst (λ (l : List NameId). BeginsWithLeast l) (sym h.is)
-    (turned_least h.place names h.is_place h.least)
-
-pub least_cycle_ok : {E : Type 0} (d : Draft) (names read : List NameId) (r : Result (Vec NameId Global) E) → read
-    ≡ names → IfOk r (λ v. IsLeastFirst read v.items) → IsNameCycle d names → IfOk r (λ v. IsNameCycle d v.items)
-least_cycle_ok d names read (Ok v) e h c = least_cycle d read v.items h
-    (subst (λ (l : List NameId). IsNameCycle d l) (sym e) c)
-least_cycle_ok d names read (Err x) e h c = tt
-
-pub least_begins_ok : {E : Type 0} (read : List NameId) (r : Result (Vec NameId Global) E)
-    → IfOk r (λ v. IsLeastFirst read v.items) → IfOk r (λ v. BeginsWithLeast v.items)
-least_begins_ok read (Ok v) h = least_begins read v.items h
-least_begins_ok read (Err x) h = tt
+-- names that form a cycle, turned to their least, form one that begins with it
+pub least_loop : {E : Type 0} (d : Draft) (read : List NameId) (r : Result (Vec NameId Global) E)
+    → IfOk r (λ v. IsLeastFirst read v.items) → All (IsName d) read → IsNameCycle d.gates (map (draft_name d) read)
+    → IfOk r (λ v. IsDraftLoop d v.items)
+least_loop d read (Ok v) h known cycle = subst (λ l. IsDraftLoop d l) (sym h.is)
+    (turned_loop d h.place read h.is_place h.least known cycle)
+least_loop d read (Err x) h known cycle = tt

@@ -1,121 +1,100 @@
 -- A draft's circuit is well formed, but perhaps for a rank.
-use Rattle.std.proofs.Common.{◌≡◌, ◌<◌, ◌≤◌, ◌+◌, ℕ, List, length, get_or, map, sym, ◌∙◌, ap, arith, subst, true}
-use Rattle.std.specs.List.{list_any, IsDistinct}
-use Rattle.std.specs.Prelude.{eqb}
-use Rattle.std.proofs.lemmas.Bool.{ne_eqb}
-use Rattle.std.proofs.lemmas.Bool.Decides.{nat_tests}
-use Rattle.std.proofs.lemmas.Map.Keys.{IsDistinct-from_apart}
-use Rattle.std.proofs.lemmas.Map.Steps.{length-le_from_distinct_below}
-use Rattle.std.proofs.lemmas.Map.Views.{Contains-from_any}
-use Rattle.std.proofs.lemmas.List.{length-map, get_or-map}
-use Rattle.ht_net.specs.declared.names.NameId.{NameId}
-use Rattle.ht_net.specs.declared.net.NetId.{NetId}
-use Rattle.ht_net.specs.declared.builder.Driver.{Driver}
-use Rattle.ht_tern.specs.declared.gate.Kind.{Kind}
+use Rattle.std.proofs.Common.{◌≡◌, ◌<◌, ◌≤◌, List, [], ◌∷◌, length, get_or, map, sym, ◌∙◌, ap, arith, subst, refl}
+use Rattle.std.specs.List.{All, Contains, sum_by}
+use Rattle.std.proofs.lemmas.List.{length-map}
+use Rattle.std.proofs.lemmas.List.Elements.{All-map, All-weaker, All-contains}
+use Rattle.std.proofs.lemmas.List.Sums.{sum_by-cons}
 use Rattle.ht_tern.specs.Gate.{HasArity}
-use Rattle.ht_net.specs.declared.draft.DraftDff.{DraftDff}
-use Rattle.ht_net.specs.Netlist.{no_net, gate_at, first_gate_net, args_of}
-use Rattle.ht_net.specs.GateLevels.{AreKnown}
+use Rattle.ht_net.specs.declared.net.NetId.{NetId}
+use Rattle.ht_net.specs.Netlist.{Gate, no_net, no_gate, net_count, max_arguments}
 use Rattle.ht_net.specs.CircuitOf.{IsUnranked}
-use Rattle.ht_net.specs.Draft.{Draft, DraftGate, IsDraft, no_name, no_part, no_dff, driven_names}
-use Rattle.ht_net.specs.DraftOf.{AreDrivers}
-use Rattle.ht_net.specs.Built.{net_of, draft_name, draft_gates, circuit_of, AllDriven}
-use Rattle.ht_net.proofs.NetLaws.{net_of_below}
-use Rattle.ht_net.proofs.CircuitLaws.{gate_arg, gate_arity, length_driven, first_of_draft, gate_pins, gate_kind}
-use Rattle.ht_net.proofs.DrivenLaws.{names_differ, outputs_differ}
+use Rattle.ht_net.specs.Lists.{AllDiffer}
+use Rattle.ht_net.specs.Named.{Name, NamedDff, NamedGate, NamedNetlist}
+use Rattle.ht_net.specs.Draft.{Draft, IsDraft, named_draft, driven_names}
+use Rattle.ht_net.specs.Built.{net_of, circuit_gates, circuit_of, AllDriven}
+use Rattle.ht_net.proofs.PlaceLaws.{no_more, differ_map}
+use Rattle.ht_net.proofs.NamedLaws.{net_back, count_is}
 
-tells_equal : (x y : ℕ) → eqb x y ≡ true → x ≡ y
-tells_equal x y e = grind (arith, nat_tests)
+abbrev gate_by_net : NamedNetlist → NamedGate → Gate
+gate_by_net n g = record { kind = g.kind; args = map (net_of n) g.args }
 
--- there are no more outputs than names
-outputs_few : (d : Draft) → IsDraft d → length d.outputs ≤ length d.names
-outputs_few d h =
-    let ids : List ℕ = map (λ (n : NameId). n.0) d.outputs in
-    let long : length (map (λ (n : NameId). n.0) d.outputs) ≡ length d.outputs = length-map d.outputs
-    (λ (n : NameId). n.0) in
-    let at : (i : ℕ) (e : ℕ) → i < length d.outputs → get_or (map (λ (n : NameId). n.0) d.outputs) i e
-    ≡ (get_or d.outputs i no_name).0 =
-    λ i e l. get_or-map (λ (n : NameId). n.0) d.outputs i no_name e l in
-    let make : ℕ → NameId = λ k. record { 0 = k } in
-    let distinct : IsDistinct eqb (map (λ (n : NameId). n.0) d.outputs) = IsDistinct-from_apart eqb
-    (map (λ (n : NameId). n.0) d.outputs) (λ i j e less l.
-    let l' : j < length d.outputs = omega arith in
-    ne_eqb _ _ (λ same. h.outputs_differ i j no_name less l'
-    (ap make (sym (at i e (omega arith)) ∙ (same ∙ at j e l')))))
-    in
-    let below : (q : ℕ) → list_any (eqb q) (map (λ (n : NameId). n.0) d.outputs) ≡ true → q < length d.names = λ q any.
-    let c = Contains-from_any {eq = eqb} tells_equal q (map (λ (n : NameId). n.0) d.outputs) any in
-    let l' : c.0 < length d.outputs = let b = c.1 in omega arith in
-    let k = h.outputs_known c.0 l' in
-    let e = at c.0 q l' in
-    omega (arith, k, e, c.2) in
-    let few = length-le_from_distinct_below (map (λ (n : NameId). n.0) d.outputs) (length d.names) distinct below in
-    omega arith
+-- a gate's pins are as many in the circuit as in the draft
+gate_pins : (n : NamedNetlist) (gates : List NamedGate) → sum_by (λ (g : Gate). length g.args)
+    (map (gate_by_net n) gates) ≡ sum_by (λ (g : NamedGate). length g.args) gates
+gate_pins n [] = refl
+gate_pins n (g ∷ gates) =
+    let new = sum_by-cons (λ (h : Gate). length h.args) (gate_by_net n g) (map (gate_by_net n) gates) in
+    let old = sum_by-cons (λ (h : NamedGate). length h.args) g gates in
+    omega (arith, new, old, length-map g.args (net_of n), gate_pins n gates)
 
-module _ (d : Draft) (drivers : List Driver) (wired : AreDrivers d drivers)
-    (all : AllDriven d) (draft : IsDraft d) where
-  pub known_gates : AreKnown (length d.inputs + length d.dffs) (draft_gates d)
-  known_gates = record {
-    known = λ g i l m.
-        let count : length (draft_gates d) ≡ length d.gates = length-map d.gates
-        (λ (p : DraftGate). record { kind = p.kind; args = map (net_of d) p.args }) in
-        let inside : g < length d.gates = omega arith in
-        let pin : i < length (get_or d.gates g no_part).args = let r = gate_arity d g inside in omega arith in
-        let name : NameId = get_or (get_or d.gates g no_part).args i no_name in
-        let below = net_of_below d drivers wired (get_or (get_or d.gates g no_part).args i no_name)
-        (all (get_or (get_or d.gates g no_part).args i no_name) (draft.args_known g i inside pin)) in
-        let e : (get_or (args_of (draft_gates d) g) i no_net).0
-        ≡ (net_of d (get_or (get_or d.gates g no_part).args i no_name)).0 = ap (λ (n : NetId). n.0)
-        (gate_arg d g i inside pin) in
-        omega (arith, below, e, length_driven d, count);
-  }
+module _ (d : Draft) (is : IsDraft d) (all : AllDriven d) where
+  abbrev n : NamedNetlist
+  n = named_draft d
 
-  pub unranked : length drivers ≡ length d.names → length (driven_names d) ≤ length d.names → IsUnranked (circuit_of d)
-  unranked count fewer =
-      let gates : length (draft_gates d) ≡ length d.gates = length-map d.gates
-      (λ (p : DraftGate). record { kind = p.kind; args = map (net_of d) p.args }) in
-      let pins : length (circuit_of d).dffs ≡ length d.dffs = length-map d.dffs (λ (f : DraftDff). net_of d f.data_pin)
-      in
-      let outs : length (circuit_of d).outputs ≡ length d.outputs = length-map d.outputs (net_of d) in
-      let names : length (circuit_of d).names ≡ length (driven_names d) = length-map (driven_names d) (draft_name d) in
-      let long = length_driven d in
-      let few = outputs_few d draft in
-      let known : AreKnown (first_gate_net (circuit_of d)) (draft_gates d) = subst
-      (λ (n : ℕ). AreKnown n (draft_gates d)) (sym (first_of_draft d)) known_gates in
+  abbrev IsNet : NetId → Type 0
+  IsNet net = net.0 < net_count (circuit_of n)
+
+  net_is_known : (name : Name) → Contains d.names name → IsNet (net_of n name)
+  net_is_known name at = omega (arith, (net_back d is all name at).0, count_is n)
+
+  nets_are_known : (names : List Name) → All (Contains d.names) names → All IsNet (map (net_of n) names)
+  nets_are_known names known = All-map IsNet (net_of n) names
+      (All-weaker (Contains d.names) (λ name. IsNet (net_of n name)) net_is_known names known)
+
+  -- what holds of each gate by names holds of each gate by nets
+  of_gates : (P : NamedGate → Type 0) (Q : Gate → Type 0) → ((g : NamedGate) → P g → Q (gate_by_net n g))
+      → All P d.gates → All Q (circuit_gates n)
+  of_gates P Q says holds = All-map Q (gate_by_net n) d.gates
+      (All-weaker P (λ g. Q (gate_by_net n g)) says d.gates holds)
+
+  known_args : All (λ (g : Gate). All IsNet g.args) (circuit_gates n)
+  known_args = of_gates (λ g. All (Contains d.names) g.args) (λ g. All IsNet g.args)
+      (λ g known. nets_are_known g.args known) is.args_known
+
+  outputs_apart : AllDiffer (map (net_of n) d.outputs)
+  outputs_apart =
+      let back : (name : Name) → Contains d.outputs name → get_or (driven_names d) (net_of n name).0 [] ≡ name =
+      λ name at. (net_back d is all name (All-contains (Contains d.names) d.outputs name is.outputs_known at)).1 in
+      differ_map (net_of n) d.outputs [] is.outputs_differ (λ a b at_a at_b same. sym (back a at_a)
+      ∙ (ap (λ (net : NetId). get_or (driven_names d) net.0 []) same ∙ back b at_b))
+
+  pub unranked : IsUnranked (circuit_of n)
+  unranked =
+      let c = circuit_of n in
+      let count = count_is n in
+      let few = no_more (driven_names d) d.names is.drivers_differ is.drivers_known in
+      let dffs = length-map d.dffs (λ (f : NamedDff). net_of n f.data_pin) in
+      let arities : All (λ (g : Gate). HasArity g.kind (length g.args)) (circuit_gates n) =
+      of_gates (λ g. HasArity g.kind (length g.args)) (λ g. HasArity g.kind (length g.args))
+      (λ g has. subst (HasArity g.kind) (sym (length-map g.args (net_of n))) has) is.arities in
+      let few_args : All (λ (g : Gate). length g.args ≤ max_arguments) (circuit_gates n) =
+      of_gates (λ g. length g.args ≤ max_arguments) (λ g. length g.args ≤ max_arguments)
+      (λ g fits. omega (arith, fits, length-map g.args (net_of n))) is.few_args in
+      let pins : All IsNet c.dffs = All-map IsNet (λ (f : NamedDff). net_of n f.data_pin) d.dffs
+      (All-weaker (λ (f : NamedDff). Contains d.names f.data_pin) (λ (f : NamedDff). IsNet (net_of n f.data_pin))
+      (λ f at. net_is_known f.data_pin at) d.dffs is.data_known) in
       record {
-        few_nets = omega (arith, gates, pins, long, draft.few_names);
-        few_outputs = omega (arith, outs, few, draft.few_names);
-        known = known;
+        few_nets = omega (arith, count, few, is.few_names);
+        few_outputs = omega (
+          arith,
+          length-map d.outputs (net_of n),
+          no_more d.outputs d.names is.outputs_differ is.outputs_known,
+          is.few_names,
+        );
+        known = record { known = λ g i l m. known_args g no_gate l i no_net m };
         circuit = λ rank ranked. record {
-          few_nets = omega (arith, gates, pins, long, draft.few_names);
-          few_pins = omega (arith, gate_pins (net_of d) d.gates, pins, draft.few_pins);
-          few_inputs = draft.few_inputs;
-          few_dffs = omega (arith, pins, draft.few_dffs);
-          arities = λ g l.
-              let inside : g < length d.gates = omega arith in
-              subst (λ (k : Kind). HasArity k (length (gate_at (circuit_of d) g).args)) (sym (gate_kind d g inside))
-              (subst (λ (n : ℕ). HasArity (get_or d.gates g no_part).kind n) (sym (gate_arity d g inside))
-              (draft.arities g inside));
-          few_args = λ g l. let inside : g < length d.gates = omega arith
-              in omega (arith, gate_arity d g inside, draft.few_args g inside);
-          known = λ g i l m. known.known g i l m;
-          data_known = λ j l.
-              let inside : j < length d.dffs = omega (arith, l, pins) in
-              let e : get_or (circuit_of d).dffs j no_net ≡ net_of d (get_or d.dffs j no_dff).data_pin = get_or-map
-              (λ (f : DraftDff). net_of d f.data_pin) d.dffs j no_dff no_net inside in
-              let below = net_of_below d drivers wired _ (all _ (draft.data_known j inside)) in
-              let e' = ap (λ (n : NetId). n.0) e in
-              omega (arith, below, e', long, gates, pins);
-          outputs_known = λ o l.
-              let inside : o < length d.outputs = omega (arith, l, outs) in
-              let e : get_or (circuit_of d).outputs o no_net ≡ net_of d (get_or d.outputs o no_name) = get_or-map
-              (net_of d) d.outputs o no_name no_net inside in
-              let below = net_of_below d drivers wired _ (all _ (draft.outputs_known o inside)) in
-              let e' = ap (λ (n : NetId). n.0) e in
-              omega (arith, below, e', long, gates, pins);
-          outputs_differ = outputs_differ d drivers wired all draft;
-          named = omega (arith, names, long, gates, pins);
-          names_differ = names_differ d drivers wired all draft count;
+          few_nets = omega (arith, count, few, is.few_names);
+          few_pins = omega (arith, gate_pins n d.gates, dffs, is.few_pins);
+          few_inputs = is.few_inputs;
+          few_dffs = omega (arith, dffs, is.few_dffs);
+          arities = λ g l. arities g no_gate l;
+          few_args = λ g l. few_args g no_gate l;
+          known = λ g i l m. known_args g no_gate l i no_net m;
+          data_known = λ j l. pins j no_net l;
+          outputs_known = λ o l. nets_are_known d.outputs is.outputs_known o no_net l;
+          outputs_differ = outputs_apart;
+          named = sym count;
+          names_differ = is.drivers_differ;
           ranked = (rank, ranked);
         };
       }

@@ -1,49 +1,103 @@
--- How a builder's fields stand for its draft.
-use Rattle.std.specs.Prelude.{◌≡◌, ℕ, List, ◌+◌, ◌<◌, length, get_or}
-use Rattle.std.specs.List.{sum_by}
+-- How a builder's fields, which hold numbers of names, stand for its draft.
+use Rattle.std.specs.Prelude.{◌≡◌, ℕ, List, [], ◌++◌, ◌<◌, ◌≤◌, Bool, true, false, length, map, get_or}
+use Rattle.std.specs.List.{All, Contains}
+use Rattle.ht_tern.specs.Gate.{HasArity}
 use Rattle.ht_net.specs.declared.names.NameId.{NameId}
-use Rattle.ht_net.specs.declared.builder.Driver.{Driver}
-use Rattle.ht_net.specs.declared.builder.Driver.TheVariants.{Free, Input, Dff, Gate}
+use Rattle.ht_net.specs.declared.draft.DraftDff.{DraftDff}
 use Rattle.ht_net.specs.declared.builder.Builder.TheInside.{Inside}
-use Rattle.ht_net.specs.Draft.{Draft, IsDraft, latch_names, gate_names, draft_pins, no_name}
+use Rattle.ht_net.specs.Lists.{AllDiffer}
+use Rattle.ht_net.specs.Named.{Name, NamedDff, NamedGate}
+use Rattle.ht_net.specs.Netlist.{max_nets, max_pins, max_inputs, max_dffs, max_arguments}
+use Rattle.ht_net.specs.PartOf.{DraftGate}
+use Rattle.ht_net.specs.Draft.{Draft, draft_pins}
 
-abbrev pub draft_of : Inside → Draft
-draft_of a = record {
+abbrev pub named_at : List Name → NameId → Name
+named_at names id = get_or names id.0 []
+
+abbrev pub dff_by : List Name → DraftDff → NamedDff
+dff_by names f = record { out = named_at names f.out; data_pin = named_at names f.data_pin }
+
+abbrev pub gate_by : List Name → DraftGate → NamedGate
+gate_by names g = record { kind = g.kind; out = named_at names g.out; args = map (named_at names) g.args }
+
+-- what the fields hold
+pub record Fields : Type 0 where
+  pub names : List Name
+  -- for each name whether it is driven
+  pub driven : List Bool
+  pub inputs : List NameId
+  pub outputs : List NameId
+  pub dffs : List DraftDff
+  pub gates : List DraftGate
+  pub pins : ℕ
+
+abbrev pub fields_of : Inside → Fields
+fields_of a = record {
   names = a.names;
+  driven = a.driven.items;
   inputs = a.inputs.items;
+  outputs = a.outputs.keys;
   dffs = a.dffs.items;
   gates = a.gates.items;
-  outputs = a.outputs.keys;
+  pins = a.pins;
 }
 
--- a list of names and the drivers that one way of driving makes tell the same
-pub record Agrees (list : List NameId) (made : ℕ → Driver) (drivers : List Driver) : Type 0 where
-  pub known : (i : ℕ) → i < length list → (get_or list i no_name).0 < length drivers
-  pub forth : (i : ℕ) → i < length list → get_or drivers (get_or list i no_name).0 Free ≡ made i
-  pub within : (n i : ℕ) → get_or drivers n Free ≡ made i → i < length list
-  pub back : (n i : ℕ) → get_or drivers n Free ≡ made i → (get_or list i no_name).0 ≡ n
+abbrev pub draft_by : Fields → Draft
+draft_by a = record {
+  names = a.names;
+  inputs = map (named_at a.names) a.inputs;
+  outputs = map (named_at a.names) a.outputs;
+  dffs = map (dff_by a.names) a.dffs;
+  gates = map (gate_by a.names) a.gates;
+}
 
--- the drivers tell what drives each name of a draft, and nothing else
-pub record AreDrivers (d : Draft) (drivers : List Driver) : Type 0 where
-  pub inputs : Agrees d.inputs Input drivers
-  pub dffs : Agrees (latch_names d) Dff drivers
-  pub gates : Agrees (gate_names d) Gate drivers
+abbrev pub draft_of : Inside → Draft
+draft_of a = draft_by (fields_of a)
 
-abbrev pub one_if_free : Driver → ℕ
-one_if_free Free = 1
-one_if_free (Input i) = 0
-one_if_free (Dff i) = 0
-one_if_free (Gate i) = 0
+abbrev pub latch_ids : List DraftDff → List NameId
+latch_ids dffs = map (λ (f : DraftDff). f.out) dffs
 
--- how many names have no driver
-abbrev pub free_count : List Driver → ℕ
-free_count drivers = sum_by one_if_free drivers
+abbrev pub gate_ids : List DraftGate → List NameId
+gate_ids gates = map (λ (g : DraftGate). g.out) gates
 
-pub record IsKept (a : Inside) : Type 0 where
-  pub draft : IsDraft (draft_of a)
-  -- a driver for each name
-  pub count : length a.drivers.items ≡ length a.names
-  pub pins : a.pins ≡ draft_pins (draft_of a)
-  pub all : free_count a.drivers.items + (length a.inputs.items + (length a.dffs.items + length a.gates.items))
-      ≡ length a.names
-  pub drivers : AreDrivers (draft_of a) a.drivers.items
+-- the numbers of the driven names, in the order of their nets
+abbrev pub driven_ids : Fields → List NameId
+driven_ids a = (a.inputs ++ latch_ids a.dffs) ++ gate_ids a.gates
+
+-- different numbers, of which a list of marks has each and no other
+pub record AreMarked (ids : List NameId) (marks : List Bool) : Type 0 where
+  pub differ : AllDiffer ids
+  pub forth : All (λ (id : NameId). get_or marks id.0 false ≡ true) ids
+  pub back : (id : NameId) → get_or marks id.0 false ≡ true → Contains ids id
+
+abbrev pub AreNumbers : ℕ → List NameId → Type 0
+AreNumbers n ids = All (λ (id : NameId). id.0 < n) ids
+
+abbrev pub IsDffBelow : ℕ → DraftDff → Type 0
+IsDffBelow n f = (f.out.0 < n) × (f.data_pin.0 < n)
+
+abbrev pub IsGateBelow : ℕ → DraftGate → Type 0
+IsGateBelow n g = (g.out.0 < n) × AreNumbers n g.args
+
+-- one argument for NOT and BUFF, at least one for the other gates, and no more than the limit
+abbrev pub TakesArguments : DraftGate → Type 0
+TakesArguments g = HasArity g.kind (length g.args) × (length g.args ≤ max_arguments)
+
+pub record AreKept (a : Fields) : Type 0 where
+  pub few_names : length a.names ≤ max_nets
+  pub few_inputs : length a.inputs ≤ max_inputs
+  pub few_dffs : length a.dffs ≤ max_dffs
+  pub pins : a.pins ≡ draft_pins (draft_by a)
+  pub few_pins : a.pins ≤ max_pins
+  pub names_differ : AllDiffer a.names
+  pub outputs_differ : AllDiffer a.outputs
+  pub inputs_known : AreNumbers (length a.names) a.inputs
+  pub outputs_known : AreNumbers (length a.names) a.outputs
+  pub dffs_known : All (IsDffBelow (length a.names)) a.dffs
+  pub gates_known : All (IsGateBelow (length a.names)) a.gates
+  pub gates_fit : All TakesArguments a.gates
+  pub count : length a.driven ≡ length a.names
+  pub marked : AreMarked (driven_ids a) a.driven
+
+abbrev pub IsKept : Inside → Type 0
+IsKept a = AreKept (fields_of a)

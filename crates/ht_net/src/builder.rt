@@ -1,16 +1,16 @@
 //! A netlist in the making.
-ghost use Rattle.std.specs.Prelude.{◌≡◌, ℕ, ◌<◌, ◌≤◌, ◌+◌, ◌++◌, ◌∷◌, [], length, get_or, IfOk, IfErr, OnOk, OnErr, IsTrue, ◌↔◌};
-ghost use Rattle.std.specs.List.{Contains};
+ghost use Rattle.std.specs.Prelude.{◌≡◌, ◌<◌, ◌≤◌, ◌++◌, ◌∷◌, [], length, map, IfOk, IfErr, OnOk, OnErr, IsTrue, ◌↔◌};
+ghost use Rattle.std.specs.List.{All, Contains};
 ghost use Rattle.ht_tern.specs.Gate.{HasArity};
 ghost use Rattle.ht_net.specs.declared.names.NameId.{NameId};
 ghost use Rattle.ht_net.specs.Names.{IsNewName, IsNameAt};
 ghost use Rattle.ht_net.specs.Netlist.{max_arguments, max_nets};
-ghost use Rattle.ht_net.specs.Built.{draft_name};
-ghost use Rattle.ht_net.specs.Draft.{IsDraft, IsDriven, IsName, no_name};
+ghost use Rattle.ht_net.specs.Draft.{IsDraft, IsDriven, IsName, draft_name};
 ghost use Rattle.ht_net.specs.Refusals.{RefusesName, RefusesInput, AcceptsInput, RefusesOutput, RefusesDff, AcceptsDff, RefusesGate, AcceptsGate};
 
 mod cycle;
 mod finish;
+mod nets;
 
 use crate::draft::{DraftDff, DraftGate};
 use crate::names::Names;
@@ -28,23 +28,14 @@ const MAX_DFFS: usize = 16_384;
 
 const MAX_PINS: usize = 262_144;
 
-/// What drives a name: nothing yet, or the input, flip-flop or gate of that number.
-#[derive(Clone, Copy)]
-pub enum Driver {
-    Free,
-    Input(u32),
-    Dff(u32),
-    Gate(u32),
-}
-
 /// Takes names, and inputs, flip-flops, gates and outputs by name, and makes a circuit of them. A call that is refused
 /// changes nothing.
 #[derive(Drop)]
 pub struct Builder {
     alloc: Global,
     names: Names,
-    // one for each name
-    drivers: Vec<Driver>,
+    // for each name whether an input, a flip-flop or a gate drives it
+    driven: Vec<bool>,
     inputs: Vec<NameId>,
     dffs: Vec<DraftDff>,
     gates: Vec<DraftGate>,
@@ -68,12 +59,12 @@ impl Model for Builder {
 impl Builder {
     /// A builder with no names.
     pub fn new(alloc: Global) -> Builder
-        ensures { result ≡ record { names = []; inputs = []; dffs = []; gates = []; outputs = [] } }
+        ensures { result ≡ record { names = []; inputs = []; outputs = []; dffs = []; gates = [] } }
     {
         Builder {
             alloc,
             names: Names::new(alloc),
-            drivers: Vec::new(alloc),
+            driven: Vec::new(alloc),
             inputs: Vec::new(alloc),
             dffs: Vec::new(alloc),
             gates: Vec::new(alloc),
@@ -105,11 +96,11 @@ impl Builder {
         if place == MAX_NETS {
             return Err(NetError::TooMany { what: Limit::Nets });
         }
-        if self.drivers.push(Driver::Free).is_err() {
+        if self.driven.push(false).is_err() {
             return Err(NetError::NoMemory);
         }
         if self.names.push(name).is_err() {
-            self.drivers.pop();
+            self.driven.pop();
             return Err(NetError::NoMemory);
         }
         Ok(NameId(place as u32))
@@ -128,7 +119,7 @@ impl Builder {
         requires { IsName self.now name }
         ensures { IsTrue result ↔ IsDriven self.now name }
     {
-        !matches!(self.drivers[name.0 as usize], Driver::Free)
+        self.driven[name.0 as usize]
     }
 
     /// Adds an input.
@@ -138,7 +129,8 @@ impl Builder {
     pub fn input(&mut self, name: NameId) -> Result<(), NetError>
         requires { IsName self.old name }
         ensures ok { OnOk result
-            (self.new ≡ record self.old { inputs = self.old.inputs ++ name ∷ [] }) }
+            (self.new ≡ record self.old
+            { inputs = self.old.inputs ++ draft_name self.old name ∷ [] }) }
         ensures accepts { OnOk result (AcceptsInput self.old name) }
         ensures err { OnErr result (self.new ≡ self.old) }
         ensures refusal { IfErr result (RefusesInput self.old name) }
@@ -146,14 +138,13 @@ impl Builder {
         if self.driven(name) {
             return Err(NetError::Twice { name });
         }
-        let place = self.inputs.len();
-        if place == MAX_INPUTS {
+        if self.inputs.len() == MAX_INPUTS {
             return Err(NetError::TooMany {
                 what: Limit::Inputs,
             });
         }
         self.inputs.push(name).map_err(AllocError::from)?;
-        self.drivers[name.0 as usize] = Driver::Input(place as u32);
+        self.driven[name.0 as usize] = true;
         Ok(())
     }
 
@@ -163,10 +154,11 @@ impl Builder {
     /// `NoMemory`: out of memory.
     pub fn output(&mut self, name: NameId) -> Result<(), NetError>
         requires { IsName self.old name }
-        ensures known { OnOk result (Contains self.old.outputs name → self.new ≡ self.old) }
+        ensures known { OnOk result
+            (Contains self.old.outputs (draft_name self.old name) → self.new ≡ self.old) }
         ensures new { OnOk result
-            (¬ Contains self.old.outputs name → self.new
-            ≡ record self.old { outputs = self.old.outputs ++ name ∷ [] }) }
+            (¬ Contains self.old.outputs (draft_name self.old name) → self.new
+            ≡ record self.old { outputs = self.old.outputs ++ draft_name self.old name ∷ [] }) }
         ensures err { OnErr result (self.new ≡ self.old) }
         ensures refusal { IfErr result RefusesOutput }
     {
@@ -183,8 +175,10 @@ impl Builder {
         requires out { IsName self.old out }
         requires pin { IsName self.old pin }
         ensures ok { OnOk result
-            (self.new ≡ record self.old
-            { dffs = self.old.dffs ++ record { out = out; data_pin = pin } ∷ [] }) }
+            (self.new ≡ record self.old {
+              dffs = self.old.dffs
+                  ++ record { out = draft_name self.old out; data_pin = draft_name self.old pin } ∷ [];
+            }) }
         ensures accepts { OnOk result (AcceptsDff self.old out) }
         ensures err { OnErr result (self.new ≡ self.old) }
         ensures refusal { IfErr result (RefusesDff self.old out) }
@@ -195,13 +189,12 @@ impl Builder {
         if self.pins == MAX_PINS {
             return Err(NetError::TooMany { what: Limit::Pins });
         }
-        let place = self.dffs.len();
-        if place == MAX_DFFS {
+        if self.dffs.len() == MAX_DFFS {
             return Err(NetError::TooMany { what: Limit::Dffs });
         }
         let dff = DraftDff { out, data_pin: pin };
         self.dffs.push(dff).map_err(AllocError::from)?;
-        self.drivers[out.0 as usize] = Driver::Dff(place as u32);
+        self.driven[out.0 as usize] = true;
         self.pins += 1;
         Ok(())
     }
@@ -213,13 +206,17 @@ impl Builder {
     /// `NoMemory`: out of memory.
     pub fn gate(&mut self, kind: Kind, out: NameId, args: &[NameId]) -> Result<(), NetError>
         requires out { IsName self.old out }
-        requires args { (i : ℕ) → i < length args.now
-            → IsName self.old (get_or args.now i no_name) }
+        requires args { All (IsName self.old) args.now }
         requires arity { HasArity kind (length args.now) }
         requires few { length args.now ≤ max_arguments }
         ensures ok { OnOk result
-            (self.new ≡ record self.old
-            { gates = self.old.gates ++ record { kind = kind; out = out; args = args.now } ∷ [] }) }
+            (self.new ≡ record self.old {
+              gates = self.old.gates ++ record {
+                kind = kind;
+                out = draft_name self.old out;
+                args = map (draft_name self.old) args.now;
+              } ∷ [];
+            }) }
         ensures accepts { OnOk result (AcceptsGate self.old out (length args.now)) }
         ensures err { OnErr result (self.new ≡ self.old) }
         ensures refusal { IfErr result (RefusesGate self.old out (length args.now)) }
@@ -232,10 +229,9 @@ impl Builder {
             return Err(NetError::TooMany { what: Limit::Pins });
         }
         let args = Vec::from_slice(self.alloc, args)?;
-        let place = self.gates.len();
         let gate = DraftGate { kind, out, args };
         self.gates.push(gate).map_err(AllocError::from)?;
-        self.drivers[out.0 as usize] = Driver::Gate(place as u32);
+        self.driven[out.0 as usize] = true;
         self.pins = pins;
         Ok(())
     }

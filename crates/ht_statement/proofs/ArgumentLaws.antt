@@ -3,7 +3,7 @@ use Rattle.std.proofs.Common.{◌≡◌, ◌⊎◌, inl, inr, ℕ, zero, suc, �
 use Rattle.ht_net.specs.declared.net.NetId.{NetId}
 use Rattle.ht_net.specs.Netlist.{Netlist, no_net}
 use Rattle.ht_net.specs.Named.{Name, name_of}
-use Rattle.ht_net.proofs.NetLaws.{map_take_more}
+use Rattle.std.proofs.lemmas.List.{map_more}
 use Rattle.ht_statement.specs.StatementText.{arguments_text}
 
 regroup : (a b d e f : List ℕ) → a ++ (b ++ ((d ++ e) ++ f)) ≡ ((a ++ (b ++ d)) ++ e) ++ f
@@ -32,7 +32,7 @@ pub arguments_text-next : (c : Netlist) (args : List NetId) (k : ℕ) → k < le
 arguments_text-next c [] k below more = absurd (omega arith)
 arguments_text-next c (arg ∷ args) zero below more = absurd (omega arith)
 arguments_text-next c (arg ∷ args) (suc k) below more =
-    ap arguments_text (map_take_more (name_of c) (arg ∷ args) (suc k) no_net below)
+    ap arguments_text (map_more (name_of c) (arg ∷ args) (suc k) no_net below)
     ∙ arguments_text-push (name_of c arg) (map (name_of c) (take k args)) (name_of c (get_or args k no_net))
 
 -- a text to which one more argument was added

@@ -1,8 +1,7 @@
 use Rattle.std.proofs.Common.{[], refl}
 use Rattle.ht_statement.specs.Statement.{input_line}
 use Rattle.ht_bench.proofs.AddErrorLaws.{passes_on}
-use Rattle.ht_bench.proofs.RefuseLaws.{driver_refused}
-use Rattle.ht_bench.proofs.StatementLaws.{input_accepted, input_refused}
+use Rattle.ht_bench.proofs.AddLaws.{driver_refused, input_accepted, input_refused}
 use Rattle.ht_bench.proofs.add_line.add_input.Goals as goal
 
 pub returns-in_err-id-clause-refusal : goal.returns-in_err-id-clause-refusal

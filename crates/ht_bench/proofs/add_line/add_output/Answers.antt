@@ -1,14 +1,13 @@
 use Rattle.std.proofs.Common.{refl}
 use Rattle.ht_statement.specs.Statement.{output_line}
 use Rattle.ht_bench.proofs.AddErrorLaws.{passes_on}
-use Rattle.ht_bench.proofs.RefuseLaws.{nets_refuse}
-use Rattle.ht_bench.proofs.StatementLaws.{only_memory, output_accepted}
+use Rattle.ht_bench.proofs.AddLaws.{nets_refuse, only_memory, output_accepted}
 use Rattle.ht_bench.proofs.add_line.add_output.Goals as goal
 
 pub returns-in_err-id-clause-refusal : goal.returns-in_err-id-clause-refusal
 returns-in_err-id-clause-refusal c =
     passes_on _ c.from_residual.result c.from_residual.ensures.1
-    (λ before is. nets_refuse before (output_line c.args.name.now) refl c.args.builder.now c.in_err-id.field-0.0 is
+    (nets_refuse c.args.builder.now (output_line c.args.name.now) refl c.in_err-id.field-0.0
     c.in_err-id.ensures.refusal)
 
 pub returns-in_err-output-clause-refusal : goal.returns-in_err-output-clause-refusal
@@ -19,5 +18,5 @@ returns-in_err-output-clause-refusal c =
 
 pub returns-clause-accepts : goal.returns-clause-accepts
 returns-clause-accepts c =
-    output_accepted c.output.new.self c.in_ok-id.id c.in_ok-id.ensures.mentions c.in_ok-id.ensures.number
+    output_accepted c.output.new.self c.in_ok-id.id c.in_ok-id.ensures.mentions c.in_ok-id.ensures.number.1
     c.in_ok-output.ensures.known c.in_ok-output.ensures.new

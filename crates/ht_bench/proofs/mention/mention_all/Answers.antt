@@ -1,14 +1,18 @@
-use Rattle.std.proofs.Common.{arith, [], ◌<◌, length, refl, sym, subst}
-use Rattle.ht_bench.specs.Drafts.{AreNumbersOf}
+use Rattle.std.proofs.Common.{arith, ◌≡◌, ◌+◌, List, [], ◌<◌, length, map, refl, sym, subst, ap, take}
+use Rattle.std.specs.List.{All}
+use Rattle.std.proofs.lemmas.List.Elements.{All-nil}
+use Rattle.ht_net.specs.declared.names.NameId.{NameId}
+use Rattle.ht_net.specs.Draft.{IsName, draft_name}
+use Rattle.ht_statement.specs.StatementOf.{texts_of}
 use Rattle.ht_bench.proofs.AddErrorLaws.{passes_on}
-use Rattle.ht_bench.proofs.MentionLaws.{step_mentions, step_numbers, step_refuses}
+use Rattle.ht_bench.proofs.MentionLaws.{step_mentions, step_known, step_numbers, step_refuses}
 use Rattle.ht_bench.proofs.mention.mention_all.Goals as goal
 
 pub loop-name-init : goal.loop-name-init
 loop-name-init c = record {
   mentions = record { is = refl; is_draft = c.requires };
-  numbers = subst (λ ids. AreNumbersOf c.args.builder.now.names ids []) (sym c.new-ids.ensures)
-      (λ more. refl);
+  known = subst (All (IsName c.args.builder.now)) (sym c.new-ids.ensures) (All-nil (IsName c.args.builder.now));
+  numbers = ap (λ (l : List NameId). map (draft_name c.args.builder.now) l) c.new-ids.ensures;
 }
 
 pub returns-in_err-id-clause-refusal : goal.returns-in_err-id-clause-refusal
@@ -26,8 +30,15 @@ loop-name-preserved c =
       mentions = step_mentions c.args.builder.now c.loop-name.builder c.args.names.now c.loop-name.name-index
           (record { ref_ptr = (0, 0); now = [] }) within c.loop-name.invariant.mentions c.mention.new.builder
           c.in_ok-id.ensures.mentions;
-      numbers = step_numbers c.args.builder.now c.loop-name.builder c.args.names.now c.loop-name.name-index
+      known = subst (All (IsName c.mention.new.builder)) (sym c.in_ok-push.ensures.ok)
+          (step_known c.args.builder.now c.loop-name.builder c.args.names.now c.loop-name.name-index
           (record { ref_ptr = (0, 0); now = [] }) within c.loop-name.invariant.mentions c.mention.new.builder
-          c.loop-name.ids c.push.new.self c.in_ok-id.id c.in_ok-push.ensures.ok
-          c.loop-name.invariant.numbers c.in_ok-id.ensures.mentions c.in_ok-id.ensures.number;
+          c.loop-name.ids c.in_ok-id.id c.loop-name.invariant.known c.in_ok-id.ensures.mentions
+          c.in_ok-id.ensures.number.0);
+      numbers = subst (λ (l : List NameId). map (draft_name c.mention.new.builder) l
+          ≡ take (c.loop-name.name-index + 1) (texts_of c.args.names.now)) (sym c.in_ok-push.ensures.ok)
+          (step_numbers c.args.builder.now c.loop-name.builder c.args.names.now c.loop-name.name-index
+          (record { ref_ptr = (0, 0); now = [] }) within c.loop-name.invariant.mentions c.mention.new.builder
+          c.loop-name.ids c.in_ok-id.id c.loop-name.invariant.known c.loop-name.invariant.numbers
+          c.in_ok-id.ensures.mentions c.in_ok-id.ensures.number.1);
     }

@@ -1,15 +1,15 @@
 use Rattle.std.proofs.Common.{◌≡◌, List, get_or, map, sym, ◌∙◌, ap, subst}
 use Rattle.ht_net.specs.declared.names.NameId.{NameId}
-use Rattle.ht_net.specs.Draft.{Draft, IsName, no_name}
+use Rattle.ht_net.specs.Draft.{Draft, IsName, draft_name}
+use Rattle.ht_net.specs.Finish.{no_name}
 use Rattle.ht_net.specs.Named.{Name}
-use Rattle.ht_net.specs.Built.{draft_name}
 use Rattle.std.specs.Prelude.{Some, All}
 use Rattle.ht_bench.specs.Progress.{HasNet, IsFirstLine}
 use Rattle.ht_bench.specs.Text.{refusal_of, IsLoop}
 use Rattle.ht_bench.specs.declared.find_line.Role.TheVariants.{Mentioned, Driven}
 use Rattle.ht_bench.specs.declared.error.BenchError.TheVariants.{Undriven}
 use Rattle.ht_bench.proofs.EndOfTextLaws.{net_is_mentioned, undriven_is}
-use Rattle.ht_bench.proofs.NetCycleLaws.{known_net, known_nets, first_is_driven, loop_found}
+use Rattle.ht_bench.proofs.NetCycleLaws.{some_net, first_is_driven, loop_found}
 use Rattle.ht_bench.proofs.reader.end_refusal.Goals as goal
 
 pub first_line-requires-clause-has : goal.first_line-requires-clause-has
@@ -32,7 +32,7 @@ pub name-requires : goal.name-requires
 name-requires c =
     let refused = rw c.in-Loop.is at c.requires.refused in
     subst (λ nets. IsName c.args.builder.now (get_or nets 0 no_name)) (sym c.as_slice-nets.ensures)
-    (known_net c.requires.read c.in-Loop.nets refused.1 0 refused.1.some)
+    (refused.1.known 0 no_name (some_net c.requires.read c.in-Loop.nets refused.1 refused.0))
 
 -- the name that is looked for is that of the cycle's first net
 name_is_first : (d : Draft) (nets lent : List NameId) (name : Name) → lent ≡ nets
@@ -50,8 +50,7 @@ first_line-requires-in-Loop-clause-has c =
 pub names_of-requires : goal.names_of-requires
 names_of-requires c =
     let refused = rw c.in-Loop.is at c.requires.refused in
-    subst (All (IsName c.args.builder.now)) (sym c.as_slice-nets.ensures)
-    (known_nets c.requires.read c.in-Loop.nets refused.1)
+    subst (All (IsName c.args.builder.now)) (sym c.as_slice-nets.ensures) refused.1.known
 
 pub returns-in_ok-names-in-Loop : goal.returns-in_ok-names-in-Loop
 returns-in_ok-names-in-Loop c =
@@ -61,5 +60,4 @@ returns-in_ok-names-in-Loop c =
     c.as_slice-nets.ensures c.name.ensures) c.in_ok-line-in-Loop.ensures in
     subst (IsLoop c.args.text.now c.in_ok-line-in-Loop.line)
     (sym (c.in_ok-names-in-Loop.ensures ∙ ap (map (draft_name c.args.builder.now)) c.as_slice-nets.ensures))
-    (loop_found c.requires.read c.in-Loop.nets refused.1 refused.0 refused.2
-    c.in_ok-line-in-Loop.line line)
+    (loop_found c.requires.read c.in-Loop.nets refused.1 refused.0 c.in_ok-line-in-Loop.line line)

@@ -3,7 +3,8 @@ use Rattle.ht_net.specs.Netlist.{first_gate_net}
 use Rattle.ht_net.specs.Named.{NamedGate, name_of, named_gates}
 use Rattle.ht_bench.specs.Normal.{gate_statement}
 use Rattle.ht_bench.proofs.NormalLaws.{adds_line}
-use Rattle.ht_bench.proofs.NamedPartLaws.{no_named_gate, named_gates_count, get_or-named_gates}
+use Rattle.ht_bench.proofs.NamedPartLaws.{named_gates_count, get_or-named_gates}
+use Rattle.ht_net.proofs.NameCycleLaws.{no_named_gate}
 use Rattle.ht_bench.proofs.writer.push_gates.Goals as goal
 
 pub loop-gate-preserved : goal.loop-gate-preserved
