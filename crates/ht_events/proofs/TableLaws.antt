@@ -1,148 +1,275 @@
--- One more reader of a net.
-use Rattle.std.proofs.Common.{◌≡◌, ◌≢◌, ◌<◌, ◌+◌, ◌-◌, ◌⊎◌, inl, inr, ℕ, suc, zero, List, [], ◌∷◌, ◌++◌, length, get_or, set, refl, sym, ◌∙◌, ap, arith, subst}
-use Rattle.std.specs.List.{Contains}
+-- The table of readers, as the flip-flops and then the gates are added pin by pin.
+use Rattle.std.proofs.Common.{◌≡◌, ◌≢◌, ◌<◌, ◌≤◌, ◌+◌, ◌-◌, ◌⊎◌, inl, inr, ℕ, Bool, List, [], length, get_or, drop, cond, eqb, refl, sym, ◌∙◌, ap, arith, subst}
+use Rattle.std.specs.List.{Contains, sum_by}
+use Rattle.std.proofs.lemmas.Bool.{cases_lt, eq-eqb}
 use Rattle.std.proofs.lemmas.Bool.Decides.{eqb_tells}
-use Rattle.std.proofs.lemmas.List.Elements.{Contains-push, Contains-push_cases, Contains-append_left}
-use Rattle.std.proofs.lemmas.List.{length-map}
-use Rattle.ht_net.specs.Netlist.{Netlist, net_count, gate_at, arg_at, no_net}
+use Rattle.std.proofs.lemmas.List.{length-map, get_or-map, get_or-take, get_or-drop, get_or_past, get_or_default, length-take-le, length-drop, length-set}
+use Rattle.std.proofs.lemmas.List.Sums.{sum_by-drop_more}
+use Rattle.ht_net.specs.declared.net.NetId.{NetId}
+use Rattle.ht_net.specs.Netlist.{Netlist, Gate, IsCircuit, net_count, gate_at, arg_at, no_net, no_gate}
+use Rattle.ht_net.specs.Levels.{times}
+use Rattle.ht_events.specs.declared.readers.NetRow.{NetRow}
 use Rattle.ht_events.specs.Items.{IsDffOn, IsGateOn, ReadsNet}
-use Rattle.ht_events.specs.Plans.{Row, row_at, row_lists, IsTable}
+use Rattle.ht_events.specs.NetRows.{no_row, row_of, readers_in, lists_of, AreNetRows}
+use Rattle.ht_events.specs.Plans.{IsTable}
+use Rattle.ht_events.proofs.RowLaws.{HasReader, HasRoom, rows_with, items_with, room_there, reader_has, reader_keeps, reader_only, room_left}
 
-pub row_is : (rows : List Row) (x : ℕ) (d : Row) → x < length rows → row_at rows x ≡ (get_or rows x d).items
-row_is [] x d h = absurd (omega arith)
-row_is (r ∷ rows) zero d h = refl
-row_is (r ∷ rows) (suc x) d h = row_is rows x d (omega arith)
+-- how often the gates from g on read net x
+abbrev pub reads_from : Netlist → ℕ → ℕ → ℕ
+reads_from c g x = sum_by (λ (gate : Gate). times x gate.args) (drop g c.gates)
 
-same_row : (rows : List Row) (x : ℕ) (r : Row) → x < length rows → row_at (set rows x r) x ≡ r.items
-same_row [] x r h = absurd (omega arith)
-same_row (s ∷ rows) zero r h = refl
-same_row (s ∷ rows) (suc x) r h = same_row rows x r (omega arith)
+pub fewer_reads : (nets : List NetId) (i x : ℕ) → i < length nets → times x (drop (i + 1) nets) ≤ times x (drop i nets)
+fewer_reads nets i x inside =
+    let e = sum_by-drop_more (λ (n : NetId). cond (eqb n.0 x) 1 0) nets i no_net inside in
+    omega (arith, e)
 
-other_row : (rows : List Row) (x y : ℕ) (r : Row) → y ≢ x → row_at (set rows x r) y ≡ row_at rows y
-other_row [] x y r h = refl
-other_row (s ∷ rows) zero zero r h = absurd (h refl)
-other_row (s ∷ rows) zero (suc y) r h = refl
-other_row (s ∷ rows) (suc x) zero r h = refl
-other_row (s ∷ rows) (suc x) (suc y) r h = other_row rows x y r (λ e. h (ap suc e))
+pub one_read : (nets : List NetId) (i x : ℕ) → i < length nets → (get_or nets i no_net).0 ≡ x
+    → times x (drop (i + 1) nets) + 1 ≤ times x (drop i nets)
+one_read nets i x inside is =
+    let e = sum_by-drop_more (λ (n : NetId). cond (eqb n.0 x) 1 0) nets i no_net inside in
+    let one = ap (λ (b : Bool). cond {A = ℕ} b 1 0) (eq-eqb (get_or nets i no_net).0 x is) in
+    omega (arith, e, one)
 
--- a row of no items at the end
-pub row_push_empty : (rows : List Row) (r : Row) (x : ℕ) → r.items ≡ [] → row_at rows x ≡ [] → row_at (rows ++ r ∷ []) x
-    ≡ []
-row_push_empty [] r zero e h = e
-row_push_empty [] r (suc x) e h = refl
-row_push_empty (s ∷ rows) r zero e h = h
-row_push_empty (s ∷ rows) r (suc x) e h = row_push_empty rows r x e h
+pub gate_reads : (c : Netlist) (g x : ℕ) → g < length c.gates
+    → reads_from c g x ≡ times x (gate_at c g).args + reads_from c (g + 1) x
+gate_reads c g x inside = sum_by-drop_more (λ (gate : Gate). times x gate.args) c.gates g no_gate inside
 
-module _ (rows : List Row) (n local : ℕ) (r : Row) (inside : n < length rows)
-    (more : r.items ≡ row_at rows n ++ local ∷ []) where
-  now : row_at (set rows n r) n ≡ row_at rows n ++ local ∷ []
-  now = same_row rows n r inside ∙ more
-
-  pub row_has : Contains (row_at (set rows n r) n) local
-  row_has = subst (λ (t : List ℕ). Contains t local) (sym now) (Contains-push (row_at rows n) local)
-
-  pub row_keeps : (x l : ℕ) → Contains (row_at rows x) l → Contains (row_at (set rows n r) x) l
-  row_keeps x l h = elim (eqb_tells x n) [
-    | inl p ↦ subst (λ (t : List ℕ). Contains t l) (sym now ∙ ap (row_at (set rows n r)) (sym p.1))
-        (left (row_at rows n) (subst (λ (y : ℕ). Contains (row_at rows y) l) p.1 h))
-    | inr p ↦ subst (λ (t : List ℕ). Contains t l) (sym (other_row rows n x r p.1)) h
-  ] where
-    left : (xs : List ℕ) → Contains xs l → Contains (xs ++ local ∷ []) l
-    left xs c = Contains-append_left xs (local ∷ []) l c
-
-  pub row_only : (x l : ℕ) → Contains (row_at (set rows n r) x) l → Contains (row_at rows x) l ⊎ ((x ≡ n) × (l ≡ local))
-  row_only x l h = elim (eqb_tells x n) [
-    | inl p ↦ elim (Contains-push_cases (row_at rows n) local l
-        (subst (λ (t : List ℕ). Contains t l) (ap (row_at (set rows n r)) p.1 ∙ now) h)) [
-          | inl old ↦ inl (subst (λ (y : ℕ). Contains (row_at rows y) l) (sym p.1) old)
-          | inr e ↦ inr (p.1, sym e)
-        ]
-    | inr p ↦ inl (subst (λ (t : List ℕ). Contains t l) (other_row rows n x r p.1) h)
-  ]
-
--- a table that is filled
-abbrev pub IsSound : Netlist → List Row → Type 0
-IsSound c rows = (x k : ℕ) → Contains (row_at rows x) k → ReadsNet c k x
+-- a table that is filled, by what item reads what net so far
+abbrev pub IsSound : Netlist → (ℕ → ℕ → Type 0) → Type 0
+IsSound c Has = (x k : ℕ) → Has x k → ReadsNet c k x
 
 -- a table with the flip-flops and the first g gates
-pub record IsPartTable (c : Netlist) (rows : List Row) (g : ℕ) : Type 0 where
-  pub count : length rows ≡ net_count c
-  pub sound : IsSound c rows
-  pub dffs : (x k : ℕ) → IsDffOn c k x → Contains (row_at rows x) k
-  pub gates : (x k : ℕ) → k < length c.dffs + g → IsGateOn c k x → Contains (row_at rows x) k
+pub record IsPartTable (c : Netlist) (Has : ℕ → ℕ → Type 0) (g : ℕ) : Type 0 where
+  pub sound : IsSound c Has
+  pub dffs : (x k : ℕ) → IsDffOn c k x → Has x k
+  pub gates : (x k : ℕ) → k < length c.dffs + g → IsGateOn c k x → Has x k
 
-module _ (c : Netlist) (rows new : List Row) (n local : ℕ)
-    (keeps : (x l : ℕ) → Contains (row_at rows x) l → Contains (row_at new x) l)
-    (has : Contains (row_at new n) local)
-    (only : (x l : ℕ) → Contains (row_at new x) l → Contains (row_at rows x) l ⊎ ((x ≡ n) × (l ≡ local))) where
-  pub sound_more : ReadsNet c local n → IsSound c rows → IsSound c new
+module _ (c : Netlist) (Has New : ℕ → ℕ → Type 0) (n local : ℕ)
+    (keeps : (x l : ℕ) → Has x l → New x l)
+    (has : New n local)
+    (only : (x l : ℕ) → New x l → Has x l ⊎ ((x ≡ n) × (l ≡ local))) where
+  pub sound_more : ReadsNet c local n → IsSound c Has → IsSound c New
   sound_more reads sound x k h = elim (only x k h) [
     | inl old ↦ sound x k old
     | inr e ↦ subst (λ (y : ℕ). ReadsNet c k y) (sym e.0) (subst (λ (l : ℕ). ReadsNet c l n) (sym e.1) reads)
   ]
 
-  pub dffs_more : (get_or c.dffs local no_net).0 ≡ n
-      → ((x k : ℕ) → k < local → IsDffOn c k x → Contains (row_at rows x) k) → (x k : ℕ) → k < local + 1 → IsDffOn c k x
-      → Contains (row_at new x) k
+  pub dffs_more : (get_or c.dffs local no_net).0 ≡ n → ((x k : ℕ) → k < local → IsDffOn c k x → Has x k)
+      → (x k : ℕ) → k < local + 1 → IsDffOn c k x → New x k
   dffs_more reads dffs x k less d = elim (eqb_tells k local) [
     | inl p ↦
         let at : n ≡ x = sym reads ∙ (ap (λ (l : ℕ). (get_or c.dffs l no_net).0) (sym p.1) ∙ d.reads) in
-        subst (λ (y : ℕ). Contains (row_at new y) k) at (subst (λ (l : ℕ). Contains (row_at new n) l) (sym p.1) has)
+        subst (λ (y : ℕ). New y k) at (subst (λ (l : ℕ). New n l) (sym p.1) has)
     | inr p ↦ let ne : k ≢ local = p.1 in keeps x k (dffs x k (omega (arith, less, ne)) d)
   ]
 
   pub pins_more : (g i : ℕ) → local ≡ length c.dffs + g → arg_at c g i ≡ n
-      → ((j : ℕ) → j < i → Contains (row_at rows (arg_at c g j)) (length c.dffs + g)) → (j : ℕ) → j < i + 1
-      → Contains (row_at new (arg_at c g j)) (length c.dffs + g)
+      → ((j : ℕ) → j < i → Has (arg_at c g j) (length c.dffs + g)) → (j : ℕ) → j < i + 1
+      → New (arg_at c g j) (length c.dffs + g)
   pins_more g i is reads pins j less = elim (eqb_tells j i) [
     | inl p ↦
         let at : n ≡ arg_at c g j = sym reads ∙ ap (arg_at c g) (sym p.1) in
-        subst (λ (y : ℕ). Contains (row_at new y) (length c.dffs + g)) at
-        (subst (λ (l : ℕ). Contains (row_at new n) l) is has)
+        subst (λ (y : ℕ). New y (length c.dffs + g)) at (subst (λ (l : ℕ). New n l) is has)
     | inr p ↦ let ne : j ≢ i = p.1 in keeps (arg_at c g j) (length c.dffs + g) (pins j (omega (arith, less, ne)))
   ]
 
-  pub part_kept : (g : ℕ) → length new ≡ length rows → ReadsNet c local n → IsPartTable c rows g → IsPartTable c new g
-  part_kept g same reads t = record {
-    count = same ∙ t.count;
+  pub part_kept : (g : ℕ) → ReadsNet c local n → IsPartTable c Has g → IsPartTable c New g
+  part_kept g reads t = record {
     sound = sound_more reads t.sound;
     dffs = λ x k d. keeps x k (t.dffs x k d);
     gates = λ x k less on. keeps x k (t.gates x k less on);
   }
 
 -- all pins of a gate are there
-gates_more : (c : Netlist) (rows : List Row) (g n : ℕ) → n ≡ length (gate_at c g).args
-    → ((j : ℕ) → j < n → Contains (row_at rows (arg_at c g j)) (length c.dffs + g))
-    → ((x k : ℕ) → k < length c.dffs + g → IsGateOn c k x → Contains (row_at rows x) k)
-    → (x k : ℕ) → k < length c.dffs + (g + 1) → IsGateOn c k x → Contains (row_at rows x) k
-gates_more c rows g n all pins gates x k less on = elim (eqb_tells k (length c.dffs + g)) [
+gates_more : (c : Netlist) (Has : ℕ → ℕ → Type 0) (g n : ℕ) → n ≡ length (gate_at c g).args
+    → ((j : ℕ) → j < n → Has (arg_at c g j) (length c.dffs + g))
+    → ((x k : ℕ) → k < length c.dffs + g → IsGateOn c k x → Has x k)
+    → (x k : ℕ) → k < length c.dffs + (g + 1) → IsGateOn c k x → Has x k
+gates_more c Has g n all pins gates x k less on = elim (eqb_tells k (length c.dffs + g)) [
   | inl p ↦
       let is : k ≡ length c.dffs + g = p.1 in
       let at : k - length c.dffs ≡ g = omega (arith, is) in
       let inside : on.pin < n = (let h = on.is_pin in let e = ap (λ (h : ℕ). length (gate_at c h).args) at
       in omega (arith, h, e, all)) in
       let reads : arg_at c g on.pin ≡ x = ap (λ (h : ℕ). arg_at c h on.pin) (sym at) ∙ on.reads in
-      subst (λ (y : ℕ). Contains (row_at rows y) k) reads
-      (subst (λ (l : ℕ). Contains (row_at rows (arg_at c g on.pin)) l) (sym is) (pins on.pin inside))
+      subst (λ (y : ℕ). Has y k) reads
+      (subst (λ (l : ℕ). Has (arg_at c g on.pin) l) (sym is) (pins on.pin inside))
   | inr p ↦ let ne : k ≢ length c.dffs + g = p.1 in gates x k (omega (arith, less, ne)) on
 ]
 
-pub part_more : (c : Netlist) (rows : List Row) (g n : ℕ) → n ≡ length (gate_at c g).args
-    → ((j : ℕ) → j < n → Contains (row_at rows (arg_at c g j)) (length c.dffs + g))
-    → IsPartTable c rows g → IsPartTable c rows (g + 1)
-part_more c rows g n all pins t = record {
-  count = t.count;
+pub part_more : (c : Netlist) (Has : ℕ → ℕ → Type 0) (g n : ℕ) → n ≡ length (gate_at c g).args
+    → ((j : ℕ) → j < n → Has (arg_at c g j) (length c.dffs + g))
+    → IsPartTable c Has g → IsPartTable c Has (g + 1)
+part_more c Has g n all pins t = record {
   sound = t.sound;
   dffs = t.dffs;
-  gates = gates_more c rows g n all pins t.gates;
+  gates = gates_more c Has g n all pins t.gates;
 }
 
-pub table_is : (c : Netlist) (rows : List Row) → IsPartTable c rows (length c.gates) → IsTable c (row_lists rows)
-table_is c rows t = record {
-  count = length-map rows (λ (r : Row). r.items) ∙ t.count;
-  sound = t.sound;
-  complete = all;
-} where
-  all : (x l : ℕ) → ReadsNet c l x → Contains (row_at rows x) l
-  all x l (inl g) = t.gates x l g.known g
-  all x l (inr d) = t.dffs x l d
+-- the rows with the first j flip-flops, and room for all that is still to come
+pub record HasDffs (c : Netlist) (rows : List NetRow) (items : List ℕ) (j : ℕ) : Type 0 where
+  pub count : length rows ≡ net_count c
+  pub room : HasRoom rows items (λ x. times x (drop j c.dffs) + reads_from c 0 x)
+  pub sound : IsSound c (HasReader rows items)
+  pub dffs : (x k : ℕ) → k < j → IsDffOn c k x → HasReader rows items x k
+
+-- the rows with all flip-flops and the first g gates
+pub record HasGates (c : Netlist) (rows : List NetRow) (items : List ℕ) (g : ℕ) : Type 0 where
+  pub count : length rows ≡ net_count c
+  pub room : HasRoom rows items (reads_from c g)
+  pub table : IsPartTable c (HasReader rows items) g
+
+-- the rows with the first i pins of gate g beside
+pub record HasPins (c : Netlist) (rows : List NetRow) (items : List ℕ) (g i : ℕ) : Type 0 where
+  pub count : length rows ≡ net_count c
+  pub room : HasRoom rows items (λ x. times x (drop i (gate_at c g).args) + reads_from c (g + 1) x)
+  pub table : IsPartTable c (HasReader rows items) g
+  pub pins : (j : ℕ) → j < i → HasReader rows items (arg_at c g j) (length c.dffs + g)
+
+module _ (c : Netlist) (valid : IsCircuit c) (rows : List NetRow) (items : List ℕ) (j n : ℕ)
+    (known : j < length c.dffs) (is : (get_or c.dffs j no_net).0 ≡ n) (h : HasDffs c rows items j) where
+  abbrev dff_left : ℕ → ℕ → ℕ
+  dff_left k x = times x (drop k c.dffs) + reads_from c 0 x
+
+  pub dff_row : n < length rows
+  dff_row = let k = valid.data_known j known in let count = h.count in omega (arith, k, is, count)
+
+  dff_some : 0 < dff_left j n
+  dff_some = let o = one_read c.dffs j n known is in omega (arith, o)
+
+  pub dff_room : (row_of rows n).end < length items
+  dff_room = room_there rows items n j dff_row (dff_left j) h.room dff_some
+
+  abbrev DffHas : ℕ → ℕ → Type 0
+  DffHas = HasReader (rows_with rows n) (items_with rows items n j)
+
+  pub with_dff : HasDffs c (rows_with rows n) (items_with rows items n j) (j + 1)
+  with_dff =
+      let keeps = reader_keeps rows items n j dff_row (dff_left j) h.room dff_some in
+      let has = reader_has rows items n j dff_row (dff_left j) h.room dff_some in
+      let only = reader_only rows items n j dff_row (dff_left j) h.room dff_some in
+      record {
+        count = length-set rows n (record { start = (row_of rows n).start; end = (row_of rows n).end + 1 }) ∙ h.count;
+        room = room_left rows items n j dff_row (dff_left j) h.room dff_some (dff_left (j + 1))
+            (let o = one_read c.dffs j n known is in omega (arith, o))
+            (λ x. let f = fewer_reads c.dffs j x known in omega (arith, f));
+        sound = sound_more c (HasReader rows items) DffHas n j keeps has only
+            (inr (record { is_dff = known; reads = is })) h.sound;
+        dffs = dffs_more c (HasReader rows items) DffHas n j keeps has only is h.dffs;
+      }
+
+module _ (c : Netlist) (valid : IsCircuit c) (rows : List NetRow) (items : List ℕ) (g i n : ℕ)
+    (known : g < length c.gates) (pin : i < length (gate_at c g).args) (is : arg_at c g i ≡ n)
+    (h : HasPins c rows items g i) where
+  abbrev pin_left : ℕ → ℕ → ℕ
+  pin_left k x = times x (drop k (gate_at c g).args) + reads_from c (g + 1) x
+
+  pub pin_row : n < length rows
+  pin_row = let k = valid.known g i known pin in let count = h.count in omega (arith, k, is, count)
+
+  pin_some : 0 < pin_left i n
+  pin_some = let o = one_read (gate_at c g).args i n pin is in omega (arith, o)
+
+  pub pin_room : (row_of rows n).end < length items
+  pin_room = room_there rows items n (length c.dffs + g) pin_row (pin_left i) h.room pin_some
+
+  reads_it : ReadsNet c (length c.dffs + g) n
+  reads_it =
+      let at : length c.dffs + g - length c.dffs ≡ g = omega arith in
+      inl (record {
+        pin = i;
+        is_gate = omega arith;
+        known = omega (arith, known);
+        is_pin = (let e = ap (λ (h : ℕ). length (gate_at c h).args) at in omega (arith, pin, e));
+        reads = ap (λ (h : ℕ). arg_at c h i) at ∙ is;
+      })
+
+  abbrev PinHas : ℕ → ℕ → Type 0
+  PinHas = HasReader (rows_with rows n) (items_with rows items n (length c.dffs + g))
+
+  pub with_pin : HasPins c (rows_with rows n) (items_with rows items n (length c.dffs + g)) g (i + 1)
+  with_pin =
+      let l = length c.dffs + g in
+      let keeps = reader_keeps rows items n l pin_row (pin_left i) h.room pin_some in
+      let has = reader_has rows items n l pin_row (pin_left i) h.room pin_some in
+      let only = reader_only rows items n l pin_row (pin_left i) h.room pin_some in
+      record {
+        count = length-set rows n (record { start = (row_of rows n).start; end = (row_of rows n).end + 1 }) ∙ h.count;
+        room = room_left rows items n l pin_row (pin_left i) h.room pin_some (pin_left (i + 1))
+            (let o = one_read (gate_at c g).args i n pin is in omega (arith, o))
+            (λ x. let f = fewer_reads (gate_at c g).args i x pin in omega (arith, f));
+        table = part_kept c (HasReader rows items) PinHas n l keeps has only g reads_it h.table;
+        pins = pins_more c (HasReader rows items) PinHas n l keeps has only g i refl is h.pins;
+      }
+
+-- the flat list as a table
+module _ (rows : List NetRow) (items : List ℕ) (within : AreNetRows rows items) where
+  at_place : (row : NetRow) (k d : ℕ) → k < row.end - row.start
+      → get_or (readers_in items row) k d ≡ get_or items (row.start + k) d
+  at_place row k d less =
+      get_or-take (row.end - row.start) (drop row.start items) k d less ∙ get_or-drop row.start items k d
+
+  row_length : (row : NetRow) → row.end ≤ length items → length (readers_in items row) ≡ row.end - row.start
+  row_length row fits =
+      let d = length-drop row.start items in
+      length-take-le (row.end - row.start) (drop row.start items) (omega (arith, d, fits))
+
+  list_is : (x : ℕ) → x < length rows → get_or (lists_of rows items) x [] ≡ readers_in items (row_of rows x)
+  list_is x known = get_or-map (readers_in items) rows x no_row [] known
+
+  known_row : (x k : ℕ) → (row_of rows x).start ≤ k → k < (row_of rows x).end → x < length rows
+  known_row x k from below = elim (cases_lt x (length rows)) [
+    | inl known ↦ known
+    | inr past ↦ let d = ap (λ (r : NetRow). r.end) (get_or_past rows x no_row past) in absurd (omega (arith, d, below))
+  ]
+
+  pub has_listed : (x l : ℕ) → HasReader rows items x l → Contains (get_or (lists_of rows items) x []) l
+  has_listed x l r =
+      let row = row_of rows x in
+      let from = r.from_on in
+      let below = r.below in
+      let known = known_row x r.place from below in
+      let fits = (within x known).1 in
+      let k = r.place - row.start in
+      let less : k < row.end - row.start = omega (arith, from, below) in
+      let at : row.start + k ≡ r.place = omega (arith, from) in
+      let long = row_length row fits in
+      subst (λ (t : List ℕ). Contains t l) (sym (list_is x known)) (
+        k,
+        omega (arith, long, less),
+        at_place row k l less ∙ (ap (λ (j : ℕ). get_or items j l) at
+            ∙ (get_or_default items r.place l 0 (omega (arith, below, fits)) ∙ r.at)),
+      )
+
+  pub listed_has : (x l : ℕ) → Contains (get_or (lists_of rows items) x []) l → HasReader rows items x l
+  listed_has x l c = elim (cases_lt x (length rows)) [
+    | inl known ↦
+        let row = row_of rows x in
+        let found = subst (λ (t : List ℕ). Contains t l) (list_is x known) c in
+        let fits = (within x known).1 in
+        let long = row_length row fits in
+        let k = found.0 in
+        let inside = found.1 in
+        let less : k < row.end - row.start = omega (arith, long, inside) in
+        record {
+          place = row.start + k;
+          from_on = omega arith;
+          below = omega (arith, less);
+          at = get_or_default items (row.start + k) 0 l (omega (arith, less, fits)) ∙ (sym (at_place row k l less)
+              ∙ found.2);
+        }
+    | inr past ↦
+        let none : get_or (lists_of rows items) x [] ≡ [] = get_or_past (lists_of rows items) x []
+        (let m = length-map rows (readers_in items) in omega (arith, m, past)) in
+        let found = subst (λ (t : List ℕ). Contains t l) none c in
+        let k = found.1 in
+        absurd (omega (arith, k))
+  ]
+
+  pub table_is : (c : Netlist) → length rows ≡ net_count c → IsPartTable c (HasReader rows items) (length c.gates)
+      → IsTable c (lists_of rows items)
+  table_is c count t = record {
+    count = length-map rows (readers_in items) ∙ count;
+    sound = λ x l h. t.sound x l (listed_has x l h);
+    complete = λ x l reads. has_listed x l (elim reads [ inl g ↦ t.gates x l g.known g | inr d ↦ t.dffs x l d ]);
+  }

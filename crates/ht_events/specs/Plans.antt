@@ -1,7 +1,6 @@
 -- The order in which the items of a frame are fired, and a table of what reads each net.
-use Rattle.std.specs.Prelude.{◌≡◌, ◌<◌, ◌≤◌, ◌+◌, ◌*◌, ℕ, List, [], length, get_or, map, Vec}
+use Rattle.std.specs.Prelude.{◌≡◌, ◌<◌, ◌≤◌, ◌+◌, ◌*◌, ℕ, List, [], length, get_or}
 use Rattle.std.specs.List.{Contains}
-use Rattle.std.specs.declared.alloc.Global.{Global}
 use Rattle.ht_net.specs.Netlist.{Netlist, IsCircuit, net_count}
 use Rattle.ht_events.specs.Items.{frame_items, frame_of, local_of, driven_net, IsGateOn, ReadsNet}
 use Rattle.ht_events.specs.declared.plan.Plan.TheInside.{Inside}
@@ -9,18 +8,6 @@ use Rattle.ht_events.specs.declared.plan.Plan.TheInside.{Inside}
 -- the most frames: the longest window of a search
 abbrev pub max_frames : ℕ
 max_frames = 447
-
--- the items of a frame that read one net, in memory
-abbrev pub Row : Type 0
-Row = Vec ℕ Global
-
--- the rows as lists
-abbrev pub row_lists : List Row → List (List ℕ)
-row_lists rows = map (λ (r : Row). r.items) rows
-
--- the row of net x as a list; empty where there is none
-abbrev pub row_at : List Row → ℕ → List ℕ
-row_at rows x = get_or (row_lists rows) x []
 
 -- each net's row has the items of a frame that read it
 pub record IsTable (c : Netlist) (rows : List (List ℕ)) : Type 0 where

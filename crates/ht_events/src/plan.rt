@@ -6,8 +6,7 @@ ghost use Rattle.ht_events.specs.Items.{ReadsNet, IsLoad, frame_items, item_at, 
 ghost use Rattle.ht_events.specs.Plans.{position_at, PlanState, IsTable};
 
 use crate::ranking::ranking;
-use crate::readers::readers;
-use ht_items::FlatRows;
+use crate::readers::Readers;
 use ht_net::{Circuit, NetId};
 use std::alloc::{AllocError, Global};
 use std::marker::Model;
@@ -22,7 +21,7 @@ pub struct Plan<'c> {
     circuit: &'c Circuit,
     frames: u32,
     // for each net the items of a frame that read it
-    readers: FlatRows<u32>,
+    readers: Readers,
     // the items of a frame in the order in which they are fired, and the rank of each there
     order: Vec<u32>,
     ranks: Vec<u32>,
@@ -61,7 +60,7 @@ impl<'c> Plan<'c> {
         Ok(Plan {
             circuit,
             frames,
-            readers: readers(alloc, circuit)?,
+            readers: Readers::new(alloc, circuit)?,
             order,
             ranks,
         })
@@ -82,6 +81,16 @@ impl<'c> Plan<'c> {
     {
         let _ = self.circuit.nets();
         self.circuit.dffs() + self.circuit.gates()
+    }
+
+    /// How many items all frames have.
+    pub fn items(&self) -> u32
+        ensures items { result ≡ item_count self.now.circuit self.now.frames }
+        ensures places { (y : ℕ) → y < item_count self.now.circuit self.now.frames
+            → position_at self.now y < item_count self.now.circuit self.now.frames }
+    {
+        let _ = self.frames();
+        self.frames * self.frame_items()
     }
 
     /// How many flip-flops the circuit has.
@@ -155,6 +164,10 @@ impl<'c> Plan<'c> {
         requires { position < item_count self.now.circuit self.now.frames }
         ensures item { position_at self.now result ≡ position }
         ensures inside { result < item_count self.now.circuit self.now.frames }
+        ensures only { (y : ℕ) → y < item_count self.now.circuit self.now.frames
+            → position_at self.now y ≡ position → y ≡ result }
+        ensures later { (y : ℕ) → IsLoad self.now.circuit self.now.frames result y
+            → position < position_at self.now y }
     {
         let items = self.frame_items();
         let frame = self.frame(position);
@@ -180,6 +193,6 @@ impl<'c> Plan<'c> {
         ensures readers { result.now ≡ get_or self.now.readers net.0 [] }
         ensures table { IsTable self.now.circuit self.now.readers }
     {
-        self.readers.row(net.index())
+        self.readers.row(net)
     }
 }

@@ -35,9 +35,9 @@ fn firing_order(alloc: Global, circuit: &Circuit, gates: &[u32]) -> Result<Vec<u
         → get_or order.items (length circuit.now.dffs + k) 0 ≡ length circuit.now.dffs
         + get_or gates.now k 0) }
 {
-    let mut order = Vec::new(alloc);
     let dffs = circuit.dffs();
     let _ = circuit.nets();
+    let mut order = Vec::with_capacity(alloc, (dffs + circuit.gates()) as usize)?;
     for j in 0..dffs {
         order.push(j)?;
     }

@@ -1,75 +1,107 @@
 //! What reads each net.
-ghost use Rattle.std.specs.Prelude.{◌≡◌, ℕ, ◌<◌, ◌⊎◌, [], length, IfOk, OnOk};
-ghost use Rattle.std.specs.List.{Contains};
-ghost use Rattle.ht_events.specs.Plans.{row_at, row_lists, IsTable};
+ghost use Rattle.std.specs.Prelude.{◌≡◌, ℕ, ◌<◌, ◌+◌, ◌^◌, [], length, get_or, set, IfOk};
+ghost use Rattle.ht_net.specs.Netlist.{IsCircuit, net_count};
+ghost use Rattle.ht_events.specs.NetRows.{AreEmptyRows, row_of};
+ghost use Rattle.ht_events.specs.Plans.{IsTable};
 
-use ht_items::FlatRows;
 use ht_net::{Circuit, NetId};
 use std::alloc::{AllocError, Global};
+use std::marker::Model;
 
-// One more reader of a net.
-fn add(rows: &mut Vec<Vec<u32>>, net: NetId, local: u32) -> Result<(), AllocError>
-    requires { net.0 < length rows.old.items }
-    ensures count { length rows.new.items ≡ length rows.old.items }
-    ensures keeps { OnOk result ((x l : ℕ) → Contains (row_at rows.old.items x) l
-        → Contains (row_at rows.new.items x) l) }
-    ensures has { OnOk result (Contains (row_at rows.new.items net.0) local) }
-    ensures only { OnOk result ((x l : ℕ) → Contains (row_at rows.new.items x) l
-        → Contains (row_at rows.old.items x) l ⊎ ((x ≡ net.0) × (l ≡ local))) }
-{
-    rows[net.index()].push(local)?;
-    Ok(())
-}
-
-// An empty row for each net.
-fn empty_rows(alloc: Global, nets: u32) -> Result<Vec<Vec<u32>>, AllocError>
-    ensures count { IfOk result (λ rows. length rows.items ≡ nets) }
-    ensures empty { IfOk result (λ rows. (x : ℕ) → row_at rows.items x ≡ []) }
-{
-    let mut rows = Vec::with_capacity(alloc, nets as usize)?;
-    for net in 0..nets {
-        let _ = net;
-        rows.push(Vec::new(alloc))?;
-    }
-    Ok(rows)
-}
-
-// For each net the items of a frame that read it, row by row.
-fn reader_rows(alloc: Global, circuit: &Circuit) -> Result<Vec<Vec<u32>>, AllocError>
-    ensures { IfOk result (λ rows. IsTable circuit.now (row_lists rows.items)) }
-{
-    let mut rows = empty_rows(alloc, circuit.nets())?;
-    for j in 0..circuit.dffs() {
-        add(&mut rows, circuit.dff_data(j), j)?;
-    }
-    for g in 0..circuit.gates() {
-        for arg in circuit.gate_args(g) {
-            add(&mut rows, *arg, circuit.dffs() + g)?;
-        }
-    }
-    Ok(rows)
-}
-
-// The same rows in one.
-fn flattened(alloc: Global, rows: &[Vec<u32>]) -> Result<FlatRows<u32>, AllocError>
-    ensures { IfOk result (λ flat. flat ≡ row_lists rows.now) }
-{
-    let mut flat = FlatRows::new(alloc);
-    for row in rows {
-        flat.push(row)?;
-    }
-    Ok(flat)
+/// Where the readers of one net stand in the flat list of all.
+#[derive(Clone, Copy)]
+pub struct NetRow {
+    pub start: usize,
+    pub end: usize,
 }
 
 /// For each net, by its number, the items of a frame that read it: item `j` is flip-flop `j`, and item `m + g` is gate
 /// `g`, in a circuit with `m` flip-flops. An item that reads the net at two pins stands there twice.
-///
-/// # Errors
-/// Out of memory.
-pub fn readers(alloc: Global, circuit: &Circuit) -> Result<FlatRows<u32>, AllocError>
-    ensures { IfOk result (λ readers. IsTable circuit.now readers) }
+#[derive(Drop)]
+pub struct Readers {
+    items: Vec<u32>,
+    rows: Vec<NetRow>,
+}
+
+impl Model for Readers {
+    ghost use Rattle.std.specs.Prelude.{List, ℕ};
+
+    ghost Value = { List (List ℕ) };
+
+    ghost use Rattle.ht_events.specs.NetRows.{lists_of, AreNetRows};
+
+    ghost view = { λ a. lists_of a.rows.items a.items.items };
+
+    ghost invariant = { λ a. AreNetRows a.rows.items a.items.items };
+}
+
+// An empty row for each net, with room for its loads, and the room of all.
+fn empty_rows(alloc: Global, circuit: &Circuit) -> Result<(Vec<NetRow>, usize), AllocError>
+    ensures rows { IfOk result
+        (λ both. AreEmptyRows circuit.now (net_count circuit.now) both.0.items both.1) }
+    ensures few { IfOk result (λ both. both.1 < 2 ^ 48) }
+    ensures circuit { IsCircuit circuit.now }
 {
-    let rows = reader_rows(alloc, circuit)?;
-    let flat = flattened(alloc, &rows)?;
-    Ok(flat)
+    let mut rows = Vec::with_capacity(alloc, circuit.nets() as usize)?;
+    let mut room = 0;
+    for net in 0..circuit.nets() {
+        rows.push(NetRow {
+            start: room,
+            end: room,
+        })?;
+        room += circuit.loads(NetId(net)) as usize;
+    }
+    Ok((rows, room))
+}
+
+// One more reader of a net.
+fn add(rows: &mut Vec<NetRow>, items: &mut Vec<u32>, net: NetId, local: u32)
+    requires net { net.0 < length rows.old.items }
+    requires room { (row_of rows.old.items net.0).end < length items.old.items }
+    requires few { length items.old.items < 2 ^ 48 }
+    ensures rows { rows.new.items ≡ set rows.old.items net.0
+        (record {
+          start = (row_of rows.old.items net.0).start;
+          end = (row_of rows.old.items net.0).end + 1;
+        }) }
+    ensures items { items.new.items
+        ≡ set items.old.items (row_of rows.old.items net.0).end local }
+{
+    let row = rows[net.index()];
+    items[row.end] = local;
+    rows[net.index()] = NetRow {
+        start: row.start,
+        end: row.end + 1,
+    };
+}
+
+impl Readers {
+    /// What reads each net of a circuit.
+    ///
+    /// # Errors
+    /// Out of memory.
+    pub fn new(alloc: Global, circuit: &Circuit) -> Result<Readers, AllocError>
+        ensures { IfOk result (λ readers. IsTable circuit.now readers) }
+    {
+        let (mut rows, room) = empty_rows(alloc, circuit)?;
+        let mut items = vec![in alloc; 0; room]?;
+        for j in 0..circuit.dffs() {
+            add(&mut rows, &mut items, circuit.dff_data(j), j);
+        }
+        for g in 0..circuit.gates() {
+            for arg in circuit.gate_args(g) {
+                add(&mut rows, &mut items, *arg, circuit.dffs() + g);
+            }
+        }
+        Ok(Readers { items, rows })
+    }
+
+    /// The items of a frame that read a net.
+    pub fn row(&self, net: NetId) -> &[u32]
+        requires { net.0 < length self.now }
+        ensures { result.now ≡ get_or self.now net.0 [] }
+    {
+        let row = self.rows[net.index()];
+        &self.items[row.start..row.end]
+    }
 }

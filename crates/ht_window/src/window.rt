@@ -65,11 +65,10 @@ fn write_inputs(held: &mut Held, frame: u32) -> Result<(), AllocError>
     Ok(())
 }
 
-// Gives all nets their sets: the inputs by the decisions, and all else by events.
-fn fill(held: &mut Held, core: &mut Core) -> Result<(), AllocError>
-    requires circuit { core.old.plan.circuit ≡ held.old.standing.window.circuit }
-    requires frames { core.old.plan.frames ≡ held.old.standing.window.frames }
-    ensures plan { core.new.plan ≡ core.old.plan }
+// Gives all nets their sets: the inputs by the decisions, and all else in the order of events.
+fn fill(held: &mut Held, core: &Core) -> Result<(), AllocError>
+    requires circuit { core.now.plan.circuit ≡ held.old.standing.window.circuit }
+    requires frames { core.now.plan.frames ≡ held.old.standing.window.frames }
     ensures standing { held.new.standing ≡ held.old.standing }
     ensures cells { OnOk result
         (AreCells held.old.standing.window held.old.standing.path held.new.cells.values) }
@@ -78,8 +77,7 @@ fn fill(held: &mut Held, core: &mut Core) -> Result<(), AllocError>
     for frame in 0..frames {
         write_inputs(held, frame)?;
     }
-    core.touch_all();
-    core.settle(held)?;
+    core.fill(held)?;
     Ok(())
 }
 
@@ -131,8 +129,8 @@ impl<'c> Window<'c> {
     {
         let decided = Decided::new(alloc, start, circuit, fault, frames)?;
         let mut held = Held::new(alloc, decided)?;
-        let mut core = Core::new(alloc, circuit, frames)?;
-        fill(&mut held, &mut core)?;
+        let core = Core::new(alloc, circuit, frames)?;
+        fill(&mut held, &core)?;
         held.forget();
         Ok(Window {
             held,

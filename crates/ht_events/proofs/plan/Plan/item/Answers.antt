@@ -1,8 +1,8 @@
 use Rattle.std.proofs.Common.{◌≡◌, ◌<◌, ◌*◌, ◌+◌, ◌∙◌, ℕ, subst, get_or, ap, arith, sym, length}
 use Rattle.std.proofs.lemmas.List.{get_or_default}
-use Rattle.ht_events.specs.Items.{item_count, frame_of, local_of, frame_items}
+use Rattle.ht_events.specs.Items.{item_count, frame_of, local_of, frame_items, IsLoad}
 use Rattle.ht_events.specs.Plans.{PlanState, position_at}
-use Rattle.ht_events.proofs.ItemLaws.{ranked_item, ranked_inside, local_inside}
+use Rattle.ht_events.proofs.ItemLaws.{ranked_item, ranked_inside, local_inside, positions_differ, loads_later}
 use Rattle.ht_events.proofs.plan.Plan.item.Goals as goal
 
 at : (c : goal.After-row_known-1) (l : ℕ) → l ≡ c.local-local.result → l < length c.self.inside.order.items
@@ -43,3 +43,24 @@ returns-clause-item c = (both c c.requires).0
 
 pub returns-clause-inside : goal.returns-clause-inside
 returns-clause-inside c = (both c c.requires).1
+
+-- no other item stands there, and its loads stand later
+pub returns-clause-only : goal.returns-clause-only
+returns-clause-only c =
+    let a = c.self.inside in
+    let P : PlanState → Type 0 = λ (s : PlanState). (item : ℕ) → item < item_count s.circuit s.frames
+    → position_at s item ≡ c.args.position → (y : ℕ) → y < item_count s.circuit s.frames
+    → position_at s y ≡ c.args.position → y ≡ item in
+    subst P c.self.view_is
+    (λ item known at y ys e. positions_differ a.circuit.now a.order.items a.ranks.items c.self.invariant.ranking
+    a.frames y item ys known (e ∙ sym at)) _ (both c c.requires).1 (both c c.requires).0
+
+pub returns-clause-later : goal.returns-clause-later
+returns-clause-later c =
+    let a = c.self.inside in
+    let P : PlanState → Type 0 = λ (s : PlanState). (item : ℕ) → item < item_count s.circuit s.frames
+    → position_at s item ≡ c.args.position → (y : ℕ) → IsLoad s.circuit s.frames item y
+    → c.args.position < position_at s y in
+    subst P c.self.view_is
+    (λ item known at y load. let l = loads_later a.circuit.now a.order.items a.ranks.items c.self.invariant.ranking
+    a.frames item y known load in omega (arith, l, at)) _ (both c c.requires).1 (both c c.requires).0
