@@ -61,8 +61,8 @@ module _ (rows : List NetRow) (items : List ℕ) (n local : ℕ) (inside : n < l
   this_end = ap (λ (r : NetRow). r.end) this
 
   other : (x : ℕ) → x ≢ n → row_of more_rows x ≡ row_of rows x
-  other x ne = get_or-set_other rows n x (record { start = (row_of rows n).start; end = (row_of rows n).end + 1 }) no_row
-      ne
+  other x ne =
+      get_or-set_other rows n x (record { start = (row_of rows n).start; end = (row_of rows n).end + 1 }) no_row ne
 
   other_start : (x : ℕ) → x ≢ n → (row_of more_rows x).start ≡ (row_of rows x).start
   other_start x ne = ap (λ (r : NetRow). r.start) (other x ne)
@@ -209,8 +209,9 @@ module _ (c : Netlist) (n : ℕ) (rows : List NetRow) (room : ℕ) (h : AreEmpty
   is_empty x = elim (cases_lt x (length rows)) [
     | inl known ↦ subst (λ (r : NetRow). r.start ≡ r.end) (sym (row_before x known)) (h.empty x)
     | inr more ↦ elim (cases_lt x (length (rows ++ next ∷ []))) [
-      | inl last ↦ subst (λ (r : NetRow). r.start ≡ r.end) (sym (row_last x (let l = long in omega (arith, l, last, more))))
-          refl
+      | inl last ↦
+          let l = long in
+          subst (λ (r : NetRow). r.start ≡ r.end) (sym (row_last x (omega (arith, l, last, more)))) refl
       | inr past ↦ subst (λ (r : NetRow). r.start ≡ r.end) (sym (get_or_past (rows ++ next ∷ []) x no_row past)) refl
     ]
   ]

@@ -107,13 +107,16 @@ impl<'c> Plan<'c> {
         self.circuit.inputs()
     }
 
-    /// An item's frame.
+    /// An item's frame. Most windows have one frame, and a division costs more than all else here.
     pub fn frame(&self, item: u32) -> u32
         requires { item < item_count self.now.circuit self.now.frames }
         ensures frame { result ≡ frame_of self.now.circuit item }
         ensures inside { result < self.now.frames }
     {
         let items = self.frame_items();
+        if item < items {
+            return 0;
+        }
         item / items
     }
 
@@ -124,6 +127,9 @@ impl<'c> Plan<'c> {
         ensures inside { result < frame_items self.now.circuit }
     {
         let items = self.frame_items();
+        if item < items {
+            return item;
+        }
         item % items
     }
 

@@ -5,7 +5,7 @@ use Rattle.std.proofs.lemmas.Bool.Decides.{leb_tells}
 use Rattle.ht_pairs.specs.Pairs.{Pair}
 use Rattle.ht_net.specs.declared.net.NetId.{NetId}
 use Rattle.ht_net.specs.declared.fault.Fault.{Fault}
-use Rattle.ht_net.specs.Netlist.{Netlist, IsCircuit, gate_at, net_count, no_net}
+use Rattle.ht_net.specs.Netlist.{Netlist, gate_at, no_net}
 use Rattle.ht_tree.specs.Windows.{pair_set_rules, is_undetermined}
 use Rattle.ht_tree.specs.WalkBack.{undetermined_argument}
 use Rattle.ht_net.specs.Frame.{Rules}

@@ -1,22 +1,20 @@
 -- The latches of a cube, one by one.
-use Rattle.std.proofs.Common.{◌≡◌, ◌+◌, ◌∙◌, ◌↔◌, ℕ, suc, zero, List, [], ◌∷◌, ◌++◌, Bool, true, false, ◌&&◌, ◌||◌, cond, length, refl, ap, sym, inl, inr, arith, IsTrue}
-use Rattle.std.specs.Prelude.{ltb, eqb}
+use Rattle.std.proofs.Common.{◌≡◌, ◌+◌, ◌∙◌, ◌↔◌, ℕ, suc, List, [], ◌∷◌, ◌++◌, Bool, true, false, ◌&&◌, ◌||◌, cond, length, refl, ap, sym, inl, inr, arith, IsTrue}
+use Rattle.std.specs.Prelude.{ltb}
 use Rattle.std.specs.List.{filter, list_all, range_with_len}
 use Rattle.std.proofs.lemmas.List.{append-nil}
 use Rattle.std.proofs.lemmas.List.Folds.{list_all-append}
-use Rattle.std.proofs.lemmas.Bool.Decides.{leb_tells, eqb_tells}
+use Rattle.std.proofs.lemmas.Bool.Decides.{leb_tells}
 use Rattle.ht_tern.specs.declared.tern.Tern.{Tern}
 use Rattle.ht_pairs.specs.Pairs.{Pair, IsMember, is_member, same_pair}
 use Rattle.ht_pairs.proofs.PairTests.{same_pair-true, same_pair-from}
 use Rattle.ht_tree.specs.declared.token.Assign3.{Assign3}
-use Rattle.ht_tree.specs.declared.window.Spot.TheVariants.{State, Cube}
-use Rattle.ht_tree.specs.declared.window.Status.{Status}
-use Rattle.ht_tree.specs.declared.window.Status.TheVariants.{Dead, Sure, Open}
+use Rattle.ht_tree.specs.declared.window.Spot.TheVariants.{State}
 use Rattle.ht_tree.specs.Windows.{SearchWindow, is_undetermined}
 use Rattle.ht_tree.specs.Places.{set_at}
-use Rattle.ht_tree.specs.WindowStatus.{is_definite, value_at, must_meet, may_meet, cube_status}
+use Rattle.ht_tree.specs.WindowStatus.{is_definite, value_at, must_meet, may_meet}
 use Rattle.ht_window.specs.declared.cube.CubeSeen.{CubeSeen}
-use Rattle.ht_window.specs.Seen.{cube_seen_of, cube_seen_with, cube_status_by}
+use Rattle.ht_window.specs.Seen.{cube_seen_of, cube_seen_with}
 use Rattle.ht_window.proofs.SeenLaws.{find_push, filter_push}
 
 agree : (a b : Bool) → (a ≡ true → b ≡ true) → (b ≡ true → a ≡ true) → a ≡ b

@@ -1,7 +1,6 @@
 -- Which variables a window has.
-use Rattle.std.proofs.Common.{◌≡◌, ◌<◌, ◌≤◌, ◌+◌, ◌-◌, ◌*◌, ◌/◌, ◌%◌, ◌⊎◌, inl, inr, ℕ, List, Bool, true, false, ◌||◌, length, refl, arith}
+use Rattle.std.proofs.Common.{◌≡◌, ◌<◌, ◌+◌, ◌-◌, ◌/◌, ◌%◌, ◌⊎◌, inl, inr, ℕ, List, Bool, true, false, ◌||◌, length, refl, arith}
 use Rattle.std.specs.Prelude.{ltb, leb, ◌&&◌}
-use Rattle.std.proofs.Math.Nat.{mul-le-mul_right}
 use Rattle.std.proofs.lemmas.Bool.Decides.{nat_tests}
 use Rattle.ht_tern.specs.declared.tern.Tern.{Tern}
 use Rattle.ht_net.specs.Netlist.{Netlist, first_gate_net}
@@ -9,7 +8,6 @@ use Rattle.ht_net.proofs.FrameLaws.{le_or_lt}
 use Rattle.ht_tree.specs.Decisions.{is_in}
 use Rattle.ht_tree.specs.Windows.{SearchWindow, Start, one_frame, unknown, state_pair, back, IsWindow, IsStart, first_input}
 use Rattle.ht_tree.specs.Variables.{two_of_start, three_of_start, is_latch, is_faulty_latch}
-use Rattle.ht_window.specs.Standing.{variable_room}
 use Rattle.ht_window.specs.States.{IsLegalDecision}
 use Rattle.ht_window.specs.Cells.{var_frame, var_net}
 use Rattle.ht_window.proofs.PlaceLaws.{rows_frame, rows_local}
