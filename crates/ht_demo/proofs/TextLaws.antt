@@ -10,7 +10,8 @@ use Rattle.ht_net.specs.Named.{Name, NamedDff, NamedGate, name_of, named_dffs, n
 use Rattle.ht_statement.specs.Statement.{Statement, input_line, output_line}
 use Rattle.ht_statement.specs.StatementText.{statement_line}
 use Rattle.ht_bench.specs.Normal.{statement_lines, dff_statement, gate_statement, normal_text}
-use Rattle.ht_bench.proofs.NamedPartLaws.{no_named_dff, no_named_gate, gate_named, named_dffs_count, named_gates_count, get_or-named_dffs, get_or-named_gates}
+use Rattle.ht_bench.proofs.NamedPartLaws.{no_named_dff, gate_named, named_dffs_count, named_gates_count, get_or-named_dffs, get_or-named_gates}
+use Rattle.ht_net.proofs.NameCycleLaws.{no_named_gate}
 use Rattle.ht_random.specs.Words.{generator_of, next_word, after_word, after_words}
 use Rattle.ht_demo.specs.Counts.{input_count, dff_count, first_gate, demo_name}
 use Rattle.ht_demo.specs.Draws.{kind_by_word, drawn_gate_net}
