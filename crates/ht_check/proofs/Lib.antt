@@ -11,3 +11,4 @@ pub mod CubeLaws
 pub mod ToldLaws
 pub mod VectorRunLaws
 pub mod AttemptLaws
+pub mod NetSetLaws

@@ -1,17 +1,16 @@
 -- How the fields of a frame of sets stand for it, and what a frame makes of it.
-use Rattle.std.specs.Prelude.{◌≡◌, ◌*◌, ℕ, suc, zero, List, [], ◌∷◌, map, Option, None, length, get_or}
-use Rattle.std.specs.List.{range_with_len}
+use Rattle.std.specs.Prelude.{◌≡◌, ◌<◌, ◌*◌, ℕ, suc, zero, List, [], map, Option, None, length, get_or}
+use Rattle.std.specs.List.{All, range_with_len}
 use Rattle.ht_tern.specs.declared.tern.Tern.{Tern}
-use Rattle.ht_tern.specs.declared.tern.Tern.TheVariants.{Unk}
-use Rattle.ht_pairs.specs.Pairs.{Pair, pair}
+use Rattle.ht_pairs.specs.Pairs.{Pair}
 use Rattle.ht_pairs.specs.Decided.{same_pairs}
 use Rattle.ht_net.specs.declared.fault.Fault.{Fault}
-use Rattle.ht_net.specs.Netlist.{Netlist, IsCircuit, net_count}
-use Rattle.ht_net.specs.Frame.{values_at, frame_outputs, next_state}
-use Rattle.ht_frame.specs.Values.{env_of}
+use Rattle.ht_net.specs.Netlist.{Netlist, IsCircuit}
+use Rattle.ht_net.specs.Frame.{frame_outputs, next_state}
 use Rattle.ht_tree.specs.declared.window.Spot.{Spot}
 use Rattle.ht_tree.specs.declared.window.Spot.TheVariants.{Output, State, Cube}
 use Rattle.ht_tree.specs.Windows.{pair_set_rules}
+use Rattle.ht_check.specs.NetSetsOf.{AreNetSets}
 use Rattle.ht_check.specs.declared.frame_sets.FrameSets.TheInside.{Inside}
 
 -- A circuit and a fault, with the sets of the latches, and those that the outputs hold.
@@ -26,7 +25,7 @@ frame_state a = record {
   circuit = a.circuit.now;
   fault = a.fault;
   latches = a.latches.items;
-  outputs = values_at (env_of (pair Unk Unk ∷ []) a.values.items) a.circuit.now.outputs;
+  outputs = a.outputs.items;
 }
 
 -- the set at a place after a frame: an output's, or what a flip-flop took
@@ -40,8 +39,9 @@ pub record HasRoom (a : Inside) : Type 0 where
   pub circuit : IsCircuit a.circuit.now
   pub vector : length a.vector.items ≡ a.circuit.now.inputs
   pub latches : length a.latches.items ≡ length a.circuit.now.dffs
-  pub values : length a.values.items ≡ net_count a.circuit.now
-  pub pins : length a.pins.items ≡ 255
+  pub outputs : length a.outputs.items ≡ length a.circuit.now.outputs
+  pub some : 0 < length a.frames.items
+  pub nets : All (AreNetSets a.circuit.now a.fault) a.frames.items
 
 -- the sets of so many inputs, from what was decided for the variables from first on
 abbrev pub inputs_by : List (Option Tern) → ℕ → ℕ → List (List Pair)

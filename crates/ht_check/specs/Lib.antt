@@ -7,3 +7,5 @@ pub mod WantedLatches
 pub mod FreshWindowOf
 pub mod SweepWalks
 pub mod SearchEnds
+pub mod GateSets
+pub mod NetSetsOf

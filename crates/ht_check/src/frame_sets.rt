@@ -1,17 +1,21 @@
 //! One frame over sets of pairs.
-ghost use Rattle.std.specs.Prelude.{◌≡◌, ◌≤◌, ◌+◌, ◌*◌, flat_map, length, IfOk};
-ghost use Rattle.std.specs.List.{list_all, range_with_len};
+ghost use Rattle.std.specs.Prelude.{◌≡◌, ◌<◌, ◌≤◌, ◌+◌, ◌*◌, Option, flat_map, length, IfOk};
+ghost use Rattle.std.specs.List.{All, list_all, range_with_len};
 ghost use Rattle.ht_pairs.specs.Pairs.{differs};
+ghost use Rattle.ht_net.specs.declared.fault.Fault.{Fault};
 ghost use Rattle.ht_net.specs.Netlist.{IsCircuit};
+ghost use Rattle.ht_net.specs.Frame.{frame_outputs, next_state};
 ghost use Rattle.ht_tree.specs.Places.{IsSpot};
+ghost use Rattle.ht_tree.specs.Windows.{pair_set_rules};
 ghost use Rattle.ht_check.specs.FreshStarts.{IsStartOf, latches_by};
 ghost use Rattle.ht_check.specs.FrameSetsOf.{frame_after, inputs_by, latches_after, outputs_of_frame, set_in};
+ghost use Rattle.ht_check.specs.NetSetsOf.{AreNetSets};
 ghost use Rattle.ht_check.specs.Differences.{differences_in};
 
 use crate::decisions::write_inputs;
 use crate::differences::{Differences, output_differences};
 use crate::fresh_start::{FreshStart, write_latches};
-use ht_frame::{MAX_GATE_PINS, capture, settle};
+use crate::net_sets::NetSets;
 use ht_net::{Circuit, Fault};
 use ht_pairs::PairSet;
 use ht_tern::Tern;
@@ -19,18 +23,18 @@ use ht_tree::Spot;
 use std::alloc::{AllocError, Global};
 use std::marker::Model;
 
-/// One frame of the good and of the faulty machine, or of the good machine alone, over sets of pairs. All room is taken
+/// A frame of the good and of the faulty machine, or of the good machine alone, over sets of pairs. All room is taken
 /// once, when it is made.
 #[derive(Drop)]
 pub struct FrameSets<'c> {
     circuit: &'c Circuit,
     fault: Option<Fault>,
-    // the sets of the inputs, of the latches, and of the nets
+    // the sets of the inputs, of the latches, and of what the outputs show
     vector: Vec<PairSet>,
     latches: Vec<PairSet>,
-    values: Vec<PairSet>,
-    // room for the pins of one gate
-    pins: Vec<PairSet>,
+    outputs: Vec<PairSet>,
+    // the nets of each frame, so that one settles from where it was at the node before
+    frames: Vec<NetSets>,
 }
 
 impl<'c> Model for FrameSets<'c> {
@@ -52,8 +56,51 @@ fn room_for(alloc: Global, count: usize) -> Result<Vec<PairSet>, AllocError>
     vec![in alloc; PairSet::both_same(); count]
 }
 
+// Room for the nets of so many frames, and of one at least.
+fn room_for_frames(
+    alloc: Global,
+    circuit: &Circuit,
+    frames: u32,
+) -> Result<Vec<NetSets>, AllocError>
+    ensures some { IfOk result (λ kept. 0 < length kept.items) }
+    ensures nets { (fault : Option Fault)
+        → IfOk result (λ kept. All (AreNetSets circuit.now fault) kept.items) }
+{
+    let mut kept = Vec::new(alloc);
+    kept.push(NetSets::new(alloc, circuit)?)?;
+    for _ in 1..frames {
+        kept.push(NetSets::new(alloc, circuit)?)?;
+    }
+    Ok(kept)
+}
+
+// Runs frame `f`, or the last one that there is room for.
+fn run_frame(
+    frames: &mut [NetSets],
+    f: u32,
+    circuit: &Circuit,
+    fault: Option<Fault>,
+    vector: &[PairSet],
+    latches: &mut [PairSet],
+    outputs: &mut [PairSet],
+)
+    requires some { 0 < length frames.old }
+    requires nets { All (AreNetSets circuit.now fault) frames.old }
+    requires vector { length vector.now ≡ circuit.now.inputs }
+    requires latches { length latches.old ≡ length circuit.now.dffs }
+    requires outputs { length outputs.old ≡ length circuit.now.outputs }
+    ensures nets { All (AreNetSets circuit.now fault) frames.new }
+    ensures latches { latches.new
+        ≡ next_state circuit.now (pair_set_rules fault) vector.now latches.old }
+    ensures outputs { outputs.new
+        ≡ frame_outputs circuit.now (pair_set_rules fault) vector.now latches.old }
+{
+    let last = frames.len() - 1;
+    frames[last.min(f as usize)].run(circuit, fault, vector, latches, outputs);
+}
+
 impl<'c> FrameSets<'c> {
-    /// Room for a frame of a circuit and a fault, or of the good machine alone.
+    /// Room for so many frames of a circuit and a fault, or of the good machine alone, and for one at least.
     ///
     /// # Errors
     /// Out of memory.
@@ -61,21 +108,24 @@ impl<'c> FrameSets<'c> {
         alloc: Global,
         circuit: &'c Circuit,
         fault: Option<Fault>,
+        frames: u32,
     ) -> Result<FrameSets<'c>, AllocError>
         ensures circuit { IfOk result (λ frame. frame.circuit ≡ circuit.now) }
         ensures fault { IfOk result (λ frame. frame.fault ≡ fault) }
     {
+        // for the proof: the circuit is well formed
+        let _ = circuit.nets();
         let vector = room_for(alloc, circuit.inputs() as usize)?;
         let latches = room_for(alloc, circuit.dffs() as usize)?;
-        let values = room_for(alloc, circuit.nets() as usize)?;
-        let pins = room_for(alloc, MAX_GATE_PINS)?;
+        let outputs = room_for(alloc, circuit.outputs() as usize)?;
+        let frames = room_for_frames(alloc, circuit, frames)?;
         Ok(FrameSets {
             circuit,
             fault,
             vector,
             latches,
-            values,
-            pins,
+            outputs,
+            frames,
         })
     }
 
@@ -92,23 +142,23 @@ impl<'c> FrameSets<'c> {
         write_latches(start, decisions, inputs, &mut self.latches);
     }
 
-    /// Runs one frame, whose inputs have the variables from `first` on: the outputs show what they hold, and the latches
-    /// take what stands at their data pins.
-    pub fn run(&mut self, decisions: &[Option<Tern>], first: usize)
+    /// Runs frame `f`, whose inputs have the variables from `first` on: the outputs show what they hold, and the
+    /// latches take what stands at their data pins. The last frame that there is room for stands for later ones.
+    pub fn run(&mut self, decisions: &[Option<Tern>], first: usize, f: u32)
         requires { first + self.old.circuit.inputs ≤ length decisions.now }
         ensures { self.new ≡ frame_after self.old
             (inputs_by decisions.now first self.old.circuit.inputs) }
     {
         write_inputs(decisions, first, &mut self.vector);
-        settle(
+        run_frame(
+            &mut self.frames,
+            f,
             self.circuit,
             self.fault,
             &self.vector,
-            &self.latches,
-            &mut self.values,
-            &mut self.pins,
+            &mut self.latches,
+            &mut self.outputs,
         );
-        capture(self.circuit, self.fault, &self.values, &mut self.latches);
     }
 
     /// The circuit.
@@ -132,10 +182,8 @@ impl<'c> FrameSets<'c> {
         requires { IsSpot self.now.circuit place }
         ensures { result ≡ list_all differs (set_in self.now place) }
     {
-        // for the proof: each net has a set
-        prove_eq!(self.values.len(), self.circuit.nets() as usize);
         match place {
-            Spot::Output(o) => self.values[self.circuit.output(o).index()].must_differ(),
+            Spot::Output(o) => self.outputs[o as usize].must_differ(),
             Spot::State(j) => self.latches[j as usize].must_differ(),
             // no place, so no set that may be equal
             Spot::Cube => true,
@@ -146,7 +194,7 @@ impl<'c> FrameSets<'c> {
     pub fn differences(&self) -> Differences
         ensures { result ≡ differences_in self.now.outputs }
     {
-        output_differences(self.circuit, &self.values)
+        output_differences(&self.outputs)
     }
 }
 
@@ -162,7 +210,7 @@ pub fn run_frames(frame: &mut FrameSets, decisions: &[Option<Tern>], frames: u32
     let inputs = frame.circuit().inputs() as usize;
     let mut shown = Differences::none();
     for f in 0..frames {
-        frame.run(decisions, f as usize * inputs);
+        frame.run(decisions, f as usize * inputs, f);
         shown = shown.and(frame.differences());
     }
     shown

@@ -1,4 +1,4 @@
-//! Windows of every kind, evaluated afresh at each node.
+//! Windows of every kind, whose frames settle at each node.
 ghost use Rattle.std.specs.Prelude.{◌≡◌, ◌<◌, ℕ, List, length, get_or, true, IfOk};
 ghost use Rattle.std.specs.List.{list_all};
 ghost use Rattle.ht_tern.specs.declared.tern.Tern.{Tern};
@@ -23,7 +23,7 @@ use ht_tree::{Assign3, Spot, Status3, WalkNode};
 use std::alloc::{AllocError, Global};
 use std::marker::Model;
 
-/// A window of any kind, which evaluates its frames anew at each node. All room is taken once, when it is made.
+/// A window of any kind, whose frames all settle at each node. All room is taken once, when it is made.
 #[derive(Drop)]
 pub struct FreshWindow<'c> {
     frames: u32,
@@ -70,7 +70,7 @@ impl<'c> FreshWindow<'c> {
         let dffs = circuit.dffs() as usize;
         let decisions = vec![in alloc; None; frames as usize * inputs + 2 * dffs]?;
         let cube = vec![in alloc; Tern::Unk; dffs]?;
-        let frame = FrameSets::new(alloc, circuit, fault)?;
+        let frame = FrameSets::new(alloc, circuit, fault, frames)?;
         Ok(FreshWindow {
             frames,
             start,
@@ -178,7 +178,7 @@ impl<'c> FreshWindow<'c> {
     {
         write_decisions(&mut self.decisions, path);
         self.frame.begin(&self.start, &self.decisions);
-        self.frame.run(&self.decisions, 0);
+        self.frame.run(&self.decisions, 0, 0);
         self.frame.must_differ(place)
     }
 
@@ -217,7 +217,7 @@ impl<'c> FreshWindow<'c> {
             &mut self.cube,
         );
         self.frame.begin(&self.start, &self.decisions);
-        self.frame.run(&self.decisions, 0);
+        self.frame.run(&self.decisions, 0, 0);
         let left = limit.saturating_sub(node.depth());
         cube_status(&self.cube, self.frame.latches(), left)
     }

@@ -1,4 +1,4 @@
-//! What a walk is judged by: a window of any kind, evaluated afresh at each node.
+//! What a walk is judged by: a window of any kind.
 ghost use Rattle.std.specs.Prelude.{◌≡◌, ◌<◌, ℕ};
 ghost use Rattle.ht_tree.specs.Walks.{Judge};
 

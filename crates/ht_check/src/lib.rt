@@ -1,5 +1,5 @@
-//! The checker of entries: it follows the tokens of a walk and evaluates both machines over sets of pairs at each node,
-//! afresh: no code of a search is used.
+//! The checker of entries: it follows the tokens of a walk and settles both machines over sets of pairs at each node.
+//! No code of a search is used.
 //!
 //! `entry` is true exactly where the entry passes (`exact`), and what an entry that passes says of its fault holds
 //! (`sound`): no list of vectors detects it, or none of fewer vectors than a sweep has walks. `judge_walk` judges tokens
@@ -10,8 +10,9 @@
 //! walk after them), `aims` (how the attempt at the first of them ended), `attempts` (lists that fail together),
 //! `told_states` (what a told frame gives), `vector_runs` (machines over lists), `sweeps` (the walks of a sweep), `walks`
 //! (a walk token by token), `spent_walks` (walks that spent a budget), `judged` (what a window answers), `fresh_window`
-//! (a window of any kind), `fresh_start` (its first latches), `frame_sets` (one frame over sets), `decisions` (what a
-//! path decides), `differences` (what places show), `cube` (what next states make of a cube).
+//! (a window of any kind), `fresh_start` (its first latches), `frame_sets` (one frame over sets), `net_sets` (its nets,
+//! gate by gate), `decisions` (what a path decides), `differences` (what places show), `cube` (what next states make of
+//! a cube).
 #![tactic(auto)]
 
 mod abort_records;
@@ -25,6 +26,7 @@ mod frame_sets;
 mod fresh_start;
 mod fresh_window;
 mod judged;
+mod net_sets;
 mod spent_walks;
 mod sweeps;
 mod told_chains;

@@ -1,9 +1,6 @@
-use Rattle.std.proofs.Common.{◌≡◌, ◌<◌, ◌+◌, ◌∷◌, [], ◌∙◌, List, ℕ, length, get_or, arith}
+use Rattle.std.proofs.Common.{◌≡◌, ◌<◌, ◌+◌, [], ◌∙◌, List, ℕ, length, get_or, arith}
 use Rattle.std.proofs.lemmas.List.{with_items_is}
-use Rattle.ht_tern.specs.declared.tern.Tern.TheVariants.{Unk}
-use Rattle.ht_pairs.specs.Pairs.{Pair, pair}
-use Rattle.ht_net.specs.Frame.{values_at}
-use Rattle.ht_frame.specs.Values.{env_of}
+use Rattle.ht_pairs.specs.Pairs.{Pair}
 use Rattle.ht_check.specs.FreshStarts.{first_latch_by, fresh_start, latches_by}
 use Rattle.ht_check.proofs.DecisionLaws.{listed_by}
 use Rattle.ht_check.proofs.frame_sets.FrameSets.begin.Goals as goal
@@ -31,6 +28,6 @@ returns c =
       circuit = n;
       fault = a.fault;
       latches = items i;
-      outputs = values_at (env_of (pair Unk Unk ∷ []) a.values.items) n.outputs;
+      outputs = a.outputs.items;
     })
     ∙ (λ i. record (c.self.view_is i) { latches = latches_by start ds (c.self.view_is i).circuit })
