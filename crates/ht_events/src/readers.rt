@@ -85,12 +85,13 @@ impl Readers {
     {
         let (mut rows, room) = empty_rows(alloc, circuit)?;
         let mut items = vec![in alloc; 0; room]?;
-        for j in 0..circuit.dffs() {
+        let dffs = circuit.dffs();
+        for j in 0..dffs {
             add(&mut rows, &mut items, circuit.dff_data(j), j);
         }
         for g in 0..circuit.gates() {
             for arg in circuit.gate_args(g) {
-                add(&mut rows, &mut items, *arg, circuit.dffs() + g);
+                add(&mut rows, &mut items, *arg, dffs + g);
             }
         }
         Ok(Readers { items, rows })

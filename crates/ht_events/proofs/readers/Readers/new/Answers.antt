@@ -6,7 +6,6 @@ use Rattle.ht_events.specs.declared.readers.NetRow.{NetRow}
 use Rattle.ht_events.specs.NetRows.{row_of}
 use Rattle.ht_events.proofs.RowLaws.{HasReader, rows_with, items_with, few_still, room_kept}
 use Rattle.ht_events.proofs.TableLaws.{HasDffs, HasPins, IsPartTable, reads_from, gate_reads, dff_row, dff_room, with_dff, pin_row, pin_room, with_pin, part_more, table_is}
-use Rattle.ht_events.proofs.readers.Readers.new.Goals.{After-dffs}
 use Rattle.ht_events.proofs.readers.Readers.new.Goals as goal
 
 pub loop-j-init : goal.loop-j-init
@@ -30,7 +29,7 @@ loop-j-init c =
 
 -- the flip-flop is there, and reads the net
 dff_known : (c : goal.After-dff_data) → c.loop-j.j < length c.args.circuit.now.dffs
-dff_known c = let t = c.loop-j-test.true in let e = c.dffs-j-end.ensures in omega (arith, t, e)
+dff_known c = let t = c.loop-j-test.true in let e = c.dffs-dffs.ensures in omega (arith, t, e)
 
 dff_is : (c : goal.After-dff_data) → (get_or c.args.circuit.now.dffs c.loop-j.j no_net).0 ≡ c.dff_data.result.0
 dff_is c = ap (λ (x : NetId). x.0) (sym c.dff_data.ensures)
@@ -51,7 +50,7 @@ loop-j-preserved c =
     let items = c.loop-j.items.items in
     let n = c.dff_data.result.0 in
     let t = c.loop-j-test.true in
-    let e = c.dffs-j-end.ensures in
+    let e = c.dffs-dffs.ensures in
     record {
       few = few_still items (row_of rows n).end c.loop-j.j c.add.new.items.items a.items c.loop-j.invariant.few;
       rows = subst (λ (r : List NetRow). HasDffs circuit r c.add.new.items.items (c.loop-j.j + 1)) (sym a.rows)
@@ -64,7 +63,7 @@ pub loop-g-init : goal.loop-g-init
 loop-g-init c =
     let i = c.loop-j.invariant.rows in
     let t = c.loop-j-test.false in
-    let e = c.dffs-j-end.ensures in
+    let e = c.dffs-dffs.ensures in
     let circuit = c.args.circuit.now in
     record {
       few = c.loop-j.invariant.few;
@@ -100,16 +99,16 @@ loop-arg-init c =
     }
 
 -- the pin is there, and reads the net
-pin_known : (c : After-dffs) → c.loop-g.g < length c.args.circuit.now.gates
+pin_known : (c : goal.After-add-arg-1) → c.loop-g.g < length c.args.circuit.now.gates
 pin_known c = let t = c.loop-g-test.true in let e = c.gates-g-end.ensures in omega (arith, t, e)
 
-pin_inside : (c : After-dffs) → c.loop-arg.arg-index < length (gate_at c.args.circuit.now c.loop-g.g).args
+pin_inside : (c : goal.After-add-arg-1) → c.loop-arg.arg-index < length (gate_at c.args.circuit.now c.loop-g.g).args
 pin_inside c =
     let t = c.loop-arg-test.true in
     let e = ap (λ (l : List NetId). length l) c.gate_args-arg-items.ensures.args in
     omega (arith, t, e)
 
-pin_is : (c : After-dffs) → arg_at c.args.circuit.now c.loop-g.g c.loop-arg.arg-index
+pin_is : (c : goal.After-add-arg-1) → arg_at c.args.circuit.now c.loop-g.g c.loop-arg.arg-index
     ≡ (get_or c.gate_args-arg-items.result.now c.loop-arg.arg-index no_net).0
 pin_is c = ap (λ (l : List NetId). (get_or l c.loop-arg.arg-index no_net).0) (sym c.gate_args-arg-items.ensures.args)
 
@@ -131,7 +130,7 @@ loop-arg-preserved c =
     let items = c.loop-arg.items.items in
     let g = c.loop-g.g in
     let i = c.loop-arg.arg-index in
-    let local = c.dffs.result + g in
+    let local = c.dffs-dffs.result + g in
     let net = get_or c.gate_args-arg-items.result.now i no_net in
     let t = c.loop-arg-test.true in
     let tg = c.loop-g-test.true in
@@ -144,7 +143,7 @@ loop-arg-preserved c =
       rows = subst (λ (r : List NetRow). HasPins circuit r c.add-in-loop-arg.new.items.items g (i + 1)) (sym a.rows)
           (subst (λ (s : List ℕ). HasPins circuit (rows_with rows net.0) s g (i + 1)) (sym a.items)
           (subst (λ (m : ℕ). HasPins circuit (rows_with rows net.0) (items_with rows items net.0 (m + g)) g (i + 1))
-          (sym c.dffs.ensures)
+          (sym c.dffs-dffs.ensures)
           (with_pin circuit c.empty_rows.ensures.circuit rows items g i net.0 (omega (arith, tg, eg))
           (omega (arith, t, all)) (ap (λ (l : List NetId). (get_or l i no_net).0) (sym args))
           c.loop-arg.invariant.rows)));
