@@ -30,7 +30,8 @@ pub record AreDetections (c : Netlist) (wanted : List ℕ) (list : List (List Bo
   pub faults : fault_numbers detected ≡ wanted
   pub each : All (IsDetectedFault c list) detected
 
--- The grader of these faults stands for the first vectors of the list, for all of them where it has missed a fault.
+-- The grader of these faults stands for the first vectors of the list, and what it hasn't detected the list doesn't
+-- detect.
 pub record HasRunWanted (c : Netlist) (wanted : List ℕ) (list : List (List Bool)) (grader : PackedView) : Type 0 where
   pub count : ℕ
   pub stands : GraderStandsFor grader (take count list)
@@ -38,6 +39,7 @@ pub record HasRunWanted (c : Netlist) (wanted : List ℕ) (list : List (List Boo
 
 -- ---- by the vector that detects them
 
+-- those that are detected before vector t, at it and after it
 abbrev pub detected_before : ℕ → List DetectedFault → List DetectedFault
 detected_before t = filter (λ (one : DetectedFault). nat_lt one.vector t)
 
