@@ -87,40 +87,28 @@ created_here : (created : Option (List ℕ)) (port : OutPort) (name : List ℕ) 
 created_here created port name a b is named =
     subst (λ (known : Option (List ℕ)). IsCreatedOnly known port a b) (sym is) (inr named)
 
-created_beside : (created : Option (List ℕ)) (port p : OutPort) (a b : DeskView) → OutCall port a b → p ≢ port
-    → IsCreatedOnly created p a b
-created_beside created port p a b x other = kept created p a b (x.named.others p other, x.is_created.others p other)
+beside : (creates : OutPort → Option (List ℕ)) (port p : OutPort) (a b : DeskView) → OutCall port a b → p ≢ port
+    → IsCreatedOnly (creates p) p a b
+beside creates port p a b x other = kept (creates p) p a b (x.named.others p other, x.is_created.others p other)
 
 created_at : (creates : OutPort → Option (List ℕ)) (port p : OutPort) (name : List ℕ) (a b : DeskView)
     → IsFilePort port → OutCall port a b → creates port ≡ Some name
     → b.named port ≡ option_map (λ (_ : List ℕ). name) (a.named port) → IsCreatedOnly (creates p) p a b
 created_at creates Tests Tests name a b file x is named = created_here (creates Tests) Tests name a b is named
-created_at creates Tests Report name a b file x is named =
-    created_beside (creates Report) Tests Report a b x (λ e. cc)
-created_at creates Tests Proofs name a b file x is named =
-    created_beside (creates Proofs) Tests Proofs a b x (λ e. cc)
-created_at creates Tests Out name a b file x is named =
-    created_beside (creates Out) Tests Out a b x (λ e. cc)
-created_at creates Tests Err name a b file x is named =
-    created_beside (creates Err) Tests Err a b x (λ e. cc)
-created_at creates Report Tests name a b file x is named =
-    created_beside (creates Tests) Report Tests a b x (λ e. cc)
+created_at creates Tests Report name a b file x is named = beside creates Tests Report a b x (λ e. cc)
+created_at creates Tests Proofs name a b file x is named = beside creates Tests Proofs a b x (λ e. cc)
+created_at creates Tests Out name a b file x is named = beside creates Tests Out a b x (λ e. cc)
+created_at creates Tests Err name a b file x is named = beside creates Tests Err a b x (λ e. cc)
+created_at creates Report Tests name a b file x is named = beside creates Report Tests a b x (λ e. cc)
 created_at creates Report Report name a b file x is named = created_here (creates Report) Report name a b is named
-created_at creates Report Proofs name a b file x is named =
-    created_beside (creates Proofs) Report Proofs a b x (λ e. cc)
-created_at creates Report Out name a b file x is named =
-    created_beside (creates Out) Report Out a b x (λ e. cc)
-created_at creates Report Err name a b file x is named =
-    created_beside (creates Err) Report Err a b x (λ e. cc)
-created_at creates Proofs Tests name a b file x is named =
-    created_beside (creates Tests) Proofs Tests a b x (λ e. cc)
-created_at creates Proofs Report name a b file x is named =
-    created_beside (creates Report) Proofs Report a b x (λ e. cc)
+created_at creates Report Proofs name a b file x is named = beside creates Report Proofs a b x (λ e. cc)
+created_at creates Report Out name a b file x is named = beside creates Report Out a b x (λ e. cc)
+created_at creates Report Err name a b file x is named = beside creates Report Err a b x (λ e. cc)
+created_at creates Proofs Tests name a b file x is named = beside creates Proofs Tests a b x (λ e. cc)
+created_at creates Proofs Report name a b file x is named = beside creates Proofs Report a b x (λ e. cc)
 created_at creates Proofs Proofs name a b file x is named = created_here (creates Proofs) Proofs name a b is named
-created_at creates Proofs Out name a b file x is named =
-    created_beside (creates Out) Proofs Out a b x (λ e. cc)
-created_at creates Proofs Err name a b file x is named =
-    created_beside (creates Err) Proofs Err a b x (λ e. cc)
+created_at creates Proofs Out name a b file x is named = beside creates Proofs Out a b x (λ e. cc)
+created_at creates Proofs Err name a b file x is named = beside creates Proofs Err a b x (λ e. cc)
 created_at creates Out p name a b file x is named = absurd file
 created_at creates Err p name a b file x is named = absurd file
 

@@ -1,6 +1,6 @@
 -- What `check` has read, and why it stops there.
 use Rattle.std.proofs.Common.{◌≡◌, ◌≢◌, inl, ℕ, List, [], Bool, true, false, IsTrue, take, refl, sym, ◌∙◌, ap, subst, arith}
-use Rattle.std.specs.Prelude.{IsSome, Some, None, ◌==◌, ◌||◌}
+use Rattle.std.specs.Prelude.{IsSome, Some, None, Ok, Err, ◌==◌, ◌||◌}
 use Rattle.std.specs.Io.KnownBytes.{append_known}
 use Rattle.ht_ports.specs.Causes.{Rose}
 use Rattle.ht_ports.specs.Desk.{AddedPart, DeskView, InCall, Holds, Writes}
@@ -27,16 +27,17 @@ use Rattle.ht_app.specs.declared.run_error.RunError.{RunError}
 use Rattle.ht_app.specs.declared.run_error.RunError.TheVariants.{Denied, Usage, TooLong, Refused, ReadFault, WriteFault, NoMemory, BadTests, TooManyVectors, BadResponses}
 use Rattle.ht_app.specs.Inputs.{AcceptsFiles, AcceptsNetlist, AcceptsReport, AcceptsTests, AreCheckInputs, AreInputsToReport, CheckFiles, IsGoodNetlist, IsInput, MayHold}
 use Rattle.ht_app.specs.Errors.{exit_status}
-use Rattle.ht_app.specs.Changed.{ChangedOnly, IsUnread, job_ports}
+use Rattle.ht_app.specs.Changed.{ChangedOnly, job_ports}
 use Rattle.ht_app.specs.Done.{IsDone, valid_line}
 use Rattle.ht_app.specs.Jobs.{output_name}
 use Rattle.ht_app.specs.Truncated.{CheckIsTruncated}
 use Rattle.ht_app.specs.Judging.{FileCause, IfDenied, IsOfProofs, IsOfReport, IsProofFileTrouble, IsReportFileTrouble, ProofBasis, ProofsAreRead, ReportIsRead, proof_basis, report_basis}
-use Rattle.ht_app.specs.Run.{AcceptsTo, AreInputsTo, Denies, HasCause, HaveTrouble, LeavesUnread, HasGoodReport, HasNetlist, HasTests, check_of_names}
+use Rattle.ht_app.specs.Run.{AcceptsTo, AreInputsTo, Denies, HasCause, HaveTrouble, IsWriteFault, LeavesUnread, HasGoodReport, HasNetlist, HasTests, check_of_names}
 use Rattle.ht_app.specs.Steps.{CheckedTestsCause, reading}
+use Rattle.ht_app.specs.Prepared.{EndsJob, IsJudged}
 use Rattle.ht_app.proofs.ChangedLaws.{changed_by_reading, changed_by_writing, changed_trans, changed_within}
-use Rattle.ht_app.proofs.PortsLaws.{reading_within}
-use Rattle.ht_app.proofs.CauseLaws.{accepts_netlist, holds_later, input_later, known_holds, may_hold_before}
+use Rattle.ht_app.proofs.PortsLaws.{ends_reading, never_answered, reading_within}
+use Rattle.ht_app.proofs.CauseLaws.{accepts_netlist, holds_later, input_later, known_holds, may_hold_before, unread, unread_trans, write_cause}
 
 -- what the report says, before an entry is read
 abbrev pub claimed : List (List Bool) → ℕ → List Said → Content
@@ -200,15 +201,6 @@ module _ (names : CheckFiles) (c : net.Netlist) (representatives : List ℕ) whe
                 h.tests.netlist.classes valid;
           };
     }
-
-  -- ---- what wasn't read
-
-  -- a port that no call was on
-  unread : (read port : InPort) (a m : DeskView) → ¬ (port ≡ read) → InCall read a m → IsUnread port a m
-  unread read port a m other p = record { left = p.left.others port other; is_open = p.is_open.others port other }
-
-  unread_trans : (port : InPort) (a m n : DeskView) → IsUnread port a m → IsUnread port m n → IsUnread port a n
-  unread_trans port a m n x y = record { left = y.left ∙ x.left; is_open = y.is_open ∙ x.is_open }
 
   -- ---- why it stops
 
@@ -458,7 +450,7 @@ reads_four names a m n o b p q r s = let ports = reading (check_of_names names) 
     changed_trans ports a o b (reads_three names a m n o p q r) (changed_by_reading ports in_port.Proofs o b refl s)
 
 -- what it reads and then says on Out
-pub says_after : (names : CheckFiles) (status : ℕ) (a m b : DeskView) → (status == 3 || status == 7) ≡ false
+says_after : (names : CheckFiles) (status : ℕ) (a m b : DeskView) → (status == 3 || status == 7) ≡ false
     → (job_ports (check_of_names names) status).writes Out ≡ true → ChangedOnly (reading (check_of_names names)) a m
     → Writes Out m b → ChangedOnly (job_ports (check_of_names names) status) a b
 says_after names status a m b other on read says =
@@ -467,7 +459,7 @@ says_after names status a m b other on read says =
     (changed_within (reading (check_of_names names)) ports a m (reading_within (check_of_names names) status other)
     read) (changed_by_writing ports Out m b on (λ n name file. absurd file) says)
 
-pub fails_to_say : (names : CheckFiles) (e : RunError) (a m b : DeskView) → e ≡ WriteFault
+fails_to_say : (names : CheckFiles) (e : RunError) (a m b : DeskView) → e ≡ WriteFault
     → ChangedOnly (reading (check_of_names names)) a m → Writes Out m b
     → ChangedOnly (job_ports (check_of_names names) (exit_status e)) a b
 fails_to_say names e a m b is read says =
@@ -482,7 +474,7 @@ creates_none names out_port.Proofs = refl
 creates_none names Out = refl
 creates_none names out_port.Err = refl
 
-pub check_done : (names : CheckFiles) (a m b : DeskView) → ChangedOnly (reading (check_of_names names)) a m
+check_done : (names : CheckFiles) (a m b : DeskView) → ChangedOnly (reading (check_of_names names)) a m
     → b.written Out ≡ append_known (m.written Out) valid_line → AcceptsFiles names a
     → IsDone (check_of_names names) a b
 check_done names a m b read said accepts = record {
@@ -491,10 +483,48 @@ check_done names a m b read said accepts = record {
   output = said ∙ ap (λ known. append_known known valid_line) (read.written Out refl);
 }
 
-pub check_truncated : (names : CheckFiles) (a m b : DeskView) → ChangedOnly (reading (check_of_names names)) a m
+check_truncated : (names : CheckFiles) (a m b : DeskView) → ChangedOnly (reading (check_of_names names)) a m
     → AddedPart Out valid_line m b → CheckIsTruncated a b
 check_truncated names a m b read part = record {
   count = part.count;
   short = part.proper;
   said = part.part.written ∙ ap (λ known. append_known known (take part.count valid_line)) (read.written Out refl);
 }
+
+-- ---- the three ends
+
+pub ends_unsaid : (names : CheckFiles) (e : RunError) (a m : DeskView)
+    → IsJudged {A = Unit {0}} (check_of_names names) (Err e) a m
+    → EndsJob {A = Unit {0}} (check_of_names names) (Err e) a m
+ends_unsaid names e a m p = record {
+  changed = ends_reading (check_of_names names) a m refl p.reads e p.first
+      (λ seven. never_answered (check_of_names names) a m refl p.reads);
+  quiet = p.reads.written out_port.Err refl;
+  done = tt;
+  cause = p.cause;
+}
+
+module _ (names : CheckFiles) (a m b : DeskView) (p : IsJudged {A = Unit {0}} (check_of_names names) (Ok tt) a m)
+    (says : Writes Out m b)
+  where
+    quiet_said : b.written out_port.Err ≡ a.written out_port.Err
+    quiet_said = says.call.written.others out_port.Err (λ e. cc) ∙ p.reads.written out_port.Err refl
+
+    pub ends_said_in_part : (e : RunError) → e ≡ WriteFault → IsWriteFault m b → AddedPart Out valid_line m b
+        → EndsJob {A = Unit {0}} (check_of_names names) (Err e) a b
+    ends_said_in_part e is fault part = record {
+      changed = fails_to_say names e a m b is p.reads says;
+      quiet = quiet_said;
+      done = tt;
+      cause = write_cause (check_of_names names) a m b e is p.reads fault p.inputs
+          (check_truncated names a m b p.reads part);
+    }
+
+    pub ends_said : b.written Out ≡ append_known (m.written Out) valid_line
+        → EndsJob {A = Unit {0}} (check_of_names names) (Ok tt) a b
+    ends_said said = record {
+      changed = says_after names 0 a m b refl refl p.reads says;
+      quiet = quiet_said;
+      done = check_done names a m b p.reads said p.inputs;
+      cause = tt;
+    }

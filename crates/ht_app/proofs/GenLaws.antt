@@ -19,13 +19,13 @@ use Rattle.ht_app.specs.Jobs.{settings_of, output_name}
 use Rattle.ht_app.specs.Changed.{ChangedOnly, Ports, job_ports}
 use Rattle.ht_app.specs.Done.{IsDone, IsCreatedAs}
 use Rattle.ht_app.specs.Errors.{exit_status}
-use Rattle.ht_app.specs.Truncated.{HasText, IsEmptiedIf, IsTruncated, StopsInEnd, StopsInFiles, StopsInHead, StopsInLastFile, StopsInSteps}
+use Rattle.ht_app.specs.Truncated.{FilesHave, HasText, IsEmptiedIf, IsTruncated, StopsInEnd, StopsInFiles, StopsInHead, StopsInLastFile, StopsInSteps}
 use Rattle.ht_app.specs.Run.{HasCause}
 use Rattle.ht_app.specs.Steps.{reading}
 use Rattle.ht_app.specs.Generating.{FillCause, HasGenerated, LeavesFiles, file_name, filling, is_gen_port}
 use Rattle.ht_app.proofs.ChangedLaws.{IsWithin, changed_by_reading, changed_trans, changed_within}
 use Rattle.ht_app.proofs.PortsLaws.{never_answered, ends_reading, reading_within}
-use Rattle.ht_app.proofs.OutputLaws.{created_as, stops_earlier}
+use Rattle.ht_app.proofs.OutputLaws.{created_as, report_earlier}
 use Rattle.ht_app.proofs.EndLaws.{fault_later}
 
 abbrev pub options_of : ℕ → ℕ → ℕ → GenOptions
@@ -37,6 +37,14 @@ options_of budget random seed = record { budget = budget; random = random; seed 
 text_earlier : (port : OutPort) (text : List ℕ) (a m b : DeskView) → m.written ≡ a.written → HasText port text m b
     → HasText port text a b
 text_earlier port text a m b same is = is ∙ ap (λ f. option_map (λ (_ : List ℕ). text) (f port)) same
+
+files_earlier : (tests report proofs : List ℕ) (a m b : DeskView) → m.written ≡ a.written
+    → FilesHave tests report proofs m b → FilesHave tests report proofs a b
+files_earlier tests report proofs a m b same have = record {
+  tests_are = text_earlier Tests tests a m b same have.tests_are;
+  report_is = text_earlier Report report a m b same have.report_is;
+  proofs_are = text_earlier Proofs proofs a m b same have.proofs_are;
+}
 
 emptied_earlier : (made : Bool) (port : OutPort) (a m b : DeskView) → InCall Netlist a m → IsEmptiedIf made port m b
     → IsEmptiedIf made port a b
@@ -56,32 +64,24 @@ stops_before c settings a m b read (inl s) = inl (record {
   report = emptied_earlier (nat_le 2 s.count) Report a m b read s.report;
   proofs = emptied_earlier false Proofs a m b read s.proofs;
 })
-stops_before c settings a m b read (inr (inl s)) = inr (inl (record {
-  count = s.count;
-  tests = text_earlier Tests _ a m b read.written s.tests;
-  report = text_earlier Report _ a m b read.written s.report;
-  proofs = text_earlier Proofs _ a m b read.written s.proofs;
-}))
+stops_before c settings a m b read (inr (inl s)) =
+    inr (inl (record { count = s.count; files = files_earlier _ _ _ a m b read.written s.files }))
 stops_before c settings a m b read (inr (inr (inl s))) = inr (inr (inl (record {
   representatives = s.representatives;
   classes = s.classes;
   whole = s.whole;
   begun = s.begun;
   count = s.count;
-  tests = text_earlier Tests _ a m b read.written s.tests;
-  proofs = text_earlier Proofs _ a m b read.written s.proofs;
-  report = text_earlier Report _ a m b read.written s.report;
+  files = files_earlier _ _ _ a m b read.written s.files;
   one = s.one;
   steps_are = s.steps_are;
 })))
 stops_before c settings a m b read (inr (inr (inr s))) = inr (inr (inr (record {
   representatives = s.representatives;
   classes = s.classes;
+  files = files_earlier _ _ _ a m b read.written s.files;
   steps = s.steps;
   count = s.count;
-  tests = text_earlier Tests _ a m b read.written s.tests;
-  proofs = text_earlier Proofs _ a m b read.written s.proofs;
-  report = text_earlier Report _ a m b read.written s.report;
   steps_are = s.steps_are;
   finished = s.finished;
   short = s.short;
@@ -90,14 +90,14 @@ stops_before c settings a m b read (inr (inr (inr s))) = inr (inr (inr (record {
 last_earlier : (c : net.Netlist) (settings : Settings) (a m b : DeskView) → m.written ≡ a.written
     → StopsInLastFile c settings m b → StopsInLastFile c settings a b
 last_earlier c settings a m b same s = record {
+  tests_stand = s.tests_stand ∙ ap (λ f. option_map (λ (_ : List ℕ). s.tests) (f Tests)) same;
+  proofs_stand = s.proofs_stand ∙ ap (λ f. option_map (λ (_ : List ℕ). s.proofs) (f Proofs)) same;
   tests = s.tests;
   proofs = s.proofs;
   body = s.body;
   total = s.total;
   generated = s.generated;
-  tests_stand = s.tests_stand ∙ ap (λ f. option_map (λ (_ : List ℕ). s.tests) (f Tests)) same;
-  proofs_stand = s.proofs_stand ∙ ap (λ f. option_map (λ (_ : List ℕ). s.proofs) (f Proofs)) same;
-  stops = stops_earlier s.body s.total a m b (ap (λ f. f Report) same) (ap (λ f. f Out) same) s.stops;
+  stops = report_earlier s.body s.total a m b (ap (λ f. f Report) same) (ap (λ f. f Out) same) s.stops;
 }
 
 -- ---- a job

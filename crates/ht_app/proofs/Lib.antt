@@ -13,6 +13,8 @@ pub mod PortsLaws
 pub mod ReadLaws
 pub mod CauseLaws
 pub mod ReadFilesLaws
+pub mod PreparedLaws
+pub mod FileEndLaws
 pub mod CheckLaws
 pub mod OutputLaws
 pub mod AskedLaws

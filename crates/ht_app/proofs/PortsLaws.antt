@@ -53,26 +53,22 @@ not_answered : (job : Asked) (a b : DeskView) → ChangedOnly (reading job) a b 
     → ChangedOnly (job_ports job 7) a b
 not_answered job a b x unread = record {
   after = x.after;
-  left = left;
-  is_open = is_open;
+  left = λ p off. (at p off).left;
+  is_open = λ p off. (at p off).is_open;
   written = λ p off. x.written p refl;
   created = λ p. kept ((job_ports job 7).creates p) p a b (x.created p);
   file = λ n other. x.file n (λ p. tt);
 }
   where
-    left : (p : InPort) → (job_ports job 7).reads p ≡ false → b.left p ≡ a.left p
-    left in_port.Netlist off = x.left in_port.Netlist off
-    left in_port.Tests off = x.left in_port.Tests off
-    left in_port.Report off = x.left in_port.Report off
-    left in_port.Proofs off = x.left in_port.Proofs off
-    left in_port.Extra off = unread.left
+    outside : (p : InPort) → is_some (input_name job p) ≡ false → IsUnread p a b
+    outside p off = record { left = x.left p off; is_open = x.is_open p off }
 
-    is_open : (p : InPort) → (job_ports job 7).reads p ≡ false → b.is_open p ≡ a.is_open p
-    is_open in_port.Netlist off = x.is_open in_port.Netlist off
-    is_open in_port.Tests off = x.is_open in_port.Tests off
-    is_open in_port.Report off = x.is_open in_port.Report off
-    is_open in_port.Proofs off = x.is_open in_port.Proofs off
-    is_open in_port.Extra off = unread.is_open
+    at : (p : InPort) → (job_ports job 7).reads p ≡ false → IsUnread p a b
+    at in_port.Netlist off = outside in_port.Netlist off
+    at in_port.Tests off = outside in_port.Tests off
+    at in_port.Report off = outside in_port.Report off
+    at in_port.Proofs off = outside in_port.Proofs off
+    at in_port.Extra off = unread
 
 -- a job that reads a netlist
 module _ (job : Asked) (a b : DeskView) (reads : is_some (input_name job in_port.Netlist) ≡ true)

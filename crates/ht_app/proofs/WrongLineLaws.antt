@@ -4,13 +4,8 @@ use Rattle.std.specs.Prelude.{All}
 use Rattle.std.proofs.lemmas.List.{length-map}
 use Rattle.ht_net.specs.Netlist.{Netlist, max_inputs}
 use Rattle.ht_texts.specs.Tests.{bit_code, vector_text, IsTextOf, IsMalformedTest, IsNoVector, IsTooLong, IsWrongLine}
-use Rattle.ht_ports.specs.Desk.{DeskView}
 use Rattle.ht_compact.specs.TestsToCompact.{AreFirstVectors}
-use Rattle.ht_compact.specs.declared.compaction.TheConstants.{MAX_COMPACTED}
 use Rattle.ht_compact.proofs.FirstVectorLaws.{first_are_right}
-use Rattle.ht_app.specs.declared.run_error.RunError.{RunError}
-use Rattle.ht_app.specs.declared.run_error.RunError.TheVariants.{Denied, Usage, TooLong, Refused, ReadFault, WriteFault, NoMemory, BadTests, TooManyVectors, BadResponses}
-use Rattle.ht_app.specs.Steps.{FewTestsCause, IsWithinFirst, TestsCause}
 use Rattle.ht_app.proofs.NextLineLaws.{IsNextLine, IsNextLong}
 use Rattle.ht_app.proofs.SoFarLaws.{BeginsWith, next_at}
 
@@ -48,20 +43,3 @@ module _ (c : Netlist) (text : List ℕ) (list : List (List Bool)) (begins : Beg
           absurd (omega (arith, wide, few, of.bits, ap length of.characters, length-map vector bit_code))))
       | inr late ↦ inr (subst (λ n. IsTooLong text (n + 1)) (length-map list vector_text) late)
     ])
-
--- a malformed line among the first is one that `compact` reads
-pub few_cause : (c : Netlist) (name : List ℕ) (a b : DeskView) (e : RunError) → TestsCause c name a b e
-    → IsWithinFirst (MAX_COMPACTED + 1) e → FewTestsCause c name a b e
-few_cause c name a b (Denied trouble) cause early = cause
-few_cause c name a b Usage cause early = cause
-few_cause c name a b TooLong cause early = cause
-few_cause c name a b (Refused error) cause early = cause
-few_cause c name a b ReadFault cause early = cause
-few_cause c name a b WriteFault cause early = cause
-few_cause c name a b NoMemory cause early = cause
-few_cause c name a b (BadTests line) cause early = record {
-  there = cause.there;
-  cause = λ text is. record { malformed = cause.cause text is; early = early };
-}
-few_cause c name a b TooManyVectors cause early = absurd cause
-few_cause c name a b (BadResponses line) cause early = cause

@@ -32,7 +32,7 @@ pub record IsSimulated (netlist tests report total : List ℕ) : Type 0 where
 
 -- ---- the output
 
--- a text stands at the port, its total line was added to Out, and they are so
+-- The port has a text, a total line was added to Out, and text and line are what `AreSo` says.
 pub record HasTextWithTotal (port : OutPort) (AreSo : List ℕ → List ℕ → Type 0) (old new : DeskView) : Type 0 where
   pub text : List ℕ
   pub total : List ℕ

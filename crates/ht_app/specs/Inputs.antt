@@ -7,7 +7,7 @@ use Rattle.ht_tern.specs.declared.tern.Tern.{Tern}
 use Rattle.ht_net.specs.Netlist as net
 use Rattle.ht_bench.specs.Text.{max_netlist_bytes, IsNetlistOf}
 use Rattle.ht_texts.specs.Tests.{IsTestText, IsMalformedTest}
-use Rattle.ht_compact.specs.TestsToCompact.{IsShortTestText, IsMalformedEarly}
+use Rattle.ht_compact.specs.TestsToCompact.{IsTestTextToCompact, IsMalformedEarly}
 use Rattle.ht_dictionary.specs.ResponseTexts.{IsResponseText, IsMalformedResponse}
 use Rattle.ht_collapse.specs.Classes.{AreClasses}
 use Rattle.ht_valid.specs.ValidFiles.{Content, AreValid, AreValidFiles}
@@ -77,7 +77,7 @@ AreTestVectors c text = (list : List (List Bool)) × IsTestText c text list
 
 -- and they are few enough to be compacted
 abbrev pub AreFewVectors : net.Netlist → List ℕ → Type 0
-AreFewVectors c text = (list : List (List Bool)) × IsShortTestText c text list
+AreFewVectors c text = (list : List (List Bool)) × IsTestTextToCompact c text list
 
 -- the responses have a row for each of so many vectors, with a value for each of so many outputs
 abbrev pub AreRows : ℕ → ℕ → List ℕ → Type 0
@@ -107,7 +107,7 @@ pub record ReadsTests (netlist_name tests_name : List ℕ) (old : DeskView) (Are
   pub so : (netlist tests : List ℕ) → AreInputs netlist_name tests_name netlist tests old
       → (c : net.Netlist) × IsGoodNetlist netlist c × AreSo c tests
 
--- The tests are vectors of the circuit.
+-- The netlist is accepted; the tests are there, and each line of them is a vector of its circuit.
 abbrev pub AcceptsTests : List ℕ → List ℕ → DeskView → Type 0
 AcceptsTests netlist_name tests_name old = ReadsTests netlist_name tests_name old AreTestVectors
 
@@ -119,9 +119,9 @@ pub record ReadsResponses (names : DiagnosisFiles) (old : DeskView) (AreSo : ℕ
 
 -- The tests are vectors of the netlist's circuit, and the report is that of a search and agrees with them.
 pub record AreGoodToReport (texts : CheckFiles) : Type 0 where
+  pub content : Content
   pub circuit : net.Netlist
   pub representatives : List ℕ
-  pub content : Content
   pub good : IsGoodNetlist texts.netlist circuit
   pub classes : AreClasses circuit representatives
   pub read : AreReadTo circuit representatives texts.tests texts.report content
@@ -190,7 +190,8 @@ abbrev pub AreBadTests : List ℕ → List ℕ → DeskView → Type 0
 AreBadTests netlist_name tests_name desk =
     AreTests netlist_name tests_name desk (λ c text. (line : ℕ) × IsMalformedTest c text line)
 
--- The same of a job that refuses such tests; of `compact` it is a line that is read.
+-- The desk knows the netlist and the tests of a job that refuses malformed tests, the netlist is good, and a line of
+-- the tests is malformed; of `compact`, one of the first `MAX_COMPACTED` + 1 lines.
 abbrev pub HasBadTests : Asked → DeskView → Type 0
 HasBadTests (sim netlist tests report) desk = AreBadTests netlist tests desk
 HasBadTests (compact netlist tests out) desk =

@@ -45,8 +45,8 @@ pub record IsRefused (error : BenchError) (text : List ℕ) : Type 0 where
   pub none : (c : net.Netlist) → ¬ IsNetlistOf text c
   pub not_memory : error ≢ bench.NoMemory
 
--- The netlist is accepted, the tests are there, and this is their first line that is no vector; of `compact` it is one
--- of the lines that are read. `check` denies such tests.
+-- The netlist is accepted, the tests are there, and this is their first malformed line. `compact` judges tests by their
+-- first `MAX_COMPACTED` + 1 lines, and the line is one of these. `check` denies such tests.
 abbrev pub RefusesTests : Asked → DeskView → ℕ → Type 0
 RefusesTests (sim netlist tests report) old line = ReadsTests netlist tests old (λ c text. IsMalformedTest c text line)
 RefusesTests (compact netlist tests out) old line =
@@ -55,7 +55,7 @@ RefusesTests (diagnose netlist tests responses out) old line =
     ReadsTests netlist tests old (λ c text. IsMalformedTest c text line)
 RefusesTests job old line = ⊥
 
--- Of `compact`: the netlist is accepted, the tests are there, and begin with more vectors than are compacted.
+-- Of `compact`: the netlist is accepted, the tests are there, and their first `MAX_COMPACTED` + 1 lines are vectors.
 pub record RefusesMany (job : Asked) (old : DeskView) : Type 0 where
   pub netlist_name : List ℕ
   pub tests_name : List ℕ

@@ -86,6 +86,12 @@ abbrev pub IsEmptiedIf : Bool → OutPort → DeskView → DeskView → Type 0
 IsEmptiedIf true port old new = HasText port [] old new
 IsEmptiedIf false port old new = IsNotCreated port old new × (new.written port ≡ old.written port)
 
+-- The tests, the report and the proofs have these texts.
+pub record FilesHave (tests report proofs : List ℕ) (old new : DeskView) : Type 0 where
+  pub tests_are : HasText Tests tests old new
+  pub report_is : HasText Report report old new
+  pub proofs_are : HasText Proofs proofs old new
+
 -- Of the tests, the report and the proofs the first few were created, in this order.
 pub record StopsInFiles (old new : DeskView) : Type 0 where
   pub count : ℕ
@@ -97,9 +103,7 @@ pub record StopsInFiles (old new : DeskView) : Type 0 where
 -- The three were created, and the first line of the proofs isn't whole.
 pub record StopsInHead (old new : DeskView) : Type 0 where
   pub count : ℕ
-  pub tests : HasText Tests [] old new
-  pub report : HasText Report [] old new
-  pub proofs : HasText Proofs (take count (proofs_so_far [])) old new
+  pub files : FilesHave [] [] (take count (proofs_so_far [])) old new
 
 -- Some steps stand whole, and of the next one, if it was begun, a front; the report is empty.
 pub record StopsInSteps (c : net.Netlist) (settings : Settings) (old new : DeskView) : Type 0 where
@@ -110,9 +114,8 @@ pub record StopsInSteps (c : net.Netlist) (settings : Settings) (old new : DeskV
   pub classes : AreClasses c representatives
   pub one : length begun ≤ 1
   pub steps_are : AreSteps c representatives (first_vectors c settings) settings.budget (whole ++ begun)
-  pub tests : HasText Tests (tests_of whole ++ take count (flat_map tests_step begun)) old new
-  pub proofs : HasText Proofs (proofs_so_far whole ++ take count (flat_map proofs_step begun)) old new
-  pub report : HasText Report [] old new
+  pub files : FilesHave (tests_of whole ++ take count (flat_map tests_step begun)) []
+      (proofs_so_far whole ++ take count (flat_map proofs_step begun)) old new
 
 -- All steps stand whole, and the last line of the proofs isn't; the report is empty.
 pub record StopsInEnd (c : net.Netlist) (settings : Settings) (old new : DeskView) : Type 0 where
@@ -123,9 +126,7 @@ pub record StopsInEnd (c : net.Netlist) (settings : Settings) (old new : DeskVie
   pub steps_are : AreSteps c representatives (first_vectors c settings) settings.budget steps
   pub finished : AreFinished c representatives (first_vectors c settings) steps
   pub short : count < length (with_lf (line_text End))
-  pub tests : HasText Tests (tests_of steps) old new
-  pub proofs : HasText Proofs (proofs_so_far steps ++ take count (with_lf (line_text End))) old new
-  pub report : HasText Report [] old new
+  pub files : FilesHave (tests_of steps) [] (proofs_so_far steps ++ take count (with_lf (line_text End))) old new
 
 -- It stops before the report is begun, with nothing on Out.
 pub record StopsBeforeReport (c : net.Netlist) (settings : Settings) (old new : DeskView) : Type 0 where

@@ -1,18 +1,17 @@
 //! The command `check`.
 ghost use Rattle.std.specs.Prelude.{◌≡◌, ◌≤◌, List, ℕ, length, IfOk, IfErr, OnOk};
-ghost use Rattle.ht_ports.specs.Desk.{InCall};
+ghost use Rattle.ht_ports.specs.Desk.{DeskView, InCall};
 ghost use Rattle.ht_ports.specs.LineRule.{max_text_bytes};
 ghost use Rattle.ht_ports.specs.declared.ports.InPort.TheVariants as in_port;
-ghost use Rattle.ht_ports.specs.declared.ports.OutPort.TheVariants as out_port;
 ghost use Rattle.ht_net.specs.Netlist.{IsCircuit};
 ghost use Rattle.ht_texts.specs.Tests.{IsTestText};
 ghost use Rattle.ht_asked.specs.Asked as asked;
-ghost use Rattle.ht_app.specs.Inputs.{IsInput, MayHold, AcceptsInputs};
-ghost use Rattle.ht_app.specs.Changed.{ChangedOnly, job_ports};
-ghost use Rattle.ht_app.specs.Done.{IsDone};
+ghost use Rattle.ht_app.specs.Inputs.{IsInput, MayHold, AcceptsInputs, CheckFiles};
+ghost use Rattle.ht_app.specs.Changed.{ChangedOnly};
 ghost use Rattle.ht_app.specs.Errors.{exit_status};
-ghost use Rattle.ht_app.specs.Run.{HasCause};
-ghost use Rattle.ht_app.specs.Steps.{CheckedTestsCause, reading, status_after};
+ghost use Rattle.ht_app.specs.Run.{HasCause, check_of_names};
+ghost use Rattle.ht_app.specs.Steps.{CheckedTestsCause, reading};
+ghost use Rattle.ht_app.specs.Prepared.{EndsJob, IsJudged};
 
 use crate::listed::list_faults;
 use crate::netlist::read_netlist;
@@ -37,15 +36,15 @@ fn read_checked_tests<D: Desk>(
     requires { IsCircuit circuit.now }
     ensures frame { InCall in_port.Tests (D.view desk.old) (D.view desk.new) }
     ensures there { OnOk result (MayHold (D.view desk.old) name.now) }
-    ensures width { IfOk result (λ list. list.width ≡ circuit.now.inputs) }
-    ensures few { IfOk result (λ list. length list.list ≤ max_text_bytes) }
     ensures list { IfOk result
         (λ list. (text : List ℕ) → IsInput in_port.Tests name.now text (D.view desk.old)
         → IsTestText circuit.now text list.list) }
+    ensures width { IfOk result (λ list. list.width ≡ circuit.now.inputs) }
+    ensures few { IfOk result (λ list. length list.list ≤ max_text_bytes) }
     ensures cause { IfErr result
         (CheckedTestsCause circuit.now name.now (D.view desk.old) (D.view desk.new)) }
 {
-    match read_tests(alloc, desk, name, circuit) {
+    match read_tests(alloc, desk, name, circuit, u64::MAX) {
         Ok(list) => Ok(list),
         Err(RunError::BadTests { line }) => Err(RunError::Denied {
             trouble: Trouble::Tests { line },
@@ -54,8 +53,12 @@ fn read_checked_tests<D: Desk>(
     }
 }
 
-// Reads the four files, each to its end or to the first trouble.
-fn judge<D: Desk>(
+/// Reads the four files, each to its end or to the first trouble.
+///
+/// # Errors
+/// - `Denied`: the first trouble.
+/// - Those of the files, or out of memory.
+pub fn check<D: Desk>(
     alloc: Global,
     netlist: &str,
     tests: &str,
@@ -84,30 +87,16 @@ fn judge<D: Desk>(
     Ok(())
 }
 
-/// Runs `check`: reads the four files, each to its end or to the first trouble, and says that they are valid.
+/// Ends `check`: says that the files are valid, unless they aren't.
 ///
 /// # Errors
-/// Those of the run.
-pub fn check<D: Desk>(
-    alloc: Global,
-    netlist: &str,
-    tests: &str,
-    report: &str,
-    proofs: &str,
-    desk: &mut D,
-) -> Result<(), RunError>
-    ensures changed { ChangedOnly
-        (job_ports (asked.check netlist.now tests.now report.now proofs.now) (status_after result))
-        (D.view desk.old) (D.view desk.new) }
-    ensures quiet { (D.view desk.new).written out_port.Err
-        ≡ (D.view desk.old).written out_port.Err }
-    ensures done { OnOk result (IsDone (asked.check netlist.now tests.now report.now proofs.now)
-        (D.view desk.old) (D.view desk.new)) }
-    ensures cause { IfErr result
-        (HasCause (asked.check netlist.now tests.now report.now proofs.now)
-        (D.view desk.old) (D.view desk.new)) }
+/// Why they aren't or weren't judged, or `WriteFault`.
+pub fn say_valid<D: Desk>(desk: &mut D, judged: Result<(), RunError>) -> Result<(), RunError>
+    ensures { (names : CheckFiles) (first : DeskView)
+        → IsJudged (check_of_names names) judged first (D.view desk.old)
+        → EndsJob (check_of_names names) result first (D.view desk.new) }
 {
-    judge(alloc, netlist, tests, report, proofs, desk)?;
+    judged?;
     write_text(desk, OutPort::Out, b"valid\n")?;
     Ok(())
 }

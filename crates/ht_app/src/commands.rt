@@ -1,42 +1,79 @@
 //! The top call.
-ghost use Rattle.std.specs.Prelude.{◌≡◌, ◌≢◌, ◌⊎◌, ℕ, List, IfErr, OnOk, IsTrue, IsSome, Some, None};
+ghost use Rattle.std.specs.Prelude.{◌≡◌, ◌≢◌, ◌≤◌, ◌⊎◌, ℕ, List, IfErr, OnOk, IsTrue, IsSome, Some, None};
 ghost use Rattle.ht_ports.specs.declared.ports.InPort.TheVariants as in_port;
 ghost use Rattle.ht_ports.specs.declared.ports.OutPort.TheVariants as out_port;
 ghost use Rattle.ht_asked.specs.Asked.{Asked, asked, compact, demo, diagnose, words_of};
 ghost use Rattle.ht_asked.specs.Ranges.{IsInRange};
+ghost use Rattle.ht_asked.specs.declared.limits.TheConstants.{MAX_BUDGET, MIN_BUDGET};
 ghost use Rattle.ht_words.specs.Jobs.{asked_by};
+ghost use Rattle.ht_words.specs.declared.job.Job.TheVariants as job_of;
 ghost use Rattle.ht_compact.specs.TestsToCompact.{HasTooManyVectors};
 ghost use Rattle.ht_app.specs.Inputs.{IsBadNetlist, AreTests, AreBadFiles, AreBadResponses, HasBadTests};
 ghost use Rattle.ht_app.specs.Inputs.{AreGoodInputs, CheckFiles, DiagnosisFiles};
 ghost use Rattle.ht_app.specs.Jobs.{input_name, HoldsInputs};
-ghost use Rattle.ht_app.specs.Changed.{ChangedOnly, Faultless, job_ports, ports_at};
-ghost use Rattle.ht_app.specs.Done.{IsDone, AskedIsDone};
+ghost use Rattle.ht_app.specs.Changed.{ChangedOnly, Faultless, ports_at};
+ghost use Rattle.ht_app.specs.Done.{AskedIsDone};
 ghost use Rattle.ht_app.specs.Errors.{IsOutputError};
-ghost use Rattle.ht_app.specs.Run.{EndsBy, HasCause, AskedHasCause, check_of_names};
+ghost use Rattle.ht_app.specs.Run.{EndsBy, AskedHasCause, check_of_names};
+ghost use Rattle.ht_app.specs.Prepared.{EndsJob};
 ghost use Rattle.ht_app.specs.Steps.{status_after};
 
-use crate::check::check;
+use crate::check::{check, say_valid};
 use crate::compact::compact;
 use crate::demo::demo;
 use crate::diagnose::diagnose;
 use crate::err_line::write_line;
 use crate::generate::generate;
 use crate::norm::norm;
+use crate::output::{finish_report, finish_tests};
 use crate::run_error::RunError;
-use crate::sim::sim;
+use crate::sim::simulate;
 use ht_ports::Desk;
-use ht_words::{Job, WordsFault, command};
+use ht_words::{Job, RunFiles, WordsFault, command};
 use std::alloc::Global;
+
+// Does `gen`, by the names of its files.
+fn do_gen<D: Desk>(
+    alloc: Global,
+    desk: &mut D,
+    files: &RunFiles,
+    budget: u64,
+    random: u32,
+    seed: u64,
+) -> Result<(), RunError>
+    requires { (MIN_BUDGET ≤ budget) × (budget ≤ MAX_BUDGET) }
+    ensures { EndsJob (asked_by (job_of.Gen files.now budget random seed)) result (D.view desk.old)
+        (D.view desk.new) }
+{
+    let netlist = files.netlist.as_str();
+    let tests = files.tests.as_str();
+    let report = files.report.as_str();
+    let proofs = files.proofs.as_str();
+    generate(
+        alloc, netlist, tests, report, proofs, budget, random, seed, desk,
+    )
+}
+
+// Does `check`, by the names of its files.
+fn do_check<D: Desk>(alloc: Global, desk: &mut D, files: &RunFiles) -> Result<(), RunError>
+    ensures { EndsJob (asked_by (job_of.Check files.now)) result (D.view desk.old)
+        (D.view desk.new) }
+{
+    let judged = check(
+        alloc,
+        files.netlist.as_str(),
+        files.tests.as_str(),
+        files.report.as_str(),
+        files.proofs.as_str(),
+        desk,
+    );
+    say_valid(desk, judged)
+}
 
 // Does a job, whose numbers are in their ranges.
 fn do_job<D: Desk>(alloc: Global, job: &Job, desk: &mut D) -> Result<(), RunError>
     requires { IsInRange (asked_by job.now) }
-    ensures changed { ChangedOnly (job_ports (asked_by job.now) (status_after result))
-        (D.view desk.old) (D.view desk.new) }
-    ensures quiet { (D.view desk.new).written out_port.Err
-        ≡ (D.view desk.old).written out_port.Err }
-    ensures done { OnOk result (IsDone (asked_by job.now) (D.view desk.old) (D.view desk.new)) }
-    ensures cause { IfErr result (HasCause (asked_by job.now) (D.view desk.old) (D.view desk.new)) }
+    ensures ends { EndsJob (asked_by job.now) result (D.view desk.old) (D.view desk.new) }
     ensures demo { (size seed : ℕ) → asked_by job.now ≡ demo size seed
         → IfErr result IsOutputError }
 {
@@ -45,57 +82,37 @@ fn do_job<D: Desk>(alloc: Global, job: &Job, desk: &mut D) -> Result<(), RunErro
             netlist,
             tests,
             report,
-        } => sim(
-            alloc,
-            netlist.as_str(),
-            tests.as_str(),
-            report.as_str(),
-            desk,
-        ),
+        } => {
+            let made = simulate(alloc, netlist.as_str(), tests.as_str(), desk);
+            finish_report(desk, report.as_str(), made)
+        }
         Job::Gen {
             files,
             budget,
             random,
             seed,
-        } => generate(
-            alloc,
-            files.netlist.as_str(),
-            files.tests.as_str(),
-            files.report.as_str(),
-            files.proofs.as_str(),
-            *budget,
-            *random,
-            *seed,
-            desk,
-        ),
-        Job::Check { files } => check(
-            alloc,
-            files.netlist.as_str(),
-            files.tests.as_str(),
-            files.report.as_str(),
-            files.proofs.as_str(),
-            desk,
-        ),
+        } => do_gen(alloc, desk, files, *budget, *random, *seed),
+        Job::Check { files } => do_check(alloc, desk, files),
         Job::Norm { netlist, out } => norm(alloc, netlist.as_str(), out.as_str(), desk),
         Job::Demo { size, seed } => demo(alloc, *size, *seed, desk),
         Job::Compact {
             netlist,
             tests,
             out,
-        } => compact(alloc, netlist.as_str(), tests.as_str(), out.as_str(), desk),
+        } => {
+            let made = compact(alloc, netlist.as_str(), tests.as_str(), desk);
+            finish_tests(desk, out.as_str(), made)
+        }
         Job::Diagnose {
             netlist,
             tests,
             responses,
             out,
-        } => diagnose(
-            alloc,
-            netlist.as_str(),
-            tests.as_str(),
-            responses.as_str(),
-            out.as_str(),
-            desk,
-        ),
+        } => {
+            let responses = responses.as_str();
+            let made = diagnose(alloc, netlist.as_str(), tests.as_str(), responses, desk);
+            finish_report(desk, out.as_str(), made)
+        }
     }
 }
 
@@ -132,7 +149,7 @@ fn work<D: Desk>(alloc: Global, words: &[String], desk: &mut D) -> Result<(), Ru
 /// | `check NETLIST TESTS REPORT PROOFS` | answers whether the three files are valid for the netlist |
 /// | `norm NETLIST OUT` | writes the netlist in its normal text |
 /// | `demo SIZE SEED` | makes a netlist, generates tests for it with 64 random ones first, and says how many faults it has and how they ended; it opens no file |
-/// | `compact NETLIST TESTS OUT` | writes the tests without those that can be left out, and says how many are kept |
+/// | `compact NETLIST TESTS OUT` | writes the tests without vectors that aren't needed, and says how many are kept |
 /// | `diagnose NETLIST TESTS RESPONSES OUT` | reports of each fault where it first contradicts the responses that were observed, or that it is consistent |
 ///
 /// | Status | Comes |

@@ -38,10 +38,10 @@ fn make_files<D: Desk>(
     tests: &str,
     report: &str,
     proofs: &str,
+    desk: &mut D,
     budget: u64,
     random: u32,
     seed: u64,
-    desk: &mut D,
 ) -> Result<(), RunError>
     requires faults { listed.now.faults ≡ faults_of circuit.now }
     requires classes { AreClasses circuit.now listed.now.classes }
@@ -112,7 +112,7 @@ pub fn generate<D: Desk>(
     let circuit = read_netlist(alloc, desk, netlist)?;
     let listed = list_faults(alloc, &circuit)?;
     make_files(
-        alloc, &circuit, &listed, tests, report, proofs, budget, random, seed, desk,
+        alloc, &circuit, &listed, tests, report, proofs, desk, budget, random, seed,
     )?;
     Ok(())
 }

@@ -10,9 +10,11 @@ ghost use Rattle.ht_app.specs.Jobs.{output_name};
 ghost use Rattle.ht_app.specs.Changed.{ChangedOnly, says_on_out};
 ghost use Rattle.ht_app.specs.Truncated.{StopsInText, StopsInReport, StopsInTests};
 ghost use Rattle.ht_app.specs.Run.{IsWriteFault};
+ghost use Rattle.ht_app.specs.Prepared.{EndsJob, IsPrepared};
 ghost use Rattle.ht_app.specs.Steps.{saying, writing, IsBegun, IsTotalled, SaysPart};
 ghost use Rattle.ht_app.specs.declared.run_error.RunError.TheVariants as error;
 
+use crate::made::Made;
 use crate::run_error::RunError;
 use ht_ports::{Desk, Failed, OutPort, write_all};
 
@@ -97,12 +99,9 @@ pub fn begin_file<D: Desk>(
     Ok(())
 }
 
-/// Creates the report and writes it. The total line goes to Out before it ends the report, so that a report that ends
-/// with its total line is whole.
-///
-/// # Errors
-/// `WriteFault`: the desk counted a fault, and the report isn't whole.
-pub fn write_report<D: Desk>(
+// Creates the report and writes it. The total line goes to Out before it ends the report, so that a report that ends
+// with its total line is whole.
+fn write_report<D: Desk>(
     desk: &mut D,
     name: &str,
     body: &[u8],
@@ -123,16 +122,8 @@ pub fn write_report<D: Desk>(
     Ok(())
 }
 
-/// Creates the tests and writes them, and then the total line on Out.
-///
-/// # Errors
-/// `WriteFault`: the desk counted a fault, and the tests or the total line aren't whole.
-pub fn write_tests<D: Desk>(
-    desk: &mut D,
-    name: &str,
-    text: &[u8],
-    total: &[u8],
-) -> Result<(), RunError>
+// Creates the tests and writes them, and then the total line on Out.
+fn write_tests<D: Desk>(desk: &mut D, name: &str, text: &[u8], total: &[u8]) -> Result<(), RunError>
     ensures changed { (job : Asked) → output_name job out_port.Tests ≡ Some name.now
         → says_on_out job ≡ true → ChangedOnly (writing job) (D.view desk.old) (D.view desk.new) }
     ensures tests { OnOk result (IsTotalled out_port.Tests name.now text.now total.now
@@ -144,5 +135,41 @@ pub fn write_tests<D: Desk>(
 {
     begin_file(desk, OutPort::Tests, name, text)?;
     write_text(desk, OutPort::Out, total)?;
+    Ok(())
+}
+
+/// Ends a command with a report: writes it, unless it wasn't made.
+///
+/// # Errors
+/// Why it wasn't made, or `WriteFault`.
+pub fn finish_report<D: Desk>(
+    desk: &mut D,
+    name: &str,
+    made: Result<Made, RunError>,
+) -> Result<(), RunError>
+    ensures { (job : Asked) (first : DeskView) → output_name job out_port.Report ≡ Some name.now
+        → IsPrepared job made first (D.view desk.old)
+        → EndsJob job result first (D.view desk.new) }
+{
+    let report = made?;
+    write_report(desk, name, &report.body, &report.total)?;
+    Ok(())
+}
+
+/// Ends a command with tests: writes them, unless they weren't made.
+///
+/// # Errors
+/// Why they weren't made, or `WriteFault`.
+pub fn finish_tests<D: Desk>(
+    desk: &mut D,
+    name: &str,
+    made: Result<Made, RunError>,
+) -> Result<(), RunError>
+    ensures { (job : Asked) (first : DeskView) → output_name job out_port.Tests ≡ Some name.now
+        → IsPrepared job made first (D.view desk.old)
+        → EndsJob job result first (D.view desk.new) }
+{
+    let tests = made?;
+    write_tests(desk, name, &tests.body, &tests.total)?;
     Ok(())
 }

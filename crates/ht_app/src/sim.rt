@@ -1,24 +1,13 @@
 //! The command `sim`.
-ghost use Rattle.std.specs.Prelude.{◌≡◌, ◌≤◌, ◌++◌, List, ℕ, length, IfOk, IfErr, OnOk};
-ghost use Rattle.ht_ports.specs.Desk.{InCall};
+ghost use Rattle.std.specs.Prelude.{◌≡◌, ◌≤◌, ◌++◌, List, ℕ, length, IfOk};
 ghost use Rattle.ht_ports.specs.LineRule.{max_text_bytes};
-ghost use Rattle.ht_ports.specs.declared.ports.InPort.TheVariants as in_port;
-ghost use Rattle.ht_ports.specs.declared.ports.OutPort.TheVariants as out_port;
-ghost use Rattle.ht_net.specs.Netlist.{IsCircuit};
 ghost use Rattle.ht_asked.specs.Asked as asked;
-ghost use Rattle.ht_app.specs.Inputs.{AcceptsTests};
-ghost use Rattle.ht_app.specs.Changed.{ChangedOnly, job_ports};
-ghost use Rattle.ht_app.specs.Done.{IsDone, IsSimulated};
-ghost use Rattle.ht_app.specs.Errors.{exit_status};
-ghost use Rattle.ht_app.specs.Run.{HasCause};
+ghost use Rattle.ht_app.specs.Prepared.{IsPrepared};
 ghost use Rattle.ht_app.specs.Simulation.{IsReportOf};
-ghost use Rattle.ht_app.specs.Steps.{reading, SimulateCause, AreWorkedInto, status_after};
 
 use crate::made::Made;
-use crate::netlist::read_netlist;
-use crate::output::write_report;
 use crate::run_error::RunError;
-use crate::vectors_file::read_tests;
+use crate::tested::read_tested;
 use ht_collapse::collapse;
 use ht_grade::first_detections;
 use ht_net::{Circuit, Vectors};
@@ -43,54 +32,20 @@ fn report_texts(alloc: Global, circuit: &Circuit, list: &Vectors) -> Result<Made
     Ok(Made { body, total })
 }
 
-// Reads the netlist and then the tests, and simulates.
-fn simulate<D: Desk>(
+/// Reads the netlist and then the tests, simulates, and makes the report.
+///
+/// # Errors
+/// Those of the two files, or out of memory.
+pub fn simulate<D: Desk>(
     alloc: Global,
     netlist: &str,
     tests: &str,
     desk: &mut D,
 ) -> Result<Made, RunError>
-    ensures reads { (report : List ℕ)
-        → ChangedOnly (reading (asked.sim netlist.now tests.now report)) (D.view desk.old)
-        (D.view desk.new) }
-    ensures first { IfErr result (λ e. exit_status e ≡ 3
-        → InCall in_port.Netlist (D.view desk.old) (D.view desk.new)) }
-    ensures inputs { OnOk result (AcceptsTests netlist.now tests.now (D.view desk.old)) }
-    ensures texts { IfOk result
-        (λ texts. AreWorkedInto netlist.now tests.now (D.view desk.old)
-        (λ n t. IsSimulated n t (texts.body.items ++ texts.total.items) texts.total.items)) }
-    ensures cause { IfErr result
-        (SimulateCause netlist.now tests.now (D.view desk.old) (D.view desk.new)) }
-{
-    let circuit = read_netlist(alloc, desk, netlist)?;
-    let list = read_tests(alloc, desk, tests, &circuit)?;
-    let texts = report_texts(alloc, &circuit, &list)?;
-    Ok(texts)
-}
-
-/// Runs `sim`: reads, simulates, and writes the report.
-///
-/// # Errors
-/// Those of the run.
-pub fn sim<D: Desk>(
-    alloc: Global,
-    netlist: &str,
-    tests: &str,
-    report: &str,
-    desk: &mut D,
-) -> Result<(), RunError>
-    ensures changed { ChangedOnly
-        (job_ports (asked.sim netlist.now tests.now report.now) (status_after result))
+    ensures { (report : List ℕ) → IsPrepared (asked.sim netlist.now tests.now report) result
         (D.view desk.old) (D.view desk.new) }
-    ensures quiet { (D.view desk.new).written out_port.Err
-        ≡ (D.view desk.old).written out_port.Err }
-    ensures done { OnOk result
-        (IsDone (asked.sim netlist.now tests.now report.now) (D.view desk.old) (D.view desk.new)) }
-    ensures cause { IfErr result
-        (HasCause (asked.sim netlist.now tests.now report.now)
-        (D.view desk.old) (D.view desk.new)) }
 {
-    let texts = simulate(alloc, netlist, tests, desk)?;
-    write_report(desk, report, &texts.body, &texts.total)?;
-    Ok(())
+    let tested = read_tested(alloc, netlist, tests, u64::MAX, desk)?;
+    let made = report_texts(alloc, &tested.circuit, &tested.list)?;
+    Ok(made)
 }

@@ -49,14 +49,14 @@ returns-in_err-circuit-clause-cause g c =
 
 -- ---- memory runs out before the files are created
 
+pub returns-in_err-listed-clause-quiet : goal.returns-in_err-listed-clause-quiet
+returns-in_err-listed-clause-quiet g c = ap (λ f. f out_port.Err) c.in_ok-circuit.ensures.frame.written
+
 pub returns-in_err-listed-clause-changed : goal.returns-in_err-listed-clause-changed
 returns-in_err-listed-clause-changed g c =
     let at = (goal.at.returns-in_err-listed-clause-changed g c).After-read_netlist in
     let changed = read_alone g at NoMemory c.in_ok-circuit.ensures.frame in
     search (rules, changed)
-
-pub returns-in_err-listed-clause-quiet : goal.returns-in_err-listed-clause-quiet
-returns-in_err-listed-clause-quiet g c = ap (λ f. f out_port.Err) c.in_ok-circuit.ensures.frame.written
 
 pub returns-in_err-listed-clause-cause : goal.returns-in_err-listed-clause-cause
 returns-in_err-listed-clause-cause g c =

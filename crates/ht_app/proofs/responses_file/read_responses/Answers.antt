@@ -1,8 +1,5 @@
-use Rattle.std.proofs.Common.{◌≡◌, ◌≤◌, ◌<◌, ◌+◌, ◌++◌, ◌∷◌, ℕ, Bool, List, [], length, true, IsTrue, ap, subst, sym, ◌∙◌, rules, arith}
-use Rattle.std.specs.Prelude.{is_ok}
+use Rattle.std.proofs.Common.{◌≡◌, ◌≤◌, ◌<◌, ◌+◌, ◌++◌, ◌∷◌, ℕ, List, [], length, ap, subst, sym, ◌∙◌, rules, arith}
 use Rattle.std.proofs.lemmas.List.{length-append}
-use Rattle.ht_ports.specs.Lines.{Next}
-use Rattle.ht_ports.specs.declared.ports.InPort.{InPort}
 use Rattle.ht_ports.specs.declared.ports.InPort.TheVariants.{Extra}
 use Rattle.ht_ports.proofs.NextLaws.{next_some, next_none}
 use Rattle.ht_tern.specs.declared.tern.Tern.{Tern}
@@ -19,19 +16,20 @@ use Rattle.ht_app.proofs.responses_file.read_responses.Goals as goal
 
 pub lines-init : goal.lines-init
 lines-init g c =
-    let made = c.in_ok-lines.ensures in
-    let desk = g.D.Desk.view c.open.new.self in
     let none : c.new-observation.result.rows ≡ [] = ap (λ v. v.rows) c.new-observation.ensures in
+    let rows = rows_start tern_code c.args.width max_nets Extra c.args.name.now (g.D.Desk.view c.args.desk.now)
+    (g.D.Desk.view c.open.new.self) c.in_ok-lines.lines c.new-observation.result.rows c.in_default.ensures.frame
+    c.in_default.ensures.opened none c.in_ok-lines.ensures in
     record {
-      live = search rules;
-      open_now = subst (λ (p : InPort). IsTrue (desk.is_open p)) (sym (ap (λ l. l.port) made))
-          c.in_default.ensures.opened.is_open;
       few = omega (arith, ap length none);
+      live = rows.live;
+      open_now = rows.open_now;
       width = search rules;
-      rows = rows_start tern_code c.args.width max_nets Extra c.args.name.now (g.D.Desk.view c.args.desk.now) desk
-          c.in_ok-lines.lines c.new-observation.result.rows c.in_default.ensures.frame c.in_default.ensures.opened none
-          made;
+      rows = rows;
     }
+
+pub whole-requires : goal.whole-requires
+whole-requires g c = c.lines.invariant.few
 
 pub overflow_add-result : goal.overflow_add-result
 overflow_add-result g c =
@@ -39,41 +37,33 @@ overflow_add-result g c =
     let same : c.push_row.new.observation.rows ≡ c.lines.observation.rows = search rules in
     omega (arith, c.len.ensures, ap length same, before.counted, before.below, before.fits)
 
-pub whole-requires : goal.whole-requires
-whole-requires g c = c.lines.invariant.few
-
 pub lines-preserved : goal.lines-preserved
 lines-preserved g c =
     let before = c.lines.invariant in
-    let after = c.next.follows.lender-at-none in
-    let a = g.D.Desk.view c.lines.desk in
-    let b = g.D.Desk.view c.next.new.desk in
-    let next : Next c.lines.lines after a b c.next.result = c.next.follows.holds-at-none in
-    let gives = next_some next c.in-Ok-Some.is c.in-Ok-Some.field-0-is in
-    let reads = c.in-Ok-Some.ensures.frame in
-    let lives : after.live ≡ true = next.live ∙ ap is_ok c.in-Ok-Some.is in
-    let taken : (row : List Tern) × IsRowText c.args.width c.in-Ok-Some.line.now row
-    × (length c.lines.observation.rows < c.args.vectors)
-    × (c.push_row.new.observation.rows ≡ c.lines.observation.rows ++ row ∷ []) = search rules in
+    let line = c.in-Ok-Some.line.now in
+    let list = c.lines.observation.rows in
+    let taken : (row : List Tern) × IsRowText c.args.width line row × (length list < c.args.vectors)
+    × (c.push_row.new.observation.rows ≡ list ++ row ∷ []) = search rules in
+    let rows = rows_more tern_code c.args.width max_nets Extra c.args.name.now (g.D.Desk.view c.args.desk.now)
+    (g.D.Desk.view c.lines.desk) (g.D.Desk.view c.next.new.desk) c.lines.lines c.next.follows.lender-at-none list
+    before.rows taken.0 c.push_row.new.observation.rows c.next.follows.holds-at-none c.in-Ok-Some.is
+    c.in-Ok-Some.field-0-is c.in-Ok-Some.ensures.frame taken.1.characters taken.1.values taken.3 in
     record {
-      live = search rules;
-      open_now = subst (λ (p : InPort). IsTrue (b.is_open p)) (sym next.port)
-          (subst (λ (f : InPort → Bool). IsTrue (f c.lines.lines.port)) (sym reads.is_open) before.open_now);
-      few = omega (arith, ap length taken.3, length-append c.lines.observation.rows (taken.0 ∷ []), taken.2);
+      few = omega (arith, ap length taken.3, length-append list (taken.0 ∷ []), taken.2);
+      live = rows.live;
+      open_now = rows.open_now;
       width = search (rules, before.width);
-      rows = rows_more tern_code c.args.width max_nets Extra c.args.name.now (g.D.Desk.view c.args.desk.now) a b
-          c.lines.lines after c.lines.observation.rows before.rows c.in-Ok-Some.line.now taken.0
-          c.push_row.new.observation.rows gives next.port next.max_len reads taken.1.characters taken.1.values taken.3;
+      rows = rows;
     }
 
 -- ---- a line is wrong, too many or missing
 
 pub returns-then-not-branch-clause-cause : goal.returns-then-not-branch-clause-cause
 returns-then-not-branch-clause-cause g c =
+    let line = c.in-Ok-Some.line.now in
+    let list = c.lines.observation.rows in
     let before = c.lines.invariant in
     let rows = before.rows in
-    let list = c.lines.observation.rows in
-    let line = c.in-Ok-Some.line.now in
     let gives = next_some c.next.follows.holds-at-none c.in-Ok-Some.is c.in-Ok-Some.field-0-is in
     let refused : (c.push_row.new.observation ≡ c.lines.observation)
     × ((row : List Tern) → IsRowText c.args.width line row → c.args.vectors ≤ length list) = search rules in
