@@ -7,7 +7,7 @@ use Rattle.ht_ports.specs.declared.ports.OutPort.{OutPort}
 use Rattle.ht_ports.specs.declared.ports.OutPort.TheVariants.{Tests, Report, Proofs, Out, Err}
 use Rattle.ht_asked.specs.Asked.{Asked}
 use Rattle.ht_app.specs.Jobs.{output_name}
-use Rattle.ht_app.specs.Changed.{ChangedOnly, IsOtherFile, says_on_out}
+use Rattle.ht_app.specs.Changed.{ChangedOnly, IsOtherFile}
 use Rattle.ht_app.specs.Done.{IsCreatedAs}
 use Rattle.ht_app.specs.Truncated.{StopsInText}
 use Rattle.ht_app.specs.Steps.{IsBegun, is_written, writing}
@@ -29,10 +29,6 @@ writes_more job port name a m b file is created w =
     changed_by_writing (writing job) port m b (file_is_written job port name file is)
     (λ n other _. other_name (m.named port) (a.named port) name n created.named
     (subst (λ (known : Option (List ℕ)). IsOtherFile known (m.named port) n) is other)) w
-
--- what is said on Out
-pub says_more : (job : Asked) (a b : DeskView) → says_on_out job ≡ true → Writes Out a b → ChangedOnly (writing job) a b
-says_more job a b says w = changed_by_writing (writing job) Out a b says (λ n other file. absurd file) w
 
 -- ---- a file that is created and written
 

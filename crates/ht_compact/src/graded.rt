@@ -51,7 +51,7 @@ fn around(alloc: Global, detected: &[DetectedFault], t: u64) -> Result<DetectedA
 }
 
 /// The list without vector `t`, or none where a fault is lost with it. What is detected before vector `t` stays
-/// detected where it is, so only the other faults run, those first that vector `t` detects: they are lost most often.
+/// detected where it is, so only the other faults run, those first that vector `t` detects.
 ///
 /// # Errors
 ///
