@@ -21,7 +21,7 @@ use Rattle.ht_app.specs.Steps.{IsWithinFirst, NetlistCause, TestsCause, reading,
 
 -- ---- the netlist and the tests
 
--- The netlist was read: it is that of the circuit.
+-- The netlist of this name was read, and is that of this circuit.
 pub record NetlistWasRead (name : List ℕ) (c : net.Netlist) (old new : DeskView) : Type 0 where
   pub frame : InCall Netlist old new
   pub there : MayHold old name
@@ -29,7 +29,8 @@ pub record NetlistWasRead (name : List ℕ) (c : net.Netlist) (old new : DeskVie
   -- a steady desk knows its names
   pub known : (n : List ℕ) → IsTrue old.steady → IsSome (old.file n)
 
--- The tests were read after it: they begin with these vectors, and have no others where these are fewer than `most`.
+-- The netlist was read, and then the tests: they begin with these vectors, and have no others where these are fewer
+-- than `most`.
 pub record TestsWereRead (netlist tests : List ℕ) (most : ℕ) (c : net.Netlist) (list : List (List Bool))
     (old new : DeskView) : Type 0 where
   pub between : DeskView
@@ -40,12 +41,13 @@ pub record TestsWereRead (netlist tests : List ℕ) (most : ℕ) (c : net.Netlis
   pub first : (text : List ℕ) → IsInput Tests tests text between → AreFirstVectors c text list
   pub vectors : (text : List ℕ) → IsInput Tests tests text between → length list < most → IsTestText c text list
 
--- The netlist wasn't read.
+-- Reading the netlist ends the run, for this cause.
 pub record NetlistStops (netlist : List ℕ) (old new : DeskView) (error : RunError) : Type 0 where
   pub frame : InCall Netlist old new
   pub cause : NetlistCause netlist old new error
 
--- It was, and the tests weren't; a malformed line is one of the first `most`.
+-- The netlist was read, and reading the tests ends the run, for this cause; a malformed line is one of the first
+-- `most`.
 pub record TestsStop (netlist tests : List ℕ) (most : ℕ) (old new : DeskView) (error : RunError) : Type 0 where
   pub circuit : net.Netlist
   pub between : DeskView
@@ -54,6 +56,7 @@ pub record TestsStop (netlist tests : List ℕ) (most : ℕ) (old new : DeskView
   pub cause : TestsCause circuit tests between new error
   pub early : IsWithinFirst most error
 
+-- reading the netlist or the tests ends the run
 abbrev pub StopsReading : List ℕ → List ℕ → ℕ → DeskView → DeskView → RunError → Type 0
 StopsReading netlist tests most old new error =
     NetlistStops netlist old new error ⊎ TestsStop netlist tests most old new error

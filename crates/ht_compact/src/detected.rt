@@ -13,14 +13,14 @@ use ht_net::{Circuit, Vectors};
 use ht_proofs::{Grader, Steps};
 use std::alloc::{AllocError, Global};
 
-/// A fault, by its number, and the first vector of a list that detects it.
+/// A fault, by its number, and a vector of a list that detects it.
 #[derive(Clone, Copy)]
 pub struct DetectedFault {
     pub fault: u32,
     pub vector: u64,
 }
 
-/// The representatives that the list detects, rising.
+/// The representatives that the list detects, rising, each with a vector that detects it.
 ///
 /// # Errors
 ///
@@ -105,7 +105,8 @@ fn run_until_detected(grader: &mut Grader, wanted: &[u32], list: &Vectors) -> Re
     Ok(())
 }
 
-/// Where the list first detects each of these faults, by their numbers and in their order, or none where it misses one.
+/// A vector of the list that detects each of these faults, by their numbers and in their order, or none where it misses
+/// one.
 /// They run side by side, and no vector is applied after the one that detects the last of them.
 ///
 /// # Errors
