@@ -16,14 +16,6 @@ module _ (nets pins inputs dffs : ℕ) where
   pub within_passes_none : IsWithin → limit_passed_by nets pins inputs dffs ≡ None
   within_passes_none is = grind (arith, nat_tests, is.few_nets, is.few_pins, is.few_inputs, is.few_dffs)
 
-  pub none_is_within : limit_passed_by nets pins inputs dffs ≡ None → IsWithin
-  none_is_within none = record {
-    few_nets = grind (arith, nat_tests);
-    few_pins = grind (arith, nat_tests);
-    few_inputs = grind (arith, nat_tests);
-    few_dffs = grind (arith, nat_tests);
-  }
-
   pub passes_nets : max_nets < nets → limit_passed_by nets pins inputs dffs ≡ Some Nets
   passes_nets many = grind (arith, nat_tests)
 
