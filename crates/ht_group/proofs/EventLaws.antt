@@ -19,7 +19,9 @@ module _ (c : Netlist) (s : Schedule) (is : IsSchedule c s) where
 
   -- no net reads itself
   no_self : (x : ℕ) → ¬ ReadsFrom c x x
-  no_self x reads = let less = rises_from c s.order.items s.ranks.items is.ranks x x reads in absurd (omega (arith, less))
+  no_self x reads =
+      let less = rises_from c s.order.items s.ranks.items is.ranks x x reads in
+      absurd (omega (arith, less))
 
   other_net : (q r : ℕ) → q < net_count c → r < net_count c → q ≢ r
       → get_or s.order.items q 0 ≢ get_or s.order.items r 0
