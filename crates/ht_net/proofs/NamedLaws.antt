@@ -1,7 +1,9 @@
 -- The circuit of a netlist by names says what the netlist says.
-use Rattle.std.proofs.Common.{◌≡◌, ◌<◌, ◌+◌, ◌++◌, ℕ, suc, List, [], ◌∷◌, length, get_or, map, take, refl, ◌∙◌, ap, subst, length-append, append_assoc, arith}
+use Rattle.std.proofs.Common.{◌≡◌, ◌<◌, ◌+◌, ◌++◌, ℕ, suc, List, [], ◌∷◌, length, get_or, map, take, refl, ◌∙◌, ap, subst, length-append, append_assoc, add-zero, arith}
 use Rattle.std.specs.List.{All, Contains}
 use Rattle.std.proofs.lemmas.List.{length-map, get_or_default, get_or_append_left, get_or-append-add}
+use Rattle.std.proofs.lemmas.List.Folds.{map_fixed}
+use Rattle.std.proofs.lemmas.Simd.{map-map}
 use Rattle.std.proofs.lemmas.List.Elements.{All-head, All-tail, All-weaker}
 use Rattle.std.proofs.Math.Seq.{take-append_seam}
 use Rattle.ht_net.specs.declared.names.NameId.{NameId}
@@ -9,50 +11,52 @@ use Rattle.ht_net.specs.declared.net.NetId.{NetId}
 use Rattle.ht_net.specs.Netlist.{Netlist, Gate, first_gate_net, net_count}
 use Rattle.ht_net.specs.Named.{Name, NamedDff, NamedGate, NamedNetlist, name_of, named_dffs, named_gates, named_of}
 use Rattle.ht_net.specs.Draft.{Draft, IsDraft, named_draft, driven_names, dff_outs, gate_outs, drivers}
-use Rattle.ht_net.specs.Built.{net_of, circuit_gates, circuit_of, AllDriven}
+use Rattle.ht_net.specs.Built.{net_of, circuit_of, AllDriven}
 use Rattle.ht_net.proofs.PlaceLaws.{at_its_place}
 
+-- a gate over the nets of its names
+abbrev pub gate_over : NamedNetlist → NamedGate → Gate
+gate_over n g = record { kind = g.kind; args = map (net_of n) g.args }
+
 map_back : {X Y : Type 0} (f : X → Y) (g : Y → X) (xs : List X) → All (λ x. g (f x) ≡ x) xs → map g (map f xs) ≡ xs
-map_back f g [] all = refl
-map_back f g (x ∷ xs) all =
-    let here : g (f x) ≡ x = All-head (λ y. g (f y) ≡ y) x xs all in
-    let rest = map_back f g xs (All-tail (λ y. g (f y) ≡ y) x xs all) in
-    cc
+map_back f g xs all = map-map g f xs ∙ map_fixed (λ x. g (f x)) xs all
 
 module _ (c : Netlist) (f : Name → NetId) where
   -- a name whose net has it
   abbrev IsBack : Name → Type 0
   IsBack name = name_of c (f name) ≡ name
 
-  dffs_back : (x : ℕ) (dffs : List NamedDff)
-      → ((j : ℕ) → j < length dffs → get_or c.names (x + j) [] ≡ get_or (dff_outs dffs) j [])
+  -- from net x on the circuit has these names
+  abbrev HasFrom : ℕ → List Name → Type 0
+  HasFrom x outs = (j : ℕ) → j < length outs → get_or c.names (x + j) [] ≡ get_or outs j []
+
+  first : (x : ℕ) (out : Name) (outs : List Name) → HasFrom x (out ∷ outs) → get_or c.names x [] ≡ out
+  first x out outs has = rw add-zero at (has 0 (omega arith))
+
+  rest : (x : ℕ) (out : Name) (outs : List Name) → HasFrom x (out ∷ outs) → HasFrom (x + 1) outs
+  rest x out outs has j lt = let next : x + 1 + j ≡ x + suc j = omega arith in rw next (has (suc j) (omega arith))
+
+  dffs_back : (x : ℕ) (dffs : List NamedDff) → HasFrom x (dff_outs dffs)
       → All (λ (d : NamedDff). IsBack d.data_pin) dffs
       → named_dffs c x (map (λ (d : NamedDff). f d.data_pin) dffs) ≡ dffs
   dffs_back x [] outs pins = refl
-  dffs_back x (d ∷ dffs) outs pins =
-      let z : x ≡ x + 0 = omega arith in
-      let out : get_or c.names x [] ≡ d.out = ap (λ n. get_or c.names n []) z ∙ outs 0 (omega arith) in
-      let pin : name_of c (f d.data_pin) ≡ d.data_pin = All-head (λ (e : NamedDff). IsBack e.data_pin) d dffs pins in
-      let rest : named_dffs c (x + 1) (map (λ (e : NamedDff). f e.data_pin) dffs) ≡ dffs = dffs_back (x + 1) dffs
-      (λ j l. let s : x + 1 + j ≡ x + suc j = omega arith in ap (λ n. get_or c.names n []) s ∙ outs (suc j)
-      (omega arith)) (All-tail (λ (e : NamedDff). IsBack e.data_pin) d dffs pins) in
-      rw (out, pin, rest) refl
+  dffs_back x (d ∷ dffs) outs pins = rw (
+    first x d.out (dff_outs dffs) outs,
+    All-head (λ (e : NamedDff). IsBack e.data_pin) d dffs pins,
+    dffs_back (x + 1) dffs (rest x d.out (dff_outs dffs) outs)
+        (All-tail (λ (e : NamedDff). IsBack e.data_pin) d dffs pins),
+  ) refl
 
-  gates_back : (x : ℕ) (gates : List NamedGate)
-      → ((j : ℕ) → j < length gates → get_or c.names (x + j) [] ≡ get_or (gate_outs gates) j [])
+  gates_back : (x : ℕ) (gates : List NamedGate) → HasFrom x (gate_outs gates)
       → All (λ (g : NamedGate). All IsBack g.args) gates
       → named_gates c x (map (λ (g : NamedGate). record { kind = g.kind; args = map f g.args }) gates) ≡ gates
   gates_back x [] outs pins = refl
-  gates_back x (g ∷ gates) outs pins =
-      let z : x ≡ x + 0 = omega arith in
-      let out : get_or c.names x [] ≡ g.out = ap (λ n. get_or c.names n []) z ∙ outs 0 (omega arith) in
-      let args : map (name_of c) (map f g.args) ≡ g.args = map_back f (name_of c) g.args
-      (All-head (λ (e : NamedGate). All IsBack e.args) g gates pins) in
-      let rest : named_gates c (x + 1)
-      (map (λ (e : NamedGate). record { kind = e.kind; args = map f e.args }) gates) ≡ gates = gates_back (x + 1) gates
-      (λ j l. let s : x + 1 + j ≡ x + suc j = omega arith in ap (λ n. get_or c.names n []) s ∙ outs (suc j)
-      (omega arith)) (All-tail (λ (e : NamedGate). All IsBack e.args) g gates pins) in
-      rw (out, args, rest) refl
+  gates_back x (g ∷ gates) outs pins = rw (
+    first x g.out (gate_outs gates) outs,
+    map_back f (name_of c) g.args (All-head (λ (e : NamedGate). All IsBack e.args) g gates pins),
+    gates_back (x + 1) gates (rest x g.out (gate_outs gates) outs)
+        (All-tail (λ (e : NamedGate). All IsBack e.args) g gates pins),
+  ) refl
 
 -- the first gate's net, and how many nets there are
 pub first_is : (n : NamedNetlist) → first_gate_net (circuit_of n) ≡ length (n.inputs ++ dff_outs n.dffs)
@@ -69,8 +73,7 @@ count_is n = omega (
   first_is n,
   length-append (n.inputs ++ dff_outs n.dffs) (gate_outs n.gates),
   length-map n.gates (λ (g : NamedGate). g.out),
-  length-map n.gates (λ (g : NamedGate). let made : Gate = record { kind = g.kind; args = map (net_of n) g.args }
-      in made),
+  length-map n.gates (gate_over n),
 )
 
 -- the name of a gate's net
@@ -101,20 +104,16 @@ module _ (d : Draft) (is : IsDraft d) (all : AllDriven d) where
       let n = named_draft d in
       let c = circuit_of n in
       let outs = dff_outs d.dffs in
-      let many = length-map d.dffs (λ (f : NamedDff). f.out) in
-      let inputs : take (length d.inputs) (drivers n) ≡ d.inputs =
-      ap (take (length d.inputs)) (append_assoc d.inputs outs (gate_outs d.gates))
-      ∙ take-append_seam d.inputs (outs ++ gate_outs d.gates) in
-      let outputs : map (name_of c) (map (net_of n) d.outputs) ≡ d.outputs =
-      map_back (net_of n) (name_of c) d.outputs (has_back d.outputs is.outputs_known) in
-      let dffs : named_dffs c (length d.inputs) (map (λ (f : NamedDff). net_of n f.data_pin) d.dffs) ≡ d.dffs =
-      dffs_back c (net_of n) (length d.inputs) d.dffs
-      (λ j l. get_or_append_left (d.inputs ++ outs) (gate_outs d.gates) [] (length d.inputs + j)
-      (omega (arith, l, many, length-append d.inputs outs)) ∙ get_or-append-add d.inputs outs j [])
-      (All-weaker (λ (f : NamedDff). Contains d.names f.data_pin) (λ (f : NamedDff). HasBack f.data_pin)
-      (λ f at. (net_back f.data_pin at).1) d.dffs is.data_known) in
-      let gates : named_gates c (first_gate_net c) (circuit_gates n) ≡ d.gates =
-      gates_back c (net_of n) (first_gate_net c) d.gates (λ j l. gate_name n j)
-      (All-weaker (λ (g : NamedGate). All (Contains d.names) g.args) (λ (g : NamedGate). All HasBack g.args)
-      (λ g known. has_back g.args known) d.gates is.args_known) in
-      rw (inputs, outputs, dffs, gates) refl
+      rw (
+        ap (take (length d.inputs)) (append_assoc d.inputs outs (gate_outs d.gates))
+            ∙ take-append_seam d.inputs (outs ++ gate_outs d.gates),
+        map_back (net_of n) (name_of c) d.outputs (has_back d.outputs is.outputs_known),
+        dffs_back c (net_of n) (length d.inputs) d.dffs
+            (λ j l. get_or_append_left (d.inputs ++ outs) (gate_outs d.gates) [] (length d.inputs + j)
+            (omega (arith, l, length-append d.inputs outs)) ∙ get_or-append-add d.inputs outs j [])
+            (All-weaker (λ (f : NamedDff). Contains d.names f.data_pin) (λ (f : NamedDff). HasBack f.data_pin)
+            (λ f at. (net_back f.data_pin at).1) d.dffs is.data_known),
+        gates_back c (net_of n) (first_gate_net c) d.gates (λ j l. gate_name n j)
+            (All-weaker (λ (g : NamedGate). All (Contains d.names) g.args) (λ (g : NamedGate). All HasBack g.args)
+            (λ g known. has_back g.args known) d.gates is.args_known),
+      ) refl

@@ -1,41 +1,46 @@
--- The keys of a set of numbers of names after an insertion.
-use Rattle.std.proofs.Common.{◌≡◌, ◌<◌, ◌++◌, ◌∷◌, [], Bool, true, false, List, ℕ, sym, ap, subst, if◌then◌else◌, ⊎_elim, arith}
-use Rattle.std.specs.Bool.{Decides}
-use Rattle.std.specs.List.{Contains, list_any}
-use Rattle.std.specs.Prelude.{nat_eq}
-use Rattle.std.proofs.lemmas.Bool.{eq-eqb, cases_Bool, false_from_ne_true}
-use Rattle.std.proofs.lemmas.Bool.Decides.{nat_tests}
+-- An output that is added to a builder, or is there.
+use Rattle.std.proofs.Common.{◌≡◌, ◌<◌, ◌++◌, ◌∷◌, [], Bool, List, length, sym, ◌∙◌, ap, subst, if◌then◌else◌}
+use Rattle.std.specs.List.{Contains, IsDistinct, list_any}
+use Rattle.std.proofs.lemmas.Bool.{cond_both, false_from_ne_true}
+use Rattle.std.proofs.lemmas.List.{map_push}
 use Rattle.std.proofs.lemmas.List.Elements.{All-push}
-use Rattle.std.proofs.lemmas.Map.Made.{is_member-Decides}
+use Rattle.std.proofs.lemmas.Map.Made.{is_member-Decides, AllPairs-from_IsDistinct}
 use Rattle.ht_net.specs.declared.names.NameId.{NameId}
-use Rattle.ht_net.specs.DraftOf.{AreNumbers}
+use Rattle.ht_net.specs.Draft.{Draft, IsName, draft_name}
+use Rattle.ht_net.specs.DraftOf.{Fields, draft_by, named_at, AreNumbers, AreKept}
+use Rattle.ht_net.proofs.MarkLaws.{is_same, same_id}
+use Rattle.ht_net.proofs.KeptLaws.{contains_map, named_back}
 
-tells_equal : (x y : ℕ) → nat_eq x y ≡ true → x ≡ y
-tells_equal x y e = grind (arith, nat_tests)
-
-pub same_id : (a b : NameId) → Decides (nat_eq a.0 b.0) (a ≡ b)
-same_id a b = (
-  λ yes. let number : ℕ → NameId = λ n. record { 0 = n } in ap number (tells_equal a.0 b.0 yes),
-  λ same. eq-eqb a.0 b.0 (ap (λ (x : NameId). x.0) same),
-)
-
-module _ (keys : List NameId) (id : NameId) where
-  abbrev pub inserted : List NameId
-  inserted = if list_any (λ (n : NameId). nat_eq id.0 n.0) keys then keys else keys ++ id ∷ []
+module _ {a : Fields} (k : AreKept a) {d : Draft} (is : draft_by a ≡ d) (id : NameId) (named : IsName d id)
+    (keys : List NameId)
+    (put : keys ≡ (if list_any (is_same id) a.outputs then a.outputs else a.outputs ++ id ∷ [])) where
+  known : id.0 < length a.names
+  known = subst (λ (e : Draft). IsName e id) (sym is) named
 
   abbrev by_test : Bool → List NameId
-  by_test b = if b then keys else keys ++ id ∷ []
+  by_test b = if b then a.outputs else a.outputs ++ id ∷ []
 
-  pub insert_known : Contains keys id → inserted ≡ keys
-  insert_known at = ap by_test ((is_member-Decides same_id keys id).1 at)
+  pub output_added : IsDistinct is_same keys → AreKept (record a { outputs = keys })
+  output_added distinct =
+      let differ = AllPairs-from_IsDistinct same_id keys distinct in
+      let below : AreNumbers (length a.names) keys = rw put (cond_both (list_any (is_same id) a.outputs) a.outputs
+      (a.outputs ++ id ∷ []) (AreNumbers (length a.names)) (λ _. k.outputs_known)
+      (λ _. All-push (λ (n : NameId). n.0 < length a.names) a.outputs id k.outputs_known known)) in
+      search
 
-  pub insert_unknown : ¬ Contains keys id → inserted ≡ keys ++ id ∷ []
-  insert_unknown none = ap by_test (false_from_ne_true (list_any (λ (n : NameId). nat_eq id.0 n.0) keys)
-      (λ yes. none ((is_member-Decides same_id keys id).0 yes)))
+  pub known_output : Contains d.outputs (draft_name d id) → draft_by (record a { outputs = keys }) ≡ d
+  known_output at =
+      let here = named_back k a.outputs k.outputs_known id known
+      (subst (λ (e : Draft). Contains e.outputs (draft_name e id)) (sym is) at) in
+      let tests = (is_member-Decides same_id a.outputs id).1 here in
+      ap (λ l. draft_by (record a { outputs = l })) (put ∙ ap by_test tests) ∙ is
 
-  pub inserted_are_numbers : (n : ℕ) → AreNumbers n keys → id.0 < n → AreNumbers n inserted
-  inserted_are_numbers n known here =
-      let test = list_any (λ (m : NameId). nat_eq id.0 m.0) keys in
-      ⊎_elim (λ (yes : test ≡ true). subst (λ b. AreNumbers n (by_test b)) (sym yes) known)
-      (λ (no : test ≡ false). subst (λ b. AreNumbers n (by_test b)) (sym no)
-      (All-push (λ (m : NameId). m.0 < n) keys id known here)) (cases_Bool test)
+  pub new_output : ¬ Contains d.outputs (draft_name d id)
+      → draft_by (record a { outputs = keys }) ≡ record d { outputs = d.outputs ++ draft_name d id ∷ [] }
+  new_output none =
+      let absent = false_from_ne_true (list_any (is_same id) a.outputs) (λ yes. none
+      (subst (λ (e : Draft). Contains e.outputs (draft_name e id)) is
+      (contains_map (named_at a.names) a.outputs id ((is_member-Decides same_id a.outputs id).0 yes)))) in
+      ap (λ l. draft_by (record a { outputs = l })) (put ∙ ap by_test absent)
+      ∙ ap (λ l. record (draft_by a) { outputs = l }) (map_push (named_at a.names) a.outputs id)
+      ∙ ap (λ (e : Draft). record e { outputs = e.outputs ++ draft_name e id ∷ [] }) is

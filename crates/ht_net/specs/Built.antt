@@ -8,12 +8,15 @@ use Rattle.ht_net.specs.Netlist.{Netlist, Gate}
 use Rattle.ht_net.specs.Named.{Name, NamedDff, NamedGate, NamedNetlist}
 use Rattle.ht_net.specs.Draft.{Draft, drivers, IsDriven, IsName}
 
+-- the net of a name
 abbrev pub net_of : NamedNetlist → Name → NetId
 net_of n name = record { 0 = position_or_len (λ other. bytes_eq other name) (drivers n) }
 
+-- the gates, over nets
 abbrev pub circuit_gates : NamedNetlist → List Gate
 circuit_gates n = map (λ (g : NamedGate). record { kind = g.kind; args = map (net_of n) g.args }) n.gates
 
+-- the circuit
 abbrev pub circuit_of : NamedNetlist → Netlist
 circuit_of n = record {
   inputs = length n.inputs;
@@ -23,6 +26,7 @@ circuit_of n = record {
   names = drivers n;
 }
 
+-- each name that was mentioned has a driver
 abbrev pub AllDriven : Draft → Type 0
 AllDriven d = (id : NameId) → IsName d id → IsDriven d id
 

@@ -23,10 +23,11 @@ named_draft d = record { inputs = d.inputs; outputs = d.outputs; dffs = d.dffs; 
 abbrev pub draft_name : Draft → NameId → Name
 draft_name d id = get_or d.names id.0 []
 
--- the names that flip-flops and gates drive
+-- the names that flip-flops drive
 abbrev pub dff_outs : List NamedDff → List Name
 dff_outs dffs = map (λ (f : NamedDff). f.out) dffs
 
+-- the names that gates drive
 abbrev pub gate_outs : List NamedGate → List Name
 gate_outs gates = map (λ (g : NamedGate). g.out) gates
 
@@ -38,15 +39,19 @@ drivers n = (n.inputs ++ dff_outs n.dffs) ++ gate_outs n.gates
 abbrev pub named_pins : NamedNetlist → ℕ
 named_pins n = length n.dffs + sum_by (λ (g : NamedGate). length g.args) n.gates
 
+-- the names of a draft that have a driver, in the order of their nets
 abbrev pub driven_names : Draft → List Name
 driven_names d = drivers (named_draft d)
 
+-- the pins of a draft's gates and flip-flops
 abbrev pub draft_pins : Draft → ℕ
 draft_pins d = named_pins (named_draft d)
 
+-- the number of a name that was mentioned
 abbrev pub IsName : Draft → NameId → Type 0
 IsName d id = id.0 < length d.names
 
+-- an input, a flip-flop or a gate drives the name of this number
 abbrev pub IsDriven : Draft → NameId → Type 0
 IsDriven d id = Contains (driven_names d) (draft_name d id)
 

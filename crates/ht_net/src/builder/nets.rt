@@ -4,7 +4,7 @@ ghost use Rattle.std.specs.List.{All};
 ghost use Rattle.std.specs.declared.alloc.Global.{Global};
 ghost use Rattle.ht_net.specs.Lists.{AllDiffer};
 ghost use Rattle.ht_net.specs.Netlist.{max_nets};
-ghost use Rattle.ht_net.specs.DraftOf.{AreNumbers, latch_ids, gate_ids, named_at};
+ghost use Rattle.ht_net.specs.DraftOf.{AreNumbers, dff_ids, gate_ids, named_at};
 ghost use Rattle.ht_net.specs.NetTable.{net_in, data_net_in, gate_in, IsNetTable};
 ghost use Rattle.ht_net.specs.PartOf.{DraftGate};
 ghost use Rattle.ht_net.specs.declared.draft.DraftDff.{DraftDff};
@@ -23,17 +23,17 @@ pub(super) fn driven_ids(
     gates: &[DraftGate],
 ) -> Result<Vec<NameId>, AllocError>
     ensures { IfOk result
-        (λ ids. ids.items ≡ (inputs.now ++ latch_ids dffs.now) ++ gate_ids gates.now) }
+        (λ ids. ids.items ≡ (inputs.now ++ dff_ids dffs.now) ++ gate_ids gates.now) }
 {
     let mut ids = Vec::from_slice(alloc, inputs)?;
-    push_latch_ids(&mut ids, dffs)?;
+    push_dff_ids(&mut ids, dffs)?;
     push_gate_ids(&mut ids, gates)?;
     Ok(ids)
 }
 
 /// Adds the names that flip-flops drive.
-fn push_latch_ids(ids: &mut Vec<NameId>, dffs: &[DraftDff]) -> Result<(), AllocError>
-    ensures { OnOk result (ids.new.items ≡ ids.old.items ++ latch_ids dffs.now) }
+fn push_dff_ids(ids: &mut Vec<NameId>, dffs: &[DraftDff]) -> Result<(), AllocError>
+    ensures { OnOk result (ids.new.items ≡ ids.old.items ++ dff_ids dffs.now) }
 {
     for dff in dffs {
         ids.push(dff.out)?;

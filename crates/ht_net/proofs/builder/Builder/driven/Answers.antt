@@ -1,7 +1,6 @@
 use Rattle.std.proofs.Common.{◌↔◌, IsTrue, false, arith, subst, sym, ◌∙◌}
 use Rattle.std.proofs.lemmas.List.{get_or_read}
 use Rattle.ht_net.specs.Draft.{Draft, IsDriven, IsName}
-use Rattle.ht_net.specs.DraftOf.{fields_of}
 use Rattle.ht_net.proofs.KeptLaws.{driven_is}
 use Rattle.ht_net.proofs.builder.Builder.driven.Goals as goal
 
@@ -15,6 +14,6 @@ returns c =
     let known = subst (λ (d : Draft). IsName d c.args.name) (sym c.self.view_is) c.requires in
     let read = get_or_read c.self.inside.driven.items c.args.name.0 c.index.result.now
     (omega (arith, known, c.self.invariant.count)) c.index.ensures false in
-    let is = driven_is (fields_of c.self.inside) c.self.invariant c.args.name known in
+    let is = driven_is c.self.invariant c.args.name known in
     subst (λ (d : Draft). IsTrue c.index.result.now ↔ IsDriven d c.args.name) c.self.view_is
     ((λ yes. is.0 (sym read ∙ yes)), (λ driven. read ∙ is.1 driven))
