@@ -149,7 +149,7 @@ module _ (name : List ℕ) (made : Made) (a m : DeskView) where
 pub ends_unmade : (job : Asked) (e : RunError) (a m : DeskView) → IsPrepared job (Err e) a m
     → EndsJob {A = Unit {0}} job (Err e) a m
 ends_unmade job e a m p = record {
-  changed = ends_reading job a m p.netlist p.reads e p.first p.second;
+  changed = ends_reading job a m p.netlist p.reads e p.only_netlist p.no_extra;
   quiet = p.reads.written out_port.Err refl;
   done = tt;
   cause = p.cause;

@@ -82,8 +82,8 @@ IsMadeBy job old file total = ⊥
 pub record IsPrepared (job : Asked) (made : Result Made RunError) (old new : DeskView) : Type 0 where
   pub netlist : IsTrue (is_some (input_name job Netlist))
   pub reads : ChangedOnly (reading job) old new
-  pub first : IfErr made (λ e. exit_status e ≡ 3 → InCall Netlist old new)
-  pub second : IfErr made (λ e. exit_status e ≡ 7 → IsUnread Extra old new)
+  pub only_netlist : IfErr made (λ e. exit_status e ≡ 3 → InCall Netlist old new)
+  pub no_extra : IfErr made (λ e. exit_status e ≡ 7 → IsUnread Extra old new)
   pub inputs : OnOk made (AcceptsInputs job old)
   pub texts : IfOk made (λ m. IsMadeBy job old (made_file job m.body.items m.total.items) m.total.items)
   pub cause : IfErr made (HasCause job old new)
@@ -91,7 +91,7 @@ pub record IsPrepared (job : Asked) (made : Result Made RunError) (old new : Des
 -- The files of `check` were judged, and nothing is said yet.
 pub record IsJudged {A : Type 0} (job : Asked) (judged : Result A RunError) (old new : DeskView) : Type 0 where
   pub reads : ChangedOnly (reading job) old new
-  pub first : IfErr judged (λ e. exit_status e ≡ 3 → InCall Netlist old new)
+  pub only_netlist : IfErr judged (λ e. exit_status e ≡ 3 → InCall Netlist old new)
   pub inputs : OnOk judged (AcceptsInputs job old)
   pub cause : IfErr judged (HasCause job old new)
 

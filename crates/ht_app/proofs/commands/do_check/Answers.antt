@@ -12,7 +12,7 @@ returns g c =
     let names = check_files_of c.as_str.result.now c.as_str-2.result.now c.as_str-3.result.now c.as_str-4.result.now in
     let judged = c.check-judged.ensures in
     let ends = c.say_valid.ensures names a
-    (record { reads = judged.reads; first = judged.first; inputs = judged.inputs; cause = judged.cause }) in
+    (record { reads = judged.reads; only_netlist = judged.first; inputs = judged.inputs; cause = judged.cause }) in
     let netlist : names.netlist ≡ files.netlist = c.as_str.ensures in
     let tests : names.tests ≡ files.tests = c.as_str-2.ensures in
     let report : names.report ≡ files.report = c.as_str-3.ensures in
