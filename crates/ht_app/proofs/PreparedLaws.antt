@@ -24,8 +24,15 @@ use Rattle.ht_app.proofs.ReadFilesLaws.{reads_both, reads_tests, tests_cause, te
 module _ (job : Asked) (is : is_some (input_name job Netlist) ≡ true) (a b : DeskView) where
   pub unmade : (e : RunError) → ChangedOnly (reading job) a b → (exit_status e ≡ 3 → InCall Netlist a b)
       → (exit_status e ≡ 7 → IsUnread Extra a b) → HasCause job a b e → IsPrepared job (Err e) a b
-  unmade e reads first second cause =
-      record { netlist = is; reads = reads; only_netlist = first; no_extra = second; inputs = tt; texts = tt; cause = cause }
+  unmade e reads first second cause = record {
+    netlist = is;
+    reads = reads;
+    only_netlist = first;
+    no_extra = second;
+    inputs = tt;
+    texts = tt;
+    cause = cause;
+  }
 
   -- memory ran out
   pub no_room : ChangedOnly (reading job) a b → b.written ≡ a.written → IsPrepared job (Err NoMemory) a b
@@ -34,8 +41,15 @@ module _ (job : Asked) (is : is_some (input_name job Netlist) ≡ true) (a b : D
 
   pub ready : (made : Made) → ChangedOnly (reading job) a b → AcceptsInputs job a
       → IsMadeBy job a (made_file job made.body.items made.total.items) made.total.items → IsPrepared job (Ok made) a b
-  ready made reads inputs texts =
-      record { netlist = is; reads = reads; only_netlist = tt; no_extra = tt; inputs = inputs; texts = texts; cause = tt }
+  ready made reads inputs texts = record {
+    netlist = is;
+    reads = reads;
+    only_netlist = tt;
+    no_extra = tt;
+    inputs = inputs;
+    texts = texts;
+    cause = tt;
+  }
 
 -- the netlist or the tests weren't read
 pub stops_reading : (job : Asked) (netlist tests : List ℕ) (most : ℕ) (e : RunError) (a b : DeskView)
