@@ -14,8 +14,8 @@ use ht_pairs::PairSet;
 use ht_tern::Tern;
 use ht_tree::{Assign3, Status3, WalkNode};
 
-/// What the next states make of the latches that a cube wants: whether it wants any, whether each must be as wanted, and
-/// whether each may.
+/// What the next states make of the latches that a cube wants: whether it wants any, whether each must be as wanted,
+/// and whether each may.
 #[derive(Clone, Copy)]
 pub struct Met {
     some: bool,

@@ -20,17 +20,18 @@ use std::alloc::{AllocError, Global};
 
 /// Whether an entry passes for a fault.
 ///
-/// An untestable entry passes where its flip-flops rise and are the circuit's, and its tokens are a complete walk of the
-/// one-frame window of the fault and these flip-flops; its walk may have any length, so the budget of the run plays no
-/// part. A difference then can't leave the set, both machines give equal outputs from every common state, and no list of
-/// vectors detects the fault from all-unknown (`IsUntestable`). Flip-flops count from 0.
+/// An untestable entry passes where its flip-flops rise and are the circuit's, and its tokens are a complete walk of
+/// the one-frame window of the fault and these flip-flops; its walk may have any length, so the budget of the run plays
+/// no part. A difference then can't leave the set, both machines give equal outputs from every common state, and no
+/// list of vectors detects the fault from all-unknown (`IsUntestable`). Flip-flops count from 0.
 ///
 /// An aborted entry passes where its frames are a told chain, and each of its searches closed or filled the budget: the
-/// walk after the chain, the aim at the first frame, and the sweep (`IsAbortRecord`). Then each set that seals the fault
-/// has the flip-flops that were told, and no list of fewer vectors than the sweep has walks detects it (`AbortMeans`).
+/// walk after the chain, the aim at the first frame, and the sweep (`IsAbortRecord`). Then each set that seals the
+/// fault has the flip-flops that were told, and no list of fewer vectors than the sweep has walks detects it
+/// (`AbortMeans`).
 ///
-/// It evaluates a frame once for each told frame, and the frames of a window once for each token. It reserves for a whole
-/// walk before it judges the first token of it.
+/// It evaluates a frame once for each told frame, and the frames of a window once for each token. It reserves for a
+/// whole walk before it judges the first token of it.
 ///
 /// # Errors
 /// Out of memory.

@@ -7,8 +7,8 @@ use ht_net::{Circuit, Fault};
 use ht_tree::{Spot, Told};
 use std::alloc::{AllocError, Global};
 
-/// Whether frames are a told chain of a fault: each is told where the states may differ at the flip-flops that were told
-/// before it, and an output is told by the last alone. It evaluates one frame for each.
+/// Whether frames are a told chain of a fault: each is told where the states may differ at the flip-flops that were
+/// told before it, and an output is told by the last alone. It evaluates one frame for each.
 ///
 /// # Errors
 /// Out of memory.

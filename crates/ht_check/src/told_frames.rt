@@ -12,8 +12,8 @@ use ht_tern::Tern;
 use ht_tree::{Assign, Assign3, Spot, Told};
 use std::alloc::{AllocError, Global};
 
-/// Whether a frame is told in the one-frame window of a fault and a set of flip-flops: its variables are legal and rise,
-/// and its place is one of the window and holds only opposite values. It evaluates one frame.
+/// Whether a frame is told in the one-frame window of a fault and a set of flip-flops: its variables are legal and
+/// rise, and its place is one of the window and holds only opposite values. It evaluates one frame.
 ///
 /// # Errors
 /// Out of memory.

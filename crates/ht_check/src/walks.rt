@@ -8,8 +8,8 @@ use crate::judged::JudgedWindow;
 use ht_tree::{Status3, Token, Walk, WalkNode};
 use std::alloc::{AllocError, Global};
 
-/// What tokens are to a window, with what they weigh together: the number of frames each, or the last value of u64 where
-/// the sum is greater.
+/// What tokens are to a window, with what they weigh together: the number of frames each, or the last value of u64
+/// where the sum is greater.
 #[derive(Clone, Copy, PartialEq, Eq, Debug)]
 pub enum Finding {
     /// A complete walk: each token fits, and the last one leaves no node.

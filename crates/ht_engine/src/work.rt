@@ -27,8 +27,8 @@ pub enum Work {
 /// that finds nothing the sweep. The budget is that of each search, and of the sweep as a whole.
 ///
 /// With n inputs and m flip-flops, a budget of 2^(n + 2m + 1) refutes each fault that some set of flip-flops seals; and
-/// where a list of at most d vectors detects the fault, one of the sum of k * 2^(k * n + 1), over k from 1 to d, finds a
-/// list.
+/// where a list of at most d vectors detects the fault, one of the sum of k * 2^(k * n + 1), over k from 1 to d, finds
+/// a list.
 ///
 /// # Errors
 /// Out of memory.

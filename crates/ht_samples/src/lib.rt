@@ -1,4 +1,5 @@
-//! Circuits that several tests read, as texts, and what is known of them. The crates of tests stand on it, and no other.
+//! Circuits that several tests read, as texts, and what is known of them. The crates of tests stand on it, and no
+//! other.
 #![tactic(auto)]
 
 /// The shift register: two flip-flops between an input and an output. The stored run of the program has it too, with

@@ -85,8 +85,9 @@ pub fn report_lines_are_short()
         → IsReportFront c representatives lines → All IsShortLine lines }
 {}
 
-/// Where a report of a search begins with the first n lines of a text, none of them is wrong; the next is where no report
-/// has it after them; and if it is wrong, and the text doesn't get too long in the first n, it is the first wrong line.
+/// Where a report of a search begins with the first n lines of a text, none of them is wrong; the next is where no
+/// report has it after them; and if it is wrong, and the text doesn't get too long in the first n, it is the first
+/// wrong line.
 pub fn first_wrong_report_line()
     ensures read { (c : Netlist) (representatives : List ℕ) (text : List ℕ) (n m : ℕ)
         → IsReportFront c representatives (take n (lines_of text)) → n ≤ length (lines_of text)

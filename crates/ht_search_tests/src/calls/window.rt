@@ -1,8 +1,8 @@
 //! Tests of ht_window: the shift register and the toggle in each kind of window.
 //!
 //! In the shift register net 0 is a, net 1 is q and net 2 is r. Variable 0 is a, and those of later frames follow; in a
-//! set 1 and 2 are the good halves of q and r, and 3 and 4 their faulty halves. In the toggle net 0 and variable 0 are q,
-//! and net 1 is n.
+//! set 1 and 2 are the good halves of q and r, and 3 and 4 their faulty halves. In the toggle net 0 and variable 0 are
+//! q, and net 1 is n.
 ghost use Rattle.std.specs.Prelude.{◌≤◌};
 ghost use Rattle.ht_tree.specs.Windows.{IsStart};
 ghost use Rattle.ht_window.specs.Starts.{start_of};
@@ -126,8 +126,8 @@ const SHIFTED: &[Row] = &[
         TWO_0,
         OUTPUT_2,
     ),
-    // a cube that wants nothing is met at the root, and one that wants something isn't without a frame; an input has two
-    // values and a latch three
+    // a cube that wants nothing is met at the root, and one that wants something isn't without a frame; an input has
+    // two values and a latch three
     (From::Cube(0, &[Unk, Unk]), &[], None, CUBE),
     (From::Cube(0, &[One, Unk]), &[], None, Dead),
     (From::Cube(1, &[One, Unk]), &[], None, Open),

@@ -90,8 +90,8 @@ const BUFFER_ROWS: &[(u32, &[(&[bool], u64)])] = &[
     (64, &[(ONES, 80), (ZEROS, 80), (ONES, 40)]),
 ];
 
-/// Whether fault `k` of the buffers is detected at its buffer's output, stuck at 0 by the first vector and stuck at 1 by
-/// the second.
+/// Whether fault `k` of the buffers is detected at its buffer's output, stuck at 0 by the first vector and stuck at 1
+/// by the second.
 fn is_detected(grader: &Grader, k: u32) -> bool
     requires { k < length grader.now.faults }
 {

@@ -138,8 +138,8 @@ const EXAMPLES: &[Example<'static>] = &[
             end\n",
         out: b"total 6 detected 3 untestable 3 aborted 0\n",
     },
-    // The latch stays unknown, so each fault is aborted: the search back spends its budget, and so does the sweep with the
-    // lengths 1 to 4.
+    // The latch stays unknown, so each fault is aborted: the search back spends its budget, and so does the sweep with
+    // the lengths 1 to 4.
     Example {
         words: &["gen", "n", "t", "r", "p", "--budget", "10"],
         netlist: TOGGLE,
