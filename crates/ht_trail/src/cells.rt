@@ -6,7 +6,7 @@ use std::alloc::{AllocError, Global};
 use std::marker::Model;
 
 /// A moment to which cells can be taken back: how many old values were on the trail then. It is valid until the cells
-/// are taken back to an earlier one, or `forget` is called.
+/// are taken back to an earlier one.
 #[derive(Clone, Copy, PartialEq, Eq, Debug)]
 pub struct Mark(pub u64);
 
@@ -58,6 +58,16 @@ impl<T: Copy> Cells<T> {
         })
     }
 
+    /// Cells that hold these values, with an empty trail.
+    pub fn from_values(alloc: Global, values: Vec<T>) -> Cells<T>
+        ensures { result ≡ record { values = values.items; trail = [] } }
+    {
+        Cells {
+            values,
+            trail: Vec::new(alloc),
+        }
+    }
+
     /// How many cells there are.
     pub fn len(&self) -> usize
         ensures { result ≡ length self.now.values }
@@ -107,15 +117,6 @@ impl<T: Copy> Cells<T> {
         })?;
         self.values[i as usize] = value;
         Ok(())
-    }
-
-    /// Forgets what the cells held before, and frees the room for it: no mark but the present one is valid any more.
-    pub fn forget(&mut self)
-        ensures values { self.new.values ≡ self.old.values }
-        ensures trail { self.new.trail ≡ [] }
-    {
-        self.trail.clear();
-        self.trail.shrink_to_fit();
     }
 
     /// The present mark.

@@ -17,3 +17,4 @@ pub mod DriverLaws
 pub mod UndecidedLaws
 pub mod DecideLaws
 pub mod FollowLaws
+pub mod AllSetsLaws

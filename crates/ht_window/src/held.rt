@@ -42,22 +42,26 @@ impl<'c> Model for Held<'c> {
 }
 
 impl<'c> Held<'c> {
-    /// Cells before they are given their sets.
+    /// Cells that hold these sets, one for each net of each frame.
     ///
     /// # Errors
     /// Out of memory.
-    pub fn new(alloc: Global, decided: Decided<'c>) -> Result<Held<'c>, AllocError>
-        requires { decided.window.frames ≤ MAX_FRAMES }
-        ensures window { IfOk result (λ h. h.standing.window ≡ decided.entry.window) }
-        ensures path { IfOk result (λ h. h.standing.path ≡ decided.entry.path) }
+    pub fn new(
+        alloc: Global,
+        decided: Decided<'c>,
+        sets: Vec<PairSet>,
+    ) -> Result<Held<'c>, AllocError>
+        requires few { decided.window.frames ≤ MAX_FRAMES }
+        requires count { length sets.items ≡ cell_count decided.window }
+        ensures standing { IfOk result (λ h. h.standing ≡ decided.entry) }
+        ensures values { IfOk result (λ h. h.cells.values ≡ sets.items) }
+        ensures trail { IfOk result (λ h. h.cells.trail ≡ []) }
     {
-        let circuit = decided.circuit();
-        let count = decided.frames() * circuit.nets();
-        let cells = Cells::new(alloc, count, PairSet::both_same())?;
+        let _ = decided.circuit();
         let pins = vec![in alloc; PairSet::both_same(); MAX_GATE_PINS]?;
         Ok(Held {
             decided,
-            cells,
+            cells: Cells::from_values(alloc, sets),
             pins,
         })
     }
@@ -71,15 +75,6 @@ impl<'c> Held<'c> {
     {
         let _ = &self.cells;
         &self.decided
-    }
-
-    /// Makes the present cells those before any mark.
-    pub fn forget(&mut self)
-        ensures standing { self.new.standing ≡ self.old.standing }
-        ensures values { self.new.cells.values ≡ self.old.cells.values }
-        ensures trail { self.new.cells.trail ≡ [] }
-    {
-        self.cells.forget();
     }
 
     /// The present mark.

@@ -10,6 +10,7 @@
 //! |---|---|
 //! | start | what the latches of the first frame are |
 //! | decided | the decisions, and the value of each variable |
+//! | frames | the sets of a whole window, frame by frame |
 //! | held | the decisions and the cells: the plant of the events |
 //! | window | `decide`, `mark`, `undo`, `cell`, `next_state` |
 //! | places, cube, status | what the places and the latches of a cube show; `status`, `pick` |
@@ -19,6 +20,7 @@
 mod back;
 mod cube;
 mod decided;
+mod frames;
 mod held;
 mod places;
 mod sets;

@@ -13,6 +13,7 @@ ghost use Rattle.ht_window.specs.Holding.{HeldState};
 ghost use Rattle.ht_window.specs.States.{IsLegalDecision, WindowState, mark_before, undone};
 
 use crate::decided::Decided;
+use crate::frames::all_sets;
 use crate::held::Held;
 use crate::start::Start;
 use ht_events::{Core, MAX_FRAMES};
@@ -43,42 +44,6 @@ impl<'c> Model for Window<'c> {
     ghost view = { state_of };
 
     ghost invariant = { IsEvaluated };
-}
-
-// Gives the inputs of a frame their sets.
-fn write_inputs(held: &mut Held, frame: u32) -> Result<(), AllocError>
-    requires frame { frame < held.old.standing.window.frames }
-    ensures standing { held.new.standing ≡ held.old.standing }
-    ensures inputs { OnOk result ((i : ℕ) → i < held.old.standing.window.circuit.inputs
-        → HoldsValue held.old.standing.window held.old.standing.path
-        held.new.cells.values frame i) }
-    ensures before { OnOk result
-        ((f i : ℕ) → f < frame → i < held.old.standing.window.circuit.inputs
-        → HoldsValue held.old.standing.window held.old.standing.path held.old.cells.values f i
-        → HoldsValue held.old.standing.window held.old.standing.path held.new.cells.values f i) }
-{
-    let inputs = held.decided().inputs();
-    let _ = held.decided().circuit().nets();
-    for i in 0..inputs {
-        held.write(frame, i)?;
-    }
-    Ok(())
-}
-
-// Gives all nets their sets: the inputs by the decisions, and all else in the order of events.
-fn fill(held: &mut Held, core: &Core) -> Result<(), AllocError>
-    requires circuit { core.now.plan.circuit ≡ held.old.standing.window.circuit }
-    requires frames { core.now.plan.frames ≡ held.old.standing.window.frames }
-    ensures standing { held.new.standing ≡ held.old.standing }
-    ensures cells { OnOk result
-        (AreCells held.old.standing.window held.old.standing.path held.new.cells.values) }
-{
-    let frames = held.decided().frames();
-    for frame in 0..frames {
-        write_inputs(held, frame)?;
-    }
-    core.fill(held)?;
-    Ok(())
 }
 
 // One more decision, which the cells follow. Where memory runs out the decision and some cells may be there already.
@@ -128,10 +93,9 @@ impl<'c> Window<'c> {
         ensures marks { IfOk result (λ w. w.marks ≡ []) }
     {
         let decided = Decided::new(alloc, start, circuit, fault, frames)?;
-        let mut held = Held::new(alloc, decided)?;
+        let sets = all_sets(alloc, &decided)?;
+        let held = Held::new(alloc, decided, sets)?;
         let core = Core::new(alloc, circuit, frames)?;
-        fill(&mut held, &core)?;
-        held.forget();
         Ok(Window {
             held,
             core,

@@ -1,0 +1,15 @@
+use Rattle.std.proofs.Common.{◌≡◌, length}
+use Rattle.ht_net.specs.Netlist.{net_count}
+use Rattle.ht_tree.specs.Windows.{latches_at}
+use Rattle.ht_window.proofs.AllSetsLaws.{HasFrames}
+use Rattle.ht_window.proofs.frames.all_sets.Given as goal
+
+abbrev pub invariant-loop-frame : goal.invariant-loop-frame
+invariant-loop-frame l = record {
+  vector : length l.vector.items ≡ l.decided.window.circuit.inputs;
+  dffs : length l.latches.items ≡ length l.decided.window.circuit.dffs;
+  latches : l.latches.items ≡ latches_at l.decided.window l.decided.path l.frame;
+  row : length l.row.items ≡ net_count l.decided.window.circuit;
+  pins : length l.pins.items ≡ 255;
+  sets : HasFrames l.decided.window l.decided.path l.frame l.sets.items;
+}

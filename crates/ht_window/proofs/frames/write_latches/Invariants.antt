@@ -1,0 +1,8 @@
+use Rattle.std.proofs.Common.{◌≡◌, ◌<◌, ℕ, get_or}
+use Rattle.ht_tree.specs.Windows.{first_latch}
+use Rattle.ht_window.specs.Cells.{blank}
+use Rattle.ht_window.proofs.frames.write_latches.Given as goal
+
+abbrev pub invariant-loop-j : goal.invariant-loop-j
+invariant-loop-j l = (k : ℕ) → k < l.j → get_or l.latches k blank
+    ≡ first_latch l.decided.window l.decided.window.start l.decided.path k
