@@ -1,25 +1,12 @@
 -- How a group's fields stand for it.
-use Rattle.std.specs.Prelude.{◌≡◌, ◌<◌, ◌≤◌, ◌+◌, ℕ, List, [], ◌∷◌, true, false, take, drop, length, get_or, flat_map}
-use Rattle.ht_lanes.specs.Lanes.{Lanes}
-use Rattle.ht_net.specs.declared.fault.Fault.{Fault}
-use Rattle.ht_net.specs.Netlist.{Netlist, net_count, IsCircuit}
-use Rattle.ht_group.specs.GroupView.{FaultyMachine, GroupView, max_machines, max_words}
+use Rattle.std.specs.Prelude.{◌≡◌, ◌<◌, ◌≤◌, ℕ, true, false, take, drop, length, get_or, flat_map}
+use Rattle.ht_net.specs.Netlist.{net_count, IsCircuit}
+use Rattle.ht_group.specs.GroupView.{GroupView, max_machines, max_words}
 use Rattle.ht_group.specs.GoodFrames.{IsGoodFrame}
-use Rattle.ht_group.specs.LaneRules.{in_lane}
-use Rattle.ht_group.specs.MachineWords.{AreFilled, IsWord}
+use Rattle.ht_group.specs.MachineWords.{AreFilled, IsWord, machines_of}
 use Rattle.ht_group.specs.Schedules.{IsSchedule}
 use Rattle.ht_group.specs.declared.group.Group.TheInside.{Inside}
 use Rattle.ht_group.specs.declared.machines.Machines.{Machines}
-
--- the machines of lanes k, k + 1, .., by their faults and the words of the latches
-abbrev pub machines_from : ℕ → List Fault → List Lanes → List FaultyMachine
-machines_from k [] latches = []
-machines_from k (fault ∷ faults) latches =
-    record { fault = fault; latches = in_lane k latches } ∷ machines_from (k + 1) faults latches
-
--- the machines of a word
-abbrev pub machines_of : Netlist → Machines → List FaultyMachine
-machines_of c m = machines_from 0 m.lines.faults.items (drop c.inputs m.sources.words)
 
 -- the fields as a group: the machines of its words one after the other
 abbrev pub group_of : Inside → GroupView

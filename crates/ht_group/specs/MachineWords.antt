@@ -1,9 +1,10 @@
 -- Up to 64 machines in a word, in a frame and over a set of pending nets that other words share.
-use Rattle.std.specs.Prelude.{◌≡◌, ◌≢◌, ◌<◌, ◌≤◌, ◌-◌, ◌*◌, ◌++◌, ◌∷◌, [], ℕ, List, Bool, Some, true, false, min, length, get_or, take, drop}
+use Rattle.std.specs.Prelude.{◌≡◌, ◌≢◌, ◌<◌, ◌≤◌, ◌+◌, ◌-◌, ◌*◌, ◌++◌, ◌∷◌, [], ℕ, List, Bool, Some, true, false, min, length, get_or, take, drop}
 use Rattle.ht_diff.specs.declared.diffs.Diff.{Diff}
+use Rattle.ht_lanes.specs.Lanes.{Lanes}
 use Rattle.ht_net.specs.declared.fault.Fault.{Fault}
 use Rattle.ht_net.specs.Netlist.{Netlist, first_gate_net, net_count}
-use Rattle.ht_group.specs.GroupView.{lane_count}
+use Rattle.ht_group.specs.GroupView.{FaultyMachine, lane_count}
 use Rattle.ht_group.specs.LaneRules.{in_lane, lane_env}
 use Rattle.ht_group.specs.LatchWords.{HasDifferences}
 use Rattle.ht_group.specs.Overlays.{IsSpread}
@@ -12,6 +13,16 @@ use Rattle.ht_group.specs.StuckTables.{AreStuck, forced_net_of}
 use Rattle.ht_group.specs.declared.good_frame.GoodFrame.{GoodFrame}
 use Rattle.ht_group.specs.declared.machines.Machines.{Machines}
 use Rattle.ht_group.specs.declared.schedule.Schedule.{Schedule}
+
+-- the machines of lanes k, k + 1, .., by their faults and the words of the latches
+abbrev pub machines_from : ℕ → List Fault → List Lanes → List FaultyMachine
+machines_from k [] latches = []
+machines_from k (fault ∷ faults) latches =
+    record { fault = fault; latches = in_lane k latches } ∷ machines_from (k + 1) faults latches
+
+-- the machines of a word
+abbrev pub machines_of : Netlist → Machines → List FaultyMachine
+machines_of c m = machines_from 0 m.lines.faults.items (drop c.inputs m.sources.words)
 
 -- there is room for a circuit's lines, sources and nets
 pub record HasWordRoom (c : Netlist) (m : Machines) : Type 0 where
@@ -46,6 +57,14 @@ pub record IsWord (c : Netlist) (s : Schedule) (frame : GoodFrame) (pending : Li
 abbrev pub AreFilled : ℕ → List Machines → Type 0
 AreFilled n words = (w : ℕ) (d : Machines) → w < length words
     → length (get_or words w d).lines.faults.items ≡ min lane_count (n - lane_count * w)
+
+-- the words are laid over a frame, if they weren't
+pub record IsLaidOver (frame : GoodFrame) (old new : Machines) : Type 0 where
+  pub lines : new.lines ≡ old.lines
+  pub laid : new.laid ≡ true
+  pub same : old.laid ≡ true → new ≡ old
+  pub sources : old.laid ≡ false → IsSpread frame.sources.items new.sources
+  pub nets : old.laid ≡ false → IsSpread frame.values.items new.nets
 
 -- the same faults over the same words
 pub record AreSameMachines (old new : Machines) : Type 0 where
@@ -98,3 +117,10 @@ pub record IsComputed (c : Netlist) (x : ℕ) (old new : Machines) (changed : Bo
       (λ k. lane_env k new.nets.words x)
   pub others : (k y : ℕ) → y ≢ x → lane_env k new.nets.words y ≡ lane_env k old.nets.words y
   pub unchanged : changed ≡ false → new.nets.words ≡ old.nets.words
+
+-- a word with one machine more, or with the same machines
+abbrev pub HasOneMore : Netlist → Machines → FaultyMachine → Machines → Type 0
+HasOneMore c old one new = machines_of c new ≡ machines_of c old ++ one ∷ []
+
+abbrev pub HasSame : Netlist → Machines → Machines → Type 0
+HasSame c old new = machines_of c new ≡ machines_of c old

@@ -34,6 +34,34 @@ fn touch(ranks: &[u32], pending: &mut BitSet)
     }
 }
 
+// Makes nets pending, by their ranks, where the net that they read changed.
+fn touch_if(changed: bool, ranks: &[u32], pending: &mut BitSet)
+    requires { All (λ r. r < length pending.old) ranks.now }
+    ensures marks { length pending.new ≡ length pending.old }
+    ensures all { changed ≡ true → (r : ℕ) → Contains ranks.now r
+        → get_or pending.new r false ≡ true }
+    ensures unchanged { changed ≡ false → pending.new ≡ pending.old }
+    ensures rest { (r : ℕ) → ¬ Contains ranks.now r
+        → get_or pending.new r false ≡ get_or pending.old r false }
+{
+    if changed {
+        touch(ranks, pending);
+    }
+}
+
+// How many evaluations of a gate it is to evaluate the net of a rank in so many words: none where it is an input or a
+// flip-flop.
+fn evaluations(circuit: &Circuit, rank: u32, words: u32) -> u32
+    ensures { result ≡ (if nat_lt rank (first_gate_net circuit.now) then 0 else words) }
+{
+    let _ = circuit.nets();
+    if rank < circuit.inputs() + circuit.dffs() {
+        0
+    } else {
+        words
+    }
+}
+
 // Evaluates a net, and says whether its word changed.
 fn recompute(
     circuit: &Circuit,
@@ -140,14 +168,9 @@ fn fire(
 {
     let net = schedule.net(rank);
     pending.remove(rank);
-    if recompute_words(circuit, words, used, pins, net) {
-        touch(schedule.readers.row(net as usize), pending);
-    }
-    if rank < circuit.inputs() + circuit.dffs() {
-        0
-    } else {
-        used
-    }
+    let changed = recompute_words(circuit, words, used, pins, net);
+    touch_if(changed, schedule.readers.row(net as usize), pending);
+    evaluations(circuit, rank, used)
 }
 
 /// Evaluates each net that is pending in the first words, in the order of the schedule, and then those that read what

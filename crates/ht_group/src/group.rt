@@ -6,7 +6,7 @@ ghost use Rattle.ht_net.specs.Netlist.{net_count, no_net};
 ghost use Rattle.ht_net.specs.Detection.{terns_of};
 ghost use Rattle.ht_lanes.specs.Lanes.{is_set, lane};
 ghost use Rattle.ht_diff.specs.Differences.{with_differences};
-ghost use Rattle.ht_group.specs.GroupView.{AreLatches, FaultyMachine, HasSite, faulty_next, faulty_output, good_next, good_output, lane_count, max_machines, words_for};
+ghost use Rattle.ht_group.specs.GroupView.{AreLatches, FaultyMachine, HasSite, faulty_next, faulty_output, good_next, good_output, lane_count, max_machines, max_words, words_for};
 ghost use Rattle.ht_group.specs.MachineWords.{AreKept, HasWordRoom, IsBare, IsRestored};
 ghost use Rattle.ht_group.specs.declared.machines.Machines.{Machines};
 ghost use Rattle.ht_group.specs.GoodFrames.{HasFrameRoom};
@@ -199,10 +199,10 @@ impl<'c> Group<'c> {
         ensures err { OnErr result (self.new ≡ self.old) }
     {
         let w = (self.count / LANES) as usize;
-        self.words[w].lay(&self.frame);
-        self.words[w].add(
+        self.words[w].admit(
             self.circuit,
             &self.schedule,
+            &self.frame,
             fault,
             diffs,
             &mut self.pending,

@@ -1,11 +1,12 @@
 //! The machines of a word, one a lane.
-ghost use Rattle.std.specs.Prelude.{◌≡◌, ◌≢◌, ◌<◌, ◌+◌, ◌&&◌, ◌==◌, [], ℕ, Some, true, false, length, get_or, set, if◌then◌else◌, IfOk, OnOk, OnErr};
-ghost use Rattle.ht_net.specs.Netlist.{first_gate_net, net_count};
-ghost use Rattle.ht_group.specs.GoodFrames.{HasFrameRoom};
+ghost use Rattle.std.specs.Prelude.{◌≡◌, ◌≢◌, ◌<◌, ◌+◌, ◌&&◌, ◌==◌, [], ℕ, Some, true, false, length, get_or, set, drop, if◌then◌else◌, IfOk, OnOk, OnErr};
+ghost use Rattle.ht_net.specs.Netlist.{IsCircuit, first_gate_net, net_count};
+ghost use Rattle.ht_diff.specs.Differences.{with_differences};
+ghost use Rattle.ht_group.specs.GoodFrames.{HasFrameRoom, IsGoodFrame};
 ghost use Rattle.ht_group.specs.GroupView.{AreLatches, HasSite, lane_count};
 ghost use Rattle.ht_group.specs.LatchWords.{HasDifferences};
 ghost use Rattle.ht_group.specs.LaneRules.{in_lane, lane_env};
-ghost use Rattle.ht_group.specs.MachineWords.{AreSameMachines, HasWordRoom, IsAdded, IsBare};
+ghost use Rattle.ht_group.specs.MachineWords.{AreSameMachines, HasOneMore, HasSame, HasWordRoom, IsAdded, IsBare, IsLaidOver, IsWord};
 ghost use Rattle.ht_group.specs.Overlays.{IsSpread};
 ghost use Rattle.ht_group.specs.Schedules.{IsSchedule};
 ghost use Rattle.ht_group.specs.StuckTables.{AreStuck, forced_net_of};
@@ -141,17 +142,11 @@ impl Machines {
         self.laid = false;
     }
 
-    /// Lays the words over the values of a frame, unless they lie there.
-    pub fn lay(&mut self, frame: &GoodFrame)
+    // Lays the words over the values of a frame, unless they lie there.
+    fn lay(&mut self, frame: &GoodFrame)
         requires sources { length frame.now.sources.items ≡ length self.old.sources.good }
         requires nets { length frame.now.values.items ≡ length self.old.nets.good }
-        ensures lines { self.new.lines ≡ self.old.lines }
-        ensures laid { self.new.laid ≡ true }
-        ensures same { self.old.laid ≡ true → self.new ≡ self.old }
-        ensures sources { self.old.laid ≡ false
-            → IsSpread frame.now.sources.items self.new.sources }
-        ensures nets { self.old.laid ≡ false
-            → IsSpread frame.now.values.items self.new.nets }
+        ensures { IsLaidOver frame.now self.old self.new }
     {
         if !self.laid {
             self.sources.reset(&frame.sources);
@@ -160,11 +155,9 @@ impl Machines {
         }
     }
 
-    /// Gives the next lane a machine: a fault, and latches that are the good ones but for differences.
-    ///
-    /// # Errors
-    /// Out of memory; the machines are as before.
-    pub fn add(
+    // Gives the next lane a machine: a fault, and latches that are the good ones but for differences. Where memory runs
+    // out, the machines are as before.
+    fn add(
         &mut self,
         circuit: &Circuit,
         schedule: &Schedule,
@@ -191,6 +184,44 @@ impl Machines {
         self.lines.add(circuit, fault)?;
         put_differences(circuit, schedule, diffs, k, &mut self.sources, pending);
         touch_forced_net(circuit, schedule, fault.site, pending);
+        Ok(())
+    }
+
+    /// Gives the next lane a machine: a fault, and latches that are the good ones but for differences. The first one
+    /// finds the words laid over the frame.
+    ///
+    /// # Errors
+    /// Out of memory; the machines are as before.
+    pub fn admit(
+        &mut self,
+        circuit: &Circuit,
+        schedule: &Schedule,
+        frame: &GoodFrame,
+        fault: Fault,
+        diffs: &Diffs,
+        pending: &mut BitSet,
+    ) -> Result<(), AllocError>
+        requires circuit { IsCircuit circuit.now }
+        requires schedule { IsSchedule circuit.now schedule.now }
+        requires frame { IsGoodFrame circuit.now frame.now }
+        requires word { IsWord circuit.now schedule.now frame.now pending.old self.old }
+        requires room { length self.old.lines.faults.items < lane_count }
+        requires site { HasSite circuit.now fault.site }
+        requires known { AreLatches circuit.now diffs.now }
+        requires marks { length pending.old ≡ net_count circuit.now }
+        ensures word { IsWord circuit.now schedule.now frame.now pending.new self.new }
+        ensures ok { OnOk result (HasOneMore circuit.now self.old (record {
+          fault = fault;
+          latches = with_differences (drop circuit.now.inputs frame.now.sources.items) diffs.now;
+        }) self.new) }
+        ensures err { OnErr result (HasSame circuit.now self.old self.new) }
+        ensures idle { OnErr result (pending.new ≡ pending.old) }
+        ensures more { (r : ℕ) → get_or pending.old r false ≡ true
+            → get_or pending.new r false ≡ true }
+        ensures marks { length pending.new ≡ net_count circuit.now }
+    {
+        self.lay(frame);
+        self.add(circuit, schedule, fault, diffs, pending)?;
         Ok(())
     }
 
