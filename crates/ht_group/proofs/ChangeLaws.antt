@@ -1,212 +1,320 @@
--- What each call leaves is a group again.
-use Rattle.std.specs.Prelude.{set}
-use Rattle.std.proofs.Common.{◌≡◌, ◌≢◌, ◌<◌, ◌≤◌, ◌+◌, ◌∙◌, ℕ, List, [], ◌∷◌, ◌++◌, Bool, true, false, length, get_or, take, drop, replicate, ap, sym, subst, arith, Some, inl, inr}
-use Rattle.std.proofs.lemmas.Bool.{cases_Bool, cases_eq, cases_lt}
-use Rattle.std.proofs.lemmas.List.{length-map, length-append, drop-map, get_or-set_same, get_or-set_other, get_or-replicate, get_or_past, length-replicate}
+-- What each call leaves of a word's machines.
+use Rattle.std.proofs.Common.{◌≡◌, ◌<◌, ◌≤◌, ◌+◌, ◌∙◌, ℕ, List, [], ◌∷◌, ◌++◌, Bool, true, false, length, get_or, take, drop, ap, sym, subst, refl, arith, inl, inr}
+use Rattle.std.proofs.lemmas.Bool.{cases_Bool, cases_eq}
+use Rattle.std.proofs.lemmas.List.{length-map, length-append, drop-map}
 use Rattle.ht_tern.specs.declared.tern.Tern.{Tern}
 use Rattle.ht_tern.specs.declared.tern.Tern.TheVariants.{Unk}
 use Rattle.ht_lanes.specs.Lanes.{Lanes, lane}
 use Rattle.ht_diff.specs.declared.diffs.Diff.{Diff}
 use Rattle.ht_diff.specs.Differences.{with_differences}
-use Rattle.ht_net.specs.declared.fault.Site.{Site}
 use Rattle.ht_net.specs.declared.fault.Fault.{Fault}
 use Rattle.ht_net.specs.Netlist.{Netlist, net_count, IsCircuit}
 use Rattle.ht_group.specs.GoodFrames.{IsGoodFrame}
-use Rattle.ht_group.specs.GroupView.{GroupView}
-use Rattle.ht_group.specs.GroupOf.{IsGroup, group_of, machines_from}
 use Rattle.ht_group.specs.LaneRules.{rules_at, in_lane, lane_env, HasItsValue}
-use Rattle.ht_group.specs.LatchWords.{HasDifferences}
-use Rattle.ht_group.specs.Overlays.{OverlayView, IsSpread}
+use Rattle.ht_group.specs.MachineWords.{AreKept, AreRunning, AreSameMachines, IsAdded, IsBare, IsComputed, IsLaid, IsLaidOver, IsRestored, IsWord, machines_from, machines_of}
+use Rattle.ht_group.specs.Overlays.{IsSpread, OverlayView}
 use Rattle.ht_group.specs.Pending.{QuietHaveValues}
 use Rattle.ht_group.specs.Schedules.{IsSchedule}
-use Rattle.ht_group.specs.StuckTables.{AreStuck, forced_net_of}
+use Rattle.ht_group.specs.StuckTables.{AreStuck}
+use Rattle.ht_group.specs.declared.good_frame.GoodFrame.{GoodFrame}
+use Rattle.ht_group.specs.declared.machines.Machines.{Machines}
 use Rattle.ht_group.specs.declared.schedule.Schedule.{Schedule}
 use Rattle.ht_group.specs.declared.stuck_lines.StuckLines.{StuckLines}
-use Rattle.ht_group.specs.declared.group.Group.TheInside.{Inside}
 use Rattle.ht_group.proofs.KeptLaws.{value_kept}
 use Rattle.ht_group.proofs.SpreadLaws.{good_has_values}
 use Rattle.ht_group.proofs.ViewLaws.{machine_added}
 
-none_marked : (n r : ℕ) → get_or (replicate n false) r false ≡ false
-none_marked n r = elim (cases_lt r n) [
-  | inl inside ↦ get_or-replicate n r false false inside
-  | inr past ↦ get_or_past (replicate n false) r false (let e = length-replicate n false in omega (arith, past, e))
+-- a net that isn't pending afterwards wasn't before, where those that were still are
+not_before : (before pending : List Bool)
+    → ((r : ℕ) → get_or before r false ≡ true → get_or pending r false ≡ true)
+    → (r : ℕ) → get_or pending r false ≡ false → get_or before r false ≡ false
+not_before before pending more r idle = elim (cases_Bool (get_or before r false)) [
+  | inl was ↦ let bad : true ≡ false = sym (more r was) ∙ idle in cc
+  | inr free ↦ free
 ]
 
--- The good machine in every lane.
-pub fresh_group : (a : Inside) → IsCircuit a.circuit.now → IsSchedule a.circuit.now a.schedule
-    → AreStuck a.circuit.now a.lines → a.lines.faults.items ≡ [] → IsGoodFrame a.circuit.now a.frame
-    → IsSpread a.frame.sources.items a.sources → IsSpread a.frame.values.items a.nets
-    → (n : ℕ) → n ≡ net_count a.circuit.now → a.pending ≡ replicate n false → length a.pins.items ≡ 256 → IsGroup a
-fresh_group a circuit schedule stuck none frame sources nets n all marks room =
-    let good = sources.good in
-    let same : (k : ℕ) → k < 64 → in_lane k a.sources.words ≡ a.sources.good =
-    λ k below. sources.lanes k below ∙ sym sources.good in
-    let P : ℕ → List Tern → List Tern → ℕ → Type 0 = λ (k : ℕ) (s l : List Tern) (x : ℕ).
-    HasItsValue a.circuit.now (rules_at a.lines.faults.items k) s (λ y. get_or l y Unk) x in
-    record {
-      circuit = circuit;
-      schedule = schedule;
-      stuck = stuck;
-      frame = frame;
-      sources = good;
-      nets = nets.good;
-      source_count = sym (length-map a.sources.words (λ (w : Lanes). lane w 0))
-          ∙ (ap (λ (l : List Tern). length l) (sources.lanes 0 (omega arith)) ∙ frame.room.source_count);
-      marks = ap (λ (l : List Bool). length l) marks ∙ (length-replicate n false ∙ all);
-      room = room;
-      inputs = λ k below. ap (take a.circuit.now.inputs) (same k below);
-      spare = λ k past below. same k below;
-      quiet = λ k r below inside idle.
-          let x = get_or a.schedule.order.items r 0 in
-          subst (λ (s : List Tern). P k s (in_lane k a.nets.words) x) (sym (sources.lanes k below))
-          (subst (λ (l : List Tern). P k a.frame.sources.items l x) (sym (nets.lanes k below))
-          (good_has_values a.circuit.now circuit a.lines.faults.items k none a.frame.sources.items
-          a.frame.values.items frame.values x (schedule.ranks.known r inside)));
-      settled = λ is r. ap (λ (l : List Bool). get_or l r false) marks ∙ none_marked n r;
+module _ (c : Netlist) (s : Schedule) (frame : GoodFrame) where
+  -- more nets are pending
+  pub more_pending : (before pending : List Bool) (m : Machines)
+      → ((r : ℕ) → get_or before r false ≡ true → get_or pending r false ≡ true)
+      → IsWord c s frame before m → IsWord c s frame pending m
+  more_pending before pending m more word = record {
+    room = word.room;
+    bare = word.bare;
+    laid = λ is.
+        let old = word.laid is in
+        record {
+          sources = old.sources;
+          nets = old.nets;
+          source_count = old.source_count;
+          inputs = old.inputs;
+          spare = old.spare;
+          quiet = λ k r below inside idle. old.quiet k r below inside (not_before before pending more r idle);
+          still = old.still;
+        };
+  }
+
+  pub bare_word : (pending : List Bool) (m : Machines) → IsBare c m → IsWord c s frame pending m
+  bare_word pending m bare = record {
+    room = bare.room;
+    bare = λ is. bare.none;
+    laid = λ is. let bad : true ≡ false = sym is ∙ bare.unlaid in cc;
+  }
+
+  module _ (circuit : IsCircuit c) (schedule : IsSchedule c s) (good : IsGoodFrame c frame) where
+    -- The good machine in every lane.
+    laid_over : (pending : List Bool) (m : Machines) → m.lines.faults.items ≡ []
+        → IsSpread frame.sources.items m.sources → IsSpread frame.values.items m.nets → IsLaid c s frame pending m
+    laid_over pending m none sources nets =
+        let same : (k : ℕ) → k < 64 → in_lane k m.sources.words ≡ m.sources.good =
+        λ k below. sources.lanes k below ∙ sym sources.good in
+        let P : ℕ → List Tern → List Tern → ℕ → Type 0 = λ (k : ℕ) (t l : List Tern) (x : ℕ).
+        HasItsValue c (rules_at m.lines.faults.items k) t (λ y. get_or l y Unk) x in
+        let each : (k r : ℕ) → k < 64 → r < net_count c
+        → HasItsValue c (rules_at m.lines.faults.items k) (in_lane k m.sources.words) (lane_env k m.nets.words)
+        (get_or s.order.items r 0) =
+        λ k r below inside.
+        let x = get_or s.order.items r 0 in
+        subst (λ (t : List Tern). P k t (in_lane k m.nets.words) x) (sym (sources.lanes k below))
+        (subst (λ (l : List Tern). P k frame.sources.items l x) (sym (nets.lanes k below))
+        (good_has_values c circuit m.lines.faults.items k none frame.sources.items frame.values.items good.values x
+        (schedule.ranks.known r inside))) in
+        record {
+          sources = sources.good;
+          nets = nets.good;
+          source_count = sym (length-map m.sources.words (λ (w : Lanes). lane w 0))
+              ∙ (ap (λ (l : List Tern). length l) (sources.lanes 0 (omega arith)) ∙ good.room.source_count);
+          inputs = λ k below. ap (take c.inputs) (same k below);
+          spare = λ k past below. same k below;
+          quiet = λ k r below inside idle. each k r below inside;
+          still = λ none k r below inside idle. each k r below inside;
+        }
+
+    -- a word is laid over the frame, if it isn't
+    pub lay_word : (pending : List Bool) (old new : Machines) → IsWord c s frame pending old
+        → IsLaidOver frame old new → IsWord c s frame pending new
+    lay_word pending old new word h = elim (cases_Bool old.laid) [
+      | inl is ↦ subst (λ (m : Machines). IsWord c s frame pending m) (sym (h.same is)) word
+      | inr is ↦ record {
+        room = record {
+          stuck = rw (h.lines) word.room.stuck;
+          sources = ap (λ (l : List Tern). length l) (h.sources is).good ∙ good.room.source_count;
+          nets = ap (λ (l : List Tern). length l) (h.nets is).good ∙ good.room.value_count;
+        };
+        bare = λ no. let bad : true ≡ false = sym h.laid ∙ no in cc;
+        laid = λ yes. laid_over pending new (rw (h.lines) (word.bare is)) (h.sources is) (h.nets is);
+      }
+    ]
+
+    -- what a word's machines changed is put back
+    pub restored_word : (before pending : List Bool) (old new : Machines) → IsWord c s frame before old
+        → IsRestored c old new → IsWord c s frame pending new
+    restored_word before pending old new word back = record {
+      room = record {
+        stuck = back.stuck;
+        sources = ap (λ (l : List Tern). length l) back.sources.good ∙ word.room.sources;
+        nets = ap (λ (l : List Tern). length l) back.nets.good ∙ word.room.nets;
+      };
+      bare = λ is. back.none;
+      laid = λ is.
+          let was = word.laid (sym back.laid ∙ is) in
+          laid_over pending new back.none
+          (subst (λ (l : List Tern). IsSpread l new.sources) was.sources back.sources)
+          (subst (λ (l : List Tern). IsSpread l new.nets) was.nets back.nets);
     }
 
--- A net that isn't pending once the net that a fault touches is.
-pub forced_pending : (c : Netlist) (s : Schedule) → IsSchedule c s → (site : Site) (net : ℕ) → forced_net_of c site
-    ≡ Some net
-    → (put pending : List Bool) → length put ≡ net_count c → pending ≡ set put (get_or s.ranks.items net 0) true
-    → (r : ℕ) → r < net_count c → get_or pending r false ≡ false
-    → (get_or put r false ≡ false) × (forced_net_of c site ≢ Some (get_or s.order.items r 0))
-forced_pending c s is site net forced put pending marks set_one r inside idle =
-    let rank = get_or s.ranks.items net 0 in
-    let at = ap (λ (l : List Bool). get_or l r false) set_one in
-    elim (cases_eq r (get_or s.ranks.items net 0)) [
-      | inl e ↦
-          let here : get_or (set put rank true) r false ≡ true =
-          ap (λ (n : ℕ). get_or (set put rank true) n false) e
-          ∙ get_or-set_same put rank true false (omega (arith, e, inside, marks)) in
-          let bad : true ≡ false = sym here ∙ (sym at ∙ idle) in cc
-      | inr ne ↦ (
-        sym (get_or-set_other put rank r true false ne) ∙ (sym at ∙ idle),
-        λ other.
-            let same : Some net ≡ Some (get_or s.order.items r 0) = sym forced ∙ other in
-            let is_net : net ≡ get_or s.order.items r 0 = cc in
-            ne (sym (is.ranks.forth r inside) ∙ ap (λ (x : ℕ). get_or s.ranks.items x 0) (sym is_net)),
-      )
-    ]
+  -- a word without machines, whatever is pending
+  pub still_word : (before pending : List Bool) (m : Machines) → m.lines.faults.items ≡ []
+      → IsWord c s frame before m → IsWord c s frame pending m
+  still_word before pending m none word = record {
+    room = word.room;
+    bare = word.bare;
+    laid = λ is.
+        let old = word.laid is in
+        record {
+          sources = old.sources;
+          nets = old.nets;
+          source_count = old.source_count;
+          inputs = old.inputs;
+          spare = old.spare;
+          quiet = λ k r below inside idle. old.still none k r below inside refl;
+          still = old.still;
+        };
+  }
 
--- the group with other lines, sources and pending nets
-abbrev pub changed : Inside → StuckLines → OverlayView → List Bool → Inside
-changed a lines sources pending = record {
-  circuit = a.circuit;
-  schedule = a.schedule;
-  lines = lines;
-  frame = a.frame;
-  sources = sources;
-  nets = a.nets;
-  pending = pending;
-  settled = false;
-  pins = a.pins;
-}
+  -- a word with machines lies over the frame
+  pub has_laid : (pending : List Bool) (m : Machines) → 0 < length m.lines.faults.items
+      → IsWord c s frame pending m → m.laid ≡ true
+  has_laid pending m some word = elim (cases_Bool m.laid) [
+    | inl is ↦ is
+    | inr is ↦ let none = ap (λ (l : List Fault). length l) (word.bare is) in absurd (omega (arith, some, none))
+  ]
 
--- the group with one machine more
-abbrev pub with_machine : Fault → List Diff → GroupView → GroupView
-with_machine f diffs g = record {
-  circuit = g.circuit;
-  vector = g.vector;
-  latches = g.latches;
-  machines = g.machines ++ record { fault = f; latches = with_differences g.latches diffs } ∷ [];
-  settled = false;
-}
-
-module _ (a : Inside) (g : IsGroup a) (f : Fault) (diffs : List Diff) (k : ℕ) (lines : StuckLines)
-    (sources : OverlayView)
-    (put : List Bool) (lane_k : k ≡ length a.lines.faults.items) (room : length a.lines.faults.items < 64)
-    (stuck : AreStuck a.circuit.now lines) (more : lines.faults.items ≡ a.lines.faults.items ++ f ∷ [])
-    (good : sources.good ≡ a.sources.good)
-    (h : HasDifferences a.circuit.now a.schedule k diffs a.sources a.pending sources.words put) where
-  count_more : length lines.faults.items ≡ length a.lines.faults.items + 1
-  count_more = ap (λ (l : List Fault). length l) more ∙ length-append a.lines.faults.items (f ∷ [])
-
-  -- One machine more: its lane has its latches, and the nets that its fault or a latch touches are pending.
-  pub added_group : (pending : List Bool) → length pending ≡ net_count a.circuit.now
-      → ((r : ℕ) → r < net_count a.circuit.now → get_or pending r false ≡ false
-      → (get_or put r false ≡ false)
-      × (forced_net_of a.circuit.now f.site ≢ Some (get_or a.schedule.order.items r 0)))
-      → IsGroup (changed a lines sources pending)
-  added_group pending marks idle = record {
-    circuit = g.circuit;
-    schedule = g.schedule;
-    stuck = stuck;
-    frame = g.frame;
-    sources = good ∙ g.sources;
-    nets = g.nets;
-    source_count = h.count;
-    marks = marks;
-    room = g.room;
-    inputs = λ n below. elim (cases_eq n k) [
-      | inl e ↦ ap (λ (m : ℕ). take a.circuit.now.inputs (in_lane m sources.words)) e
-          ∙ (h.inputs ∙ ap (take a.circuit.now.inputs) (sym good))
-      | inr ne ↦ ap (take a.circuit.now.inputs) (h.others n below ne)
-          ∙ (g.inputs n below ∙ ap (take a.circuit.now.inputs) (sym good))
-    ];
-    spare = λ n past below.
-        let free : length a.lines.faults.items + 1 ≤ n = omega (arith, past, count_more) in
-        h.others n below (omega (arith, free, lane_k)) ∙ (g.spare n (omega (arith, free)) below ∙ sym good);
-    quiet = λ n r below inside is.
-        let x = get_or a.schedule.order.items r 0 in
-        let both = idle r inside is in
-        subst (λ (l : List Fault). HasItsValue a.circuit.now (rules_at l n) (in_lane n sources.words)
-        (lane_env n a.nets.words) x) (sym more)
-        (value_kept a.circuit.now a.lines.faults.items f (in_lane n a.sources.words) (in_lane n sources.words)
-        (lane_env n a.nets.words) x n (sym (h.quiet n r below inside both.0)) both.1
-        (g.quiet n r below inside (was_idle r both.0)));
-    settled = λ is. let bad : false ≡ true = is in cc;
-  } where
-    was_idle : (r : ℕ) → get_or put r false ≡ false → get_or a.pending r false ≡ false
-    was_idle r is = elim (cases_Bool (get_or a.pending r false)) [
-      | inl was ↦ let bad : true ≡ false = sym (h.more r was) ∙ is in cc
-      | inr free ↦ free
-    ]
-
-  -- and the group has it at the end
-  pub added_view : (pending : List Bool)
-      → group_of (changed a lines sources pending) ≡ with_machine f diffs (group_of a)
-  added_view pending =
-      let n = a.circuit.now.inputs in
-      let old = drop a.circuit.now.inputs a.sources.words in
-      let new = drop a.circuit.now.inputs sources.words in
-      let lane_of = λ (m : ℕ) (w : Lanes). lane w m in
-      let latches : in_lane (0 + length a.lines.faults.items) (drop a.circuit.now.inputs sources.words)
-      ≡ with_differences (drop a.circuit.now.inputs a.sources.good) diffs =
-      ap (λ (m : ℕ). in_lane m new) (let e : 0 + length a.lines.faults.items ≡ k = omega (arith, lane_k) in e)
-      ∙ (sym (drop-map (lane_of k) n sources.words) ∙ h.latches) in
-      let machines = machine_added 0 a.lines.faults.items f old new
-      (λ m from below.
-      sym (drop-map (lane_of m) n sources.words)
-      ∙ (ap (drop n) (h.others m (omega (arith, below, room)) (omega (arith, below, lane_k)))
-      ∙ drop-map (lane_of m) n a.sources.words)) in
-      λ i. record {
-        circuit = a.circuit.now;
-        vector = take n (good i);
-        latches = drop n (good i);
-        machines = (ap (λ (l : List Fault). machines_from 0 l new) more ∙ (machines
-            ∙ ap (λ (l : List Tern). machines_from 0 a.lines.faults.items old ++ record { fault = f; latches = l }
-            ∷ []) latches)) i;
-        settled = false;
+  -- Its machines run until no net is pending.
+  pub runs : (pending : List Bool) (m : Machines) → 0 < length m.lines.faults.items
+      → IsWord c s frame pending m → AreRunning c s pending m
+  runs pending m some word =
+      let laid = word.laid (has_laid pending m some word) in
+      record {
+        room = record { stuck = word.room.stuck; sources = laid.source_count; nets = word.room.nets };
+        quiet = laid.quiet;
       }
 
--- Lines with the same faults.
-pub same_lines : (a : Inside) → IsGroup a → (lines : StuckLines) → AreStuck a.circuit.now lines
-    → lines.faults.items ≡ a.lines.faults.items → IsGroup (record a { lines = lines })
-same_lines a g lines stuck same = record {
-  circuit = g.circuit;
-  schedule = g.schedule;
-  stuck = stuck;
-  spare = λ k past below. g.spare k (let e = ap (λ (l : List Fault). length l) same in omega (arith, past, e)) below;
-  frame = g.frame;
-  sources = g.sources;
-  nets = g.nets;
-  quiet = subst (λ (l : List Fault). QuietHaveValues a.circuit.now a.schedule l a.sources.words a.pending a.nets.words)
-      (sym same) g.quiet;
-  source_count = g.source_count;
-  marks = g.marks;
-  room = g.room;
-  inputs = g.inputs;
-  settled = g.settled;
+  pub ran_word : (before pending : List Bool) (old new : Machines) → 0 < length old.lines.faults.items
+      → IsWord c s frame before old → AreKept old new → AreRunning c s pending new → IsWord c s frame pending new
+  ran_word before pending old new some word kept running =
+      let was = word.laid (has_laid before old some word) in
+      record {
+        room = record {
+          stuck = running.room.stuck;
+          sources = rw (kept.sources) word.room.sources;
+          nets = running.room.nets;
+        };
+        bare = λ is. rw (kept.lines) (word.bare (sym kept.laid ∙ is));
+        laid = λ is. record {
+          sources = rw (kept.sources) was.sources;
+          nets = kept.good ∙ was.nets;
+          source_count = running.room.sources;
+          inputs = rw (kept.sources) was.inputs;
+          spare = rw (kept.lines, kept.sources) was.spare;
+          quiet = running.quiet;
+          still = λ none.
+              let e = ap (λ (l : List Fault). length l) none in
+              let f = ap (λ (l : StuckLines). length l.faults.items) kept.lines in
+              absurd (omega (arith, some, e, f));
+        };
+      }
+
+  -- the same faults over the same words
+  pub same_word : (pending : List Bool) (old new : Machines) → AreStuck c new.lines → AreSameMachines old new
+      → IsWord c s frame pending old → IsWord c s frame pending new
+  same_word pending old new stuck same word = record {
+    room = record {
+      stuck = stuck;
+      sources = rw (same.sources) word.room.sources;
+      nets = rw (same.nets) word.room.nets;
+    };
+    bare = λ is. same.faults ∙ word.bare (sym same.laid ∙ is);
+    laid = λ is.
+        let was = word.laid (sym same.laid ∙ is) in
+        record {
+          sources = rw (same.sources) was.sources;
+          nets = rw (same.nets) was.nets;
+          source_count = rw (same.sources) was.source_count;
+          inputs = rw (same.sources) was.inputs;
+          spare = rw (same.faults, same.sources) was.spare;
+          quiet = rw (same.faults, same.sources, same.nets) was.quiet;
+          still = rw (same.faults, same.sources, same.nets) was.still;
+        };
+  }
+
+  -- the machines of a word that is laid over the frame, and of one with the same faults
+  pub laid_machines : (pending : List Bool) (old new : Machines) → IsWord c s frame pending old
+      → IsLaidOver frame old new → machines_of c new ≡ machines_of c old
+  laid_machines pending old new word h = elim (cases_Bool old.laid) [
+    | inl is ↦ ap (machines_of c) (h.same is)
+    | inr is ↦
+        let none = word.bare is in
+        (λ i. machines_from 0 (h.lines i).faults.items (drop c.inputs new.sources.words))
+        ∙ ((λ i. machines_from 0 (none i) (drop c.inputs new.sources.words))
+        ∙ (λ i. machines_from 0 (sym none i) (drop c.inputs old.sources.words)))
+  ]
+
+  pub same_machines : (old new : Machines) → AreSameMachines old new → machines_of c new ≡ machines_of c old
+  same_machines old new same =
+      λ i. machines_from 0 (same.faults i) (drop c.inputs (same.sources i).words)
+
+  module _ (before pending : List Bool) (old new : Machines) (f : Fault) (diffs : List Diff)
+      (word : IsWord c s frame before old) (is_laid : old.laid ≡ true) (room : length old.lines.faults.items < 64)
+      (h : IsAdded c s f diffs old before new pending) where
+    count_more : length new.lines.faults.items ≡ length old.lines.faults.items + 1
+    count_more = ap (λ (l : List Fault). length l) h.more ∙ length-append old.lines.faults.items (f ∷ [])
+
+    -- One machine more: its lane has its latches, and the nets that its fault or a latch touches are pending.
+    pub added_word : AreStuck c new.lines → IsWord c s frame pending new
+    added_word stuck =
+        let was = word.laid is_laid in
+        record {
+          room = record {
+            stuck = stuck;
+            sources = ap (λ (l : List Tern). length l) h.good ∙ word.room.sources;
+            nets = rw (h.nets) word.room.nets;
+          };
+          bare = λ is. let bad : true ≡ false = sym is_laid ∙ (sym h.laid ∙ is) in cc;
+          laid = λ is. record {
+            sources = h.good ∙ was.sources;
+            nets = rw (h.nets) was.nets;
+            source_count = h.put.count;
+            inputs = λ n below. elim (cases_eq n (length old.lines.faults.items)) [
+              | inl e ↦ ap (λ (k : ℕ). take c.inputs (in_lane k new.sources.words)) e
+                  ∙ (h.put.inputs ∙ ap (take c.inputs) (sym h.good))
+              | inr ne ↦ ap (take c.inputs) (h.put.others n below ne)
+                  ∙ (was.inputs n below ∙ ap (take c.inputs) (sym h.good))
+            ];
+            spare = λ n past below.
+                let free : length old.lines.faults.items + 1 ≤ n = omega (arith, past, count_more) in
+                h.put.others n below (omega (arith, free))
+                ∙ (was.spare n (omega (arith, free)) below ∙ sym h.good);
+            quiet = λ n r below inside is.
+                let x = get_or s.order.items r 0 in
+                subst (λ (l : List Lanes). HasItsValue c (rules_at new.lines.faults.items n)
+                (in_lane n new.sources.words) (lane_env n l) x) (sym (ap (λ (o : OverlayView). o.words) h.nets))
+                (subst (λ (l : List Fault). HasItsValue c (rules_at l n) (in_lane n new.sources.words)
+                (lane_env n old.nets.words) x) (sym h.more)
+                (value_kept c old.lines.faults.items f (in_lane n old.sources.words) (in_lane n new.sources.words)
+                (lane_env n old.nets.words) x n (sym (h.put.quiet n r below inside is)) (h.forced r inside is)
+                (was.quiet n r below inside (not_before before pending h.put.more r is))));
+            still = λ none.
+                let e = ap (λ (l : List Fault). length l) none in absurd (omega (arith, e, count_more));
+          };
+        }
+
+    -- and the word has it at the end
+    pub added_machine : machines_of c new
+        ≡ machines_of c old ++ record { fault = f; latches = with_differences (drop c.inputs frame.sources.items) diffs }
+        ∷ []
+    added_machine =
+        let was = word.laid is_laid in
+        let n = c.inputs in
+        let k = length old.lines.faults.items in
+        let before = drop c.inputs old.sources.words in
+        let after = drop c.inputs new.sources.words in
+        let lane_of = λ (m : ℕ) (w : Lanes). lane w m in
+        let latches : in_lane (0 + k) after ≡ with_differences (drop c.inputs frame.sources.items) diffs =
+        ap (λ (m : ℕ). in_lane m after) (let e : 0 + k ≡ k = omega arith in e)
+        ∙ (sym (drop-map (lane_of k) n new.sources.words)
+        ∙ (h.put.latches ∙ ap (λ (l : List Tern). with_differences (drop c.inputs l) diffs) was.sources)) in
+        let machines = machine_added 0 old.lines.faults.items f before after
+        (λ m from below.
+        sym (drop-map (lane_of m) n new.sources.words)
+        ∙ (ap (drop n) (h.put.others m (omega (arith, below, room)) (omega (arith, below)))
+        ∙ drop-map (lane_of m) n old.sources.words)) in
+        ap (λ (l : List Fault). machines_from 0 l after) h.more ∙ (machines
+        ∙ ap (λ (l : List Tern). machines_from 0 old.lines.faults.items before ++ record { fault = f; latches = l }
+        ∷ []) latches)
+
+-- a word that is as before
+pub kept_itself : (old new : Machines) → new ≡ old → AreKept old new
+kept_itself old new same = subst (λ (m : Machines). AreKept old m) (sym same)
+    (record { lines = refl; sources = refl; good = refl; laid = refl })
+
+pub kept_twice : (a b d : Machines) → AreKept a b → AreKept b d → AreKept a d
+kept_twice a b d first second = record {
+  lines = second.lines ∙ first.lines;
+  sources = second.sources ∙ first.sources;
+  good = second.good ∙ first.good;
+  laid = second.laid ∙ first.laid;
+}
+
+-- A net is evaluated, and those that aren't pending have their values: the machines run on.
+pub computed_running : (c : Netlist) (s : Schedule) (before pending : List Bool) (x : ℕ) (old new : Machines)
+    (changed : Bool) → AreRunning c s before old → IsComputed c x old new changed
+    → QuietHaveValues c s old.lines.faults.items old.sources.words pending new.nets.words → AreRunning c s pending new
+computed_running c s before pending x old new changed running done quiet = record {
+  room = record {
+    stuck = rw (done.kept.lines) running.room.stuck;
+    sources = rw (done.kept.sources) running.room.sources;
+    nets = rw (done.kept.good) running.room.nets;
+  };
+  quiet = rw (done.kept.lines, done.kept.sources) quiet;
 }

@@ -81,12 +81,12 @@ module _ (c : Netlist) (s : Schedule) (is : IsSchedule c s) where
         is.readers.within x (get_or row k d) (has_reader (get_or row k d) (Contains-get_or row k d within))
 
 -- What is pending after a net was fired and the nets in a row were made pending.
-module _ (pending removed touched : List Bool) (row : List ℕ) (rank : ℕ) (is : removed ≡ set pending rank false)
-    (all : (r : ℕ) → Contains row r → get_or touched r false ≡ true)
-    (rest : (r : ℕ) → ¬ Contains row r → get_or touched r false ≡ get_or removed r false) where
-  pub not_touched : (q : ℕ) → get_or touched q false ≡ false → ¬ Contains row q
-  not_touched q idle has = let bad : true ≡ false = sym (all q has) ∙ idle in cc
+pub not_touched : (touched : List Bool) (row : List ℕ) → ((r : ℕ) → Contains row r → get_or touched r false ≡ true)
+    → (q : ℕ) → get_or touched q false ≡ false → ¬ Contains row q
+not_touched touched row all q idle has = let bad : true ≡ false = sym (all q has) ∙ idle in cc
 
+module _ (pending removed touched : List Bool) (row : List ℕ) (rank : ℕ) (is : removed ≡ set pending rank false)
+    (rest : (r : ℕ) → ¬ Contains row r → get_or touched r false ≡ get_or removed r false) where
   pub touched_as_before : (q : ℕ) → q ≢ rank → ¬ Contains row q → get_or touched q false ≡ get_or pending q false
   touched_as_before q ne apart =
       rest q apart ∙ (ap (λ (l : List Bool). get_or l q false) is ∙ get_or-set_other pending rank q false false ne)

@@ -1,82 +1,169 @@
 -- What the nets of a group have.
 use Rattle.std.specs.List.{slice_get}
-use Rattle.std.proofs.Common.{◌≡◌, ◌<◌, ◌≤◌, ◌+◌, ◌∙◌, ℕ, List, true, length, get_or, take, drop, ap, sym, subst, arith, Some, None}
-use Rattle.std.proofs.lemmas.Option.{slice_get_past, slice_get_within}
+use Rattle.std.specs.Prelude.{min}
+use Rattle.std.proofs.Common.{◌≡◌, ◌<◌, ◌≤◌, ◌+◌, ◌*◌, ◌-◌, ◌∙◌, ℕ, List, Bool, true, false, length, get_or, take, drop, ap, sym, subst, arith, Some, None}
+use Rattle.std.proofs.lemmas.Option.{slice_get_past}
 use Rattle.std.proofs.lemmas.List.{drop-map}
 use Rattle.ht_tern.specs.declared.tern.Tern.{Tern}
 use Rattle.ht_tern.specs.declared.tern.Tern.TheVariants.{Unk}
 use Rattle.ht_lanes.specs.Lanes.{Lanes, lane}
-use Rattle.ht_net.specs.Netlist.{net_count}
+use Rattle.ht_net.specs.Netlist.{Netlist, net_count, IsCircuit}
 use Rattle.ht_net.specs.Frame.{net_value}
 use Rattle.ht_net.specs.Faults.{tern_rules}
-use Rattle.ht_group.specs.GroupView.{FaultyMachine}
+use Rattle.ht_group.specs.GroupView.{FaultyMachine, GroupView, words_for}
 use Rattle.ht_group.specs.GroupOf.{IsGroup, group_of}
+use Rattle.ht_group.specs.MachineWords.{AreFilled, IsLaid, machines_of}
 use Rattle.ht_group.specs.NetValues.{good_value, faulty_value}
 use Rattle.ht_group.specs.LaneRules.{rules_at, in_lane, lane_env, HasItsValue}
+use Rattle.ht_group.specs.Schedules.{IsSchedule}
+use Rattle.ht_group.specs.StuckTables.{AreStuck}
+use Rattle.ht_group.specs.declared.good_frame.GoodFrame.{GoodFrame}
+use Rattle.ht_group.specs.declared.schedule.Schedule.{Schedule}
+use Rattle.ht_group.specs.declared.machines.Machines.{Machines}
 use Rattle.ht_group.specs.declared.group.Group.TheInside.{Inside}
+use Rattle.ht_group.proofs.BlockLaws.{AreFull, all_count, item_at}
+use Rattle.ht_group.proofs.ChangeLaws.{has_laid}
 use Rattle.ht_group.proofs.DriveLaws.{values_are_frame}
 use Rattle.ht_group.proofs.ViewLaws.{machine_at, machine_count}
 
-module _ (a : Inside) (g : IsGroup a) where
-  pub good_of : (x : ℕ) → x < net_count a.circuit.now → get_or a.nets.good x Unk ≡ good_value (group_of a) x
-  good_of x inside =
-      ap (λ (l : List Tern). get_or l x Unk) g.nets
-      ∙ (g.frame.values x inside
-      ∙ ap (λ (l : List Tern). net_value a.circuit.now (tern_rules None) (take a.circuit.now.inputs l)
-      (drop a.circuit.now.inputs l) x) (sym g.sources))
+-- the machines of words that are filled in turn
+pub filled_machines : (c : Netlist) (n : ℕ) (words : List Machines) → AreFilled n words
+    → AreFull (machines_of c) n words
+filled_machines c n words filled w d inside =
+    let m = get_or words w d in
+    machine_count 0 m.lines.faults.items (drop c.inputs m.sources.words) ∙ filled w d inside
 
-  has_value : a.settled ≡ true → (k : ℕ) → k < 64 → (x : ℕ) → x < net_count a.circuit.now
-      → HasItsValue a.circuit.now (rules_at a.lines.faults.items k) (in_lane k a.sources.words)
-      (lane_env k a.nets.words) x
-  has_value settled k below x inside =
-      let r = get_or a.schedule.ranks.items x 0 in
-      subst (λ (y : ℕ). HasItsValue a.circuit.now (rules_at a.lines.faults.items k) (in_lane k a.sources.words)
-      (lane_env k a.nets.words) y) (g.schedule.ranks.back x inside)
-      (g.quiet k r below (g.schedule.ranks.small x inside) (g.settled settled r))
+module _ (c : Netlist) (s : Schedule) (frame : GoodFrame) (pending : List Bool) (m : Machines) (circuit : IsCircuit c)
+    (schedule : IsSchedule c s) (laid : IsLaid c s frame pending m)
+    (none : (r : ℕ) → get_or pending r false ≡ false) where
+  has_value : (k : ℕ) → k < 64 → (x : ℕ) → x < net_count c
+      → HasItsValue c (rules_at m.lines.faults.items k) (in_lane k m.sources.words) (lane_env k m.nets.words) x
+  has_value k below x inside =
+      let r = get_or s.ranks.items x 0 in
+      subst (λ (y : ℕ). HasItsValue c (rules_at m.lines.faults.items k) (in_lane k m.sources.words)
+      (lane_env k m.nets.words) y) (schedule.ranks.back x inside)
+      (laid.quiet k r below (schedule.ranks.small x inside) (none r))
 
-  lane_value : a.settled ≡ true → (x : ℕ) → x < net_count a.circuit.now → (k : ℕ) → k < 64
-      → lane_env k a.nets.words x
-      ≡ net_value a.circuit.now (rules_at a.lines.faults.items k) (take a.circuit.now.inputs a.sources.good)
-      (drop a.circuit.now.inputs (in_lane k a.sources.words)) x
-  lane_value settled x inside k below =
-      values_are_frame a.circuit.now g.circuit (rules_at a.lines.faults.items k) (in_lane k a.sources.words)
-      (lane_env k a.nets.words) (has_value settled k below) x inside
-      ∙ ap (λ (v : List Tern). net_value a.circuit.now (rules_at a.lines.faults.items k) v
-      (drop a.circuit.now.inputs (in_lane k a.sources.words)) x) (g.inputs k below)
+  lane_value : (x : ℕ) → x < net_count c → (k : ℕ) → k < 64
+      → lane_env k m.nets.words x
+      ≡ net_value c (rules_at m.lines.faults.items k) (take c.inputs frame.sources.items)
+      (drop c.inputs (in_lane k m.sources.words)) x
+  lane_value x inside k below =
+      values_are_frame c circuit (rules_at m.lines.faults.items k) (in_lane k m.sources.words)
+      (lane_env k m.nets.words) (has_value k below) x inside
+      ∙ ap (λ (v : List Tern). net_value c (rules_at m.lines.faults.items k) v
+      (drop c.inputs (in_lane k m.sources.words)) x)
+      (laid.inputs k below ∙ ap (take c.inputs) laid.sources)
 
   -- each machine's value of a net, and the good one in a lane without a machine
-  pub machine_value : a.settled ≡ true → (x : ℕ) → x < net_count a.circuit.now → (k : ℕ) (m : FaultyMachine)
-      → slice_get (group_of a).machines k ≡ Some m → lane_env k a.nets.words x ≡ faulty_value (group_of a) m x
-  machine_value settled x inside k m has =
-      let c = a.circuit.now in
-      let latches = drop a.circuit.now.inputs a.sources.words in
-      let is = machine_at 0 a.lines.faults.items latches k m has in
+  machine_value : (x : ℕ) → x < net_count c → (k : ℕ) → k < 64 → (o : FaultyMachine)
+      → slice_get (machines_of c m) k ≡ Some o → lane_env k m.nets.words x
+      ≡ net_value c (tern_rules (Some o.fault)) (take c.inputs frame.sources.items) o.latches x
+  machine_value x inside k below o has =
+      let latches = drop c.inputs m.sources.words in
+      let is = machine_at 0 m.lines.faults.items latches k o has in
       let lane_k : 0 + k ≡ k = omega arith in
-      let below : k < 64 = let less = slice_get_within a.lines.faults.items k m.fault is.fault
-      in omega (arith, less, g.stuck.table.few) in
-      let held : drop a.circuit.now.inputs (in_lane k a.sources.words) ≡ m.latches =
-      drop-map (λ (w : Lanes). lane w k) a.circuit.now.inputs a.sources.words
+      let held : drop c.inputs (in_lane k m.sources.words) ≡ o.latches =
+      drop-map (λ (w : Lanes). lane w k) c.inputs m.sources.words
       ∙ (ap (λ (i : ℕ). in_lane i latches) (sym lane_k) ∙ sym is.latches) in
-      lane_value settled x inside k below
-      ∙ (λ i. net_value c (tern_rules (is.fault i)) (take a.circuit.now.inputs a.sources.good) (held i) x)
+      lane_value x inside k below
+      ∙ (λ i. net_value c (tern_rules (is.fault i)) (take c.inputs frame.sources.items) (held i) x)
 
-  pub spare_value : a.settled ≡ true → (x : ℕ) → x < net_count a.circuit.now → (k : ℕ)
-      → length (group_of a).machines ≤ k → k < 64 → lane_env k a.nets.words x ≡ good_value (group_of a) x
-  spare_value settled x inside k past below =
-      let c = a.circuit.now in
-      let count = machine_count 0 a.lines.faults.items (drop a.circuit.now.inputs a.sources.words) in
-      let free : length a.lines.faults.items ≤ k = omega (arith, past, count) in
-      let none = slice_get_past a.lines.faults.items k free in
-      lane_value settled x inside k below
-      ∙ (λ i. net_value c (tern_rules (none i)) (take a.circuit.now.inputs a.sources.good)
-      (drop a.circuit.now.inputs (g.spare k free below i)) x)
+  spare_value : (x : ℕ) → x < net_count c → (k : ℕ) → k < 64 → length m.lines.faults.items ≤ k
+      → lane_env k m.nets.words x
+      ≡ net_value c (tern_rules None) (take c.inputs frame.sources.items) (drop c.inputs frame.sources.items) x
+  spare_value x inside k below free =
+      let none = slice_get_past m.lines.faults.items k free in
+      lane_value x inside k below
+      ∙ (λ i. net_value c (tern_rules (none i)) (take c.inputs frame.sources.items)
+      (drop c.inputs ((laid.spare k free below ∙ laid.sources) i)) x)
 
--- the fault of a lane, or none
-pub fault_of : (a : Inside) (k : ℕ) (m : FaultyMachine) → slice_get (group_of a).machines k ≡ Some m
-    → slice_get a.lines.faults.items k ≡ Some m.fault
-fault_of a k m has = (machine_at 0 a.lines.faults.items (drop a.circuit.now.inputs a.sources.words) k m has).fault
+module _ (a : Inside) (g : IsGroup a) where
+  pub good_of : (x : ℕ) → x < net_count a.circuit.now → get_or a.frame.values.items x Unk ≡ good_value (group_of a) x
+  good_of x inside = g.frame.values x inside
 
-pub spare_lane : (a : Inside) (k : ℕ) → length (group_of a).machines ≤ k → slice_get a.lines.faults.items k ≡ None
-spare_lane a k past =
-    let count = machine_count 0 a.lines.faults.items (drop a.circuit.now.inputs a.sources.words) in
-    slice_get_past a.lines.faults.items k (omega (arith, past, count))
+  pub group_count : length (group_of a).machines ≡ a.count
+  group_count =
+      let n = g.word_count in
+      let few = g.few in
+      all_count (machines_of a.circuit.now) a.words.items a.count (omega (arith, n, few))
+      (filled_machines a.circuit.now a.count a.words.items g.filled)
+
+  pub group_room : (v : GroupView) → group_of a ≡ v → length v.machines < 256 → a.count < 256
+  group_room v is room =
+      let count = group_count in
+      let same = ap (λ (u : GroupView). length u.machines) is in
+      omega (arith, room, count, same)
+
+  pub used_word : (v : GroupView) → group_of a ≡ v → (w : ℕ) → w < words_for (length v.machines)
+      → w < words_for a.count
+  used_word v is w used =
+      let count = group_count in
+      let same = ap (λ (u : GroupView). length u.machines) is in
+      omega (arith, used, count, same)
+
+  pub word_inside : (w : ℕ) → w < words_for a.count → w < length a.words.items
+  word_inside w used = let n = g.word_count in let few = g.few in omega (arith, used, n, few)
+
+  -- A word that has machines, and where they stand in the group.
+  module _ (w : ℕ) (d : Machines) (used : w < words_for a.count) where
+    abbrev m : Machines
+    m = get_or a.words.items w d
+
+    pub word_room : length m.nets.good ≡ net_count a.circuit.now
+    word_room =
+        let n = g.word_count in
+        (g.words w d (let i = word_inside w used in omega (arith, i, n))).room.nets
+
+    pub word_stuck : AreStuck a.circuit.now m.lines
+    word_stuck =
+        let n = g.word_count in
+        (g.words w d (let i = word_inside w used in omega (arith, i, n))).room.stuck
+
+    pub word_filled : length m.lines.faults.items ≡ min 64 (a.count - 64 * w)
+    word_filled = g.filled w d (word_inside w used)
+
+    pub word_laid : IsLaid a.circuit.now a.schedule a.frame a.pending m
+    word_laid =
+        let n = g.word_count in
+        let word = g.words w d (let i = word_inside w used in omega (arith, i, n)) in
+        word.laid (has_laid a.circuit.now a.schedule a.frame a.pending m
+        (let f = word_filled in omega (arith, f, used)) word)
+
+    pub word_machine : (k : ℕ) → k < 64 → slice_get (group_of a).machines (64 * w + k)
+        ≡ slice_get (machines_of a.circuit.now m) k
+    word_machine k below =
+        let n = g.word_count in
+        let few = g.few in
+        item_at (machines_of a.circuit.now) a.words.items a.count w k d below (word_inside w used) (omega (arith, n, few))
+        (filled_machines a.circuit.now a.count a.words.items g.filled)
+
+    pub word_value : a.settled ≡ true → (x : ℕ) → x < net_count a.circuit.now → (k : ℕ) (o : FaultyMachine) → k < 64
+        → slice_get (group_of a).machines (64 * w + k) ≡ Some o
+        → lane_env k m.nets.words x ≡ faulty_value (group_of a) o x
+    word_value settled x inside k o below has =
+        machine_value a.circuit.now a.schedule a.frame a.pending m g.circuit g.schedule word_laid (g.settled settled) x
+        inside k below o (sym (word_machine k below) ∙ has)
+
+    free_lane : (k : ℕ) → k < 64 → length (group_of a).machines ≤ 64 * w + k → length m.lines.faults.items ≤ k
+    free_lane k below past =
+        let count = group_count in
+        let f = word_filled in
+        omega (arith, past, count, f)
+
+    pub word_spare : a.settled ≡ true → (x : ℕ) → x < net_count a.circuit.now → (k : ℕ) → k < 64
+        → length (group_of a).machines ≤ 64 * w + k → lane_env k m.nets.words x ≡ good_value (group_of a) x
+    word_spare settled x inside k below past =
+        spare_value a.circuit.now a.schedule a.frame a.pending m g.circuit g.schedule word_laid (g.settled settled) x
+        inside k below (free_lane k below past)
+
+    -- the fault of a lane, or none
+    pub fault_of : (k : ℕ) (o : FaultyMachine) → k < 64 → slice_get (group_of a).machines (64 * w + k) ≡ Some o
+        → slice_get m.lines.faults.items k ≡ Some o.fault
+    fault_of k o below has =
+        (machine_at 0 m.lines.faults.items (drop a.circuit.now.inputs m.sources.words) k o
+        (sym (word_machine k below) ∙ has)).fault
+
+    pub spare_lane : (k : ℕ) → k < 64 → length (group_of a).machines ≤ 64 * w + k
+        → slice_get m.lines.faults.items k ≡ None
+    spare_lane k below past = slice_get_past m.lines.faults.items k (free_lane k below past)

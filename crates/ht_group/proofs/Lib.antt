@@ -12,6 +12,10 @@ pub mod KeptLaws
 pub mod SpreadLaws
 pub mod ViewLaws
 pub mod GroupLaws
+pub mod WordsLaws
+pub mod AddLaws
 pub mod PutLaws
+pub mod BlockLaws
+pub mod TouchLaws
 pub mod ChangeLaws
 pub mod ShownLaws

@@ -4,7 +4,7 @@ use Rattle.std.proofs.Common.{◌≡◌, ◌<◌, ◌≤◌, ◌+◌, ◌∙◌,
 use Rattle.ht_lanes.specs.Lanes.{Lanes}
 use Rattle.ht_net.specs.declared.fault.Fault.{Fault}
 use Rattle.ht_group.specs.GroupView.{FaultyMachine}
-use Rattle.ht_group.specs.GroupOf.{machines_from}
+use Rattle.ht_group.specs.MachineWords.{machines_from}
 use Rattle.ht_group.specs.LaneRules.{in_lane}
 
 pub machine_count : (n : ℕ) (faults : List Fault) (latches : List Lanes)

@@ -1,5 +1,5 @@
 -- A group of faulty machines in one frame of a circuit, as contracts see it.
-use Rattle.std.specs.Prelude.{◌<◌, ℕ, List, Bool, All, Some, None, length, get_or}
+use Rattle.std.specs.Prelude.{◌<◌, ◌+◌, ◌-◌, ◌/◌, ℕ, List, Bool, All, Some, None, length, get_or}
 use Rattle.ht_tern.specs.declared.tern.Tern.{Tern}
 use Rattle.ht_tern.specs.declared.tern.Tern.TheVariants.{Unk}
 use Rattle.ht_net.specs.declared.fault.Site.{Site}
@@ -15,7 +15,8 @@ pub record FaultyMachine : Type 0 where
   pub fault : Fault
   pub latches : List Tern
 
--- A frame of a circuit: the good machine's vector and latches, and the faulty machines that run beside it, one a lane.
+-- A frame of a circuit: the good machine's vector and latches, and the faulty machines that run beside it. Machine
+-- 64 * w + k stands in lane k of word w.
 pub record GroupView : Type 0 where
   pub circuit : Netlist
   pub vector : List Tern
@@ -48,6 +49,16 @@ HasSite c (GatePin g i) = g < length c.gates
 abbrev pub AreLatches : Netlist → List Diff → Type 0
 AreLatches c diffs = All (λ (d : Diff). d.latch < length c.dffs) diffs
 
--- the most machines of a group: the lanes of a word
+-- the machines of a word, the most words of a group, and so the most machines
+abbrev pub lane_count : ℕ
+lane_count = 64
+
+abbrev pub max_words : ℕ
+max_words = 4
+
 abbrev pub max_machines : ℕ
-max_machines = 64
+max_machines = 256
+
+-- how many words so many machines take
+abbrev pub words_for : ℕ → ℕ
+words_for n = (n + (lane_count - 1)) / lane_count

@@ -9,4 +9,5 @@ pub mod Pending
 pub mod GoodFrames
 pub mod NetValues
 pub mod LatchWords
+pub mod MachineWords
 pub mod GroupOf

@@ -7,7 +7,7 @@ use Rattle.ht_net.specs.declared.fault.Site.TheVariants.{Stem, DffPin, GatePin}
 use Rattle.ht_net.specs.declared.fault.Fault.{Fault}
 use Rattle.ht_net.specs.Netlist.{Netlist, first_gate_net, net_count, IsCircuit}
 use Rattle.ht_frame.specs.StuckPins.{is_at_gate}
-use Rattle.ht_group.specs.GroupView.{HasSite, max_machines}
+use Rattle.ht_group.specs.GroupView.{HasSite, lane_count}
 use Rattle.ht_group.specs.declared.stuck_lines.StuckLines.{StuckLines}
 
 -- The slots of a table: one for each net, its stem; then one for each gate, for all its pins; then one for each
@@ -50,7 +50,7 @@ forced_net_of c (DffPin j) = None
 
 -- The table has the faults: at each slot the lanes whose fault is there, and in `ones` the lanes that are stuck at 1.
 pub record IsStuckTable (c : Netlist) (faults : List Fault) (ones : ℕ) (table : List ℕ) : Type 0 where
-  pub few : length faults ≤ max_machines
+  pub few : length faults ≤ lane_count
   pub within : (k : ℕ) (fault : Fault) → slice_get faults k ≡ Some fault → HasSite c fault.site
   pub ones_at : (k : ℕ) (fault : Fault) → k < 64 → slice_get faults k ≡ Some fault → is_set ones k ≡ fault.value
   pub count : length table ≡ slot_count c

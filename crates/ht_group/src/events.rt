@@ -1,14 +1,18 @@
 //! One pass of events over the nets, in the order of the schedule.
-ghost use Rattle.std.specs.Prelude.{◌≡◌, ◌≢◌, ◌<◌, ◌≤◌, ℕ, true, false, length, get_or, All};
+ghost use Rattle.std.specs.Prelude.{◌≡◌, ◌≢◌, ◌<◌, ◌≤◌, ◌*◌, ℕ, true, false, length, get_or, All, if◌then◌else◌, nat_lt};
 ghost use Rattle.std.specs.List.{Contains};
 ghost use Rattle.ht_net.specs.Netlist.{first_gate_net, net_count};
+ghost use Rattle.ht_group.specs.GroupView.{max_words};
 ghost use Rattle.ht_group.specs.LaneRules.{lane_env};
-ghost use Rattle.ht_group.specs.Pending.{AreGiven, QuietHaveValues};
+ghost use Rattle.ht_group.specs.MachineWords.{AreKept, AreRunning, HasRunRoom, IsComputed};
+ghost use Rattle.ht_group.specs.Pending.{AreGiven};
+ghost use Rattle.ht_group.specs.declared.machines.Machines.{Machines};
 ghost use Rattle.ht_group.specs.Schedules.{IsSchedule};
 ghost use Rattle.ht_group.specs.StuckTables.{AreStuck};
 
 use crate::bit_set::BitSet;
 use crate::evaluate::{PIN_ROOM, evaluate};
+use crate::machines::Machines;
 use crate::overlay::Overlay;
 use crate::schedule::Schedule;
 use crate::stuck_lines::StuckLines;
@@ -27,6 +31,34 @@ fn touch(ranks: &[u32], pending: &mut BitSet)
 {
     for rank in ranks {
         pending.insert(*rank);
+    }
+}
+
+// Makes nets pending, by their ranks, where the net that they read changed.
+fn touch_if(changed: bool, ranks: &[u32], pending: &mut BitSet)
+    requires { All (λ r. r < length pending.old) ranks.now }
+    ensures marks { length pending.new ≡ length pending.old }
+    ensures all { changed ≡ true → (r : ℕ) → Contains ranks.now r
+        → get_or pending.new r false ≡ true }
+    ensures unchanged { changed ≡ false → pending.new ≡ pending.old }
+    ensures rest { (r : ℕ) → ¬ Contains ranks.now r
+        → get_or pending.new r false ≡ get_or pending.old r false }
+{
+    if changed {
+        touch(ranks, pending);
+    }
+}
+
+// How many evaluations of a gate it is to evaluate the net of a rank in so many words: none where it is an input or a
+// flip-flop.
+fn evaluations(circuit: &Circuit, rank: u32, words: u32) -> u32
+    ensures { result ≡ (if nat_lt rank (first_gate_net circuit.now) then 0 else words) }
+{
+    let _ = circuit.nets();
+    if rank < circuit.inputs() + circuit.dffs() {
+        0
+    } else {
+        words
     }
 }
 
@@ -59,76 +91,120 @@ fn recompute(
     true
 }
 
-// Evaluates the net of a rank, which is pending no more; where its word changes, the nets that read it are pending.
+// Evaluates a net for the machines of a word, and says whether the word of the net changed.
+fn recompute_word(circuit: &Circuit, machines: &mut Machines, pins: &mut [Word], net: u32) -> bool
+    requires room { HasRunRoom circuit.now machines.old }
+    requires pins { length pins.old ≡ PIN_ROOM }
+    requires net { net < net_count circuit.now }
+    ensures { IsComputed circuit.now net machines.old machines.new result }
+{
+    recompute(
+        circuit,
+        &machines.lines,
+        machines.sources.words(),
+        &mut machines.nets,
+        pins,
+        net,
+    )
+}
+
+// Evaluates a net for each of the first words, and says whether the word of the net changed in one.
+fn recompute_words(
+    circuit: &Circuit,
+    words: &mut [Machines],
+    used: u32,
+    pins: &mut [Word],
+    net: u32,
+) -> bool
+    requires used { used ≤ length words.old }
+    requires room { (w : ℕ) (d : Machines) → w < used
+        → HasRunRoom circuit.now (get_or words.old w d) }
+    requires pins { length pins.old ≡ PIN_ROOM }
+    requires net { net < net_count circuit.now }
+    ensures count { length words.new ≡ length words.old }
+    ensures each { (w : ℕ) (d : Machines) → w < used
+        → IsComputed circuit.now net (get_or words.old w d) (get_or words.new w d) result }
+    ensures rest { (w : ℕ) (d : Machines) → used ≤ w
+        → get_or words.new w d ≡ get_or words.old w d }
+{
+    let mut changed = false;
+    for w in 0..used {
+        if recompute_word(circuit, &mut words[w as usize], pins, net) {
+            changed = true;
+        }
+    }
+    changed
+}
+
+// Evaluates the net of a rank, which is pending no more, in each of the first words; where one changes, the nets that
+// read it are pending. Says how many evaluations of a gate these were, one a word.
 fn fire(
     circuit: &Circuit,
     schedule: &Schedule,
-    lines: &StuckLines,
-    sources: &[Word],
+    words: &mut [Machines],
+    used: u32,
     pending: &mut BitSet,
-    nets: &mut Overlay,
     pins: &mut [Word],
     rank: u32,
-)
+) -> u32
     requires schedule { IsSchedule circuit.now schedule.now }
-    requires stuck { AreStuck circuit.now lines.now }
-    requires sources { length sources.now ≡ first_gate_net circuit.now }
+    requires used { used ≤ length words.old }
+    requires runs { (w : ℕ) (d : Machines) → w < used
+        → AreRunning circuit.now schedule.now pending.old (get_or words.old w d) }
     requires marks { length pending.old ≡ net_count circuit.now }
-    requires nets { length nets.old.good ≡ net_count circuit.now }
-    requires room { length pins.old ≡ PIN_ROOM }
+    requires pins { length pins.old ≡ PIN_ROOM }
     requires rank { rank < net_count circuit.now }
-    requires quiet { QuietHaveValues circuit.now schedule.now lines.now.faults.items sources.now
-        pending.old nets.old.words }
-    ensures quiet { QuietHaveValues circuit.now schedule.now lines.now.faults.items sources.now
-        pending.new nets.new.words }
+    ensures runs { (w : ℕ) (d : Machines) → w < used
+        → AreRunning circuit.now schedule.now pending.new (get_or words.new w d) }
+    ensures count { length words.new ≡ length words.old }
+    ensures kept { (w : ℕ) (d : Machines) → AreKept (get_or words.old w d) (get_or words.new w d) }
+    ensures rest { (w : ℕ) (d : Machines) → used ≤ w
+        → get_or words.new w d ≡ get_or words.old w d }
     ensures marks { length pending.new ≡ length pending.old }
-    ensures good { nets.new.good ≡ nets.old.good }
     ensures taken { get_or pending.new rank false ≡ false }
     ensures before { (r : ℕ) → r < rank
         → get_or pending.new r false ≡ get_or pending.old r false }
+    ensures steps { result ≡ (if nat_lt rank (first_gate_net circuit.now) then 0 else used) }
 {
     let net = schedule.net(rank);
     pending.remove(rank);
-    if recompute(circuit, lines, sources, nets, pins, net) {
-        touch(schedule.readers.row(net as usize), pending);
-    }
+    let changed = recompute_words(circuit, words, used, pins, net);
+    touch_if(changed, schedule.readers.row(net as usize), pending);
+    evaluations(circuit, rank, used)
 }
 
-/// Evaluates each net that is pending, in the order of the schedule, and then those that read what changed. None is
-/// left, and none is evaluated twice. Says how many of them were gates.
+/// Evaluates each net that is pending in the first words, in the order of the schedule, and then those that read what
+/// changed. None is left, and none is evaluated twice. Says how many evaluations of gates these were, one a word.
 pub fn settle(
     circuit: &Circuit,
     schedule: &Schedule,
-    lines: &StuckLines,
-    sources: &[Word],
+    words: &mut [Machines],
+    used: u32,
     pending: &mut BitSet,
-    nets: &mut Overlay,
     pins: &mut [Word],
 ) -> u32
     requires schedule { IsSchedule circuit.now schedule.now }
-    requires stuck { AreStuck circuit.now lines.now }
-    requires sources { length sources.now ≡ first_gate_net circuit.now }
+    requires used { used ≤ length words.old }
+    requires few { used ≤ max_words }
+    requires runs { (w : ℕ) (d : Machines) → w < used
+        → AreRunning circuit.now schedule.now pending.old (get_or words.old w d) }
     requires marks { length pending.old ≡ net_count circuit.now }
-    requires nets { length nets.old.good ≡ net_count circuit.now }
-    requires room { length pins.old ≡ PIN_ROOM }
-    requires quiet { QuietHaveValues circuit.now schedule.now lines.now.faults.items sources.now
-        pending.old nets.old.words }
-    ensures quiet { QuietHaveValues circuit.now schedule.now lines.now.faults.items sources.now
-        pending.new nets.new.words }
+    requires pins { length pins.old ≡ PIN_ROOM }
+    ensures runs { (w : ℕ) (d : Machines) → w < used
+        → AreRunning circuit.now schedule.now pending.new (get_or words.new w d) }
+    ensures count { length words.new ≡ length words.old }
+    ensures kept { (w : ℕ) (d : Machines) → AreKept (get_or words.old w d) (get_or words.new w d) }
+    ensures rest { (w : ℕ) (d : Machines) → used ≤ w
+        → get_or words.new w d ≡ get_or words.old w d }
     ensures marks { length pending.new ≡ length pending.old }
-    ensures good { nets.new.good ≡ nets.old.good }
     ensures none { (r : ℕ) → get_or pending.new r false ≡ false }
-    ensures steps { result ≤ length circuit.now.gates }
+    ensures steps { result ≤ length circuit.now.gates * used }
 {
-    let first_gate_net = circuit.inputs() + circuit.dffs();
-    let mut gates = 0;
+    let mut evaluated = 0;
     let mut from = 0;
     while let Some(rank) = pending.next(from) {
-        fire(circuit, schedule, lines, sources, pending, nets, pins, rank);
-        if rank >= first_gate_net {
-            gates += 1;
-        }
+        evaluated += fire(circuit, schedule, words, used, pending, pins, rank);
         from = rank + 1;
     }
-    gates
+    evaluated
 }

@@ -1,48 +1,51 @@
 //! A group of faulty machines in one frame.
-ghost use Rattle.std.specs.Prelude.{◌≡◌, ◌≢◌, ◌<◌, ◌≤◌, ◌+◌, ◌++◌, ◌∷◌, ◌&&◌, ◌==◌, [], ℕ, Some, true, false, length, get_or, set, if◌then◌else◌, IfOk, OnOk, OnErr};
+ghost use Rattle.std.specs.Prelude.{◌≡◌, ◌<◌, ◌≤◌, ◌+◌, ◌*◌, ◌++◌, ◌∷◌, [], ℕ, Some, true, false, length, get_or, IfOk, OnOk, OnErr};
 ghost use Rattle.std.specs.List.{slice_get};
 ghost use Rattle.ht_tern.specs.Opposite.{are_opposite};
-ghost use Rattle.ht_net.specs.Netlist.{first_gate_net, net_count, no_net};
+ghost use Rattle.ht_net.specs.Netlist.{net_count, no_net};
 ghost use Rattle.ht_net.specs.Detection.{terns_of};
 ghost use Rattle.ht_lanes.specs.Lanes.{is_set, lane};
 ghost use Rattle.ht_diff.specs.Differences.{with_differences};
-ghost use Rattle.ht_group.specs.GroupView.{AreLatches, FaultyMachine, HasSite, faulty_next, faulty_output, good_next, good_output, max_machines};
-ghost use Rattle.ht_group.specs.LatchWords.{HasDifferences};
+ghost use Rattle.ht_group.specs.GroupView.{AreLatches, FaultyMachine, HasSite, faulty_next, faulty_output, good_next, good_output, lane_count, max_machines, max_words, words_for};
+ghost use Rattle.ht_group.specs.MachineWords.{AreKept, HasWordRoom, IsBare, IsRestored};
+ghost use Rattle.ht_group.specs.declared.machines.Machines.{Machines};
+ghost use Rattle.ht_group.specs.GoodFrames.{HasFrameRoom};
 ghost use Rattle.ht_group.specs.NetValues.{faulty_value, good_value};
-ghost use Rattle.ht_group.specs.LaneRules.{in_lane, lane_env};
-ghost use Rattle.ht_group.specs.Schedules.{IsSchedule};
-ghost use Rattle.ht_group.specs.StuckTables.{forced_net_of};
 
 use crate::bit_set::BitSet;
 use crate::evaluate::PIN_ROOM;
 use crate::events::settle;
 use crate::good_frame::GoodFrame;
-use crate::overlay::Overlay;
+use crate::machines::Machines;
 use crate::schedule::Schedule;
-use crate::stuck_lines::StuckLines;
-use ht_diff::{Diff, Diffs};
+use ht_diff::Diffs;
 use ht_lanes::Word;
-use ht_net::{Circuit, Fault, NetId, Site};
+use ht_net::{Circuit, Fault, NetId};
 use ht_tern::Tern;
 use std::alloc::{AllocError, Global};
 use std::marker::Model;
 
-/// The most machines of a group: the lanes of a word.
-pub const MAX_MACHINES: u32 = 64;
+/// The lanes of a word: the most machines of one.
+pub const LANES: u32 = 64;
 
-/// Up to 64 machines of a circuit in one frame, each with a fault and latches of its own, in the lanes of words.
+/// The most machines of a group.
+pub const MAX_MACHINES: u32 = MAX_WORDS * LANES;
+
+// the most words of a group
+const MAX_WORDS: u32 = 4;
+
+/// Up to 256 machines of a circuit in one frame, each with a fault and latches of its own: machine 64 * w + k in lane k
+/// of word w.
 #[derive(Drop)]
 pub struct Group<'c> {
     circuit: &'c Circuit,
     schedule: Schedule,
-    // the faults, one a lane
-    lines: StuckLines,
     // the good machine's frame
     frame: GoodFrame,
-    // the vector and then the latches of each machine, over those of the good one
-    sources: Overlay,
-    // each net in each machine, over the good one
-    nets: Overlay,
+    // the machines of each word; words are filled in turn
+    words: Vec<Machines>,
+    // how many machines there are
+    count: u32,
     // the ranks of nets that may not have their value
     pending: BitSet,
     // whether no net is pending
@@ -63,84 +66,59 @@ impl<'c> Model for Group<'c> {
     ghost invariant = { IsGroup };
 }
 
-// The net whose driver or stem a fault changes; none where it is at a data pin.
-fn forced_net(circuit: &Circuit, site: Site) -> Option<u32>
-    requires { HasSite circuit.now site }
-    ensures { result ≡ forced_net_of circuit.now site }
+// How many words so many machines take.
+fn words_for(machines: u32) -> u32
+    requires { machines ≤ max_machines }
+    ensures { result ≡ words_for machines }
 {
-    match site {
-        Site::Stem(net) => Some(net.0),
-        Site::GatePin { gate, .. } => Some(circuit.gate_net(gate).0),
-        Site::DffPin { .. } => None,
+    (machines + (LANES - 1)) / LANES
+}
+
+// Room for the machines of each word.
+fn new_words(
+    alloc: Global,
+    circuit: &Circuit,
+    frame: &GoodFrame,
+) -> Result<Vec<Machines>, AllocError>
+    requires { HasFrameRoom circuit.now frame.now }
+    ensures count { IfOk result (λ words. length words.items ≡ max_words) }
+    ensures each { IfOk result (λ words. (w : ℕ) (d : Machines) → w < max_words
+        → IsBare circuit.now (get_or words.items w d)) }
+{
+    let mut words = Vec::new(alloc);
+    for w in 0..MAX_WORDS {
+        let _ = w;
+        words.push(Machines::new(alloc, circuit, frame)?)?;
+    }
+    Ok(words)
+}
+
+// Takes the machines of each word away, for a frame with other values.
+fn begin_words(circuit: &Circuit, words: &mut [Machines])
+    requires { (w : ℕ) (d : Machines) → w < length words.old
+        → HasWordRoom circuit.now (get_or words.old w d) }
+    ensures count { length words.new ≡ length words.old }
+    ensures each { (w : ℕ) (d : Machines) → w < length words.old
+        → IsBare circuit.now (get_or words.new w d) }
+{
+    for w in 0..words.len() {
+        words[w].begin(circuit);
     }
 }
 
-// Makes the net pending whose driver or stem a fault changes, if it does any's.
-fn touch_forced_net(circuit: &Circuit, schedule: &Schedule, site: Site, pending: &mut BitSet)
-    requires schedule { IsSchedule circuit.now schedule.now }
-    requires site { HasSite circuit.now site }
-    requires marks { length pending.old ≡ net_count circuit.now }
-    ensures marks { length pending.new ≡ net_count circuit.now }
-    ensures idle { (r : ℕ) → r < net_count circuit.now → get_or pending.new r false ≡ false
-        → (get_or pending.old r false ≡ false)
-        × (forced_net_of circuit.now site ≢ Some (get_or schedule.now.order.items r 0)) }
+// Takes the machines of the first words away.
+fn clear_words(circuit: &Circuit, words: &mut [Machines], used: u32)
+    requires used { used ≤ length words.old }
+    requires each { (w : ℕ) (d : Machines) → w < length words.old
+        → HasWordRoom circuit.now (get_or words.old w d) }
+    ensures count { length words.new ≡ length words.old }
+    ensures first { (w : ℕ) (d : Machines) → w < used
+        → IsRestored circuit.now (get_or words.old w d) (get_or words.new w d) }
+    ensures rest { (w : ℕ) (d : Machines) → used ≤ w
+        → get_or words.new w d ≡ get_or words.old w d }
 {
-    if let Some(net) = forced_net(circuit, site) {
-        pending.insert(schedule.rank(net));
-    }
-}
-
-// Gives the latch of a difference its value in lane `k`, and makes its net pending.
-fn put_difference(
-    circuit: &Circuit,
-    schedule: &Schedule,
-    diff: Diff,
-    k: u32,
-    sources: &mut Overlay,
-    pending: &mut BitSet,
-)
-    requires schedule { IsSchedule circuit.now schedule.now }
-    requires latch { diff.latch < length circuit.now.dffs }
-    requires lane { k < max_machines }
-    requires words { length sources.old.words ≡ first_gate_net circuit.now }
-    requires marks { length pending.old ≡ net_count circuit.now }
-    ensures good { sources.new.good ≡ sources.old.good }
-    ensures count { length sources.new.words ≡ first_gate_net circuit.now }
-    ensures lanes { (x n : ℕ) → n < max_machines → lane_env n sources.new.words x
-        ≡ (if x == circuit.now.inputs + diff.latch && n == k then diff.value
-        else lane_env n sources.old.words x) }
-    ensures pending { pending.new ≡ set pending.old
-        (get_or schedule.now.ranks.items (circuit.now.inputs + diff.latch) 0) true }
-{
-    let net = circuit.dff_net(diff.latch);
-    let word = sources.words()[net.index()];
-    sources.set(net.0, word.with(k, diff.value));
-    pending.insert(schedule.rank(net.0));
-}
-
-// Gives lane `k`, which has the good latches, those that differ, and makes their nets pending. The last difference
-// comes first, since of two at one latch the first counts.
-fn put_differences(
-    circuit: &Circuit,
-    schedule: &Schedule,
-    diffs: &Diffs,
-    k: u32,
-    sources: &mut Overlay,
-    pending: &mut BitSet,
-)
-    requires schedule { IsSchedule circuit.now schedule.now }
-    requires known { AreLatches circuit.now diffs.now }
-    requires lane { k < max_machines }
-    requires words { length sources.old.words ≡ first_gate_net circuit.now }
-    requires marks { length pending.old ≡ net_count circuit.now }
-    requires plain { in_lane k sources.old.words ≡ sources.old.good }
-    ensures good { sources.new.good ≡ sources.old.good }
-    ensures put { HasDifferences circuit.now schedule.now k diffs.now sources.old pending.old
-        sources.new.words pending.new }
-{
-    let entries = diffs.entries();
-    for i in (0..entries.len()).rev() {
-        put_difference(circuit, schedule, entries[i], k, sources, pending);
+    for w in 0..used {
+        words[w as usize].clear(circuit);
     }
 }
 
@@ -155,15 +133,13 @@ impl<'c> Group<'c> {
     {
         let schedule = Schedule::new(alloc, circuit)?;
         let frame = GoodFrame::new(alloc, circuit)?;
-        let sources = Overlay::new(alloc, &frame.sources)?;
-        let nets = Overlay::new(alloc, &frame.values)?;
+        let words = new_words(alloc, circuit, &frame)?;
         Ok(Group {
             circuit,
             schedule,
-            lines: StuckLines::new(alloc, circuit)?,
             frame,
-            sources,
-            nets,
+            words,
+            count: 0,
             pending: BitSet::new(alloc, circuit.nets())?,
             settled: true,
             pins: vec![in alloc; Word::splat(Tern::Unk); PIN_ROOM]?,
@@ -183,19 +159,25 @@ impl<'c> Group<'c> {
         } }
     {
         self.frame.start(self.circuit, vector, latches);
-        self.lines.clear(self.circuit);
-        self.sources.reset(&self.frame.sources);
-        self.nets.reset(&self.frame.values);
+        begin_words(self.circuit, &mut self.words);
+        self.count = 0;
         self.pending.clear();
         self.settled = true;
     }
 
-    /// How many machines there are, at most 64.
+    /// How many machines there are, at most 256.
     pub fn len(&self) -> u32
         ensures count { result ≡ length self.now.machines }
         ensures few { result ≤ max_machines }
     {
-        self.lines.faults.len() as u32
+        self.count
+    }
+
+    /// How many words have machines.
+    pub fn words(&self) -> u32
+        ensures { result ≡ words_for (length self.now.machines) }
+    {
+        words_for(self.count)
     }
 
     /// Gives the next lane a machine: a fault, and latches that are the good ones but for differences.
@@ -216,51 +198,49 @@ impl<'c> Group<'c> {
         }) }
         ensures err { OnErr result (self.new ≡ self.old) }
     {
-        let k = self.lines.faults.len() as u32;
-        self.lines.add(self.circuit, fault)?;
-        self.settled = false;
-        put_differences(
+        let w = (self.count / LANES) as usize;
+        self.words[w].admit(
             self.circuit,
             &self.schedule,
+            &self.frame,
+            fault,
             diffs,
-            k,
-            &mut self.sources,
             &mut self.pending,
-        );
-        touch_forced_net(self.circuit, &self.schedule, fault.site, &mut self.pending);
+        )?;
+        self.count += 1;
+        self.settled = false;
         Ok(())
     }
 
     /// Evaluates gates until each net has its value in each machine: only those that an event reaches, each at most
-    /// once. Says how many.
+    /// once. Says how many, where one for four words counts four times.
     ///
     /// # Errors
     /// Out of memory; the group is as before. Nothing is allocated at present.
     pub fn settle(&mut self) -> Result<u32, AllocError>
         ensures ok { OnOk result (self.new ≡ record self.old { settled = true }) }
-        ensures steps { IfOk result (λ n. n ≤ length self.old.circuit.gates) }
+        ensures steps { IfOk result
+            (λ n. n ≤ length self.old.circuit.gates * words_for (length self.old.machines)) }
         ensures err { OnErr result (self.new ≡ self.old) }
     {
-        let gates = settle(
+        let evaluated = settle(
             self.circuit,
             &self.schedule,
-            &self.lines,
-            self.sources.words(),
+            &mut self.words,
+            words_for(self.count),
             &mut self.pending,
-            &mut self.nets,
             &mut self.pins,
         );
         self.settled = true;
-        Ok(gates)
+        Ok(evaluated)
     }
 
     /// Takes all machines away; the nets have the good machine's values again.
     pub fn clear(&mut self)
         ensures { self.new ≡ record self.old { machines = []; settled = true } }
     {
-        self.lines.clear(self.circuit);
-        self.sources.restore();
-        self.nets.restore();
+        clear_words(self.circuit, &mut self.words, words_for(self.count));
+        self.count = 0;
         self.pending.clear();
         self.settled = true;
     }
@@ -270,20 +250,22 @@ impl<'c> Group<'c> {
         requires { net.0 < net_count self.now.circuit }
         ensures { result ≡ good_value self.now net.0 }
     {
-        self.nets.good()[net.index()]
+        self.frame.values[net.index()]
     }
 
-    // Each machine's value of a net; a lane without a machine has the good one.
-    fn word(&self, net: NetId) -> Word
+    // The value of a net in each machine of a word; a lane without a machine has the good one.
+    fn word(&self, w: u32, net: NetId) -> Word
         requires settled { self.now.settled ≡ true }
+        requires word { w < words_for (length self.now.machines) }
         requires net { net.0 < net_count self.now.circuit }
-        ensures machines { (k : ℕ) (m : FaultyMachine) → slice_get self.now.machines k ≡ Some m
+        ensures machines { (k : ℕ) (m : FaultyMachine) → k < lane_count
+            → slice_get self.now.machines (lane_count * w + k) ≡ Some m
             → lane result k ≡ faulty_value self.now m net.0 }
-        ensures others { (k : ℕ) → length self.now.machines ≤ k → k < max_machines
+        ensures others { (k : ℕ) → k < lane_count
+            → length self.now.machines ≤ lane_count * w + k
             → lane result k ≡ good_value self.now net.0 }
-        ensures few { length self.now.machines ≤ max_machines }
     {
-        self.nets.words()[net.index()]
+        self.words[w as usize].nets.words()[net.index()]
     }
 
     // The net of an output.
@@ -322,29 +304,35 @@ impl<'c> Group<'c> {
         self.good_value(self.data_net(j))
     }
 
-    /// The set of lanes whose machine shows at an output the definite value opposite to the good machine's.
-    pub fn opposite(&self, o: u32) -> u64
+    /// The set of lanes of a word whose machine shows at an output the definite value opposite to the good machine's.
+    pub fn opposite(&self, w: u32, o: u32) -> u64
         requires settled { self.now.settled ≡ true }
+        requires word { w < words_for (length self.now.machines) }
         requires output { o < length self.now.circuit.outputs }
-        ensures machines { (k : ℕ) (m : FaultyMachine) → slice_get self.now.machines k ≡ Some m
+        ensures machines { (k : ℕ) (m : FaultyMachine) → k < lane_count
+            → slice_get self.now.machines (lane_count * w + k) ≡ Some m
             → is_set result k ≡ are_opposite (good_output self.now o) (faulty_output self.now m o) }
-        ensures others { (k : ℕ) → length self.now.machines ≤ k → k < max_machines
+        ensures others { (k : ℕ) → k < lane_count
+            → length self.now.machines ≤ lane_count * w + k
             → is_set result k ≡ false }
     {
         let net = self.output_net(o);
-        self.word(net).opposite(self.good_value(net))
+        self.word(w, net).opposite(self.good_value(net))
     }
 
-    /// The latch of each lane's machine after the frame; a lane without a machine has the good one.
-    pub fn next(&self, j: u32) -> Word
+    /// The latch of each machine of a word after the frame; a lane without a machine has the good one.
+    pub fn next(&self, w: u32, j: u32) -> Word
         requires settled { self.now.settled ≡ true }
+        requires word { w < words_for (length self.now.machines) }
         requires latch { j < length self.now.circuit.dffs }
-        ensures machines { (k : ℕ) (m : FaultyMachine) → slice_get self.now.machines k ≡ Some m
+        ensures machines { (k : ℕ) (m : FaultyMachine) → k < lane_count
+            → slice_get self.now.machines (lane_count * w + k) ≡ Some m
             → lane result k ≡ faulty_next self.now m j }
-        ensures others { (k : ℕ) → length self.now.machines ≤ k → k < max_machines
+        ensures others { (k : ℕ) → k < lane_count
+            → length self.now.machines ≤ lane_count * w + k
             → lane result k ≡ good_next self.now j }
     {
-        let word = self.word(self.data_net(j));
-        self.lines.data_pin(self.circuit, j, word)
+        let word = self.word(w, self.data_net(j));
+        self.words[w as usize].lines.data_pin(self.circuit, j, word)
     }
 }

@@ -1,10 +1,12 @@
-//! Up to 64 faulty machines in one frame, evaluated by events (parallel fault simulation, as in PROOFS 1992).
+//! Up to 256 faulty machines in one frame, evaluated by events (parallel fault simulation, as in PROOFS 1992).
 //!
-//! A `Group` has one machine in each lane of its words. `start` runs the good machine, and every lane has its values;
-//! `add` gives the next lane a fault and latches that differ in a few places; `settle` evaluates only the gates that a
-//! stuck line or a differing latch reaches, each at most once, in the order of the circuit. Then `opposite` tells at
-//! which outputs the machines differ for a tester, `next` gives their latches after the frame, and `clear` takes the
-//! machines away and puts back only the nets that they changed. Contracts see a group as a `GroupView`.
+//! A `Group` has up to four words of 64 machines, one in each lane; machine 64 * w + k stands in lane k of word w. The
+//! words share the good machine's frame, the schedule and the nets that are pending, so a net that an event reaches is
+//! taken once for all of them. `start` runs the good machine, and every lane has its values; `add` gives the next lane
+//! a fault and latches that differ in a few places; `settle` evaluates only the gates that a stuck line or a differing
+//! latch reaches, each at most once for a word, in the order of the circuit. Then `opposite` tells at which outputs the
+//! machines of a word differ for a tester, `next` gives their latches after the frame, and `clear` takes the machines
+//! away and puts back only the nets that they changed. Contracts see a group as a `GroupView`.
 #![tactic(auto)]
 
 mod bit_set;
@@ -12,9 +14,10 @@ mod evaluate;
 mod events;
 mod good_frame;
 mod group;
+mod machines;
 mod overlay;
 mod readers;
 mod schedule;
 mod stuck_lines;
 
-pub use group::{Group, MAX_MACHINES};
+pub use group::{Group, LANES, MAX_MACHINES};

@@ -1,7 +1,7 @@
 //! The lines that are stuck, each in the lanes of its faults.
 ghost use Rattle.std.specs.Prelude.{◌≡◌, ◌<◌, ◌-◌, ◌+◌, ◌++◌, ◌∷◌, [], ℕ, length, get_or, set, take, IfOk, OnOk, OnErr};
 ghost use Rattle.ht_net.specs.Netlist.{net_count};
-ghost use Rattle.ht_group.specs.GroupView.{HasSite, max_machines};
+ghost use Rattle.ht_group.specs.GroupView.{HasSite, lane_count};
 ghost use Rattle.ht_lanes.specs.Lanes.{lane};
 ghost use Rattle.ht_group.specs.LaneRules.{rules_at};
 ghost use Rattle.ht_group.specs.BitSets.{with_bit};
@@ -86,7 +86,7 @@ impl StuckLines {
     /// Out of memory; the faults are as before.
     pub fn add(&mut self, circuit: &Circuit, fault: Fault) -> Result<(), AllocError>
         requires stuck { AreStuck circuit.now self.old }
-        requires room { length self.old.faults.items < max_machines }
+        requires room { length self.old.faults.items < lane_count }
         requires site { HasSite circuit.now fault.site }
         ensures stuck { AreStuck circuit.now self.new }
         ensures ok { OnOk result (self.new.faults.items ≡ self.old.faults.items ++ fault ∷ []) }
@@ -127,7 +127,7 @@ impl StuckLines {
     pub fn stem(&self, circuit: &Circuit, net: u32, word: Word) -> Word
         requires stuck { AreStuck circuit.now self.now }
         requires net { net < net_count circuit.now }
-        ensures { (k : ℕ) → k < max_machines
+        ensures { (k : ℕ) → k < lane_count
             → lane result k ≡ (rules_at self.now.faults.items k).stem net (lane word k) }
     {
         word.stick(self.table[net as usize], self.ones)
@@ -137,7 +137,7 @@ impl StuckLines {
     pub fn data_pin(&self, circuit: &Circuit, dff: u32, word: Word) -> Word
         requires stuck { AreStuck circuit.now self.now }
         requires dff { dff < length circuit.now.dffs }
-        ensures { (k : ℕ) → k < max_machines
+        ensures { (k : ℕ) → k < lane_count
             → lane result k ≡ (rules_at self.now.faults.items k).data_pin dff (lane word k) }
     {
         word.stick(self.table[slot_of_dff(circuit, dff)], self.ones)

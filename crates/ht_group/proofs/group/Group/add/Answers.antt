@@ -1,39 +1,90 @@
-use Rattle.std.proofs.Common.{◌∙◌, length, drop, ap, arith}
+use Rattle.std.specs.Prelude.{slice_set}
+use Rattle.std.proofs.Common.{◌≡◌, ◌/◌, ◌∙◌, ◌++◌, ◌∷◌, [], List, Bool, true, false, get_or, drop, ap, sym, subst, arith}
+use Rattle.std.proofs.lemmas.List.{length-set}
+use Rattle.ht_diff.specs.Differences.{with_differences}
+use Rattle.ht_group.specs.GroupOf.{group_of}
 use Rattle.ht_group.specs.GroupView.{GroupView}
-use Rattle.ht_group.proofs.ViewLaws.{machine_count}
-use Rattle.ht_group.proofs.ChangeLaws.{added_group, added_view, with_machine, same_lines}
+use Rattle.ht_group.specs.MachineWords.{IsWord}
+use Rattle.ht_group.specs.declared.machines.Machines.{Machines}
+use Rattle.ht_group.proofs.AddLaws.{next_room, written_words, added_filled, added_machines, same_filled}
+use Rattle.ht_group.proofs.GroupLaws.{group_room}
+use Rattle.ht_group.proofs.WordsLaws.{is_group}
 use Rattle.ht_group.proofs.group.Group.add.Goals as goal
 
-pub add-requires-clause-room : goal.add-requires-clause-room
-add-requires-clause-room c =
+pub index_mut-requires : goal.index_mut-requires
+index_mut-requires c =
     let a = c.self.inside in
-    let count = machine_count 0 a.lines.faults.items (drop a.circuit.now.inputs a.sources.words) in
-    let view = ap (λ (v : GroupView). length v.machines) c.self.view_is in
-    omega (arith, count, view, c.requires.room)
+    let few = group_room a c.self.invariant c.args.self.now c.self.view_is c.requires.room in
+    omega (arith, few, c.self.invariant.word_count)
 
--- out of memory: the same faults
+pub admit-requires-clause-word : goal.admit-requires-clause-word
+admit-requires-clause-word c =
+    let a = c.self.inside in
+    let g = c.self.invariant in
+    let few = group_room a g c.args.self.now c.self.view_is c.requires.room in
+    subst (λ (m : Machines). IsWord a.circuit.now a.schedule a.frame a.pending m) (sym c.index_mut.ensures.value)
+    (g.words (a.count / 64) c.index_mut.result.now (omega (arith, few)))
+
+pub admit-requires-clause-room : goal.admit-requires-clause-room
+admit-requires-clause-room c =
+    let a = c.self.inside in
+    let g = c.self.invariant in
+    let few = group_room a g c.args.self.now c.self.view_is c.requires.room in
+    next_room a.circuit.now a.count a.words.items c.index_mut.result.now c.index_mut.result.now g.word_count few
+    c.index_mut.ensures.value g.filled
+
+-- out of memory: the same machines
 pub invariant_of-self : goal.invariant_of-self
 invariant_of-self c =
-    same_lines c.self.inside c.self.invariant c.add.new.self c.in_err-add.ensures.stuck c.in_err-add.ensures.err
+    let a = c.self.inside in
+    let g = c.self.invariant in
+    let e = c.in_err-admit.ensures in
+    let old = c.index_mut.result.now in
+    let new = c.admit.new.self in
+    let few = group_room a g c.args.self.now c.self.view_is c.requires.room in
+    is_group _ (slice_set a.words.items (a.count / 64) new) g.circuit g.schedule g.frame
+    (λ i. slice_set a.words.items (a.count / 64) new)
+    (length-set a.words.items (a.count / 64) new ∙ g.word_count)
+    (written_words a.circuit.now a.count a.words.items old new g.word_count few c.index_mut.ensures.value a.schedule
+    a.frame a.pending c.admit.new.pending e.more g.words e.word)
+    (same_filled a.circuit.now a.count a.words.items old new g.word_count few c.index_mut.ensures.value g.filled e.err)
+    g.few e.marks g.room
+    (λ is r. ap (λ (l : List Bool). get_or l r false) e.idle ∙ g.settled is r)
 
 pub invariant_of-self-2 : goal.invariant_of-self-2
 invariant_of-self-2 c =
     let a = c.self.inside in
-    let count = machine_count 0 a.lines.faults.items (drop a.circuit.now.inputs a.sources.words) in
-    let view = ap (λ (v : GroupView). length v.machines) c.self.view_is in
-    added_group c.self.inside c.self.invariant c.args.fault c.args.diffs.now c.len-k.result c.add.new.self
-    c.put_differences.new.sources c.put_differences.new.pending (omega (arith, c.len-k.ensures))
-    (omega (arith, count, view, c.requires.room)) c.in_ok-add.ensures.stuck c.in_ok-add.ensures.ok
-    c.put_differences.ensures.good c.put_differences.ensures.put c.touch_forced_net.new.pending
-    c.touch_forced_net.ensures.marks c.touch_forced_net.ensures.idle
+    let g = c.self.invariant in
+    let e = c.in_ok-admit.ensures in
+    let old = c.index_mut.result.now in
+    let new = c.admit.new.self in
+    let few = group_room a g c.args.self.now c.self.view_is c.requires.room in
+    is_group _ (slice_set a.words.items (a.count / 64) new) g.circuit g.schedule g.frame
+    (λ i. slice_set a.words.items (a.count / 64) new)
+    (length-set a.words.items (a.count / 64) new ∙ g.word_count)
+    (written_words a.circuit.now a.count a.words.items old new g.word_count few c.index_mut.ensures.value a.schedule
+    a.frame a.pending c.admit.new.pending e.more g.words e.word)
+    (added_filled a.circuit.now a.count a.words.items old new g.word_count few c.index_mut.ensures.value g.filled
+    (record {
+      fault = c.args.fault;
+      latches = with_differences (drop a.circuit.now.inputs a.frame.sources.items) c.args.diffs.now;
+    }) e.ok)
+    (omega (arith, few)) e.marks g.room
+    (λ is. let bad : false ≡ true = is in cc)
 
 pub returns-clause-ok : goal.returns-clause-ok
 returns-clause-ok c =
     let a = c.self.inside in
-    let count = machine_count 0 a.lines.faults.items (drop a.circuit.now.inputs a.sources.words) in
-    let view = ap (λ (v : GroupView). length v.machines) c.self.view_is in
-    added_view c.self.inside c.self.invariant c.args.fault c.args.diffs.now c.len-k.result c.add.new.self
-    c.put_differences.new.sources c.put_differences.new.pending (omega (arith, c.len-k.ensures))
-    (omega (arith, count, view, c.requires.room)) c.in_ok-add.ensures.stuck c.in_ok-add.ensures.ok
-    c.put_differences.ensures.good c.put_differences.ensures.put c.touch_forced_net.new.pending
-    ∙ ap (with_machine c.args.fault c.args.diffs.now) c.self.view_is
+    let g = c.self.invariant in
+    let few = group_room a g c.args.self.now c.self.view_is c.requires.room in
+    let machines = added_machines a.circuit.now a.count a.words.items c.index_mut.result.now c.admit.new.self
+    g.word_count few c.index_mut.ensures.value g.filled (record {
+      fault = c.args.fault;
+      latches = with_differences (drop a.circuit.now.inputs a.frame.sources.items) c.args.diffs.now;
+    }) c.in_ok-admit.ensures.ok in
+    (λ i. record (group_of a) { machines = machines i; settled = false })
+    ∙ ap (λ (v : GroupView). record v {
+      machines = v.machines ++ record { fault = c.args.fault; latches = with_differences v.latches c.args.diffs.now }
+          ∷ [];
+      settled = false;
+    }) c.self.view_is

@@ -1,13 +1,57 @@
-use Rattle.std.proofs.Common.{List, subst}
-use Rattle.ht_tern.specs.declared.tern.Tern.{Tern}
-use Rattle.ht_group.specs.Overlays.{IsSpread}
-use Rattle.ht_group.proofs.ChangeLaws.{fresh_group}
+use Rattle.std.specs.Prelude.{flat_map}
+use Rattle.std.proofs.Common.{◌≡◌, ◌<◌, ◌≤◌, ◌∙◌, List, [], ℕ, Bool, true, false, length, get_or, ap, subst, arith}
+use Rattle.std.proofs.lemmas.List.{with_items_is, length-replicate}
+use Rattle.ht_group.specs.GroupOf.{group_of}
+use Rattle.ht_group.specs.GroupView.{GroupView, words_for}
+use Rattle.ht_group.specs.MachineWords.{AreFilled, IsRestored, machines_of}
+use Rattle.ht_group.specs.declared.machines.Machines.{Machines}
+use Rattle.ht_group.proofs.WordsLaws.{is_group, cleared_words, cleared_filled, no_machines, none_marked}
 use Rattle.ht_group.proofs.group.Group.clear.Goals as goal
+
+long : (c : goal.After-self-3-1) → length c.clear_words.new.words ≡ length c.self.inside.words.items
+long c = c.clear_words.ensures.count ∙ ap (λ (l : List Machines). length l) c.deref_mut.ensures.value
+
+rest : (c : goal.After-self-3-1) (w : ℕ) (d : Machines) → words_for c.self.inside.count ≤ w
+    → get_or c.clear_words.new.words w d ≡ get_or c.self.inside.words.items w d
+rest c w d past =
+    c.clear_words.ensures.rest w d (omega (arith, past, c.words_for.ensures))
+    ∙ ap (λ (l : List Machines). get_or l w d) c.deref_mut.ensures.value
+
+back : (c : goal.After-self-3-1) (w : ℕ) (d : Machines) → w < words_for c.self.inside.count
+    → IsRestored c.self.inside.circuit.now (get_or c.self.inside.words.items w d)
+    (get_or c.clear_words.new.words w d)
+back c w d used =
+    subst (λ (l : List Machines). IsRestored c.self.inside.circuit.now (get_or l w d)
+    (get_or c.clear_words.new.words w d)) c.deref_mut.ensures.value
+    (c.clear_words.ensures.first w d (omega (arith, used, c.words_for.ensures)))
+
+filled : (c : goal.After-self-3-1) → AreFilled 0 c.clear_words.new.words
+filled c =
+    let a = c.self.inside in
+    let g = c.self.invariant in
+    cleared_filled a.circuit.now a.schedule a.frame a.count a.pending c.clear.new.self a.words.items
+    c.clear_words.new.words g.word_count (long c) g.filled g.words (rest c) g.circuit g.schedule g.frame (back c)
 
 pub invariant_of-self : goal.invariant_of-self
 invariant_of-self c =
+    let a = c.self.inside in
     let g = c.self.invariant in
-    fresh_group _ g.circuit g.schedule c.clear.ensures.stuck c.clear.ensures.none g.frame
-    (subst (λ (l : List Tern). IsSpread l c.restore.new.self) g.sources c.restore.ensures)
-    (subst (λ (l : List Tern). IsSpread l c.restore-2.new.self) g.nets c.restore-2.ensures) _ g.marks c.clear-2.ensures
-    g.room
+    let new = c.clear_words.new.words in
+    let size = long c in
+    is_group _ new g.circuit g.schedule g.frame (with_items_is a.words new (omega (arith, size)))
+    (long c ∙ g.word_count)
+    (cleared_words a.circuit.now a.schedule a.frame a.count a.pending c.clear.new.self a.words.items new g.word_count
+    (long c) g.filled g.words (rest c) g.circuit g.schedule g.frame (back c))
+    (filled c) (omega arith)
+    (ap (λ (l : List Bool). length l) c.clear.ensures ∙ (length-replicate (length a.pending) false ∙ g.marks)) g.room
+    (λ is r. ap (λ (l : List Bool). get_or l r false) c.clear.ensures ∙ none_marked (length a.pending) r)
+
+pub returns : goal.returns
+returns c =
+    let a = c.self.inside in
+    let new = c.clear_words.new.words in
+    let size = long c in
+    let machines = ap (flat_map (machines_of a.circuit.now)) (with_items_is a.words new (omega (arith, size)))
+    ∙ no_machines a.circuit.now new (filled c) in
+    (λ i. record (group_of a) { machines = machines i; settled = true })
+    ∙ ap (λ (v : GroupView). record v { machines = []; settled = true }) c.self.view_is

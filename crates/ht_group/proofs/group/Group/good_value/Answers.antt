@@ -1,7 +1,6 @@
-use Rattle.std.proofs.Common.{◌<◌, ◌∙◌, List, length, get_or, ap, arith}
+use Rattle.std.proofs.Common.{◌<◌, ◌∙◌, ℕ, length, get_or, ap, arith}
 use Rattle.std.proofs.lemmas.List.{get_or_default}
-use Rattle.ht_tern.specs.declared.tern.Tern.{Tern}
-use Rattle.ht_tern.specs.declared.tern.Tern.TheVariants.{Unk, Zero}
+use Rattle.ht_tern.specs.declared.tern.Tern.TheVariants.{Unk}
 use Rattle.ht_net.specs.Netlist.{net_count}
 use Rattle.ht_group.specs.GroupView.{GroupView}
 use Rattle.ht_group.specs.NetValues.{good_value}
@@ -15,8 +14,8 @@ returns c =
     let x = c.args.net.0 in
     let size = ap (λ (v : GroupView). net_count v.circuit) c.self.view_is in
     let known : x < net_count a.circuit.now = omega (arith, c.requires, size) in
-    let same = ap (λ (l : List Tern). length l) g.nets in
-    let inside : x < length a.nets.good = omega (arith, known, same, g.frame.room.value_count) in
-    (λ i. get_or (c.good.ensures i) (c.index.ensures i) Zero)
-    ∙ (get_or_default a.nets.good x Zero Unk inside
-    ∙ (good_of a g x known ∙ ap (λ (v : GroupView). good_value v x) c.self.view_is))
+    let inside : x < length a.frame.values.items = omega (arith, known, g.frame.room.value_count) in
+    c.index-2.ensures
+    ∙ (ap (λ (n : ℕ). get_or a.frame.values.items n c.index-2.result.now) c.index.ensures
+    ∙ (get_or_default a.frame.values.items x c.index-2.result.now Unk inside
+    ∙ (good_of a g x known ∙ ap (λ (v : GroupView). good_value v x) c.self.view_is)))

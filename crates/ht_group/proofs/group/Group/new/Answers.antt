@@ -1,22 +1,22 @@
-use Rattle.std.proofs.Common.{List, length, ap, sym, arith}
-use Rattle.ht_tern.specs.declared.tern.Tern.{Tern}
-use Rattle.ht_group.proofs.ChangeLaws.{fresh_group}
+use Rattle.std.proofs.Common.{◌∙◌, List, Bool, false, length, get_or, ap, arith}
+use Rattle.std.proofs.lemmas.List.{length-replicate}
+use Rattle.ht_group.proofs.WordsLaws.{is_group, bare_words, bare_filled, no_machines, none_marked}
 use Rattle.ht_group.proofs.group.Group.new.Goals as goal
 
-pub new-requires-3 : goal.new-requires-3
-new-requires-3 c =
-    let same = ap (λ (l : List Tern). length l) c.deref.ensures.value in
-    omega (arith, same, c.in_ok-frame.ensures.room.source_count, c.in_ok-schedule.ensures.circuit.few_nets)
+pub invariant_of-result : goal.invariant_of-result
+invariant_of-result c =
+    let n = c.args.circuit.now in
+    let words = c.in_ok-words.words.items in
+    let w = c.in_ok-words.ensures in
+    is_group _ words c.in_ok-schedule.ensures.circuit c.in_ok-schedule.ensures c.in_ok-frame.ensures
+    (λ i. words) w.count
+    (bare_words n c.in_ok-schedule.schedule c.in_ok-frame.frame c.in_ok-new.field-0 words w.each)
+    (bare_filled n words w.count w.each) (omega arith)
+    (ap (λ (l : List Bool). length l) c.in_ok-new.ensures ∙ (length-replicate c.nets.result false ∙ c.nets.ensures.count))
+    (omega (arith, c.in_ok-vec.ensures.len))
+    (λ is r. ap (λ (l : List Bool). get_or l r false) c.in_ok-new.ensures ∙ none_marked c.nets.result r)
 
-pub new-requires-4 : goal.new-requires-4
-new-requires-4 c =
-    let same = ap (λ (l : List Tern). length l) c.deref-2.ensures.value in
-    omega (arith, same, c.in_ok-frame.ensures.room.value_count, c.in_ok-schedule.ensures.circuit.few_nets)
-
-pub invariant_of-result-3 : goal.invariant_of-result-3
-invariant_of-result-3 c =
-    fresh_group _ c.in_ok-schedule.ensures.circuit c.in_ok-schedule.ensures c.in_ok-new.ensures.stuck
-    c.in_ok-new.ensures.none c.in_ok-frame.ensures
-    (rw (c.sources.view_is, sym c.deref.ensures.value) c.in_ok-sources.ensures)
-    (rw (c.nets.view_is, sym c.deref-2.ensures.value) c.in_ok-nets.ensures) _ c.nets-2.ensures.count
-    c.in_ok-new-2.ensures (omega (arith, c.in_ok-vec.ensures.len))
+pub returns-clause-none : goal.returns-clause-none
+returns-clause-none c =
+    no_machines c.args.circuit.now c.in_ok-words.words.items
+    (bare_filled c.args.circuit.now c.in_ok-words.words.items c.in_ok-words.ensures.count c.in_ok-words.ensures.each)

@@ -1,5 +1,4 @@
-use Rattle.std.proofs.Common.{◌<◌, ◌∙◌, Some, None, ap, arith}
-use Rattle.std.proofs.lemmas.Option.{slice_get_within}
+use Rattle.std.proofs.Common.{◌∙◌, Some, None, ap}
 use Rattle.ht_tern.specs.Opposite.{are_opposite}
 use Rattle.ht_net.specs.declared.net.NetId.{NetId}
 use Rattle.ht_net.specs.Faults.{tern_rules}
@@ -8,12 +7,11 @@ use Rattle.ht_group.proofs.ShownLaws.{shown_at}
 use Rattle.ht_group.proofs.group.Group.opposite.Goals as goal
 
 pub returns-clause-machines : goal.returns-clause-machines
-returns-clause-machines c k m has =
+returns-clause-machines c k m below has =
     let g = c.args.self.now in
     let net = c.output_net-net.ensures.net in
-    let below : k < 64 = let less = slice_get_within g.machines k m has in omega (arith, less, c.word.ensures.few) in
     let good = c.good_value.ensures ∙ (ap (λ (n : NetId). good_value g n.0) net
     ∙ shown_at g.circuit (tern_rules None) g.vector g.latches c.args.o c.requires.output) in
-    let faulty = c.word.ensures.machines k m has ∙ (ap (λ (n : NetId). faulty_value g m n.0) net
+    let faulty = c.word.ensures.machines k m below has ∙ (ap (λ (n : NetId). faulty_value g m n.0) net
     ∙ shown_at g.circuit (tern_rules (Some m.fault)) g.vector m.latches c.args.o c.requires.output) in
     c.opposite.ensures k below ∙ (λ i. are_opposite (good i) (faulty i))

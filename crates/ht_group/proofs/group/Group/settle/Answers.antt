@@ -1,28 +1,55 @@
-use Rattle.std.proofs.Common.{◌∙◌, List, length, ap, subst, arith}
+use Rattle.std.specs.Prelude.{flat_map}
+use Rattle.std.proofs.Common.{◌≡◌, ◌≤◌, ◌*◌, ◌∙◌, List, ℕ, length, get_or, ap, sym, subst, true, arith}
 use Rattle.std.proofs.lemmas.List.{with_items_is}
 use Rattle.ht_lanes.specs.Lanes.{Lanes}
-use Rattle.ht_group.specs.Pending.{QuietHaveValues}
+use Rattle.ht_group.specs.GroupOf.{group_of}
+use Rattle.ht_group.specs.GroupView.{GroupView, words_for}
+use Rattle.ht_group.specs.MachineWords.{AreKept, machines_of}
+use Rattle.ht_group.specs.declared.machines.Machines.{Machines}
+use Rattle.ht_group.proofs.GroupLaws.{group_count}
+use Rattle.ht_group.proofs.WordsLaws.{is_group, settled_words, kept_filled, kept_machines}
 use Rattle.ht_group.proofs.group.Group.settle.Goals as goal
 
 pub invariant_of-self : goal.invariant_of-self
 invariant_of-self c =
     let a = c.self.inside in
     let g = c.self.invariant in
-    let s = c.settle-gates.ensures in
-    record {
-      circuit = g.circuit;
-      schedule = g.schedule;
-      stuck = g.stuck;
-      frame = g.frame;
-      sources = g.sources;
-      nets = s.good ∙ g.nets;
-      source_count = g.source_count;
-      marks = s.marks ∙ g.marks;
-      room = ap (λ (l : List Lanes). length l) (with_items_is a.pins c.settle-gates.new.pins (omega arith))
-          ∙ (c.settle-gates.auto.pins ∙ (ap (λ (l : List Lanes). length l) c.deref_mut.ensures.value ∙ g.room));
-      inputs = g.inputs;
-      spare = g.spare;
-      quiet = subst (λ (l : List Lanes). QuietHaveValues a.circuit.now a.schedule a.lines.faults.items l
-          c.settle-gates.new.pending c.settle-gates.new.nets.words) c.words.ensures.words s.quiet;
-      settled = λ is. s.none;
-    }
+    let s = c.settle-evaluated.ensures in
+    let new = c.settle-evaluated.new.words in
+    let value = c.deref_mut.ensures.value in
+    let used = c.words_for.ensures in
+    let long : length new ≡ length a.words.items = s.count ∙ ap (λ (l : List Machines). length l) value in
+    let kept : (w : ℕ) (d : Machines) → AreKept (get_or a.words.items w d) (get_or new w d) =
+    subst (λ (l : List Machines). (w : ℕ) (d : Machines) → AreKept (get_or l w d) (get_or new w d)) value s.kept in
+    is_group _ new g.circuit g.schedule g.frame (with_items_is a.words new (omega (arith, long)))
+    (long ∙ g.word_count)
+    (settled_words a.circuit.now a.schedule a.frame a.count a.pending c.settle-evaluated.new.pending a.words.items new
+    g.word_count long g.filled g.words
+    (λ w d past. s.rest w d (omega (arith, past, used)) ∙ ap (λ (l : List Machines). get_or l w d) value)
+    (λ w d below. s.runs w d (omega (arith, below, used))) kept)
+    (kept_filled a.count a.words.items new long g.filled kept) g.few (s.marks ∙ g.marks)
+    (ap (λ (l : List Lanes). length l) (with_items_is a.pins c.settle-evaluated.new.pins (omega arith))
+    ∙ (c.settle-evaluated.auto.pins ∙ (ap (λ (l : List Lanes). length l) c.deref_mut-2.ensures.value ∙ g.room)))
+    (λ is. s.none)
+
+pub returns-clause-ok : goal.returns-clause-ok
+returns-clause-ok c =
+    let a = c.self.inside in
+    let s = c.settle-evaluated.ensures in
+    let new = c.settle-evaluated.new.words in
+    let value = c.deref_mut.ensures.value in
+    let long : length new ≡ length a.words.items = s.count ∙ ap (λ (l : List Machines). length l) value in
+    let kept : (w : ℕ) (d : Machines) → AreKept (get_or a.words.items w d) (get_or new w d) =
+    subst (λ (l : List Machines). (w : ℕ) (d : Machines) → AreKept (get_or l w d) (get_or new w d)) value s.kept in
+    let machines = ap (flat_map (machines_of a.circuit.now)) (with_items_is a.words new (omega (arith, long)))
+    ∙ kept_machines a.circuit.now a.words.items new long kept in
+    (λ i. record (group_of a) { machines = machines i; settled = true })
+    ∙ ap (λ (v : GroupView). record v { settled = true }) c.self.view_is
+
+pub returns-clause-steps : goal.returns-clause-steps
+returns-clause-steps c =
+    let a = c.self.inside in
+    let n = c.settle-evaluated.result in
+    let used = c.words_for.ensures ∙ ap words_for (sym (group_count a c.self.invariant)) in
+    subst (λ (v : GroupView). n ≤ length v.circuit.gates * words_for (length v.machines)) c.self.view_is
+    (subst (λ (m : ℕ). n ≤ length a.circuit.now.gates * m) used c.settle-evaluated.ensures.steps)

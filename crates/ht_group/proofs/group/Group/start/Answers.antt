@@ -1,14 +1,55 @@
-use Rattle.std.proofs.Common.{List, subst}
-use Rattle.ht_tern.specs.declared.tern.Tern.{Tern}
-use Rattle.ht_group.specs.Overlays.{IsSpread}
-use Rattle.ht_group.proofs.ChangeLaws.{fresh_group}
+use Rattle.std.specs.Prelude.{flat_map}
+use Rattle.std.proofs.Common.{◌≡◌, ◌<◌, ◌∙◌, List, ℕ, Bool, true, false, length, get_or, take, drop, ap, arith}
+use Rattle.std.proofs.lemmas.List.{with_items_is, length-replicate, length-map}
+use Rattle.std.proofs.Math.Seq.{take-append_seam, drop-append_seam}
+use Rattle.ht_tern.specs.Gate.{tern_of}
+use Rattle.ht_net.specs.Detection.{terns_of}
+use Rattle.ht_group.specs.MachineWords.{IsBare, machines_of}
+use Rattle.ht_group.specs.GroupView.{GroupView}
+use Rattle.ht_group.specs.declared.machines.Machines.{Machines}
+use Rattle.ht_group.proofs.WordsLaws.{is_group, bare_words, bare_filled, no_machines, none_marked}
 use Rattle.ht_group.proofs.group.Group.start.Goals as goal
+
+long : (c : goal.After-self-3-1) → length c.begin_words.new.words ≡ length c.self.inside.words.items
+long c = c.begin_words.ensures.count ∙ ap (λ (l : List Machines). length l) c.deref_mut.ensures.value
+
+bare : (c : goal.After-self-3-1) (w : ℕ) (d : Machines) → w < 4
+    → IsBare c.self.inside.circuit.now (get_or c.begin_words.new.words w d)
+bare c w d inside =
+    let four = ap (λ (l : List Machines). length l) c.deref_mut.ensures.value in
+    c.begin_words.ensures.each w d (omega (arith, inside, four, c.self.invariant.word_count))
 
 pub invariant_of-self : goal.invariant_of-self
 invariant_of-self c =
+    let a = c.self.inside in
     let g = c.self.invariant in
-    fresh_group _ g.circuit g.schedule c.clear.ensures.stuck c.clear.ensures.none c.start.ensures.frame
-    (subst (λ (l : List Tern). IsSpread l c.reset.new.self) c.deref.ensures.value c.reset.ensures)
-    (subst (λ (l : List Tern). IsSpread l c.reset-2.new.self) c.deref-2.ensures.value c.reset-2.ensures) _
-    g.marks
-    c.clear-2.ensures g.room
+    let new = c.begin_words.new.words in
+    let size = long c in
+    is_group _ new g.circuit g.schedule c.start.ensures.frame (with_items_is a.words new (omega (arith, size)))
+    (long c ∙ g.word_count) (bare_words a.circuit.now a.schedule c.start.new.self c.clear.new.self new (bare c))
+    (bare_filled a.circuit.now new (long c ∙ g.word_count) (bare c)) (omega arith)
+    (ap (λ (l : List Bool). length l) c.clear.ensures ∙ (length-replicate (length a.pending) false ∙ g.marks)) g.room
+    (λ is r. ap (λ (l : List Bool). get_or l r false) c.clear.ensures ∙ none_marked (length a.pending) r)
+
+pub returns : goal.returns
+returns c =
+    let a = c.self.inside in
+    let new = c.begin_words.new.words in
+    let size = long c in
+    let circuit = ap (λ (v : GroupView). v.circuit) c.self.view_is in
+    let inputs = ap (λ (v : GroupView). v.circuit.inputs) c.self.view_is in
+    let bits = c.args.vector.now in
+    let count = length-map bits tern_of in
+    let wide : a.circuit.now.inputs ≡ length (terns_of bits) = omega (arith, inputs, count, c.requires.width) in
+    let sources = c.start.ensures.sources in
+    let vector = (λ i. take (wide i) (sources i)) ∙ take-append_seam (terns_of bits) c.args.latches.now in
+    let latches = (λ i. drop (wide i) (sources i)) ∙ drop-append_seam (terns_of bits) c.args.latches.now in
+    let machines = ap (flat_map (machines_of a.circuit.now)) (with_items_is a.words new (omega (arith, size)))
+    ∙ no_machines a.circuit.now new (bare_filled a.circuit.now new (long c ∙ c.self.invariant.word_count) (bare c)) in
+    λ i. record {
+      circuit = circuit i;
+      vector = vector i;
+      latches = latches i;
+      machines = machines i;
+      settled = true;
+    }

@@ -4,7 +4,7 @@ use Rattle.ht_lanes.specs.Lanes.{Lanes}
 use Rattle.ht_group.specs.LaneRules.{lane_env}
 use Rattle.ht_group.specs.Overlays.{OverlayView}
 use Rattle.ht_group.proofs.InLaneLaws.{one_lane_written}
-use Rattle.ht_group.proofs.group.put_difference.Goals as goal
+use Rattle.ht_group.proofs.machines.put_difference.Goals as goal
 
 pub returns-clause-lanes : goal.returns-clause-lanes
 returns-clause-lanes c x n below =

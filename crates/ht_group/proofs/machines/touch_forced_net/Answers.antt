@@ -1,7 +1,7 @@
 use Rattle.std.specs.Prelude.{set}
 use Rattle.std.proofs.Common.{◌∙◌, ℕ, true, ap, sym}
-use Rattle.ht_group.proofs.ChangeLaws.{forced_pending}
-use Rattle.ht_group.proofs.group.touch_forced_net.Goals as goal
+use Rattle.ht_group.proofs.TouchLaws.{forced_pending}
+use Rattle.ht_group.proofs.machines.touch_forced_net.Goals as goal
 
 pub returns-in-Some-clause-idle : goal.returns-in-Some-clause-idle
 returns-in-Some-clause-idle c =

@@ -1,6 +1,6 @@
 use Rattle.std.proofs.Common.{◌≡◌}
 use Rattle.ht_group.proofs.PutLaws.{ArePut}
-use Rattle.ht_group.proofs.group.put_differences.Given as goal
+use Rattle.ht_group.proofs.machines.put_differences.Given as goal
 
 abbrev pub invariant-loop-i : goal.invariant-loop-i
 invariant-loop-i l = record {

@@ -3,7 +3,7 @@ use Rattle.std.proofs.lemmas.List.Elements.{All-get_or}
 use Rattle.ht_diff.specs.declared.diffs.Diff.{Diff}
 use Rattle.ht_group.specs.LatchWords.{HasDifferences}
 use Rattle.ht_group.proofs.PutLaws.{none_put, put_more, all_put}
-use Rattle.ht_group.proofs.group.put_differences.Goals as goal
+use Rattle.ht_group.proofs.machines.put_differences.Goals as goal
 
 pub loop-i-init : goal.loop-i-init
 loop-i-init c = record {

@@ -1,0 +1,108 @@
+-- A machine is added to the word that is next.
+use Rattle.std.specs.Prelude.{set, flat_map, min}
+use Rattle.std.proofs.Common.{◌≡◌, ◌≢◌, ◌<◌, ◌+◌, ◌-◌, ◌*◌, ◌/◌, ◌∙◌, ℕ, List, [], ◌∷◌, ◌++◌, Bool, true, false, length, get_or, drop, ap, sym, subst, arith, inl, inr}
+use Rattle.std.proofs.lemmas.Bool.{cases_eq}
+use Rattle.std.proofs.lemmas.List.{length-append, length-set, get_or-set_same, get_or-set_other, get_or_default}
+use Rattle.ht_net.specs.Netlist.{Netlist}
+use Rattle.ht_group.specs.GroupView.{FaultyMachine}
+use Rattle.ht_group.specs.MachineWords.{AreFilled, HasOneMore, HasSame, IsWord, machines_of}
+use Rattle.ht_group.specs.declared.good_frame.GoodFrame.{GoodFrame}
+use Rattle.ht_group.specs.declared.machines.Machines.{Machines}
+use Rattle.ht_group.specs.declared.schedule.Schedule.{Schedule}
+use Rattle.ht_group.proofs.BlockLaws.{more_at, same_all}
+use Rattle.ht_group.proofs.ChangeLaws.{more_pending}
+use Rattle.ht_group.proofs.GroupLaws.{filled_machines}
+use Rattle.ht_group.proofs.ViewLaws.{machine_count}
+use Rattle.ht_group.proofs.WordsLaws.{AreWords}
+
+fault_count : (c : Netlist) (m : Machines) → length (machines_of c m) ≡ length m.lines.faults.items
+fault_count c m = machine_count 0 m.lines.faults.items (drop c.inputs m.sources.words)
+
+module _ (c : Netlist) (n : ℕ) (words : List Machines) (old new : Machines) (four : length words ≡ 4) (few : n < 256)
+    (was : old ≡ get_or words (n / 64) old) where
+  abbrev next : ℕ
+  next = n / 64
+
+  abbrev written : List Machines
+  written = set words (n / 64) new
+
+  pub next_inside : n / 64 < length words
+  next_inside = omega (arith, few, four)
+
+  is_new : (d : Machines) → get_or written next d ≡ new
+  is_new d = get_or-set_same words next new d next_inside
+
+  is_old : (v : ℕ) (d : Machines) → v ≢ next → get_or written v d ≡ get_or words v d
+  is_old v d ne = get_or-set_other words next v new d ne
+
+  pub written_words : (s : Schedule) (frame : GoodFrame) (before pending : List Bool)
+      → ((r : ℕ) → get_or before r false ≡ true → get_or pending r false ≡ true)
+      → AreWords c s frame before words → IsWord c s frame pending new → AreWords c s frame pending written
+  written_words s frame before pending more each word v d inside = elim (cases_eq v next) [
+    | inl e ↦ subst (λ (m : Machines). IsWord c s frame pending m)
+        (sym (ap (λ (i : ℕ). get_or written i d) e ∙ is_new d)) word
+    | inr ne ↦ subst (λ (m : Machines). IsWord c s frame pending m) (sym (is_old v d ne))
+        (more_pending c s frame before pending (get_or words v d) more (each v d inside))
+  ]
+
+  module _ (filled : AreFilled n words) where
+    old_filled : length old.lines.faults.items ≡ min 64 (n - 64 * next)
+    old_filled = ap (λ (m : Machines). length m.lines.faults.items) was ∙ filled next old next_inside
+
+    -- there is room in it
+    pub next_room : length old.lines.faults.items < 64
+    next_room = let f = old_filled in omega (arith, f)
+
+    -- The word has one machine more.
+    module _ (one : FaultyMachine) (more : HasOneMore c old one new) where
+      pub added_filled : AreFilled (n + 1) written
+      added_filled v d inside = elim (cases_eq v next) [
+        | inl e ↦
+            let here = ap (λ (m : Machines). length m.lines.faults.items)
+            (ap (λ (i : ℕ). get_or written i d) e ∙ is_new d) in
+            let f = old_filled in
+            let a = ap (λ (l : List FaultyMachine). length l) more in
+            let b = length-append (machines_of c old) (one ∷ []) in
+            let p = fault_count c new in
+            let q = fault_count c old in
+            omega (arith, here, f, a, b, p, q, e)
+        | inr ne ↦
+            let same = ap (λ (m : Machines). length m.lines.faults.items) (is_old v d ne) in
+            let size = length-set words next new in
+            let f = filled v d (omega (arith, inside, size)) in
+            omega (arith, same, f, ne)
+      ]
+
+      pub added_machines : flat_map (machines_of c) written ≡ flat_map (machines_of c) words ++ one ∷ []
+      added_machines = more_at (machines_of c) words n next new one old (omega arith) (omega arith) next_inside
+          (filled_machines c n words filled)
+          (more ∙ ap (λ (m : Machines). machines_of c m ++ one ∷ []) was)
+
+    -- or the same machines
+    module _ (same : HasSame c old new) where
+      pub same_filled : AreFilled n written
+      same_filled v d inside = elim (cases_eq v next) [
+        | inl e ↦
+            let here = ap (λ (m : Machines). length m.lines.faults.items)
+            (ap (λ (i : ℕ). get_or written i d) e ∙ is_new d) in
+            let f = old_filled in
+            let a = ap (λ (l : List FaultyMachine). length l) same in
+            let p = fault_count c new in
+            let q = fault_count c old in
+            omega (arith, here, f, a, p, q, e)
+        | inr ne ↦
+            let size = length-set words next new in
+            ap (λ (m : Machines). length m.lines.faults.items) (is_old v d ne)
+            ∙ filled v d (omega (arith, inside, size))
+      ]
+
+      pub same_flat : flat_map (machines_of c) written ≡ flat_map (machines_of c) words
+      same_flat = same_all (machines_of c) words written (length-set words next new)
+          (λ v d inside. elim (cases_eq v next) [
+            | inl e ↦ ap (machines_of c) (ap (λ (i : ℕ). get_or written i d) e ∙ is_new d)
+                ∙ (same ∙ (ap (machines_of c) (was ∙ fits d)
+                ∙ ap (λ (i : ℕ). machines_of c (get_or words i d)) (sym e)))
+            | inr ne ↦ ap (machines_of c) (is_old v d ne)
+          ]) where
+            fits : (d : Machines) → get_or words next old ≡ get_or words next d
+            fits d = get_or_default words next old d next_inside
