@@ -8,7 +8,7 @@ use Rattle.ht_group.specs.GroupView.{FaultyMachine, good_next, faulty_next}
 use Rattle.ht_proofs.specs.declared.grade.Grade.{Grade}
 use Rattle.ht_proofs.specs.Applied.{IsFirstSeen}
 use Rattle.ht_proofs.specs.LaneGrades.{grade_at, lane_grade, HasNoLane, AreLaneFaults, AreChanged, HoldsLatches, with_place, with_latch}
-use Rattle.ht_proofs.specs.Batches.{BatchView, AreLanesBelow}
+use Rattle.ht_proofs.specs.Batches.{BatchView, AreWaiting}
 use Rattle.ht_proofs.proofs.SeenLaws.{is_seen_at, seen_none, seen_more}
 use Rattle.ht_proofs.proofs.DiffLaws.{HoldsBelow, holds_none, holds_more, holds_all}
 
@@ -16,7 +16,6 @@ use Rattle.ht_proofs.proofs.DiffLaws.{HoldsBelow, holds_none, holds_more, holds_
 pub lanes_stay : (lanes : List ℕ) (old new : List Grade) → length new ≡ length old → AreLaneFaults lanes old
     → AreLaneFaults lanes new
 lanes_stay lanes old new same faults = record {
-  few = faults.few;
   known = λ k less. let known = faults.known k less in omega (arith, known, same);
   differ = faults.differ;
 }
@@ -35,9 +34,9 @@ pub record AreSeenBelow (s : BatchView) (number o : ℕ) (old new : List Grade) 
   pub diffs : (k : ℕ) → k < length s.lanes → (lane_grade new s.lanes k).diffs ≡ []
   pub others : (i : ℕ) → HasNoLane s.lanes i → grade_at new i ≡ grade_at old i
 
-pub no_output : (s : BatchView) (number i : ℕ) (grades : List Grade) → AreLanesBelow i s grades
+pub no_output : (s : BatchView) (number : ℕ) (grades : List Grade) → AreWaiting s grades
     → AreSeenBelow s number 0 grades grades
-no_output s number i grades lanes = record {
+no_output s number grades lanes = record {
   seen = λ k m has. seen_none s.group m number (lane_grade grades s.lanes k).verdict
       (ap (λ (g : Grade). g.verdict) (lanes.moved k (machine_lane s k m lanes.machines has)));
   diffs = λ k less. ap (λ (g : Grade). g.diffs) (lanes.moved k less);
