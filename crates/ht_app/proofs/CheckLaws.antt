@@ -497,7 +497,7 @@ pub ends_unsaid : (names : CheckFiles) (e : RunError) (a m : DeskView)
     → IsJudged {A = Unit {0}} (check_of_names names) (Err e) a m
     → EndsJob {A = Unit {0}} (check_of_names names) (Err e) a m
 ends_unsaid names e a m p = record {
-  changed = ends_reading (check_of_names names) a m refl p.reads e p.first
+  changed = ends_reading (check_of_names names) a m refl p.reads e p.one_file
       (λ seven. never_answered (check_of_names names) a m refl p.reads);
   quiet = p.reads.written out_port.Err refl;
   done = tt;

@@ -1,6 +1,5 @@
 -- Gates that form a cycle are those of no circuit.
-use Rattle.std.proofs.Common.{◌≡◌, ℕ, zero, suc, ◌<◌, ◌≤◌, ◌+◌, ◌-◌, List, [], length, get_or, map, sym, ◌∙◌, ap, subst, arith}
-use Rattle.std.specs.List.{Contains}
+use Rattle.std.proofs.Common.{◌≡◌, ℕ, zero, suc, ◌<◌, ◌≤◌, ◌+◌, ◌-◌, List, [], length, get_or, map, sym, ◌∙◌, ap, subst, arith, Contains}
 use Rattle.std.proofs.lemmas.List.{length-map, get_or-map, get_or_default}
 use Rattle.ht_net.specs.Lists.{IsCycle}
 use Rattle.ht_net.specs.Netlist.{Netlist, IsCircuit, first_gate_net, gate_at, arg_at, no_net}

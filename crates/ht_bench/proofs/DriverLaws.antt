@@ -1,7 +1,5 @@
 -- The nets that statements drive are those of what they say together.
-use Rattle.std.proofs.Common.{◌≡◌, List, [], ◌∷◌, ◌++◌, ◌||◌, refl, sym, ◌∙◌, ap, append-nil, append_assoc}
-use Rattle.std.specs.Prelude.{fold}
-use Rattle.std.specs.Str.{bytes_eq}
+use Rattle.std.proofs.Common.{◌≡◌, List, [], ◌∷◌, ◌++◌, ◌||◌, refl, sym, ◌∙◌, ap, append-nil, append_assoc, fold, bytes_eq}
 use Rattle.std.proofs.Math.Bool.{or_assoc, or_comm, or-false}
 use Rattle.std.proofs.lemmas.List.{map_push}
 use Rattle.std.proofs.lemmas.List.Folds.{list_any-append}

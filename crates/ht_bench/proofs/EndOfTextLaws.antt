@@ -1,7 +1,5 @@
 -- A text whose lines are all accepted: its nets, the first that is undriven, and the circuit where none is.
-use Rattle.std.proofs.Common.{◌≡◌, ℕ, ◌<◌, ◌≤◌, List, [], Bool, true, not, length, get_or, sym, ◌∙◌, ap, subst, arith}
-use Rattle.std.specs.Prelude.{Some, find, option_map}
-use Rattle.std.specs.List.{All, Contains, slice_get}
+use Rattle.std.proofs.Common.{◌≡◌, ℕ, ◌<◌, ◌≤◌, List, [], Bool, true, not, length, get_or, sym, ◌∙◌, ap, subst, arith, Some, find, option_map, All, Contains, slice_get}
 use Rattle.std.proofs.lemmas.Bool.{false_from_ne_true, not_from_true, not_from_false}
 use Rattle.std.proofs.lemmas.List.Elements.{All-nil, All-contains_itself}
 use Rattle.std.proofs.lemmas.List.Folds.{find_at}

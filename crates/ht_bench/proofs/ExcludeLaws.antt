@@ -1,13 +1,12 @@
 -- What a refusal of a text excludes: a circuit, and another refusal.
-use Rattle.std.proofs.Common.{◌≡◌, ℕ, List, sym, ◌∙◌, ap}
-use Rattle.std.specs.Prelude.{Option, Some, None}
+use Rattle.std.proofs.Common.{◌≡◌, ℕ, List, sym, ◌∙◌, ap, Option, Some, None}
 use Rattle.ht_net.specs.Named.{Name}
 use Rattle.ht_net.specs.Netlist.{Netlist}
 use Rattle.ht_bench.specs.Contents.{named_of_statements}
 use Rattle.ht_bench.specs.Text.{IsNetlistOf, IsLoop, Refuses, IsOfNoCircuit, refusal_of}
 use Rattle.ht_bench.specs.TextRefusal.{text_refusal_of}
 use Rattle.ht_bench.specs.declared.error.BenchError.{BenchError}
-use Rattle.ht_bench.specs.declared.error.BenchError.TheVariants.{BadLine, BadName, BadKind, BadCount, Twice, TooMany, Undriven, Loop, NoMemory}
+use Rattle.ht_bench.specs.declared.error.BenchError.TheVariants.{Loop, NoMemory}
 use Rattle.ht_bench.proofs.StatedLaws.{same_statements}
 use Rattle.ht_bench.proofs.CycleLaws.{no_circuit}
 
@@ -23,28 +22,15 @@ loop_is_no_netlist text number cycle l circuit is =
     l.is_cycle.is_cycle
 
 pub refused_is_of_no_circuit : (text : List ℕ) (error : BenchError) → Refuses text error → IsOfNoCircuit text error
-refused_is_of_no_circuit text (BadLine line) refused = no_netlist text (BadLine line) refused
-refused_is_of_no_circuit text (BadName line) refused = no_netlist text (BadName line) refused
-refused_is_of_no_circuit text (BadKind line) refused = no_netlist text (BadKind line) refused
-refused_is_of_no_circuit text (BadCount line) refused = no_netlist text (BadCount line) refused
-refused_is_of_no_circuit text (Twice line name) refused = no_netlist text (Twice line name) refused
-refused_is_of_no_circuit text (TooMany line what) refused = no_netlist text (TooMany line what) refused
-refused_is_of_no_circuit text (Undriven line name) refused = no_netlist text (Undriven line name) refused
 refused_is_of_no_circuit text (Loop line names) refused = loop_is_no_netlist text line names refused
 refused_is_of_no_circuit text NoMemory refused = tt
+refused_is_of_no_circuit text error refused = no_netlist text error refused
 
 -- what a refusal says of the text is the text's own
 text_refusal_is : (text : List ℕ) (error : BenchError) (v : Option BenchError) → Refuses text error
     → text_refusal_of error ≡ Some v → refusal_of text ≡ v
-text_refusal_is text (BadLine line) v refused e = cc
-text_refusal_is text (BadName line) v refused e = cc
-text_refusal_is text (BadKind line) v refused e = cc
-text_refusal_is text (BadCount line) v refused e = cc
-text_refusal_is text (Twice line name) v refused e = cc
-text_refusal_is text (TooMany line what) v refused e = cc
-text_refusal_is text (Undriven line name) v refused e = cc
 text_refusal_is text (Loop line names) v refused e = let none : refusal_of text ≡ None = refused.read.unrefused in cc
-text_refusal_is text NoMemory v refused e = cc
+text_refusal_is text _ v refused e = cc
 
 pub one_refusal : (text : List ℕ) (error other : BenchError) (v w : Option BenchError) → Refuses text error
     → Refuses text other → text_refusal_of error ≡ Some v → text_refusal_of other ≡ Some w → v ≡ w

@@ -2,10 +2,8 @@ pub mod LineLaws
 pub mod ListLaws
 pub mod NameListLaws
 pub mod DifferLaws
-pub mod LimitLaws
 pub mod NamedPartLaws
 pub mod DriverLaws
-pub mod AddErrorLaws
 pub mod MentionLaws
 pub mod AddLaws
 pub mod ProgressLaws

@@ -1,9 +1,8 @@
 -- Lines of a text: the first one, and those of normal text, which are the texts of its statements.
-use Rattle.std.proofs.Common.{◌≡◌, ℕ, ◌<◌, List, [], ◌∷◌, length, map, ◌∙◌, ap, arith, ◌≢◌, ◌-◌, ◌≤◌, true, slice_index, codes, append_assoc, refl}
+use Rattle.std.proofs.Common.{◌≡◌, ℕ, ◌<◌, List, [], ◌∷◌, length, map, ◌∙◌, ap, arith, ◌≢◌, ◌-◌, ◌≤◌, true, slice_index, codes, append_assoc, refl, All}
 use Rattle.ht_ports.specs.LineRule.{lines_of, without_cr, HasNoLf}
 use Rattle.ht_ports.proofs.PieceLaws.{pieces-lf, pieces-last}
 use Rattle.ht_bench.specs.Split.{Lacks, IsSplit}
-use Rattle.std.specs.List.{All}
 use Rattle.std.proofs.lemmas.Bool.Decides.{nat_tests}
 use Rattle.std.proofs.lemmas.List.Elements.{All-head, All-tail}
 use Rattle.ht_ports.proofs.TextLaws.{lines-lf}

@@ -1,12 +1,9 @@
 -- Names in a list: their places, and lists to which names are added.
-use Rattle.std.proofs.Common.{◌≡◌, List, [], length, get_or, sym, ◌∙◌, ap, arith, refl, ◌≤◌, ◌-◌, ◌∷◌, ◌++◌, true, false, subst, append-nil, append_assoc}
-use Rattle.std.specs.List.{All, Contains}
-use Rattle.std.specs.Str.{bytes_eq}
+use Rattle.std.proofs.Common.{◌≡◌, List, [], length, get_or, sym, ◌∙◌, ap, arith, refl, ◌≤◌, ◌-◌, ◌∷◌, ◌++◌, false, subst, append-nil, append_assoc, All, Contains, bytes_eq, Decides}
 use Rattle.std.proofs.lemmas.Bool.{false_from_ne_true, both_ways, cond_both, cond-false}
 use Rattle.std.proofs.lemmas.Slice.Eq.{bytes_eq-Decides}
 use Rattle.ht_net.specs.Lists.{AllDiffer}
 use Rattle.ht_net.specs.Named.{Name}
-use Rattle.std.specs.Bool.{Decides}
 use Rattle.std.proofs.lemmas.List.{get_or_append_left, get_or-append_right, get_or_default, length-append}
 use Rattle.std.proofs.lemmas.List.Folds.{Any-from_list_any, list_any-from_Any}
 use Rattle.std.proofs.lemmas.List.Elements.{All-push, All-head, All-tail}
@@ -29,10 +26,9 @@ pub new_name : (names : List Name) (name : Name) → has_name names name ≡ fal
 new_name names name lacks k lt e = both_ways (has_name names name) lacks
     ((has_name-Decides names name).1 (k, lt, get_or_default names k name [] lt ∙ e))
 
-pub known_name : (names : List Name) (name : Name) → has_name names name ≡ true → ¬ IsNewName names name
-known_name names name has new =
-    let c = (has_name-Decides names name).0 has in
-    new c.0 c.1 (get_or_default names c.0 [] name c.1 ∙ c.2)
+pub has_new_name : (names : List Name) (name : Name) → IsNewName names name → has_name names name ≡ false
+has_new_name names name new = has_no_name names name (λ c.
+    new c.0 c.1 (get_or_default names c.0 [] name c.1 ∙ c.2))
 
 -- ---- names that are added
 

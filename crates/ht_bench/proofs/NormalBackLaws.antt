@@ -1,7 +1,6 @@
 -- What is read has names of the format, so its normal text is read as the same circuit, and refused only where memory
 -- runs out.
-use Rattle.std.proofs.Common.{◌≡◌, ℕ, List, [], ◌∷◌, true, map, refl, sym, ap, ◌∙◌}
-use Rattle.std.specs.List.{All}
+use Rattle.std.proofs.Common.{◌≡◌, ℕ, List, [], ◌∷◌, true, map, refl, sym, ap, ◌∙◌, All}
 use Rattle.std.proofs.lemmas.List.Elements.{All-nil, All-cons, All-head, All-weaker, All-contains}
 use Rattle.std.proofs.lemmas.List.Sums.{list_all-from_AllPass, AllPass-from_list_all}
 use Rattle.ht_net.specs.Netlist.{Netlist, IsCircuit}
@@ -17,7 +16,7 @@ use Rattle.ht_bench.specs.Contents.{driven_in, driven_by}
 use Rattle.ht_bench.specs.Text.{IsNetlistOf, IsOfNoCircuit}
 use Rattle.ht_bench.specs.Normal.{normal_text, HasFormatNames}
 use Rattle.ht_bench.specs.declared.error.BenchError.{BenchError}
-use Rattle.ht_bench.specs.declared.error.BenchError.TheVariants.{BadLine, BadName, BadKind, BadCount, Twice, TooMany, Undriven, Loop, NoMemory}
+use Rattle.ht_bench.specs.declared.error.BenchError.TheVariants.{NoMemory}
 use Rattle.ht_bench.proofs.AllLaws.{all_from, AreNames, All-flat_map}
 use Rattle.ht_bench.proofs.NameListLaws.{has_name-Decides}
 use Rattle.ht_bench.proofs.DriverLaws.{drivers_are}
@@ -70,12 +69,5 @@ read_back c d is good read = one_circuit (normal_text c) d c read (normal_is_net
 
 pub not_refused : (c : Netlist) (error : BenchError) → IsCircuit c → HasFormatNames c
     → IsOfNoCircuit (normal_text c) error → error ≡ NoMemory
-not_refused c (BadLine line) is good refuses = absurd (refuses c (normal_is_netlist c is good))
-not_refused c (BadName line) is good refuses = absurd (refuses c (normal_is_netlist c is good))
-not_refused c (BadKind line) is good refuses = absurd (refuses c (normal_is_netlist c is good))
-not_refused c (BadCount line) is good refuses = absurd (refuses c (normal_is_netlist c is good))
-not_refused c (Twice line name) is good refuses = absurd (refuses c (normal_is_netlist c is good))
-not_refused c (TooMany line what) is good refuses = absurd (refuses c (normal_is_netlist c is good))
-not_refused c (Undriven line name) is good refuses = absurd (refuses c (normal_is_netlist c is good))
-not_refused c (Loop line names) is good refuses = absurd (refuses c (normal_is_netlist c is good))
 not_refused c NoMemory is good refuses = refl
+not_refused c _ is good refuses = absurd (refuses c (normal_is_netlist c is good))

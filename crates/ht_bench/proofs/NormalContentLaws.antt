@@ -1,6 +1,5 @@
 -- What the statements of a circuit say together; they mention no net but its own.
-use Rattle.std.proofs.Common.{◌≡◌, List, [], ◌∷◌, ◌++◌, map, append-nil, append_assoc, refl, ap, sym, ◌∙◌, ℕ, ◌+◌, ◌<◌, true, length, get_or, take, subst, arith}
-use Rattle.std.specs.Prelude.{fold, flat_map, All, Contains}
+use Rattle.std.proofs.Common.{◌≡◌, List, [], ◌∷◌, ◌++◌, map, append-nil, append_assoc, refl, ap, sym, ◌∙◌, ℕ, ◌+◌, ◌<◌, true, length, get_or, take, subst, arith, fold, flat_map, All, Contains}
 use Rattle.std.proofs.lemmas.List.Concat.{flat_map-append, flat_map_single}
 use Rattle.std.proofs.lemmas.List.Folds.{flat_map-map}
 use Rattle.std.proofs.lemmas.List.Sums.{fold-append}

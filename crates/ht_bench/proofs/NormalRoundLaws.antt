@@ -1,23 +1,22 @@
 -- The normal text of a circuit is a netlist of that circuit.
-use Rattle.std.proofs.Common.{◌≡◌, ℕ, ◌≤◌, List, [], ◌∷◌, ◌++◌, Bool, true, false, not, length, get_or, map, append_assoc, append-nil, refl, sym, ap, subst, ◌∙◌, arith}
-use Rattle.std.specs.Prelude.{fold, find, Some, None, option_map, All, Contains}
+use Rattle.std.proofs.Common.{◌≡◌, ℕ, ◌≤◌, List, [], ◌∷◌, ◌++◌, Bool, true, false, not, length, get_or, map, append_assoc, append-nil, refl, sym, ap, subst, ◌∙◌, arith, fold, find, Some, None, option_map, All, Contains, length-append, length-take}
 use Rattle.std.proofs.lemmas.Bool.{cond-false, not_from_true}
-use Rattle.std.proofs.lemmas.List.{length-append, length-take}
+use Rattle.std.proofs.lemmas.Bool.Decides.{nat_tests}
 use Rattle.std.proofs.lemmas.List.Concat.{flat_map-append}
 use Rattle.std.proofs.lemmas.List.Sums.{fold-append, sum_by_push, list_all-from_AllPass, AllPass-from_list_all}
 use Rattle.std.proofs.lemmas.List.Elements.{All-nil, All-head, All-tail, All-weaker, All-contains, Contains-append_left, Contains-get_or}
 use Rattle.ht_net.specs.Lists.{AllDiffer}
-use Rattle.ht_net.specs.Netlist.{Netlist, IsCircuit}
+use Rattle.ht_net.specs.Netlist.{max_nets, max_pins, max_inputs, max_dffs, Netlist, IsCircuit}
 use Rattle.ht_net.specs.Named.{Name, NamedGate, NamedNetlist, named_of}
 use Rattle.ht_statement.specs.Name.{is_name}
-use Rattle.ht_statement.specs.Statement.{Statement, blank_line, input_line, output_line, dff_line, gate_line, names_in}
+use Rattle.ht_statement.specs.Statement.{Statement, input_line, dff_line, gate_line, names_in}
 use Rattle.ht_statement.specs.Reading.{stated, reading_of}
 use Rattle.ht_statement.specs.StatementText.{statement_text, CanBeStated}
 use Rattle.ht_statement.proofs.StatementTextLaws.{normal_reads}
 use Rattle.ht_bench.specs.Different.{has_name}
 use Rattle.ht_bench.specs.Contents.{no_parts, with_statement, named_of_statements, driven_in, driven_by, mentions_of, stated_nets}
 use Rattle.ht_net.specs.Draft.{named_pins}
-use Rattle.ht_bench.specs.Accepted.{limit_passed, second_driver, reading_error}
+use Rattle.ht_bench.specs.Accepted.{limit_passed_by, limit_passed, second_driver, reading_error}
 use Rattle.ht_bench.specs.Role.{line_of}
 use Rattle.ht_bench.specs.EndOfText.{undriven_refusal}
 use Rattle.ht_bench.specs.Text.{IsNetlistOf, readings_of, refusal_after}
@@ -26,13 +25,16 @@ use Rattle.ht_bench.specs.declared.find_line.Role.TheVariants.{Mentioned}
 use Rattle.ht_bench.specs.declared.error.BenchError.TheVariants.{Undriven}
 use Rattle.ht_bench.proofs.NamedPartLaws.{named_dffs_count}
 use Rattle.ht_bench.proofs.NameListLaws.{has_name-Decides, has_no_name, All-with_names}
-use Rattle.ht_bench.proofs.LimitLaws.{within_passes_none}
 use Rattle.ht_bench.proofs.ProgressLaws.{refusal_by, no_error}
 use Rattle.ht_bench.proofs.LineLaws.{lines_of_statements}
 use Rattle.ht_bench.proofs.AllLaws.{AreNames, All-left, All-flat_map}
 use Rattle.ht_bench.proofs.DifferLaws.{differ_apart, length-different}
 use Rattle.ht_bench.proofs.NormalNameLaws.{driven_are_names, statements_say, pins_are}
 use Rattle.ht_bench.proofs.NormalContentLaws.{statements_made, have_counts}
+
+none_passed : (nets pins inputs dffs : ℕ) → nets ≤ max_nets → pins ≤ max_pins → inputs ≤ max_inputs
+    → dffs ≤ max_dffs → limit_passed_by nets pins inputs dffs ≡ None
+none_passed nets pins inputs dffs few_nets few_pins few_inputs few_dffs = grind (arith, nat_tests)
 
 -- ---- each line is read
 
@@ -48,8 +50,6 @@ texts_read (s ∷ statements) can =
 
 says_no_less : (n : NamedNetlist) (s : Statement) → (length n.inputs ≤ length (with_statement n s).inputs)
     × (length n.dffs ≤ length (with_statement n s).dffs) × (named_pins n ≤ named_pins (with_statement n s))
-says_no_less n blank_line = (omega arith, omega arith, omega arith)
-says_no_less n (output_line name) = (omega arith, omega arith, omega arith)
 says_no_less n (input_line name) = (omega (arith, length-append n.inputs (name ∷ [])), omega arith, omega arith)
 says_no_less n (dff_line out data_pin) =
     let more = length-append n.dffs (record { out = out; data_pin = data_pin } ∷ []) in
@@ -58,6 +58,7 @@ says_no_less n (gate_line out kind args) =
     let more = sum_by_push (λ (g : NamedGate). length g.args) n.gates
     (record { kind = kind; out = out; args = args }) in
     (omega arith, omega arith, omega (arith, more))
+says_no_less n _ = omega arith
 
 grows : (count : NamedNetlist → ℕ) → ((n : NamedNetlist) (s : Statement) → count n ≤ count (with_statement n s))
     → (n : NamedNetlist) (statements : List Statement) → count n ≤ count (fold with_statement n statements)
@@ -105,24 +106,10 @@ module _ (c : Netlist) (is : IsCircuit c) where
       let few_pins = is.few_pins in
       let few_inputs = is.few_inputs in
       let few_dffs = is.few_dffs in
-      within_passes_none (length (stated_nets first)) (named_pins n) (length n.inputs) (length n.dffs) (record {
-        few_nets = omega arith;
-        few_pins = omega (arith, pins, ap named_pins all, pins_are c is);
-        few_inputs = omega (
-          arith,
-          inputs,
-          ap (λ (m : NamedNetlist). length m.inputs) all,
-          length-take c.inputs
-              c.names,
-        );
-        few_dffs = omega (
-          arith,
-          dffs,
-          ap (λ (m : NamedNetlist). length m.dffs) all,
-          named_dffs_count c c.inputs
-              c.dffs,
-        );
-      })
+      none_passed (length (stated_nets first)) (named_pins n) (length n.inputs) (length n.dffs)
+      (omega arith) (omega (arith, ap named_pins all, pins_are c is))
+      (omega (arith, ap (λ (m : NamedNetlist). length m.inputs) all, length-take c.inputs c.names))
+      (omega (arith, ap (λ (m : NamedNetlist). length m.dffs) all, named_dffs_count c c.inputs c.dffs))
 
   new_driver : (before after : List Statement) (s : Statement) → statements_of c ≡ before ++ s ∷ after
       → second_driver before s ≡ None

@@ -1,6 +1,5 @@
 -- Reading a text line by line.
-use Rattle.std.proofs.Common.{◌≡◌, ℕ, ◌<◌, ◌≤◌, ◌+◌, List, [], ◌∷◌, ◌++◌, Bool, cond, length, map, refl, sym, ◌∙◌, ap, subst, append_assoc, Result, Ok, Err, IfErr, arith}
-use Rattle.std.specs.Prelude.{Option, Some, None, option_map, find}
+use Rattle.std.proofs.Common.{◌≡◌, ℕ, ◌<◌, ◌≤◌, ◌+◌, List, [], ◌∷◌, ◌++◌, Bool, cond, length, map, refl, sym, ◌∙◌, ap, subst, append_assoc, Result, Ok, Err, IfErr, arith, Option, Some, None, option_map, find}
 use Rattle.std.specs.Option.{option_or}
 use Rattle.std.proofs.lemmas.List.{length-append, map_push}
 use Rattle.std.proofs.lemmas.List.Sums.{fold-append, fold_push}

@@ -1,6 +1,6 @@
 -- What lines state: readings determine the statements, and a gate has as many arguments as its kind may have.
 use Rattle.std.proofs.Common.{◌≡◌, List, [], ◌∷◌, length, map, refl, ap, arith, ℕ, true}
-use Rattle.ht_statement.specs.Statement.{Statement, blank_line, input_line, output_line, dff_line, gate_line}
+use Rattle.ht_statement.specs.Statement.{Statement, gate_line}
 use Rattle.ht_statement.specs.Reading.{stated, reading_of}
 use Rattle.ht_statement.specs.StatementText.{has_its_count}
 use Rattle.ht_statement.proofs.StatedLaws.{count_is_arity, stated_sound}
@@ -21,11 +21,8 @@ same_statements (b ∷ some) (s ∷ others) e =
     cc
 
 has_arguments : (s : Statement) → has_its_count s ≡ true → HasArguments s
-has_arguments blank_line count = tt
-has_arguments (input_line name) count = tt
-has_arguments (output_line name) count = tt
-has_arguments (dff_line out data_pin) count = tt
 has_arguments (gate_line out kind args) count = count_is_arity kind (length args) count
+has_arguments _ count = tt
 
 pub stated_arguments : (line : List ℕ) (s : Statement) → reading_of line ≡ stated s → HasArguments s
 stated_arguments line s e = has_arguments s (stated_sound line s e).count

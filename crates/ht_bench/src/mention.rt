@@ -11,6 +11,7 @@ use ht_net::{Builder, NameId};
 use std::alloc::Global;
 
 /// The number of a name, which is mentioned from here on.
+#[tactic(auto, using(crate::proofs::MentionLaws::mentioning))]
 pub(crate) fn mention(builder: &mut Builder, name: &[u8]) -> Result<NameId, AddError>
     ensures number { IfOk result (λ id. IsNameAt builder.new.names id.0 name.now) }
     ensures mentions { OnOk result (Mentions builder.old (name.now ∷ []) builder.new) }
@@ -21,6 +22,7 @@ pub(crate) fn mention(builder: &mut Builder, name: &[u8]) -> Result<NameId, AddE
 }
 
 /// The numbers of names, which are mentioned from here on.
+#[tactic(auto, using(crate::proofs::MentionLaws::mentioning))]
 pub(crate) fn mention_all(
     alloc: Global,
     builder: &mut Builder,
@@ -43,6 +45,7 @@ pub(crate) fn mention_all(
 }
 
 /// The number of a net that a line drives, where no earlier line drives it.
+#[tactic(auto, using(crate::proofs::MentionLaws::mentioning))]
 pub(crate) fn mention_driven(
     alloc: Global,
     builder: &mut Builder,

@@ -14,6 +14,7 @@ pub fn one_circuit_per_text()
 {}
 
 /// A text has at most one refusal, up to the choice of a cycle.
+#[tactic(auto, using(crate::proofs::ExcludeLaws::one_refusal))]
 pub fn one_refusal_per_text()
     ensures { (text : List ℕ) (error other : BenchError) (v w : Option BenchError)
         → Refuses text error → Refuses text other
@@ -21,6 +22,7 @@ pub fn one_refusal_per_text()
 {}
 
 /// The normal text of a well-formed circuit whose names are names of the format is a netlist of that circuit.
+#[tactic(auto, using(crate::proofs::NormalRoundLaws::normal_is_netlist))]
 pub fn normal_text_is_a_netlist_of_its_circuit()
     ensures { (c : Netlist) → IsCircuit c → HasFormatNames c → IsNetlistOf (normal_text c) c }
 {}
@@ -32,6 +34,7 @@ pub fn a_circuit_that_was_read_has_names_of_the_format()
 
 /// What `read` answers on the normal text of a well-formed circuit whose names are names of the format: that circuit,
 /// or out of memory.
+#[tactic(auto, using(crate::proofs::NormalBackLaws::read_back, crate::proofs::NormalBackLaws::not_refused))]
 pub fn normal_text_is_read_as_its_circuit()
     ensures circuit { (c d : Netlist) → IsCircuit c → HasFormatNames c
         → IsNetlistOf (normal_text c) d → d ≡ c }

@@ -17,7 +17,7 @@ use std::alloc::{AllocError, Global};
 pub struct NetSets {
     // a set for each net
     values: Vec<PairSet>,
-    // whether the net had another set in the frame before
+    // whether the net has another set than in the frame before
     changed: Vec<bool>,
     // room for the pins of one gate
     pins: Vec<PairSet>,
@@ -106,6 +106,7 @@ fn show(circuit: &Circuit, values: &[PairSet], outputs: &mut [PairSet])
     requires outputs { length outputs.old ≡ length circuit.now.outputs }
     ensures { outputs.new ≡ values_at (sets_of values.now) circuit.now.outputs }
 {
+    // for the proof: the nets of outputs are among those that have sets
     prove_eq!(values.len(), circuit.nets() as usize);
     for o in 0..circuit.outputs() {
         outputs[o as usize] = values[circuit.output(o).index()];

@@ -7,7 +7,7 @@ use Rattle.std.proofs.lemmas.List.Elements.{All-nil, All-cons}
 use Rattle.ht_tern.specs.declared.tern.Tern.{Tern}
 use Rattle.ht_ports.specs.LineRule.{lines_of, max_text_bytes}
 use Rattle.ht_texts.specs.Tests.{line_at, line_of_byte, IsTooLong}
-use Rattle.ht_texts.proofs.VectorLaws.{map_injective}
+use Rattle.ht_texts.proofs.CodedLaws.{map_injective}
 use Rattle.ht_dictionary.specs.ResponseTexts.{row_text, AreFirstRows, IsRowText, IsResponseText, IsNoResponse, IsMissingResponse, IsWrongResponse, IsMalformedResponse}
 use Rattle.ht_dictionary.proofs.RowTextLaws.{row_text_injective, row_or_none}
 
@@ -38,7 +38,7 @@ no_wrong width vectors text rows is n wrong =
             let inside : n - 1 < length rows = omega (arith, count, bad.counted.0, bad.counted.1) in
             none (get_or rows (n - 1) []) (record {
               characters = ap (λ l. get_or l (n - 1) []) is.lines ∙ get_or-map row_text rows (n - 1) [] [] inside;
-              values = is.widths (n - 1) [] inside;
+              count = is.widths (n - 1) [] inside;
             })
       ]
       | inr other ↦ elim other [
@@ -136,7 +136,7 @@ rows_of width (line ∷ lines) each =
     let rest = rows_of width lines (λ k less. each (suc k) (omega arith)) in (
       here.0 ∷ rest.0,
       let e = here.1.characters in let f = rest.1 in cc,
-      All-cons (λ (row : List Tern). length row ≡ width) here.0 rest.0 here.1.values rest.2,
+      All-cons (λ (row : List Tern). length row ≡ width) here.0 rest.0 here.1.count rest.2,
     )
 
 -- where no line is wrong each is the text of a row
@@ -210,7 +210,7 @@ read_right width vectors text rows are few m upto bad = elim bad.wrong [
       none (get_or rows (m - 1) []) (record {
         characters = sym (get_or-take (length rows) lines (m - 1) [] inside)
             ∙ (ap (λ l. get_or l (m - 1) []) are.lines ∙ get_or-map row_text rows (m - 1) [] [] inside);
-        values = are.widths (m - 1) [] inside;
+        count = are.widths (m - 1) [] inside;
       })
 ]
 

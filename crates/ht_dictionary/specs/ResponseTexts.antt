@@ -4,7 +4,7 @@ use Rattle.std.specs.List.{All}
 use Rattle.ht_tern.specs.declared.tern.Tern.{Tern}
 use Rattle.ht_tern.specs.declared.tern.Tern.TheVariants.{Zero, One, Unk}
 use Rattle.ht_ports.specs.LineRule.{lines_of, max_text_bytes}
-use Rattle.ht_texts.specs.Tests.{line_at, IsTooLong}
+use Rattle.ht_texts.specs.Tests.{line_at, IsCoded, IsTooLong}
 
 -- the character of a value, `0`, `1`, or `X` where nothing was seen
 abbrev pub tern_code : Tern → ℕ
@@ -17,9 +17,8 @@ abbrev pub row_text : List Tern → List ℕ
 row_text row = map tern_code row
 
 -- the line is the text of this row, which has a value for each of so many outputs
-pub record IsRowText (width : ℕ) (line : List ℕ) (row : List Tern) : Type 0 where
-  pub characters : line ≡ row_text row
-  pub values : length row ≡ width
+abbrev pub IsRowText : ℕ → List ℕ → List Tern → Type 0
+IsRowText width line row = IsCoded tern_code width line row
 
 -- The lines of the text are those of these rows, of which there is one for each of so many vectors, and each has a
 -- value for each of so many outputs. The text is no longer than a text may be.

@@ -1,11 +1,11 @@
 -- Items by frame and place, and their positions.
-use Rattle.std.proofs.Common.{◌≡◌, ◌<◌, ◌≤◌, ◌+◌, ◌*◌, ◌/◌, ◌%◌, inl, inr, ℕ, suc, zero, List, get_or, refl, sym, ◌∙◌, ap, arith}
+use Rattle.std.proofs.Common.{◌≡◌, ◌<◌, ◌≤◌, ◌+◌, ◌-◌, ◌*◌, ◌/◌, ◌%◌, inl, inr, ℕ, suc, zero, List, length, get_or, refl, sym, subst, ◌∙◌, ap, arith}
 use Rattle.std.proofs.lemmas.Nat.{div-mul-add, mod-mul-add, div-add-mod'}
 use Rattle.std.proofs.Math.Nat.{mul-le-mul_right, div-lt_iff_lt-mul, mod-lt, suc-mul, mul-zero}
 use Rattle.std.proofs.lemmas.Bool.Decides.{nat_tests}
 use Rattle.ht_net.specs.Netlist.{Netlist}
-use Rattle.ht_events.specs.Items.{frame_items, item_count, item_at, frame_of, local_of, driven_net, ReadsNet, reader_frame, IsLoad}
-use Rattle.ht_events.specs.Plans.{IsRanking}
+use Rattle.ht_ranks.specs.Ranks.{AreRanked}
+use Rattle.ht_events.specs.Items.{frame_items, item_count, item_at, frame_of, local_of, driven_net, IsGateOn, ReadsNet, reader_frame, IsLoad}
 
 pub item_frame : (c : Netlist) (f l : ℕ) → l < frame_items c → frame_of c (item_at c f l) ≡ f
 item_frame c f l h = div-mul-add f (frame_items c) l h
@@ -43,7 +43,18 @@ pub reads_known : (c : Netlist) (l x : ℕ) → ReadsNet c l x → l < frame_ite
 reads_known c l x (inl g) = g.known
 reads_known c l x (inr d) = let h = d.is_dff in omega (arith, h)
 
-module _ (c : Netlist) (order ranks : List ℕ) (ranking : IsRanking c order ranks) where
+module _ (c : Netlist) (order ranks : List ℕ) (ranking : AreRanked c (length c.dffs) order ranks) where
+  rises_on : (l m : ℕ) → IsGateOn c m (driven_net c l) → get_or ranks l 0 < get_or ranks m 0
+  rises_on l m on =
+      let is = on.is_gate in
+      let at : length c.dffs + (m - length c.dffs) ≡ m = omega (arith, is) in
+      subst (λ (k : ℕ). get_or ranks l 0 < get_or ranks k 0) at (ranking.rises (m - length c.dffs) l (record {
+        pin = on.pin;
+        is_gate = omega (arith, is, on.known);
+        is_pin = on.is_pin;
+        reads = omega (arith, on.reads);
+      }))
+
   -- the position of an item in a plan of this circuit
   abbrev pub position_of : ℕ → ℕ
   position_of item = frame_of c item * frame_items c + get_or ranks (local_of c item) 0
@@ -105,7 +116,7 @@ module _ (c : Netlist) (order ranks : List ℕ) (ranking : IsRanking c order ran
         later f l m n rl known same (inl g) py =
             let h = g.is_gate in
             let e : reader_frame c f m ≡ f = grind (arith, nat_tests, h) in
-            let up = ranking.rises m l known g in
+            let up = rises_on l m g in
             let p : position_of y ≡ f * n + get_or ranks m 0 = py ∙ ap (λ (g : ℕ). g * n + get_or ranks m 0) e in
             omega (arith, p, up)
         later f l m n rl known same (inr d) py =

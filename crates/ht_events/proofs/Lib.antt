@@ -3,4 +3,3 @@ pub mod RowLaws
 pub mod TableLaws
 pub mod LoadLaws
 pub mod SettleLaws
-pub mod RankLaws

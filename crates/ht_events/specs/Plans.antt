@@ -2,7 +2,8 @@
 use Rattle.std.specs.Prelude.{◌≡◌, ◌<◌, ◌≤◌, ◌+◌, ◌*◌, ℕ, List, [], length, get_or}
 use Rattle.std.specs.List.{Contains}
 use Rattle.ht_net.specs.Netlist.{Netlist, IsCircuit, net_count}
-use Rattle.ht_events.specs.Items.{frame_items, frame_of, local_of, driven_net, IsGateOn, ReadsNet}
+use Rattle.ht_ranks.specs.Ranks.{AreRanked}
+use Rattle.ht_events.specs.Items.{frame_items, frame_of, local_of, ReadsNet}
 use Rattle.ht_events.specs.declared.plan.Plan.TheInside.{Inside}
 
 -- the most frames: the longest window of a search
@@ -14,16 +15,6 @@ pub record IsTable (c : Netlist) (rows : List (List ℕ)) : Type 0 where
   pub count : length rows ≡ net_count c
   pub sound : (x l : ℕ) → Contains (get_or rows x []) l → ReadsNet c l x
   pub complete : (x l : ℕ) → ReadsNet c l x → Contains (get_or rows x []) l
-
--- ranks gives the rank of each item of a frame in the order; a gate comes after what it reads
-pub record IsRanking (c : Netlist) (order ranks : List ℕ) : Type 0 where
-  pub order_count : length order ≡ frame_items c
-  pub rank_count : length ranks ≡ frame_items c
-  pub small : (l : ℕ) → l < frame_items c → get_or ranks l 0 < frame_items c
-  pub known : (r : ℕ) → r < frame_items c → get_or order r 0 < frame_items c
-  pub back : (l : ℕ) → l < frame_items c → get_or order (get_or ranks l 0) 0 ≡ l
-  pub forth : (r : ℕ) → r < frame_items c → get_or ranks (get_or order r 0) 0 ≡ r
-  pub rises : (l m : ℕ) → m < frame_items c → IsGateOn c l (driven_net c m) → get_or ranks m 0 < get_or ranks l 0
 
 -- a circuit, a number of frames, what reads each net, and the rank of each item of a frame
 pub record PlanState : Type 0 where
@@ -42,4 +33,5 @@ pub record IsPlan (a : Inside) : Type 0 where
   pub some : 0 < a.frames
   pub few : a.frames ≤ max_frames
   pub table : IsTable a.circuit.now a.readers
-  pub ranking : IsRanking a.circuit.now a.order.items a.ranks.items
+  -- a gate comes after what it reads
+  pub ranking : AreRanked a.circuit.now (length a.circuit.now.dffs) a.order.items a.ranks.items

@@ -10,7 +10,6 @@
 mod event_core;
 mod plan;
 mod plant;
-mod ranking;
 mod readers;
 
 pub use event_core::Core;

@@ -5,9 +5,9 @@ ghost use Rattle.ht_net.specs.Netlist.{IsCircuit, net_count};
 ghost use Rattle.ht_events.specs.Items.{ReadsNet, IsLoad, frame_items, item_at, item_count, frame_of, local_of, driven_net};
 ghost use Rattle.ht_events.specs.Plans.{position_at, PlanState, IsTable};
 
-use crate::ranking::ranking;
 use crate::readers::Readers;
 use ht_net::{Circuit, NetId};
+use ht_ranks::ranking;
 use std::alloc::{AllocError, Global};
 use std::marker::Model;
 
@@ -56,7 +56,7 @@ impl<'c> Plan<'c> {
         ensures frames { IfOk result (λ plan. plan.frames ≡ frames) }
     {
         let _ = circuit.nets();
-        let (order, ranks) = ranking(alloc, circuit)?;
+        let (order, ranks) = ranking(alloc, circuit, circuit.dffs())?;
         Ok(Plan {
             circuit,
             frames,

@@ -11,6 +11,7 @@ use Rattle.ht_group.specs.LaneRules.{given_value, HasItsValue}
 use Rattle.ht_group.specs.Schedules.{ReadsFrom, IsSchedule}
 use Rattle.ht_group.specs.declared.schedule.Schedule.{Schedule}
 use Rattle.ht_group.proofs.DriveLaws.{drive_same}
+use Rattle.ht_group.proofs.RankLaws.{rises_from}
 
 module _ (c : Netlist) (s : Schedule) (is : IsSchedule c s) where
   rank_of_net : (r : ℕ) → r < net_count c → get_or s.ranks.items (get_or s.order.items r 0) 0 ≡ r
@@ -18,7 +19,9 @@ module _ (c : Netlist) (s : Schedule) (is : IsSchedule c s) where
 
   -- no net reads itself
   no_self : (x : ℕ) → ¬ ReadsFrom c x x
-  no_self x reads = let less = is.ranks.rises x x reads in absurd (omega (arith, less))
+  no_self x reads =
+      let less = rises_from c s.order.items s.ranks.items is.ranks x x reads in
+      absurd (omega (arith, less))
 
   other_net : (q r : ℕ) → q < net_count c → r < net_count c → q ≢ r
       → get_or s.order.items q 0 ≢ get_or s.order.items r 0

@@ -1,5 +1,4 @@
 -- Pins of a gate, lane by lane.
-use Rattle.std.specs.Prelude.{set}
 use Rattle.std.specs.Int.{bit_at, bit_not, w64, trailing_zeros}
 use Rattle.std.specs.List.{slice_get}
 use Rattle.std.proofs.Common.{◌≡◌, ◌≢◌, ◌<◌, ◌≤◌, ◌^◌, ◌*◌, ◌%◌, ◌+◌, ◌∙◌, ◌&&◌, ℕ, zero, suc, List, [], ◌∷◌, Bool, true, false, length, get_or, map, take, cond, eqb, ap, sym, refl, arith, Option, Some, None, inl, inr}
@@ -8,12 +7,11 @@ use Rattle.std.proofs.lemmas.Bool.{eqb-true}
 use Rattle.std.proofs.lemmas.Nat.{and_le_l}
 use Rattle.std.proofs.lemmas.Nat.Bits.{bit_at_clear_same, bit_at_clear_other, bit_at-zero, bit_at-trailing_zeros}
 use Rattle.std.proofs.lemmas.Option.{slice_get_within, get_or_from_slice_get}
-use Rattle.std.proofs.lemmas.List.{get_or-set_same, get_or-set_other, ext_get_or, get_or-map, get_or-take, length-take-le, length-map}
+use Rattle.std.proofs.lemmas.List.{ext_get_or, get_or-map, get_or-take, length-take-le, length-map}
 use Rattle.ht_tern.specs.declared.tern.Tern.{Tern}
 use Rattle.ht_tern.specs.declared.tern.Tern.TheVariants.{Unk}
 use Rattle.ht_tern.specs.Gate.{tern_of}
-use Rattle.ht_lanes.specs.Lanes.{Lanes, lane, with_lane, every_lane, is_set, word_at}
-use Rattle.ht_lanes.specs.Inverse.{lane_of_each}
+use Rattle.ht_lanes.specs.Lanes.{Lanes, lane, every_lane, is_set, word_at}
 use Rattle.ht_net.specs.declared.net.NetId.{NetId}
 use Rattle.ht_net.specs.declared.fault.Site.{Site}
 use Rattle.ht_net.specs.declared.fault.Site.TheVariants.{Stem, DffPin, GatePin}

@@ -2,12 +2,12 @@
 use Rattle.std.specs.Prelude.{set, unwrap_or}
 use Rattle.std.proofs.Common.{◌≡◌, ◌≢◌, ◌<◌, ◌≤◌, ◌+◌, ◌-◌, ◌∙◌, ◌&&◌, ℕ, List, ◌∷◌, Bool, true, false, length, get_or, take, drop, cond, eqb, ap, sym, refl, arith, Option, Some, inl, inr}
 use Rattle.std.proofs.lemmas.Bool.Decides.{eqb_tells}
-use Rattle.std.proofs.lemmas.List.{ext_get_or, get_or-map, get_or-take, get_or-drop, length-map, length-drop, length-take-le, drop_all, drop_more, get_or-set_other, get_or-set_same, length-set}
+use Rattle.std.proofs.lemmas.List.{ext_get_or, get_or-take, get_or-drop, length-map, length-drop, length-take-le, drop_all, drop_more, get_or-set_other, get_or-set_same, length-set}
 use Rattle.std.proofs.lemmas.Bool.{cases_Bool, eq-eqb, ne_eqb}
 use Rattle.std.proofs.lemmas.List.FromFn.{get_or-map-range_with_len, length-map-range_with_len}
 use Rattle.ht_tern.specs.declared.tern.Tern.{Tern}
 use Rattle.ht_tern.specs.declared.tern.Tern.TheVariants.{Unk}
-use Rattle.ht_lanes.specs.Lanes.{Lanes, lane, with_lane, every_lane, word_at}
+use Rattle.ht_lanes.specs.Lanes.{Lanes, lane}
 use Rattle.ht_diff.specs.declared.diffs.Diff.{Diff}
 use Rattle.ht_diff.specs.Differences.{held, value_but, with_differences}
 use Rattle.ht_net.specs.Netlist.{Netlist, first_gate_net, net_count}

@@ -1,114 +1,17 @@
--- Inputs and flip-flops, and then gates in an order: each net once, and a gate's after those that it reads.
-use Rattle.std.proofs.Common.{◌≡◌, ◌≢◌, ◌<◌, ◌≤◌, ◌+◌, ◌-◌, ◌∙◌, ℕ, List, length, get_or, sym, ap, arith, inl, inr}
-use Rattle.ht_net.specs.Netlist.{Netlist, first_gate_net, net_count, gate_at, arg_at, IsOrder}
-use Rattle.ht_net.proofs.FrameLaws.{le_or_lt}
-use Rattle.ht_group.specs.Schedules.{ReadsFrom, AreRanks}
+-- The ranks of nets rise from what a gate reads to its own.
+use Rattle.std.proofs.Common.{◌≡◌, ◌<◌, ◌+◌, ◌-◌, ℕ, List, get_or, subst, arith}
+use Rattle.ht_net.specs.Netlist.{Netlist, first_gate_net}
+use Rattle.ht_ranks.specs.Ranks.{AreRanked}
+use Rattle.ht_group.specs.Schedules.{ReadsFrom}
 
-module _ (c : Netlist) (gates order : List ℕ) (sorted : IsOrder c gates) (count : length order ≡ net_count c)
-    (low_are : (x : ℕ) → x < first_gate_net c → get_or order x 0 ≡ x)
-    (gates_are : (k : ℕ) → k < length c.gates → get_or order (first_gate_net c + k) 0
-    ≡ first_gate_net c + get_or gates k 0)
-  where
-    gate_is : (r : ℕ) → first_gate_net c ≤ r → r < net_count c → get_or order r 0
-        ≡ first_gate_net c + get_or gates (r - first_gate_net c) 0
-    gate_is r low h =
-        let at : first_gate_net c + (r - first_gate_net c) ≡ r = omega (arith, low) in
-        ap (λ (i : ℕ). get_or order i 0) (sym at) ∙ gates_are (r - first_gate_net c) (omega (arith, low, h))
-
-    gate_known : (k : ℕ) → k < length c.gates → get_or gates k 0 < length c.gates
-    gate_known k h = let n = sorted.each.once in sorted.each.within k (omega (arith, h, n))
-
-    pub known : (r : ℕ) → r < net_count c → get_or order r 0 < net_count c
-    known r h = elim (le_or_lt (first_gate_net c) r) [
-      | inl low ↦ let e = gate_is r low h in let k = gate_known (r - first_gate_net c) (omega (arith, low, h))
-          in omega (arith, e, k)
-      | inr less ↦ let e = low_are r less in omega (arith, e, h)
-    ]
-
-    pub distinct : (q r : ℕ) → q < r → r < net_count c → get_or order q 0 ≢ get_or order r 0
-    distinct q r less h same = elim (le_or_lt (first_gate_net c) r) [
-      | inl low ↦
-          let e = gate_is r low h in
-          elim (le_or_lt (first_gate_net c) q) [
-            | inl low2 ↦
-                let d = gate_is q low2 (omega (arith, less, h)) in
-                let n = sorted.each.once in
-                sorted.each.distinct (q - first_gate_net c) (r - first_gate_net c) 0 (omega (arith, low2, less))
-                (omega (arith, low, h, n)) (omega (arith, d, e, same))
-            | inr less2 ↦ let d = low_are q less2 in absurd (omega (arith, d, e, same, less2))
-          ]
-      | inr less2 ↦ let e = low_are r less2 in let d = low_are q (omega (arith, less, less2))
-          in absurd (omega (arith, d, e, same, less))
-    ]
-
-    covers : (x : ℕ) → x < net_count c → (r : ℕ) × (r < net_count c) × (get_or order r 0 ≡ x)
-    covers x h = elim (le_or_lt (first_gate_net c) x) [
-      | inl low ↦
-          let g = sorted.each.covers (x - first_gate_net c) (omega (arith, low, h)) in
-          let n = sorted.each.once in
-          let inside = g.1 in
-          let is = g.2 in
-          let e = gates_are g.0 (omega (arith, inside, n)) in
-          (first_gate_net c + g.0, omega (arith, inside, n), omega (arith, e, is, low))
-      | inr less ↦ (x, h, low_are x less)
-    ]
-
-    module _ (ranks : List ℕ) (long : length ranks ≡ length order)
-        (ranked : (r : ℕ) → r < length order → get_or ranks (get_or order r 0) 0 ≡ r) where
-      forth : (r : ℕ) → r < net_count c → get_or ranks (get_or order r 0) 0 ≡ r
-      forth r h = ranked r (omega (arith, h, count))
-
-      rank_of : (x r : ℕ) → r < net_count c → get_or order r 0 ≡ x → get_or ranks x 0 ≡ r
-      rank_of x r h is = ap (λ (k : ℕ). get_or ranks k 0) (sym is) ∙ forth r h
-
-      small : (x : ℕ) → x < net_count c → get_or ranks x 0 < net_count c
-      small x h = let e = covers x h in let k = e.1 in let r = rank_of x e.0 k e.2 in omega (arith, r, k)
-
-      back : (x : ℕ) → x < net_count c → get_or order (get_or ranks x 0) 0 ≡ x
-      back x h = let e = covers x h in ap (λ (k : ℕ). get_or order k 0) (rank_of x e.0 e.1 e.2) ∙ e.2
-
-      rises : (y x : ℕ) → ReadsFrom c y x → get_or ranks x 0 < get_or ranks y 0
-      rises y x on =
-          let r = get_or ranks y 0 in
-          let rs = small y on.known in
-          let ry = back y on.known in
-          let is = on.is_gate in
-          elim (le_or_lt (first_gate_net c) r) [
-            | inr less ↦ let e = low_are r less in absurd (omega (arith, e, ry, is, less))
-            | inl low ↦
-                let k = r - first_gate_net c in
-                let e = gate_is r low rs in
-                let g : y - first_gate_net c ≡ get_or gates k 0 = omega (arith, e, ry, is) in
-                let n = sorted.each.once in
-                let pin : on.pin < length (gate_at c (get_or gates k 0)).args =
-                (let h = on.is_pin in let q = ap (λ (h : ℕ). length (gate_at c h).args) g in omega (arith, h, q)) in
-                let reads : arg_at c (get_or gates k 0) on.pin ≡ x = ap (λ (h : ℕ). arg_at c h on.pin) (sym g)
-                ∙ on.reads
-                in
-                elim (sorted.earlier k on.pin (omega (arith, low, rs, n)) pin) [
-                  | inl source ↦
-                      let less : x < first_gate_net c = omega (arith, source, reads) in
-                      let rx = rank_of x x (omega (arith, less)) (low_are x less) in
-                      omega (arith, rx, less, low)
-                  | inr gate ↦
-                      let j = gate.0 in
-                      let jk = gate.1 in
-                      let at = gate.2 in
-                      let dj = gates_are j (omega (arith, jk, low, rs)) in
-                      let rx = rank_of x (first_gate_net c + j) (omega (arith, jk, low, rs))
-                      (omega (arith, dj, at, reads))
-                      in
-                      omega (arith, rx, jk, low)
-                ]
-          ]
-
-      pub ranks_are : AreRanks c order ranks
-      ranks_are = record {
-        order_count = count;
-        rank_count = long ∙ count;
-        known = known;
-        small = small;
-        back = back;
-        forth = forth;
-        rises = rises;
-      }
+pub rises_from : (c : Netlist) (order ranks : List ℕ) → AreRanked c (first_gate_net c) order ranks → (y x : ℕ)
+    → ReadsFrom c y x → get_or ranks x 0 < get_or ranks y 0
+rises_from c order ranks is y x on =
+    let gate = on.is_gate in
+    let at : first_gate_net c + (y - first_gate_net c) ≡ y = omega (arith, gate) in
+    subst (λ (k : ℕ). get_or ranks x 0 < get_or ranks k 0) at (is.rises (y - first_gate_net c) x (record {
+      pin = on.pin;
+      is_gate = omega (arith, gate, on.known);
+      is_pin = on.is_pin;
+      reads = omega (arith, on.reads);
+    }))

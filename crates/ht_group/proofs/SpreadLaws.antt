@@ -1,6 +1,6 @@
 -- The good machine in every lane: each net has its value.
 use Rattle.std.specs.List.{slice_get}
-use Rattle.std.proofs.Common.{◌≡◌, ◌<◌, ◌∙◌, ℕ, List, [], ◌∷◌, get_or, map, take, drop, ap, sym, subst, refl, arith, None}
+use Rattle.std.proofs.Common.{◌≡◌, ◌<◌, ◌∙◌, ℕ, List, [], get_or, take, drop, ap, sym, subst, arith, None}
 use Rattle.std.proofs.lemmas.Option.{slice_get_past}
 use Rattle.ht_tern.specs.declared.tern.Tern.{Tern}
 use Rattle.ht_tern.specs.declared.tern.Tern.TheVariants.{Unk}

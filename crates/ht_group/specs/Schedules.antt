@@ -2,6 +2,7 @@
 use Rattle.std.specs.Prelude.{◌≡◌, ◌<◌, ◌≤◌, ◌-◌, ℕ, List, [], length, get_or}
 use Rattle.std.specs.List.{Contains}
 use Rattle.ht_net.specs.Netlist.{Netlist, first_gate_net, net_count, gate_at, arg_at, IsCircuit}
+use Rattle.ht_ranks.specs.Ranks.{AreRanked}
 use Rattle.ht_group.specs.declared.schedule.Schedule.{Schedule}
 
 -- net y is driven by a gate that reads net x
@@ -11,16 +12,6 @@ pub record ReadsFrom (c : Netlist) (y x : ℕ) : Type 0 where
   pub known : y < net_count c
   pub is_pin : pin < length (gate_at c (y - first_gate_net c)).args
   pub reads : arg_at c (y - first_gate_net c) pin ≡ x
-
--- an order of all nets, with the rank of each: inputs and flip-flops first, and each gate after what it reads
-pub record AreRanks (c : Netlist) (order ranks : List ℕ) : Type 0 where
-  pub order_count : length order ≡ net_count c
-  pub rank_count : length ranks ≡ net_count c
-  pub known : (r : ℕ) → r < net_count c → get_or order r 0 < net_count c
-  pub small : (x : ℕ) → x < net_count c → get_or ranks x 0 < net_count c
-  pub back : (x : ℕ) → x < net_count c → get_or order (get_or ranks x 0) 0 ≡ x
-  pub forth : (r : ℕ) → r < net_count c → get_or ranks (get_or order r 0) 0 ≡ r
-  pub rises : (y x : ℕ) → ReadsFrom c y x → get_or ranks x 0 < get_or ranks y 0
 
 -- for each net the ranks of the nets whose gates read it
 pub record AreReaders (c : Netlist) (ranks : List ℕ) (readers : List (List ℕ)) : Type 0 where
@@ -32,5 +23,6 @@ pub record AreReaders (c : Netlist) (ranks : List ℕ) (readers : List (List ℕ
 -- a schedule is its circuit's
 pub record IsSchedule (c : Netlist) (s : Schedule) : Type 0 where
   pub circuit : IsCircuit c
-  pub ranks : AreRanks c s.order.items s.ranks.items
+  -- inputs and flip-flops first, and each gate after what it reads
+  pub ranks : AreRanked c (first_gate_net c) s.order.items s.ranks.items
   pub readers : AreReaders c s.ranks.items s.readers

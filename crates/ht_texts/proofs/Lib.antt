@@ -16,6 +16,7 @@ pub mod LineLaws
 pub mod NumberLaws
 pub mod StopLaws
 pub mod TestLaws
+pub mod CodedLaws
 pub mod VectorLaws
 pub mod WrittenLaws
 pub mod LineLengthLaws

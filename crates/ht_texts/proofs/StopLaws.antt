@@ -28,7 +28,7 @@ vectors_or_stop width (line ∷ lines) = elim (vector_or_none width line) [
       here.0 ∷ rest.0,
       record {
         texts = let e = here.1.characters in let f = rest.1.texts in cc;
-        widths = All-cons (λ (vector : List Bool). length vector ≡ width) here.0 rest.0 here.1.bits rest.1.widths;
+        widths = All-cons (λ (vector : List Bool). length vector ≡ width) here.0 rest.0 here.1.count rest.1.widths;
       },
     )
     | inr stop ↦ inr (
@@ -57,7 +57,7 @@ vector_at width lines list are k below =
       get_or list k [],
       record {
         characters = ap (λ l. get_or l k []) are.texts ∙ get_or-map vector_text list k [] [] inside;
-        bits = are.widths k [] inside;
+        count = are.widths k [] inside;
       },
     )
 

@@ -5,7 +5,8 @@ use Rattle.ht_net.specs.Netlist.{Netlist}
 use Rattle.ht_ports.specs.LineRule.{lines_of, max_text_bytes}
 use Rattle.ht_texts.specs.Tests.{vector_text, line_of_byte, IsTestText, IsMalformedTest}
 use Rattle.ht_texts.proofs.StopLaws.{AreVectors, StopsAt, vectors_or_stop, no_wrong_line, no_wrong_before, wrong_at}
-use Rattle.ht_texts.proofs.VectorLaws.{map_injective, vector_text_injective}
+use Rattle.ht_texts.proofs.CodedLaws.{map_injective}
+use Rattle.ht_texts.proofs.VectorLaws.{vector_text_injective}
 
 pub one_list : (c : Netlist) (text : List ℕ) (a b : List (List Bool)) → IsTestText c text a → IsTestText c text b → a
     ≡ b

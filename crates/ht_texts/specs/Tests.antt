@@ -18,10 +18,14 @@ vector_text vector = map bit_code vector
 abbrev pub test_text : List (List Bool) → List ℕ
 test_text list = with_lfs (map vector_text list)
 
+-- the line has the character of each of so many values, in their order, by their code
+pub record IsCoded {A : Type 0} (code : A → ℕ) (width : ℕ) (line : List ℕ) (values : List A) : Type 0 where
+  pub characters : line ≡ map code values
+  pub count : length values ≡ width
+
 -- the line is the text of this vector, which has one bit for each of so many inputs
-pub record IsTextOf (width : ℕ) (line : List ℕ) (vector : List Bool) : Type 0 where
-  pub characters : line ≡ vector_text vector
-  pub bits : length vector ≡ width
+abbrev pub IsTextOf : ℕ → List ℕ → List Bool → Type 0
+IsTextOf width line vector = IsCoded bit_code width line vector
 
 -- The lines of the text are those of this list, each vector has one bit for each input of the circuit, and the text
 -- is no longer than a text may be.

@@ -1,9 +1,8 @@
-use Rattle.std.proofs.Common.{◌≡◌, List, get_or, map, sym, ◌∙◌, ap, subst}
+use Rattle.std.proofs.Common.{◌≡◌, List, get_or, map, sym, ◌∙◌, ap, subst, Some, All}
 use Rattle.ht_net.specs.declared.names.NameId.{NameId}
 use Rattle.ht_net.specs.Draft.{Draft, IsName, draft_name}
 use Rattle.ht_net.specs.Finish.{no_name}
 use Rattle.ht_net.specs.Named.{Name}
-use Rattle.std.specs.Prelude.{Some, All}
 use Rattle.ht_bench.specs.Progress.{HasNet, IsFirstLine}
 use Rattle.ht_bench.specs.Text.{refusal_of, IsLoop}
 use Rattle.ht_bench.specs.declared.find_line.Role.TheVariants.{Mentioned, Driven}

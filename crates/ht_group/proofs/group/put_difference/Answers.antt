@@ -1,5 +1,5 @@
 use Rattle.std.specs.Prelude.{set}
-use Rattle.std.proofs.Common.{◌≡◌, ◌<◌, ◌+◌, ◌∙◌, ◌&&◌, ℕ, List, length, cond, eqb, ap, sym, arith}
+use Rattle.std.proofs.Common.{◌≡◌, ◌<◌, ◌∙◌, ◌&&◌, List, length, cond, eqb, ap, sym, arith}
 use Rattle.ht_lanes.specs.Lanes.{Lanes}
 use Rattle.ht_group.specs.LaneRules.{lane_env}
 use Rattle.ht_group.specs.Overlays.{OverlayView}

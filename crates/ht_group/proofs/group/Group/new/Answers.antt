@@ -1,4 +1,4 @@
-use Rattle.std.proofs.Common.{◌∙◌, List, length, ap, sym, arith}
+use Rattle.std.proofs.Common.{List, length, ap, sym, arith}
 use Rattle.ht_tern.specs.declared.tern.Tern.{Tern}
 use Rattle.ht_group.proofs.ChangeLaws.{fresh_group}
 use Rattle.ht_group.proofs.group.Group.new.Goals as goal
