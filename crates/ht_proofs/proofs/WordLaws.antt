@@ -1,5 +1,5 @@
 -- The lanes of a group, one word after the other.
-use Rattle.std.proofs.Common.{◌≡◌, ◌<◌, ◌≤◌, ◌+◌, ◌-◌, ◌*◌, ◌∙◌, ℕ, zero, suc, List, [], ◌∷◌, Some, None, length, get_or, take, drop, min, inl, inr, refl, sym, ap, subst, arith, length-take, length-drop}
+use Rattle.std.proofs.Common.{◌≡◌, ◌<◌, ◌≤◌, ◌+◌, ◌-◌, ◌*◌, ◌∙◌, ℕ, zero, suc, List, [], ◌∷◌, Some, length, get_or, take, drop, min, inl, inr, refl, sym, ap, subst, arith, length-take, length-drop}
 use Rattle.std.specs.List.{slice_get}
 use Rattle.std.proofs.lemmas.List.{get_or-drop, get_or-take, take_all}
 use Rattle.std.proofs.lemmas.Option.{slice_get_within}
@@ -118,12 +118,6 @@ word_waits w i number s old mid lanes same before = record {
 }
 
 -- ---- one word more
-
-pub no_words : (number : ℕ) (s : BatchView) (grades : List Grade) → AreGraded number (first_words 0 s) grades grades
-no_words number s grades = record {
-  each = λ k m has. let bad : None ≡ Some m = has in cc;
-  others = λ i none. refl;
-}
 
 pub words_more : (w i number : ℕ) (s : BatchView) (old mid new : List Grade) → AreLanesBelow i s old
     → AreGraded number (first_words w s) old mid → AreGraded number (word_of w s) mid new
