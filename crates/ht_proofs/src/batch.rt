@@ -52,8 +52,8 @@ impl<'c> Batch<'c> {
         })
     }
 
-    /// Begins a frame with the good machine, each of whose gates is evaluated once. The faults of which `grades` keeps no
-    /// detection are to go through it.
+    /// Begins a frame with the good machine, each of whose gates is evaluated once. The faults of which `grades` keeps
+    /// no detection are to go through it.
     pub fn start(&mut self, vector: &[bool], latches: &[Tern], grades: &[Grade], steps: &mut Steps)
         requires width { length vector.now ≡ self.old.group.circuit.inputs }
         requires each { length latches.now ≡ length self.old.group.circuit.dffs }

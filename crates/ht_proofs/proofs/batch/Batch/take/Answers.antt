@@ -21,6 +21,11 @@ returns-then-not-is_due-clause-passed c = λ frame faults before has passed.
     added_passed frame faults c.args.number before c.args.i c.args.fault c.args.self.now c.add.new.self
     c.args.grades.now c.add.new.grades c.in_ok-add.ensures.added c.requires.lanes.machines has passed
 
+pub returns-then-not-is_due-clause-lanes : goal.returns-then-not-is_due-clause-lanes
+returns-then-not-is_due-clause-lanes c =
+    added_lanes c.args.i c.args.fault c.args.self.now c.add.new.self c.args.grades.now c.add.new.grades
+    c.in_ok-add.ensures.added c.requires.room c.requires.lanes
+
 pub grade_lanes-requires : goal.grade_lanes-requires
 grade_lanes-requires c =
     let added = c.in_ok-add.ensures.added in
@@ -64,5 +69,6 @@ returns-clause-counted c =
     (λ graded first before same was counted. counted_full c.args.number c.args.i c.args.fault s t
     c.grade_lanes.new.self c.args.grades.now c.add.new.grades c.grade_lanes.new.grades (length s.group.circuit.gates)
     first before c.args.steps.now.count c.grade_lanes.new.steps.count added c.requires.lanes.machines
-    (c.is_due.ensures.whole c.if-not-is_due.false) graded same was (omega (arith, c.grade_lanes.ensures.steps, gates)) counted)
+    (c.is_due.ensures.whole c.if-not-is_due.false) graded same was
+    (omega (arith, c.grade_lanes.ensures.steps, gates)) counted)
     c.grade_lanes.ensures.graded
