@@ -194,8 +194,8 @@ impl<'c> Core<'c> {
         }
     }
 
-    /// Fires one pending item, any one: makes it agree, and its loads pending if its value changed. Where every item that
-    /// isn't pending agreed, it does afterwards.
+    /// Fires one pending item, any one: makes it agree, and its loads pending if its value changed. Where every item
+    /// that isn't pending agreed, it does afterwards.
     ///
     /// # Errors
     /// Out of memory; the item is still pending.
@@ -294,8 +294,8 @@ impl<'c> Core<'c> {
         Ok(())
     }
 
-    /// Fires items, the lowest frame and there the lowest level first, until none is pending. No item is fired twice, so
-    /// it spends at most the price of each. It looks at each position between the first and the last.
+    /// Fires items, the lowest frame and there the lowest level first, until none is pending. No item is fired twice,
+    /// so it spends at most the price of each. It looks at each position between the first and the last.
     ///
     /// # Errors
     /// Out of memory; some items may be pending. Here too, where every item that isn't pending agreed, it does

@@ -1,5 +1,5 @@
 -- The faults of a frame, one after the other, through the lanes of a group.
-use Rattle.std.proofs.Common.{◌≡◌, ◌≢◌, ◌<◌, ◌≤◌, ◌+◌, ◌*◌, ◌∙◌, ◌⊎◌, ℕ, zero, suc, List, [], ◌∷◌, ◌++◌, Bool, true, false, Option, Some, None, length, get_or, take, cond, inl, inr, refl, sym, ap, subst, arith, length-append}
+use Rattle.std.proofs.Common.{◌≡◌, ◌≢◌, ◌<◌, ◌≤◌, ◌+◌, ◌*◌, ◌∙◌, ◌⊎◌, ℕ, zero, suc, List, [], ◌∷◌, ◌++◌, Bool, true, false, Option, Some, None, Result, Ok, Err, OnOk, length, get_or, take, cond, inl, inr, refl, sym, ap, subst, arith, length-append}
 use Rattle.std.specs.Option.{is_none, is_some}
 use Rattle.std.specs.List.{slice_get}
 use Rattle.std.proofs.lemmas.Bool.{cases_eq}
@@ -14,11 +14,11 @@ use Rattle.ht_tern.specs.declared.tern.Tern.{Tern}
 use Rattle.ht_net.specs.Netlist.{Netlist}
 use Rattle.ht_diff.specs.Differences.{with_differences}
 use Rattle.ht_faults.specs.FaultList.{no_fault}
-use Rattle.ht_group.specs.GroupView.{GroupView, FaultyMachine, AreLatches, max_machines}
+use Rattle.ht_group.specs.GroupView.{GroupView, FaultyMachine, AreLatches, lane_count, max_machines, words_for}
 use Rattle.ht_proofs.specs.declared.grade.Grade.{Grade}
-use Rattle.ht_proofs.specs.Applied.{IsFirstSeen, full_groups}
+use Rattle.ht_proofs.specs.Applied.{IsFirstSeen}
 use Rattle.ht_proofs.specs.LaneGrades.{no_grade, grade_at, lane_grade, HasNoLane, HoldsLatches, IsGradedFault}
-use Rattle.ht_proofs.specs.Batches.{BatchView, AreLanesBelow, AreLanesGraded, IsAdded, machine_from, undetected_count, ArePassed, IsGradedFrame, AreCounted}
+use Rattle.ht_proofs.specs.Batches.{BatchView, AreGraded, AreLanesBelow, AreLanesGraded, IsAdded, machine_from, undetected_count, ArePassed, IsGradedFrame, AreCounted}
 
 -- ---- what a frame makes of a fault depends on the circuit, the vector and the latches alone
 
@@ -40,7 +40,7 @@ same_frame g frame c v l = (λ i. record {
   settled = frame.settled;
 })
 
-graded_in : (g frame : GroupView) (m : FaultyMachine) (number : ℕ) (grade : Grade) → g.circuit ≡ frame.circuit
+pub graded_in : (g frame : GroupView) (m : FaultyMachine) (number : ℕ) (grade : Grade) → g.circuit ≡ frame.circuit
     → g.vector ≡ frame.vector → g.latches ≡ frame.latches → IsGradedFault g m number grade
     → IsGradedFault frame m number grade
 graded_in g frame m number grade c v l h =
@@ -48,26 +48,43 @@ graded_in g frame m number grade c v l h =
     (graded_beside g frame.machines frame.settled m number grade h)
 
 -- After the outputs and the flip-flops of a frame the machines in the lanes are graded.
-pub lanes_graded : (s : BatchView) (g : GroupView) (lanes : List ℕ) (number : ℕ) (mid new : List Grade)
-    → g ≡ record s.group { settled = true } → lanes ≡ s.lanes
-    → ((k : ℕ) (m : FaultyMachine) → slice_get g.machines k ≡ Some m
-    → IsFirstSeen g m number (length g.circuit.outputs) (lane_grade mid lanes k).verdict)
-    → ((k : ℕ) (m : FaultyMachine) → slice_get g.machines k ≡ Some m
-    → HoldsLatches g m (lane_grade mid lanes k).verdict (lane_grade new lanes k))
-    → (k : ℕ) (m : FaultyMachine) → slice_get s.group.machines k ≡ Some m
-    → IsGradedFault s.group m number (lane_grade new s.lanes k)
-lanes_graded s g lanes number mid new is same seen holds k m has =
-    let there : slice_get g.machines k ≡ Some m =
-    ap (λ (x : GroupView). slice_get x.machines k) is ∙ has in
-    let held = holds k m there in
-    let here : IsGradedFault g m number (lane_grade new lanes k) = record {
-      seen = subst (IsFirstSeen g m number (length g.circuit.outputs)) (sym held.verdict_same) (seen k m there);
-      state = λ none. held.state (sym held.verdict_same ∙ none);
-      known = held.known;
-    } in
-    subst (λ (l : List ℕ). IsGradedFault s.group m number (lane_grade new l k)) same
-    (graded_in g s.group m number (lane_grade new lanes k) (ap (λ (x : GroupView). x.circuit) is)
-    (ap (λ (x : GroupView). x.vector) is) (ap (λ (x : GroupView). x.latches) is) here)
+pub lanes_graded : (s : BatchView) (number : ℕ) (old mid new : List Grade)
+    → ((k : ℕ) (m : FaultyMachine) → slice_get s.group.machines k ≡ Some m
+    → IsFirstSeen s.group m number (length s.group.circuit.outputs) (lane_grade mid s.lanes k).verdict)
+    → ((i : ℕ) → HasNoLane s.lanes i → grade_at mid i ≡ grade_at old i)
+    → ((k : ℕ) (m : FaultyMachine) → slice_get s.group.machines k ≡ Some m
+    → HoldsLatches s.group m (lane_grade mid s.lanes k).verdict (lane_grade new s.lanes k))
+    → ((i : ℕ) → HasNoLane s.lanes i → grade_at new i ≡ grade_at mid i) → AreGraded number s old new
+lanes_graded s number old mid new seen unseen holds unheld = record {
+  each = λ k m has.
+      let held = holds k m has in
+      record {
+        seen = subst (IsFirstSeen s.group m number (length s.group.circuit.outputs)) (sym held.verdict_same)
+            (seen k m has);
+        state = λ none. held.state (sym held.verdict_same ∙ none);
+        known = held.known;
+      };
+  others = λ i none. unheld i none ∙ unseen i none;
+}
+
+-- What is kept of the machines of a settled group is kept of those of the group before.
+pub settled_graded : (s t : BatchView) (number : ℕ) (old new : List Grade)
+    → t ≡ record s { group = record s.group { settled = true } } → AreGraded number t old new
+    → AreGraded number s old new
+settled_graded s t number old new is graded = record {
+  each = λ k m has.
+      graded_in (record s.group { settled = true }) s.group m number (lane_grade new s.lanes k) refl refl refl
+      (there.each k m has);
+  others = there.others;
+}
+  where
+    there : AreGraded number (record s { group = record s.group { settled = true } }) old new
+    there = subst (λ (b : BatchView). AreGraded number b old new) is graded
+
+-- two facts of an answer make a third
+pub on_ok_both : {T E P Q R : Type 0} (r : Result T E) → (P → Q → R) → OnOk r P → OnOk r Q → OnOk r R
+on_ok_both (Ok x) f p q = f p q
+on_ok_both (Err e) f p q = tt
 
 -- ---- a fault that was detected
 
@@ -125,21 +142,21 @@ lane_cases : (i : ℕ) (fault : Fault) (s t : BatchView) (old new : List Grade) 
 lane_cases i fault s t old new k added less =
     lane_order s.lanes i k (subst (λ (l : List ℕ). k < length l) added.lanes less)
 
-lane_count : (i : ℕ) (fault : Fault) (s t : BatchView) (old new : List Grade) → IsAdded i fault s old t new
+lanes_grown : (i : ℕ) (fault : Fault) (s t : BatchView) (old new : List Grade) → IsAdded i fault s old t new
     → length t.lanes ≡ length s.lanes + 1
-lane_count i fault s t old new added = ap (λ (l : List ℕ). length l) added.lanes ∙ length-append s.lanes (i ∷ [])
+lanes_grown i fault s t old new added = ap (λ (l : List ℕ). length l) added.lanes ∙ length-append s.lanes (i ∷ [])
 
-machine_count : (i : ℕ) (fault : Fault) (s t : BatchView) (old new : List Grade) → IsAdded i fault s old t new
+machines_grown : (i : ℕ) (fault : Fault) (s t : BatchView) (old new : List Grade) → IsAdded i fault s old t new
     → length t.group.machines ≡ length s.group.machines + 1
-machine_count i fault s t old new added =
+machines_grown i fault s t old new added =
     ap (λ (l : List FaultyMachine). length l) added.machines
     ∙ length-append s.group.machines (machine_from s.group fault (grade_at old i) ∷ [])
 
 pub added_lanes : (i : ℕ) (fault : Fault) (s t : BatchView) (old new : List Grade) → IsAdded i fault s old t new
     → length s.lanes < max_machines → AreLanesBelow i s old → AreLanesBelow (i + 1) t new
 added_lanes i fault s t old new added room lanes = record {
+  few = omega (arith, room, lanes_grown i fault s t old new added);
   faults = record {
-    few = omega (arith, room, lane_count i fault s t old new added);
     known = λ k less. elim (lane_cases i fault s t old new k added less) [
       | inl before ↦
           omega (
@@ -151,7 +168,7 @@ added_lanes i fault s t old new added room lanes = record {
       | inr last ↦ omega (arith, number_last i fault s t old new k added last, added.known, added.count)
     ];
     differ = λ j k order less same.
-        let before : j < length s.lanes = omega (arith, order, less, lane_count i fault s t old new added) in
+        let before : j < length s.lanes = omega (arith, order, less, lanes_grown i fault s t old new added) in
         elim (lane_cases i fault s t old new k added less) [
           | inl lower ↦
               lanes.faults.differ j k order lower
@@ -170,8 +187,8 @@ added_lanes i fault s t old new added room lanes = record {
   machines = omega (
     arith,
     lanes.machines,
-    lane_count i fault s t old new added,
-    machine_count i fault s t old new added,
+    lanes_grown i fault s t old new added,
+    machines_grown i fault s t old new added,
   );
   below = λ k less. elim (lane_cases i fault s t old new k added less) [
     | inl before ↦ omega (arith, number_before i fault s t old new k added before, lanes.below k before)
@@ -267,11 +284,11 @@ added_passed frame faults number before i fault s t old new added same has passe
   ];
   done = λ j f less there none no_lane.
       let other : j ≢ i = λ here. no_lane (length s.lanes)
-      (omega (arith, lane_count i fault s t old new added))
+      (omega (arith, lanes_grown i fault s t old new added))
       (number_last i fault s t old new (length s.lanes) added refl ∙ sym here) in
       subst (IsGradedFault frame (machine_from frame f (grade_at before j)) number) (sym (added.others j other))
       (passed.done j f (omega (arith, less, other)) there none
-      (λ k lower e. no_lane k (omega (arith, lower, lane_count i fault s t old new added))
+      (λ k lower e. no_lane k (omega (arith, lower, lanes_grown i fault s t old new added))
       (number_before i fault s t old new k added lower ∙ e)));
 }
   where
@@ -286,6 +303,7 @@ added_passed frame faults number before i fault s t old new added same has passe
 pub lanes_weaker : (i n : ℕ) (s : BatchView) (grades : List Grade) → i ≤ n → AreLanesBelow i s grades
     → AreLanesBelow n s grades
 lanes_weaker i n s grades less lanes = record {
+  few = lanes.few;
   faults = lanes.faults;
   machines = lanes.machines;
   below = λ k inside. omega (arith, less, lanes.below k inside);
@@ -321,8 +339,8 @@ no_machine = record { fault = no_fault; latches = [] }
 pub flushed_lanes : (number i : ℕ) (s t : BatchView) (old new : List Grade) → AreLanesBelow i s old
     → AreLanesGraded number s old t new → AreLanesBelow i t new
 flushed_lanes number i s t old new lanes graded = record {
+  few = omega (arith, none);
   faults = record {
-    few = omega (arith, none);
     known = λ k less. absurd (omega (arith, less, none));
     differ = λ j k order less. absurd (omega (arith, less, none));
   };
@@ -334,10 +352,11 @@ flushed_lanes number i s t old new lanes graded = record {
       (sym (ap (λ (g : GroupView). g.circuit) graded.group_is))
       (elim (has_lane s.lanes j) [
         | inl no_lane ↦
-            subst (λ (g : Grade). AreLatches s.group.circuit g.diffs) (sym (graded.others j no_lane)) (lanes.known j)
+            subst (λ (g : Grade). AreLatches s.group.circuit g.diffs) (sym (graded.graded.others j no_lane))
+            (lanes.known j)
         | inr at ↦
             subst (λ n. AreLatches s.group.circuit (grade_at new n).diffs) at.2
-            (graded.graded at.0 (get_or s.group.machines at.0 no_machine)
+            (graded.graded.each at.0 (get_or s.group.machines at.0 no_machine)
             (machine_there s at.0 no_machine lanes.machines at.1)).known
       ]);
 }
@@ -355,12 +374,13 @@ flushed_passed frame faults number before i s t old new lanes graded passed = re
   in_lanes = λ k f less. absurd (omega (arith, less, none));
   undetected = λ k less. absurd (omega (arith, less, none));
   later = λ j less.
-      graded.others j (λ k inside e. absurd (omega (arith, lanes.below k inside, less, e))) ∙ passed.later j less;
-  kept = λ j p found. graded.others j (detected_no_lane j p found) ∙ passed.kept j p found;
+      graded.graded.others j (λ k inside e. absurd (omega (arith, lanes.below k inside, less, e)))
+      ∙ passed.later j less;
+  kept = λ j p found. graded.graded.others j (detected_no_lane j p found) ∙ passed.kept j p found;
   done = λ j f less has not_yet empty. elim (has_lane s.lanes j) [
     | inl no_lane ↦
         subst (IsGradedFault frame (machine_from frame f (grade_at before j)) number)
-        (sym (graded.others j no_lane)) (passed.done j f less has not_yet no_lane)
+        (sym (graded.graded.others j no_lane)) (passed.done j f less has not_yet no_lane)
     | inr at ↦ lane_done j f at.0 at.1 at.2 has
   ];
 }
@@ -382,55 +402,74 @@ flushed_passed frame faults number before i s t old new lanes graded passed = re
         subst (λ n. IsGradedFault frame (machine_from frame f (grade_at before n)) number (grade_at new n)) at
         (graded_in s.group frame (machine_from frame f (grade_at before (get_or s.lanes k 0))) number
         (lane_grade new s.lanes k) passed.circuit_same passed.vector_same passed.latches_same
-        (graded.graded k (machine_from frame f (grade_at before (get_or s.lanes k 0))) machine))
+        (graded.graded.each k (machine_from frame f (grade_at before (get_or s.lanes k 0))) machine))
 
--- ---- counts of groups
+-- ---- counts of words
 
-pub counted_more : (gates : ℕ) (old : List Grade) (i waiting before after more : ℕ) → i < length old
-    → (grade_at old i).verdict ≡ None → waiting + 1 ≡ max_machines → more ≤ after + gates
+pub counted_more : (gates : ℕ) (old : List Grade) (i waiting words before after more : ℕ) → i < length old
+    → (grade_at old i).verdict ≡ None → waiting + 1 ≡ lane_count * words → more ≤ after + gates * words
     → AreCounted gates old i waiting before after → AreCounted gates old (i + 1) 0 before more
-counted_more gates old i waiting before after more inside none full_lanes few counted = record {
-  groups = counted.groups + 1;
+counted_more gates old i waiting words before after more inside none full_words few counted = record {
+  words = counted.words + words;
   full =
       let one = count_by_more_yes (λ (g : Grade). is_none g.verdict) old i no_grade inside
       (ap (λ (v : Option Place). is_none v) none) in
-      omega (arith, counted.full, one, full_lanes);
+      omega (arith, counted.full, one, full_words);
   steps = omega (arith, counted.steps, few);
 }
 
--- the lanes were full, and are empty
+-- each word was full, and the lanes are empty
 pub counted_full : (number i : ℕ) (fault : Fault) (s t u : BatchView) (old mid new : List Grade) (gates : ℕ)
     (first : List Grade) (before after more : ℕ) → IsAdded i fault s old t mid
-    → length s.group.machines ≡ length s.lanes → length s.lanes < max_machines
-    → max_machines ≤ length t.group.machines → AreLanesGraded number t mid u new → length first ≡ length old
-    → grade_at old i ≡ grade_at first i → more ≤ after + gates
-    → AreCounted gates first i (length s.lanes) before after
+    → length s.group.machines ≡ length s.lanes
+    → lane_count * words_for (length t.group.machines) ≡ length t.group.machines → AreLanesGraded number t mid u new
+    → length first ≡ length old → grade_at old i ≡ grade_at first i
+    → more ≤ after + gates * words_for (length t.lanes) → AreCounted gates first i (length s.lanes) before after
     → AreCounted gates first (i + 1) (length u.lanes) before more
-counted_full number i fault s t u old mid new gates first before after more added same room full graded each was few
+counted_full number i fault s t u old mid new gates first before after more added same full graded each was few
     counted =
     let none : length u.lanes ≡ 0 = ap (λ (l : List ℕ). length l) graded.no_lanes in
     let not_yet = sym (ap (λ (g : Grade). g.verdict) was) ∙ added.was in
     subst (λ n. AreCounted gates first (i + 1) n before more) (sym none)
-    (counted_more gates first i (length s.lanes) before after more (omega (arith, each, added.known)) not_yet
-    (omega (arith, room, full, same, machine_count i fault s t old mid added)) few counted)
+    (counted_more gates first i (length s.lanes) (words_for (length t.lanes)) before after more
+    (omega (arith, each, added.known)) not_yet
+    (omega (
+      arith,
+      full,
+      same,
+      lanes_grown i fault s t old mid added,
+      machines_grown i fault s t old mid added,
+    )) few counted)
 
--- Each group had 64 faults that were not detected, but for the last one.
-groups_within : (groups waiting count all : ℕ) → max_machines * groups + waiting ≡ count → count ≤ all → 0 < waiting
-    → groups + 1 ≤ full_groups all
-groups_within groups waiting count all full few some = omega arith
+-- Each word had 64 faults that were not detected, but for the last one.
+words_within : (words waiting count all : ℕ) → lane_count * words + waiting ≡ count → count ≤ all
+    → words + words_for waiting ≤ words_for all
+words_within words waiting count all full few = omega arith
 
 taken_count : (old : List Grade) (n : ℕ) → undetected_count (take n old) ≤ undetected_count old
 taken_count old n = sum_by-take-le (λ (g : Grade). cond (is_none g.verdict) 1 0) old n
 
+-- the last words, which need not be full
+steps_left : (gates : ℕ) (old : List Grade) (i waiting before after more : ℕ)
+    → more ≤ after + gates * words_for waiting → AreCounted gates old i waiting before after
+    → more ≤ before + gates * words_for (undetected_count old)
+steps_left gates old i waiting before after more few counted =
+    let within = words_within counted.words waiting (undetected_count (take i old)) (undetected_count old) counted.full
+    (taken_count old i) in
+    omega (arith, counted.steps, few, mul-le-mul_left gates within)
+
+-- the same where the last of them has no lane yet
 pub steps_failed : (gates : ℕ) (old : List Grade) (i waiting before after more : ℕ) → i < length old
-    → (grade_at old i).verdict ≡ None → more ≤ after + gates → AreCounted gates old i waiting before after
-    → more ≤ before + gates * full_groups (undetected_count old)
+    → (grade_at old i).verdict ≡ None → more ≤ after + gates * words_for (waiting + 1)
+    → AreCounted gates old i waiting before after → more ≤ before + gates * words_for (undetected_count old)
 steps_failed gates old i waiting before after more inside none few counted =
     let one = count_by_more_yes (λ (g : Grade). is_none g.verdict) old i no_grade inside
     (ap (λ (v : Option Place). is_none v) none) in
-    let within = groups_within counted.groups (waiting + 1) (undetected_count (take (i + 1) old))
-    (undetected_count old) (omega (arith, counted.full, one)) (taken_count old (i + 1)) (omega arith) in
-    omega (arith, counted.steps, few, mul-le-mul_left gates within)
+    steps_left gates old (i + 1) (waiting + 1) before after more few (record {
+      words = counted.words;
+      full = omega (arith, counted.full, one);
+      steps = counted.steps;
+    })
 
 -- ---- all faults of a frame
 

@@ -4,4 +4,5 @@ pub mod SeenLaws
 pub mod DiffLaws
 pub mod FrameLoopLaws
 pub mod BatchLaws
+pub mod WordLaws
 pub mod PackedLaws

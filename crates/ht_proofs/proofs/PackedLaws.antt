@@ -21,10 +21,10 @@ use Rattle.ht_faults.specs.FaultList.{no_fault}
 use Rattle.ht_faults.specs.Sites.{IsFaultSite, faults_of}
 use Rattle.ht_faults.proofs.MemberLaws.{fault_site}
 use Rattle.ht_diff.specs.Differences.{held, value_but, with_differences}
-use Rattle.ht_group.specs.GroupView.{GroupView, FaultyMachine, AreLatches, HasSite}
+use Rattle.ht_group.specs.GroupView.{GroupView, FaultyMachine, AreLatches, HasSite, words_for}
 use Rattle.ht_proofs.specs.declared.grade.Grade.{Grade}
 use Rattle.ht_proofs.specs.PackedView.{PackedView, GraderStandsFor, chosen_faults, grades_at_start, state_at, verdict_at}
-use Rattle.ht_proofs.specs.Applied.{IsApplied, IsFirstSeen, faulty_state, full_groups, good_state, grader_frame, groups_of, live_count, machine_at}
+use Rattle.ht_proofs.specs.Applied.{IsApplied, IsFirstSeen, faulty_state, good_state, grader_frame, groups_of, live_count, machine_at}
 use Rattle.ht_proofs.specs.LaneGrades.{no_grade, grade_at}
 use Rattle.ht_proofs.specs.Batches.{IsGradedFrame, machine_from, undetected_count}
 use Rattle.ht_proofs.specs.PackedOf.{IsPackedGrader, faulty_states, verdicts_of}
@@ -97,11 +97,11 @@ live_grades g grades is each =
 pub steps_within : (g h : PackedView) (grades given : List Grade) (frame start : GroupView) (before mid after : ℕ)
     → g ≡ h → g.verdicts ≡ verdicts_of grades → length grades ≡ length g.faults → given ≡ grades → frame ≡ start
     → start.circuit ≡ g.circuit → mid ≤ before + length start.circuit.gates
-    → after ≤ mid + length frame.circuit.gates * full_groups (undetected_count given)
+    → after ≤ mid + length frame.circuit.gates * words_for (undetected_count given)
     → after ≤ before + length h.circuit.gates * (1 + groups_of h)
 steps_within g h grades given frame start before mid after view is each same begun circuit good more =
     let live = ap undetected_count same ∙ (live_grades g grades is each ∙ ap live_count view) in
-    let here = subst (λ n. after ≤ mid + length frame.circuit.gates * full_groups n) live more in
+    let here = subst (λ n. after ≤ mid + length frame.circuit.gates * words_for n) live more in
     let there = circuit ∙ ap (λ (x : PackedView). x.circuit) view in
     subst (λ (c : Netlist). after ≤ before + length c.gates * (1 + groups_of h)) there
     (omega (

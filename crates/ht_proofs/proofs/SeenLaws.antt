@@ -1,5 +1,5 @@
 -- Where a fault is first seen in a frame, one output after the other.
-use Rattle.std.proofs.Common.{◌≡◌, ◌<◌, ◌+◌, ◌∙◌, ℕ, Bool, true, false, Option, Some, None, inl, inr, refl, sym, ap, arith, subst}
+use Rattle.std.proofs.Common.{◌≡◌, ◌<◌, ◌+◌, ◌∙◌, ℕ, Bool, true, false, Option, Some, None, inl, inr, refl, sym, arith, subst}
 use Rattle.std.proofs.lemmas.Bool.{cases_eq}
 use Rattle.ht_tern.specs.Opposite.{are_opposite}
 use Rattle.ht_tern.proofs.OppositeLaws.{opposite_tested}

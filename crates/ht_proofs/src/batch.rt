@@ -1,17 +1,17 @@
-//! A group and its faults: one frame of all undetected faults, 64 at a time.
-ghost use Rattle.std.specs.Prelude.{◌≡◌, ◌<◌, ◌≤◌, ◌+◌, ◌*◌, ℕ, [], List, None, Some, true, false, min, length, get_or, IfOk, OnOk, OnErr};
+//! A group and its faults: one frame of all undetected faults, 256 at a time, and at the end 64 at a time.
+ghost use Rattle.std.specs.Prelude.{◌≡◌, ◌<◌, ◌≤◌, ◌+◌, ◌*◌, ℕ, [], List, None, Some, true, false, min, length, get_or, IfOk, OnOk, OnErr, IsTrue, IsFalse};
 ghost use Rattle.std.specs.List.{slice_get};
 ghost use Rattle.ht_net.specs.declared.fault.Fault.{Fault};
 ghost use Rattle.ht_net.specs.Detection.{terns_of};
-ghost use Rattle.ht_group.specs.GroupView.{AreLatches, FaultyMachine, GroupView, HasSite, max_machines};
+ghost use Rattle.ht_group.specs.GroupView.{AreLatches, FaultyMachine, GroupView, HasSite, lane_count, max_machines, words_for};
 ghost use Rattle.ht_proofs.specs.declared.grade.Grade.{Grade};
-ghost use Rattle.ht_proofs.specs.Applied.{IsFirstSeen, full_groups, good_state, max_steps};
-ghost use Rattle.ht_proofs.specs.LaneGrades.{AreLaneFaults, HasNoLane, HoldsLatches, IsGradedFault, grade_at, lane_grade};
-ghost use Rattle.ht_proofs.specs.Batches.{AreCounted, AreLanesBelow, AreLanesGraded, ArePassed, IsAdded, IsGradedFrame, undetected_count};
+ghost use Rattle.ht_proofs.specs.Applied.{IsFirstSeen, good_state, max_steps};
+ghost use Rattle.ht_proofs.specs.LaneGrades.{AreLaneFaults, HasNoLane, HoldsLatches, grade_at, lane_grade};
+ghost use Rattle.ht_proofs.specs.Batches.{AreCounted, AreGraded, AreLanesBelow, AreLanesGraded, ArePassed, AreWaiting, IsAdded, IsGradedFrame, undetected_count, word_of, word_part};
 
-use crate::grade::{Grade, note_latch, note_place};
+use crate::grade::{Grade, note_latch, note_place, undetected};
 use crate::steps::Steps;
-use ht_group::{Group, MAX_MACHINES};
+use ht_group::{Group, LANES, MAX_MACHINES};
 use ht_net::{Circuit, Fault, Place};
 use ht_tern::Tern;
 use std::alloc::{AllocError, Global};
@@ -23,6 +23,8 @@ pub struct Batch<'c> {
     circuit: &'c Circuit,
     group: Group<'c>,
     lanes: Vec<usize>,
+    // how many undetected faults of the frame have had no lane yet; only the price of the frame depends on it
+    left: usize,
 }
 
 impl<'c> Model for Batch<'c> {
@@ -46,11 +48,13 @@ impl<'c> Batch<'c> {
             circuit,
             group,
             lanes: Vec::new(alloc),
+            left: 0,
         })
     }
 
-    /// Begins a frame with the good machine, each of whose gates is evaluated once.
-    pub fn start(&mut self, vector: &[bool], latches: &[Tern], steps: &mut Steps)
+    /// Begins a frame with the good machine, each of whose gates is evaluated once. The faults of which `grades` keeps
+    /// no detection are to go through it.
+    pub fn start(&mut self, vector: &[bool], latches: &[Tern], grades: &[Grade], steps: &mut Steps)
         requires width { length vector.now ≡ self.old.group.circuit.inputs }
         requires each { length latches.now ≡ length self.old.group.circuit.dffs }
         ensures group { self.new.group ≡ record {
@@ -67,6 +71,7 @@ impl<'c> Batch<'c> {
             ≤ steps.new.count }
     {
         self.lanes.clear();
+        self.left = undetected(grades);
         self.group.start(vector, latches);
         steps.add(self.circuit.gates());
     }
@@ -81,44 +86,85 @@ impl<'c> Batch<'c> {
         }
     }
 
-    // Keeps the first place where the fault in each lane is seen in the frame with this number.
-    fn note_outputs(&self, number: u64, grades: &mut [Grade])
+    // The numbers of the faults in the lanes of word `w`.
+    fn lanes_of(&self, w: u32) -> &[usize]
+        requires { w < words_for (length self.now.lanes) }
+        ensures lanes { result.now ≡ word_part w self.now.lanes }
+        ensures few { length result.now ≤ lane_count }
+    {
+        let from = w as usize * LANES as usize;
+        let to = self.lanes.len().min(from + LANES as usize);
+        &self.lanes[from..to]
+    }
+
+    // Keeps the first place where the fault in each lane of word `w` is seen in the frame with this number.
+    fn note_outputs(&self, w: u32, number: u64, grades: &mut [Grade])
         requires settled { self.now.group.settled ≡ true }
-        requires lanes { AreLanesBelow (length grades.old) self.now grades.old }
-        ensures lanes { (k : ℕ) (m : FaultyMachine) → slice_get self.now.group.machines k ≡ Some m
-            → IsFirstSeen self.now.group m number (length self.now.group.circuit.outputs)
-            (lane_grade grades.new self.now.lanes k).verdict }
-        ensures diffs { (k : ℕ) → k < length self.now.lanes
-            → (lane_grade grades.new self.now.lanes k).diffs ≡ [] }
-        ensures others { (i : ℕ) → HasNoLane self.now.lanes i
+        requires machines { length self.now.group.machines ≡ length self.now.lanes }
+        requires word { w < words_for (length self.now.lanes) }
+        requires lanes { AreWaiting (word_of w self.now) grades.old }
+        ensures lanes { let batch = word_of w self.now in (k : ℕ) (m : FaultyMachine)
+            → slice_get batch.group.machines k ≡ Some m
+            → IsFirstSeen batch.group m number (length batch.group.circuit.outputs)
+            (lane_grade grades.new batch.lanes k).verdict }
+        ensures diffs { let batch = word_of w self.now in (k : ℕ) → k < length batch.lanes
+            → (lane_grade grades.new batch.lanes k).diffs ≡ [] }
+        ensures others { (i : ℕ) → HasNoLane (word_part w self.now.lanes) i
             → grade_at grades.new i ≡ grade_at grades.old i }
     {
+        let lanes = self.lanes_of(w);
         for output in 0..self.circuit.outputs() {
             let place = Place {
                 vector: number,
                 output,
             };
-            note_place(self.group.opposite(output), place, &self.lanes, grades);
+            note_place(self.group.opposite(w, output), place, lanes, grades);
         }
     }
 
-    // Keeps where the latches of the machine in each lane differ from the good ones after the frame.
-    fn note_latches(&self, grades: &mut [Grade]) -> Result<(), AllocError>
+    // Keeps where the latches of the machine in each lane of word `w` differ from the good ones after the frame.
+    fn note_latches(&self, w: u32, grades: &mut [Grade]) -> Result<(), AllocError>
         requires settled { self.now.group.settled ≡ true }
-        requires faults { AreLaneFaults self.now.lanes grades.old }
         requires machines { length self.now.group.machines ≡ length self.now.lanes }
-        requires empty { (k : ℕ) → k < length self.now.lanes
-            → (lane_grade grades.old self.now.lanes k).diffs ≡ [] }
-        ensures lanes { OnOk result ((k : ℕ) (m : FaultyMachine)
-            → slice_get self.now.group.machines k ≡ Some m
-            → HoldsLatches self.now.group m (lane_grade grades.old self.now.lanes k).verdict
-            (lane_grade grades.new self.now.lanes k)) }
-        ensures others { OnOk result ((i : ℕ) → HasNoLane self.now.lanes i
+        requires word { w < words_for (length self.now.lanes) }
+        requires faults { AreLaneFaults (word_part w self.now.lanes) grades.old }
+        requires empty { let batch = word_of w self.now in (k : ℕ) → k < length batch.lanes
+            → (lane_grade grades.old batch.lanes k).diffs ≡ [] }
+        ensures lanes { OnOk result (let batch = word_of w self.now in (k : ℕ) (m : FaultyMachine)
+            → slice_get batch.group.machines k ≡ Some m
+            → HoldsLatches batch.group m (lane_grade grades.old batch.lanes k).verdict
+            (lane_grade grades.new batch.lanes k)) }
+        ensures others { OnOk result ((i : ℕ) → HasNoLane (word_part w self.now.lanes) i
             → grade_at grades.new i ≡ grade_at grades.old i) }
     {
+        let lanes = self.lanes_of(w);
         for j in 0..self.circuit.dffs() {
             let good = self.group.good_next(j);
-            note_latch(j, good, self.group.next(j), &self.lanes, grades)?;
+            note_latch(j, good, self.group.next(w, j), lanes, grades)?;
+        }
+        Ok(())
+    }
+
+    // Keeps what the machines of word `w` show in the frame with this number, and what they hold after it.
+    fn note_word(&self, w: u32, number: u64, grades: &mut [Grade]) -> Result<(), AllocError>
+        requires settled { self.now.group.settled ≡ true }
+        requires machines { length self.now.group.machines ≡ length self.now.lanes }
+        requires word { w < words_for (length self.now.lanes) }
+        requires lanes { AreWaiting (word_of w self.now) grades.old }
+        ensures { OnOk result (AreGraded number (word_of w self.now) grades.old grades.new) }
+    {
+        self.note_outputs(w, number, grades);
+        self.note_latches(w, grades)
+    }
+
+    // Keeps what all machines show in the frame with this number, and what they hold after it.
+    fn note_lanes(&self, number: u64, grades: &mut [Grade]) -> Result<(), AllocError>
+        requires settled { self.now.group.settled ≡ true }
+        requires lanes { AreLanesBelow (length grades.old) self.now grades.old }
+        ensures { OnOk result (AreGraded number self.now grades.old grades.new) }
+    {
+        for w in 0..self.group.words() {
+            self.note_word(w, number, grades)?;
         }
         Ok(())
     }
@@ -134,14 +180,13 @@ impl<'c> Batch<'c> {
         ensures graded { OnOk result
             (AreLanesGraded number self.old grades.old self.new grades.new) }
         ensures circuit { self.new.group.circuit ≡ self.old.group.circuit }
-        ensures steps { steps.new.count
-            ≤ steps.old.count + length self.old.group.circuit.gates }
+        ensures steps { steps.new.count ≤ steps.old.count
+            + length self.old.group.circuit.gates * words_for (length self.old.lanes) }
         ensures rises { steps.old.count ≤ steps.new.count }
     {
         let evaluated = self.group.settle()?;
         steps.add(evaluated);
-        self.note_outputs(number, grades);
-        self.note_latches(grades)?;
+        self.note_lanes(number, grades)?;
         self.group.clear();
         self.lanes.clear();
         Ok(())
@@ -159,11 +204,23 @@ impl<'c> Batch<'c> {
     {
         self.group.add(fault, &grades[i].diffs)?;
         self.lanes.push(i)?;
+        self.left = self.left.saturating_sub(1);
         grades[i].diffs.clear();
         Ok(())
     }
 
-    // Takes fault `i` through the frame, with the others in the lanes once these are full.
+    // Whether the machines are to run now: there is no room for more, or too few faults are left to fill the words.
+    // Then no word is part full.
+    fn is_due(&self) -> bool
+        ensures whole { IsTrue result → let count = length self.now.group.machines in
+            lane_count * words_for count ≡ count }
+        ensures room { IsFalse result → length self.now.group.machines < max_machines }
+    {
+        let count = self.group.len();
+        count == MAX_MACHINES || (count % LANES == 0 && self.left < (MAX_MACHINES - count) as usize)
+    }
+
+    // Takes fault `i` through the frame, with the others in the lanes once these are due.
     fn take(
         &mut self,
         fault: Fault,
@@ -191,14 +248,15 @@ impl<'c> Batch<'c> {
             (length self.new.lanes) start steps.new.count) }
         ensures circuit { self.new.group.circuit ≡ self.old.group.circuit }
         ensures steps { OnErr result ((grade_at grades.old i).verdict ≡ None
-            × (steps.new.count ≤ steps.old.count + length self.old.group.circuit.gates)) }
+            × (steps.new.count ≤ steps.old.count
+            + length self.old.group.circuit.gates * words_for (length self.old.lanes + 1))) }
         ensures rises { steps.old.count ≤ steps.new.count }
     {
         if grades[i].verdict.is_some() {
             return Ok(());
         }
         self.add(fault, i, grades)?;
-        if self.group.len() < MAX_MACHINES {
+        if !self.is_due() {
             return Ok(());
         }
         self.grade_lanes(number, grades, steps)
@@ -228,7 +286,7 @@ impl<'c> Batch<'c> {
         ensures good { OnOk result (good_state self.new.group ≡ good_state self.old.group) }
         ensures circuit { self.new.group.circuit ≡ self.old.group.circuit }
         ensures steps { steps.new.count ≤ steps.old.count
-            + length self.old.group.circuit.gates * full_groups (undetected_count grades.old) }
+            + length self.old.group.circuit.gates * words_for (undetected_count grades.old) }
         ensures rises { steps.old.count ≤ steps.new.count }
     {
         for (i, fault) in faults.iter().enumerate() {

@@ -1,7 +1,9 @@
 //! What is kept of each fault, and how a frame's words change it lane by lane.
-ghost use Rattle.std.specs.Prelude.{◌≡◌, ◌<◌, None, true, length, OnOk, OnErr};
+ghost use Rattle.std.specs.Prelude.{◌≡◌, ◌<◌, ◌≤◌, None, true, length, OnOk, OnErr};
 ghost use Rattle.ht_lanes.specs.Lanes.{is_set, lane};
+ghost use Rattle.ht_group.specs.GroupView.{lane_count};
 ghost use Rattle.ht_proofs.specs.LaneGrades.{AreChanged, AreLaneFaults, with_latch, with_place};
+ghost use Rattle.ht_proofs.specs.Batches.{undetected_count};
 
 use ht_diff::{Diff, Diffs};
 use ht_lanes::{Word, has_lane};
@@ -38,9 +40,20 @@ impl Grade {
     }
 }
 
+/// How many faults aren't detected.
+pub fn undetected(grades: &[Grade]) -> usize
+    ensures { result ≡ undetected_count grades.now }
+{
+    grades
+        .iter()
+        .filter(|grade| grade.verdict.is_none())
+        .count()
+}
+
 /// Keeps a place for each fault whose lane is in the set `seen`, if it is seen nowhere before.
 pub fn note_place(seen: u64, place: Place, lanes: &[usize], grades: &mut [Grade])
-    requires { AreLaneFaults lanes.now grades.old }
+    requires few { length lanes.now ≤ lane_count }
+    requires faults { AreLaneFaults lanes.now grades.old }
     ensures { AreChanged lanes.now (λ k. with_place (is_set seen k) place) grades.old grades.new }
 {
     // most outputs tell no lane
@@ -60,7 +73,8 @@ pub fn note_latch(
     lanes: &[usize],
     grades: &mut [Grade],
 ) -> Result<(), AllocError>
-    requires { AreLaneFaults lanes.now grades.old }
+    requires few { length lanes.now ≤ lane_count }
+    requires faults { AreLaneFaults lanes.now grades.old }
     ensures { OnOk result (AreChanged lanes.now (λ k. with_latch latch good (lane word k))
         grades.old grades.new) }
 {

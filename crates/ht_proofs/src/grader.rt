@@ -137,8 +137,8 @@ impl<'c> Grader<'c> {
     }
 
     /// Applies one more vector: a frame of the good machine, and one of the machine of each fault that isn't detected,
-    /// 64 at a time. Each gate is evaluated once for the good machine and at most once a group, and each evaluation is
-    /// counted in `steps`.
+    /// up to 256 at a time. Each gate is evaluated once for the good machine and at most once for each 64 faults, and
+    /// each evaluation is counted in `steps`.
     ///
     /// # Errors
     /// Out of memory; the verdicts and the count are as before, and every later `apply` fails.
@@ -163,7 +163,7 @@ impl<'c> Grader<'c> {
             return Err(AllocError);
         }
         self.live = false;
-        self.batch.start(vector, &self.latches, steps);
+        self.batch.start(vector, &self.latches, &self.grades, steps);
         self.batch
             .grade_faults(&self.faults, self.count, &mut self.grades, steps)?;
         self.batch.read_latches(&mut self.latches);

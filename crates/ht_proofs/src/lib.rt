@@ -1,9 +1,9 @@
-//! Fault grading with 64 faulty machines side by side (parallel fault simulation with differences of states, as in
-//! PROOFS 1992).
+//! Fault grading with up to 256 faulty machines side by side (parallel fault simulation with differences of states, as
+//! in PROOFS 1992).
 //!
 //! A `Grader` takes vectors one by one. Each runs once in the good machine, and then in the machine of each fault that
-//! isn't detected yet, 64 machines a group. What is kept of a fault is its first detection, or else where the
-//! flip-flops of its machine differ from the good ones.
+//! isn't detected yet, 256 machines a group while so many are left, and then 64. What is kept of a fault is its first
+//! detection, or else where the flip-flops of its machine differ from the good ones.
 #![tactic(auto)]
 
 mod batch;

@@ -12,9 +12,9 @@ loop-k-preserved c =
     let is = c.in_ok-note_latch.ensures
     ∙ (ap (λ (g : Grade). with_latch c.args.latch c.args.good c.lane.result g) (sym c.index-grades-i.is)
     ∙ ap (λ (v : Tern). with_latch c.args.latch c.args.good v here) c.lane.ensures) in
-    changed_more c.args.lanes.now _ c.args.grades.now c.loop-k.grades _ k _ here c.note_latch.new.self c.requires
+    changed_more c.args.lanes.now _ c.args.grades.now c.loop-k.grades _ k _ here c.note_latch.new.self c.requires.faults
     c.loop-k.invariant c.loop-k-test.true refl
-    (omega (arith, c.requires.known k c.loop-k-test.true, c.loop-k.auto.grades)) c.index-grades-i.is is refl
+    (omega (arith, c.requires.faults.known k c.loop-k-test.true, c.loop-k.auto.grades)) c.index-grades-i.is is refl
 
 pub returns : goal.returns
 returns c =

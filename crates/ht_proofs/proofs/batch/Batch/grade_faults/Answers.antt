@@ -1,9 +1,9 @@
-use Rattle.std.proofs.Common.{◌≡◌, ◌+◌, ◌∙◌, rules, length, sym, ap, subst, arith}
+use Rattle.std.proofs.Common.{◌≡◌, ◌+◌, ◌*◌, ◌∙◌, rules, length, sym, ap, subst, arith}
 use Rattle.std.proofs.lemmas.List.{nil_from_length}
 use Rattle.std.proofs.lemmas.Option.{slice_get-get_or}
 use Rattle.std.proofs.lemmas.Result.{on_ok_weaker}
 use Rattle.ht_net.specs.Netlist.{Netlist}
-use Rattle.ht_group.specs.GroupView.{AreLatches, GroupView}
+use Rattle.ht_group.specs.GroupView.{AreLatches, GroupView, words_for}
 use Rattle.ht_proofs.specs.declared.grade.Grade.{Grade}
 use Rattle.ht_proofs.specs.LaneGrades.{grade_at}
 use Rattle.ht_proofs.specs.Batches.{AreCounted, BatchView}
@@ -39,13 +39,13 @@ returns-in_err-take-clause-steps c =
     let s = c.args.self.now in
     let old = c.args.grades.now in
     let inv = c.loop-i.invariant in
-    let gates : length c.loop-i.self.group.circuit.gates ≡ length s.group.circuit.gates =
-    ap (λ (n : Netlist). length n.gates) inv.passed.circuit_same in
+    let price = ap (λ (n : Netlist). length n.gates * words_for (length c.loop-i.self.lanes + 1))
+    inv.passed.circuit_same in
     let failed = c.in_err-take.ensures.steps in
     steps_failed (length s.group.circuit.gates) old c.loop-i.i (length c.loop-i.self.lanes) c.args.steps.now.count
     c.loop-i.steps.count c.take.new.steps.count (omega (arith, c.loop-i-test.true, c.requires.each))
     (sym (ap (λ (g : Grade). g.verdict) (inv.passed.later c.loop-i.i (omega arith))) ∙ failed.0)
-    (omega (arith, failed.1, gates)) inv.counted
+    (omega (arith, failed.1, price)) inv.counted
 
 pub returns-then-is_empty-clause-passed : goal.returns-then-is_empty-clause-passed
 returns-then-is_empty-clause-passed c =

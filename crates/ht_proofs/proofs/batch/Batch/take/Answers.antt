@@ -1,10 +1,10 @@
-use Rattle.std.proofs.Common.{◌+◌, ◌∙◌, length, sym, ap, arith}
+use Rattle.std.proofs.Common.{◌+◌, ◌*◌, ◌∙◌, length, sym, ap, arith}
 use Rattle.std.specs.Option.{is_some}
 use Rattle.std.proofs.lemmas.List.{get_or_default}
 use Rattle.std.proofs.lemmas.Result.{on_ok_weaker}
 use Rattle.ht_proofs.specs.declared.grade.Grade.{Grade}
 use Rattle.ht_net.specs.Netlist.{Netlist}
-use Rattle.ht_proofs.specs.Batches.{BatchView}
+use Rattle.ht_group.specs.GroupView.{words_for}
 use Rattle.ht_proofs.specs.LaneGrades.{no_grade}
 use Rattle.ht_proofs.proofs.BatchLaws.{added_lanes, added_passed, counted_full, flushed_lanes, flushed_passed, lanes_weaker, passed_by}
 use Rattle.ht_proofs.proofs.batch.Batch.take.Goals as goal
@@ -16,11 +16,15 @@ returns-then-is_some-clause-passed c = λ frame faults before has passed.
     ∙ sym c.if-is_some.ensures)
     passed
 
-pub returns-then-len-lt-MAX_MACHINES-clause-passed :
-    goal.returns-then-len-lt-MAX_MACHINES-clause-passed
-returns-then-len-lt-MAX_MACHINES-clause-passed c = λ frame faults before has passed.
+pub returns-then-not-is_due-clause-passed : goal.returns-then-not-is_due-clause-passed
+returns-then-not-is_due-clause-passed c = λ frame faults before has passed.
     added_passed frame faults c.args.number before c.args.i c.args.fault c.args.self.now c.add.new.self
     c.args.grades.now c.add.new.grades c.in_ok-add.ensures.added c.requires.lanes.machines has passed
+
+pub returns-then-not-is_due-clause-lanes : goal.returns-then-not-is_due-clause-lanes
+returns-then-not-is_due-clause-lanes c =
+    added_lanes c.args.i c.args.fault c.args.self.now c.add.new.self c.args.grades.now c.add.new.grades
+    c.in_ok-add.ensures.added c.requires.room c.requires.lanes
 
 pub grade_lanes-requires : goal.grade_lanes-requires
 grade_lanes-requires c =
@@ -60,12 +64,11 @@ returns-clause-counted c =
     let s = c.args.self.now in
     let t = c.add.new.self in
     let added = c.in_ok-add.ensures.added in
-    let gates = ap (λ (n : Netlist). length n.gates) added.circuit_same in
-    let full = c.len.ensures.count ∙ ap (λ (b : BatchView). length b.group.machines) c.self.view_is in
+    let gates = ap (λ (n : Netlist). length n.gates * words_for (length t.lanes)) added.circuit_same in
     on_ok_weaker c.grade_lanes.result
     (λ graded first before same was counted. counted_full c.args.number c.args.i c.args.fault s t
     c.grade_lanes.new.self c.args.grades.now c.add.new.grades c.grade_lanes.new.grades (length s.group.circuit.gates)
-    first before c.args.steps.now.count c.grade_lanes.new.steps.count added c.requires.lanes.machines c.requires.room
-    (omega (arith, full, c.if-len-lt-MAX_MACHINES.false)) graded same was
+    first before c.args.steps.now.count c.grade_lanes.new.steps.count added c.requires.lanes.machines
+    (c.is_due.ensures.whole c.if-not-is_due.false) graded same was
     (omega (arith, c.grade_lanes.ensures.steps, gates)) counted)
     c.grade_lanes.ensures.graded

@@ -1,4 +1,4 @@
-use Rattle.std.proofs.Common.{◌≡◌, ◌≤◌, ◌+◌, ◌*◌, ◌∙◌, [], true, List, Option, length, rules, refl, sym, ap, subst, arith}
+use Rattle.std.proofs.Common.{◌≡◌, ◌+◌, ◌∙◌, [], true, List, Option, length, rules, refl, sym, ap, subst, arith}
 use Rattle.std.specs.Vec.{with_items}
 use Rattle.std.proofs.lemmas.List.{with_items_is}
 use Rattle.ht_tern.specs.declared.tern.Tern.{Tern}
@@ -8,7 +8,7 @@ use Rattle.ht_net.specs.Detection.{terns_of}
 use Rattle.ht_group.specs.GroupView.{AreLatches, GroupView}
 use Rattle.ht_proofs.specs.declared.grade.Grade.{Grade}
 use Rattle.ht_proofs.specs.PackedView.{PackedView}
-use Rattle.ht_proofs.specs.Applied.{IsApplied, groups_of}
+use Rattle.ht_proofs.specs.Applied.{IsApplied}
 use Rattle.ht_proofs.specs.Batches.{IsGradedFrame}
 use Rattle.ht_proofs.specs.LaneGrades.{grade_at}
 use Rattle.ht_proofs.specs.PackedOf.{packed_of, verdicts_of}
@@ -39,7 +39,7 @@ has_run c =
     let latches = with_items_is a.latches c.read_latches.new.latches (search rules)
     ∙ (c.read_latches.ensures ∙ c.in_ok-grade_faults.ensures.good) in
     let verdicts = with_items_is a.verdicts c.copy_verdicts.new.verdicts (search rules)
-    ∙ (c.copy_verdicts.ensures ∙ ap verdicts_of c.deref-3.ensures.value) in
+    ∙ (c.copy_verdicts.ensures ∙ ap verdicts_of c.deref-4.ensures.value) in
     let circuit = c.grade_faults.ensures.circuit ∙ ap (λ (g : GroupView). g.circuit) c.start.ensures.group in
     record {
       frame_is = c.start.ensures.group ∙ ap (λ (l : List Tern). record {
@@ -57,8 +57,8 @@ has_run c =
       all =
           subst (IsGradedFrame c.start.new.self.group a.faults.items a.count a.grades.items) (sym (graded_is c))
           (subst (λ (l : List Fault). IsGradedFrame c.start.new.self.group l a.count a.grades.items
-          c.grade_faults.new.grades) c.deref-2.ensures.value
-          (subst (λ (l : List Grade). IsGradedFrame c.start.new.self.group c.deref-2.result.now a.count l
+          c.grade_faults.new.grades) c.deref-3.ensures.value
+          (subst (λ (l : List Grade). IsGradedFrame c.start.new.self.group c.deref-3.result.now a.count l
           c.grade_faults.new.grades) c.deref_mut.ensures.value c.in_ok-grade_faults.ensures.passed));
     }
 
