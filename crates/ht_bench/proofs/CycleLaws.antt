@@ -3,10 +3,8 @@ use Rattle.std.proofs.Common.{◌≡◌, ℕ, zero, suc, ◌<◌, ◌≤◌, ◌
 use Rattle.std.proofs.lemmas.List.{length-map, get_or-map, get_or_default}
 use Rattle.ht_net.specs.Lists.{IsCycle}
 use Rattle.ht_net.specs.Netlist.{Netlist, IsCircuit, first_gate_net, gate_at, arg_at, no_net}
-use Rattle.ht_net.specs.Named.{Name, NamedGate, NamedNetlist, name_of, named_gates, named_of}
+use Rattle.ht_net.specs.Named.{Name, NamedGate, name_of, named_of}
 use Rattle.ht_net.proofs.CycleLaws.{no_cycle}
-use Rattle.ht_statement.specs.Statement.{Statement}
-use Rattle.ht_bench.specs.Contents.{named_of_statements}
 use Rattle.ht_net.specs.Finish.{Feeds}
 use Rattle.ht_bench.proofs.NamedPartLaws.{gate_named, named_gates_count, get_or-named_gates}
 use Rattle.ht_net.proofs.NameCycleLaws.{no_named_gate}
@@ -21,25 +19,20 @@ pub record IsPin (c : Netlist) (a b : Name) : Type 0 where
   pub out : place_in c.names b ≡ first_gate_net c + gate
   pub arg : place_in c.names a ≡ arg_at c gate pin
 
-module _ (c : Netlist) (is : IsCircuit c) (statements : List Statement)
-    (named : named_of c ≡ named_of_statements statements) where
-  pin_of : (a b : Name) → Feeds (named_of_statements statements).gates a b → IsPin c a b
+module _ (c : Netlist) (is : IsCircuit c) where
+  pin_of : (a b : Name) → Feeds (named_of c).gates a b → IsPin c a b
   pin_of a b feeds =
-      let gates : (named_of_statements statements).gates ≡ named_gates c (first_gate_net c) c.gates = sym
-      (ap (λ (n : NamedNetlist). n.gates) named) in
-      let named = named_gates c (first_gate_net c) c.gates in
-      let at = subst (λ l. Contains l feeds.gate) gates feeds.is_gate in
-      let count = named_gates_count c (first_gate_net c) c.gates in
-      let within : at.0 < length c.gates = omega (arith, at.1, count) in
+      let at = feeds.is_gate in
+      let within : at.0 < length c.gates = omega (arith, at.1, named_gates_count c (first_gate_net c) c.gates) in
       let gate_is : gate_named c (first_gate_net c + at.0) (gate_at c at.0) ≡ feeds.gate =
       sym (get_or-named_gates c (first_gate_net c) c.gates at.0 within)
-      ∙ get_or_default named at.0 no_named_gate feeds.gate at.1 ∙ at.2 in
-      let there : Contains (map (name_of c) (gate_at c at.0).args) a = subst (λ (g : NamedGate). Contains g.args a)
-      (sym gate_is) feeds.arg in
-      let inside : there.0 < length (gate_at c at.0).args = omega
-      (arith, there.1, length-map (gate_at c at.0).args (name_of c)) in
-      let name : get_or c.names (arg_at c at.0 there.0) []
-      ≡ a = sym (get_or-map (name_of c) (gate_at c at.0).args there.0 no_net a inside) ∙ there.2 in
+      ∙ get_or_default (named_of c).gates at.0 no_named_gate feeds.gate at.1 ∙ at.2 in
+      let args = (gate_at c at.0).args in
+      let there : Contains (map (name_of c) args) a = subst (λ (g : NamedGate). Contains g.args a) (sym gate_is)
+      feeds.arg in
+      let inside : there.0 < length (gate_at c at.0).args = omega (arith, there.1, length-map args (name_of c)) in
+      let name : get_or c.names (arg_at c at.0 there.0) [] ≡ a =
+      sym (get_or-map (name_of c) args there.0 no_net a inside) ∙ there.2 in
       let out_name : get_or c.names (first_gate_net c + at.0) [] ≡ b =
       ap (λ (g : NamedGate). g.out) gate_is ∙ feeds.out in
       record {
@@ -67,7 +60,7 @@ module _ (c : Netlist) (is : IsCircuit c) (statements : List Statement)
       subst (λ n. is.ranked.0 n < is.ranked.0 (place_in c.names b - first_gate_net c)) (sym from)
       (subst (λ n. is.ranked.0 (arg_at c pin.gate pin.pin - first_gate_net c) < is.ranked.0 n) (sym to) up)
 
-  module _ (cycle : List Name) (h : IsCycle (Feeds (named_of_statements statements).gates) cycle) where
+  module _ (cycle : List Name) (h : IsCycle (Feeds (named_of c).gates) cycle) where
     -- each net of the cycle is driven by a gate
     driven_at : (k : ℕ) → k < length cycle → first_gate_net c ≤ place_in c.names (get_or cycle k [])
     driven_at zero lt =
@@ -84,5 +77,5 @@ module _ (c : Netlist) (is : IsCircuit c) (statements : List Statement)
         (driven_at at.0 at.1)
 
     pub no_circuit : ⊥
-    no_circuit = no_cycle (Feeds (named_of_statements statements).gates) rank_at cycle []
+    no_circuit = no_cycle (Feeds (named_of c).gates) rank_at cycle []
         (λ a b at _ feeds. rises a b (pin_of a b feeds) (is_driven a at)) h

@@ -1,5 +1,5 @@
 -- A text whose lines are all accepted: its nets, the first that is undriven, and the circuit where none is.
-use Rattle.std.proofs.Common.{◌≡◌, ℕ, ◌<◌, ◌≤◌, List, [], Bool, true, not, length, get_or, sym, ◌∙◌, ap, subst, arith, Some, find, option_map, All, Contains, slice_get}
+use Rattle.std.proofs.Common.{◌≡◌, ℕ, ◌<◌, ◌≤◌, List, [], Bool, true, not, length, get_or, sym, ◌∙◌, ap, arith, Some, find, option_map, All, Contains, slice_get}
 use Rattle.std.proofs.lemmas.Bool.{false_from_ne_true, not_from_true, not_from_false}
 use Rattle.std.proofs.lemmas.List.Elements.{All-nil, All-contains_itself}
 use Rattle.std.proofs.lemmas.List.Folds.{find_at}
@@ -39,34 +39,26 @@ module _ {text : List ℕ} {d : Draft} (is : IsRead text d) where
   pub net_is_mentioned : (id : NameId) → IsName d id → HasNet text Mentioned (draft_name d id)
   net_is_mentioned id known =
       let all = mentions_of is.statements in
-      record {
-        statements = is.statements;
-        lines = is.lines;
-        has = (has_name-Decides all (draft_name d id)).1
-            (subst (All (Contains all)) (sym names_are)
-            (All-with_names (Contains all) [] all (All-nil (Contains all)) (All-contains_itself all)) id.0 [] known);
-      }
+      let mentioned : All (Contains all) d.names = rw names_are
+      (All-with_names (Contains all) [] all (All-nil (Contains all)) (All-contains_itself all)) in
+      let has = (has_name-Decides all (draft_name d id)).1 (mentioned id.0 [] known) in
+      record { statements = is.statements; lines = is.lines; has = has }
 
   pub net_is_driven : (id : NameId) → IsDriven d id → HasNet text Driven (draft_name d id)
-  net_is_driven id driven = record {
-    statements = is.statements;
-    lines = is.lines;
-    has = net_driven id driven;
-  }
+  net_is_driven id driven = record { statements = is.statements; lines = is.lines; has = net_driven id driven }
 
   -- the first net without a driver stands at a place before which all are driven
   undriven_at : (k : ℕ) → k ≤ length d.names → ((j : ℕ) → j < k → IsDriven d (record { 0 = j }))
       → (k < length d.names → ¬ IsDriven d (record { 0 = k })) → first_undriven is.statements ≡ slice_get d.names k
   undriven_at k below driven free =
-      let p : Name → Bool = λ net. not (has_name (driven_by is.statements) net) in
+      let drives = has_name (driven_by is.statements) in
+      let p : Name → Bool = λ net. not (drives net) in
+      let name = get_or d.names k [] in
       ap (find p) (sym names_are) ∙ find_at p d.names
       ∙ ap (slice_get d.names) (position_or_len_is p d.names k [] below
-      (λ j less. not_from_true (has_name (driven_by is.statements) (get_or d.names j []))
-      (net_driven (record { 0 = j }) (driven j less)))
-      (λ known. not_from_false (has_name (driven_by is.statements) (get_or d.names k []))
-      (false_from_ne_true (has_name (driven_by is.statements) (get_or d.names k [])) (λ yes.
-      free known ((has_name-Decides (driven_names d) (get_or d.names k [])).0
-      (sym (same_drivers (get_or d.names k [])) ∙ yes))))))
+      (λ j less. not_from_true (drives (get_or d.names j [])) (net_driven (record { 0 = j }) (driven j less)))
+      (λ known. not_from_false (drives name) (false_from_ne_true (drives name) (λ yes.
+      free known ((has_name-Decides (driven_names d) name).0 (sym (same_drivers name) ∙ yes))))))
 
   pub accepted_text : AllDriven d → IsAcceptedText text is.statements
   accepted_text all = record {

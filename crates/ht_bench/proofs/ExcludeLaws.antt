@@ -1,6 +1,7 @@
 -- What a refusal of a text excludes: a circuit, and another refusal.
-use Rattle.std.proofs.Common.{◌≡◌, ℕ, List, sym, ◌∙◌, ap, Option, Some, None}
-use Rattle.ht_net.specs.Named.{Name}
+use Rattle.std.proofs.Common.{subst, ◌≡◌, ℕ, List, sym, ◌∙◌, ap, Option, Some, None}
+use Rattle.ht_net.specs.Finish.{IsNameCycle}
+use Rattle.ht_net.specs.Named.{Name, NamedNetlist}
 use Rattle.ht_net.specs.Netlist.{Netlist}
 use Rattle.ht_bench.specs.Contents.{named_of_statements}
 use Rattle.ht_bench.specs.Text.{IsNetlistOf, IsLoop, Refuses, IsOfNoCircuit, refusal_of}
@@ -18,8 +19,8 @@ loop_is_no_netlist : (text : List ℕ) (number : ℕ) (cycle : List Name) → Is
     → ¬ IsNetlistOf text circuit
 loop_is_no_netlist text number cycle l circuit is =
     let same = same_statements l.statements is.statements (sym l.read.lines ∙ is.read.lines) in
-    no_circuit circuit is.is_circuit l.statements (is.named ∙ sym (ap named_of_statements same)) cycle
-    l.is_cycle.is_cycle
+    no_circuit circuit is.is_circuit cycle (subst (λ (n : NamedNetlist). IsNameCycle n.gates cycle)
+    (ap named_of_statements same ∙ sym is.named) l.is_cycle.is_cycle)
 
 pub refused_is_of_no_circuit : (text : List ℕ) (error : BenchError) → Refuses text error → IsOfNoCircuit text error
 refused_is_of_no_circuit text (Loop line names) refused = loop_is_no_netlist text line names refused

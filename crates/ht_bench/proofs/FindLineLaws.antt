@@ -1,6 +1,6 @@
 -- Finding the first line that has a net in a role.
-use Rattle.std.proofs.Common.{◌≡◌, ℕ, ◌<◌, ◌≤◌, ◌+◌, List, [], ◌∷◌, Bool, true, false, cond, not, ◌||◌, length, map, refl, sym, ◌∙◌, ap, arith, bytes_eq}
-use Rattle.std.specs.List.{flat_map, position_or_len}
+use Rattle.std.proofs.Common.{◌≡◌, ℕ, ◌<◌, ◌≤◌, ◌+◌, List, [], ◌∷◌, true, false, length, map, refl, sym, ◌∙◌, ap, arith}
+use Rattle.std.specs.List.{flat_map}
 use Rattle.std.proofs.lemmas.List.Folds.{list_any-append}
 use Rattle.ht_ports.specs.LineRule.{lines_of}
 use Rattle.ht_net.specs.Named.{Name}
@@ -31,11 +31,8 @@ FirstStated reading readings statements =
 
 first_stated : (reading : Reading) (readings : List Reading) (statements : List Statement) → reading ∷ readings
     ≡ map stated statements → FirstStated reading readings statements
-first_stated reading readings [] e = absurd (omega (arith, ap length e))
-first_stated reading readings (s ∷ statements) e =
-    let heads : reading ≡ stated s = cc in
-    let tails : readings ≡ map stated statements = cc in
-    (s, statements, refl, heads, tails)
+first_stated reading readings [] e = absurd (cc)
+first_stated reading readings (s ∷ statements) e = (s, statements, refl, cc, cc)
 
 pub nothing_before : (text : List ℕ) (role : Role) (name : Name) → HasNet text role name
     → IsAhead text text 0 role name
@@ -64,16 +61,8 @@ module _ {text rest : List ℕ} (line more : List ℕ) {count : ℕ} {role : Rol
     after_is = next_stated.2 ∙ ap (λ s. s ∷ next_stated.1) (states_one next_stated.0 statement
         (sym next_stated.3 ∙ states))
 
-    -- the line of the net, by whether this one has it
-    line_by : (b : Bool) → has_name (nets_in role statement) name ≡ b → (statements : List Statement)
-        → readings_of text ≡ map stated statements → line_of role statements name
-        ≡ count + (cond (not b) (1 + position_or_len (λ s. has_name (nets_in role s) name) next_stated.1) 0 + 1)
-    line_by b e statements lines = is.line statements lines ∙ ap (λ l. count + line_of role l name) after_is
-        ∙ ap (λ x. count + (cond (not x) (1 + position_or_len (λ s. has_name (nets_in role s) name) next_stated.1) 0
-        + 1)) e
-
     pub line_found : has_name (nets_in role statement) name ≡ true → IsFirstLine text role name (count + 1)
-    line_found has statements lines = sym (line_by true has statements lines)
+    line_found has statements lines = sym (is.line statements lines ∙ rw (after_is, has) refl)
 
     pub line_passed : length more < length rest → has_name (nets_in role statement) name ≡ false
         → IsAhead text more (count + 1) role name
@@ -81,11 +70,9 @@ module _ {text rest : List ℕ} (line more : List ℕ) {count : ℕ} {role : Rol
       after = next_stated.1;
       rest_lines = next_stated.4;
       short = omega (arith, is.short, shorter);
-      has = ap (λ b. b || has_name (flat_map (nets_in role) next_stated.1) name) (sym absent)
-          ∙ sym (list_any-append (λ other. bytes_eq other name) (nets_in role statement)
-          (flat_map (nets_in role) next_stated.1))
-          ∙ ap (λ l. has_name (flat_map (nets_in role) l) name) (sym after_is) ∙ is.has;
-      line = λ statements lines. omega (arith, line_by false absent statements lines);
+      has = rw (after_is, list_any-append, absent) at is.has;
+      line = λ statements lines. is.line statements lines ∙ ap (λ l. count + line_of role l name) after_is
+          ∙ rw absent (omega arith);
     }
 
 -- the line comes before the text ends

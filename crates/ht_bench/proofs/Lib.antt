@@ -1,7 +1,6 @@
 pub mod LineLaws
 pub mod ListLaws
 pub mod NameListLaws
-pub mod DifferLaws
 pub mod NamedPartLaws
 pub mod DriverLaws
 pub mod MentionLaws
@@ -13,7 +12,6 @@ pub mod EndOfTextLaws
 pub mod NetCycleLaws
 pub mod CycleLaws
 pub mod ExcludeLaws
-pub mod NormalLaws
 pub mod AllLaws
 pub mod NormalContentLaws
 pub mod NormalNameLaws

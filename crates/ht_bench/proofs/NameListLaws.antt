@@ -1,14 +1,16 @@
--- Names in a list: their places, and lists to which names are added.
-use Rattle.std.proofs.Common.{◌≡◌, List, [], length, get_or, sym, ◌∙◌, ap, arith, refl, ◌≤◌, ◌-◌, ◌∷◌, ◌++◌, false, subst, append-nil, append_assoc, All, Contains, bytes_eq, Decides}
+-- Names in a list: their places, lists to which names are added, and names of which no two are the same.
+use Rattle.std.proofs.Common.{◌≡◌, List, [], length, get_or, sym, ◌∙◌, ap, arith, refl, ◌≤◌, ◌-◌, ◌∷◌, ◌++◌, false, subst, append-nil, append_assoc, All, Contains, bytes_eq, Decides, ◌≢◌, ◌+◌}
 use Rattle.std.proofs.lemmas.Bool.{false_from_ne_true, both_ways, cond_both, cond-false}
 use Rattle.std.proofs.lemmas.Slice.Eq.{bytes_eq-Decides}
 use Rattle.ht_net.specs.Lists.{AllDiffer}
 use Rattle.ht_net.specs.Named.{Name}
 use Rattle.std.proofs.lemmas.List.{get_or_append_left, get_or-append_right, get_or_default, length-append}
 use Rattle.std.proofs.lemmas.List.Folds.{Any-from_list_any, list_any-from_Any}
-use Rattle.std.proofs.lemmas.List.Elements.{All-push, All-head, All-tail}
+use Rattle.std.proofs.lemmas.List.Elements.{All-push, All-head, All-tail, All-nil}
 use Rattle.ht_net.specs.Names.{IsNewName}
-use Rattle.ht_bench.specs.Different.{has_name, with_name, with_names}
+use Rattle.ht_bench.specs.Different.{has_name, with_name, with_names, different}
+use Rattle.std.proofs.lemmas.List.Quantifiers.{all_pairs_push}
+use Rattle.ht_net.proofs.PlaceLaws.{no_more}
 
 pub has_name-Decides : (names : List Name) (name : Name) → Decides (has_name names name) (Contains names name)
 has_name-Decides names name = (
@@ -54,19 +56,42 @@ All-with_names P names (name ∷ others) all more =
     (λ _. All-push P names name all (All-head P name others more)))
     (All-tail P name others more)
 
+-- ---- names of which no two are the same
+
+-- a name stands in only one of two parts
+pub differ_apart : (xs ys : List Name) (name : Name) → AllDiffer (xs ++ ys) → Contains xs name → ¬ Contains ys name
+differ_apart xs ys name differ here there =
+    let back : length xs + there.0 - length xs ≡ there.0 = omega arith in
+    let last : get_or (xs ++ ys) (length xs + there.0) name ≡ name =
+    get_or-append_right xs ys (length xs) (length xs + there.0) name refl (omega arith)
+    ∙ ap (λ k. get_or ys k name) back ∙ there.2 in
+    differ here.0 (length xs + there.0) name (omega (arith, here.1)) (omega (arith, there.1, length-append xs ys))
+    (get_or_append_left xs ys name here.0 here.1 ∙ here.2 ∙ sym last)
+
 -- names that differ from those before and from one another are all added
 pub with_names-differ : (names others : List Name) → AllDiffer (names ++ others)
     → with_names names others ≡ names ++ others
 with_names-differ names [] differ = sym (append-nil names)
 with_names-differ names (name ∷ others) differ =
-    let new : has_name names name ≡ false = has_no_name names name (λ c.
-    let none : length names - length names ≡ 0 = omega arith in
-    let last : get_or (names ++ name ∷ others) (length names) name ≡ name =
-    get_or-append_right names (name ∷ others) (length names) (length names) name refl (omega arith)
-    ∙ ap (λ k. get_or (name ∷ others) k name) none in
-    differ c.0 (length names) name c.1 (omega (arith, length-append names (name ∷ others)))
-    (get_or_append_left names (name ∷ others) name c.0 c.1 ∙ c.2 ∙ sym last)) in
+    let new = has_no_name names name (λ c.
+    differ_apart names (name ∷ others) name differ c (0, omega arith, refl)) in
     ap (λ l. with_names l others) (cond-false (has_name names name) names (names ++ name ∷ []) new)
     ∙ with_names-differ (names ++ name ∷ []) others
     (subst AllDiffer (sym (append_assoc names (name ∷ []) others)) differ)
     ∙ append_assoc names (name ∷ []) others
+
+-- names to which others are added go on to differ
+with_names-apart : (names others : List Name) → AllDiffer names → AllDiffer (with_names names others)
+with_names-apart names [] differ = differ
+with_names-apart names (name ∷ others) differ = with_names-apart (with_name names name) others
+    (cond_both (has_name names name) names (names ++ name ∷ []) AllDiffer (λ yes. differ)
+    (λ no. all_pairs_push (λ x y. x ≢ y) names name differ (λ k d lt same. both_ways (has_name names name) no
+    ((has_name-Decides names name).1 (k, lt, get_or_default names k name d lt ∙ same)))))
+
+pub different_differ : (names : List Name) → AllDiffer (different names)
+different_differ names = with_names-apart [] names (λ j k d less lt. absurd (omega arith))
+
+pub length-different : (names others : List Name) → All (Contains others) names
+    → length (different names) ≤ length others
+length-different names others all = no_more (different names) others (different_differ names)
+    (All-with_names (Contains others) [] names (All-nil (Contains others)) all)

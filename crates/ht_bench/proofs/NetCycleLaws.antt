@@ -13,7 +13,7 @@ use Rattle.ht_bench.specs.EndOfText.{IsNetCycle}
 use Rattle.ht_bench.specs.Text.{IsLoop}
 use Rattle.ht_bench.specs.Progress.{IsRead, HasNet, IsFirstLine}
 use Rattle.ht_bench.specs.declared.find_line.Role.TheVariants.{Driven}
-use Rattle.ht_bench.proofs.DifferLaws.{different_differ}
+use Rattle.ht_bench.proofs.NameListLaws.{different_differ}
 use Rattle.ht_bench.proofs.EndOfTextLaws.{net_is_driven, says_named, accepted_text}
 
 module _ {text : List ℕ} {d : Draft} (is : IsRead text d) where

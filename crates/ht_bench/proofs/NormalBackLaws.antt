@@ -1,13 +1,13 @@
 -- What is read has names of the format, so its normal text is read as the same circuit, and refused only where memory
 -- runs out.
 use Rattle.std.proofs.Common.{◌≡◌, ℕ, List, [], ◌∷◌, true, map, refl, sym, ap, ◌∙◌, All}
-use Rattle.std.proofs.lemmas.List.Elements.{All-nil, All-cons, All-head, All-weaker, All-contains}
+use Rattle.std.proofs.lemmas.List.Elements.{All-nil, All-cons, All-weaker, All-contains}
 use Rattle.std.proofs.lemmas.List.Sums.{list_all-from_AllPass, AllPass-from_list_all}
 use Rattle.ht_net.specs.Netlist.{Netlist, IsCircuit}
 use Rattle.ht_net.specs.Named.{Name, named_of}
 use Rattle.ht_ports.specs.LineRule.{lines_of}
 use Rattle.ht_statement.specs.Name.{is_name}
-use Rattle.ht_statement.specs.Statement.{Statement, blank_line, input_line, output_line, dff_line, gate_line, names_in}
+use Rattle.ht_statement.specs.Statement.{Statement, output_line, dff_line, gate_line, names_in}
 use Rattle.ht_statement.specs.Reading.{stated, reading_of}
 use Rattle.ht_statement.specs.StatementText.{CanBeStated}
 use Rattle.ht_statement.proofs.StatedLaws.{stated_sound}
@@ -17,7 +17,7 @@ use Rattle.ht_bench.specs.Text.{IsNetlistOf, IsOfNoCircuit}
 use Rattle.ht_bench.specs.Normal.{normal_text, HasFormatNames}
 use Rattle.ht_bench.specs.declared.error.BenchError.{BenchError}
 use Rattle.ht_bench.specs.declared.error.BenchError.TheVariants.{NoMemory}
-use Rattle.ht_bench.proofs.AllLaws.{all_from, AreNames, All-flat_map}
+use Rattle.ht_bench.proofs.AllLaws.{All-left, all_from, AreNames, All-flat_map}
 use Rattle.ht_bench.proofs.NameListLaws.{has_name-Decides}
 use Rattle.ht_bench.proofs.DriverLaws.{drivers_are}
 use Rattle.ht_net.specs.Draft.{drivers}
@@ -36,18 +36,14 @@ can_be_stated : (lines : List (List ℕ)) (statements : List Statement) → map 
 can_be_stated lines [] read = All-nil CanBeStated
 can_be_stated [] (s ∷ statements) read = absurd (cc)
 can_be_stated (line ∷ lines) (s ∷ statements) read =
-    let here : reading_of line ≡ stated s = cc in
-    let rest : map reading_of lines ≡ map stated statements = cc in
-    All-cons CanBeStated s statements (stated_sound line s here) (can_be_stated lines statements rest)
+    All-cons CanBeStated s statements (stated_sound line s (cc)) (can_be_stated lines statements (cc))
 
 -- what a statement drives is one of its names
 drives_its_names : (s : Statement) → AreNames (names_in s) → AreNames (driven_in s)
-drives_its_names blank_line are = are
-drives_its_names (input_line name) are = are
 drives_its_names (output_line name) are = All-nil IsGood
-drives_its_names (dff_line out data_pin) are = All-cons IsGood out [] (All-head IsGood out (data_pin ∷ []) are)
-    (All-nil IsGood)
-drives_its_names (gate_line out kind args) are = All-cons IsGood out [] (All-head IsGood out args are) (All-nil IsGood)
+drives_its_names (dff_line out data_pin) are = All-left IsGood (out ∷ []) (data_pin ∷ []) are
+drives_its_names (gate_line out kind args) are = All-left IsGood (out ∷ []) args are
+drives_its_names _ are = are
 
 pub names_were_read : (text : List ℕ) (c : Netlist) → IsNetlistOf text c → HasFormatNames c
 names_were_read text c is =

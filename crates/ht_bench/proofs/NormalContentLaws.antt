@@ -1,5 +1,5 @@
 -- What the statements of a circuit say together; they mention no net but its own.
-use Rattle.std.proofs.Common.{◌≡◌, List, [], ◌∷◌, ◌++◌, map, append-nil, append_assoc, refl, ap, sym, ◌∙◌, ℕ, ◌+◌, ◌<◌, true, length, get_or, take, subst, arith, fold, flat_map, All, Contains}
+use Rattle.std.proofs.Common.{map-id, ◌≡◌, List, [], ◌∷◌, ◌++◌, map, append-nil, append_assoc, refl, ap, sym, ◌∙◌, ℕ, ◌+◌, ◌<◌, true, length, get_or, take, arith, fold, flat_map, All, Contains}
 use Rattle.std.proofs.lemmas.List.Concat.{flat_map-append, flat_map_single}
 use Rattle.std.proofs.lemmas.List.Folds.{flat_map-map}
 use Rattle.std.proofs.lemmas.List.Sums.{fold-append}
@@ -12,7 +12,6 @@ use Rattle.ht_bench.proofs.NamedPartLaws.{All-named_dffs, All-named_gates}
 use Rattle.ht_net.specs.Draft.{drivers}
 use Rattle.std.proofs.lemmas.List.{length-map}
 use Rattle.std.proofs.lemmas.List.Elements.{All-nil, All-cons, All-append, All-map, All-take, All-weaker, All-contains_itself, All-from_get_or, Contains-get_or}
-use Rattle.ht_tern.specs.Gate.{HasArity}
 use Rattle.ht_net.specs.Netlist.{Netlist, IsCircuit, first_gate_net, net_count, gate_at, no_net}
 use Rattle.ht_statement.specs.StatementText.{has_its_count}
 use Rattle.ht_statement.proofs.StatedLaws.{arity_is_count}
@@ -50,10 +49,6 @@ flat_none : {A B : Type 0} (xs : List A) → flat_map {X = A} {A = B} (λ x. [])
 flat_none [] = refl
 flat_none (x ∷ xs) = flat_none xs
 
-flat_self : {A : Type 0} (xs : List A) → flat_map (λ (x : A). x ∷ []) xs ≡ xs
-flat_self [] = refl
-flat_self (x ∷ xs) = ap (λ l. x ∷ l) (flat_self xs)
-
 module _ (n : NamedNetlist) where
   pub named_said : named_of_statements (named_statements n) ≡ record n { outputs = different n.outputs }
   named_said = simp (fold-append, inputs_said, outputs_said, dffs_said, gates_said)
@@ -63,9 +58,10 @@ module _ (n : NamedNetlist) where
     flat_map-append,
     flat_map-map,
     flat_none {A = Name} {B = Name},
-    flat_self {A = Name},
+    flat_map_single (λ (name : Name). name),
     flat_map_single (λ (d : NamedDff). d.out),
     flat_map_single (λ (g : NamedGate). g.out),
+    map-id,
     append-nil,
   )
 
@@ -83,7 +79,7 @@ All-statements P n inputs outputs dffs gates =
 
 module _ (c : Netlist) (is : IsCircuit c) where
   has_net : (x : ℕ) → x < net_count c → Contains c.names (get_or c.names x [])
-  has_net x below = let named = is.named in Contains-get_or c.names x [] (omega arith)
+  has_net x below = Contains-get_or c.names x [] (omega arith)
 
   abbrev IsMade : Statement → Type 0
   IsMade s = All (Contains c.names) (names_in s)
@@ -116,7 +112,6 @@ module _ (c : Netlist) (is : IsCircuit c) where
       let HasIts : Statement → Type 0 = λ s. has_its_count s ≡ true in
       All-statements HasIts (named_of c) (λ k d below. refl) (λ k d below. refl) (λ k d below. refl)
       (All-named_gates c (first_gate_net c) (λ g. HasIts (gate_statement g)) c.gates (λ g inside.
-      let count = length-map (gate_at c g).args (name_of c) in
       let few = is.few_args g inside in
       arity_is_count (gate_at c g).kind (length (map (name_of c) (gate_at c g).args))
-      (subst (HasArity (gate_at c g).kind) (sym count) (is.arities g inside)) (omega arith)))
+      (rw length-map (is.arities g inside)) (rw length-map (omega arith))))

@@ -40,7 +40,6 @@ sum_of_args c x (g ∷ gates) =
 module _ (c : Netlist) (is : IsCircuit c) where
   pub driven_are_names : driven_by (statements_of c) ≡ c.names
   driven_are_names =
-      let named = is.named in
       let n = named_of c in
       let dffs : length (dff_outs n.dffs) ≡ length c.dffs = length-map n.dffs (λ (d : NamedDff). d.out) ∙
       named_dffs_count c c.inputs c.dffs in
@@ -57,7 +56,6 @@ module _ (c : Netlist) (is : IsCircuit c) where
   outputs_differ : AllDiffer (map (name_of c) c.outputs)
   outputs_differ x y d before below same =
       let count = length-map c.outputs (name_of c) in
-      let named = is.named in
       let x_known = is.outputs_known x (omega arith) in
       let y_known = is.outputs_known y (omega arith) in
       let number : ℕ → NetId = λ n. record { 0 = n } in

@@ -1,6 +1,6 @@
 -- The normal text of a circuit is a netlist of that circuit.
-use Rattle.std.proofs.Common.{◌≡◌, ℕ, ◌≤◌, List, [], ◌∷◌, ◌++◌, Bool, true, false, not, length, get_or, map, append_assoc, append-nil, refl, sym, ap, subst, ◌∙◌, arith, fold, find, Some, None, option_map, All, Contains, length-append, length-take}
-use Rattle.std.proofs.lemmas.Bool.{cond-false, not_from_true}
+use Rattle.std.proofs.Common.{◌≡◌, ℕ, ◌≤◌, List, [], ◌∷◌, ◌++◌, Bool, true, false, not, length, get_or, map, append_assoc, append-nil, refl, sym, ap, subst, ◌∙◌, arith, fold, find, None, option_map, All, Contains, length-append, length-take}
+use Rattle.std.proofs.lemmas.Bool.{not_from_true}
 use Rattle.std.proofs.lemmas.Bool.Decides.{nat_tests}
 use Rattle.std.proofs.lemmas.List.Concat.{flat_map-append}
 use Rattle.std.proofs.lemmas.List.Sums.{fold-append, sum_by_push, list_all-from_AllPass, AllPass-from_list_all}
@@ -9,7 +9,7 @@ use Rattle.ht_net.specs.Lists.{AllDiffer}
 use Rattle.ht_net.specs.Netlist.{max_nets, max_pins, max_inputs, max_dffs, Netlist, IsCircuit}
 use Rattle.ht_net.specs.Named.{Name, NamedGate, NamedNetlist, named_of}
 use Rattle.ht_statement.specs.Name.{is_name}
-use Rattle.ht_statement.specs.Statement.{Statement, input_line, dff_line, gate_line, names_in}
+use Rattle.ht_statement.specs.Statement.{Statement, names_in}
 use Rattle.ht_statement.specs.Reading.{stated, reading_of}
 use Rattle.ht_statement.specs.StatementText.{statement_text, CanBeStated}
 use Rattle.ht_statement.proofs.StatementTextLaws.{normal_reads}
@@ -24,11 +24,10 @@ use Rattle.ht_bench.specs.Normal.{statements_of, normal_text, HasFormatNames}
 use Rattle.ht_bench.specs.declared.find_line.Role.TheVariants.{Mentioned}
 use Rattle.ht_bench.specs.declared.error.BenchError.TheVariants.{Undriven}
 use Rattle.ht_bench.proofs.NamedPartLaws.{named_dffs_count}
-use Rattle.ht_bench.proofs.NameListLaws.{has_name-Decides, has_no_name, All-with_names}
-use Rattle.ht_bench.proofs.ProgressLaws.{refusal_by, no_error}
+use Rattle.ht_bench.proofs.NameListLaws.{has_name-Decides, has_no_name, All-with_names, differ_apart, length-different}
+use Rattle.ht_bench.proofs.ProgressLaws.{no_error}
 use Rattle.ht_bench.proofs.LineLaws.{lines_of_statements}
 use Rattle.ht_bench.proofs.AllLaws.{AreNames, All-left, All-flat_map}
-use Rattle.ht_bench.proofs.DifferLaws.{differ_apart, length-different}
 use Rattle.ht_bench.proofs.NormalNameLaws.{driven_are_names, statements_say, pins_are}
 use Rattle.ht_bench.proofs.NormalContentLaws.{statements_made, have_counts}
 
@@ -42,23 +41,14 @@ texts_read : (statements : List Statement) → All CanBeStated statements → ma
     ≡ map stated statements
 texts_read [] can = refl
 texts_read (s ∷ statements) can =
-    let here : reading_of (statement_text s) ≡ stated s = normal_reads s (All-head CanBeStated s statements can) in
     let rest = texts_read statements (All-tail CanBeStated s statements can) in
-    cc
+    rw (normal_reads s (All-head CanBeStated s statements can), rest) refl
 
 -- ---- more statements say no less
 
 says_no_less : (n : NamedNetlist) (s : Statement) → (length n.inputs ≤ length (with_statement n s).inputs)
     × (length n.dffs ≤ length (with_statement n s).dffs) × (named_pins n ≤ named_pins (with_statement n s))
-says_no_less n (input_line name) = (omega (arith, length-append n.inputs (name ∷ [])), omega arith, omega arith)
-says_no_less n (dff_line out data_pin) =
-    let more = length-append n.dffs (record { out = out; data_pin = data_pin } ∷ []) in
-    (omega arith, omega (arith, more), omega (arith, more))
-says_no_less n (gate_line out kind args) =
-    let more = sum_by_push (λ (g : NamedGate). length g.args) n.gates
-    (record { kind = kind; out = out; args = args }) in
-    (omega arith, omega arith, omega (arith, more))
-says_no_less n _ = omega arith
+says_no_less n s = grind (arith, length-append, sum_by_push (λ (g : NamedGate). length g.args))
 
 grows : (count : NamedNetlist → ℕ) → ((n : NamedNetlist) (s : Statement) → count n ≤ count (with_statement n s))
     → (n : NamedNetlist) (statements : List Statement) → count n ≤ count (fold with_statement n statements)
@@ -68,8 +58,7 @@ grows count step n (s ∷ statements) = omega (arith, step n s, grows count step
 find_none : (p : Name → Bool) (names : List Name) → All (λ name. p name ≡ false) names → find p names ≡ None
 find_none p [] all = refl
 find_none p (name ∷ names) all =
-    cond-false (p name) (Some name) (find p names) (All-head (λ n. p n ≡ false) name names all)
-    ∙ find_none p names (All-tail (λ n. p n ≡ false) name names all)
+    rw (All-head (λ n. p n ≡ false) name names all) (find_none p names (All-tail (λ n. p n ≡ false) name names all))
 
 -- statements of which none is refused are accepted up to the end
 accepted_to_end : (before after : List Statement)
@@ -78,8 +67,7 @@ accepted_to_end : (before after : List Statement)
     → refusal_after before (map stated after) ≡ undriven_refusal (before ++ after)
 accepted_to_end before [] each = ap undriven_refusal (sym (append-nil before))
 accepted_to_end before (s ∷ after) each =
-    refusal_by before (stated s) (map stated after) None (each before s after refl)
-    ∙ accepted_to_end (before ++ s ∷ []) after
+    rw (each before s after refl) refl ∙ accepted_to_end (before ++ s ∷ []) after
     (λ first t rest e. each first t rest (sym (append_assoc before (s ∷ []) after) ∙ e))
     ∙ ap undriven_refusal (append_assoc before (s ∷ []) after)
 
@@ -101,11 +89,6 @@ module _ (c : Netlist) (is : IsCircuit c) where
       let inputs = grows (λ m. length m.inputs) (λ m s. (says_no_less m s).0) n rest in
       let dffs = grows (λ m. length m.dffs) (λ m s. (says_no_less m s).1) n rest in
       let pins = grows named_pins (λ m s. (says_no_less m s).2) n rest in
-      let named = is.named in
-      let few_nets = is.few_nets in
-      let few_pins = is.few_pins in
-      let few_inputs = is.few_inputs in
-      let few_dffs = is.few_dffs in
       none_passed (length (stated_nets first)) (named_pins n) (length n.inputs) (length n.dffs)
       (omega arith) (omega (arith, ap named_pins all, pins_are c is))
       (omega (arith, ap (λ (m : NamedNetlist). length m.inputs) all, length-take c.inputs c.names))

@@ -57,7 +57,6 @@ module _ (c : Netlist) (is : IsCircuit c) where
   -- the circuit of what a circuit says by names is the circuit
   told : circuit_of (named_of c) ≡ c
   told =
-      let named = is.named in
       let inputs : length (named_of c).inputs ≡ c.inputs = length-take-le c.inputs c.names (omega arith) in
       let dffs = dffs_back c.inputs c.dffs (All-from_get_or IsKnown c.dffs no_net
       (λ j lt. omega (arith, is.data_known j lt))) in

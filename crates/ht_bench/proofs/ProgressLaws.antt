@@ -1,23 +1,20 @@
 -- Reading a text line by line.
-use Rattle.std.proofs.Common.{◌≡◌, ℕ, ◌<◌, ◌≤◌, ◌+◌, List, [], ◌∷◌, ◌++◌, Bool, cond, length, map, refl, sym, ◌∙◌, ap, subst, append_assoc, Result, Ok, Err, IfErr, arith, Option, Some, None, option_map, find}
-use Rattle.std.specs.Option.{option_or}
-use Rattle.std.proofs.lemmas.List.{length-append, map_push}
-use Rattle.std.proofs.lemmas.List.Sums.{fold-append, fold_push}
+use Rattle.std.proofs.Common.{Bool, ◌≡◌, ℕ, ◌<◌, ◌≤◌, ◌+◌, List, [], ◌∷◌, ◌++◌, length, map, refl, sym, ◌∙◌, ap, append_assoc, append-nil, Result, Ok, Err, IfErr, arith, Option, None, find}
+use Rattle.std.proofs.lemmas.List.Concat.{flat_map-append}
+use Rattle.std.proofs.lemmas.List.{map-append, length-append}
+use Rattle.std.proofs.lemmas.List.Sums.{fold-append}
 use Rattle.ht_ports.specs.LineRule.{lines_of}
 use Rattle.ht_net.specs.declared.error.Limit.{Limit as NetLimit}
 use Rattle.ht_net.specs.Named.{Name}
-use Rattle.ht_net.specs.Draft.{Draft, drivers, driven_names}
-use Rattle.ht_statement.specs.Statement.{Statement, names_in}
-use Rattle.ht_statement.specs.Reading.{Reading, stated, reading_of}
-use Rattle.ht_bench.specs.Different.{has_name, with_name, different}
-use Rattle.ht_bench.specs.Contents.{no_parts, with_statement, named_of_statements, driven_in, driven_by, mentions_of, stated_nets}
+use Rattle.ht_net.specs.Draft.{drivers, Draft, driven_names}
+use Rattle.ht_statement.specs.Statement.{Statement}
+use Rattle.ht_statement.specs.Reading.{stated, reading_of}
+use Rattle.ht_bench.specs.Different.{has_name}
+use Rattle.ht_bench.specs.Contents.{named_of_statements, driven_in, driven_by, stated_nets}
 use Rattle.ht_bench.specs.Accepted.{second_driver, limit_passed, driver_or_limit, reading_error}
-use Rattle.ht_bench.specs.AddErrors.{IsAddError, error_at}
-use Rattle.ht_bench.specs.Text.{readings_of, statement_in, refusal_after, refusal_of}
+use Rattle.ht_bench.specs.Text.{readings_of, refusal_after, refusal_of}
 use Rattle.ht_bench.specs.Drafts.{drafted, IsDraftOf, with_line, draft_limit, draft_error, Accepts, RefusesStatement, AddsLine, RefusesLine}
 use Rattle.ht_bench.specs.declared.add_error.AddError.{AddError}
-use Rattle.ht_bench.specs.declared.add_error.AddError.TheVariants.{Limit}
-use Rattle.ht_bench.proofs.ListLaws.{flat_map-push}
 use Rattle.ht_bench.proofs.DriverLaws.{drivers_are}
 
 -- some lines are read and the rest is not; the draft is that of the statements so far
@@ -34,14 +31,8 @@ pub reading_within : {text rest : List ℕ} {count : ℕ} {d : Draft} → IsRead
 reading_within is = ap draft_limit is.draft.is ∙ is.draft.limits
 
 pub reading_none : (text : List ℕ) (d : Draft) → IsDraftOf [] d → IsReading text text 0 d
-reading_none text d draft = record {
-  before = [];
-  lines = refl;
-  refusal = refl;
-  is_count = refl;
-  short = omega arith;
-  draft = draft;
-}
+reading_none text d draft =
+    record { before = []; lines = refl; refusal = refl; is_count = refl; short = omega arith; draft = draft }
 
 -- the readings of a text from a line on
 pub readings_from : (rest line more : List ℕ) → lines_of rest ≡ line ∷ lines_of more → readings_of rest
@@ -50,49 +41,30 @@ readings_from rest line more first = ap (map reading_of) first
 
 -- ---- one more line
 
-module _ (before : List Statement) (reading : Reading) (readings : List Reading) (found : Option AddError)
-    (e : reading_error before reading ≡ found) where
-  pub refusal_by : refusal_after before (reading ∷ readings)
-      ≡ option_or (option_map (λ error. error_at error (length before + 1)) found)
-      (refusal_after (before ++ statement_in reading) readings)
-  refusal_by = ap (λ x. option_or (option_map (λ error. error_at error (length before + 1)) x)
-      (refusal_after (before ++ statement_in reading) readings)) e
-
 pub no_error : (before : List Statement) (s : Statement) → second_driver before s ≡ None
     → limit_passed (before ++ s ∷ []) ≡ None → reading_error before (stated s) ≡ None
-no_error before s free limits = ap (λ net. driver_or_limit net (limit_passed (before ++ s ∷ []))) free
-    ∙ ap (option_map Limit) limits
+no_error before s free limits = rw (free, limits) refl
 
 find_agree : (p q : Name → Bool) → ((name : Name) → p name ≡ q name) → (names : List Name) → find p names ≡ find q names
 find_agree p q same [] = refl
-find_agree p q same (name ∷ names) =
-    ap (λ b. cond b (Some name) (find p names)) (same name)
-    ∙ ap (λ r. cond (q name) (Some name) r) (find_agree p q same names)
+find_agree p q same (name ∷ names) = rw (same name, find_agree p q same names) refl
 
 no_limit : (net : Option Name) (limit : Option NetLimit) → driver_or_limit net limit ≡ None → limit ≡ None
-no_limit None None e = refl
-no_limit None (Some what) e = cc
-no_limit (Some name) limit e = cc
+no_limit net limit e = grind arith
 
 -- the draft of the statements and one more, and what is judged of that one
 module _ (before : List Statement) (old : Draft) (is : IsDraftOf before old) (s : Statement) where
   with_one : with_line old s ≡ drafted (stated_nets (before ++ s ∷ [])) (named_of_statements (before ++ s ∷ []))
-  with_one =
-      let n = named_of_statements before in
-      ap (λ d. with_line d s) is.is
-      ∙ ap (λ l. drafted l (with_statement n s)) (sym (ap different (flat_map-push names_in before s)
-      ∙ fold-append with_name [] (mentions_of before) (names_in s)))
-      ∙ ap (drafted (stated_nets (before ++ s ∷ []))) (sym (fold_push with_statement no_parts before s))
+  with_one = ap (λ d. with_line d s) is.is ∙ simp (flat_map-append, fold-append, append-nil)
 
   pub error_is : reading_error before (stated s) ≡ draft_error old s
   error_is =
-      let limits : limit_passed (before ++ s ∷ []) ≡ draft_limit (with_line old s) = sym (ap draft_limit with_one) in
       let driven : second_driver before s ≡ find (has_name (driven_names old)) (driven_in s) =
       find_agree (has_name (driven_by before)) (has_name (drivers (named_of_statements before)))
       (λ name. sym (drivers_are name before)) (driven_in s)
       ∙ ap (λ (d : Draft). find (has_name (driven_names d)) (driven_in s)) (sym is.is) in
       ap (λ net. driver_or_limit net (limit_passed (before ++ s ∷ []))) driven
-      ∙ ap (driver_or_limit (find (has_name (driven_names old)) (driven_in s))) limits
+      ∙ ap (λ d. driver_or_limit (find (has_name (driven_names old)) (driven_in s)) (draft_limit d)) (sym with_one)
 
   pub draft_more : (new : Draft) → Accepts old s new → IsDraftOf (before ++ s ∷ []) new
   draft_more new accepts = record {
@@ -104,30 +76,18 @@ module _ (before : List Statement) (old : Draft) (is : IsDraftOf before old) (s 
 pub line_refused : {A : Type 0} (r : Result A AddError) (old : Draft) (line : List ℕ) (s : Statement)
     → reading_of line ≡ stated s → IfErr r (RefusesStatement old s) → IfErr r (RefusesLine old line)
 line_refused (Ok x) old line s e refused = tt
-line_refused (Err error) old line s e refused = λ before is. subst (IsAddError error)
-    (sym (ap (reading_error before) e ∙ error_is before old is s)) refused
+line_refused (Err error) old line s e refused = λ before is. rw (e, error_is before old is s) refused
 
-module _ {text rest : List ℕ} (line more : List ℕ) {count : ℕ} {old : Draft} (is : IsReading text rest count old)
-    (first : lines_of rest ≡ line ∷ lines_of more) where
-  refusal_here : refusal_of text ≡ refusal_after is.before (reading_of line ∷ readings_of more)
-  refusal_here = is.refusal ∙ ap (refusal_after is.before) (readings_from rest line more first)
-
-  pub reading_more : length more < length rest → {new : Draft} → AddsLine old line new
-      → IsReading text more (count + 1) new
-  reading_more shorter {new} adds =
-      let s = adds.statement in
-      record {
-        before = is.before ++ s ∷ [];
-        lines =
-            is.lines
-            ∙ ap (λ l. map stated is.before ++ l)
-            (readings_from rest line more first ∙ ap (λ t. t ∷ readings_of more) adds.states)
-            ∙ sym (ap (λ l. l ++ readings_of more) (map_push stated is.before s) ∙ append_assoc (map stated is.before)
-            (stated s ∷ []) (readings_of more));
-        refusal = refusal_here ∙ ap (λ t. refusal_after is.before (t ∷ readings_of more)) adds.states
-            ∙ refusal_by is.before (stated s) (readings_of more) None
-            (error_is is.before old is.draft s ∙ adds.accepts.1);
-        is_count = omega (arith, is.is_count, length-append is.before (s ∷ []));
-        short = omega (arith, is.short, shorter);
-        draft = draft_more is.before old is.draft s new adds.accepts;
-      }
+pub reading_more : {text rest : List ℕ} (line more : List ℕ) {count : ℕ} {old new : Draft}
+    → IsReading text rest count old → lines_of rest ≡ line ∷ lines_of more → length more < length rest
+    → AddsLine old line new → IsReading text more (count + 1) new
+reading_more line more {count} {old} {new} is first shorter adds =
+    let s = adds.statement in
+    record {
+      before = is.before ++ s ∷ [];
+      lines = rw (is.lines, first, adds.states) (simp (map-append, append_assoc));
+      refusal = rw (is.refusal, first, adds.states, error_is is.before old is.draft s, adds.accepts.1) refl;
+      is_count = omega (arith, is.is_count, length-append is.before (s ∷ []));
+      short = omega (arith, is.short, shorter);
+      draft = draft_more is.before old is.draft s new adds.accepts;
+    }

@@ -1,5 +1,5 @@
 -- What lines state: readings determine the statements, and a gate has as many arguments as its kind may have.
-use Rattle.std.proofs.Common.{◌≡◌, List, [], ◌∷◌, length, map, refl, ap, arith, ℕ, true}
+use Rattle.std.proofs.Common.{◌≡◌, List, [], ◌∷◌, length, map, refl, ℕ, true}
 use Rattle.ht_statement.specs.Statement.{Statement, gate_line}
 use Rattle.ht_statement.specs.Reading.{stated, reading_of}
 use Rattle.ht_statement.specs.StatementText.{has_its_count}
@@ -11,14 +11,9 @@ states_one s t e = cc
 
 pub same_statements : (some others : List Statement) → map stated some ≡ map stated others → some ≡ others
 same_statements [] [] e = refl
-same_statements [] (s ∷ others) e = absurd (omega (arith, ap length e))
-same_statements (b ∷ some) [] e = absurd (omega (arith, ap length e))
-same_statements (b ∷ some) (s ∷ others) e =
-    let heads : stated b ≡ stated s = cc in
-    let tails : map stated some ≡ map stated others = cc in
-    let same : b ≡ s = states_one b s heads in
-    let rest : some ≡ others = same_statements some others tails in
-    cc
+same_statements [] (s ∷ others) e = absurd (cc)
+same_statements (b ∷ some) [] e = absurd (cc)
+same_statements (b ∷ some) (s ∷ others) e = let rest : some ≡ others = same_statements some others (cc) in cc
 
 has_arguments : (s : Statement) → has_its_count s ≡ true → HasArguments s
 has_arguments (gate_line out kind args) count = count_is_arity kind (length args) count

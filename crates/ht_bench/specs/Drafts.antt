@@ -49,12 +49,12 @@ pub record MentionsFree (old : Draft) (names : List Name) (name : Name) (id : Na
   pub number : IsNameAt new.names id.0 name
   pub free : has_name (driven_names old) name ≡ false
 
--- the names are too many
+-- with these names there are too many nets, or memory ran out
 abbrev pub RefusesMentions : Draft → List Name → AddError → Type 0
 RefusesMentions old names error = (error ≡ NoMemory)
     ⊎ ((error ≡ Limit Nets) × (max_nets < length (with_names old.names names)))
 
--- the net is driven already, or it isn't and no name is left for it
+-- an earlier line drives the net; or none does, and there is no room for its name; or memory ran out
 abbrev pub RefusesDriver : Draft → Name → AddError → Type 0
 RefusesDriver old name error = ((error ≡ SecondDriver name) × (has_name (driven_names old) name ≡ true))
     ⊎ (((has_name (driven_names old) name ≡ false) × RefusesMentions old (name ∷ []) error)

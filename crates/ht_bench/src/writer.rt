@@ -49,7 +49,6 @@ fn push_outputs(text: &mut Vec<u8>, circuit: &Circuit) -> Result<(), AllocError>
 }
 
 /// Appends the lines of the flip-flops.
-#[tactic(auto, using(crate::proofs::NamedPartLaws::named_dffs_count, crate::proofs::NormalLaws::added_lines))]
 fn push_dffs(text: &mut Vec<u8>, circuit: &Circuit) -> Result<(), AllocError>
     ensures { OnOk result (text.new.items ≡ text.old.items ++ dff_lines (named_of circuit.now)) }
 {
@@ -64,7 +63,6 @@ fn push_dffs(text: &mut Vec<u8>, circuit: &Circuit) -> Result<(), AllocError>
 }
 
 /// Appends the lines of the gates.
-#[tactic(auto, using(crate::proofs::NamedPartLaws::named_gates_count, crate::proofs::NormalLaws::added_lines))]
 fn push_gates(text: &mut Vec<u8>, circuit: &Circuit) -> Result<(), AllocError>
     ensures { OnOk result (text.new.items ≡ text.old.items ++ gate_lines (named_of circuit.now)) }
 {

@@ -25,7 +25,7 @@ abbrev pub AreNetRows : List NetRow → List ℕ → Type 0
 AreNetRows rows items = (x : ℕ) → x < length rows → ((row_of rows x).start ≤ (row_of rows x).end)
     × ((row_of rows x).end ≤ length items)
 
--- An empty row for each of the first n nets, with room for its loads after it, all within so much room.
+-- The first n nets have an empty row each. The loads of each net fit before the next row, and within this room.
 pub record AreEmptyRows (c : Netlist) (n : ℕ) (rows : List NetRow) (room : ℕ) : Type 0 where
   pub count : length rows ≡ n
   pub empty : (x : ℕ) → (row_of rows x).start ≡ (row_of rows x).end

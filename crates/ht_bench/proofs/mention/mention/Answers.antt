@@ -1,4 +1,4 @@
-use Rattle.std.proofs.Common.{◌≡◌, [], ◌∷◌, ◌++◌}
+use Rattle.std.proofs.Common.{arith, length-append, ◌≡◌, [], ◌∷◌, ◌++◌}
 use Rattle.std.proofs.lemmas.Bool.{cond_both, both_ways}
 use Rattle.ht_bench.specs.Different.{has_name}
 use Rattle.ht_bench.proofs.NameListLaws.{new_name, has_new_name}
@@ -15,3 +15,6 @@ returns-clause-mentions c =
           (λ no. c.in_ok-net.ensures.new (new_name d.names name no));
       is_draft = c.in_ok-net.ensures.draft;
     }
+
+pub returns-in_err-net-clause-refusal : goal.returns-in_err-net-clause-refusal
+returns-in_err-net-clause-refusal c = grind (arith, length-append, has_new_name)

@@ -1,7 +1,9 @@
 use Rattle.std.proofs.Common.{arith}
+use Rattle.std.proofs.lemmas.List.{drop_more}
 use Rattle.std.proofs.lemmas.List.Elements.{All-push}
 use Rattle.ht_net.specs.Draft.{IsName}
 use Rattle.ht_bench.proofs.MentionLaws.{names_known, names_stay, mentioning}
+use Rattle.ht_bench.proofs.NameListLaws.{with_names-long}
 use Rattle.ht_bench.proofs.mention.mention_all.Goals as goal
 
 pub loop-name-preserved : goal.loop-name-preserved
@@ -17,3 +19,6 @@ loop-name-preserved c =
           (All-push (IsName c.mention.new.builder) c.loop-name.ids c.in_ok-id.id known c.in_ok-id.ensures.number.0);
       numbers = grind (arith, mentioning);
     }
+
+pub returns-in_err-id-clause-refusal : goal.returns-in_err-id-clause-refusal
+returns-in_err-id-clause-refusal c = grind (arith, drop_more, with_names-long)

@@ -1,27 +1,26 @@
-use Rattle.std.proofs.Common.{◌≡◌, map, get_or, arith}
-use Rattle.ht_net.specs.Netlist.{first_gate_net}
-use Rattle.ht_net.specs.Named.{NamedGate, name_of, named_gates}
-use Rattle.ht_bench.specs.Normal.{gate_statement}
-use Rattle.ht_bench.proofs.NormalLaws.{adds_line}
-use Rattle.ht_bench.proofs.NamedPartLaws.{named_gates_count, get_or-named_gates}
-use Rattle.ht_net.proofs.NameCycleLaws.{no_named_gate}
+use Rattle.std.proofs.Common.{◌<◌, arith, append_assoc, add_assoc}
+use Rattle.std.proofs.lemmas.List.{drop_more}
+use Rattle.std.proofs.lemmas.List.Elements.{All-from_get_or}
+use Rattle.ht_net.specs.declared.net.NetId.{NetId}
+use Rattle.ht_net.specs.Netlist.{gate_at, net_count, no_gate, no_net}
 use Rattle.ht_bench.proofs.writer.push_gates.Goals as goal
+
+pub push_gate-requires : goal.push_gate-requires
+push_gate-requires c =
+    let circuit = c.args.circuit.now in
+    rw c.gate_args-args.ensures.args
+    (All-from_get_or (λ (net : NetId). net.0 < net_count circuit) (gate_at circuit c.loop-gate.gate).args no_net
+    (λ i within. c.gate_args-args.ensures.circuit.known c.loop-gate.gate i (omega arith) within))
 
 pub loop-gate-preserved : goal.loop-gate-preserved
 loop-gate-preserved c =
-    let circuit = c.args.circuit.now in
-    let place = c.loop-gate.gate in
-    let written : NamedGate = record
-    { kind = c.gate_kind.result; out = c.name.result.now; args = map (name_of circuit) c.gate_args-args.result.now }
-    in
-    let named = get_or-named_gates circuit (first_gate_net circuit) circuit.gates place (omega arith) in
-    let net = c.gate_net-out.ensures.net in
-    let out = c.name.ensures in
-    let kind = c.gate_kind.ensures in
-    let args = c.gate_args-args.ensures.args in
-    let is_written : get_or (named_gates circuit (first_gate_net circuit) circuit.gates) place no_named_gate
-    ≡ written = cc in
-    adds_line gate_statement (named_gates circuit (first_gate_net circuit) circuit.gates) place no_named_gate written _
-    _ _
-    (omega (arith, named_gates_count circuit (first_gate_net circuit) circuit.gates)) is_written c.loop-gate.invariant
-    c.in_ok-push_gate.ensures
+    rw (
+      c.in_ok-push_gate.ensures,
+      append_assoc c.loop-gate.text.items _ _,
+      c.name.ensures,
+      c.gate_net-out.ensures.net,
+      c.gate_kind.ensures,
+      c.gate_args-args.ensures.args,
+      ← add_assoc,
+    )
+    (rw (drop_more c.args.circuit.now.gates c.loop-gate.gate no_gate (omega arith)) at c.loop-gate.invariant)
