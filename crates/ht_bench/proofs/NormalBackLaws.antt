@@ -20,7 +20,7 @@ use Rattle.ht_bench.specs.declared.error.BenchError.TheVariants.{NoMemory}
 use Rattle.ht_bench.proofs.AllLaws.{All-left, all_from, AreNames, All-flat_map}
 use Rattle.ht_bench.proofs.NameListLaws.{has_name-Decides}
 use Rattle.ht_bench.proofs.DriverLaws.{drivers_are}
-use Rattle.ht_net.specs.Draft.{drivers}
+use Rattle.ht_net.specs.Draft.{net_names}
 use Rattle.ht_bench.proofs.NormalRoundLaws.{normal_is_netlist}
 use Rattle.ht_bench.proofs.NormalContentLaws.{driven_are}
 use Rattle.ht_bench.proofs.NormalNameLaws.{driven_are_names}
@@ -52,10 +52,10 @@ names_were_read text c is =
     (All-weaker CanBeStated (λ s. AreNames (driven_in s)) (λ s stated. drives_its_names s
     (AllPass-from_list_all is_name (names_in s) stated.names)) is.statements
     (can_be_stated (lines_of text) is.statements is.read.lines)) in
-    let names : drivers (named_of c) ≡ c.names = sym (driven_are (named_of c)) ∙ driven_are_names c is.is_circuit in
+    let names : net_names (named_of c) ≡ c.names = sym (driven_are (named_of c)) ∙ driven_are_names c is.is_circuit in
     list_all-from_AllPass is_name c.names (all_from IsGood c.names (λ name c_has.
     All-contains IsGood driven name good ((has_name-Decides driven name).0
-    (sym (drivers_are name is.statements) ∙ ap (λ n. has_name (drivers n) name) (sym is.named)
+    (sym (drivers_are name is.statements) ∙ ap (λ n. has_name (net_names n) name) (sym is.named)
     ∙ ap (λ l. has_name l name) names ∙ (has_name-Decides c.names name).1 c_has))))
 
 -- ---- what is read from normal text

@@ -9,7 +9,7 @@ use Rattle.ht_bench.specs.Different.{with_name, with_names, different}
 use Rattle.ht_bench.specs.Contents.{with_statement, named_of_statements, driven_by}
 use Rattle.ht_bench.specs.Normal.{dff_statement, gate_statement, named_statements, statements_of}
 use Rattle.ht_bench.proofs.NamedPartLaws.{All-named_dffs, All-named_gates}
-use Rattle.ht_net.specs.Draft.{drivers}
+use Rattle.ht_net.specs.Draft.{net_names}
 use Rattle.std.proofs.lemmas.List.{length-map}
 use Rattle.std.proofs.lemmas.List.Elements.{All-nil, All-cons, All-append, All-map, All-take, All-weaker, All-contains_itself, All-from_get_or, Contains-get_or}
 use Rattle.ht_net.specs.Netlist.{Netlist, IsCircuit, first_gate_net, net_count, gate_at, no_net}
@@ -53,7 +53,7 @@ module _ (n : NamedNetlist) where
   pub named_said : named_of_statements (named_statements n) ≡ record n { outputs = different n.outputs }
   named_said = simp (fold-append, inputs_said, outputs_said, dffs_said, gates_said)
 
-  pub driven_are : driven_by (named_statements n) ≡ drivers n
+  pub driven_are : driven_by (named_statements n) ≡ net_names n
   driven_are = simp (
     flat_map-append,
     flat_map-map,

@@ -8,7 +8,7 @@ use Rattle.ht_bench.specs.Contents.{named_of_statements}
 use Rattle.ht_bench.specs.Text.{IsNetlistOf}
 use Rattle.ht_net.proofs.PlaceLaws.{place_in, place_at}
 use Rattle.ht_bench.proofs.StatedLaws.{same_statements}
-use Rattle.ht_net.specs.Draft.{drivers}
+use Rattle.ht_net.specs.Draft.{net_names}
 use Rattle.ht_net.specs.Built.{net_of, circuit_of}
 use Rattle.ht_bench.proofs.NormalContentLaws.{driven_are}
 use Rattle.ht_bench.proofs.NormalNameLaws.{driven_are_names}
@@ -21,7 +21,7 @@ module _ (c : Netlist) (is : IsCircuit c) where
   net_by name = net_of (named_of c) name
 
   -- the names are those of what is driven
-  names_back : drivers (named_of c) ≡ c.names
+  names_back : net_names (named_of c) ≡ c.names
   names_back = sym (driven_are (named_of c)) ∙ driven_are_names c is
 
   net_back : (net : NetId) → IsKnown net → net_by (name_of c net) ≡ net

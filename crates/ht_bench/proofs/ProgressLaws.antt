@@ -6,7 +6,7 @@ use Rattle.std.proofs.lemmas.List.Sums.{fold-append}
 use Rattle.ht_ports.specs.LineRule.{lines_of}
 use Rattle.ht_net.specs.declared.error.Limit.{Limit as NetLimit}
 use Rattle.ht_net.specs.Named.{Name}
-use Rattle.ht_net.specs.Draft.{drivers, Draft, driven_names}
+use Rattle.ht_net.specs.Draft.{net_names, Draft, driven_names}
 use Rattle.ht_statement.specs.Statement.{Statement}
 use Rattle.ht_statement.specs.Reading.{stated, reading_of}
 use Rattle.ht_bench.specs.Different.{has_name}
@@ -60,7 +60,7 @@ module _ (before : List Statement) (old : Draft) (is : IsDraftOf before old) (s 
   pub error_is : reading_error before (stated s) ≡ draft_error old s
   error_is =
       let driven : second_driver before s ≡ find (has_name (driven_names old)) (driven_in s) =
-      find_agree (has_name (driven_by before)) (has_name (drivers (named_of_statements before)))
+      find_agree (has_name (driven_by before)) (has_name (net_names (named_of_statements before)))
       (λ name. sym (drivers_are name before)) (driven_in s)
       ∙ ap (λ (d : Draft). find (has_name (driven_names d)) (driven_in s)) (sym is.is) in
       ap (λ net. driver_or_limit net (limit_passed (before ++ s ∷ []))) driven
