@@ -2,14 +2,14 @@
 use Rattle.std.specs.Prelude.{set, flat_map, min}
 use Rattle.std.proofs.Common.{◌≡◌, ◌≢◌, ◌<◌, ◌+◌, ◌-◌, ◌*◌, ◌/◌, ◌∙◌, ℕ, List, [], ◌∷◌, ◌++◌, Bool, true, false, length, get_or, drop, ap, sym, subst, arith, inl, inr}
 use Rattle.std.proofs.lemmas.Bool.{cases_eq}
-use Rattle.std.proofs.lemmas.List.{length-append, length-set, get_or-set_same, get_or-set_other, get_or_default}
+use Rattle.std.proofs.lemmas.List.{length-append, length-set, get_or-set_same, get_or-set_other}
 use Rattle.ht_net.specs.Netlist.{Netlist}
 use Rattle.ht_group.specs.GroupView.{FaultyMachine}
 use Rattle.ht_group.specs.MachineWords.{AreFilled, HasOneMore, HasSame, IsWord, machines_of}
 use Rattle.ht_group.specs.declared.good_frame.GoodFrame.{GoodFrame}
 use Rattle.ht_group.specs.declared.machines.Machines.{Machines}
 use Rattle.ht_group.specs.declared.schedule.Schedule.{Schedule}
-use Rattle.ht_group.proofs.BlockLaws.{more_at, same_all}
+use Rattle.ht_group.proofs.BlockLaws.{more_at}
 use Rattle.ht_group.proofs.ChangeLaws.{more_pending}
 use Rattle.ht_group.proofs.GroupLaws.{filled_machines}
 use Rattle.ht_group.proofs.ViewLaws.{machine_count}
@@ -95,14 +95,3 @@ module _ (c : Netlist) (n : ℕ) (words : List Machines) (old new : Machines) (f
             ap (λ (m : Machines). length m.lines.faults.items) (is_old v d ne)
             ∙ filled v d (omega (arith, inside, size))
       ]
-
-      pub same_flat : flat_map (machines_of c) written ≡ flat_map (machines_of c) words
-      same_flat = same_all (machines_of c) words written (length-set words next new)
-          (λ v d inside. elim (cases_eq v next) [
-            | inl e ↦ ap (machines_of c) (ap (λ (i : ℕ). get_or written i d) e ∙ is_new d)
-                ∙ (same ∙ (ap (machines_of c) (was ∙ fits d)
-                ∙ ap (λ (i : ℕ). machines_of c (get_or words i d)) (sym e)))
-            | inr ne ↦ ap (machines_of c) (is_old v d ne)
-          ]) where
-            fits : (d : Machines) → get_or words next old ≡ get_or words next d
-            fits d = get_or_default words next old d next_inside

@@ -11,7 +11,7 @@ use Rattle.ht_net.specs.declared.fault.Fault.{Fault}
 use Rattle.ht_net.specs.Netlist.{Netlist, net_count, IsCircuit}
 use Rattle.ht_group.specs.GoodFrames.{IsGoodFrame}
 use Rattle.ht_group.specs.LaneRules.{rules_at, in_lane, lane_env, HasItsValue}
-use Rattle.ht_group.specs.MachineWords.{AreKept, AreRunning, AreSameMachines, IsAdded, IsBare, IsComputed, IsLaid, IsLaidOver, IsRestored, IsWord, machines_from, machines_of}
+use Rattle.ht_group.specs.MachineWords.{AreMachinesKept, AreRunning, AreSameMachines, IsMachineAdded, IsBare, IsComputed, IsLaid, IsLaidOver, IsRestored, IsWord, machines_from, machines_of}
 use Rattle.ht_group.specs.Overlays.{IsSpread, OverlayView}
 use Rattle.ht_group.specs.Pending.{QuietHaveValues}
 use Rattle.ht_group.specs.Schedules.{IsSchedule}
@@ -161,7 +161,8 @@ module _ (c : Netlist) (s : Schedule) (frame : GoodFrame) where
       }
 
   pub ran_word : (before pending : List Bool) (old new : Machines) → 0 < length old.lines.faults.items
-      → IsWord c s frame before old → AreKept old new → AreRunning c s pending new → IsWord c s frame pending new
+      → IsWord c s frame before old → AreMachinesKept old new → AreRunning c s pending new
+      → IsWord c s frame pending new
   ran_word before pending old new some word kept running =
       let was = word.laid (has_laid before old some word) in
       record {
@@ -208,7 +209,7 @@ module _ (c : Netlist) (s : Schedule) (frame : GoodFrame) where
         };
   }
 
-  -- the machines of a word that is laid over the frame, and of one with the same faults
+  -- and its machines are the same
   pub laid_machines : (pending : List Bool) (old new : Machines) → IsWord c s frame pending old
       → IsLaidOver frame old new → machines_of c new ≡ machines_of c old
   laid_machines pending old new word h = elim (cases_Bool old.laid) [
@@ -220,13 +221,9 @@ module _ (c : Netlist) (s : Schedule) (frame : GoodFrame) where
         ∙ (λ i. machines_from 0 (sym none i) (drop c.inputs old.sources.words)))
   ]
 
-  pub same_machines : (old new : Machines) → AreSameMachines old new → machines_of c new ≡ machines_of c old
-  same_machines old new same =
-      λ i. machines_from 0 (same.faults i) (drop c.inputs (same.sources i).words)
-
   module _ (before pending : List Bool) (old new : Machines) (f : Fault) (diffs : List Diff)
       (word : IsWord c s frame before old) (is_laid : old.laid ≡ true) (room : length old.lines.faults.items < 64)
-      (h : IsAdded c s f diffs old before new pending) where
+      (h : IsMachineAdded c s f diffs old before new pending) where
     count_more : length new.lines.faults.items ≡ length old.lines.faults.items + 1
     count_more = ap (λ (l : List Fault). length l) h.more ∙ length-append old.lines.faults.items (f ∷ [])
 
@@ -271,8 +268,8 @@ module _ (c : Netlist) (s : Schedule) (frame : GoodFrame) where
 
     -- and the word has it at the end
     pub added_machine : machines_of c new
-        ≡ machines_of c old ++ record { fault = f; latches = with_differences (drop c.inputs frame.sources.items) diffs }
-        ∷ []
+        ≡ machines_of c old
+        ++ record { fault = f; latches = with_differences (drop c.inputs frame.sources.items) diffs } ∷ []
     added_machine =
         let was = word.laid is_laid in
         let n = c.inputs in
@@ -294,11 +291,11 @@ module _ (c : Netlist) (s : Schedule) (frame : GoodFrame) where
         ∷ []) latches)
 
 -- a word that is as before
-pub kept_itself : (old new : Machines) → new ≡ old → AreKept old new
-kept_itself old new same = subst (λ (m : Machines). AreKept old m) (sym same)
+pub kept_itself : (old new : Machines) → new ≡ old → AreMachinesKept old new
+kept_itself old new same = subst (λ (m : Machines). AreMachinesKept old m) (sym same)
     (record { lines = refl; sources = refl; good = refl; laid = refl })
 
-pub kept_twice : (a b d : Machines) → AreKept a b → AreKept b d → AreKept a d
+pub kept_twice : (a b d : Machines) → AreMachinesKept a b → AreMachinesKept b d → AreMachinesKept a d
 kept_twice a b d first second = record {
   lines = second.lines ∙ first.lines;
   sources = second.sources ∙ first.sources;

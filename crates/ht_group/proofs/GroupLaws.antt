@@ -135,8 +135,8 @@ module _ (a : Inside) (g : IsGroup a) where
     word_machine k below =
         let n = g.word_count in
         let few = g.few in
-        item_at (machines_of a.circuit.now) a.words.items a.count w k d below (word_inside w used) (omega (arith, n, few))
-        (filled_machines a.circuit.now a.count a.words.items g.filled)
+        item_at (machines_of a.circuit.now) a.words.items a.count w k d below (word_inside w used)
+        (omega (arith, n, few)) (filled_machines a.circuit.now a.count a.words.items g.filled)
 
     pub word_value : a.settled ≡ true → (x : ℕ) → x < net_count a.circuit.now → (k : ℕ) (o : FaultyMachine) → k < 64
         → slice_get (group_of a).machines (64 * w + k) ≡ Some o

@@ -8,7 +8,7 @@ use Rattle.ht_net.specs.Netlist.{Netlist, net_count, IsCircuit}
 use Rattle.ht_group.specs.GoodFrames.{IsGoodFrame}
 use Rattle.ht_group.specs.GroupOf.{IsGroup}
 use Rattle.ht_group.specs.GroupView.{words_for}
-use Rattle.ht_group.specs.MachineWords.{AreFilled, AreKept, AreRunning, IsBare, IsRestored, IsWord, machines_from, machines_of}
+use Rattle.ht_group.specs.MachineWords.{AreFilled, AreMachinesKept, AreRunning, IsBare, IsRestored, IsWord, machines_from, machines_of}
 use Rattle.ht_group.specs.Schedules.{IsSchedule}
 use Rattle.ht_group.specs.declared.good_frame.GoodFrame.{GoodFrame}
 use Rattle.ht_group.specs.declared.group.Group.TheInside.{Inside}
@@ -87,7 +87,7 @@ module _ (c : Netlist) (s : Schedule) (frame : GoodFrame) where
 
     -- The machines have run.
     pub settled_words : ((w : ℕ) (d : Machines) → w < words_for n → AreRunning c s pending (get_or new w d))
-        → ((w : ℕ) (d : Machines) → AreKept (get_or old w d) (get_or new w d)) → AreWords c s frame pending new
+        → ((w : ℕ) (d : Machines) → AreMachinesKept (get_or old w d) (get_or new w d)) → AreWords c s frame pending new
     settled_words runs kept w d inside = elim (cases_lt w (words_for n)) [
       | inl used ↦ ran_word c s frame before pending (get_or old w d) (get_or new w d)
           (used_some n w (get_or old w d) used (filled_at w d inside)) (words w d inside) (kept w d) (runs w d used)
@@ -116,12 +116,12 @@ module _ (c : Netlist) (s : Schedule) (frame : GoodFrame) where
       ]
 
 pub kept_filled : (n : ℕ) (old new : List Machines) → length new ≡ length old → AreFilled n old
-    → ((w : ℕ) (d : Machines) → AreKept (get_or old w d) (get_or new w d)) → AreFilled n new
+    → ((w : ℕ) (d : Machines) → AreMachinesKept (get_or old w d) (get_or new w d)) → AreFilled n new
 kept_filled n old new same filled kept w d inside =
     ap (λ (l : StuckLines). length l.faults.items) (kept w d).lines ∙ filled w d (omega (arith, inside, same))
 
 pub kept_machines : (c : Netlist) (old new : List Machines) → length new ≡ length old
-    → ((w : ℕ) (d : Machines) → AreKept (get_or old w d) (get_or new w d))
+    → ((w : ℕ) (d : Machines) → AreMachinesKept (get_or old w d) (get_or new w d))
     → flat_map (machines_of c) new ≡ flat_map (machines_of c) old
 kept_machines c old new same kept =
     same_all (machines_of c) old new same

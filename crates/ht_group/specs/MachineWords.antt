@@ -74,7 +74,7 @@ pub record AreSameMachines (old new : Machines) : Type 0 where
   pub laid : new.laid ≡ old.laid
 
 -- One machine more: its lane has its latches, and the nets that its fault or a latch touches are pending.
-pub record IsAdded (c : Netlist) (s : Schedule) (fault : Fault) (diffs : List Diff) (old : Machines)
+pub record IsMachineAdded (c : Netlist) (s : Schedule) (fault : Fault) (diffs : List Diff) (old : Machines)
     (before : List Bool) (new : Machines) (pending : List Bool) : Type 0 where
   pub more : new.lines.faults.items ≡ old.lines.faults.items ++ fault ∷ []
   pub good : new.sources.good ≡ old.sources.good
@@ -93,7 +93,7 @@ pub record IsRestored (c : Netlist) (old new : Machines) : Type 0 where
   pub laid : new.laid ≡ old.laid
 
 -- the machines are the same, whatever their nets have
-pub record AreKept (old new : Machines) : Type 0 where
+pub record AreMachinesKept (old new : Machines) : Type 0 where
   pub lines : new.lines ≡ old.lines
   pub sources : new.sources ≡ old.sources
   pub good : new.nets.good ≡ old.nets.good
@@ -112,7 +112,7 @@ pub record AreRunning (c : Netlist) (s : Schedule) (pending : List Bool) (m : Ma
 
 -- Net x has what its driver and its stem give it, and the others are as before; so is this one where none changed.
 pub record IsComputed (c : Netlist) (x : ℕ) (old new : Machines) (changed : Bool) : Type 0 where
-  pub kept : AreKept old new
+  pub kept : AreMachinesKept old new
   pub given : AreGiven c old.lines.faults.items old.sources.words old.nets.words x
       (λ k. lane_env k new.nets.words x)
   pub others : (k y : ℕ) → y ≢ x → lane_env k new.nets.words y ≡ lane_env k old.nets.words y

@@ -4,7 +4,7 @@ ghost use Rattle.std.specs.List.{Contains};
 ghost use Rattle.ht_net.specs.Netlist.{first_gate_net, net_count};
 ghost use Rattle.ht_group.specs.GroupView.{max_words};
 ghost use Rattle.ht_group.specs.LaneRules.{lane_env};
-ghost use Rattle.ht_group.specs.MachineWords.{AreKept, AreRunning, HasRunRoom, IsComputed};
+ghost use Rattle.ht_group.specs.MachineWords.{AreMachinesKept, AreRunning, HasRunRoom, IsComputed};
 ghost use Rattle.ht_group.specs.Pending.{AreGiven};
 ghost use Rattle.ht_group.specs.declared.machines.Machines.{Machines};
 ghost use Rattle.ht_group.specs.Schedules.{IsSchedule};
@@ -157,7 +157,7 @@ fn fire(
     ensures runs { (w : ℕ) (d : Machines) → w < used
         → AreRunning circuit.now schedule.now pending.new (get_or words.new w d) }
     ensures count { length words.new ≡ length words.old }
-    ensures kept { (w : ℕ) (d : Machines) → AreKept (get_or words.old w d) (get_or words.new w d) }
+    ensures kept { (w : ℕ) (d : Machines) → AreMachinesKept (get_or words.old w d) (get_or words.new w d) }
     ensures rest { (w : ℕ) (d : Machines) → used ≤ w
         → get_or words.new w d ≡ get_or words.old w d }
     ensures marks { length pending.new ≡ length pending.old }
@@ -193,7 +193,7 @@ pub fn settle(
     ensures runs { (w : ℕ) (d : Machines) → w < used
         → AreRunning circuit.now schedule.now pending.new (get_or words.new w d) }
     ensures count { length words.new ≡ length words.old }
-    ensures kept { (w : ℕ) (d : Machines) → AreKept (get_or words.old w d) (get_or words.new w d) }
+    ensures kept { (w : ℕ) (d : Machines) → AreMachinesKept (get_or words.old w d) (get_or words.new w d) }
     ensures rest { (w : ℕ) (d : Machines) → used ≤ w
         → get_or words.new w d ≡ get_or words.old w d }
     ensures marks { length pending.new ≡ length pending.old }

@@ -7,7 +7,7 @@ ghost use Rattle.ht_net.specs.Detection.{terns_of};
 ghost use Rattle.ht_lanes.specs.Lanes.{is_set, lane};
 ghost use Rattle.ht_diff.specs.Differences.{with_differences};
 ghost use Rattle.ht_group.specs.GroupView.{AreLatches, FaultyMachine, HasSite, faulty_next, faulty_output, good_next, good_output, lane_count, max_machines, max_words, words_for};
-ghost use Rattle.ht_group.specs.MachineWords.{AreKept, HasWordRoom, IsBare, IsRestored};
+ghost use Rattle.ht_group.specs.MachineWords.{AreMachinesKept, HasWordRoom, IsBare, IsRestored};
 ghost use Rattle.ht_group.specs.declared.machines.Machines.{Machines};
 ghost use Rattle.ht_group.specs.GoodFrames.{HasFrameRoom};
 ghost use Rattle.ht_group.specs.NetValues.{faulty_value, good_value};

@@ -6,7 +6,7 @@ ghost use Rattle.ht_group.specs.GoodFrames.{HasFrameRoom, IsGoodFrame};
 ghost use Rattle.ht_group.specs.GroupView.{AreLatches, HasSite, lane_count};
 ghost use Rattle.ht_group.specs.LatchWords.{HasDifferences};
 ghost use Rattle.ht_group.specs.LaneRules.{in_lane, lane_env};
-ghost use Rattle.ht_group.specs.MachineWords.{AreSameMachines, HasOneMore, HasSame, HasWordRoom, IsAdded, IsBare, IsLaidOver, IsWord};
+ghost use Rattle.ht_group.specs.MachineWords.{AreSameMachines, HasOneMore, HasSame, HasWordRoom, IsMachineAdded, IsBare, IsLaidOver, IsWord};
 ghost use Rattle.ht_group.specs.Overlays.{IsSpread};
 ghost use Rattle.ht_group.specs.Schedules.{IsSchedule};
 ghost use Rattle.ht_group.specs.StuckTables.{AreStuck, forced_net_of};
@@ -175,7 +175,7 @@ impl Machines {
         requires plain { in_lane (length self.old.lines.faults.items) self.old.sources.words
             ≡ self.old.sources.good }
         ensures stuck { AreStuck circuit.now self.new.lines }
-        ensures ok { OnOk result (IsAdded circuit.now schedule.now fault diffs.now self.old
+        ensures ok { OnOk result (IsMachineAdded circuit.now schedule.now fault diffs.now self.old
             pending.old self.new pending.new) }
         ensures err { OnErr result (AreSameMachines self.old self.new) }
         ensures idle { OnErr result (pending.new ≡ pending.old) }

@@ -12,7 +12,8 @@ invariant_of-result c =
     (λ i. words) w.count
     (bare_words n c.in_ok-schedule.schedule c.in_ok-frame.frame c.in_ok-new.field-0 words w.each)
     (bare_filled n words w.count w.each) (omega arith)
-    (ap (λ (l : List Bool). length l) c.in_ok-new.ensures ∙ (length-replicate c.nets.result false ∙ c.nets.ensures.count))
+    (ap (λ (l : List Bool). length l) c.in_ok-new.ensures
+    ∙ (length-replicate c.nets.result false ∙ c.nets.ensures.count))
     (omega (arith, c.in_ok-vec.ensures.len))
     (λ is r. ap (λ (l : List Bool). get_or l r false) c.in_ok-new.ensures ∙ none_marked c.nets.result r)
 

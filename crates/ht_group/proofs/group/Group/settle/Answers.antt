@@ -4,7 +4,7 @@ use Rattle.std.proofs.lemmas.List.{with_items_is}
 use Rattle.ht_lanes.specs.Lanes.{Lanes}
 use Rattle.ht_group.specs.GroupOf.{group_of}
 use Rattle.ht_group.specs.GroupView.{GroupView, words_for}
-use Rattle.ht_group.specs.MachineWords.{AreKept, machines_of}
+use Rattle.ht_group.specs.MachineWords.{AreMachinesKept, machines_of}
 use Rattle.ht_group.specs.declared.machines.Machines.{Machines}
 use Rattle.ht_group.proofs.GroupLaws.{group_count}
 use Rattle.ht_group.proofs.WordsLaws.{is_group, settled_words, kept_filled, kept_machines}
@@ -19,8 +19,9 @@ invariant_of-self c =
     let value = c.deref_mut.ensures.value in
     let used = c.words_for.ensures in
     let long : length new ≡ length a.words.items = s.count ∙ ap (λ (l : List Machines). length l) value in
-    let kept : (w : ℕ) (d : Machines) → AreKept (get_or a.words.items w d) (get_or new w d) =
-    subst (λ (l : List Machines). (w : ℕ) (d : Machines) → AreKept (get_or l w d) (get_or new w d)) value s.kept in
+    let kept : (w : ℕ) (d : Machines) → AreMachinesKept (get_or a.words.items w d) (get_or new w d) =
+    subst (λ (l : List Machines). (w : ℕ) (d : Machines) → AreMachinesKept (get_or l w d) (get_or new w d)) value
+    s.kept in
     is_group _ new g.circuit g.schedule g.frame (with_items_is a.words new (omega (arith, long)))
     (long ∙ g.word_count)
     (settled_words a.circuit.now a.schedule a.frame a.count a.pending c.settle-evaluated.new.pending a.words.items new
@@ -39,8 +40,9 @@ returns-clause-ok c =
     let new = c.settle-evaluated.new.words in
     let value = c.deref_mut.ensures.value in
     let long : length new ≡ length a.words.items = s.count ∙ ap (λ (l : List Machines). length l) value in
-    let kept : (w : ℕ) (d : Machines) → AreKept (get_or a.words.items w d) (get_or new w d) =
-    subst (λ (l : List Machines). (w : ℕ) (d : Machines) → AreKept (get_or l w d) (get_or new w d)) value s.kept in
+    let kept : (w : ℕ) (d : Machines) → AreMachinesKept (get_or a.words.items w d) (get_or new w d) =
+    subst (λ (l : List Machines). (w : ℕ) (d : Machines) → AreMachinesKept (get_or l w d) (get_or new w d)) value
+    s.kept in
     let machines = ap (flat_map (machines_of a.circuit.now)) (with_items_is a.words new (omega (arith, long)))
     ∙ kept_machines a.circuit.now a.words.items new long kept in
     (λ i. record (group_of a) { machines = machines i; settled = true })
