@@ -33,9 +33,9 @@ AreWords c s frame pending words = (w : ℕ) (d : Machines) → w < 4 → IsWord
 pub is_group : (b : Inside) (words : List Machines) → IsCircuit b.circuit.now → IsSchedule b.circuit.now b.schedule
     → IsGoodFrame b.circuit.now b.frame → b.words.items ≡ words → length words ≡ 4
     → AreWords b.circuit.now b.schedule b.frame b.pending words → AreFilled b.count words → b.count ≤ 256
-    → length b.pending ≡ net_count b.circuit.now → length b.pins.items ≡ 256
+    → length b.pending ≡ net_count b.circuit.now → length b.pins.items ≡ 256 → length b.fours.items ≡ 256
     → (b.settled ≡ true → (r : ℕ) → get_or b.pending r false ≡ false) → IsGroup b
-is_group b words circuit schedule frame is four each filled few marks room settled = record {
+is_group b words circuit schedule frame is four each filled few marks room four_room settled = record {
   circuit = circuit;
   schedule = schedule;
   frame = frame;
@@ -45,6 +45,7 @@ is_group b words circuit schedule frame is four each filled few marks room settl
   few = few;
   marks = marks;
   room = room;
+  four_room = four_room;
   settled = settled;
 }
 

@@ -30,4 +30,5 @@ pub record IsGroup (a : Inside) : Type 0 where
   pub few : a.count ≤ max_machines
   pub marks : length a.pending ≡ net_count a.circuit.now
   pub room : length a.pins.items ≡ 256
+  pub four_room : length a.fours.items ≡ 256
   pub settled : a.settled ≡ true → (r : ℕ) → get_or a.pending r false ≡ false

@@ -9,7 +9,7 @@ use Rattle.ht_group.specs.LaneRules.{in_lane, lane_env}
 use Rattle.ht_group.specs.LatchWords.{HasDifferences}
 use Rattle.ht_group.specs.Overlays.{IsSpread}
 use Rattle.ht_group.specs.Pending.{AreGiven, QuietHaveValues}
-use Rattle.ht_group.specs.StuckTables.{AreStuck, forced_net_of}
+use Rattle.ht_group.specs.StuckTables.{AreGateLanes, AreStuck, forced_net_of}
 use Rattle.ht_group.specs.declared.good_frame.GoodFrame.{GoodFrame}
 use Rattle.ht_group.specs.declared.machines.Machines.{Machines}
 use Rattle.ht_group.specs.declared.schedule.Schedule.{Schedule}
@@ -104,6 +104,14 @@ pub record HasRunRoom (c : Netlist) (m : Machines) : Type 0 where
   pub stuck : AreStuck c m.lines
   pub sources : length m.sources.words ≡ first_gate_net c
   pub nets : length m.nets.good ≡ net_count c
+
+-- net x is a gate's, there are four words with machines, and in none of them a pin of the gate is stuck
+pub record AreFree (c : Netlist) (x used : ℕ) (words : List Machines) : Type 0 where
+  pub gate : first_gate_net c ≤ x
+  pub all : used ≡ 4
+  pub four : length words ≡ 4
+  pub free : (w : ℕ) (d : Machines) → w < 4
+      → AreGateLanes (get_or words w d).lines.faults.items (x - first_gate_net c) 0
 
 -- and each net that isn't pending has its value in each machine
 pub record AreRunning (c : Netlist) (s : Schedule) (pending : List Bool) (m : Machines) : Type 0 where

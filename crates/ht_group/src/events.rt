@@ -12,6 +12,7 @@ ghost use Rattle.ht_group.specs.StuckTables.{AreStuck};
 
 use crate::bit_set::BitSet;
 use crate::evaluate::{PIN_ROOM, evaluate};
+use crate::four_words::{are_free, recompute_four};
 use crate::machines::Machines;
 use crate::overlay::Overlay;
 use crate::schedule::Schedule;
@@ -108,8 +109,9 @@ fn recompute_word(circuit: &Circuit, machines: &mut Machines, pins: &mut [Word],
     )
 }
 
-// Evaluates a net for each of the first words, and says whether the word of the net changed in one.
-fn recompute_words(
+// Evaluates a net for each of the first words, one after the other, and says whether the word of the net changed in
+// one.
+fn recompute_each(
     circuit: &Circuit,
     words: &mut [Machines],
     used: u32,
@@ -136,6 +138,35 @@ fn recompute_words(
     changed
 }
 
+// Evaluates a net for each of the first words, and says whether the word of the net changed in one. Four words whose
+// machines have no stuck pin at its gate are evaluated at once.
+fn recompute_words(
+    circuit: &Circuit,
+    words: &mut [Machines],
+    used: u32,
+    pins: &mut [Word],
+    fours: &mut [[Word; 4]],
+    net: u32,
+) -> bool
+    requires used { used ≤ length words.old }
+    requires room { (w : ℕ) (d : Machines) → w < used
+        → HasRunRoom circuit.now (get_or words.old w d) }
+    requires pins { length pins.old ≡ PIN_ROOM }
+    requires fours { length fours.old ≡ PIN_ROOM }
+    requires net { net < net_count circuit.now }
+    ensures count { length words.new ≡ length words.old }
+    ensures each { (w : ℕ) (d : Machines) → w < used
+        → IsComputed circuit.now net (get_or words.old w d) (get_or words.new w d) result }
+    ensures rest { (w : ℕ) (d : Machines) → used ≤ w
+        → get_or words.new w d ≡ get_or words.old w d }
+{
+    if are_free(circuit, words, used, net) {
+        recompute_four(circuit, words, fours, net)
+    } else {
+        recompute_each(circuit, words, used, pins, net)
+    }
+}
+
 // Evaluates the net of a rank, which is pending no more, in each of the first words; where one changes, the nets that
 // read it are pending. Says how many evaluations of a gate these were, one a word.
 fn fire(
@@ -145,6 +176,7 @@ fn fire(
     used: u32,
     pending: &mut BitSet,
     pins: &mut [Word],
+    fours: &mut [[Word; 4]],
     rank: u32,
 ) -> u32
     requires schedule { IsSchedule circuit.now schedule.now }
@@ -153,11 +185,13 @@ fn fire(
         → AreRunning circuit.now schedule.now pending.old (get_or words.old w d) }
     requires marks { length pending.old ≡ net_count circuit.now }
     requires pins { length pins.old ≡ PIN_ROOM }
+    requires fours { length fours.old ≡ PIN_ROOM }
     requires rank { rank < net_count circuit.now }
     ensures runs { (w : ℕ) (d : Machines) → w < used
         → AreRunning circuit.now schedule.now pending.new (get_or words.new w d) }
     ensures count { length words.new ≡ length words.old }
-    ensures kept { (w : ℕ) (d : Machines) → AreMachinesKept (get_or words.old w d) (get_or words.new w d) }
+    ensures kept { (w : ℕ) (d : Machines)
+        → AreMachinesKept (get_or words.old w d) (get_or words.new w d) }
     ensures rest { (w : ℕ) (d : Machines) → used ≤ w
         → get_or words.new w d ≡ get_or words.old w d }
     ensures marks { length pending.new ≡ length pending.old }
@@ -168,7 +202,7 @@ fn fire(
 {
     let net = schedule.net(rank);
     pending.remove(rank);
-    let changed = recompute_words(circuit, words, used, pins, net);
+    let changed = recompute_words(circuit, words, used, pins, fours, net);
     touch_if(changed, schedule.readers.row(net as usize), pending);
     evaluations(circuit, rank, used)
 }
@@ -182,6 +216,7 @@ pub fn settle(
     used: u32,
     pending: &mut BitSet,
     pins: &mut [Word],
+    fours: &mut [[Word; 4]],
 ) -> u32
     requires schedule { IsSchedule circuit.now schedule.now }
     requires used { used ≤ length words.old }
@@ -190,10 +225,12 @@ pub fn settle(
         → AreRunning circuit.now schedule.now pending.old (get_or words.old w d) }
     requires marks { length pending.old ≡ net_count circuit.now }
     requires pins { length pins.old ≡ PIN_ROOM }
+    requires fours { length fours.old ≡ PIN_ROOM }
     ensures runs { (w : ℕ) (d : Machines) → w < used
         → AreRunning circuit.now schedule.now pending.new (get_or words.new w d) }
     ensures count { length words.new ≡ length words.old }
-    ensures kept { (w : ℕ) (d : Machines) → AreMachinesKept (get_or words.old w d) (get_or words.new w d) }
+    ensures kept { (w : ℕ) (d : Machines)
+        → AreMachinesKept (get_or words.old w d) (get_or words.new w d) }
     ensures rest { (w : ℕ) (d : Machines) → used ≤ w
         → get_or words.new w d ≡ get_or words.old w d }
     ensures marks { length pending.new ≡ length pending.old }
@@ -203,7 +240,7 @@ pub fn settle(
     let mut evaluated = 0;
     let mut from = 0;
     while let Some(rank) = pending.next(from) {
-        evaluated += fire(circuit, schedule, words, used, pending, pins, rank);
+        evaluated += fire(circuit, schedule, words, used, pending, pins, fours, rank);
         from = rank + 1;
     }
     evaluated

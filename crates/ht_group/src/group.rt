@@ -50,8 +50,9 @@ pub struct Group<'c> {
     pending: BitSet,
     // whether no net is pending
     settled: bool,
-    // room for the pins of one gate
+    // room for the pins of one gate, in one word and in four
     pins: Vec<Word>,
+    fours: Vec<[Word; 4]>,
 }
 
 impl<'c> Model for Group<'c> {
@@ -143,6 +144,7 @@ impl<'c> Group<'c> {
             pending: BitSet::new(alloc, circuit.nets())?,
             settled: true,
             pins: vec![in alloc; Word::splat(Tern::Unk); PIN_ROOM]?,
+            fours: vec![in alloc; [Word::splat(Tern::Unk); 4]; PIN_ROOM]?,
         })
     }
 
@@ -230,6 +232,7 @@ impl<'c> Group<'c> {
             words_for(self.count),
             &mut self.pending,
             &mut self.pins,
+            &mut self.fours,
         );
         self.settled = true;
         Ok(evaluated)

@@ -12,6 +12,7 @@
 mod bit_set;
 mod evaluate;
 mod events;
+mod four_words;
 mod good_frame;
 mod group;
 mod machines;

@@ -48,7 +48,7 @@ invariant_of-self c =
     (written_words a.circuit.now a.count a.words.items old new g.word_count few c.index_mut.ensures.value a.schedule
     a.frame a.pending c.admit.new.pending e.more g.words e.word)
     (same_filled a.circuit.now a.count a.words.items old new g.word_count few c.index_mut.ensures.value g.filled e.err)
-    g.few e.marks g.room
+    g.few e.marks g.room g.four_room
     (λ is r. ap (λ (l : List Bool). get_or l r false) e.idle ∙ g.settled is r)
 
 pub invariant_of-self-2 : goal.invariant_of-self-2
@@ -69,7 +69,7 @@ invariant_of-self-2 c =
       fault = c.args.fault;
       latches = with_differences (drop a.circuit.now.inputs a.frame.sources.items) c.args.diffs.now;
     }) e.ok)
-    (omega (arith, few)) e.marks g.room
+    (omega (arith, few)) e.marks g.room g.four_room
     (λ is. let bad : false ≡ true = is in cc)
 
 pub returns-clause-ok : goal.returns-clause-ok

@@ -43,7 +43,8 @@ invariant_of-self c =
     (cleared_words a.circuit.now a.schedule a.frame a.count a.pending c.clear.new.self a.words.items new g.word_count
     (long c) g.filled g.words (rest c) g.circuit g.schedule g.frame (back c))
     (filled c) (omega arith)
-    (ap (λ (l : List Bool). length l) c.clear.ensures ∙ (length-replicate (length a.pending) false ∙ g.marks)) g.room
+    (ap (λ (l : List Bool). length l) c.clear.ensures ∙ (length-replicate (length a.pending) false ∙ g.marks))
+    g.room g.four_room
     (λ is r. ap (λ (l : List Bool). get_or l r false) c.clear.ensures ∙ none_marked (length a.pending) r)
 
 pub returns : goal.returns

@@ -14,7 +14,7 @@ invariant_of-result c =
     (bare_filled n words w.count w.each) (omega arith)
     (ap (λ (l : List Bool). length l) c.in_ok-new.ensures
     ∙ (length-replicate c.nets.result false ∙ c.nets.ensures.count))
-    (omega (arith, c.in_ok-vec.ensures.len))
+    (omega (arith, c.in_ok-vec.ensures.len)) (omega (arith, c.in_ok-vec-2.ensures.len))
     (λ is r. ap (λ (l : List Bool). get_or l r false) c.in_ok-new.ensures ∙ none_marked c.nets.result r)
 
 pub returns-clause-none : goal.returns-clause-none

@@ -31,6 +31,9 @@ invariant_of-self c =
     (kept_filled a.count a.words.items new long g.filled kept) g.few (s.marks ∙ g.marks)
     (ap (λ (l : List Lanes). length l) (with_items_is a.pins c.settle-evaluated.new.pins (omega arith))
     ∙ (c.settle-evaluated.auto.pins ∙ (ap (λ (l : List Lanes). length l) c.deref_mut-2.ensures.value ∙ g.room)))
+    (ap (λ (l : List (List Lanes)). length l) (with_items_is a.fours c.settle-evaluated.new.fours (omega arith))
+    ∙ (c.settle-evaluated.auto.fours
+    ∙ (ap (λ (l : List (List Lanes)). length l) c.deref_mut-3.ensures.value ∙ g.four_room)))
     (λ is. s.none)
 
 pub returns-clause-ok : goal.returns-clause-ok

@@ -28,7 +28,8 @@ invariant_of-self c =
     is_group _ new g.circuit g.schedule c.start.ensures.frame (with_items_is a.words new (omega (arith, size)))
     (long c ∙ g.word_count) (bare_words a.circuit.now a.schedule c.start.new.self c.clear.new.self new (bare c))
     (bare_filled a.circuit.now new (long c ∙ g.word_count) (bare c)) (omega arith)
-    (ap (λ (l : List Bool). length l) c.clear.ensures ∙ (length-replicate (length a.pending) false ∙ g.marks)) g.room
+    (ap (λ (l : List Bool). length l) c.clear.ensures ∙ (length-replicate (length a.pending) false ∙ g.marks))
+    g.room g.four_room
     (λ is r. ap (λ (l : List Bool). get_or l r false) c.clear.ensures ∙ none_marked (length a.pending) r)
 
 pub returns : goal.returns
