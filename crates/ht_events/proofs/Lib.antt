@@ -1,4 +1,5 @@
 pub mod ItemLaws
+pub mod ReciprocalLaws
 pub mod RowLaws
 pub mod TableLaws
 pub mod LoadLaws

@@ -5,10 +5,7 @@ use Rattle.ht_net.specs.Netlist.{Netlist, IsCircuit, net_count}
 use Rattle.ht_ranks.specs.Ranks.{AreRanked}
 use Rattle.ht_events.specs.Items.{frame_items, frame_of, local_of, ReadsNet}
 use Rattle.ht_events.specs.declared.plan.Plan.TheInside.{Inside}
-
--- the most frames: the longest window of a search
-abbrev pub max_frames : ℕ
-max_frames = 447
+pub use Rattle.ht_events.specs.FrameLengths.{max_frames}
 
 -- each net's row has the items of a frame that read it
 pub record IsTable (c : Netlist) (rows : List (List ℕ)) : Type 0 where
@@ -33,5 +30,6 @@ pub record IsPlan (a : Inside) : Type 0 where
   pub some : 0 < a.frames
   pub few : a.frames ≤ max_frames
   pub table : IsTable a.circuit.now a.readers
+  pub frame_length : a.frame_length ≡ frame_items a.circuit.now
   -- a gate comes after what it reads
   pub ranking : AreRanked a.circuit.now (length a.circuit.now.dffs) a.order.items a.ranks.items

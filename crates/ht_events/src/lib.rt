@@ -8,10 +8,12 @@
 #![tactic(auto)]
 
 mod event_core;
+mod frame_length;
 mod plan;
 mod plant;
 mod readers;
 
 pub use event_core::Core;
+pub use frame_length::FrameLength;
 pub use plan::MAX_FRAMES;
 pub use plant::Plant;

@@ -5,6 +5,7 @@ ghost use Rattle.ht_net.specs.Netlist.{IsCircuit, net_count};
 ghost use Rattle.ht_events.specs.Items.{ReadsNet, IsLoad, frame_items, item_at, item_count, frame_of, local_of, driven_net};
 ghost use Rattle.ht_events.specs.Plans.{position_at, PlanState, IsTable};
 
+use crate::frame_length::FrameLength;
 use crate::readers::Readers;
 use ht_net::{Circuit, NetId};
 use ht_ranks::ranking;
@@ -25,6 +26,7 @@ pub struct Plan<'c> {
     // the items of a frame in the order in which they are fired, and the rank of each there
     order: Vec<u32>,
     ranks: Vec<u32>,
+    frame_length: FrameLength,
 }
 
 impl<'c> Model for Plan<'c> {
@@ -63,6 +65,7 @@ impl<'c> Plan<'c> {
             readers: Readers::new(alloc, circuit)?,
             order,
             ranks,
+            frame_length: FrameLength::new(circuit.dffs() + circuit.gates()),
         })
     }
 
@@ -107,17 +110,14 @@ impl<'c> Plan<'c> {
         self.circuit.inputs()
     }
 
-    /// An item's frame. Most windows have one frame, and a division costs more than all else here.
+    /// An item's frame.
     pub fn frame(&self, item: u32) -> u32
         requires { item < item_count self.now.circuit self.now.frames }
         ensures frame { result ≡ frame_of self.now.circuit item }
         ensures inside { result < self.now.frames }
     {
-        let items = self.frame_items();
-        if item < items {
-            return 0;
-        }
-        item / items
+        let _ = self.frame_items();
+        self.frame_length.split(item).0
     }
 
     /// An item's index in its frame, from 0.
@@ -126,11 +126,8 @@ impl<'c> Plan<'c> {
         ensures local { result ≡ local_of self.now.circuit item }
         ensures inside { result < frame_items self.now.circuit }
     {
-        let items = self.frame_items();
-        if item < items {
-            return item;
-        }
-        item % items
+        let _ = self.frame_items();
+        self.frame_length.split(item).1
     }
 
     /// The net that an item drives.

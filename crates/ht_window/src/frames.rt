@@ -1,9 +1,7 @@
 //! The sets of a whole window, frame by frame.
-ghost use Rattle.std.specs.Prelude.{◌≡◌, ◌<◌, ◌≤◌, ◌+◌, ℕ, [], length, get_or, IfOk};
-ghost use Rattle.ht_pairs.specs.Decided.{same_pairs};
+ghost use Rattle.std.specs.Prelude.{◌≡◌, ◌<◌, ◌≤◌, ◌+◌, ℕ, length, get_or, IfOk};
 ghost use Rattle.ht_net.specs.Netlist.{net_count};
-ghost use Rattle.ht_tree.specs.Decisions.{decided_value};
-ghost use Rattle.ht_tree.specs.Windows.{IsWindow, cell_at, first_input, first_latch, first_latches, frame_inputs, latches_at};
+ghost use Rattle.ht_tree.specs.Windows.{cell_at, first_latches, frame_inputs, latches_at};
 ghost use Rattle.ht_window.specs.Cells.{AreCells, blank, cell_count};
 
 use crate::decided::Decided;

@@ -12,7 +12,7 @@ ghost use Rattle.ht_window.specs.Cells.{cell_index, cell_count, env_at, latches_
 ghost use Rattle.ht_window.specs.Holding.{HeldState};
 
 use crate::decided::Decided;
-use ht_events::{MAX_FRAMES, Plant};
+use ht_events::{FrameLength, MAX_FRAMES, Plant};
 use ht_frame::{MAX_GATE_PINS, data_pin, gate_output, stem};
 use ht_pairs::PairSet;
 use ht_tern::Tern;
@@ -27,6 +27,7 @@ pub struct Held<'c> {
     cells: Cells<PairSet>,
     // room for the pins of one gate
     pins: Vec<PairSet>,
+    frame_length: FrameLength,
 }
 
 impl<'c> Model for Held<'c> {
@@ -57,12 +58,15 @@ impl<'c> Held<'c> {
         ensures values { IfOk result (λ h. h.cells.values ≡ sets.items) }
         ensures trail { IfOk result (λ h. h.cells.trail ≡ []) }
     {
-        let _ = decided.circuit();
+        let circuit = decided.circuit();
+        let _ = circuit.nets();
+        let frame_length = FrameLength::new(circuit.dffs() + circuit.gates());
         let pins = vec![in alloc; PairSet::both_same(); MAX_GATE_PINS]?;
         Ok(Held {
             decided,
             cells: Cells::from_values(alloc, sets),
             pins,
+            frame_length,
         })
     }
 
@@ -226,8 +230,8 @@ impl<'c> Held<'c> {
     {
         let circuit = self.decided.circuit();
         let _ = circuit.nets();
-        let items = circuit.dffs() + circuit.gates();
-        (item / items, circuit.inputs() + item % items)
+        let (frame, local) = self.frame_length.split(item);
+        (frame, circuit.inputs() + local)
     }
 
     /// The frame and the net that a variable decides.

@@ -8,7 +8,7 @@ ghost use Rattle.ht_tree.specs.Decisions.{decided_value};
 ghost use Rattle.ht_tree.specs.Windows.{IsStart, IsWindow, cell_at, first_input, latches_at};
 ghost use Rattle.ht_tree.specs.Walks.{decides};
 ghost use Rattle.ht_window.specs.Starts.{start_of, window_from};
-ghost use Rattle.ht_window.specs.Cells.{AreCells, HoldsValue};
+ghost use Rattle.ht_window.specs.Cells.{AreCells};
 ghost use Rattle.ht_window.specs.Holding.{HeldState};
 ghost use Rattle.ht_window.specs.States.{IsLegalDecision, WindowState, mark_before, undone};
 

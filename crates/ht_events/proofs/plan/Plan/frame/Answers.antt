@@ -1,9 +1,16 @@
-use Rattle.std.proofs.Common.{sym, arith}
-use Rattle.std.proofs.Math.Nat.{div-eq_of_lt}
+use Rattle.std.proofs.Common.{◌≡◌, ◌<◌, ◌/◌, ◌∙◌, ℕ, ap, arith, subst}
+use Rattle.ht_events.specs.Items.{frame_of, item_count}
+use Rattle.ht_events.specs.Plans.{PlanState}
+use Rattle.ht_events.proofs.ItemLaws.{frame_inside}
 use Rattle.ht_events.proofs.plan.Plan.frame.Goals as goal
 
-pub returns-then-item-items-clause-frame : goal.returns-then-item-items-clause-frame
-returns-then-item-items-clause-frame c =
-    let t = c.if-item-items.true in
-    let e = c.frame_items-items.ensures.items in
-    sym (div-eq_of_lt (omega (arith, t, e)))
+pub returns-clause-inside : goal.returns-clause-inside
+returns-clause-inside c =
+    let a = c.self.inside in
+    let item = c.args.item in
+    let is : c.split.result.0 ≡ frame_of a.circuit.now item = c.split.ensures.frame
+    ∙ ap (λ (n : ℕ). item / n) c.self.invariant.frame_length in
+    let P : PlanState → Type 0 = λ (s : PlanState). item < item_count s.circuit s.frames → c.split.result.0 < s.frames
+    in
+    subst P c.self.view_is
+    (λ known. let f = frame_inside a.circuit.now a.frames item known in omega (arith, f, is)) c.requires

@@ -1,9 +1,16 @@
-use Rattle.std.proofs.Common.{sym, arith}
-use Rattle.std.proofs.Math.Nat.{mod-eq_of_lt}
+use Rattle.std.proofs.Common.{◌≡◌, ◌<◌, ◌%◌, ◌∙◌, ℕ, ap, arith, subst}
+use Rattle.ht_events.specs.Items.{frame_items, item_count, local_of}
+use Rattle.ht_events.specs.Plans.{PlanState}
+use Rattle.ht_events.proofs.ItemLaws.{local_inside}
 use Rattle.ht_events.proofs.plan.Plan.local.Goals as goal
 
-pub returns-then-item-items-clause-local : goal.returns-then-item-items-clause-local
-returns-then-item-items-clause-local c =
-    let t = c.if-item-items.true in
-    let e = c.frame_items-items.ensures.items in
-    sym (mod-eq_of_lt (omega (arith, t, e)))
+pub returns-clause-inside : goal.returns-clause-inside
+returns-clause-inside c =
+    let a = c.self.inside in
+    let item = c.args.item in
+    let is : c.split.result.1 ≡ local_of a.circuit.now item = c.split.ensures.local
+    ∙ ap (λ (n : ℕ). item % n) c.self.invariant.frame_length in
+    let P : PlanState → Type 0 = λ (s : PlanState). item < item_count s.circuit s.frames
+    → c.split.result.1 < frame_items s.circuit in
+    subst P c.self.view_is
+    (λ known. let l = local_inside a.circuit.now a.frames item known in omega (arith, l, is)) c.requires
