@@ -106,7 +106,7 @@ pub record HasRunRoom (c : Netlist) (m : Machines) : Type 0 where
   pub nets : length m.nets.good ≡ net_count c
 
 -- net x is a gate's, there are four words with machines, and in none of them a pin of the gate is stuck
-pub record AreFree (c : Netlist) (x used : ℕ) (words : List Machines) : Type 0 where
+pub record HaveFreePins (c : Netlist) (x used : ℕ) (words : List Machines) : Type 0 where
   pub gate : first_gate_net c ≤ x
   pub all : used ≡ 4
   pub four : length words ≡ 4

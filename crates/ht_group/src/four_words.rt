@@ -4,7 +4,7 @@ ghost use Rattle.ht_lanes.specs.Lanes.{lane, word_at};
 ghost use Rattle.ht_net.specs.Frame.{gate_output};
 ghost use Rattle.ht_net.specs.Netlist.{first_gate_net, net_count, no_net};
 ghost use Rattle.ht_group.specs.LaneRules.{drive_from, in_lane, lane_env, rules_at};
-ghost use Rattle.ht_group.specs.MachineWords.{AreFree, HasRunRoom, IsComputed};
+ghost use Rattle.ht_group.specs.MachineWords.{HaveFreePins, HasRunRoom, IsComputed};
 ghost use Rattle.ht_group.specs.declared.machines.Machines.{Machines};
 
 use crate::evaluate::PIN_ROOM;
@@ -17,7 +17,7 @@ pub fn are_free(circuit: &Circuit, words: &[Machines], used: u32, net: u32) -> b
     requires room { (w : ℕ) (d : Machines) → w < used
         → HasRunRoom circuit.now (get_or words.now w d) }
     requires net { net < net_count circuit.now }
-    ensures { result ≡ true → AreFree circuit.now net used words.now }
+    ensures { result ≡ true → HaveFreePins circuit.now net used words.now }
 {
     let _ = circuit.nets();
     let first = circuit.inputs() + circuit.dffs();
@@ -72,7 +72,7 @@ fn gate_outputs(
     fours: &mut [[Word; 4]],
     net: u32,
 ) -> [Word; 4]
-    requires free { AreFree circuit.now net 4 words.now }
+    requires free { HaveFreePins circuit.now net 4 words.now }
     requires words { (w : ℕ) (d : Machines) → w < 4
         → HasRunRoom circuit.now (get_or words.now w d) }
     requires net { net < net_count circuit.now }
@@ -112,7 +112,7 @@ pub fn recompute_four(
     fours: &mut [[Word; 4]],
     net: u32,
 ) -> bool
-    requires free { AreFree circuit.now net 4 words.old }
+    requires free { HaveFreePins circuit.now net 4 words.old }
     requires words { (w : ℕ) (d : Machines) → w < 4
         → HasRunRoom circuit.now (get_or words.old w d) }
     requires net { net < net_count circuit.now }
