@@ -1,7 +1,6 @@
 -- Undoing a trail.
 use Rattle.std.proofs.Common.{◌≡◌, ◌<◌, ◌≤◌, ◌+◌, ℕ, suc, zero, List, [], ◌∷◌, ◌++◌, length, get_or, set, take, drop, refl, sym, ◌∙◌, ap, arith, append_assoc}
-use Rattle.std.proofs.lemmas.List.{append-nil, take_all, take-append-le, drop-append-le, length-append, drop_all, length_push, get_or_append_left, length-set, length-take-le, take-append-drop}
-use Rattle.std.proofs.Math.Seq.{take-append_seam, drop-append_seam}
+use Rattle.std.proofs.lemmas.List.{append-nil, drop-append-le, drop_all, length_push, get_or_append_left, length-set, length-take-le, take-append-drop}
 use Rattle.ht_trail.specs.declared.cells.Saved.{Saved}
 use Rattle.ht_trail.specs.Trails.{CellsState, restored, IsLater, IsTrailBelow, at_mark}
 

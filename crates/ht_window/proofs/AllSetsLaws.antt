@@ -12,7 +12,7 @@ use Rattle.ht_net.proofs.ValueLaws.{taken_same}
 use Rattle.ht_frame.specs.Values.{env_of}
 use Rattle.ht_tree.specs.declared.token.Assign3.{Assign3}
 use Rattle.ht_tree.specs.Windows.{SearchWindow, IsWindow, cell_at, first_latches, latches_at, pair_set_rules}
-use Rattle.ht_window.specs.Cells.{AreCells, blank, env_at}
+use Rattle.ht_window.specs.Cells.{blank, env_at}
 
 -- a list by number, read item by item
 pub listed : {V : Type 0} → (f : ℕ → V) (i n : ℕ) (xs : List V) (d : V) → length xs ≡ n

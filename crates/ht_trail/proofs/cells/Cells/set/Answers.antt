@@ -1,5 +1,4 @@
-use Rattle.std.proofs.Common.{◌≡◌, ◌∷◌, [], ◌++◌, List, set, get_or, ap, sym, ◌∙◌, length, refl, arith}
-use Rattle.ht_trail.specs.declared.cells.Saved.{Saved}
+use Rattle.std.proofs.Common.{◌∷◌, [], ◌++◌, set, ap, ◌∙◌, length, arith}
 use Rattle.ht_trail.specs.Trails.{CellsState}
 use Rattle.ht_trail.proofs.TrailLaws.{set_back}
 use Rattle.ht_trail.proofs.cells.Cells.set.Goals as goal

@@ -1,8 +1,7 @@
-use Rattle.std.proofs.Common.{◌≡◌, ◌≤◌, ◌<◌, ◌+◌, ℕ, ◌∷◌, [], ◌++◌, List, set, get_or, ap, sym, ◌∙◌, length, refl, take, drop, arith}
-use Rattle.std.proofs.lemmas.List.{drop-append-le, length-set, take_all, length_push}
-use Rattle.std.proofs.lemmas.List.Elements.{All-take}
+use Rattle.std.proofs.Common.{◌≡◌, ◌≤◌, ◌+◌, ◌∷◌, [], List, set, ap, sym, ◌∙◌, length, take, drop, arith}
+use Rattle.std.proofs.lemmas.List.{drop-append-le, length-set, length_push}
 use Rattle.ht_trail.specs.declared.cells.Saved.{Saved}
-use Rattle.ht_trail.specs.Trails.{CellsState, restored}
+use Rattle.ht_trail.specs.Trails.{restored}
 use Rattle.ht_trail.proofs.TrailLaws.{restored_push, part_pop, within_pop}
 use Rattle.ht_trail.proofs.cells.Cells.undo.Goals as goal
 

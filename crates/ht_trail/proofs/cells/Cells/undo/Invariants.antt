@@ -1,4 +1,4 @@
-use Rattle.std.proofs.Common.{◌≡◌, ◌≤◌, ◌<◌, ℕ, ◌-◌, length, take, drop}
+use Rattle.std.proofs.Common.{◌≡◌, ◌≤◌, length, take, drop}
 use Rattle.ht_trail.specs.Trails.{restored, IsTrailBelow}
 use Rattle.ht_trail.proofs.cells.Cells.undo.Given as goal
 
