@@ -272,6 +272,7 @@ impl<'c> Core<'c> {
         }
     }
 
+<<<<<<< HEAD
     /// Makes each item agree once, the lowest frame and there the lowest level first, so that all agree afterwards. It
     /// asks for no mark, and leaves what is pending.
     ///
@@ -296,6 +297,10 @@ impl<'c> Core<'c> {
 
     /// Fires items, the lowest frame and there the lowest level first, until none is pending. No item is fired twice,
     /// so it spends at most the price of each. It looks at each position between the first and the last.
+=======
+    /// Fires items, the lowest frame and there the lowest level first, until none is pending. No item is fired twice, so
+    /// it spends at most the price of each. It looks at each position between the first and the last.
+>>>>>>> hub/speed
     ///
     /// # Errors
     /// Out of memory; some items may be pending. Here too, where every item that isn't pending agreed, it does

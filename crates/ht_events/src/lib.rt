@@ -3,8 +3,7 @@
 //!
 //! Items are, frame by frame, the flip-flops and then the gates (`specs/Items.antt`). A `Plant` keeps their cells, as a
 //! window of pair sets or a word of machines does; `Core` knows what is pending and nothing of cells. `settle` fires
-//! the lowest frame and level first, so that it fires no item twice. `fill` makes all items agree in that order,
-//! whatever they were, as a new window needs it.
+//! the lowest frame and level first, so that it fires no item twice.
 #![tactic(auto)]
 
 mod event_core;

@@ -88,9 +88,7 @@ impl<'c> Plan<'c> {
 
     /// How many items all frames have.
     pub fn items(&self) -> u32
-        ensures items { result ≡ item_count self.now.circuit self.now.frames }
-        ensures places { (y : ℕ) → y < item_count self.now.circuit self.now.frames
-            → position_at self.now y < item_count self.now.circuit self.now.frames }
+        ensures { result ≡ item_count self.now.circuit self.now.frames }
     {
         let _ = self.frames();
         self.frames * self.frame_items()
