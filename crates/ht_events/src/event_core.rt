@@ -272,35 +272,8 @@ impl<'c> Core<'c> {
         }
     }
 
-<<<<<<< HEAD
-    /// Makes each item agree once, the lowest frame and there the lowest level first, so that all agree afterwards. It
-    /// asks for no mark, and leaves what is pending.
-    ///
-    /// # Errors
-    /// Out of memory.
-    pub fn fill<P: Plant>(&self, plant: &mut P) -> Result<(), AllocError>
-        requires circuit { P.circuit plant.old ≡ self.now.plan.circuit }
-        requires frames { P.frames plant.old ≡ self.now.plan.frames }
-        ensures circuit { P.circuit plant.new ≡ P.circuit plant.old }
-        ensures frames { P.frames plant.new ≡ P.frames plant.old }
-        ensures keeps { P.keeps plant.old plant.new }
-        ensures spent { P.spent plant.new
-            ≤ P.spent plant.old + core_items self.now * P.price plant.old }
-        ensures agree { OnOk result ((x : ℕ) → x < core_items self.now → P.agrees plant.new x) }
-    {
-        for position in 0..self.plan.items() {
-            let item = self.plan.item(position);
-            plant.recompute(item)?;
-        }
-        Ok(())
-    }
-
     /// Fires items, the lowest frame and there the lowest level first, until none is pending. No item is fired twice,
     /// so it spends at most the price of each. It looks at each position between the first and the last.
-=======
-    /// Fires items, the lowest frame and there the lowest level first, until none is pending. No item is fired twice, so
-    /// it spends at most the price of each. It looks at each position between the first and the last.
->>>>>>> hub/speed
     ///
     /// # Errors
     /// Out of memory; some items may be pending. Here too, where every item that isn't pending agreed, it does
