@@ -1,5 +1,5 @@
-//! A group and its faults: one frame of all undetected faults, 256 at a time, and at the end 64 at a time.
-ghost use Rattle.std.specs.Prelude.{◌≡◌, ◌<◌, ◌≤◌, ◌+◌, ◌*◌, ℕ, [], List, None, Some, true, false, min, length, get_or, IfOk, OnOk, OnErr, IsTrue, IsFalse};
+//! A group and its faults: one frame of all undetected faults, 64 at a time, or 256 where events reach most gates.
+ghost use Rattle.std.specs.Prelude.{◌≡◌, ◌↔◌, ◌<◌, ◌≤◌, ◌+◌, ◌*◌, ◌/◌, ℕ, [], List, None, Some, true, false, min, length, get_or, IfOk, OnOk, OnErr, IsTrue, IsFalse};
 ghost use Rattle.std.specs.List.{slice_get};
 ghost use Rattle.ht_net.specs.declared.fault.Fault.{Fault};
 ghost use Rattle.ht_net.specs.Detection.{terns_of};
@@ -23,8 +23,11 @@ pub struct Batch<'c> {
     circuit: &'c Circuit,
     group: Group<'c>,
     lanes: Vec<usize>,
-    // how many undetected faults of the frame have had no lane yet; only the price of the frame depends on it
+    // how many undetected faults of the frame have had no lane yet
     left: usize,
+    // whether events have reached most gates in the frame: then four words share them, and else words run one by one.
+    // Only the price of the frame depends on this and on `left`
+    dense: bool,
 }
 
 impl<'c> Model for Batch<'c> {
@@ -38,6 +41,13 @@ impl<'c> Model for Batch<'c> {
     ghost invariant = { λ a. a.group.circuit ≡ a.circuit.now };
 }
 
+// Whether so many evaluations are those of at least three quarters of the gates.
+fn reaches_most(evaluated: u32, gates: u32) -> bool
+    ensures { IsTrue result ↔ (gates / 4 ≤ evaluated / 3) }
+{
+    evaluated / 3 >= gates / 4
+}
+
 impl<'c> Batch<'c> {
     /// No faults, and no frame yet.
     pub fn new(alloc: Global, circuit: &'c Circuit) -> Result<Batch<'c>, AllocError>
@@ -49,6 +59,7 @@ impl<'c> Batch<'c> {
             group,
             lanes: Vec::new(alloc),
             left: 0,
+            dense: false,
         })
     }
 
@@ -72,6 +83,7 @@ impl<'c> Batch<'c> {
     {
         self.lanes.clear();
         self.left = undetected(grades);
+        self.dense = false;
         self.group.start(vector, latches);
         steps.add(self.circuit.gates());
     }
@@ -186,6 +198,7 @@ impl<'c> Batch<'c> {
     {
         let evaluated = self.group.settle()?;
         steps.add(evaluated);
+        self.dense = self.dense || reaches_most(evaluated, self.circuit.gates());
         self.note_lanes(number, grades)?;
         self.group.clear();
         self.lanes.clear();
@@ -209,15 +222,16 @@ impl<'c> Batch<'c> {
         Ok(())
     }
 
-    // Whether the machines are to run now: there is no room for more, or too few faults are left to fill the words.
-    // Then no word is part full.
+    // Whether the machines are to run now: there is no room for more, or a word is full and four words don't pay, since
+    // events reach few gates or too few faults are left to fill the words. Then no word is part full.
     fn is_due(&self) -> bool
         ensures whole { IsTrue result → let count = length self.now.group.machines in
             lane_count * words_for count ≡ count }
         ensures room { IsFalse result → length self.now.group.machines < max_machines }
     {
         let count = self.group.len();
-        count == MAX_MACHINES || (count % LANES == 0 && self.left < (MAX_MACHINES - count) as usize)
+        let is_sparse = !self.dense || self.left < (MAX_MACHINES - count) as usize;
+        count == MAX_MACHINES || (count % LANES == 0 && is_sparse)
     }
 
     // Takes fault `i` through the frame, with the others in the lanes once these are due.
