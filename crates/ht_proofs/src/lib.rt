@@ -2,7 +2,7 @@
 //! in PROOFS 1992).
 //!
 //! A `Grader` takes vectors one by one. Each runs once in the good machine, and then in the machine of each fault that
-//! isn't detected yet, 256 machines a group while so many are left, and then 64. What is kept of a fault is its first
+//! isn't detected yet, 64 machines a group, or 256 where events reach most gates. What is kept of a fault is its first
 //! detection, or else where the flip-flops of its machine differ from the good ones.
 #![tactic(auto)]
 
