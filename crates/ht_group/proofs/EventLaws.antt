@@ -8,10 +8,10 @@ use Rattle.std.proofs.lemmas.List.Elements.{Contains-get_or}
 use Rattle.ht_net.specs.Netlist.{Netlist, net_count}
 use Rattle.ht_net.specs.Frame.{Rules}
 use Rattle.ht_group.specs.LaneRules.{given_value, HasItsValue}
-use Rattle.ht_group.specs.Schedules.{ReadsFrom, IsSchedule}
-use Rattle.ht_group.specs.declared.schedule.Schedule.{Schedule}
+use Rattle.ht_ranks.specs.Schedules.{ReadsFrom, IsSchedule}
+use Rattle.ht_ranks.specs.declared.schedule.Schedule.{Schedule}
 use Rattle.ht_group.proofs.DriveLaws.{drive_same}
-use Rattle.ht_group.proofs.RankLaws.{rises_from}
+use Rattle.ht_ranks.proofs.ScheduleLaws.{rises_from}
 
 module _ (c : Netlist) (s : Schedule) (is : IsSchedule c s) where
   rank_of_net : (r : ℕ) → r < net_count c → get_or s.ranks.items (get_or s.order.items r 0) 0 ≡ r

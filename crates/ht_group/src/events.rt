@@ -7,18 +7,17 @@ ghost use Rattle.ht_group.specs.LaneRules.{lane_env};
 ghost use Rattle.ht_group.specs.MachineWords.{AreMachinesKept, AreRunning, HasRunRoom, IsComputed};
 ghost use Rattle.ht_group.specs.Pending.{AreGiven};
 ghost use Rattle.ht_group.specs.declared.machines.Machines.{Machines};
-ghost use Rattle.ht_group.specs.Schedules.{IsSchedule};
+ghost use Rattle.ht_ranks.specs.Schedules.{IsSchedule};
 ghost use Rattle.ht_group.specs.StuckTables.{AreStuck};
 
-use crate::bit_set::BitSet;
 use crate::evaluate::{PIN_ROOM, evaluate};
 use crate::four_words::{are_free, recompute_four};
 use crate::machines::Machines;
 use crate::overlay::Overlay;
-use crate::schedule::Schedule;
 use crate::stuck_lines::StuckLines;
 use ht_lanes::Word;
 use ht_net::Circuit;
+use ht_ranks::{BitSet, Schedule};
 
 // Makes nets pending, by their ranks.
 fn touch(ranks: &[u32], pending: &mut BitSet)

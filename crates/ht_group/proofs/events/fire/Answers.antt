@@ -5,7 +5,7 @@ use Rattle.std.proofs.lemmas.List.{get_or-set_other, length-set}
 use Rattle.ht_lanes.specs.Lanes.{Lanes}
 use Rattle.ht_net.specs.Netlist.{net_count}
 use Rattle.ht_group.specs.LaneRules.{rules_at, in_lane, lane_env}
-use Rattle.ht_group.specs.Schedules.{ReadsFrom}
+use Rattle.ht_ranks.specs.Schedules.{ReadsFrom}
 use Rattle.ht_group.proofs.ChangeLaws.{computed_running, kept_itself}
 use Rattle.ht_group.proofs.EventLaws.{fired_quiet, apart_by_readers, readers_later, readers_known, not_touched, touched_as_before, rank_taken}
 use Rattle.ht_group.proofs.events.fire.Goals as goal
