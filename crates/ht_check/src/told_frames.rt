@@ -7,6 +7,7 @@ ghost use Rattle.ht_tree.specs.ToldChains.{IsToldPlace, Tells, told_path, vars_o
 ghost use Rattle.ht_tree.specs.Variables.{may_two};
 
 use crate::fresh_window::FreshWindow;
+use crate::kept_frames::KeptFrames;
 use ht_net::{Circuit, Fault};
 use ht_tern::Tern;
 use ht_tree::{Assign, Assign3, Spot, Told};
@@ -19,23 +20,24 @@ use std::alloc::{AllocError, Global};
 /// Out of memory.
 pub fn tells(
     alloc: Global,
-    circuit: &Circuit,
+    kept: &mut KeptFrames,
     fault: Fault,
     z: &[u32],
     told: &Told,
 ) -> Result<bool, AllocError>
-    requires { (i : ℕ) → i < length z.now → get_or z.now i 0 < length circuit.now.dffs }
-    ensures { IfOk result (λ yes. IsTrue yes ↔ Tells circuit.now fault z.now told.now) }
+    requires { (i : ℕ) → i < length z.now → get_or z.now i 0 < length kept.old.circuit.dffs }
+    ensures tells { IfOk result
+        (λ yes. IsTrue yes ↔ Tells kept.old.circuit fault z.now told.now) }
+    ensures circuit { kept.new.circuit ≡ kept.old.circuit }
 {
-    if !is_told_place(circuit, z, told.place) || !rise(told.sets.as_slice()) {
-        return Ok(false);
-    }
-    let mut window = FreshWindow::one_frame(alloc, circuit, fault, z)?;
-    if !are_legal(&window, told.sets.as_slice()) {
+    if !is_told_place(kept.circuit(), z, told.place) || !rise(told.sets.as_slice()) {
         return Ok(false);
     }
     let path = told_path(alloc, told)?;
-    Ok(window.must_differ(&path, told.place))
+    let mut window = FreshWindow::one_frame(alloc, kept.take(alloc)?, fault, z)?;
+    let shown = are_legal(&window, told.sets.as_slice()) && window.must_differ(&path, told.place);
+    *kept = window.into_kept();
+    Ok(shown)
 }
 
 /// The decisions of a told frame as a path.
