@@ -72,7 +72,7 @@ pub fn entry_by_frames(
     ensures circuit { kept.new.circuit ≡ kept.old.circuit }
 {
     // for the proof: the circuit is well formed
-    let _ = kept.circuit().nets();
+    let _ = kept.circuit();
     match entry {
         Entry::Untestable { z, tokens } => refutes(
             alloc,
