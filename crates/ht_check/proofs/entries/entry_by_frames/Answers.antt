@@ -2,7 +2,6 @@ use Rattle.std.proofs.Common.{◌≡◌, List, rules, sym, subst}
 use Rattle.std.proofs.lemmas.Result.{IfOk-weaker}
 use Rattle.ht_net.specs.Netlist.{Netlist}
 use Rattle.ht_tree.specs.declared.told.Told.{Told}
-use Rattle.ht_tree.specs.declared.token.Token.{Token}
 use Rattle.ht_tree.specs.AbortRecords.{IsFirstAim, IsLastWalk}
 use Rattle.ht_tree.specs.Entries.{Passes}
 use Rattle.ht_tree.specs.SearchRecords.{IsSweepRecord}
@@ -31,7 +30,7 @@ returns-else-not-branch-clause-exact c =
     let told : c.as_slice-told.result.now ≡ a.told = c.as_slice-told.ensures in
     let sweep : c.as_slice-in-Aborted.result.now ≡ a.sweep = c.as_slice-in-Aborted.ensures in
     let held = c.in_ok-follows_told-in-Aborted.ensures.follows.0 c.if-not-branch.false in
-    let same : c.follows_told-in-Aborted.new.kept.circuit ≡ n = c.follows_told-in-Aborted.ensures.circuit in
+    let same : c.follows_told.new.kept.circuit ≡ n = c.follows_told.ensures.circuit in
     IfOk-weaker c.is_sweep_record.result _ _ (λ b h. (
       λ t. subst (Passes n fault budget) (sym a.is) (record {
         chain = subst (IsToldChain n fault) told held.0;
