@@ -1,7 +1,6 @@
-use Rattle.std.proofs.Common.{◌≡◌, ◌<◌, ◌++◌, ◌∷◌, [], List, Option, ap, arith, length, length-append, subst, sym}
+use Rattle.std.proofs.Common.{◌≡◌, ◌<◌, ◌++◌, ◌∷◌, [], List, ap, arith, length, length-append, subst, sym}
 use Rattle.std.specs.List.{All}
 use Rattle.std.proofs.lemmas.List.Elements.{All-push}
-use Rattle.ht_net.specs.declared.fault.Fault.{Fault}
 use Rattle.ht_net.specs.Netlist.{Netlist}
 use Rattle.ht_check.specs.NetSetsOf.{AreNetSets}
 use Rattle.ht_check.specs.declared.net_sets.NetSets.{NetSets}
@@ -10,22 +9,20 @@ use Rattle.ht_check.proofs.frame_sets.room_for_frames.Goals as goal
 -- room for the nets of one more frame
 record HaveRoom (c : Netlist) (kept : List NetSets) : Type 0 where
   some : 0 < length kept
-  nets : (fault : Option Fault) → All (AreNetSets c fault) kept
+  nets : All (AreNetSets c) kept
 
 one_more : (c : Netlist) (before kept : List NetSets) (frame : NetSets) → kept ≡ before ++ frame ∷ []
-    → ((fault : Option Fault) → All (AreNetSets c fault) before) → ((fault : Option Fault) → AreNetSets c fault frame)
-    → HaveRoom c kept
+    → All (AreNetSets c) before → AreNetSets c frame → HaveRoom c kept
 one_more c before kept frame is held room = record {
   some = omega (arith, ap (λ (l : List NetSets). length l) is, length-append before (frame ∷ []));
-  nets = λ fault. subst (All (AreNetSets c fault)) (sym is)
-      (All-push (AreNetSets c fault) before frame (held fault) (room fault));
+  nets = subst (All (AreNetSets c)) (sym is) (All-push (AreNetSets c) before frame held room);
 }
 
 pub loop-init : goal.loop-init
 loop-init c =
     let none = c.new-kept.ensures.items in
     let room = one_more c.args.circuit.now c.new-kept.result.items c.push.new.self.items c.in_ok-new.field-0
-    c.in_ok-push.ensures.items (λ fault k d l. absurd (omega (arith, ap (λ (l : List NetSets). length l) none, l)))
+    c.in_ok-push.ensures.items (λ k d l. absurd (omega (arith, ap (λ (l : List NetSets). length l) none, l)))
     c.in_ok-new.ensures in
     record { some = room.some; nets = room.nets }
 
