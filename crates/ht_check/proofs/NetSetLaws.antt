@@ -2,15 +2,14 @@
 use Rattle.std.specs.Prelude.{set}
 use Rattle.std.specs.List.{Contains}
 use Rattle.std.proofs.Common.{◌≡◌, ◌≢◌, ◌<◌, ◌≤◌, ◌+◌, ◌-◌, ◌∙◌, ℕ, List, [], ◌∷◌, Bool, true, false, Option, Some, None, cond, length, get_or, ap, sym, refl, subst, arith, inl, inr}
-use Rattle.std.proofs.lemmas.Bool.{cases_lt}
 use Rattle.std.proofs.lemmas.Bool.Decides.{eqb_tells}
-use Rattle.std.proofs.lemmas.List.{get_or-set_same, get_or-set_other}
+use Rattle.std.proofs.lemmas.List.{get_or-set_other}
 use Rattle.ht_tern.specs.declared.tern.Tern.TheVariants.{Unk}
 use Rattle.ht_pairs.specs.Pairs.{Pair, pair, lifted_set, stuck_set}
 use Rattle.ht_net.specs.declared.fault.Site.{Site}
 use Rattle.ht_net.specs.declared.fault.Site.TheVariants.{Stem, DffPin, GatePin}
 use Rattle.ht_net.specs.declared.fault.Fault.{Fault}
-use Rattle.ht_net.specs.Netlist.{Netlist, first_gate_net, net_count, gate_at, arg_at, no_net, IsCircuit}
+use Rattle.ht_net.specs.Netlist.{Netlist, first_gate_net, net_count, gate_at, arg_at, IsCircuit}
 use Rattle.ht_net.specs.Faults.{forced, is_stem}
 use Rattle.ht_net.specs.Frame.{gate_output, net_value, net_value_over, values_at}
 use Rattle.ht_net.proofs.FrameLaws.{IsSettled, le_or_lt, settled_is_frame, driven_input, driven_latch, driven_gate, gate_same}
@@ -22,7 +21,7 @@ use Rattle.ht_ranks.specs.declared.schedule.Schedule.{Schedule}
 use Rattle.ht_ranks.proofs.ReaderLaws.{reads_pin}
 use Rattle.ht_ranks.proofs.ScheduleLaws.{no_self}
 use Rattle.ht_tree.specs.Windows.{pair_set_rules}
-use Rattle.ht_check.specs.GateSets.{AreGatesSettled, AreQuietSettled, IsGateSettled, gate_rank, is_line_of, is_stuck_gate, sets_of}
+use Rattle.ht_check.specs.GateSets.{AreGatesSettled, AreQuietSettled, IsGateSettled, gate_rank, is_gate_line, is_stuck_gate, sets_of}
 
 -- A mark that more marks leave off was off.
 pub was_off : (before after : Bool) → (before ≡ true → after ≡ true) → after ≡ false → before ≡ false
@@ -95,17 +94,15 @@ module _ (c : Netlist) (s : Schedule) (is : IsSchedule c s) where
     }
 
     -- It is the net of the gate of a rank, which is pending no more.
-    pub fired_quiet : (pending removed : List Bool) (rank g : ℕ) → rank < net_count c
-        → net ≡ get_or s.order.items rank 0 → net ≡ first_gate_net c + g
+    pub fired_quiet : (pending removed : List Bool) (rank g : ℕ) → net ≡ get_or s.order.items rank 0 → net ≡ first_gate_net c + g
         → removed ≡ set pending rank false
         → sets_of values net
         ≡ (pair_set_rules fault).stem net (gate_output c (pair_set_rules fault) (sets_of before) g)
         → ((r : ℕ) → get_or removed r false ≡ true → get_or touched r false ≡ true)
         → AreQuietSettled c s fault pending before → AreQuietSettled c s fault touched values
-    fired_quiet pending removed rank g known at net_is taken given more quiet = record {
+    fired_quiet pending removed rank g at net_is taken given more quiet = record {
       each = λ h inside idle.
           let r = pair_set_rules fault in
-          let own = gate_rank c s h in
           elim (eqb_tells h g) [
             | inl p ↦
                 let back : g ≡ h = sym p.1 in
@@ -176,13 +173,13 @@ settled_have c circuit fault vector latches values settled inputs states =
     settled_is_frame c depth.0 depth.1 r vector latches env whole
 
 -- Two faults at other gates: a gate is settled under both or under none.
-no_stem : (c : Netlist) (site : Site) (g : ℕ) → is_line_of c site g ≡ false
+no_stem : (c : Netlist) (site : Site) (g : ℕ) → is_gate_line c site g ≡ false
     → is_stem site (first_gate_net c + g) ≡ false
 no_stem c (Stem x) g h = h
 no_stem c (GatePin f i) g h = refl
 no_stem c (DffPin j) g h = refl
 
-no_pins : (c : Netlist) (site : Site) (g : ℕ) → is_line_of c site g ≡ false → is_pin_of site g ≡ false
+no_pins : (c : Netlist) (site : Site) (g : ℕ) → is_gate_line c site g ≡ false → is_pin_of site g ≡ false
 no_pins c (Stem x) g h = refl
 no_pins c (GatePin f i) g h = h
 no_pins c (DffPin j) g h = refl

@@ -25,7 +25,7 @@ returns-clause-quiet c =
     omega (arith, high, c.net-net.ensures) in
     fired_quiet n s c.requires.schedule c.args.fault x c.args.values.now c.write_net.new.values c.write_net.new.pending
     c.row-readers.result.now c.row-readers.ensures c.write_net.ensures.sets c.write_net.ensures.readers
-    c.args.pending.now c.remove.new.self c.args.rank g c.requires.rank c.net-net.ensures net_is c.remove.ensures
+    c.args.pending.now c.remove.new.self c.args.rank g c.net-net.ensures net_is c.remove.ensures
     (c.write_net.ensures.set ∙ (c.stem-set.ensures
     ∙ ap ((pair_set_rules c.args.fault).stem x) c.gate_output.ensures))
     c.write_net.ensures.more c.requires.quiet
