@@ -5,11 +5,13 @@ ghost use Rattle.ht_events.specs.Items.{IsLoad, IsReader, item_count, item_at, r
 ghost use Rattle.ht_events.specs.Plans.{position_at};
 ghost use Rattle.ht_events.specs.Pending.{CoreState, IsPending, IsPendingAt, QuietAgree, core_items, pending_count, pends};
 
+use crate::frame_plan::FramePlan;
 use crate::plan::{MAX_FRAMES, Plan};
 use crate::plant::Plant;
-use ht_net::{Circuit, NetId};
+use ht_net::NetId;
 use std::alloc::{AllocError, Global};
 use std::marker::Model;
+use std::rc::Rc;
 
 /// Which items are pending.
 #[derive(Drop)]
@@ -38,14 +40,18 @@ impl<'c> Core<'c> {
     ///
     /// # Errors
     /// Out of memory.
-    pub fn new(alloc: Global, circuit: &'c Circuit, frames: u32) -> Result<Core<'c>, AllocError>
+    pub fn new(
+        alloc: Global,
+        frame_plan: Rc<FramePlan<'c>>,
+        frames: u32,
+    ) -> Result<Core<'c>, AllocError>
         requires some { 0 < frames }
         requires few { frames ≤ MAX_FRAMES }
-        ensures circuit { IfOk result (λ core. core.plan.circuit ≡ circuit.now) }
+        ensures circuit { IfOk result (λ core. core.plan.circuit ≡ frame_plan.entry.value.circuit) }
         ensures frames { IfOk result (λ core. core.plan.frames ≡ frames) }
         ensures none { IfOk result (λ core. (x : ℕ) → ¬ IsPending core x) }
     {
-        let plan = Plan::new(alloc, circuit, frames)?;
+        let plan = Plan::new(frame_plan, frames);
         let items = frames as usize * plan.frame_items() as usize;
         Ok(Core {
             plan,

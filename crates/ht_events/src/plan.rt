@@ -1,16 +1,14 @@
 //! What reads what, and in which order items are fired.
-ghost use Rattle.std.specs.Prelude.{◌≡◌, ℕ, ◌<◌, ◌≤◌, ◌+◌, ◌-◌, ◌^◌, [], IfOk, length, get_or};
-ghost use Rattle.std.specs.List.{Contains};
+ghost use Rattle.std.specs.Prelude.{◌≡◌, ℕ, ◌<◌, ◌≤◌, ◌-◌, ◌^◌, [], length, get_or};
 ghost use Rattle.ht_net.specs.Netlist.{IsCircuit, net_count};
-ghost use Rattle.ht_events.specs.Items.{ReadsNet, IsLoad, frame_items, item_at, item_count, frame_of, local_of, driven_net};
-ghost use Rattle.ht_events.specs.Plans.{position_at, PlanState, IsTable};
+ghost use Rattle.ht_events.specs.Items.{IsLoad, frame_items, item_at, item_count, frame_of, local_of, driven_net};
+ghost use Rattle.ht_events.specs.FramePlans.{IsTable};
+ghost use Rattle.ht_events.specs.Plans.{position_at};
 
-use crate::frame_length::FrameLength;
-use crate::readers::Readers;
-use ht_net::{Circuit, NetId};
-use ht_ranks::ranking;
-use std::alloc::{AllocError, Global};
+use crate::frame_plan::FramePlan;
+use ht_net::NetId;
 use std::marker::Model;
+use std::rc::Rc;
 
 /// The most frames of a plan: the longest window of a search. The weights of 1 to 446 frames sum to 99,681, so a budget
 /// of 100,000 reaches no longer one.
@@ -19,14 +17,8 @@ pub const MAX_FRAMES: u32 = 447;
 /// A circuit over some frames, what reads each net, and the order in which items are fired.
 #[derive(Drop)]
 pub struct Plan<'c> {
-    circuit: &'c Circuit,
+    frame_plan: Rc<FramePlan<'c>>,
     frames: u32,
-    // for each net the items of a frame that read it
-    readers: Readers,
-    // the items of a frame in the order in which they are fired, and the rank of each there
-    order: Vec<u32>,
-    ranks: Vec<u32>,
-    frame_length: FrameLength,
 }
 
 impl<'c> Model for Plan<'c> {
@@ -37,10 +29,10 @@ impl<'c> Model for Plan<'c> {
     ghost use Rattle.ht_events.specs.Plans.{IsPlan};
 
     ghost view = { λ a. record {
-      circuit = a.circuit.now;
+      circuit = a.frame_plan.value.circuit;
       frames = a.frames;
-      readers = a.readers;
-      ranks = a.ranks.items;
+      readers = a.frame_plan.value.readers;
+      ranks = a.frame_plan.value.ranks;
     } };
 
     ghost invariant = { IsPlan };
@@ -48,25 +40,13 @@ impl<'c> Model for Plan<'c> {
 
 impl<'c> Plan<'c> {
     /// A plan for a circuit over some frames.
-    ///
-    /// # Errors
-    /// Out of memory.
-    pub fn new(alloc: Global, circuit: &'c Circuit, frames: u32) -> Result<Plan<'c>, AllocError>
+    pub fn new(frame_plan: Rc<FramePlan<'c>>, frames: u32) -> Plan<'c>
         requires some { 0 < frames }
         requires few { frames ≤ MAX_FRAMES }
-        ensures circuit { IfOk result (λ plan. plan.circuit ≡ circuit.now) }
-        ensures frames { IfOk result (λ plan. plan.frames ≡ frames) }
+        ensures circuit { result.circuit ≡ frame_plan.entry.value.circuit }
+        ensures frames { result.frames ≡ frames }
     {
-        let _ = circuit.nets();
-        let (order, ranks) = ranking(alloc, circuit, circuit.dffs())?;
-        Ok(Plan {
-            circuit,
-            frames,
-            readers: Readers::new(alloc, circuit)?,
-            order,
-            ranks,
-            frame_length: FrameLength::new(circuit.dffs() + circuit.gates()),
-        })
+        Plan { frame_plan, frames }
     }
 
     /// How many frames there are.
@@ -82,8 +62,7 @@ impl<'c> Plan<'c> {
         ensures items { result ≡ frame_items self.now.circuit }
         ensures circuit { IsCircuit self.now.circuit }
     {
-        let _ = self.circuit.nets();
-        self.circuit.dffs() + self.circuit.gates()
+        self.frame_plan.items()
     }
 
     /// How many items all frames have.
@@ -98,14 +77,14 @@ impl<'c> Plan<'c> {
     pub fn dffs(&self) -> u32
         ensures { result ≡ length self.now.circuit.dffs }
     {
-        self.circuit.dffs()
+        self.frame_plan.circuit().dffs()
     }
 
     /// How many inputs the circuit has.
     pub fn inputs(&self) -> u32
         ensures { result ≡ self.now.circuit.inputs }
     {
-        self.circuit.inputs()
+        self.frame_plan.circuit().inputs()
     }
 
     /// An item's frame.
@@ -114,8 +93,8 @@ impl<'c> Plan<'c> {
         ensures frame { result ≡ frame_of self.now.circuit item }
         ensures inside { result < self.now.frames }
     {
-        let _ = self.frame_items();
-        self.frame_length.split(item).0
+        let _ = self.items();
+        self.frame_plan.split(item).0
     }
 
     /// An item's index in its frame, from 0.
@@ -124,8 +103,8 @@ impl<'c> Plan<'c> {
         ensures local { result ≡ local_of self.now.circuit item }
         ensures inside { result < frame_items self.now.circuit }
     {
-        let _ = self.frame_items();
-        self.frame_length.split(item).1
+        let _ = self.items();
+        self.frame_plan.split(item).1
     }
 
     /// The net that an item drives.
@@ -134,13 +113,7 @@ impl<'c> Plan<'c> {
         ensures net { result.0 ≡ driven_net self.now.circuit (local_of self.now.circuit item) }
         ensures known { result.0 < net_count self.now.circuit }
     {
-        let local = self.local(item);
-        let dffs = self.circuit.dffs();
-        if local < dffs {
-            self.circuit.dff_net(local)
-        } else {
-            self.circuit.gate_net(local - dffs)
-        }
+        self.frame_plan.net(self.local(item))
     }
 
     /// Where an item stands in the order of all, from 0.
@@ -157,7 +130,7 @@ impl<'c> Plan<'c> {
         let items = self.frame_items();
         let frame = self.frame(item);
         let local = self.local(item);
-        frame * items + self.ranks[local as usize]
+        frame * items + self.frame_plan.rank(local)
     }
 
     /// The item that stands there in the order of all.
@@ -173,7 +146,7 @@ impl<'c> Plan<'c> {
         let items = self.frame_items();
         let frame = self.frame(position);
         let local = self.local(position);
-        frame * items + self.order[local as usize]
+        frame * items + self.frame_plan.item(local)
     }
 
     /// The item with this index in a frame.
@@ -194,6 +167,6 @@ impl<'c> Plan<'c> {
         ensures readers { result.now ≡ get_or self.now.readers net.0 [] }
         ensures table { IsTable self.now.circuit self.now.readers }
     {
-        self.readers.row(net)
+        self.frame_plan.readers(net)
     }
 }
