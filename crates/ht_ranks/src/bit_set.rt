@@ -1,5 +1,6 @@
 //! A set of numbers below a bound, in words of 64 bits.
-ghost use Rattle.std.specs.Prelude.{◌≡◌, ◌<◌, ◌≤◌, ◌*◌, ◌^◌, ℕ, true, false, length, get_or, replicate, set, IfOk, IfSome, IfNone};
+ghost use Rattle.std.specs.Prelude.{◌≡◌, ◌<◌, ◌≤◌, ◌*◌, ◌^◌, ℕ, true, false, length, get_or, replicate, set, All, IfOk, IfSome, IfNone};
+ghost use Rattle.std.specs.List.{Contains};
 ghost use Rattle.ht_ranks.specs.BitSets.{IsFirstMark, is_marked, with_bit};
 
 use std::alloc::{AllocError, Global};
@@ -93,6 +94,21 @@ impl BitSet {
         ensures { self.new ≡ set self.old i true }
     {
         self.write(i, true);
+    }
+
+    /// Adds numbers.
+    pub fn insert_all(&mut self, numbers: &[u32])
+        requires { All (λ i. i < length self.old) numbers.now }
+        ensures count { length self.new ≡ length self.old }
+        ensures all { (i : ℕ) → Contains numbers.now i → get_or self.new i false ≡ true }
+        ensures more { (i : ℕ) → get_or self.old i false ≡ true
+            → get_or self.new i false ≡ true }
+        ensures rest { (i : ℕ) → ¬ Contains numbers.now i
+            → get_or self.new i false ≡ get_or self.old i false }
+    {
+        for number in numbers {
+            self.insert(*number);
+        }
     }
 
     /// Takes a number away.
