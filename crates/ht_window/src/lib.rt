@@ -18,6 +18,7 @@
 #![tactic(auto)]
 
 mod back;
+mod base;
 mod cube;
 mod decided;
 mod frames;
@@ -26,6 +27,7 @@ mod places;
 mod sets;
 mod start;
 mod status;
+mod turn;
 mod window;
 
 pub use ht_events::MAX_FRAMES;

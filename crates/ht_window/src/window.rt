@@ -29,9 +29,9 @@ use std::marker::Model;
 #[derive(Drop)]
 pub struct Window<'c> {
     pub(crate) held: Held<'c>,
-    core: Core<'c>,
+    pub(crate) core: Core<'c>,
     // the mark before each decision
-    marks: Vec<u64>,
+    pub(crate) marks: Vec<u64>,
 }
 
 impl<'c> Model for Window<'c> {
