@@ -41,22 +41,6 @@ cells_now w path marks cells h =
     subst (λ (p : List Assign3). AreCells w p cells.values) (take_all (length path) path (omega arith))
     (subst (AreCells w (take (length path) path)) at (h.at (length path) (omega arith)))
 
--- before the first decision
-pub history_first : (w : SearchWindow) (path : List Assign3) (marks : List ℕ) (cells : CellsState (List Pair))
-    → path ≡ [] → marks ≡ [] → AreCells w path cells.values → IsHistory w path marks cells
-history_first w path marks cells ps ms are =
-    let pn : length path ≡ 0 = ap length ps in
-    let mn : length marks ≡ 0 = ap length ms in
-    record {
-      count = omega (arith, pn, mn);
-      rising = λ j k l ks. absurd (omega (arith, l, ks, mn));
-      at = λ k ks.
-          let at : at_mark cells (decision_mark marks cells k)
-          ≡ cells.values = ap (at_mark cells) (mark_last marks cells k (omega (arith, ks, pn, mn))) ∙ mark_now cells in
-          subst (λ (p : List Assign3). AreCells w p (at_mark cells (decision_mark marks cells k)))
-          (sym (take_all k path (omega (arith, pn)))) (subst (AreCells w path) (sym at) are);
-    }
-
 pub history_push : (w : SearchWindow) (path after : List Assign3) (d : Assign3) (marks more : List ℕ)
     (a b : CellsState (List Pair))
     → after ≡ path ++ d ∷ [] → more ≡ marks ++ length a.trail ∷ [] → IsLater a b → length a.trail < length b.trail

@@ -1,12 +1,11 @@
 -- What stands as nets are renewed, and after all have followed.
-use Rattle.std.proofs.Common.{◌≡◌, ◌≢◌, ◌<◌, ◌≤◌, ◌+◌, ◌-◌, ◌⊎◌, inl, inr, ℕ, List, Bool, true, false, length, set, refl, sym, ◌∙◌, ap, arith, subst}
+use Rattle.std.proofs.Common.{◌≡◌, ◌≢◌, ◌<◌, ◌≤◌, ◌+◌, ◌-◌, ◌⊎◌, inl, inr, ℕ, List, true, length, set, refl, sym, ◌∙◌, arith, subst}
 use Rattle.std.proofs.lemmas.Bool.{cases_Bool}
 use Rattle.std.proofs.lemmas.Bool.Decides.{eqb_tells}
 use Rattle.ht_pairs.specs.Pairs.{Pair}
 use Rattle.ht_net.specs.Netlist.{Netlist, net_count, first_gate_net}
 use Rattle.ht_net.proofs.FrameLaws.{le_or_lt}
 use Rattle.ht_events.specs.Items.{item_at, item_count, frame_of, local_of, driven_net, IsReader}
-use Rattle.ht_events.specs.Plans.{PlanState}
 use Rattle.ht_events.specs.Pending.{CoreState, IsPending, QuietAgree, core_items}
 use Rattle.ht_tree.specs.Windows.{SearchWindow, IsWindow}
 use Rattle.ht_window.specs.Standing.{Standing}
@@ -35,9 +34,9 @@ renewed_more s t u a b d h k = record {
 
 -- Nets are renewed one by one, the first n of them so far: net `net k` of frame `frame k`.
 pub record AreRenewed (s : CoreState) (a : HeldState) (t : CoreState) (b : HeldState) (frame net : ℕ → ℕ) (n : ℕ)
-  : Type 0 where
-    pub renewed : IsRenewed s a t b
-    pub done : (k : ℕ) → k < n → HoldsOrPends t b (frame k) (net k)
+    : Type 0 where
+  pub renewed : IsRenewed s a t b
+  pub done : (k : ℕ) → k < n → HoldsOrPends t b (frame k) (net k)
 
 pub none_renewed : (s : CoreState) (a : HeldState) (frame net : ℕ → ℕ) → AreRenewed s a s a frame net 0
 none_renewed s a frame net = record { renewed = renewed_now s a; done = λ k less. absurd (omega (arith, less)) }

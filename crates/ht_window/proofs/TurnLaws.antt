@@ -1,7 +1,7 @@
 -- Which nets get the same under another fault and another start, and the cells of the first frames.
-use Rattle.std.proofs.Common.{◌≡◌, ◌<◌, ◌≤◌, ◌+◌, ◌*◌, ◌-◌, inl, inr, ℕ, suc, zero, List, Bool, true, false, Option, None, Some, cond, eqb, ltb, ◌&&◌, map, length, get_or, take, refl, sym, ◌∙◌, ap, arith}
+use Rattle.std.proofs.Common.{◌≡◌, ◌<◌, ◌≤◌, ◌+◌, ◌*◌, ◌-◌, inl, inr, ℕ, suc, zero, List, Bool, false, Option, None, Some, cond, map, length, get_or, take, refl, sym, ◌∙◌, ap, arith, subst}
 use Rattle.std.specs.List.{range_with_len}
-use Rattle.std.proofs.lemmas.Bool.Decides.{nat_tests, eqb_tells}
+use Rattle.std.proofs.lemmas.Bool.Decides.{nat_tests}
 use Rattle.std.proofs.lemmas.List.{get_or-take}
 use Rattle.ht_pairs.specs.Pairs.{Pair, pair, lifted_set, stuck_set}
 use Rattle.ht_net.specs.declared.fault.Site.{Site}
@@ -16,20 +16,14 @@ use Rattle.ht_frame.proofs.PinLaws.{plain_pins}
 use Rattle.ht_tree.proofs.PlaceLaws.{taken_at}
 use Rattle.ht_tree.specs.declared.token.Assign3.{Assign3}
 use Rattle.ht_tree.specs.Decisions.{is_in, decided_value, latch_pairs, latch_values_left}
-use Rattle.ht_tree.specs.Windows.{SearchWindow, Start, one_frame, unknown, state_pair, back, IsWindow, IsStart, first_latch, frame_inputs, pair_set_rules, latches_at, cell_at}
+use Rattle.ht_tree.specs.Windows.{SearchWindow, Start, one_frame, unknown, state_pair, back, IsWindow, first_latch, frame_inputs, pair_set_rules, latches_at}
 use Rattle.ht_window.specs.Cells.{env_at, blank, latches_over, value_over, HoldsValue, AreCells}
-use Rattle.ht_window.specs.Turns.{is_line_of, is_reached}
+use Rattle.ht_window.specs.Standing.{Standing}
+use Rattle.ht_window.specs.Holding.{HeldState}
+use Rattle.ht_window.specs.Turns.{is_line_of, is_reached, HoldsElsewhere}
 use Rattle.ht_window.proofs.PlaceLaws.{rows_inside}
 use Rattle.ht_window.proofs.ReaderLaws.{over_same}
 use Rattle.ht_window.proofs.HoldLaws.{cells_hold}
-
--- a start that fits a fault fits the good machine
-pub good_start : (c : Netlist) (fault : Option Fault) (frames : ℕ) (s : Start) → IsStart c fault frames s
-    → IsStart c None frames s
-good_start c fault frames (one_frame z) h = h
-good_start c fault frames unknown h = h
-good_start c fault frames (state_pair good faulty) h = h
-good_start c fault frames (back cube limit) h = (h.0, h.1, refl)
 
 -- a stem, a data pin and the pins of a gate that the fault isn't at
 no_stem : (c : Netlist) (site : Site) (x : ℕ) → is_line_of c site x ≡ false → is_stem site x ≡ false
@@ -139,6 +133,7 @@ module _ (w : SearchWindow) (path : List Assign3) (values : List (List Pair)) wh
   -- and one that isn't a latch of the first frame what it gets from another start
   other_start : (s : Start) (f x : ℕ) → (f ≡ 0 → w.circuit.inputs ≤ x → first_gate_net w.circuit ≤ x)
       → value_over w path values f x ≡ value_over (record w { start = s }) path values f x
+  unfolding latches_over
   other_start s f x late =
       let r = pair_set_rules w.fault in
       let I = frame_inputs w path f in
@@ -150,13 +145,12 @@ module _ (w : SearchWindow) (path : List Assign3) (values : List (List Pair)) wh
             → x < first_gate_net w.circuit
             → get_or (latches_over w path values g) (x - w.circuit.inputs) blank
             ≡ get_or (latches_over (record w { start = s }) path values g) (x - w.circuit.inputs) blank
-        unfolding latches_over
         latch zero late at low = let high = late refl at in absurd (omega (arith, high, low))
         latch (suc g) late at low = refl
 
--- The cells of a window are held in the window of another fault and another start too, but for the nets that one of the
--- faults reaches first, and for the latches of the first frame.
-pub turned_hold : (w : SearchWindow) → IsWindow w → (path : List Assign3) (values : List (List Pair))
+-- a net that neither fault reaches first, and that isn't a latch of the first frame, holds its cell in the other window
+-- too
+turned_hold : (w : SearchWindow) → IsWindow w → (path : List Assign3) (values : List (List Pair))
     → AreCells w path values → (fault : Option Fault) (s : Start) (f x : ℕ) → f < w.frames → x < net_count w.circuit
     → is_reached w.circuit w.fault x ≡ false → is_reached w.circuit fault x ≡ false
     → (f ≡ 0 → w.circuit.inputs ≤ x → first_gate_net w.circuit ≤ x)
@@ -166,6 +160,22 @@ turned_hold w valid path values are fault s f x fs xs free freed late =
     ∙ (unreached w path values f x free
     ∙ (other_start (good w) path values s f x late
     ∙ sym (unreached (record w { fault = fault; start = s }) path values f x freed)))
+
+-- the cells of a window under another fault and another start
+pub turned_elsewhere : (w : SearchWindow) → IsWindow w → (path : List Assign3) (b : HeldState) (fault : Option Fault)
+    (s : Start) (before : Option Fault)
+    → b.standing ≡ record { window = record w { fault = fault; start = s }; path = path }
+    → AreCells w path b.cells.values → before ≡ w.fault → HoldsElsewhere b before
+turned_elsewhere w valid path b fault s before is are same =
+    let there : HoldsElsewhere (record {
+      standing = record { window = record w { fault = fault; start = s }; path = path };
+      cells = b.cells;
+    }) w.fault = record { holds = turned_hold w valid path b.cells.values are fault s } in
+    subst (λ (n : Standing). HoldsElsewhere (record { standing = n; cells = b.cells }) before) (sym is)
+    (subst (HoldsElsewhere (record {
+      standing = record { window = record w { fault = fault; start = s }; path = path };
+      cells = b.cells;
+    })) (sym same) there)
 
 module _ (w : SearchWindow) (path : List Assign3) (n : ℕ) where
   latches_front : (f : ℕ) → latches_at (record w { frames = n }) path f ≡ latches_at w path f

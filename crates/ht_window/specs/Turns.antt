@@ -1,5 +1,5 @@
 -- A window whose cells follow another fault and another start: which nets that reaches first, and what holds meanwhile.
-use Rattle.std.specs.Prelude.{◌≡◌, ◌<◌, ◌≤◌, ◌+◌, ◌-◌, ℕ, Bool, true, false, ◌&&◌, eqb, ltb, length, Option, Some, None}
+use Rattle.std.specs.Prelude.{◌≡◌, ◌<◌, ◌≤◌, ◌+◌, ◌-◌, ℕ, Bool, false, ◌&&◌, eqb, ltb, length, Option, Some, None}
 use Rattle.ht_net.specs.Netlist.{Netlist, net_count, first_gate_net}
 use Rattle.ht_net.specs.declared.fault.Site.{Site}
 use Rattle.ht_net.specs.declared.fault.Site.TheVariants.{Stem, DffPin, GatePin}

@@ -56,11 +56,7 @@ fn renew(held: &mut Held, core: &mut Core, frame: u32, net: u32) -> Result<(), A
 }
 
 // Renews the net that a fault reaches first, in each frame.
-fn renew_line(
-    held: &mut Held,
-    core: &mut Core,
-    fault: Option<Fault>,
-) -> Result<(), AllocError>
+fn renew_line(held: &mut Held, core: &mut Core, fault: Option<Fault>) -> Result<(), AllocError>
     requires circuit { core.old.plan.circuit ≡ held.old.standing.window.circuit }
     requires frames { core.old.plan.frames ≡ held.old.standing.window.frames }
     ensures renewed { OnOk result (IsRenewed core.old held.old core.new held.new) }

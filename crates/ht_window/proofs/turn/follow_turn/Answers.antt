@@ -1,7 +1,7 @@
 use Rattle.std.proofs.Common.{◌≡◌, ◌<◌, ◌≤◌, ◌∙◌, true, ℕ, ap, sym, subst}
-use Rattle.ht_net.specs.Netlist.{Netlist, net_count, first_gate_net}
+use Rattle.ht_net.specs.Netlist.{net_count, first_gate_net}
 use Rattle.ht_events.specs.Plans.{PlanState}
-use Rattle.ht_tree.specs.Windows.{SearchWindow, IsWindow}
+use Rattle.ht_tree.specs.Windows.{IsWindow}
 use Rattle.ht_window.specs.Standing.{Standing}
 use Rattle.ht_window.specs.Cells.{AreCells}
 use Rattle.ht_window.specs.Turns.{HoldsOrPends, is_reached}

@@ -1,7 +1,7 @@
-use Rattle.std.proofs.Common.{◌≡◌, ◌<◌, ◌∙◌, ap, sym, subst}
+use Rattle.std.proofs.Common.{◌<◌, ◌∙◌, ap, sym, subst}
 use Rattle.ht_net.specs.Netlist.{net_count}
 use Rattle.ht_window.specs.Holding.{HeldState}
-use Rattle.ht_window.specs.Turns.{HoldsOrPends, IsRenewed}
+use Rattle.ht_window.specs.Turns.{IsRenewed}
 use Rattle.ht_window.proofs.RenewLaws.{renewed_write, written_holds}
 use Rattle.ht_window.proofs.turn.renew.Goals as goal
 

@@ -1,5 +1,5 @@
-use Rattle.std.proofs.Common.{◌≡◌, ◌<◌, ◌+◌, ◌-◌, ◌∙◌, ℕ, ap, sym, arith, length, subst}
-use Rattle.ht_net.specs.Netlist.{Netlist, net_count, first_gate_net}
+use Rattle.std.proofs.Common.{◌≡◌, ◌+◌, ◌-◌, ◌∙◌, ℕ, ap, sym, arith, length, subst}
+use Rattle.ht_net.specs.Netlist.{Netlist, net_count}
 use Rattle.ht_events.specs.Plans.{PlanState}
 use Rattle.ht_window.specs.Standing.{Standing}
 use Rattle.ht_window.specs.Turns.{HoldsOrPends}

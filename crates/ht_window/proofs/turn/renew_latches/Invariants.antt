@@ -1,4 +1,4 @@
-use Rattle.std.proofs.Common.{ℕ, ◌+◌}
+use Rattle.std.proofs.Common.{◌+◌}
 use Rattle.ht_window.proofs.RenewLaws.{AreRenewed}
 use Rattle.ht_window.proofs.turn.renew_latches.Given as goal
 

@@ -1,4 +1,3 @@
-use Rattle.std.proofs.Common.{ℕ}
 use Rattle.ht_window.proofs.RenewLaws.{AreRenewed}
 use Rattle.ht_window.proofs.turn.renew_line.Given as goal
 
