@@ -75,7 +75,7 @@ impl<'c> FramePlan<'c> {
         ensures circuit { IsCircuit self.now.circuit }
     {
         let _ = self.circuit.nets();
-        self.circuit.dffs() + self.circuit.gates()
+        self.frame_length.items()
     }
 
     /// An item's frame, and its index there, from 0.

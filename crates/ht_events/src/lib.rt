@@ -9,6 +9,7 @@
 mod event_core;
 mod frame_length;
 mod frame_plan;
+mod marks;
 mod plan;
 mod plant;
 mod readers;

@@ -57,20 +57,12 @@ impl<'c> Plan<'c> {
         self.frames
     }
 
-    /// How many items a frame has.
-    pub fn frame_items(&self) -> u32
-        ensures items { result ≡ frame_items self.now.circuit }
-        ensures circuit { IsCircuit self.now.circuit }
-    {
-        self.frame_plan.items()
-    }
-
     /// How many items all frames have.
     pub fn items(&self) -> u32
-        ensures { result ≡ item_count self.now.circuit self.now.frames }
+        ensures items { result ≡ item_count self.now.circuit self.now.frames }
+        ensures few { result < 2 ^ 32 - 1 }
     {
-        let _ = self.frames();
-        self.frames * self.frame_items()
+        self.frames * self.frame_plan.items()
     }
 
     /// How many flip-flops the circuit has.
@@ -80,40 +72,25 @@ impl<'c> Plan<'c> {
         self.frame_plan.circuit().dffs()
     }
 
-    /// How many inputs the circuit has.
-    pub fn inputs(&self) -> u32
-        ensures { result ≡ self.now.circuit.inputs }
-    {
-        self.frame_plan.circuit().inputs()
-    }
-
-    /// An item's frame.
-    pub fn frame(&self, item: u32) -> u32
+    /// An item's frame, and its index there, from 0.
+    pub fn split(&self, item: u32) -> (u32, u32)
         requires { item < item_count self.now.circuit self.now.frames }
-        ensures frame { result ≡ frame_of self.now.circuit item }
-        ensures inside { result < self.now.frames }
+        ensures frame { result.0 ≡ frame_of self.now.circuit item }
+        ensures local { result.1 ≡ local_of self.now.circuit item }
+        ensures frame_inside { result.0 < self.now.frames }
+        ensures local_inside { result.1 < frame_items self.now.circuit }
     {
         let _ = self.items();
-        self.frame_plan.split(item).0
+        self.frame_plan.split(item)
     }
 
-    /// An item's index in its frame, from 0.
-    pub fn local(&self, item: u32) -> u32
-        requires { item < item_count self.now.circuit self.now.frames }
-        ensures local { result ≡ local_of self.now.circuit item }
-        ensures inside { result < frame_items self.now.circuit }
-    {
-        let _ = self.items();
-        self.frame_plan.split(item).1
-    }
-
-    /// The net that an item drives.
-    pub fn net(&self, item: u32) -> NetId
-        requires { item < item_count self.now.circuit self.now.frames }
-        ensures net { result.0 ≡ driven_net self.now.circuit (local_of self.now.circuit item) }
+    /// The net that an item of a frame drives.
+    pub fn net(&self, local: u32) -> NetId
+        requires { local < frame_items self.now.circuit }
+        ensures net { result.0 ≡ driven_net self.now.circuit local }
         ensures known { result.0 < net_count self.now.circuit }
     {
-        self.frame_plan.net(self.local(item))
+        self.frame_plan.net(local)
     }
 
     /// Where an item stands in the order of all, from 0.
@@ -121,16 +98,34 @@ impl<'c> Plan<'c> {
         requires { item < item_count self.now.circuit self.now.frames }
         ensures position { result ≡ position_at self.now item }
         ensures inside { result < item_count self.now.circuit self.now.frames }
-        ensures few { item_count self.now.circuit self.now.frames < 2 ^ 32 - 1 }
         ensures only { (y : ℕ) → y < item_count self.now.circuit self.now.frames
             → position_at self.now y ≡ position_at self.now item → y ≡ item }
         ensures later { (y : ℕ) → IsLoad self.now.circuit self.now.frames item y
             → position_at self.now item < position_at self.now y }
     {
-        let items = self.frame_items();
-        let frame = self.frame(item);
-        let local = self.local(item);
-        frame * items + self.frame_plan.rank(local)
+        let (frame, local) = self.split(item);
+        self.local_position(frame, local)
+    }
+
+    /// Where the item with this index in a frame stands in the order of all, from 0.
+    pub fn local_position(&self, frame: u32, local: u32) -> u32
+        requires frame { frame < self.now.frames }
+        requires local { local < frame_items self.now.circuit }
+        ensures position { result ≡ position_at self.now (item_at self.now.circuit frame local) }
+        ensures inside { result < item_count self.now.circuit self.now.frames }
+        ensures item { item_at self.now.circuit frame local
+            < item_count self.now.circuit self.now.frames }
+        ensures only { (y : ℕ) → y < item_count self.now.circuit self.now.frames
+            → position_at self.now y ≡ position_at self.now (item_at self.now.circuit frame local)
+            → y ≡ item_at self.now.circuit frame local }
+        ensures later { (y : ℕ) → IsLoad self.now.circuit self.now.frames
+            (item_at self.now.circuit frame local) y
+            → position_at self.now (item_at self.now.circuit frame local)
+            < position_at self.now y }
+    {
+        let _ = self.items();
+        let plan: &FramePlan = &self.frame_plan;
+        frame * plan.items() + plan.rank(local)
     }
 
     /// The item that stands there in the order of all.
@@ -138,27 +133,15 @@ impl<'c> Plan<'c> {
         requires { position < item_count self.now.circuit self.now.frames }
         ensures item { position_at self.now result ≡ position }
         ensures inside { result < item_count self.now.circuit self.now.frames }
+        ensures few { item_count self.now.circuit self.now.frames < 2 ^ 32 - 1 }
         ensures only { (y : ℕ) → y < item_count self.now.circuit self.now.frames
             → position_at self.now y ≡ position → y ≡ result }
         ensures later { (y : ℕ) → IsLoad self.now.circuit self.now.frames result y
             → position < position_at self.now y }
     {
-        let items = self.frame_items();
-        let frame = self.frame(position);
-        let local = self.local(position);
-        frame * items + self.frame_plan.item(local)
-    }
-
-    /// The item with this index in a frame.
-    pub fn item_at(&self, frame: u32, local: u32) -> u32
-        requires frame { frame < self.now.frames }
-        requires local { local < frame_items self.now.circuit }
-        ensures item { result ≡ item_at self.now.circuit frame local }
-        ensures inside { result < item_count self.now.circuit self.now.frames }
-    {
-        let _ = self.frames();
-        let items = self.frame_items();
-        frame * items + local
+        let (frame, rank) = self.split(position);
+        let plan: &FramePlan = &self.frame_plan;
+        frame * plan.items() + plan.item(rank)
     }
 
     /// The items of a frame that read a net.

@@ -9,33 +9,35 @@ use Rattle.ht_events.proofs.plan.Plan.item.Goals as goal
 ranking : (c : goal.After-item) → let f = c.self.inside.frame_plan.value in
     AreRanked f.circuit (length f.circuit.dffs) f.order f.ranks
 ranking c = subst (λ (f : FramePlanState). AreRanked f.circuit (length f.circuit.dffs) f.order f.ranks)
-    c.deref.ensures c.item.ensures.ranking
+    c.deref-plan.ensures c.item.ensures.ranking
 
 -- the item is the one of its position, and one of all
 both : (c : goal.After-item) → c.args.position < item_count c.args.self.now.circuit c.args.self.now.frames
-    → (position_at c.args.self.now (c.frame-frame.result * c.frame_items-items.result + c.item.result)
+    → (position_at c.args.self.now (c.split-frame.result.0 * c.items.result + c.item.result)
     ≡ c.args.position)
-    × (c.frame-frame.result * c.frame_items-items.result
+    × (c.split-frame.result.0 * c.items.result
     + c.item.result < item_count c.args.self.now.circuit c.args.self.now.frames)
 both c known =
     let a = c.self.inside in
     let f = a.frame_plan.value in
     let r = ranking c in
     let p = c.args.position in
-    let frame = c.frame-frame.result in
-    let n = c.frame_items-items.result in
+    let frame = c.split-frame.result.0 in
+    let n = c.items.result in
     let o = c.item.result in
     let P : PlanState → Type 0 = λ (s : PlanState). p < item_count s.circuit s.frames → frame ≡ frame_of s.circuit p
-    → n ≡ frame_items s.circuit → c.local-local.result ≡ local_of s.circuit p
+    → n ≡ frame_items s.circuit → c.split-frame.result.1 ≡ local_of s.circuit p
     → (position_at s (frame * n + o) ≡ p) × (frame * n + o < item_count s.circuit s.frames) in
     subst P c.self.view_is (λ inside fs ns ls.
     let os : o ≡ get_or f.order (local_of f.circuit p) 0 = c.item.ensures.item
-    ∙ (ap (λ (f : FramePlanState). get_or f.order c.local-local.result 0) c.deref.ensures
+    ∙ (ap (λ (f : FramePlanState). get_or f.order c.split-frame.result.1 0) c.deref-plan.ensures
     ∙ ap (λ (k : ℕ). get_or f.order k 0) ls) in (
       ranked_item f.circuit f.order f.ranks r a.frames p frame n o inside fs ns os,
       ranked_inside f.circuit f.order f.ranks r a.frames p frame n o inside fs ns os,
     ))
-    known c.frame-frame.ensures.frame c.frame_items-items.ensures.items c.local-local.ensures.local
+    known c.split-frame.ensures.frame (c.items.ensures.items
+    ∙ (ap (λ (f : FramePlanState). frame_items f.circuit) c.deref-plan.ensures
+    ∙ ap (λ (s : PlanState). frame_items s.circuit) c.self.view_is)) c.split-frame.ensures.local
 
 pub returns-clause-item : goal.returns-clause-item
 returns-clause-item c = (both c c.requires).0
