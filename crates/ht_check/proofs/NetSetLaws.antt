@@ -11,7 +11,7 @@ use Rattle.ht_net.proofs.OrderLaws.{frame_gate}
 use Rattle.ht_frame.proofs.WriteLaws.{all_have, driven_have}
 use Rattle.ht_tree.specs.Windows.{pair_set_rules}
 use Rattle.ht_check.specs.GateSets.{AreGatesSettled, IsMarkedOr, sets_of}
-use Rattle.ht_check.specs.NetSetsOf.{AreNetSets}
+use Rattle.ht_check.specs.NetSetsOf.{AreNetSetsUnder}
 use Rattle.ht_check.specs.declared.net_sets.NetSets.{NetSets}
 
 -- After k gates of an order: what is ready has its set in the frame, and has the set that it had before if it isn't
@@ -194,7 +194,7 @@ pub frame_done : (c : Netlist) (circuit : IsCircuit c) (fault : Option Fault) (v
     → s.changed.items ≡ changed → s.pins.items ≡ pins → length values ≡ net_count c → length changed ≡ net_count c
     → length pins ≡ max_arguments
     → ((x : ℕ) → x < net_count c → sets_of values x ≡ net_value c (pair_set_rules fault) vector latches x)
-    → AreNetSets c fault (record s { settled = true })
+    → AreNetSetsUnder c fault (record s { settled = true })
 frame_done c circuit fault vector latches s values pins changed v m p values_long changed_long pins_long have = record {
   circuit = circuit;
   values = ap (λ (l : List (List Pair)). length l) v ∙ values_long;

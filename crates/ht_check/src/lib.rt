@@ -26,6 +26,7 @@ mod frame_sets;
 mod fresh_start;
 mod fresh_window;
 mod judged;
+mod kept_frames;
 mod net_sets;
 mod spent_walks;
 mod sweeps;
@@ -35,7 +36,8 @@ mod told_states;
 mod vector_runs;
 mod walks;
 
-pub use entries::entry;
+pub use entries::{entry, entry_by_frames};
 pub use fresh_window::FreshWindow;
 pub use judged::JudgedWindow;
+pub use kept_frames::KeptFrames;
 pub use walks::{Finding, judge_walk};

@@ -5,11 +5,13 @@ ghost use Rattle.ht_net.specs.Netlist.{first_gate_net, gate_at, net_count, no_ne
 ghost use Rattle.ht_net.specs.Frame.{frame_outputs, gate_output, net_value, next_state, values_at};
 ghost use Rattle.ht_tree.specs.Windows.{pair_set_rules};
 ghost use Rattle.ht_check.specs.GateSets.{AreGatesSettled, IsMarkedOr, sets_of};
-ghost use Rattle.ht_check.specs.NetSetsOf.{AreNetSets};
+ghost use Rattle.ht_check.specs.NetSetsOf.{AreNetSets, AreNetSetsUnder};
+ghost use Rattle.ht_ranks.specs.Schedules.{IsSchedule};
 
 use ht_frame::{MAX_GATE_PINS, capture, gate_output, settle, stem};
 use ht_net::{Circuit, Fault, NetId};
 use ht_pairs::PairSet;
+use ht_ranks::Schedule;
 use std::alloc::{AllocError, Global};
 
 /// The sets of a circuit's nets in a frame, from which the next one settles. All room is taken once, when it is made.
@@ -21,6 +23,8 @@ pub struct NetSets {
     changed: Vec<bool>,
     // room for the pins of one gate
     pins: Vec<PairSet>,
+    // the fault of the frame before
+    fault: Option<Fault>,
     // whether there was a frame
     settled: bool,
 }
@@ -31,13 +35,14 @@ impl NetSets {
     /// # Errors
     /// Out of memory.
     pub fn new(alloc: Global, circuit: &Circuit) -> Result<NetSets, AllocError>
-        ensures { (fault : Option Fault) → IfOk result (AreNetSets circuit.now fault) }
+        ensures { IfOk result (AreNetSets circuit.now) }
     {
         let nets = circuit.nets() as usize;
         Ok(NetSets {
             values: vec![in alloc; PairSet::both_same(); nets]?,
             changed: vec![in alloc; false; nets]?,
             pins: vec![in alloc; PairSet::both_same(); MAX_GATE_PINS]?,
+            fault: None,
             settled: false,
         })
     }
@@ -52,8 +57,9 @@ impl NetSets {
     )
         requires vector { length vector.now ≡ circuit.now.inputs }
         requires latches { length latches.now ≡ length circuit.now.dffs }
-        requires nets { AreNetSets circuit.now fault self.old }
-        ensures nets { AreNetSets circuit.now fault self.new }
+        requires nets { AreNetSetsUnder circuit.now fault self.old }
+        ensures nets { AreNetSetsUnder circuit.now fault self.new }
+        ensures fault { self.new.fault ≡ self.old.fault }
         ensures sets { (x : ℕ) → x < net_count circuit.now → sets_of self.new.values.items x
             ≡ net_value circuit.now (pair_set_rules fault) vector.now latches.now x }
     {
@@ -74,26 +80,32 @@ impl NetSets {
         self.settled = true;
     }
 
-    /// Runs a frame of the circuit and fault of the frames before: `outputs` get what the outputs show, and `latches`
-    /// take what stands at their data pins.
+    /// Runs a frame of the circuit of the frames before: `outputs` get what the outputs show, and `latches` take what
+    /// stands at their data pins.
     pub fn run(
         &mut self,
         circuit: &Circuit,
+        _schedule: &Schedule,
         fault: Option<Fault>,
         vector: &[PairSet],
         latches: &mut [PairSet],
         outputs: &mut [PairSet],
     )
+        requires schedule { IsSchedule circuit.now _schedule.now }
         requires vector { length vector.now ≡ circuit.now.inputs }
         requires latches { length latches.old ≡ length circuit.now.dffs }
         requires outputs { length outputs.old ≡ length circuit.now.outputs }
-        requires nets { AreNetSets circuit.now fault self.old }
-        ensures nets { AreNetSets circuit.now fault self.new }
+        requires nets { AreNetSets circuit.now self.old }
+        ensures nets { AreNetSets circuit.now self.new }
         ensures latches { latches.new
             ≡ next_state circuit.now (pair_set_rules fault) vector.now latches.old }
         ensures outputs { outputs.new
             ≡ frame_outputs circuit.now (pair_set_rules fault) vector.now latches.old }
     {
+        if self.fault != fault {
+            self.fault = fault;
+            self.settled = false;
+        }
         self.settle(circuit, fault, vector, latches);
         show(circuit, &self.values, outputs);
         capture(circuit, fault, &self.values, latches);
