@@ -155,12 +155,7 @@ fn gate_of_net(circuit: &Circuit, net: u32) -> Option<u32>
 }
 
 // Makes the gate pending that a fault is at, if it is at one.
-fn touch_fault(
-    circuit: &Circuit,
-    schedule: &Schedule,
-    fault: Option<Fault>,
-    pending: &mut BitSet,
-)
+fn touch_fault(circuit: &Circuit, schedule: &Schedule, fault: Option<Fault>, pending: &mut BitSet)
     requires schedule { IsSchedule circuit.now schedule.now }
     requires marks { length pending.old ≡ net_count circuit.now }
     ensures marks { length pending.new ≡ net_count circuit.now }
@@ -203,13 +198,7 @@ fn change_fault(
 }
 
 // Gives a net its set. Where it had another, the gates that read it are pending.
-fn write_net(
-    net: u32,
-    set: PairSet,
-    readers: &[u32],
-    values: &mut [PairSet],
-    pending: &mut BitSet,
-)
+fn write_net(net: u32, set: PairSet, readers: &[u32], values: &mut [PairSet], pending: &mut BitSet)
     requires net { net < length values.old }
     requires readers { All (λ r. r < length pending.old) readers.now }
     ensures set { sets_of values.new net ≡ set }
@@ -346,6 +335,14 @@ fn follow(
     ensures marks { length pending.new ≡ net_count circuit.now }
 {
     drive(circuit, schedule, fault, 0, vector, values, pending);
-    drive(circuit, schedule, fault, circuit.inputs(), latches, values, pending);
+    drive(
+        circuit,
+        schedule,
+        fault,
+        circuit.inputs(),
+        latches,
+        values,
+        pending,
+    );
     settle_pending(circuit, schedule, fault, values, pending, pins);
 }
