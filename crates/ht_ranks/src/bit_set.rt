@@ -3,6 +3,7 @@ ghost use Rattle.std.specs.Prelude.{◌≡◌, ◌<◌, ◌≤◌, ◌*◌, ◌^
 ghost use Rattle.std.specs.List.{Contains};
 ghost use Rattle.ht_ranks.specs.BitSets.{IsFirstMark, is_marked, with_bit};
 
+use ht_lanes::has_lane;
 use std::alloc::{AllocError, Global};
 use std::marker::Model;
 
@@ -86,6 +87,14 @@ impl BitSet {
     {
         let w = (i / 64) as usize;
         self.words[w] = with_bit(self.words[w], i % 64, mark);
+    }
+
+    /// Whether a number is in the set.
+    pub fn contains(&self, i: u32) -> bool
+        requires { i < length self.now }
+        ensures { result ≡ get_or self.now i false }
+    {
+        has_lane(self.words[(i / 64) as usize], i % 64)
     }
 
     /// Adds a number.
