@@ -1,5 +1,6 @@
 //! Windows before their first decision, one made from another.
-ghost use Rattle.std.specs.Prelude.{◌≡◌, ◌≤◌, IsTrue, [], IfOk};
+ghost use Rattle.std.specs.Prelude.{◌≡◌, ◌≤◌, IsTrue, Option, [], IfOk};
+ghost use Rattle.ht_net.specs.declared.fault.Fault.{Fault};
 ghost use Rattle.ht_tree.specs.Windows.{IsStart};
 ghost use Rattle.ht_window.specs.Starts.{start_of, window_from};
 ghost use Rattle.ht_window.specs.Cells.{AreCells};
@@ -55,16 +56,17 @@ impl<'c> Window<'c> {
         Ok(Window::undecided(alloc, held, core))
     }
 
-    // Whether there is a window of so many frames with the same fault and the same start, and with no more frames.
-    pub(crate) fn has_front(&self, frames: u32) -> bool
+    // Whether a window with as many frames as this one, from another start, has a front of so many frames.
+    pub(crate) fn has_front(&self, frames: u32, start: &Start) -> bool
         ensures few { IsTrue result → frames ≤ self.now.window.frames }
-        ensures start { IsTrue result → IsStart self.now.window.circuit self.now.window.fault frames
-            self.now.window.start }
+        ensures start { IsTrue result → (fault : Option Fault)
+            → IsStart self.now.window.circuit fault frames (start_of start.now)
+            → IsStart self.now.window.circuit fault self.now.window.frames (start_of start.now) }
     {
         let _ = self.circuit();
-        match self.start() {
+        match start {
             Start::OneFrame { z: _ } | Start::Back { cube: _, limit: _ } => frames == self.frames(),
-            Start::Unknown | Start::Pair { state: _ } => 0 < frames && frames <= self.frames(),
+            Start::Unknown | Start::Pair { state: _ } => frames <= self.frames(),
         }
     }
 
@@ -116,6 +118,7 @@ impl<'c> Window<'c> {
         } = self;
         held.turn(turned);
         follow_turn(&mut held, &mut core, before)?;
+        held.forget();
         Ok(Window::undecided(alloc, held, core))
     }
 }

@@ -1,5 +1,5 @@
 //! Windows from which others are made, one for each kind of start.
-ghost use Rattle.std.specs.Prelude.{◌≡◌, ◌≤◌, [], None, IfOk, IfSome};
+ghost use Rattle.std.specs.Prelude.{◌≡◌, ◌≤◌, [], IfOk, IfSome};
 ghost use Rattle.ht_tree.specs.Windows.{IsStart};
 ghost use Rattle.ht_window.specs.Starts.{start_of, window_from};
 ghost use Rattle.ht_window.specs.BaseStates.{BasesState, IsBase};
@@ -12,12 +12,12 @@ use std::alloc::{AllocError, Global};
 use std::marker::Model;
 use std::rc::Rc;
 
-/// Windows of the good machine before their first decision, one for each kind of start. A window that is asked for is a
-/// copy of the first frames of one of them, which then follows its fault and its start by events.
+/// Windows before their first decision, one for each kind of start. One of them follows the fault and the start of a
+/// window that is asked for, by events, and the window is a copy of its first frames.
 #[derive(Drop)]
 pub struct Bases<'c> {
     frame_plan: Rc<FramePlan<'c>>,
-    // by kind of start, the longest that was asked for so far
+    // by kind of start, as long as the longest that was asked for so far, with the last fault and start
     one_frame: Option<Window<'c>>,
     unknown: Option<Window<'c>>,
     pair: Option<Window<'c>>,
@@ -88,18 +88,24 @@ impl<'c> Bases<'c> {
     }
 
     // The base of a start's kind, or a new one where it has fewer frames than these.
-    fn base(&mut self, alloc: Global, frames: u32, start: &Start) -> Result<Window<'c>, AllocError>
+    fn base(
+        &mut self,
+        alloc: Global,
+        fault: Option<Fault>,
+        frames: u32,
+        start: &Start,
+    ) -> Result<Window<'c>, AllocError>
         requires frames { frames ≤ MAX_FRAMES }
-        requires start { IsStart self.old.circuit None frames (start_of start.now) }
+        requires start { IsStart self.old.circuit fault frames (start_of start.now) }
         ensures circuit { self.new.circuit ≡ self.old.circuit }
         ensures base { IfOk result (IsBase self.old.circuit) }
         ensures few { IfOk result (λ w. frames ≤ w.window.frames) }
-        ensures start { IfOk result (λ w. IsStart w.window.circuit w.window.fault frames
-            w.window.start) }
+        ensures start { IfOk result (λ w. IsStart self.old.circuit fault w.window.frames
+            (start_of start.now)) }
     {
         match self.take(start) {
-            Some(base) if base.has_front(frames) => Ok(base),
-            _ => Window::planned(alloc, self.frame_plan.clone()?, None, frames, start),
+            Some(base) if base.has_front(frames, start) => Ok(base),
+            _ => Window::planned(alloc, self.frame_plan.clone()?, fault, frames, start),
         }
     }
 
@@ -122,9 +128,11 @@ impl<'c> Bases<'c> {
         ensures decisions { IfOk result (λ w. w.decisions ≡ []) }
         ensures marks { IfOk result (λ w. w.marks ≡ []) }
     {
-        let base = self.base(alloc, frames, start)?;
-        let front = base.front(alloc, self.frame_plan.clone()?, frames)?;
+        let base = self
+            .base(alloc, fault, frames, start)?
+            .turned(alloc, fault, start)?;
+        let window = base.front(alloc, self.frame_plan.clone()?, frames)?;
         self.keep(start, base);
-        front.turned(alloc, fault, start)
+        Ok(window)
     }
 }

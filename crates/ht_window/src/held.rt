@@ -253,6 +253,14 @@ impl<'c> Held<'c> {
         self.decided = decided;
     }
 
+    /// Forgets what the cells held before.
+    pub fn forget(&mut self)
+        ensures standing { self.new.standing ≡ self.old.standing }
+        ensures values { self.new.cells.values ≡ self.old.cells.values }
+    {
+        self.cells.forget();
+    }
+
     /// The frame and the net of an item.
     fn item_place(&self, item: u32) -> (u32, u32)
         requires { item < item_count self.now.standing.window.circuit
