@@ -1,162 +1,161 @@
 -- Nets whose sets follow the sources of a frame.
-use Rattle.std.proofs.Common.{◌≡◌, ◌≢◌, ◌<◌, ◌≤◌, ◌+◌, ◌-◌, ◌∙◌, ℕ, List, Bool, true, false, Option, length, get_or, ap, sym, refl, subst, arith, inl, inr}
+use Rattle.std.specs.Prelude.{set}
+use Rattle.std.specs.List.{Contains}
+use Rattle.std.proofs.Common.{◌≡◌, ◌≢◌, ◌<◌, ◌≤◌, ◌+◌, ◌-◌, ◌∙◌, ℕ, List, [], ◌∷◌, Bool, true, false, Option, Some, None, cond, length, get_or, ap, sym, refl, subst, arith, inl, inr}
 use Rattle.std.proofs.lemmas.Bool.Decides.{eqb_tells}
-use Rattle.ht_pairs.specs.Pairs.{Pair}
+use Rattle.std.proofs.lemmas.List.{get_or-set_other}
+use Rattle.ht_tern.specs.declared.tern.Tern.TheVariants.{Unk}
+use Rattle.ht_pairs.specs.Pairs.{Pair, pair, lifted_set, stuck_set}
+use Rattle.ht_net.specs.declared.fault.Site.{Site}
+use Rattle.ht_net.specs.declared.fault.Site.TheVariants.{Stem, DffPin, GatePin}
 use Rattle.ht_net.specs.declared.fault.Fault.{Fault}
-use Rattle.ht_net.specs.Netlist.{Netlist, first_gate_net, net_count, gate_at, max_arguments, no_net, IsCircuit, IsOrder, IsReady}
-use Rattle.ht_net.specs.Frame.{gate_output, net_value, net_value_over}
-use Rattle.ht_net.proofs.FrameLaws.{IsSettled, le_or_lt, frame_settled, settled_is_frame, driven_gate, gate_same, value_same}
+use Rattle.ht_net.specs.Netlist.{Netlist, first_gate_net, net_count, gate_at, arg_at, IsCircuit}
+use Rattle.ht_net.specs.Faults.{forced, is_stem}
+use Rattle.ht_net.specs.Frame.{gate_output, net_value, net_value_over, values_at}
+use Rattle.ht_net.proofs.FrameLaws.{IsSettled, le_or_lt, settled_is_frame, driven_input, driven_latch, driven_gate, gate_same}
 use Rattle.ht_net.proofs.DepthLaws.{circuit_depth}
-use Rattle.ht_net.proofs.OrderLaws.{frame_gate}
-use Rattle.ht_frame.proofs.WriteLaws.{all_have, driven_have}
+use Rattle.ht_frame.specs.StuckPins.{is_at_gate, is_pin_of}
+use Rattle.ht_frame.proofs.PinLaws.{plain_pins}
+use Rattle.ht_ranks.specs.Schedules.{IsSchedule}
+use Rattle.ht_ranks.specs.declared.schedule.Schedule.{Schedule}
+use Rattle.ht_ranks.proofs.ReaderLaws.{reads_pin}
+use Rattle.ht_ranks.proofs.ScheduleLaws.{no_self}
 use Rattle.ht_tree.specs.Windows.{pair_set_rules}
-use Rattle.ht_check.specs.GateSets.{AreGatesSettled, IsMarkedOr, sets_of}
-use Rattle.ht_check.specs.NetSetsOf.{AreNetSetsUnder}
-use Rattle.ht_check.specs.declared.net_sets.NetSets.{NetSets}
+use Rattle.ht_check.specs.GateSets.{AreGatesSettled, AreQuietSettled, IsGateSettled, gate_rank, is_gate_line, is_stuck_gate, sets_of}
 
--- After k gates of an order: what is ready has its set in the frame, and has the set that it had before if it isn't
--- marked; the gates that come next have what they had.
-pub record Followed (c : Netlist) (order : List ℕ) (fault : Option Fault)
-    (vector latches before values : List (List Pair)) (changed : List Bool) (k : ℕ) : Type 0 where
-  pub ready : (x : ℕ) → IsReady c order k x
-      → sets_of values x ≡ net_value c (pair_set_rules fault) vector latches x
-  pub marked : (x : ℕ) → IsReady c order k x → IsMarkedOr changed before values x
-  pub left : (j : ℕ) → k ≤ j → j < length order → sets_of values (first_gate_net c + get_or order j 0)
-      ≡ sets_of before (first_gate_net c + get_or order j 0)
+-- A mark that more marks leave off was off.
+pub was_off : (before after : Bool) → (before ≡ true → after ≡ true) → after ≡ false → before ≡ false
+was_off true after more off = let bad : true ≡ false = sym (more refl) ∙ off in cc
+was_off false after more off = refl
 
-ready_before : (c : Netlist) (order : List ℕ) (k x : ℕ) → IsReady c order (k + 1) x
-    → x ≢ first_gate_net c + get_or order k 0 → IsReady c order k x
-ready_before c order k x (inl low) ne = inl low
-ready_before c order k x (inr p) ne = elim (eqb_tells p.0 k) [
-  | inl same ↦ absurd (ne (p.2 ∙ ap (λ (n : ℕ). first_gate_net c + get_or order n 0) same.1))
-  | inr other ↦ let q : p.0 ≢ k = other.1 in inr (p.0, omega (arith, p.1), p.2)
-]
-
-module _ (c : Netlist) (order : List ℕ) (circuit : IsCircuit c) (ordered : IsOrder c order) (fault : Option Fault)
-    (vector latches before : List (List Pair)) where
-  -- One more gate has followed.
-  pub followed_next : (values next : List (List Pair)) (changed marks : List Bool) (k : ℕ)
-      → AreGatesSettled c fault before → k < length order
-      → Followed c order fault vector latches before values changed k
-      → ((b : List (List Pair)) → AreGatesSettled c fault b
-      → sets_of values (first_gate_net c + get_or order k 0) ≡ sets_of b (first_gate_net c + get_or order k 0)
-      → ((i : ℕ) → i < length (gate_at c (get_or order k 0)).args
-      → IsMarkedOr changed b values (get_or (gate_at c (get_or order k 0)).args i no_net).0)
-      → sets_of next (first_gate_net c + get_or order k 0)
-      ≡ (pair_set_rules fault).stem (first_gate_net c + get_or order k 0)
-      (gate_output c (pair_set_rules fault) (sets_of values) (get_or order k 0)))
-      → IsMarkedOr marks values next (first_gate_net c + get_or order k 0)
-      → ((x : ℕ) → x ≢ first_gate_net c + get_or order k 0 → sets_of next x ≡ sets_of values x)
-      → ((x : ℕ) → x ≢ first_gate_net c + get_or order k 0 → get_or marks x false ≡ get_or changed x false)
-      → Followed c order fault vector latches before next marks (k + 1)
-  followed_next values next changed marks k settled at f set marked sets kept =
-      let g = get_or order k 0 in
-      let net = first_gate_net c + g in
-      let F : ℕ → List Pair = net_value c (pair_set_rules fault) vector latches in
-      let same : sets_of values net ≡ sets_of before net = f.left k (omega arith) at in
-      let here : sets_of next net ≡ F net =
-      set before settled same (λ i l. f.marked _ (ordered.earlier k i at l))
-      ∙ frame_gate c order circuit ordered (pair_set_rules fault) vector latches (sets_of values) g
-      (ordered.each.within k at) (λ i l. f.ready _ (ordered.earlier k i at l)) in
-      record {
-        ready = λ x r. elim (eqb_tells x net) [
-          | inl p ↦ ap (λ (n : ℕ). sets_of next n) p.1 ∙ (here ∙ ap F (sym p.1))
-          | inr p ↦ sets x p.1 ∙ f.ready x (ready_before c order k x r p.1)
-        ];
-        marked = λ x r. elim (eqb_tells x net) [
-          | inl p ↦ subst (λ (n : ℕ). IsMarkedOr marks before next n) (sym p.1) (λ unmarked. marked unmarked ∙ same)
-          | inr p ↦ λ unmarked.
-              sets x p.1 ∙ f.marked x (ready_before c order k x r p.1) (sym (kept x p.1) ∙ unmarked)
-        ];
-        left = λ j l below.
-            sets (first_gate_net c + get_or order j 0)
-            (λ e. ordered.each.distinct k j 0 (omega arith) below (let e' = e in omega (arith, e')))
-            ∙ f.left j (omega arith) below;
-      }
-
-  -- The vector and the latches were driven.
-  pub followed_first : (inputs : ℕ) (driven values : List (List Pair)) (changed marks : List Bool)
-      → inputs ≡ c.inputs → length vector ≡ c.inputs → length latches ≡ length c.dffs
-      → ((x : ℕ) → 0 ≤ x → x < 0 + length vector
-      → sets_of driven x ≡ (pair_set_rules fault).stem x (sets_of vector (x - 0)))
-      → ((x : ℕ) → 0 ≤ x → x < 0 + length vector → IsMarkedOr changed before driven x)
-      → ((x : ℕ) → 0 + length vector ≤ x → sets_of driven x ≡ sets_of before x)
-      → ((x : ℕ) → inputs ≤ x → x < inputs + length latches
-      → sets_of values x ≡ (pair_set_rules fault).stem x (sets_of latches (x - inputs)))
-      → ((x : ℕ) → inputs ≤ x → x < inputs + length latches → IsMarkedOr marks driven values x)
-      → ((x : ℕ) → x < inputs → sets_of values x ≡ sets_of driven x)
-      → ((x : ℕ) → inputs + length latches ≤ x → sets_of values x ≡ sets_of driven x)
-      → ((x : ℕ) → x < inputs → get_or marks x false ≡ get_or changed x false)
-      → Followed c order fault vector latches before values marks 0
-  followed_first inputs driven values changed marks is wide long bits first past states next below above kept =
-      let low : (x : ℕ) → x < first_gate_net c
-      → sets_of values x ≡ net_value c (pair_set_rules fault) vector latches x =
-      driven_have c order circuit ordered (pair_set_rules fault) vector latches driven values inputs is wide long bits
-      below states in
-      let marked : (x : ℕ) → x < first_gate_net c → IsMarkedOr marks before values x =
-      λ x l unmarked. elim (le_or_lt inputs x) [
-        | inl at ↦ next x at (omega arith) unmarked ∙ past x (omega arith)
-        | inr under ↦ below x under ∙ first x (omega arith) (omega arith) (sym (kept x under) ∙ unmarked)
-      ] in
-      record {
-        ready = λ x r. elim r [ inl l ↦ low x l | inr p ↦ absurd (omega (arith, p.1)) ];
-        marked = λ x r. elim r [ inl l ↦ marked x l | inr p ↦ absurd (omega (arith, p.1)) ];
-        left = λ j l at.
-            above (first_gate_net c + get_or order j 0) (omega arith)
-            ∙ past (first_gate_net c + get_or order j 0) (omega arith);
-      }
-
-  -- All gates have followed.
-  pub followed_all : (values : List (List Pair)) (changed : List Bool) (k : ℕ) → k ≡ length order
-      → Followed c order fault vector latches before values changed k → (x : ℕ) → x < net_count c
-      → sets_of values x ≡ net_value c (pair_set_rules fault) vector latches x
-  followed_all values changed k is f x inside =
-      all_have (pair_set_rules fault).blank c order values (net_value c (pair_set_rules fault) vector latches) ordered
-      (λ y l. f.ready y (inl l))
-      (λ j l. f.ready _ (inr (j, omega arith, refl))) x inside
-
--- Where the nets have their sets in a frame, the gates are settled.
-pub frame_settles : (c : Netlist) (circuit : IsCircuit c) (fault : Option Fault)
-    (vector latches values : List (List Pair))
-    → ((x : ℕ) → x < net_count c → sets_of values x ≡ net_value c (pair_set_rules fault) vector latches x)
-    → AreGatesSettled c fault values
-unfolding net_value_over
-frame_settles c circuit fault vector latches values at = record {
-  each = λ g l.
-      let r = pair_set_rules fault in
-      let x = first_gate_net c + g in
-      let env : ℕ → List Pair = net_value c r vector latches in
-      let depth = circuit_depth c circuit in
-      let back : x - first_gate_net c ≡ g = omega arith in
-      at x (omega arith) ∙ ((frame_settled c depth.0 depth.1 r vector latches).settled x (omega arith)
-      ∙ ap (r.stem x) (driven_gate c r vector latches env x (omega arith)
-      ∙ (ap (λ (n : ℕ). gate_output c r env n) back
-      ∙ gate_same c r env (sets_of values) g (λ j m. sym (at _ (circuit.known g j l m))))));
-}
-
--- Where no net that a gate reads changed, and its own net didn't yet, the gate is settled as it was before.
-pub gate_settled : (c : Netlist) (fault : Option Fault) (g : ℕ) (before values : List (List Pair)) → g < length c.gates
-    → AreGatesSettled c fault before
+-- A gate is settled as it was where its net and those that it reads have the sets that they had.
+gate_kept : (c : Netlist) (fault : Option Fault) (g : ℕ) (before values : List (List Pair))
     → sets_of values (first_gate_net c + g) ≡ sets_of before (first_gate_net c + g)
-    → ((i : ℕ) → i < length (gate_at c g).args
-    → sets_of values (get_or (gate_at c g).args i no_net).0 ≡ sets_of before (get_or (gate_at c g).args i no_net).0)
-    → sets_of values (first_gate_net c + g) ≡ (pair_set_rules fault).stem (first_gate_net c + g)
-    (gate_output c (pair_set_rules fault) (sets_of values) g)
-gate_settled c fault g before values inside settled same read =
+    → ((i : ℕ) → i < length (gate_at c g).args → sets_of values (arg_at c g i) ≡ sets_of before (arg_at c g i))
+    → IsGateSettled c fault before g → IsGateSettled c fault values g
+gate_kept c fault g before values same read settled =
     let r = pair_set_rules fault in
-    same ∙ (settled.each g inside ∙ ap (r.stem (first_gate_net c + g))
-    (gate_same c r (sets_of before) (sets_of values) g (λ i l. sym (read i l))))
+    same ∙ (settled ∙ ap (r.stem (first_gate_net c + g))
+    (gate_same c r (sets_of before) (sets_of values) g (λ i pin. sym (read i pin))))
 
--- Where gates are settled and the nets of the sources have their sets in a frame, all nets have.
-settled_have : (c : Netlist) (circuit : IsCircuit c) (fault : Option Fault) (vector latches values : List (List Pair))
+-- Gates have the ranks from that of the first gate's net on.
+module _ (c : Netlist) (s : Schedule) (is : IsSchedule c s) where
+  pub gate_of_rank : (rank : ℕ) → first_gate_net c ≤ rank → rank < net_count c
+      → first_gate_net c ≤ get_or s.order.items rank 0
+  gate_of_rank rank high inside = elim (le_or_lt (first_gate_net c) (get_or s.order.items rank 0)) [
+    | inl gate ↦ gate
+    | inr source ↦
+        let first = is.ranks.first (get_or s.order.items rank 0) source in
+        let forth = is.ranks.forth rank inside in
+        absurd (omega (arith, first, forth, source, high))
+  ]
+
+  pub rank_of_gate : (g : ℕ) → g < length c.gates → first_gate_net c ≤ gate_rank c s g
+  rank_of_gate g inside = elim (le_or_lt (first_gate_net c) (gate_rank c s g)) [
+    | inl high ↦ high
+    | inr low ↦
+        let rank = gate_rank c s g in
+        let at : get_or s.order.items (gate_rank c s g) 0 ≡ first_gate_net c + g =
+        is.ranks.back (first_gate_net c + g) (omega arith) in
+        let first = is.ranks.first (gate_rank c s g) low in
+        let source : get_or s.order.items (gate_rank c s g) 0 ≡ gate_rank c s g =
+        ap (λ (n : ℕ). get_or s.order.items n 0) (sym first) ∙ is.ranks.back rank (omega arith) in
+        absurd (omega (arith, at, source, low))
+  ]
+
+  -- A net got a set, and where that was another its readers are pending.
+  module _ (fault : Option Fault) (net : ℕ) (before values : List (List Pair)) (touched : List Bool) (row : List ℕ)
+      (row_is : row ≡ get_or s.readers net [])
+      (others : (x : ℕ) → x ≢ net → sets_of values x ≡ sets_of before x)
+      (read : (r : ℕ) → Contains row r → get_or touched r false ≡ false → values ≡ before) where
+    still_settled : (g : ℕ) → g < length c.gates → first_gate_net c + g ≢ net
+        → get_or touched (gate_rank c s g) false ≡ false
+        → IsGateSettled c fault before g → IsGateSettled c fault values g
+    still_settled g inside ne idle =
+        gate_kept c fault g before values (others (first_gate_net c + g) ne)
+        (λ i pin. elim (eqb_tells (arg_at c g i) net) [
+          | inl p ↦
+              let has = is.readers.complete (first_gate_net c + g) (arg_at c g i) (reads_pin c g i (arg_at c g i) inside pin refl) in
+              ap (λ (l : List (List Pair)). sets_of l (arg_at c g i))
+              (read (gate_rank c s g) (subst (λ (l : List ℕ). Contains l (gate_rank c s g)) (sym row_is)
+              (subst (λ (x : ℕ). Contains (get_or s.readers x []) (gate_rank c s g)) p.1 has)) idle)
+          | inr p ↦ others (arg_at c g i) p.1
+        ])
+
+    -- It is the net of an input or a flip-flop.
+    pub source_quiet : (pending : List Bool) → net < first_gate_net c
+        → ((r : ℕ) → get_or pending r false ≡ true → get_or touched r false ≡ true)
+        → AreQuietSettled c s fault pending before → AreQuietSettled c s fault touched values
+    source_quiet pending low more quiet = record {
+      each = λ g inside idle.
+          still_settled g inside (omega arith) idle
+          (quiet.each g inside (was_off (get_or pending (gate_rank c s g) false)
+          (get_or touched (gate_rank c s g) false) (more (gate_rank c s g)) idle));
+    }
+
+    -- It is the net of the gate of a rank, which is pending no more.
+    pub fired_quiet : (pending removed : List Bool) (rank g : ℕ) → net ≡ get_or s.order.items rank 0 → net ≡ first_gate_net c + g
+        → removed ≡ set pending rank false
+        → sets_of values net
+        ≡ (pair_set_rules fault).stem net (gate_output c (pair_set_rules fault) (sets_of before) g)
+        → ((r : ℕ) → get_or removed r false ≡ true → get_or touched r false ≡ true)
+        → AreQuietSettled c s fault pending before → AreQuietSettled c s fault touched values
+    fired_quiet pending removed rank g at net_is taken given more quiet = record {
+      each = λ h inside idle.
+          let r = pair_set_rules fault in
+          elim (eqb_tells h g) [
+            | inl p ↦
+                let back : g ≡ h = sym p.1 in
+                let here : net ≡ first_gate_net c + h = net_is ∙ ap (λ (n : ℕ). first_gate_net c + n) back in
+                ap (sets_of values) (sym here) ∙ (given
+                ∙ (λ i. r.stem (here i) (gate_output c r (sets_of before) (back i)))
+                ∙ ap (r.stem (first_gate_net c + h)) (gate_same c r (sets_of before) (sets_of values) h
+                (λ i pin. sym (others (arg_at c h i) (λ e.
+                no_self c s is (first_gate_net c + h)
+                (reads_pin c h i (first_gate_net c + h) inside pin (sym (e ∙ here))))))))
+            | inr p ↦
+                let apart : first_gate_net c + h ≢ net = let n = p.1 in λ e. n (omega (arith, e, net_is)) in
+                let other : gate_rank c s h ≢ rank =
+                λ e. apart (sym (is.ranks.back (first_gate_net c + h) (omega arith))
+                ∙ (ap (λ (n : ℕ). get_or s.order.items n 0) e ∙ sym at)) in
+                still_settled h inside apart idle (quiet.each h inside
+                (sym (get_or-set_other pending rank (gate_rank c s h) false false other)
+                ∙ (sym (ap (λ (l : List Bool). get_or l (gate_rank c s h) false) taken)
+                ∙ was_off (get_or removed (gate_rank c s h) false) (get_or touched (gate_rank c s h) false)
+                (more (gate_rank c s h)) idle)))
+          ];
+    }
+
+  -- All gates are pending.
+  pub all_pending : (fault : Option Fault) (pending : List Bool) (values : List (List Pair))
+      → ((r : ℕ) → first_gate_net c ≤ r → r < net_count c → get_or pending r false ≡ true)
+      → AreQuietSettled c s fault pending values
+  all_pending fault pending values all = record {
+    each = λ g inside idle.
+        let small = is.ranks.small (first_gate_net c + g) (omega arith) in
+        let on = all (gate_rank c s g) (rank_of_gate g inside) small in
+        let bad : true ≡ false = sym on ∙ idle in cc;
+  }
+
+  -- No gate is pending.
+  pub none_pending : (fault : Option Fault) (pending : List Bool) (values : List (List Pair))
+      → ((r : ℕ) → first_gate_net c ≤ r → get_or pending r false ≡ false)
+      → AreQuietSettled c s fault pending values → AreGatesSettled c fault values
+  none_pending fault pending values none quiet = record {
+    each = λ g inside. quiet.each g inside (none (gate_rank c s g) (rank_of_gate g inside));
+  }
+
+-- Where gates are settled and the sources were driven, the nets have their sets in a frame.
+pub settled_have : (c : Netlist) (circuit : IsCircuit c) (fault : Option Fault) (vector latches values : List (List Pair))
     → AreGatesSettled c fault values
-    → ((x : ℕ) → x < first_gate_net c → sets_of values x ≡ net_value c (pair_set_rules fault) vector latches x)
+    → ((x : ℕ) → x < c.inputs → sets_of values x ≡ (pair_set_rules fault).stem x (sets_of vector x))
+    → ((x : ℕ) → c.inputs ≤ x → x < first_gate_net c
+    → sets_of values x ≡ (pair_set_rules fault).stem x (sets_of latches (x - c.inputs)))
     → (x : ℕ) → x < net_count c → sets_of values x ≡ net_value c (pair_set_rules fault) vector latches x
 unfolding net_value_over
-settled_have c circuit fault vector latches values settled low =
+settled_have c circuit fault vector latches values settled inputs states =
     let r = pair_set_rules fault in
     let env : ℕ → List Pair = sets_of values in
-    let frame : ℕ → List Pair = net_value c r vector latches in
     let depth = circuit_depth c circuit in
     let whole : IsSettled c r vector latches env = record {
       settled = λ x inside. elim (le_or_lt (first_gate_net c) x) [
@@ -165,40 +164,66 @@ settled_have c circuit fault vector latches values settled low =
             ap env (sym is) ∙ (settled.each (x - first_gate_net c) (omega arith)
             ∙ (ap (λ (n : ℕ). r.stem n (gate_output c r env (x - first_gate_net c))) is
             ∙ ap (r.stem x) (sym (driven_gate c r vector latches env x at))))
-        | inr under ↦
-            low x under ∙ ((frame_settled c depth.0 depth.1 r vector latches).settled x inside
-            ∙ value_same c r vector latches frame env x (λ j at l. absurd (omega (arith, at, under))))
+        | inr low ↦ elim (le_or_lt c.inputs x) [
+          | inl at ↦ states x at low ∙ ap (r.stem x) (sym (driven_latch c r vector latches env x at low))
+          | inr below ↦ inputs x below ∙ ap (r.stem x) (sym (driven_input c r vector latches env x below))
+        ]
       ];
     } in
     settled_is_frame c depth.0 depth.1 r vector latches env whole
 
--- Where no source changed, all nets have their sets.
-pub unmoved_have : (c : Netlist) (order : List ℕ) (circuit : IsCircuit c) (ordered : IsOrder c order)
-    (fault : Option Fault) (vector latches before values : List (List Pair)) (changed : List Bool)
-    → AreGatesSettled c fault before → Followed c order fault vector latches before values changed 0
-    → ((x : ℕ) → x < first_gate_net c → get_or changed x false ≡ false)
-    → (x : ℕ) → x < net_count c → sets_of values x ≡ net_value c (pair_set_rules fault) vector latches x
-unmoved_have c order circuit ordered fault vector latches before values changed settled f unmarked =
-    let same : (x : ℕ) → x < net_count c → sets_of values x ≡ sets_of before x =
-    all_have (pair_set_rules fault).blank c order values (sets_of before) ordered
-    (λ x l. f.marked x (inl l) (unmarked x l)) (λ j l. f.left j (omega arith) l) in
-    settled_have c circuit fault vector latches values (record {
-      each = λ g l.
-          gate_settled c fault g before values l settled (same (first_gate_net c + g) (omega arith))
-          (λ i m. same _ (circuit.known g i l m));
-    }) (λ x l. f.ready x (inl l))
+-- Two faults at other gates: a gate is settled under both or under none.
+no_stem : (c : Netlist) (site : Site) (g : ℕ) → is_gate_line c site g ≡ false
+    → is_stem site (first_gate_net c + g) ≡ false
+no_stem c (Stem x) g h = h
+no_stem c (GatePin f i) g h = refl
+no_stem c (DffPin j) g h = refl
 
--- After a frame.
-pub frame_done : (c : Netlist) (circuit : IsCircuit c) (fault : Option Fault) (vector latches : List (List Pair))
-    (s : NetSets) (values pins : List (List Pair)) (changed : List Bool) → s.values.items ≡ values
-    → s.changed.items ≡ changed → s.pins.items ≡ pins → length values ≡ net_count c → length changed ≡ net_count c
-    → length pins ≡ max_arguments
-    → ((x : ℕ) → x < net_count c → sets_of values x ≡ net_value c (pair_set_rules fault) vector latches x)
-    → AreNetSetsUnder c fault (record s { settled = true })
-frame_done c circuit fault vector latches s values pins changed v m p values_long changed_long pins_long have = record {
-  circuit = circuit;
-  values = ap (λ (l : List (List Pair)). length l) v ∙ values_long;
-  changed = ap (λ (l : List Bool). length l) m ∙ changed_long;
-  pins = ap (λ (l : List (List Pair)). length l) p ∙ pins_long;
-  gates = λ done. subst (AreGatesSettled c fault) (sym v) (frame_settles c circuit fault vector latches values have);
+no_pins : (c : Netlist) (site : Site) (g : ℕ) → is_gate_line c site g ≡ false → is_pin_of site g ≡ false
+no_pins c (Stem x) g h = refl
+no_pins c (GatePin f i) g h = h
+no_pins c (DffPin j) g h = refl
+
+free : {V : Type 0} → (b : Bool) (v u : V) → b ≡ false → cond b v u ≡ u
+free true v u h = cc
+free false v u h = refl
+
+free_stem : (c : Netlist) (fault : Option Fault) (g : ℕ) (v : List Pair) → is_stuck_gate c fault g ≡ false
+    → (pair_set_rules fault).stem (first_gate_net c + g) v ≡ v
+unfolding forced
+free_stem c None g v h = refl
+free_stem c (Some f) g v h =
+    free (is_stem f.site (first_gate_net c + g)) (stuck_set f.value v) v (no_stem c f.site g h)
+
+free_pins : (c : Netlist) (fault : Option Fault) (g : ℕ) → is_stuck_gate c fault g ≡ false
+    → is_at_gate fault g ≡ false
+free_pins c None g h = refl
+free_pins c (Some f) g h = no_pins c f.site g h
+
+free_gate : (c : Netlist) (fault : Option Fault) (g : ℕ) (env : ℕ → List Pair) → is_stuck_gate c fault g ≡ false
+    → (pair_set_rules fault).stem (first_gate_net c + g) (gate_output c (pair_set_rules fault) env g)
+    ≡ lifted_set (gate_at c g).kind (values_at env (gate_at c g).args)
+unfolding gate_output
+free_gate c fault g env h =
+    free_stem c fault g (gate_output c (pair_set_rules fault) env g) h
+    ∙ ap (lifted_set (gate_at c g).kind)
+    (plain_pins (pair Unk Unk ∷ []) lifted_set stuck_set fault g env 0 (gate_at c g).args (free_pins c fault g h))
+
+-- The gates that two faults are at were made pending.
+pub fault_changed : (c : Netlist) (s : Schedule) (before after : Option Fault) (pending once touched : List Bool)
+    → ((g : ℕ) → g < length c.gates → is_stuck_gate c before g ≡ true → get_or once (gate_rank c s g) false ≡ true)
+    → ((r : ℕ) → get_or pending r false ≡ true → get_or once r false ≡ true)
+    → ((g : ℕ) → g < length c.gates → is_stuck_gate c after g ≡ true
+    → get_or touched (gate_rank c s g) false ≡ true)
+    → ((r : ℕ) → get_or once r false ≡ true → get_or touched r false ≡ true)
+    → (values : List (List Pair)) → AreQuietSettled c s before pending values
+    → AreQuietSettled c s after touched values
+fault_changed c s before after pending once touched first more second most values quiet = record {
+  each = λ g inside idle.
+      let r = gate_rank c s g in
+      let still = was_off (get_or once r false) (get_or touched r false) (most r) idle in
+      let old = was_off (is_stuck_gate c before g) (get_or once r false) (first g inside) still in
+      let new = was_off (is_stuck_gate c after g) (get_or touched r false) (second g inside) idle in
+      quiet.each g inside (was_off (get_or pending r false) (get_or once r false) (more r) still)
+      ∙ (free_gate c before g (sets_of values) old ∙ sym (free_gate c after g (sets_of values) new));
 }

@@ -11,7 +11,7 @@
 //! `told_states` (what a told frame gives), `vector_runs` (machines over lists), `sweeps` (the walks of a sweep),
 //! `walks` (a walk token by token), `spent_walks` (walks that spent a budget), `judged` (what a window answers),
 //! `fresh_window` (a window of any kind), `fresh_start` (its first latches), `frame_sets` (one frame over sets),
-//! `net_sets` (its nets, gate by gate), `decisions` (what a path decides), `differences` (what places show), `cube`
+//! `net_sets` (its nets, by events), `decisions` (what a path decides), `differences` (what places show), `cube`
 //! (what next states make of a cube).
 #![tactic(auto)]
 

@@ -19,21 +19,6 @@ use ht_lanes::Word;
 use ht_net::Circuit;
 use ht_ranks::{BitSet, Schedule};
 
-// Makes nets pending, by their ranks.
-fn touch(ranks: &[u32], pending: &mut BitSet)
-    requires { All (λ r. r < length pending.old) ranks.now }
-    ensures marks { length pending.new ≡ length pending.old }
-    ensures all { (r : ℕ) → Contains ranks.now r → get_or pending.new r false ≡ true }
-    ensures more { (r : ℕ) → get_or pending.old r false ≡ true
-        → get_or pending.new r false ≡ true }
-    ensures rest { (r : ℕ) → ¬ Contains ranks.now r
-        → get_or pending.new r false ≡ get_or pending.old r false }
-{
-    for rank in ranks {
-        pending.insert(*rank);
-    }
-}
-
 // Makes nets pending, by their ranks, where the net that they read changed.
 fn touch_if(changed: bool, ranks: &[u32], pending: &mut BitSet)
     requires { All (λ r. r < length pending.old) ranks.now }
@@ -45,7 +30,7 @@ fn touch_if(changed: bool, ranks: &[u32], pending: &mut BitSet)
         → get_or pending.new r false ≡ get_or pending.old r false }
 {
     if changed {
-        touch(ranks, pending);
+        pending.insert_all(ranks);
     }
 }
 

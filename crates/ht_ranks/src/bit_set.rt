@@ -1,7 +1,9 @@
 //! A set of numbers below a bound, in words of 64 bits.
-ghost use Rattle.std.specs.Prelude.{◌≡◌, ◌<◌, ◌≤◌, ◌*◌, ◌^◌, ℕ, true, false, length, get_or, replicate, set, IfOk, IfSome, IfNone};
+ghost use Rattle.std.specs.Prelude.{◌≡◌, ◌<◌, ◌≤◌, ◌*◌, ◌^◌, ℕ, true, false, length, get_or, replicate, set, All, IfOk, IfSome, IfNone};
+ghost use Rattle.std.specs.List.{Contains};
 ghost use Rattle.ht_ranks.specs.BitSets.{IsFirstMark, is_marked, with_bit};
 
+use ht_lanes::has_lane;
 use std::alloc::{AllocError, Global};
 use std::marker::Model;
 
@@ -87,12 +89,35 @@ impl BitSet {
         self.words[w] = with_bit(self.words[w], i % 64, mark);
     }
 
+    /// Whether a number is in the set.
+    pub fn contains(&self, i: u32) -> bool
+        requires { i < length self.now }
+        ensures { result ≡ get_or self.now i false }
+    {
+        has_lane(self.words[(i / 64) as usize], i % 64)
+    }
+
     /// Adds a number.
     pub fn insert(&mut self, i: u32)
         requires { i < length self.old }
         ensures { self.new ≡ set self.old i true }
     {
         self.write(i, true);
+    }
+
+    /// Adds numbers.
+    pub fn insert_all(&mut self, numbers: &[u32])
+        requires { All (λ i. i < length self.old) numbers.now }
+        ensures count { length self.new ≡ length self.old }
+        ensures all { (i : ℕ) → Contains numbers.now i → get_or self.new i false ≡ true }
+        ensures more { (i : ℕ) → get_or self.old i false ≡ true
+            → get_or self.new i false ≡ true }
+        ensures rest { (i : ℕ) → ¬ Contains numbers.now i
+            → get_or self.new i false ≡ get_or self.old i false }
+    {
+        for number in numbers {
+            self.insert(*number);
+        }
     }
 
     /// Takes a number away.

@@ -7,7 +7,8 @@ use Rattle.ht_net.specs.Netlist.{net_count}
 use Rattle.ht_group.specs.LaneRules.{rules_at, in_lane, lane_env}
 use Rattle.ht_ranks.specs.Schedules.{ReadsFrom}
 use Rattle.ht_group.proofs.ChangeLaws.{computed_running, kept_itself}
-use Rattle.ht_group.proofs.EventLaws.{fired_quiet, apart_by_readers, readers_later, readers_known, not_touched, touched_as_before, rank_taken}
+use Rattle.ht_ranks.proofs.ScheduleLaws.{readers_later, readers_known, touched_as_before, rank_taken}
+use Rattle.ht_group.proofs.EventLaws.{fired_quiet, apart_by_readers, not_touched}
 use Rattle.ht_group.proofs.events.fire.Goals as goal
 
 pub returns-clause-runs : goal.returns-clause-runs
@@ -55,8 +56,8 @@ touch_if-requires c =
     let marks = ap (λ (l : List Bool). length l) c.remove.ensures in
     let same = length-set c.args.pending.now c.args.rank false in
     λ k d inside.
-    let known = readers_known c.args.circuit.now c.args.schedule.now c.requires.schedule c.args.rank c.net-net.result
-    c.row.result.now c.requires.rank c.row.ensures c.net-net.ensures k d inside in
+    let known = readers_known c.args.circuit.now c.args.schedule.now c.requires.schedule c.net-net.result
+    c.row.result.now c.row.ensures k d inside in
     omega (arith, known, marks, same, c.requires.marks)
 
 pub returns-clause-kept : goal.returns-clause-kept
@@ -70,12 +71,12 @@ pub returns-clause-taken : goal.returns-clause-taken
 returns-clause-taken c =
     rank_taken c.args.pending.now c.remove.new.self c.touch_if.new.pending c.row.result.now c.args.rank
     c.remove.ensures c.touch_if.ensures.rest (omega (arith, c.requires.rank, c.requires.marks))
-    (readers_later c.args.circuit.now c.args.schedule.now c.requires.schedule c.args.rank c.net-net.result
-    c.row.result.now c.requires.rank c.row.ensures c.net-net.ensures c.args.rank (omega arith))
+    (readers_later c.args.circuit.now c.args.schedule.now c.requires.schedule c.net-net.result c.row.result.now
+    c.row.ensures c.args.rank c.requires.rank c.net-net.ensures c.args.rank (omega arith))
 
 pub returns-clause-before : goal.returns-clause-before
 returns-clause-before c r below =
     touched_as_before c.args.pending.now c.remove.new.self c.touch_if.new.pending c.row.result.now c.args.rank
     c.remove.ensures c.touch_if.ensures.rest r (omega (arith, below))
-    (readers_later c.args.circuit.now c.args.schedule.now c.requires.schedule c.args.rank c.net-net.result
-    c.row.result.now c.requires.rank c.row.ensures c.net-net.ensures r (omega (arith, below)))
+    (readers_later c.args.circuit.now c.args.schedule.now c.requires.schedule c.net-net.result c.row.result.now
+    c.row.ensures c.args.rank c.requires.rank c.net-net.ensures r (omega (arith, below)))
