@@ -1,9 +1,11 @@
 -- A net is evaluated: those that don't read it keep their values.
 use Rattle.std.specs.List.{Contains}
-use Rattle.std.proofs.Common.{◌≡◌, ◌≢◌, ◌<◌, ◌≤◌, ◌∙◌, ℕ, List, [], Bool, true, false, length, get_or, ap, sym, subst, arith, inl, inr}
-use Rattle.std.proofs.lemmas.Bool.Decides.{eqb_tells}
+use Rattle.std.proofs.Common.{◌≡◌, ◌≢◌, ◌<◌, ◌≤◌, ◌+◌, ◌-◌, ◌*◌, ◌∙◌, ℕ, List, [], Bool, true, false, length, get_or, cond, nat_lt, ap, sym, subst, arith, inl, inr}
+use Rattle.std.proofs.lemmas.Bool.Decides.{eqb_tells, nat_tests}
+use Rattle.std.proofs.Math.Nat.{mul-le-mul_left}
 use Rattle.ht_net.specs.Netlist.{Netlist, net_count}
 use Rattle.ht_net.specs.Frame.{Rules}
+use Rattle.ht_net.proofs.FrameLaws.{le_or_lt}
 use Rattle.ht_group.specs.LaneRules.{given_value, HasItsValue}
 use Rattle.ht_ranks.specs.Schedules.{ReadsFrom, IsSchedule}
 use Rattle.ht_ranks.specs.declared.schedule.Schedule.{Schedule}
@@ -59,3 +61,21 @@ module _ (c : Netlist) (s : Schedule) (is : IsSchedule c s) where
 pub not_touched : (touched : List Bool) (row : List ℕ) → ((r : ℕ) → Contains row r → get_or touched r false ≡ true)
     → (q : ℕ) → get_or touched q false ≡ false → ¬ Contains row q
 not_touched touched row all q idle has = let bad : true ≡ false = sym (all q has) ∙ idle in cc
+
+-- the evaluations up to a rank, and those of the rank
+pub steps_more : (steps from rank first used more : ℕ) → steps ≤ (from - first) * used → from ≤ rank
+    → more ≡ cond (nat_lt rank first) 0 used → steps + more ≤ (rank + 1 - first) * used
+steps_more steps from rank first used more before le is = elim (le_or_lt first rank) [
+  | inl gate ↦
+      let price : more ≡ used = grind (arith, nat_tests) in
+      let less : from - first ≤ rank - first = omega (arith, le) in
+      let up : used * (from - first) ≤ used * (rank - first) = mul-le-mul_left used less in
+      let at : rank + 1 - first ≡ rank - first + 1 = omega (arith, gate) in
+      let next : (rank + 1 - first) * used ≡ (rank - first + 1) * used = ap (λ (n : ℕ). n * used) at in
+      omega (arith, price, up, next, before)
+  | inr source ↦
+      let price : more ≡ 0 = grind (arith, nat_tests) in
+      let none : from - first ≡ 0 = omega (arith, le, source) in
+      let low : (from - first) * used ≡ 0 * used = ap (λ (n : ℕ). n * used) none in
+      omega (arith, price, low, before)
+]

@@ -1,6 +1,7 @@
 pub mod GroupView
 pub mod Overlays
 pub mod OverlayOf
+pub mod GateRows
 pub mod LaneRules
 pub mod StuckTables
 pub mod Pending
