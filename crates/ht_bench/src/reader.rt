@@ -79,7 +79,7 @@ fn end_refusal(
     }
 }
 
-/// Reads the text into a new builder, which is the caller's: a builder has much to drop, and drops it on one way only.
+/// The circuit of a text that is read into a new builder. For the proof: the caller owns it, and drops it in one place.
 #[tactic(auto, using(crate::proofs::EndOfTextLaws::netlist_is))]
 fn read_into(alloc: Global, builder: &mut Builder, text: &[u8]) -> Result<Circuit, BenchError>
     requires short { length text.now ≤ max_netlist_bytes }
