@@ -4,15 +4,16 @@
 //! `entry` is true exactly where the entry passes (`exact`), and what an entry that passes says of its fault holds
 //! (`sound`): no list of vectors detects it, or none of fewer vectors than a sweep has walks. `judge_walk` judges
 //! tokens as a walk of any `JudgedWindow`, and `FreshWindow` is one of each kind: one frame with a set of flip-flops,
-//! some frames from all-unknown or from a pair of states, and back from a cube.
+//! some frames from all-unknown or from a pair of states, and back from a cube. A window settles `KeptFrames`, which
+//! `entry_by_frames` keeps from one entry to the next.
 //!
 //! Modules: `entries` (which entries pass), `told_chains` and `told_frames` (frames that are told), `abort_records`
 //! (the walk after them), `aims` (how the attempt at the first of them ended), `attempts` (lists that fail together),
 //! `told_states` (what a told frame gives), `vector_runs` (machines over lists), `sweeps` (the walks of a sweep),
 //! `walks` (a walk token by token), `spent_walks` (walks that spent a budget), `judged` (what a window answers),
 //! `fresh_window` (a window of any kind), `fresh_start` (its first latches), `frame_sets` (one frame over sets),
-//! `net_sets` (its nets, by events), `decisions` (what a path decides), `differences` (what places show), `cube`
-//! (what next states make of a cube).
+//! `kept_frames` (the nets of its frames), `net_sets` (those of one frame, by events), `decisions` (what a path
+//! decides), `differences` (what places show), `cube` (what next states make of a cube).
 #![tactic(auto)]
 
 mod abort_records;

@@ -11,7 +11,8 @@ pub one_frame-requires : goal.one_frame-requires
 one_frame-requires c =
     let states : c.deref.result.now ≡ states_of c.args.told.now =
     c.deref.ensures.value ∙ c.in_ok-z-in-Some.ensures in
-    subst (λ (k : KeptState). EachIsBelow (length k.circuit.dffs) c.deref.result.now) (sym c.in_ok-take-in-Some.ensures.taken)
+    subst (λ (k : KeptState). EachIsBelow (length k.circuit.dffs) c.deref.result.now)
+    (sym c.in_ok-take-in-Some.ensures.taken)
     (subst (EachIsBelow (length c.args.kept.now.circuit.dffs)) (sym states)
     (chain_below c.args.kept.now.circuit c.args.fault c.args.told.now c.requires.chain))
 
