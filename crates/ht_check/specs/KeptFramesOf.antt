@@ -15,6 +15,6 @@ abbrev pub kept_state : Inside → KeptState
 kept_state a = record { circuit = a.circuit.now; count = length a.sets.items }
 
 -- The schedule and each frame are the circuit's.
-pub record AreKept (a : Inside) : Type 0 where
+pub record AreKeptFrames (a : Inside) : Type 0 where
   pub schedule : IsSchedule a.circuit.now a.schedule.value
   pub frames : All (AreNetSets a.circuit.now) a.sets.items

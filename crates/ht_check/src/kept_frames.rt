@@ -32,11 +32,11 @@ impl<'c> Model for KeptFrames<'c> {
 
     ghost Value = { KeptState };
 
-    ghost use Rattle.ht_check.specs.KeptFramesOf.{kept_state, AreKept};
+    ghost use Rattle.ht_check.specs.KeptFramesOf.{kept_state, AreKeptFrames};
 
     ghost view = { kept_state };
 
-    ghost invariant = { AreKept };
+    ghost invariant = { AreKeptFrames };
 }
 
 // Makes frames of a circuit until there are so many.

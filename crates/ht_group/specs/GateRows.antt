@@ -4,12 +4,12 @@ use Rattle.ht_tern.specs.declared.gate.Kind.{Kind}
 use Rattle.ht_tern.specs.declared.gate.Kind.TheVariants.{And, Nand, Or, Nor, Xor, Xnor, Not, Buf}
 
 -- the place of what a kind folds: AND, OR, XOR, and the first word itself
-abbrev pub row_of : Kind → ℕ
-row_of And = 0
-row_of Nand = 0
-row_of Or = 1
-row_of Nor = 1
-row_of Xor = 2
-row_of Xnor = 2
-row_of Not = 3
-row_of Buf = 3
+abbrev pub operation_row : Kind → ℕ
+operation_row And = 0
+operation_row Nand = 0
+operation_row Or = 1
+operation_row Nor = 1
+operation_row Xor = 2
+operation_row Xnor = 2
+operation_row Not = 3
+operation_row Buf = 3

@@ -6,7 +6,7 @@ ghost use Rattle.ht_net.specs.Netlist.{first_gate_net, net_count, no_net};
 ghost use Rattle.ht_net.specs.Frame.{gate_output, values_at};
 ghost use Rattle.ht_frame.specs.Values.{env_of};
 ghost use Rattle.ht_group.specs.LaneRules.{lane_env, rules_at};
-ghost use Rattle.ht_group.specs.GateRows.{row_of};
+ghost use Rattle.ht_group.specs.GateRows.{operation_row};
 ghost use Rattle.ht_group.specs.Pending.{AreGiven};
 ghost use Rattle.ht_group.specs.StuckTables.{AreGateLanes, AreStuck, is_pin_number};
 
@@ -20,8 +20,8 @@ pub const PIN_ROOM: usize = 256;
 
 // Where `combined` has what the operation of a kind makes. It is reckoned, since a jump by the kind would be guessed
 // wrong every second time.
-fn row_of(kind: Kind) -> usize
-    ensures { result ≡ row_of kind }
+fn operation_row(kind: Kind) -> usize
+    ensures { result ≡ operation_row kind }
 {
     let is_or = (kind == Kind::Or) | (kind == Kind::Nor);
     let is_xor = (kind == Kind::Xor) | (kind == Kind::Xnor);
@@ -34,7 +34,7 @@ fn combined(kind: Kind, v: Word, w: Word) -> Word
     ensures { result ≡ operation_of lane_operations kind v w }
 {
     let rows = [v.conjunction(w), v.disjunction(w), v.parity(w), v];
-    rows[row_of(kind)]
+    rows[operation_row(kind)]
 }
 
 // A folded word, or its complement where the kind inverts, again without a jump by the kind.

@@ -20,10 +20,6 @@ use Rattle.ht_window.proofs.HoldLaws.{others_hold, same_holds}
 use Rattle.ht_window.proofs.AgreeLaws.{settled_cells}
 use Rattle.ht_window.proofs.FollowLaws.{settled_all}
 
--- what is renewed stays so
-pub renewed_now : (s : CoreState) (a : HeldState) → IsRenewed s a s a
-renewed_now s a = record { plan = refl; standing = refl; holds = λ f x fs xs h. h }
-
 pub renewed_more : (s t u : CoreState) (a b d : HeldState) → IsRenewed s a t b → IsRenewed t b u d → IsRenewed s a u d
 renewed_more s t u a b d h k = record {
   plan = k.plan ∙ h.plan;
@@ -37,9 +33,6 @@ pub record AreRenewed (s : CoreState) (a : HeldState) (t : CoreState) (b : HeldS
     : Type 0 where
   pub renewed : IsRenewed s a t b
   pub done : (k : ℕ) → k < n → HoldsOrPends t b (frame k) (net k)
-
-pub none_renewed : (s : CoreState) (a : HeldState) (frame net : ℕ → ℕ) → AreRenewed s a s a frame net 0
-none_renewed s a frame net = record { renewed = renewed_now s a; done = λ k less. absurd (omega (arith, less)) }
 
 pub one_more_renewed : (s t u : CoreState) (a b d : HeldState) (frame net : ℕ → ℕ) (n : ℕ)
     → ((k : ℕ) → k < n → (frame k < a.standing.window.frames) × (net k < net_count a.standing.window.circuit))

@@ -21,7 +21,8 @@ returns-clause-quiet c =
     let x = c.net-net.result in
     let g : ℕ = c.net-net.result - (c.inputs.result + c.dffs.result) in
     let high = gate_of_rank n s c.requires.schedule c.args.rank c.requires.gate c.requires.rank in
-    let net_is : c.net-net.result ≡ first_gate_net c.args.circuit.now + (c.net-net.result - (c.inputs.result + c.dffs.result)) =
+    let net_is : c.net-net.result
+    ≡ first_gate_net c.args.circuit.now + (c.net-net.result - (c.inputs.result + c.dffs.result)) =
     omega (arith, high, c.net-net.ensures) in
     fired_quiet n s c.requires.schedule c.args.fault x c.args.values.now c.write_net.new.values c.write_net.new.pending
     c.row-readers.result.now c.row-readers.ensures c.write_net.ensures.sets c.write_net.ensures.readers

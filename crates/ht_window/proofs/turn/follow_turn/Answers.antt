@@ -30,7 +30,8 @@ returns-clause-cells c =
     subst (λ (n : Standing). (g y : ℕ) → g < n.window.frames → y < net_count n.window.circuit → HoldsOrPends s1 a1 g y
     → HoldsOrPends t b g y) one.renewed.standing last.holds f x fs xs (one.holds f x fs xs reached) in
     let now : (f x : ℕ) → f < a.standing.window.frames → x < net_count a.standing.window.circuit
-    → is_reached a.standing.window.circuit a.standing.window.fault x ≡ true → HoldsOrPends t b f x = λ f x fs xs reached.
+    → is_reached a.standing.window.circuit a.standing.window.fault x ≡ true → HoldsOrPends t b f x =
+    λ f x fs xs reached.
     subst (λ (n : Standing). (g y : ℕ) → g < n.window.frames → y < net_count n.window.circuit → HoldsOrPends s2 a2 g y
     → HoldsOrPends t b g y) first.standing three.renewed.holds f x fs xs
     (subst (λ (n : Standing). (g y : ℕ) → g < n.window.frames → y < net_count n.window.circuit

@@ -19,6 +19,7 @@ returns c =
     let view = ap (λ (l : List Bool). length l) c.self.view_is in
     let inside : i / 64 < length a.words.items = omega (arith, count, view, c.requires, c.self.invariant.room) in
     c.has_lane.ensures
-    ∙ (ap (λ (n : ℕ). is_set n (i % 64)) (get_or_read a.words.items (i / 64) c.index.result.now inside c.index.ensures 0)
+    ∙ (ap (λ (n : ℕ). is_set n (i % 64))
+    (get_or_read a.words.items (i / 64) c.index.result.now inside c.index.ensures 0)
     ∙ (sym (mark_at a.bound a.words.items c.self.invariant.past i)
     ∙ ap (λ (l : List Bool). get_or l i false) c.self.view_is))

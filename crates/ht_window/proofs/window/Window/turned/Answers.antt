@@ -23,8 +23,8 @@ follow_turn-requires-clause-holds c =
     (ap (λ (s : WindowState). s.window.fault) v) in
     let none : a.standing.path ≡ [] = ap (λ (s : WindowState). s.decisions) v ∙ c.requires.decisions in
     let are = cells_now w a.standing.path c.self.inside.marks.items a.cells c.self.invariant.history in
-    turned_elsewhere w (subst (λ (s : WindowState). IsWindow s.window) (sym v) c.circuit.ensures.valid) [] c.turn.new.self
-    c.args.fault (start_of c.args.start.now) c.fault-before.result
+    turned_elsewhere w (subst (λ (s : WindowState). IsWindow s.window) (sym v) c.circuit.ensures.valid) []
+    c.turn.new.self c.args.fault (start_of c.args.start.now) c.fault-before.result
     (c.turn.ensures.standing ∙ (c.in_ok-turned.ensures ∙ (λ i. record {
       window = record {
         circuit = circuit i;
