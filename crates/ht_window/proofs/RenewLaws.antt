@@ -20,6 +20,7 @@ use Rattle.ht_window.proofs.HoldLaws.{others_hold, same_holds}
 use Rattle.ht_window.proofs.AgreeLaws.{settled_cells}
 use Rattle.ht_window.proofs.FollowLaws.{settled_all}
 
+-- what is renewed stays so
 pub renewed_more : (s t u : CoreState) (a b d : HeldState) → IsRenewed s a t b → IsRenewed t b u d → IsRenewed s a u d
 renewed_more s t u a b d h k = record {
   plan = k.plan ∙ h.plan;
