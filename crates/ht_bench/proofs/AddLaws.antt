@@ -1,12 +1,10 @@
 -- What settles whether a statement is added to a draft.
 use Rattle.std.proofs.Common.{◌≡◌, [], ◌∷◌, ◌++◌, Contains}
 use Rattle.std.proofs.lemmas.Bool.{cond_both, both_ways}
-use Rattle.std.proofs.lemmas.Grind.{common_steps}
 use Rattle.ht_net.specs.Named.{Name}
 use Rattle.ht_net.specs.Draft.{Draft}
 use Rattle.ht_bench.specs.Different.{has_name, with_name}
-use Rattle.ht_bench.proofs.MentionLaws.{driven_before}
-use Rattle.ht_bench.proofs.NameListLaws.{has_name-Decides, with_names-long}
+use Rattle.ht_bench.proofs.NameListLaws.{has_name-Decides}
 
 -- an output that is there adds nothing
 pub output_is : (d new : Draft) (name : Name) → (Contains d.outputs name → new ≡ d)
@@ -17,5 +15,3 @@ output_is d new name known added =
     cond_both has d.outputs (d.outputs ++ name ∷ []) (λ l. new ≡ record d { outputs = l })
     (λ yes. known ((has_name-Decides d.outputs name).0 yes))
     (λ no. added (λ at. both_ways has no ((has_name-Decides d.outputs name).1 at)))
-
-pub ruleset adding = (common_steps, driven_before, with_names-long)

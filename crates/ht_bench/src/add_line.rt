@@ -13,7 +13,6 @@ use ht_statement::{Statement, read_line};
 use ht_tern::Kind;
 use std::alloc::Global;
 
-#[tactic(auto, using(crate::proofs::AddLaws::adding))]
 fn add_input(alloc: Global, builder: &mut Builder, name: &[u8]) -> Result<(), AddError>
     ensures accepts { OnOk result (Accepts builder.old (input_line name.now) builder.new) }
     ensures refusal { IfErr result (RefusesStatement builder.old (input_line name.now)) }
@@ -24,7 +23,6 @@ fn add_input(alloc: Global, builder: &mut Builder, name: &[u8]) -> Result<(), Ad
 }
 
 /// Adds an output, or nothing if the net is one.
-#[tactic(auto, using(crate::proofs::AddLaws::adding))]
 fn add_output(builder: &mut Builder, name: &[u8]) -> Result<(), AddError>
     ensures accepts { OnOk result (Accepts builder.old (output_line name.now) builder.new) }
     ensures refusal { IfErr result (RefusesStatement builder.old (output_line name.now)) }
@@ -34,7 +32,6 @@ fn add_output(builder: &mut Builder, name: &[u8]) -> Result<(), AddError>
     Ok(())
 }
 
-#[tactic(auto, using(crate::proofs::AddLaws::adding))]
 fn add_dff(
     alloc: Global,
     builder: &mut Builder,
@@ -51,7 +48,6 @@ fn add_dff(
     Ok(())
 }
 
-#[tactic(auto, using(crate::proofs::AddLaws::adding))]
 fn add_gate(
     alloc: Global,
     builder: &mut Builder,

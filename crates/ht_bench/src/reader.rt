@@ -79,12 +79,27 @@ fn end_refusal(
     }
 }
 
+/// The circuit of a text that is read into a new builder. For the proof: the caller owns it, and drops it in one place.
+#[tactic(auto, using(crate::proofs::EndOfTextLaws::netlist_is))]
+fn read_into(alloc: Global, builder: &mut Builder, text: &[u8]) -> Result<Circuit, BenchError>
+    requires short { length text.now ≤ max_netlist_bytes }
+    requires new { IsDraftOf [] builder.old }
+    ensures circuit { IfOk result (λ c. IsNetlistOf text.now c) }
+    ensures refusal { IfErr result (Refuses text.now) }
+{
+    add_lines(alloc, builder, text)?;
+    match builder.finish() {
+        Ok(circuit) => Ok(circuit),
+        Err(error) => Err(end_refusal(alloc, builder, text, &error)?),
+    }
+}
+
 /// The circuit of a netlist of at most 16,777,216 bytes (ISCAS-89 format).
 ///
 /// # Errors
 /// The text's one refusal, by the rules of `BenchError`; which cycle `Loop` names is free. `NoMemory` may come at any
 /// text.
-#[tactic(auto, using(crate::proofs::ExcludeLaws::refused_is_of_no_circuit, crate::proofs::EndOfTextLaws::netlist_is))]
+#[tactic(auto, using(crate::proofs::ExcludeLaws::refused_is_of_no_circuit))]
 pub fn read(alloc: Global, text: &[u8]) -> Result<Circuit, BenchError>
     requires { length text.now ≤ max_netlist_bytes }
     ensures circuit { IfOk result (λ c. IsNetlistOf text.now c) }
@@ -92,9 +107,5 @@ pub fn read(alloc: Global, text: &[u8]) -> Result<Circuit, BenchError>
     ensures excludes { IfErr result (IsOfNoCircuit text.now) }
 {
     let mut builder = Builder::new(alloc);
-    add_lines(alloc, &mut builder, text)?;
-    match builder.finish() {
-        Ok(circuit) => Ok(circuit),
-        Err(error) => Err(end_refusal(alloc, &builder, text, &error)?),
-    }
+    read_into(alloc, &mut builder, text)
 }

@@ -9,3 +9,4 @@ pub mod SweepWalks
 pub mod SearchEnds
 pub mod GateSets
 pub mod NetSetsOf
+pub mod KeptFramesOf

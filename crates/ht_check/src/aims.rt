@@ -7,10 +7,11 @@ ghost use Rattle.ht_check.specs.SearchEnds.{EndsAs};
 use crate::attempts::is_attempt;
 use crate::cube::wants_any;
 use crate::fresh_window::FreshWindow;
+use crate::kept_frames::KeptFrames;
 use crate::spent_walks::is_spent_walk;
 use crate::told_states::{told_cube, told_state};
 use crate::walks::is_complete;
-use ht_net::{Circuit, Fault};
+use ht_net::Fault;
 use ht_tree::{Aim, BACK_LIMIT, FORWARD_FRAMES, MAX_BUDGET, Spot, Token, Told};
 use std::alloc::{AllocError, Global};
 
@@ -35,15 +36,16 @@ enum SearchEnd {
 /// Out of memory.
 pub fn is_first_aim(
     alloc: Global,
-    circuit: &Circuit,
+    kept: &mut KeptFrames,
     fault: Fault,
     budget: u64,
     told: &[Told],
     aim: &Option<Aim>,
 ) -> Result<bool, AllocError>
     requires { budget ≤ MAX_BUDGET }
-    ensures { IfOk result
-        (λ passes. IsTrue passes ↔ IsFirstAim circuit.now fault budget told.now aim.now) }
+    ensures passes { IfOk result
+        (λ passes. IsTrue passes ↔ IsFirstAim kept.old.circuit fault budget told.now aim.now) }
+    ensures circuit { kept.new.circuit ≡ kept.old.circuit }
 {
     match aim {
         None => Ok(told.is_empty()),
@@ -51,7 +53,7 @@ pub fn is_first_aim(
             if told.is_empty() {
                 return Ok(false);
             }
-            is_aim(alloc, circuit, fault, budget, &told[0], aim)
+            is_aim(alloc, kept, fault, budget, &told[0], aim)
         },
     }
 }
@@ -59,15 +61,16 @@ pub fn is_first_aim(
 // Whether an aim says how the attempt at a told frame ended.
 fn is_aim(
     alloc: Global,
-    circuit: &Circuit,
+    kept: &mut KeptFrames,
     fault: Fault,
     budget: u64,
     told: &Told,
     aim: &Aim,
 ) -> Result<bool, AllocError>
     requires { budget ≤ MAX_BUDGET }
-    ensures { IfOk result
-        (λ passes. IsTrue passes ↔ IsAim circuit.now fault budget told.now aim.now) }
+    ensures passes { IfOk result
+        (λ passes. IsTrue passes ↔ IsAim kept.old.circuit fault budget told.now aim.now) }
+    ensures circuit { kept.new.circuit ≡ kept.old.circuit }
 {
     let (way, end, tokens) = match aim {
         Aim::ForwardClosed(tokens) => (Way::Ahead, SearchEnd::Closed, tokens.as_slice()),
@@ -75,12 +78,12 @@ fn is_aim(
         Aim::BackClosed(tokens) => (Way::Back, SearchEnd::Closed, tokens.as_slice()),
         Aim::BackOpen(tokens) => (Way::Back, SearchEnd::Spent, tokens.as_slice()),
         Aim::Attempt { back, ahead } => {
-            return is_attempt(alloc, circuit, fault, told, back, ahead);
+            return is_attempt(alloc, kept.circuit(), fault, told, back, ahead);
         },
     };
     match way {
-        Way::Ahead => is_ahead(alloc, circuit, fault, budget, told, end, tokens),
-        Way::Back => is_back(alloc, circuit, budget, told, end, tokens),
+        Way::Ahead => is_ahead(alloc, kept, fault, budget, told, end, tokens),
+        Way::Back => is_back(alloc, kept, budget, told, end, tokens),
     }
 }
 
@@ -93,7 +96,8 @@ fn ends_as(
     tokens: &[Token],
 ) -> Result<bool, AllocError>
     requires { budget ≤ MAX_BUDGET }
-    ensures { IfOk result (λ ends. IsTrue ends ↔ EndsAs window.old budget end tokens.now) }
+    ensures ends { IfOk result (λ ends. IsTrue ends ↔ EndsAs window.old budget end tokens.now) }
+    ensures circuit { window.new.circuit ≡ window.old.circuit }
 {
     match end {
         SearchEnd::Closed => is_complete(alloc, window, tokens),
@@ -114,7 +118,7 @@ fn is_state(place: Spot) -> bool
 // Whether the place of a told frame is a next state, and tokens are the walk of the search ahead of the frame.
 fn is_ahead(
     alloc: Global,
-    circuit: &Circuit,
+    kept: &mut KeptFrames,
     fault: Fault,
     budget: u64,
     told: &Told,
@@ -122,36 +126,43 @@ fn is_ahead(
     tokens: &[Token],
 ) -> Result<bool, AllocError>
     requires { budget ≤ MAX_BUDGET }
-    ensures { IfOk result (λ ahead. IsTrue ahead ↔ (IsStateSpot told.now.place
-        × EndsAs (ahead_window circuit.now fault told.now) budget end tokens.now)) }
+    ensures ahead { IfOk result (λ ahead. IsTrue ahead ↔ (IsStateSpot told.now.place
+        × EndsAs (ahead_window kept.old.circuit fault told.now) budget end tokens.now)) }
+    ensures circuit { kept.new.circuit ≡ kept.old.circuit }
 {
     if !is_state(told.place) {
         return Ok(false);
     }
-    let good = told_state(alloc, circuit, None, told)?;
-    let faulty = told_state(alloc, circuit, Some(fault), told)?;
-    let mut window = FreshWindow::forward(alloc, circuit, fault, FORWARD_FRAMES, &good, &faulty)?;
-    ends_as(alloc, &mut window, budget, end, tokens)
+    let good = told_state(alloc, kept.circuit(), None, told)?;
+    let faulty = told_state(alloc, kept.circuit(), Some(fault), told)?;
+    let frames = kept.take(alloc)?;
+    let mut window = FreshWindow::forward(alloc, frames, fault, FORWARD_FRAMES, &good, &faulty)?;
+    let ends = ends_as(alloc, &mut window, budget, end, tokens)?;
+    *kept = window.into_kept();
+    Ok(ends)
 }
 
 // Whether a told frame needs some latch, and tokens are the walk of the search back to its latches.
 fn is_back(
     alloc: Global,
-    circuit: &Circuit,
+    kept: &mut KeptFrames,
     budget: u64,
     told: &Told,
     end: SearchEnd,
     tokens: &[Token],
 ) -> Result<bool, AllocError>
     requires { budget ≤ MAX_BUDGET }
-    ensures { IfOk result
-        (λ back. IsTrue back ↔ ((is_wanting (told_cube circuit.now told.now) ≡ true)
-        × EndsAs (cube_window circuit.now told.now) budget end tokens.now)) }
+    ensures back { IfOk result
+        (λ back. IsTrue back ↔ ((is_wanting (told_cube kept.old.circuit told.now) ≡ true)
+        × EndsAs (cube_window kept.old.circuit told.now) budget end tokens.now)) }
+    ensures circuit { kept.new.circuit ≡ kept.old.circuit }
 {
-    let cube = told_cube(alloc, circuit, told)?;
+    let cube = told_cube(alloc, kept.circuit(), told)?;
     if !wants_any(&cube) {
         return Ok(false);
     }
-    let mut window = FreshWindow::back(alloc, circuit, &cube, BACK_LIMIT)?;
-    ends_as(alloc, &mut window, budget, end, tokens)
+    let mut window = FreshWindow::back(alloc, kept.take(alloc)?, &cube, BACK_LIMIT)?;
+    let ends = ends_as(alloc, &mut window, budget, end, tokens)?;
+    *kept = window.into_kept();
+    Ok(ends)
 }

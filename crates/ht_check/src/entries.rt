@@ -1,5 +1,5 @@
 //! Entries that pass.
-ghost use Rattle.std.specs.Prelude.{◌<◌, ◌≤◌, ◌↔◌, ℕ, length, get_or, IfOk, IsTrue};
+ghost use Rattle.std.specs.Prelude.{◌≡◌, ◌<◌, ◌≤◌, ◌↔◌, ℕ, length, get_or, IfOk, IsTrue};
 ghost use Rattle.ht_tree.specs.declared.limits.TheConstants.{MAX_BUDGET};
 ghost use Rattle.ht_tree.specs.AbortRecords.{IsFirstAim, IsLastWalk};
 ghost use Rattle.ht_tree.specs.Entries.{Means, Passes};
@@ -10,6 +10,7 @@ ghost use Rattle.ht_tree.specs.ToldChains.{IsToldChain};
 use crate::abort_records::is_last_walk;
 use crate::aims::is_first_aim;
 use crate::fresh_window::FreshWindow;
+use crate::kept_frames::KeptFrames;
 use crate::sweeps::is_sweep_record;
 use crate::told_chains::is_told_chain;
 use crate::walks::is_complete;
@@ -47,12 +48,35 @@ pub fn entry(
         (λ passes. IsTrue passes ↔ Passes circuit.now fault budget entry.now) }
     ensures sound { IfOk result (λ passes. IsTrue passes → Means circuit.now fault entry.now) }
 {
+    let mut kept = KeptFrames::new(alloc, circuit)?;
+    entry_by_frames(alloc, &mut kept, fault, budget, entry)
+}
+
+/// Whether an entry passes for a fault of the circuit of frames that are kept, as `entry` says it. The frames of each
+/// window settle from where they were in the window before, and an error may lose them, so that they are made again.
+///
+/// # Errors
+/// Out of memory.
+pub fn entry_by_frames(
+    alloc: Global,
+    kept: &mut KeptFrames,
+    fault: Fault,
+    budget: u64,
+    entry: &Entry,
+) -> Result<bool, AllocError>
+    requires budget { budget ≤ MAX_BUDGET }
+    ensures exact { IfOk result
+        (λ passes. IsTrue passes ↔ Passes kept.old.circuit fault budget entry.now) }
+    ensures sound { IfOk result
+        (λ passes. IsTrue passes → Means kept.old.circuit fault entry.now) }
+    ensures circuit { kept.new.circuit ≡ kept.old.circuit }
+{
     // for the proof: the circuit is well formed
-    let _ = circuit.nets();
+    let _ = kept.circuit();
     match entry {
         Entry::Untestable { z, tokens } => refutes(
             alloc,
-            circuit,
+            kept,
             fault,
             z.as_slice(),
             tokens.as_slice(),
@@ -64,10 +88,10 @@ pub fn entry(
             sweep,
         } => {
             let told = told.as_slice();
-            if !follows_told(alloc, circuit, fault, budget, told, walk, aim)? {
+            if !follows_told(alloc, kept, fault, budget, told, walk, aim)? {
                 return Ok(false);
             }
-            is_sweep_record(alloc, circuit, fault, budget, sweep.as_slice())
+            is_sweep_record(alloc, kept, fault, budget, sweep.as_slice())
         },
     }
 }
@@ -75,7 +99,7 @@ pub fn entry(
 // Whether frames are a told chain, and the walk after them and the aim at the first are as the budget has them.
 fn follows_told(
     alloc: Global,
-    circuit: &Circuit,
+    kept: &mut KeptFrames,
     fault: Fault,
     budget: u64,
     told: &[Told],
@@ -83,35 +107,39 @@ fn follows_told(
     aim: &Option<Aim>,
 ) -> Result<bool, AllocError>
     requires { budget ≤ MAX_BUDGET }
-    ensures { IfOk result (λ yes. IsTrue yes ↔ (IsToldChain circuit.now fault told.now
-        × IsLastWalk circuit.now fault budget told.now walk.now
-        × IsFirstAim circuit.now fault budget told.now aim.now)) }
+    ensures follows { IfOk result (λ yes. IsTrue yes ↔ (IsToldChain kept.old.circuit fault told.now
+        × IsLastWalk kept.old.circuit fault budget told.now walk.now
+        × IsFirstAim kept.old.circuit fault budget told.now aim.now)) }
+    ensures circuit { kept.new.circuit ≡ kept.old.circuit }
 {
-    if !is_told_chain(alloc, circuit, fault, told)? {
+    if !is_told_chain(alloc, kept, fault, told)? {
         return Ok(false);
     }
-    if !is_last_walk(alloc, circuit, fault, budget, told, walk)? {
+    if !is_last_walk(alloc, kept, fault, budget, told, walk)? {
         return Ok(false);
     }
-    is_first_aim(alloc, circuit, fault, budget, told, aim)
+    is_first_aim(alloc, kept, fault, budget, told, aim)
 }
 
 // Whether a set of flip-flops and a walk refute a fault.
 fn refutes(
     alloc: Global,
-    circuit: &Circuit,
+    kept: &mut KeptFrames,
     fault: Fault,
     z: &[u32],
     tokens: &[Token],
 ) -> Result<bool, AllocError>
-    ensures { IfOk result
-        (λ passes. IsTrue passes ↔ Refutes circuit.now fault z.now tokens.now) }
+    ensures passes { IfOk result
+        (λ passes. IsTrue passes ↔ Refutes kept.old.circuit fault z.now tokens.now) }
+    ensures circuit { kept.new.circuit ≡ kept.old.circuit }
 {
-    if !names_flip_flops(z, circuit.dffs()) {
+    if !names_flip_flops(z, kept.circuit().dffs()) {
         return Ok(false);
     }
-    let mut window = FreshWindow::one_frame(alloc, circuit, fault, z)?;
-    is_complete(alloc, &mut window, tokens)
+    let mut window = FreshWindow::one_frame(alloc, kept.take(alloc)?, fault, z)?;
+    let complete = is_complete(alloc, &mut window, tokens)?;
+    *kept = window.into_kept();
+    Ok(complete)
 }
 
 // Whether numbers rise and are below a count.

@@ -17,7 +17,8 @@ use crate::decisions::write_decisions;
 use crate::frame_sets::{FrameSets, run_frames};
 use crate::fresh_start::{FreshStart, is_faulty_latch, marks_of, states_show};
 use crate::judged::JudgedWindow;
-use ht_net::{Circuit, Fault};
+use crate::kept_frames::KeptFrames;
+use ht_net::Fault;
 use ht_tern::Tern;
 use ht_tree::{Assign3, Spot, Status3, WalkNode};
 use std::alloc::{AllocError, Global};
@@ -25,9 +26,9 @@ use std::marker::Model;
 
 /// A window of any kind, whose frames all settle at each node. All room is taken once, when it is made.
 #[derive(Drop)]
-pub struct FreshWindow<'c> {
+pub struct FreshWindow<'c, 's> {
     frames: u32,
-    start: FreshStart<'c>,
+    start: FreshStart<'s>,
     // what the path has decided for each variable
     decisions: Vec<Option<Tern>>,
     // the cube of a node's window
@@ -35,7 +36,7 @@ pub struct FreshWindow<'c> {
     frame: FrameSets<'c>,
 }
 
-impl<'c> Model for FreshWindow<'c> {
+impl<'c, 's> Model for FreshWindow<'c, 's> {
     ghost use Rattle.ht_tree.specs.Windows.{SearchWindow};
 
     ghost Value = { SearchWindow };
@@ -47,30 +48,30 @@ impl<'c> Model for FreshWindow<'c> {
     ghost invariant = { HasWindowRoom };
 }
 
-impl<'c> FreshWindow<'c> {
+impl<'c, 's> FreshWindow<'c, 's> {
     // Room for a window.
     fn new(
         alloc: Global,
-        circuit: &'c Circuit,
+        kept: KeptFrames<'c>,
         fault: Option<Fault>,
         frames: u32,
-        start: FreshStart<'c>,
-    ) -> Result<FreshWindow<'c>, AllocError>
-        requires fits { IsStart circuit.now fault frames (fresh_start start) }
-        requires start { IsStartOf start (length circuit.now.dffs) }
+        start: FreshStart<'s>,
+    ) -> Result<FreshWindow<'c, 's>, AllocError>
+        requires fits { IsStart kept.circuit fault frames (fresh_start start) }
+        requires start { IsStartOf start (length kept.circuit.dffs) }
         ensures { IfOk result
             (λ window. window ≡ record {
-              circuit = circuit.now;
+              circuit = kept.entry.circuit;
               fault = fault;
               frames = frames;
               start = fresh_start start.entry;
             }) }
     {
-        let inputs = circuit.inputs() as usize;
-        let dffs = circuit.dffs() as usize;
+        let inputs = kept.circuit().inputs() as usize;
+        let dffs = kept.circuit().dffs() as usize;
         let decisions = vec![in alloc; None; frames as usize * inputs + 2 * dffs]?;
         let cube = vec![in alloc; Tern::Unk; dffs]?;
-        let frame = FrameSets::new(alloc, circuit, fault, frames)?;
+        let frame = FrameSets::new(alloc, kept, fault, frames)?;
         Ok(FreshWindow {
             frames,
             start,
@@ -86,16 +87,16 @@ impl<'c> FreshWindow<'c> {
     /// Out of memory.
     pub fn one_frame(
         alloc: Global,
-        circuit: &'c Circuit,
+        kept: KeptFrames<'c>,
         fault: Fault,
-        z: &'c [u32],
-    ) -> Result<FreshWindow<'c>, AllocError>
-        requires { (i : ℕ) → i < length z.now → get_or z.now i 0 < length circuit.now.dffs }
-        ensures { IfOk result (λ window. window ≡ one_frame_window circuit.now fault z.now) }
+        z: &'s [u32],
+    ) -> Result<FreshWindow<'c, 's>, AllocError>
+        requires { (i : ℕ) → i < length z.now → get_or z.now i 0 < length kept.circuit.dffs }
+        ensures { IfOk result (λ window. window ≡ one_frame_window kept.entry.circuit fault z.now) }
     {
-        let marks = marks_of(alloc, z, circuit.dffs() as usize)?;
+        let marks = marks_of(alloc, z, kept.circuit().dffs() as usize)?;
         let start = FreshStart::OneFrame { z, marks };
-        FreshWindow::new(alloc, circuit, Some(fault), 1, start)
+        FreshWindow::new(alloc, kept, Some(fault), 1, start)
     }
 
     /// So many frames of a fault, from all-unknown.
@@ -104,14 +105,14 @@ impl<'c> FreshWindow<'c> {
     /// Out of memory.
     pub fn sweep(
         alloc: Global,
-        circuit: &'c Circuit,
+        kept: KeptFrames<'c>,
         fault: Fault,
         frames: u32,
-    ) -> Result<FreshWindow<'c>, AllocError>
+    ) -> Result<FreshWindow<'c, 's>, AllocError>
         requires { 0 < frames }
-        ensures { IfOk result (λ window. window ≡ sweep_window circuit.now fault frames) }
+        ensures { IfOk result (λ window. window ≡ sweep_window kept.entry.circuit fault frames) }
     {
-        FreshWindow::new(alloc, circuit, Some(fault), frames, FreshStart::Unknown)
+        FreshWindow::new(alloc, kept, Some(fault), frames, FreshStart::Unknown)
     }
 
     /// So many frames of a fault, from a state of each machine, which has a value for each flip-flop in order.
@@ -120,20 +121,20 @@ impl<'c> FreshWindow<'c> {
     /// Out of memory.
     pub fn forward(
         alloc: Global,
-        circuit: &'c Circuit,
+        kept: KeptFrames<'c>,
         fault: Fault,
         frames: u32,
-        good: &'c [Tern],
-        faulty: &'c [Tern],
-    ) -> Result<FreshWindow<'c>, AllocError>
+        good: &'s [Tern],
+        faulty: &'s [Tern],
+    ) -> Result<FreshWindow<'c, 's>, AllocError>
         requires some { 0 < frames }
-        requires good { length good.now ≡ length circuit.now.dffs }
-        requires faulty { length faulty.now ≡ length circuit.now.dffs }
+        requires good { length good.now ≡ length kept.circuit.dffs }
+        requires faulty { length faulty.now ≡ length kept.circuit.dffs }
         ensures { IfOk result
-            (λ window. window ≡ forward_window circuit.now fault frames good.now faulty.now) }
+            (λ window. window ≡ forward_window kept.entry.circuit fault frames good.now faulty.now) }
     {
         let start = FreshStart::States { good, faulty };
-        FreshWindow::new(alloc, circuit, Some(fault), frames, start)
+        FreshWindow::new(alloc, kept, Some(fault), frames, start)
     }
 
     /// One frame of the good machine, for a cube of latch values that are wanted after it, with a value for each
@@ -143,18 +144,25 @@ impl<'c> FreshWindow<'c> {
     /// Out of memory.
     pub fn back(
         alloc: Global,
-        circuit: &'c Circuit,
-        cube: &'c [Tern],
+        kept: KeptFrames<'c>,
+        cube: &'s [Tern],
         limit: u32,
-    ) -> Result<FreshWindow<'c>, AllocError>
-        requires { length cube.now ≡ length circuit.now.dffs }
-        ensures { IfOk result (λ window. window ≡ back_window circuit.now cube.now limit) }
+    ) -> Result<FreshWindow<'c, 's>, AllocError>
+        requires { length cube.now ≡ length kept.circuit.dffs }
+        ensures { IfOk result (λ window. window ≡ back_window kept.entry.circuit cube.now limit) }
     {
-        FreshWindow::new(alloc, circuit, None, 1, FreshStart::Back { cube, limit })
+        FreshWindow::new(alloc, kept, None, 1, FreshStart::Back { cube, limit })
+    }
+
+    /// Gives the frames back.
+    pub fn into_kept(self) -> KeptFrames<'c>
+        ensures { result.circuit ≡ self.entry.circuit }
+    {
+        self.frame.into_kept()
     }
 }
 
-impl<'c> FreshWindow<'c> {
+impl<'c, 's> FreshWindow<'c, 's> {
     // The status of a window that looks for a difference, at a path.
     fn difference_status(&mut self, path: &[Assign3]) -> Status3
         requires { seeks_difference self.old.start ≡ true }
@@ -201,7 +209,7 @@ impl<'c> FreshWindow<'c> {
     }
 }
 
-impl<'c> FreshWindow<'c> {
+impl<'c, 's> FreshWindow<'c, 's> {
     // The status of a node's window that looks for a cube.
     fn cube_status(&mut self, cube: &[Tern], limit: u32, node: &WalkNode) -> Status3
         requires { self.old.start ≡ back cube.now limit }
@@ -247,10 +255,12 @@ impl<'c> FreshWindow<'c> {
     }
 }
 
-impl<'c> JudgedWindow for FreshWindow<'c> {
+impl<'c, 's> JudgedWindow for FreshWindow<'c, 's> {
     ghost judge = { λ w. judge_of w };
 
     ghost unit = { λ w. token_weight w };
+
+    ghost circuit = { λ w. w.circuit };
 
     fn token_weight(&self) -> u32 {
         self.frames

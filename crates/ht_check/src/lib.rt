@@ -4,15 +4,16 @@
 //! `entry` is true exactly where the entry passes (`exact`), and what an entry that passes says of its fault holds
 //! (`sound`): no list of vectors detects it, or none of fewer vectors than a sweep has walks. `judge_walk` judges
 //! tokens as a walk of any `JudgedWindow`, and `FreshWindow` is one of each kind: one frame with a set of flip-flops,
-//! some frames from all-unknown or from a pair of states, and back from a cube.
+//! some frames from all-unknown or from a pair of states, and back from a cube. A window settles `KeptFrames`, which
+//! `entry_by_frames` keeps from one entry to the next.
 //!
 //! Modules: `entries` (which entries pass), `told_chains` and `told_frames` (frames that are told), `abort_records`
 //! (the walk after them), `aims` (how the attempt at the first of them ended), `attempts` (lists that fail together),
 //! `told_states` (what a told frame gives), `vector_runs` (machines over lists), `sweeps` (the walks of a sweep),
 //! `walks` (a walk token by token), `spent_walks` (walks that spent a budget), `judged` (what a window answers),
 //! `fresh_window` (a window of any kind), `fresh_start` (its first latches), `frame_sets` (one frame over sets),
-//! `net_sets` (its nets, gate by gate), `decisions` (what a path decides), `differences` (what places show), `cube`
-//! (what next states make of a cube).
+//! `kept_frames` (the nets of its frames), `net_sets` (those of one frame, by events), `decisions` (what a path
+//! decides), `differences` (what places show), `cube` (what next states make of a cube).
 #![tactic(auto)]
 
 mod abort_records;
@@ -26,6 +27,7 @@ mod frame_sets;
 mod fresh_start;
 mod fresh_window;
 mod judged;
+mod kept_frames;
 mod net_sets;
 mod spent_walks;
 mod sweeps;
@@ -35,7 +37,8 @@ mod told_states;
 mod vector_runs;
 mod walks;
 
-pub use entries::entry;
+pub use entries::{entry, entry_by_frames};
 pub use fresh_window::FreshWindow;
 pub use judged::JudgedWindow;
+pub use kept_frames::KeptFrames;
 pub use walks::{Finding, judge_walk};

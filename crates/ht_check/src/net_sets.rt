@@ -1,28 +1,46 @@
 //! The sets of nets in one frame after the other: only gates that read a net that changed are evaluated.
-ghost use Rattle.std.specs.Prelude.{◌≡◌, ◌≢◌, ◌<◌, ◌≤◌, ◌+◌, ◌-◌, ◌^◌, ℕ, List, Option, false, length, get_or, IfOk};
+ghost use Rattle.std.specs.Prelude.{◌≡◌, ◌≢◌, ◌<◌, ◌≤◌, ◌+◌, ◌-◌, ℕ, List, Some, true, false, length, get_or, All, IfOk};
+ghost use Rattle.std.specs.List.{Contains};
 ghost use Rattle.ht_pairs.specs.Pairs.{Pair};
-ghost use Rattle.ht_net.specs.Netlist.{first_gate_net, gate_at, net_count, no_net};
-ghost use Rattle.ht_net.specs.Frame.{frame_outputs, gate_output, net_value, next_state, values_at};
+ghost use Rattle.ht_net.specs.Netlist.{first_gate_net, net_count};
+ghost use Rattle.ht_net.specs.Frame.{frame_outputs, net_value, next_state, values_at};
+ghost use Rattle.ht_ranks.specs.Schedules.{IsSchedule};
 ghost use Rattle.ht_tree.specs.Windows.{pair_set_rules};
-ghost use Rattle.ht_check.specs.GateSets.{AreGatesSettled, IsMarkedOr, sets_of};
+ghost use Rattle.ht_check.specs.GateSets.{AreGatesSettled, AreQuietSettled, gate_rank, is_gate_line, is_stuck_gate, sets_of};
 ghost use Rattle.ht_check.specs.NetSetsOf.{AreNetSets};
 
-use ht_frame::{MAX_GATE_PINS, capture, gate_output, settle, stem};
-use ht_net::{Circuit, Fault, NetId};
+use ht_frame::{MAX_GATE_PINS, capture, gate_output, stem};
+use ht_net::{Circuit, Fault, Site};
 use ht_pairs::PairSet;
+use ht_ranks::{BitSet, Schedule};
 use std::alloc::{AllocError, Global};
 
-/// The sets of a circuit's nets in a frame, from which the next one settles. All room is taken once, when it is made.
+/// The sets of a circuit's nets in a frame, from which the next one settles, under the same fault or another. All room
+/// is taken once, when it is made.
 #[derive(Drop)]
 pub struct NetSets {
     // a set for each net
     values: Vec<PairSet>,
-    // whether the net has another set than in the frame before
-    changed: Vec<bool>,
+    // the ranks of gates that may not be settled: all at first, and none after a frame
+    pending: BitSet,
     // room for the pins of one gate
     pins: Vec<PairSet>,
-    // whether there was a frame
-    settled: bool,
+    // the fault of the frame that ran last
+    fault: Option<Fault>,
+}
+
+// All gates, by their ranks: inputs and flip-flops have lower ones.
+fn all_gates(alloc: Global, circuit: &Circuit) -> Result<BitSet, AllocError>
+    ensures count { IfOk result (λ pending. length pending ≡ net_count circuit.now) }
+    ensures all { IfOk result (λ pending. (r : ℕ) → first_gate_net circuit.now ≤ r
+        → r < net_count circuit.now → get_or pending r false ≡ true) }
+{
+    let nets = circuit.nets();
+    let mut pending = BitSet::new(alloc, nets)?;
+    for rank in circuit.inputs() + circuit.dffs()..nets {
+        pending.insert(rank);
+    }
+    Ok(pending)
 }
 
 impl NetSets {
@@ -31,14 +49,14 @@ impl NetSets {
     /// # Errors
     /// Out of memory.
     pub fn new(alloc: Global, circuit: &Circuit) -> Result<NetSets, AllocError>
-        ensures { (fault : Option Fault) → IfOk result (AreNetSets circuit.now fault) }
+        ensures { IfOk result (AreNetSets circuit.now) }
     {
         let nets = circuit.nets() as usize;
         Ok(NetSets {
             values: vec![in alloc; PairSet::both_same(); nets]?,
-            changed: vec![in alloc; false; nets]?,
+            pending: all_gates(alloc, circuit)?,
             pins: vec![in alloc; PairSet::both_same(); MAX_GATE_PINS]?,
-            settled: false,
+            fault: None,
         })
     }
 
@@ -46,55 +64,57 @@ impl NetSets {
     fn settle(
         &mut self,
         circuit: &Circuit,
+        schedule: &Schedule,
         fault: Option<Fault>,
         vector: &[PairSet],
         latches: &[PairSet],
     )
+        requires schedule { IsSchedule circuit.now schedule.now }
         requires vector { length vector.now ≡ circuit.now.inputs }
         requires latches { length latches.now ≡ length circuit.now.dffs }
-        requires nets { AreNetSets circuit.now fault self.old }
-        ensures nets { AreNetSets circuit.now fault self.new }
+        requires nets { AreNetSets circuit.now self.old }
+        ensures nets { AreNetSets circuit.now self.new }
         ensures sets { (x : ℕ) → x < net_count circuit.now → sets_of self.new.values.items x
             ≡ net_value circuit.now (pair_set_rules fault) vector.now latches.now x }
     {
-        let (values, pins) = (&mut self.values, &mut self.pins);
-        if self.settled {
-            resettle(
-                circuit,
-                fault,
-                vector,
-                latches,
-                values,
-                &mut self.changed,
-                pins,
-            );
-        } else {
-            settle(circuit, fault, vector, latches, values, pins);
-        }
-        self.settled = true;
+        let pending = &mut self.pending;
+        change_fault(circuit, schedule, self.fault, fault, pending);
+        self.fault = fault;
+        follow(
+            circuit,
+            schedule,
+            fault,
+            vector,
+            latches,
+            &mut self.values,
+            pending,
+            &mut self.pins,
+        );
     }
 
-    /// Runs a frame of the circuit and fault of the frames before: `outputs` get what the outputs show, and `latches`
-    /// take what stands at their data pins.
+    /// Runs a frame of the circuit, under the fault of the frames before or another: `outputs` get what the outputs
+    /// show, and `latches` take what stands at their data pins.
     pub fn run(
         &mut self,
         circuit: &Circuit,
+        schedule: &Schedule,
         fault: Option<Fault>,
         vector: &[PairSet],
         latches: &mut [PairSet],
         outputs: &mut [PairSet],
     )
+        requires schedule { IsSchedule circuit.now schedule.now }
         requires vector { length vector.now ≡ circuit.now.inputs }
         requires latches { length latches.old ≡ length circuit.now.dffs }
         requires outputs { length outputs.old ≡ length circuit.now.outputs }
-        requires nets { AreNetSets circuit.now fault self.old }
-        ensures nets { AreNetSets circuit.now fault self.new }
+        requires nets { AreNetSets circuit.now self.old }
+        ensures nets { AreNetSets circuit.now self.new }
         ensures latches { latches.new
             ≡ next_state circuit.now (pair_set_rules fault) vector.now latches.old }
         ensures outputs { outputs.new
             ≡ frame_outputs circuit.now (pair_set_rules fault) vector.now latches.old }
     {
-        self.settle(circuit, fault, vector, latches);
+        self.settle(circuit, schedule, fault, vector, latches);
         show(circuit, &self.values, outputs);
         capture(circuit, fault, &self.values, latches);
     }
@@ -113,141 +133,216 @@ fn show(circuit: &Circuit, values: &[PairSet], outputs: &mut [PairSet])
     }
 }
 
-// Gives a net its set, and marks the net if it had another.
-fn write_net(net: u32, set: PairSet, values: &mut [PairSet], changed: &mut [bool])
-    requires net { net < length values.old }
-    requires room { length changed.old ≡ length values.old }
-    ensures set { sets_of values.new net ≡ set }
-    ensures marked { IsMarkedOr changed.new values.old values.new net }
-    ensures sets { (x : ℕ) → x ≢ net → sets_of values.new x ≡ sets_of values.old x }
-    ensures marks { (x : ℕ) → x ≢ net
-        → get_or changed.new x false ≡ get_or changed.old x false }
+// The gate that a site is at, by the stem of its net or by one of its pins.
+fn gate_of(circuit: &Circuit, site: Site) -> Option<u32>
+    ensures { (g : ℕ) → is_gate_line circuit.now site g ≡ true → result ≡ Some g }
 {
-    let net = net as usize;
-    let same = values[net] == set;
-    changed[net] = !same;
-    values[net] = set;
+    match site {
+        Site::Stem(net) => gate_of_net(circuit, net.0),
+        Site::GatePin { gate, .. } => Some(gate),
+        Site::DffPin { .. } => None,
+    }
 }
 
-// Gives the nets from `first` on the sets of `sources`, each by its stem, and marks those that had another.
+// The gate that drives a net, none where it is an input or a flip-flop.
+fn gate_of_net(circuit: &Circuit, net: u32) -> Option<u32>
+    ensures { (g : ℕ) → first_gate_net circuit.now + g ≡ net → result ≡ Some g }
+{
+    // for the proof: the nets are few enough that they have numbers
+    let _ = circuit.nets();
+    let first = circuit.inputs() + circuit.dffs();
+    if net < first { None } else { Some(net - first) }
+}
+
+// Makes the gate pending that a fault is at, if it is at one.
+fn touch_fault(circuit: &Circuit, schedule: &Schedule, fault: Option<Fault>, pending: &mut BitSet)
+    requires schedule { IsSchedule circuit.now schedule.now }
+    requires marks { length pending.old ≡ net_count circuit.now }
+    ensures marks { length pending.new ≡ net_count circuit.now }
+    ensures stuck { (g : ℕ) → g < length circuit.now.gates → is_stuck_gate circuit.now fault g ≡ true
+        → get_or pending.new (gate_rank circuit.now schedule.now g) false ≡ true }
+    ensures more { (r : ℕ) → get_or pending.old r false ≡ true
+        → get_or pending.new r false ≡ true }
+{
+    let Some(fault) = fault else {
+        return;
+    };
+    match gate_of(circuit, fault.site) {
+        Some(g) if g < circuit.gates() => {
+            pending.insert(schedule.rank(circuit.gate_net(g).0));
+        },
+        _ => {},
+    }
+}
+
+// Makes the gates pending that may have other sets under one fault than under another: those that the two faults are
+// at. All others are settled under both or under none.
+fn change_fault(
+    circuit: &Circuit,
+    schedule: &Schedule,
+    before: Option<Fault>,
+    after: Option<Fault>,
+    pending: &mut BitSet,
+)
+    requires schedule { IsSchedule circuit.now schedule.now }
+    requires marks { length pending.old ≡ net_count circuit.now }
+    ensures marks { length pending.new ≡ net_count circuit.now }
+    ensures quiet { (values : List (List Pair))
+        → AreQuietSettled circuit.now schedule.now before pending.old values
+        → AreQuietSettled circuit.now schedule.now after pending.new values }
+{
+    if before != after {
+        touch_fault(circuit, schedule, before, pending);
+        touch_fault(circuit, schedule, after, pending);
+    }
+}
+
+// Gives a net its set. Where it had another, the gates that read it are pending.
+fn write_net(net: u32, set: PairSet, readers: &[u32], values: &mut [PairSet], pending: &mut BitSet)
+    requires net { net < length values.old }
+    requires readers { All (λ r. r < length pending.old) readers.now }
+    ensures set { sets_of values.new net ≡ set }
+    ensures sets { (x : ℕ) → x ≢ net → sets_of values.new x ≡ sets_of values.old x }
+    ensures marks { length pending.new ≡ length pending.old }
+    ensures readers { (r : ℕ) → Contains readers.now r → get_or pending.new r false ≡ false
+        → values.new ≡ values.old }
+    ensures more { (r : ℕ) → get_or pending.old r false ≡ true
+        → get_or pending.new r false ≡ true }
+    ensures rest { (r : ℕ) → ¬ Contains readers.now r
+        → get_or pending.new r false ≡ get_or pending.old r false }
+{
+    let net = net as usize;
+    if values[net] == set {
+        return;
+    }
+    values[net] = set;
+    pending.insert_all(readers);
+}
+
+// Gives the nets from `first` on, which are inputs or flip-flops, the sets of `sources`, each by its stem. Where one
+// had another, the gates that read it are pending.
 fn drive(
+    circuit: &Circuit,
+    schedule: &Schedule,
     fault: Option<Fault>,
     first: u32,
     sources: &[PairSet],
     values: &mut [PairSet],
-    changed: &mut [bool],
+    pending: &mut BitSet,
 )
-    requires room { first + length sources.now ≤ length values.old }
-    requires marks { length changed.old ≡ length values.old }
-    requires numbers { length values.old < 2 ^ 32 }
+    requires schedule { IsSchedule circuit.now schedule.now }
+    requires sources { first + length sources.now ≤ first_gate_net circuit.now }
+    requires values { length values.old ≡ net_count circuit.now }
+    requires marks { length pending.old ≡ net_count circuit.now }
+    requires quiet { AreQuietSettled circuit.now schedule.now fault pending.old values.old }
+    ensures marks { length pending.new ≡ net_count circuit.now }
+    ensures quiet { AreQuietSettled circuit.now schedule.now fault pending.new values.new }
     ensures driven { (x : ℕ) → first ≤ x → x < first + length sources.now → sets_of values.new x
         ≡ (pair_set_rules fault).stem x (sets_of sources.now (x - first)) }
-    ensures marked { (x : ℕ) → first ≤ x → x < first + length sources.now
-        → IsMarkedOr changed.new values.old values.new x }
     ensures below { (x : ℕ) → x < first → sets_of values.new x ≡ sets_of values.old x }
-    ensures above { (x : ℕ) → first + length sources.now ≤ x
-        → sets_of values.new x ≡ sets_of values.old x }
-    ensures marks { (x : ℕ) → x < first
-        → get_or changed.new x false ≡ get_or changed.old x false }
 {
+    // for the proof: the nets are few enough that they have numbers
+    prove_eq!(values.len(), circuit.nets() as usize);
     for (j, source) in sources.iter().enumerate() {
         let net = first + j as u32;
-        write_net(net, stem(fault, net, *source), values, changed);
+        let readers = schedule.readers.row(net as usize);
+        write_net(net, stem(fault, net, *source), readers, values, pending);
     }
 }
 
-// Whether one of these nets changed.
-fn is_any_marked(changed: &[bool]) -> bool
-    ensures { result ≡ false → (x : ℕ) → x < length changed.now
-        → get_or changed.now x false ≡ false }
-{
-    for mark in changed {
-        if *mark {
-            return true;
-        }
-    }
-    false
-}
-
-// Whether a gate with these pins reads a net that changed.
-fn reads_change(args: &[NetId], changed: &[bool]) -> bool
-    requires { (i : ℕ) → i < length args.now
-        → (get_or args.now i no_net).0 < length changed.now }
-    ensures { result ≡ false → (i : ℕ) → i < length args.now
-        → get_or changed.now (get_or args.now i no_net).0 false ≡ false }
-{
-    for arg in args {
-        if changed[arg.index()] {
-            return true;
-        }
-    }
-    false
-}
-
-// Gives the net of a gate its set, where the nets that it reads have theirs: the one that it had if none changed.
-fn follow(
+// Evaluates the gate of a rank, which is pending no more. Where its net gets another set, the gates that read it are.
+fn fire(
     circuit: &Circuit,
+    schedule: &Schedule,
     fault: Option<Fault>,
-    g: u32,
     values: &mut [PairSet],
-    changed: &mut [bool],
+    pending: &mut BitSet,
+    pins: &mut [PairSet],
+    rank: u32,
+)
+    requires schedule { IsSchedule circuit.now schedule.now }
+    requires values { length values.old ≡ net_count circuit.now }
+    requires marks { length pending.old ≡ net_count circuit.now }
+    requires room { length pins.old ≡ MAX_GATE_PINS }
+    requires gate { first_gate_net circuit.now ≤ rank }
+    requires rank { rank < net_count circuit.now }
+    requires quiet { AreQuietSettled circuit.now schedule.now fault pending.old values.old }
+    ensures quiet { AreQuietSettled circuit.now schedule.now fault pending.new values.new }
+    ensures sources { (x : ℕ) → x < first_gate_net circuit.now
+        → sets_of values.new x ≡ sets_of values.old x }
+    ensures marks { length pending.new ≡ length pending.old }
+    ensures taken { get_or pending.new rank false ≡ false }
+    ensures before { (r : ℕ) → r < rank
+        → get_or pending.new r false ≡ get_or pending.old r false }
+{
+    let net = schedule.net(rank);
+    let g = net - (circuit.inputs() + circuit.dffs());
+    pending.remove(rank);
+    let set = stem(fault, net, gate_output(circuit, fault, values, pins, g));
+    let readers = schedule.readers.row(net as usize);
+    write_net(net, set, readers, values, pending);
+}
+
+// Evaluates each gate that is pending, in the order of the schedule, and then those that read what changed: none is
+// left.
+fn settle_pending(
+    circuit: &Circuit,
+    schedule: &Schedule,
+    fault: Option<Fault>,
+    values: &mut [PairSet],
+    pending: &mut BitSet,
     pins: &mut [PairSet],
 )
-    requires gate { g < length circuit.now.gates }
+    requires schedule { IsSchedule circuit.now schedule.now }
     requires values { length values.old ≡ net_count circuit.now }
-    requires marks { length changed.old ≡ net_count circuit.now }
+    requires marks { length pending.old ≡ net_count circuit.now }
     requires room { length pins.old ≡ MAX_GATE_PINS }
-    ensures set { (before : List (List Pair)) → AreGatesSettled circuit.now fault before
-        → sets_of values.old (first_gate_net circuit.now + g)
-        ≡ sets_of before (first_gate_net circuit.now + g)
-        → ((i : ℕ) → i < length (gate_at circuit.now g).args
-        → IsMarkedOr changed.old before values.old (get_or (gate_at circuit.now g).args i no_net).0)
-        → sets_of values.new (first_gate_net circuit.now + g)
-        ≡ (pair_set_rules fault).stem (first_gate_net circuit.now + g)
-        (gate_output circuit.now (pair_set_rules fault) (sets_of values.old) g) }
-    ensures marked { IsMarkedOr changed.new values.old values.new (first_gate_net circuit.now + g) }
-    ensures sets { (x : ℕ) → x ≢ first_gate_net circuit.now + g
+    requires quiet { AreQuietSettled circuit.now schedule.now fault pending.old values.old }
+    ensures gates { AreGatesSettled circuit.now fault values.new }
+    ensures sources { (x : ℕ) → x < first_gate_net circuit.now
         → sets_of values.new x ≡ sets_of values.old x }
-    ensures marks { (x : ℕ) → x ≢ first_gate_net circuit.now + g
-        → get_or changed.new x false ≡ get_or changed.old x false }
+    ensures marks { length pending.new ≡ net_count circuit.now }
 {
-    let net = circuit.gate_net(g);
-    if reads_change(circuit.gate_args(g), changed) {
-        let set = stem(fault, net.0, gate_output(circuit, fault, values, pins, g));
-        write_net(net.0, set, values, changed);
-    } else {
-        changed[net.index()] = false;
+    let mut from = circuit.inputs() + circuit.dffs();
+    while let Some(rank) = pending.next(from) {
+        fire(circuit, schedule, fault, values, pending, pins, rank);
+        from = rank + 1;
     }
 }
 
-// Gives every net its set in a frame, where the gates have what they gave in another, and marks those that had another
-// set. Two nodes of a walk that come one after the other differ in few decisions, so few gates read a change.
-fn resettle(
+// Gives every net its set in a frame, where each gate that isn't pending is settled. Two nodes of a walk that come one
+// after the other differ in few decisions, so few gates read a change.
+fn follow(
     circuit: &Circuit,
+    schedule: &Schedule,
     fault: Option<Fault>,
     vector: &[PairSet],
     latches: &[PairSet],
     values: &mut [PairSet],
-    changed: &mut [bool],
+    pending: &mut BitSet,
     pins: &mut [PairSet],
 )
+    requires schedule { IsSchedule circuit.now schedule.now }
     requires vector { length vector.now ≡ circuit.now.inputs }
     requires latches { length latches.now ≡ length circuit.now.dffs }
     requires values { length values.old ≡ net_count circuit.now }
-    requires marks { length changed.old ≡ net_count circuit.now }
+    requires marks { length pending.old ≡ net_count circuit.now }
     requires room { length pins.old ≡ MAX_GATE_PINS }
-    requires settled { AreGatesSettled circuit.now fault values.old }
-    ensures { (x : ℕ) → x < net_count circuit.now → sets_of values.new x
+    requires quiet { AreQuietSettled circuit.now schedule.now fault pending.old values.old }
+    ensures gates { AreGatesSettled circuit.now fault values.new }
+    ensures sets { (x : ℕ) → x < net_count circuit.now → sets_of values.new x
         ≡ net_value circuit.now (pair_set_rules fault) vector.now latches.now x }
+    ensures marks { length pending.new ≡ net_count circuit.now }
 {
-    let order = circuit.order();
-    drive(fault, 0, vector, values, changed);
-    drive(fault, circuit.inputs(), latches, values, changed);
-    let sources = circuit.inputs() + circuit.dffs();
-    if !is_any_marked(&changed[..sources as usize]) {
-        return;
-    }
-    for g in order {
-        follow(circuit, fault, *g, values, changed, pins);
-    }
+    drive(circuit, schedule, fault, 0, vector, values, pending);
+    drive(
+        circuit,
+        schedule,
+        fault,
+        circuit.inputs(),
+        latches,
+        values,
+        pending,
+    );
+    settle_pending(circuit, schedule, fault, values, pending, pins);
 }

@@ -1,5 +1,5 @@
 //! Walks of searches that spent their budget.
-ghost use Rattle.std.specs.Prelude.{◌↔◌, ◌≤◌, IfOk, IsTrue};
+ghost use Rattle.std.specs.Prelude.{◌≡◌, ◌↔◌, ◌≤◌, IfOk, IsTrue};
 ghost use Rattle.ht_tree.specs.SearchRecords.{IsSpentWalk};
 ghost use Rattle.ht_check.specs.Findings.{IsSpentFinding};
 
@@ -31,7 +31,9 @@ pub fn is_spent_walk(
     tokens: &[Token],
 ) -> Result<bool, AllocError>
     requires { budget ≤ MAX_BUDGET }
-    ensures { IfOk result (λ spent. IsTrue spent ↔ IsSpentWalk window.old budget tokens.now) }
+    ensures spent { IfOk result
+        (λ spent. IsTrue spent ↔ IsSpentWalk window.old budget tokens.now) }
+    ensures circuit { window.new.circuit ≡ window.old.circuit }
 {
     let unit = window.token_weight();
     let finding = judge_walk(alloc, window, tokens)?;

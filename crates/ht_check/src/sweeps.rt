@@ -5,9 +5,10 @@ ghost use Rattle.ht_tree.specs.SearchRecords.{Fills, IsSweepRecord, sweep_weight
 ghost use Rattle.ht_check.specs.SweepWalks.{IsSweepWalk};
 
 use crate::fresh_window::FreshWindow;
+use crate::kept_frames::KeptFrames;
 use crate::walks::judge_walk;
 use ht_items::Items;
-use ht_net::{Circuit, Fault};
+use ht_net::Fault;
 use ht_tree::{MAX_BUDGET, Token};
 use std::alloc::{AllocError, Global};
 
@@ -21,19 +22,20 @@ use std::alloc::{AllocError, Global};
 /// Out of memory.
 pub fn is_sweep_record(
     alloc: Global,
-    circuit: &Circuit,
+    kept: &mut KeptFrames,
     fault: Fault,
     budget: u64,
     walks: &[Items<Token>],
 ) -> Result<bool, AllocError>
     requires { budget ≤ MAX_BUDGET }
-    ensures { IfOk result
-        (λ swept. IsTrue swept ↔ IsSweepRecord circuit.now fault budget walks.now) }
+    ensures swept { IfOk result
+        (λ swept. IsTrue swept ↔ IsSweepRecord kept.old.circuit fault budget walks.now) }
+    ensures circuit { kept.new.circuit ≡ kept.old.circuit }
 {
     if !fill(budget, walks) {
         return Ok(false);
     }
-    are_sweep_walks(alloc, circuit, fault, walks)
+    are_sweep_walks(alloc, kept, fault, walks)
 }
 
 // Whether the walks of a sweep fill a budget together, each token weighing the frames of its window.
@@ -55,19 +57,20 @@ fn fill(budget: u64, walks: &[Items<Token>]) -> bool
 // Whether walks are those of a sweep, all complete but the last.
 fn are_sweep_walks(
     alloc: Global,
-    circuit: &Circuit,
+    kept: &mut KeptFrames,
     fault: Fault,
     walks: &[Items<Token>],
 ) -> Result<bool, AllocError>
     requires { sweep_weight 1 walks.now ≤ MAX_BUDGET }
-    ensures { IfOk result (λ swept. IsTrue swept ↔ ((k : ℕ) → k < length walks.now
-        → IsSweepWalk circuit.now fault (k + 1) (k + 1 == length walks.now)
+    ensures swept { IfOk result (λ swept. IsTrue swept ↔ ((k : ℕ) → k < length walks.now
+        → IsSweepWalk kept.old.circuit fault (k + 1) (k + 1 == length walks.now)
         (get_or walks.now k []))) }
+    ensures circuit { kept.new.circuit ≡ kept.old.circuit }
 {
     for (k, walk) in walks.iter().enumerate() {
         let last = k + 1 == walks.len();
         // the walks before are complete and have a token each, so k is within the budget
-        if !is_sweep_walk(alloc, circuit, fault, k as u32 + 1, last, walk.as_slice())? {
+        if !is_sweep_walk(alloc, kept, fault, k as u32 + 1, last, walk.as_slice())? {
             return Ok(false);
         }
     }
@@ -77,18 +80,20 @@ fn are_sweep_walks(
 // Whether tokens are the walk that a sweep has of so many frames: an open one of the last, and else a complete one.
 fn is_sweep_walk(
     alloc: Global,
-    circuit: &Circuit,
+    kept: &mut KeptFrames,
     fault: Fault,
     frames: u32,
     last: bool,
     tokens: &[Token],
 ) -> Result<bool, AllocError>
     requires { 0 < frames }
-    ensures { IfOk result
-        (λ swept. IsTrue swept ↔ IsSweepWalk circuit.now fault frames last tokens.now) }
+    ensures swept { IfOk result
+        (λ swept. IsTrue swept ↔ IsSweepWalk kept.old.circuit fault frames last tokens.now) }
+    ensures circuit { kept.new.circuit ≡ kept.old.circuit }
 {
-    let mut window = FreshWindow::sweep(alloc, circuit, fault, frames)?;
+    let mut window = FreshWindow::sweep(alloc, kept.take(alloc)?, fault, frames)?;
     let finding = judge_walk(alloc, &mut window, tokens)?;
+    *kept = window.into_kept();
     if last {
         Ok(finding.is_open())
     } else {

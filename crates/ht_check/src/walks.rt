@@ -55,6 +55,7 @@ pub fn judge_walk<W: JudgedWindow>(
     ensures finding { IfOk result
         (λ finding. IsFinding (W.judge window.old) (W.unit window.old) tokens.now finding) }
     ensures unasked { OnErr result (window.new ≡ window.old) }
+    ensures circuit { W.circuit window.new ≡ W.circuit window.old }
 {
     let mut walk = Walk::new(alloc, window.token_weight() as u64);
     walk.reserve(tokens.len() as u64)?;
@@ -80,8 +81,9 @@ pub fn is_complete<W: JudgedWindow>(
     window: &mut W,
     tokens: &[Token],
 ) -> Result<bool, AllocError>
-    ensures { IfOk result
+    ensures complete { IfOk result
         (λ complete. IsTrue complete ↔ IsComplete (W.judge window.old) tokens.now) }
+    ensures circuit { W.circuit window.new ≡ W.circuit window.old }
 {
     let finding = judge_walk(alloc, window, tokens)?;
     Ok(finding.is_complete())
@@ -92,6 +94,7 @@ fn take<W: JudgedWindow>(window: &mut W, walk: &mut Walk, token: Token) -> bool
     requires room { 0 < walk.old.spare }
     ensures judge { W.judge window.new ≡ W.judge window.old }
     ensures unit { W.unit window.new ≡ W.unit window.old }
+    ensures circuit { W.circuit window.new ≡ W.circuit window.old }
     ensures fits { IsTrue result ↔ FitsOnTop (W.judge window.old) walk.old.state.stack token }
     ensures fed { result ≡ true → walk.new.state ≡ fed walk.old.state token }
     ensures lowered { walk.old.spare ≤ walk.new.spare + 1 }
@@ -109,6 +112,7 @@ fn take<W: JudgedWindow>(window: &mut W, walk: &mut Walk, token: Token) -> bool
 fn fits_on_top<W: JudgedWindow>(window: &mut W, walk: &Walk, token: Token) -> bool
     ensures judge { W.judge window.new ≡ W.judge window.old }
     ensures unit { W.unit window.new ≡ W.unit window.old }
+    ensures circuit { W.circuit window.new ≡ W.circuit window.old }
     ensures fits { IsTrue result ↔ FitsAnewOnTop (W.judge window.old) walk.now.state.stack token }
 {
     match walk.node() {
@@ -121,6 +125,7 @@ fn fits_on_top<W: JudgedWindow>(window: &mut W, walk: &Walk, token: Token) -> bo
 fn fits<W: JudgedWindow>(window: &mut W, node: &WalkNode, token: Token) -> bool
     ensures judge { W.judge window.new ≡ W.judge window.old }
     ensures unit { W.unit window.new ≡ W.unit window.old }
+    ensures circuit { W.circuit window.new ≡ W.circuit window.old }
     ensures fits { IsTrue result ↔ FitsAnew (W.judge window.old) node.now token }
 {
     let status = window.status(node);

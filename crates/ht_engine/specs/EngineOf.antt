@@ -35,5 +35,7 @@ pub record IsEngine (e : EngineView) (listed : List Fault) (grader : GraderView)
   pub left : e.left ≤ e.settings.random
   pub words : generator ≡ generator_after e.circuit.inputs (e.settings.random - e.left) e.settings.seed
 
-abbrev pub AreEngineFields : Inside → Type 0
-AreEngineFields a = IsEngine (engine_of a) a.faults.now a.grader a.words
+-- The fields of an engine, with bases of its circuit.
+pub record AreEngineFields (a : Inside) : Type 0 where
+  pub engine : IsEngine (engine_of a) a.faults.now a.grader a.words
+  pub bases : a.bases.circuit ≡ a.circuit.now

@@ -6,11 +6,12 @@ ghost use Rattle.ht_engine.specs.Attempts.{AheadOfHolds, AreFrameSpots, AttemptH
 ghost use Rattle.ht_engine.specs.ToldFrames.{IsFrameOf};
 
 use crate::told_frame::ToldFrame;
-use ht_forward::{Ahead, propagate};
+use ht_forward::{Ahead, propagate_from_bases};
 use ht_justify::{Back, justify};
 use ht_net::{Circuit, Fault, Vectors};
 use ht_serial::first;
 use ht_tree::{Aim, BACK_LIMIT, Spot, Told};
+use ht_window::Bases;
 use std::alloc::{AllocError, Global};
 
 /// How the attempt at a told frame ends.
@@ -37,32 +38,35 @@ struct Task<'a> {
 /// Out of memory.
 pub fn attempt_first(
     alloc: Global,
-    circuit: &Circuit,
+    bases: &mut Bases,
     fault: Fault,
     budget: u64,
     told: &[Told],
 ) -> Result<Attempted, AllocError>
     requires { AreFrameSpots told.now }
-    ensures answer { IfOk result (IsAttempted circuit.now fault budget told.now) }
-    ensures holds { IfOk result (AttemptHolds circuit.now fault budget told.now) }
+    ensures circuit { bases.new.circuit ≡ bases.old.circuit }
+    ensures answer { IfOk result (IsAttempted bases.old.circuit fault budget told.now) }
+    ensures holds { IfOk result (AttemptHolds bases.old.circuit fault budget told.now) }
 {
     match told.first() {
         None => Ok(Attempted::Failed(None)),
         Some(told) => {
             let task = Task {
-                circuit,
+                circuit: bases.circuit(),
                 fault,
                 budget,
                 told,
             };
-            attempt(alloc, &task)
+            attempt(alloc, bases, &task)
         },
     }
 }
 
-// The attempt at a told frame.
-fn attempt(alloc: Global, task: &Task<'_>) -> Result<Attempted, AllocError>
-    requires { IsFrameSpot task.now.told.now.place }
+// The attempt at a told frame, with bases of its circuit.
+fn attempt(alloc: Global, bases: &mut Bases, task: &Task<'_>) -> Result<Attempted, AllocError>
+    requires bases { bases.old.circuit ≡ task.now.circuit.now }
+    requires place { IsFrameSpot task.now.told.now.place }
+    ensures circuit { bases.new.circuit ≡ bases.old.circuit }
     ensures answer { IfOk result
         (IsAttempted task.now.circuit.now task.now.fault task.now.budget (task.now.told.now ∷ [])) }
     ensures holds { IfOk result
@@ -70,7 +74,7 @@ fn attempt(alloc: Global, task: &Task<'_>) -> Result<Attempted, AllocError>
         (task.now.told.now ∷ [])) }
 {
     let frame = ToldFrame::of(alloc, task.circuit, task.told)?;
-    match search_ahead(alloc, task, &frame)? {
+    match search_ahead(alloc, bases, task, &frame)? {
         Ahead::Found { list } => search_back(alloc, task, &frame, list),
         Ahead::Closed { tokens } => Ok(Attempted::Failed(Some(Aim::ForwardClosed(tokens)))),
         Ahead::Spent { tokens } => Ok(Attempted::Failed(Some(Aim::ForwardOpen(tokens)))),
@@ -78,9 +82,16 @@ fn attempt(alloc: Global, task: &Task<'_>) -> Result<Attempted, AllocError>
 }
 
 // The search ahead of a told frame: none where its place is an output.
-fn search_ahead(alloc: Global, task: &Task<'_>, frame: &ToldFrame) -> Result<Ahead, AllocError>
+fn search_ahead(
+    alloc: Global,
+    bases: &mut Bases,
+    task: &Task<'_>,
+    frame: &ToldFrame,
+) -> Result<Ahead, AllocError>
+    requires bases { bases.old.circuit ≡ task.now.circuit.now }
     requires place { IsFrameSpot task.now.told.now.place }
     requires frame { IsFrameOf task.now.circuit.now task.now.told.now frame.now }
+    ensures circuit { bases.new.circuit ≡ bases.old.circuit }
     ensures answer { IfOk result
         (IsAheadOf task.now.circuit.now task.now.fault task.now.budget task.now.told.now
         task.now.told.now.place) }
@@ -93,7 +104,7 @@ fn search_ahead(alloc: Global, task: &Task<'_>, frame: &ToldFrame) -> Result<Ahe
         }),
         Spot::State(_) => {
             let states = frame.states_after(alloc, task.circuit, task.fault, task.told)?;
-            propagate(alloc, task.circuit, task.fault, &states, task.budget)
+            propagate_from_bases(alloc, bases, task.fault, &states, task.budget)
         },
     }
 }

@@ -26,6 +26,7 @@ use ht_net::{Circuit, Vectors};
 use ht_random::Words;
 use ht_texts::Said;
 use ht_tree::Entry;
+use ht_window::Bases;
 use std::alloc::{AllocError, Global};
 use std::marker::Model;
 
@@ -78,6 +79,8 @@ pub struct Engine<'c> {
     classes: &'c Classes,
     budget: u64,
     grader: Grader<'c>,
+    // what the windows for each fault are copied from
+    bases: Bases<'c>,
     // the kind of each fault's entry, by number from 0
     kinds: Vec<Option<EntryKind>>,
     // the first fault that may still await its verdict
@@ -129,6 +132,7 @@ impl<'c> Engine<'c> {
     {
         let grader = Grader::new(alloc, circuit, faults, classes)?;
         let kinds = no_kinds(alloc, classes.len())?;
+        let bases = Bases::new(alloc, circuit)?;
         Ok(Engine {
             alloc,
             circuit,
@@ -136,6 +140,7 @@ impl<'c> Engine<'c> {
             classes,
             budget,
             grader,
+            bases,
             kinds,
             place: 0,
             random,
@@ -247,7 +252,7 @@ impl<'c> Engine<'c> {
         };
         match work_on(
             self.alloc,
-            self.circuit,
+            &mut self.bases,
             self.faults.get(fault),
             self.budget,
         )? {

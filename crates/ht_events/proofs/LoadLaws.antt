@@ -5,7 +5,8 @@ use Rattle.std.proofs.lemmas.List.{get_or_default}
 use Rattle.std.proofs.lemmas.List.Elements.{Contains-get_or}
 use Rattle.ht_net.specs.Netlist.{Netlist}
 use Rattle.ht_events.specs.Items.{frame_items, item_at, reader_frame, ReadsNet, IsReader}
-use Rattle.ht_events.specs.Plans.{PlanState, IsTable}
+use Rattle.ht_events.specs.FramePlans.{IsTable}
+use Rattle.ht_events.specs.Plans.{PlanState}
 use Rattle.ht_events.specs.Pending.{CoreState, IsPending, core_items}
 
 -- the item of a frame that reads a net of frame f

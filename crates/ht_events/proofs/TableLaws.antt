@@ -11,7 +11,7 @@ use Rattle.ht_net.specs.Levels.{times}
 use Rattle.ht_events.specs.declared.readers.NetRow.{NetRow}
 use Rattle.ht_events.specs.Items.{IsDffOn, IsGateOn, ReadsNet}
 use Rattle.ht_events.specs.NetRows.{no_row, row_of, readers_in, lists_of, AreNetRows}
-use Rattle.ht_events.specs.Plans.{IsTable}
+use Rattle.ht_events.specs.FramePlans.{IsTable}
 use Rattle.ht_events.proofs.RowLaws.{HasReader, HasRoom, rows_with, items_with, room_there, reader_has, reader_keeps, reader_only, room_left}
 
 -- how often the gates from g on read net x

@@ -36,12 +36,9 @@ QuietAgree s agrees = (x : ℕ) → x < core_items s → ¬ IsPending s x → ag
 
 -- the fields of a core as what it knows
 abbrev pub core_of : Inside → CoreState
-core_of a = record { plan = a.plan; marks = a.marks.items }
+core_of a = record { plan = a.plan; marks = a.marks }
 
--- all marks stand from low on and below high
+-- there is a mark for each item
 pub record IsCore (a : Inside) : Type 0 where
   pub few : a.plan.frames ≤ max_frames
-  pub count : length a.marks.items ≡ item_count a.plan.circuit a.plan.frames
-  pub low : (p : ℕ) → IsPendingAt (core_of a) p → a.low ≤ p
-  pub high : (p : ℕ) → IsPendingAt (core_of a) p → p < a.high
-  pub within : a.high ≤ length a.marks.items
+  pub count : length a.marks ≡ item_count a.plan.circuit a.plan.frames

@@ -5,20 +5,21 @@ ghost use Rattle.ht_events.specs.Items.{IsLoad, IsReader, item_count, item_at, r
 ghost use Rattle.ht_events.specs.Plans.{position_at};
 ghost use Rattle.ht_events.specs.Pending.{CoreState, IsPending, IsPendingAt, QuietAgree, core_items, pending_count, pends};
 
+use crate::frame_plan::FramePlan;
+use crate::marks::Marks;
 use crate::plan::{MAX_FRAMES, Plan};
 use crate::plant::Plant;
-use ht_net::{Circuit, NetId};
+use ht_net::NetId;
 use std::alloc::{AllocError, Global};
 use std::marker::Model;
+use std::rc::Rc;
 
 /// Which items are pending.
 #[derive(Drop)]
 pub struct Core<'c> {
     plan: Plan<'c>,
-    // by where the item stands in the order of all; all that are set stand from low on and below high
-    marks: Vec<bool>,
-    low: u32,
-    high: u32,
+    // by where the item stands in the order of all
+    marks: Marks,
 }
 
 impl<'c> Model for Core<'c> {
@@ -38,21 +39,20 @@ impl<'c> Core<'c> {
     ///
     /// # Errors
     /// Out of memory.
-    pub fn new(alloc: Global, circuit: &'c Circuit, frames: u32) -> Result<Core<'c>, AllocError>
+    pub fn new(
+        alloc: Global,
+        frame_plan: Rc<FramePlan<'c>>,
+        frames: u32,
+    ) -> Result<Core<'c>, AllocError>
         requires some { 0 < frames }
         requires few { frames ≤ MAX_FRAMES }
-        ensures circuit { IfOk result (λ core. core.plan.circuit ≡ circuit.now) }
+        ensures circuit { IfOk result (λ core. core.plan.circuit ≡ frame_plan.entry.value.circuit) }
         ensures frames { IfOk result (λ core. core.plan.frames ≡ frames) }
         ensures none { IfOk result (λ core. (x : ℕ) → ¬ IsPending core x) }
     {
-        let plan = Plan::new(alloc, circuit, frames)?;
-        let items = frames as usize * plan.frame_items() as usize;
-        Ok(Core {
-            plan,
-            marks: vec![in alloc; false; items]?,
-            low: 0,
-            high: 0,
-        })
+        let plan = Plan::new(frame_plan, frames);
+        let marks = Marks::new(alloc, plan.items())?;
+        Ok(Core { plan, marks })
     }
 
     /// How many items there are.
@@ -90,7 +90,8 @@ impl<'c> Core<'c> {
         requires { item < core_items self.now }
         ensures { result ≡ pends self.now item }
     {
-        self.marks[self.plan.position(item) as usize]
+        let position = self.plan.position(item);
+        self.marks.contains(position)
     }
 
     /// Makes an item pending.
@@ -104,9 +105,7 @@ impl<'c> Core<'c> {
             ⊎ (y ≡ item) }
     {
         let position = self.plan.position(item);
-        self.marks[position as usize] = true;
-        self.low = self.low.min(position);
-        self.high = self.high.max(position + 1);
+        self.marks.insert(position);
     }
 
     // Makes an item no longer pending.
@@ -120,10 +119,22 @@ impl<'c> Core<'c> {
             ⊎ (y ≡ item) }
     {
         let position = self.plan.position(item);
-        self.marks[position as usize] = false;
-        if self.low == position {
-            self.low = position + 1;
-        }
+        self.marks.remove(position);
+    }
+
+    // Makes the item with this index in a frame pending.
+    fn touch_local(&mut self, frame: u32, local: u32)
+        requires frame { frame < self.old.plan.frames }
+        requires local { local < frame_items self.old.plan.circuit }
+        ensures plan { self.new.plan ≡ self.old.plan }
+        ensures more { (y : ℕ) → IsPending self.old y → IsPending self.new y }
+        ensures has { IsPending self.new (item_at self.old.plan.circuit frame local) }
+        ensures only { (y : ℕ) → y < core_items self.old → IsPending self.new y
+            → IsPending self.old y
+            ⊎ (y ≡ item_at self.old.plan.circuit frame local) }
+    {
+        let position = self.plan.local_position(frame, local);
+        self.marks.insert(position);
     }
 
     // Makes an item of a frame pending that reads a net of `frame`, if it is in a frame that is there.
@@ -148,8 +159,7 @@ impl<'c> Core<'c> {
             frame
         };
         if at < frames {
-            let item = self.plan.item_at(at, local);
-            self.touch(item);
+            self.touch_local(at, local);
         }
     }
 
@@ -186,10 +196,10 @@ impl<'c> Core<'c> {
             ⊎ ((changed ≡ true) × IsLoad self.old.plan.circuit self.old.plan.frames item y) }
     {
         let _ = self.plan.position(item);
+        let (frame, local) = self.plan.split(item);
         self.remove(item);
         if changed {
-            let frame = self.plan.frame(item);
-            let net = self.plan.net(item);
+            let net = self.plan.net(local);
             self.touch_loads(frame, net);
         }
     }
@@ -219,61 +229,29 @@ impl<'c> Core<'c> {
             → IsPending self.old x ⊎ IsLoad self.old.plan.circuit self.old.plan.frames item x) }
         ensures err { OnErr result (self.new ≡ self.old) }
     {
-        let _ = self.plan.position(item);
         let changed = plant.recompute(item)?;
         self.finish(item, changed);
         Ok(())
     }
 
-    // The first position from `from` on that is marked.
-    fn next_mark(&self, from: u32) -> Option<u32>
-        ensures inside { IfSome result (λ p. p < core_items self.now) }
-        ensures marked { IfSome result (λ p. IsPendingAt self.now p) }
-        ensures first { IfSome result
-            (λ p. (from ≤ p) × ((q : ℕ) → from ≤ q → q < p → ¬ IsPendingAt self.now q)) }
-        ensures none { IfNone result ((q : ℕ) → from ≤ q → ¬ IsPendingAt self.now q) }
-    {
-        for position in from..self.high {
-            if self.marks[position as usize] {
-                return Some(position);
-            }
-        }
-        None
-    }
-
-    // The pending item that stands first in the order of all.
-    fn first(&mut self, from: u32) -> Option<u32>
+    // The first position from `from` on that is marked; no item before it is pending.
+    fn next_mark(&mut self, from: u32) -> Option<u32>
         requires { (y : ℕ) → y < core_items self.old → position_at self.old.plan y < from
             → ¬ IsPending self.old y }
         ensures same { self.new ≡ self.old }
-        ensures inside { IfSome result (λ item. item < core_items self.old) }
-        ensures pending { IfSome result (λ item. IsPending self.old item) }
-        ensures from { IfSome result (λ item. from ≤ position_at self.old.plan item) }
+        ensures inside { IfSome result (λ p. p < core_items self.old) }
+        ensures marked { IfSome result (λ p. IsPendingAt self.old p) }
+        ensures from { IfSome result (λ p. from ≤ p) }
         ensures first { IfSome result
-            (λ item. (y : ℕ) → y < core_items self.old → position_at self.old.plan y < position_at
-            self.old.plan item → ¬ IsPending self.old y) }
+            (λ p. (y : ℕ) → y < core_items self.old → position_at self.old.plan y < p
+            → ¬ IsPending self.old y) }
         ensures none { IfNone result ((y : ℕ) → y < core_items self.old → ¬ IsPending self.old y) }
     {
-        let start = self.low.max(from);
-        match self.next_mark(start) {
-            Some(position) => {
-                if from <= self.low {
-                    self.low = position;
-                }
-                Some(self.plan.item(position))
-            },
-            None => {
-                if from <= self.low {
-                    self.low = u32::MAX;
-                    self.high = 0;
-                }
-                None
-            },
-        }
+        self.marks.next(from)
     }
 
     /// Fires items, the lowest frame and there the lowest level first, until none is pending. No item is fired twice,
-    /// so it spends at most the price of each. It looks at each position between the first and the last.
+    /// so it spends at most the price of each.
     ///
     /// # Errors
     /// Out of memory; some items may be pending. Here too, where every item that isn't pending agreed, it does
@@ -292,8 +270,9 @@ impl<'c> Core<'c> {
         ensures none { OnOk result ((x : ℕ) → x < core_items self.old → ¬ IsPending self.new x) }
     {
         let mut from = 0;
-        while let Some(item) = self.first(from) {
-            from = self.plan.position(item) + 1;
+        while let Some(position) = self.next_mark(from) {
+            let item = self.plan.item(position);
+            from = position + 1;
             self.fire(plant, item)?;
         }
         Ok(())

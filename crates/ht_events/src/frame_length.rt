@@ -50,6 +50,13 @@ impl FrameLength {
         }
     }
 
+    /// How many items a frame has.
+    pub fn items(&self) -> u32
+        ensures { result ≡ self.now }
+    {
+        self.items
+    }
+
     /// An item's frame, and its index there, from 0.
     pub fn split(&self, item: u32) -> (u32, u32)
         requires { item < MAX_FRAMES * self.now }

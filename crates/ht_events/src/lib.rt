@@ -8,11 +8,14 @@
 
 mod event_core;
 mod frame_length;
+mod frame_plan;
+mod marks;
 mod plan;
 mod plant;
 mod readers;
 
 pub use event_core::Core;
 pub use frame_length::FrameLength;
+pub use frame_plan::FramePlan;
 pub use plan::MAX_FRAMES;
 pub use plant::Plant;

@@ -1,16 +1,14 @@
 //! What reads what, and in which order items are fired.
-ghost use Rattle.std.specs.Prelude.{◌≡◌, ℕ, ◌<◌, ◌≤◌, ◌+◌, ◌-◌, ◌^◌, [], IfOk, length, get_or};
-ghost use Rattle.std.specs.List.{Contains};
+ghost use Rattle.std.specs.Prelude.{◌≡◌, ℕ, ◌<◌, ◌≤◌, ◌-◌, ◌^◌, [], length, get_or};
 ghost use Rattle.ht_net.specs.Netlist.{IsCircuit, net_count};
-ghost use Rattle.ht_events.specs.Items.{ReadsNet, IsLoad, frame_items, item_at, item_count, frame_of, local_of, driven_net};
-ghost use Rattle.ht_events.specs.Plans.{position_at, PlanState, IsTable};
+ghost use Rattle.ht_events.specs.Items.{IsLoad, frame_items, item_at, item_count, frame_of, local_of, driven_net};
+ghost use Rattle.ht_events.specs.FramePlans.{IsTable};
+ghost use Rattle.ht_events.specs.Plans.{position_at};
 
-use crate::frame_length::FrameLength;
-use crate::readers::Readers;
-use ht_net::{Circuit, NetId};
-use ht_ranks::ranking;
-use std::alloc::{AllocError, Global};
+use crate::frame_plan::FramePlan;
+use ht_net::NetId;
 use std::marker::Model;
+use std::rc::Rc;
 
 /// The most frames of a plan: the longest window of a search. The weights of 1 to 446 frames sum to 99,681, so a budget
 /// of 100,000 reaches no longer one.
@@ -19,14 +17,8 @@ pub const MAX_FRAMES: u32 = 447;
 /// A circuit over some frames, what reads each net, and the order in which items are fired.
 #[derive(Drop)]
 pub struct Plan<'c> {
-    circuit: &'c Circuit,
+    frame_plan: Rc<FramePlan<'c>>,
     frames: u32,
-    // for each net the items of a frame that read it
-    readers: Readers,
-    // the items of a frame in the order in which they are fired, and the rank of each there
-    order: Vec<u32>,
-    ranks: Vec<u32>,
-    frame_length: FrameLength,
 }
 
 impl<'c> Model for Plan<'c> {
@@ -37,10 +29,10 @@ impl<'c> Model for Plan<'c> {
     ghost use Rattle.ht_events.specs.Plans.{IsPlan};
 
     ghost view = { λ a. record {
-      circuit = a.circuit.now;
+      circuit = a.frame_plan.value.circuit;
       frames = a.frames;
-      readers = a.readers;
-      ranks = a.ranks.items;
+      readers = a.frame_plan.value.readers;
+      ranks = a.frame_plan.value.ranks;
     } };
 
     ghost invariant = { IsPlan };
@@ -48,25 +40,13 @@ impl<'c> Model for Plan<'c> {
 
 impl<'c> Plan<'c> {
     /// A plan for a circuit over some frames.
-    ///
-    /// # Errors
-    /// Out of memory.
-    pub fn new(alloc: Global, circuit: &'c Circuit, frames: u32) -> Result<Plan<'c>, AllocError>
+    pub fn new(frame_plan: Rc<FramePlan<'c>>, frames: u32) -> Plan<'c>
         requires some { 0 < frames }
         requires few { frames ≤ MAX_FRAMES }
-        ensures circuit { IfOk result (λ plan. plan.circuit ≡ circuit.now) }
-        ensures frames { IfOk result (λ plan. plan.frames ≡ frames) }
+        ensures circuit { result.circuit ≡ frame_plan.entry.value.circuit }
+        ensures frames { result.frames ≡ frames }
     {
-        let _ = circuit.nets();
-        let (order, ranks) = ranking(alloc, circuit, circuit.dffs())?;
-        Ok(Plan {
-            circuit,
-            frames,
-            readers: Readers::new(alloc, circuit)?,
-            order,
-            ranks,
-            frame_length: FrameLength::new(circuit.dffs() + circuit.gates()),
-        })
+        Plan { frame_plan, frames }
     }
 
     /// How many frames there are.
@@ -77,70 +57,40 @@ impl<'c> Plan<'c> {
         self.frames
     }
 
-    /// How many items a frame has.
-    pub fn frame_items(&self) -> u32
-        ensures items { result ≡ frame_items self.now.circuit }
-        ensures circuit { IsCircuit self.now.circuit }
-    {
-        let _ = self.circuit.nets();
-        self.circuit.dffs() + self.circuit.gates()
-    }
-
     /// How many items all frames have.
     pub fn items(&self) -> u32
-        ensures { result ≡ item_count self.now.circuit self.now.frames }
+        ensures items { result ≡ item_count self.now.circuit self.now.frames }
+        ensures few { result < 2 ^ 32 - 1 }
     {
-        let _ = self.frames();
-        self.frames * self.frame_items()
+        self.frames * self.frame_plan.items()
     }
 
     /// How many flip-flops the circuit has.
     pub fn dffs(&self) -> u32
         ensures { result ≡ length self.now.circuit.dffs }
     {
-        self.circuit.dffs()
+        self.frame_plan.circuit().dffs()
     }
 
-    /// How many inputs the circuit has.
-    pub fn inputs(&self) -> u32
-        ensures { result ≡ self.now.circuit.inputs }
-    {
-        self.circuit.inputs()
-    }
-
-    /// An item's frame.
-    pub fn frame(&self, item: u32) -> u32
+    /// An item's frame, and its index there, from 0.
+    pub fn split(&self, item: u32) -> (u32, u32)
         requires { item < item_count self.now.circuit self.now.frames }
-        ensures frame { result ≡ frame_of self.now.circuit item }
-        ensures inside { result < self.now.frames }
+        ensures frame { result.0 ≡ frame_of self.now.circuit item }
+        ensures local { result.1 ≡ local_of self.now.circuit item }
+        ensures frame_inside { result.0 < self.now.frames }
+        ensures local_inside { result.1 < frame_items self.now.circuit }
     {
-        let _ = self.frame_items();
-        self.frame_length.split(item).0
+        let _ = self.items();
+        self.frame_plan.split(item)
     }
 
-    /// An item's index in its frame, from 0.
-    pub fn local(&self, item: u32) -> u32
-        requires { item < item_count self.now.circuit self.now.frames }
-        ensures local { result ≡ local_of self.now.circuit item }
-        ensures inside { result < frame_items self.now.circuit }
-    {
-        let _ = self.frame_items();
-        self.frame_length.split(item).1
-    }
-
-    /// The net that an item drives.
-    pub fn net(&self, item: u32) -> NetId
-        requires { item < item_count self.now.circuit self.now.frames }
-        ensures net { result.0 ≡ driven_net self.now.circuit (local_of self.now.circuit item) }
+    /// The net that an item of a frame drives.
+    pub fn net(&self, local: u32) -> NetId
+        requires { local < frame_items self.now.circuit }
+        ensures net { result.0 ≡ driven_net self.now.circuit local }
         ensures known { result.0 < net_count self.now.circuit }
     {
-        let local = self.local(item);
-        let dffs = self.circuit.dffs();
-        if local < dffs {
-            self.circuit.dff_net(local)
-        } else {
-            self.circuit.gate_net(local - dffs)
-        }
+        self.frame_plan.net(local)
     }
 
     /// Where an item stands in the order of all, from 0.
@@ -148,16 +98,34 @@ impl<'c> Plan<'c> {
         requires { item < item_count self.now.circuit self.now.frames }
         ensures position { result ≡ position_at self.now item }
         ensures inside { result < item_count self.now.circuit self.now.frames }
-        ensures few { item_count self.now.circuit self.now.frames < 2 ^ 32 - 1 }
         ensures only { (y : ℕ) → y < item_count self.now.circuit self.now.frames
             → position_at self.now y ≡ position_at self.now item → y ≡ item }
         ensures later { (y : ℕ) → IsLoad self.now.circuit self.now.frames item y
             → position_at self.now item < position_at self.now y }
     {
-        let items = self.frame_items();
-        let frame = self.frame(item);
-        let local = self.local(item);
-        frame * items + self.ranks[local as usize]
+        let (frame, local) = self.split(item);
+        self.local_position(frame, local)
+    }
+
+    /// Where the item with this index in a frame stands in the order of all, from 0.
+    pub fn local_position(&self, frame: u32, local: u32) -> u32
+        requires frame { frame < self.now.frames }
+        requires local { local < frame_items self.now.circuit }
+        ensures position { result ≡ position_at self.now (item_at self.now.circuit frame local) }
+        ensures inside { result < item_count self.now.circuit self.now.frames }
+        ensures item { item_at self.now.circuit frame local
+            < item_count self.now.circuit self.now.frames }
+        ensures only { (y : ℕ) → y < item_count self.now.circuit self.now.frames
+            → position_at self.now y ≡ position_at self.now (item_at self.now.circuit frame local)
+            → y ≡ item_at self.now.circuit frame local }
+        ensures later { (y : ℕ) → IsLoad self.now.circuit self.now.frames
+            (item_at self.now.circuit frame local) y
+            → position_at self.now (item_at self.now.circuit frame local)
+            < position_at self.now y }
+    {
+        let _ = self.items();
+        let plan: &FramePlan = &self.frame_plan;
+        frame * plan.items() + plan.rank(local)
     }
 
     /// The item that stands there in the order of all.
@@ -165,27 +133,15 @@ impl<'c> Plan<'c> {
         requires { position < item_count self.now.circuit self.now.frames }
         ensures item { position_at self.now result ≡ position }
         ensures inside { result < item_count self.now.circuit self.now.frames }
+        ensures few { item_count self.now.circuit self.now.frames < 2 ^ 32 - 1 }
         ensures only { (y : ℕ) → y < item_count self.now.circuit self.now.frames
             → position_at self.now y ≡ position → y ≡ result }
         ensures later { (y : ℕ) → IsLoad self.now.circuit self.now.frames result y
             → position < position_at self.now y }
     {
-        let items = self.frame_items();
-        let frame = self.frame(position);
-        let local = self.local(position);
-        frame * items + self.order[local as usize]
-    }
-
-    /// The item with this index in a frame.
-    pub fn item_at(&self, frame: u32, local: u32) -> u32
-        requires frame { frame < self.now.frames }
-        requires local { local < frame_items self.now.circuit }
-        ensures item { result ≡ item_at self.now.circuit frame local }
-        ensures inside { result < item_count self.now.circuit self.now.frames }
-    {
-        let _ = self.frames();
-        let items = self.frame_items();
-        frame * items + local
+        let (frame, rank) = self.split(position);
+        let plan: &FramePlan = &self.frame_plan;
+        frame * plan.items() + plan.item(rank)
     }
 
     /// The items of a frame that read a net.
@@ -194,6 +150,6 @@ impl<'c> Plan<'c> {
         ensures readers { result.now ≡ get_or self.now.readers net.0 [] }
         ensures table { IsTable self.now.circuit self.now.readers }
     {
-        self.readers.row(net)
+        self.frame_plan.readers(net)
     }
 }

@@ -2,7 +2,7 @@
 ghost use Rattle.std.specs.Prelude.{◌≡◌, ℕ, ◌<◌, ◌+◌, ◌^◌, [], length, get_or, set, IfOk};
 ghost use Rattle.ht_net.specs.Netlist.{IsCircuit, net_count};
 ghost use Rattle.ht_events.specs.NetRows.{AreEmptyRows, row_of};
-ghost use Rattle.ht_events.specs.Plans.{IsTable};
+ghost use Rattle.ht_events.specs.FramePlans.{IsTable};
 
 use ht_net::{Circuit, NetId};
 use std::alloc::{AllocError, Global};

@@ -3,7 +3,6 @@ use Rattle.std.proofs.Common.{◌≡◌, ◌≤◌, ◌+◌, ◌-◌, ◌*◌, �
 use Rattle.std.proofs.lemmas.List.{length_push}
 use Rattle.ht_net.specs.declared.fault.Fault.{Fault}
 use Rattle.ht_net.specs.Netlist.{Netlist}
-use Rattle.ht_net.specs.Rows.{Rows}
 use Rattle.ht_tree.specs.declared.token.Token.{Token}
 use Rattle.ht_tree.specs.Nodes.{judge_of}
 use Rattle.ht_tree.specs.SearchRecords.{sweep_weight}
@@ -11,8 +10,8 @@ use Rattle.ht_tree.specs.Walks.{weight_of}
 use Rattle.ht_tree.specs.Windows.{sweep_window}
 use Rattle.ht_events.specs.Plans.{max_frames}
 use Rattle.ht_tree.specs.declared.limits.TheConstants.{MAX_BUDGET}
-use Rattle.ht_forward.specs.AheadSearches.{ClosesAhead, FindsList, SpendsAhead}
-use Rattle.ht_forward.specs.Sweeps.{CloseEach, SweepFinds, SweepSpends, left_after}
+use Rattle.ht_forward.specs.AheadSearches.{ClosesAhead, SpendsAhead}
+use Rattle.ht_forward.specs.Sweeps.{CloseEach, SweepSpends, left_after}
 use Rattle.ht_forward.proofs.CloseLaws.{closes_as, closes_push, complete_weighs}
 use Rattle.ht_forward.proofs.WeightLaws.{least_weight, lengths_few, longest_weighs, weight_push}
 

@@ -7,11 +7,11 @@ ghost use Rattle.ht_window.specs.Starts.{start_of, window_from};
 ghost use Rattle.ht_forward.specs.AheadSearches.{IsAhead};
 
 use ht_items::Items;
-use ht_net::{Circuit, Fault, Vectors};
+use ht_net::{Fault, Vectors};
 use ht_search::Outcome;
 use ht_tree::{Status, Token};
 use ht_trial::{Trial, explore, list};
-use ht_window::{MAX_FRAMES, Start, Window};
+use ht_window::{Bases, MAX_FRAMES, Start};
 use std::alloc::{AllocError, Global};
 
 /// What the search of a window for a difference at an output comes to.
@@ -32,7 +32,7 @@ pub enum Ahead {
 /// Out of memory.
 pub fn search_ahead(
     alloc: Global,
-    circuit: &Circuit,
+    bases: &mut Bases,
     fault: Fault,
     frames: u32,
     start: &Start,
@@ -40,13 +40,14 @@ pub fn search_ahead(
 ) -> Result<Ahead, AllocError>
     requires some { 0 < frames }
     requires few { frames ≤ MAX_FRAMES }
-    requires start { IsStart circuit.now (Some fault) frames (start_of start.now) }
+    requires start { IsStart bases.old.circuit (Some fault) frames (start_of start.now) }
     requires seeks { seeks_difference (start_of start.now) ≡ true }
-    requires outputs { state_places circuit.now (start_of start.now) ≡ [] }
-    ensures { IfOk result
-        (IsAhead (window_from circuit.now (Some fault) frames start.now) budget) }
+    requires outputs { state_places bases.old.circuit (start_of start.now) ≡ [] }
+    ensures circuit { bases.new.circuit ≡ bases.old.circuit }
+    ensures answer { IfOk result
+        (IsAhead (window_from bases.old.circuit (Some fault) frames start.now) budget) }
 {
-    let window = Window::new(alloc, circuit, Some(fault), frames, start)?;
+    let window = bases.window(alloc, Some(fault), frames, start)?;
     let mut trial = Trial { window };
     match explore(alloc, &mut trial, budget, frames as u64)? {
         Outcome::Closed { tokens } => Ok(Ahead::Closed {

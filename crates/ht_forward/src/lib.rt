@@ -7,7 +7,8 @@
 //!
 //! The definitions stand in `specs/`: `AheadSearches` (the search of one window, and what its answer means) and
 //! `Sweeps` (the searches of a sweep, and what their answer means). Modules: `ahead` (one window), `propagation`
-//! (`propagate`) and `sweeping` (`sweep`).
+//! (`propagate`) and `sweeping` (`sweep`). `propagate_from_bases` and `sweep_from_bases` take bases of the circuit,
+//! which serve for all its faults.
 #![tactic(auto)]
 
 mod ahead;
@@ -15,5 +16,5 @@ mod propagation;
 mod sweeping;
 
 pub use ahead::Ahead;
-pub use propagation::propagate;
-pub use sweeping::{Swept, sweep};
+pub use propagation::{propagate, propagate_from_bases};
+pub use sweeping::{Swept, sweep, sweep_from_bases};

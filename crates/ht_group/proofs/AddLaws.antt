@@ -8,7 +8,7 @@ use Rattle.ht_group.specs.GroupView.{FaultyMachine}
 use Rattle.ht_group.specs.MachineWords.{AreFilled, HasOneMore, HasSame, IsWord, machines_of}
 use Rattle.ht_group.specs.declared.good_frame.GoodFrame.{GoodFrame}
 use Rattle.ht_group.specs.declared.machines.Machines.{Machines}
-use Rattle.ht_group.specs.declared.schedule.Schedule.{Schedule}
+use Rattle.ht_ranks.specs.declared.schedule.Schedule.{Schedule}
 use Rattle.ht_group.proofs.BlockLaws.{more_at}
 use Rattle.ht_group.proofs.ChangeLaws.{more_pending}
 use Rattle.ht_group.proofs.GroupLaws.{filled_machines}

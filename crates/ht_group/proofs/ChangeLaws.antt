@@ -1,7 +1,9 @@
 -- What each call leaves of a word's machines.
-use Rattle.std.proofs.Common.{◌≡◌, ◌<◌, ◌≤◌, ◌+◌, ◌∙◌, ℕ, List, [], ◌∷◌, ◌++◌, Bool, true, false, length, get_or, take, drop, ap, sym, subst, refl, arith, inl, inr}
+use Rattle.std.specs.Prelude.{set}
+use Rattle.std.specs.List.{Contains}
+use Rattle.std.proofs.Common.{◌≡◌, ◌≢◌, ◌<◌, ◌≤◌, ◌+◌, ◌∙◌, ℕ, List, [], ◌∷◌, ◌++◌, Bool, true, false, length, get_or, take, drop, ap, sym, subst, refl, arith, inl, inr}
 use Rattle.std.proofs.lemmas.Bool.{cases_Bool, cases_eq}
-use Rattle.std.proofs.lemmas.List.{length-map, length-append, drop-map}
+use Rattle.std.proofs.lemmas.List.{length-map, length-append, drop-map, get_or-set_other}
 use Rattle.ht_tern.specs.declared.tern.Tern.{Tern}
 use Rattle.ht_tern.specs.declared.tern.Tern.TheVariants.{Unk}
 use Rattle.ht_lanes.specs.Lanes.{Lanes, lane}
@@ -14,12 +16,14 @@ use Rattle.ht_group.specs.LaneRules.{rules_at, in_lane, lane_env, HasItsValue}
 use Rattle.ht_group.specs.MachineWords.{AreMachinesKept, AreRunning, AreSameMachines, IsMachineAdded, IsBare, IsComputed, IsLaid, IsLaidOver, IsRestored, IsWord, machines_from, machines_of}
 use Rattle.ht_group.specs.Overlays.{IsSpread, OverlayView}
 use Rattle.ht_group.specs.Pending.{QuietHaveValues}
-use Rattle.ht_group.specs.Schedules.{IsSchedule}
+use Rattle.ht_ranks.specs.Schedules.{IsSchedule, ReadsFrom}
 use Rattle.ht_group.specs.StuckTables.{AreStuck}
 use Rattle.ht_group.specs.declared.good_frame.GoodFrame.{GoodFrame}
 use Rattle.ht_group.specs.declared.machines.Machines.{Machines}
-use Rattle.ht_group.specs.declared.schedule.Schedule.{Schedule}
+use Rattle.ht_ranks.specs.declared.schedule.Schedule.{Schedule}
 use Rattle.ht_group.specs.declared.stuck_lines.StuckLines.{StuckLines}
+use Rattle.ht_ranks.proofs.ScheduleLaws.{touched_as_before}
+use Rattle.ht_group.proofs.EventLaws.{fired_quiet, apart_by_readers, not_touched}
 use Rattle.ht_group.proofs.KeptLaws.{value_kept}
 use Rattle.ht_group.proofs.SpreadLaws.{good_has_values}
 use Rattle.ht_group.proofs.ViewLaws.{machine_added}
@@ -315,3 +319,39 @@ computed_running c s before pending x old new changed running done quiet = recor
   };
   quiet = rw (done.kept.lines, done.kept.sources) quiet;
 }
+
+-- The net of a rank is evaluated, and where its word changed those that read it are pending: the machines run on.
+pub fired_running : (c : Netlist) (s : Schedule) → IsSchedule c s → (pending removed touched : List Bool) (row : List ℕ)
+    (rank x : ℕ) (old new : Machines) (changed : Bool)
+    → rank < net_count c → x ≡ get_or s.order.items rank 0 → row ≡ get_or s.readers x []
+    → removed ≡ set pending rank false
+    → (changed ≡ true → (r : ℕ) → Contains row r → get_or touched r false ≡ true)
+    → (changed ≡ false → touched ≡ removed)
+    → ((r : ℕ) → ¬ Contains row r → get_or touched r false ≡ get_or removed r false)
+    → AreRunning c s pending old → IsComputed c x old new changed → AreRunning c s touched new
+fired_running c s is pending removed touched row rank x old new changed inside net row_is taken all unchanged rest
+    running done =
+    let kept : (k p : ℕ) → p < net_count c → p ≢ rank → get_or touched p false ≡ false
+    → (get_or pending p false ≡ false)
+    × ((z : ℕ) → ReadsFrom c (get_or s.order.items p 0) z → lane_env k new.nets.words z ≡ lane_env k old.nets.words z) =
+    λ k p within ne idle. elim (cases_Bool changed) [
+      | inl told ↦
+          let apart = not_touched touched row (all told) p idle in (
+            sym (touched_as_before pending removed touched row rank taken rest p ne apart) ∙ idle,
+            λ z read. done.others k z
+                (λ is_x. apart_by_readers c s is p x within
+                (λ has. apart (subst (λ (l : List ℕ). Contains l p) (sym row_is) has))
+                (subst (λ (m : ℕ). ReadsFrom c (get_or s.order.items p 0) m) is_x read)),
+          )
+      | inr same ↦ (
+        sym (get_or-set_other pending rank p false false ne)
+            ∙ (sym (ap (λ (l : List Bool). get_or l p false) taken)
+            ∙ (sym (ap (λ (l : List Bool). get_or l p false) (unchanged same)) ∙ idle)),
+        λ z read. ap (λ (l : List Lanes). lane_env k l z) (done.unchanged same),
+      )
+    ] in
+    computed_running c s pending touched x old new changed running done
+    (λ k q below.
+    fired_quiet c s is (rules_at old.lines.faults.items k) (in_lane k old.sources.words)
+    (lane_env k old.nets.words) (lane_env k new.nets.words) pending touched rank x
+    inside net (done.given k below) (done.others k) (kept k) (λ p. running.quiet k p below) q)

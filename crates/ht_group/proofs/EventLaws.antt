@@ -1,27 +1,20 @@
 -- A net is evaluated: those that don't read it keep their values.
-use Rattle.std.specs.Prelude.{set}
 use Rattle.std.specs.List.{Contains}
-use Rattle.std.proofs.Common.{◌≡◌, ◌≢◌, ◌<◌, ◌≤◌, ◌∙◌, ℕ, List, [], Bool, true, false, length, get_or, ap, sym, subst, arith, inl, inr}
-use Rattle.std.proofs.lemmas.Bool.Decides.{eqb_tells}
-use Rattle.std.proofs.lemmas.List.{get_or-set_same, get_or-set_other}
-use Rattle.std.proofs.lemmas.List.Elements.{Contains-get_or}
+use Rattle.std.proofs.Common.{◌≡◌, ◌≢◌, ◌<◌, ◌≤◌, ◌+◌, ◌-◌, ◌*◌, ◌∙◌, ℕ, List, [], Bool, true, false, length, get_or, cond, nat_lt, ap, sym, subst, arith, inl, inr}
+use Rattle.std.proofs.lemmas.Bool.Decides.{eqb_tells, nat_tests}
+use Rattle.std.proofs.Math.Nat.{mul-le-mul_left}
 use Rattle.ht_net.specs.Netlist.{Netlist, net_count}
 use Rattle.ht_net.specs.Frame.{Rules}
+use Rattle.ht_net.proofs.FrameLaws.{le_or_lt}
 use Rattle.ht_group.specs.LaneRules.{given_value, HasItsValue}
-use Rattle.ht_group.specs.Schedules.{ReadsFrom, IsSchedule}
-use Rattle.ht_group.specs.declared.schedule.Schedule.{Schedule}
+use Rattle.ht_ranks.specs.Schedules.{ReadsFrom, IsSchedule}
+use Rattle.ht_ranks.specs.declared.schedule.Schedule.{Schedule}
 use Rattle.ht_group.proofs.DriveLaws.{drive_same}
-use Rattle.ht_group.proofs.RankLaws.{rises_from}
+use Rattle.ht_ranks.proofs.ScheduleLaws.{no_self}
 
 module _ (c : Netlist) (s : Schedule) (is : IsSchedule c s) where
   rank_of_net : (r : ℕ) → r < net_count c → get_or s.ranks.items (get_or s.order.items r 0) 0 ≡ r
   rank_of_net r inside = is.ranks.forth r inside
-
-  -- no net reads itself
-  no_self : (x : ℕ) → ¬ ReadsFrom c x x
-  no_self x reads =
-      let less = rises_from c s.order.items s.ranks.items is.ranks x x reads in
-      absurd (omega (arith, less))
 
   other_net : (q r : ℕ) → q < net_count c → r < net_count c → q ≢ r
       → get_or s.order.items q 0 ≢ get_or s.order.items r 0
@@ -49,7 +42,7 @@ module _ (c : Netlist) (s : Schedule) (is : IsSchedule c s) where
         | inl p ↦
             subst (λ (z : ℕ). HasItsValue c r sources f z) (net ∙ ap (λ (n : ℕ). get_or s.order.items n 0) (sym p.1))
             (given ∙ same x
-            (λ v read. others v (λ is_x. no_self x (subst (λ (z : ℕ). ReadsFrom c x z) is_x read)))
+            (λ v read. others v (λ is_x. no_self c s is x (subst (λ (z : ℕ). ReadsFrom c x z) is_x read)))
             (subst (λ (z : ℕ). z < net_count c) (sym net) (is.ranks.known rank inside)))
         | inr p ↦
             let k = kept q within p.1 idle in
@@ -64,34 +57,25 @@ module _ (c : Netlist) (s : Schedule) (is : IsSchedule c s) where
       apart (subst (λ (r : ℕ). Contains (get_or s.readers x []) r) (rank_of_net q inside)
       (is.readers.complete (get_or s.order.items q 0) x reads))
 
-  -- The row of a rank's readers has no rank up to it, and only ranks that are there.
-  module _ (rank x : ℕ) (row : List ℕ) (inside : rank < net_count c) (row_is : row ≡ get_or s.readers x [])
-      (net_is : x ≡ get_or s.order.items rank 0) where
-    has_reader : (r : ℕ) → Contains row r → Contains (get_or s.readers x []) r
-    has_reader r has = subst (λ (l : List ℕ). Contains l r) row_is has
-
-    pub readers_later : (r : ℕ) → r ≤ rank → ¬ Contains row r
-    readers_later r below has =
-        let less = is.readers.later x r (has_reader r has) in
-        let at = ap (λ (y : ℕ). get_or s.ranks.items y 0) net_is ∙ rank_of_net rank inside in
-        absurd (omega (arith, less, at, below))
-
-    pub readers_known : (k d : ℕ) → k < length row → get_or row k d < net_count c
-    readers_known k d within =
-        is.readers.within x (get_or row k d) (has_reader (get_or row k d) (Contains-get_or row k d within))
-
--- What is pending after a net was fired and the nets in a row were made pending.
+-- A net that isn't pending after those in a row were made pending isn't among them.
 pub not_touched : (touched : List Bool) (row : List ℕ) → ((r : ℕ) → Contains row r → get_or touched r false ≡ true)
     → (q : ℕ) → get_or touched q false ≡ false → ¬ Contains row q
 not_touched touched row all q idle has = let bad : true ≡ false = sym (all q has) ∙ idle in cc
 
-module _ (pending removed touched : List Bool) (row : List ℕ) (rank : ℕ) (is : removed ≡ set pending rank false)
-    (rest : (r : ℕ) → ¬ Contains row r → get_or touched r false ≡ get_or removed r false) where
-  pub touched_as_before : (q : ℕ) → q ≢ rank → ¬ Contains row q → get_or touched q false ≡ get_or pending q false
-  touched_as_before q ne apart =
-      rest q apart ∙ (ap (λ (l : List Bool). get_or l q false) is ∙ get_or-set_other pending rank q false false ne)
-
-  pub rank_taken : rank < length pending → ¬ Contains row rank → get_or touched rank false ≡ false
-  rank_taken inside apart =
-      rest rank apart ∙ (ap (λ (l : List Bool). get_or l rank false) is
-      ∙ get_or-set_same pending rank false false inside)
+-- the evaluations up to a rank, and those of the rank
+pub steps_more : (steps from rank first used more : ℕ) → steps ≤ (from - first) * used → from ≤ rank
+    → more ≡ cond (nat_lt rank first) 0 used → steps + more ≤ (rank + 1 - first) * used
+steps_more steps from rank first used more before le is = elim (le_or_lt first rank) [
+  | inl gate ↦
+      let price : more ≡ used = grind (arith, nat_tests) in
+      let less : from - first ≤ rank - first = omega (arith, le) in
+      let up : used * (from - first) ≤ used * (rank - first) = mul-le-mul_left used less in
+      let at : rank + 1 - first ≡ rank - first + 1 = omega (arith, gate) in
+      let next : (rank + 1 - first) * used ≡ (rank - first + 1) * used = ap (λ (n : ℕ). n * used) at in
+      omega (arith, price, up, next, before)
+  | inr source ↦
+      let price : more ≡ 0 = grind (arith, nat_tests) in
+      let none : from - first ≡ 0 = omega (arith, le, source) in
+      let low : (from - first) * used ≡ 0 * used = ap (λ (n : ℕ). n * used) none in
+      omega (arith, price, low, before)
+]

@@ -1,12 +1,9 @@
-pub mod BitLaws
 pub mod DriveLaws
 pub mod InLaneLaws
 pub mod StuckLaws
 pub mod PinLaws
 pub mod FoldLaws
 pub mod OverlayLaws
-pub mod ReaderLaws
-pub mod RankLaws
 pub mod EventLaws
 pub mod KeptLaws
 pub mod SpreadLaws

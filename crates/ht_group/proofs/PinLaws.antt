@@ -22,7 +22,7 @@ use Rattle.ht_net.specs.Faults.{forced, tern_rules, is_pin}
 use Rattle.ht_net.proofs.FrameLaws.{pins_length}
 use Rattle.ht_frame.specs.StuckPins.{is_at_gate, is_pin_of}
 use Rattle.ht_frame.proofs.PinLaws.{plain_pin}
-use Rattle.ht_group.specs.BitSets.{with_bit}
+use Rattle.ht_ranks.specs.BitSets.{with_bit}
 use Rattle.ht_group.specs.StuckTables.{is_pin_number, AreGateLanes}
 use Rattle.ht_group.specs.LaneRules.{rules_at, lane_env}
 use Rattle.ht_group.proofs.InLaneLaws.{lane_get}

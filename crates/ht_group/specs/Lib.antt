@@ -1,8 +1,7 @@
 pub mod GroupView
-pub mod BitSets
 pub mod Overlays
 pub mod OverlayOf
-pub mod Schedules
+pub mod GateRows
 pub mod LaneRules
 pub mod StuckTables
 pub mod Pending

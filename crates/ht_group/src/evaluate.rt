@@ -1,16 +1,16 @@
 //! The words of a net from those that its driver reads.
 ghost use Rattle.std.specs.Prelude.{◌≡◌, ◌<◌, ◌≤◌, ◌+◌, ◌&&◌, ◌==◌, ℕ, length, get_or, if◌then◌else◌};
-ghost use Rattle.ht_tern.specs.Gate.{HasArity, gate_value_over, tern_of};
-ghost use Rattle.ht_lanes.specs.Lanes.{lane};
+ghost use Rattle.ht_tern.specs.Gate.{HasArity, gate_value_over, operation_of, polarity_of, tern_of};
+ghost use Rattle.ht_lanes.specs.Lanes.{Lanes, lane, lane_operations};
 ghost use Rattle.ht_net.specs.Netlist.{first_gate_net, net_count, no_net};
 ghost use Rattle.ht_net.specs.Frame.{gate_output, values_at};
 ghost use Rattle.ht_frame.specs.Values.{env_of};
 ghost use Rattle.ht_group.specs.LaneRules.{lane_env, rules_at};
+ghost use Rattle.ht_group.specs.GateRows.{operation_row};
 ghost use Rattle.ht_group.specs.Pending.{AreGiven};
 ghost use Rattle.ht_group.specs.StuckTables.{AreGateLanes, AreStuck, is_pin_number};
 
 use crate::stuck_lines::StuckLines;
-use ht_frame::operate;
 use ht_lanes::{Word, eval_word};
 use ht_net::{Circuit, Fault, NetId, Site};
 use ht_tern::{GateOperations, Kind, Tern};
@@ -18,23 +18,50 @@ use ht_tern::{GateOperations, Kind, Tern};
 /// Room for the pins of a gate: one for each number of a pin.
 pub const PIN_ROOM: usize = 256;
 
-// The value of a gate whose pins read these nets. It takes no room for the pins, as `eval_word` would.
-fn eval_nets<V: GateOperations>(kind: Kind, args: &[NetId], values: &[V]) -> V
+// Where `combined` has what the operation of a kind makes. It is reckoned, since a jump by the kind would be guessed
+// wrong every second time.
+fn operation_row(kind: Kind) -> usize
+    ensures { result ≡ operation_row kind }
+{
+    let is_or = (kind == Kind::Or) | (kind == Kind::Nor);
+    let is_xor = (kind == Kind::Xor) | (kind == Kind::Xnor);
+    let is_one = (kind == Kind::Not) | (kind == Kind::Buf);
+    usize::from(is_or) + 2 * usize::from(is_xor) + 3 * usize::from(is_one)
+}
+
+// What the operation of a kind makes of two words: all are computed, and one is taken.
+fn combined(kind: Kind, v: Word, w: Word) -> Word
+    ensures { result ≡ operation_of lane_operations kind v w }
+{
+    let rows = [v.conjunction(w), v.disjunction(w), v.parity(w), v];
+    rows[operation_row(kind)]
+}
+
+// A folded word, or its complement where the kind inverts, again without a jump by the kind.
+fn with_polarity(kind: Kind, word: Word) -> Word
+    ensures { result ≡ polarity_of lane_operations kind word }
+{
+    let inverts = (kind == Kind::Nand)
+        | (kind == Kind::Nor)
+        | (kind == Kind::Xnor)
+        | (kind == Kind::Not);
+    let both = [word, word.complement()];
+    both[usize::from(inverts)]
+}
+
+// The word of a gate whose pins read these nets. It takes no room for the pins, as `eval_word` would.
+fn eval_nets(kind: Kind, args: &[NetId], words: &[Word]) -> Word
     requires arity { HasArity kind (length args.now) }
     requires known { (i : ℕ) → i < length args.now
-        → (get_or args.now i no_net).0 < length values.now }
-    ensures { (blank : V) → result ≡ gate_value_over V.operations blank kind
-        (values_at (env_of blank values.now) args.now) }
+        → (get_or args.now i no_net).0 < length words.now }
+    ensures { (blank : Lanes) → result ≡ gate_value_over lane_operations blank kind
+        (values_at (env_of blank words.now) args.now) }
 {
-    let mut value = values[args[0].index()];
+    let mut word = words[args[0].index()];
     for arg in &args[1..] {
-        value = operate(kind, value, values[arg.index()]);
+        word = combined(kind, word, words[arg.index()]);
     }
-    if kind.inverts() {
-        value.complement()
-    } else {
-        value
-    }
+    with_polarity(kind, word)
 }
 
 // Puts the words of the nets at a gate's pins into `pins`.

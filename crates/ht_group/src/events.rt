@@ -7,33 +7,17 @@ ghost use Rattle.ht_group.specs.LaneRules.{lane_env};
 ghost use Rattle.ht_group.specs.MachineWords.{AreMachinesKept, AreRunning, HasRunRoom, IsComputed};
 ghost use Rattle.ht_group.specs.Pending.{AreGiven};
 ghost use Rattle.ht_group.specs.declared.machines.Machines.{Machines};
-ghost use Rattle.ht_group.specs.Schedules.{IsSchedule};
+ghost use Rattle.ht_ranks.specs.Schedules.{IsSchedule};
 ghost use Rattle.ht_group.specs.StuckTables.{AreStuck};
 
-use crate::bit_set::BitSet;
 use crate::evaluate::{PIN_ROOM, evaluate};
 use crate::four_words::{are_free, recompute_four};
 use crate::machines::Machines;
 use crate::overlay::Overlay;
-use crate::schedule::Schedule;
 use crate::stuck_lines::StuckLines;
 use ht_lanes::Word;
 use ht_net::Circuit;
-
-// Makes nets pending, by their ranks.
-fn touch(ranks: &[u32], pending: &mut BitSet)
-    requires { All (λ r. r < length pending.old) ranks.now }
-    ensures marks { length pending.new ≡ length pending.old }
-    ensures all { (r : ℕ) → Contains ranks.now r → get_or pending.new r false ≡ true }
-    ensures more { (r : ℕ) → get_or pending.old r false ≡ true
-        → get_or pending.new r false ≡ true }
-    ensures rest { (r : ℕ) → ¬ Contains ranks.now r
-        → get_or pending.new r false ≡ get_or pending.old r false }
-{
-    for rank in ranks {
-        pending.insert(*rank);
-    }
-}
+use ht_ranks::{BitSet, Schedule};
 
 // Makes nets pending, by their ranks, where the net that they read changed.
 fn touch_if(changed: bool, ranks: &[u32], pending: &mut BitSet)
@@ -46,7 +30,7 @@ fn touch_if(changed: bool, ranks: &[u32], pending: &mut BitSet)
         → get_or pending.new r false ≡ get_or pending.old r false }
 {
     if changed {
-        touch(ranks, pending);
+        pending.insert_all(ranks);
     }
 }
 
@@ -207,9 +191,65 @@ fn fire(
     evaluations(circuit, rank, used)
 }
 
-/// Evaluates each net that is pending in the first words, in the order of the schedule, and then those that read what
-/// changed. None is left, and none is evaluated twice. Says how many evaluations of gates these were, one a word.
-pub fn settle(
+// The same for one word alone, whose machines are at hand.
+fn fire_word(
+    circuit: &Circuit,
+    schedule: &Schedule,
+    machines: &mut Machines,
+    pending: &mut BitSet,
+    pins: &mut [Word],
+    rank: u32,
+) -> u32
+    requires schedule { IsSchedule circuit.now schedule.now }
+    requires runs { AreRunning circuit.now schedule.now pending.old machines.old }
+    requires marks { length pending.old ≡ net_count circuit.now }
+    requires pins { length pins.old ≡ PIN_ROOM }
+    requires rank { rank < net_count circuit.now }
+    ensures runs { AreRunning circuit.now schedule.now pending.new machines.new }
+    ensures kept { AreMachinesKept machines.old machines.new }
+    ensures marks { length pending.new ≡ length pending.old }
+    ensures taken { get_or pending.new rank false ≡ false }
+    ensures before { (r : ℕ) → r < rank
+        → get_or pending.new r false ≡ get_or pending.old r false }
+    ensures steps { result ≡ (if nat_lt rank (first_gate_net circuit.now) then 0 else 1) }
+{
+    let net = schedule.net(rank);
+    pending.remove(rank);
+    let changed = recompute_word(circuit, machines, pins, net);
+    touch_if(changed, schedule.readers.row(net as usize), pending);
+    evaluations(circuit, rank, 1)
+}
+
+// Evaluates each net that is pending in one word, in the order of the schedule, and then those that read what changed.
+// It is what `settle` does where there is one word, and nothing is looked up for each net.
+fn settle_word(
+    circuit: &Circuit,
+    schedule: &Schedule,
+    machines: &mut Machines,
+    pending: &mut BitSet,
+    pins: &mut [Word],
+) -> u32
+    requires schedule { IsSchedule circuit.now schedule.now }
+    requires runs { AreRunning circuit.now schedule.now pending.old machines.old }
+    requires marks { length pending.old ≡ net_count circuit.now }
+    requires pins { length pins.old ≡ PIN_ROOM }
+    ensures runs { AreRunning circuit.now schedule.now pending.new machines.new }
+    ensures kept { AreMachinesKept machines.old machines.new }
+    ensures marks { length pending.new ≡ length pending.old }
+    ensures none { (r : ℕ) → get_or pending.new r false ≡ false }
+    ensures steps { result ≤ length circuit.now.gates }
+{
+    let mut evaluated = 0;
+    let mut from = 0;
+    while let Some(rank) = pending.next(from) {
+        evaluated += fire_word(circuit, schedule, machines, pending, pins, rank);
+        from = rank + 1;
+    }
+    evaluated
+}
+
+// The same in each of the first words.
+fn settle_words(
     circuit: &Circuit,
     schedule: &Schedule,
     words: &mut [Machines],
@@ -244,4 +284,41 @@ pub fn settle(
         from = rank + 1;
     }
     evaluated
+}
+
+/// Evaluates each net that is pending in the first words, in the order of the schedule, and then those that read what
+/// changed. None is left, and none is evaluated twice. Says how many evaluations of gates these were, one a word.
+pub fn settle(
+    circuit: &Circuit,
+    schedule: &Schedule,
+    words: &mut [Machines],
+    used: u32,
+    pending: &mut BitSet,
+    pins: &mut [Word],
+    fours: &mut [[Word; 4]],
+) -> u32
+    requires schedule { IsSchedule circuit.now schedule.now }
+    requires used { used ≤ length words.old }
+    requires few { used ≤ max_words }
+    requires runs { (w : ℕ) (d : Machines) → w < used
+        → AreRunning circuit.now schedule.now pending.old (get_or words.old w d) }
+    requires marks { length pending.old ≡ net_count circuit.now }
+    requires pins { length pins.old ≡ PIN_ROOM }
+    requires fours { length fours.old ≡ PIN_ROOM }
+    ensures runs { (w : ℕ) (d : Machines) → w < used
+        → AreRunning circuit.now schedule.now pending.new (get_or words.new w d) }
+    ensures count { length words.new ≡ length words.old }
+    ensures kept { (w : ℕ) (d : Machines)
+        → AreMachinesKept (get_or words.old w d) (get_or words.new w d) }
+    ensures rest { (w : ℕ) (d : Machines) → used ≤ w
+        → get_or words.new w d ≡ get_or words.old w d }
+    ensures marks { length pending.new ≡ length pending.old }
+    ensures none { (r : ℕ) → get_or pending.new r false ≡ false }
+    ensures steps { result ≤ length circuit.now.gates * used }
+{
+    if used == 1 {
+        settle_word(circuit, schedule, &mut words[0], pending, pins)
+    } else {
+        settle_words(circuit, schedule, words, used, pending, pins, fours)
+    }
 }

@@ -12,15 +12,14 @@ ghost use Rattle.ht_group.specs.declared.machines.Machines.{Machines};
 ghost use Rattle.ht_group.specs.GoodFrames.{HasFrameRoom};
 ghost use Rattle.ht_group.specs.NetValues.{faulty_value, good_value};
 
-use crate::bit_set::BitSet;
 use crate::evaluate::PIN_ROOM;
 use crate::events::settle;
 use crate::good_frame::GoodFrame;
 use crate::machines::Machines;
-use crate::schedule::Schedule;
 use ht_diff::Diffs;
 use ht_lanes::Word;
 use ht_net::{Circuit, Fault, NetId};
+use ht_ranks::{BitSet, Schedule};
 use ht_tern::Tern;
 use std::alloc::{AllocError, Global};
 use std::marker::Model;

@@ -9,7 +9,6 @@
 //! away and puts back only the nets that they changed. Contracts see a group as a `GroupView`.
 #![tactic(auto)]
 
-mod bit_set;
 mod evaluate;
 mod events;
 mod four_words;
@@ -17,8 +16,6 @@ mod good_frame;
 mod group;
 mod machines;
 mod overlay;
-mod readers;
-mod schedule;
 mod stuck_lines;
 
 pub use group::{Group, LANES, MAX_MACHINES};

@@ -3,14 +3,14 @@
 //! `refute` searches the one-frame window of a fault, at first with both machines in one state. Each flip-flop that a
 //! search tells joins the set at which the states may differ, and a new search begins. Where a search closes, no list
 //! of any length shows a difference, and the set is the least that seals the fault; where a search tells an output, no
-//! set seals it.
+//! set seals it. `refute_from_bases` takes bases of the circuit, which serve for all its faults.
 //!
 //! The definitions stand in `specs/`: `Rounds` (what each search comes to) and `Answers` (what `refute` answers, and
 //! what that means).
 //!
 //! | File | Holds |
 //! |---|---|
-//! | refutation | the rounds: `refute` |
+//! | refutation | the rounds: `refute`, `refute_from_bases` |
 //! | round | one search |
 //! | told_frame | what a search tells |
 //! | marks | the set |
@@ -21,4 +21,4 @@ mod refutation;
 mod round;
 mod told_frame;
 
-pub use refutation::{OneFrame, refute};
+pub use refutation::{OneFrame, refute, refute_from_bases};

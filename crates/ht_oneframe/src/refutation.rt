@@ -1,5 +1,5 @@
 //! The refutation of a fault by one frame.
-ghost use Rattle.std.specs.Prelude.{◌≤◌, ℕ, Bool, IfOk};
+ghost use Rattle.std.specs.Prelude.{◌≡◌, ◌≤◌, ℕ, Bool, IfOk};
 ghost use Rattle.ht_net.specs.Silence.{Sealed};
 ghost use Rattle.ht_tree.specs.Budgets.{refutation_cost};
 ghost use Rattle.ht_oneframe.specs.Answers.{IsOneFrame, IsRefuted, OneFrameHolds};
@@ -9,6 +9,7 @@ use crate::round::{Round, search_one_frame};
 use ht_items::Items;
 use ht_net::{Circuit, Fault};
 use ht_tree::{Spot, Token, Told};
+use ht_window::Bases;
 use std::alloc::{AllocError, Global};
 
 /// What the one-frame windows of a fault say of it. Flip-flops count from 0.
@@ -50,11 +51,32 @@ pub fn refute(
     ensures enough { refutation_cost circuit.now ≤ budget → (z : ℕ → Bool)
         → Sealed circuit.now fault z → IfOk result IsRefuted }
 {
+    let mut bases = Bases::new(alloc, circuit)?;
+    refute_from_bases(alloc, &mut bases, fault, budget)
+}
+
+/// What `refute` does for the circuit of some bases, from which each window is copied.
+///
+/// # Errors
+/// Out of memory.
+pub fn refute_from_bases(
+    alloc: Global,
+    bases: &mut Bases,
+    fault: Fault,
+    budget: u64,
+) -> Result<OneFrame, AllocError>
+    ensures circuit { bases.new.circuit ≡ bases.old.circuit }
+    ensures answer { IfOk result (IsOneFrame bases.old.circuit fault budget) }
+    ensures holds { IfOk result (OneFrameHolds bases.old.circuit fault budget) }
+    ensures enough { refutation_cost bases.old.circuit ≤ budget → (z : ℕ → Bool)
+        → Sealed bases.old.circuit fault z → IfOk result IsRefuted }
+{
+    let circuit = bases.circuit();
     let _ = circuit.nets();
     let mut marks = vec![in alloc; false; circuit.dffs() as usize]?;
     let mut chain = Vec::new(alloc);
     'rounds: loop {
-        match search_one_frame(alloc, circuit, fault, budget, &marks)? {
+        match search_one_frame(alloc, bases, fault, budget, &marks)? {
             Round::Closed { tokens } => {
                 let z = marked(alloc, &marks)?;
                 return Ok(OneFrame::Refuted { z, tokens });

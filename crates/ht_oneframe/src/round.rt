@@ -5,11 +5,11 @@ ghost use Rattle.ht_oneframe.specs.Rounds.{IsRound};
 
 use crate::told_frame::told_frame;
 use ht_items::Items;
-use ht_net::{Circuit, Fault};
+use ht_net::Fault;
 use ht_search::Outcome;
 use ht_tree::{Status, Token, Told};
 use ht_trial::{Trial, explore};
-use ht_window::{Start, Window};
+use ht_window::{Bases, Start};
 use std::alloc::{AllocError, Global};
 
 /// What the search of a one-frame window comes to.
@@ -30,17 +30,18 @@ pub enum Round {
 /// Out of memory.
 pub fn search_one_frame(
     alloc: Global,
-    circuit: &Circuit,
+    bases: &mut Bases,
     fault: Fault,
     budget: u64,
     marks: &[bool],
 ) -> Result<Round, AllocError>
-    requires { length marks.now ≡ length circuit.now.dffs }
-    ensures { IfOk result (IsRound circuit.now fault budget (marked 0 marks.now)) }
+    requires { length marks.now ≡ length bases.old.circuit.dffs }
+    ensures circuit { bases.new.circuit ≡ bases.old.circuit }
+    ensures round { IfOk result (IsRound bases.old.circuit fault budget (marked 0 marks.now)) }
 {
-    let _ = circuit.nets();
+    let _ = bases.circuit().nets();
     let z = Items::from_slice(alloc, marks)?;
-    let window = Window::new(alloc, circuit, Some(fault), 1, &Start::OneFrame { z })?;
+    let window = bases.window(alloc, Some(fault), 1, &Start::OneFrame { z })?;
     let mut trial = Trial { window };
     match explore(alloc, &mut trial, budget, 1)? {
         Outcome::Closed { tokens } => Ok(Round::Closed {

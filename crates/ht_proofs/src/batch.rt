@@ -9,7 +9,7 @@ ghost use Rattle.ht_proofs.specs.Applied.{IsFirstSeen, good_state, max_steps};
 ghost use Rattle.ht_proofs.specs.LaneGrades.{AreLaneFaults, HasNoLane, HoldsLatches, grade_at, lane_grade};
 ghost use Rattle.ht_proofs.specs.Batches.{AreCounted, AreGraded, AreLanesBelow, AreLanesGraded, ArePassed, AreWaiting, IsAdded, IsGradedFrame, undetected_count, word_of, word_part};
 
-use crate::grade::{Grade, note_latch, note_place, undetected};
+use crate::grade::{Grade, note_latch, note_place};
 use crate::steps::Steps;
 use ht_group::{Group, LANES, MAX_MACHINES};
 use ht_net::{Circuit, Fault, Place};
@@ -23,7 +23,10 @@ pub struct Batch<'c> {
     circuit: &'c Circuit,
     group: Group<'c>,
     lanes: Vec<usize>,
-    // how many undetected faults of the frame have had no lane yet
+    // how many faults have had a lane in the frame
+    taken: usize,
+    // at most so many undetected faults of the frame have had no lane yet: those that had one in the frame before, less
+    // those that have had one in this
     left: usize,
     // whether events have reached most gates in the frame: then four words share them, and else words run one by one.
     // Only the price of the frame depends on this and on `left`
@@ -58,14 +61,15 @@ impl<'c> Batch<'c> {
             circuit,
             group,
             lanes: Vec::new(alloc),
-            left: 0,
+            // no frame was before the first, which may have any number of faults
+            taken: usize::MAX,
+            left: usize::MAX,
             dense: false,
         })
     }
 
-    /// Begins a frame with the good machine, each of whose gates is evaluated once. The faults of which `grades` keeps
-    /// no detection are to go through it.
-    pub fn start(&mut self, vector: &[bool], latches: &[Tern], grades: &[Grade], steps: &mut Steps)
+    /// Begins a frame with the good machine, each of whose gates is evaluated once.
+    pub fn start(&mut self, vector: &[bool], latches: &[Tern], steps: &mut Steps)
         requires width { length vector.now ≡ self.old.group.circuit.inputs }
         requires each { length latches.now ≡ length self.old.group.circuit.dffs }
         ensures group { self.new.group ≡ record {
@@ -82,7 +86,8 @@ impl<'c> Batch<'c> {
             ≤ steps.new.count }
     {
         self.lanes.clear();
-        self.left = undetected(grades);
+        self.left = self.taken;
+        self.taken = 0;
         self.dense = false;
         self.group.start(vector, latches);
         steps.add(self.circuit.gates());
@@ -218,6 +223,7 @@ impl<'c> Batch<'c> {
         self.group.add(fault, &grades[i].diffs)?;
         self.lanes.push(i)?;
         self.left = self.left.saturating_sub(1);
+        self.taken = self.taken.saturating_add(1);
         grades[i].diffs.clear();
         Ok(())
     }

@@ -3,7 +3,6 @@ ghost use Rattle.std.specs.Prelude.{◌≡◌, ◌<◌, ◌≤◌, None, true, l
 ghost use Rattle.ht_lanes.specs.Lanes.{is_set, lane};
 ghost use Rattle.ht_group.specs.GroupView.{lane_count};
 ghost use Rattle.ht_proofs.specs.LaneGrades.{AreChanged, AreLaneFaults, with_latch, with_place};
-ghost use Rattle.ht_proofs.specs.Batches.{undetected_count};
 
 use ht_diff::{Diff, Diffs};
 use ht_lanes::{Word, has_lane};
@@ -38,16 +37,6 @@ impl Grade {
         }
         Ok(())
     }
-}
-
-/// How many faults aren't detected.
-pub fn undetected(grades: &[Grade]) -> usize
-    ensures { result ≡ undetected_count grades.now }
-{
-    grades
-        .iter()
-        .filter(|grade| grade.verdict.is_none())
-        .count()
 }
 
 /// Keeps a place for each fault whose lane is in the set `seen`, if it is seen nowhere before.

@@ -163,7 +163,7 @@ impl<'c> Grader<'c> {
             return Err(AllocError);
         }
         self.live = false;
-        self.batch.start(vector, &self.latches, &self.grades, steps);
+        self.batch.start(vector, &self.latches, steps);
         self.batch
             .grade_faults(&self.faults, self.count, &mut self.grades, steps)?;
         self.batch.read_latches(&mut self.latches);

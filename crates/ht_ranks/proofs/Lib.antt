@@ -1,1 +1,4 @@
 pub mod RankLaws
+pub mod BitLaws
+pub mod ReaderLaws
+pub mod ScheduleLaws

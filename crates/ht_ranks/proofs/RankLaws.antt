@@ -108,6 +108,7 @@ module _ (c : Netlist) (sources : ℕ) (gates order : List ℕ) (sorted : IsOrde
         known = known;
         small = small;
         back = back;
+        first = λ x h. rank_of x x (omega (arith, h)) (low_are x h);
         forth = forth;
         rises = rises;
       }

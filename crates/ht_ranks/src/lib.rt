@@ -1,9 +1,15 @@
-//! The order in which gates are evaluated: sources, and then gates by level, each after those that it reads.
+//! The order in which gates are evaluated: sources, and then gates, each after those that it reads.
 //!
 //! `ranking` gives the order of all that gets a value and the rank of each there. Which nets count as sources is the
-//! caller's to say: all inputs and flip-flops, or the flip-flops alone.
+//! caller's to say: all inputs and flip-flops, or the flip-flops alone. A `Schedule` has the order of all nets, with
+//! the ranks of what reads each, and a `BitSet` the ranks that are pending.
 #![tactic(auto)]
 
+mod bit_set;
 mod ranks;
+mod readers;
+mod schedule;
 
+pub use bit_set::{BitSet, with_bit};
 pub use ranks::ranking;
+pub use schedule::Schedule;

@@ -50,8 +50,9 @@ fn ranks_in(alloc: Global, order: &[u32]) -> Result<Vec<u32>, AllocError>
     Ok(ranks)
 }
 
-/// So many sources, the last inputs and flip-flops by number, and then the gates of a circuit by level: their order,
-/// and the rank of each there. Sources count from 0, and gate `g` is number `sources + g`; ranks count from 0.
+/// So many sources, the last inputs and flip-flops by number, and then the gates of a circuit, each after what it
+/// reads: their order, and the rank of each there. Sources count from 0, and gate `g` is number `sources + g`; ranks
+/// count from 0.
 ///
 /// # Errors
 /// Out of memory.

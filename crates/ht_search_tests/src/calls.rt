@@ -2,6 +2,7 @@
 
 mod aborted;
 mod attempts;
+mod bases;
 mod check;
 mod entries;
 mod events;

@@ -126,6 +126,13 @@ impl<T: Copy> Cells<T> {
         Mark(self.trail.len() as u64)
     }
 
+    /// Forgets what the cells held before: no change so far can be taken back.
+    pub fn forget(&mut self)
+        ensures { self.new ≡ record { values = self.old.values; trail = [] } }
+    {
+        self.trail.clear();
+    }
+
     /// Takes back the changes made since a mark, the last first. It takes no memory, and writes as many cells as were
     /// changed since.
     pub fn undo(&mut self, mark: Mark)

@@ -18,3 +18,5 @@ pub mod UndecidedLaws
 pub mod DecideLaws
 pub mod FollowLaws
 pub mod AllSetsLaws
+pub mod TurnLaws
+pub mod RenewLaws

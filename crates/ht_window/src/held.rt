@@ -1,5 +1,5 @@
 //! The decisions and the cells of a window.
-ghost use Rattle.std.specs.Prelude.{◌≡◌, ◌<◌, ◌≤◌, ◌+◌, ◌++◌, ◌∷◌, ℕ, List, [], take, drop, set, length, get_or, IfOk, OnOk, OnErr};
+ghost use Rattle.std.specs.Prelude.{◌≡◌, IsTrue, ◌*◌, ◌<◌, ◌≤◌, ◌+◌, ◌++◌, ◌∷◌, ℕ, List, [], take, drop, set, length, get_or, IfOk, OnOk, OnErr};
 ghost use Rattle.ht_tern.specs.declared.tern.Tern.TheVariants.{Unk};
 ghost use Rattle.ht_pairs.specs.Pairs.{Pair, pair};
 ghost use Rattle.ht_net.specs.Netlist.{net_count, first_gate_net};
@@ -8,7 +8,7 @@ ghost use Rattle.ht_trail.specs.Trails.{CellsState, IsLater, restored};
 ghost use Rattle.ht_events.specs.Items.{item_count, frame_of, local_of, driven_net};
 ghost use Rattle.ht_tree.specs.Windows.{IsWindow, first_input, frame_inputs, pair_set_rules};
 ghost use Rattle.ht_window.specs.Standing.{variable_room};
-ghost use Rattle.ht_window.specs.Cells.{cell_index, cell_count, env_at, latches_over, value_over, var_frame, var_net};
+ghost use Rattle.ht_window.specs.Cells.{cell_index, cell_count, env_at, latches_over, value_over, var_frame, var_net, HoldsValue};
 ghost use Rattle.ht_window.specs.Holding.{HeldState};
 
 use crate::decided::Decided;
@@ -214,6 +214,51 @@ impl<'c> Held<'c> {
         let _ = self.decided();
         let value = self.evaluate(frame, net);
         self.set(frame, net, value)
+    }
+
+    /// Whether a net holds what it gets.
+    pub fn holds_value(&mut self, frame: u32, net: u32) -> bool
+        requires frame { frame < self.old.standing.window.frames }
+        requires net { net < net_count self.old.standing.window.circuit }
+        ensures same { self.new ≡ self.old }
+        ensures holds { IsTrue result → HoldsValue self.old.standing.window self.old.standing.path
+            self.old.cells.values frame net }
+    {
+        let value = self.evaluate(frame, net);
+        self.cell(frame, net) == value
+    }
+
+    /// What the nets of the first frames hold.
+    ///
+    /// # Errors
+    /// Out of memory.
+    pub fn front(&self, alloc: Global, frames: u32) -> Result<Vec<PairSet>, AllocError>
+        requires { frames ≤ self.now.standing.window.frames }
+        ensures { IfOk result
+            (λ sets. sets.items ≡ take (frames * net_count self.now.standing.window.circuit)
+            self.now.cells.values) }
+    {
+        let count = frames as usize * self.decided.circuit().nets() as usize;
+        Vec::from_slice(alloc, &self.cells.values()[..count])
+    }
+
+    /// The same cells under another window with as many, or other decisions.
+    pub fn turn(&mut self, decided: Decided<'c>)
+        requires circuit { decided.window.circuit ≡ self.old.standing.window.circuit }
+        requires frames { decided.window.frames ≡ self.old.standing.window.frames }
+        ensures standing { self.new.standing ≡ decided.entry }
+        ensures cells { self.new.cells ≡ self.old.cells }
+    {
+        let _ = decided.circuit();
+        self.decided = decided;
+    }
+
+    /// Forgets what the cells held before.
+    pub fn forget(&mut self)
+        ensures standing { self.new.standing ≡ self.old.standing }
+        ensures values { self.new.cells.values ≡ self.old.cells.values }
+    {
+        self.cells.forget();
     }
 
     /// The frame and the net of an item.

@@ -13,11 +13,14 @@
 //! | frames | the sets of a whole window, frame by frame |
 //! | held | the decisions and the cells: the plant of the events |
 //! | window | `decide`, `mark`, `undo`, `cell`, `next_state` |
+//! | turn, base, bases | windows before their first decision, one made from another by events |
 //! | places, cube, status | what the places and the latches of a cube show; `status`, `pick` |
 //! | back | `walk_back` |
 #![tactic(auto)]
 
 mod back;
+mod base;
+mod bases;
 mod cube;
 mod decided;
 mod frames;
@@ -26,8 +29,10 @@ mod places;
 mod sets;
 mod start;
 mod status;
+mod turn;
 mod window;
 
+pub use bases::Bases;
 pub use ht_events::MAX_FRAMES;
 pub use ht_trail::Mark;
 pub use start::{PairState, Start};

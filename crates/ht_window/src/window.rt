@@ -12,11 +12,9 @@ ghost use Rattle.ht_window.specs.Cells.{AreCells};
 ghost use Rattle.ht_window.specs.Holding.{HeldState};
 ghost use Rattle.ht_window.specs.States.{IsLegalDecision, WindowState, mark_before, undone};
 
-use crate::decided::Decided;
-use crate::frames::all_sets;
 use crate::held::Held;
 use crate::start::Start;
-use ht_events::{Core, MAX_FRAMES};
+use ht_events::{Core, FramePlan, MAX_FRAMES};
 use ht_frame::data_pin;
 use ht_net::{Circuit, Fault, NetId};
 use ht_pairs::PairSet;
@@ -24,14 +22,15 @@ use ht_tern::Tern;
 use ht_trail::Mark;
 use std::alloc::{AllocError, Global};
 use std::marker::Model;
+use std::rc::Rc;
 
 /// Some frames of the good and of the faulty machine over sets of pairs, under the decisions that stand.
 #[derive(Drop)]
 pub struct Window<'c> {
     pub(crate) held: Held<'c>,
-    core: Core<'c>,
+    pub(crate) core: Core<'c>,
     // the mark before each decision
-    marks: Vec<u64>,
+    pub(crate) marks: Vec<u64>,
 }
 
 impl<'c> Model for Window<'c> {
@@ -92,15 +91,8 @@ impl<'c> Window<'c> {
         ensures decisions { IfOk result (λ w. w.decisions ≡ []) }
         ensures marks { IfOk result (λ w. w.marks ≡ []) }
     {
-        let decided = Decided::new(alloc, start, circuit, fault, frames)?;
-        let sets = all_sets(alloc, &decided)?;
-        let held = Held::new(alloc, decided, sets)?;
-        let core = Core::new(alloc, circuit, frames)?;
-        Ok(Window {
-            held,
-            core,
-            marks: Vec::new(alloc),
-        })
+        let frame_plan = Rc::new(alloc, FramePlan::new(alloc, circuit)?)?;
+        Window::planned(alloc, frame_plan, fault, frames, start)
     }
 
     /// One more decision: of a legal variable, numbered from 0, that is undecided. The cells follow it by events, each

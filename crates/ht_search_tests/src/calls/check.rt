@@ -1,7 +1,7 @@
 //! Tests of ht_check: entries by hand. In each circuit the fault is net 1 stuck at 0.
-use super::small::{circuit_of, stuck_at_0};
+use super::small::{circuit_of, stuck_at, stuck_at_0};
 use super::tokens::{D, TWO_0};
-use ht_check::entry;
+use ht_check::{KeptFrames, entry, entry_by_frames};
 use ht_items::Items;
 use ht_samples::{ALWAYS_ZERO, HIDDEN, TOGGLE};
 use ht_tree::{Entry, Token};
@@ -54,6 +54,24 @@ fn is_as_said(alloc: Global, row: Row) -> Result<bool, Fail> {
 fn entries_pass_where_their_walk_is_complete(rt: HostRuntime) -> Result<(), Fail> {
     for row in ROWS {
         assert!(rt; is_as_said(rt.alloc(), *row)?);
+    }
+    Ok(())
+}
+
+// As above, in frames that settled under another fault before.
+fn is_as_said_in_kept_frames(alloc: Global, row: Row) -> Result<bool, Fail> {
+    let (text, z, tokens, want) = row;
+    let circuit = circuit_of(alloc, text)?;
+    let record = untestable(alloc, z, tokens)?;
+    let mut kept = KeptFrames::new(alloc, &circuit)?;
+    let _ = entry_by_frames(alloc, &mut kept, stuck_at(1, true), 100, &record)?;
+    Ok(entry_by_frames(alloc, &mut kept, stuck_at_0(1), 100, &record)? == want)
+}
+
+#[test]
+fn entries_pass_in_frames_of_another_fault(rt: HostRuntime) -> Result<(), Fail> {
+    for row in ROWS {
+        assert!(rt; is_as_said_in_kept_frames(rt.alloc(), *row)?);
     }
     Ok(())
 }

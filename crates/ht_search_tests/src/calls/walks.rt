@@ -1,7 +1,7 @@
 //! Tests of ht_check: walks of windows by hand, with their weights.
 use super::small::{circuit_of, stuck_at_0};
 use super::tokens::{B, D, TWO_0, TWO_2, X};
-use ht_check::{Finding, FreshWindow, judge_walk};
+use ht_check::{Finding, FreshWindow, KeptFrames, judge_walk};
 use ht_net::Circuit;
 use ht_samples::{TOGGLE, TWINS};
 use ht_tern::Tern::{self, One, Unk, Zero};
@@ -31,7 +31,8 @@ fn sweep(
     if frames == 0 {
         return Ok(Finding::Unfit);
     }
-    let mut window = FreshWindow::sweep(alloc, circuit, stuck_at_0(1), frames)?;
+    let kept = KeptFrames::new(alloc, circuit)?;
+    let mut window = FreshWindow::sweep(alloc, kept, stuck_at_0(1), frames)?;
     judge_walk(alloc, &mut window, tokens)
 }
 
@@ -47,7 +48,8 @@ fn ahead(
     if frames == 0 || good.len() != dffs || faulty.len() != dffs {
         return Ok(Finding::Unfit);
     }
-    let mut window = FreshWindow::forward(alloc, circuit, stuck_at_0(1), frames, good, faulty)?;
+    let kept = KeptFrames::new(alloc, circuit)?;
+    let mut window = FreshWindow::forward(alloc, kept, stuck_at_0(1), frames, good, faulty)?;
     judge_walk(alloc, &mut window, tokens)
 }
 
@@ -61,7 +63,8 @@ fn back(
     if cube.len() != circuit.dffs() as usize {
         return Ok(Finding::Unfit);
     }
-    let mut window = FreshWindow::back(alloc, circuit, cube, limit)?;
+    let kept = KeptFrames::new(alloc, circuit)?;
+    let mut window = FreshWindow::back(alloc, kept, cube, limit)?;
     judge_walk(alloc, &mut window, tokens)
 }
 

@@ -35,7 +35,7 @@ enum From {
 /// A window, the values of the variables that it chooses, the last of its choices, and its status then.
 type Row = (From, &'static [bool], Option<Choice>, Status);
 
-const A: Site = Site::Stem(NetId(0));
+pub const A: Site = Site::Stem(NetId(0));
 
 // A variable, and its value that comes first.
 macro_rules! two {
@@ -75,9 +75,9 @@ const OUTPUT_0: Status = sure!(0, Spot::Output(0));
 
 const OUTPUT_1: Status = sure!(1, Spot::Output(0));
 
-const OUTPUT_2: Status = sure!(2, Spot::Output(0));
+pub const OUTPUT_2: Status = sure!(2, Spot::Output(0));
 
-const OUTPUT_3: Status = sure!(3, Spot::Output(0));
+pub const OUTPUT_3: Status = sure!(3, Spot::Output(0));
 
 const CUBE: Status = sure!(0, Spot::Cube);
 
@@ -171,9 +171,9 @@ fn go_on(window: &mut Window<'_>, value: bool) -> Result<Option<Choice>, AllocEr
 }
 
 /// The last choice of a window once the variables that it chooses have these values, and its status then.
-type Shown = (Option<Choice>, Status);
+pub type Shown = (Option<Choice>, Status);
 
-fn led(window: &mut Window<'_>, values: &[bool]) -> Result<Option<Shown>, AllocError> {
+pub fn led(window: &mut Window<'_>, values: &[bool]) -> Result<Option<Shown>, AllocError> {
     let mut choice = None;
     for value in values {
         choice = go_on(window, *value)?;

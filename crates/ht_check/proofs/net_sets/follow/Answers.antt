@@ -1,14 +1,25 @@
-use Rattle.std.proofs.Common.{◌≡◌, ◌<◌, List, ℕ, false, get_or, length, subst}
-use Rattle.ht_net.specs.declared.net.NetId.{NetId}
-use Rattle.ht_net.specs.Netlist.{no_net}
-use Rattle.ht_check.proofs.NetSetLaws.{gate_settled}
+use Rattle.std.proofs.Common.{◌≡◌, ◌-◌, ◌∙◌, ℕ, ap, arith}
+use Rattle.ht_tree.specs.Windows.{pair_set_rules}
+use Rattle.ht_check.specs.GateSets.{sets_of}
+use Rattle.ht_check.proofs.NetSetLaws.{settled_have}
 use Rattle.ht_check.proofs.net_sets.follow.Goals as goal
 
-pub returns-else-reads_change-clause-set : goal.returns-else-reads_change-clause-set
-returns-else-reads_change-clause-set c before settled same marked =
-    let changed = c.args.changed.now in
-    let unmarked =
-    subst (λ (l : List NetId). (i : ℕ) → i < length l → get_or changed (get_or l i no_net).0 false ≡ false)
-    c.gate_args.ensures.args (c.reads_change.ensures c.if-reads_change.false) in
-    gate_settled c.args.circuit.now c.args.fault c.args.g before c.args.values.now c.requires.gate settled same
-    (λ i l. marked i l (unmarked i l))
+pub returns-clause-sets : goal.returns-clause-sets
+returns-clause-sets c =
+    let n = c.args.circuit.now in
+    let r = pair_set_rules c.args.fault in
+    let vector = c.args.vector.now in
+    let latches = c.args.latches.now in
+    settled_have n c.requires.schedule.circuit c.args.fault vector latches c.settle_pending.new.values
+    c.settle_pending.ensures.gates
+    (λ x low.
+    let at : x - 0 ≡ x = omega arith in
+    c.settle_pending.ensures.sources x (omega (arith, low))
+    ∙ (c.drive-2.ensures.below x (omega (arith, low))
+    ∙ (c.drive.ensures.driven x (omega arith) (omega (arith, low))
+    ∙ ap (λ (j : ℕ). r.stem x (sets_of vector j)) at)))
+    (λ x from low.
+    let at : x - c.inputs.result ≡ x - c.args.circuit.now.inputs = omega arith in
+    c.settle_pending.ensures.sources x low
+    ∙ (c.drive-2.ensures.driven x (omega (arith, from)) (omega (arith, low))
+    ∙ ap (λ (j : ℕ). r.stem x (sets_of latches j)) at))

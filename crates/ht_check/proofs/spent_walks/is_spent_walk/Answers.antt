@@ -4,8 +4,8 @@ use Rattle.ht_check.specs.Findings.{IsSpentFinding}
 use Rattle.ht_check.proofs.FindingLaws.{found_spent}
 use Rattle.ht_check.proofs.spent_walks.is_spent_walk.Goals as goal
 
-pub returns : goal.returns
-returns c =
+pub returns-clause-spent : goal.returns-clause-spent
+returns-clause-spent c =
     let w = c.args.window.now in
     let b = c.args.budget in
     let finding = c.in_ok-finding.finding in

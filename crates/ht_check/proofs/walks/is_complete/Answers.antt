@@ -1,8 +1,8 @@
 use Rattle.ht_check.proofs.FindingLaws.{found_complete}
 use Rattle.ht_check.proofs.walks.is_complete.Goals as goal
 
-pub returns : goal.returns
-returns g c =
+pub returns-clause-complete : goal.returns-clause-complete
+returns-clause-complete g c =
     let w = g.W.JudgedWindow in
     let found = found_complete (w.judge c.args.window.now) (w.unit c.args.window.now) c.args.tokens.now
     c.in_ok-finding.finding c.in_ok-finding.ensures.finding in

@@ -9,10 +9,10 @@ use Rattle.ht_window.specs.Starts.{window_from}
 use Rattle.ht_forward.proofs.FoundLaws.{frame_known}
 use Rattle.ht_forward.proofs.ahead.search_ahead.Goals as goal
 
-pub returns-in-Sure : goal.returns-in-Sure
-returns-in-Sure c =
+pub returns-in-Sure-clause-answer : goal.returns-in-Sure-clause-answer
+returns-in-Sure-clause-answer c =
     let s = c.explore.new.trial.window in
-    let w = window_from c.args.circuit.now (Some c.args.fault) c.args.frames c.args.start.now in
+    let w = window_from c.args.bases.now.circuit (Some c.args.fault) c.args.frames c.args.start.now in
     let stays = c.explore.ensures.window ∙ c.in_ok-window.ensures.window in
     let found = rw c.in-Found.is at c.in_ok-tokens.ensures.outcome in
     let sure = ap (λ (v : SearchWindow). status_at v s.decisions) (sym stays) ∙ sym c.in-Sure.ensures in

@@ -2,6 +2,7 @@ use Rattle.std.proofs.Common.{◌+◌, ◌≡◌, ◌<◌, ◌∙◌, ◌-◌, a
 use Rattle.std.proofs.lemmas.Grind.{get_or_after_one}
 use Rattle.std.proofs.lemmas.List.{get_or-take, get_or_read}
 use Rattle.ht_tern.specs.Gate.{operation_of, polarity_of}
+use Rattle.ht_lanes.specs.Lanes.{lane_operations}
 use Rattle.ht_net.specs.declared.net.NetId.{NetId}
 use Rattle.ht_net.specs.Netlist.{no_net}
 use Rattle.ht_frame.specs.Values.{env_of}
@@ -9,22 +10,22 @@ use Rattle.ht_group.proofs.FoldLaws.{fold_next}
 use Rattle.ht_group.proofs.evaluate.eval_nets.Goals as goal
 
 pub loop-arg-preserved : goal.loop-arg-preserved
-loop-arg-preserved g c blank =
+loop-arg-preserved c blank =
     let items : List NetId = take (length c.args.args.now - 1) (drop 1 c.args.args.now) in
     let net : c.index-in-loop-arg.result ≡ (get_or items c.loop-arg.arg-index no_net).0 = c.index-in-loop-arg.ensures in
-    let inside : c.index-in-loop-arg.result < length c.args.values.now =
+    let inside : c.index-in-loop-arg.result < length c.args.words.now =
     let at : get_or items c.loop-arg.arg-index no_net ≡ get_or c.args.args.now (1 + c.loop-arg.arg-index) no_net =
     get_or-take (length c.args.args.now - 1) (drop 1 c.args.args.now) c.loop-arg.arg-index no_net
     (omega (arith, c.loop-arg-test.true)) ∙ get_or_after_one c.args.args.now c.loop-arg.arg-index no_net in
     let e = net ∙ ap (λ (x : NetId). x.0) at in
     let known = c.requires.known (1 + c.loop-arg.arg-index) (omega (arith, c.loop-arg-test.true)) in
     omega (arith, e, known) in
-    let read = get_or_read c.args.values.now c.index-in-loop-arg.result c.index-values-index-in-loop-arg.result inside
-    c.index-values-index-in-loop-arg.is blank in
-    ap (polarity_of g.V.GateOperations.operations c.args.kind)
-    (fold_next (operation_of g.V.GateOperations.operations c.args.kind) (env_of blank c.args.values.now) items
-    c.loop-arg.arg-index c.loop-arg.value c.operate-value.result c.loop-arg-test.true
-    (c.operate-value.ensures ∙ ap
-    (λ v. operation_of g.V.GateOperations.operations c.args.kind c.loop-arg.value v)
-    (read ∙ ap (λ (n : ℕ). env_of blank c.args.values.now n) net)))
+    let read = get_or_read c.args.words.now c.index-in-loop-arg.result c.index-words-index-in-loop-arg.result inside
+    c.index-words-index-in-loop-arg.is blank in
+    ap (polarity_of lane_operations c.args.kind)
+    (fold_next (operation_of lane_operations c.args.kind) (env_of blank c.args.words.now) items
+    c.loop-arg.arg-index c.loop-arg.word c.combined-word.result c.loop-arg-test.true
+    (c.combined-word.ensures ∙ ap
+    (λ v. operation_of lane_operations c.args.kind c.loop-arg.word v)
+    (read ∙ ap (λ (n : ℕ). env_of blank c.args.words.now n) net)))
     ∙ c.loop-arg.invariant blank

@@ -31,16 +31,19 @@ invariant_of-result c =
     let started = c.in_ok-grader.ensures in
     let none_drawn : c.args.random - c.args.random ≡ 0 = omega arith in
     record {
-      faults = c.requires.faults;
-      classes = c.requires.classes;
-      circuit = ap (λ (g : GraderView). g.circuit) started;
-      representatives = ap (λ (g : GraderView). g.representatives) started;
-      budget = c.requires.budget;
-      kinds = c.in_ok-kinds.ensures.each ∙ c.len.ensures;
-      place = omega arith;
-      left = omega arith;
-      words = c.from_seed.ensures
-          ∙ ap (λ k. generator_after c.args.circuit.now.inputs k c.args.seed) (sym none_drawn);
+      engine = record {
+        faults = c.requires.faults;
+        classes = c.requires.classes;
+        circuit = ap (λ (g : GraderView). g.circuit) started;
+        representatives = ap (λ (g : GraderView). g.representatives) started;
+        budget = c.requires.budget;
+        kinds = c.in_ok-kinds.ensures.each ∙ c.len.ensures;
+        place = omega arith;
+        left = omega arith;
+        words = c.from_seed.ensures
+            ∙ ap (λ k. generator_after c.args.circuit.now.inputs k c.args.seed) (sym none_drawn);
+      };
+      bases = c.in_ok-bases.ensures;
     }
 
 pub returns-clause-none : goal.returns-clause-none

@@ -3,8 +3,8 @@ use Rattle.ht_events.specs.Plans.{position_at}
 use Rattle.ht_events.specs.Pending.{IsPending, QuietAgree, core_items}
 use Rattle.ht_events.proofs.event_core.Core.settle.Given as goal
 
-abbrev pub invariant-loop-item : goal.invariant-loop-item
-invariant-loop-item g l = record {
+abbrev pub invariant-loop-position : goal.invariant-loop-position
+invariant-loop-position g l = record {
   plan : l.self.plan ≡ l.fn.self.plan;
   circuit : g.P.Plant.circuit l.plant ≡ g.P.Plant.circuit l.fn.plant;
   frames : g.P.Plant.frames l.plant ≡ g.P.Plant.frames l.fn.plant;
@@ -16,5 +16,5 @@ invariant-loop-item g l = record {
   below : (y : ℕ) → y < core_items l.fn.self → position_at l.fn.self.plan y < l.from → ¬ IsPending l.self y;
 }
 
-abbrev pub decreases-loop-item : goal.decreases-loop-item
-decreases-loop-item g l = core_items l.fn.self - l.from
+abbrev pub decreases-loop-position : goal.decreases-loop-position
+decreases-loop-position g l = core_items l.fn.self - l.from

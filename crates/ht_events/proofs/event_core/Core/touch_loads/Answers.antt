@@ -1,6 +1,7 @@
 use Rattle.std.proofs.Common.{◌≡◌, ◌<◌, ℕ, get_or, [], arith, sym, ◌∙◌, ap, subst, List}
 use Rattle.ht_events.specs.Items.{frame_items, ReadsNet}
-use Rattle.ht_events.specs.Plans.{PlanState, IsTable}
+use Rattle.ht_events.specs.FramePlans.{IsTable}
+use Rattle.ht_events.specs.Plans.{PlanState}
 use Rattle.ht_events.specs.Pending.{CoreState}
 use Rattle.ht_events.proofs.ItemLaws.{reads_known}
 use Rattle.ht_events.proofs.LoadLaws.{row_known, touched_more, touched_all}

@@ -39,7 +39,7 @@ has_run c =
     let latches = with_items_is a.latches c.read_latches.new.latches (search rules)
     ∙ (c.read_latches.ensures ∙ c.in_ok-grade_faults.ensures.good) in
     let verdicts = with_items_is a.verdicts c.copy_verdicts.new.verdicts (search rules)
-    ∙ (c.copy_verdicts.ensures ∙ ap verdicts_of c.deref-4.ensures.value) in
+    ∙ (c.copy_verdicts.ensures ∙ ap verdicts_of c.deref-3.ensures.value) in
     let circuit = c.grade_faults.ensures.circuit ∙ ap (λ (g : GroupView). g.circuit) c.start.ensures.group in
     record {
       frame_is = c.start.ensures.group ∙ ap (λ (l : List Tern). record {
@@ -57,8 +57,8 @@ has_run c =
       all =
           subst (IsGradedFrame c.start.new.self.group a.faults.items a.count a.grades.items) (sym (graded_is c))
           (subst (λ (l : List Fault). IsGradedFrame c.start.new.self.group l a.count a.grades.items
-          c.grade_faults.new.grades) c.deref-3.ensures.value
-          (subst (λ (l : List Grade). IsGradedFrame c.start.new.self.group c.deref-3.result.now a.count l
+          c.grade_faults.new.grades) c.deref-2.ensures.value
+          (subst (λ (l : List Grade). IsGradedFrame c.start.new.self.group c.deref-2.result.now a.count l
           c.grade_faults.new.grades) c.deref_mut.ensures.value c.in_ok-grade_faults.ensures.passed));
     }
 

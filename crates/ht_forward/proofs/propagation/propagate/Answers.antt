@@ -1,0 +1,7 @@
+use Rattle.ht_forward.proofs.propagation.propagate.Goals as goal
+
+pub returns-clause-answer : goal.returns-clause-answer
+returns-clause-answer c = rw c.in_ok-bases.ensures at c.propagate_from_bases.ensures.answer
+
+pub returns-clause-holds : goal.returns-clause-holds
+returns-clause-holds c = rw c.in_ok-bases.ensures at c.propagate_from_bases.ensures.holds

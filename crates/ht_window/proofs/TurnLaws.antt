@@ -1,0 +1,197 @@
+-- Which nets get the same under another fault and another start, and the cells of the first frames.
+use Rattle.std.proofs.Common.{◌≡◌, ◌<◌, ◌≤◌, ◌+◌, ◌*◌, ◌-◌, inl, inr, ℕ, suc, zero, List, Bool, false, Option, None, Some, cond, map, length, get_or, take, refl, sym, ◌∙◌, ap, arith, subst}
+use Rattle.std.specs.List.{range_with_len}
+use Rattle.std.proofs.lemmas.Bool.Decides.{nat_tests}
+use Rattle.std.proofs.lemmas.List.{get_or-take}
+use Rattle.ht_pairs.specs.Pairs.{Pair, pair, lifted_set, stuck_set}
+use Rattle.ht_net.specs.declared.fault.Site.{Site}
+use Rattle.ht_net.specs.declared.fault.Site.TheVariants.{Stem, DffPin, GatePin}
+use Rattle.ht_net.specs.declared.fault.Fault.{Fault}
+use Rattle.ht_net.specs.Netlist.{Netlist, net_count, first_gate_net, gate_at, no_net}
+use Rattle.ht_net.specs.Frame.{net_value, net_value_over, driver_value, gate_output, next_state}
+use Rattle.ht_net.specs.Faults.{forced, is_stem, is_data_pin}
+use Rattle.ht_net.proofs.FrameLaws.{le_or_lt, driven_input, driven_latch, driven_gate}
+use Rattle.ht_frame.specs.StuckPins.{is_at_gate, is_pin_of}
+use Rattle.ht_frame.proofs.PinLaws.{plain_pins}
+use Rattle.ht_tree.proofs.PlaceLaws.{taken_at}
+use Rattle.ht_tree.specs.declared.token.Assign3.{Assign3}
+use Rattle.ht_tree.specs.Decisions.{is_in, decided_value, latch_pairs, latch_values_left}
+use Rattle.ht_tree.specs.Windows.{SearchWindow, Start, one_frame, unknown, state_pair, back, IsWindow, first_latch, frame_inputs, pair_set_rules, latches_at}
+use Rattle.ht_window.specs.Cells.{env_at, blank, latches_over, value_over, HoldsValue, AreCells}
+use Rattle.ht_window.specs.Standing.{Standing}
+use Rattle.ht_window.specs.Holding.{HeldState}
+use Rattle.ht_window.specs.Turns.{is_line_of, is_reached, HoldsElsewhere}
+use Rattle.ht_window.proofs.PlaceLaws.{rows_inside}
+use Rattle.ht_window.proofs.ReaderLaws.{over_same}
+use Rattle.ht_window.proofs.HoldLaws.{cells_hold}
+
+-- a stem, a data pin and the pins of a gate that the fault isn't at
+no_stem : (c : Netlist) (site : Site) (x : ℕ) → is_line_of c site x ≡ false → is_stem site x ≡ false
+no_stem c (Stem y) x h = h
+no_stem c (DffPin k) x h = refl
+no_stem c (GatePin g k) x h = refl
+
+no_data_pin : (c : Netlist) (site : Site) (j : ℕ) → j < length c.dffs → is_line_of c site (c.inputs + j) ≡ false
+    → is_data_pin site j ≡ false
+no_data_pin c (Stem y) j js h = refl
+no_data_pin c (GatePin g k) j js h = refl
+no_data_pin c (DffPin k) j js h = grind (arith, nat_tests, h)
+
+no_gate : (c : Netlist) (site : Site) (x : ℕ) → first_gate_net c ≤ x → is_line_of c site x ≡ false
+    → is_pin_of site (x - first_gate_net c) ≡ false
+no_gate c (Stem y) x at h = refl
+no_gate c (DffPin k) x at h = refl
+no_gate c (GatePin g k) x at h = grind (arith, nat_tests, h)
+
+no_gate_of : (c : Netlist) (fault : Option Fault) (x : ℕ) → first_gate_net c ≤ x → is_reached c fault x ≡ false
+    → is_at_gate fault (x - first_gate_net c) ≡ false
+no_gate_of c None x at h = refl
+no_gate_of c (Some fault) x at h = no_gate c fault.site x at h
+
+plain_stem : (c : Netlist) (fault : Option Fault) (x : ℕ) (v : List Pair) → is_reached c fault x ≡ false
+    → (pair_set_rules fault).stem x v ≡ v
+unfolding forced
+plain_stem c None x v h = refl
+plain_stem c (Some fault) x v h = ap (λ (b : Bool). cond b (stuck_set fault.value v) v) (no_stem c fault.site x h)
+
+plain_data_pin : (c : Netlist) (fault : Option Fault) (j : ℕ) (v : List Pair) → j < length c.dffs
+    → is_reached c fault (c.inputs + j) ≡ false → (pair_set_rules fault).data_pin j v ≡ v
+unfolding forced
+plain_data_pin c None j v js h = refl
+plain_data_pin c (Some fault) j v js h = ap (λ (b : Bool). cond b (stuck_set fault.value v) v)
+    (no_data_pin c fault.site j js h)
+
+plain_gate : (c : Netlist) (fault : Option Fault) (e : ℕ → List Pair) (x : ℕ) → first_gate_net c ≤ x
+    → is_reached c fault x ≡ false
+    → gate_output c (pair_set_rules fault) e (x - first_gate_net c)
+    ≡ gate_output c (pair_set_rules None) e (x - first_gate_net c)
+unfolding gate_output
+plain_gate c fault e x at h =
+    let g = x - first_gate_net c in
+    let args = (gate_at c g).args in
+    ap (lifted_set (gate_at c g).kind)
+    (plain_pins blank lifted_set stuck_set fault g e 0 args (no_gate_of c fault x at h)
+    ∙ sym (plain_pins blank lifted_set stuck_set None g e 0 args refl))
+
+-- what a start gives a latch rests on the circuit and the decisions
+first_latch_same : (w v : SearchWindow) (s : Start) (path : List Assign3) (j : ℕ) → v.circuit ≡ w.circuit
+    → first_latch v s path j ≡ first_latch w s path j
+first_latch_same w v (one_frame z) path j e = λ i. latch_pairs (is_in z j) (decided_value path ((e i).inputs + j))
+    (decided_value path (first_gate_net (e i) + j))
+first_latch_same w v unknown path j e = refl
+first_latch_same w v (state_pair good faulty) path j e = refl
+first_latch_same w v (back cube limit) path j e =
+    λ i. map (λ value. pair value value) (latch_values_left (decided_value path ((e i).inputs + j)))
+
+-- the window of the good machine
+abbrev good : SearchWindow → SearchWindow
+good w = record w { fault = None }
+
+module _ (w : SearchWindow) (path : List Assign3) (values : List (List Pair)) where
+  good_latch : (f j : ℕ) → j < length w.circuit.dffs → is_reached w.circuit w.fault (w.circuit.inputs + j) ≡ false
+      → get_or (latches_over w path values f) j blank ≡ get_or (latches_over (good w) path values f) j blank
+  unfolding latches_over
+  good_latch zero j js free =
+      λ i. get_or (map (λ k. first_latch_same (good w) w w.start path k refl i) (range_with_len 0
+      (length w.circuit.dffs))) j blank
+  good_latch (suc f) j js free =
+      let c = w.circuit in
+      let e = env_at w values f in
+      let at : 0 + j ≡ j = omega arith in
+      let v = e (get_or c.dffs j no_net).0 in
+      taken_at (pair_set_rules w.fault) e 0 c.dffs j blank js
+      ∙ (ap (λ (k : ℕ). (pair_set_rules w.fault).data_pin k v) at
+      ∙ (plain_data_pin c w.fault j v js free
+      ∙ (sym (plain_data_pin c None j v js refl)
+      ∙ (sym (ap (λ (k : ℕ). (pair_set_rules None).data_pin k v) at)
+      ∙ sym (taken_at (pair_set_rules None) e 0 c.dffs j blank js)))))
+
+  -- a net that the fault doesn't reach first gets what it gets in the good machine
+  unreached : (f x : ℕ) → is_reached w.circuit w.fault x ≡ false
+      → value_over w path values f x ≡ value_over (good w) path values f x
+  unfolding net_value_over
+  unreached f x free =
+      let c = w.circuit in
+      let r = pair_set_rules w.fault in
+      let q = pair_set_rules None in
+      let I = frame_inputs w path f in
+      let L = latches_over w path values f in
+      let M = latches_over (good w) path values f in
+      let e = env_at w values f in
+      plain_stem c w.fault x (driver_value c r I L e x) free ∙ (elim (le_or_lt (first_gate_net c) x) [
+        | inl at ↦ driven_gate c r I L e x at ∙ (plain_gate c w.fault e x at free ∙ sym (driven_gate c q I M e x at))
+        | inr low ↦ elim (le_or_lt c.inputs x) [
+          | inl at ↦
+              let back : c.inputs + (x - c.inputs) ≡ x = omega (arith, at) in
+              driven_latch c r I L e x at low
+              ∙ (good_latch f (x - c.inputs) (omega (arith, at, low)) (ap (is_reached c w.fault) back ∙ free)
+              ∙ sym (driven_latch c q I M e x at low))
+          | inr l ↦ driven_input c r I L e x l ∙ sym (driven_input c q I M e x l)
+        ]
+      ] ∙ sym (plain_stem c None x (driver_value c q I M e x) refl))
+
+  -- and one that isn't a latch of the first frame what it gets from another start
+  other_start : (s : Start) (f x : ℕ) → (f ≡ 0 → w.circuit.inputs ≤ x → first_gate_net w.circuit ≤ x)
+      → value_over w path values f x ≡ value_over (record w { start = s }) path values f x
+  unfolding latches_over
+  other_start s f x late =
+      let r = pair_set_rules w.fault in
+      let I = frame_inputs w path f in
+      let e = env_at w values f in
+      over_same w.circuit r I I (latches_over w path values f) (latches_over (record w { start = s }) path values f) e e
+      x
+      (λ l. refl) (λ at low. latch f late at low) (λ j at pin. refl) where
+        latch : (g : ℕ) → (g ≡ 0 → w.circuit.inputs ≤ x → first_gate_net w.circuit ≤ x) → w.circuit.inputs ≤ x
+            → x < first_gate_net w.circuit
+            → get_or (latches_over w path values g) (x - w.circuit.inputs) blank
+            ≡ get_or (latches_over (record w { start = s }) path values g) (x - w.circuit.inputs) blank
+        latch zero late at low = let high = late refl at in absurd (omega (arith, high, low))
+        latch (suc g) late at low = refl
+
+-- a net that neither fault reaches first, and that isn't a latch of the first frame, holds its cell in the other window
+-- too
+turned_hold : (w : SearchWindow) → IsWindow w → (path : List Assign3) (values : List (List Pair))
+    → AreCells w path values → (fault : Option Fault) (s : Start) (f x : ℕ) → f < w.frames → x < net_count w.circuit
+    → is_reached w.circuit w.fault x ≡ false → is_reached w.circuit fault x ≡ false
+    → (f ≡ 0 → w.circuit.inputs ≤ x → first_gate_net w.circuit ≤ x)
+    → HoldsValue (record w { fault = fault; start = s }) path values f x
+turned_hold w valid path values are fault s f x fs xs free freed late =
+    cells_hold w valid path values are f x fs xs
+    ∙ (unreached w path values f x free
+    ∙ (other_start (good w) path values s f x late
+    ∙ sym (unreached (record w { fault = fault; start = s }) path values f x freed)))
+
+-- the cells of a window under another fault and another start
+pub turned_elsewhere : (w : SearchWindow) → IsWindow w → (path : List Assign3) (b : HeldState) (fault : Option Fault)
+    (s : Start) (before : Option Fault)
+    → b.standing ≡ record { window = record w { fault = fault; start = s }; path = path }
+    → AreCells w path b.cells.values → before ≡ w.fault → HoldsElsewhere b before
+turned_elsewhere w valid path b fault s before is are same =
+    let there : HoldsElsewhere (record {
+      standing = record { window = record w { fault = fault; start = s }; path = path };
+      cells = b.cells;
+    }) w.fault = record { holds = turned_hold w valid path b.cells.values are fault s } in
+    subst (λ (n : Standing). HoldsElsewhere (record { standing = n; cells = b.cells }) before) (sym is)
+    (subst (HoldsElsewhere (record {
+      standing = record { window = record w { fault = fault; start = s }; path = path };
+      cells = b.cells;
+    })) (sym same) there)
+
+module _ (w : SearchWindow) (path : List Assign3) (n : ℕ) where
+  latches_front : (f : ℕ) → latches_at (record w { frames = n }) path f ≡ latches_at w path f
+  unfolding latches_at
+  latches_front zero = λ i. map (λ j. first_latch_same w (record w { frames = n }) w.start path j refl i)
+      (range_with_len 0 (length w.circuit.dffs))
+  latches_front (suc f) = ap (next_state w.circuit (pair_set_rules w.fault) (frame_inputs w path f)) (latches_front f)
+
+  -- the cells of the first frames are those of the window that has no more
+  pub front_cells : (values : List (List Pair)) → n ≤ w.frames → AreCells w path values
+      → AreCells (record w { frames = n }) path (take (n * net_count w.circuit) values)
+  front_cells values few are = record {
+    cells = λ f x fs xs.
+        let nets = net_count w.circuit in
+        get_or-take (n * nets) values (f * nets + x) blank (rows_inside nets n f x fs xs)
+        ∙ (are.cells f x (omega (arith, fs, few)) xs
+        ∙ sym (ap (λ (L : List (List Pair)). net_value w.circuit (pair_set_rules w.fault) (frame_inputs w path f) L x)
+        (latches_front f)));
+  }

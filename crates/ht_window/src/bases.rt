@@ -1,0 +1,138 @@
+//! Windows from which others are made, one for each kind of start.
+ghost use Rattle.std.specs.Prelude.{◌≡◌, ◌≤◌, [], IfOk, IfSome};
+ghost use Rattle.ht_tree.specs.Windows.{IsStart};
+ghost use Rattle.ht_window.specs.Starts.{start_of, window_from};
+ghost use Rattle.ht_window.specs.BaseStates.{BasesState, IsBase};
+
+use crate::start::Start;
+use crate::window::Window;
+use ht_events::{FramePlan, MAX_FRAMES};
+use ht_net::{Circuit, Fault};
+use std::alloc::{AllocError, Global};
+use std::marker::Model;
+use std::rc::Rc;
+
+/// Windows before their first decision, one for each kind of start. One of them follows the fault and the start of a
+/// window that is asked for, by events, and the window is a copy of its first frames.
+#[derive(Drop)]
+pub struct Bases<'c> {
+    frame_plan: Rc<FramePlan<'c>>,
+    // by kind of start, as long as the longest that was asked for so far, with the last fault and start
+    one_frame: Option<Window<'c>>,
+    unknown: Option<Window<'c>>,
+    pair: Option<Window<'c>>,
+    back: Option<Window<'c>>,
+}
+
+impl<'c> Model for Bases<'c> {
+    ghost use Rattle.ht_window.specs.BaseStates.{BasesState};
+
+    ghost Value = { BasesState };
+
+    ghost use Rattle.ht_window.specs.BaseStates.{AreBases};
+
+    ghost view = { λ a. record { circuit = a.frame_plan.value.circuit } };
+
+    ghost invariant = { AreBases };
+}
+
+impl<'c> Bases<'c> {
+    /// No base yet. The plan of a frame is made here, once for all windows.
+    ///
+    /// # Errors
+    /// Out of memory.
+    pub fn new(alloc: Global, circuit: &'c Circuit) -> Result<Bases<'c>, AllocError>
+        ensures { IfOk result (λ bases. bases.circuit ≡ circuit.now) }
+    {
+        let frame_plan = Rc::new(alloc, FramePlan::new(alloc, circuit)?)?;
+        Ok(Bases {
+            frame_plan,
+            one_frame: None,
+            unknown: None,
+            pair: None,
+            back: None,
+        })
+    }
+
+    /// The circuit.
+    pub fn circuit(&self) -> &'c Circuit
+        ensures circuit { result.now ≡ self.now.circuit }
+    {
+        self.frame_plan.circuit()
+    }
+
+    // Takes the base of a start's kind out, if there is one.
+    fn take(&mut self, start: &Start) -> Option<Window<'c>>
+        ensures circuit { self.new.circuit ≡ self.old.circuit }
+        ensures base { IfSome result (IsBase self.old.circuit) }
+    {
+        match start {
+            Start::OneFrame { z: _ } => self.one_frame.take(),
+            Start::Unknown => self.unknown.take(),
+            Start::Pair { state: _ } => self.pair.take(),
+            Start::Back { cube: _, limit: _ } => self.back.take(),
+        }
+    }
+
+    // Keeps a window as the base of a start's kind.
+    fn keep(&mut self, start: &Start, base: Window<'c>)
+        requires { IsBase self.old.circuit base }
+        ensures circuit { self.new.circuit ≡ self.old.circuit }
+    {
+        match start {
+            Start::OneFrame { z: _ } => self.one_frame = Some(base),
+            Start::Unknown => self.unknown = Some(base),
+            Start::Pair { state: _ } => self.pair = Some(base),
+            Start::Back { cube: _, limit: _ } => self.back = Some(base),
+        }
+    }
+
+    // The base of a start's kind, or a new one where it has fewer frames than these.
+    fn base(
+        &mut self,
+        alloc: Global,
+        fault: Option<Fault>,
+        frames: u32,
+        start: &Start,
+    ) -> Result<Window<'c>, AllocError>
+        requires frames { frames ≤ MAX_FRAMES }
+        requires start { IsStart self.old.circuit fault frames (start_of start.now) }
+        ensures circuit { self.new.circuit ≡ self.old.circuit }
+        ensures base { IfOk result (IsBase self.old.circuit) }
+        ensures few { IfOk result (λ w. frames ≤ w.window.frames) }
+        ensures start { IfOk result (λ w. IsStart self.old.circuit fault w.window.frames
+            (start_of start.now)) }
+    {
+        match self.take(start) {
+            Some(base) if base.has_front(frames, start) => Ok(base),
+            _ => Window::planned(alloc, self.frame_plan.clone()?, fault, frames, start),
+        }
+    }
+
+    /// A window of `frames` frames from a start, before its first decision.
+    ///
+    /// # Errors
+    /// Out of memory.
+    pub fn window(
+        &mut self,
+        alloc: Global,
+        fault: Option<Fault>,
+        frames: u32,
+        start: &Start,
+    ) -> Result<Window<'c>, AllocError>
+        requires frames { frames ≤ MAX_FRAMES }
+        requires start { IsStart self.old.circuit fault frames (start_of start.now) }
+        ensures circuit { self.new.circuit ≡ self.old.circuit }
+        ensures window { IfOk result
+            (λ w. w.window ≡ window_from self.old.circuit fault frames start.now) }
+        ensures decisions { IfOk result (λ w. w.decisions ≡ []) }
+        ensures marks { IfOk result (λ w. w.marks ≡ []) }
+    {
+        let base = self
+            .base(alloc, fault, frames, start)?
+            .turned(alloc, fault, start)?;
+        let window = base.front(alloc, self.frame_plan.clone()?, frames)?;
+        self.keep(start, base);
+        Ok(window)
+    }
+}
