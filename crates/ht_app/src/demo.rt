@@ -87,6 +87,33 @@ fn make_steps(engine: &mut Engine) -> Result<(), AllocError>
     }
 }
 
+// Makes all steps of a new engine, and the total line of the report on them. It borrows the engine, since each way on
+// which a value is dropped is a goal.
+fn make_total(
+    alloc: Global,
+    prepared: &Prepared,
+    engine: &mut Engine,
+) -> Result<Vec<u8>, AllocError>
+    requires faults { prepared.now.listed.faults ≡ faults_of prepared.now.circuit }
+    requires classes { AreClasses prepared.now.circuit prepared.now.listed.classes }
+    requires circuit { engine.old.circuit ≡ prepared.now.circuit }
+    requires representatives { engine.old.representatives ≡ prepared.now.listed.classes }
+    requires new { EngineStandsFor engine.old [] }
+    ensures { IfOk result
+        (λ total. IsTotalOf prepared.now.circuit engine.old.settings total.items) }
+{
+    make_steps(engine)?;
+    let listed = &prepared.listed;
+    let total = write_total_of(
+        alloc,
+        &prepared.circuit,
+        &listed.faults,
+        &listed.classes,
+        engine,
+    )?;
+    Ok(total)
+}
+
 // The total line of the report on the circuit.
 fn find_total(alloc: Global, prepared: &Prepared, seed: u64) -> Result<Vec<u8>, AllocError>
     requires faults { prepared.now.listed.faults ≡ faults_of prepared.now.circuit }
@@ -94,20 +121,16 @@ fn find_total(alloc: Global, prepared: &Prepared, seed: u64) -> Result<Vec<u8>, 
     ensures { IfOk result
         (λ total. IsTotalOf prepared.now.circuit (demo_settings seed) total.items) }
 {
-    let faults = &prepared.listed.faults;
-    let classes = &prepared.listed.classes;
     let mut engine = Engine::new(
         alloc,
         &prepared.circuit,
-        faults,
-        classes,
+        &prepared.listed.faults,
+        &prepared.listed.classes,
         DEMO_BUDGET,
         DEMO_RANDOM,
         seed,
     )?;
-    make_steps(&mut engine)?;
-    let total = write_total_of(alloc, &prepared.circuit, faults, classes, &engine)?;
-    Ok(total)
+    make_total(alloc, prepared, &mut engine)
 }
 
 /// Runs `demo`: makes the netlist of a size and a seed, says the head line of a report on it, generates tests, and says

@@ -2,10 +2,11 @@
 //!
 //! `create` makes the three files, `sizes` begins the proofs, `steps` writes the engine's steps, and `fill` does all of
 //! it, with the report at the end.
-ghost use Rattle.std.specs.Prelude.{◌≡◌, ◌≤◌, IfErr, OnOk};
+ghost use Rattle.std.specs.Prelude.{◌≡◌, ◌≤◌, [], IfErr, OnOk};
 ghost use Rattle.ht_ports.specs.declared.ports.OutPort.TheVariants as out_port;
 ghost use Rattle.ht_faults.specs.Sites.{faults_of};
 ghost use Rattle.ht_collapse.specs.Classes.{AreClasses};
+ghost use Rattle.ht_engine.specs.EngineStands.{EngineStandsFor};
 ghost use Rattle.ht_asked.specs.Asked as asked;
 ghost use Rattle.ht_asked.specs.declared.limits.TheConstants.{MAX_BUDGET, MIN_BUDGET};
 ghost use Rattle.ht_app.specs.FileTexts.{file_names_of};
@@ -30,8 +31,45 @@ use ht_net::Circuit;
 use ht_ports::Desk;
 use std::alloc::Global;
 
-// Creates the files, and writes them.
+// Creates the files, and writes a new engine's steps and the report. It borrows the engine, since each way on which a
+// value is dropped is a goal.
 fn make_files<D: Desk>(
+    alloc: Global,
+    circuit: &Circuit,
+    listed: &Listed,
+    tests: &str,
+    report: &str,
+    proofs: &str,
+    engine: &mut Engine,
+    desk: &mut D,
+) -> Result<(), RunError>
+    requires circuit { engine.old.circuit ≡ circuit.now }
+    requires faults { listed.now.faults ≡ faults_of circuit.now }
+    requires classes { AreClasses circuit.now listed.now.classes }
+    requires representatives { engine.old.representatives ≡ listed.now.classes }
+    requires new { EngineStandsFor engine.old [] }
+    ensures wrote { OnOk result
+        (HasGenerated (file_names_of tests.now report.now proofs.now) circuit.now
+        engine.old.settings (D.view desk.old) (D.view desk.new)) }
+    ensures stops { IfErr result
+        (λ e. LeavesFiles (file_names_of tests.now report.now proofs.now) e circuit.now
+        engine.old.settings (D.view desk.old) (D.view desk.new)) }
+    ensures cause { IfErr result (FillCause (D.view desk.old) (D.view desk.new)) }
+{
+    create_files(desk, tests, report, proofs)?;
+    write_files(
+        alloc,
+        circuit,
+        &listed.faults,
+        &listed.classes,
+        engine,
+        desk,
+    )?;
+    Ok(())
+}
+
+// Makes an engine, and the files with it.
+fn run_engine<D: Desk>(
     alloc: Global,
     circuit: &Circuit,
     listed: &Listed,
@@ -65,16 +103,16 @@ fn make_files<D: Desk>(
         random,
         seed,
     )?;
-    create_files(desk, tests, report, proofs)?;
-    write_files(
+    make_files(
         alloc,
         circuit,
-        &listed.faults,
-        &listed.classes,
+        listed,
+        tests,
+        report,
+        proofs,
         &mut engine,
         desk,
-    )?;
-    Ok(())
+    )
 }
 
 /// Runs `gen`: reads the netlist, generates tests, and writes them, the proofs and the report. The budget is that of
@@ -111,7 +149,7 @@ pub fn generate<D: Desk>(
 {
     let circuit = read_netlist(alloc, desk, netlist)?;
     let listed = list_faults(alloc, &circuit)?;
-    make_files(
+    run_engine(
         alloc, &circuit, &listed, tests, report, proofs, desk, budget, random, seed,
     )?;
     Ok(())
