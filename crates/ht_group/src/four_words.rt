@@ -4,7 +4,7 @@ ghost use Rattle.ht_lanes.specs.Lanes.{lane, word_at};
 ghost use Rattle.ht_net.specs.Frame.{gate_output};
 ghost use Rattle.ht_net.specs.Netlist.{first_gate_net, net_count, no_net};
 ghost use Rattle.ht_group.specs.LaneRules.{drive_from, in_lane, lane_env, rules_at};
-ghost use Rattle.ht_group.specs.MachineWords.{HaveFreePins, HasRunRoom, IsComputed};
+ghost use Rattle.ht_group.specs.MachineWords.{AreFirstChanged, HaveFreePins, HasRunRoom, IsComputed};
 ghost use Rattle.ht_group.specs.declared.machines.Machines.{Machines};
 
 use crate::evaluate::PIN_ROOM;
@@ -94,7 +94,7 @@ fn take_word(circuit: &Circuit, machines: &mut Machines, net: u32, value: Word) 
     requires value { (k : ℕ) → k < 64 → lane value k
         ≡ drive_from circuit.now (rules_at machines.old.lines.faults.items k)
         (in_lane k machines.old.sources.words) (lane_env k machines.old.nets.words) net }
-    ensures { IsComputed circuit.now net machines.old machines.new result }
+    ensures { IsComputed circuit.now net result machines.old machines.new }
 {
     let word = machines.lines.stem(circuit, net, value);
     if word.same(machines.nets.words()[net as usize]) {
@@ -117,11 +117,7 @@ pub fn recompute_four(
         → HasRunRoom circuit.now (get_or words.old w d) }
     requires net { net < net_count circuit.now }
     requires room { length fours.old ≡ PIN_ROOM }
-    ensures count { length words.new ≡ length words.old }
-    ensures each { (w : ℕ) (d : Machines) → w < 4
-        → IsComputed circuit.now net (get_or words.old w d) (get_or words.new w d) result }
-    ensures rest { (w : ℕ) (d : Machines) → 4 ≤ w
-        → get_or words.new w d ≡ get_or words.old w d }
+    ensures { AreFirstChanged 4 (IsComputed circuit.now net result) words.old words.new }
 {
     let values = gate_outputs(circuit, words, fours, net);
     let mut changed = false;
