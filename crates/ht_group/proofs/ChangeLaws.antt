@@ -35,25 +35,33 @@ not_before before pending more r idle = elim (cases_Bool (get_or before r false)
 ]
 
 module _ (c : Netlist) (s : Schedule) (frame : GoodFrame) where
+  -- Others are pending, and each net that isn't has its value.
+  over_pending : (before pending : List Bool) (m : Machines)
+      → (IsLaid c s frame before m
+      → QuietHaveValues c s m.lines.faults.items m.sources.words pending m.nets.words)
+      → IsWord c s frame before m → IsWord c s frame pending m
+  over_pending before pending m quiet word = record {
+    room = word.room;
+    bare = word.bare;
+    laid = λ is.
+        let was = word.laid is in
+        record {
+          quiet = quiet was;
+          sources = was.sources;
+          nets = was.nets;
+          source_count = was.source_count;
+          inputs = was.inputs;
+          spare = was.spare;
+          still = was.still;
+        };
+  }
+
   -- more nets are pending
   pub more_pending : (before pending : List Bool) (m : Machines)
       → ((r : ℕ) → get_or before r false ≡ true → get_or pending r false ≡ true)
       → IsWord c s frame before m → IsWord c s frame pending m
-  more_pending before pending m more word = record {
-    room = word.room;
-    bare = word.bare;
-    laid = λ is.
-        let old = word.laid is in
-        record {
-          sources = old.sources;
-          nets = old.nets;
-          source_count = old.source_count;
-          inputs = old.inputs;
-          spare = old.spare;
-          quiet = λ k r below inside idle. old.quiet k r below inside (not_before before pending more r idle);
-          still = old.still;
-        };
-  }
+  more_pending before pending m more = over_pending before pending m
+      (λ was k r below inside idle. was.quiet k r below inside (not_before before pending more r idle))
 
   pub bare_word : (pending : List Bool) (m : Machines) → IsBare c m → IsWord c s frame pending m
   bare_word pending m bare = record {
@@ -127,21 +135,8 @@ module _ (c : Netlist) (s : Schedule) (frame : GoodFrame) where
   -- a word without machines, whatever is pending
   pub still_word : (before pending : List Bool) (m : Machines) → m.lines.faults.items ≡ []
       → IsWord c s frame before m → IsWord c s frame pending m
-  still_word before pending m none word = record {
-    room = word.room;
-    bare = word.bare;
-    laid = λ is.
-        let old = word.laid is in
-        record {
-          sources = old.sources;
-          nets = old.nets;
-          source_count = old.source_count;
-          inputs = old.inputs;
-          spare = old.spare;
-          quiet = λ k r below inside idle. old.still none k r below inside refl;
-          still = old.still;
-        };
-  }
+  still_word before pending m none = over_pending before pending m
+      (λ was k r below inside idle. was.still none k r below inside refl)
 
   -- a word with machines lies over the frame
   pub has_laid : (pending : List Bool) (m : Machines) → 0 < length m.lines.faults.items
