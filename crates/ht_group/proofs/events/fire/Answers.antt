@@ -20,26 +20,25 @@ returns-clause-marks c =
     let s = c.args.schedule.now in
     let old = c.args.pending.now in
     let new = c.touch_if.new.pending in
-    let row = c.row.result.now in
-    let rank = c.args.rank in
-    let later = readers_later c.args.circuit.now s c.requires.schedule c.args.net row c.row.ensures rank
-    c.requires.rank c.requires.net in
-    let as_before = touched_as_before old c.remove.new.self new row rank c.remove.ensures c.touch_if.ensures.rest in
+    let later = readers_later c.args.circuit.now s c.requires.schedule c.args.net c.row.result.now c.row.ensures
+    c.args.rank c.requires.rank c.requires.net in
+    let as_before = touched_as_before old c.remove.new.self new c.row.result.now c.args.rank c.remove.ensures
+    c.touch_if.ensures.rest in
     record {
       marks = c.touch_if.ensures.marks
-          ∙ (ap (λ (l : List Bool). length l) c.remove.ensures ∙ length-set old rank false);
-      taken = rank_taken old c.remove.new.self new row rank c.remove.ensures c.touch_if.ensures.rest
-          (omega (arith, c.requires.rank, c.requires.marks)) (later rank (omega arith));
+          ∙ (ap (λ (l : List Bool). length l) c.remove.ensures ∙ length-set old c.args.rank false);
+      taken = rank_taken old c.remove.new.self new c.row.result.now c.args.rank c.remove.ensures c.touch_if.ensures.rest
+          (omega (arith, c.requires.rank, c.requires.marks)) (later c.args.rank (omega arith));
       earlier = λ r below. as_before r (omega (arith, below)) (later r (omega (arith, below)));
       idle = λ r ne is. elim (cases_Bool c.args.changed) [
-        | inl told ↦ sym (as_before r ne (not_touched new row (c.touch_if.ensures.all told) r is)) ∙ is
-        | inr same ↦ sym (get_or-set_other old rank r false false ne)
+        | inl told ↦ sym (as_before r ne (not_touched new c.row.result.now (c.touch_if.ensures.all told) r is)) ∙ is
+        | inr same ↦ sym (get_or-set_other old c.args.rank r false false ne)
             ∙ (sym (ap (λ (l : List Bool). get_or l r false) (c.touch_if.ensures.unchanged same ∙ c.remove.ensures))
             ∙ is)
       ];
       apart = λ told r within is.
-          apart_by_readers c.args.circuit.now s c.requires.schedule r (get_or s.order.items rank 0) within
-          (λ has. not_touched new row (c.touch_if.ensures.all told) r is
+          apart_by_readers c.args.circuit.now s c.requires.schedule r (get_or s.order.items c.args.rank 0) within
+          (λ has. not_touched new c.row.result.now (c.touch_if.ensures.all told) r is
           (subst (λ (l : List ℕ). Contains l r)
           (sym (c.row.ensures ∙ ap (λ (n : ℕ). get_or s.readers n []) c.requires.net)) has));
     }
