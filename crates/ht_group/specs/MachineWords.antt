@@ -99,11 +99,14 @@ pub record AreMachinesKept (old new : Machines) : Type 0 where
   pub good : new.nets.good ≡ old.nets.good
   pub laid : new.laid ≡ old.laid
 
--- what an evaluation reads belongs to the circuit
+-- what an evaluation reads belongs to the circuit, in one word and in the first ones
 pub record HasRunRoom (c : Netlist) (m : Machines) : Type 0 where
   pub stuck : AreStuck c m.lines
   pub sources : length m.sources.words ≡ first_gate_net c
   pub nets : length m.nets.good ≡ net_count c
+
+abbrev pub HaveRunRoom : Netlist → ℕ → List Machines → Type 0
+HaveRunRoom c used words = (w : ℕ) (d : Machines) → w < used → HasRunRoom c (get_or words w d)
 
 -- net x is a gate's, there are four words with machines, and in none of them a pin of the gate is stuck
 pub record HaveFreePins (c : Netlist) (x used : ℕ) (words : List Machines) : Type 0 where

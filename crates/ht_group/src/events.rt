@@ -4,7 +4,7 @@ ghost use Rattle.std.specs.List.{Contains};
 ghost use Rattle.ht_net.specs.Netlist.{first_gate_net, net_count};
 ghost use Rattle.ht_group.specs.GroupView.{max_words};
 ghost use Rattle.ht_group.specs.LaneRules.{lane_env};
-ghost use Rattle.ht_group.specs.MachineWords.{AreFirstChanged, AreRunning, HasRunRoom, HaveRun, IsComputed};
+ghost use Rattle.ht_group.specs.MachineWords.{AreFirstChanged, AreRunning, HasRunRoom, HaveRunRoom, HaveRun, IsComputed};
 ghost use Rattle.ht_group.specs.Pending.{AreGiven, IsFired};
 ghost use Rattle.ht_group.specs.declared.machines.Machines.{Machines};
 ghost use Rattle.ht_ranks.specs.Schedules.{IsSchedule};
@@ -103,8 +103,7 @@ fn recompute_each(
     net: u32,
 ) -> bool
     requires used { used ≤ length words.old }
-    requires room { (w : ℕ) (d : Machines) → w < used
-        → HasRunRoom circuit.now (get_or words.old w d) }
+    requires room { HaveRunRoom circuit.now used words.old }
     requires pins { length pins.old ≡ PIN_ROOM }
     requires net { net < net_count circuit.now }
     ensures { AreFirstChanged used (IsComputed circuit.now net result) words.old words.new }
@@ -129,8 +128,7 @@ fn recompute_words(
     net: u32,
 ) -> bool
     requires used { used ≤ length words.old }
-    requires room { (w : ℕ) (d : Machines) → w < used
-        → HasRunRoom circuit.now (get_or words.old w d) }
+    requires room { HaveRunRoom circuit.now used words.old }
     requires pins { length pins.old ≡ PIN_ROOM }
     requires fours { length fours.old ≡ PIN_ROOM }
     requires net { net < net_count circuit.now }
@@ -143,16 +141,18 @@ fn recompute_words(
     }
 }
 
-// The net of a rank was evaluated, and is pending no more; where it changed, the nets that read it are pending. Says how
-// many evaluations of a gate this was in so many words.
+// The net of a rank was evaluated, and is pending no more; where it changed, the nets that read it are pending. Says
+// how many evaluations of a gate this was in so many words. Both loops below go through it for each net, so it is to
+// cost no call.
+#[inline(always)]
 fn fire(
     circuit: &Circuit,
     schedule: &Schedule,
-    pending: &mut BitSet,
     rank: u32,
     net: u32,
     changed: bool,
     words: u32,
+    pending: &mut BitSet,
 ) -> u32
     requires schedule { IsSchedule circuit.now schedule.now }
     requires marks { length pending.old ≡ net_count circuit.now }
@@ -189,7 +189,7 @@ fn settle_word(
     while let Some(rank) = pending.next(from) {
         let net = schedule.net(rank);
         let changed = recompute_word(circuit, machines, pins, net);
-        evaluated += fire(circuit, schedule, pending, rank, net, changed, 1);
+        evaluated += fire(circuit, schedule, rank, net, changed, 1, pending);
         from = rank + 1;
     }
     evaluated
@@ -228,7 +228,7 @@ pub fn settle(
     while let Some(rank) = pending.next(from) {
         let net = schedule.net(rank);
         let changed = recompute_words(circuit, words, used, pins, fours, net);
-        evaluated += fire(circuit, schedule, pending, rank, net, changed, used);
+        evaluated += fire(circuit, schedule, rank, net, changed, used, pending);
         from = rank + 1;
     }
     evaluated
