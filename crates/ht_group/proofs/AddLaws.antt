@@ -1,19 +1,21 @@
 -- A machine is added to the word that is next.
 use Rattle.std.specs.Prelude.{set, flat_map, min}
-use Rattle.std.proofs.Common.{◌≡◌, ◌≢◌, ◌<◌, ◌+◌, ◌-◌, ◌*◌, ◌/◌, ◌∙◌, ℕ, List, [], ◌∷◌, ◌++◌, Bool, true, false, length, get_or, drop, ap, sym, subst, arith, inl, inr}
+use Rattle.std.proofs.Common.{◌≡◌, ◌≢◌, ◌<◌, ◌≤◌, ◌+◌, ◌-◌, ◌*◌, ◌/◌, ◌∙◌, ℕ, List, [], ◌∷◌, ◌++◌, Bool, true, false, length, get_or, drop, ap, sym, subst, refl, arith, inl, inr}
 use Rattle.std.proofs.lemmas.Bool.{cases_eq}
 use Rattle.std.proofs.lemmas.List.{length-append, length-set, get_or-set_same, get_or-set_other}
-use Rattle.ht_net.specs.Netlist.{Netlist}
+use Rattle.ht_net.specs.Netlist.{Netlist, net_count}
+use Rattle.ht_group.specs.GroupOf.{IsGroup}
 use Rattle.ht_group.specs.GroupView.{FaultyMachine}
 use Rattle.ht_group.specs.MachineWords.{AreFilled, HasOneMore, HasSame, IsWord, machines_of}
 use Rattle.ht_group.specs.declared.good_frame.GoodFrame.{GoodFrame}
+use Rattle.ht_group.specs.declared.group.Group.TheInside.{Inside}
 use Rattle.ht_group.specs.declared.machines.Machines.{Machines}
 use Rattle.ht_ranks.specs.declared.schedule.Schedule.{Schedule}
 use Rattle.ht_group.proofs.BlockLaws.{more_at}
 use Rattle.ht_group.proofs.ChangeLaws.{more_pending}
 use Rattle.ht_group.proofs.GroupLaws.{filled_machines}
 use Rattle.ht_group.proofs.ViewLaws.{machine_count}
-use Rattle.ht_group.proofs.WordsLaws.{AreWords}
+use Rattle.ht_group.proofs.WordsLaws.{AreWords, is_group}
 
 fault_count : (c : Netlist) (m : Machines) → length (machines_of c m) ≡ length m.lines.faults.items
 fault_count c m = machine_count 0 m.lines.faults.items (drop c.inputs m.sources.words)
@@ -53,25 +55,35 @@ module _ (c : Netlist) (n : ℕ) (words : List Machines) (old new : Machines) (f
     pub next_room : length old.lines.faults.items < 64
     next_room = let f = old_filled in omega (arith, f)
 
+    -- the words are filled with m machines, where this one is and the others need no more
+    filled_with : (m : ℕ) → length new.lines.faults.items ≡ min 64 (m - 64 * next)
+        → ((v : ℕ) → v ≢ next → min 64 (n - 64 * v) ≡ min 64 (m - 64 * v)) → AreFilled m written
+    filled_with m here others v d inside = elim (cases_eq v next) [
+      | inl e ↦
+          ap (λ (x : Machines). length x.lines.faults.items) (ap (λ (i : ℕ). get_or written i d) e ∙ is_new d)
+          ∙ (here ∙ ap (λ (i : ℕ). min 64 (m - 64 * i)) (sym e))
+      | inr ne ↦
+          let size = length-set words next new in
+          ap (λ (x : Machines). length x.lines.faults.items) (is_old v d ne)
+          ∙ (filled v d (omega (arith, inside, size)) ∙ others v ne)
+    ]
+
+    -- the machines of the word, and its faults
+    new_count : (k : ℕ) → length (machines_of c new) ≡ length (machines_of c old) + k
+        → length new.lines.faults.items ≡ min 64 (n - 64 * next) + k
+    new_count k more =
+        let f = old_filled in
+        let p = fault_count c new in
+        let q = fault_count c old in
+        omega (arith, f, more, p, q)
+
     -- The word has one machine more.
     module _ (one : FaultyMachine) (more : HasOneMore c old one new) where
       pub added_filled : AreFilled (n + 1) written
-      added_filled v d inside = elim (cases_eq v next) [
-        | inl e ↦
-            let here = ap (λ (m : Machines). length m.lines.faults.items)
-            (ap (λ (i : ℕ). get_or written i d) e ∙ is_new d) in
-            let f = old_filled in
-            let a = ap (λ (l : List FaultyMachine). length l) more in
-            let b = length-append (machines_of c old) (one ∷ []) in
-            let p = fault_count c new in
-            let q = fault_count c old in
-            omega (arith, here, f, a, b, p, q, e)
-        | inr ne ↦
-            let same = ap (λ (m : Machines). length m.lines.faults.items) (is_old v d ne) in
-            let size = length-set words next new in
-            let f = filled v d (omega (arith, inside, size)) in
-            omega (arith, same, f, ne)
-      ]
+      added_filled =
+          let count = new_count 1
+          (ap (λ (l : List FaultyMachine). length l) more ∙ length-append (machines_of c old) (one ∷ [])) in
+          filled_with (n + 1) (omega (arith, count)) (λ v ne. omega (arith, ne))
 
       pub added_machines : flat_map (machines_of c) written ≡ flat_map (machines_of c) words ++ one ∷ []
       added_machines = more_at (machines_of c) words n next new one old (omega arith) (omega arith) next_inside
@@ -81,17 +93,28 @@ module _ (c : Netlist) (n : ℕ) (words : List Machines) (old new : Machines) (f
     -- or the same machines
     module _ (same : HasSame c old new) where
       pub same_filled : AreFilled n written
-      same_filled v d inside = elim (cases_eq v next) [
-        | inl e ↦
-            let here = ap (λ (m : Machines). length m.lines.faults.items)
-            (ap (λ (i : ℕ). get_or written i d) e ∙ is_new d) in
-            let f = old_filled in
-            let a = ap (λ (l : List FaultyMachine). length l) same in
-            let p = fault_count c new in
-            let q = fault_count c old in
-            omega (arith, here, f, a, p, q, e)
-        | inr ne ↦
-            let size = length-set words next new in
-            ap (λ (m : Machines). length m.lines.faults.items) (is_old v d ne)
-            ∙ filled v d (omega (arith, inside, size))
-      ]
+      same_filled =
+          let size = ap (λ (l : List FaultyMachine). length l) same in
+          let count = new_count 0 (omega (arith, size)) in
+          filled_with n (omega (arith, count)) (λ v ne. refl)
+
+-- A group is one still where the next of its words was written.
+pub written_group : (a : Inside) → IsGroup a → a.count < 256 → (old new : Machines)
+    → old ≡ get_or a.words.items (a.count / 64) old → (b : Inside)
+    → record a { words = b.words; count = b.count; pending = b.pending; settled = b.settled } ≡ b
+    → b.words.items ≡ set a.words.items (a.count / 64) new
+    → ((r : ℕ) → get_or a.pending r false ≡ true → get_or b.pending r false ≡ true)
+    → IsWord a.circuit.now a.schedule a.frame b.pending new → length b.pending ≡ net_count a.circuit.now
+    → AreFilled b.count (set a.words.items (a.count / 64) new) → b.count ≤ 256
+    → (b.settled ≡ true → (r : ℕ) → get_or b.pending r false ≡ false) → IsGroup b
+written_group a g few old new was b same items more word marks filled most settled =
+    subst IsGroup same (is_group (record a {
+      words = b.words;
+      count = b.count;
+      pending = b.pending;
+      settled = b.settled;
+    }) (set a.words.items (a.count / 64) new) g.circuit g.schedule g.frame items
+    (length-set a.words.items (a.count / 64) new ∙ g.word_count)
+    (written_words a.circuit.now a.count a.words.items old new g.word_count few was a.schedule a.frame a.pending
+    b.pending more g.words word)
+    filled most marks g.room g.four_room settled)

@@ -1,9 +1,7 @@
 -- What each call leaves of a word's machines.
-use Rattle.std.specs.Prelude.{set}
-use Rattle.std.specs.List.{Contains}
 use Rattle.std.proofs.Common.{◌≡◌, ◌≢◌, ◌<◌, ◌≤◌, ◌+◌, ◌∙◌, ℕ, List, [], ◌∷◌, ◌++◌, Bool, true, false, length, get_or, take, drop, ap, sym, subst, refl, arith, inl, inr}
-use Rattle.std.proofs.lemmas.Bool.{cases_Bool, cases_eq}
-use Rattle.std.proofs.lemmas.List.{length-map, length-append, drop-map, get_or-set_other}
+use Rattle.std.proofs.lemmas.Bool.{cases_Bool, cases_eq, cases_lt}
+use Rattle.std.proofs.lemmas.List.{length-map, length-append, drop-map}
 use Rattle.ht_tern.specs.declared.tern.Tern.{Tern}
 use Rattle.ht_tern.specs.declared.tern.Tern.TheVariants.{Unk}
 use Rattle.ht_lanes.specs.Lanes.{Lanes, lane}
@@ -13,17 +11,16 @@ use Rattle.ht_net.specs.declared.fault.Fault.{Fault}
 use Rattle.ht_net.specs.Netlist.{Netlist, net_count, IsCircuit}
 use Rattle.ht_group.specs.GoodFrames.{IsGoodFrame}
 use Rattle.ht_group.specs.LaneRules.{rules_at, in_lane, lane_env, HasItsValue}
-use Rattle.ht_group.specs.MachineWords.{AreMachinesKept, AreRunning, AreSameMachines, IsMachineAdded, IsBare, IsComputed, IsLaid, IsLaidOver, IsRestored, IsWord, machines_from, machines_of}
+use Rattle.ht_group.specs.MachineWords.{AreFirstChanged, AreMachinesKept, AreRunning, AreSameMachines, HaveRun, IsMachineAdded, IsBare, IsComputed, IsLaid, IsLaidOver, IsRestored, IsWord, machines_from, machines_of}
 use Rattle.ht_group.specs.Overlays.{IsSpread, OverlayView}
-use Rattle.ht_group.specs.Pending.{QuietHaveValues}
+use Rattle.ht_group.specs.Pending.{IsFired, QuietHaveValues}
 use Rattle.ht_ranks.specs.Schedules.{IsSchedule, ReadsFrom}
 use Rattle.ht_group.specs.StuckTables.{AreStuck}
 use Rattle.ht_group.specs.declared.good_frame.GoodFrame.{GoodFrame}
 use Rattle.ht_group.specs.declared.machines.Machines.{Machines}
 use Rattle.ht_ranks.specs.declared.schedule.Schedule.{Schedule}
 use Rattle.ht_group.specs.declared.stuck_lines.StuckLines.{StuckLines}
-use Rattle.ht_ranks.proofs.ScheduleLaws.{touched_as_before}
-use Rattle.ht_group.proofs.EventLaws.{fired_quiet, apart_by_readers, not_touched}
+use Rattle.ht_group.proofs.EventLaws.{fired_quiet}
 use Rattle.ht_group.proofs.KeptLaws.{value_kept}
 use Rattle.ht_group.proofs.SpreadLaws.{good_has_values}
 use Rattle.ht_group.proofs.ViewLaws.{machine_added}
@@ -38,25 +35,33 @@ not_before before pending more r idle = elim (cases_Bool (get_or before r false)
 ]
 
 module _ (c : Netlist) (s : Schedule) (frame : GoodFrame) where
+  -- Others are pending, and each net that isn't has its value.
+  over_pending : (before pending : List Bool) (m : Machines)
+      → (IsLaid c s frame before m
+      → QuietHaveValues c s m.lines.faults.items m.sources.words pending m.nets.words)
+      → IsWord c s frame before m → IsWord c s frame pending m
+  over_pending before pending m quiet word = record {
+    room = word.room;
+    bare = word.bare;
+    laid = λ is.
+        let was = word.laid is in
+        record {
+          quiet = quiet was;
+          sources = was.sources;
+          nets = was.nets;
+          source_count = was.source_count;
+          inputs = was.inputs;
+          spare = was.spare;
+          still = was.still;
+        };
+  }
+
   -- more nets are pending
   pub more_pending : (before pending : List Bool) (m : Machines)
       → ((r : ℕ) → get_or before r false ≡ true → get_or pending r false ≡ true)
       → IsWord c s frame before m → IsWord c s frame pending m
-  more_pending before pending m more word = record {
-    room = word.room;
-    bare = word.bare;
-    laid = λ is.
-        let old = word.laid is in
-        record {
-          sources = old.sources;
-          nets = old.nets;
-          source_count = old.source_count;
-          inputs = old.inputs;
-          spare = old.spare;
-          quiet = λ k r below inside idle. old.quiet k r below inside (not_before before pending more r idle);
-          still = old.still;
-        };
-  }
+  more_pending before pending m more = over_pending before pending m
+      (λ was k r below inside idle. was.quiet k r below inside (not_before before pending more r idle))
 
   pub bare_word : (pending : List Bool) (m : Machines) → IsBare c m → IsWord c s frame pending m
   bare_word pending m bare = record {
@@ -130,21 +135,8 @@ module _ (c : Netlist) (s : Schedule) (frame : GoodFrame) where
   -- a word without machines, whatever is pending
   pub still_word : (before pending : List Bool) (m : Machines) → m.lines.faults.items ≡ []
       → IsWord c s frame before m → IsWord c s frame pending m
-  still_word before pending m none word = record {
-    room = word.room;
-    bare = word.bare;
-    laid = λ is.
-        let old = word.laid is in
-        record {
-          sources = old.sources;
-          nets = old.nets;
-          source_count = old.source_count;
-          inputs = old.inputs;
-          spare = old.spare;
-          quiet = λ k r below inside idle. old.still none k r below inside refl;
-          still = old.still;
-        };
-  }
+  still_word before pending m none = over_pending before pending m
+      (λ was k r below inside idle. was.still none k r below inside refl)
 
   -- a word with machines lies over the frame
   pub has_laid : (pending : List Bool) (m : Machines) → 0 < length m.lines.faults.items
@@ -307,11 +299,20 @@ kept_twice a b d first second = record {
   laid = second.laid ∙ first.laid;
 }
 
+-- all words have the same machines after the first ones ran
+pub same_machines : (c : Netlist) (s : Schedule) (pending : List Bool) (used : ℕ) (old new : List Machines)
+    → AreFirstChanged used (HaveRun c s pending) old new → (w : ℕ) (d : Machines)
+    → AreMachinesKept (get_or old w d) (get_or new w d)
+same_machines c s pending used old new ran w d = elim (cases_lt w used) [
+  | inl inside ↦ (ran.each w d inside).kept
+  | inr past ↦ kept_itself (get_or old w d) (get_or new w d) (ran.rest w d past)
+]
+
 -- A net is evaluated, and those that aren't pending have their values: the machines run on.
-pub computed_running : (c : Netlist) (s : Schedule) (before pending : List Bool) (x : ℕ) (old new : Machines)
-    (changed : Bool) → AreRunning c s before old → IsComputed c x old new changed
+pub computed_running : (c : Netlist) (s : Schedule) (before pending : List Bool) (x : ℕ) (changed : Bool)
+    (old new : Machines) → AreRunning c s before old → IsComputed c x changed old new
     → QuietHaveValues c s old.lines.faults.items old.sources.words pending new.nets.words → AreRunning c s pending new
-computed_running c s before pending x old new changed running done quiet = record {
+computed_running c s before pending x changed old new running done quiet = record {
   room = record {
     stuck = rw (done.kept.lines) running.room.stuck;
     sources = rw (done.kept.sources) running.room.sources;
@@ -321,37 +322,43 @@ computed_running c s before pending x old new changed running done quiet = recor
 }
 
 -- The net of a rank is evaluated, and where its word changed those that read it are pending: the machines run on.
-pub fired_running : (c : Netlist) (s : Schedule) → IsSchedule c s → (pending removed touched : List Bool) (row : List ℕ)
-    (rank x : ℕ) (old new : Machines) (changed : Bool)
-    → rank < net_count c → x ≡ get_or s.order.items rank 0 → row ≡ get_or s.readers x []
-    → removed ≡ set pending rank false
-    → (changed ≡ true → (r : ℕ) → Contains row r → get_or touched r false ≡ true)
-    → (changed ≡ false → touched ≡ removed)
-    → ((r : ℕ) → ¬ Contains row r → get_or touched r false ≡ get_or removed r false)
-    → AreRunning c s pending old → IsComputed c x old new changed → AreRunning c s touched new
-fired_running c s is pending removed touched row rank x old new changed inside net row_is taken all unchanged rest
-    running done =
-    let kept : (k p : ℕ) → p < net_count c → p ≢ rank → get_or touched p false ≡ false
-    → (get_or pending p false ≡ false)
-    × ((z : ℕ) → ReadsFrom c (get_or s.order.items p 0) z → lane_env k new.nets.words z ≡ lane_env k old.nets.words z) =
-    λ k p within ne idle. elim (cases_Bool changed) [
-      | inl told ↦
-          let apart = not_touched touched row (all told) p idle in (
-            sym (touched_as_before pending removed touched row rank taken rest p ne apart) ∙ idle,
-            λ z read. done.others k z
-                (λ is_x. apart_by_readers c s is p x within
-                (λ has. apart (subst (λ (l : List ℕ). Contains l p) (sym row_is) has))
-                (subst (λ (m : ℕ). ReadsFrom c (get_or s.order.items p 0) m) is_x read)),
-          )
-      | inr same ↦ (
-        sym (get_or-set_other pending rank p false false ne)
-            ∙ (sym (ap (λ (l : List Bool). get_or l p false) taken)
-            ∙ (sym (ap (λ (l : List Bool). get_or l p false) (unchanged same)) ∙ idle)),
-        λ z read. ap (λ (l : List Lanes). lane_env k l z) (done.unchanged same),
-      )
-    ] in
-    computed_running c s pending touched x old new changed running done
-    (λ k q below.
-    fired_quiet c s is (rules_at old.lines.faults.items k) (in_lane k old.sources.words)
-    (lane_env k old.nets.words) (lane_env k new.nets.words) pending touched rank x
-    inside net (done.given k below) (done.others k) (kept k) (λ p. running.quiet k p below) q)
+module _ (c : Netlist) (s : Schedule) (is : IsSchedule c s) (before pending : List Bool) (rank x : ℕ) (changed : Bool)
+    (inside : rank < net_count c) (net : x ≡ get_or s.order.items rank 0)
+    (fired : IsFired c s rank changed before pending) where
+  fired_running : (old new : Machines) → AreRunning c s before old → IsComputed c x changed old new
+      → AreRunning c s pending new
+  fired_running old new running done =
+      let kept : (k p : ℕ) → p < net_count c → p ≢ rank → get_or pending p false ≡ false
+      → (get_or before p false ≡ false)
+      × ((z : ℕ) → ReadsFrom c (get_or s.order.items p 0) z
+      → lane_env k new.nets.words z ≡ lane_env k old.nets.words z) =
+      λ k p within ne idle. (
+        fired.idle p ne idle,
+        λ z read. elim (cases_Bool changed) [
+          | inl told ↦ done.others k z
+              (λ is_x. fired.apart told p within idle
+              (subst (λ (m : ℕ). ReadsFrom c (get_or s.order.items p 0) m) (is_x ∙ net) read))
+          | inr same ↦ ap (λ (l : List Lanes). lane_env k l z) (done.unchanged same)
+        ],
+      ) in
+      computed_running c s before pending x changed old new running done
+      (λ k q below.
+      fired_quiet c s is (rules_at old.lines.faults.items k) (in_lane k old.sources.words)
+      (lane_env k old.nets.words) (lane_env k new.nets.words) before pending rank x
+      inside net (done.given k below) (done.others k) (kept k) (λ p. running.quiet k p below) q)
+
+  pub run_on : (start old new : Machines) → HaveRun c s before start old → IsComputed c x changed old new
+      → HaveRun c s pending start new
+  run_on start old new ran done = record {
+    kept = kept_twice start old new ran.kept done.kept;
+    running = fired_running old new ran.running done;
+  }
+
+  pub first_run_on : (used : ℕ) (start old new : List Machines) → AreFirstChanged used (HaveRun c s before) start old
+      → AreFirstChanged used (IsComputed c x changed) old new → AreFirstChanged used (HaveRun c s pending) start new
+  first_run_on used start old new ran done = record {
+    count = done.count ∙ ran.count;
+    each = λ w d first. run_on (get_or start w d) (get_or old w d) (get_or new w d) (ran.each w d first)
+        (done.each w d first);
+    rest = λ w d past. done.rest w d past ∙ ran.rest w d past;
+  }

@@ -2,11 +2,13 @@
 use Rattle.std.specs.List.{Contains}
 use Rattle.std.proofs.Common.{◌≡◌, ◌≢◌, ◌<◌, ◌≤◌, ◌+◌, ◌-◌, ◌*◌, ◌∙◌, ℕ, List, [], Bool, true, false, length, get_or, cond, nat_lt, ap, sym, subst, arith, inl, inr}
 use Rattle.std.proofs.lemmas.Bool.Decides.{eqb_tells, nat_tests}
+use Rattle.std.proofs.lemmas.Bool.{cases_eq, cases_lt}
 use Rattle.std.proofs.Math.Nat.{mul-le-mul_left}
-use Rattle.ht_net.specs.Netlist.{Netlist, net_count}
+use Rattle.ht_net.specs.Netlist.{Netlist, first_gate_net, net_count}
 use Rattle.ht_net.specs.Frame.{Rules}
 use Rattle.ht_net.proofs.FrameLaws.{le_or_lt}
 use Rattle.ht_group.specs.LaneRules.{given_value, HasItsValue}
+use Rattle.ht_group.specs.Pending.{IsFired}
 use Rattle.ht_ranks.specs.Schedules.{ReadsFrom, IsSchedule}
 use Rattle.ht_ranks.specs.declared.schedule.Schedule.{Schedule}
 use Rattle.ht_group.proofs.DriveLaws.{drive_same}
@@ -63,7 +65,7 @@ pub not_touched : (touched : List Bool) (row : List ℕ) → ((r : ℕ) → Cont
 not_touched touched row all q idle has = let bad : true ≡ false = sym (all q has) ∙ idle in cc
 
 -- the evaluations up to a rank, and those of the rank
-pub steps_more : (steps from rank first used more : ℕ) → steps ≤ (from - first) * used → from ≤ rank
+steps_more : (steps from rank first used more : ℕ) → steps ≤ (from - first) * used → from ≤ rank
     → more ≡ cond (nat_lt rank first) 0 used → steps + more ≤ (rank + 1 - first) * used
 steps_more steps from rank first used more before le is = elim (le_or_lt first rank) [
   | inl gate ↦
@@ -79,3 +81,29 @@ steps_more steps from rank first used more before le is = elim (le_or_lt first r
       let low : (from - first) * used ≡ 0 * used = ap (λ (n : ℕ). n * used) none in
       omega (arith, price, low, before)
 ]
+
+-- How far a pass is: no net before a rank is pending, and so many evaluations were made.
+pub record IsPassed (c : Netlist) (used : ℕ) (pending : List Bool) (from evaluated : ℕ) : Type 0 where
+  pub marks : length pending ≡ net_count c
+  pub done : (r : ℕ) → r < from → get_or pending r false ≡ false
+  pub within : from ≤ net_count c
+  pub steps : evaluated ≤ (from - first_gate_net c) * used
+
+-- The next net that is pending is evaluated.
+pub passed_on : (c : Netlist) (s : Schedule) (used : ℕ) (before pending : List Bool) (from rank evaluated more : ℕ)
+    (changed : Bool) → from ≤ rank → rank < length before
+    → ((q : ℕ) → from ≤ q → q < rank → get_or before q false ≡ false) → IsFired c s rank changed before pending
+    → more ≡ cond (nat_lt rank (first_gate_net c)) 0 used → IsPassed c used before from evaluated
+    → IsPassed c used pending (rank + 1) (evaluated + more)
+passed_on c s used before pending from rank evaluated more changed on inside least fired price passed = record {
+  marks = fired.marks ∙ passed.marks;
+  done = λ r below. elim (cases_eq r rank) [
+    | inl e ↦ ap (λ (n : ℕ). get_or pending n false) e ∙ fired.taken
+    | inr ne ↦ fired.earlier r (omega (arith, below, ne)) ∙ elim (cases_lt r from) [
+      | inl low ↦ passed.done r low
+      | inr high ↦ least r high (omega (arith, below, ne))
+    ]
+  ];
+  within = omega (arith, inside, passed.marks);
+  steps = steps_more evaluated from rank (first_gate_net c) used more passed.steps on price;
+}

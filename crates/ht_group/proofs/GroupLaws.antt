@@ -24,6 +24,7 @@ use Rattle.ht_group.specs.declared.group.Group.TheInside.{Inside}
 use Rattle.ht_group.proofs.BlockLaws.{AreFull, all_count, item_at}
 use Rattle.ht_group.proofs.ChangeLaws.{has_laid}
 use Rattle.ht_group.proofs.DriveLaws.{values_are_frame}
+use Rattle.ht_group.proofs.InLaneLaws.{lane_read}
 use Rattle.ht_group.proofs.ViewLaws.{machine_at, machine_count}
 
 -- the machines of words that are filled in turn
@@ -138,12 +139,27 @@ module _ (a : Inside) (g : IsGroup a) where
         item_at (machines_of a.circuit.now) a.words.items a.count w k d below (word_inside w used)
         (omega (arith, n, few)) (filled_machines a.circuit.now a.count a.words.items g.filled)
 
-    pub word_value : a.settled ≡ true → (x : ℕ) → x < net_count a.circuit.now → (k : ℕ) (o : FaultyMachine) → k < 64
-        → slice_get (group_of a).machines (64 * w + k) ≡ Some o
-        → lane_env k m.nets.words x ≡ faulty_value (group_of a) o x
-    word_value settled x inside k o below has =
+    -- what was read of a net in it
+    pub word_read : (v : GroupView) → group_of a ≡ v → (read : Machines) → read ≡ m → (words : List Lanes) (x i : ℕ)
+        (word : Lanes) → words ≡ read.nets.words → length words ≡ length read.nets.good → x < net_count v.circuit
+        → i ≡ x → word ≡ get_or words i word → (k : ℕ) → lane word k ≡ lane_env k m.nets.words x
+    word_read v view read is words x i word net_words count known at has k =
+        let same = ap (λ (o : Machines). length o.nets.good) is in
+        let room = word_room in
+        let size = ap (λ (u : GroupView). net_count u.circuit) view in
+        let inside : i < length words = omega (arith, known, size, room, same, count, at) in
+        lane_read words i word inside has k
+        ∙ ((λ j. lane_env k (net_words j) (at j)) ∙ ap (λ (o : Machines). lane_env k o.nets.words x) is)
+
+    pub word_value : (v : GroupView) → group_of a ≡ v → v.settled ≡ true → (x : ℕ) → x < net_count v.circuit
+        → (k : ℕ) (o : FaultyMachine) → k < 64 → slice_get v.machines (64 * w + k) ≡ Some o
+        → lane_env k m.nets.words x ≡ faulty_value v o x
+    word_value v view =
+        subst (λ (u : GroupView). u.settled ≡ true → (x : ℕ) → x < net_count u.circuit → (k : ℕ) (o : FaultyMachine)
+        → k < 64 → slice_get u.machines (64 * w + k) ≡ Some o → lane_env k m.nets.words x ≡ faulty_value u o x) view
+        (λ settled x inside k o below has.
         machine_value a.circuit.now a.schedule a.frame a.pending m g.circuit g.schedule word_laid (g.settled settled) x
-        inside k below o (sym (word_machine k below) ∙ has)
+        inside k below o (sym (word_machine k below) ∙ has))
 
     free_lane : (k : ℕ) → k < 64 → length (group_of a).machines ≤ 64 * w + k → length m.lines.faults.items ≤ k
     free_lane k below past =
@@ -151,11 +167,14 @@ module _ (a : Inside) (g : IsGroup a) where
         let f = word_filled in
         omega (arith, past, count, f)
 
-    pub word_spare : a.settled ≡ true → (x : ℕ) → x < net_count a.circuit.now → (k : ℕ) → k < 64
-        → length (group_of a).machines ≤ 64 * w + k → lane_env k m.nets.words x ≡ good_value (group_of a) x
-    word_spare settled x inside k below past =
+    pub word_spare : (v : GroupView) → group_of a ≡ v → v.settled ≡ true → (x : ℕ) → x < net_count v.circuit
+        → (k : ℕ) → k < 64 → length v.machines ≤ 64 * w + k → lane_env k m.nets.words x ≡ good_value v x
+    word_spare v view =
+        subst (λ (u : GroupView). u.settled ≡ true → (x : ℕ) → x < net_count u.circuit → (k : ℕ) → k < 64
+        → length u.machines ≤ 64 * w + k → lane_env k m.nets.words x ≡ good_value u x) view
+        (λ settled x inside k below past.
         spare_value a.circuit.now a.schedule a.frame a.pending m g.circuit g.schedule word_laid (g.settled settled) x
-        inside k below (free_lane k below past)
+        inside k below (free_lane k below past))
 
     -- the fault of a lane, or none
     pub fault_of : (k : ℕ) (o : FaultyMachine) → k < 64 → slice_get (group_of a).machines (64 * w + k) ≡ Some o

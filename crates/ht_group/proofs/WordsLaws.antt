@@ -19,7 +19,7 @@ use Rattle.ht_group.proofs.BlockLaws.{none_left, same_all}
 use Rattle.ht_group.proofs.ChangeLaws.{bare_word, ran_word, restored_word, still_word}
 use Rattle.ht_group.proofs.GroupLaws.{filled_machines}
 
-pub none_marked : (n r : ℕ) → get_or (replicate n false) r false ≡ false
+none_marked : (n r : ℕ) → get_or (replicate n false) r false ≡ false
 none_marked n r = elim (cases_lt r n) [
   | inl inside ↦ get_or-replicate n r false false inside
   | inr past ↦ get_or_past (replicate n false) r false (let e = length-replicate n false in omega (arith, past, e))
@@ -48,6 +48,17 @@ is_group b words circuit schedule frame is four each filled few marks room four_
   four_room = four_room;
   settled = settled;
 }
+
+-- where no net is pending
+pub still_group : (b : Inside) (words : List Machines) (n : ℕ) → IsCircuit b.circuit.now
+    → IsSchedule b.circuit.now b.schedule → IsGoodFrame b.circuit.now b.frame → b.words.items ≡ words
+    → length words ≡ 4 → AreWords b.circuit.now b.schedule b.frame b.pending words → AreFilled b.count words
+    → b.count ≤ 256 → b.pending ≡ replicate n false → n ≡ net_count b.circuit.now → length b.pins.items ≡ 256
+    → length b.fours.items ≡ 256 → IsGroup b
+still_group b words n circuit schedule frame is four each filled few none marks room four_room =
+    is_group b words circuit schedule frame is four each filled few
+    (ap (λ (l : List Bool). length l) none ∙ (length-replicate n false ∙ marks)) room four_room
+    (λ settled r. ap (λ (l : List Bool). get_or l r false) none ∙ none_marked n r)
 
 -- a word past those that have machines, and one of them
 unused : (n w : ℕ) (m : Machines) → words_for n ≤ w → length m.lines.faults.items ≡ min 64 (n - 64 * w)

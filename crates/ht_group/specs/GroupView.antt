@@ -49,16 +49,17 @@ HasSite c (GatePin g i) = g < length c.gates
 abbrev pub AreLatches : Netlist → List Diff → Type 0
 AreLatches c diffs = All (λ (d : Diff). d.latch < length c.dffs) diffs
 
--- the machines of a word, the most words of a group, and so the most machines
+-- the machines of a word
 abbrev pub lane_count : ℕ
 lane_count = 64
 
+-- how many words so many machines take
+abbrev pub words_for : ℕ → ℕ
+words_for n = (n + (lane_count - 1)) / lane_count
+
+-- the most words of a group, and so the most machines
 abbrev pub max_words : ℕ
 max_words = 4
 
 abbrev pub max_machines : ℕ
 max_machines = 256
-
--- how many words so many machines take
-abbrev pub words_for : ℕ → ℕ
-words_for n = (n + (lane_count - 1)) / lane_count

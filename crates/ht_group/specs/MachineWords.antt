@@ -99,11 +99,14 @@ pub record AreMachinesKept (old new : Machines) : Type 0 where
   pub good : new.nets.good ≡ old.nets.good
   pub laid : new.laid ≡ old.laid
 
--- what an evaluation reads belongs to the circuit
+-- what an evaluation reads belongs to the circuit, in one word and in the first ones
 pub record HasRunRoom (c : Netlist) (m : Machines) : Type 0 where
   pub stuck : AreStuck c m.lines
   pub sources : length m.sources.words ≡ first_gate_net c
   pub nets : length m.nets.good ≡ net_count c
+
+abbrev pub HaveRunRoom : Netlist → ℕ → List Machines → Type 0
+HaveRunRoom c used words = (w : ℕ) (d : Machines) → w < used → HasRunRoom c (get_or words w d)
 
 -- net x is a gate's, there are four words with machines, and in none of them a pin of the gate is stuck
 pub record HaveFreePins (c : Netlist) (x used : ℕ) (words : List Machines) : Type 0 where
@@ -119,12 +122,23 @@ pub record AreRunning (c : Netlist) (s : Schedule) (pending : List Bool) (m : Ma
   pub quiet : QuietHaveValues c s m.lines.faults.items m.sources.words pending m.nets.words
 
 -- Net x has what its driver and its stem give it, and the others are as before; so is this one where none changed.
-pub record IsComputed (c : Netlist) (x : ℕ) (old new : Machines) (changed : Bool) : Type 0 where
+pub record IsComputed (c : Netlist) (x : ℕ) (changed : Bool) (old new : Machines) : Type 0 where
   pub kept : AreMachinesKept old new
   pub given : AreGiven c old.lines.faults.items old.sources.words old.nets.words x
       (λ k. lane_env k new.nets.words x)
   pub others : (k y : ℕ) → y ≢ x → lane_env k new.nets.words y ≡ lane_env k old.nets.words y
   pub unchanged : changed ≡ false → new.nets.words ≡ old.nets.words
+
+-- the same machines, and each net that isn't pending has its value in each
+pub record HaveRun (c : Netlist) (s : Schedule) (pending : List Bool) (old new : Machines) : Type 0 where
+  pub kept : AreMachinesKept old new
+  pub running : AreRunning c s pending new
+
+-- Of each of the first words a change is known, and the others are as before.
+pub record AreFirstChanged (used : ℕ) (P : Machines → Machines → Type 0) (old new : List Machines) : Type 0 where
+  pub count : length new ≡ length old
+  pub each : (w : ℕ) (d : Machines) → w < used → P (get_or old w d) (get_or new w d)
+  pub rest : (w : ℕ) (d : Machines) → used ≤ w → get_or new w d ≡ get_or old w d
 
 -- a word with one machine more, or with the same machines
 abbrev pub HasOneMore : Netlist → Machines → FaultyMachine → Machines → Type 0

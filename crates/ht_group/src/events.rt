@@ -4,8 +4,8 @@ ghost use Rattle.std.specs.List.{Contains};
 ghost use Rattle.ht_net.specs.Netlist.{first_gate_net, net_count};
 ghost use Rattle.ht_group.specs.GroupView.{max_words};
 ghost use Rattle.ht_group.specs.LaneRules.{lane_env};
-ghost use Rattle.ht_group.specs.MachineWords.{AreMachinesKept, AreRunning, HasRunRoom, IsComputed};
-ghost use Rattle.ht_group.specs.Pending.{AreGiven};
+ghost use Rattle.ht_group.specs.MachineWords.{AreFirstChanged, AreRunning, HasRunRoom, HaveRunRoom, HaveRun, IsComputed};
+ghost use Rattle.ht_group.specs.Pending.{AreGiven, IsFired};
 ghost use Rattle.ht_group.specs.declared.machines.Machines.{Machines};
 ghost use Rattle.ht_ranks.specs.Schedules.{IsSchedule};
 ghost use Rattle.ht_group.specs.StuckTables.{AreStuck};
@@ -81,7 +81,7 @@ fn recompute_word(circuit: &Circuit, machines: &mut Machines, pins: &mut [Word],
     requires room { HasRunRoom circuit.now machines.old }
     requires pins { length pins.old ≡ PIN_ROOM }
     requires net { net < net_count circuit.now }
-    ensures { IsComputed circuit.now net machines.old machines.new result }
+    ensures { IsComputed circuit.now net result machines.old machines.new }
 {
     recompute(
         circuit,
@@ -103,15 +103,10 @@ fn recompute_each(
     net: u32,
 ) -> bool
     requires used { used ≤ length words.old }
-    requires room { (w : ℕ) (d : Machines) → w < used
-        → HasRunRoom circuit.now (get_or words.old w d) }
+    requires room { HaveRunRoom circuit.now used words.old }
     requires pins { length pins.old ≡ PIN_ROOM }
     requires net { net < net_count circuit.now }
-    ensures count { length words.new ≡ length words.old }
-    ensures each { (w : ℕ) (d : Machines) → w < used
-        → IsComputed circuit.now net (get_or words.old w d) (get_or words.new w d) result }
-    ensures rest { (w : ℕ) (d : Machines) → used ≤ w
-        → get_or words.new w d ≡ get_or words.old w d }
+    ensures { AreFirstChanged used (IsComputed circuit.now net result) words.old words.new }
 {
     let mut changed = false;
     for w in 0..used {
@@ -133,16 +128,11 @@ fn recompute_words(
     net: u32,
 ) -> bool
     requires used { used ≤ length words.old }
-    requires room { (w : ℕ) (d : Machines) → w < used
-        → HasRunRoom circuit.now (get_or words.old w d) }
+    requires room { HaveRunRoom circuit.now used words.old }
     requires pins { length pins.old ≡ PIN_ROOM }
     requires fours { length fours.old ≡ PIN_ROOM }
     requires net { net < net_count circuit.now }
-    ensures count { length words.new ≡ length words.old }
-    ensures each { (w : ℕ) (d : Machines) → w < used
-        → IsComputed circuit.now net (get_or words.old w d) (get_or words.new w d) result }
-    ensures rest { (w : ℕ) (d : Machines) → used ≤ w
-        → get_or words.new w d ≡ get_or words.old w d }
+    ensures { AreFirstChanged used (IsComputed circuit.now net result) words.old words.new }
 {
     if are_free(circuit, words, used, net) {
         recompute_four(circuit, words, fours, net)
@@ -151,73 +141,29 @@ fn recompute_words(
     }
 }
 
-// Evaluates the net of a rank, which is pending no more, in each of the first words; where one changes, the nets that
-// read it are pending. Says how many evaluations of a gate these were, one a word.
+// The net of a rank was evaluated, and is pending no more; where it changed, the nets that read it are pending. Says
+// how many evaluations of a gate this was in so many words. Both loops below go through it for each net, so it is to
+// cost no call.
+#[inline(always)]
 fn fire(
     circuit: &Circuit,
     schedule: &Schedule,
-    words: &mut [Machines],
-    used: u32,
-    pending: &mut BitSet,
-    pins: &mut [Word],
-    fours: &mut [[Word; 4]],
     rank: u32,
+    net: u32,
+    changed: bool,
+    words: u32,
+    pending: &mut BitSet,
 ) -> u32
     requires schedule { IsSchedule circuit.now schedule.now }
-    requires used { used ≤ length words.old }
-    requires runs { (w : ℕ) (d : Machines) → w < used
-        → AreRunning circuit.now schedule.now pending.old (get_or words.old w d) }
     requires marks { length pending.old ≡ net_count circuit.now }
-    requires pins { length pins.old ≡ PIN_ROOM }
-    requires fours { length fours.old ≡ PIN_ROOM }
     requires rank { rank < net_count circuit.now }
-    ensures runs { (w : ℕ) (d : Machines) → w < used
-        → AreRunning circuit.now schedule.now pending.new (get_or words.new w d) }
-    ensures count { length words.new ≡ length words.old }
-    ensures kept { (w : ℕ) (d : Machines)
-        → AreMachinesKept (get_or words.old w d) (get_or words.new w d) }
-    ensures rest { (w : ℕ) (d : Machines) → used ≤ w
-        → get_or words.new w d ≡ get_or words.old w d }
-    ensures marks { length pending.new ≡ length pending.old }
-    ensures taken { get_or pending.new rank false ≡ false }
-    ensures before { (r : ℕ) → r < rank
-        → get_or pending.new r false ≡ get_or pending.old r false }
-    ensures steps { result ≡ (if nat_lt rank (first_gate_net circuit.now) then 0 else used) }
+    requires net { net ≡ get_or schedule.now.order.items rank 0 }
+    ensures marks { IsFired circuit.now schedule.now rank changed pending.old pending.new }
+    ensures steps { result ≡ (if nat_lt rank (first_gate_net circuit.now) then 0 else words) }
 {
-    let net = schedule.net(rank);
     pending.remove(rank);
-    let changed = recompute_words(circuit, words, used, pins, fours, net);
     touch_if(changed, schedule.readers.row(net as usize), pending);
-    evaluations(circuit, rank, used)
-}
-
-// The same for one word alone, whose machines are at hand.
-fn fire_word(
-    circuit: &Circuit,
-    schedule: &Schedule,
-    machines: &mut Machines,
-    pending: &mut BitSet,
-    pins: &mut [Word],
-    rank: u32,
-) -> u32
-    requires schedule { IsSchedule circuit.now schedule.now }
-    requires runs { AreRunning circuit.now schedule.now pending.old machines.old }
-    requires marks { length pending.old ≡ net_count circuit.now }
-    requires pins { length pins.old ≡ PIN_ROOM }
-    requires rank { rank < net_count circuit.now }
-    ensures runs { AreRunning circuit.now schedule.now pending.new machines.new }
-    ensures kept { AreMachinesKept machines.old machines.new }
-    ensures marks { length pending.new ≡ length pending.old }
-    ensures taken { get_or pending.new rank false ≡ false }
-    ensures before { (r : ℕ) → r < rank
-        → get_or pending.new r false ≡ get_or pending.old r false }
-    ensures steps { result ≡ (if nat_lt rank (first_gate_net circuit.now) then 0 else 1) }
-{
-    let net = schedule.net(rank);
-    pending.remove(rank);
-    let changed = recompute_word(circuit, machines, pins, net);
-    touch_if(changed, schedule.readers.row(net as usize), pending);
-    evaluations(circuit, rank, 1)
+    evaluations(circuit, rank, words)
 }
 
 // Evaluates each net that is pending in one word, in the order of the schedule, and then those that read what changed.
@@ -233,8 +179,7 @@ fn settle_word(
     requires runs { AreRunning circuit.now schedule.now pending.old machines.old }
     requires marks { length pending.old ≡ net_count circuit.now }
     requires pins { length pins.old ≡ PIN_ROOM }
-    ensures runs { AreRunning circuit.now schedule.now pending.new machines.new }
-    ensures kept { AreMachinesKept machines.old machines.new }
+    ensures machines { HaveRun circuit.now schedule.now pending.new machines.old machines.new }
     ensures marks { length pending.new ≡ length pending.old }
     ensures none { (r : ℕ) → get_or pending.new r false ≡ false }
     ensures steps { result ≤ length circuit.now.gates }
@@ -242,45 +187,9 @@ fn settle_word(
     let mut evaluated = 0;
     let mut from = 0;
     while let Some(rank) = pending.next(from) {
-        evaluated += fire_word(circuit, schedule, machines, pending, pins, rank);
-        from = rank + 1;
-    }
-    evaluated
-}
-
-// The same in each of the first words.
-fn settle_words(
-    circuit: &Circuit,
-    schedule: &Schedule,
-    words: &mut [Machines],
-    used: u32,
-    pending: &mut BitSet,
-    pins: &mut [Word],
-    fours: &mut [[Word; 4]],
-) -> u32
-    requires schedule { IsSchedule circuit.now schedule.now }
-    requires used { used ≤ length words.old }
-    requires few { used ≤ max_words }
-    requires runs { (w : ℕ) (d : Machines) → w < used
-        → AreRunning circuit.now schedule.now pending.old (get_or words.old w d) }
-    requires marks { length pending.old ≡ net_count circuit.now }
-    requires pins { length pins.old ≡ PIN_ROOM }
-    requires fours { length fours.old ≡ PIN_ROOM }
-    ensures runs { (w : ℕ) (d : Machines) → w < used
-        → AreRunning circuit.now schedule.now pending.new (get_or words.new w d) }
-    ensures count { length words.new ≡ length words.old }
-    ensures kept { (w : ℕ) (d : Machines)
-        → AreMachinesKept (get_or words.old w d) (get_or words.new w d) }
-    ensures rest { (w : ℕ) (d : Machines) → used ≤ w
-        → get_or words.new w d ≡ get_or words.old w d }
-    ensures marks { length pending.new ≡ length pending.old }
-    ensures none { (r : ℕ) → get_or pending.new r false ≡ false }
-    ensures steps { result ≤ length circuit.now.gates * used }
-{
-    let mut evaluated = 0;
-    let mut from = 0;
-    while let Some(rank) = pending.next(from) {
-        evaluated += fire(circuit, schedule, words, used, pending, pins, fours, rank);
+        let net = schedule.net(rank);
+        let changed = recompute_word(circuit, machines, pins, net);
+        evaluated += fire(circuit, schedule, rank, net, changed, 1, pending);
         from = rank + 1;
     }
     evaluated
@@ -305,20 +214,22 @@ pub fn settle(
     requires marks { length pending.old ≡ net_count circuit.now }
     requires pins { length pins.old ≡ PIN_ROOM }
     requires fours { length fours.old ≡ PIN_ROOM }
-    ensures runs { (w : ℕ) (d : Machines) → w < used
-        → AreRunning circuit.now schedule.now pending.new (get_or words.new w d) }
-    ensures count { length words.new ≡ length words.old }
-    ensures kept { (w : ℕ) (d : Machines)
-        → AreMachinesKept (get_or words.old w d) (get_or words.new w d) }
-    ensures rest { (w : ℕ) (d : Machines) → used ≤ w
-        → get_or words.new w d ≡ get_or words.old w d }
+    ensures words { AreFirstChanged used (HaveRun circuit.now schedule.now pending.new)
+        words.old words.new }
     ensures marks { length pending.new ≡ length pending.old }
     ensures none { (r : ℕ) → get_or pending.new r false ≡ false }
     ensures steps { result ≤ length circuit.now.gates * used }
 {
     if used == 1 {
-        settle_word(circuit, schedule, &mut words[0], pending, pins)
-    } else {
-        settle_words(circuit, schedule, words, used, pending, pins, fours)
+        return settle_word(circuit, schedule, &mut words[0], pending, pins);
     }
+    let mut evaluated = 0;
+    let mut from = 0;
+    while let Some(rank) = pending.next(from) {
+        let net = schedule.net(rank);
+        let changed = recompute_words(circuit, words, used, pins, fours, net);
+        evaluated += fire(circuit, schedule, rank, net, changed, used, pending);
+        from = rank + 1;
+    }
+    evaluated
 }

@@ -4,7 +4,7 @@ ghost use Rattle.ht_lanes.specs.Lanes.{lane, word_at};
 ghost use Rattle.ht_net.specs.Frame.{gate_output};
 ghost use Rattle.ht_net.specs.Netlist.{first_gate_net, net_count, no_net};
 ghost use Rattle.ht_group.specs.LaneRules.{drive_from, in_lane, lane_env, rules_at};
-ghost use Rattle.ht_group.specs.MachineWords.{HaveFreePins, HasRunRoom, IsComputed};
+ghost use Rattle.ht_group.specs.MachineWords.{AreFirstChanged, HaveFreePins, HasRunRoom, HaveRunRoom, IsComputed};
 ghost use Rattle.ht_group.specs.declared.machines.Machines.{Machines};
 
 use crate::evaluate::PIN_ROOM;
@@ -14,8 +14,7 @@ use ht_net::{Circuit, NetId};
 
 /// Whether a net is a gate's, there are four words with machines, and none has a stuck pin at the gate.
 pub fn are_free(circuit: &Circuit, words: &[Machines], used: u32, net: u32) -> bool
-    requires room { (w : ℕ) (d : Machines) → w < used
-        → HasRunRoom circuit.now (get_or words.now w d) }
+    requires room { HaveRunRoom circuit.now used words.now }
     requires net { net < net_count circuit.now }
     ensures { result ≡ true → HaveFreePins circuit.now net used words.now }
 {
@@ -73,8 +72,7 @@ fn gate_outputs(
     net: u32,
 ) -> [Word; 4]
     requires free { HaveFreePins circuit.now net 4 words.now }
-    requires words { (w : ℕ) (d : Machines) → w < 4
-        → HasRunRoom circuit.now (get_or words.now w d) }
+    requires words { HaveRunRoom circuit.now 4 words.now }
     requires net { net < net_count circuit.now }
     requires room { length fours.old ≡ PIN_ROOM }
     ensures { (w k : ℕ) (d : Machines) → w < 4 → k < 64 → lane (word_at result w) k
@@ -94,7 +92,7 @@ fn take_word(circuit: &Circuit, machines: &mut Machines, net: u32, value: Word) 
     requires value { (k : ℕ) → k < 64 → lane value k
         ≡ drive_from circuit.now (rules_at machines.old.lines.faults.items k)
         (in_lane k machines.old.sources.words) (lane_env k machines.old.nets.words) net }
-    ensures { IsComputed circuit.now net machines.old machines.new result }
+    ensures { IsComputed circuit.now net result machines.old machines.new }
 {
     let word = machines.lines.stem(circuit, net, value);
     if word.same(machines.nets.words()[net as usize]) {
@@ -113,15 +111,10 @@ pub fn recompute_four(
     net: u32,
 ) -> bool
     requires free { HaveFreePins circuit.now net 4 words.old }
-    requires words { (w : ℕ) (d : Machines) → w < 4
-        → HasRunRoom circuit.now (get_or words.old w d) }
+    requires words { HaveRunRoom circuit.now 4 words.old }
     requires net { net < net_count circuit.now }
     requires room { length fours.old ≡ PIN_ROOM }
-    ensures count { length words.new ≡ length words.old }
-    ensures each { (w : ℕ) (d : Machines) → w < 4
-        → IsComputed circuit.now net (get_or words.old w d) (get_or words.new w d) result }
-    ensures rest { (w : ℕ) (d : Machines) → 4 ≤ w
-        → get_or words.new w d ≡ get_or words.old w d }
+    ensures { AreFirstChanged 4 (IsComputed circuit.now net result) words.old words.new }
 {
     let values = gate_outputs(circuit, words, fours, net);
     let mut changed = false;

@@ -2,7 +2,7 @@
 ghost use Rattle.std.specs.Prelude.{◌≡◌, ◌<◌, ◌≤◌, ◌+◌, ◌*◌, ◌++◌, ◌∷◌, [], ℕ, Some, true, false, length, get_or, IfOk, OnOk, OnErr};
 ghost use Rattle.std.specs.List.{slice_get};
 ghost use Rattle.ht_tern.specs.Opposite.{are_opposite};
-ghost use Rattle.ht_net.specs.Netlist.{net_count, no_net};
+ghost use Rattle.ht_net.specs.Netlist.{net_count};
 ghost use Rattle.ht_net.specs.Detection.{terns_of};
 ghost use Rattle.ht_lanes.specs.Lanes.{is_set, lane};
 ghost use Rattle.ht_diff.specs.Differences.{with_differences};
@@ -10,7 +10,7 @@ ghost use Rattle.ht_group.specs.GroupView.{AreLatches, FaultyMachine, HasSite, f
 ghost use Rattle.ht_group.specs.MachineWords.{AreMachinesKept, HasWordRoom, IsBare, IsRestored};
 ghost use Rattle.ht_group.specs.declared.machines.Machines.{Machines};
 ghost use Rattle.ht_group.specs.GoodFrames.{HasFrameRoom};
-ghost use Rattle.ht_group.specs.NetValues.{faulty_value, good_value};
+ghost use Rattle.ht_group.specs.NetValues.{IsNetAt, faulty_value, good_value};
 
 use crate::evaluate::PIN_ROOM;
 use crate::events::settle;
@@ -273,8 +273,7 @@ impl<'c> Group<'c> {
     // The net of an output.
     fn output_net(&self, o: u32) -> NetId
         requires { o < length self.now.circuit.outputs }
-        ensures net { result ≡ get_or self.now.circuit.outputs o no_net }
-        ensures known { result.0 < net_count self.now.circuit }
+        ensures { IsNetAt self.now.circuit self.now.circuit.outputs o result }
     {
         let _ = self.circuit.nets();
         self.circuit.output(o)
@@ -283,8 +282,7 @@ impl<'c> Group<'c> {
     // The net at the data pin of a flip-flop.
     fn data_net(&self, j: u32) -> NetId
         requires { j < length self.now.circuit.dffs }
-        ensures net { result ≡ get_or self.now.circuit.dffs j no_net }
-        ensures known { result.0 < net_count self.now.circuit }
+        ensures { IsNetAt self.now.circuit self.now.circuit.dffs j result }
     {
         let _ = self.circuit.nets();
         self.circuit.dff_data(j)

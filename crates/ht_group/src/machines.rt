@@ -160,9 +160,9 @@ impl Machines {
         &mut self,
         circuit: &Circuit,
         schedule: &Schedule,
+        pending: &mut BitSet,
         fault: Fault,
         diffs: &Diffs,
-        pending: &mut BitSet,
     ) -> Result<(), AllocError>
         requires schedule { IsSchedule circuit.now schedule.now }
         requires stuck { AreStuck circuit.now self.old.lines }
@@ -220,7 +220,7 @@ impl Machines {
         ensures marks { length pending.new ≡ net_count circuit.now }
     {
         self.lay(frame);
-        self.add(circuit, schedule, fault, diffs, pending)?;
+        self.add(circuit, schedule, pending, fault, diffs)?;
         Ok(())
     }
 

@@ -6,7 +6,7 @@ use Rattle.std.proofs.Math.Nat.{div-div-eq-div-mul}
 use Rattle.std.proofs.lemmas.Nat.{pow-add}
 use Rattle.std.proofs.lemmas.Nat.Bits.{bit_at_set_same, bit_at_set_other, bit_at_clear_same, bit_at_clear_other, bit_at-zero, bit_at-trailing_zeros, bit_at_above}
 use Rattle.std.proofs.lemmas.Bool.{cases_eq, cases_lt}
-use Rattle.std.proofs.lemmas.List.{ext_get_or, get_or-set_same, get_or-set_other, get_or-replicate, get_or_past, length-set, length-replicate}
+use Rattle.std.proofs.lemmas.List.{ext_get_or, get_or-set_same, get_or-set_other, get_or-replicate, get_or_past, get_or_read, length-set, length-replicate}
 use Rattle.std.proofs.lemmas.List.FromFn.{get_or-map-range_with_len, length-map-range_with_len}
 use Rattle.ht_lanes.specs.Lanes.{is_set}
 use Rattle.ht_ranks.specs.BitSets.{IsBitSet, IsFirstMark, is_marked, marks_of, with_bit}
@@ -40,6 +40,21 @@ mark_at bound words past i = elim (cases_lt i bound) [
       ∙ sym (past i from)
 ]
 
+-- A number of a set has a bit in one of its words.
+pub record HasBit (a : Inside) (i : ℕ) : Type 0 where
+  pub below : i < a.bound
+  pub inside : i / 64 < length a.words.items
+
+pub bit_of : (a : Inside) → IsBitSet a → (marks : List Bool) → marks_of a.bound a.words.items ≡ marks → (i : ℕ)
+    → i < length marks → HasBit a i
+bit_of a is marks view i within =
+    let count = marks_length a.bound a.words.items in
+    let same = ap (λ (l : List Bool). length l) view in
+    record {
+      below = omega (arith, count, same, within);
+      inside = omega (arith, count, same, within, is.room);
+    }
+
 -- no bit is set in zeros
 pub zeros_unmarked : (n i : ℕ) → is_marked (replicate n 0) i ≡ false
 zeros_unmarked n i = ap (λ w. is_set w (i % 64)) (elim (cases_lt (i / 64) n) [
@@ -59,6 +74,13 @@ no_marks bound n =
 -- One mark is written.
 abbrev pub written : List ℕ → ℕ → Bool → List ℕ
 written words i bit = set words (i / 64) (with_bit (get_or words (i / 64) 0) (i % 64) bit)
+
+-- the word that was read, with the mark, stands in its place
+pub word_written : (words : List ℕ) (i old new : ℕ) (bit : Bool) → i / 64 < length words
+    → old ≡ get_or words (i / 64) old → new ≡ with_bit old (i % 64) bit → set words (i / 64) new ≡ written words i bit
+word_written words i old new bit inside read is =
+    ap (set words (i / 64))
+    (is ∙ ap (λ (n : ℕ). with_bit n (i % 64) bit) (get_or_read words (i / 64) old inside read 0))
 
 pub mark_here : (words : List ℕ) (i : ℕ) (bit : Bool) → i / 64 < length words
     → is_marked (written words i bit) i ≡ bit

@@ -1,25 +1,19 @@
-use Rattle.std.proofs.Common.{◌+◌, ◌≡◌, ◌<◌, ◌∙◌, ◌-◌, ap, arith, length, get_or, take, drop, List, ℕ}
-use Rattle.std.proofs.lemmas.Grind.{get_or_after_one}
-use Rattle.std.proofs.lemmas.List.{get_or-take, get_or_read}
+use Rattle.std.proofs.Common.{◌≡◌, ◌∙◌, ◌-◌, ap, arith, length, get_or, take, drop, List, ℕ}
+use Rattle.std.proofs.lemmas.List.{get_or_read}
 use Rattle.ht_tern.specs.Gate.{operation_of, polarity_of}
 use Rattle.ht_lanes.specs.Lanes.{lane_operations}
 use Rattle.ht_net.specs.declared.net.NetId.{NetId}
 use Rattle.ht_net.specs.Netlist.{no_net}
 use Rattle.ht_frame.specs.Values.{env_of}
-use Rattle.ht_group.proofs.FoldLaws.{fold_next}
+use Rattle.ht_group.proofs.FoldLaws.{fold_next, later_known}
 use Rattle.ht_group.proofs.evaluate.eval_nets.Goals as goal
 
 pub loop-arg-preserved : goal.loop-arg-preserved
 loop-arg-preserved c blank =
     let items : List NetId = take (length c.args.args.now - 1) (drop 1 c.args.args.now) in
     let net : c.index-in-loop-arg.result ≡ (get_or items c.loop-arg.arg-index no_net).0 = c.index-in-loop-arg.ensures in
-    let inside : c.index-in-loop-arg.result < length c.args.words.now =
-    let at : get_or items c.loop-arg.arg-index no_net ≡ get_or c.args.args.now (1 + c.loop-arg.arg-index) no_net =
-    get_or-take (length c.args.args.now - 1) (drop 1 c.args.args.now) c.loop-arg.arg-index no_net
-    (omega (arith, c.loop-arg-test.true)) ∙ get_or_after_one c.args.args.now c.loop-arg.arg-index no_net in
-    let e = net ∙ ap (λ (x : NetId). x.0) at in
-    let known = c.requires.known (1 + c.loop-arg.arg-index) (omega (arith, c.loop-arg-test.true)) in
-    omega (arith, e, known) in
+    let inside = later_known c.args.args.now (length c.args.words.now) c.loop-arg.arg-index c.index-in-loop-arg.result
+    c.requires.known (omega (arith, c.loop-arg-test.true)) net in
     let read = get_or_read c.args.words.now c.index-in-loop-arg.result c.index-words-index-in-loop-arg.result inside
     c.index-words-index-in-loop-arg.is blank in
     ap (polarity_of lane_operations c.args.kind)

@@ -1,12 +1,11 @@
 use Rattle.std.proofs.Common.{◌≡◌, ◌<◌, ◌≤◌, ◌-◌, ℕ, false, length, get_or}
 use Rattle.ht_net.specs.Netlist.{first_gate_net, net_count}
-use Rattle.ht_group.specs.MachineWords.{AreMachinesKept, AreRunning}
+use Rattle.ht_group.specs.MachineWords.{HaveRun}
 use Rattle.ht_group.proofs.events.settle_word.Given as goal
 
 abbrev pub invariant-loop-rank : goal.invariant-loop-rank
 invariant-loop-rank l = record {
-  runs : AreRunning l.circuit l.schedule l.pending l.machines;
-  kept : AreMachinesKept l.fn.machines l.machines;
+  ran : HaveRun l.circuit l.schedule l.pending l.fn.machines l.machines;
   marks : length l.pending ≡ net_count l.circuit;
   done : (r : ℕ) → r < l.from → get_or l.pending r false ≡ false;
   within : l.from ≤ net_count l.circuit;

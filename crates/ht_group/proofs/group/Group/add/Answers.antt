@@ -1,14 +1,11 @@
-use Rattle.std.specs.Prelude.{slice_set}
-use Rattle.std.proofs.Common.{◌≡◌, ◌/◌, ◌∙◌, ◌++◌, ◌∷◌, [], List, Bool, true, false, get_or, drop, ap, sym, subst, arith}
-use Rattle.std.proofs.lemmas.List.{length-set}
+use Rattle.std.proofs.Common.{◌≡◌, ◌/◌, ◌∙◌, ◌++◌, ◌∷◌, [], List, Bool, true, false, get_or, drop, ap, sym, subst, refl, arith}
 use Rattle.ht_diff.specs.Differences.{with_differences}
 use Rattle.ht_group.specs.GroupOf.{group_of}
 use Rattle.ht_group.specs.GroupView.{GroupView}
 use Rattle.ht_group.specs.MachineWords.{IsWord}
 use Rattle.ht_group.specs.declared.machines.Machines.{Machines}
-use Rattle.ht_group.proofs.AddLaws.{next_room, written_words, added_filled, added_machines, same_filled}
+use Rattle.ht_group.proofs.AddLaws.{next_room, written_group, added_filled, added_machines, same_filled}
 use Rattle.ht_group.proofs.GroupLaws.{group_room}
-use Rattle.ht_group.proofs.WordsLaws.{is_group}
 use Rattle.ht_group.proofs.group.Group.add.Goals as goal
 
 pub index_mut-requires : goal.index_mut-requires
@@ -38,39 +35,26 @@ pub invariant_of-self : goal.invariant_of-self
 invariant_of-self c =
     let a = c.self.inside in
     let g = c.self.invariant in
-    let e = c.in_err-admit.ensures in
-    let old = c.index_mut.result.now in
-    let new = c.admit.new.self in
     let few = group_room a g c.args.self.now c.self.view_is c.requires.room in
-    is_group _ (slice_set a.words.items (a.count / 64) new) g.circuit g.schedule g.frame
-    (λ i. slice_set a.words.items (a.count / 64) new)
-    (length-set a.words.items (a.count / 64) new ∙ g.word_count)
-    (written_words a.circuit.now a.count a.words.items old new g.word_count few c.index_mut.ensures.value a.schedule
-    a.frame a.pending c.admit.new.pending e.more g.words e.word)
-    (same_filled a.circuit.now a.count a.words.items old new g.word_count few c.index_mut.ensures.value g.filled e.err)
-    g.few e.marks g.room g.four_room
-    (λ is r. ap (λ (l : List Bool). get_or l r false) e.idle ∙ g.settled is r)
+    let e = c.in_err-admit.ensures in
+    written_group a g few c.index_mut.result.now c.admit.new.self c.index_mut.ensures.value _ refl refl e.more e.word
+    e.marks
+    (same_filled a.circuit.now a.count a.words.items c.index_mut.result.now c.admit.new.self g.word_count few
+    c.index_mut.ensures.value g.filled e.err)
+    g.few (λ is r. ap (λ (l : List Bool). get_or l r false) e.idle ∙ g.settled is r)
 
 pub invariant_of-self-2 : goal.invariant_of-self-2
 invariant_of-self-2 c =
     let a = c.self.inside in
-    let g = c.self.invariant in
-    let e = c.in_ok-admit.ensures in
-    let old = c.index_mut.result.now in
-    let new = c.admit.new.self in
-    let few = group_room a g c.args.self.now c.self.view_is c.requires.room in
-    is_group _ (slice_set a.words.items (a.count / 64) new) g.circuit g.schedule g.frame
-    (λ i. slice_set a.words.items (a.count / 64) new)
-    (length-set a.words.items (a.count / 64) new ∙ g.word_count)
-    (written_words a.circuit.now a.count a.words.items old new g.word_count few c.index_mut.ensures.value a.schedule
-    a.frame a.pending c.admit.new.pending e.more g.words e.word)
-    (added_filled a.circuit.now a.count a.words.items old new g.word_count few c.index_mut.ensures.value g.filled
-    (record {
+    let few = group_room a c.self.invariant c.args.self.now c.self.view_is c.requires.room in
+    let added = c.in_ok-admit.ensures in
+    let filled = added_filled a.circuit.now a.count a.words.items c.index_mut.result.now c.admit.new.self
+    c.self.invariant.word_count few c.index_mut.ensures.value c.self.invariant.filled (record {
       fault = c.args.fault;
       latches = with_differences (drop a.circuit.now.inputs a.frame.sources.items) c.args.diffs.now;
-    }) e.ok)
-    (omega (arith, few)) e.marks g.room g.four_room
-    (λ is. let bad : false ≡ true = is in cc)
+    }) added.ok in
+    written_group a c.self.invariant few c.index_mut.result.now c.admit.new.self c.index_mut.ensures.value _ refl refl
+    added.more added.word added.marks filled (omega (arith, few)) (λ is. let bad : false ≡ true = is in cc)
 
 pub returns-clause-ok : goal.returns-clause-ok
 returns-clause-ok c =

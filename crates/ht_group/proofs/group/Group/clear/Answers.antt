@@ -1,11 +1,11 @@
 use Rattle.std.specs.Prelude.{flat_map}
-use Rattle.std.proofs.Common.{◌≡◌, ◌<◌, ◌≤◌, ◌∙◌, List, [], ℕ, Bool, true, false, length, get_or, ap, subst, arith}
-use Rattle.std.proofs.lemmas.List.{with_items_is, length-replicate}
+use Rattle.std.proofs.Common.{◌≡◌, ◌<◌, ◌≤◌, ◌∙◌, List, [], ℕ, true, length, get_or, ap, subst, arith}
+use Rattle.std.proofs.lemmas.List.{with_items_is}
 use Rattle.ht_group.specs.GroupOf.{group_of}
 use Rattle.ht_group.specs.GroupView.{GroupView, words_for}
 use Rattle.ht_group.specs.MachineWords.{AreFilled, IsRestored, machines_of}
 use Rattle.ht_group.specs.declared.machines.Machines.{Machines}
-use Rattle.ht_group.proofs.WordsLaws.{is_group, cleared_words, cleared_filled, no_machines, none_marked}
+use Rattle.ht_group.proofs.WordsLaws.{still_group, cleared_words, cleared_filled, no_machines}
 use Rattle.ht_group.proofs.group.Group.clear.Goals as goal
 
 long : (c : goal.After-self-3-1) → length c.clear_words.new.words ≡ length c.self.inside.words.items
@@ -37,22 +37,19 @@ invariant_of-self c =
     let a = c.self.inside in
     let g = c.self.invariant in
     let new = c.clear_words.new.words in
-    let size = long c in
-    is_group _ new g.circuit g.schedule g.frame (with_items_is a.words new (omega (arith, size)))
+    still_group _ new (length a.pending) g.circuit g.schedule g.frame
+    (let size = long c in with_items_is a.words new (omega (arith, size)))
     (long c ∙ g.word_count)
     (cleared_words a.circuit.now a.schedule a.frame a.count a.pending c.clear.new.self a.words.items new g.word_count
     (long c) g.filled g.words (rest c) g.circuit g.schedule g.frame (back c))
-    (filled c) (omega arith)
-    (ap (λ (l : List Bool). length l) c.clear.ensures ∙ (length-replicate (length a.pending) false ∙ g.marks))
-    g.room g.four_room
-    (λ is r. ap (λ (l : List Bool). get_or l r false) c.clear.ensures ∙ none_marked (length a.pending) r)
+    (filled c) (omega arith) c.clear.ensures g.marks g.room g.four_room
 
 pub returns : goal.returns
 returns c =
     let a = c.self.inside in
     let new = c.clear_words.new.words in
-    let size = long c in
-    let machines = ap (flat_map (machines_of a.circuit.now)) (with_items_is a.words new (omega (arith, size)))
+    let machines = ap (flat_map (machines_of a.circuit.now))
+    (let size = long c in with_items_is a.words new (omega (arith, size)))
     ∙ no_machines a.circuit.now new (filled c) in
     (λ i. record (group_of a) { machines = machines i; settled = true })
     ∙ ap (λ (v : GroupView). record v { machines = []; settled = true }) c.self.view_is

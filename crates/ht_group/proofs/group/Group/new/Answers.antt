@@ -1,6 +1,5 @@
-use Rattle.std.proofs.Common.{◌∙◌, List, Bool, false, length, get_or, ap, arith}
-use Rattle.std.proofs.lemmas.List.{length-replicate}
-use Rattle.ht_group.proofs.WordsLaws.{is_group, bare_words, bare_filled, no_machines, none_marked}
+use Rattle.std.proofs.Common.{arith}
+use Rattle.ht_group.proofs.WordsLaws.{still_group, bare_words, bare_filled, no_machines}
 use Rattle.ht_group.proofs.group.Group.new.Goals as goal
 
 pub invariant_of-result : goal.invariant_of-result
@@ -8,14 +7,11 @@ invariant_of-result c =
     let n = c.args.circuit.now in
     let words = c.in_ok-words.words.items in
     let w = c.in_ok-words.ensures in
-    is_group _ words c.in_ok-schedule.ensures.circuit c.in_ok-schedule.ensures c.in_ok-frame.ensures
+    still_group _ words c.nets.result c.in_ok-schedule.ensures.circuit c.in_ok-schedule.ensures c.in_ok-frame.ensures
     (λ i. words) w.count
     (bare_words n c.in_ok-schedule.schedule c.in_ok-frame.frame c.in_ok-new.field-0 words w.each)
-    (bare_filled n words w.count w.each) (omega arith)
-    (ap (λ (l : List Bool). length l) c.in_ok-new.ensures
-    ∙ (length-replicate c.nets.result false ∙ c.nets.ensures.count))
+    (bare_filled n words w.count w.each) (omega arith) c.in_ok-new.ensures c.nets.ensures.count
     (omega (arith, c.in_ok-vec.ensures.len)) (omega (arith, c.in_ok-vec-2.ensures.len))
-    (λ is r. ap (λ (l : List Bool). get_or l r false) c.in_ok-new.ensures ∙ none_marked c.nets.result r)
 
 pub returns-clause-none : goal.returns-clause-none
 returns-clause-none c =

@@ -6,6 +6,7 @@ use Rattle.ht_group.specs.GroupOf.{group_of}
 use Rattle.ht_group.specs.GroupView.{GroupView, words_for}
 use Rattle.ht_group.specs.MachineWords.{AreMachinesKept, machines_of}
 use Rattle.ht_group.specs.declared.machines.Machines.{Machines}
+use Rattle.ht_group.proofs.ChangeLaws.{same_machines}
 use Rattle.ht_group.proofs.GroupLaws.{group_count}
 use Rattle.ht_group.proofs.WordsLaws.{is_group, settled_words, kept_filled, kept_machines}
 use Rattle.ht_group.proofs.group.Group.settle.Goals as goal
@@ -18,16 +19,16 @@ invariant_of-self c =
     let new = c.settle-evaluated.new.words in
     let value = c.deref_mut.ensures.value in
     let used = c.words_for.ensures in
-    let long : length new ≡ length a.words.items = s.count ∙ ap (λ (l : List Machines). length l) value in
+    let long : length new ≡ length a.words.items = s.words.count ∙ ap (λ (l : List Machines). length l) value in
     let kept : (w : ℕ) (d : Machines) → AreMachinesKept (get_or a.words.items w d) (get_or new w d) =
     subst (λ (l : List Machines). (w : ℕ) (d : Machines) → AreMachinesKept (get_or l w d) (get_or new w d)) value
-    s.kept in
+    (same_machines a.circuit.now a.schedule c.settle-evaluated.new.pending c.words_for.result _ new s.words) in
     is_group _ new g.circuit g.schedule g.frame (with_items_is a.words new (omega (arith, long)))
     (long ∙ g.word_count)
     (settled_words a.circuit.now a.schedule a.frame a.count a.pending c.settle-evaluated.new.pending a.words.items new
     g.word_count long g.filled g.words
-    (λ w d past. s.rest w d (omega (arith, past, used)) ∙ ap (λ (l : List Machines). get_or l w d) value)
-    (λ w d below. s.runs w d (omega (arith, below, used))) kept)
+    (λ w d past. s.words.rest w d (omega (arith, past, used)) ∙ ap (λ (l : List Machines). get_or l w d) value)
+    (λ w d below. (s.words.each w d (omega (arith, below, used))).running) kept)
     (kept_filled a.count a.words.items new long g.filled kept) g.few (s.marks ∙ g.marks)
     (ap (λ (l : List Lanes). length l) (with_items_is a.pins c.settle-evaluated.new.pins (omega arith))
     ∙ (c.settle-evaluated.auto.pins ∙ (ap (λ (l : List Lanes). length l) c.deref_mut-2.ensures.value ∙ g.room)))
@@ -42,10 +43,10 @@ returns-clause-ok c =
     let s = c.settle-evaluated.ensures in
     let new = c.settle-evaluated.new.words in
     let value = c.deref_mut.ensures.value in
-    let long : length new ≡ length a.words.items = s.count ∙ ap (λ (l : List Machines). length l) value in
+    let long : length new ≡ length a.words.items = s.words.count ∙ ap (λ (l : List Machines). length l) value in
     let kept : (w : ℕ) (d : Machines) → AreMachinesKept (get_or a.words.items w d) (get_or new w d) =
     subst (λ (l : List Machines). (w : ℕ) (d : Machines) → AreMachinesKept (get_or l w d) (get_or new w d)) value
-    s.kept in
+    (same_machines a.circuit.now a.schedule c.settle-evaluated.new.pending c.words_for.result _ new s.words) in
     let machines = ap (flat_map (machines_of a.circuit.now)) (with_items_is a.words new (omega (arith, long)))
     ∙ kept_machines a.circuit.now a.words.items new long kept in
     (λ i. record (group_of a) { machines = machines i; settled = true })

@@ -1,13 +1,13 @@
 use Rattle.std.specs.Prelude.{flat_map}
-use Rattle.std.proofs.Common.{◌≡◌, ◌<◌, ◌∙◌, List, ℕ, Bool, true, false, length, get_or, take, drop, ap, arith}
-use Rattle.std.proofs.lemmas.List.{with_items_is, length-replicate, length-map}
+use Rattle.std.proofs.Common.{◌≡◌, ◌<◌, ◌∙◌, List, ℕ, true, length, get_or, take, drop, ap, arith}
+use Rattle.std.proofs.lemmas.List.{with_items_is, length-map}
 use Rattle.std.proofs.Math.Seq.{take-append_seam, drop-append_seam}
 use Rattle.ht_tern.specs.Gate.{tern_of}
 use Rattle.ht_net.specs.Detection.{terns_of}
 use Rattle.ht_group.specs.MachineWords.{IsBare, machines_of}
 use Rattle.ht_group.specs.GroupView.{GroupView}
 use Rattle.ht_group.specs.declared.machines.Machines.{Machines}
-use Rattle.ht_group.proofs.WordsLaws.{is_group, bare_words, bare_filled, no_machines, none_marked}
+use Rattle.ht_group.proofs.WordsLaws.{still_group, bare_words, bare_filled, no_machines}
 use Rattle.ht_group.proofs.group.Group.start.Goals as goal
 
 long : (c : goal.After-self-3-1) → length c.begin_words.new.words ≡ length c.self.inside.words.items
@@ -25,12 +25,11 @@ invariant_of-self c =
     let g = c.self.invariant in
     let new = c.begin_words.new.words in
     let size = long c in
-    is_group _ new g.circuit g.schedule c.start.ensures.frame (with_items_is a.words new (omega (arith, size)))
+    still_group _ new (length a.pending) g.circuit g.schedule c.start.ensures.frame
+    (with_items_is a.words new (omega (arith, size)))
     (long c ∙ g.word_count) (bare_words a.circuit.now a.schedule c.start.new.self c.clear.new.self new (bare c))
-    (bare_filled a.circuit.now new (long c ∙ g.word_count) (bare c)) (omega arith)
-    (ap (λ (l : List Bool). length l) c.clear.ensures ∙ (length-replicate (length a.pending) false ∙ g.marks))
-    g.room g.four_room
-    (λ is r. ap (λ (l : List Bool). get_or l r false) c.clear.ensures ∙ none_marked (length a.pending) r)
+    (bare_filled a.circuit.now new (long c ∙ g.word_count) (bare c)) (omega arith) c.clear.ensures g.marks g.room
+    g.four_room
 
 pub returns : goal.returns
 returns c =

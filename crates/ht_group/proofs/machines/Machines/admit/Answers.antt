@@ -35,10 +35,10 @@ returns-clause-word c =
     let e = c.in_ok-add.ensures in
     let word = lay_word c.args.circuit.now c.args.schedule.now c.args.frame.now c.requires.circuit c.requires.schedule
     c.requires.frame c.args.pending.now c.args.self.now c.lay.new.self c.requires.word c.lay.ensures in
-    let lines = ap (λ (l : StuckLines). length l.faults.items) c.lay.ensures.lines in
     added_word c.args.circuit.now c.args.schedule.now c.args.frame.now c.args.pending.now c.add.new.pending
     c.lay.new.self c.add.new.self c.args.fault c.args.diffs.now word c.lay.ensures.laid
-    (omega (arith, lines, c.requires.room)) e.ok e.stuck
+    (let lines = ap (λ (l : StuckLines). length l.faults.items) c.lay.ensures.lines in
+    omega (arith, lines, c.requires.room)) e.ok e.stuck
 
 pub returns-clause-ok : goal.returns-clause-ok
 returns-clause-ok c =
