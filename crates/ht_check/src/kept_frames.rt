@@ -3,6 +3,7 @@ ghost use Rattle.std.specs.Prelude.{◌≡◌, ◌<◌, ◌≤◌, length, IfOk,
 ghost use Rattle.std.specs.List.{All};
 ghost use Rattle.ht_net.specs.Netlist.{IsCircuit};
 ghost use Rattle.ht_net.specs.Frame.{frame_outputs, next_state};
+ghost use Rattle.ht_ranks.specs.declared.schedule.Schedule.{Schedule};
 ghost use Rattle.ht_ranks.specs.Schedules.{IsSchedule};
 ghost use Rattle.ht_tree.specs.Windows.{pair_set_rules};
 ghost use Rattle.ht_check.specs.NetSetsOf.{AreNetSets};
@@ -46,8 +47,9 @@ fn make_frames(
     count: usize,
     sets: &mut Vec<NetSets>,
 ) -> Result<(), AllocError>
-    requires frames { All (AreNetSets circuit.now) sets.old.items }
-    ensures frames { All (AreNetSets circuit.now) sets.new.items }
+    ensures frames { (schedule : Schedule) → IsSchedule circuit.now schedule
+        → All (AreNetSets circuit.now schedule) sets.old.items
+        → All (AreNetSets circuit.now schedule) sets.new.items }
     ensures count { OnOk result (count ≤ length sets.new.items) }
 {
     while sets.len() < count {

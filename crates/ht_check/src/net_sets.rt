@@ -4,6 +4,7 @@ ghost use Rattle.std.specs.List.{Contains};
 ghost use Rattle.ht_pairs.specs.Pairs.{Pair};
 ghost use Rattle.ht_net.specs.Netlist.{first_gate_net, net_count};
 ghost use Rattle.ht_net.specs.Frame.{frame_outputs, net_value, next_state, values_at};
+ghost use Rattle.ht_ranks.specs.declared.schedule.Schedule.{Schedule};
 ghost use Rattle.ht_ranks.specs.Schedules.{IsSchedule};
 ghost use Rattle.ht_tree.specs.Windows.{pair_set_rules};
 ghost use Rattle.ht_check.specs.GateSets.{AreGatesSettled, AreQuietSettled, gate_rank, is_gate_line, is_stuck_gate, sets_of};
@@ -49,7 +50,8 @@ impl NetSets {
     /// # Errors
     /// Out of memory.
     pub fn new(alloc: Global, circuit: &Circuit) -> Result<NetSets, AllocError>
-        ensures { IfOk result (AreNetSets circuit.now) }
+        ensures { IfOk result (λ sets. (schedule : Schedule) → IsSchedule circuit.now schedule
+            → AreNetSets circuit.now schedule sets) }
     {
         let nets = circuit.nets() as usize;
         Ok(NetSets {
@@ -72,8 +74,8 @@ impl NetSets {
         requires schedule { IsSchedule circuit.now schedule.now }
         requires vector { length vector.now ≡ circuit.now.inputs }
         requires latches { length latches.now ≡ length circuit.now.dffs }
-        requires nets { AreNetSets circuit.now self.old }
-        ensures nets { AreNetSets circuit.now self.new }
+        requires nets { AreNetSets circuit.now schedule.now self.old }
+        ensures nets { AreNetSets circuit.now schedule.now self.new }
         ensures sets { (x : ℕ) → x < net_count circuit.now → sets_of self.new.values.items x
             ≡ net_value circuit.now (pair_set_rules fault) vector.now latches.now x }
     {
@@ -107,8 +109,8 @@ impl NetSets {
         requires vector { length vector.now ≡ circuit.now.inputs }
         requires latches { length latches.old ≡ length circuit.now.dffs }
         requires outputs { length outputs.old ≡ length circuit.now.outputs }
-        requires nets { AreNetSets circuit.now self.old }
-        ensures nets { AreNetSets circuit.now self.new }
+        requires nets { AreNetSets circuit.now schedule.now self.old }
+        ensures nets { AreNetSets circuit.now schedule.now self.new }
         ensures latches { latches.new
             ≡ next_state circuit.now (pair_set_rules fault) vector.now latches.old }
         ensures outputs { outputs.new
