@@ -129,6 +129,7 @@ impl<'c> KeptFrames<'c> {
         ensures outputs { outputs.new
             ≡ frame_outputs self.old.circuit (pair_set_rules fault) vector.now latches.old }
     {
+        // windows ask for no later one, but don't say in their contracts how many are kept
         let last = self.sets.len() - 1;
         self.sets[last.min(f as usize)].run(
             self.circuit,
