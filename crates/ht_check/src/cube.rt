@@ -126,28 +126,8 @@ pub fn decided_cube(
     write_cube(decisions, circuit.inputs() as usize, cube);
 }
 
-// Writes the cube of a node's window: the given one in the first window, else what the window above decided.
-fn node_cube(
-    circuit: &Circuit,
-    given: &[Tern],
-    node: &WalkNode,
-    decisions: &mut [Option<Tern>],
-    cube: &mut [Tern],
-)
-    requires given { length given.now ≡ length circuit.now.dffs }
-    requires cube { length cube.old ≡ length circuit.now.dffs }
-    requires room { circuit.now.inputs + length circuit.now.dffs ≤ length decisions.old }
-    ensures cube { cube.new ≡ cube_at circuit.now given.now node.now }
-    ensures room { length decisions.new ≡ length decisions.old }
-{
-    if node.depth() == 0 {
-        cube.copy_from_slice(given);
-    } else {
-        decided_cube(circuit, node.path_above(), decisions, cube);
-    }
-}
-
-/// Writes what a node's path decides, and the cube of its window.
+/// Writes what a node's path decides, and the cube of its window: the given one in the first window, else what the
+/// window above decided.
 pub fn enter_node(
     circuit: &Circuit,
     given: &[Tern],
@@ -162,7 +142,11 @@ pub fn enter_node(
     ensures cube { cube.new ≡ cube_at circuit.now given.now node.now }
     ensures room { length decisions.new ≡ length decisions.old }
 {
-    node_cube(circuit, given, node, decisions, cube);
+    if node.depth() == 0 {
+        cube.copy_from_slice(given);
+    } else {
+        decided_cube(circuit, node.path_above(), decisions, cube);
+    }
     write_decisions(decisions, node.path());
 }
 

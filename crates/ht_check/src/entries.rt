@@ -13,7 +13,7 @@ use crate::fresh_window::FreshWindow;
 use crate::kept_frames::KeptFrames;
 use crate::sweeps::is_sweep_record;
 use crate::told_chains::is_told_chain;
-use crate::walks::is_complete;
+use crate::window_walks::is_complete_walk;
 use ht_items::Items;
 use ht_net::{Circuit, Fault};
 use ht_tree::{Aim, Entry, MAX_BUDGET, Token, Told};
@@ -136,10 +136,8 @@ fn refutes(
     if !names_flip_flops(z, kept.circuit().dffs()) {
         return Ok(false);
     }
-    let mut window = FreshWindow::one_frame(alloc, kept.take(alloc)?, fault, z)?;
-    let complete = is_complete(alloc, &mut window, tokens)?;
-    *kept = window.into_kept();
-    Ok(complete)
+    let window = FreshWindow::one_frame(alloc, kept.take(alloc)?, fault, z)?;
+    is_complete_walk(alloc, kept, window, tokens)
 }
 
 // Whether numbers rise and are below a count.

@@ -10,10 +10,10 @@
 //! Modules: `entries` (which entries pass), `told_chains` and `told_frames` (frames that are told), `abort_records`
 //! (the walk after them), `aims` (how the attempt at the first of them ended), `attempts` (lists that fail together),
 //! `told_states` (what a told frame gives), `vector_runs` (machines over lists), `sweeps` (the walks of a sweep),
-//! `walks` (a walk token by token), `spent_walks` (walks that spent a budget), `judged` (what a window answers),
-//! `fresh_window` (a window of any kind), `fresh_start` (its first latches), `frame_sets` (one frame over sets),
-//! `kept_frames` (the nets of its frames), `net_sets` (those of one frame, by events), `decisions` (what a path
-//! decides), `differences` (what places show), `cube` (what next states make of a cube).
+//! `walks` (a walk token by token), `window_walks` (walks of windows that give their frames back), `judged` (what a
+//! window answers), `fresh_window` (a window of any kind), `fresh_start` (its first latches), `frame_sets` (one frame
+//! over sets), `kept_frames` (the nets of its frames), `net_sets` (those of one frame, by events), `decisions` (what a
+//! path decides), `differences` (what places show), `cube` (what next states make of a cube).
 #![tactic(auto)]
 
 mod abort_records;
@@ -29,13 +29,13 @@ mod fresh_window;
 mod judged;
 mod kept_frames;
 mod net_sets;
-mod spent_walks;
 mod sweeps;
 mod told_chains;
 mod told_frames;
 mod told_states;
 mod vector_runs;
 mod walks;
+mod window_walks;
 
 pub use entries::{entry, entry_by_frames};
 pub use fresh_window::FreshWindow;

@@ -4,6 +4,7 @@ ghost use Rattle.std.specs.List.{Contains};
 ghost use Rattle.ht_pairs.specs.Pairs.{Pair};
 ghost use Rattle.ht_net.specs.Netlist.{first_gate_net, net_count};
 ghost use Rattle.ht_net.specs.Frame.{frame_outputs, net_value, next_state, values_at};
+ghost use Rattle.ht_ranks.specs.declared.schedule.Schedule.{Schedule};
 ghost use Rattle.ht_ranks.specs.Schedules.{IsSchedule};
 ghost use Rattle.ht_tree.specs.Windows.{pair_set_rules};
 ghost use Rattle.ht_check.specs.GateSets.{AreGatesSettled, AreQuietSettled, gate_rank, is_gate_line, is_stuck_gate, sets_of};
@@ -14,6 +15,14 @@ use ht_net::{Circuit, Fault, Site};
 use ht_pairs::PairSet;
 use ht_ranks::{BitSet, Schedule};
 use std::alloc::{AllocError, Global};
+
+/// What the nets of a frame settle under: a circuit with its schedule, and a fault or none.
+#[derive(Drop)]
+pub struct Settling<'a> {
+    pub circuit: &'a Circuit,
+    pub schedule: &'a Schedule,
+    pub fault: Option<Fault>,
+}
 
 /// The sets of a circuit's nets in a frame, from which the next one settles, under the same fault or another. All room
 /// is taken once, when it is made.
@@ -49,7 +58,8 @@ impl NetSets {
     /// # Errors
     /// Out of memory.
     pub fn new(alloc: Global, circuit: &Circuit) -> Result<NetSets, AllocError>
-        ensures { IfOk result (AreNetSets circuit.now) }
+        ensures { IfOk result (λ sets. (schedule : Schedule) → IsSchedule circuit.now schedule
+            → AreNetSets circuit.now schedule sets) }
     {
         let nets = circuit.nets() as usize;
         Ok(NetSets {
@@ -61,29 +71,28 @@ impl NetSets {
     }
 
     // Gives every net its set in a frame.
-    fn settle(
-        &mut self,
-        circuit: &Circuit,
-        schedule: &Schedule,
-        fault: Option<Fault>,
-        vector: &[PairSet],
-        latches: &[PairSet],
-    )
-        requires schedule { IsSchedule circuit.now schedule.now }
-        requires vector { length vector.now ≡ circuit.now.inputs }
-        requires latches { length latches.now ≡ length circuit.now.dffs }
-        requires nets { AreNetSets circuit.now self.old }
-        ensures nets { AreNetSets circuit.now self.new }
-        ensures sets { (x : ℕ) → x < net_count circuit.now → sets_of self.new.values.items x
-            ≡ net_value circuit.now (pair_set_rules fault) vector.now latches.now x }
+    fn settle(&mut self, under: &Settling, vector: &[PairSet], latches: &[PairSet])
+        requires schedule { IsSchedule under.now.circuit.now under.now.schedule.now }
+        requires vector { length vector.now ≡ under.now.circuit.now.inputs }
+        requires latches { length latches.now ≡ length under.now.circuit.now.dffs }
+        requires nets { AreNetSets under.now.circuit.now under.now.schedule.now self.old }
+        ensures nets { AreNetSets under.now.circuit.now under.now.schedule.now self.new }
+        ensures sets { (x : ℕ) → x < net_count under.now.circuit.now
+            → sets_of self.new.values.items x
+            ≡ net_value under.now.circuit.now (pair_set_rules under.now.fault)
+            vector.now latches.now x }
     {
         let pending = &mut self.pending;
-        change_fault(circuit, schedule, self.fault, fault, pending);
-        self.fault = fault;
+        change_fault(
+            under.circuit,
+            under.schedule,
+            self.fault,
+            under.fault,
+            pending,
+        );
+        self.fault = under.fault;
         follow(
-            circuit,
-            schedule,
-            fault,
+            under,
             vector,
             latches,
             &mut self.values,
@@ -96,27 +105,27 @@ impl NetSets {
     /// show, and `latches` take what stands at their data pins.
     pub fn run(
         &mut self,
-        circuit: &Circuit,
-        schedule: &Schedule,
-        fault: Option<Fault>,
+        under: &Settling,
         vector: &[PairSet],
         latches: &mut [PairSet],
         outputs: &mut [PairSet],
     )
-        requires schedule { IsSchedule circuit.now schedule.now }
-        requires vector { length vector.now ≡ circuit.now.inputs }
-        requires latches { length latches.old ≡ length circuit.now.dffs }
-        requires outputs { length outputs.old ≡ length circuit.now.outputs }
-        requires nets { AreNetSets circuit.now self.old }
-        ensures nets { AreNetSets circuit.now self.new }
+        requires schedule { IsSchedule under.now.circuit.now under.now.schedule.now }
+        requires vector { length vector.now ≡ under.now.circuit.now.inputs }
+        requires latches { length latches.old ≡ length under.now.circuit.now.dffs }
+        requires outputs { length outputs.old ≡ length under.now.circuit.now.outputs }
+        requires nets { AreNetSets under.now.circuit.now under.now.schedule.now self.old }
+        ensures nets { AreNetSets under.now.circuit.now under.now.schedule.now self.new }
         ensures latches { latches.new
-            ≡ next_state circuit.now (pair_set_rules fault) vector.now latches.old }
+            ≡ next_state under.now.circuit.now (pair_set_rules under.now.fault)
+            vector.now latches.old }
         ensures outputs { outputs.new
-            ≡ frame_outputs circuit.now (pair_set_rules fault) vector.now latches.old }
+            ≡ frame_outputs under.now.circuit.now (pair_set_rules under.now.fault)
+            vector.now latches.old }
     {
-        self.settle(circuit, schedule, fault, vector, latches);
-        show(circuit, &self.values, outputs);
-        capture(circuit, fault, &self.values, latches);
+        self.settle(under, vector, latches);
+        show(under.circuit, &self.values, outputs);
+        capture(under.circuit, under.fault, &self.values, latches);
     }
 }
 
@@ -222,90 +231,99 @@ fn write_net(net: u32, set: PairSet, readers: &[u32], values: &mut [PairSet], pe
 // Gives the nets from `first` on, which are inputs or flip-flops, the sets of `sources`, each by its stem. Where one
 // had another, the gates that read it are pending.
 fn drive(
-    circuit: &Circuit,
-    schedule: &Schedule,
-    fault: Option<Fault>,
+    under: &Settling,
     first: u32,
     sources: &[PairSet],
     values: &mut [PairSet],
     pending: &mut BitSet,
 )
-    requires schedule { IsSchedule circuit.now schedule.now }
-    requires sources { first + length sources.now ≤ first_gate_net circuit.now }
-    requires values { length values.old ≡ net_count circuit.now }
-    requires marks { length pending.old ≡ net_count circuit.now }
-    requires quiet { AreQuietSettled circuit.now schedule.now fault pending.old values.old }
-    ensures marks { length pending.new ≡ net_count circuit.now }
-    ensures quiet { AreQuietSettled circuit.now schedule.now fault pending.new values.new }
+    requires schedule { IsSchedule under.now.circuit.now under.now.schedule.now }
+    requires sources { first + length sources.now ≤ first_gate_net under.now.circuit.now }
+    requires values { length values.old ≡ net_count under.now.circuit.now }
+    requires marks { length pending.old ≡ net_count under.now.circuit.now }
+    requires quiet { AreQuietSettled under.now.circuit.now under.now.schedule.now under.now.fault
+        pending.old values.old }
+    ensures marks { length pending.new ≡ net_count under.now.circuit.now }
+    ensures quiet { AreQuietSettled under.now.circuit.now under.now.schedule.now under.now.fault
+        pending.new values.new }
     ensures driven { (x : ℕ) → first ≤ x → x < first + length sources.now → sets_of values.new x
-        ≡ (pair_set_rules fault).stem x (sets_of sources.now (x - first)) }
+        ≡ (pair_set_rules under.now.fault).stem x (sets_of sources.now (x - first)) }
     ensures below { (x : ℕ) → x < first → sets_of values.new x ≡ sets_of values.old x }
 {
     // for the proof: the nets are few enough that they have numbers
-    prove_eq!(values.len(), circuit.nets() as usize);
+    prove_eq!(values.len(), under.circuit.nets() as usize);
     for (j, source) in sources.iter().enumerate() {
         let net = first + j as u32;
-        let readers = schedule.readers.row(net as usize);
-        write_net(net, stem(fault, net, *source), readers, values, pending);
+        let readers = under.schedule.readers.row(net as usize);
+        write_net(
+            net,
+            stem(under.fault, net, *source),
+            readers,
+            values,
+            pending,
+        );
     }
 }
 
 // Evaluates the gate of a rank, which is pending no more. Where its net gets another set, the gates that read it are.
 fn fire(
-    circuit: &Circuit,
-    schedule: &Schedule,
-    fault: Option<Fault>,
+    under: &Settling,
     values: &mut [PairSet],
     pending: &mut BitSet,
     pins: &mut [PairSet],
     rank: u32,
 )
-    requires schedule { IsSchedule circuit.now schedule.now }
-    requires values { length values.old ≡ net_count circuit.now }
-    requires marks { length pending.old ≡ net_count circuit.now }
+    requires schedule { IsSchedule under.now.circuit.now under.now.schedule.now }
+    requires values { length values.old ≡ net_count under.now.circuit.now }
+    requires marks { length pending.old ≡ net_count under.now.circuit.now }
     requires room { length pins.old ≡ MAX_GATE_PINS }
-    requires gate { first_gate_net circuit.now ≤ rank }
-    requires rank { rank < net_count circuit.now }
-    requires quiet { AreQuietSettled circuit.now schedule.now fault pending.old values.old }
-    ensures quiet { AreQuietSettled circuit.now schedule.now fault pending.new values.new }
-    ensures sources { (x : ℕ) → x < first_gate_net circuit.now
+    requires gate { first_gate_net under.now.circuit.now ≤ rank }
+    requires rank { rank < net_count under.now.circuit.now }
+    requires quiet { AreQuietSettled under.now.circuit.now under.now.schedule.now under.now.fault
+        pending.old values.old }
+    ensures quiet { AreQuietSettled under.now.circuit.now under.now.schedule.now under.now.fault
+        pending.new values.new }
+    ensures sources { (x : ℕ) → x < first_gate_net under.now.circuit.now
         → sets_of values.new x ≡ sets_of values.old x }
     ensures marks { length pending.new ≡ length pending.old }
     ensures taken { get_or pending.new rank false ≡ false }
     ensures before { (r : ℕ) → r < rank
         → get_or pending.new r false ≡ get_or pending.old r false }
 {
-    let net = schedule.net(rank);
-    let g = net - (circuit.inputs() + circuit.dffs());
+    let net = under.schedule.net(rank);
+    let g = net - (under.circuit.inputs() + under.circuit.dffs());
     pending.remove(rank);
-    let set = stem(fault, net, gate_output(circuit, fault, values, pins, g));
-    let readers = schedule.readers.row(net as usize);
+    let set = stem(
+        under.fault,
+        net,
+        gate_output(under.circuit, under.fault, values, pins, g),
+    );
+    let readers = under.schedule.readers.row(net as usize);
     write_net(net, set, readers, values, pending);
 }
 
 // Evaluates each gate that is pending, in the order of the schedule, and then those that read what changed: none is
 // left.
 fn settle_pending(
-    circuit: &Circuit,
-    schedule: &Schedule,
-    fault: Option<Fault>,
+    under: &Settling,
     values: &mut [PairSet],
     pending: &mut BitSet,
     pins: &mut [PairSet],
 )
-    requires schedule { IsSchedule circuit.now schedule.now }
-    requires values { length values.old ≡ net_count circuit.now }
-    requires marks { length pending.old ≡ net_count circuit.now }
+    requires schedule { IsSchedule under.now.circuit.now under.now.schedule.now }
+    requires values { length values.old ≡ net_count under.now.circuit.now }
+    requires marks { length pending.old ≡ net_count under.now.circuit.now }
     requires room { length pins.old ≡ MAX_GATE_PINS }
-    requires quiet { AreQuietSettled circuit.now schedule.now fault pending.old values.old }
-    ensures gates { AreGatesSettled circuit.now fault values.new }
-    ensures sources { (x : ℕ) → x < first_gate_net circuit.now
+    requires quiet { AreQuietSettled under.now.circuit.now under.now.schedule.now under.now.fault
+        pending.old values.old }
+    ensures gates { AreGatesSettled under.now.circuit.now under.now.fault values.new }
+    ensures sources { (x : ℕ) → x < first_gate_net under.now.circuit.now
         → sets_of values.new x ≡ sets_of values.old x }
-    ensures marks { length pending.new ≡ net_count circuit.now }
+    ensures marks { length pending.new ≡ net_count under.now.circuit.now }
 {
-    let mut from = circuit.inputs() + circuit.dffs();
+    let mut from = under.circuit.inputs() + under.circuit.dffs();
     while let Some(rank) = pending.next(from) {
-        fire(circuit, schedule, fault, values, pending, pins, rank);
+        fire(under, values, pending, pins, rank);
         from = rank + 1;
     }
 }
@@ -313,36 +331,28 @@ fn settle_pending(
 // Gives every net its set in a frame, where each gate that isn't pending is settled. Two nodes of a walk that come one
 // after the other differ in few decisions, so few gates read a change.
 fn follow(
-    circuit: &Circuit,
-    schedule: &Schedule,
-    fault: Option<Fault>,
+    under: &Settling,
     vector: &[PairSet],
     latches: &[PairSet],
     values: &mut [PairSet],
     pending: &mut BitSet,
     pins: &mut [PairSet],
 )
-    requires schedule { IsSchedule circuit.now schedule.now }
-    requires vector { length vector.now ≡ circuit.now.inputs }
-    requires latches { length latches.now ≡ length circuit.now.dffs }
-    requires values { length values.old ≡ net_count circuit.now }
-    requires marks { length pending.old ≡ net_count circuit.now }
+    requires schedule { IsSchedule under.now.circuit.now under.now.schedule.now }
+    requires vector { length vector.now ≡ under.now.circuit.now.inputs }
+    requires latches { length latches.now ≡ length under.now.circuit.now.dffs }
+    requires values { length values.old ≡ net_count under.now.circuit.now }
+    requires marks { length pending.old ≡ net_count under.now.circuit.now }
     requires room { length pins.old ≡ MAX_GATE_PINS }
-    requires quiet { AreQuietSettled circuit.now schedule.now fault pending.old values.old }
-    ensures gates { AreGatesSettled circuit.now fault values.new }
-    ensures sets { (x : ℕ) → x < net_count circuit.now → sets_of values.new x
-        ≡ net_value circuit.now (pair_set_rules fault) vector.now latches.now x }
-    ensures marks { length pending.new ≡ net_count circuit.now }
+    requires quiet { AreQuietSettled under.now.circuit.now under.now.schedule.now under.now.fault
+        pending.old values.old }
+    ensures gates { AreGatesSettled under.now.circuit.now under.now.fault values.new }
+    ensures sets { (x : ℕ) → x < net_count under.now.circuit.now → sets_of values.new x
+        ≡ net_value under.now.circuit.now (pair_set_rules under.now.fault)
+        vector.now latches.now x }
+    ensures marks { length pending.new ≡ net_count under.now.circuit.now }
 {
-    drive(circuit, schedule, fault, 0, vector, values, pending);
-    drive(
-        circuit,
-        schedule,
-        fault,
-        circuit.inputs(),
-        latches,
-        values,
-        pending,
-    );
-    settle_pending(circuit, schedule, fault, values, pending, pins);
+    drive(under, 0, vector, values, pending);
+    drive(under, under.circuit.inputs(), latches, values, pending);
+    settle_pending(under, values, pending, pins);
 }
