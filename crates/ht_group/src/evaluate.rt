@@ -20,6 +20,7 @@ pub const PIN_ROOM: usize = 256;
 
 // Where `combined` has what the operation of a kind makes. It is reckoned, since a jump by the kind would be guessed
 // wrong every second time.
+#[inline(always)]
 fn operation_row(kind: Kind) -> usize
     ensures { result ≡ operation_row kind }
 {
@@ -30,6 +31,7 @@ fn operation_row(kind: Kind) -> usize
 }
 
 // What the operation of a kind makes of two words: all are computed, and one is taken.
+#[inline(always)]
 fn combined(kind: Kind, v: Word, w: Word) -> Word
     ensures { result ≡ operation_of lane_operations kind v w }
 {
@@ -38,6 +40,7 @@ fn combined(kind: Kind, v: Word, w: Word) -> Word
 }
 
 // A folded word, or its complement where the kind inverts, again without a jump by the kind.
+#[inline(always)]
 fn with_polarity(kind: Kind, word: Word) -> Word
     ensures { result ≡ polarity_of lane_operations kind word }
 {
@@ -50,6 +53,7 @@ fn with_polarity(kind: Kind, word: Word) -> Word
 }
 
 // The word of a gate whose pins read these nets. It takes no room for the pins, as `eval_word` would.
+#[inline(always)]
 fn eval_nets(kind: Kind, args: &[NetId], words: &[Word]) -> Word
     requires arity { HasArity kind (length args.now) }
     requires known { (i : ℕ) → i < length args.now
@@ -124,6 +128,7 @@ fn stick_pins(faults: &[Fault], lanes: u64, g: u32, pins: &mut [Word])
 }
 
 // What a gate gives its net, before the net's stem. `pins` is room for the pins of one gate.
+#[inline(always)]
 fn gate_output(
     circuit: &Circuit,
     lines: &StuckLines,
@@ -152,6 +157,7 @@ fn gate_output(
 
 /// The word of a net, from its source or from the nets that its gate reads, and by its stem. The sources are the
 /// vector and then the latches.
+#[inline(always)]
 pub fn evaluate(
     circuit: &Circuit,
     lines: &StuckLines,

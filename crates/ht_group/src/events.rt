@@ -48,6 +48,7 @@ fn evaluations(circuit: &Circuit, rank: u32, words: u32) -> u32
 }
 
 // Evaluates a net, and says whether its word changed.
+#[inline(always)]
 fn recompute(
     circuit: &Circuit,
     lines: &StuckLines,
@@ -77,6 +78,7 @@ fn recompute(
 }
 
 // Evaluates a net for the machines of a word, and says whether the word of the net changed.
+#[inline(always)]
 fn recompute_word(circuit: &Circuit, machines: &mut Machines, pins: &mut [Word], net: u32) -> bool
     requires room { HasRunRoom circuit.now machines.old }
     requires pins { length pins.old ≡ PIN_ROOM }

@@ -101,6 +101,7 @@ impl<T: Copy> Cells<T> {
     ///
     /// # Errors
     /// Out of memory; nothing is changed.
+    #[inline(always)]
     pub fn set(&mut self, i: u32, value: T) -> Result<(), AllocError>
         requires { i < length self.old.values }
         ensures values { OnOk result (self.new.values ≡ set self.old.values i value) }

@@ -126,6 +126,7 @@ impl<'c> Held<'c> {
     }
 
     /// What a net of a frame gets, before its line.
+    #[inline(always)]
     fn driver(&mut self, frame: u32, net: u32) -> PairSet
         requires frame { frame < self.old.standing.window.frames }
         requires net { net < net_count self.old.standing.window.circuit }
@@ -159,6 +160,7 @@ impl<'c> Held<'c> {
 
     /// What a net of a frame gets from the decisions and from what its driver reads.
     #[tactic(auto, unfolding(ht_net::specs::Frame::net_value_over))]
+    #[inline(always)]
     fn evaluate(&mut self, frame: u32, net: u32) -> PairSet
         requires frame { frame < self.old.standing.window.frames }
         requires net { net < net_count self.old.standing.window.circuit }
@@ -174,6 +176,7 @@ impl<'c> Held<'c> {
     ///
     /// # Errors
     /// Out of memory; nothing is changed.
+    #[inline(always)]
     fn set(&mut self, frame: u32, net: u32, value: PairSet) -> Result<(), AllocError>
         requires frame { frame < self.old.standing.window.frames }
         requires net { net < net_count self.old.standing.window.circuit }
@@ -345,6 +348,7 @@ impl<'c> Plant for Held<'c> {
 
     ghost spent = { λ h. 0 };
 
+    #[inline(always)]
     fn recompute(&mut self, item: u32) -> Result<bool, AllocError> {
         let (frame, net) = self.item_place(item);
         let value = self.evaluate(frame, net);
