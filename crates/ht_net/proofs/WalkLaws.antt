@@ -10,10 +10,6 @@ use Rattle.ht_net.specs.GateLevels.{net_level, highest_level}
 use Rattle.ht_net.specs.LevelWalk.{AreReady}
 use Rattle.ht_net.specs.Readiness.{HasLevel}
 
--- how many gates are not seen yet
-abbrev pub unseen_count : List Bool → ℕ
-unseen_count seen = sum_by (λ (b : Bool). cond b 0 1) seen
-
 pub level_gate : (first : ℕ) (levels : List ℕ) (x : NetId) → first ≤ x.0 → net_level first levels x
     ≡ get_or levels (x.0 - first) 0
 level_gate first levels x h = let q : ltb x.0 first ≡ false = grind (arith, nat_tests) in rw q refl
