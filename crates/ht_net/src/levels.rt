@@ -155,7 +155,7 @@ fn visit(
     ensures root { OnOk result (get_or seen.new root false ≡ true) }
     ensures error { IfErr result (IsLevelError first gates.now) }
 {
-    let mut path = Vec::from_slice(alloc, &[root as u32])?;
+    let mut path = vec![in alloc; root as u32; 1]?;
     seen[root] = true;
     walk(alloc, first, gates, &mut path, levels, seen)
 }
