@@ -14,6 +14,22 @@ one_if_zero n = cond (eqb n 0) 1 0
 abbrev pub open_count : List ℕ → ℕ
 open_count levels = sum_by one_if_zero levels
 
+abbrev pub one_if_unseen : Bool → ℕ
+one_if_unseen seen = cond seen 0 1
+
+-- how many gates are not seen yet
+abbrev pub unseen_count : List Bool → ℕ
+unseen_count seen = sum_by one_if_unseen seen
+
+-- how many turns a walk still has at the most
+abbrev pub left_count : List ℕ → List Bool → ℕ
+left_count levels seen = open_count levels + unseen_count seen
+
+-- the last gate of a path
+pub record IsPathEnd (path : List ℕ) (gate : ℕ) : Type 0 where
+  pub some : 0 < length path
+  pub is : get_or path (length path - 1) 0 ≡ gate
+
 -- each argument that is a gate has a level
 pub record AreReady (first : ℕ) (levels : List ℕ) (args : List NetId) : Type 0 where
   pub ready : (i : ℕ) → i < length args → first ≤ (get_or args i no_net).0

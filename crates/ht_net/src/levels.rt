@@ -4,7 +4,7 @@ ghost use Rattle.ht_net.specs.Netlist.{no_net};
 ghost use Rattle.ht_net.specs.Readiness.{IsReadiness};
 ghost use Rattle.std.specs.Prelude.{OnOk, IfErr, true, false, []};
 ghost use Rattle.ht_net.specs.GateLevels.{AreKnown, IsLevelled};
-ghost use Rattle.ht_net.specs.LevelWalk.{IsPartly, IsPath, StaySeen};
+ghost use Rattle.ht_net.specs.LevelWalk.{IsPartly, IsPath, IsPathEnd, StaySeen, left_count};
 ghost use Rattle.ht_net.specs.Cycle.{IsLevelError};
 ghost use Rattle.ht_net.specs.Tail.{IsOnPath, IsTail};
 
@@ -73,6 +73,67 @@ fn tail_from(alloc: Global, path: &[u32], gate: u32) -> Result<Vec<u32>, AllocEr
     path[place..].iter().rev().copied().collect(alloc)
 }
 
+/// One turn of a walk: the last gate of the path gets its level and leaves the path, or the gate that it waits for joins.
+fn turn(
+    alloc: Global,
+    first: u32,
+    gates: &Gates,
+    gate: u32,
+    path: &mut Vec<u32>,
+    levels: &mut [u32],
+    seen: &mut [bool],
+) -> Result<(), LevelError>
+    requires known { AreKnown first gates.now }
+    requires few { first + length gates.now < 2 ^ 32 - 1 }
+    requires last { IsPathEnd path.old.items gate }
+    requires partly { IsPartly first gates.now levels.old }
+    requires path { IsPath first gates.now levels.old seen.old path.old.items }
+    ensures partly { OnOk result (IsPartly first gates.now levels.new) }
+    ensures path { OnOk result (IsPath first gates.now levels.new seen.new path.new.items) }
+    ensures stay { OnOk result (StaySeen seen.old seen.new) }
+    ensures less { OnOk result (left_count levels.new seen.new + 1 ≡ left_count levels.old seen.old) }
+    ensures error { IfErr result (IsLevelError first gates.now) }
+{
+    let below = match find_readiness(first, levels, gates.args(gate as usize)) {
+        Readiness::Gate(below) => below,
+        Readiness::Level(level) => {
+            levels[gate as usize] = level;
+            path.pop();
+            return Ok(());
+        }
+    };
+    if seen[below as usize] {
+        return Err(LevelError::Cycle(tail_from(alloc, path, below)?));
+    }
+    path.push(below).map_err(AllocError::from)?;
+    seen[below as usize] = true;
+    Ok(())
+}
+
+/// Gives levels to the gates of a path and to all gates below them.
+fn walk(
+    alloc: Global,
+    first: u32,
+    gates: &Gates,
+    path: &mut Vec<u32>,
+    levels: &mut [u32],
+    seen: &mut [bool],
+) -> Result<(), LevelError>
+    requires known { AreKnown first gates.now }
+    requires few { first + length gates.now < 2 ^ 32 - 1 }
+    requires partly { IsPartly first gates.now levels.old }
+    requires path { IsPath first gates.now levels.old seen.old path.old.items }
+    ensures partly { OnOk result (IsPartly first gates.now levels.new) }
+    ensures path { OnOk result (IsPath first gates.now levels.new seen.new []) }
+    ensures stay { OnOk result (StaySeen seen.old seen.new) }
+    ensures error { IfErr result (IsLevelError first gates.now) }
+{
+    while let Some(&gate) = path.last() {
+        turn(alloc, first, gates, gate, path, levels, seen)?;
+    }
+    Ok(())
+}
+
 /// Gives levels to a gate and to all gates below it.
 fn visit(
     alloc: Global,
@@ -94,25 +155,9 @@ fn visit(
     ensures root { OnOk result (get_or seen.new root false ≡ true) }
     ensures error { IfErr result (IsLevelError first gates.now) }
 {
-    let mut path = Vec::new(alloc);
-    path.push(root as u32).map_err(AllocError::from)?;
+    let mut path = vec![in alloc; root as u32; 1]?;
     seen[root] = true;
-    while let Some(&gate) = path.last() {
-        match find_readiness(first, levels, gates.args(gate as usize)) {
-            Readiness::Level(level) => {
-                levels[gate as usize] = level;
-                path.pop();
-            }
-            Readiness::Gate(below) => {
-                if seen[below as usize] {
-                    return Err(LevelError::Cycle(tail_from(alloc, &path, below)?));
-                }
-                path.push(below).map_err(AllocError::from)?;
-                seen[below as usize] = true;
-            }
-        }
-    }
-    Ok(())
+    walk(alloc, first, gates, &mut path, levels, seen)
 }
 
 /// The level of each gate.
