@@ -1,4 +1,4 @@
-use Rattle.std.proofs.Common.{◌≡◌, ◌+◌, ◌-◌, ◌∙◌, ℕ, ap, sym, arith, length, subst}
+use Rattle.std.proofs.Common.{◌≡◌, ◌+◌, ◌-◌, ◌∙◌, ℕ, ap, arith, length, subst}
 use Rattle.ht_net.specs.Netlist.{Netlist, net_count}
 use Rattle.ht_window.specs.Standing.{Standing}
 use Rattle.ht_window.specs.Turns.{HoldsOrPends}

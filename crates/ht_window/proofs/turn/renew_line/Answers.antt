@@ -6,7 +6,8 @@ use Rattle.ht_window.proofs.RenewLaws.{one_more_renewed, plan_renewed}
 use Rattle.ht_window.proofs.turn.renew_line.Goals as goal
 
 -- the plan is still that of the window's frames
-plan : (c : goal.After-renew-arg-in-loop-frame-1) → (c.loop-frame.core.plan.circuit ≡ c.loop-frame.held.standing.window.circuit)
+plan : (c : goal.After-renew-arg-in-loop-frame-1)
+    → (c.loop-frame.core.plan.circuit ≡ c.loop-frame.held.standing.window.circuit)
     × (c.loop-frame.core.plan.frames ≡ c.loop-frame.held.standing.window.frames)
 plan c = plan_renewed c.args.core.now c.loop-frame.core c.args.held.now c.loop-frame.held c.loop-frame.invariant.renewed
     c.requires.circuit c.requires.frames
