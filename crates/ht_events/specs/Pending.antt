@@ -1,8 +1,8 @@
 -- Items that are pending.
-use Rattle.std.specs.Prelude.{◌≡◌, ◌<◌, ◌≤◌, ℕ, List, Bool, true, false, length, get_or}
+use Rattle.std.specs.Prelude.{◌≡◌, ◌<◌, ℕ, List, Bool, true, false, length, get_or}
 use Rattle.std.specs.List.{count_by, range_with_len}
 use Rattle.ht_events.specs.Items.{item_count}
-use Rattle.ht_events.specs.Plans.{PlanState, position_at, max_frames}
+use Rattle.ht_events.specs.Plans.{PlanState, position_at}
 use Rattle.ht_events.specs.declared.event_core.Core.TheInside.{Inside}
 
 -- what a core knows: its plan, and a mark for each position in the order of all items
@@ -40,5 +40,4 @@ core_of a = record { plan = a.plan; marks = a.marks }
 
 -- there is a mark for each item
 pub record IsCore (a : Inside) : Type 0 where
-  pub few : a.plan.frames ≤ max_frames
   pub count : length a.marks ≡ item_count a.plan.circuit a.plan.frames

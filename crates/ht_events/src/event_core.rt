@@ -6,10 +6,10 @@ ghost use Rattle.ht_events.specs.Plans.{position_at};
 ghost use Rattle.ht_events.specs.Pending.{CoreState, IsPending, IsPendingAt, QuietAgree, core_items, pending_count, pends};
 
 use crate::frame_plan::FramePlan;
-use crate::marks::Marks;
+use crate::pending_set::PendingSet;
 use crate::plan::{MAX_FRAMES, Plan};
 use crate::plant::Plant;
-use ht_net::NetId;
+use ht_net::{Circuit, NetId};
 use std::alloc::{AllocError, Global};
 use std::marker::Model;
 use std::rc::Rc;
@@ -19,7 +19,7 @@ use std::rc::Rc;
 pub struct Core<'c> {
     plan: Plan<'c>,
     // by where the item stands in the order of all
-    marks: Marks,
+    marks: PendingSet,
 }
 
 impl<'c> Model for Core<'c> {
@@ -39,7 +39,22 @@ impl<'c> Core<'c> {
     ///
     /// # Errors
     /// Out of memory.
-    pub fn new(
+    pub fn new(alloc: Global, circuit: &'c Circuit, frames: u32) -> Result<Core<'c>, AllocError>
+        requires some { 0 < frames }
+        requires few { frames ≤ MAX_FRAMES }
+        ensures circuit { IfOk result (λ core. core.plan.circuit ≡ circuit.now) }
+        ensures frames { IfOk result (λ core. core.plan.frames ≡ frames) }
+        ensures none { IfOk result (λ core. (x : ℕ) → ¬ IsPending core x) }
+    {
+        let frame_plan = Rc::new(alloc, FramePlan::new(alloc, circuit)?)?;
+        Core::planned(alloc, frame_plan, frames)
+    }
+
+    /// The same with the plan of a frame of the circuit, which other cores may share.
+    ///
+    /// # Errors
+    /// Out of memory.
+    pub fn planned(
         alloc: Global,
         frame_plan: Rc<FramePlan<'c>>,
         frames: u32,
@@ -51,7 +66,7 @@ impl<'c> Core<'c> {
         ensures none { IfOk result (λ core. (x : ℕ) → ¬ IsPending core x) }
     {
         let plan = Plan::new(frame_plan, frames);
-        let marks = Marks::new(alloc, plan.items())?;
+        let marks = PendingSet::new(alloc, plan.items())?;
         Ok(Core { plan, marks })
     }
 
@@ -195,6 +210,7 @@ impl<'c> Core<'c> {
             → IsPending self.old y
             ⊎ ((changed ≡ true) × IsLoad self.old.plan.circuit self.old.plan.frames item y) }
     {
+        // for the proof: an item is none of its own loads
         let _ = self.plan.position(item);
         let (frame, local) = self.plan.split(item);
         self.remove(item);

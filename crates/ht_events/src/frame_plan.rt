@@ -51,6 +51,7 @@ impl<'c> FramePlan<'c> {
     pub fn new(alloc: Global, circuit: &'c Circuit) -> Result<FramePlan<'c>, AllocError>
         ensures { IfOk result (λ plan. plan.circuit ≡ circuit.now) }
     {
+        // for the proof: the circuit is well formed
         let _ = circuit.nets();
         let (order, ranks) = ranking(alloc, circuit, circuit.dffs())?;
         Ok(FramePlan {
@@ -74,6 +75,7 @@ impl<'c> FramePlan<'c> {
         ensures items { result ≡ frame_items self.now.circuit }
         ensures circuit { IsCircuit self.now.circuit }
     {
+        // for the proof: the circuit is well formed
         let _ = self.circuit.nets();
         self.frame_length.items()
     }
@@ -93,6 +95,7 @@ impl<'c> FramePlan<'c> {
         ensures net { result.0 ≡ driven_net self.now.circuit local }
         ensures known { result.0 < net_count self.now.circuit }
     {
+        // for the proof: the circuit is well formed
         let _ = self.circuit.nets();
         NetId(self.circuit.inputs() + local)
     }

@@ -9,7 +9,7 @@
 mod event_core;
 mod frame_length;
 mod frame_plan;
-mod marks;
+mod pending_set;
 mod plan;
 mod plant;
 mod readers;

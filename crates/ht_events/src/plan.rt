@@ -80,6 +80,7 @@ impl<'c> Plan<'c> {
         ensures frame_inside { result.0 < self.now.frames }
         ensures local_inside { result.1 < frame_items self.now.circuit }
     {
+        // for the proof: the number of all items fits
         let _ = self.items();
         self.frame_plan.split(item)
     }
@@ -123,6 +124,7 @@ impl<'c> Plan<'c> {
             → position_at self.now (item_at self.now.circuit frame local)
             < position_at self.now y }
     {
+        // for the proof: the number of all items fits
         let _ = self.items();
         let plan: &FramePlan = &self.frame_plan;
         frame * plan.items() + plan.rank(local)

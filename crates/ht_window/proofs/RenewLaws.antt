@@ -1,11 +1,12 @@
 -- What stands as nets are renewed, and after all have followed.
-use Rattle.std.proofs.Common.{◌≡◌, ◌≢◌, ◌<◌, ◌≤◌, ◌+◌, ◌-◌, ◌⊎◌, inl, inr, ℕ, List, true, length, set, refl, sym, ◌∙◌, arith, subst}
+use Rattle.std.proofs.Common.{◌≡◌, ◌≢◌, ◌<◌, ◌≤◌, ◌+◌, ◌-◌, ◌⊎◌, inl, inr, ℕ, List, true, length, set, refl, sym, ◌∙◌, ap, arith, subst}
 use Rattle.std.proofs.lemmas.Bool.{cases_Bool}
 use Rattle.std.proofs.lemmas.Bool.Decides.{eqb_tells}
 use Rattle.ht_pairs.specs.Pairs.{Pair}
 use Rattle.ht_net.specs.Netlist.{Netlist, net_count, first_gate_net}
 use Rattle.ht_net.proofs.FrameLaws.{le_or_lt}
 use Rattle.ht_events.specs.Items.{item_at, item_count, frame_of, local_of, driven_net, IsReader}
+use Rattle.ht_events.specs.Plans.{PlanState}
 use Rattle.ht_events.specs.Pending.{CoreState, IsPending, QuietAgree, core_items}
 use Rattle.ht_tree.specs.Windows.{SearchWindow, IsWindow}
 use Rattle.ht_window.specs.Standing.{Standing}
@@ -28,6 +29,17 @@ renewed_more s t u a b d h k = record {
   holds = λ f x fs xs old. k.holds f x (subst (λ (n : Standing). f < n.window.frames) (sym h.standing) fs)
       (subst (λ (n : Standing). x < net_count n.window.circuit) (sym h.standing) xs) (h.holds f x fs xs old);
 }
+
+-- the plan is still that of the window's frames
+pub plan_renewed : (s t : CoreState) (a b : HeldState) → IsRenewed s a t b
+    → s.plan.circuit ≡ a.standing.window.circuit → s.plan.frames ≡ a.standing.window.frames
+    → (t.plan.circuit ≡ b.standing.window.circuit) × (t.plan.frames ≡ b.standing.window.frames)
+plan_renewed s t a b h circuit frames = (
+  ap (λ (p : PlanState). p.circuit) h.plan
+      ∙ (circuit ∙ sym (ap (λ (n : Standing). n.window.circuit) h.standing)),
+  ap (λ (p : PlanState). p.frames) h.plan
+      ∙ (frames ∙ sym (ap (λ (n : Standing). n.window.frames) h.standing)),
+)
 
 -- Nets are renewed one by one, the first n of them so far: net `net k` of frame `frame k`.
 pub record AreRenewed (s : CoreState) (a : HeldState) (t : CoreState) (b : HeldState) (frame net : ℕ → ℕ) (n : ℕ)
@@ -82,19 +94,19 @@ module _ (s t : CoreState) (a b : HeldState) (valid : IsWindow a.standing.window
             (other.1 (λ at pends. free at (more (item_at w.circuit g (y - w.circuit.inputs)) pends)))
       ]))
 
-  pub renewed_write : IsRenewed s a t b
-  renewed_write = record {
-    plan = plan;
-    standing = same;
-    holds = λ g y gs ys old. stands g y gs ys (elim (this_or_other a.standing.window a.cells.values count f x
-        (value_over a.standing.window a.standing.path a.cells.values f x) fs xs g y) [
-          | inl e ↦ inl e
-          | inr ne ↦ inr (ne, old)
-        ]);
-  }
-
-  pub written_holds : HoldsOrPends t b f x
-  written_holds = stands f x fs xs (inl (refl, refl))
+  pub renewed_write : IsRenewed s a t b × HoldsOrPends t b f x
+  renewed_write = (
+    record {
+      plan = plan;
+      standing = same;
+      holds = λ g y gs ys old. stands g y gs ys (elim (this_or_other a.standing.window a.cells.values count f x
+          (value_over a.standing.window a.standing.path a.cells.values f x) fs xs g y) [
+            | inl e ↦ inl e
+            | inr ne ↦ inr (ne, old)
+          ]);
+    },
+    stands f x fs xs (inl (refl, refl)),
+  )
 
 -- a net is a latch of the first frame, or not
 this_latch : (c : Netlist) (f x : ℕ) → ((f ≡ 0) × (c.inputs ≤ x) × (x < first_gate_net c))

@@ -1,6 +1,6 @@
 -- Windows from which others are made.
 use Rattle.std.specs.Prelude.{◌≡◌, []}
-use Rattle.std.specs.Option.{IfSome}
+use Rattle.std.specs.List.{All}
 use Rattle.ht_net.specs.Netlist.{Netlist}
 use Rattle.ht_window.specs.States.{WindowState}
 use Rattle.ht_window.specs.declared.bases.Bases.TheInside.{Inside}
@@ -16,7 +16,4 @@ pub record IsBase (c : Netlist) (w : WindowState) : Type 0 where
 
 -- each base is one of the plan's circuit
 pub record AreBases (a : Inside) : Type 0 where
-  pub one_frame : IfSome a.one_frame (IsBase a.frame_plan.value.circuit)
-  pub unknown : IfSome a.unknown (IsBase a.frame_plan.value.circuit)
-  pub pair : IfSome a.pair (IsBase a.frame_plan.value.circuit)
-  pub back : IfSome a.back (IsBase a.frame_plan.value.circuit)
+  pub windows : All (IsBase a.frame_plan.value.circuit) a.windows.items

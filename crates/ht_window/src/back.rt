@@ -75,6 +75,7 @@ impl<'c> Window<'c> {
         ensures { result ≡ latch_choice self.now.window self.now.decisions self.now.window.start
             (wanted_of at) }
     {
+        // for the proof: the window is well formed
         let _ = self.circuit();
         match self.start() {
             Start::OneFrame { z: _ } => {

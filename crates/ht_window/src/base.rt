@@ -52,7 +52,7 @@ impl<'c> Window<'c> {
         let decided = Decided::new(alloc, start, frame_plan.circuit(), fault, frames)?;
         let sets = all_sets(alloc, &decided)?;
         let held = Held::new(alloc, decided, sets)?;
-        let core = Core::new(alloc, frame_plan, frames)?;
+        let core = Core::planned(alloc, frame_plan, frames)?;
         Ok(Window::undecided(alloc, held, core))
     }
 
@@ -63,6 +63,7 @@ impl<'c> Window<'c> {
             → IsStart self.now.window.circuit fault frames (start_of start.now)
             → IsStart self.now.window.circuit fault self.now.window.frames (start_of start.now) }
     {
+        // for the proof: the window is well formed
         let _ = self.circuit();
         match start {
             Start::OneFrame { z: _ } | Start::Back { cube: _, limit: _ } => frames == self.frames(),
@@ -91,7 +92,7 @@ impl<'c> Window<'c> {
         let part = Decided::new(alloc, whole.start(), whole.circuit(), whole.fault(), frames)?;
         let sets = self.held.front(alloc, frames)?;
         let held = Held::new(alloc, part, sets)?;
-        let core = Core::new(alloc, frame_plan, frames)?;
+        let core = Core::planned(alloc, frame_plan, frames)?;
         Ok(Window::undecided(alloc, held, core))
     }
 

@@ -1,5 +1,5 @@
 //! Windows from which others are made, one for each kind of start.
-ghost use Rattle.std.specs.Prelude.{◌≡◌, ◌≤◌, [], IfOk, IfSome};
+ghost use Rattle.std.specs.Prelude.{◌≡◌, ◌<◌, ◌≤◌, [], length, IfOk, IfSome};
 ghost use Rattle.ht_tree.specs.Windows.{IsStart};
 ghost use Rattle.ht_window.specs.Starts.{start_of, window_from};
 ghost use Rattle.ht_window.specs.BaseStates.{BasesState, IsBase};
@@ -17,11 +17,9 @@ use std::rc::Rc;
 #[derive(Drop)]
 pub struct Bases<'c> {
     frame_plan: Rc<FramePlan<'c>>,
-    // by kind of start, as long as the longest that was asked for so far, with the last fault and start
-    one_frame: Option<Window<'c>>,
-    unknown: Option<Window<'c>>,
-    pair: Option<Window<'c>>,
-    back: Option<Window<'c>>,
+    // at most one for each kind of start, as long as the longest that was asked for so far, with the last fault and
+    // start
+    windows: Vec<Window<'c>>,
 }
 
 impl<'c> Model for Bases<'c> {
@@ -36,6 +34,15 @@ impl<'c> Model for Bases<'c> {
     ghost invariant = { AreBases };
 }
 
+// Where the window from a start of the same kind stands, if there is one.
+fn find_like(windows: &[Window], start: &Start) -> Option<usize>
+    ensures { IfSome result (λ i. i < length windows.now) }
+{
+    windows
+        .iter()
+        .position(|window| window.start().is_like(start))
+}
+
 impl<'c> Bases<'c> {
     /// No base yet. The plan of a frame is made here, once for all windows.
     ///
@@ -47,10 +54,7 @@ impl<'c> Bases<'c> {
         let frame_plan = Rc::new(alloc, FramePlan::new(alloc, circuit)?)?;
         Ok(Bases {
             frame_plan,
-            one_frame: None,
-            unknown: None,
-            pair: None,
-            back: None,
+            windows: Vec::new(alloc),
         })
     }
 
@@ -66,25 +70,17 @@ impl<'c> Bases<'c> {
         ensures circuit { self.new.circuit ≡ self.old.circuit }
         ensures base { IfSome result (IsBase self.old.circuit) }
     {
-        match start {
-            Start::OneFrame { z: _ } => self.one_frame.take(),
-            Start::Unknown => self.unknown.take(),
-            Start::Pair { state: _ } => self.pair.take(),
-            Start::Back { cube: _, limit: _ } => self.back.take(),
-        }
+        let index = find_like(&self.windows, start)?;
+        Some(self.windows.swap_remove(index))
     }
 
-    // Keeps a window as the base of a start's kind.
-    fn keep(&mut self, start: &Start, base: Window<'c>)
+    // Keeps a window as the base of its start's kind, of which there is none.
+    fn keep(&mut self, base: Window<'c>) -> Result<(), AllocError>
         requires { IsBase self.old.circuit base }
         ensures circuit { self.new.circuit ≡ self.old.circuit }
     {
-        match start {
-            Start::OneFrame { z: _ } => self.one_frame = Some(base),
-            Start::Unknown => self.unknown = Some(base),
-            Start::Pair { state: _ } => self.pair = Some(base),
-            Start::Back { cube: _, limit: _ } => self.back = Some(base),
-        }
+        self.windows.push(base)?;
+        Ok(())
     }
 
     // The base of a start's kind, or a new one where it has fewer frames than these.
@@ -132,7 +128,7 @@ impl<'c> Bases<'c> {
             .base(alloc, fault, frames, start)?
             .turned(alloc, fault, start)?;
         let window = base.front(alloc, self.frame_plan.clone()?, frames)?;
-        self.keep(start, base);
+        self.keep(base)?;
         Ok(window)
     }
 }

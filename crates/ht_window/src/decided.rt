@@ -64,6 +64,7 @@ impl<'c> Decided<'c> {
     {
         let inputs = circuit.inputs();
         let dffs = circuit.dffs();
+        // for the proof: the circuit is well formed
         let _ = circuit.nets();
         let start = start.copied(alloc)?;
         let values = Cells::new(alloc, frames * inputs + (dffs + dffs), None)?;

@@ -59,6 +59,7 @@ impl<'c> Held<'c> {
         ensures trail { IfOk result (λ h. h.cells.trail ≡ []) }
     {
         let circuit = decided.circuit();
+        // for the proof: the circuit is well formed
         let _ = circuit.nets();
         let frame_length = FrameLength::new(circuit.dffs() + circuit.gates());
         let pins = vec![in alloc; PairSet::both_same(); MAX_GATE_PINS]?;
@@ -77,6 +78,7 @@ impl<'c> Held<'c> {
         ensures few { self.now.standing.window.frames ≤ MAX_FRAMES }
         ensures count { length self.now.cells.values ≡ cell_count self.now.standing.window }
     {
+        // for the proof: there is a cell for each net of each frame
         let _ = &self.cells;
         &self.decided
     }
@@ -120,6 +122,7 @@ impl<'c> Held<'c> {
             return self.decided.first_latch(j);
         }
         let circuit = self.decided.circuit();
+        // for the proof: the circuit is well formed
         let _ = circuit.nets();
         let net = circuit.dff_data(j);
         data_pin(self.decided.fault(), j, self.cell(frame - 1, net.0))
@@ -214,6 +217,7 @@ impl<'c> Held<'c> {
             ≡ length self.old.cells.trail + 1) }
         ensures err { OnErr result (self.new ≡ self.old) }
     {
+        // for the proof: the window is well formed
         let _ = self.decided();
         let value = self.evaluate(frame, net);
         self.set(frame, net, value)
@@ -252,6 +256,7 @@ impl<'c> Held<'c> {
         ensures standing { self.new.standing ≡ decided.entry }
         ensures cells { self.new.cells ≡ self.old.cells }
     {
+        // for the proof: the other window is well formed
         let _ = decided.circuit();
         self.decided = decided;
     }
@@ -277,6 +282,7 @@ impl<'c> Held<'c> {
         ensures count { length self.now.cells.values ≡ cell_count self.now.standing.window }
     {
         let circuit = self.decided.circuit();
+        // for the proof: the circuit is well formed
         let _ = circuit.nets();
         let (frame, local) = self.frame_length.split(item);
         (frame, circuit.inputs() + local)
@@ -289,6 +295,7 @@ impl<'c> Held<'c> {
     {
         let inputs = self.decided.inputs();
         let dffs = self.decided.dffs();
+        // for the proof: the circuit is well formed
         let _ = self.decided.circuit().nets();
         if var < self.decided.frames() * inputs {
             (var / inputs, var % inputs)

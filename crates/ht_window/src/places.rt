@@ -92,6 +92,7 @@ impl<'c> Window<'c> {
     pub fn seen(&self) -> PlacesSeen
         ensures { result ≡ seen_of self.now.window self.now.decisions (places_of self.now.window) }
     {
+        // for the proof: the window is well formed
         let _ = self.circuit();
         let seen = self.see_frames();
         match self.start() {

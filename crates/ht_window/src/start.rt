@@ -61,4 +61,18 @@ impl Start {
             },
         })
     }
+
+    // Whether two starts are of the same kind.
+    pub(crate) fn is_like(&self, other: &Start) -> bool {
+        matches!(
+            (self, other),
+            (Start::OneFrame { z: _ }, Start::OneFrame { z: _ })
+                | (Start::Unknown, Start::Unknown)
+                | (Start::Pair { state: _ }, Start::Pair { state: _ })
+                | (
+                    Start::Back { cube: _, limit: _ },
+                    Start::Back { cube: _, limit: _ }
+                )
+        )
+    }
 }

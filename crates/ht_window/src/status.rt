@@ -41,6 +41,7 @@ impl<'c> Window<'c> {
     pub fn status(&self) -> Status
         ensures { result ≡ status_at self.now.window self.now.decisions }
     {
+        // for the proof: the window is well formed
         let _ = self.circuit();
         match self.start() {
             Start::Back { cube, limit } => self.see_cube(cube.as_slice()).status(*limit),
@@ -55,6 +56,7 @@ impl<'c> Window<'c> {
         ensures choice { result ≡ pick_of self.now.window self.now.decisions }
         ensures legal { IsLegalChoice self.now.window self.now.decisions result }
     {
+        // for the proof: the window is well formed
         let _ = self.circuit();
         self.choose()
     }
@@ -64,6 +66,7 @@ impl<'c> Window<'c> {
         requires { status_at self.now.window self.now.decisions ≡ Open }
         ensures { result ≡ pick_of self.now.window self.now.decisions }
     {
+        // for the proof: the window is well formed
         let _ = self.circuit();
         match self.start() {
             Start::Back { cube, limit: _ } => self.from_latch(

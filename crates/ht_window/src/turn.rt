@@ -15,6 +15,7 @@ fn line_net(circuit: &Circuit, site: Site) -> Option<u32>
     ensures only { (x : ℕ) → x < net_count circuit.now → is_line_of circuit.now site x ≡ true
         → result ≡ Some x }
 {
+    // for the proof: the circuit is well formed
     let _ = circuit.nets();
     match site {
         Site::Stem(net) if net.0 < circuit.nets() => Some(net.0),
@@ -87,6 +88,7 @@ fn renew_latches(held: &mut Held, core: &mut Core) -> Result<(), AllocError>
 {
     let decided = held.decided();
     let circuit = decided.circuit();
+    // for the proof: the circuit is well formed
     let _ = circuit.nets();
     let inputs = circuit.inputs();
     for j in 0..circuit.dffs() {

@@ -63,6 +63,7 @@ fn follow(held: &mut Held, core: &mut Core, var: u32, choice: Tern) -> Result<()
     ensures cells { OnOk result
         (AreCells held.old.standing.window held.new.standing.path held.new.cells.values) }
 {
+    // for the proof: the window is well formed
     let _ = held.decided();
     held.push(var, choice)?;
     let (frame, net) = held.var_place(var);
@@ -254,6 +255,7 @@ impl<'c> Window<'c> {
     {
         let decided = self.held.decided();
         let circuit = decided.circuit();
+        // for the proof: the circuit is well formed
         let _ = circuit.nets();
         let last = decided.frames() - 1;
         data_pin(decided.fault(), j, self.cell(last, circuit.dff_data(j)))

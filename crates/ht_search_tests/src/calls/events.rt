@@ -2,13 +2,12 @@
 ghost use Rattle.std.specs.Prelude.{◌≡◌, IfOk};
 
 use ht_bench::read;
-use ht_events::{Core, FramePlan, Plant};
+use ht_events::{Core, Plant};
 use ht_frame::{MAX_GATE_PINS, gate_output};
 use ht_net::Circuit;
 use ht_samples::S27;
 use ht_tern::Tern::{self, One, Unk, Zero};
 use std::alloc::{AllocError, Global};
-use std::rc::Rc;
 use std::test::Fail;
 
 // Flip-flops are items 0 to 2, and gates 3 to 12.
@@ -129,8 +128,7 @@ fn settles(
     order: &[u32],
     want: &[Tern],
 ) -> Result<bool, AllocError> {
-    let frame_plan = Rc::new(alloc, FramePlan::new(alloc, circuit)?)?;
-    let mut core = Core::new(alloc, frame_plan, 1)?;
+    let mut core = Core::new(alloc, circuit, 1)?;
     let mut row = FrameValues::new(alloc, circuit)?;
     core.touch_all();
     fire_again(&mut core, &mut row, order)?;

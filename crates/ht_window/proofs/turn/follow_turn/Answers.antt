@@ -1,11 +1,10 @@
 use Rattle.std.proofs.Common.{◌≡◌, ◌<◌, ◌≤◌, ◌∙◌, true, ℕ, ap, sym, subst}
 use Rattle.ht_net.specs.Netlist.{net_count, first_gate_net}
-use Rattle.ht_events.specs.Plans.{PlanState}
 use Rattle.ht_tree.specs.Windows.{IsWindow}
 use Rattle.ht_window.specs.Standing.{Standing}
 use Rattle.ht_window.specs.Cells.{AreCells}
 use Rattle.ht_window.specs.Turns.{HoldsOrPends, is_reached}
-use Rattle.ht_window.proofs.RenewLaws.{renewed_more, all_renewed, all_followed}
+use Rattle.ht_window.proofs.RenewLaws.{renewed_more, plan_renewed, all_renewed, all_followed}
 use Rattle.ht_window.proofs.turn.follow_turn.Goals as goal
 
 pub returns-clause-cells : goal.returns-clause-cells
@@ -42,15 +41,12 @@ returns-clause-cells c =
     subst (λ (n : Standing). (x : ℕ) → n.window.circuit.inputs ≤ x → x < first_gate_net n.window.circuit
     → HoldsOrPends t b 0 x) first.standing three.holds in
     let all = all_renewed s t a b c.args.before c.requires.holds whole before now latches in
+    let plan = plan_renewed s t a b whole c.requires.circuit c.requires.frames in
     let e = c.in_ok-settle.ensures in
     subst (λ (n : Standing). AreCells n.window n.path c.settle.new.plant.cells.values) whole.standing
     (all_followed t c.settle.new.self b c.settle.new.plant
     (subst (λ (n : Standing). IsWindow n.window) (sym whole.standing) c.decided.ensures.window)
-    (ap (λ (p : PlanState). p.circuit) whole.plan ∙ (c.requires.circuit
-    ∙ sym (ap (λ (n : Standing). n.window.circuit) whole.standing)))
-    (ap (λ (p : PlanState). p.frames) whole.plan ∙ (c.requires.frames
-    ∙ sym (ap (λ (n : Standing). n.window.frames) whole.standing)))
-    e.plan
+    plan.0 plan.1 e.plan
     (subst (λ (n : Standing). (f x : ℕ) → f < n.window.frames → x < net_count n.window.circuit → HoldsOrPends t b f x)
     (sym whole.standing) all)
     e.keeps e.agree e.none)

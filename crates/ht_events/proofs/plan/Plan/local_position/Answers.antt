@@ -37,29 +37,30 @@ pub returns-clause-item : goal.returns-clause-item
 returns-clause-item c = item_inside c.args.self.now.circuit c.args.self.now.frames c.args.frame c.args.local
     c.requires.frame c.requires.local
 
-pub returns-clause-only : goal.returns-clause-only
-returns-clause-only c =
+-- no other item stands there, and what reads the item stands later
+stands : (c : goal.After-rank) → let s = c.args.self.now in let x = item_at s.circuit c.args.frame c.args.local in
+    ((y : ℕ) → y < item_count s.circuit s.frames → position_at s y ≡ position_at s x → y ≡ x)
+    × ((y : ℕ) → IsLoad s.circuit s.frames x y → position_at s x < position_at s y)
+stands c =
     let a = c.self.inside in
     let f = a.frame_plan.value in
+    let x = item_at f.circuit c.args.frame c.args.local in
     let P : PlanState → Type 0 = λ (s : PlanState). c.args.frame < s.frames → c.args.local < frame_items s.circuit
-    → (y : ℕ) → y < item_count s.circuit s.frames
+    → ((y : ℕ) → y < item_count s.circuit s.frames
     → position_at s y ≡ position_at s (item_at s.circuit c.args.frame c.args.local)
-    → y ≡ item_at s.circuit c.args.frame c.args.local in
+    → y ≡ item_at s.circuit c.args.frame c.args.local)
+    × ((y : ℕ) → IsLoad s.circuit s.frames (item_at s.circuit c.args.frame c.args.local) y
+    → position_at s (item_at s.circuit c.args.frame c.args.local) < position_at s y) in
     subst P c.self.view_is
-    (λ fs ls y known e. positions_differ f.circuit f.order f.ranks (ranking c) a.frames y
-    (item_at f.circuit c.args.frame c.args.local) known (item_inside f.circuit a.frames c.args.frame c.args.local fs ls)
-    e)
+    (λ fs ls.
+    let known = item_inside f.circuit a.frames c.args.frame c.args.local fs ls in (
+      λ y ys e. positions_differ f.circuit f.order f.ranks (ranking c) a.frames y x ys known e,
+      λ y load. loads_later f.circuit f.order f.ranks (ranking c) a.frames x y known load,
+    ))
     c.requires.frame c.requires.local
 
+pub returns-clause-only : goal.returns-clause-only
+returns-clause-only c = (stands c).0
+
 pub returns-clause-later : goal.returns-clause-later
-returns-clause-later c =
-    let a = c.self.inside in
-    let f = a.frame_plan.value in
-    let P : PlanState → Type 0 = λ (s : PlanState). c.args.frame < s.frames → c.args.local < frame_items s.circuit
-    → (y : ℕ) → IsLoad s.circuit s.frames (item_at s.circuit c.args.frame c.args.local) y
-    → position_at s (item_at s.circuit c.args.frame c.args.local) < position_at s y in
-    subst P c.self.view_is
-    (λ fs ls y load. loads_later f.circuit f.order f.ranks (ranking c) a.frames
-    (item_at f.circuit c.args.frame c.args.local) y (item_inside f.circuit a.frames c.args.frame c.args.local fs ls)
-    load)
-    c.requires.frame c.requires.local
+returns-clause-later c = (stands c).1

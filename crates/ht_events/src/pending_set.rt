@@ -1,4 +1,4 @@
-//! Which positions are marked.
+//! Which positions have a pending item.
 ghost use Rattle.std.specs.Prelude.{◌≡◌, ℕ, ◌<◌, ◌≤◌, true, false, length, get_or, replicate, set, IfOk, IfSome, IfNone};
 
 use ht_ranks::BitSet;
@@ -8,32 +8,32 @@ use std::marker::Model;
 /// A mark for each position below a bound, or none. What is marked stands from `low` to `last`, so that the search for
 /// a mark looks nowhere else.
 #[derive(Drop)]
-pub struct Marks {
+pub struct PendingSet {
     set: BitSet,
     low: u32,
     last: u32,
 }
 
-impl Model for Marks {
+impl Model for PendingSet {
     ghost use Rattle.std.specs.Prelude.{List, Bool};
-    ghost use Rattle.ht_events.specs.Marks.{IsMarks};
+    ghost use Rattle.ht_events.specs.PendingSets.{IsPendingSet};
 
     ghost Value = { List Bool };
 
     ghost view = { λ a. a.set };
 
-    ghost invariant = { IsMarks };
+    ghost invariant = { IsPendingSet };
 }
 
-impl Marks {
-    /// No marks, of positions below a bound.
+impl PendingSet {
+    /// No mark, of positions below a bound.
     ///
     /// # Errors
     /// Out of memory.
-    pub fn new(alloc: Global, bound: u32) -> Result<Marks, AllocError>
+    pub fn new(alloc: Global, bound: u32) -> Result<PendingSet, AllocError>
         ensures { IfOk result (λ marks. marks ≡ replicate bound false) }
     {
-        Ok(Marks {
+        Ok(PendingSet {
             set: BitSet::new(alloc, bound)?,
             low: u32::MAX,
             last: 0,
