@@ -131,7 +131,8 @@ impl<'c, 's> FreshWindow<'c, 's> {
         requires good { length good.now ≡ length kept.circuit.dffs }
         requires faulty { length faulty.now ≡ length kept.circuit.dffs }
         ensures { IfOk result
-            (λ window. window ≡ forward_window kept.entry.circuit fault frames good.now faulty.now) }
+            (λ window. window
+            ≡ forward_window kept.entry.circuit fault frames good.now faulty.now) }
     {
         let start = FreshStart::States { good, faulty };
         FreshWindow::new(alloc, kept, Some(fault), frames, start)

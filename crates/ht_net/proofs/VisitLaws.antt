@@ -71,8 +71,8 @@ below_known first gates levels args below count known h = let b = known h.pin h.
 
 pub turn_push : (first : ℕ) (gates : List Gate) (levels : List ℕ) (seen : List Bool) (path : List ℕ) (gate below : ℕ)
     → below < length gates
-    → IsPath first gates levels seen path → IsPathEnd path gate → ReadsGate first gates gate below → get_or seen below false
-    ≡ false
+    → IsPath first gates levels seen path → IsPathEnd path gate → ReadsGate first gates gate below
+    → get_or seen below false ≡ false
     → IsPath first gates levels (set seen below true) (path ++ below ∷ [])
 turn_push first gates levels seen path gate below known walk top reads new =
     path_push first gates levels seen path below known new
@@ -105,8 +105,8 @@ on_path first gates levels seen path args below known walk waits old =
 
 pub turn_cycle : (first : ℕ) (gates : List Gate) (levels : List ℕ) (seen : List Bool) (path tail : List ℕ)
     (gate below : ℕ)
-    → IsPath first gates levels seen path → IsPathEnd path gate → ReadsGate first gates gate below → IsTail below path tail
-    → IsGateCycle first gates tail
+    → IsPath first gates levels seen path → IsPathEnd path gate → ReadsGate first gates gate below
+    → IsTail below path tail → IsGateCycle first gates tail
 turn_cycle first gates levels seen path tail gate below walk top reads h =
     subst (λ (t : List ℕ). IsGateCycle first gates t) (sym h.is_tail)
     (cycle_found first gates levels seen path h.place below h.is_place h.is

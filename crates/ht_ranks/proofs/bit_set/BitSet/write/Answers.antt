@@ -34,7 +34,7 @@ pub returns : goal.returns
 returns c =
     let a = c.self.inside in
     let at = bit_of a c.self.invariant c.args.self.now c.self.view_is c.args.i c.requires in
-    ap (marks_of a.bound) (word_written a.words.items c.args.i c.index.result.now c.with_bit.result c.args.mark at.inside
-    c.index.ensures c.with_bit.ensures)
+    ap (marks_of a.bound) (word_written a.words.items c.args.i c.index.result.now c.with_bit.result c.args.mark
+    at.inside c.index.ensures c.with_bit.ensures)
     ∙ (mark_written a.bound a.words.items c.args.i c.args.mark at.below at.inside
     ∙ ap (λ (l : List Bool). set l c.args.i c.args.mark) c.self.view_is)
