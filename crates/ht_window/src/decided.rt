@@ -67,7 +67,8 @@ impl<'c> Decided<'c> {
         // for the proof: the circuit is well formed
         let _ = circuit.nets();
         let start = start.copied(alloc)?;
-        let values = Cells::new(alloc, frames * inputs + (dffs + dffs), None)?;
+        let count = frames * inputs + (dffs + dffs);
+        let values = Cells::from_values(alloc, vec![in alloc; None; count as usize]?);
         Ok(Decided {
             circuit,
             fault,
