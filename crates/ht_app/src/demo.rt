@@ -4,7 +4,7 @@ ghost use Rattle.ht_ports.specs.declared.ports.OutPort.TheVariants as out_port;
 ghost use Rattle.ht_faults.specs.Sites.{faults_of};
 ghost use Rattle.ht_collapse.specs.Classes.{AreClasses};
 ghost use Rattle.ht_demo.specs.Demo.{demo_netlist};
-ghost use Rattle.ht_engine.specs.EngineStands.{EngineStandsFor, HasSameWork, remaining};
+ghost use Rattle.ht_engine.specs.EngineStands.{EngineStandsFor, HasSameWork};
 ghost use Rattle.ht_files.specs.Generated.{IsTotalOf};
 ghost use Rattle.ht_asked.specs.Asked as asked;
 ghost use Rattle.ht_asked.specs.declared.limits.TheConstants.{MAX_SIZE, MIN_SIZE};
@@ -87,8 +87,8 @@ fn make_steps(engine: &mut Engine) -> Result<(), AllocError>
     }
 }
 
-// Makes all steps of a new engine, and the total line of the report on them. It borrows the engine, since each way on
-// which a value is dropped is a goal.
+// Makes all steps of a new engine, and the total line of the report on them.
+// For the proof: it borrows the engine, since each way on which a value is dropped is a goal.
 fn make_total(
     alloc: Global,
     prepared: &Prepared,

@@ -1,7 +1,7 @@
 //! The command `gen`.
 //!
-//! `create` makes the three files, `sizes` begins the proofs, `steps` writes the engine's steps, and `fill` does all of
-//! it, with the report at the end.
+//! `create` makes the three files, and `fill` writes them: `sizes` begins the proofs, `steps` writes the engine's steps,
+//! and the report comes last.
 ghost use Rattle.std.specs.Prelude.{◌≡◌, ◌≤◌, [], IfErr, OnOk};
 ghost use Rattle.ht_ports.specs.declared.ports.OutPort.TheVariants as out_port;
 ghost use Rattle.ht_faults.specs.Sites.{faults_of};
@@ -31,8 +31,8 @@ use ht_net::Circuit;
 use ht_ports::Desk;
 use std::alloc::Global;
 
-// Creates the files, and writes a new engine's steps and the report. It borrows the engine, since each way on which a
-// value is dropped is a goal.
+// Creates the files, and writes a new engine's steps and the report.
+// For the proof: it borrows the engine, since each way on which a value is dropped is a goal.
 fn make_files<D: Desk>(
     alloc: Global,
     circuit: &Circuit,
