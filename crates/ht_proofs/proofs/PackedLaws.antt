@@ -27,33 +27,18 @@ use Rattle.ht_proofs.specs.PackedView.{PackedView, GraderStandsFor, chosen_fault
 use Rattle.ht_proofs.specs.Applied.{IsApplied, IsFirstSeen, faulty_state, good_state, grader_frame, groups_of, live_count, machine_at}
 use Rattle.ht_proofs.specs.LaneGrades.{no_grade, grade_at}
 use Rattle.ht_proofs.specs.Batches.{IsGradedFrame, machine_from, undetected_count}
-use Rattle.ht_proofs.specs.PackedOf.{IsPackedGrader, faulty_states, verdicts_of}
+use Rattle.ht_proofs.specs.Undetected.{is_undetected, undetected_of, verdicts_of}
+use Rattle.ht_proofs.specs.PackedOf.{IsPackedGrader, faulty_states}
 use Rattle.ht_proofs.proofs.DiffLaws.{state_length}
-use Rattle.ht_proofs.proofs.VectorLaws.{found_inside}
+use Rattle.ht_proofs.proofs.UndetectedLaws.{filter_each, verdict_of}
+use Rattle.ht_proofs.proofs.VectorLaws.{found_inside, option_cases}
 
 -- ---- what is read of the grades
-
-option_cases : {X : Type 0} → (x : Option X) → (x ≡ None) ⊎ ((p : X) × (x ≡ Some p))
-option_cases None = inl refl
-option_cases (Some p) = inr (p, refl)
-
--- the verdict of fault k, also where there is no such fault
-pub verdict_of : (grades : List Grade) (k : ℕ) → get_or (verdicts_of grades) k None ≡ (grade_at grades k).verdict
-verdict_of [] k = refl
-verdict_of (g ∷ grades) zero = refl
-verdict_of (g ∷ grades) (suc k) = verdict_of grades k
 
 pub state_of : (latches : List Tern) (grades : List Grade) (k : ℕ) → k < length grades
     → get_or (faulty_states latches grades) k [] ≡ with_differences latches (grade_at grades k).diffs
 state_of latches grades k inside =
     get_or-map (λ (g : Grade). with_differences latches g.diffs) grades k no_grade [] inside
-
-pub verdicts_copied : (grades : List Grade) (verdicts : List (Option Place)) (n : ℕ) → length verdicts ≡ length grades
-    → length grades ≤ n → ((k : ℕ) → k < n → get_or verdicts k None ≡ (grade_at grades k).verdict)
-    → verdicts ≡ verdicts_of grades
-verdicts_copied grades verdicts n same done copied =
-    ext_get_or None verdicts (verdicts_of grades) (same ∙ sym (length-map grades (λ (g : Grade). g.verdict)))
-    (λ k inside. copied k (omega (arith, inside, same, done)) ∙ sym (verdict_of grades k))
 
 -- the latch of a fault's machine
 pub latch_is : (latches : List Tern) (grades : List Grade) (k j : ℕ) (grade : Grade) (good value : Tern)
@@ -142,6 +127,14 @@ verdicts_at_start : (n : ℕ) → replicate n None ≡ verdicts_of (replicate n 
 verdicts_at_start zero = refl
 verdicts_at_start (suc n) = ap (λ l. None ∷ l) (verdicts_at_start n)
 
+-- at the start every fault is undetected
+undetected_at_start : (n : ℕ) → undetected_of (replicate n None) ≡ range_with_len 0 n
+undetected_at_start n =
+    let none : List (Option Place) = replicate n None in
+    filter_each (is_undetected none) (λ k. ap (λ (v : Option Place). is_none v) (none_at_start n k))
+    (range_with_len 0 (length none))
+    ∙ ap (range_with_len 0) (length-replicate {A = Option Place} n None)
+
 pub start_stands : (c : Netlist) (faults : List Fault) → GraderStandsFor (grades_at_start c faults) []
 start_stands c faults = record {
   counted = refl;
@@ -177,12 +170,13 @@ chosen_sites c faults which k fault is known has =
 
 -- the fields at the start
 pub start_fields : (c d : Netlist) (faults : List Fault) (which : List ℕ) (chosen : List Fault) (latches : List Tern)
-    (verdicts : List (Option Place)) (grades : List Grade) → faults ≡ faults_of c
+    (verdicts : List (Option Place)) (undetected : List ℕ) (grades : List Grade) → faults ≡ faults_of c
     → All (λ i. i < length faults) which → d ≡ c → chosen ≡ chosen_faults faults which → latches ≡ unknown_state c
-    → verdicts ≡ replicate (length chosen) None → grades ≡ replicate (length chosen) no_grade
-    → IsPackedGrader d chosen 0 latches verdicts grades true
-start_fields c d faults which chosen latches verdicts grades is known same picked unknown none empty =
-    subst (λ (x : Netlist). IsPackedGrader x chosen 0 latches verdicts grades true) (sym same) (record {
+    → verdicts ≡ replicate (length chosen) None → undetected ≡ range_with_len 0 (length chosen)
+    → grades ≡ replicate (length chosen) no_grade
+    → IsPackedGrader d chosen 0 latches verdicts undetected grades true
+start_fields c d faults which chosen latches verdicts undetected grades is known same picked unknown none all empty =
+    subst (λ (x : Netlist). IsPackedGrader x chosen 0 latches verdicts undetected grades true) (sym same) (record {
       latch_count = ap (λ (l : List Tern). length l) unknown ∙ length-replicate (length c.dffs) Unk;
       verdict_count = ap (λ (l : List (Option Place)). length l) none ∙ length-replicate (length chosen) None;
       grade_count = ap (λ (l : List Grade). length l) empty ∙ length-replicate (length chosen) no_grade;
@@ -193,6 +187,7 @@ start_fields c d faults which chosen latches verdicts grades is known same picke
           let bad : None ≡ Some p =
           sym (ap (λ (l : List (Option Place)). get_or l k None) none ∙ none_at_start (length chosen) k) ∙ at in
           cc;
+      listed = all ∙ (sym (undetected_at_start (length chosen)) ∙ ap undetected_of (sym none));
       same = λ live. none ∙ (verdicts_at_start (length chosen) ∙ ap verdicts_of (sym empty));
       known = λ live k.
           subst (λ (g : Grade). AreLatches c g.diffs)
@@ -302,13 +297,13 @@ is_applied g old vector frame h new run = record {
 
 -- the fields after it
 pub run_fields : (g : PackedView) (old : List Grade) (vector : List Bool) (frame : GroupView) (h : PackedView)
-    (new : List Grade) → HasRun g old vector frame h new
-    → IsPackedGrader g.circuit g.faults g.count g.latches g.verdicts old g.live → g.count < 2 ^ 62
-    → ((k : ℕ) → AreLatches frame.circuit (grade_at new k).diffs)
-    → IsPackedGrader h.circuit h.faults h.count h.latches h.verdicts new h.live
-run_fields g old vector frame h new run was few known =
+    (new : List Grade) (before after : List ℕ) → HasRun g old vector frame h new
+    → IsPackedGrader g.circuit g.faults g.count g.latches g.verdicts before old g.live → g.count < 2 ^ 62
+    → ((k : ℕ) → AreLatches frame.circuit (grade_at new k).diffs) → after ≡ undetected_of (verdicts_of new)
+    → IsPackedGrader h.circuit h.faults h.count h.latches h.verdicts after new h.live
+run_fields g old vector frame h new before after run was few known listed =
     let circuit : frame.circuit ≡ g.circuit = ap (λ (f : GroupView). f.circuit) run.frame_is in
-    subst (λ (x : PackedView). IsPackedGrader x.circuit x.faults x.count x.latches x.verdicts new x.live)
+    subst (λ (x : PackedView). IsPackedGrader x.circuit x.faults x.count x.latches x.verdicts after new x.live)
     (sym run.new_is) (record {
       latch_count = state_length frame.circuit (tern_rules None) frame.vector frame.latches
           ∙ ap (λ (c : Netlist). length c.dffs) circuit;
@@ -317,6 +312,7 @@ run_fields g old vector frame h new run was few known =
       sites = was.sites;
       few = omega (arith, few);
       places = λ k p at. place k p (sym (verdict_of new k) ∙ at);
+      listed = listed;
       same = λ live. refl;
       known = λ live k. subst (λ (c : Netlist). AreLatches c (grade_at new k).diffs) circuit (known k);
     })

@@ -221,7 +221,7 @@ first_new frame m list v number None last count none is = λ t o d. elim (le_or_
   | inr before ↦ none t o (detects_shorter frame.circuit m.fault list v t o before d)
 ]
 
-option_cases : {X : Type 0} → (x : Option X) → (x ≡ None) ⊎ ((p : X) × (x ≡ Some p))
+pub option_cases : {X : Type 0} → (x : Option X) → (x ≡ None) ⊎ ((p : X) × (x ≡ Some p))
 option_cases None = inl refl
 option_cases (Some p) = inr (p, refl)
 

@@ -2,13 +2,14 @@
 ghost use Rattle.std.specs.Prelude.{◌≡◌, ◌<◌, ◌≤◌, ◌+◌, ◌*◌, ◌++◌, ◌∷◌, ◌^◌, ℕ, [], List, Bool, None, true, false, min, length, get_or, map, replicate, IfOk, OnOk, OnErr, IsErr};
 ghost use Rattle.std.specs.List.{All};
 ghost use Rattle.std.specs.Option.{ForSome};
+ghost use Rattle.std.specs.List.{filter, range_with_len};
 ghost use Rattle.ht_tern.specs.declared.tern.Tern.TheVariants.{Unk};
 ghost use Rattle.ht_net.specs.Detection.{IsPlace, unknown_state};
 ghost use Rattle.ht_faults.specs.Sites.{faults_of};
 ghost use Rattle.ht_proofs.specs.PackedView.{GraderStandsFor, chosen_faults, grades_at_start, state_at, verdict_at};
 ghost use Rattle.ht_proofs.specs.Applied.{IsApplied, groups_of, max_steps};
 ghost use Rattle.ht_proofs.specs.LaneGrades.{no_grade};
-ghost use Rattle.ht_proofs.specs.PackedOf.{verdicts_of};
+ghost use Rattle.ht_proofs.specs.Undetected.{KeepsVerdicts, is_undetected, undetected_of, verdicts_of};
 
 use crate::batch::Batch;
 use crate::grade::Grade;
@@ -31,6 +32,8 @@ pub struct Grader<'c> {
     latches: Vec<Tern>,
     // what the vectors so far say; a frame that ends early leaves it as it was
     verdicts: Vec<Option<Place>>,
+    // the faults without a verdict, rising: a frame changes no other
+    undetected: Vec<usize>,
     // what a frame works on
     grades: Vec<Grade>,
     batch: Batch<'c>,
@@ -70,6 +73,17 @@ fn verdicts_at_start(alloc: Global, count: usize) -> Result<Vec<Option<Place>>, 
     Ok(verdicts)
 }
 
+// The numbers of so many faults, rising.
+fn all_numbers(alloc: Global, count: usize) -> Result<Vec<usize>, AllocError>
+    ensures { IfOk result (λ numbers. numbers.items ≡ range_with_len 0 count) }
+{
+    let mut numbers = Vec::with_capacity(alloc, count)?;
+    for k in 0..count {
+        numbers.push(k)?;
+    }
+    Ok(numbers)
+}
+
 // What is kept of so many faults before the first vector: the good machine and each faulty one hold the same.
 fn grades_at_start(alloc: Global, count: usize) -> Result<Vec<Grade>, AllocError>
     ensures { IfOk result (λ grades. grades.items ≡ replicate count no_grade) }
@@ -84,14 +98,31 @@ fn grades_at_start(alloc: Global, count: usize) -> Result<Vec<Grade>, AllocError
     Ok(grades)
 }
 
-// Writes the verdict of each fault.
-fn copy_verdicts(grades: &[Grade], verdicts: &mut [Option<Place>])
-    requires { length verdicts.old ≡ length grades.now }
+// Writes the verdicts of the faults that had none, after a frame.
+fn copy_verdicts(undetected: &[usize], grades: &[Grade], verdicts: &mut [Option<Place>])
+    requires each { length verdicts.old ≡ length grades.now }
+    requires known { All (λ k. k < length grades.now) undetected.now }
+    requires undetected { undetected.now ≡ undetected_of verdicts.old }
+    requires kept { KeepsVerdicts verdicts.old grades.now }
     ensures { verdicts.new ≡ verdicts_of grades.now }
 {
-    for (i, grade) in grades.iter().enumerate() {
-        verdicts[i] = grade.verdict;
+    for k in undetected {
+        verdicts[*k] = grades[*k].verdict;
     }
+}
+
+// Whether fault `k` has no verdict.
+fn is_undetected(verdicts: &[Option<Place>], k: usize) -> bool
+    ensures { result ≡ is_undetected verdicts.now k }
+{
+    k >= verdicts.len() || verdicts[k].is_none()
+}
+
+// Leaves those without a verdict among the numbers of faults.
+fn drop_detected(verdicts: &[Option<Place>], numbers: &mut Vec<usize>)
+    ensures { numbers.new.items ≡ filter (is_undetected verdicts.now) numbers.old.items }
+{
+    numbers.retain(|k| is_undetected(verdicts, *k));
 }
 
 // A latch for each flip-flop of a circuit, all unknown.
@@ -123,6 +154,7 @@ impl<'c> Grader<'c> {
         let faults = choose(alloc, faults, which)?;
         let latches = unknown_latches(alloc, circuit)?;
         let verdicts = verdicts_at_start(alloc, faults.len())?;
+        let undetected = all_numbers(alloc, faults.len())?;
         let grades = grades_at_start(alloc, faults.len())?;
         let batch = Batch::new(alloc, circuit)?;
         Ok(Grader {
@@ -130,6 +162,7 @@ impl<'c> Grader<'c> {
             count: 0,
             latches,
             verdicts,
+            undetected,
             grades,
             batch,
             live: true,
@@ -167,7 +200,8 @@ impl<'c> Grader<'c> {
         self.batch
             .grade_faults(&self.faults, self.count, &mut self.grades, steps)?;
         self.batch.read_latches(&mut self.latches);
-        copy_verdicts(&self.grades, &mut self.verdicts);
+        copy_verdicts(&self.undetected, &self.grades, &mut self.verdicts);
+        drop_detected(&self.verdicts, &mut self.undetected);
         self.count += 1;
         self.live = true;
         Ok(())

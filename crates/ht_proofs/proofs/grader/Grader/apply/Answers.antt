@@ -11,7 +11,8 @@ use Rattle.ht_proofs.specs.PackedView.{PackedView}
 use Rattle.ht_proofs.specs.Applied.{IsApplied}
 use Rattle.ht_proofs.specs.Batches.{IsGradedFrame}
 use Rattle.ht_proofs.specs.LaneGrades.{grade_at}
-use Rattle.ht_proofs.specs.PackedOf.{packed_of, verdicts_of}
+use Rattle.ht_proofs.specs.PackedOf.{packed_of}
+use Rattle.ht_proofs.specs.Undetected.{verdicts_of}
 use Rattle.ht_proofs.proofs.PackedLaws.{HasRun, grades_by, is_applied, run_fields, steps_within}
 use Rattle.ht_proofs.proofs.VectorLaws.{applied_stands}
 use Rattle.ht_proofs.proofs.grader.Grader.apply.Goals as goal
@@ -39,7 +40,7 @@ has_run c =
     let latches = with_items_is a.latches c.read_latches.new.latches (search rules)
     ∙ (c.read_latches.ensures ∙ c.in_ok-grade_faults.ensures.good) in
     let verdicts = with_items_is a.verdicts c.copy_verdicts.new.verdicts (search rules)
-    ∙ (c.copy_verdicts.ensures ∙ ap verdicts_of c.deref-3.ensures.value) in
+    ∙ (c.copy_verdicts.ensures ∙ ap verdicts_of c.deref-4.ensures.value) in
     let circuit = c.grade_faults.ensures.circuit ∙ ap (λ (g : GroupView). g.circuit) c.start.ensures.group in
     record {
       frame_is = c.start.ensures.group ∙ ap (λ (l : List Tern). record {
