@@ -1,4 +1,5 @@
 use Rattle.std.proofs.Common.{◌≡◌, ◌+◌, ◌∙◌, [], true, List, Option, length, rules, refl, sym, ap, subst, arith}
+use Rattle.std.specs.List.{filter}
 use Rattle.std.specs.Vec.{with_items}
 use Rattle.std.proofs.lemmas.List.{with_items_is}
 use Rattle.ht_tern.specs.declared.tern.Tern.{Tern}
@@ -12,8 +13,9 @@ use Rattle.ht_proofs.specs.Applied.{IsApplied}
 use Rattle.ht_proofs.specs.Batches.{IsGradedFrame}
 use Rattle.ht_proofs.specs.LaneGrades.{grade_at}
 use Rattle.ht_proofs.specs.PackedOf.{packed_of}
-use Rattle.ht_proofs.specs.Undetected.{verdicts_of}
+use Rattle.ht_proofs.specs.Undetected.{is_undetected, verdicts_of}
 use Rattle.ht_proofs.proofs.PackedLaws.{HasRun, grades_by, is_applied, run_fields, steps_within}
+use Rattle.ht_proofs.proofs.UndetectedLaws.{kept_after, left_after, listed_known}
 use Rattle.ht_proofs.proofs.VectorLaws.{applied_stands}
 use Rattle.ht_proofs.proofs.grader.Grader.apply.Goals as goal
 
@@ -88,7 +90,40 @@ returns-clause-steps c =
 pub invariant_of-self-2 : goal.invariant_of-self-2
 invariant_of-self-2 c =
     let few : c.self.inside.count ≡ c.args.self.now.count = ap (λ (g : PackedView). g.count) c.self.view_is in
-    run_fields (packed_of c.self.inside) c.self.inside.grades.items c.args.vector.now c.start.new.self.group (after c)
-    (graded c) (has_run c) c.self.invariant (omega (arith, few, c.requires.few))
+    let a = c.self.inside in
+    let run = has_run c in
+    let live : a.live ≡ true = search rules in
+    let kept = kept_after a.verdicts.items a.grades.items (graded c) (c.self.invariant.same live) run.all.kept in
+    let copied = c.deref-5.ensures.value ∙ with_items_is a.verdicts c.copy_verdicts.new.verdicts (search rules)
+    ∙ (c.copy_verdicts.ensures ∙ ap verdicts_of c.deref-4.ensures.value) in
+    let listed = left_after a.verdicts.items (graded c) a.undetected.items c.drop_detected.new.numbers.items
+    (omega (arith, c.self.invariant.verdict_count, c.self.invariant.grade_count, run.long)) c.self.invariant.listed
+    kept (c.drop_detected.ensures ∙ ap (λ (l : List (Option Place)). filter (is_undetected l) a.undetected.items) copied)
+    in
+    run_fields (packed_of a) a.grades.items c.args.vector.now c.start.new.self.group (after c) (graded c)
+    a.undetected.items c.drop_detected.new.numbers.items run c.self.invariant (omega (arith, few, c.requires.few))
     (λ k. subst (λ (l : List Grade). AreLatches c.start.new.self.group.circuit (grade_at l k).diffs)
-    (sym (graded_is c)) (c.in_ok-grade_faults.ensures.known k))
+    (sym (graded_is c)) (c.in_ok-grade_faults.ensures.known k)) listed
+
+pub copy_verdicts-requires-clause-known : goal.copy_verdicts-requires-clause-known
+copy_verdicts-requires-clause-known c =
+    let a = c.self.inside in
+    let long : length c.grade_faults.new.grades ≡ length a.grades.items = search rules in
+    let graded = c.deref-4.ensures.value ∙ with_items_is a.grades c.grade_faults.new.grades (search rules) in
+    listed_known a.verdicts.items c.deref-3.result.now (length c.deref-4.result.now)
+    (c.deref-3.ensures.value ∙ c.self.invariant.listed) (omega (
+      arith,
+      c.self.invariant.verdict_count,
+      c.self.invariant.grade_count,
+      long,
+      ap (λ (l : List Grade). length l) graded,
+    ))
+
+pub copy_verdicts-requires-clause-kept : goal.copy_verdicts-requires-clause-kept
+copy_verdicts-requires-clause-kept c =
+    let a = c.self.inside in
+    let live : a.live ≡ true = search rules in
+    let graded = c.deref-4.ensures.value ∙ with_items_is a.grades c.grade_faults.new.grades (search rules) in
+    kept_after c.deref_mut-3.result.now c.deref_mut.result.now c.deref-4.result.now
+    (c.deref_mut-3.ensures.value ∙ (c.self.invariant.same live ∙ ap verdicts_of (sym c.deref_mut.ensures.value)))
+    (λ j p found. ap (λ (l : List Grade). grade_at l j) graded ∙ c.in_ok-grade_faults.ensures.passed.kept j p found)
