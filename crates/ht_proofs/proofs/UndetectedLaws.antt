@@ -1,12 +1,13 @@
 -- The list of the faults that aren't detected, before and after a frame.
 use Rattle.std.proofs.Common.{◌≡◌, ◌≢◌, ◌<◌, ◌≤◌, ◌+◌, ◌∙◌, ℕ, zero, suc, List, [], ◌∷◌, ◌++◌, Bool, true, false, All, Option, Some, None, length, get_or, set, cond, inl, inr, refl, sym, ap, subst, arith}
 use Rattle.std.specs.Option.{is_none}
-use Rattle.std.specs.List.{filter, range_with_len}
+use Rattle.std.specs.List.{AllPairs, filter, range_with_len}
 use Rattle.std.proofs.lemmas.Bool.{cases_eq}
 use Rattle.std.proofs.lemmas.Grind.{get_or-set_at}
-use Rattle.std.proofs.lemmas.List.{ext_get_or, get_or-set_other, get_or_past, length-map, map-id}
-use Rattle.std.proofs.lemmas.List.Elements.{All-filter}
+use Rattle.std.proofs.lemmas.List.{ext_get_or, get_or-set_other, get_or_default, get_or_past, length-map, map-id}
+use Rattle.std.proofs.lemmas.List.Elements.{All-filter, filter_passes}
 use Rattle.std.proofs.lemmas.List.FromFn.{get_or-range_with_len, length-range_with_len, map-range_with_len_more}
+use Rattle.std.proofs.lemmas.List.Kept.{AllPairs-filter}
 use Rattle.ht_net.specs.declared.place.Place.{Place}
 use Rattle.ht_net.proofs.FrameLaws.{le_or_lt}
 use Rattle.ht_proofs.specs.declared.grade.Grade.{Grade}
@@ -99,6 +100,105 @@ undetected_listed verdicts numbers k is inside none =
     subst (λ (l : List ℕ). IsListed l k) (sym is)
     (passing_listed (is_undetected verdicts) (length verdicts) 0 k (omega arith) (omega (arith, inside))
     (ap (λ (v : Option Place). is_none v) none))
+
+-- and has no verdict
+none_of : (v : Option Place) → is_none v ≡ true → v ≡ None
+none_of None e = refl
+none_of (Some p) e = cc
+
+pub listed_none : (verdicts : List (Option Place)) (numbers : List ℕ) (at : ℕ) → numbers ≡ undetected_of verdicts
+    → at < length numbers → get_or verdicts (get_or numbers at 0) None ≡ None
+listed_none verdicts numbers at is inside =
+    let each : All (λ k. is_undetected verdicts k ≡ true) numbers =
+    subst (All (λ k. is_undetected verdicts k ≡ true)) (sym is)
+    (filter_passes (is_undetected verdicts) (range_with_len 0 (length verdicts))) in
+    none_of (get_or verdicts (get_or numbers at 0) None) (each at 0 inside)
+
+-- the list rises
+undetected_rises : (verdicts : List (Option Place)) → AllPairs (λ x y. x < y) (undetected_of verdicts)
+undetected_rises verdicts =
+    AllPairs-filter (λ x y. x < y) (is_undetected verdicts) (range_with_len 0 n) (λ i j d order inside.
+    let one = get_or-range_with_len 0 n i d (omega (arith, order, inside, long)) in
+    let two = get_or-range_with_len 0 n j d (omega (arith, inside, long)) in
+    omega (arith, one, two, order))
+  where
+    n : ℕ
+    n = length verdicts
+
+    long : length (range_with_len 0 n) ≡ n
+    long = length-range_with_len 0 n
+
+pub listed_rises : (verdicts : List (Option Place)) (numbers : List ℕ) (i j : ℕ) → numbers ≡ undetected_of verdicts
+    → i < j → j < length numbers → get_or numbers i 0 < get_or numbers j 0
+listed_rises verdicts numbers i j is order inside =
+    subst (λ (l : List ℕ). get_or l i 0 < get_or l j 0) (sym is)
+    (undetected_rises verdicts i j 0 order (subst (λ (l : List ℕ). j < length l) is inside))
+
+-- The number at a place of the list, or how many faults there are where the list has ended: each before it that comes
+-- after the numbers at earlier places has a verdict.
+pub none_between : (verdicts : List (Option Place)) (numbers : List ℕ) (at k count : ℕ)
+    → numbers ≡ undetected_of verdicts → ((j : ℕ) → j < at → j < length numbers → get_or numbers j 0 < k)
+    → k < get_or numbers at count → k < length verdicts → is_undetected verdicts k ≡ false
+none_between verdicts numbers at k count is earlier below known = elim (option_cases (get_or verdicts k None)) [
+  | inl none ↦ absurd (unlisted (undetected_listed verdicts numbers k is known none))
+  | inr p ↦ ap (λ (v : Option Place). is_none v) p.1
+]
+  where
+    unlisted : ¬ IsListed numbers k
+    unlisted found = elim (le_or_lt at found.0) [
+      | inl from ↦ elim (cases_eq at found.0) [
+        | inl here ↦
+            let there : get_or numbers at count ≡ get_or numbers at 0 =
+            get_or_default numbers at count 0 (omega (arith, here, found.1)) in
+            let same : get_or numbers at 0 ≡ get_or numbers found.0 0 = ap (λ n. get_or numbers n 0) here in
+            omega (arith, below, there, same, found.2)
+        | inr other ↦
+            let order : at < found.0 = omega (arith, from, other) in
+            let there : get_or numbers at count ≡ get_or numbers at 0 =
+            get_or_default numbers at count 0 (omega (arith, order, found.1)) in
+            omega (arith, below, there, found.2, listed_rises verdicts numbers at found.0 is order found.1)
+      ]
+      | inr before ↦ omega (arith, earlier found.0 before found.1, found.2)
+    ]
+
+-- the number at a place of the list, or how many faults there are
+pub next_within : (verdicts : List (Option Place)) (numbers : List ℕ) (at count : ℕ)
+    → numbers ≡ undetected_of verdicts → count ≤ length verdicts → get_or numbers at count ≤ length verdicts
+next_within verdicts numbers at count is few = elim (le_or_lt (length numbers) at) [
+  | inl past ↦ omega (arith, get_or_past numbers at count past, few)
+  | inr inside ↦ omega (
+    arith,
+    get_or_default numbers at count 0 inside,
+    listed_known verdicts numbers (length verdicts) is refl at 0 inside,
+  )
+]
+
+pub next_after : (verdicts : List (Option Place)) (numbers : List ℕ) (at x count : ℕ)
+    → numbers ≡ undetected_of verdicts → at < length numbers → x ≡ get_or numbers at 0 → length verdicts ≤ count
+    → x + 1 ≤ get_or numbers (at + 1) count
+next_after verdicts numbers at x count is here x_is all = elim (le_or_lt (length numbers) (at + 1)) [
+  | inl past ↦ omega (
+    arith,
+    get_or_past numbers (at + 1) count past,
+    listed_known verdicts numbers (length verdicts) is refl at 0 here,
+    x_is,
+    all,
+  )
+  | inr inside ↦ omega (
+    arith,
+    get_or_default numbers (at + 1) count 0 inside,
+    listed_rises verdicts numbers at (at + 1) is (omega arith) inside,
+    x_is,
+  )
+]
+
+pub earlier_below : (verdicts : List (Option Place)) (numbers : List ℕ) (at x : ℕ) → numbers ≡ undetected_of verdicts
+    → at < length numbers → x ≡ get_or numbers at 0 → (j : ℕ) → j < at + 1 → j < length numbers
+    → get_or numbers j 0 < x + 1
+earlier_below verdicts numbers at x is here x_is j less inside = elim (cases_eq j at) [
+  | inl same ↦ omega (arith, ap (λ n. get_or numbers n 0) same, x_is)
+  | inr other ↦ omega (arith, listed_rises verdicts numbers j at is (omega (arith, less, other)) here, x_is)
+]
 
 -- ---- the verdicts after a frame, copied fault by fault
 

@@ -197,8 +197,10 @@ impl<'c> Grader<'c> {
         }
         self.live = false;
         self.batch.start(vector, &self.latches, steps);
+        let faults = &self.faults;
+        let undetected = &self.undetected;
         self.batch
-            .grade_faults(&self.faults, self.count, &mut self.grades, steps)?;
+            .grade_faults(faults, undetected, self.count, &mut self.grades, steps)?;
         self.batch.read_latches(&mut self.latches);
         copy_verdicts(&self.undetected, &self.grades, &mut self.verdicts);
         drop_detected(&self.verdicts, &mut self.undetected);

@@ -13,7 +13,7 @@ use Rattle.ht_proofs.specs.Applied.{IsApplied}
 use Rattle.ht_proofs.specs.Batches.{IsGradedFrame}
 use Rattle.ht_proofs.specs.LaneGrades.{grade_at}
 use Rattle.ht_proofs.specs.PackedOf.{packed_of}
-use Rattle.ht_proofs.specs.Undetected.{is_undetected, verdicts_of}
+use Rattle.ht_proofs.specs.Undetected.{is_undetected, undetected_of, verdicts_of}
 use Rattle.ht_proofs.proofs.PackedLaws.{HasRun, grades_by, is_applied, run_fields, steps_within}
 use Rattle.ht_proofs.proofs.UndetectedLaws.{kept_after, left_after, listed_known}
 use Rattle.ht_proofs.proofs.VectorLaws.{applied_stands}
@@ -42,7 +42,7 @@ has_run c =
     let latches = with_items_is a.latches c.read_latches.new.latches (search rules)
     ∙ (c.read_latches.ensures ∙ c.in_ok-grade_faults.ensures.good) in
     let verdicts = with_items_is a.verdicts c.copy_verdicts.new.verdicts (search rules)
-    ∙ (c.copy_verdicts.ensures ∙ ap verdicts_of c.deref-4.ensures.value) in
+    ∙ (c.copy_verdicts.ensures ∙ ap verdicts_of c.deref-5.ensures.value) in
     let circuit = c.grade_faults.ensures.circuit ∙ ap (λ (g : GroupView). g.circuit) c.start.ensures.group in
     record {
       frame_is = c.start.ensures.group ∙ ap (λ (l : List Tern). record {
@@ -94,8 +94,8 @@ invariant_of-self-2 c =
     let run = has_run c in
     let live : a.live ≡ true = search rules in
     let kept = kept_after a.verdicts.items a.grades.items (graded c) (c.self.invariant.same live) run.all.kept in
-    let copied = c.deref-5.ensures.value ∙ with_items_is a.verdicts c.copy_verdicts.new.verdicts (search rules)
-    ∙ (c.copy_verdicts.ensures ∙ ap verdicts_of c.deref-4.ensures.value) in
+    let copied = c.deref-6.ensures.value ∙ with_items_is a.verdicts c.copy_verdicts.new.verdicts (search rules)
+    ∙ (c.copy_verdicts.ensures ∙ ap verdicts_of c.deref-5.ensures.value) in
     let listed = left_after a.verdicts.items (graded c) a.undetected.items c.drop_detected.new.numbers.items
     (omega (arith, c.self.invariant.verdict_count, c.self.invariant.grade_count, run.long)) c.self.invariant.listed
     kept (c.drop_detected.ensures ∙ ap (λ (l : List (Option Place)). filter (is_undetected l) a.undetected.items) copied)
@@ -109,9 +109,9 @@ pub copy_verdicts-requires-clause-known : goal.copy_verdicts-requires-clause-kno
 copy_verdicts-requires-clause-known c =
     let a = c.self.inside in
     let long : length c.grade_faults.new.grades ≡ length a.grades.items = search rules in
-    let graded = c.deref-4.ensures.value ∙ with_items_is a.grades c.grade_faults.new.grades (search rules) in
-    listed_known a.verdicts.items c.deref-3.result.now (length c.deref-4.result.now)
-    (c.deref-3.ensures.value ∙ c.self.invariant.listed) (omega (
+    let graded = c.deref-5.ensures.value ∙ with_items_is a.grades c.grade_faults.new.grades (search rules) in
+    listed_known a.verdicts.items c.deref-4.result.now (length c.deref-5.result.now)
+    (c.deref-4.ensures.value ∙ c.self.invariant.listed) (omega (
       arith,
       c.self.invariant.verdict_count,
       c.self.invariant.grade_count,
@@ -123,7 +123,19 @@ pub copy_verdicts-requires-clause-kept : goal.copy_verdicts-requires-clause-kept
 copy_verdicts-requires-clause-kept c =
     let a = c.self.inside in
     let live : a.live ≡ true = search rules in
-    let graded = c.deref-4.ensures.value ∙ with_items_is a.grades c.grade_faults.new.grades (search rules) in
-    kept_after c.deref_mut-3.result.now c.deref_mut.result.now c.deref-4.result.now
+    let graded = c.deref-5.ensures.value ∙ with_items_is a.grades c.grade_faults.new.grades (search rules) in
+    kept_after c.deref_mut-3.result.now c.deref_mut.result.now c.deref-5.result.now
     (c.deref_mut-3.ensures.value ∙ (c.self.invariant.same live ∙ ap verdicts_of (sym c.deref_mut.ensures.value)))
     (λ j p found. ap (λ (l : List Grade). grade_at l j) graded ∙ c.in_ok-grade_faults.ensures.passed.kept j p found)
+
+pub grade_faults-requires-clause-undetected : goal.grade_faults-requires-clause-undetected
+grade_faults-requires-clause-undetected c =
+    let live : c.self.inside.live ≡ true = search rules in
+    c.deref-3.ensures.value ∙ (c.self.invariant.listed
+    ∙ ap undetected_of (c.self.invariant.same live ∙ ap verdicts_of (sym c.deref_mut.ensures.value)))
+
+pub grade_faults-requires-clause-numbers : goal.grade_faults-requires-clause-numbers
+grade_faults-requires-clause-numbers c =
+    listed_known c.self.inside.verdicts.items c.deref-3.result.now (length c.deref-2.result.now)
+    (c.deref-3.ensures.value ∙ c.self.invariant.listed)
+    (c.self.invariant.verdict_count ∙ ap (λ (l : List Fault). length l) (sym c.deref-2.ensures.value))
