@@ -25,7 +25,7 @@ use Rattle.ht_app.specs.Done.{IsDone}
 use Rattle.ht_app.specs.Errors.{exit_status}
 use Rattle.ht_app.specs.Run.{HasCause, IsWriteFault}
 use Rattle.ht_app.specs.Steps.{SaysPart, is_out, saying}
-use Rattle.ht_app.proofs.ChangedLaws.{IsWithin, changed_within}
+use Rattle.ht_app.proofs.ChangedLaws.{ArePortsWithin, changed_within}
 
 -- ---- what is found before it speaks
 
@@ -76,7 +76,7 @@ unchanged a = record {
 
 module _ (size seed : ℕ) where
   says_within : (status : ℕ) → (job_ports (demo size seed) status).writes Out ≡ true
-      → IsWithin saying (job_ports (demo size seed) status)
+      → ArePortsWithin saying (job_ports (demo size seed) status)
   says_within status may = record { reads = λ p off. refl; creates = λ p. inl refl; writes = writes }
     where
       writes : (p : OutPort) → (job_ports (demo size seed) status).writes p ≡ false → is_out p ≡ false

@@ -23,7 +23,7 @@ use Rattle.ht_app.specs.Truncated.{FilesHave, HasText, IsEmptiedIf, IsTruncated,
 use Rattle.ht_app.specs.Run.{HasCause}
 use Rattle.ht_app.specs.Steps.{reading}
 use Rattle.ht_app.specs.Generating.{FillCause, HasGenerated, LeavesFiles, file_name, filling, is_gen_port}
-use Rattle.ht_app.proofs.ChangedLaws.{IsWithin, changed_by_reading, changed_trans, changed_within}
+use Rattle.ht_app.proofs.ChangedLaws.{ArePortsWithin, changed_by_reading, changed_trans, changed_within}
 use Rattle.ht_app.proofs.PortsLaws.{never_answered, ends_reading, reading_within}
 use Rattle.ht_app.proofs.OutputLaws.{created_as, report_earlier}
 use Rattle.ht_app.proofs.EndLaws.{fault_later}
@@ -153,21 +153,21 @@ module _ (netlist : List ℕ) (names : Names) (options : GenOptions) where
       written Out off = out
       written Err off = x.written Err refl
 
-  finishing : IsWithin (filling names) (job_ports job 0)
+  finishing : ArePortsWithin (filling names) (job_ports job 0)
   finishing = record {
     reads = λ p off. refl;
     creates = created_alike names (job_ports job 0).creates refl refl refl;
     writes = written_alike (job_ports job 0).writes refl refl refl refl;
   }
 
-  failing : IsWithin (filling names) (job_ports job 5)
+  failing : ArePortsWithin (filling names) (job_ports job 5)
   failing = record {
     reads = λ p off. refl;
     creates = created_alike names (job_ports job 5).creates refl refl refl;
     writes = written_alike (job_ports job 5).writes refl refl refl refl;
   }
 
-  running_out : IsWithin files (job_ports job 6)
+  running_out : ArePortsWithin files (job_ports job 6)
   running_out = record {
     reads = λ p off. refl;
     creates = created_alike names (job_ports job 6).creates refl refl refl;

@@ -15,7 +15,7 @@ use Rattle.ht_bench.proofs.StatedLaws.{states_one, same_statements}
 use Rattle.ht_bench.proofs.ProgressLaws.{readings_from}
 
 -- a line of the rest has the net in this role, and the first one is the first of the text
-pub record IsAhead (text rest : List ℕ) (count : ℕ) (role : Role) (name : Name) : Type 0 where
+pub record HasLineAhead (text rest : List ℕ) (count : ℕ) (role : Role) (name : Name) : Type 0 where
   pub after : List Statement
   pub rest_lines : readings_of rest ≡ map stated after
   pub short : count + length rest ≤ length text
@@ -35,7 +35,7 @@ first_stated reading readings [] e = absurd (cc)
 first_stated reading readings (s ∷ statements) e = (s, statements, refl, cc, cc)
 
 pub nothing_before : (text : List ℕ) (role : Role) (name : Name) → HasNet text role name
-    → IsAhead text text 0 role name
+    → HasLineAhead text text 0 role name
 nothing_before text role name has = record {
   after = has.statements;
   rest_lines = has.lines;
@@ -48,7 +48,7 @@ nothing_before text role name has = record {
 }
 
 module _ {text rest : List ℕ} (line more : List ℕ) {count : ℕ} {role : Role} {name : Name}
-    (is : IsAhead text rest count role name) (first : lines_of rest ≡ line ∷ lines_of more) where
+    (is : HasLineAhead text rest count role name) (first : lines_of rest ≡ line ∷ lines_of more) where
   next_stated : FirstStated (reading_of line) (readings_of more) is.after
   next_stated = first_stated (reading_of line) (readings_of more) is.after
       (sym (readings_from rest line more first) ∙ is.rest_lines)
@@ -65,7 +65,7 @@ module _ {text rest : List ℕ} (line more : List ℕ) {count : ℕ} {role : Rol
     line_found has statements lines = sym (is.line statements lines ∙ rw (after_is, has) refl)
 
     pub line_passed : length more < length rest → has_name (nets_in role statement) name ≡ false
-        → IsAhead text more (count + 1) role name
+        → HasLineAhead text more (count + 1) role name
     line_passed shorter absent = record {
       after = next_stated.1;
       rest_lines = next_stated.4;
@@ -76,7 +76,7 @@ module _ {text rest : List ℕ} (line more : List ℕ) {count : ℕ} {role : Rol
     }
 
 -- the line comes before the text ends
-pub not_at_end : {text rest : List ℕ} {count : ℕ} {role : Role} {name : Name} → IsAhead text rest count role name
+pub not_at_end : {text rest : List ℕ} {count : ℕ} {role : Role} {name : Name} → HasLineAhead text rest count role name
     → rest ≡ [] → ⊥
 not_at_end {text} {rest} {count} {role} {name} is none =
     ended is.after (ap readings_of (sym none) ∙ is.rest_lines) is.has

@@ -16,13 +16,13 @@ pub record HasReader (rows : List NetRow) (items : List ℕ) (x l : ℕ) : Type 
   pub at : get_or items place 0 ≡ l
 
 -- each row has room for so many more readers before the next begins
-pub record HasRoom (rows : List NetRow) (items : List ℕ) (room : ℕ → ℕ) : Type 0 where
+pub record HasRowRoom (rows : List NetRow) (items : List ℕ) (room : ℕ → ℕ) : Type 0 where
   pub rises : (x : ℕ) → (row_of rows x).start ≤ (row_of rows x).end
   pub apart : (x y : ℕ) → x < y → y < length rows → (row_of rows x).end + room x ≤ (row_of rows y).start
   pub within : (x : ℕ) → x < length rows → (row_of rows x).end + room x ≤ length items
 
 pub room_kept : (rows : List NetRow) (items : List ℕ) (room left : ℕ → ℕ) → ((x : ℕ) → left x ≤ room x)
-    → HasRoom rows items room → HasRoom rows items left
+    → HasRowRoom rows items room → HasRowRoom rows items left
 room_kept rows items room left less h = record {
   rises = h.rises;
   apart = λ x y before known. let a = h.apart x y before known in let l = less x in omega (arith, a, l);
@@ -44,7 +44,7 @@ few_still items i local more e few =
     omega (arith, same, long, few)
 
 module _ (rows : List NetRow) (items : List ℕ) (n local : ℕ) (inside : n < length rows) (room : ℕ → ℕ)
-    (h : HasRoom rows items room) (some : 0 < room n) where
+    (h : HasRowRoom rows items room) (some : 0 < room n) where
   abbrev more_rows : List NetRow
   more_rows = rows_with rows n
 
@@ -174,7 +174,7 @@ module _ (rows : List NetRow) (items : List ℕ) (n local : ℕ) (inside : n < l
       | inr p ↦ let e = other_end x p.1 in let r = rest x in (omega (arith, e), omega (arith, e, r))
     ]
 
-    pub room_left : HasRoom more_rows more_items left
+    pub room_left : HasRowRoom more_rows more_items left
     room_left = record {
       rises = λ x. let s = starts x in let e = (ends x).0 in let r = h.rises x in omega (arith, s, e, r);
       apart = λ x y before known.

@@ -12,7 +12,7 @@ use Rattle.ht_events.specs.declared.readers.NetRow.{NetRow}
 use Rattle.ht_events.specs.Items.{IsDffOn, IsGateOn, ReadsNet}
 use Rattle.ht_events.specs.NetRows.{no_row, row_of, readers_in, lists_of, AreNetRows}
 use Rattle.ht_events.specs.FramePlans.{IsTable}
-use Rattle.ht_events.proofs.RowLaws.{HasReader, HasRoom, rows_with, items_with, room_there, reader_has, reader_keeps, reader_only, room_left}
+use Rattle.ht_events.proofs.RowLaws.{HasReader, HasRowRoom, rows_with, items_with, room_there, reader_has, reader_keeps, reader_only, room_left}
 
 -- how often the gates from g on read net x
 abbrev pub reads_from : Netlist → ℕ → ℕ → ℕ
@@ -109,20 +109,20 @@ part_more c Has g n all pins t = record {
 -- the rows with the first j flip-flops, and room for all that is still to come
 pub record HasDffs (c : Netlist) (rows : List NetRow) (items : List ℕ) (j : ℕ) : Type 0 where
   pub count : length rows ≡ net_count c
-  pub room : HasRoom rows items (λ x. times x (drop j c.dffs) + reads_from c 0 x)
+  pub room : HasRowRoom rows items (λ x. times x (drop j c.dffs) + reads_from c 0 x)
   pub sound : IsSound c (HasReader rows items)
   pub dffs : (x k : ℕ) → k < j → IsDffOn c k x → HasReader rows items x k
 
 -- the rows with all flip-flops and the first g gates
 pub record HasGates (c : Netlist) (rows : List NetRow) (items : List ℕ) (g : ℕ) : Type 0 where
   pub count : length rows ≡ net_count c
-  pub room : HasRoom rows items (reads_from c g)
+  pub room : HasRowRoom rows items (reads_from c g)
   pub table : IsPartTable c (HasReader rows items) g
 
 -- the rows with the first i pins of gate g beside
 pub record HasPins (c : Netlist) (rows : List NetRow) (items : List ℕ) (g i : ℕ) : Type 0 where
   pub count : length rows ≡ net_count c
-  pub room : HasRoom rows items (λ x. times x (drop i (gate_at c g).args) + reads_from c (g + 1) x)
+  pub room : HasRowRoom rows items (λ x. times x (drop i (gate_at c g).args) + reads_from c (g + 1) x)
   pub table : IsPartTable c (HasReader rows items) g
   pub pins : (j : ℕ) → j < i → HasReader rows items (arg_at c g j) (length c.dffs + g)
 

@@ -116,7 +116,7 @@ pub record HaveFreePins (c : Netlist) (x used : ℕ) (words : List Machines) : T
   pub free : (w : ℕ) (d : Machines) → w < 4
       → AreGateLanes (get_or words w d).lines.faults.items (x - first_gate_net c) 0
 
--- and each net that isn't pending has its value in each machine
+-- What an evaluation reads belongs to the circuit, and each net that isn't pending has its value in each machine.
 pub record AreRunning (c : Netlist) (s : Schedule) (pending : List Bool) (m : Machines) : Type 0 where
   pub room : HasRunRoom c m
   pub quiet : QuietHaveValues c s m.lines.faults.items m.sources.words pending m.nets.words

@@ -39,6 +39,7 @@ fn touch_if(changed: bool, ranks: &[u32], pending: &mut BitSet)
 fn evaluations(circuit: &Circuit, rank: u32, words: u32) -> u32
     ensures { result ≡ (if nat_lt rank (first_gate_net circuit.now) then 0 else words) }
 {
+    // for the proof: the circuit is well formed
     let _ = circuit.nets();
     if rank < circuit.inputs() + circuit.dffs() {
         0

@@ -18,6 +18,7 @@ pub fn are_free(circuit: &Circuit, words: &[Machines], used: u32, net: u32) -> b
     requires net { net < net_count circuit.now }
     ensures { result ≡ true → HaveFreePins circuit.now net used words.now }
 {
+    // for the proof: the circuit is well formed
     let _ = circuit.nets();
     let first = circuit.inputs() + circuit.dffs();
     if net < first || used != 4 || words.len() != 4 {

@@ -7,7 +7,7 @@ ghost use Rattle.ht_net.specs.Detection.{terns_of};
 ghost use Rattle.ht_lanes.specs.Lanes.{is_set, lane};
 ghost use Rattle.ht_diff.specs.Differences.{with_differences};
 ghost use Rattle.ht_group.specs.GroupView.{AreLatches, FaultyMachine, HasSite, faulty_next, faulty_output, good_next, good_output, lane_count, max_machines, max_words, words_for};
-ghost use Rattle.ht_group.specs.MachineWords.{AreMachinesKept, HasWordRoom, IsBare, IsRestored};
+ghost use Rattle.ht_group.specs.MachineWords.{AreFirstChanged, AreMachinesKept, HasWordRoom, IsBare, IsRestored};
 ghost use Rattle.ht_group.specs.declared.machines.Machines.{Machines};
 ghost use Rattle.ht_group.specs.GoodFrames.{HasFrameRoom};
 ghost use Rattle.ht_group.specs.NetValues.{IsNetAt, faulty_value, good_value};
@@ -111,11 +111,7 @@ fn clear_words(circuit: &Circuit, words: &mut [Machines], used: u32)
     requires used { used ≤ length words.old }
     requires each { (w : ℕ) (d : Machines) → w < length words.old
         → HasWordRoom circuit.now (get_or words.old w d) }
-    ensures count { length words.new ≡ length words.old }
-    ensures first { (w : ℕ) (d : Machines) → w < used
-        → IsRestored circuit.now (get_or words.old w d) (get_or words.new w d) }
-    ensures rest { (w : ℕ) (d : Machines) → used ≤ w
-        → get_or words.new w d ≡ get_or words.old w d }
+    ensures { AreFirstChanged used (IsRestored circuit.now) words.old words.new }
 {
     for w in 0..used {
         words[w as usize].clear(circuit);
@@ -275,6 +271,7 @@ impl<'c> Group<'c> {
         requires { o < length self.now.circuit.outputs }
         ensures { IsNetAt self.now.circuit self.now.circuit.outputs o result }
     {
+        // for the proof: the circuit is well formed
         let _ = self.circuit.nets();
         self.circuit.output(o)
     }
@@ -284,6 +281,7 @@ impl<'c> Group<'c> {
         requires { j < length self.now.circuit.dffs }
         ensures { IsNetAt self.now.circuit self.now.circuit.dffs j result }
     {
+        // for the proof: the circuit is well formed
         let _ = self.circuit.nets();
         self.circuit.dff_data(j)
     }

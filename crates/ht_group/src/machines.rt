@@ -123,6 +123,7 @@ impl Machines {
         requires { HasFrameRoom circuit.now frame.now }
         ensures { IfOk result (λ machines. IsBare circuit.now machines) }
     {
+        // for the proof: the circuit is well formed
         let _ = circuit.nets();
         Ok(Machines {
             lines: StuckLines::new(alloc, circuit)?,

@@ -40,6 +40,7 @@ pub fn decided_cube(alloc: Global, window: &Window) -> Result<Items<Tern>, Alloc
         ≡ cube_of window.now.window.circuit window.now.decisions) }
 {
     let circuit = window.circuit();
+    // for the proof: the circuit is well formed
     let _ = circuit.nets();
     let mut cube = Items::new(alloc);
     for j in 0..circuit.dffs() {

@@ -39,6 +39,7 @@ pub fn search_one_frame(
     ensures circuit { bases.new.circuit ≡ bases.old.circuit }
     ensures round { IfOk result (IsRound bases.old.circuit fault budget (marked 0 marks.now)) }
 {
+    // for the proof: the circuit is well formed
     let _ = bases.circuit().nets();
     let z = Items::from_slice(alloc, marks)?;
     let window = bases.window(alloc, Some(fault), 1, &Start::OneFrame { z })?;

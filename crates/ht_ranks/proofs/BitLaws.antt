@@ -209,13 +209,13 @@ none_then None h f = f h
 none_then (Some i) h f = tt
 
 -- The first mark, as a set shows it.
-pub record IsFirstSeen (marks : List Bool) (from i : ℕ) : Type 0 where
+pub record ShowsFirstMark (marks : List Bool) (from i : ℕ) : Type 0 where
   pub within : i < length marks
   pub marked : get_or marks i false ≡ true
   pub least : (q : ℕ) → from ≤ q → q < i → get_or marks q false ≡ false
 
 pub first_seen : (a : Inside) → IsBitSet a → (marks : List Bool) → marks_of a.bound a.words.items ≡ marks
-    → (from i : ℕ) → IsFirstMark a.words.items from i → IsFirstSeen marks from i
+    → (from i : ℕ) → IsFirstMark a.words.items from i → ShowsFirstMark marks from i
 first_seen a is marks view from i h =
     let seen : (q : ℕ) → get_or marks q false ≡ is_marked a.words.items q =
     λ q. ap (λ (l : List Bool). get_or l q false) (sym view) ∙ mark_at a.bound a.words.items is.past q in

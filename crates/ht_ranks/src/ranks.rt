@@ -21,6 +21,7 @@ fn firing_order(
     ensures gates { IfOk result (λ order. (k : ℕ) → k < length circuit.now.gates
         → get_or order.items (sources + k) 0 ≡ sources + get_or gates.now k 0) }
 {
+    // for the proof: the circuit is well formed
     let _ = circuit.nets();
     let mut order = Vec::with_capacity(alloc, (sources + circuit.gates()) as usize)?;
     for source in 0..sources {
@@ -67,6 +68,7 @@ pub fn ranking(
     ensures circuit { IsCircuit circuit.now }
 {
     let order = firing_order(alloc, circuit, sources, circuit.order())?;
+    // for the proof: the circuit is well formed
     let _ = circuit.nets();
     let ranks = ranks_in(alloc, &order)?;
     Ok((order, ranks))

@@ -27,6 +27,7 @@ impl Schedule {
     pub fn new(alloc: Global, circuit: &Circuit) -> Result<Schedule, AllocError>
         ensures { IfOk result (λ schedule. IsSchedule circuit.now schedule) }
     {
+        // for the proof: the circuit is well formed
         let _ = circuit.nets();
         let sources = circuit.inputs() + circuit.dffs();
         let (order, ranks) = ranking(alloc, circuit, sources)?;

@@ -11,22 +11,22 @@ use Rattle.ht_statement.proofs.TokenLaws.{rest_tokens, blank_ends, mark_ends, co
 -- ---- the end of a word
 
 -- a byte that belongs to no word is a blank, a mark or the begin of a comment
-data Ends (byte : ℕ) : Type 0 where
-  BlankEnds : is_blank byte ≡ true → Ends byte
-  MarkEnds : (mark : LineToken) → mark_of byte ≡ Some mark → Ends byte
-  CommentEnds : begins_comment byte ≡ true → Ends byte
+data EndsWord (byte : ℕ) : Type 0 where
+  BlankEnds : is_blank byte ≡ true → EndsWord byte
+  MarkEnds : (mark : LineToken) → mark_of byte ≡ Some mark → EndsWord byte
+  CommentEnds : begins_comment byte ≡ true → EndsWord byte
 
 mark_cases : (byte : ℕ) (h c : Bool) → (m : Option LineToken) → mark_of byte ≡ m → is_blank byte ≡ c
-    → begins_comment byte ≡ h → is_word_byte byte ≡ false → Ends byte
+    → begins_comment byte ≡ h → is_word_byte byte ≡ false → EndsWord byte
 mark_cases byte h true m em ec eh e = BlankEnds ec
 mark_cases byte true false m em ec eh e = CommentEnds eh
 mark_cases byte false false (Some mark) em ec eh e = MarkEnds mark em
 mark_cases byte false false None em ec eh e = absurd (grind (arith, nat_tests))
 
-ends : (byte : ℕ) → is_word_byte byte ≡ false → Ends byte
+ends : (byte : ℕ) → is_word_byte byte ≡ false → EndsWord byte
 ends byte e = mark_cases byte (begins_comment byte) (is_blank byte) (mark_of byte) refl refl refl e
 
-ending : (word : List ℕ) (byte : ℕ) (text : List ℕ) → Ends byte → rest_tokens word (byte ∷ text) ≡ ended word
+ending : (word : List ℕ) (byte : ℕ) (text : List ℕ) → EndsWord byte → rest_tokens word (byte ∷ text) ≡ ended word
     ++ tokens_of (byte ∷ text)
 ending word byte text (BlankEnds e) = blank_ends word byte text e ∙ ap (λ l. ended word ++ l)
     (sym (blank_ends [] byte text e))

@@ -7,7 +7,7 @@ use Rattle.ht_texts.specs.Verdicts.{said_at, says_detected, says_untestable, say
 use Rattle.ht_texts.specs.Counts.{count_said, one_if, CountsOne}
 
 -- the sums where only the verdicts of these faults are counted
-pub record AreCounted (classes : ℕ) (saids : List Said) (search : Bool) (faults : List ℕ) (sums : Sums) : Type 0 where
+pub record AreTallied (classes : ℕ) (saids : List Said) (search : Bool) (faults : List ℕ) (sums : Sums) : Type 0 where
   pub classes_are : sums.classes ≡ classes
   pub detected : sums.detected ≡ count_said says_detected saids faults
   pub untestable : sums.untestable ≡ count_said says_untestable saids faults
@@ -24,8 +24,8 @@ count_more is_kind saids faults k i inside is =
 
 -- one class more is counted
 pub one_counted : (classes : ℕ) (saids : List Said) (search : Bool) (faults : List ℕ) (k i : ℕ) (old new : Sums)
-    → AreCounted classes saids search (take k faults) old → k < length faults → i ≡ get_or faults k 0
-    → CountsOne (said_at saids i) old new → AreCounted classes saids search (take (k + 1) faults) new
+    → AreTallied classes saids search (take k faults) old → k < length faults → i ≡ get_or faults k 0
+    → CountsOne (said_at saids i) old new → AreTallied classes saids search (take (k + 1) faults) new
 one_counted classes saids search faults k i old new so_far inside is one = record {
   classes_are = one.classes ∙ so_far.classes_are;
   detected = omega (arith, one.detected, so_far.detected, count_more says_detected saids faults k i inside is);

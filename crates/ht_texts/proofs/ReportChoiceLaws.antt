@@ -198,7 +198,7 @@ read_or_not c representatives lines at line listed read =
     ]
 
 -- the lines up to the first after which no report goes on
-pub record StopsReading (c : Netlist) (representatives : List ℕ) (lines : List (List ℕ)) (k : ℕ) : Type 0 where
+pub record StopsReport (c : Netlist) (representatives : List ℕ) (lines : List (List ℕ)) (k : ℕ) : Type 0 where
   pub within : k < length lines
   pub none : (next : ReportReading) → ¬ ReportReadsTo c representatives (take (k + 1) lines) next
   pub at : ReportReading
@@ -207,7 +207,7 @@ pub record StopsReading (c : Netlist) (representatives : List ℕ) (lines : List
 pub read_or_stop : (c : Netlist) (representatives : List ℕ) (lines : List (List ℕ)) (n : ℕ)
     → length representatives ≡ length (faults_of c) → n ≤ length lines
     → ((at : ReportReading) × ReportReadsTo c representatives (take n lines) at)
-    ⊎ ((k : ℕ) × StopsReading c representatives lines k)
+    ⊎ ((k : ℕ) × StopsReport c representatives lines k)
 read_or_stop c representatives lines zero listed within =
     inl (before_report, record { readable = tt; lines_are = refl })
 read_or_stop c representatives lines (suc n) listed within =

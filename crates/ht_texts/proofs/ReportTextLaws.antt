@@ -11,7 +11,7 @@ use Rattle.ht_texts.specs.Tests.{IsTooLong, line_of_byte}
 use Rattle.ht_texts.specs.SearchReports.{IsSearchReport, IsReportFront, IsReportText, IsNoReportLine, EndsTooEarly, IsMalformedReport}
 use Rattle.ht_texts.specs.ReportReading.{ReportReading, after_report, ReportReadsTo}
 use Rattle.ht_texts.proofs.ReaderLaws.{whole_read, not_whole}
-use Rattle.ht_texts.proofs.ReportChoiceLaws.{StopsReading, read_or_stop}
+use Rattle.ht_texts.proofs.ReportChoiceLaws.{StopsReport, read_or_stop}
 use Rattle.ht_texts.proofs.ReportFrontLaws.{reading_is_front, front_is_reading}
 
 pub take_again : (m k : ℕ) (lines : List (List ℕ)) → m ≤ k → k ≤ length lines → take m (take k lines) ≡ take m lines
@@ -60,13 +60,13 @@ one_malformed_line c representatives text m n at_m at_n = elim (cases_lt m n) [
 -- ---- never neither
 
 -- the first line that is none of a report, whatever the length of the text
-record FirstWrong (c : Netlist) (representatives : List ℕ) (text : List ℕ) (n : ℕ) : Type 0 where
+record FirstWrongReportLine (c : Netlist) (representatives : List ℕ) (text : List ℕ) (n : ℕ) : Type 0 where
   wrong : IsNoReportLine c representatives text n ⊎ EndsTooEarly c representatives text n
   no_line : (m : ℕ) → m < n → ¬ IsNoReportLine c representatives text m
   no_end : (m : ℕ) → m < n → ¬ EndsTooEarly c representatives text m
 
 stopped : (c : Netlist) (representatives : List ℕ) (text : List ℕ) (k : ℕ)
-    → StopsReading c representatives (lines_of text) k → FirstWrong c representatives text (k + 1)
+    → StopsReport c representatives (lines_of text) k → FirstWrongReportLine c representatives text (k + 1)
 stopped c representatives text k stop =
     let lines = lines_of text in
     let front = reading_is_front c representatives (take k lines) stop.at stop.before in record {
@@ -84,7 +84,7 @@ stopped c representatives text k stop =
 
 unended : (c : Netlist) (representatives : List ℕ) (text : List ℕ) (at : ReportReading)
     → ReportReadsTo c representatives (lines_of text) at → length (lines_of text) ≢ length (faults_of c) + 2
-    → FirstWrong c representatives text (length (lines_of text) + 1)
+    → FirstWrongReportLine c representatives text (length (lines_of text) + 1)
 unended c representatives text at read differs =
     let lines = lines_of text in record {
       wrong = inr (record {
@@ -99,7 +99,7 @@ unended c representatives text at read differs =
 report_or_wrong : (c : Netlist) (representatives : List ℕ) (text : List ℕ)
     → length representatives ≡ length (faults_of c)
     → ((budget : ℕ) × (saids : List Said) × IsSearchReport c representatives (lines_of text) budget saids)
-    ⊎ ((n : ℕ) × FirstWrong c representatives text n)
+    ⊎ ((n : ℕ) × FirstWrongReportLine c representatives text n)
 report_or_wrong c representatives text listed =
     let lines = lines_of text in
     elim (read_or_stop c representatives lines (length lines) listed (omega arith)) [
@@ -131,7 +131,7 @@ too_long_first c representatives text n long is no_line no_end = record {
 
 -- another line comes before it, or the text isn't too long
 wrong_first : (c : Netlist) (representatives : List ℕ) (text : List ℕ) (n : ℕ)
-    → FirstWrong c representatives text n
+    → FirstWrongReportLine c representatives text n
     → ((m : ℕ) → m < n → ¬ IsTooLong text m) → IsMalformedReport c representatives text n
 wrong_first c representatives text n first no_long = record {
   wrong = elim first.wrong [ inl line ↦ inl line | inr early ↦ inr (inl early) ];

@@ -8,7 +8,7 @@ use Rattle.ht_ports.specs.LineRule.{lines_of}
 use Rattle.ht_texts.specs.Tests.{vector_text, IsTextOf, IsNoVector}
 use Rattle.ht_texts.proofs.VectorLaws.{vector_or_none}
 
-pub record AreVectors (width : ℕ) (lines : List (List ℕ)) (list : List (List Bool)) : Type 0 where
+pub record AreVectorLines (width : ℕ) (lines : List (List ℕ)) (list : List (List Bool)) : Type 0 where
   pub texts : lines ≡ map vector_text list
   pub widths : All (λ (vector : List Bool). length vector ≡ width) list
 
@@ -17,7 +17,7 @@ pub record StopsAt (width : ℕ) (lines : List (List ℕ)) (k : ℕ) : Type 0 wh
   pub none : (vector : List Bool) → ¬ IsTextOf width (get_or lines k []) vector
   pub before : (j : ℕ) → j < k → (vector : List Bool) × IsTextOf width (get_or lines j []) vector
 
-pub vectors_or_stop : (width : ℕ) (lines : List (List ℕ)) → ((list : List (List Bool)) × AreVectors width lines list)
+pub vectors_or_stop : (width : ℕ) (lines : List (List ℕ)) → ((list : List (List Bool)) × AreVectorLines width lines list)
     ⊎ ((k : ℕ) × StopsAt width lines k)
 vectors_or_stop width [] = inl
     ([], record { texts = refl; widths = All-nil (λ (vector : List Bool). length vector ≡ width) })
@@ -49,7 +49,7 @@ vectors_or_stop width (line ∷ lines) = elim (vector_or_none width line) [
 -- ---- where no line is wrong by itself, and where one is
 
 -- each line of a list's text is a vector's
-vector_at : (width : ℕ) (lines : List (List ℕ)) (list : List (List Bool)) → AreVectors width lines list → (k : ℕ)
+vector_at : (width : ℕ) (lines : List (List ℕ)) (list : List (List Bool)) → AreVectorLines width lines list → (k : ℕ)
     → k < length lines
     → (vector : List Bool) × IsTextOf width (get_or lines k []) vector
 vector_at width lines list are k below =
@@ -61,7 +61,7 @@ vector_at width lines list are k below =
       },
     )
 
-pub no_wrong_line : (c : Netlist) (text : List ℕ) (list : List (List Bool)) → AreVectors c.inputs (lines_of text) list
+pub no_wrong_line : (c : Netlist) (text : List ℕ) (list : List (List Bool)) → AreVectorLines c.inputs (lines_of text) list
     → (n : ℕ) → ¬ IsNoVector c text n
 no_wrong_line c text list are n bad =
     let found = vector_at c.inputs (lines_of text) list are (n - 1) (omega (arith, bad.counted.0, bad.counted.1)) in

@@ -4,7 +4,7 @@ use Rattle.std.proofs.lemmas.Bool.{cases_lt}
 use Rattle.ht_net.specs.Netlist.{Netlist}
 use Rattle.ht_ports.specs.LineRule.{lines_of, max_text_bytes}
 use Rattle.ht_texts.specs.Tests.{vector_text, line_of_byte, IsTestText, IsMalformedTest}
-use Rattle.ht_texts.proofs.StopLaws.{AreVectors, StopsAt, vectors_or_stop, no_wrong_line, no_wrong_before, wrong_at}
+use Rattle.ht_texts.proofs.StopLaws.{AreVectorLines, StopsAt, vectors_or_stop, no_wrong_line, no_wrong_before, wrong_at}
 use Rattle.ht_texts.proofs.CodedLaws.{map_injective}
 use Rattle.ht_texts.proofs.VectorLaws.{vector_text_injective}
 
@@ -28,7 +28,7 @@ never_both c text list n is malformed = elim malformed.wrong [
   | inr long ↦ omega (arith, is.short, long.long)
 ]
 
-by_length : (c : Netlist) (text : List ℕ) → ((list : List (List Bool)) × AreVectors c.inputs (lines_of text) list)
+by_length : (c : Netlist) (text : List ℕ) → ((list : List (List Bool)) × AreVectorLines c.inputs (lines_of text) list)
     ⊎ ((k : ℕ) × StopsAt c.inputs (lines_of text) k)
     → (max_text_bytes < length text) ⊎ (length text ≤ max_text_bytes)
     → ((list : List (List Bool)) × IsTestText c text list) ⊎ ((n : ℕ) × IsMalformedTest c text n)

@@ -23,7 +23,7 @@ back : (c : goal.After-self-3-1) (w : ℕ) (d : Machines) → w < words_for c.se
 back c w d used =
     subst (λ (l : List Machines). IsRestored c.self.inside.circuit.now (get_or l w d)
     (get_or c.clear_words.new.words w d)) c.deref_mut.ensures.value
-    (c.clear_words.ensures.first w d (omega (arith, used, c.words_for.ensures)))
+    (c.clear_words.ensures.each w d (omega (arith, used, c.words_for.ensures)))
 
 filled : (c : goal.After-self-3-1) → AreFilled 0 c.clear_words.new.words
 filled c =
