@@ -65,6 +65,16 @@ impl<'c> Bases<'c> {
         self.frame_plan.circuit()
     }
 
+    /// The plan of a frame, shared with the windows.
+    ///
+    /// # Errors
+    /// Out of memory.
+    pub fn frame_plan(&self) -> Result<Rc<FramePlan<'c>>, AllocError>
+        ensures { IfOk result (λ plan. plan.value.circuit ≡ self.now.circuit) }
+    {
+        self.frame_plan.clone()
+    }
+
     // Takes the base of a start's kind out, if there is one.
     fn take(&mut self, start: &Start) -> Option<Window<'c>>
         ensures circuit { self.new.circuit ≡ self.old.circuit }
