@@ -7,22 +7,25 @@ ghost use Rattle.ht_search.specs.Routes.{Stands, back_to, stops};
 ghost use Rattle.ht_justify.specs.Stacks.{AreUnder, route_at};
 ghost use Rattle.ht_justify.specs.BackStates.{found_list};
 
+use ht_events::FramePlan;
 use ht_items::Items;
-use ht_net::{Circuit, Vectors};
+use ht_net::Vectors;
 use ht_search::Point;
 use ht_tern::Tern;
 use ht_trial::vector;
 use ht_window::{Start, Window};
 use std::alloc::{AllocError, Global};
 use std::marker::Model;
+use std::rc::Rc;
 
 /// The windows of a search back. Each of them is under the one before it.
 #[derive(Drop)]
-pub struct BackWindows<'c> {
+pub struct BackWindows<'c, 's> {
     pub(crate) alloc: Global,
-    pub(crate) circuit: &'c Circuit,
+    // the plan of a frame, which the windows share
+    pub(crate) frame_plan: Rc<FramePlan<'c>>,
     // for the proof: what is wanted after the first window
-    pub(crate) cube: &'c [Tern],
+    pub(crate) cube: &'s [Tern],
     // how many frames may lead to it
     pub(crate) limit: u32,
     pub(crate) above: Vec<Window<'c>>,
@@ -30,7 +33,7 @@ pub struct BackWindows<'c> {
     pub(crate) window: Window<'c>,
 }
 
-impl<'c> Model for BackWindows<'c> {
+impl<'c, 's> Model for BackWindows<'c, 's> {
     ghost use Rattle.ht_justify.specs.BackStates.{BackState};
 
     ghost Value = { BackState };
@@ -42,46 +45,48 @@ impl<'c> Model for BackWindows<'c> {
     ghost invariant = { IsStacked };
 }
 
-/// The back window of a cube.
+/// The back window of a cube, with the plan of a frame of its circuit.
 ///
 /// # Errors
 /// Out of memory.
 pub fn back_window<'c>(
     alloc: Global,
-    circuit: &'c Circuit,
+    frame_plan: &Rc<FramePlan<'c>>,
     cube: Items<Tern>,
     limit: u32,
 ) -> Result<Window<'c>, AllocError>
-    requires { length cube ≡ length circuit.now.dffs }
-    ensures window { IfOk result (λ w. w.window ≡ back_window circuit.now cube limit) }
+    requires { length cube ≡ length frame_plan.now.value.circuit.dffs }
+    ensures window { IfOk result
+        (λ w. w.window ≡ back_window frame_plan.now.value.circuit cube limit) }
     ensures decisions { IfOk result (λ w. w.decisions ≡ []) }
 {
+    let shared = frame_plan.clone()?;
     let start = Start::Back { cube, limit };
-    Window::new(alloc, circuit, None, 1, &start)
+    Window::planned(alloc, shared, None, 1, &start)
 }
 
-impl<'c> BackWindows<'c> {
+impl<'c, 's> BackWindows<'c, 's> {
     /// The first window alone, before its first decision.
     ///
     /// # Errors
     /// Out of memory.
     pub fn new(
         alloc: Global,
-        circuit: &'c Circuit,
-        cube: &'c [Tern],
+        frame_plan: Rc<FramePlan<'c>>,
+        cube: &'s [Tern],
         limit: u32,
-    ) -> Result<BackWindows<'c>, AllocError>
-        requires { length cube.now ≡ length circuit.now.dffs }
+    ) -> Result<BackWindows<'c, 's>, AllocError>
+        requires { length cube.now ≡ length frame_plan.value.circuit.dffs }
         ensures { IfOk result (λ windows. windows ≡ record {
-          first = back_window circuit.now cube.now limit;
+          first = back_window frame_plan.entry.value.circuit cube.now limit;
           above = [];
           decisions = [];
         }) }
     {
-        let window = back_window(alloc, circuit, Items::from_slice(alloc, cube)?, limit)?;
+        let window = back_window(alloc, &frame_plan, Items::from_slice(alloc, cube)?, limit)?;
         Ok(BackWindows {
             alloc,
-            circuit,
+            frame_plan,
             cube,
             limit,
             above: Vec::new(alloc),
@@ -96,7 +101,7 @@ impl<'c> BackWindows<'c> {
     pub fn list(&self) -> Result<Vectors, AllocError>
         ensures { IfOk result (λ list. list ≡ found_list self.now) }
     {
-        let mut list = Vectors::new(self.alloc, self.circuit.inputs());
+        let mut list = Vectors::new(self.alloc, self.frame_plan.circuit().inputs());
         let own = vector(self.alloc, &self.window, 0)?;
         list.push(&own)?;
         for k in (0..self.above.len()).rev() {

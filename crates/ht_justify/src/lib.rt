@@ -2,11 +2,12 @@
 //!
 //! `justify` searches the back window of a cube. Where a window is sure by latches that it decided, another one goes
 //! under it, one frame earlier, with these latches as its cube. A list that is found has the vector of each window, the
-//! deepest window's first.
+//! deepest window's first. `justify_planned` takes the plan of a frame of the circuit, which serves for all its cubes.
 //!
 //! The definitions stand in `specs/`: `Stacks` (windows that stand one under the other), `BackStates` (the problem as
 //! contracts see it) and `Answers` (what `justify` answers, and what that means). Modules: `cube` (latches as a cube),
-//! `back_windows` (the windows one under the other), `problem` (their search) and `justification` (`justify`).
+//! `back_windows` (the windows one under the other), `problem` (their search) and `justification` (`justify`,
+//! `justify_planned`).
 #![tactic(auto)]
 
 mod back_windows;
@@ -14,4 +15,4 @@ mod cube;
 mod justification;
 mod problem;
 
-pub use justification::{Back, justify};
+pub use justification::{Back, justify, justify_planned};

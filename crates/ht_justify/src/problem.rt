@@ -12,7 +12,7 @@ use ht_trial::without_place;
 use std::alloc::AllocError;
 use std::mem;
 
-impl<'c> Problem for BackWindows<'c> {
+impl<'c, 's> Problem for BackWindows<'c, 's> {
     ghost use Rattle.ht_tree.specs.Windows.{SearchWindow};
 
     ghost Subject = { SearchWindow };
@@ -49,7 +49,7 @@ impl<'c> Problem for BackWindows<'c> {
         }
         // so that nothing fails once the window is replaced
         self.above.reserve(1)?;
-        let window = back_window(self.alloc, self.circuit, cube, left - 1)?;
+        let window = back_window(self.alloc, &self.frame_plan, cube, left - 1)?;
         let last = mem::replace(&mut self.window, window);
         self.above.push(last)?;
         Ok(true)
