@@ -1,13 +1,13 @@
 //! The attempt at a told frame: ahead from the states that it leaves, then back to the latches that it needs.
 ghost use Rattle.std.specs.Prelude.{◌≡◌, ◌++◌, ◌∷◌, [], length, IfOk, OnOk};
 ghost use Rattle.ht_tree.specs.AimedAttempts.{back_limit, told_cube};
-ghost use Rattle.ht_justify.specs.Answers.{IsListBack};
-ghost use Rattle.ht_engine.specs.Attempts.{AheadOfHolds, AreFrameSpots, AttemptHolds, FindsAhead, FindsBoth, IsAheadOf, IsAttempted, IsFrameSpot, IsListAheadOf};
+ghost use Rattle.ht_justify.specs.Answers.{BackHolds, IsListBack};
+ghost use Rattle.ht_engine.specs.Attempts.{AheadOfHolds, AreFrameSpots, AttemptHolds, FindsAhead, FindsBoth, IsAheadOf, IsAttempted, IsBackOf, IsFrameSpot, IsListAheadOf};
 ghost use Rattle.ht_engine.specs.ToldFrames.{IsFrameOf};
 
 use crate::told_frame::ToldFrame;
 use ht_forward::{Ahead, propagate_from_bases};
-use ht_justify::{Back, justify};
+use ht_justify::{Back, justify_planned};
 use ht_net::{Circuit, Fault, Vectors};
 use ht_serial::first;
 use ht_tree::{Aim, BACK_LIMIT, Spot, Told};
@@ -75,7 +75,7 @@ fn attempt(alloc: Global, bases: &mut Bases, task: &Task<'_>) -> Result<Attempte
 {
     let frame = ToldFrame::of(alloc, task.circuit, task.told)?;
     match search_ahead(alloc, bases, task, &frame)? {
-        Ahead::Found { list } => search_back(alloc, task, &frame, list),
+        Ahead::Found { list } => attempt_back(alloc, bases, task, &frame, list),
         Ahead::Closed { tokens } => Ok(Attempted::Failed(Some(Aim::ForwardClosed(tokens)))),
         Ahead::Spent { tokens } => Ok(Attempted::Failed(Some(Aim::ForwardOpen(tokens)))),
     }
@@ -109,13 +109,33 @@ fn search_ahead(
     }
 }
 
-// The search back to the latches of a told frame, where a list ahead was found.
+// The search back to the latches of a told frame.
 fn search_back(
     alloc: Global,
+    bases: &Bases,
+    task: &Task<'_>,
+    frame: &ToldFrame,
+) -> Result<Back, AllocError>
+    requires bases { bases.now.circuit ≡ task.now.circuit.now }
+    requires frame { IsFrameOf task.now.circuit.now task.now.told.now frame.now }
+    ensures answer { IfOk result (IsBackOf task.now.circuit.now task.now.budget task.now.told.now) }
+    ensures holds { IfOk result
+        (BackHolds task.now.circuit.now (told_cube task.now.circuit.now task.now.told.now)
+        back_limit task.now.budget) }
+{
+    let frame_plan = bases.frame_plan()?;
+    justify_planned(alloc, frame_plan, &frame.cube, BACK_LIMIT, task.budget)
+}
+
+// The attempt after a list ahead was found: the search back, and what its list comes to with that one.
+fn attempt_back(
+    alloc: Global,
+    bases: &Bases,
     task: &Task<'_>,
     frame: &ToldFrame,
     ahead: Vectors,
 ) -> Result<Attempted, AllocError>
+    requires bases { bases.now.circuit ≡ task.now.circuit.now }
     requires place { IsFrameSpot task.now.told.now.place }
     requires frame { IsFrameOf task.now.circuit.now task.now.told.now frame.now }
     requires found { FindsAhead task.now.circuit.now task.now.fault task.now.budget
@@ -127,7 +147,7 @@ fn search_back(
         (AttemptHolds task.now.circuit.now task.now.fault task.now.budget
         (task.now.told.now ∷ [])) }
 {
-    match justify(alloc, task.circuit, &frame.cube, BACK_LIMIT, task.budget)? {
+    match search_back(alloc, bases, task, frame)? {
         Back::Reached { list } => compose(alloc, task, frame, list, ahead),
         Back::Closed { tokens } => Ok(Attempted::Failed(Some(Aim::BackClosed(tokens)))),
         Back::Spent { tokens } => Ok(Attempted::Failed(Some(Aim::BackOpen(tokens)))),
