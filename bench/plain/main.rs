@@ -2,8 +2,9 @@
 //! `ht_cli` on the same files.
 //!
 //! The commands do the work of those of `ht_cli` by the same methods, and write the same files: faulty machines are
-//! simulated 64 to a word and by events, windows are changed in place by events and by a trail. A netlist is read in
-//! normal text. It and the tests of `sim` have to be ones that `ht_cli` accepts: they aren't judged here.
+//! simulated 64 to a word and by events, windows are changed in place by events and by a trail. What a step of the
+//! generator adds to a file is written before the next step begins. A netlist is read in normal text. It and the tests
+//! of `sim` have to be ones that `ht_cli` accepts: they aren't judged here.
 mod circuit;
 mod faults;
 mod grading;
@@ -102,6 +103,7 @@ fn generate(names: [&str; 4], budget: usize, random: usize, seed: u64) -> Result
     for _ in 0..random {
         tests.add(&words.vector(circuit.inputs))?;
     }
+    tests.text.flush()?;
     let mut worker = Worker::new(&plan, budget);
     let own = list.own();
     let mut otherwise = vec![Said::Undetected; own.len()];
@@ -110,16 +112,19 @@ fn generate(names: [&str; 4], budget: usize, random: usize, seed: u64) -> Result
             continue;
         }
         match worker.work_on(list.faults[*i as usize]) {
-            Work::List(vectors) => vectors.iter().try_for_each(|vector| tests.add(vector))?,
+            Work::List(vectors) => {
+                vectors.iter().try_for_each(|vector| tests.add(vector))?;
+                tests.text.flush()?;
+            },
             Work::Entry(entry) => {
                 texts::write_entry(i + 1, &entry, &mut proofs)?;
+                proofs.flush()?;
                 otherwise[k] = if let Entry::Untestable { .. } = entry { Said::Untestable } else { Said::Aborted };
             }
         }
     }
     writeln!(proofs, "{}", texts::END)?;
     proofs.flush()?;
-    tests.text.flush()?;
     let said = tests.grader.verdicts.iter().zip(otherwise).map(|(verdict, otherwise)| said_of(*verdict, otherwise));
     let said: Vec<Said> = said.collect();
     Ok(texts::write_report(&circuit, &list, &said, Some(budget), &mut BufWriter::new(report))?)

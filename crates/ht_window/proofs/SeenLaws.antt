@@ -1,75 +1,104 @@
--- The places that were seen, one by one.
-use Rattle.std.proofs.Common.{◌≡◌, ◌<◌, ◌+◌, ◌∙◌, ℕ, suc, zero, List, [], ◌∷◌, ◌++◌, map, Bool, true, false, ◌||◌, cond, Some, None, length, get_or, refl, ap, sym, arith, append_assoc}
+-- The first of some places that shows what is looked for, and lists that grow by one.
+use Rattle.std.proofs.Common.{◌≡◌, ◌<◌, ◌+◌, ◌-◌, ◌∙◌, ℕ, suc, zero, List, [], ◌∷◌, ◌++◌, map, Bool, true, false, ◌&&◌, ◌||◌, cond, Some, None, Option, not, length, get_or, refl, ap, sym, arith, append_assoc}
 use Rattle.std.specs.Prelude.{is_some, flat_map}
 use Rattle.std.specs.Bool.{then_some}
 use Rattle.std.specs.Option.{option_or}
 use Rattle.std.specs.List.{find, filter, list_any, range_with_len}
-use Rattle.std.proofs.lemmas.List.{append-nil, map-append}
 use Rattle.std.proofs.lemmas.List.Elements.{filter-append}
 use Rattle.std.proofs.lemmas.List.Folds.{find-append}
-use Rattle.std.proofs.lemmas.Grind.{flat_map-append}
-use Rattle.std.proofs.lemmas.List.FromFn.{map-range_with_len_more}
 use Rattle.ht_pairs.specs.Pairs.{Pair, pair}
 use Rattle.ht_tern.specs.declared.tern.Tern.TheVariants.{Unk}
-use Rattle.ht_net.specs.Netlist.{no_net}
+use Rattle.ht_net.specs.declared.net.NetId.{NetId}
+use Rattle.ht_net.specs.Netlist.{Netlist, no_net}
 use Rattle.ht_net.specs.Frame.{next_state}
 use Rattle.ht_tree.proofs.PlaceLaws.{taken_at}
-use Rattle.ht_tree.specs.declared.window.Spot.TheVariants.{State}
+use Rattle.ht_tree.specs.declared.window.Spot.TheVariants.{Output, State}
 use Rattle.ht_tree.specs.declared.token.Assign3.{Assign3}
 use Rattle.ht_tree.specs.declared.window.WindowPlace.{WindowPlace}
 use Rattle.ht_tree.specs.Windows.{SearchWindow, latches_at, cell_at, pair_set_rules}
-use Rattle.ht_tree.specs.Places.{set_at, must_differ_at, may_differ_at}
-use Rattle.ht_tree.specs.WindowStatus.{sure_or}
-use Rattle.ht_window.specs.declared.places.PlacesSeen.{PlacesSeen}
-use Rattle.ht_window.specs.Seen.{seen_of, seen_with}
+use Rattle.ht_tree.specs.Decisions.{is_in}
+use Rattle.ht_tree.specs.Places.{set_at}
+use Rattle.ht_window.specs.Starts.{marked}
+use Rattle.ht_window.proofs.StartLaws.{marked_is}
+use Rattle.ht_window.specs.Seen.{shows, shows_at}
+use Rattle.ht_window.specs.declared.places.Look.{Look}
 
-found_here : {X : Type 0} → (b : Bool) (x : X) → cond b (Some x) None ≡ then_some b x
-found_here true x = refl
-found_here false x = refl
+module _ {X : Type 0} (test : X → Bool) where
+  found_here : (b : Bool) (x : X) → cond b (Some x) None ≡ then_some b x
+  found_here true x = refl
+  found_here false x = refl
 
--- the first that passes, after one more
-pub find_push : {X : Type 0} → (test : X → Bool) (xs : List X) (x : X) → find test (xs ++ x ∷ [])
-    ≡ option_or (find test xs) (then_some (test x) x)
-find_push test xs x = find-append test xs (x ∷ []) ∙ ap (option_or (find test xs)) (found_here (test x) x)
+  -- the first that passes, after one more
+  pub find_push : (xs : List X) (x : X) → find test (xs ++ x ∷ []) ≡ option_or (find test xs) (then_some (test x) x)
+  find_push xs x = find-append test xs (x ∷ []) ∙ ap (option_or (find test xs)) (found_here (test x) x)
 
--- one more place
-pub seen_push : (w : SearchWindow) (path : List Assign3) (places : List WindowPlace) (p : WindowPlace) (set : List Pair)
-    (s : PlacesSeen) → s ≡ seen_of w path places → set ≡ set_at w path p.frame p.spot
-    → seen_with s p set ≡ seen_of w path (places ++ p ∷ [])
-seen_push w path places p set s is here =
-    (λ k. seen_with (is k) p (here k))
-    ∙ (let a = sym (find_push (must_differ_at w path) places p)
-    in let b = sym (find_push (may_differ_at w path) places p) in (λ k. record { sure = a k; possible_place = b k }))
+  pub any_found : (xs : List X) → is_some (find test xs) ≡ list_any test xs
+  any_found [] = refl
+  any_found (x ∷ xs) = by (test x) (any_found xs)
+    where
+      by : (b : Bool) → is_some (find test xs) ≡ list_any test xs → is_some (cond b (Some x) (find test xs))
+          ≡ (b || list_any test xs)
+      by true h = refl
+      by false h = h
 
--- one more of a row of places
-pub seen_more : (w : SearchWindow) (path : List Assign3) (places : List WindowPlace) (place : ℕ → WindowPlace) (n : ℕ)
-    (set : List Pair) (s : PlacesSeen)
-    → s ≡ seen_of w path (places ++ map place (range_with_len 0 n)) → set ≡ set_at w path (place n).frame (place n).spot
-    → seen_with s (place n) set ≡ seen_of w path (places ++ map place (range_with_len 0 (n + 1)))
-seen_more w path places place n set s is here =
-    let at : 0 + n ≡ n = omega arith in
-    seen_push w path (places ++ map place (range_with_len 0 n)) (place n) set s is here
-    ∙ ap (seen_of w path)
-    (append_assoc places (map place (range_with_len 0 n)) (place n ∷ []) ∙ ap
-    (λ (t : List WindowPlace). places ++ t) (sym (map-range_with_len_more place 0 n n at)))
+  -- what is left of a row from number k on: the first of it, or what is left after it
+  pub first_of_row : (place : ℕ → X) (k n : ℕ) → k < n → find test (map place (range_with_len k (n - k)))
+      ≡ cond (test (place k)) (Some (place k)) (find test (map place (range_with_len (k + 1) (n - (k + 1)))))
+  first_of_row place k n h =
+      let more : n - k ≡ suc (n - (k + 1)) = omega (arith, h) in
+      ap (λ (left : ℕ). find test (map place (range_with_len k left))) more
 
--- the places of one more frame
-pub range_push : (a n : ℕ) → range_with_len a (n + 1) ≡ range_with_len a n ++ (a + n) ∷ []
+  -- the same of the numbers that are kept
+  pub first_of_kept : (place : ℕ → X) (kept : ℕ → Bool) (k n : ℕ) → k < n
+      → find test (map place (filter kept (range_with_len k (n - k))))
+      ≡ cond (kept k && test (place k)) (Some (place k))
+      (find test (map place (filter kept (range_with_len (k + 1) (n - (k + 1))))))
+  first_of_kept place kept k n h =
+      let more : n - k ≡ suc (n - (k + 1)) = omega (arith, h) in
+      ap (λ (left : ℕ). find test (map place (filter kept (range_with_len k left)))) more
+      ∙ by (kept k) (filter kept (range_with_len (k + 1) (n - (k + 1))))
+    where
+      by : (b : Bool) (rest : List ℕ) → find test (map place (cond b (k ∷ rest) rest))
+          ≡ cond (b && test (place k)) (Some (place k)) (find test (map place rest))
+      by true rest = refl
+      by false rest = refl
+
+  -- what is left of some lists and of a last one, from list k on
+  pub first_of_lists : (lists : ℕ → List X) (last : List X) (k n : ℕ) → k < n
+      → find test (flat_map lists (range_with_len k (n - k)) ++ last)
+      ≡ option_or (find test (lists k)) (find test (flat_map lists (range_with_len (k + 1) (n - (k + 1))) ++ last))
+  first_of_lists lists last k n h =
+      let more : n - k ≡ suc (n - (k + 1)) = omega (arith, h) in
+      let rest = flat_map lists (range_with_len (k + 1) (n - (k + 1))) in
+      ap (λ (left : ℕ). find test (flat_map lists (range_with_len k left) ++ last)) more
+      ∙ (ap (find test) (append_assoc (lists k) rest last) ∙ find-append test (lists k) (rest ++ last))
+
+  some_or : (o rest : Option X) → is_some o ≡ true → option_or o rest ≡ o
+  some_or (Some x) rest h = refl
+  some_or None rest h = cc
+
+  none_or : (o rest : Option X) → is_some o ≡ false → option_or o rest ≡ rest
+  none_or None rest h = refl
+  none_or (Some x) rest h = cc
+
+  -- from list k on: it has one, or what is left is after it
+  pub list_step : (lists : ℕ → List X) (last : List X) (k n : ℕ) (here : Option X) → k < n → here ≡ find test (lists k)
+      → (first : Option X) → first ≡ find test (flat_map lists (range_with_len k (n - k)) ++ last)
+      → (is_some here ≡ true → first ≡ here)
+      × (is_some here ≡ false → first ≡ find test (flat_map lists (range_with_len (k + 1) (n - (k + 1))) ++ last))
+  list_step lists last k n here inside is first before =
+      let rest = find test (flat_map lists (range_with_len (k + 1) (n - (k + 1))) ++ last) in
+      let step : first ≡ option_or here rest =
+      before ∙ (first_of_lists lists last k n inside ∙ ap (λ (o : Option X). option_or o rest) (sym is)) in
+      (λ some. step ∙ some_or here rest some, λ none. step ∙ none_or here rest none)
+
+range_push : (a n : ℕ) → range_with_len a (n + 1) ≡ range_with_len a n ++ (a + n) ∷ []
 range_push a n = let e : n + 1 ≡ suc n = omega arith in ap (range_with_len a) e ∙ by a n
   where
     by : (a n : ℕ) → range_with_len a (suc n) ≡ range_with_len a n ++ (a + n) ∷ []
     by a zero = let at : a ≡ a + 0 = omega arith in ap (λ (k : ℕ). k ∷ []) at
     by a (suc n) = let at : a + 1 + n ≡ a + suc n = omega arith
         in ap (λ (t : List ℕ). a ∷ t) (by (a + 1) n ∙ ap (λ (k : ℕ). range_with_len (a + 1) n ++ k ∷ []) at)
-
-pub frames_more : (f : ℕ → List WindowPlace) (n : ℕ) → flat_map f (range_with_len 0 (n + 1))
-    ≡ flat_map f (range_with_len 0 n) ++ f n
-frames_more f n =
-    let at : 0 + n ≡ n = omega arith in
-    ap (flat_map f) (range_push 0 n) ∙
-    (flat_map-append f (range_with_len 0 n) ((0 + n) ∷ []) ∙ (ap (λ (t : List WindowPlace). flat_map f
-    (range_with_len 0 n) ++ t) (append-nil (f (0 + n))) ∙ ap (λ (k : ℕ). flat_map f (range_with_len 0 n)
-    ++ f k) at))
 
 -- one more number that a filter keeps, or doesn't
 pub filter_push : (test : ℕ → Bool) (n : ℕ) → filter test (range_with_len 0 (n + 1))
@@ -78,30 +107,6 @@ filter_push test n =
     let at : 0 + n ≡ n = omega arith in
     ap (filter test) (range_push 0 n) ∙ (filter-append test (range_with_len 0 n) ((0 + n) ∷ [])
     ∙ ap (λ (k : ℕ). filter test (range_with_len 0 n) ++ cond (test k) (k ∷ []) []) at)
-
-pub filtered_more : (place : ℕ → WindowPlace) (test : ℕ → Bool) (n : ℕ)
-    → map place (filter test (range_with_len 0 (n + 1))) ≡ map place (filter test (range_with_len 0 n))
-    ++ map place (cond (test n) (n ∷ []) [])
-filtered_more place test n = ap (map place) (filter_push test n) ∙
-    map-append place (filter test (range_with_len 0 n)) (cond (test n) (n ∷ []) [])
-
--- what was seen tells the status
-any_found : (test : WindowPlace → Bool) (places : List WindowPlace) → is_some (find test places) ≡ list_any test places
-any_found test [] = refl
-any_found test (p ∷ places) = by (test p) (any_found test places)
-  where
-    by : (b : Bool) → is_some (find test places) ≡ list_any test places → is_some (cond b (Some p) (find test places))
-        ≡ (b || list_any test places)
-    by true h = refl
-    by false h = h
-
-pub seen_status : (w : SearchWindow) (path : List Assign3) (places : List WindowPlace) (s : PlacesSeen) → s
-    ≡ seen_of w path places
-    → sure_or s.sure (is_some s.possible_place) ≡ sure_or (find (must_differ_at w path) places)
-    (list_any (may_differ_at w path) places)
-seen_status w path places s is =
-    (λ k. sure_or (is k).sure (is_some (is k).possible_place)) ∙ ap (sure_or (find (must_differ_at w path) places))
-    (any_found (may_differ_at w path) places)
 
 -- the next state of a window of one frame
 pub next_set : (w : SearchWindow) (path : List Assign3) (j : ℕ) → w.frames ≡ 1 → j < length w.circuit.dffs
@@ -113,23 +118,40 @@ next_set w path j one inside =
     ∙ (taken_at (pair_set_rules w.fault) (cell_at w path 0) 0 w.circuit.dffs j (pair Unk Unk ∷ []) inside ∙ ap
     (λ (k : ℕ). (pair_set_rules w.fault).data_pin k (cell_at w path 0 (get_or w.circuit.dffs j no_net).0)) at)
 
-pub state_kept : (w : SearchWindow) (path : List Assign3) (places : List WindowPlace) (place : ℕ → WindowPlace)
-    (test : ℕ → Bool) (n : ℕ) (set : List Pair) (s : PlacesSeen)
-    → s ≡ seen_of w path (places ++ map place (filter test (range_with_len 0 n))) → test n ≡ true → set
-    ≡ set_at w path (place n).frame (place n).spot
-    → seen_with s (place n) set ≡ seen_of w path (places ++ map place (filter test (range_with_len 0 (n + 1))))
-state_kept w path places place test n set s is kept here =
-    let old = map place (filter test (range_with_len 0 n)) in
-    seen_push w path (places ++ old) (place n) set s is here
-    ∙ ap (seen_of w path) (append_assoc places old (place n ∷ []) ∙ ap (λ (t : List WindowPlace). places ++ t)
-    (sym (filtered_more place test n ∙ ap (λ (b : Bool). old ++ map place (cond b (n ∷ []) [])) kept)))
+-- from an output of a frame on: it shows what is looked for, or what is left is after it
+pub output_step : (w : SearchWindow) (path : List Assign3) (look : Look) (frame o count : ℕ) (c : Netlist) (net : NetId)
+    (set : List Pair) (shown b : Bool) → c ≡ w.circuit → count ≡ length c.outputs → o < count
+    → net ≡ get_or c.outputs o no_net → set ≡ cell_at w path frame net.0 → shown ≡ shows look set → shown ≡ b
+    → (first : Option WindowPlace) → first ≡ find (shows_at w path look)
+    (map (λ o. record { frame = frame; spot = Output o }) (range_with_len o (length w.circuit.outputs - o)))
+    → first ≡ cond b (Some (record { frame = frame; spot = Output o })) (find (shows_at w path look)
+    (map (λ o. record { frame = frame; spot = Output o }) (range_with_len (o + 1) (length w.circuit.outputs - (o + 1)))))
+output_step w path look frame o count c net set shown b circuit all inside net_is set_is shown_is is first before =
+    let test = shows_at w path look in
+    let place : ℕ → WindowPlace = λ o. record { frame = frame; spot = Output o } in
+    let count_is = all ∙ ap (λ (n : Netlist). length n.outputs) circuit in
+    let here = ap (λ (x : NetId). x.0) (net_is ∙ ap (λ (n : Netlist). get_or n.outputs o no_net) circuit) in
+    let set_here : set ≡ set_at w path frame (Output o) = set_is ∙ ap (cell_at w path frame) here in
+    before ∙ (first_of_row test place o (length w.circuit.outputs) (omega (arith, inside, count_is))
+    ∙ ap (λ (b : Bool). cond b (Some (place o)) (find test (map place (range_with_len (o + 1)
+    (length w.circuit.outputs - (o + 1)))))) (ap (shows look) (sym set_here) ∙ (sym shown_is ∙ is)))
 
-pub state_passed : (w : SearchWindow) (path : List Assign3) (places : List WindowPlace) (place : ℕ → WindowPlace)
-    (test : ℕ → Bool) (n : ℕ) (s : PlacesSeen)
-    → s ≡ seen_of w path (places ++ map place (filter test (range_with_len 0 n))) → test n ≡ false
-    → s ≡ seen_of w path (places ++ map place (filter test (range_with_len 0 (n + 1))))
-state_passed w path places place test n s is passed =
-    let old = map place (filter test (range_with_len 0 n)) in
-    is ∙ ap (λ (t : List WindowPlace). seen_of w path (places ++ t))
-    (sym (filtered_more place test n ∙
-    (ap (λ (b : Bool). old ++ map place (cond b (n ∷ []) [])) passed ∙ append-nil old)))
+-- from a flip-flop on: it is outside the set and shows what is looked for, or what is left is after it
+pub state_step : (w : SearchWindow) (path : List Assign3) (look : Look) (z : List Bool) (j count : ℕ) (marked_here b : Bool)
+    → count ≡ length w.circuit.dffs → j < count → marked_here ≡ get_or z j false
+    → (not marked_here && shows look (set_at w path 0 (State j))) ≡ b
+    → (first : Option WindowPlace) → first ≡ find (shows_at w path look) (map (λ j. record { frame = 0; spot = State j })
+    (filter (λ j. not (is_in (marked 0 z) j)) (range_with_len j (length w.circuit.dffs - j))))
+    → first ≡ cond b (Some (record { frame = 0; spot = State j })) (find (shows_at w path look)
+    (map (λ j. record { frame = 0; spot = State j })
+    (filter (λ j. not (is_in (marked 0 z) j)) (range_with_len (j + 1) (length w.circuit.dffs - (j + 1))))))
+state_step w path look z j count marked_here b all inside mark_is is first before =
+    let test = shows_at w path look in
+    let place : ℕ → WindowPlace = λ j. record { frame = 0; spot = State j } in
+    let kept : ℕ → Bool = λ j. not (is_in (marked 0 z) j) in
+    let at : j ≡ 0 + j = omega arith in
+    let here = mark_is ∙ (sym (marked_is 0 j z) ∙ ap (is_in (marked 0 z)) (sym at)) in
+    before ∙ (first_of_kept test place kept j (length w.circuit.dffs) (omega (arith, inside, all))
+    ∙ ap (λ (b : Bool). cond b (Some (place j)) (find test (map place (filter kept (range_with_len (j + 1)
+    (length w.circuit.dffs - (j + 1)))))))
+    (ap (λ (m : Bool). not m && shows look (set_at w path 0 (State j))) (sym here) ∙ is))

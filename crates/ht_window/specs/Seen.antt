@@ -1,5 +1,5 @@
--- The first place that must differ, and the first that may, among some places.
-use Rattle.std.specs.Prelude.{ℕ, List, true, not, ◌&&◌, cond, ltb, eqb, length}
+-- What the places of a window show, and the latches of a cube.
+use Rattle.std.specs.Prelude.{ℕ, List, Bool, true, not, ◌&&◌, cond, ltb, eqb, length}
 use Rattle.std.specs.Bool.{then_some}
 use Rattle.std.specs.Option.{option_or}
 use Rattle.std.specs.List.{find, list_any, list_all}
@@ -8,25 +8,23 @@ use Rattle.ht_pairs.specs.Pairs.{Pair, pair, is_member, differs}
 use Rattle.ht_tree.specs.declared.token.Assign3.{Assign3}
 use Rattle.ht_tree.specs.declared.window.WindowPlace.{WindowPlace}
 use Rattle.ht_tree.specs.Windows.{SearchWindow, is_undetermined}
-use Rattle.ht_tree.specs.Places.{must_differ_at, may_differ_at, set_at}
+use Rattle.ht_tree.specs.Places.{set_at}
 use Rattle.ht_tree.specs.WindowStatus.{must_meet, may_meet}
 use Rattle.ht_tree.specs.declared.window.Spot.TheVariants.{State, Cube}
 use Rattle.ht_tree.specs.declared.window.Status.{Status}
 use Rattle.ht_tree.specs.declared.window.Status.TheVariants.{Dead, Sure, Open}
-use Rattle.ht_window.specs.declared.places.PlacesSeen.{PlacesSeen}
+use Rattle.ht_window.specs.declared.places.Look.{Look}
+use Rattle.ht_window.specs.declared.places.Look.TheVariants.{Must, May}
 use Rattle.ht_window.specs.declared.cube.CubeSeen.{CubeSeen}
 
--- what the places of a list show at a path: the first that must differ, and the first that may
-abbrev pub seen_of : SearchWindow → List Assign3 → List WindowPlace → PlacesSeen
-seen_of w path places = record
-    { sure = find (must_differ_at w path) places; possible_place = find (may_differ_at w path) places }
+-- whether a set shows what a place is looked at for
+abbrev pub shows : Look → List Pair → Bool
+shows Must set = list_all differs set
+shows May set = list_any differs set
 
--- what places show after one more place, which has this set
-abbrev pub seen_with : PlacesSeen → WindowPlace → List Pair → PlacesSeen
-seen_with s place set = record {
-  sure = option_or s.sure (then_some (list_all differs set) place);
-  possible_place = option_or s.possible_place (then_some (list_any differs set) place);
-}
+-- whether a place of a window shows it after some decisions
+abbrev pub shows_at : SearchWindow → List Assign3 → Look → WindowPlace → Bool
+shows_at w path look place = shows look (set_at w path place.frame place.spot)
 
 -- what the latches of a cube show: whether there are any, whether each must be as wanted, whether each may, and the
 -- first that is undetermined

@@ -1,11 +1,10 @@
-//! What the places of a window show.
-ghost use Rattle.std.specs.Prelude.{◌≡◌, ◌<◌, ◌++◌, List, flat_map};
-ghost use Rattle.std.specs.List.{range_with_len};
-ghost use Rattle.ht_tree.specs.declared.window.WindowPlace.{WindowPlace};
+//! The first place of a window that shows a difference.
+ghost use Rattle.std.specs.Prelude.{◌≡◌, ◌<◌};
+ghost use Rattle.std.specs.List.{find};
 ghost use Rattle.ht_tree.specs.Windows.{one_frame};
 ghost use Rattle.ht_tree.specs.Places.{output_places, places_of, state_places};
 ghost use Rattle.ht_window.specs.Starts.{marked};
-ghost use Rattle.ht_window.specs.Seen.{seen_of, seen_with};
+ghost use Rattle.ht_window.specs.Seen.{shows, shows_at};
 
 use crate::decided::is_set;
 use crate::start::Start;
@@ -13,92 +12,89 @@ use crate::window::Window;
 use ht_pairs::PairSet;
 use ht_tree::{Spot, WindowPlace};
 
-/// The first place that must differ, and the first that may, among those that were looked at.
+/// What a place is looked at for.
 #[derive(Clone, Copy)]
-pub struct PlacesSeen {
-    pub sure: Option<WindowPlace>,
-    pub possible_place: Option<WindowPlace>,
+pub enum Look {
+    /// That the machines must differ there.
+    Must,
+    /// That they may.
+    May,
 }
 
-impl PlacesSeen {
-    /// The same after one more place.
-    fn with(self, place: WindowPlace, set: PairSet) -> PlacesSeen
-        ensures { result ≡ seen_with self place set }
-    {
-        PlacesSeen {
-            sure: self.sure.or(set.must_differ().then_some(place)),
-            possible_place: self.possible_place.or(set.may_differ().then_some(place)),
-        }
+/// Whether a set shows what is looked for.
+#[inline(always)]
+fn shows(look: Look, set: PairSet) -> bool
+    ensures { result ≡ shows look set }
+{
+    match look {
+        Look::Must => set.must_differ(),
+        Look::May => set.may_differ(),
     }
 }
 
 impl<'c> Window<'c> {
-    /// After the outputs of one more frame.
-    fn see_outputs(&self, seen: PlacesSeen, frame: u32) -> PlacesSeen
+    // The first output of a frame that shows what is looked for.
+    #[inline(always)]
+    fn first_output(&self, look: Look, frame: u32) -> Option<WindowPlace>
         requires { frame < self.now.window.frames }
-        ensures { (places : List WindowPlace) → seen ≡ seen_of self.now.window self.now.decisions
-            places → result ≡ seen_of self.now.window self.now.decisions
-            (places ++ output_places self.now.window.circuit frame) }
+        ensures { result ≡ find (shows_at self.now.window self.now.decisions look)
+            (output_places self.now.window.circuit frame) }
     {
         let circuit = self.circuit();
-        let mut seen = seen;
         for o in 0..circuit.outputs() {
-            let place = WindowPlace {
-                frame,
-                spot: Spot::Output(o),
-            };
-            seen = seen.with(place, self.cell(frame, circuit.output(o)));
-        }
-        seen
-    }
-
-    /// After the outputs of all frames.
-    fn see_frames(&self) -> PlacesSeen
-        ensures { result ≡ seen_of self.now.window self.now.decisions
-            (flat_map (output_places self.now.window.circuit)
-            (range_with_len 0 self.now.window.frames)) }
-    {
-        let mut seen = PlacesSeen {
-            sure: None,
-            possible_place: None,
-        };
-        for frame in 0..self.frames() {
-            seen = self.see_outputs(seen, frame);
-        }
-        seen
-    }
-
-    /// After the next states of the flip-flops outside a set.
-    fn see_states(&self, seen: PlacesSeen, z: &[bool]) -> PlacesSeen
-        requires { self.now.window.frames ≡ 1 }
-        ensures { (places : List WindowPlace) → seen ≡ seen_of self.now.window self.now.decisions
-            places → result ≡ seen_of self.now.window self.now.decisions
-            (places ++ state_places self.now.window.circuit (one_frame (marked 0 z.now))) }
-    {
-        let mut seen = seen;
-        for j in 0..self.dffs() {
-            if !is_set(z, j) {
-                let place = WindowPlace {
-                    frame: 0,
-                    spot: Spot::State(j),
-                };
-                seen = seen.with(place, self.next_state(j));
+            if shows(look, self.cell(frame, circuit.output(o))) {
+                return Some(WindowPlace {
+                    frame,
+                    spot: Spot::Output(o),
+                });
             }
         }
-        seen
+        None
     }
 
-    /// The first place that must differ, and the first that may.
-    pub fn seen(&self) -> PlacesSeen
-        ensures { result ≡ seen_of self.now.window self.now.decisions (places_of self.now.window) }
+    // The first flip-flop outside a set whose next state shows what is looked for.
+    fn first_state(&self, look: Look, z: &[bool]) -> Option<WindowPlace>
+        requires { self.now.window.frames ≡ 1 }
+        ensures { result ≡ find (shows_at self.now.window self.now.decisions look)
+            (state_places self.now.window.circuit (one_frame (marked 0 z.now))) }
+    {
+        for j in 0..self.dffs() {
+            if !is_set(z, j) && shows(look, self.next_state(j)) {
+                return Some(WindowPlace {
+                    frame: 0,
+                    spot: Spot::State(j),
+                });
+            }
+        }
+        None
+    }
+
+    // The first place after all outputs that shows what is looked for.
+    fn first_after_outputs(&self, look: Look) -> Option<WindowPlace>
+        ensures { result ≡ find (shows_at self.now.window self.now.decisions look)
+            (state_places self.now.window.circuit self.now.window.start) }
     {
         // for the proof: the window is well formed
         let _ = self.circuit();
-        let seen = self.see_frames();
         match self.start() {
-            Start::OneFrame { z } => self.see_states(seen, z.as_slice()),
-            Start::Unknown | Start::Pair { state: _ } => seen,
-            Start::Back { cube: _, limit: _ } => seen,
+            Start::OneFrame { z } => self.first_state(look, z.as_slice()),
+            Start::Unknown | Start::Pair { state: _ } => None,
+            Start::Back { cube: _, limit: _ } => None,
         }
+    }
+
+    /// The first place that shows what is looked for.
+    #[inline(always)]
+    pub fn first_place(&self, look: Look) -> Option<WindowPlace>
+        ensures { result ≡ find (shows_at self.now.window self.now.decisions look)
+            (places_of self.now.window) }
+    {
+        for frame in 0..self.frames() {
+            let place = self.first_output(look, frame);
+            if place.is_some() {
+                return place;
+            }
+        }
+        self.first_after_outputs(look)
     }
 }

@@ -1,40 +1,21 @@
 //! The status of a window, and the choice of the next variable.
-ghost use Rattle.std.specs.Prelude.{◌≡◌, ◌<◌, ℕ, Some, is_some, length};
+ghost use Rattle.std.specs.Prelude.{◌≡◌, ◌<◌, ℕ, Some, length};
 ghost use Rattle.ht_net.specs.Netlist.{net_count};
 ghost use Rattle.ht_tree.specs.declared.window.WindowPlace.{WindowPlace};
 ghost use Rattle.ht_tree.specs.declared.window.Spot.TheVariants.{Output, State};
 ghost use Rattle.ht_tree.specs.declared.window.Status.TheVariants.{Open};
 ghost use Rattle.ht_tree.specs.Places.{IsSpot, spot_net};
-ghost use Rattle.ht_tree.specs.WindowStatus.{status_at, sure_or};
+ghost use Rattle.ht_tree.specs.WindowStatus.{difference_status, status_at};
 ghost use Rattle.ht_tree.specs.Variables.{IsLegalChoice};
 ghost use Rattle.ht_tree.specs.WalkBack.{CanWalk, from_latch, from_place, pick_of};
 
 use crate::decided::value_at;
-use crate::places::PlacesSeen;
+use crate::places::Look;
 use crate::start::Start;
 use crate::window::Window;
 use ht_net::NetId;
 use ht_tern::Tern;
 use ht_tree::{Choice, Spot, Status, WindowPlace};
-
-/// The status by the places.
-fn difference_status(seen: PlacesSeen) -> Status
-    ensures { result ≡ sure_or seen.sure (is_some seen.possible_place) }
-{
-    match seen.sure {
-        Some(place) => Status::Sure {
-            frame: place.frame,
-            place: place.spot,
-        },
-        None => {
-            if seen.possible_place.is_some() {
-                Status::Open
-            } else {
-                Status::Dead
-            }
-        },
-    }
-}
 
 impl<'c> Window<'c> {
     /// What the decisions so far make of the window.
@@ -46,7 +27,26 @@ impl<'c> Window<'c> {
         match self.start() {
             Start::Back { cube, limit } => self.see_cube(cube.as_slice()).status(*limit),
             Start::OneFrame { z: _ } | Start::Unknown | Start::Pair { state: _ } =>
-                difference_status(self.seen()),
+                self.difference_status(),
+        }
+    }
+
+    // The status where a difference is looked for.
+    fn difference_status(&self) -> Status
+        ensures { result ≡ difference_status self.now.window self.now.decisions }
+    {
+        match self.first_place(Look::Must) {
+            Some(place) => Status::Sure {
+                frame: place.frame,
+                place: place.spot,
+            },
+            None => {
+                if self.first_place(Look::May).is_some() {
+                    Status::Open
+                } else {
+                    Status::Dead
+                }
+            },
         }
     }
 
@@ -74,7 +74,7 @@ impl<'c> Window<'c> {
                 self.see_cube(cube.as_slice()).undetermined_latch,
             ),
             Start::OneFrame { z: _ } | Start::Unknown | Start::Pair { state: _ } => self.from_place(
-                self.seen().possible_place,
+                self.first_place(Look::May),
             ),
         }
     }

@@ -7,7 +7,6 @@ use Rattle.ht_tree.proofs.BeginLaws.{found_place_walks, found_latch_walks}
 use Rattle.ht_window.specs.Starts.{start_of}
 use Rattle.ht_window.specs.Seen.{cube_seen_of}
 use Rattle.ht_window.specs.declared.cube.CubeSeen.{CubeSeen}
-use Rattle.ht_window.specs.declared.places.PlacesSeen.{PlacesSeen}
 use Rattle.ht_window.proofs.window.Window.choose.Goals as goal
 
 pub from_latch-requires : goal.from_latch-requires
@@ -39,5 +38,4 @@ from_place-requires c =
         | inr p ↦ ap (status_from s.window s.decisions) (sym (ap start_of p.1) ∙ start) ∙ c.requires
       ]
     ] in
-    λ p is. found_place_walks s.window s.decisions valid h p (sym
-    (ap (λ (s : PlacesSeen). s.possible_place) c.seen.ensures) ∙ is)
+    λ p is. found_place_walks s.window s.decisions valid h p (sym c.first_place.ensures ∙ is)
