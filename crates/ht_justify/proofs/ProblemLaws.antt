@@ -35,7 +35,7 @@ module _ (a : Inside) (s : BackState) (is : back_state a ≡ s) (stacked : IsSta
 
   stands_at : window_at s.first here ≡ deepest
   stands_at =
-      let c = a.frame_plan.value.circuit in
+      let c = a.circuit.now in
       let above = decisions_of a.above.items in
       subst (λ (s : BackState). window_at s.first (node_here s) ≡ deepest) is
       ((under_all c a.cube.now a.limit above path).window
@@ -62,12 +62,12 @@ module _ (a : Inside) (s : BackState) (is : back_state a ≡ s) (stacked : IsSta
       → IsLegalDecision deepest var value
   legal_here = decision_legal s.first deepest here path stands_at path_is
 
-  pub circuit_here : deepest.circuit ≡ a.frame_plan.value.circuit
+  pub circuit_here : deepest.circuit ≡ a.circuit.now
   circuit_here = ap (λ (w : SearchWindow). w.circuit) stacked.under.0
 
   -- whether the cube that the deepest window decided wants something
   pub wanting_here : (cube : List Tern) → cube ≡ cube_of deepest.circuit path
-      → is_wanting cube ≡ is_wanting (cube_of a.frame_plan.value.circuit path)
+      → is_wanting cube ≡ is_wanting (cube_of a.circuit.now path)
   wanting_here cube is = ap is_wanting (is ∙ ap (λ (n : Netlist). cube_of n path) circuit_here)
 
   -- as many windows stand above as have their decisions above
@@ -77,10 +77,10 @@ module _ (a : Inside) (s : BackState) (is : back_state a ≡ s) (stacked : IsSta
       sym (length-map (reverse above) (λ (s : WindowState). s.decisions) ∙ length-reverse above)
 
   -- `Before` fits where a frame is left and the window decided a latch to 0 or 1
-  pub before_here : (ltb 0 (a.limit - length a.above.items) && is_wanting (cube_of a.frame_plan.value.circuit path))
+  pub before_here : (ltb 0 (a.limit - length a.above.items) && is_wanting (cube_of a.circuit.now path))
       ≡ (guide_of s.first).judge.before here
   before_here =
-      ap (λ (n : ℕ). ltb 0 (a.limit - n) && is_wanting (cube_of a.frame_plan.value.circuit path)) above_count
+      ap (λ (n : ℕ). ltb 0 (a.limit - n) && is_wanting (cube_of a.circuit.now path)) above_count
       ∙ (ap (λ (w : SearchWindow). may_go_before w path) (sym stacked.under.0)
       ∙ before_is s.first deepest here path stands_at path_is)
 
@@ -92,7 +92,7 @@ module _ (a : Inside) (s : BackState) (is : back_state a ≡ s) (stacked : IsSta
       let n = length-reverse above in
       let last = length above - 1 - k in
       let same : length above - 1 - last ≡ k = omega (arith, l) in
-      let back = back_at a.frame_plan.value.circuit a.cube.now a.limit (reverse above) stacked.under.1 last x
+      let back = back_at a.circuit.now a.cube.now a.limit (reverse above) stacked.under.1 last x
       (omega (arith, l, n)) in
       let here : get_or (reverse above) last x ≡ x =
       get_or-reverse above last x (omega (arith, l)) ∙ (ap (λ (i : ℕ). get_or above i x) same ∙ sym at) in (

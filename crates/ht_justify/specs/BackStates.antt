@@ -17,15 +17,16 @@ pub record BackState : Type 0 where
 
 abbrev pub back_state : Inside → BackState
 back_state a = record {
-  first = back_window a.frame_plan.value.circuit a.cube.now a.limit;
+  first = back_window a.circuit.now a.cube.now a.limit;
   above = decisions_of a.above.items;
   decisions = a.window.decisions;
 }
 
--- each window is the one under those above it, and there are no more of these than the limit
+-- each window is the one under those above it, there are no more of these than the limit, and the bases are the circuit's
 pub record IsStacked (a : Inside) : Type 0 where
-  pub under : AreUnder a.frame_plan.value.circuit a.cube.now a.limit (a.window ∷ reverse a.above.items)
+  pub under : AreUnder a.circuit.now a.cube.now a.limit (a.window ∷ reverse a.above.items)
   pub few : length a.above.items ≤ a.limit
+  pub bases : a.bases.circuit ≡ a.circuit.now
 
 -- the node of a back walk where the deepest window stands, and the list that is read off it
 abbrev pub node_here : BackState → Node

@@ -7,23 +7,22 @@ ghost use Rattle.ht_search.specs.Routes.{Stands, back_to, stops};
 ghost use Rattle.ht_justify.specs.Stacks.{AreUnder, route_at};
 ghost use Rattle.ht_justify.specs.BackStates.{found_list};
 
-use ht_events::FramePlan;
 use ht_items::Items;
-use ht_net::Vectors;
+use ht_net::{Circuit, Vectors};
 use ht_search::Point;
 use ht_tern::Tern;
 use ht_trial::vector;
-use ht_window::{Start, Window};
+use ht_window::{Bases, Start, Window};
 use std::alloc::{AllocError, Global};
 use std::marker::Model;
-use std::rc::Rc;
 
 /// The windows of a search back. Each of them is under the one before it.
 #[derive(Drop)]
 pub struct BackWindows<'c, 's> {
     pub(crate) alloc: Global,
-    // the plan of a frame, which the windows share
-    pub(crate) frame_plan: Rc<FramePlan<'c>>,
+    pub(crate) circuit: &'c Circuit,
+    // what the windows are made from
+    pub(crate) bases: Bases<'c>,
     // for the proof: what is wanted after the first window
     pub(crate) cube: &'s [Tern],
     // how many frames may lead to it
@@ -45,24 +44,23 @@ impl<'c, 's> Model for BackWindows<'c, 's> {
     ghost invariant = { IsStacked };
 }
 
-/// The back window of a cube, with the plan of a frame of its circuit.
+/// The back window of a cube.
 ///
 /// # Errors
 /// Out of memory.
 pub fn back_window<'c>(
     alloc: Global,
-    frame_plan: &Rc<FramePlan<'c>>,
+    bases: &mut Bases<'c>,
     cube: Items<Tern>,
     limit: u32,
 ) -> Result<Window<'c>, AllocError>
-    requires { length cube ≡ length frame_plan.now.value.circuit.dffs }
-    ensures window { IfOk result
-        (λ w. w.window ≡ back_window frame_plan.now.value.circuit cube limit) }
+    requires { length cube ≡ length bases.old.circuit.dffs }
+    ensures circuit { bases.new.circuit ≡ bases.old.circuit }
+    ensures window { IfOk result (λ w. w.window ≡ back_window bases.old.circuit cube limit) }
     ensures decisions { IfOk result (λ w. w.decisions ≡ []) }
 {
-    let shared = frame_plan.clone()?;
     let start = Start::Back { cube, limit };
-    Window::planned(alloc, shared, None, 1, &start)
+    bases.window(alloc, None, 1, &start)
 }
 
 impl<'c, 's> BackWindows<'c, 's> {
@@ -72,26 +70,37 @@ impl<'c, 's> BackWindows<'c, 's> {
     /// Out of memory.
     pub fn new(
         alloc: Global,
-        frame_plan: Rc<FramePlan<'c>>,
+        bases: Bases<'c>,
         cube: &'s [Tern],
         limit: u32,
     ) -> Result<BackWindows<'c, 's>, AllocError>
-        requires { length cube.now ≡ length frame_plan.value.circuit.dffs }
+        requires { length cube.now ≡ length bases.circuit.dffs }
         ensures { IfOk result (λ windows. windows ≡ record {
-          first = back_window frame_plan.entry.value.circuit cube.now limit;
+          first = back_window bases.entry.circuit cube.now limit;
           above = [];
           decisions = [];
         }) }
     {
-        let window = back_window(alloc, &frame_plan, Items::from_slice(alloc, cube)?, limit)?;
+        let circuit = bases.circuit();
+        let mut bases = bases;
+        let window = back_window(alloc, &mut bases, Items::from_slice(alloc, cube)?, limit)?;
         Ok(BackWindows {
             alloc,
-            frame_plan,
+            circuit,
+            bases,
             cube,
             limit,
             above: Vec::new(alloc),
             window,
         })
+    }
+
+    /// The bases, for other windows of the circuit.
+    pub fn into_bases(self) -> Bases<'c>
+        ensures { result.circuit ≡ self.entry.first.circuit }
+    {
+        let BackWindows { bases, .. } = self;
+        bases
     }
 
     /// The vectors of the windows, the deepest window's first.
@@ -101,7 +110,7 @@ impl<'c, 's> BackWindows<'c, 's> {
     pub fn list(&self) -> Result<Vectors, AllocError>
         ensures { IfOk result (λ list. list ≡ found_list self.now) }
     {
-        let mut list = Vectors::new(self.alloc, self.frame_plan.circuit().inputs());
+        let mut list = Vectors::new(self.alloc, self.circuit.inputs());
         let own = vector(self.alloc, &self.window, 0)?;
         list.push(&own)?;
         for k in (0..self.above.len()).rev() {

@@ -5,14 +5,14 @@ ghost use Rattle.ht_justify.specs.Answers.{BackHolds, IsBack, answer_of};
 
 use crate::back_windows::BackWindows;
 use crate::cube::is_wanting;
-use ht_events::FramePlan;
 use ht_items::Items;
 use ht_net::{Circuit, Vectors};
 use ht_search::{Outcome, search};
 use ht_tern::Tern;
 use ht_tree::Token;
+use ht_window::Bases;
 use std::alloc::{AllocError, Global};
-use std::rc::Rc;
+use std::mem;
 
 /// What the justification of a cube comes to.
 #[derive(Drop)]
@@ -59,31 +59,35 @@ pub fn justify(
     ensures answer { IfOk result (IsBack circuit.now cube.now limit budget) }
     ensures holds { IfOk result (BackHolds circuit.now cube.now limit budget) }
 {
-    let frame_plan = Rc::new(alloc, FramePlan::new(alloc, circuit)?)?;
-    justify_planned(alloc, frame_plan, cube, limit, budget)
+    let mut bases = Bases::new(alloc, circuit)?;
+    justify_from_bases(alloc, &mut bases, cube, limit, budget)
 }
 
-/// What `justify` does for the circuit of a frame's plan, which the windows share.
+/// What `justify` does, with bases of its circuit, from which the windows are made.
 ///
 /// # Errors
-/// Out of memory.
-pub fn justify_planned(
+/// Out of memory; the bases may then be empty.
+pub fn justify_from_bases(
     alloc: Global,
-    frame_plan: Rc<FramePlan<'_>>,
+    bases: &mut Bases<'_>,
     cube: &[Tern],
     limit: u32,
     budget: u64,
 ) -> Result<Back, AllocError>
-    requires { length cube.now ≡ length frame_plan.value.circuit.dffs }
-    ensures answer { IfOk result (IsBack frame_plan.entry.value.circuit cube.now limit budget) }
-    ensures holds { IfOk result (BackHolds frame_plan.entry.value.circuit cube.now limit budget) }
+    requires { length cube.now ≡ length bases.old.circuit.dffs }
+    ensures circuit { bases.new.circuit ≡ bases.old.circuit }
+    ensures answer { IfOk result (IsBack bases.old.circuit cube.now limit budget) }
+    ensures holds { IfOk result (BackHolds bases.old.circuit cube.now limit budget) }
 {
     if !is_wanting(cube) {
         return Ok(Back::Reached {
-            list: Vectors::new(alloc, frame_plan.circuit().inputs()),
+            list: Vectors::new(alloc, bases.circuit().inputs()),
         });
     }
-    let mut windows = BackWindows::new(alloc, frame_plan, cube, limit)?;
+    let empty = bases.emptied(alloc)?;
+    let mut windows = BackWindows::new(alloc, mem::replace(bases, empty), cube, limit)?;
     let outcome = search(alloc, &mut windows, budget, 1)?;
-    answer(&windows, outcome)
+    let back = answer(&windows, outcome);
+    *bases = windows.into_bases();
+    back
 }

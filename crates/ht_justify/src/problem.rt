@@ -49,7 +49,7 @@ impl<'c, 's> Problem for BackWindows<'c, 's> {
         }
         // so that nothing fails once the window is replaced
         self.above.reserve(1)?;
-        let window = back_window(self.alloc, &self.frame_plan, cube, left - 1)?;
+        let window = back_window(self.alloc, &mut self.bases, cube, left - 1)?;
         let last = mem::replace(&mut self.window, window);
         self.above.push(last)?;
         Ok(true)

@@ -34,11 +34,8 @@ impl<'c> Window<'c> {
         }
     }
 
-    /// What `Window::new` gives for the circuit of a frame's plan, which other windows may share.
-    ///
-    /// # Errors
-    /// Out of memory.
-    pub fn planned(
+    // A window from a start, before its first decision. The plan is that of its circuit's frames.
+    pub(crate) fn planned(
         alloc: Global,
         frame_plan: Rc<FramePlan<'c>>,
         fault: Option<Fault>,

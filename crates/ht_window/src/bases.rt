@@ -65,14 +65,17 @@ impl<'c> Bases<'c> {
         self.frame_plan.circuit()
     }
 
-    /// The plan of a frame, shared with the windows.
+    /// No base yet, with the same plan of a frame.
     ///
     /// # Errors
     /// Out of memory.
-    pub fn frame_plan(&self) -> Result<Rc<FramePlan<'c>>, AllocError>
-        ensures { IfOk result (λ plan. plan.value.circuit ≡ self.now.circuit) }
+    pub fn emptied(&self, alloc: Global) -> Result<Bases<'c>, AllocError>
+        ensures { IfOk result (λ bases. bases.circuit ≡ self.now.circuit) }
     {
-        self.frame_plan.clone()
+        Ok(Bases {
+            frame_plan: self.frame_plan.clone()?,
+            windows: Vec::new(alloc),
+        })
     }
 
     // Takes the base of a start's kind out, if there is one.

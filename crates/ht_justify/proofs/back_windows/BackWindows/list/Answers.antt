@@ -2,7 +2,6 @@ use Rattle.std.proofs.Common.{◌≡◌, ◌∙◌, ◌∷◌, ◌++◌, ◌-◌
 use Rattle.std.proofs.lemmas.List.{length-map}
 use Rattle.ht_net.specs.Netlist.{Netlist}
 use Rattle.ht_net.specs.Rows.{Rows}
-use Rattle.ht_events.specs.FramePlans.{FramePlanState}
 use Rattle.ht_tree.specs.FoundLists.{vector_of}
 use Rattle.ht_records.proofs.SureLaws.{vector_wide}
 use Rattle.ht_window.specs.States.{WindowState}
@@ -14,12 +13,10 @@ use Rattle.ht_justify.proofs.back_windows.BackWindows.list.Goals as goal
 pub push-requires : goal.push-requires
 push-requires c =
     let w = c.self.inside.window in
-    let planned = c.circuit.ensures ∙ ap (λ (f : FramePlanState). f.circuit) c.deref.ensures in
-    let inputs = c.inputs.ensures ∙ ap (λ (n : Netlist). n.inputs) planned in
-    ap length (c.deref-2.ensures.value ∙ c.in_ok-own.ensures)
+    ap length (c.deref.ensures.value ∙ c.in_ok-own.ensures)
     ∙ (vector_wide w.window.circuit w.decisions 0
     ∙ (ap (λ (n : Netlist). n.inputs) (circuit_here c.self.inside c.args.self.now c.self.view_is c.self.invariant)
-    ∙ (sym inputs ∙ sym (ap (λ (r : Rows). r.width) c.new-list.ensures))))
+    ∙ (sym c.inputs.ensures ∙ sym (ap (λ (r : Rows). r.width) c.new-list.ensures))))
 
 pub vector-requires-in-loop-k : goal.vector-requires-in-loop-k
 vector-requires-in-loop-k c =

@@ -26,7 +26,7 @@ returns-then-left-eq0-clause-told c =
     let e = c.if-left-eq0.true in
     let none' : a.limit - length v.items ≡ 0 = omega (arith, e) in
     let none : ltb 0 (a.limit - length v.items) ≡ false = grind (arith, nat_tests) in
-    ap (λ (b : Bool). b && is_wanting (cube_of a.frame_plan.value.circuit a.window.decisions)) (sym none)
+    ap (λ (b : Bool). b && is_wanting (cube_of a.circuit.now a.window.decisions)) (sym none)
     ∙ before_here a c.args.self.now c.self.view_is c.self.invariant
 
 pub returns-then-not-is_wanting-clause-told : goal.returns-then-not-is_wanting-clause-told

@@ -9,6 +9,6 @@ invariant_of-self c =
     let f = c.self.invariant.few in
     let g = c.go_back.ensures.few in
     record {
-      under = c.go_back.ensures.under a.frame_plan.value.circuit a.cube.now a.limit c.self.invariant.under;
+      under = c.go_back.ensures.under a.circuit.now a.cube.now a.limit c.self.invariant.under;
       few = omega (arith, f, g);
     }
