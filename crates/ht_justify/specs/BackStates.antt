@@ -1,5 +1,5 @@
 -- The windows of a search back as contracts see them.
-use Rattle.std.specs.Prelude.{◌≤◌, List, ◌∷◌, length, reverse}
+use Rattle.std.specs.Prelude.{◌≡◌, ◌≤◌, List, ◌∷◌, length, reverse}
 use Rattle.ht_tree.specs.declared.token.Assign3.{Assign3}
 use Rattle.ht_net.specs.Rows.{Rows}
 use Rattle.ht_tree.specs.Walks.{Node}

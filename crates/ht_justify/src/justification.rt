@@ -12,7 +12,6 @@ use ht_tern::Tern;
 use ht_tree::Token;
 use ht_window::Bases;
 use std::alloc::{AllocError, Global};
-use std::mem;
 
 /// What the justification of a cube comes to.
 #[derive(Drop)]
@@ -84,10 +83,10 @@ pub fn justify_from_bases(
             list: Vectors::new(alloc, bases.circuit().inputs()),
         });
     }
-    let empty = bases.emptied(alloc)?;
-    let mut windows = BackWindows::new(alloc, mem::replace(bases, empty), cube, limit)?;
+    let own = bases.hand_over(alloc)?;
+    let mut windows = BackWindows::new(alloc, own, cube, limit)?;
     let outcome = search(alloc, &mut windows, budget, 1)?;
     let back = answer(&windows, outcome);
-    *bases = windows.into_bases();
+    bases.take_back(windows.into_bases());
     back
 }

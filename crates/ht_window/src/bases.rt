@@ -10,6 +10,7 @@ use ht_events::{FramePlan, MAX_FRAMES};
 use ht_net::{Circuit, Fault};
 use std::alloc::{AllocError, Global};
 use std::marker::Model;
+use std::mem;
 use std::rc::Rc;
 
 /// Windows before their first decision, one for each kind of start. One of them follows the fault and the start of a
@@ -65,17 +66,32 @@ impl<'c> Bases<'c> {
         self.frame_plan.circuit()
     }
 
-    /// No base yet, with the same plan of a frame.
+    /// All bases for another owner. None stays here.
     ///
     /// # Errors
-    /// Out of memory.
-    pub fn emptied(&self, alloc: Global) -> Result<Bases<'c>, AllocError>
-        ensures { IfOk result (λ bases. bases.circuit ≡ self.now.circuit) }
+    /// Out of memory; the bases stay.
+    pub fn hand_over(&mut self, alloc: Global) -> Result<Bases<'c>, AllocError>
+        ensures circuit { self.new.circuit ≡ self.old.circuit }
+        ensures handed { IfOk result (λ bases. bases.circuit ≡ self.old.circuit) }
     {
+        let frame_plan = self.frame_plan.clone()?;
+        let windows = mem::replace(&mut self.windows, Vec::new(alloc));
         Ok(Bases {
-            frame_plan: self.frame_plan.clone()?,
-            windows: Vec::new(alloc),
+            frame_plan,
+            windows,
         })
+    }
+
+    /// Other bases of the circuit in place of these.
+    pub fn take_back(&mut self, bases: Bases<'c>)
+        requires { bases.circuit ≡ self.old.circuit }
+        ensures { self.new.circuit ≡ self.old.circuit }
+    {
+        let Bases {
+            frame_plan: _,
+            windows,
+        } = bases;
+        self.windows = windows;
     }
 
     // Takes the base of a start's kind out, if there is one.

@@ -45,7 +45,8 @@ back_window-requires c =
     let w = a.window.window in
     ap length c.in_ok-cube.ensures
     ∙ (cube_held w.circuit a.window.decisions
-    ∙ ap (λ (n : Netlist). length n.dffs) (circuit_here a c.args.self.now c.self.view_is c.self.invariant))
+    ∙ ap (λ (n : Netlist). length n.dffs) (circuit_here a c.args.self.now c.self.view_is c.self.invariant
+    ∙ sym c.self.invariant.bases))
 
 pub returns-clause-told : goal.returns-clause-told
 returns-clause-told c =

@@ -11,4 +11,5 @@ invariant_of-self c =
     record {
       under = c.go_back.ensures.under a.circuit.now a.cube.now a.limit c.self.invariant.under;
       few = omega (arith, f, g);
+      bases = c.self.invariant.bases;
     }
