@@ -123,9 +123,10 @@ impl<'c> Core<'c> {
         self.marks.insert(position);
     }
 
-    // Makes an item no longer pending.
-    fn remove(&mut self, item: u32)
-        requires { item < core_items self.old }
+    // Makes the item at a position no longer pending.
+    fn remove(&mut self, position: u32, item: u32)
+        requires item { item < core_items self.old }
+        requires at { position_at self.old.plan item ≡ position }
         ensures plan { self.new.plan ≡ self.old.plan }
         ensures taken { ¬ IsPending self.new item }
         ensures fewer { (y : ℕ) → IsPending self.new y → IsPending self.old y }
@@ -133,7 +134,8 @@ impl<'c> Core<'c> {
             → IsPending self.new y
             ⊎ (y ≡ item) }
     {
-        let position = self.plan.position(item);
+        // for the proof: no other item stands there
+        let _ = self.plan.position(item);
         self.marks.remove(position);
     }
 
@@ -198,8 +200,9 @@ impl<'c> Core<'c> {
     }
 
     // What a firing leaves: the item is pending no more, and its loads are pending if its value changed, and only then.
-    fn finish(&mut self, item: u32, changed: bool)
-        requires { item < core_items self.old }
+    fn finish(&mut self, position: u32, item: u32, changed: bool)
+        requires item { item < core_items self.old }
+        requires at { position_at self.old.plan item ≡ position }
         ensures plan { self.new.plan ≡ self.old.plan }
         ensures taken { ¬ IsPending self.new item }
         ensures kept { (y : ℕ) → y < core_items self.old → IsPending self.old y
@@ -212,9 +215,9 @@ impl<'c> Core<'c> {
     {
         // for the proof: an item is none of its own loads
         let _ = self.plan.position(item);
-        let (frame, local) = self.plan.split(item);
-        self.remove(item);
+        self.remove(position, item);
         if changed {
+            let (frame, local) = self.plan.split(item);
             let net = self.plan.net(local);
             self.touch_loads(frame, net);
         }
@@ -245,8 +248,39 @@ impl<'c> Core<'c> {
             → IsPending self.old x ⊎ IsLoad self.old.plan.circuit self.old.plan.frames item x) }
         ensures err { OnErr result (self.new ≡ self.old) }
     {
+        let position = self.plan.position(item);
+        self.fire_at(plant, position, item)
+    }
+
+    // The same, of the item that stands at a position, which needn't be worked out again.
+    fn fire_at<P: Plant>(
+        &mut self,
+        plant: &mut P,
+        position: u32,
+        item: u32,
+    ) -> Result<(), AllocError>
+        requires circuit { P.circuit plant.old ≡ self.old.plan.circuit }
+        requires frames { P.frames plant.old ≡ self.old.plan.frames }
+        requires item { item < core_items self.old }
+        requires at { position_at self.old.plan item ≡ position }
+        requires pending { IsPending self.old item }
+        ensures plan { self.new.plan ≡ self.old.plan }
+        ensures circuit { P.circuit plant.new ≡ P.circuit plant.old }
+        ensures frames { P.frames plant.new ≡ P.frames plant.old }
+        ensures price { P.price plant.new ≡ P.price plant.old }
+        ensures keeps { P.keeps plant.old plant.new }
+        ensures rises { P.spent plant.old ≤ P.spent plant.new }
+        ensures spent { P.spent plant.new ≤ P.spent plant.old + P.price plant.old }
+        ensures agree { QuietAgree self.old (P.agrees plant.old)
+            → QuietAgree self.new (P.agrees plant.new) }
+        ensures fired { OnOk result (P.agrees plant.new item) }
+        ensures taken { OnOk result (¬ IsPending self.new item) }
+        ensures only { OnOk result ((x : ℕ) → x < core_items self.old → IsPending self.new x
+            → IsPending self.old x ⊎ IsLoad self.old.plan.circuit self.old.plan.frames item x) }
+        ensures err { OnErr result (self.new ≡ self.old) }
+    {
         let changed = plant.recompute(item)?;
-        self.finish(item, changed);
+        self.finish(position, item, changed);
         Ok(())
     }
 
@@ -289,7 +323,7 @@ impl<'c> Core<'c> {
         while let Some(position) = self.next_mark(from) {
             let item = self.plan.item(position);
             from = position + 1;
-            self.fire(plant, item)?;
+            self.fire_at(plant, position, item)?;
         }
         Ok(())
     }
