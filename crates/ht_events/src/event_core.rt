@@ -1,7 +1,7 @@
 //! The items that are pending, and what fires them.
 ghost use Rattle.std.specs.Prelude.{◌≡◌, ℕ, ◌<◌, ◌≤◌, ◌+◌, ◌*◌, true, false, length, get_or, set, IfOk, OnOk, OnErr, IfSome, IfNone, ◌⊎◌};
 ghost use Rattle.ht_net.specs.Netlist.{net_count};
-ghost use Rattle.ht_events.specs.Items.{IsLoad, IsReader, item_count, item_at, reader_frame, frame_items};
+ghost use Rattle.ht_events.specs.Items.{IsLoad, IsReader, item_count};
 ghost use Rattle.ht_events.specs.Plans.{position_at};
 ghost use Rattle.ht_events.specs.Pending.{CoreState, IsPending, IsPendingAt, QuietAgree, core_items, pending_count, pends};
 
@@ -139,47 +139,6 @@ impl<'c> Core<'c> {
         self.marks.remove(position);
     }
 
-    // Makes the item with this index in a frame pending.
-    fn touch_local(&mut self, frame: u32, local: u32)
-        requires frame { frame < self.old.plan.frames }
-        requires local { local < frame_items self.old.plan.circuit }
-        ensures plan { self.new.plan ≡ self.old.plan }
-        ensures more { (y : ℕ) → IsPending self.old y → IsPending self.new y }
-        ensures has { IsPending self.new (item_at self.old.plan.circuit frame local) }
-        ensures only { (y : ℕ) → y < core_items self.old → IsPending self.new y
-            → IsPending self.old y
-            ⊎ (y ≡ item_at self.old.plan.circuit frame local) }
-    {
-        let position = self.plan.local_position(frame, local);
-        self.marks.insert(position);
-    }
-
-    // Makes an item of a frame pending that reads a net of `frame`, if it is in a frame that is there.
-    fn touch_reader(&mut self, frame: u32, local: u32)
-        requires frame { frame < self.old.plan.frames }
-        requires local { local < frame_items self.old.plan.circuit }
-        ensures plan { self.new.plan ≡ self.old.plan }
-        ensures more { (y : ℕ) → IsPending self.old y → IsPending self.new y }
-        ensures has { reader_frame self.old.plan.circuit frame local < self.old.plan.frames
-            → IsPending self.new (item_at self.old.plan.circuit
-            (reader_frame self.old.plan.circuit frame local) local) }
-        ensures only { (y : ℕ) → y < core_items self.old → IsPending self.new y
-            → IsPending self.old y
-            ⊎ ((reader_frame self.old.plan.circuit frame local < self.old.plan.frames)
-            × (y ≡ item_at self.old.plan.circuit (reader_frame self.old.plan.circuit frame local)
-            local)) }
-    {
-        let frames = self.plan.frames();
-        let at = if local < self.plan.dffs() {
-            frame + 1
-        } else {
-            frame
-        };
-        if at < frames {
-            self.touch_local(at, local);
-        }
-    }
-
     /// Makes the items pending that read a net of a frame.
     pub fn touch_loads(&mut self, frame: u32, net: NetId)
         requires frame { frame < self.old.plan.frames }
@@ -192,10 +151,16 @@ impl<'c> Core<'c> {
             → IsPending self.old y
             ⊎ IsReader self.old.plan.circuit self.old.plan.frames frame net.0 y }
     {
-        let count = self.plan.readers(net).len();
-        for i in 0..count {
-            let local = self.plan.readers(net)[i];
-            self.touch_reader(frame, local);
+        let plan = &self.plan;
+        let marks = &mut self.marks;
+        let frames = plan.frames();
+        let dffs = plan.dffs();
+        for local in plan.readers(net) {
+            // a flip-flop reads the frame before its own
+            let at = if *local < dffs { frame + 1 } else { frame };
+            if at < frames {
+                marks.insert(plan.local_position(at, *local));
+            }
         }
     }
 
