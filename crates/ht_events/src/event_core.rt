@@ -1,7 +1,7 @@
 //! The items that are pending, and what fires them.
 ghost use Rattle.std.specs.Prelude.{◌≡◌, ℕ, ◌<◌, ◌≤◌, ◌+◌, ◌*◌, true, false, length, get_or, set, IfOk, OnOk, OnErr, IfSome, IfNone, ◌⊎◌};
 ghost use Rattle.ht_net.specs.Netlist.{net_count};
-ghost use Rattle.ht_events.specs.Items.{IsLoad, IsReader, item_count, item_at, reader_frame, frame_items};
+ghost use Rattle.ht_events.specs.Items.{IsLoad, IsReader, item_count};
 ghost use Rattle.ht_events.specs.Plans.{position_at};
 ghost use Rattle.ht_events.specs.Pending.{CoreState, IsPending, IsPendingAt, QuietAgree, core_items, pending_count, pends};
 
@@ -123,9 +123,10 @@ impl<'c> Core<'c> {
         self.marks.insert(position);
     }
 
-    // Makes an item no longer pending.
-    fn remove(&mut self, item: u32)
-        requires { item < core_items self.old }
+    // Makes the item at a position no longer pending.
+    fn remove(&mut self, position: u32, item: u32)
+        requires item { item < core_items self.old }
+        requires at { position_at self.old.plan item ≡ position }
         ensures plan { self.new.plan ≡ self.old.plan }
         ensures taken { ¬ IsPending self.new item }
         ensures fewer { (y : ℕ) → IsPending self.new y → IsPending self.old y }
@@ -133,49 +134,9 @@ impl<'c> Core<'c> {
             → IsPending self.new y
             ⊎ (y ≡ item) }
     {
-        let position = self.plan.position(item);
+        // for the proof: no other item stands there
+        let _ = self.plan.position(item);
         self.marks.remove(position);
-    }
-
-    // Makes the item with this index in a frame pending.
-    fn touch_local(&mut self, frame: u32, local: u32)
-        requires frame { frame < self.old.plan.frames }
-        requires local { local < frame_items self.old.plan.circuit }
-        ensures plan { self.new.plan ≡ self.old.plan }
-        ensures more { (y : ℕ) → IsPending self.old y → IsPending self.new y }
-        ensures has { IsPending self.new (item_at self.old.plan.circuit frame local) }
-        ensures only { (y : ℕ) → y < core_items self.old → IsPending self.new y
-            → IsPending self.old y
-            ⊎ (y ≡ item_at self.old.plan.circuit frame local) }
-    {
-        let position = self.plan.local_position(frame, local);
-        self.marks.insert(position);
-    }
-
-    // Makes an item of a frame pending that reads a net of `frame`, if it is in a frame that is there.
-    fn touch_reader(&mut self, frame: u32, local: u32)
-        requires frame { frame < self.old.plan.frames }
-        requires local { local < frame_items self.old.plan.circuit }
-        ensures plan { self.new.plan ≡ self.old.plan }
-        ensures more { (y : ℕ) → IsPending self.old y → IsPending self.new y }
-        ensures has { reader_frame self.old.plan.circuit frame local < self.old.plan.frames
-            → IsPending self.new (item_at self.old.plan.circuit
-            (reader_frame self.old.plan.circuit frame local) local) }
-        ensures only { (y : ℕ) → y < core_items self.old → IsPending self.new y
-            → IsPending self.old y
-            ⊎ ((reader_frame self.old.plan.circuit frame local < self.old.plan.frames)
-            × (y ≡ item_at self.old.plan.circuit (reader_frame self.old.plan.circuit frame local)
-            local)) }
-    {
-        let frames = self.plan.frames();
-        let at = if local < self.plan.dffs() {
-            frame + 1
-        } else {
-            frame
-        };
-        if at < frames {
-            self.touch_local(at, local);
-        }
     }
 
     /// Makes the items pending that read a net of a frame.
@@ -190,16 +151,23 @@ impl<'c> Core<'c> {
             → IsPending self.old y
             ⊎ IsReader self.old.plan.circuit self.old.plan.frames frame net.0 y }
     {
-        let count = self.plan.readers(net).len();
-        for i in 0..count {
-            let local = self.plan.readers(net)[i];
-            self.touch_reader(frame, local);
+        let plan = &self.plan;
+        let marks = &mut self.marks;
+        let frames = plan.frames();
+        let dffs = plan.dffs();
+        for local in plan.readers(net) {
+            // a flip-flop reads the frame before its own
+            let at = if *local < dffs { frame + 1 } else { frame };
+            if at < frames {
+                marks.insert(plan.local_position(at, *local));
+            }
         }
     }
 
     // What a firing leaves: the item is pending no more, and its loads are pending if its value changed, and only then.
-    fn finish(&mut self, item: u32, changed: bool)
-        requires { item < core_items self.old }
+    fn finish(&mut self, position: u32, item: u32, changed: bool)
+        requires item { item < core_items self.old }
+        requires at { position_at self.old.plan item ≡ position }
         ensures plan { self.new.plan ≡ self.old.plan }
         ensures taken { ¬ IsPending self.new item }
         ensures kept { (y : ℕ) → y < core_items self.old → IsPending self.old y
@@ -212,9 +180,9 @@ impl<'c> Core<'c> {
     {
         // for the proof: an item is none of its own loads
         let _ = self.plan.position(item);
-        let (frame, local) = self.plan.split(item);
-        self.remove(item);
+        self.remove(position, item);
         if changed {
+            let (frame, local) = self.plan.split(item);
             let net = self.plan.net(local);
             self.touch_loads(frame, net);
         }
@@ -245,8 +213,39 @@ impl<'c> Core<'c> {
             → IsPending self.old x ⊎ IsLoad self.old.plan.circuit self.old.plan.frames item x) }
         ensures err { OnErr result (self.new ≡ self.old) }
     {
+        let position = self.plan.position(item);
+        self.fire_at(plant, position, item)
+    }
+
+    // The same, of the item that stands at a position, which needn't be worked out again.
+    fn fire_at<P: Plant>(
+        &mut self,
+        plant: &mut P,
+        position: u32,
+        item: u32,
+    ) -> Result<(), AllocError>
+        requires circuit { P.circuit plant.old ≡ self.old.plan.circuit }
+        requires frames { P.frames plant.old ≡ self.old.plan.frames }
+        requires item { item < core_items self.old }
+        requires at { position_at self.old.plan item ≡ position }
+        requires pending { IsPending self.old item }
+        ensures plan { self.new.plan ≡ self.old.plan }
+        ensures circuit { P.circuit plant.new ≡ P.circuit plant.old }
+        ensures frames { P.frames plant.new ≡ P.frames plant.old }
+        ensures price { P.price plant.new ≡ P.price plant.old }
+        ensures keeps { P.keeps plant.old plant.new }
+        ensures rises { P.spent plant.old ≤ P.spent plant.new }
+        ensures spent { P.spent plant.new ≤ P.spent plant.old + P.price plant.old }
+        ensures agree { QuietAgree self.old (P.agrees plant.old)
+            → QuietAgree self.new (P.agrees plant.new) }
+        ensures fired { OnOk result (P.agrees plant.new item) }
+        ensures taken { OnOk result (¬ IsPending self.new item) }
+        ensures only { OnOk result ((x : ℕ) → x < core_items self.old → IsPending self.new x
+            → IsPending self.old x ⊎ IsLoad self.old.plan.circuit self.old.plan.frames item x) }
+        ensures err { OnErr result (self.new ≡ self.old) }
+    {
         let changed = plant.recompute(item)?;
-        self.finish(item, changed);
+        self.finish(position, item, changed);
         Ok(())
     }
 
@@ -289,7 +288,7 @@ impl<'c> Core<'c> {
         while let Some(position) = self.next_mark(from) {
             let item = self.plan.item(position);
             from = position + 1;
-            self.fire(plant, item)?;
+            self.fire_at(plant, position, item)?;
         }
         Ok(())
     }

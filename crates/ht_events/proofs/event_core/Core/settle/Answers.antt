@@ -8,7 +8,7 @@ use Rattle.ht_events.proofs.event_core.Core.settle.Goals as goal
 pub loop-position-preserved : goal.loop-position-preserved
 loop-position-preserved g c =
     let i = c.loop-position.invariant in
-    let f = c.in_ok-fire.ensures in
+    let f = c.in_ok-fire_at.ensures in
     let s = c.next_mark.new.self in
     let same = c.next_mark.ensures.same in
     let at = c.item-item.ensures in
@@ -32,24 +32,24 @@ loop-position-preserved g c =
       agree = λ agreed. f.agree (subst (λ (s : CoreState). QuietAgree s (g.P.Plant.agrees c.loop-position.plant))
           (sym same) (i.agree agreed));
       below = subst (λ (p : PlanState). (y : ℕ) → y < item_count p.circuit p.frames
-          → position_at p y < position + 1 → ¬ IsPending c.fire.new.self y) plan
-          (none_below s c.fire.new.self item position placed
+          → position_at p y < position + 1 → ¬ IsPending c.fire_at.new.self y) plan
+          (none_below s c.fire_at.new.self item position placed
           (subst (λ (t : CoreState). (y : ℕ) → y < item_count t.plan.circuit t.plan.frames
           → position_at t.plan y < position → ¬ IsPending t y) (sym same) c.in-Some.ensures.first) f.taken f.only);
     }
 
-pub returns-in_err-fire-clause-agree : goal.returns-in_err-fire-clause-agree
-returns-in_err-fire-clause-agree g c = λ agreed. c.in_err-fire.ensures.agree
+pub returns-in_err-fire_at-clause-agree : goal.returns-in_err-fire_at-clause-agree
+returns-in_err-fire_at-clause-agree g c = λ agreed. c.in_err-fire_at.ensures.agree
     (subst (λ (s : CoreState). QuietAgree s (g.P.Plant.agrees c.loop-position.plant)) (sym c.next_mark.ensures.same)
     (c.loop-position.invariant.agree agreed))
 
-pub returns-in_err-fire-clause-spent : goal.returns-in_err-fire-clause-spent
-returns-in_err-fire-clause-spent g c =
+pub returns-in_err-fire_at-clause-spent : goal.returns-in_err-fire_at-clause-spent
+returns-in_err-fire_at-clause-spent g c =
     let i = c.loop-position.invariant in
     let low = c.in-Some.ensures.from in
     let high = subst (λ (p : PlanState). c.in-Some.position < item_count p.circuit p.frames) i.plan
     c.in-Some.ensures.inside in
-    spends _ _ _ _ _ c.loop-position.from _ i.spent (sym i.price) c.in_err-fire.ensures.spent
+    spends _ _ _ _ _ c.loop-position.from _ i.spent (sym i.price) c.in_err-fire_at.ensures.spent
     (omega (arith, low, high))
 
 pub returns-clause-spent : goal.returns-clause-spent

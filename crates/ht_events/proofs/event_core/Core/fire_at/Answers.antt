@@ -5,7 +5,7 @@ use Rattle.ht_net.specs.Netlist.{Netlist}
 use Rattle.ht_events.specs.Items.{IsLoad, item_count}
 use Rattle.ht_events.specs.Plans.{PlanState}
 use Rattle.ht_events.specs.Pending.{IsPending, core_items}
-use Rattle.ht_events.proofs.event_core.Core.fire.Goals as goal
+use Rattle.ht_events.proofs.event_core.Core.fire_at.Goals as goal
 
 pub returns-clause-agree : goal.returns-clause-agree
 returns-clause-agree g c = λ agreed x here quiet.
