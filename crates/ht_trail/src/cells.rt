@@ -19,6 +19,9 @@ pub struct Saved<T> {
     pub value: T,
 }
 
+// So many changes most searches of a window don't go beyond, so that the trail of one takes memory once.
+const TRAIL_ROOM: usize = 64;
+
 /// Cells, and a trail of what they held before each change, the last change last.
 #[derive(Drop)]
 pub struct Cells<T> {
@@ -58,14 +61,16 @@ impl<T: Copy> Cells<T> {
         })
     }
 
-    /// Cells that hold these values, with an empty trail.
-    pub fn from_values(alloc: Global, values: Vec<T>) -> Cells<T>
-        ensures { result ≡ record { values = values.items; trail = [] } }
+    /// Cells that hold these values, with an empty trail, which has room for the first changes.
+    ///
+    /// # Errors
+    /// Out of memory.
+    pub fn from_values(alloc: Global, values: Vec<T>) -> Result<Cells<T>, AllocError>
+        ensures { IfOk result
+            (λ cells. cells ≡ record { values = values.items; trail = [] }) }
     {
-        Cells {
-            values,
-            trail: Vec::new(alloc),
-        }
+        let trail = Vec::with_capacity(alloc, TRAIL_ROOM)?;
+        Ok(Cells { values, trail })
     }
 
     /// How many cells there are.

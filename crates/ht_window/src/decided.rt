@@ -68,7 +68,7 @@ impl<'c> Decided<'c> {
         let _ = circuit.nets();
         let start = start.copied(alloc)?;
         let count = frames * inputs + (dffs + dffs);
-        let values = Cells::from_values(alloc, vec![in alloc; None; count as usize]?);
+        let values = Cells::from_values(alloc, vec![in alloc; None; count as usize]?)?;
         Ok(Decided {
             circuit,
             fault,

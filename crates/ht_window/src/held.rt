@@ -65,7 +65,7 @@ impl<'c> Held<'c> {
         let pins = vec![in alloc; PairSet::both_same(); MAX_GATE_PINS]?;
         Ok(Held {
             decided,
-            cells: Cells::from_values(alloc, sets),
+            cells: Cells::from_values(alloc, sets)?,
             pins,
             frame_length,
         })
