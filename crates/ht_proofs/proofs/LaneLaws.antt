@@ -1,9 +1,14 @@
--- What is kept of the faults in lanes, one lane after the other.
-use Rattle.std.proofs.Common.{◌≡◌, ◌≢◌, ◌<◌, ◌≤◌, ◌+◌, ◌⊎◌, inl, inr, ℕ, zero, suc, List, length, get_or, set, take, refl, sym, ◌∙◌, ap, subst, arith}
+-- What is kept of the faults in lanes, while those of a set of lanes are still to be changed.
+use Rattle.std.specs.Prelude.{bit_and}
+use Rattle.std.specs.Int.{bit_not, w64, trailing_zeros}
+use Rattle.std.proofs.Common.{◌≡◌, ◌≢◌, ◌<◌, ◌≤◌, ◌*◌, ◌%◌, ◌^◌, ◌⊎◌, inl, inr, ℕ, zero, suc, List, true, false, length, get_or, set, cond, eqb, refl, sym, ◌∙◌, ap, subst, arith}
 use Rattle.std.proofs.lemmas.Bool.{cases_eq}
-use Rattle.std.proofs.lemmas.List.{get_or-set_same, get_or-set_other, get_or-take, get_or_read, length-take-le, take_all}
+use Rattle.std.proofs.lemmas.Nat.Bits.{bit_at_clear_same, bit_at_clear_other, bit_at-trailing_zeros}
+use Rattle.std.proofs.lemmas.List.{get_or-set_same, get_or-set_other, get_or_read}
+use Rattle.ht_lanes.specs.Lanes.{is_set}
+use Rattle.ht_group.proofs.PinLaws.{rest_smaller}
 use Rattle.ht_proofs.specs.declared.grade.Grade.{Grade}
-use Rattle.ht_proofs.specs.LaneGrades.{no_grade, grade_at, HasNoLane, AreLaneFaults, AreChanged}
+use Rattle.ht_proofs.specs.LaneGrades.{no_grade, grade_at, lane_grade, AreLaneFaults, AreChanged}
 
 -- the faults of two lanes differ
 lanes_differ : (lanes : List ℕ) (grades : List Grade) (j k : ℕ) → AreLaneFaults lanes grades → j ≢ k → j < length lanes
@@ -22,59 +27,100 @@ lanes_differ lanes grades j k faults other below inside same = elim (order j k o
       | inr more ↦ inr (omega arith)
     ]
 
--- One lane more, whose fault is written.
-pub changed_more : (lanes : List ℕ) (change : ℕ → Grade → Grade) (old mid new : List Grade) (k i : ℕ)
-    (here changed : Grade) → AreLaneFaults lanes old → AreChanged (take k lanes) change old mid → k < length lanes
-    → i ≡ get_or lanes k 0 → i < length mid → here ≡ get_or mid i here → changed ≡ change k here
-    → new ≡ set mid i changed → AreChanged (take (k + 1) lanes) change old new
-changed_more lanes change old mid new k i here changed faults so_far inside is known read changes written = record {
-  each = λ j less. elim (cases_eq j k) [
-    | inl same ↦
-        let at : get_or (take (k + 1) lanes) j 0 ≡ i =
-        get_or-take (k + 1) lanes j 0 (omega arith) ∙ (ap (λ n. get_or lanes n 0) same ∙ sym is) in
-        ap (grade_at new) at ∙ (written_at ∙ (changes ∙ (ap (λ n. change n here) (sym same)
-        ∙ ap (change j) (sym (ap (grade_at old) at ∙ before)))))
+-- What is kept has changed, but in the lanes of the set `rest`.
+abbrev pub AreChangedBut : List ℕ → ℕ → (ℕ → Grade → Grade) → List Grade → List Grade → Type 0
+AreChangedBut lanes rest change old new = AreChanged lanes (λ k g. cond (is_set rest k) g (change k g)) old new
+
+-- the set without lane k
+abbrev pub without : ℕ → ℕ → ℕ
+without rest k = bit_and rest (bit_not w64 (1 * 2 ^ k % 2 ^ 64))
+
+pub without_same : (rest k : ℕ) → k < 64 → is_set (without rest k) k ≡ false
+without_same rest k small = ap (λ n. eqb n 1) (bit_at_clear_same w64 rest k small)
+
+pub without_other : (rest k j : ℕ) → k < 64 → j < 64 → j ≢ k → is_set (without rest k) j ≡ is_set rest j
+without_other rest k j small below other = ap (λ n. eqb n 1) (bit_at_clear_other w64 rest k small j below other)
+
+pub without_within : (rest k : ℕ) → k < 64 → (j : ℕ) → j < 64 → is_set (without rest k) j ≡ true → is_set rest j ≡ true
+without_within rest k small j below set_j = elim (cases_eq j k) [
+  | inl same ↦
+      let bad : false ≡ true = sym (ap (is_set (without rest k)) same ∙ without_same rest k small) ∙ set_j in
+      cc
+  | inr other ↦ sym (without_other rest k j small below other) ∙ set_j
+]
+
+-- the first lane of the set
+pub record IsFirstSet (rest k : ℕ) : Type 0 where
+  pub small : k < 64
+  pub bit : is_set rest k ≡ true
+  pub smaller : without rest k < rest
+
+pub first_set : (rest : ℕ) → rest ≢ 0 → rest < 2 ^ 64 → IsFirstSet rest (trailing_zeros w64 rest)
+first_set rest some fits =
+    let low = bit_at-trailing_zeros w64 rest (omega (arith, some)) fits in
+    record {
+      small = low.0;
+      bit = ap (λ n. eqb n 1) low.1;
+      smaller = rest_smaller rest (trailing_zeros w64 rest) low.0 low.1;
+    }
+
+-- it goes out of the set where it has no fault
+pub none_more : (lanes : List ℕ) (rest : ℕ) (change : ℕ → Grade → Grade) (old new : List Grade) (k : ℕ)
+    → length lanes ≤ 64 → AreChangedBut lanes rest change old new → IsFirstSet rest k → length lanes ≤ k
+    → AreChangedBut lanes (without rest k) change old new
+none_more lanes rest change old new k few so_far first past = record {
+  each = λ j inside.
+      let g = lane_grade old lanes j in
+      so_far.each j inside
+      ∙ sym (ap (λ b. cond b g (change j g)) (without_other rest k j first.small (omega (arith, inside, few))
+      (omega (arith, inside, past))));
+  others = so_far.others;
+}
+
+-- and once what is kept of its fault is written
+pub one_more : (lanes : List ℕ) (rest : ℕ) (change : ℕ → Grade → Grade) (old mid new : List Grade) (k i : ℕ)
+    (here changed : Grade) → length lanes ≤ 64 → AreLaneFaults lanes old → AreChangedBut lanes rest change old mid
+    → IsFirstSet rest k → k < length lanes → i ≡ get_or lanes k 0 → here ≡ get_or mid i here
+    → changed ≡ change k here → new ≡ set mid i changed → length mid ≡ length old
+    → AreChangedBut lanes (without rest k) change old new
+one_more lanes rest change old mid new k i here changed few faults so_far first inside is read changes written long = record {
+  each = λ j within. elim (cases_eq j k) [
+    | inl same ↦ subst at_lane (sym same) written_lane
     | inr other ↦
-        let lower : j < k = omega (arith, less, other, length-take-le (k + 1) lanes (omega arith)) in
-        let long = get_or-take (k + 1) lanes j 0 (omega arith) in
-        let short = get_or-take k lanes j 0 lower in
-        let differs : get_or lanes j 0 ≢ i =
-        λ e. lanes_differ lanes old j k faults other (omega arith) inside (e ∙ is) in
-        let each = so_far.each j (omega (arith, lower, length-take-le k lanes (omega arith))) in
-        ap (grade_at new) long ∙ (unwritten (get_or lanes j 0) differs ∙ (ap (grade_at mid) (sym short)
-        ∙ (each ∙ ap (λ n. change j (grade_at old n)) (short ∙ sym long))))
+        let differs : get_or lanes j 0 ≢ i = λ e. lanes_differ lanes old j k faults other within inside (e ∙ is) in
+        let g = lane_grade old lanes j in
+        unwritten (get_or lanes j 0) differs
+        ∙ (so_far.each j within
+        ∙ sym (ap (λ b. cond b g (change j g))
+        (without_other rest k j first.small (omega (arith, within, few)) other)))
   ];
-  others = λ x none.
-      let differs : x ≢ i =
-      λ e. none k (omega (arith, length-take-le (k + 1) lanes (omega arith)))
-      (get_or-take (k + 1) lanes k 0 (omega arith) ∙ (sym is ∙ sym e)) in
-      unwritten x differs ∙ so_far.others x (shorter x none);
+  others = λ x none. unwritten x (λ e. none k inside (sym is ∙ sym e)) ∙ so_far.others x none;
 }
   where
-    written_at : grade_at new i ≡ changed
-    written_at = ap (λ (l : List Grade). grade_at l i) written ∙ get_or-set_same mid i changed no_grade known
+    known : i < length mid
+    known = omega (arith, faults.known k inside, is, long)
 
     unwritten : (x : ℕ) → x ≢ i → grade_at new x ≡ grade_at mid x
     unwritten x ne = ap (λ (l : List Grade). grade_at l x) written ∙ get_or-set_other mid i x changed no_grade ne
 
-    shorter : (x : ℕ) → HasNoLane (take (k + 1) lanes) x → HasNoLane (take k lanes) x
-    shorter x none j less e =
-        let lower : j < k = omega (arith, less, length-take-le k lanes (omega arith)) in
-        none j (omega (arith, lower, length-take-le (k + 1) lanes (omega arith)))
-        (get_or-take (k + 1) lanes j 0 (omega arith) ∙ (sym (get_or-take k lanes j 0 lower) ∙ e))
+    at_lane : ℕ → Type 0
+    at_lane j = lane_grade new lanes j
+        ≡ cond (is_set (without rest k) j) (lane_grade old lanes j) (change j (lane_grade old lanes j))
 
     -- what is kept of the fault of lane k is as it was
-    before : grade_at old i ≡ here
+    before : here ≡ lane_grade old lanes k
     before =
-        sym (so_far.others i (λ j less e.
-        let lower : j < k = omega (arith, less, length-take-le k lanes (omega arith)) in
-        let other : j ≢ k = omega arith in
-        lanes_differ lanes old j k faults other (omega arith) inside
-        (sym (get_or-take k lanes j 0 lower) ∙ (e ∙ is))))
-        ∙ sym (get_or_read mid i here known read no_grade)
+        get_or_read mid i here known read no_grade
+        ∙ (ap (grade_at mid) is
+        ∙ (so_far.each k inside
+        ∙ ap (λ b. cond b (lane_grade old lanes k) (change k (lane_grade old lanes k))) first.bit))
 
--- all lanes
-pub all_changed : (lanes : List ℕ) (change : ℕ → Grade → Grade) (old new : List Grade) (k : ℕ) → length lanes ≤ k
-    → AreChanged (take k lanes) change old new → AreChanged lanes change old new
-all_changed lanes change old new k done changed =
-    subst (λ (l : List ℕ). AreChanged l change old new) (take_all k lanes done) changed
+    written_lane : at_lane k
+    written_lane =
+        ap (grade_at new) (sym is)
+        ∙ (ap (λ (l : List Grade). grade_at l i) written
+        ∙ (get_or-set_same mid i changed no_grade known
+        ∙ (changes
+        ∙ (ap (change k) before
+        ∙ sym (ap (λ b. cond b (lane_grade old lanes k) (change k (lane_grade old lanes k)))
+        (without_same rest k first.small))))))
