@@ -200,7 +200,7 @@ earlier_below verdicts numbers at x is here x_is j less inside = elim (cases_eq 
   | inr other ↦ omega (arith, listed_rises verdicts numbers j at is (omega (arith, less, other)) here, x_is)
 ]
 
--- ---- the verdicts after a frame, copied fault by fault
+-- ---- the verdicts after a frame, written fault by fault
 
 -- Each fault has its verdict but for those from place i of a list on.
 abbrev pub AreCopied : List ℕ → ℕ → List Grade → List (Option Place) → Type 0
@@ -239,6 +239,34 @@ copied_more numbers i grades old new x v at known is written copied k none = eli
         | inl first ↦ other (sym e ∙ (ap (λ n. get_or numbers n 0) first ∙ sym at))
         | inr later ↦ none j (omega (arith, from, later)) less e
       ]))
+]
+
+-- and one without a verdict, for which nothing is written
+pub copied_none : (numbers : List ℕ) (i : ℕ) (grades : List Grade) (verdicts : List (Option Place)) (x : ℕ)
+    → x ≡ get_or numbers i 0 → (grade_at grades x).verdict ≡ None → KeepsVerdicts verdicts grades
+    → AreCopied numbers i grades verdicts → AreCopied numbers (i + 1) grades verdicts
+copied_none numbers i grades verdicts x at undetected kept copied k none = elim (cases_eq k x) [
+  | inl here ↦ elim (option_cases (get_or verdicts k None)) [
+    | inl empty ↦ empty ∙ sym (ap (λ n. (grade_at grades n).verdict) here ∙ undetected)
+    | inr p ↦ p.1 ∙ sym (kept k p.0 p.1)
+  ]
+  | inr other ↦ copied k (λ j from less e. elim (cases_eq j i) [
+    | inl first ↦ other (sym e ∙ (ap (λ n. get_or numbers n 0) first ∙ sym at))
+    | inr later ↦ none j (omega (arith, from, later)) less e
+  ])
+]
+
+-- a verdict that is written is kept
+pub kept_more : (grades : List Grade) (old new : List (Option Place)) (x : ℕ) (v : Option Place) → x < length old
+    → v ≡ (grade_at grades x).verdict → new ≡ set old x v → KeepsVerdicts old grades → KeepsVerdicts new grades
+kept_more grades old new x v known is written kept k p detected = elim (cases_eq k x) [
+  | inl here ↦
+      ap (λ n. (grade_at grades n).verdict) here
+      ∙ (sym is
+      ∙ (sym (ap (λ (l : List (Option Place)). get_or l k None) written ∙ get_or-set_at old x k v None here known)
+      ∙ detected))
+  | inr other ↦ kept k p
+      (sym (ap (λ (l : List (Option Place)). get_or l k None) written ∙ get_or-set_other old x k v None other) ∙ detected)
 ]
 
 pub copied_all : (numbers : List ℕ) (i : ℕ) (grades : List Grade) (verdicts : List (Option Place))
