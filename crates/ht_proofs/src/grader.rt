@@ -98,8 +98,8 @@ fn grades_at_start(alloc: Global, count: usize) -> Result<Vec<Grade>, AllocError
     Ok(grades)
 }
 
-// Writes the verdicts of the faults that had none, after a frame.
-fn copy_verdicts(undetected: &[usize], grades: &[Grade], verdicts: &mut [Option<Place>])
+// Writes the verdicts that a frame gave to faults that had none.
+fn write_verdicts(undetected: &[usize], grades: &[Grade], verdicts: &mut [Option<Place>])
     requires each { length verdicts.old ≡ length grades.now }
     requires known { All (λ k. k < length grades.now) undetected.now }
     requires undetected { undetected.now ≡ undetected_of verdicts.old }
@@ -107,7 +107,9 @@ fn copy_verdicts(undetected: &[usize], grades: &[Grade], verdicts: &mut [Option<
     ensures { verdicts.new ≡ verdicts_of grades.now }
 {
     for k in undetected {
-        verdicts[*k] = grades[*k].verdict;
+        if let Some(place) = grades[*k].verdict {
+            verdicts[*k] = Some(place);
+        }
     }
 }
 
@@ -202,7 +204,7 @@ impl<'c> Grader<'c> {
         self.batch
             .grade_faults(faults, undetected, self.count, &mut self.grades, steps)?;
         self.batch.read_latches(&mut self.latches);
-        copy_verdicts(&self.undetected, &self.grades, &mut self.verdicts);
+        write_verdicts(&self.undetected, &self.grades, &mut self.verdicts);
         drop_detected(&self.verdicts, &mut self.undetected);
         self.count += 1;
         self.live = true;

@@ -27,7 +27,7 @@ abbrev after : goal.After-self-6-1 → PackedView
 after c =
     grades_by c.grade_faults.new.self.group.circuit c.self.inside.faults.items (c.self.inside.count + 1)
     (with_items c.self.inside.latches c.read_latches.new.latches).items
-    (with_items c.self.inside.verdicts c.copy_verdicts.new.verdicts).items (graded c) true
+    (with_items c.self.inside.verdicts c.write_verdicts.new.verdicts).items (graded c) true
 
 graded_is : (c : goal.After-self-6-1) → graded c ≡ c.grade_faults.new.grades
 graded_is c = with_items_is c.self.inside.grades c.grade_faults.new.grades (search rules)
@@ -41,8 +41,8 @@ has_run c =
     let long : length c.grade_faults.new.grades ≡ length a.grades.items = search rules in
     let latches = with_items_is a.latches c.read_latches.new.latches (search rules)
     ∙ (c.read_latches.ensures ∙ c.in_ok-grade_faults.ensures.good) in
-    let verdicts = with_items_is a.verdicts c.copy_verdicts.new.verdicts (search rules)
-    ∙ (c.copy_verdicts.ensures ∙ ap verdicts_of c.deref-5.ensures.value) in
+    let verdicts = with_items_is a.verdicts c.write_verdicts.new.verdicts (search rules)
+    ∙ (c.write_verdicts.ensures ∙ ap verdicts_of c.deref-5.ensures.value) in
     let circuit = c.grade_faults.ensures.circuit ∙ ap (λ (g : GroupView). g.circuit) c.start.ensures.group in
     record {
       frame_is = c.start.ensures.group ∙ ap (λ (l : List Tern). record {
@@ -94,8 +94,8 @@ invariant_of-self-2 c =
     let run = has_run c in
     let live : a.live ≡ true = search rules in
     let kept = kept_after a.verdicts.items a.grades.items (graded c) (c.self.invariant.same live) run.all.kept in
-    let copied = c.deref-6.ensures.value ∙ with_items_is a.verdicts c.copy_verdicts.new.verdicts (search rules)
-    ∙ (c.copy_verdicts.ensures ∙ ap verdicts_of c.deref-5.ensures.value) in
+    let copied = c.deref-6.ensures.value ∙ with_items_is a.verdicts c.write_verdicts.new.verdicts (search rules)
+    ∙ (c.write_verdicts.ensures ∙ ap verdicts_of c.deref-5.ensures.value) in
     let listed = left_after a.verdicts.items (graded c) a.undetected.items c.drop_detected.new.numbers.items
     (omega (arith, c.self.invariant.verdict_count, c.self.invariant.grade_count, run.long)) c.self.invariant.listed
     kept (c.drop_detected.ensures ∙ ap (λ (l : List (Option Place)). filter (is_undetected l) a.undetected.items) copied)
@@ -105,8 +105,8 @@ invariant_of-self-2 c =
     (λ k. subst (λ (l : List Grade). AreLatches c.start.new.self.group.circuit (grade_at l k).diffs)
     (sym (graded_is c)) (c.in_ok-grade_faults.ensures.known k)) listed
 
-pub copy_verdicts-requires-clause-known : goal.copy_verdicts-requires-clause-known
-copy_verdicts-requires-clause-known c =
+pub write_verdicts-requires-clause-known : goal.write_verdicts-requires-clause-known
+write_verdicts-requires-clause-known c =
     let a = c.self.inside in
     let long : length c.grade_faults.new.grades ≡ length a.grades.items = search rules in
     let graded = c.deref-5.ensures.value ∙ with_items_is a.grades c.grade_faults.new.grades (search rules) in
@@ -119,8 +119,8 @@ copy_verdicts-requires-clause-known c =
       ap (λ (l : List Grade). length l) graded,
     ))
 
-pub copy_verdicts-requires-clause-kept : goal.copy_verdicts-requires-clause-kept
-copy_verdicts-requires-clause-kept c =
+pub write_verdicts-requires-clause-kept : goal.write_verdicts-requires-clause-kept
+write_verdicts-requires-clause-kept c =
     let a = c.self.inside in
     let live : a.live ≡ true = search rules in
     let graded = c.deref-5.ensures.value ∙ with_items_is a.grades c.grade_faults.new.grades (search rules) in
