@@ -5,7 +5,7 @@ use Rattle.std.proofs.Math.Nat.{mul-le-mul_right, div-lt_iff_lt-mul, mod-lt, suc
 use Rattle.std.proofs.lemmas.Bool.Decides.{nat_tests}
 use Rattle.ht_net.specs.Netlist.{Netlist}
 use Rattle.ht_ranks.specs.Ranks.{AreRanked}
-use Rattle.ht_events.specs.Items.{frame_items, item_count, item_at, frame_of, local_of, driven_net, IsGateOn, ReadsNet, reader_frame, IsLoad}
+use Rattle.ht_events.specs.Items.{frame_items, item_count, item_at, frame_of, local_of, driven_net, IsGateOn, ReadsNet, reader_frame, IsReader, IsLoad}
 
 pub item_frame : (c : Netlist) (f l : ℕ) → l < frame_items c → frame_of c (item_at c f l) ≡ f
 item_frame c f l h = div-mul-add f (frame_items c) l h
@@ -37,6 +37,17 @@ frame_inside c k item h = (div-lt_iff_lt-mul {k = frame_items c} {x = item} {y =
 
 pub local_inside : (c : Netlist) (k item : ℕ) → item < item_count c k → local_of c item < frame_items c
 local_inside c k item h = mod-lt item (some_items c k item h)
+
+-- what reads the net of an item of a frame is its load
+pub reader_loads : (c : Netlist) (k f l y : ℕ) → l < frame_items c → IsReader c k f (driven_net c l) y
+    → IsLoad c k (item_at c f l) y
+reader_loads c k f l y h r = subst (λ (g : ℕ). IsReader c k g (driven_net c (local_of c (item_at c f l))) y)
+    (sym (item_frame c f l h)) (subst (λ (m : ℕ). IsReader c k f (driven_net c m) y) (sym (item_local c f l h)) r)
+
+pub load_reads : (c : Netlist) (k f l y : ℕ) → l < frame_items c → IsLoad c k (item_at c f l) y
+    → IsReader c k f (driven_net c l) y
+load_reads c k f l y h load = subst (λ (m : ℕ). IsReader c k f (driven_net c m) y) (item_local c f l h)
+    (subst (λ (g : ℕ). IsReader c k g (driven_net c (local_of c (item_at c f l))) y) (item_frame c f l h) load)
 
 -- a reader is in the first frames, and is an item of its frame
 pub reads_known : (c : Netlist) (l x : ℕ) → ReadsNet c l x → l < frame_items c
@@ -74,28 +85,26 @@ module _ (c : Netlist) (order ranks : List ℕ) (ranking : AreRanked c (length c
       sym (item_is c x) ∙ ((λ i. item_at c (f i) (l i)) ∙ item_is c y)
 
   -- the item of a position
-  pub ranked_item : (k place f n o : ℕ) → place < item_count c k → f ≡ frame_of c place → n ≡ frame_items c → o
-      ≡ get_or order (local_of c place) 0 → position_of (f * n + o) ≡ place
-  ranked_item k place f n o inside fs ns os =
-      let l = local_of c place in
-      let known = ranking.known l (local_inside c k place inside) in
-      let small : o < frame_items c = omega (arith, os, known) in
-      let fy : frame_of c (f * n + o) ≡ f = ap (λ (m : ℕ). frame_of c (f * m + o)) ns ∙ item_frame c f o small in
-      let ly : local_of c (f * n + o) ≡ o = ap (λ (m : ℕ). local_of c (f * m + o)) ns ∙ item_local c f o small in
-      let r : get_or ranks (local_of c (f * n + o)) 0 ≡ l = ap (λ (m : ℕ). get_or ranks m 0) (ly ∙ os) ∙ ranking.forth l
-      (local_inside c k place inside) in
-      (λ i. (fy ∙ fs) i * frame_items c + r i) ∙ item_is c place
+  pub ranked_small : (k place o : ℕ) → place < item_count c k → o ≡ get_or order (local_of c place) 0
+      → o < frame_items c
+  ranked_small k place o inside os =
+      let known = ranking.known (local_of c place) (local_inside c k place inside) in
+      omega (arith, os, known)
 
-  pub ranked_inside : (k place f n o : ℕ) → place < item_count c k → f ≡ frame_of c place → n ≡ frame_items c → o
-      ≡ get_or order (local_of c place) 0 → f * n + o < item_count c k
-  ranked_inside k place f n o inside fs ns os =
+  pub ranked_item : (k place f o : ℕ) → place < item_count c k → f ≡ frame_of c place
+      → o ≡ get_or order (local_of c place) 0 → position_of (item_at c f o) ≡ place
+  ranked_item k place f o inside fs os =
       let l = local_of c place in
-      let known = ranking.known l (local_inside c k place inside) in
-      let small : o < frame_items c = omega (arith, os, known) in
+      let small = ranked_small k place o inside os in
+      let r : get_or ranks (local_of c (item_at c f o)) 0 ≡ l = ap (λ (m : ℕ). get_or ranks m 0)
+      (item_local c f o small ∙ os) ∙ ranking.forth l (local_inside c k place inside) in
+      (λ i. (item_frame c f o small ∙ fs) i * frame_items c + r i) ∙ item_is c place
+
+  pub ranked_inside : (k place f o : ℕ) → place < item_count c k → f ≡ frame_of c place
+      → o ≡ get_or order (local_of c place) 0 → item_at c f o < item_count c k
+  ranked_inside k place f o inside fs os =
       let fi = frame_inside c k place inside in
-      let h = item_inside c k f o (omega (arith, fs, fi)) small in
-      let e : f * n + o ≡ item_at c f o = ap (λ (m : ℕ). f * m + o) ns in
-      omega (arith, e, h)
+      item_inside c k f o (omega (arith, fs, fi)) (ranked_small k place o inside os)
 
   pub loads_later : (k item y : ℕ) → item < item_count c k → IsLoad c k item y → position_of item < position_of y
   loads_later k item y inside load =

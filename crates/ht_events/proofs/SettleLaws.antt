@@ -3,16 +3,11 @@ use Rattle.std.proofs.Common.{◌≡◌, ◌<◌, ◌≤◌, ◌+◌, ◌*◌, �
 use Rattle.std.proofs.Math.Nat.{suc-mul, mul-le-mul_right}
 use Rattle.std.proofs.lemmas.Bool.Decides.{eqb_tells}
 use Rattle.ht_events.specs.Items.{IsLoad, item_count}
-use Rattle.ht_events.specs.Plans.{PlanState, position_at}
+use Rattle.ht_events.specs.Plans.{StandsAt, position_at}
 use Rattle.ht_events.specs.Pending.{CoreState, IsPending}
 
--- an item stands at a position where no other does, and before its loads
-pub record StandsAlone (p : PlanState) (item position : ℕ) : Type 0 where
-  pub only : (y : ℕ) → y < item_count p.circuit p.frames → position_at p y ≡ position → y ≡ item
-  pub later : (y : ℕ) → IsLoad p.circuit p.frames item y → position < position_at p y
-
 -- once the first pending item is fired, none is pending up to where it stands
-pub none_below : (s t : CoreState) (item position : ℕ) → StandsAlone s.plan item position
+pub none_below : (s t : CoreState) (item position : ℕ) → StandsAt s.plan item position
     → ((y : ℕ) → y < item_count s.plan.circuit s.plan.frames → position_at s.plan y < position → ¬ IsPending s y)
     → ¬ IsPending t item
     → ((y : ℕ) → y < item_count s.plan.circuit s.plan.frames → IsPending t y

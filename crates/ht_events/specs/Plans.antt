@@ -1,7 +1,7 @@
 -- The order in which the items of all frames are fired.
-use Rattle.std.specs.Prelude.{◌<◌, ◌≤◌, ◌+◌, ◌*◌, ℕ, List, get_or}
+use Rattle.std.specs.Prelude.{◌≡◌, ◌<◌, ◌≤◌, ◌+◌, ◌*◌, ℕ, List, get_or}
 use Rattle.ht_net.specs.Netlist.{Netlist}
-use Rattle.ht_events.specs.Items.{frame_items, frame_of, local_of}
+use Rattle.ht_events.specs.Items.{IsLoad, frame_items, frame_of, item_count, local_of}
 use Rattle.ht_events.specs.declared.plan.Plan.TheInside.{Inside}
 pub use Rattle.ht_events.specs.FrameLengths.{max_frames}
 
@@ -15,6 +15,13 @@ pub record PlanState : Type 0 where
 -- where an item stands in the order of all: by frame, and there by rank
 abbrev pub position_at : PlanState → ℕ → ℕ
 position_at s item = frame_of s.circuit item * frame_items s.circuit + get_or s.ranks (local_of s.circuit item) 0
+
+-- an item stands at a position, where no other does, and before its loads
+pub record StandsAt (s : PlanState) (item position : ℕ) : Type 0 where
+  pub inside : position < item_count s.circuit s.frames
+  pub at : position_at s item ≡ position
+  pub only : (y : ℕ) → y < item_count s.circuit s.frames → position_at s y ≡ position → y ≡ item
+  pub later : (y : ℕ) → IsLoad s.circuit s.frames item y → position < position_at s y
 
 -- there is a frame, and no more than a window may have
 pub record IsPlan (a : Inside) : Type 0 where

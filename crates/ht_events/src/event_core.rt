@@ -1,8 +1,8 @@
 //! The items that are pending, and what fires them.
 ghost use Rattle.std.specs.Prelude.{◌≡◌, ℕ, ◌<◌, ◌≤◌, ◌+◌, ◌*◌, true, false, length, get_or, set, IfOk, OnOk, OnErr, IfSome, IfNone, ◌⊎◌};
 ghost use Rattle.ht_net.specs.Netlist.{net_count};
-ghost use Rattle.ht_events.specs.Items.{IsLoad, IsReader, item_count};
-ghost use Rattle.ht_events.specs.Plans.{position_at};
+ghost use Rattle.ht_events.specs.Items.{IsLoad, IsReader, frame_items, item_at, item_count};
+ghost use Rattle.ht_events.specs.Plans.{StandsAt, position_at};
 ghost use Rattle.ht_events.specs.Pending.{CoreState, IsPending, IsPendingAt, QuietAgree, core_items, pending_count, pends};
 
 use crate::frame_plan::FramePlan;
@@ -124,18 +124,14 @@ impl<'c> Core<'c> {
     }
 
     // Makes the item at a position no longer pending.
-    fn remove(&mut self, position: u32, item: u32)
-        requires item { item < core_items self.old }
-        requires at { position_at self.old.plan item ≡ position }
+    fn remove(&mut self, position: u32)
+        requires { position < core_items self.old }
         ensures plan { self.new.plan ≡ self.old.plan }
-        ensures taken { ¬ IsPending self.new item }
+        ensures taken { ¬ IsPendingAt self.new position }
         ensures fewer { (y : ℕ) → IsPending self.new y → IsPending self.old y }
-        ensures only { (y : ℕ) → y < core_items self.old → IsPending self.old y
-            → IsPending self.new y
-            ⊎ (y ≡ item) }
+        ensures only { (y : ℕ) → IsPending self.old y
+            → IsPending self.new y ⊎ (position_at self.old.plan y ≡ position) }
     {
-        // for the proof: no other item stands there
-        let _ = self.plan.position(item);
         self.marks.remove(position);
     }
 
@@ -165,24 +161,27 @@ impl<'c> Core<'c> {
     }
 
     // What a firing leaves: the item is pending no more, and its loads are pending if its value changed, and only then.
-    fn finish(&mut self, position: u32, item: u32, changed: bool)
-        requires item { item < core_items self.old }
-        requires at { position_at self.old.plan item ≡ position }
+    fn finish(&mut self, position: u32, frame: u32, local: u32, changed: bool)
+        requires frame { frame < self.old.plan.frames }
+        requires local { local < frame_items self.old.plan.circuit }
+        requires stands { StandsAt self.old.plan (item_at self.old.plan.circuit frame local)
+            position }
         ensures plan { self.new.plan ≡ self.old.plan }
-        ensures taken { ¬ IsPending self.new item }
+        ensures taken { ¬ IsPending self.new (item_at self.old.plan.circuit frame local) }
         ensures kept { (y : ℕ) → y < core_items self.old → IsPending self.old y
-            → IsPending self.new y ⊎ (y ≡ item) }
+            → IsPending self.new y ⊎ (y ≡ item_at self.old.plan.circuit frame local) }
         ensures loads { changed ≡ true → (y : ℕ)
-            → IsLoad self.old.plan.circuit self.old.plan.frames item y → IsPending self.new y }
+            → IsLoad self.old.plan.circuit self.old.plan.frames
+            (item_at self.old.plan.circuit frame local) y
+            → IsPending self.new y }
         ensures only { (y : ℕ) → y < core_items self.old → IsPending self.new y
             → IsPending self.old y
-            ⊎ ((changed ≡ true) × IsLoad self.old.plan.circuit self.old.plan.frames item y) }
+            ⊎ ((changed ≡ true)
+            × IsLoad self.old.plan.circuit self.old.plan.frames
+            (item_at self.old.plan.circuit frame local) y) }
     {
-        // for the proof: an item is none of its own loads
-        let _ = self.plan.position(item);
-        self.remove(position, item);
+        self.remove(position);
         if changed {
-            let (frame, local) = self.plan.split(item);
             let net = self.plan.net(local);
             self.touch_loads(frame, net);
         }
@@ -213,22 +212,25 @@ impl<'c> Core<'c> {
             → IsPending self.old x ⊎ IsLoad self.old.plan.circuit self.old.plan.frames item x) }
         ensures err { OnErr result (self.new ≡ self.old) }
     {
-        let position = self.plan.position(item);
-        self.fire_at(plant, position, item)
+        let (frame, local) = self.plan.split(item);
+        let position = self.plan.local_position(frame, local);
+        self.fire_at(plant, position, frame, local)
     }
 
-    // The same, of the item that stands at a position, which needn't be worked out again.
+    // The same, of the item with this index in a frame, which stands at a position: none of them is worked out again.
     fn fire_at<P: Plant>(
         &mut self,
         plant: &mut P,
         position: u32,
-        item: u32,
+        frame: u32,
+        local: u32,
     ) -> Result<(), AllocError>
         requires circuit { P.circuit plant.old ≡ self.old.plan.circuit }
         requires frames { P.frames plant.old ≡ self.old.plan.frames }
-        requires item { item < core_items self.old }
-        requires at { position_at self.old.plan item ≡ position }
-        requires pending { IsPending self.old item }
+        requires frame { frame < self.old.plan.frames }
+        requires local { local < frame_items self.old.plan.circuit }
+        requires stands { StandsAt self.old.plan (item_at self.old.plan.circuit frame local)
+            position }
         ensures plan { self.new.plan ≡ self.old.plan }
         ensures circuit { P.circuit plant.new ≡ P.circuit plant.old }
         ensures frames { P.frames plant.new ≡ P.frames plant.old }
@@ -238,14 +240,17 @@ impl<'c> Core<'c> {
         ensures spent { P.spent plant.new ≤ P.spent plant.old + P.price plant.old }
         ensures agree { QuietAgree self.old (P.agrees plant.old)
             → QuietAgree self.new (P.agrees plant.new) }
-        ensures fired { OnOk result (P.agrees plant.new item) }
-        ensures taken { OnOk result (¬ IsPending self.new item) }
+        ensures fired { OnOk result
+            (P.agrees plant.new (item_at self.old.plan.circuit frame local)) }
+        ensures taken { OnOk result
+            (¬ IsPending self.new (item_at self.old.plan.circuit frame local)) }
         ensures only { OnOk result ((x : ℕ) → x < core_items self.old → IsPending self.new x
-            → IsPending self.old x ⊎ IsLoad self.old.plan.circuit self.old.plan.frames item x) }
+            → IsPending self.old x ⊎ IsLoad self.old.plan.circuit self.old.plan.frames
+            (item_at self.old.plan.circuit frame local) x) }
         ensures err { OnErr result (self.new ≡ self.old) }
     {
-        let changed = plant.recompute(item)?;
-        self.finish(position, item, changed);
+        let changed = plant.recompute(frame, local)?;
+        self.finish(position, frame, local, changed);
         Ok(())
     }
 
@@ -286,9 +291,9 @@ impl<'c> Core<'c> {
     {
         let mut from = 0;
         while let Some(position) = self.next_mark(from) {
-            let item = self.plan.item(position);
+            let (frame, local) = self.plan.local_item(position);
             from = position + 1;
-            self.fire_at(plant, position, item)?;
+            self.fire_at(plant, position, frame, local)?;
         }
         Ok(())
     }

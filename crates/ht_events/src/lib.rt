@@ -15,7 +15,6 @@ mod plant;
 mod readers;
 
 pub use event_core::Core;
-pub use frame_length::FrameLength;
 pub use frame_plan::FramePlan;
 pub use plan::MAX_FRAMES;
 pub use plant::Plant;

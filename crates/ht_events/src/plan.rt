@@ -3,7 +3,7 @@ ghost use Rattle.std.specs.Prelude.{◌≡◌, ℕ, ◌<◌, ◌≤◌, ◌-◌,
 ghost use Rattle.ht_net.specs.Netlist.{IsCircuit, net_count};
 ghost use Rattle.ht_events.specs.Items.{IsLoad, frame_items, item_at, item_count, frame_of, local_of, driven_net};
 ghost use Rattle.ht_events.specs.FramePlans.{IsTable};
-ghost use Rattle.ht_events.specs.Plans.{position_at};
+ghost use Rattle.ht_events.specs.Plans.{StandsAt, position_at};
 
 use crate::frame_plan::FramePlan;
 use ht_net::NetId;
@@ -79,6 +79,7 @@ impl<'c> Plan<'c> {
         ensures local { result.1 ≡ local_of self.now.circuit item }
         ensures frame_inside { result.0 < self.now.frames }
         ensures local_inside { result.1 < frame_items self.now.circuit }
+        ensures few { item_count self.now.circuit self.now.frames < 2 ^ 32 - 1 }
     {
         // for the proof: the number of all items fits
         let _ = self.items();
@@ -130,20 +131,17 @@ impl<'c> Plan<'c> {
         frame * plan.items() + plan.rank(local)
     }
 
-    /// The item that stands there in the order of all.
-    pub fn item(&self, position: u32) -> u32
+    /// The frame and the index there of the item that stands at a position in the order of all.
+    pub fn local_item(&self, position: u32) -> (u32, u32)
         requires { position < item_count self.now.circuit self.now.frames }
-        ensures item { position_at self.now result ≡ position }
-        ensures inside { result < item_count self.now.circuit self.now.frames }
+        ensures frame { result.0 < self.now.frames }
+        ensures local { result.1 < frame_items self.now.circuit }
         ensures few { item_count self.now.circuit self.now.frames < 2 ^ 32 - 1 }
-        ensures only { (y : ℕ) → y < item_count self.now.circuit self.now.frames
-            → position_at self.now y ≡ position → y ≡ result }
-        ensures later { (y : ℕ) → IsLoad self.now.circuit self.now.frames result y
-            → position < position_at self.now y }
+        ensures stands { StandsAt self.now (item_at self.now.circuit result.0 result.1) position }
     {
         let (frame, rank) = self.split(position);
         let plan: &FramePlan = &self.frame_plan;
-        frame * plan.items() + plan.item(rank)
+        (frame, plan.item(rank))
     }
 
     /// The items of a frame that read a net.

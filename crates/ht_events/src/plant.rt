@@ -1,7 +1,7 @@
 //! What is kept up to date, item by item.
 ghost use Rattle.std.specs.Prelude.{◌≡◌, ◌↔◌, ℕ, ◌<◌, ◌≤◌, ◌+◌, false, OnOk, OnErr, Ok};
 ghost use Rattle.ht_net.specs.Netlist.{Netlist};
-ghost use Rattle.ht_events.specs.Items.{IsLoad, item_count};
+ghost use Rattle.ht_events.specs.Items.{IsLoad, frame_items, item_at, item_count};
 
 use std::alloc::AllocError;
 
@@ -23,23 +23,25 @@ pub trait Plant {
 
     ghost spent: { Self → ℕ };
 
-    /// Makes an item agree with what it reads, and says whether its value changed. What agreed and isn't its load still
-    /// agrees, and where nothing changed its loads do too.
+    /// Makes the item with this index in a frame agree with what it reads, and says whether its value changed. What
+    /// agreed and isn't its load still agrees, and where nothing changed its loads do too.
     ///
     /// # Errors
     /// Out of memory; the same items agree as before.
-    fn recompute(&mut self, item: u32) -> Result<bool, AllocError>
-        requires { item < item_count (circuit self.old) (frames self.old) }
+    fn recompute(&mut self, frame: u32, local: u32) -> Result<bool, AllocError>
+        requires frame { frame < frames self.old }
+        requires local { local < frame_items (circuit self.old) }
         ensures circuit { circuit self.new ≡ circuit self.old }
         ensures frames { frames self.new ≡ frames self.old }
         ensures price { price self.new ≡ price self.old }
         ensures keeps { keeps self.old self.new }
         ensures rises { spent self.old ≤ spent self.new }
         ensures spent { spent self.new ≤ spent self.old + price self.old }
-        ensures agrees { OnOk result (agrees self.new item) }
+        ensures agrees { OnOk result (agrees self.new (item_at (circuit self.old) frame local)) }
         ensures others { OnOk result ((x : ℕ) → x < item_count (circuit self.old) (frames self.old)
-            → ¬ IsLoad (circuit self.old) (frames self.old) item x → agrees self.old x
-            → agrees self.new x) }
+            → ¬ IsLoad (circuit self.old) (frames self.old)
+            (item_at (circuit self.old) frame local) x
+            → agrees self.old x → agrees self.new x) }
         ensures loads { result ≡ Ok false → (x : ℕ) → x < item_count (circuit self.old)
             (frames self.old)
             → agrees self.old x → agrees self.new x }

@@ -4,8 +4,8 @@ use Rattle.ht_pairs.specs.Pairs.{Pair}
 use Rattle.ht_net.specs.Netlist.{Netlist, net_count}
 use Rattle.ht_net.proofs.FrameLaws.{le_or_lt}
 use Rattle.ht_trail.specs.Trails.{IsLater}
-use Rattle.ht_events.specs.Items.{item_count, item_at, frame_of, local_of, driven_net, IsReader, IsLoad}
-use Rattle.ht_events.proofs.ItemLaws.{item_inside}
+use Rattle.ht_events.specs.Items.{frame_items, item_count, item_at, frame_of, local_of, driven_net, IsReader, IsLoad}
+use Rattle.ht_events.proofs.ItemLaws.{item_inside, reader_loads}
 use Rattle.ht_tree.specs.declared.token.Assign3.{Assign3}
 use Rattle.ht_tree.specs.Windows.{SearchWindow, IsWindow, pair_set_rules, frame_inputs}
 use Rattle.ht_window.specs.Standing.{Standing}
@@ -13,7 +13,7 @@ use Rattle.ht_window.specs.Cells.{cell_index, cell_count, env_at, latches_over, 
 use Rattle.ht_window.specs.Holding.{HeldState, item_agrees, KeepsHeld}
 use Rattle.ht_window.proofs.PlaceLaws.{unwritten, this_or_other}
 use Rattle.ht_window.proofs.ReaderLaws.{over_same}
-use Rattle.ht_window.proofs.ItemNetLaws.{item_net, agrees_net}
+use Rattle.ht_window.proofs.ItemNetLaws.{item_net, agrees_net, net_agrees}
 use Rattle.ht_window.proofs.HoldLaws.{others_hold, self_holds, same_holds, holds_cells}
 
 pub record IsRecomputed (a b : HeldState) (item : ℕ) : Type 0 where
@@ -24,63 +24,65 @@ pub record IsRecomputed (a b : HeldState) (item : ℕ) : Type 0 where
 
 module _ (a b : HeldState) (valid : IsWindow a.standing.window)
     (count : length a.cells.values ≡ cell_count a.standing.window)
-    (f x : ℕ) (v : List Pair) (fs : f < a.standing.window.frames) (xs : x < net_count a.standing.window.circuit)
+    (f l x : ℕ) (v : List Pair) (fs : f < a.standing.window.frames) (ls : l < frame_items a.standing.window.circuit)
+    (xe : x ≡ driven_net a.standing.window.circuit l)
     (value : v ≡ value_over a.standing.window a.standing.path a.cells.values f x)
     (same : b.standing ≡ a.standing) (now : b.cells.values ≡ set a.cells.values (cell_index a.standing.window f x) v)
-    (item : ℕ) (inside : item < item_count a.standing.window.circuit a.standing.window.frames)
-    (fe : f ≡ frame_of a.standing.window.circuit item)
-    (xe : x ≡ driven_net a.standing.window.circuit (local_of a.standing.window.circuit item)) where
-  move : (g y : ℕ) → HoldsValue a.standing.window a.standing.path (set a.cells.values
-      (cell_index a.standing.window f x) v) g
-      y
-      → HoldsValue b.standing.window b.standing.path b.cells.values g y
-  move g y h = subst (λ (s : Standing). HoldsValue s.window s.path b.cells.values g y) (sym same)
-      (subst (λ (t : List (List Pair)). HoldsValue a.standing.window a.standing.path t g y) (sym now) h)
+  where
+    -- the item that drives the net
+    abbrev item : ℕ
+    item = item_at a.standing.window.circuit f l
 
-  agrees_self : item_agrees b item
-  agrees_self =
-      let c = a.standing.window.circuit in
-      subst (λ (s : Standing). HoldsValue b.standing.window b.standing.path b.cells.values
-      (frame_of s.window.circuit item)
-      (driven_net s.window.circuit (local_of s.window.circuit item))) (sym same)
-      (subst (λ (g : ℕ). HoldsValue b.standing.window b.standing.path b.cells.values g (driven_net c
-      (local_of c item))) fe
-      (subst (λ (y : ℕ). HoldsValue b.standing.window b.standing.path b.cells.values f y) xe
-      (move f x (self_holds a.standing.window valid a.standing.path a.cells.values count f x v fs xs value))))
+    xs : x < net_count a.standing.window.circuit
+    xs = omega (arith, xe, ls)
 
-  agrees_others : (y : ℕ) → y < item_count a.standing.window.circuit a.standing.window.frames
-      → ¬ IsLoad a.standing.window.circuit a.standing.window.frames item y → item_agrees a y → item_agrees b y
-  agrees_others y known free agree =
-      let w = a.standing.window in
-      let c = w.circuit in
-      let g = frame_of c y in
-      let z = driven_net c (local_of c y) in
-      let n = item_net c w.frames y known in
-      subst (λ (s : Standing). HoldsValue b.standing.window b.standing.path b.cells.values (frame_of s.window.circuit y)
-      (driven_net s.window.circuit (local_of s.window.circuit y))) (sym same)
-      (move g z (elim (this_or_other w a.cells.values count f x v fs xs g z) [
-        | inl e ↦ same_holds w valid a.standing.path a.cells.values count f x v fs xs g z n.net e value
-        | inr ne ↦ others_hold w valid a.standing.path a.cells.values count f x v fs xs g z n.frame n.net
-            (λ at r. free (subst (λ (i : ℕ). IsReader c w.frames (frame_of c item) (driven_net c (local_of c item)) i)
-            n.is
-            (subst (λ (n : ℕ). IsReader c w.frames (frame_of c item) n (item_at c g (z - c.inputs))) xe
-            (subst (λ (m : ℕ). IsReader c w.frames m x (item_at c g (z - c.inputs))) fe r)))) ne agree
-      ]))
+    move : (g y : ℕ) → HoldsValue a.standing.window a.standing.path (set a.cells.values
+        (cell_index a.standing.window f x) v) g
+        y
+        → HoldsValue b.standing.window b.standing.path b.cells.values g y
+    move g y h = subst (λ (s : Standing). HoldsValue s.window s.path b.cells.values g y) (sym same)
+        (subst (λ (t : List (List Pair)). HoldsValue a.standing.window a.standing.path t g y) (sym now) h)
 
-  kept_set : IsLater a.cells b.cells → KeepsHeld a b
-  kept_set later = record {
-    standing = same;
-    later = later;
-    inputs = λ g i gs is.
+    agrees_self : item_agrees b item
+    agrees_self =
+        let c : Netlist = b.standing.window.circuit in
+        let e : a.standing.window.circuit ≡ c = ap (λ (s : Standing). s.window.circuit) (sym same) in
+        subst (λ (n : Netlist). item_agrees b (item_at n f l)) (sym e)
+        (net_agrees b f l x (subst (λ (n : Netlist). l < frame_items n) e ls)
+        (subst (λ (n : Netlist). x ≡ driven_net n l) e xe)
+        (move f x (self_holds a.standing.window valid a.standing.path a.cells.values count f x v fs xs value)))
+
+    agrees_others : (y : ℕ) → y < item_count a.standing.window.circuit a.standing.window.frames
+        → ¬ IsLoad a.standing.window.circuit a.standing.window.frames item y → item_agrees a y → item_agrees b y
+    agrees_others y known free agree =
         let w = a.standing.window in
-        let low : i ≢ x = (λ e. let xl = xe in omega (arith, e, xl, is)) in
-        ap (λ (t : List (List Pair)). env_at w t g i) now ∙ unwritten w a.cells.values count f x v fs xs g i
-        (omega (arith, is)) (inr low);
-  }
+        let c = w.circuit in
+        let g = frame_of c y in
+        let z = driven_net c (local_of c y) in
+        let n = item_net c w.frames y known in
+        subst (λ (s : Standing). HoldsValue b.standing.window b.standing.path b.cells.values (frame_of s.window.circuit y)
+        (driven_net s.window.circuit (local_of s.window.circuit y))) (sym same)
+        (move g z (elim (this_or_other w a.cells.values count f x v fs xs g z) [
+          | inl e ↦ same_holds w valid a.standing.path a.cells.values count f x v fs xs g z n.net e value
+          | inr ne ↦ others_hold w valid a.standing.path a.cells.values count f x v fs xs g z n.frame n.net
+              (λ at r. free (reader_loads c w.frames f l y ls (subst (λ (i : ℕ). IsReader c w.frames f (driven_net c l) i)
+              n.is (subst (λ (n : ℕ). IsReader c w.frames f n (item_at c g (z - c.inputs))) xe r)))) ne agree
+        ]))
 
-  -- what the write of an item's value leaves
-  pub recomputed : IsLater a.cells b.cells → IsRecomputed a b item
-  recomputed later = record { keeps = kept_set later; agrees = agrees_self; others = agrees_others }
+    kept_set : IsLater a.cells b.cells → KeepsHeld a b
+    kept_set later = record {
+      standing = same;
+      later = later;
+      inputs = λ g i gs is.
+          let w = a.standing.window in
+          let low : i ≢ x = (λ e. let xl = xe in omega (arith, e, xl, is)) in
+          ap (λ (t : List (List Pair)). env_at w t g i) now ∙ unwritten w a.cells.values count f x v fs xs g i
+          (omega (arith, is)) (inr low);
+    }
+
+    -- what the write of an item's value leaves
+    pub recomputed : IsLater a.cells b.cells → IsRecomputed a b item
+    recomputed later = record { keeps = kept_set later; agrees = agrees_self; others = agrees_others }
 
 -- what an input holds doesn't rest on other cells
 pub input_over : (w : SearchWindow) (path : List Assign3) (values more : List (List Pair)) (g i : ℕ)

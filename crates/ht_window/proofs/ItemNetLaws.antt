@@ -1,5 +1,5 @@
 -- The net of an item, and the item of a net.
-use Rattle.std.proofs.Common.{◌≡◌, ◌<◌, ◌≤◌, ◌-◌, ℕ, ◌∙◌, ap, arith, subst}
+use Rattle.std.proofs.Common.{◌≡◌, ◌<◌, ◌≤◌, ◌-◌, ℕ, ◌∙◌, ap, arith, subst, sym}
 use Rattle.ht_net.specs.Netlist.{Netlist, net_count}
 use Rattle.ht_events.specs.Items.{item_count, item_at, frame_items, frame_of, local_of, driven_net}
 use Rattle.ht_events.proofs.ItemLaws.{item_is, item_frame, item_local, frame_inside, local_inside}
@@ -42,3 +42,16 @@ agrees_net h g y at ys agree =
     subst (λ (x : ℕ). HoldsValue w h.standing.path h.cells.values g x) n
     (subst (λ (m : ℕ). HoldsValue w h.standing.path h.cells.values m (driven_net c (local_of c (item_at c g l)))) f
     agree)
+
+-- the item of a net agrees where the net holds what it gets
+pub net_agrees : (h : HeldState) (f l x : ℕ) → l < frame_items h.standing.window.circuit
+    → x ≡ driven_net h.standing.window.circuit l
+    → HoldsValue h.standing.window h.standing.path h.cells.values f x
+    → item_agrees h (item_at h.standing.window.circuit f l)
+net_agrees h f l x known is holds =
+    let w = h.standing.window in
+    let c = w.circuit in
+    let n : x ≡ driven_net c (local_of c (item_at c f l)) = is ∙ ap (driven_net c) (sym (item_local c f l known)) in
+    subst (λ (g : ℕ). HoldsValue w h.standing.path h.cells.values g (driven_net c (local_of c (item_at c f l))))
+    (sym (item_frame c f l known))
+    (subst (λ (y : ℕ). HoldsValue w h.standing.path h.cells.values f y) n holds)

@@ -3,7 +3,7 @@ use Rattle.std.specs.Prelude.{◌≡◌, ◌<◌, ◌≤◌, ℕ, List, length}
 use Rattle.ht_pairs.specs.Pairs.{Pair}
 use Rattle.ht_trail.specs.Trails.{CellsState, IsLater}
 use Rattle.ht_events.specs.Plans.{max_frames}
-use Rattle.ht_events.specs.Items.{frame_items, frame_of, local_of, driven_net}
+use Rattle.ht_events.specs.Items.{frame_of, local_of, driven_net}
 use Rattle.ht_tree.specs.Windows.{IsWindow}
 use Rattle.ht_window.specs.Standing.{Standing}
 use Rattle.ht_window.specs.Cells.{env_at, cell_count, HoldsValue}
@@ -14,13 +14,12 @@ pub record HeldState : Type 0 where
   pub standing : Standing
   pub cells : CellsState (List Pair)
 
--- a cell for each net of each frame, room for the pins of the widest gate, and how many items a frame has
+-- a cell for each net of each frame, and room for the pins of the widest gate
 pub record IsHeld (a : Inside) : Type 0 where
   pub window : IsWindow a.decided.window
   pub few : a.decided.window.frames ≤ max_frames
   pub count : length a.cells.values ≡ cell_count a.decided.window
   pub pins : length a.pins.items ≡ 255
-  pub frame_length : a.frame_length ≡ frame_items a.decided.window.circuit
 
 -- the item's cell is what its arguments give
 abbrev pub item_agrees : HeldState → ℕ → Type 0

@@ -5,14 +5,13 @@ ghost use Rattle.ht_pairs.specs.Pairs.{Pair, pair};
 ghost use Rattle.ht_net.specs.Netlist.{net_count, first_gate_net};
 ghost use Rattle.ht_net.specs.Frame.{driver_value};
 ghost use Rattle.ht_trail.specs.Trails.{CellsState, IsLater, restored};
-ghost use Rattle.ht_events.specs.Items.{item_count, frame_of, local_of, driven_net};
 ghost use Rattle.ht_tree.specs.Windows.{IsWindow, first_input, frame_inputs, pair_set_rules};
 ghost use Rattle.ht_window.specs.Standing.{variable_room};
 ghost use Rattle.ht_window.specs.Cells.{cell_index, cell_count, env_at, latches_over, value_over, var_frame, var_net, HoldsValue};
 ghost use Rattle.ht_window.specs.Holding.{HeldState};
 
 use crate::decided::Decided;
-use ht_events::{FrameLength, MAX_FRAMES, Plant};
+use ht_events::{MAX_FRAMES, Plant};
 use ht_frame::{MAX_GATE_PINS, data_pin, gate_output, stem};
 use ht_pairs::PairSet;
 use ht_tern::Tern;
@@ -27,7 +26,6 @@ pub struct Held<'c> {
     cells: Cells<PairSet>,
     // room for the pins of one gate
     pins: Vec<PairSet>,
-    frame_length: FrameLength,
 }
 
 impl<'c> Model for Held<'c> {
@@ -61,13 +59,11 @@ impl<'c> Held<'c> {
         let circuit = decided.circuit();
         // for the proof: the circuit is well formed
         let _ = circuit.nets();
-        let frame_length = FrameLength::new(circuit.dffs() + circuit.gates());
         let pins = vec![in alloc; PairSet::both_same(); MAX_GATE_PINS]?;
         Ok(Held {
             decided,
             cells: Cells::from_values(alloc, sets)?,
             pins,
-            frame_length,
         })
     }
 
@@ -269,25 +265,6 @@ impl<'c> Held<'c> {
         self.cells.forget();
     }
 
-    /// The frame and the net of an item.
-    fn item_place(&self, item: u32) -> (u32, u32)
-        requires { item < item_count self.now.standing.window.circuit
-            self.now.standing.window.frames }
-        ensures frame { result.0 ≡ frame_of self.now.standing.window.circuit item }
-        ensures net { result.1 ≡ driven_net self.now.standing.window.circuit
-            (local_of self.now.standing.window.circuit item) }
-        ensures frame_inside { result.0 < self.now.standing.window.frames }
-        ensures net_inside { result.1 < net_count self.now.standing.window.circuit }
-        ensures window { IsWindow self.now.standing.window }
-        ensures count { length self.now.cells.values ≡ cell_count self.now.standing.window }
-    {
-        let circuit = self.decided.circuit();
-        // for the proof: the circuit is well formed
-        let _ = circuit.nets();
-        let (frame, local) = self.frame_length.split(item);
-        (frame, circuit.inputs() + local)
-    }
-
     /// The frame and the net that a variable decides.
     pub fn var_place(&self, var: u32) -> (u32, u32)
         ensures frame { result.0 ≡ var_frame self.now.standing.window var }
@@ -356,8 +333,8 @@ impl<'c> Plant for Held<'c> {
     ghost spent = { λ h. 0 };
 
     #[inline(always)]
-    fn recompute(&mut self, item: u32) -> Result<bool, AllocError> {
-        let (frame, net) = self.item_place(item);
+    fn recompute(&mut self, frame: u32, local: u32) -> Result<bool, AllocError> {
+        let net = self.decided().inputs() + local;
         let value = self.evaluate(frame, net);
         if self.cell(frame, net) == value {
             return Ok(false);

@@ -47,12 +47,12 @@ impl<'c> FrameValues<'c> {
     }
 
     /// Gives a gate its value, and says whether it changed. A flip-flop stays unknown.
-    fn evaluate(&mut self, item: u32) -> bool
+    fn evaluate(&mut self, local: u32) -> bool
         ensures { self.new.circuit.now ≡ self.old.circuit.now }
     {
         let dffs = self.circuit.dffs();
         let nets = self.circuit.nets() as usize;
-        if item < dffs || item - dffs >= self.circuit.gates() {
+        if local < dffs || local - dffs >= self.circuit.gates() {
             return false;
         }
         if self.values.len() != nets || self.pins.len() != MAX_GATE_PINS {
@@ -63,9 +63,9 @@ impl<'c> FrameValues<'c> {
             None,
             &self.values,
             &mut self.pins,
-            item - dffs,
+            local - dffs,
         );
-        let net = (self.circuit.inputs() + item) as usize;
+        let net = (self.circuit.inputs() + local) as usize;
         let changed = self.values[net] != value;
         self.values[net] = value;
         changed
@@ -86,8 +86,8 @@ impl<'c> Plant for FrameValues<'c> {
 
     ghost spent = { λ row. 0 };
 
-    fn recompute(&mut self, item: u32) -> Result<bool, AllocError> {
-        Ok(self.evaluate(item))
+    fn recompute(&mut self, _frame: u32, local: u32) -> Result<bool, AllocError> {
+        Ok(self.evaluate(local))
     }
 
     ghost reflexive = { λ a i. a.circuit.now };

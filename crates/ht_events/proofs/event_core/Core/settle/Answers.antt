@@ -1,8 +1,8 @@
 use Rattle.std.proofs.Common.{◌≡◌, ◌<◌, ◌+◌, ℕ, sym, subst, ap, ◌∙◌, arith}
-use Rattle.ht_events.specs.Items.{item_count}
-use Rattle.ht_events.specs.Plans.{PlanState, position_at}
+use Rattle.ht_events.specs.Items.{item_at, item_count}
+use Rattle.ht_events.specs.Plans.{PlanState, StandsAt, position_at}
 use Rattle.ht_events.specs.Pending.{CoreState, IsPending, QuietAgree}
-use Rattle.ht_events.proofs.SettleLaws.{StandsAlone, none_below, spends, spends_most}
+use Rattle.ht_events.proofs.SettleLaws.{none_below, spends, spends_most}
 use Rattle.ht_events.proofs.event_core.Core.settle.Goals as goal
 
 pub loop-position-preserved : goal.loop-position-preserved
@@ -11,13 +11,14 @@ loop-position-preserved g c =
     let f = c.in_ok-fire_at.ensures in
     let s = c.next_mark.new.self in
     let same = c.next_mark.ensures.same in
-    let at = c.item-item.ensures in
-    let item = c.item-item.result in
+    let at = c.local_item-frame.ensures in
+    let frame = c.local_item-frame.result.0 in
+    let local = c.local_item-frame.result.1 in
     let position = c.in-Some.position in
     let view = ap (λ (s : CoreState). s.plan) c.self.view_is in
     let plan : s.plan ≡ c.args.self.now.plan = ap (λ (s : CoreState). s.plan) same ∙ i.plan in
-    let placed : StandsAlone s.plan item position = subst (λ (p : PlanState). StandsAlone p item position) view
-    (record { only = at.only; later = at.later }) in
+    let stands : StandsAt s.plan (item_at s.plan.circuit frame local) position =
+    subst (λ (p : PlanState). StandsAt p (item_at p.circuit frame local) position) view at.stands in
     let low = c.in-Some.ensures.from in
     record {
       plan = f.plan ∙ plan;
@@ -33,7 +34,7 @@ loop-position-preserved g c =
           (sym same) (i.agree agreed));
       below = subst (λ (p : PlanState). (y : ℕ) → y < item_count p.circuit p.frames
           → position_at p y < position + 1 → ¬ IsPending c.fire_at.new.self y) plan
-          (none_below s c.fire_at.new.self item position placed
+          (none_below s c.fire_at.new.self (item_at s.plan.circuit frame local) position stands
           (subst (λ (t : CoreState). (y : ℕ) → y < item_count t.plan.circuit t.plan.frames
           → position_at t.plan y < position → ¬ IsPending t y) (sym same) c.in-Some.ensures.first) f.taken f.only);
     }

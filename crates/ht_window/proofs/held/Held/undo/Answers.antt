@@ -1,6 +1,5 @@
 use Rattle.std.proofs.Common.{◌≤◌, ◌∙◌, ap, sym, drop, length, subst}
 use Rattle.ht_trail.proofs.TrailLaws.{restored_length}
-use Rattle.ht_events.specs.Items.{frame_items}
 use Rattle.ht_events.specs.Plans.{max_frames}
 use Rattle.ht_tree.specs.Windows.{SearchWindow, IsWindow}
 use Rattle.ht_window.specs.Cells.{cell_count}
@@ -17,5 +16,4 @@ invariant_of-self c =
       count = ap length c.undo.ensures.values ∙
           (restored_length a.cells.values (drop c.args.mark.0 a.cells.trail) ∙ (i.count ∙ ap cell_count (sym w)));
       pins = i.pins;
-      frame_length = i.frame_length ∙ ap (λ (w : SearchWindow). frame_items w.circuit) (sym w);
     }
