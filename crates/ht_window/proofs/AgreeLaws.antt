@@ -27,62 +27,62 @@ module _ (a b : HeldState) (valid : IsWindow a.standing.window)
     (f l x : ℕ) (v : List Pair) (fs : f < a.standing.window.frames) (ls : l < frame_items a.standing.window.circuit)
     (xe : x ≡ driven_net a.standing.window.circuit l)
     (value : v ≡ value_over a.standing.window a.standing.path a.cells.values f x)
-    (same : b.standing ≡ a.standing) (now : b.cells.values ≡ set a.cells.values (cell_index a.standing.window f x) v)
-  where
-    -- the item that drives the net
-    abbrev item : ℕ
-    item = item_at a.standing.window.circuit f l
+    (same : b.standing ≡ a.standing)
+    (now : b.cells.values ≡ set a.cells.values (cell_index a.standing.window f x) v) where
+  -- the item that drives the net
+  abbrev item : ℕ
+  item = item_at a.standing.window.circuit f l
 
-    xs : x < net_count a.standing.window.circuit
-    xs = omega (arith, xe, ls)
+  xs : x < net_count a.standing.window.circuit
+  xs = omega (arith, xe, ls)
 
-    move : (g y : ℕ) → HoldsValue a.standing.window a.standing.path (set a.cells.values
-        (cell_index a.standing.window f x) v) g
-        y
-        → HoldsValue b.standing.window b.standing.path b.cells.values g y
-    move g y h = subst (λ (s : Standing). HoldsValue s.window s.path b.cells.values g y) (sym same)
-        (subst (λ (t : List (List Pair)). HoldsValue a.standing.window a.standing.path t g y) (sym now) h)
+  move : (g y : ℕ) → HoldsValue a.standing.window a.standing.path (set a.cells.values
+      (cell_index a.standing.window f x) v) g
+      y
+      → HoldsValue b.standing.window b.standing.path b.cells.values g y
+  move g y h = subst (λ (s : Standing). HoldsValue s.window s.path b.cells.values g y) (sym same)
+      (subst (λ (t : List (List Pair)). HoldsValue a.standing.window a.standing.path t g y) (sym now) h)
 
-    agrees_self : item_agrees b item
-    agrees_self =
-        let c : Netlist = b.standing.window.circuit in
-        let e : a.standing.window.circuit ≡ c = ap (λ (s : Standing). s.window.circuit) (sym same) in
-        subst (λ (n : Netlist). item_agrees b (item_at n f l)) (sym e)
-        (net_agrees b f l x (subst (λ (n : Netlist). l < frame_items n) e ls)
-        (subst (λ (n : Netlist). x ≡ driven_net n l) e xe)
-        (move f x (self_holds a.standing.window valid a.standing.path a.cells.values count f x v fs xs value)))
+  agrees_self : item_agrees b item
+  agrees_self =
+      let c : Netlist = b.standing.window.circuit in
+      let e : a.standing.window.circuit ≡ c = ap (λ (s : Standing). s.window.circuit) (sym same) in
+      subst (λ (n : Netlist). item_agrees b (item_at n f l)) (sym e)
+      (net_agrees b f l x (subst (λ (n : Netlist). l < frame_items n) e ls)
+      (subst (λ (n : Netlist). x ≡ driven_net n l) e xe)
+      (move f x (self_holds a.standing.window valid a.standing.path a.cells.values count f x v fs xs value)))
 
-    agrees_others : (y : ℕ) → y < item_count a.standing.window.circuit a.standing.window.frames
-        → ¬ IsLoad a.standing.window.circuit a.standing.window.frames item y → item_agrees a y → item_agrees b y
-    agrees_others y known free agree =
+  agrees_others : (y : ℕ) → y < item_count a.standing.window.circuit a.standing.window.frames
+      → ¬ IsLoad a.standing.window.circuit a.standing.window.frames item y → item_agrees a y → item_agrees b y
+  agrees_others y known free agree =
+      let w = a.standing.window in
+      let c = w.circuit in
+      let g = frame_of c y in
+      let z = driven_net c (local_of c y) in
+      let n = item_net c w.frames y known in
+      subst (λ (s : Standing). HoldsValue b.standing.window b.standing.path b.cells.values (frame_of s.window.circuit y)
+      (driven_net s.window.circuit (local_of s.window.circuit y))) (sym same)
+      (move g z (elim (this_or_other w a.cells.values count f x v fs xs g z) [
+        | inl e ↦ same_holds w valid a.standing.path a.cells.values count f x v fs xs g z n.net e value
+        | inr ne ↦ others_hold w valid a.standing.path a.cells.values count f x v fs xs g z n.frame n.net
+            (λ at r. free (reader_loads c w.frames f l y ls (subst (λ (i : ℕ). IsReader c w.frames f (driven_net c l) i)
+            n.is (subst (λ (n : ℕ). IsReader c w.frames f n (item_at c g (z - c.inputs))) xe r)))) ne agree
+      ]))
+
+  kept_set : IsLater a.cells b.cells → KeepsHeld a b
+  kept_set later = record {
+    standing = same;
+    later = later;
+    inputs = λ g i gs is.
         let w = a.standing.window in
-        let c = w.circuit in
-        let g = frame_of c y in
-        let z = driven_net c (local_of c y) in
-        let n = item_net c w.frames y known in
-        subst (λ (s : Standing). HoldsValue b.standing.window b.standing.path b.cells.values (frame_of s.window.circuit y)
-        (driven_net s.window.circuit (local_of s.window.circuit y))) (sym same)
-        (move g z (elim (this_or_other w a.cells.values count f x v fs xs g z) [
-          | inl e ↦ same_holds w valid a.standing.path a.cells.values count f x v fs xs g z n.net e value
-          | inr ne ↦ others_hold w valid a.standing.path a.cells.values count f x v fs xs g z n.frame n.net
-              (λ at r. free (reader_loads c w.frames f l y ls (subst (λ (i : ℕ). IsReader c w.frames f (driven_net c l) i)
-              n.is (subst (λ (n : ℕ). IsReader c w.frames f n (item_at c g (z - c.inputs))) xe r)))) ne agree
-        ]))
+        let low : i ≢ x = (λ e. let xl = xe in omega (arith, e, xl, is)) in
+        ap (λ (t : List (List Pair)). env_at w t g i) now ∙ unwritten w a.cells.values count f x v fs xs g i
+        (omega (arith, is)) (inr low);
+  }
 
-    kept_set : IsLater a.cells b.cells → KeepsHeld a b
-    kept_set later = record {
-      standing = same;
-      later = later;
-      inputs = λ g i gs is.
-          let w = a.standing.window in
-          let low : i ≢ x = (λ e. let xl = xe in omega (arith, e, xl, is)) in
-          ap (λ (t : List (List Pair)). env_at w t g i) now ∙ unwritten w a.cells.values count f x v fs xs g i
-          (omega (arith, is)) (inr low);
-    }
-
-    -- what the write of an item's value leaves
-    pub recomputed : IsLater a.cells b.cells → IsRecomputed a b item
-    recomputed later = record { keeps = kept_set later; agrees = agrees_self; others = agrees_others }
+  -- what the write of an item's value leaves
+  pub recomputed : IsLater a.cells b.cells → IsRecomputed a b item
+  recomputed later = record { keeps = kept_set later; agrees = agrees_self; others = agrees_others }
 
 -- what an input holds doesn't rest on other cells
 pub input_over : (w : SearchWindow) (path : List Assign3) (values more : List (List Pair)) (g i : ℕ)
