@@ -9,7 +9,7 @@ use Rattle.ht_net.specs.declared.fault.Fault.{Fault}
 use Rattle.ht_net.specs.declared.place.Place.{Place}
 use Rattle.ht_net.specs.Netlist.{Netlist, IsCircuit}
 use Rattle.ht_net.specs.Detection.{terns_of, unknown_state, tern_outputs, output_at, IsBefore, IsState, bit_at}
-use Rattle.ht_net.proofs.ApartLaws.{output_stands}
+use Rattle.ht_net.proofs.ApartLaws.{output_stands, unknown_allows}
 use Rattle.ht_faults.specs.Sites.{faults_of}
 use Rattle.ht_collapse.specs.Classes.{AreClasses, fault_at}
 use Rattle.ht_collapse.proofs.RunLaws.{tern_members_alike}
@@ -41,7 +41,7 @@ pub explained_consistent : (c : Netlist) (fault : Option Fault) (state : List Bo
 explained_consistent c fault state list rows is explains t o h =
     let within = contradiction_within c fault list rows t o h in
     one_bit (observed_at rows t o) (output_at c fault list t o) (bit_at c fault state list t o)
-    (explains t o within.0 within.1) (output_stands c fault state list t o is) h
+    (explains t o within.0 within.1) (output_stands c fault (unknown_state c) state list t o (unknown_allows c state is)) h
 
 -- the same by the rows that the machine shows
 abbrev IsFirstOpposite : List (List Tern) → Option Place → List (List Tern) → Type 0
