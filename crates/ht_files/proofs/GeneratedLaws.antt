@@ -12,6 +12,7 @@ use Rattle.ht_texts.specs.Reports.{report_body, report_sums, report_text, total_
 use Rattle.ht_texts.specs.SearchReports.{HasPlainNames, IsBudget}
 use Rattle.ht_texts.proofs.ReportLaws.{report_splits}
 use Rattle.ht_valid.specs.ValidFiles.{AreValid}
+use Rattle.ht_valid.proofs.BackedLaws.{justified}
 use Rattle.ht_valid.proofs.DecidedLaws.{are_decided}
 use Rattle.ht_valid.proofs.TruthLaws.{true_verdicts}
 use Rattle.ht_engine.specs.declared.step.Step.{Step}
@@ -44,16 +45,15 @@ are_generated e steps saids report total work names short_tests short_proofs sho
     let valid = subst
     (λ (l : List ℕ). AreValid e.circuit e.representatives (tests_of steps) l (proofs_of steps) content) (sym report_is)
     (are_valid e steps saids work names short_tests short_proofs short) in
+    let is = justified e.circuit e.representatives (tests_of steps) report (proofs_of steps) content valid in
     record {
       representatives = e.representatives;
       steps = steps;
       saids = saids;
       classes = work.classes;
       valid = valid;
-      verdicts = true_verdicts e.circuit e.representatives (tests_of steps) report (proofs_of steps) content
-          work.circuit work.classes valid;
-      decided = are_decided e.circuit e.representatives (tests_of steps) report (proofs_of steps) content
-          work.circuit work.classes valid;
+      verdicts = true_verdicts e.circuit e.representatives content work.circuit work.classes is;
+      decided = are_decided e.circuit e.representatives content work.circuit is;
       steps_are = work.stands.are;
       finished = work.finished;
       tests_are = refl;

@@ -1,4 +1,4 @@
--- In valid files each fault that needs an entry has one that backs what is said of it.
+-- What is justified backs what is said of each fault that needs an entry; what valid files say is justified.
 use Rattle.std.proofs.Common.{◌≡◌, ◌+◌, ◌-◌, ℕ, List, get_or, length, arith, subst}
 use Rattle.std.specs.Prelude.{◌<◌}
 use Rattle.std.specs.List.{Contains}
@@ -11,7 +11,7 @@ use Rattle.ht_collapse.proofs.ClassLaws.{own_representative}
 use Rattle.ht_tree.specs.declared.entry.Entry.{Entry}
 use Rattle.ht_texts.specs.declared.said.Said.{Said}
 use Rattle.ht_texts.specs.Verdicts.{said_at}
-use Rattle.ht_valid.specs.ValidFiles.{AreValid, Backs, Content, IsBacking, IsOwn, NeedsEntry}
+use Rattle.ht_valid.specs.ValidFiles.{AreValid, Backs, Content, IsBacking, IsJustified, IsOwn, NeedsEntry}
 
 -- An entry of fault i stands among the entries, and backs what is said.
 pub record IsBacked (c : Netlist) (content : Content) (i : ℕ) (said : Said) : Type 0 where
@@ -23,13 +23,18 @@ pub record IsBacked (c : Netlist) (content : Content) (i : ℕ) (said : Said) : 
 abbrev pub IsBackedIfNeeded : Netlist → Content → ℕ → Said → Type 0
 IsBackedIfNeeded c content i said = NeedsEntry said → IsBacked c content i said
 
-pub valid_backs : (c : Netlist) (representatives tests report proofs : List ℕ) (content : Content) (i : ℕ)
-    → AreValid c representatives tests report proofs content → IsOwn c representatives i
+pub justified : (c : Netlist) (representatives tests report proofs : List ℕ) (content : Content)
+    → AreValid c representatives tests report proofs content → IsJustified c representatives content
+justified c representatives tests report proofs content valid =
+    record { agrees = valid.agrees; backed = valid.backed; complete = valid.complete }
+
+pub justified_backs : (c : Netlist) (representatives : List ℕ) (content : Content) (i : ℕ)
+    → IsJustified c representatives content → IsOwn c representatives i
     → IsBackedIfNeeded c content i (said_at content.saids i)
-valid_backs c representatives tests report proofs content i valid own needs =
-    let has = valid.complete i own needs in
+justified_backs c representatives content i is own needs =
+    let has = is.complete i own needs in
     let backing = All-contains (IsBacking c representatives content) content.entries
-    (record { number = i + 1; entry = has.entry }) valid.backed has.among in
+    (record { number = i + 1; entry = has.entry }) is.backed has.among in
     let back : i + 1 - 1 ≡ i = omega arith in
     record {
       entry = has.entry;

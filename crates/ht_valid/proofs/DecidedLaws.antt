@@ -1,10 +1,10 @@
--- In valid files a budget that is enough decides a representative that is easy to decide.
+-- In what is justified a budget that is enough decides a representative that is easy to decide.
 use Rattle.std.proofs.Common.{◌≡◌, ◌≤◌, ℕ, List, Bool, length, refl}
 use Rattle.ht_net.specs.Netlist.{Netlist, IsCircuit}
 use Rattle.ht_net.specs.Detection.{Detects}
 use Rattle.ht_net.specs.Silence.{Sealed}
 use Rattle.ht_net.proofs.SilenceLaws.{sealed_undetected}
-use Rattle.ht_collapse.specs.Classes.{AreClasses, fault_at}
+use Rattle.ht_collapse.specs.Classes.{fault_at}
 use Rattle.ht_tree.specs.declared.entry.Entry.{Entry}
 use Rattle.ht_tree.specs.declared.entry.Entry.TheVariants as entries
 use Rattle.ht_tree.specs.Budgets.{refutation_cost, sweep_cost}
@@ -13,9 +13,9 @@ use Rattle.ht_records.proofs.AbortLaws.{enough_undetected, enough_unsealed}
 use Rattle.ht_texts.specs.declared.said.Said.{Said}
 use Rattle.ht_texts.specs.declared.said.Said.TheVariants.{Detected, Untestable, Aborted, Undetected}
 use Rattle.ht_texts.specs.Verdicts.{said_at}
-use Rattle.ht_valid.specs.ValidFiles.{AgreesWithTests, AreValid, Backs, Content}
+use Rattle.ht_valid.specs.ValidFiles.{AgreesWithTests, Backs, Content, IsJustified}
 use Rattle.ht_valid.specs.TrueVerdicts.{AreDecided, SaysDetected}
-use Rattle.ht_valid.proofs.BackedLaws.{IsBackedIfNeeded, valid_backs}
+use Rattle.ht_valid.proofs.BackedLaws.{IsBackedIfNeeded, justified_backs}
 
 module _ (c : Netlist) (content : Content) (i : ℕ) (circuit : IsCircuit c) where
   -- with a budget for all one-frame windows no abort record backs what is said of a sealed fault
@@ -64,13 +64,12 @@ module _ (c : Netlist) (content : Content) (i : ℕ) (circuit : IsCircuit c) whe
       absurd (short_unaborted d list t o few detects enough by.entry by.backs)
   short_said d list t o few detects enough Undetected agrees backed = absurd agrees
 
-pub are_decided : (c : Netlist) (representatives tests report proofs : List ℕ) (content : Content) → IsCircuit c
-    → AreClasses c representatives → AreValid c representatives tests report proofs content
-    → AreDecided c representatives content
-are_decided c representatives tests report proofs content circuit classes valid i own =
+pub are_decided : (c : Netlist) (representatives : List ℕ) (content : Content) → IsCircuit c
+    → IsJustified c representatives content → AreDecided c representatives content
+are_decided c representatives content circuit is i own =
     let said = said_at content.saids i in
-    let agrees = valid.agrees i own in
-    let backed = valid_backs c representatives tests report proofs content i valid own in
+    let agrees = is.agrees i own in
+    let backed = justified_backs c representatives content i is own in
     record {
       sealed = λ z seal enough. sealed_said c content i circuit z seal enough said agrees backed;
       short = λ d list t o few detects enough.

@@ -1,4 +1,4 @@
--- The verdict of each listed fault is true in valid files.
+-- The verdict of each listed fault is true in what is justified.
 use Rattle.std.proofs.Common.{◌∙◌, ◌+◌, ℕ, List, [], ◌∷◌, Bool, get_or, Option, Some, None, ap, subst}
 use Rattle.std.specs.List.{Contains}
 use Rattle.ht_net.specs.declared.place.Place.{Place}
@@ -20,9 +20,9 @@ use Rattle.ht_records.proofs.AbortLaws.{abort_means}
 use Rattle.ht_texts.specs.declared.said.Said.{Said}
 use Rattle.ht_texts.specs.declared.said.Said.TheVariants.{Detected, Untestable, Aborted, Undetected}
 use Rattle.ht_texts.specs.Verdicts.{said_at}
-use Rattle.ht_valid.specs.ValidFiles.{AgreesWithTests, AreValid, Backs, Content}
+use Rattle.ht_valid.specs.ValidFiles.{AgreesWithTests, Backs, Content, IsJustified}
 use Rattle.ht_valid.specs.TrueVerdicts.{HasVerdict, HaveTrueVerdicts, IsAborted, IsDetected, IsProvedUntestable}
-use Rattle.ht_valid.proofs.BackedLaws.{IsBackedIfNeeded, representative_is_own, valid_backs}
+use Rattle.ht_valid.proofs.BackedLaws.{IsBackedIfNeeded, justified_backs, representative_is_own}
 
 module _ (c : Netlist) (content : Content) (r i : ℕ) (circuit : IsCircuit c)
     (same : SameClass c (fault_at c r) (fault_at c i)) where
@@ -98,11 +98,10 @@ module _ (c : Netlist) (content : Content) (r i : ℕ) (circuit : IsCircuit c)
       aborted_by by.entry by.among by.backs agrees
   verdict_by Undetected agrees backed = absurd agrees
 
-pub true_verdicts : (c : Netlist) (representatives tests report proofs : List ℕ) (content : Content) → IsCircuit c
-    → AreClasses c representatives → AreValid c representatives tests report proofs content
-    → HaveTrueVerdicts c representatives content
-true_verdicts c representatives tests report proofs content circuit classes valid i inside =
+pub true_verdicts : (c : Netlist) (representatives : List ℕ) (content : Content) → IsCircuit c
+    → AreClasses c representatives → IsJustified c representatives content → HaveTrueVerdicts c representatives content
+true_verdicts c representatives content circuit classes is i inside =
     let r = get_or representatives i 0 in
     let own = representative_is_own c representatives i classes inside in
-    verdict_by c content r i circuit (classes.exact i inside).member (said_at content.saids r) (valid.agrees r own)
-    (valid_backs c representatives tests report proofs content r valid own)
+    verdict_by c content r i circuit (classes.exact i inside).member (said_at content.saids r) (is.agrees r own)
+    (justified_backs c representatives content r is own)

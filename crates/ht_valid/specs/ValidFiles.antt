@@ -67,6 +67,14 @@ pub record HasEntry (entries : List Numbered) (i : ℕ) : Type 0 where
 
 -- ---- the three together
 
+-- What is said is justified: of each representative the report says what the vectors show; each entry backs what is said
+-- of its fault; and none that is needed is missing.
+pub record IsJustified (c : Netlist) (representatives : List ℕ) (content : Content) : Type 0 where
+  pub agrees : (i : ℕ) → IsOwn c representatives i → AgreesWithTests c content.list i (said_at content.saids i)
+  pub backed : All (IsBacking c representatives content) content.entries
+  pub complete : (i : ℕ) → IsOwn c representatives i → NeedsEntry (said_at content.saids i)
+      → HasEntry content.entries i
+
 -- The tests are vectors of the circuit; the report says of each representative what these vectors show; each entry of
 -- the proofs backs what is said of its fault; and none that is needed is missing.
 pub record AreValid (c : Netlist) (representatives : List ℕ) (tests report proofs : List ℕ) (content : Content)
