@@ -1,280 +1,295 @@
--- The files of `gen`, carried to the run.
-use Rattle.std.proofs.Common.{◌≡◌, ◌⊎◌, inl, inr, ℕ, List, [], Bool, true, false, refl, sym, ◌∙◌, ap}
-use Rattle.std.specs.Prelude.{Option, Some, None, ◌==◌, nat_le, ◌||◌}
-use Rattle.std.specs.Option.{option_map}
-use Rattle.std.specs.Io.KnownBytes.{append_known}
-use Rattle.ht_ports.specs.Desk.{DeskView, InCall}
+-- The files of `gen`, one part after the other.
+use Rattle.std.proofs.Common.{◌≡◌, ◌⊎◌, inl, inr, ℕ, ◌≤◌, ◌+◌, List, [], ◌∷◌, ◌++◌, Bool, true, false, ◌||◌, IsTrue, length, flat_map, refl, sym, ◌∙◌, ap, subst, arith}
+use Rattle.std.specs.Prelude.{Result, Ok, Err, None}
+use Rattle.std.specs.List.{list_any}
+use Rattle.std.proofs.lemmas.List.{length-append}
+use Rattle.std.proofs.lemmas.List.Folds.{list_any-append}
+use Rattle.ht_ports.specs.LineRule.{max_text_bytes}
+use Rattle.ht_ports.specs.Desk.{DeskView}
+use Rattle.ht_ports.specs.declared.ports.InPort.{InPort}
 use Rattle.ht_ports.specs.declared.ports.InPort.TheVariants.{Netlist}
 use Rattle.ht_ports.specs.declared.ports.OutPort.{OutPort}
-use Rattle.ht_ports.specs.declared.ports.OutPort.TheVariants.{Tests, Report, Proofs, Out, Err}
+use Rattle.ht_ports.specs.declared.ports.OutPort.TheVariants.{Tests, Report, Proofs, Out, Err as ErrPort}
 use Rattle.ht_net.specs.Netlist as net
-use Rattle.ht_files.proofs.PlainNameLaws.{plain_names}
+use Rattle.ht_collapse.specs.Classes.{AreClasses}
+use Rattle.ht_texts.specs.Lines.{with_lf}
+use Rattle.ht_texts.specs.SearchReports.{HasPlainNames}
+use Rattle.ht_entries.specs.ProofLines.{line_text}
+use Rattle.ht_entries.specs.declared.proof_line.ProofLine.TheVariants.{End}
+use Rattle.ht_engine.specs.declared.step.Step.{Step}
+use Rattle.ht_engine.specs.declared.step.Step.TheVariants.{Vectors, Entry, Finished}
+use Rattle.ht_engine.specs.Steps.{AreFinished, AreSteps, Settings, first_vectors, none}
+use Rattle.ht_engine.specs.EngineStands.{EngineStandsFor, EngineView, HasSameWork, first_of}
+use Rattle.ht_files.specs.StepTexts.{proofs_of, proofs_so_far, tests_of}
+use Rattle.ht_files.specs.Generated.{IsGenerated}
+use Rattle.ht_files.proofs.StepTextLaws.{proofs_end}
 use Rattle.ht_asked.specs.Asked.{Asked, gen, GenOptions}
+use Rattle.ht_words.specs.declared.job.RunFiles.{RunFiles}
 use Rattle.ht_app.specs.declared.run_error.RunError.{RunError}
-use Rattle.ht_app.specs.declared.run_error.RunError.TheVariants.{Denied, Usage, TooLong, Refused, ReadFault, WriteFault, NoMemory, BadTests, TooManyVectors, BadResponses}
-use Rattle.ht_app.specs.FileTexts.{Names}
-use Rattle.ht_app.specs.Inputs.{IsInput, IsGoodNetlist, AcceptsNetlist}
-use Rattle.ht_engine.specs.Steps.{Settings}
-use Rattle.ht_app.specs.Jobs.{settings_of, output_name}
+use Rattle.ht_app.specs.declared.run_error.RunError.TheVariants.{WriteFault, NoMemory}
+use Rattle.ht_app.specs.Acts.{Act, put, makes}
 use Rattle.ht_app.specs.Changed.{ChangedOnly, Ports, job_ports}
-use Rattle.ht_app.specs.Done.{IsDone, IsCreatedAs}
-use Rattle.ht_app.specs.Errors.{exit_status}
-use Rattle.ht_app.specs.Truncated.{FilesHave, HasText, IsEmptiedIf, IsTruncated, StopsInEnd, StopsInFiles, StopsInHead, StopsInLastFile, StopsInSteps}
-use Rattle.ht_app.specs.Run.{HasCause}
-use Rattle.ht_app.specs.Steps.{reading}
-use Rattle.ht_app.specs.Generating.{FillCause, HasGenerated, LeavesFiles, file_name, filling, is_gen_port}
-use Rattle.ht_app.proofs.ChangedLaws.{ArePortsWithin, changed_by_reading, changed_trans, changed_within}
-use Rattle.ht_app.proofs.PortsLaws.{never_answered, ends_reading, reading_within}
-use Rattle.ht_app.proofs.OutputLaws.{created_as, report_earlier}
-use Rattle.ht_app.proofs.EndLaws.{fault_later}
+use Rattle.ht_app.specs.Generating.{WritesAfter, creation}
+use Rattle.ht_app.specs.Inputs.{AcceptsInputs, JobBasis}
+use Rattle.ht_app.specs.Jobs.{input_name, order_of, output_name, settings_of}
+use Rattle.ht_app.specs.Outputs.{WritesFiles, WritesSteps, beginning, ending, step_acts}
+use Rattle.ht_app.specs.Steps.{Does, EndsJob, HasReadTo, NetlistStops, NetlistWasRead, PermitsAll, Tries, reading, writing}
+use Rattle.ht_app.proofs.ChangedLaws.{ArePortsWithin}
+use Rattle.ht_app.proofs.EndLaws.{ends_done, ends_in_memory, ends_in_part, ends_unmade, ends_unwritten, nothing_written}
+use Rattle.ht_app.proofs.PreparedLaws.{basis_of, netlist_read_to, netlist_stops, no_circuit}
+use Rattle.ht_app.proofs.ReadingLaws.{accepts_all, memory_runs_out, read_changes}
+use Rattle.ht_app.proofs.WritingLaws.{permits_then, tries_then}
 
-abbrev pub options_of : ℕ → ℕ → ℕ → GenOptions
-options_of budget random seed = record { budget = budget; random = random; seed = seed }
+-- ---- the parts of the files, after they are made
 
--- ---- what was left before the netlist was read
+abbrev pub steps_part : List Step → List Act
+steps_part steps = put Proofs (proofs_so_far []) ∷ flat_map step_acts steps
 
--- the port had the text, or was created empty, from then on
-text_earlier : (port : OutPort) (text : List ℕ) (a m b : DeskView) → m.written ≡ a.written → HasText port text m b
-    → HasText port text a b
-text_earlier port text a m b same is = is ∙ ap (λ f. option_map (λ (_ : List ℕ). text) (f port)) same
+abbrev pub end_text : List ℕ
+end_text = with_lf (line_text End)
 
-files_earlier : (tests report proofs : List ℕ) (a m b : DeskView) → m.written ≡ a.written
-    → FilesHave tests report proofs m b → FilesHave tests report proofs a b
-files_earlier tests report proofs a m b same have = record {
-  tests_are = text_earlier Tests tests a m b same have.tests_are;
-  report_is = text_earlier Report report a m b same have.report_is;
-  proofs_are = text_earlier Proofs proofs a m b same have.proofs_are;
+abbrev pub end_part : List ℕ → List ℕ → List Act
+end_part body total = put Proofs end_text ∷ put Report body ∷ put Out total ∷ ending Report total
+
+module _ (files : RunFiles) (c : net.Netlist) (settings : Settings) (representatives : List ℕ)
+    (classes : AreClasses c representatives)
+  where
+    module _ (steps : List Step) (are : AreSteps c representatives (first_vectors c settings) settings.budget steps)
+      where
+        pub steps_written : WritesSteps files c settings (creation files ++ steps_part steps)
+        steps_written = record {
+          representatives = representatives;
+          steps = steps;
+          classes = classes;
+          steps_are = are;
+          acts_are = refl;
+        }
+
+        pub all_written : (body total : List ℕ)
+            → IsGenerated c settings (tests_of steps) (body ++ total) (proofs_of steps) total
+            → WritesFiles files c settings (creation files ++ (steps_part steps ++ end_part body total))
+        unfolding steps_written
+        all_written body total generated = record {
+          first = creation files ++ steps_part steps;
+          begun = steps_written;
+          body = body;
+          total = total;
+          acts_are = refl;
+          generated = generated;
+        }
+
+        pub stops_in_steps : (e : RunError) (a b : DeskView) → Tries {A = Unit {0}} (steps_part steps) (Err e) a b
+            → WritesAfter (creation files) files c settings (Err e) a b
+        stops_in_steps e a b tries = record {
+          acts = steps_part steps;
+          tries = tries;
+          done = tt;
+          stopped = inl steps_written;
+        }
+
+        module _ (body total : List ℕ)
+            (generated : IsGenerated c settings (tests_of steps) (body ++ total) (proofs_of steps) total) (a m b :
+            DeskView)
+            (first : Tries {A = Unit {0}} (steps_part steps) (Ok tt) a m)
+          where
+            pub ends_well : Does (end_part body total) (Ok tt) m b → WritesAfter (creation files) files c settings (Ok
+                tt) a b
+            ends_well does = record {
+              acts = steps_part steps ++ end_part body total;
+              tries = tries_then {B = Unit {0}} (steps_part steps) (end_part body total) (tt {0}) (Ok tt) a m b first
+                  does.0;
+              done = all_written body total generated;
+              stopped = tt;
+            }
+
+            pub stops_in_end : (e : RunError) → Does (end_part body total) (Err e) m b
+                → WritesAfter (creation files) files c settings (Err e) a b
+            stops_in_end e does = record {
+              acts = steps_part steps ++ end_part body total;
+              tries = tries_then {B = Unit {0}} (steps_part steps) (end_part body total) (tt {0}) (Err e) a m b first
+                  does.0;
+              done = tt;
+              stopped = inr (does.1, all_written body total generated);
+            }
+
+    -- the files aren't all made, or memory runs out before
+    pub stops_making : (e : RunError) (a b : DeskView)
+        → Tries {A = Unit {0}} (creation files ++ steps_part []) (Err e) a b
+        → WritesAfter [] files c settings (Err e) a b
+    stops_making e a b tries = record {
+      acts = creation files ++ steps_part [];
+      tries = tries;
+      done = tt;
+      stopped = inl (steps_written [] none);
+    }
+
+pub after_making : (files : RunFiles) (c : net.Netlist) (settings : Settings) (result : Result (Unit {0}) RunError)
+    (a m b : DeskView) → Does (creation files) (Ok tt) a m → WritesAfter (creation files) files c settings result m b
+    → WritesAfter [] files c settings result a b
+after_making files c settings result a m b made w = record {
+  acts = creation files ++ w.acts;
+  tries = tries_then (creation files) w.acts (tt {0}) result a m b made.0 w.tries;
+  done = w.done;
+  stopped = w.stopped;
 }
 
-emptied_earlier : (made : Bool) (port : OutPort) (a m b : DeskView) → InCall Netlist a m → IsEmptiedIf made port m b
-    → IsEmptiedIf made port a b
-emptied_earlier true port a m b read is = text_earlier port [] a m b read.written is
-emptied_earlier false port a m b read is = (
-  (is.0.0 ∙ ap (λ f. f port) read.named, is.0.1 ∙ ap (λ f. f port) read.is_created),
-  is.1 ∙ ap (λ f. f port) read.written,
-)
+-- ---- what the engine's steps and the report say
 
-stops_before : (c : net.Netlist) (settings : Settings) (a m b : DeskView) → InCall Netlist a m
-    → StopsInFiles m b ⊎ (StopsInHead m b ⊎ (StopsInSteps c settings m b ⊎ StopsInEnd c settings m b))
-    → StopsInFiles a b ⊎ (StopsInHead a b ⊎ (StopsInSteps c settings a b ⊎ StopsInEnd c settings a b))
-stops_before c settings a m b read (inl s) = inl (record {
-  count = s.count;
-  few = s.few;
-  tests = emptied_earlier (nat_le 1 s.count) Tests a m b read s.tests;
-  report = emptied_earlier (nat_le 2 s.count) Report a m b read s.report;
-  proofs = emptied_earlier false Proofs a m b read s.proofs;
-})
-stops_before c settings a m b read (inr (inl s)) =
-    inr (inl (record { count = s.count; files = files_earlier _ _ _ a m b read.written s.files }))
-stops_before c settings a m b read (inr (inr (inl s))) = inr (inr (inl (record {
-  representatives = s.representatives;
-  classes = s.classes;
-  whole = s.whole;
-  begun = s.begun;
-  count = s.count;
-  files = files_earlier _ _ _ a m b read.written s.files;
-  one = s.one;
-  steps_are = s.steps_are;
-})))
-stops_before c settings a m b read (inr (inr (inr s))) = inr (inr (inr (record {
-  representatives = s.representatives;
-  classes = s.classes;
-  files = files_earlier _ _ _ a m b read.written s.files;
-  steps = s.steps;
-  count = s.count;
-  steps_are = s.steps_are;
-  finished = s.finished;
-  short = s.short;
-})))
+-- what holds of an engine's circuit and classes
+pub of_circuit : (P : net.Netlist → List ℕ → Type 0) (e : EngineView) (c : net.Netlist) (representatives : List ℕ)
+    → e.circuit ≡ c → e.representatives ≡ representatives → P e.circuit e.representatives → P c representatives
+of_circuit P e c representatives of_c of_r p =
+    subst (λ r. P c r) of_r (subst (λ d. P d e.representatives) of_c p)
 
-last_earlier : (c : net.Netlist) (settings : Settings) (a m b : DeskView) → m.written ≡ a.written
-    → StopsInLastFile c settings m b → StopsInLastFile c settings a b
-last_earlier c settings a m b same s = record {
-  tests_stand = s.tests_stand ∙ ap (λ f. option_map (λ (_ : List ℕ). s.tests) (f Tests)) same;
-  proofs_stand = s.proofs_stand ∙ ap (λ f. option_map (λ (_ : List ℕ). s.proofs) (f Proofs)) same;
-  tests = s.tests;
-  proofs = s.proofs;
-  body = s.body;
-  total = s.total;
-  generated = s.generated;
-  stops = report_earlier s.body s.total a m b (ap (λ f. f Report) same) (ap (λ f. f Out) same) s.stops;
-}
+pub fits : (steps : List Step) (old new : ℕ) → old ≡ length (proofs_so_far steps) → new ≡ old + length end_text
+    → new ≤ max_text_bytes → length (proofs_of steps) ≤ max_text_bytes
+fits steps old new count more short =
+    omega (arith, count, more, short, ap length (proofs_end steps), length-append (proofs_so_far steps) end_text)
 
--- ---- a job
+-- what `write_report` says of a report
+abbrev pub Reports : net.Netlist → List ℕ → EngineView → List ℕ → List ℕ → Type 0
+Reports c representatives e body total = (steps : List Step) → EngineStandsFor e steps
+    → AreFinished c representatives (first_vectors c e.settings) steps → HasPlainNames c
+    → length (tests_of steps) ≤ max_text_bytes → length (proofs_of steps) ≤ max_text_bytes
+    → IsGenerated c e.settings (tests_of steps) (body ++ total) (proofs_of steps) total
 
--- what creates the three files creates each where its name is
-created_alike : (names : Names) (creates : OutPort → Option (List ℕ)) → Some names.tests ≡ creates Tests
-    → Some names.report ≡ creates Report → Some names.proofs ≡ creates Proofs
-    → (p : OutPort) → (file_name names p ≡ None) ⊎ (file_name names p ≡ creates p)
-created_alike names creates tests report proofs Tests = inr tests
-created_alike names creates tests report proofs Report = inr report
-created_alike names creates tests report proofs Proofs = inr proofs
-created_alike names creates tests report proofs Out = inl refl
-created_alike names creates tests report proofs Err = inl refl
+pub generated : (c : net.Netlist) (representatives : List ℕ) (old new : EngineView) (steps : List Step)
+    (body total : List ℕ) → old.circuit ≡ c → old.representatives ≡ representatives → HasSameWork old new
+    → EngineStandsFor new steps → AreFinished old.circuit old.representatives (first_of old) steps → HasPlainNames c
+    → length (tests_of steps) ≤ max_text_bytes → length (proofs_of steps) ≤ max_text_bytes
+    → Reports c representatives new body total
+    → IsGenerated c old.settings (tests_of steps) (body ++ total) (proofs_of steps) total
+generated c representatives old new steps body total of_c of_r same stands finished plain tests_fit proofs_fit reports =
+    let are : AreFinished c representatives (first_vectors c new.settings) steps =
+    subst (λ (s : Settings). AreFinished c representatives (first_vectors c s) steps) (sym same.settings)
+    (of_circuit (λ d r. AreFinished d r (first_vectors d old.settings) steps) old c representatives of_c of_r
+    finished) in
+    subst (λ (s : Settings). IsGenerated c s (tests_of steps) (body ++ total) (proofs_of steps) total) same.settings
+    (reports steps stands are plain tests_fit proofs_fit)
 
--- what writes the three files and Out leaves out none of them
-written_alike : (writes : OutPort → Bool) → writes Tests ≡ true → writes Report ≡ true → writes Proofs ≡ true
-    → writes Out ≡ true → (p : OutPort) → writes p ≡ false → is_gen_port p ≡ false
-written_alike writes tests report proofs out Tests off = cc
-written_alike writes tests report proofs out Report off = cc
-written_alike writes tests report proofs out Proofs off = cc
-written_alike writes tests report proofs out Out off = cc
-written_alike writes tests report proofs out Err off = refl
+-- ---- what is permitted
 
-module _ (netlist : List ℕ) (names : Names) (options : GenOptions) where
+made_still : (p : OutPort) (before acts : List Act) → IsTrue (list_any (makes p) before)
+    → IsTrue (list_any (makes p) (before ++ acts))
+made_still p before acts made =
+    list_any-append (makes p) before acts ∙ ap (λ (f : Bool). f || list_any (makes p) acts) made
+
+module _ (ports : Ports) (tests : ports.writes Tests ≡ true) (proofs : ports.writes Proofs ≡ true) where
+  step_permitted : (before : List Act) → IsTrue (list_any (makes Tests) before)
+      → IsTrue (list_any (makes Proofs) before)
+      → (step : Step) → PermitsAll ports before (step_acts step)
+  step_permitted before of_tests of_proofs (Vectors list) = ((tests, λ file. of_tests), tt)
+  step_permitted before of_tests of_proofs (Entry fault entry) = ((proofs, λ file. of_proofs), tt)
+  step_permitted before of_tests of_proofs Finished = tt
+
+  steps_permitted : (before : List Act) → IsTrue (list_any (makes Tests) before)
+      → IsTrue (list_any (makes Proofs) before) → (steps : List Step)
+      → PermitsAll ports before (flat_map step_acts steps)
+  steps_permitted before of_tests of_proofs [] = tt
+  steps_permitted before of_tests of_proofs (step ∷ steps) = permits_then ports before (step_acts step)
+      (flat_map step_acts steps) (step_permitted before of_tests of_proofs step)
+      (steps_permitted (before ++ step_acts step) (made_still Tests before (step_acts step) of_tests)
+      (made_still Proofs before (step_acts step) of_proofs) steps)
+
+  pub begun_permitted : (files : RunFiles) (c : net.Netlist) (settings : Settings) (acts : List Act)
+      → PermitsAll ports [] (beginning files) → WritesSteps files c settings acts → PermitsAll ports [] acts
+  begun_permitted files c settings acts first w = subst (PermitsAll ports []) (sym w.acts_are)
+      (permits_then ports [] (beginning files) (flat_map step_acts w.steps) first
+      (steps_permitted (beginning files) refl refl w.steps))
+
+-- ---- the end of the job
+
+module _ (netlist tests report proofs : List ℕ) (options : GenOptions) where
   abbrev job : Asked
-  job = gen netlist names.tests names.report names.proofs options
+  job = gen netlist tests report proofs options
 
-  -- ---- what it touches
+  abbrev files : RunFiles
+  files = record { netlist = netlist; tests = tests; report = report; proofs = proofs }
 
-  -- the files alone
+  -- the files alone, which may be written when memory runs out
   abbrev is_file : OutPort → Bool
   is_file Out = false
-  is_file port = is_gen_port port
+  is_file ErrPort = false
+  is_file port = true
 
-  abbrev files : Ports
-  files = record { reads = λ p. false; creates = file_name names; writes = is_file }
+  abbrev files_alone : Ports
+  files_alone = record { reads = λ p. false; creates = output_name job; writes = is_file }
 
-  files_only : (a b : DeskView) → ChangedOnly (filling names) a b → b.written Out ≡ a.written Out
-      → ChangedOnly files a b
-  files_only a b x out = record {
-    after = x.after;
-    left = x.left;
-    is_open = x.is_open;
-    written = written;
-    created = x.created;
-    file = x.file;
-  }
-    where
-      written : (p : OutPort) → is_file p ≡ false → b.written p ≡ a.written p
-      written Tests off = cc
-      written Report off = cc
-      written Proofs off = cc
-      written Out off = out
-      written Err off = x.written Err refl
-
-  finishing : ArePortsWithin (filling names) (job_ports job 0)
-  finishing = record {
-    reads = λ p off. refl;
-    creates = created_alike names (job_ports job 0).creates refl refl refl;
-    writes = written_alike (job_ports job 0).writes refl refl refl refl;
-  }
-
-  failing : ArePortsWithin (filling names) (job_ports job 5)
-  failing = record {
-    reads = λ p off. refl;
-    creates = created_alike names (job_ports job 5).creates refl refl refl;
-    writes = written_alike (job_ports job 5).writes refl refl refl refl;
-  }
-
-  running_out : ArePortsWithin files (job_ports job 6)
-  running_out = record {
-    reads = λ p off. refl;
-    creates = created_alike names (job_ports job 6).creates refl refl refl;
-    writes = writes;
-  }
+  alone_within : ArePortsWithin files_alone (job_ports job 6)
+  alone_within = record { reads = λ p off. refl; creates = λ p. inr refl; writes = writes }
     where
       writes : (p : OutPort) → (job_ports job 6).writes p ≡ false → is_file p ≡ false
       writes Tests off = cc
       writes Report off = cc
       writes Proofs off = cc
       writes Out off = refl
-      writes Err off = refl
+      writes ErrPort off = refl
 
-  after_reading : (status : ℕ) (a m b : DeskView) → (status == 3 || status == 7) ≡ false → InCall Netlist a m
-      → ChangedOnly (job_ports job status) m b → ChangedOnly (job_ports job status) a b
-  after_reading status a m b ne read x = changed_trans (job_ports job status) a m b
-      (changed_within (reading job) (job_ports job status) a m (reading_within job status ne)
-      (changed_by_reading (reading job) Netlist a m refl read)) x
+  first_permitted : PermitsAll (writing job) [] (beginning files)
+  first_permitted = ((tt, refl, refl), ((tt, refl, refl), ((tt, refl, refl), ((refl, λ file. refl), tt))))
 
-  pub refused_changed : (e : RunError) (a b : DeskView) → InCall Netlist a b
-      → ChangedOnly (job_ports job (exit_status e)) a b
-  refused_changed e a b read =
-      let x = changed_by_reading (reading job) Netlist a b refl read in
-      ends_reading job a b refl x e (λ three. read) (λ seven. never_answered job a b refl x)
+  steps_may : (c : net.Netlist) (acts : List Act) → WritesSteps files c (settings_of options) acts
+      → PermitsAll (writing job) [] acts
+  steps_may c acts w = begun_permitted (writing job) refl refl files c (settings_of options) acts first_permitted w
 
-  pub done_changed : (a m b : DeskView) → InCall Netlist a m → ChangedOnly (filling names) m b
-      → ChangedOnly (job_ports job 0) a b
-  done_changed a m b read x =
-      after_reading 0 a m b refl read (changed_within (filling names) (job_ports job 0) m b finishing x)
+  files_may : (c : net.Netlist) (acts : List Act) → WritesFiles files c (settings_of options) acts
+      → PermitsAll (writing job) [] acts
+  files_may c acts w = subst (PermitsAll (writing job) []) (sym w.acts_are)
+      (permits_then (writing job) [] w.first (end_part w.body w.total) (steps_may c w.first w.begun)
+      (subst (λ (l : List Act). PermitsAll (writing job) l (end_part w.body w.total)) (sym w.begun.acts_are)
+      ((refl, λ file. refl), ((refl, λ file. refl), ((refl, λ file. absurd file), ((refl, λ file. refl), tt))))))
 
-  pub left_changed : (e : RunError) (c : net.Netlist) (a m b : DeskView) → InCall Netlist a m
-      → LeavesFiles names e c (settings_of options) m b → FillCause m b e
-      → ChangedOnly (job_ports job (exit_status e)) a b
-  left_changed (Denied trouble) c a m b read left cause = absurd cause
-  left_changed Usage c a m b read left cause = absurd cause
-  left_changed TooLong c a m b read left cause = absurd cause
-  left_changed (Refused error) c a m b read left cause = absurd cause
-  left_changed ReadFault c a m b read left cause = absurd cause
-  left_changed WriteFault c a m b read left cause = after_reading 5 a m b refl read
-      (changed_within (filling names) (job_ports job 5) m b failing left.changed)
-  left_changed NoMemory c a m b read left cause = after_reading 6 a m b refl read
-      (changed_within files (job_ports job 6) m b running_out (files_only m b left.changed (left.silent refl)))
-  left_changed (BadTests line) c a m b read left cause = absurd cause
-  left_changed TooManyVectors c a m b read left cause = absurd cause
-  left_changed (BadResponses line) c a m b read left cause = absurd cause
+  module _ (basis : JobBasis) (a m b : DeskView) (x : ChangedOnly (reading job) a m)
+      (inputs : AcceptsInputs job basis a)
+    where
+      either_may : (e : RunError) (acts : List Act) → WritesSteps files basis.circuit (settings_of options) acts
+          ⊎ ((e ≡ WriteFault) × WritesFiles files basis.circuit (settings_of options) acts)
+          → PermitsAll (writing job) [] acts
+      either_may e acts (inl w) = steps_may basis.circuit acts w
+      either_may e acts (inr w) = files_may basis.circuit acts w.1
 
-  -- ---- what it leaves
+      runs_out : (acts : List Act) → Tries {A = Unit {0}} acts (Err NoMemory) m b
+          → WritesSteps files basis.circuit (settings_of options) acts
+          ⊎ ((NoMemory ≡ WriteFault) × WritesFiles files basis.circuit (settings_of options) acts)
+          → EndsJob {A = Unit {0}} job (Err NoMemory) a b
+      runs_out acts tries (inr w) = let none : NoMemory ≡ WriteFault = w.0 in absurd (cc)
+      runs_out acts tries (inl w) = ends_in_memory job a m x basis inputs acts b files_alone alone_within refl w
+          (tries files_alone [] m (nothing_written files_alone m) (begun_permitted files_alone refl refl files
+          basis.circuit (settings_of options) acts
+          ((tt, refl, refl), ((tt, refl, refl), ((tt, refl, refl), ((refl, λ file. refl), tt)))) w))
 
-  pub left_files : (e : RunError) (c : net.Netlist) (a m b : DeskView) → InCall Netlist a m
-      → ((text : List ℕ) → IsInput Netlist netlist text a → IsGoodNetlist text c)
-      → LeavesFiles names e c (settings_of options) m b → IsTruncated job a b
-  left_files e c a m b read good left = λ text is. record {
-    circuit = c;
-    good = good text is;
-    stops = elim (left.stops (plain_names text c (good text is).stands)) [
-      | inl before ↦ inl (record {
-        out = before.out ∙ ap (λ f. f Out) read.written;
-        stops = stops_before c (settings_of options) a m b read before.stops;
-      })
-      | inr last ↦ inr (last_earlier c (settings_of options) a m b read.written last)
-    ];
-  }
+      pub ends_files : (result : Result (Unit {0}) RunError)
+          → WritesAfter [] files basis.circuit (settings_of options) result m b → EndsJob job result a b
+      ends_files (Ok value) w = ends_done job a m x basis inputs w.acts b w.done
+          (w.tries (writing job) [] m (nothing_written (writing job) m) (files_may basis.circuit w.acts w.done))
+      ends_files (Err NoMemory) w = runs_out w.acts w.tries w.stopped
+      ends_files (Err WriteFault) w = ends_in_part job a m x basis inputs w.acts b WriteFault refl
+          (elim w.stopped [ inl begins ↦ inr begins | inr made ↦ inl made.1 ])
+          (w.tries (writing job) [] m (nothing_written (writing job) m) (either_may WriteFault w.acts w.stopped))
+      ends_files (Err e) w =
+          absurd (w.tries (writing job) [] m (nothing_written (writing job) m) (either_may e w.acts w.stopped))
 
-  pub left_cause : (e : RunError) (a m b : DeskView) → InCall Netlist a m → AcceptsNetlist netlist a
-      → FillCause m b e → IsTruncated job a b → HasCause job a b e
-  left_cause (Denied trouble) a m b read accepts cause leaves = absurd cause
-  left_cause Usage a m b read accepts cause leaves = absurd cause
-  left_cause TooLong a m b read accepts cause leaves = absurd cause
-  left_cause (Refused error) a m b read accepts cause leaves = absurd cause
-  left_cause ReadFault a m b read accepts cause leaves = absurd cause
-  left_cause WriteFault a m b read accepts cause leaves =
-      record { fault = fault_later a m b read.after cause; inputs = accepts; leaves = leaves }
-  left_cause NoMemory a m b read accepts cause leaves = inr leaves
-  left_cause (BadTests line) a m b read accepts cause leaves = absurd cause
-  left_cause TooManyVectors a m b read accepts cause leaves = absurd cause
-  left_cause (BadResponses line) a m b read accepts cause leaves = absurd cause
+  -- ---- after the netlist
 
-  created : (c : net.Netlist) (a m b : DeskView) → InCall Netlist a m → HasGenerated names c (settings_of options) m b
-      → (port : OutPort) (n : List ℕ) → output_name job port ≡ Some n → IsCreatedAs port n a b
-  created c a m b read h Tests n e = created_as Tests names.tests n a m b (ap (λ f. f Tests) read.named)
-      h.has.tests.created (let s : Some names.tests ≡ Some n = e in cc)
-  created c a m b read h Report n e = created_as Report names.report n a m b (ap (λ f. f Report) read.named)
-      h.has.report.created (let s : Some names.report ≡ Some n = e in cc)
-  created c a m b read h Proofs n e = created_as Proofs names.proofs n a m b (ap (λ f. f Proofs) read.named)
-      h.has.proofs.created (let s : Some names.proofs ≡ Some n = e in cc)
-  created c a m b read h Out n e = let s : Some n ≡ None = sym e in cc
-  created c a m b read h Err n e = let s : Some n ≡ None = sym e in cc
+  no_more : (p : InPort) → 1 ≤ order_of p → input_name job p ≡ None
+  no_more Netlist late = absurd (omega (arith, late))
+  no_more port late = refl
 
-  pub gen_done : (c : net.Netlist) (a m b : DeskView) → InCall Netlist a m → AcceptsNetlist netlist a
-      → ((text : List ℕ) → IsInput Netlist netlist text a → IsGoodNetlist text c)
-      → HasGenerated names c (settings_of options) m b → IsDone job a b
-  gen_done c a m b read accepts good h = record {
-    inputs = accepts;
-    created = created c a m b read h;
-    output = λ text is. record {
-      circuit = c;
-      tests = h.texts.tests;
-      report = h.texts.report;
-      proofs = h.texts.proofs;
-      total = h.texts.out;
-      good = good text is;
-      generated = h.generated (plain_names text c (good text is).stands);
-      tests_stand = h.has.tests.written ∙ ap (λ f. option_map (λ (_ : List ℕ). h.texts.tests) (f Tests)) read.written;
-      report_stands = h.has.report.written
-          ∙ ap (λ f. option_map (λ (_ : List ℕ). h.texts.report) (f Report)) read.written;
-      proofs_stand = h.has.proofs.written
-          ∙ ap (λ f. option_map (λ (_ : List ℕ). h.texts.proofs) (f Proofs)) read.written;
-      said = h.has.out ∙ ap (λ f. append_known (f Out) h.texts.out) read.written;
-    };
-  }
+  pub ends_unread : (e : RunError) (a b : DeskView) → NetlistStops netlist a b e
+      → EndsJob {A = Unit {0}} job (Err e) a b
+  ends_unread e a b s =
+      let IsMade : Unit {0} → JobBasis → Type 0 = λ made basis. Unit {0} in
+      ends_unmade job IsMade a b e (netlist_stops job (basis_of no_circuit [] []) netlist refl IsMade e a b s)
+
+  module _ (c : net.Netlist) (a m : DeskView) (was : NetlistWasRead netlist c a m) where
+    reads : HasReadTo job (basis_of c [] []) 1 a m
+    reads = netlist_read_to job (basis_of c [] []) netlist refl a m was (λ text good. good)
+
+    pub ends_unlisted : EndsJob {A = Unit {0}} job (Err NoMemory) a m
+    ends_unlisted = ends_unwritten job a m (read_changes job (basis_of c [] []) 1 a m reads) NoMemory
+        (memory_runs_out job (basis_of c [] []) 1 a m reads)
+
+    pub ends_run : (b : DeskView) (result : Result (Unit {0}) RunError)
+        → WritesAfter [] files c (settings_of options) result m b → EndsJob job result a b
+    ends_run b result w = ends_files (basis_of c [] []) a m b (read_changes job (basis_of c [] []) 1 a m reads)
+        (accepts_all job (basis_of c [] []) 1 a m reads no_more (λ some. was.some)) result w

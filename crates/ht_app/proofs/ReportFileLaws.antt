@@ -1,16 +1,17 @@
 -- The first trouble of a report that is read line by line.
 use Rattle.std.proofs.Common.{◌≡◌, ◌⊎◌, inl, inr, ℕ, zero, suc, ◌+◌, ◌-◌, ◌<◌, ◌≤◌, List, [], ◌∷◌, ◌++◌, Bool, true, false, length, take, get_or, Some, refl, sym, ◌∙◌, ap, subst, arith}
 use Rattle.std.specs.Prelude.{if◌then◌else◌}
-use Rattle.std.proofs.lemmas.List.{length-append, length-take-le}
-use Rattle.std.proofs.Math.Seq.{take-suc, get_or-append_seam}
+use Rattle.std.proofs.lemmas.Bool.{cases_lt}
+use Rattle.std.proofs.lemmas.List.{length-append}
+use Rattle.std.proofs.Math.Seq.{get_or-append_seam}
 use Rattle.ht_ports.specs.Desk.{DeskView}
 use Rattle.ht_ports.specs.LineRule.{lines_of}
+use Rattle.ht_ports.specs.declared.ports.InPort.TheVariants as in_port
 use Rattle.ht_net.specs.Netlist.{Netlist, IsCircuit}
 use Rattle.ht_collapse.specs.Classes.{AreClasses, is_representative}
 use Rattle.ht_texts.specs.declared.limits.TheConstants.{MAX_LINE_BYTES}
 use Rattle.ht_texts.specs.declared.item.Item.TheVariants.{Verdict, Member}
 use Rattle.ht_texts.specs.declared.said.Said.{Said}
-use Rattle.ht_texts.specs.Tests.{IsTooLong}
 use Rattle.ht_texts.specs.SearchReports.{HasShortNames, IsReportFront, IsSearchReport}
 use Rattle.ht_texts.specs.ReportReading.{ReportReading, before_report, in_report, after_report, last_item, SaySame}
 use Rattle.ht_texts.specs.Verdicts.{said_at}
@@ -23,11 +24,17 @@ use Rattle.ht_valid.specs.FirstTrouble.{ContradictsTests, IsFirst, IsReportTroub
 use Rattle.ht_judge.specs.declared.judge_error.JudgeError.{JudgeError}
 use Rattle.ht_judge.specs.declared.judge_error.JudgeError.TheVariants as judge
 use Rattle.ht_judge.specs.ReportJudging.{KeepsSaid, IsTrueReport, JudgesReport, ReportEndHasCause, ReportJudgeView, ReportLineDeniedFor}
+use Rattle.ht_asked.specs.Asked.{check}
 use Rattle.ht_app.specs.declared.run_error.RunError.{RunError}
-use Rattle.ht_app.specs.declared.run_error.RunError.TheVariants.{Denied, Usage, TooLong, Refused, ReadFault, WriteFault, NoMemory, BadTests, TooManyVectors, BadResponses}
+use Rattle.ht_app.specs.declared.run_error.RunError.TheVariants.{Denied, ReadFault, NoMemory}
 use Rattle.ht_app.specs.Errors.{judged_error_of}
-use Rattle.ht_app.specs.Inputs.{MayHold}
-use Rattle.ht_app.specs.Judging.{AreFine, DeniesReport, FileCause, IfDenied, IsDeniedBy, IsOfReport, IsFineReport, IsReadAs, IsReportFileTrouble, ReportBasis, StandsForReport, StopsAtLong, StopsIn}
+use Rattle.ht_app.specs.Inputs.{JobBasis, WasRead}
+use Rattle.ht_app.specs.Judging.{AreFine, HasFront, HasLines, HasLongLine, IsWrongInReport, LinesStop, ReportIsRead, StandsForFile, StandsForReport}
+use Rattle.ht_app.specs.Refusals.{IsRefusedFor, refused_port}
+use Rattle.ht_app.specs.Steps.{ReadStops}
+use Rattle.ht_app.proofs.JudgedLaws.{same_circuit}
+use Rattle.ht_app.proofs.PreparedLaws.{read_so}
+use Rattle.ht_app.proofs.FirstTroubleLaws.{HasTroubleAt, IsWrongAt, first_after, front_is, grown_to, next_is, shorter, whole_front}
 
 -- ---- what a judge stands for contradicts nothing
 
@@ -63,45 +70,39 @@ contradicts_nothing v list lines is j wrong = wrong.contradicts
     (last_agrees v.circuit v.representatives list j.at wrong.at v.budget v.saids wrong.fault wrong.said
     (one_reading v.circuit v.representatives lines j.at wrong.at is j.read wrong.read) j.kept j.agree wrong.says)
 
-pub judged_is_fine : (v : ReportJudgeView) (basis : ReportBasis) (lines : List (List ℕ))
-    → StandsForReport v basis lines → IsFineReport basis lines
-judged_is_fine v basis lines h =
-    let is : IsCircuit v.circuit = subst IsCircuit (sym h.circuit) h.well_formed in
-    let front = reading_is_front v.circuit v.representatives lines h.judges.at h.judges.read in
-    let agrees = contradicts_nothing v basis.list lines is h.judges in
-    record {
-      front = subst (λ c. IsReportFront c basis.representatives lines) h.circuit
-          (subst (λ r. IsReportFront v.circuit r lines) h.representatives front);
-      agrees = subst (λ c. ¬ ContradictsTests c basis.representatives basis.list lines) h.circuit
-          (subst (λ r. ¬ ContradictsTests v.circuit r basis.list lines) h.representatives agrees);
-    }
+module _ (v : ReportJudgeView) (basis : JobBasis) where
+  pub judged_is_fine : (before : List (List ℕ)) (line : List ℕ) → StandsForReport v basis (before ++ line ∷ [])
+      → (trouble : Trouble) → ¬ IsWrongInReport basis before line trouble
+  judged_is_fine before line h (Tests number) wrong = wrong
+  judged_is_fine before line h (Proofs number) wrong = wrong
+  judged_is_fine before line h (Fault number) wrong = wrong
+  judged_is_fine before line h (Report number) (is, inl none) =
+      none (same_circuit (λ c r. IsReportFront c r (before ++ line ∷ [])) v.circuit basis.circuit v.representatives
+      basis.representatives h.circuit h.representatives
+      (reading_is_front v.circuit v.representatives (before ++ line ∷ []) h.judges.at h.judges.read))
+  judged_is_fine before line h (Report number) (is, inr contradicts) =
+      same_circuit (λ c r. ¬ ContradictsTests c r basis.content.list (before ++ line ∷ [])) v.circuit basis.circuit
+      v.representatives basis.representatives h.circuit h.representatives
+      (contradicts_nothing v basis.content.list (before ++ line ∷ [])
+      (subst IsCircuit (sym h.circuit) h.well_formed) h.judges) contradicts
 
-pub stands_by : (v : ReportJudgeView) (basis : ReportBasis) (lines : List (List ℕ)) → IsCircuit basis.circuit
-    → v.circuit ≡ basis.circuit → v.representatives ≡ basis.representatives → JudgesReport v basis.list lines
-    → StandsForReport v basis lines
-stands_by v basis lines is circuit representatives judges = record {
-  well_formed = is;
-  circuit = circuit;
-  representatives = representatives;
-  judges = judges;
-}
-
--- ---- a line that isn't taken
-
-pub cause_by_basis : (v : ReportJudgeView) (basis : ReportBasis) (before : List (List ℕ)) (line : List ℕ)
-    (e : JudgeError) → v.circuit ≡ basis.circuit → v.representatives ≡ basis.representatives
-    → ReportLineDeniedFor v basis.list before line e → DeniesReport basis before line e
-cause_by_basis v basis before line (judge.Denied (Report number)) circuit representatives h = (
-  h.0,
-  subst (λ c. (¬ IsReportFront c basis.representatives (before ++ line ∷ []))
-      ⊎ ContradictsTests c basis.representatives basis.list (before ++ line ∷ [])) circuit
-      (subst (λ r. (¬ IsReportFront v.circuit r (before ++ line ∷ []))
-      ⊎ ContradictsTests v.circuit r basis.list (before ++ line ∷ [])) representatives h.1),
-)
-cause_by_basis v basis before line (judge.Denied (Tests number)) circuit representatives h = absurd h
-cause_by_basis v basis before line (judge.Denied (Proofs number)) circuit representatives h = absurd h
-cause_by_basis v basis before line (judge.Denied (Fault number)) circuit representatives h = absurd h
-cause_by_basis v basis before line judge.NoMemory circuit representatives h = tt
+  pub denied_is_wrong : (before : List (List ℕ)) (line : List ℕ) → StandsForReport v basis before → (e : JudgeError)
+      → ReportLineDeniedFor v basis.content.list before line e → (trouble : Trouble) → e ≡ judge.Denied trouble
+      → IsWrongInReport basis before line trouble
+  denied_is_wrong before line h e denied trouble is =
+      by trouble (subst (ReportLineDeniedFor v basis.content.list before line) is denied)
+    where
+      by : (trouble : Trouble) → ReportLineDeniedFor v basis.content.list before line (judge.Denied trouble)
+          → IsWrongInReport basis before line trouble
+      by (Report number) denied = (
+        denied.0,
+        same_circuit (λ c r. (¬ IsReportFront c r (before ++ line ∷ []))
+            ⊎ ContradictsTests c r basis.content.list (before ++ line ∷ [])) v.circuit basis.circuit v.representatives
+            basis.representatives h.circuit h.representatives denied.1,
+      )
+      by (Tests number) denied = denied
+      by (Proofs number) denied = denied
+      by (Fault number) denied = denied
 
 -- ---- the first trouble
 
@@ -119,168 +120,148 @@ nothing_contradicts c representatives list is wrong =
     silent (in_report b s) same says = absurd same
     silent (after_report b s) same says = absurd same
 
-module _ (basis : ReportBasis) (text : List ℕ) where
-  abbrev lines : List (List ℕ)
-  lines = lines_of text
+module _ (basis : JobBasis) (text : List ℕ) (is : IsCircuit basis.circuit) where
+  abbrev IsTrouble : ℕ → Type 0
+  IsTrouble = IsReportTrouble basis.circuit basis.representatives basis.content.list text
 
-  abbrev Fine : List (List ℕ) → List ℕ → Type 0
-  Fine before line = IsFineReport basis (before ++ line ∷ [])
+  abbrev IsRefused : List (List ℕ) → Type 0
+  IsRefused lines = (¬ IsReportFront basis.circuit basis.representatives lines)
+      ⊎ ContradictsTests basis.circuit basis.representatives basis.content.list lines
 
-  abbrev Trouble-at : ℕ → Type 0
-  Trouble-at = IsReportTrouble basis.circuit basis.representatives basis.list text
+  refused_at : (n : ℕ) → 0 < n → n ≤ length (lines_of text) → IsRefused (take n (lines_of text))
+      → HasTroubleAt (IsWrongInReport basis) text n (Report (length (take (n - 1) (lines_of text)) + 1))
+  refused_at n some within refused = record {
+    counted = (some, within);
+    wrong = (refl, subst IsRefused (grown_to (lines_of text) n some within) refused);
+  }
 
-  -- line n of the text is fine
-  fine_at : (count n : ℕ) → AreFine Fine text count → count ≤ length lines → 0 < n → n ≤ count
-      → IsFineReport basis (take n lines)
-  fine_at count n fine inside some within =
-      let last : n - 1 < length lines = omega (arith, some, within, inside) in
-      let same : n ≡ suc (n - 1) = omega (arith, some) in
-      let grown : take n lines ≡ take (n - 1) lines ++ get_or lines (n - 1) [] ∷ [] =
-      ap (λ k. take k lines) same ∙ take-suc lines (n - 1) [] last in
-      subst (IsFineReport basis) (sym grown) (fine.each (n - 1) (omega (arith, some, within)))
+  contradicts_at : (n : ℕ) → ContradictsTests basis.circuit basis.representatives basis.content.list
+      (take n (lines_of text)) → IsWrongAt (IsWrongInReport basis) text n
+  contradicts_at zero wrong =
+      absurd (nothing_contradicts basis.circuit basis.representatives basis.content.list is wrong)
+  contradicts_at (suc n) wrong = elim (cases_lt n (length (lines_of text))) [
+    | inl inside ↦ inl (_, refused_at (suc n) (omega arith) (omega (arith, inside)) (inr wrong))
+    | inr past ↦ inr (inl (omega (arith, past)))
+  ]
 
-  no_trouble_before : (count : ℕ) → IsCircuit basis.circuit → AreFine Fine text count → count ≤ length lines
-      → (m : ℕ) → m < count + 1 → ¬ Trouble-at m
-  no_trouble_before count is fine inside m lt (inl (inl none)) =
-      none.none (fine_at count m fine inside none.counted.0 (omega (arith, lt))).front
-  no_trouble_before count is fine inside m lt (inl (inr (inl early))) = absurd (omega (arith, lt, early.line, inside))
-  no_trouble_before count is fine inside m lt (inl (inr (inr long))) = fine.short m (omega (arith, lt)) long
-  no_trouble_before count is fine inside zero lt (inr wrong) =
-      nothing_contradicts basis.circuit basis.representatives basis.list is wrong
-  no_trouble_before count is fine inside (suc m) lt (inr wrong) =
-      (fine_at count (suc m) fine inside (omega arith) (omega (arith, lt))).agrees wrong
+  parts : (n : ℕ) → IsTrouble n → IsWrongAt (IsWrongInReport basis) text n
+  parts n (inl (inl none)) = inl (_, refused_at n none.counted.0 none.counted.1 (inl none.none))
+  parts n (inl (inr (inl early))) = inr (inl (omega (arith, early.line)))
+  parts n (inl (inr (inr long))) = inr (inr long)
+  parts n (inr contradicts) = contradicts_at n contradicts
 
-  refused_line : (count : ℕ) → count < length lines
-      → (¬ IsReportFront basis.circuit basis.representatives (take count lines ++ get_or lines count [] ∷ []))
-      ⊎ ContradictsTests basis.circuit basis.representatives basis.list (take count lines ++ get_or lines count [] ∷ [])
-      → Trouble-at (count + 1)
-  refused_line count there wrong =
-      let same : suc count ≡ count + 1 = omega arith in
-      let grown : take count lines ++ get_or lines count [] ∷ [] ≡ take (count + 1) lines =
-      sym (take-suc lines count [] there) ∙ ap (λ k. take k lines) same in
-      elim wrong [
-        | inl none ↦ inl (inl (record {
-          counted = (omega arith, omega (arith, there));
-          none = subst (λ l. ¬ IsReportFront basis.circuit basis.representatives l) grown none;
-        }))
-        | inr contradicts ↦
-            inr (subst (ContradictsTests basis.circuit basis.representatives basis.list) grown contradicts)
-      ]
+  refused_line : (before : List (List ℕ)) (line : List ℕ) → length before < length (lines_of text)
+      → take (length before + 1) (lines_of text) ≡ before ++ line ∷ [] → IsRefused (before ++ line ∷ [])
+      → IsTrouble (length before + 1)
+  refused_line before line there grown (inl none) = inl (inl (record {
+    counted = (omega arith, omega (arith, there));
+    none = subst (λ l. ¬ IsReportFront basis.circuit basis.representatives l) (sym grown) none;
+  }))
+  refused_line before line there grown (inr wrong) =
+      inr (subst (ContradictsTests basis.circuit basis.representatives basis.content.list) (sym grown) wrong)
 
-  pub first_refused : (number count : ℕ) → IsCircuit basis.circuit → AreFine Fine text count → count < length lines
-      → number ≡ length (take count lines) + 1
-      → (¬ IsReportFront basis.circuit basis.representatives (take count lines ++ get_or lines count [] ∷ []))
-      ⊎ ContradictsTests basis.circuit basis.representatives basis.list (take count lines ++ get_or lines count [] ∷ [])
-      → IsFirst Trouble-at number
-  first_refused number count is fine there is_number wrong =
-      let number_is : count + 1 ≡ number =
-      omega (arith, is_number, length-take-le count lines (omega (arith, there))) in
-      subst (IsFirst Trouble-at) number_is (record {
-        wrong = refused_line count there wrong;
-        first = no_trouble_before count is fine (omega (arith, there));
-      })
+  pub first_refused : (before : List (List ℕ)) (line : List ℕ) (number : ℕ) → AreFine (IsWrongInReport basis) before
+      → HasFront (before ++ line ∷ []) text → IsWrongInReport basis before line (Report number)
+      → IsFirst IsTrouble number
+  first_refused before line number fine front wrong =
+      let there = front_is before line text front in
+      first_after (IsWrongInReport basis) text before fine (shorter before line text front) IsTrouble parts number
+      wrong.0 (refused_line before line there.0 there.1 wrong.1)
 
-  pub first_long : (line : ℕ) → IsCircuit basis.circuit → AreClasses basis.circuit basis.representatives
-      → HasShortNames basis.circuit → StopsAtLong Fine MAX_LINE_BYTES text line → IsFirst Trouble-at line
-  first_long line is classes names stops = subst (IsFirst Trouble-at) (sym stops.line_is) (record {
-    wrong = elim stops.long [
-      | inl wide ↦ refused_line stops.count stops.there (inl (λ front.
-          too_wide wide front))
-      | inr late ↦ inl (inr (inr (subst (λ n. IsTooLong text n) stops.line_is late)))
-    ];
-    first = no_trouble_before stops.count is stops.fine (omega (arith, stops.there));
-  })
-    where
-      too_wide : MAX_LINE_BYTES < length (get_or lines stops.count [])
-          → IsReportFront basis.circuit basis.representatives
-          (take stops.count lines ++ get_or lines stops.count [] ∷ []) → ⊥
-      too_wide wide front =
-          let before = take stops.count lines in
-          let line = get_or lines stops.count [] in
-          let size : length before ≡ stops.count = length-take-le stops.count lines (omega (arith, stops.there)) in
-          let short = report_is_short basis.circuit basis.representatives (before ++ line ∷ []) is classes names front
-          (length before) [] (omega (arith, length-append before (line ∷ []))) in
-          omega (arith, wide, short, ap length (get_or-append_seam before line [] []))
+  pub first_long : (before : List (List ℕ)) (number : ℕ) → AreClasses basis.circuit basis.representatives
+      → HasShortNames basis.circuit → AreFine (IsWrongInReport basis) before → number ≡ length before + 1
+      → HasLongLine MAX_LINE_BYTES before text → IsFirst IsTrouble number
+  first_long before number classes names fine is_number long =
+      let line = get_or (lines_of text) (length before) [] in
+      first_after (IsWrongInReport basis) text before fine long.front IsTrouble parts number is_number
+      (elim long.long [
+        | inl wide ↦ refused_line before line long.there (next_is MAX_LINE_BYTES before text long)
+            (inl (λ front.
+            let short = report_is_short basis.circuit basis.representatives (before ++ line ∷ []) is classes names
+            front (length before) [] (omega (arith, length-append before (line ∷ []))) in
+            omega (arith, wide, short, ap length (get_or-append_seam before line [] []))))
+        | inr late ↦ inl (inr (inr late))
+      ])
 
   -- the report ends before it is whole
-  pub first_missing : (read : List (List ℕ)) (number : ℕ) → IsCircuit basis.circuit → IsReadAs Fine read text
-      → number ≡ length read + 1
-      → ((budget : ℕ) (saids : List Said) → ¬ IsSearchReport basis.circuit basis.representatives read budget saids)
-      → IsFirst Trouble-at number
-  first_missing read number is got is_number none =
-      let size : length read ≡ length lines = ap length (sym got.lines_are) in
-      subst (IsFirst Trouble-at) (sym is_number) (record {
-        wrong = inl (inr (inl (record {
-          line = omega (arith, size);
-          none = subst (λ l. (budget : ℕ) (saids : List Said)
-              → ¬ IsSearchReport basis.circuit basis.representatives l budget saids) (sym got.lines_are) none;
-        })));
-        first = no_trouble_before (length read) is got.fine (omega (arith, size));
-      })
+  pub first_missing : (lines : List (List ℕ)) (number : ℕ) → AreFine (IsWrongInReport basis) lines
+      → HasLines lines text → number ≡ length lines + 1
+      → ((budget : ℕ) (saids : List Said) → ¬ IsSearchReport basis.circuit basis.representatives lines budget saids)
+      → IsFirst IsTrouble number
+  first_missing lines number fine has is_number none =
+      first_after (IsWrongInReport basis) text lines fine (whole_front lines text has) IsTrouble parts number is_number
+      (inl (inr (inl (record {
+        line = omega (arith, ap length has.lines_are);
+        none = subst (λ l. (budget : ℕ) (saids : List Said)
+            → ¬ IsSearchReport basis.circuit basis.representatives l budget saids) (sym has.lines_are) none;
+      }))))
 
-  pub stops_in_report : (e : RunError) → IsCircuit basis.circuit → AreClasses basis.circuit basis.representatives
-      → HasShortNames basis.circuit → StopsIn Fine (DeniesReport basis) Report MAX_LINE_BYTES text e
-      → IfDenied (IsReportFileTrouble basis text) e
-  stops_in_report (Denied (Report number)) is classes names (inl stops) =
-      first_refused number stops.count is stops.fine stops.there stops.wrong.0 stops.wrong.1
-  stops_in_report (Denied (Tests number)) is classes names (inl stops) = absurd stops.wrong
-  stops_in_report (Denied (Proofs number)) is classes names (inl stops) = absurd stops.wrong
-  stops_in_report (Denied (Fault number)) is classes names (inl stops) = absurd stops.wrong
-  stops_in_report (Denied (Report number)) is classes names (inr (line, same, stops)) =
-      subst (IsFirst Trouble-at) (sym (let e = same in cc)) (first_long line is classes names stops)
-  stops_in_report (Denied (Tests number)) is classes names (inr (line, same, stops)) = let e = same in cc
-  stops_in_report (Denied (Proofs number)) is classes names (inr (line, same, stops)) = let e = same in cc
-  stops_in_report (Denied (Fault number)) is classes names (inr (line, same, stops)) = let e = same in cc
-  stops_in_report Usage is classes names stops = tt
-  stops_in_report TooLong is classes names stops = tt
-  stops_in_report (Refused error) is classes names stops = tt
-  stops_in_report ReadFault is classes names stops = tt
-  stops_in_report WriteFault is classes names stops = tt
-  stops_in_report NoMemory is classes names stops = tt
-  stops_in_report (BadTests line) is classes names stops = tt
-  stops_in_report TooManyVectors is classes names stops = tt
-  stops_in_report (BadResponses line) is classes names stops = tt
+-- ---- why reading a report ends the run
+
+module _ (netlist tests name proofs : List ℕ) (basis : JobBasis) (is : IsCircuit basis.circuit) (a b : DeskView) where
+  abbrev Stops : RunError → Type 0
+  Stops = ReadStops (check netlist tests name proofs) basis in_port.Report name a b
+
+  refuses : (trouble : Trouble) (IsSo : List ℕ → Type 0)
+      → refused_port (check netlist tests name proofs) (Denied trouble) ≡ Some in_port.Report
+      → ((text : List ℕ) → IsSo text → IsRefusedFor (check netlist tests name proofs) basis (Denied trouble) text)
+      → WasRead in_port.Report name IsSo a → Stops (Denied trouble)
+  refuses trouble IsSo at so read = (at, read_so in_port.Report name IsSo _ a so read)
+
+  pub report_stops : AreClasses basis.circuit basis.representatives → HasShortNames basis.circuit → (e : RunError)
+      → LinesStop (IsWrongInReport basis) Report MAX_LINE_BYTES in_port.Report name a b e → Stops e
+  report_stops classes names (Denied (Report number)) (inl s) =
+      refuses (Report number) (HasFront (s.before ++ s.line ∷ [])) refl
+      (λ text front. first_refused basis text is s.before s.line number s.fine front s.wrong) s.read
+  report_stops classes names (Denied trouble) (inl s) = absurd s.wrong
+  report_stops classes names (Denied (Report number)) (inr (line, same, s)) =
+      let here : number ≡ length s.before + 1 = (let e = same in cc) ∙ s.line_is in
+      refuses (Report number) (HasLongLine MAX_LINE_BYTES s.before) refl
+      (λ text long. first_long basis text is s.before number classes names s.fine here long) s.read
+  report_stops classes names (Denied trouble) (inr (line, same, s)) = let e = same in cc
+  report_stops classes names ReadFault s = s
+  report_stops classes names NoMemory s = tt
+  report_stops classes names e s = absurd s
 
   -- what the end of a report denies
-  pub ends_in_report : (v : ReportJudgeView) (read : List (List ℕ)) (e : JudgeError) → IsCircuit basis.circuit
-      → v.circuit ≡ basis.circuit → v.representatives ≡ basis.representatives → IsReadAs Fine read text
-      → ReportEndHasCause v read e → IfDenied (IsReportFileTrouble basis text) (judged_error_of e)
-  ends_in_report v read (judge.Denied (Report number)) is circuit representatives got h =
-      first_missing read number is got h.0 (subst (λ c. (budget : ℕ) (saids : List Said)
-      → ¬ IsSearchReport c basis.representatives read budget saids) circuit
-      (subst (λ r. (budget : ℕ) (saids : List Said) → ¬ IsSearchReport v.circuit r read budget saids) representatives
-      h.1))
-  ends_in_report v read (judge.Denied (Tests number)) is circuit representatives got h = absurd h
-  ends_in_report v read (judge.Denied (Proofs number)) is circuit representatives got h = absurd h
-  ends_in_report v read (judge.Denied (Fault number)) is circuit representatives got h = absurd h
-  ends_in_report v read judge.NoMemory is circuit representatives got h = tt
+  pub report_ends : (v : ReportJudgeView)
+      → (read : StandsForFile (StandsForReport v basis) (IsWrongInReport basis) in_port.Report name a)
+      → (e : JudgeError) → ReportEndHasCause v read.lines e → Stops (judged_error_of e)
+  report_ends v read (judge.Denied (Report number)) h =
+      let none = same_circuit (λ c r. (budget : ℕ) (saids : List Said) → ¬ IsSearchReport c r read.lines budget saids)
+      v.circuit basis.circuit v.representatives basis.representatives read.stands.circuit
+      read.stands.representatives h.1 in
+      refuses (Report number) (HasLines read.lines) refl
+      (λ text has. first_missing basis text is read.lines number read.fine has h.0 none) read.read
+  report_ends v read (judge.Denied trouble) h = absurd h
+  report_ends v read judge.NoMemory h = tt
 
--- ---- whose trouble it is
+-- ---- a report that is whole
 
-of_report : (basis : ReportBasis) (before : List (List ℕ)) (line : List ℕ) (trouble : Trouble)
-    → DeniesReport basis before line (judge.Denied trouble) → IsOfReport trouble
-of_report basis before line (Report number) h = tt
-of_report basis before line (Tests number) h = absurd h
-of_report basis before line (Proofs number) h = absurd h
-of_report basis before line (Fault number) h = absurd h
-
-pub denied_in_report : (basis : ReportBasis) (trouble : Trouble) → IsDeniedBy (DeniesReport basis) Report trouble
-    → IsOfReport trouble
-denied_in_report basis trouble (inl (before, line, h)) = of_report basis before line trouble h
-denied_in_report basis trouble (inr (line, is)) = subst IsOfReport (sym is) tt
-
-pub report_end_cause : (v : ReportJudgeView) (read : List (List ℕ)) (name : List ℕ) (a b : DeskView) (e : JudgeError)
-    → MayHold a name → ReportEndHasCause v read e → FileCause name IsOfReport a b (judged_error_of e)
-report_end_cause v read name a b (judge.Denied (Report number)) there h = (there, tt)
-report_end_cause v read name a b (judge.Denied (Tests number)) there h = absurd h
-report_end_cause v read name a b (judge.Denied (Proofs number)) there h = absurd h
-report_end_cause v read name a b (judge.Denied (Fault number)) there h = absurd h
-report_end_cause v read name a b judge.NoMemory there h = tt
-
-pub true_by_basis : (v : ReportJudgeView) (basis : ReportBasis) (lines : List (List ℕ)) (budget : ℕ)
-    (saids : List Said) → v.circuit ≡ basis.circuit → v.representatives ≡ basis.representatives
-    → IsTrueReport v.circuit v.representatives basis.list lines budget saids
-    → IsTrueReport basis.circuit basis.representatives basis.list lines budget saids
-true_by_basis v basis lines budget saids circuit representatives h =
-    subst (λ c. IsTrueReport c basis.representatives basis.list lines budget saids) circuit
-    (subst (λ r. IsTrueReport v.circuit r basis.list lines budget saids) representatives h)
+pub report_is_read : (v : ReportJudgeView) (basis : JobBasis) (name : List ℕ) (a : DeskView)
+    → (read : StandsForFile (StandsForReport v basis) (IsWrongInReport basis) in_port.Report name a) (budget : ℕ)
+    (saids : List Said) → basis.content.budget ≡ budget → basis.content.saids ≡ saids
+    → IsTrueReport v.circuit v.representatives basis.content.list read.lines budget saids → ReportIsRead basis name a
+report_is_read v basis name a read budget saids same_budget same_saids whole =
+    let says = basis.content in
+    let is = same_circuit (λ c r. IsTrueReport c r says.list read.lines says.budget says.saids) v.circuit basis.circuit
+    v.representatives basis.representatives read.stands.circuit read.stands.representatives
+    (subst (λ n. IsTrueReport v.circuit v.representatives says.list read.lines n says.saids) (sym same_budget)
+    (subst (λ l. IsTrueReport v.circuit v.representatives says.list read.lines budget l) (sym same_saids) whole)) in
+    record {
+      each = is.report.search.saids_are.each;
+      agrees = is.agrees;
+      read = record {
+        there = read.read.there;
+        told = λ text input.
+            let has = read.read.told text input in
+            record {
+              reported = record {
+                report = subst (λ l. IsSearchReport basis.circuit basis.representatives l says.budget says.saids)
+                    (sym has.lines_are) is.report;
+                short = has.short;
+              };
+              agrees = is.agrees;
+            };
+      };
+    }

@@ -1,63 +1,55 @@
--- One step more of the engine, and its text in the files.
-use Rattle.std.proofs.Common.{◌≡◌, ◌≢◌, ℕ, ◌+◌, List, [], ◌∷◌, ◌++◌, length, take, refl, sym, ◌∙◌, ap, subst, arith}
-use Rattle.std.proofs.lemmas.List.{append-nil, length-append}
+-- The engine's steps, written and counted one after the other.
+use Rattle.std.proofs.Common.{◌≡◌, ◌≢◌, ℕ, ◌+◌, ◌≤◌, List, [], ◌∷◌, ◌++◌, Bool, false, length, flat_map, refl, sym, ◌∙◌, ap, subst, arith, append_assoc, append-nil}
+use Rattle.std.specs.Prelude.{Result, Ok, Err, OnOk}
+use Rattle.std.proofs.lemmas.List.{length-append}
+use Rattle.std.proofs.lemmas.List.Concat.{flat_map-append}
+use Rattle.ht_ports.specs.LineRule.{max_text_bytes}
 use Rattle.ht_ports.specs.Desk.{DeskView}
-use Rattle.ht_ports.specs.declared.ports.OutPort.TheVariants.{Proofs}
+use Rattle.ht_ports.specs.declared.ports.OutPort.TheVariants.{Tests, Proofs}
+use Rattle.ht_net.specs.Netlist as net
 use Rattle.ht_net.specs.Rows.{Rows}
 use Rattle.ht_tree.specs.declared.entry.Entry as recorded
-use Rattle.ht_texts.specs.Lines.{with_lf}
-use Rattle.ht_entries.specs.declared.proof_line.ProofLine.TheVariants as line
-use Rattle.ht_entries.specs.ProofLines.{line_text}
 use Rattle.ht_engine.specs.declared.step.Step.{Step}
 use Rattle.ht_engine.specs.declared.step.Step.TheVariants.{Vectors, Entry, Finished}
-use Rattle.ht_engine.specs.Steps.{AreFinished, first_vectors, one_more}
-use Rattle.ht_engine.specs.EngineStands.{EngineStandsFor, EngineView, HasSameWork, Makes, MakesStep, first_of}
+use Rattle.ht_engine.specs.Steps.{AreFinished, AreSteps, Settings, first_vectors, one_more}
+use Rattle.ht_engine.specs.EngineStands.{EngineView, HasSameWork, Makes, MakesStep, first_of}
 use Rattle.ht_files.specs.StepTexts.{proofs_so_far, proofs_step, step_text, tests_of, tests_step}
-use Rattle.ht_files.proofs.StepTextLaws.{proofs_begin, proofs_grow, tests_grow}
+use Rattle.ht_files.proofs.StepTextLaws.{proofs_grow, tests_grow}
 use Rattle.ht_files.specs.declared.text_size.TextSize.{TextSize}
 use Rattle.ht_app.specs.declared.generate.sizes.Sizes.{Sizes}
-use Rattle.ht_app.specs.FileTexts.{Names, Texts, no_texts, with_more}
-use Rattle.ht_app.specs.Generating.{CountsStep, CountsText, HasAllSteps, HasPart, HasStepPart, HasSteps, HasTexts, StopsEarly, StopsHead, bare, texts_so_far, with_step}
-use Rattle.ht_app.proofs.FrontLaws.{both, stops_within, texts_grow}
+use Rattle.ht_app.specs.declared.run_error.RunError.{RunError}
+use Rattle.ht_app.specs.declared.run_error.RunError.TheVariants.{NoMemory}
+use Rattle.ht_app.specs.Acts.{Act, put}
+use Rattle.ht_app.specs.Outputs.{step_acts}
+use Rattle.ht_app.specs.Steps.{Tries}
+use Rattle.ht_app.specs.Generating.{CountsStep, StandsAt, WritesOn}
+use Rattle.ht_app.proofs.WritingLaws.{runs_out_first, tries_none, tries_then}
 
 -- ---- where the text of a step goes
 
-pub list_text : (step : Step) (list : Rows) (text : List ℕ) → step ≡ Vectors list → text ≡ step_text step
-    → text ≡ tests_step step
-list_text step list text is e = e ∙ ap step_text is ∙ sym (ap tests_step is)
+pub list_acts : (step : Step) (list : Rows) (text : List ℕ) → step ≡ Vectors list → text ≡ step_text step
+    → put Tests text ∷ [] ≡ step_acts step
+list_acts step list text is e = ap (λ t. put Tests t ∷ []) (e ∙ ap step_text is) ∙ sym (ap step_acts is)
 
-pub list_alone : (step : Step) (list : Rows) → step ≡ Vectors list → proofs_step step ≡ []
-list_alone step list is = ap proofs_step is
+pub entry_acts : (step : Step) (fault : ℕ) (entry : recorded.Entry) (text : List ℕ) → step ≡ Entry fault entry
+    → text ≡ step_text step → put Proofs text ∷ [] ≡ step_acts step
+entry_acts step fault entry text is e = ap (λ t. put Proofs t ∷ []) (e ∙ ap step_text is) ∙ sym (ap step_acts is)
 
-pub entry_text : (step : Step) (fault : ℕ) (entry : recorded.Entry) (text : List ℕ) → step ≡ Entry fault entry
-    → text ≡ step_text step → text ≡ proofs_step step
-entry_text step fault entry text is e = e ∙ ap step_text is ∙ sym (ap proofs_step is)
-
-pub entry_alone : (step : Step) (fault : ℕ) (entry : recorded.Entry) → step ≡ Entry fault entry → tests_step step ≡ []
-entry_alone step fault entry is = ap tests_step is
-
-pub nothing_put : (step : Step) (texts : Texts) → step ≡ Finished → texts ≡ with_step step texts
-nothing_put step texts is = both texts _ _ _ _
-    (sym (append-nil texts.tests) ∙ ap (λ s. texts.tests ++ tests_step s) (sym is))
-    (sym (append-nil texts.proofs) ∙ ap (λ s. texts.proofs ++ proofs_step s) (sym is))
-
--- ---- what is counted
-
-pub counts_tests : (step : Step) (text : List ℕ) (old : Sizes) (new : TextSize) → text ≡ tests_step step
-    → proofs_step step ≡ [] → CountsText (length text) old.tests new
+pub counts_list : (step : Step) (list : Rows) (text : List ℕ) (old : Sizes) (new : TextSize) → step ≡ Vectors list
+    → text ≡ step_text step → new.bytes ≡ old.tests.bytes + length text → new.bytes ≤ max_text_bytes
     → CountsStep step old (record old { tests = new })
-counts_tests step text old new is none counts = record {
-  tests = counts.count ∙ ap (λ l. old.tests.bytes + length l) is;
-  proofs = omega (arith, ap length none);
-  short = λ before. counts.short;
+counts_list step list text old new is e counts short = record {
+  tests = counts ∙ ap (λ t. old.tests.bytes + length t) (e ∙ ap step_text is ∙ sym (ap tests_step is));
+  proofs = omega (arith, ap (λ s. length (proofs_step s)) is);
+  short = λ before. short;
 }
 
-pub counts_proofs : (step : Step) (text : List ℕ) (old : Sizes) (new : TextSize) → text ≡ proofs_step step
-    → tests_step step ≡ [] → CountsText (length text) old.proofs new
+pub counts_entry : (step : Step) (fault : ℕ) (entry : recorded.Entry) (text : List ℕ) (old : Sizes) (new : TextSize)
+    → step ≡ Entry fault entry → text ≡ step_text step → new.bytes ≡ old.proofs.bytes + length text
     → CountsStep step old (record old { proofs = new })
-counts_proofs step text old new is none counts = record {
-  tests = omega (arith, ap length none);
-  proofs = counts.count ∙ ap (λ l. old.proofs.bytes + length l) is;
+counts_entry step fault entry text old new is e counts = record {
+  tests = omega (arith, ap (λ s. length (tests_step s)) is);
+  proofs = counts ∙ ap (λ t. old.proofs.bytes + length t) (e ∙ ap step_text is ∙ sym (ap proofs_step is));
   short = λ before. before;
 }
 
@@ -66,90 +58,6 @@ counts_nothing step sizes is = record {
   tests = omega (arith, ap (λ s. length (tests_step s)) is);
   proofs = omega (arith, ap (λ s. length (proofs_step s)) is);
   short = λ before. before;
-}
-
--- ---- the engine
-
-pub makes_step : (old new : EngineView) (steps : List Step) (step : Step) → step ≢ Finished → Makes old new steps step
-    → MakesStep old new steps step
-makes_step old new steps (Vectors list) other made = made
-makes_step old new steps (Entry fault entry) other made = made
-makes_step old new steps Finished other made = absurd (other refl)
-
--- the bytes of one step more are counted
-counted_more : (bytes more all : List ℕ) (old new : ℕ) → all ≡ bytes ++ more → old ≡ length bytes
-    → new ≡ old + length more → new ≡ length all
-counted_more bytes more all old new is before counts =
-    omega (arith, counts, before, ap length is, length-append bytes more)
-
-pub has_one_more : (names : Names) (old new : EngineView) (step : Step) (before after : Sizes) (first m b : DeskView)
-    → step ≢ Finished → (h : HasSteps names old before first m) → Makes old new h.steps step
-    → HasTexts names (with_step step (texts_so_far h.steps)) first b → CountsStep step before after
-    → HasSteps names new after first b
-has_one_more names old new step before after first m b other h made has counts = record {
-  steps = h.steps ++ step ∷ [];
-  stands = (makes_step old new h.steps step other made).stands;
-  has = subst (λ (t : Texts). HasTexts names t first b) (texts_grow h.steps step) has;
-  tests_count = counted_more (tests_of h.steps) (tests_step step) _ _ _ (tests_grow h.steps step) h.tests_count
-      counts.tests;
-  proofs_count = counted_more (proofs_so_far h.steps) (proofs_step step) _ _ _ (proofs_grow h.steps step)
-      h.proofs_count counts.proofs;
-  short = counts.short h.short;
-}
-
-pub stops_in_step : (names : Names) (old new : EngineView) (step : Step) (sizes : Sizes) (first m b : DeskView)
-    → step ≢ Finished → (h : HasSteps names old sizes first m) → Makes old new h.steps step
-    → HasStepPart names step (texts_so_far h.steps) first b → StopsEarly names old first b
-stops_in_step names old new step sizes first m b other h made part = stops_within names old h.steps step first b
-    (one_more h.steps step h.stands.are (makes_step old new h.steps step other made).follows) part
-
-pub finished_as : (old new : EngineView) (steps : List Step) → HasSameWork old new
-    → AreFinished old.circuit old.representatives (first_of old) steps
-    → AreFinished new.circuit new.representatives (first_of new) steps
-finished_as old new steps same are =
-    subst (λ c. AreFinished c new.representatives (first_vectors c new.settings) steps) (sym same.circuit)
-    (subst (λ r. AreFinished old.circuit r (first_vectors old.circuit new.settings) steps) (sym same.representatives)
-    (subst (λ s. AreFinished old.circuit old.representatives (first_vectors old.circuit s) steps) (sym same.settings)
-    are))
-
-pub all_made : (names : Names) (old new : EngineView) (step : Step) (sizes : Sizes) (first m : DeskView)
-    → step ≡ Finished → HasSameWork old new → (h : HasSteps names old sizes first m) → Makes old new h.steps step
-    → HasAllSteps names new sizes first m
-all_made names old new step sizes first m is same h made =
-    let last : Makes old new h.steps Finished = subst (Makes old new h.steps) is made in
-    let stands = last.1 in
-    record {
-      has = record {
-        steps = h.steps;
-        stands = stands;
-        has = h.has;
-        tests_count = h.tests_count;
-        proofs_count = h.proofs_count;
-        short = h.short;
-      };
-      finished = finished_as old new h.steps same last.0;
-    }
-
--- ---- the first line of the proofs
-
-pub head_steps : (names : Names) (e : EngineView) (sizes : Sizes) (head : List ℕ) (first b : DeskView)
-    → head ≡ with_lf (line_text line.Head) → HasTexts names (with_more Proofs head no_texts) first b
-    → EngineStandsFor e []
-    → sizes.tests.bytes ≡ 0 → sizes.proofs.bytes ≡ length head → HasSteps names e sizes first b
-head_steps names e sizes head first b is has stands none count = record {
-  steps = [];
-  stands = stands;
-  has = subst (λ (l : List ℕ). HasTexts names (bare [] l) first b) (is ∙ sym proofs_begin) has;
-  tests_count = none;
-  proofs_count = count ∙ ap length (is ∙ sym proofs_begin);
-  short = omega (arith, none);
-}
-
-pub head_part : (names : Names) (head : List ℕ) (first b : DeskView) → head ≡ with_lf (line_text line.Head)
-    → HasPart names Proofs head no_texts first b → StopsHead names first b
-head_part names head first b is part = record {
-  count = part.count;
-  has = subst (λ (l : List ℕ). HasTexts names (bare [] (take part.count l)) first b) (is ∙ sym proofs_begin) part.has;
 }
 
 -- ---- the work stays
@@ -163,3 +71,125 @@ same_work_trans a b c x y = record {
   representatives = y.representatives ∙ x.representatives;
   settings = y.settings ∙ x.settings;
 }
+
+-- what holds of the work of one engine holds of the same work
+same_as : (P : net.Netlist → List ℕ → Settings → Type 0) (old new : EngineView) → HasSameWork old new
+    → P new.circuit new.representatives new.settings → P old.circuit old.representatives old.settings
+same_as P old new same p = subst (λ c. P c old.representatives old.settings) same.circuit
+    (subst (λ r. P new.circuit r old.settings) same.representatives
+    (subst (λ s. P new.circuit new.representatives s) same.settings p))
+
+steps_as : (old new : EngineView) (steps : List Step) → HasSameWork old new
+    → AreSteps new.circuit new.representatives (first_of new) new.settings.budget steps
+    → AreSteps old.circuit old.representatives (first_of old) old.settings.budget steps
+steps_as old new steps = same_as (λ c r s. AreSteps c r (first_vectors c s) s.budget steps) old new
+
+finished_as : (old new : EngineView) (steps : List Step) → HasSameWork old new
+    → AreFinished new.circuit new.representatives (first_of new) steps
+    → AreFinished old.circuit old.representatives (first_of old) steps
+finished_as old new steps = same_as (λ c r s. AreFinished c r (first_vectors c s) steps) old new
+
+same_work_back : (a b : EngineView) → HasSameWork a b → HasSameWork b a
+same_work_back a b x =
+    record { circuit = sym x.circuit; representatives = sym x.representatives; settings = sym x.settings }
+
+pub finished_later : (old new : EngineView) (steps : List Step) → HasSameWork old new
+    → AreFinished old.circuit old.representatives (first_of old) steps
+    → AreFinished new.circuit new.representatives (first_of new) steps
+finished_later old new steps same = finished_as new old steps (same_work_back old new same)
+
+pub makes_step : (old new : EngineView) (steps : List Step) (step : Step) → step ≢ Finished → Makes old new steps step
+    → MakesStep old new steps step
+makes_step old new steps (Vectors list) other made = made
+makes_step old new steps (Entry fault entry) other made = made
+makes_step old new steps Finished other made = absurd (other refl)
+
+-- ---- no step more, or one
+
+module _ {A : Type 0} (steps : List Step) (AtEnd : Type 0) (e later : EngineView) (sizes : Sizes) where
+  -- the same where no step is made
+  nothing_more : (result : Result A RunError) (a : DeskView)
+      → AreSteps e.circuit e.representatives (first_of e) e.settings.budget steps → Tries [] result a a
+      → OnOk result (StandsAt steps later sizes)
+      → (AtEnd → AreFinished e.circuit e.representatives (first_of e) steps)
+      → WritesOn steps AtEnd e later sizes result a a
+  nothing_more result a are tries stands finished =
+      let same = sym (append-nil steps) in
+      record {
+        more = [];
+        are = subst (AreSteps e.circuit e.representatives (first_of e) e.settings.budget) same are;
+        tries = tries;
+        stands = subst (λ (l : List Step). OnOk result (StandsAt l later sizes)) same stands;
+        finished = λ end. subst (AreFinished e.circuit e.representatives (first_of e)) same (finished end);
+      }
+
+  pub runs_out : (before : Sizes) (a : DeskView) → StandsAt steps e before → (AtEnd → ⊥)
+      → WritesOn {A = A} steps AtEnd e later sizes (Err NoMemory) a a
+  runs_out before a stands never = nothing_more (Err NoMemory) a stands.engine.are
+      (runs_out_first A [] a) tt (λ end. absurd (never end))
+
+pub writes_none : (steps : List Step) (e : EngineView) (sizes : Sizes) (a : DeskView) → StandsAt steps e sizes
+    → WritesOn {A = Unit {0}} steps ⊥ e e sizes (Ok tt) a a
+writes_none steps e sizes a stands =
+    nothing_more {A = Unit {0}} steps ⊥ e e sizes (Ok (tt {0})) a stands.engine.are (tries_none (tt {0}) a) stands (λ
+    end. absurd end)
+
+pub all_made : (steps : List Step) (old new : EngineView) (step : Step) (sizes : Sizes) (a : DeskView) (End : Type 0)
+    → step ≡ Finished → StandsAt steps old sizes → Makes old new steps step
+    → WritesOn steps End old new sizes (Ok false) a a
+all_made steps old new step sizes a End is stands made =
+    let last : Makes old new steps Finished = subst (Makes old new steps) is made in
+    nothing_more {A = Bool} steps End old new sizes (Ok false) a stands.engine.are (tries_none false a)
+    (record { engine = last.1; tests = stands.tests; proofs = stands.proofs; short = stands.short }) (λ end. last.0)
+
+-- the bytes of one step more are counted
+counted_more : (bytes more all : List ℕ) (old new : ℕ) → all ≡ bytes ++ more → old ≡ length bytes
+    → new ≡ old + length more → new ≡ length all
+counted_more bytes more all old new is before counts =
+    omega (arith, counts, before, ap length is, length-append bytes more)
+
+module _ {A : Type 0} (steps : List Step) (AtEnd : Type 0) (old new : EngineView) (step : Step) (before after : Sizes)
+    (stands : StandsAt steps old before) (made : MakesStep old new steps step) where
+  stands_later : (result : Result A RunError) → OnOk result (CountsStep step before after)
+      → OnOk result (StandsAt (steps ++ step ∷ []) new after)
+  stands_later (Ok value) counts = record {
+    engine = made.stands;
+    tests = counted_more (tests_of steps) (tests_step step) _ _ _ (tests_grow steps step) stands.tests counts.tests;
+    proofs = counted_more (proofs_so_far steps) (proofs_step step) _ _ _ (proofs_grow steps step) stands.proofs
+        counts.proofs;
+    short = counts.short stands.short;
+  }
+  stands_later (Err error) counts = tt
+
+  pub made_one : (result : Result A RunError) (a b : DeskView) → Tries (step_acts step) result a b
+      → OnOk result (CountsStep step before after) → (AtEnd → ⊥) → WritesOn steps AtEnd old new after result a b
+  made_one result a b tries counts never = record {
+    more = step ∷ [];
+    are = one_more steps step stands.engine.are made.follows;
+    tries = subst (λ (l : List Act). Tries l result a b) (sym (append-nil (step_acts step))) tries;
+    stands = stands_later result counts;
+    finished = λ end. absurd (never end);
+  }
+
+-- ---- steps after steps
+
+pub writes_then : {A B : Type 0} (steps : List Step) (e l new : EngineView) (between after : Sizes) (E F : Type 0)
+    (r : Result A RunError) (s : Result B RunError) (a m b : DeskView) → HasSameWork e l
+    → (first : WritesOn {A = Unit {0}} steps ⊥ e l between (Ok tt) a m)
+    → WritesOn (steps ++ first.more) E l new after r m b → (F → E)
+    → ((acts : List Act) → Tries acts r m b → Tries acts s m b)
+    → ((all : List Step) → OnOk r (StandsAt all new after) → OnOk s (StandsAt all new after))
+    → WritesOn steps F e new after s a b
+writes_then steps e l new between after E F r s a m b same first second ends tries stands =
+    let all = append_assoc steps first.more second.more in
+    record {
+      more = first.more ++ second.more;
+      are = steps_as e l (steps ++ (first.more ++ second.more)) same
+          (subst (AreSteps l.circuit l.representatives (first_of l) l.settings.budget) all second.are);
+      tries = subst (λ (acts : List Act). Tries acts s a b) (sym (flat_map-append step_acts first.more second.more))
+          (tries_then (flat_map step_acts first.more) (flat_map step_acts second.more) (tt {0}) s a m b first.tries
+          (tries (flat_map step_acts second.more) second.tries));
+      stands = subst (λ (l : List Step). OnOk s (StandsAt l new after)) all (stands _ second.stands);
+      finished = λ end. finished_as e l (steps ++ (first.more ++ second.more)) same
+          (subst (AreFinished l.circuit l.representatives (first_of l)) all (second.finished (ends end)));
+    }

@@ -40,6 +40,14 @@ output_name (compact netlist tests out) Tests = Some out
 output_name (diagnose netlist tests responses out) Report = Some out
 output_name _ _ = None
 
+-- the order in which a job reads its files, each whole before the next is opened
+abbrev pub order_of : InPort → ℕ
+order_of in_port.Netlist = 0
+order_of in_port.Tests = 1
+order_of in_port.Extra = 2
+order_of in_port.Report = 3
+order_of in_port.Proofs = 4
+
 -- the desk holds the files that the job reads
 abbrev pub HoldsInputs : Asked → DeskView → Type 0
 HoldsInputs job desk = (port : InPort) (name : List ℕ) → input_name job port ≡ Some name → Holds desk name

@@ -1,190 +1,135 @@
 -- What the reading of a file leaves that is judged line by line.
-use Rattle.std.specs.Prelude.{◌≡◌, ◌⊎◌, ◌<◌, ◌≤◌, ◌+◌, ◌++◌, ◌∷◌, ℕ, List, [], Bool, length, take, get_or}
+use Rattle.std.specs.Prelude.{◌≡◌, ◌⊎◌, ◌<◌, ◌≤◌, ◌+◌, ◌++◌, ◌∷◌, ℕ, List, [], length, take, get_or}
+use Rattle.std.specs.List.{All}
 use Rattle.ht_ports.specs.Desk.{DeskView}
 use Rattle.ht_ports.specs.LineRule.{lines_of, max_text_bytes}
 use Rattle.ht_ports.specs.declared.ports.InPort.{InPort}
 use Rattle.ht_ports.specs.declared.ports.InPort.TheVariants as in_port
 use Rattle.ht_net.specs.Netlist.{Netlist, IsCircuit}
+use Rattle.ht_faults.specs.Sites.{faults_of}
 use Rattle.ht_texts.specs.Tests.{IsTooLong}
-use Rattle.ht_texts.specs.declared.said.Said.{Said}
+use Rattle.ht_texts.specs.Verdicts.{said_at}
 use Rattle.ht_texts.specs.SearchReports.{IsReportFront}
-use Rattle.ht_entries.specs.ProofReading.{IsMalformedAfter, IsProofFront}
-use Rattle.ht_valid.specs.ValidFiles.{Content}
-use Rattle.ht_valid.specs.FirstTrouble.{ContradictsTests, IsFaultTrouble, IsFirst, IsFirstFault, IsFirstProofLine, IsReportTrouble}
+use Rattle.ht_entries.specs.ProofReading.{IsMalformedAfter}
+use Rattle.ht_valid.specs.ValidFiles.{AgreesWithTests, Content, HasEntry, IsBacking, IsOwn, NeedsEntry}
+use Rattle.ht_valid.specs.FirstTrouble.{ContradictsTests, IsFaultTrouble}
 use Rattle.ht_valid.specs.declared.trouble.Trouble.{Trouble}
 use Rattle.ht_valid.specs.declared.trouble.Trouble.TheVariants.{Report, Proofs, Fault}
-use Rattle.ht_judge.specs.declared.judge_error.JudgeError.{JudgeError}
-use Rattle.ht_judge.specs.declared.judge_error.JudgeError.TheVariants as judge
-use Rattle.ht_judge.specs.ReportJudging.{ReportJudgeView, JudgesReport, IsTrueReport}
-use Rattle.ht_judge.specs.ProofJudging.{ProofJudgeView, JudgesProofs, AreCompleteProofs}
+use Rattle.ht_judge.specs.ReportJudging.{ReportJudgeView, JudgesReport}
+use Rattle.ht_judge.specs.ProofJudging.{ProofJudgeView, JudgesProofs}
 use Rattle.ht_app.specs.declared.run_error.RunError.{RunError}
 use Rattle.ht_app.specs.declared.run_error.RunError.TheVariants.{Denied, ReadFault, NoMemory}
-use Rattle.ht_app.specs.Inputs.{IsInput, MayHold}
+use Rattle.ht_app.specs.Inputs.{AreGoodProofs, IsGoodReport, JobBasis, WasRead}
+use Rattle.ht_app.specs.Refusals.{before_proofs}
 use Rattle.ht_app.specs.Steps.{IsReadFault}
 
 -- ---- any file
 
--- Nothing is wrong with so many first lines of the text.
-pub record AreFine (IsFine : List (List ℕ) → List ℕ → Type 0) (text : List ℕ) (count : ℕ) : Type 0 where
-  pub each : (k : ℕ) → k < count → IsFine (take k (lines_of text)) (get_or (lines_of text) k [])
-  pub short : (n : ℕ) → n ≤ count → ¬ IsTooLong text n
+-- no line has a trouble, after those before it
+abbrev pub AreFine : (List (List ℕ) → List ℕ → Trouble → Type 0) → List (List ℕ) → Type 0
+AreFine IsWrong lines =
+    (k : ℕ) (trouble : Trouble) → k < length lines → ¬ IsWrong (take k lines) (get_or lines k []) trouble
 
--- The text has these lines, with which nothing is wrong.
-pub record IsReadAs (IsFine : List (List ℕ) → List ℕ → Type 0) (lines : List (List ℕ)) (text : List ℕ) : Type 0 where
+-- The text has these lines, and is no longer than a text may be.
+pub record HasLines (lines : List (List ℕ)) (text : List ℕ) : Type 0 where
   pub lines_are : lines_of text ≡ lines
-  pub fine : AreFine IsFine text (length lines)
   pub short : length text ≤ max_text_bytes
 
+-- The text begins with these lines, and doesn't get too long in them.
+pub record HasFront (lines : List (List ℕ)) (text : List ℕ) : Type 0 where
+  pub more : List (List ℕ)
+  pub lines_are : lines_of text ≡ lines ++ more
+  pub short : (n : ℕ) → n ≤ length lines → ¬ IsTooLong text n
+
+-- The line that comes next has more bytes than this, or the text gets too long in it.
+pub record HasLongLine (most : ℕ) (lines : List (List ℕ)) (text : List ℕ) : Type 0 where
+  pub front : HasFront lines text
+  pub there : length lines < length (lines_of text)
+  pub long : (most < length (get_or (lines_of text) (length lines) [])) ⊎ IsTooLong text (length lines + 1)
+
 -- A judge stands for the lines of the file. The first line has its bytes, and each other at least one.
-pub record StandsForFile (Stands : List (List ℕ) → Type 0) (IsFine : List (List ℕ) → List ℕ → Type 0) (port : InPort)
-    (name : List ℕ) (old : DeskView) : Type 0 where
+pub record StandsForFile (Stands : List (List ℕ) → Type 0) (IsWrong : List (List ℕ) → List ℕ → Trouble → Type 0)
+    (port : InPort) (name : List ℕ) (old : DeskView) : Type 0 where
   pub lines : List (List ℕ)
   pub stands : Stands lines
+  pub fine : AreFine IsWrong lines
   pub few : length (get_or lines 0 []) + length lines ≤ max_text_bytes + 1
-  pub texts : (text : List ℕ) → IsInput port name text old → IsReadAs IsFine lines text
+  pub read : WasRead port name (HasLines lines) old
 
--- Nothing is wrong before a line, in which the text doesn't become too long, and which the judge doesn't take.
-pub record StopsAtLine (IsFine IsWrong : List (List ℕ) → List ℕ → Type 0) (text : List ℕ) : Type 0 where
-  pub count : ℕ
-  pub there : count < length (lines_of text)
-  pub fine : AreFine IsFine text count
-  pub short : ¬ IsTooLong text (count + 1)
-  pub wrong : IsWrong (take count (lines_of text)) (get_or (lines_of text) count [])
+-- The file has a line with this trouble, and none before it.
+pub record StopsAtLine (IsWrong : List (List ℕ) → List ℕ → Trouble → Type 0) (trouble : Trouble) (port : InPort)
+    (name : List ℕ) (old : DeskView) : Type 0 where
+  pub before : List (List ℕ)
+  pub line : List ℕ
+  pub fine : AreFine IsWrong before
+  pub wrong : IsWrong before line trouble
+  pub read : WasRead port name (HasFront (before ++ line ∷ [])) old
 
--- Nothing is wrong before a line, which has more bytes than this, or in which the text becomes too long.
-pub record StopsAtLong (IsFine : List (List ℕ) → List ℕ → Type 0) (most : ℕ) (text : List ℕ) (line : ℕ) : Type 0 where
-  pub count : ℕ
-  pub line_is : line ≡ count + 1
-  pub there : count < length (lines_of text)
-  pub fine : AreFine IsFine text count
-  pub long : (most < length (get_or (lines_of text) count [])) ⊎ IsTooLong text line
+-- A line of it is too long, and those before it have no trouble.
+pub record StopsAtLong (IsWrong : List (List ℕ) → List ℕ → Trouble → Type 0) (most line : ℕ) (port : InPort)
+    (name : List ℕ) (old : DeskView) : Type 0 where
+  pub before : List (List ℕ)
+  pub line_is : line ≡ length before + 1
+  pub fine : AreFine IsWrong before
+  pub read : WasRead port name (HasLongLine most before) old
 
--- why the lines of a text weren't all taken
-abbrev pub StopsIn : (List (List ℕ) → List ℕ → Type 0) → (List (List ℕ) → List ℕ → JudgeError → Type 0)
-    → (ℕ → Trouble) → ℕ → List ℕ → RunError → Type 0
-StopsIn IsFine Denies trouble_at most text (Denied trouble) =
-    StopsAtLine IsFine (λ before line. Denies before line (judge.Denied trouble)) text
-    ⊎ ((line : ℕ) × (trouble ≡ trouble_at line) × StopsAtLong IsFine most text line)
-StopsIn IsFine Denies trouble_at most text error = Unit {0}
+-- why the file wasn't read whole: one of its lines has a trouble, the desk failed, or memory ran out
+abbrev pub LinesStop : (List (List ℕ) → List ℕ → Trouble → Type 0) → (ℕ → Trouble) → ℕ → InPort → List ℕ → DeskView
+    → DeskView → RunError → Type 0
+LinesStop IsWrong trouble_at most port name old new (Denied trouble) = StopsAtLine IsWrong trouble port name old
+    ⊎ ((line : ℕ) × (trouble ≡ trouble_at line) × StopsAtLong IsWrong most line port name old)
+LinesStop IsWrong trouble_at most port name old new ReadFault = IsReadFault name old new
+LinesStop IsWrong trouble_at most port name old new NoMemory = Unit {0}
+LinesStop IsWrong trouble_at most port name old new error = ⊥
 
--- why the file wasn't read whole: it is there and has a trouble, or the desk counted a fault, or memory ran out
-abbrev pub FileCause : List ℕ → (Trouble → Type 0) → DeskView → DeskView → RunError → Type 0
-FileCause name IsTrouble old new (Denied trouble) = MayHold old name × IsTrouble trouble
-FileCause name IsTrouble old new ReadFault = IsReadFault name old new
-FileCause name IsTrouble old new NoMemory = Unit {0}
-FileCause name IsTrouble old new _ = ⊥
-
--- this holds of the trouble, where there is one
-abbrev pub IfDenied : (Trouble → Type 0) → RunError → Type 0
-IfDenied IsTrouble (Denied trouble) = IsTrouble trouble
-IfDenied IsTrouble error = Unit {0}
-
--- a judge denies with it at a line after some, or some line is too long
-abbrev pub IsDeniedBy : (List (List ℕ) → List ℕ → JudgeError → Type 0) → (ℕ → Trouble) → Trouble → Type 0
-IsDeniedBy Denies trouble_at trouble =
-    ((before : List (List ℕ)) × (line : List ℕ) × Denies before line (judge.Denied trouble))
-    ⊎ ((line : ℕ) × (trouble ≡ trouble_at line))
+-- by what the files are judged: the netlist's circuit, its classes, and what the other files say
+abbrev pub check_basis : Netlist → List ℕ → Content → JobBasis
+check_basis c representatives content =
+    record { circuit = c; rows = []; representatives = representatives; content = content }
 
 -- ---- the report
 
--- the circuit, its classes, and the vectors by which a report is judged
-pub record ReportBasis : Type 0 where
-  pub circuit : Netlist
-  pub representatives : List ℕ
-  pub list : List (List Bool)
-
-abbrev pub report_basis : Netlist → List ℕ → List (List Bool) → ReportBasis
-report_basis c representatives list = record { circuit = c; representatives = representatives; list = list }
-
 -- The judge stands for these lines of a report, by the basis.
-pub record StandsForReport (v : ReportJudgeView) (basis : ReportBasis) (lines : List (List ℕ)) : Type 0 where
+pub record StandsForReport (v : ReportJudgeView) (basis : JobBasis) (lines : List (List ℕ)) : Type 0 where
   pub well_formed : IsCircuit basis.circuit
   pub circuit : v.circuit ≡ basis.circuit
   pub representatives : v.representatives ≡ basis.representatives
-  pub judges : JudgesReport v basis.list lines
-
--- The lines begin a report, and the last of them doesn't contradict the tests.
-pub record IsFineReport (basis : ReportBasis) (lines : List (List ℕ)) : Type 0 where
-  pub front : IsReportFront basis.circuit basis.representatives lines
-  pub agrees : ¬ ContradictsTests basis.circuit basis.representatives basis.list lines
+  pub judges : JudgesReport v basis.content.list lines
 
 -- the line isn't one of a report after these, or contradicts the tests
-abbrev pub DeniesReport : ReportBasis → List (List ℕ) → List ℕ → JudgeError → Type 0
-DeniesReport basis before line (judge.Denied (Report number)) = (number ≡ length before + 1)
+abbrev pub IsWrongInReport : JobBasis → List (List ℕ) → List ℕ → Trouble → Type 0
+IsWrongInReport basis before line (Report number) = (number ≡ length before + 1)
     × ((¬ IsReportFront basis.circuit basis.representatives (before ++ line ∷ []))
-    ⊎ ContradictsTests basis.circuit basis.representatives basis.list (before ++ line ∷ []))
-DeniesReport basis before line (judge.Denied other) = ⊥
-DeniesReport basis before line judge.NoMemory = Unit {0}
+    ⊎ ContradictsTests basis.circuit basis.representatives basis.content.list (before ++ line ∷ []))
+IsWrongInReport basis before line other = ⊥
 
--- it is at a line of the report
-abbrev pub IsOfReport : Trouble → Type 0
-IsOfReport (Report line) = Unit {0}
-IsOfReport other = ⊥
-
--- The report of this name is that of a search which says this, and it agrees with the tests.
-pub record ReportIsRead (basis : ReportBasis) (budget : ℕ) (saids : List Said) (name : List ℕ) (old : DeskView)
-    : Type 0 where
-  pub lines : List (List ℕ)
-  pub report : IsTrueReport basis.circuit basis.representatives basis.list lines budget saids
-  pub texts : (text : List ℕ) → IsInput in_port.Report name text old
-      → (lines_of text ≡ lines) × (length text ≤ max_text_bytes)
-
--- this is the first trouble of the report of this name
-abbrev pub IsReportFileTrouble : ReportBasis → List ℕ → Trouble → Type 0
-IsReportFileTrouble basis text (Report line) =
-    IsFirst (IsReportTrouble basis.circuit basis.representatives basis.list text) line
-IsReportFileTrouble basis text other = ⊥
+-- The report of this name says its part of the basis, and one verdict for each fault, which agrees with the tests.
+pub record ReportIsRead (basis : JobBasis) (name : List ℕ) (old : DeskView) : Type 0 where
+  pub each : length basis.content.saids ≡ length (faults_of basis.circuit)
+  pub agrees : (i : ℕ) → IsOwn basis.circuit basis.representatives i
+      → AgreesWithTests basis.circuit basis.content.list i (said_at basis.content.saids i)
+  pub read : WasRead in_port.Report name (IsGoodReport basis.circuit basis.representatives basis.content) old
 
 -- ---- the proofs
 
--- the circuit, its classes, and what the report says, by which proofs are judged
-pub record ProofBasis : Type 0 where
-  pub circuit : Netlist
-  pub representatives : List ℕ
-  pub content : Content
-
-abbrev pub proof_basis : Netlist → List ℕ → Content → ProofBasis
-proof_basis c representatives content =
-    record { circuit = c; representatives = representatives; content = content }
-
 -- The judge stands for these lines of proofs, by the basis.
-pub record StandsForProofs (v : ProofJudgeView) (basis : ProofBasis) (lines : List (List ℕ)) : Type 0 where
+pub record StandsForProofs (v : ProofJudgeView) (basis : JobBasis) (lines : List (List ℕ)) : Type 0 where
   pub circuit : v.circuit ≡ basis.circuit
   pub representatives : v.representatives ≡ basis.representatives
-  pub judges : JudgesProofs v basis.content lines
-
--- The line is one of proofs after these, and no entry is wrong or missing with it.
-pub record IsFineProofLine (basis : ProofBasis) (before : List (List ℕ)) (line : List ℕ) : Type 0 where
-  pub front : IsProofFront (before ++ line ∷ [])
-  pub backed : (number : ℕ)
-      → ¬ IsFaultTrouble basis.circuit basis.representatives basis.content before line number
+  pub judges : JudgesProofs v (before_proofs basis.content) lines
 
 -- the line isn't one of proofs after these, or an entry is wrong or missing with it
-abbrev pub DeniesProofs : ProofBasis → List (List ℕ) → List ℕ → JudgeError → Type 0
-DeniesProofs basis before line (judge.Denied (Proofs number)) =
-    (number ≡ length before + 1) × IsMalformedAfter before line
-DeniesProofs basis before line (judge.Denied (Fault number)) =
-    IsFaultTrouble basis.circuit basis.representatives basis.content before line number
-DeniesProofs basis before line (judge.Denied other) = ⊥
-DeniesProofs basis before line judge.NoMemory = Unit {0}
+abbrev pub IsWrongInProofs : JobBasis → List (List ℕ) → List ℕ → Trouble → Type 0
+IsWrongInProofs basis before line (Proofs number) = (number ≡ length before + 1) × IsMalformedAfter before line
+IsWrongInProofs basis before line (Fault number) =
+    IsFaultTrouble basis.circuit basis.representatives (before_proofs basis.content) before line number
+IsWrongInProofs basis before line other = ⊥
 
--- it is at a line of the proofs, or with an entry
-abbrev pub IsOfProofs : Trouble → Type 0
-IsOfProofs (Proofs line) = Unit {0}
-IsOfProofs (Fault number) = Unit {0}
-IsOfProofs other = ⊥
-
--- The proofs of this name back what the report says.
-pub record ProofsAreRead (basis : ProofBasis) (name : List ℕ) (old : DeskView) : Type 0 where
-  pub lines : List (List ℕ)
-  pub complete : AreCompleteProofs basis.circuit basis.representatives basis.content lines
-  pub texts : (text : List ℕ) → IsInput in_port.Proofs name text old
-      → (lines_of text ≡ lines) × (length text ≤ max_text_bytes)
-
--- this is the first trouble of the proofs of this name
-abbrev pub IsProofFileTrouble : ProofBasis → List ℕ → Trouble → Type 0
-IsProofFileTrouble basis text (Proofs line) =
-    IsFirstProofLine basis.circuit basis.representatives basis.content text line
-IsProofFileTrouble basis text (Fault number) =
-    IsFirstFault basis.circuit basis.representatives basis.content text number
-IsProofFileTrouble basis text other = ⊥
+-- The proofs of this name have the entries of the content, which back what the report says; none that is needed is
+-- missing.
+pub record ProofsAreRead (c : Netlist) (representatives : List ℕ) (content : Content) (name : List ℕ) (old : DeskView)
+    : Type 0 where
+  pub backed : All (IsBacking c representatives content) content.entries
+  pub complete : (i : ℕ) → IsOwn c representatives i → NeedsEntry (said_at content.saids i)
+      → HasEntry content.entries i
+  pub read : WasRead in_port.Proofs name (AreGoodProofs c representatives content) old

@@ -1,29 +1,28 @@
 //! The command `demo`.
-ghost use Rattle.std.specs.Prelude.{◌≡◌, ◌≤◌, [], IfOk, IfErr, OnOk};
+ghost use Rattle.std.specs.Prelude.{◌≡◌, ◌≤◌, ◌∷◌, [], List, IfOk, OnOk};
 ghost use Rattle.ht_ports.specs.declared.ports.OutPort.TheVariants as out_port;
 ghost use Rattle.ht_faults.specs.Sites.{faults_of};
 ghost use Rattle.ht_collapse.specs.Classes.{AreClasses};
 ghost use Rattle.ht_demo.specs.Demo.{demo_netlist};
-ghost use Rattle.ht_engine.specs.EngineStands.{EngineStandsFor, HasSameWork};
+ghost use Rattle.ht_engine.specs.declared.step.Step as made;
+ghost use Rattle.ht_engine.specs.EngineStands.{EngineStandsFor, HasSameWork, first_of};
+ghost use Rattle.ht_engine.specs.Steps.{AreFinished};
 ghost use Rattle.ht_files.specs.Generated.{IsTotalOf};
 ghost use Rattle.ht_asked.specs.Asked as asked;
 ghost use Rattle.ht_asked.specs.declared.limits.TheConstants.{MAX_SIZE, MIN_SIZE};
-ghost use Rattle.ht_app.specs.Changed.{ChangedOnly, job_ports};
-ghost use Rattle.ht_app.specs.Demo.{HasMadeAll, IsDemoHead, demo_settings};
-ghost use Rattle.ht_app.specs.Done.{IsDone};
-ghost use Rattle.ht_app.specs.Errors.{IsOutputError};
-ghost use Rattle.ht_app.specs.Run.{HasCause};
-ghost use Rattle.ht_app.specs.Steps.{status_after};
+ghost use Rattle.ht_app.specs.Acts.{put as put_act};
+ghost use Rattle.ht_app.specs.Outputs.{SaysHead, demo_settings};
+ghost use Rattle.ht_app.specs.Steps.{EndsJob};
 
 use crate::listed::{Listed, list_faults};
-use crate::output::say;
+use crate::output::put;
 use crate::run_error::RunError;
 use ht_bench::read;
 use ht_demo::netlist_text;
 use ht_engine::{Engine, Step};
 use ht_files::write_total_of;
 use ht_net::Circuit;
-use ht_ports::Desk;
+use ht_ports::{Desk, OutPort};
 use ht_texts::write_head;
 use std::alloc::{AllocError, Global};
 
@@ -61,7 +60,8 @@ fn prepare(alloc: Global, size: u32, seed: u64) -> Result<Prepared, AllocError>
         ≡ faults_of prepared.circuit) }
     ensures classes { IfOk result (λ prepared. AreClasses prepared.circuit
         prepared.listed.classes) }
-    ensures head { IfOk result (λ prepared. IsDemoHead size seed prepared.head.items) }
+    ensures head { IfOk result (λ prepared.
+        SaysHead size seed (put_act out_port.Out prepared.head.items ∷ [])) }
 {
     let circuit = read_circuit(alloc, size, seed)?;
     let listed = list_faults(alloc, &circuit)?;
@@ -77,7 +77,8 @@ fn prepare(alloc: Global, size: u32, seed: u64) -> Result<Prepared, AllocError>
 fn make_steps(engine: &mut Engine) -> Result<(), AllocError>
     requires { EngineStandsFor engine.old [] }
     ensures work { HasSameWork engine.old engine.new }
-    ensures made { OnOk result (HasMadeAll engine.new) }
+    ensures made { OnOk result ((steps : List made.Step) × EngineStandsFor engine.new steps
+        × AreFinished engine.new.circuit engine.new.representatives (first_of engine.new) steps) }
 {
     'steps: loop {
         let step = engine.next()?;
@@ -140,19 +141,11 @@ fn find_total(alloc: Global, prepared: &Prepared, seed: u64) -> Result<Vec<u8>, 
 /// `NoMemory`, or `WriteFault`.
 pub fn demo<D: Desk>(alloc: Global, size: u32, seed: u64, desk: &mut D) -> Result<(), RunError>
     requires { (MIN_SIZE ≤ size) × (size ≤ MAX_SIZE) }
-    ensures changed { ChangedOnly (job_ports (asked.demo size seed) (status_after result))
-        (D.view desk.old) (D.view desk.new) }
-    ensures quiet { (D.view desk.new).written out_port.Err
-        ≡ (D.view desk.old).written out_port.Err }
-    ensures done { OnOk result
-        (IsDone (asked.demo size seed) (D.view desk.old) (D.view desk.new)) }
-    ensures cause { IfErr result
-        (HasCause (asked.demo size seed) (D.view desk.old) (D.view desk.new)) }
-    ensures error { IfErr result IsOutputError }
+    ensures { EndsJob (asked.demo size seed) result (D.view desk.old) (D.view desk.new) }
 {
     let prepared = prepare(alloc, size, seed)?;
-    say(desk, &prepared.head)?;
+    put(desk, OutPort::Out, &prepared.head)?;
     let total = find_total(alloc, &prepared, seed)?;
-    say(desk, &total)?;
+    put(desk, OutPort::Out, &total)?;
     Ok(())
 }

@@ -1,5 +1,5 @@
 //! The report, from its file to what it claims.
-ghost use Rattle.std.specs.Prelude.{◌≡◌, ◌++◌, ◌∷◌, [], List, Bool, ℕ, length, IsTrue, IfOk, IfErr, OnOk};
+ghost use Rattle.std.specs.Prelude.{◌≡◌, List, ℕ, length, IfOk, IfErr};
 ghost use Rattle.ht_ports.specs.Desk.{InCall};
 ghost use Rattle.ht_ports.specs.declared.ports.InPort.TheVariants as in_port;
 ghost use Rattle.ht_net.specs.Netlist.{IsCircuit};
@@ -7,8 +7,10 @@ ghost use Rattle.ht_faults.specs.Sites.{faults_of};
 ghost use Rattle.ht_collapse.specs.Classes.{AreClasses};
 ghost use Rattle.ht_grade.specs.Detections.{AreFirstDetections};
 ghost use Rattle.ht_texts.specs.SearchReports.{HasShortNames, IsBudget};
-ghost use Rattle.ht_app.specs.Inputs.{IsInput, MayHold};
-ghost use Rattle.ht_app.specs.Judging.{FileCause, IfDenied, IsOfReport, IsReportFileTrouble, ReportIsRead, report_basis};
+ghost use Rattle.ht_valid.specs.ValidFiles.{Content};
+ghost use Rattle.ht_asked.specs.Asked as asked;
+ghost use Rattle.ht_app.specs.Judging.{ReportIsRead, check_basis};
+ghost use Rattle.ht_app.specs.Steps.{ReadStops};
 
 use crate::judged_file::{LineJudge, read_lines};
 use crate::listed::Listed;
@@ -20,19 +22,15 @@ use ht_valid::Trouble;
 use std::alloc::Global;
 
 impl<'c> LineJudge for ReportJudge<'c> {
-    ghost use Rattle.std.specs.Prelude.{◌++◌, ◌∷◌, [], IsTrue};
+    ghost use Rattle.std.specs.Prelude.{IsTrue};
     ghost use Rattle.ht_valid.specs.declared.trouble.Trouble.TheVariants as trouble;
-    ghost use Rattle.ht_app.specs.Judging.{DeniesReport, IsFineReport, ReportBasis, StandsForReport};
-
-    ghost Basis = { ReportBasis };
+    ghost use Rattle.ht_app.specs.Judging.{IsWrongInReport, StandsForReport};
 
     ghost live = { λ judge. IsTrue judge.live };
 
     ghost stands = { StandsForReport };
 
-    ghost is_fine = { λ basis before line. IsFineReport basis (before ++ line ∷ []) };
-
-    ghost denies = { DeniesReport };
+    ghost is_wrong = { IsWrongInReport };
 
     ghost trouble_at = { trouble.Report };
 
@@ -65,20 +63,18 @@ pub fn read_report<D: Desk>(
     requires classes { AreClasses circuit.now listed.now.classes }
     requires each { length places.now ≡ length (faults_of circuit.now) }
     ensures frame { InCall in_port.Report (D.view desk.old) (D.view desk.new) }
-    ensures there { OnOk result (MayHold (D.view desk.old) name.now) }
     ensures budget { IfOk result (λ claims. IsBudget claims.budget) }
-    ensures read { (list : List (List Bool))
-        → AreFirstDetections circuit.now listed.now.classes list places.now
-        → IfOk result (λ claims. ReportIsRead (report_basis circuit.now listed.now.classes list)
-        claims.budget claims.saids.items name.now (D.view desk.old)) }
-    ensures trouble { (list : List (List Bool)) (text : List ℕ)
-        → AreFirstDetections circuit.now listed.now.classes list places.now
-        → HasShortNames circuit.now → IsInput in_port.Report name.now text (D.view desk.old)
-        → IfErr result (IfDenied
-        (IsReportFileTrouble (report_basis circuit.now listed.now.classes list) text)) }
-    ensures cause { (list : List (List Bool))
-        → AreFirstDetections circuit.now listed.now.classes list places.now
-        → IfErr result (FileCause name.now IsOfReport (D.view desk.old) (D.view desk.new)) }
+    ensures read { (content : Content)
+        → AreFirstDetections circuit.now listed.now.classes content.list places.now
+        → IfOk result (λ claims. content.budget ≡ claims.budget
+        → content.saids ≡ claims.saids.items → ReportIsRead
+        (check_basis circuit.now listed.now.classes content) name.now (D.view desk.old)) }
+    ensures stops { (netlist tests proofs : List ℕ) (content : Content)
+        → AreFirstDetections circuit.now listed.now.classes content.list places.now
+        → HasShortNames circuit.now
+        → IfErr result (ReadStops (asked.check netlist tests name.now proofs)
+        (check_basis circuit.now listed.now.classes content) in_port.Report name.now
+        (D.view desk.old) (D.view desk.new)) }
 {
     let mut judge = ReportJudge::new(alloc, circuit, &listed.faults, &listed.classes, places)?;
     read_lines(alloc, desk, InPort::Report, name, &mut judge)?;

@@ -1,8 +1,10 @@
 //! The command `sim`.
 ghost use Rattle.std.specs.Prelude.{◌≡◌, ◌≤◌, ◌++◌, List, ℕ, length, IfOk};
 ghost use Rattle.ht_ports.specs.LineRule.{max_text_bytes};
+ghost use Rattle.ht_ports.specs.declared.ports.OutPort.TheVariants as out_port;
 ghost use Rattle.ht_asked.specs.Asked as asked;
-ghost use Rattle.ht_app.specs.Prepared.{IsPrepared};
+ghost use Rattle.ht_app.specs.Outputs.{MakesOutput, file_acts};
+ghost use Rattle.ht_app.specs.Steps.{IsPrepared};
 ghost use Rattle.ht_app.specs.Simulation.{IsReportOf};
 
 use crate::made::Made;
@@ -42,8 +44,10 @@ pub fn simulate<D: Desk>(
     tests: &str,
     desk: &mut D,
 ) -> Result<Made, RunError>
-    ensures { (report : List ℕ) → IsPrepared (asked.sim netlist.now tests.now report) result
-        (D.view desk.old) (D.view desk.new) }
+    ensures { (report : List ℕ) → let job = asked.sim netlist.now tests.now report in
+        IsPrepared job (λ made basis. MakesOutput job basis
+        (file_acts out_port.Report report made.body.items made.total.items))
+        result (D.view desk.old) (D.view desk.new) }
 {
     let tested = read_tested(alloc, netlist, tests, u64::MAX, desk)?;
     let made = report_texts(alloc, &tested.circuit, &tested.list)?;

@@ -70,7 +70,7 @@ pub enum Job {
         /// The compacted tests to write.
         out: FileName,
     },
-    /// Says which of the netlist's faults explain the responses to the tests.
+    /// Says which of the netlist's faults aren't contradicted by the responses to the tests.
     Diagnose {
         /// The netlist to read.
         netlist: FileName,

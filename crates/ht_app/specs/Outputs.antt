@@ -1,0 +1,133 @@
+-- What each command does to its outputs.
+use Rattle.std.specs.Prelude.{◌≡◌, ◌++◌, ◌∷◌, ℕ, List, [], flat_map, codes, Some}
+use Rattle.ht_ports.specs.declared.ports.OutPort.{OutPort}
+use Rattle.ht_ports.specs.declared.ports.OutPort.TheVariants.{Tests, Report, Proofs, Out}
+use Rattle.ht_net.specs.Netlist as net
+use Rattle.ht_bench.specs.Normal.{normal_text}
+use Rattle.ht_texts.specs.Lines.{with_lf}
+use Rattle.ht_texts.specs.Reports.{head_line}
+use Rattle.ht_entries.specs.ProofLines.{line_text}
+use Rattle.ht_entries.specs.declared.proof_line.ProofLine.TheVariants.{End}
+use Rattle.ht_collapse.specs.Classes.{AreClasses}
+use Rattle.ht_valid.specs.TrueVerdicts.{AreDecided, HaveTrueVerdicts}
+use Rattle.ht_demo.specs.Demo.{demo_netlist}
+use Rattle.ht_engine.specs.declared.step.Step.{Step}
+use Rattle.ht_engine.specs.declared.step.Step.TheVariants.{Vectors, Entry, Finished}
+use Rattle.ht_engine.specs.Steps.{AreSteps, Settings, first_vectors}
+use Rattle.ht_files.specs.Generated.{IsGenerated, IsTotalOf}
+use Rattle.ht_files.specs.StepTexts.{proofs_of, proofs_so_far, step_text, tests_of}
+use Rattle.ht_asked.specs.Asked.{Asked, sim, gen, check, norm, demo, compact, diagnose}
+use Rattle.ht_words.specs.declared.job.RunFiles.{RunFiles}
+use Rattle.ht_app.specs.declared.demo.TheConstants.{DEMO_BUDGET, DEMO_RANDOM}
+use Rattle.ht_app.specs.Acts.{Act, make, put}
+use Rattle.ht_app.specs.CompactedTests.{IsCompactionOf}
+use Rattle.ht_app.specs.DiagnosisReports.{IsDiagnosisReport}
+use Rattle.ht_app.specs.Inputs.{JobBasis}
+use Rattle.ht_app.specs.Jobs.{settings_of}
+use Rattle.ht_app.specs.Simulation.{IsReportOf}
+
+-- ---- one file, and its total line on Out
+
+-- A report ends with the total line, which stands on Out before: so a report that ends with it is whole, and so is all
+-- that was written before it.
+abbrev pub ending : OutPort → List ℕ → List Act
+ending Report total = put Report total ∷ []
+ending port total = []
+
+abbrev pub file_acts : OutPort → List ℕ → List ℕ → List ℕ → List Act
+file_acts port name body total = make port name ∷ put port body ∷ put Out total ∷ ending port total
+
+-- A file of this name is written, with its total line, and they are so.
+pub record WritesFile (port : OutPort) (name : List ℕ) (AreSo : List ℕ → List ℕ → Type 0) (acts : List Act)
+    : Type 0 where
+  pub body : List ℕ
+  pub total : List ℕ
+  pub so : AreSo body total
+  pub acts_are : acts ≡ file_acts port name body total
+
+-- ---- `check`
+
+-- The files say one verdict for each fault, which is true, and what the budget is enough for is decided.
+pub record AreTrue (basis : JobBasis) : Type 0 where
+  pub classes : AreClasses basis.circuit basis.representatives
+  pub verdicts : HaveTrueVerdicts basis.circuit basis.representatives basis.content
+  pub decided : AreDecided basis.circuit basis.representatives basis.content
+
+-- ---- `gen`
+
+-- the files are made, and the proofs get their head line
+abbrev pub beginning : RunFiles → List Act
+beginning files = make Tests files.tests ∷ make Report files.report ∷ make Proofs files.proofs
+    ∷ put Proofs (proofs_so_far []) ∷ []
+
+-- a step's vectors go to the tests, its entry to the proofs
+abbrev pub step_acts : Step → List Act
+step_acts (Vectors list) = put Tests (step_text (Vectors list)) ∷ []
+step_acts (Entry fault entry) = put Proofs (step_text (Entry fault entry)) ∷ []
+step_acts Finished = []
+
+-- The steps of the generator, put one after the other.
+pub record WritesSteps (files : RunFiles) (c : net.Netlist) (settings : Settings) (acts : List Act) : Type 0 where
+  pub representatives : List ℕ
+  pub steps : List Step
+  pub classes : AreClasses c representatives
+  pub steps_are : AreSteps c representatives (first_vectors c settings) settings.budget steps
+  pub acts_are : acts ≡ beginning files ++ flat_map step_acts steps
+
+-- All steps, and then the end of the proofs and the report. The three files and the total line are those of a finished
+-- run of the generator.
+pub record WritesFiles (files : RunFiles) (c : net.Netlist) (settings : Settings) (acts : List Act) : Type 0 where
+  pub first : List Act
+  pub begun : WritesSteps files c settings first
+  pub body : List ℕ
+  pub total : List ℕ
+  pub acts_are : acts ≡ first
+      ++ put Proofs (with_lf (line_text End)) ∷ put Report body ∷ put Out total ∷ ending Report total
+  pub generated : IsGenerated c settings (tests_of begun.steps) (body ++ total) (proofs_of begun.steps) total
+
+-- ---- `demo`
+
+-- the budget of each search, how many random vectors come first, and their seed
+abbrev pub demo_settings : ℕ → Settings
+demo_settings seed = record { budget = DEMO_BUDGET; random = DEMO_RANDOM; seed = seed }
+
+-- The head line of a report on the netlist is said.
+pub record SaysHead (size seed : ℕ) (acts : List Act) : Type 0 where
+  pub representatives : List ℕ
+  pub classes : AreClasses (demo_netlist size seed) representatives
+  pub acts_are :
+      acts ≡ put Out (with_lf (head_line (demo_netlist size seed) representatives (Some DEMO_BUDGET))) ∷ []
+
+-- And then the total line of what the generator says of it.
+pub record SaysTotals (size seed : ℕ) (acts : List Act) : Type 0 where
+  pub first : List Act
+  pub total : List ℕ
+  pub head : SaysHead size seed first
+  pub total_is : IsTotalOf (demo_netlist size seed) (demo_settings seed) total
+  pub acts_are : acts ≡ first ++ put Out total ∷ []
+
+-- ---- all commands
+
+-- What a command does to its outputs, once its inputs say the basis.
+abbrev pub MakesOutput : Asked → JobBasis → List Act → Type 0
+MakesOutput (sim netlist tests report) basis acts =
+    WritesFile Report report (λ body total. IsReportOf basis.circuit basis.content.list (body ++ total) total) acts
+MakesOutput (gen netlist tests report proofs options) basis acts =
+    WritesFiles (record { netlist = netlist; tests = tests; report = report; proofs = proofs }) basis.circuit
+    (settings_of options) acts
+MakesOutput (check netlist tests report proofs) basis acts = AreTrue basis × (acts ≡ put Out (codes "valid\n") ∷ [])
+MakesOutput (norm netlist out) basis acts = acts ≡ make Report out ∷ put Report (normal_text basis.circuit) ∷ []
+MakesOutput (demo size seed) basis acts = SaysTotals size seed acts
+MakesOutput (compact netlist tests out) basis acts =
+    WritesFile Tests out (IsCompactionOf basis.circuit basis.content.list) acts
+MakesOutput (diagnose netlist tests responses out) basis acts =
+    WritesFile Report out
+    (λ body total. IsDiagnosisReport basis.circuit basis.content.list basis.rows (body ++ total) total) acts
+
+-- What it does while it may still ask for memory.
+abbrev pub BeginsOutput : Asked → JobBasis → List Act → Type 0
+BeginsOutput (gen netlist tests report proofs options) basis acts =
+    WritesSteps (record { netlist = netlist; tests = tests; report = report; proofs = proofs }) basis.circuit
+    (settings_of options) acts
+BeginsOutput (demo size seed) basis acts = SaysHead size seed acts
+BeginsOutput job basis acts = ⊥
