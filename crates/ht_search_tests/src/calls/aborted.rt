@@ -105,14 +105,48 @@ fn back_open(alloc: Global, row: Option<&[Token]>) -> Result<Option<Aim>, AllocE
     }
 }
 
+/// What an entry has.
+#[derive(Drop)]
+struct Parts {
+    told: Items<Told>,
+    walk: Option<Items<Token>>,
+    aim: Option<Aim>,
+    sweep: Items<Items<Token>>,
+}
+
+impl Parts {
+    fn new(alloc: Global) -> Parts {
+        Parts {
+            told: Items::new(alloc),
+            walk: None,
+            aim: None,
+            sweep: Items::new(alloc),
+        }
+    }
+
+    fn fill(&mut self, alloc: Global, record: Record) -> Result<(), AllocError> {
+        let (told, last, aim, sweep) = record;
+        self.told = frames(alloc, told)?;
+        self.walk = walk(alloc, last)?;
+        self.aim = back_open(alloc, aim)?;
+        self.sweep = walks(alloc, sweep)?;
+        Ok(())
+    }
+
+    fn entry(self) -> Entry {
+        Entry::Aborted {
+            told: self.told,
+            walk: self.walk,
+            aim: self.aim,
+            sweep: self.sweep,
+        }
+    }
+}
+
 fn aborted(alloc: Global, record: Record) -> Result<Entry, AllocError> {
-    let (told, last, aim, sweep) = record;
-    Ok(Entry::Aborted {
-        told: frames(alloc, told)?,
-        walk: walk(alloc, last)?,
-        aim: back_open(alloc, aim)?,
-        sweep: walks(alloc, sweep)?,
-    })
+    let mut parts = Parts::new(alloc);
+    parts.fill(alloc, record)?;
+    Ok(parts.entry())
 }
 
 fn is_as_said(alloc: Global, row: Row) -> Result<bool, Fail> {

@@ -11,14 +11,14 @@ use std::alloc::{AllocError, Global};
 use std::test::Fail;
 
 // Flip-flops are items 0 to 2, and gates 3 to 12.
-const ORDERS: [[u32; 13]; 3] = [
-    [0, 1, 2, 3, 4, 5, 6, 7, 8, 9, 10, 11, 12],
-    [12, 11, 10, 9, 8, 7, 6, 5, 4, 3, 2, 1, 0],
-    [6, 12, 0, 7, 11, 1, 8, 10, 2, 9, 5, 3, 4],
+const ORDERS: &[&[u32]] = &[
+    &[0, 1, 2, 3, 4, 5, 6, 7, 8, 9, 10, 11, 12],
+    &[12, 11, 10, 9, 8, 7, 6, 5, 4, 3, 2, 1, 0],
+    &[6, 12, 0, 7, 11, 1, 8, 10, 2, 9, 5, 3, 4],
 ];
 
 // With all inputs 1: G14 = 0, so G8 = 0; G12 = 0, so G15 = 0 and G9 = 1; so G11 = 0, and G17 = G10 = 1.
-const SETTLED: [Tern; 17] = [
+const SETTLED: &[Tern] = &[
     One, One, One, One, Unk, Unk, Unk, Zero, One, Zero, Zero, One, One, One, Zero, Zero, Zero,
 ];
 
@@ -139,7 +139,7 @@ fn settles(
 fn a_frame_of_s27_settles_in_every_order(rt: HostRuntime) -> Result<(), Fail> {
     let circuit = read(rt.alloc(), S27)?;
     for order in ORDERS {
-        assert!(&rt; settles(rt.alloc(), &circuit, &order, &SETTLED)?);
+        assert!(&rt; settles(rt.alloc(), &circuit, *order, SETTLED)?);
     }
     Ok(())
 }

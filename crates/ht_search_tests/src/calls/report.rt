@@ -8,7 +8,7 @@ use ht_texts::{Item, ReportReader, Said};
 use std::alloc::{AllocError, Global};
 use std::test::Fail;
 
-const REPORT: [&[u8]; 12] = [
+const REPORT: &[&[u8]; 12] = &[
     b"circuit inputs 1 outputs 1 flip-flops 0 gates 2 faults 10 classes 6 budget 1000",
     b"1 a s-a-0 untestable",
     b"2 a s-a-1 untestable",
@@ -24,7 +24,7 @@ const REPORT: [&[u8]; 12] = [
 ];
 
 /// A line from 1, what stands there in its place, and the line that is malformed then; 0 where none is.
-const DAMAGES: [(u64, &[u8], u64); 24] = [
+const DAMAGES: &[(u64, &[u8], u64)] = &[
     (0, b"", 0),
     (
         1,
@@ -112,17 +112,22 @@ fn malformed_line(
 #[test]
 fn a_damaged_line_is_malformed(rt: HostRuntime) -> Result<(), Fail> {
     let circuit = circuit_of(rt.alloc(), ALWAYS_ZERO)?;
-    for (line, text, malformed) in DAMAGES {
+    for row in DAMAGES {
+        let (line, text, malformed) = *row;
         assert!(rt; malformed_line(rt.alloc(), &circuit, 12, (line, text))? == malformed);
     }
     Ok(())
 }
 
-// A text that ends too early is malformed at the line after its last, and a line after the total is one too many.
+/// How many lines there are, and the line that is malformed; 0 where none is. A text that ends too early is malformed at
+/// the line after its last, and a line after the total is one too many.
+const LENGTHS: &[(usize, u64)] = &[(0, 1), (1, 2), (11, 12), (12, 0), (13, 13)];
+
 #[test]
 fn a_missing_line_is_malformed(rt: HostRuntime) -> Result<(), Fail> {
     let circuit = circuit_of(rt.alloc(), ALWAYS_ZERO)?;
-    for (count, malformed) in [(0, 1), (1, 2), (11, 12), (12, 0), (13, 13)] {
+    for row in LENGTHS {
+        let (count, malformed) = *row;
         assert!(rt; malformed_line(rt.alloc(), &circuit, count, (0, b""))? == malformed);
     }
     Ok(())

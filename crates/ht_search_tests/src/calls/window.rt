@@ -4,6 +4,7 @@
 //! set 1 and 2 are the good halves of q and r, and 3 and 4 their faulty halves. In the toggle net 0 and variable 0 are
 //! q, and net 1 is n.
 ghost use Rattle.std.specs.Prelude.{◌≤◌};
+ghost use Rattle.ht_tree.specs.Variables.{IsLegalChoice};
 ghost use Rattle.ht_tree.specs.Windows.{IsStart};
 ghost use Rattle.ht_window.specs.Starts.{start_of};
 
@@ -155,15 +156,22 @@ const TOGGLED: &[Row] = &[
     (From::Cube(1, &[One]), &[true], THREE_0, Dead),
 ];
 
+/// Decides a variable that the window may choose.
+fn decide(window: &mut Window<'_>, choice: Choice, value: bool) -> Result<(), AllocError>
+    requires { IsLegalChoice window.old.window window.old.decisions choice }
+{
+    match choice {
+        Choice::Two { var, .. } => window.decide(var, Tern::from(value)),
+        Choice::Three { var } => window.decide(var, Tern::from(value)),
+    }
+}
+
 /// Decides the variable that the window chooses, where its status is open, and says which one it was.
 fn go_on(window: &mut Window<'_>, value: bool) -> Result<Option<Choice>, AllocError> {
     match window.status() {
         Open => {
             let choice = window.pick();
-            match choice {
-                Choice::Two { var, .. } => window.decide(var, Tern::from(value))?,
-                Choice::Three { var } => window.decide(var, Tern::from(value))?,
-            }
+            decide(window, choice, value)?;
             Ok(Some(choice))
         }
         Dead | Status::Sure { .. } => Ok(None),

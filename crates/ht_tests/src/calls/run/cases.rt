@@ -85,6 +85,12 @@ fn is_left(desk: &MemoryDesk, end: &End<'_>) -> bool {
     desk.file("r") == end.file && desk.out() == end.out && desk.err() == end.err
 }
 
+/// The status of the run with these words.
+pub fn status_of(alloc: Global, desk: &mut MemoryDesk, words: &[&str]) -> Result<u8, AllocError> {
+    let words = words_of(alloc, words)?;
+    Ok(run(alloc, &words, desk))
+}
+
 /// The status of the run, over a desk without files.
 pub fn status_on(
     alloc: Global,
@@ -92,8 +98,7 @@ pub fn status_on(
     start: &Setup<'_>,
 ) -> Result<u8, AllocError> {
     load(desk, start)?;
-    let words = words_of(alloc, start.words)?;
-    Ok(run(alloc, &words, desk))
+    status_of(alloc, desk, start.words)
 }
 
 /// Whether the run comes out as it must, over a desk without these files.

@@ -1,11 +1,12 @@
 //! `check`: valid files, and the first trouble of others.
 
-use super::cases::words_of;
-use ht_app::run;
+use super::cases::status_of;
 use ht_ports::MemoryDesk;
 use ht_samples::{ALWAYS_ZERO, TOGGLE, WIRES};
 use std::alloc::{AllocError, Global};
 use std::test::Fail;
+
+const CHECK: &[&str] = &["check", "n", "t", "r", "p"];
 
 // The four files; a report that isn't there can't be opened.
 #[derive(Drop)]
@@ -48,9 +49,8 @@ fn answers_on(
     files: &Files<'_>,
     answer: Answer<'_>,
 ) -> Result<bool, AllocError> {
-    let words = words_of(alloc, &["check", "n", "t", "r", "p"])?;
     load(desk, files)?;
-    let status = run(alloc, &words, desk);
+    let status = status_of(alloc, desk, CHECK)?;
     Ok(status == answer.0 && says(desk, answer))
 }
 

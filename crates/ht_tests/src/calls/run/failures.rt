@@ -1,11 +1,10 @@
 //! `gen`, where one call of the desk after the other fails: the status, and what stands then.
 ghost use Rattle.std.specs.Prelude.{◌≢◌};
 
-use super::cases::words_of;
+use super::cases::status_of;
 use super::checked::{ZERO_PROOFS, ZERO_REPORT};
 use super::generated::GEN;
 use super::memory::line_at;
-use ht_app::run;
 use ht_ports::{Fail as Plan, InPort, MemoryDesk, OutPort};
 use ht_samples::{ALWAYS_ZERO, S27};
 use std::alloc::{AllocError, Global};
@@ -70,8 +69,7 @@ fn status_on(
 {
     desk.put("n", netlist)?;
     desk.pieces(most);
-    let words = words_of(alloc, GEN)?;
-    Ok(run(alloc, &words, desk))
+    status_of(alloc, desk, GEN)
 }
 
 // Plans that this call fails, and on a mute desk that the line on Err fails.

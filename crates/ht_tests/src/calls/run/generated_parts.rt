@@ -1,8 +1,7 @@
 //! `gen` finishes, where only parts of the files are known.
 
-use super::cases::words_of;
+use super::cases::status_of;
 use super::generated::GEN;
-use ht_app::run;
 use ht_ports::MemoryDesk;
 use ht_samples::{S27, SHIFT_REGISTER, TWINS};
 use std::alloc::{AllocError, Global};
@@ -58,8 +57,7 @@ fn is_left(desk: &MemoryDesk, known: &Known<'_>) -> bool {
 
 fn holds_on(alloc: Global, desk: &mut MemoryDesk, known: &Known<'_>) -> Result<bool, AllocError> {
     desk.put("n", known.netlist)?;
-    let words = words_of(alloc, known.words)?;
-    let status = run(alloc, &words, desk);
+    let status = status_of(alloc, desk, known.words)?;
     Ok(status == 0 && is_left(desk, known))
 }
 

@@ -1,9 +1,8 @@
 //! Refused memory. In the gate no allocation is refused; outside it these tests run with each of their allocations
 //! refused in turn (`rt try --test --fail-alloc N`).
 
-use super::cases::{SIM, Setup, load, words_of};
-use super::mute::MuteDesk;
-use ht_app::run;
+use super::cases::{SIM, Setup, status_on};
+use super::mute::{MuteDesk, mute_status_on};
 use ht_ports::MemoryDesk;
 use ht_samples::{SHIFT_REGISTER, SHIFT_REGISTER_REPORT};
 use std::alloc::{AllocError, Global};
@@ -29,9 +28,7 @@ pub fn line_at(status: u8) -> Option<&'static [u8]> {
 
 // Whether the run says its status in its line, and leaves the report where it finishes.
 fn says_status(alloc: Global, desk: &mut MemoryDesk) -> Result<bool, AllocError> {
-    load(desk, &START)?;
-    let words = words_of(alloc, START.words)?;
-    let status = run(alloc, &words, desk);
+    let status = status_on(alloc, desk, &START)?;
     let is_whole = status != 0 || desk.file("r") == Some(SHIFT_REGISTER_REPORT);
     Ok(is_whole && line_at(status) == Some(desk.err()))
 }
@@ -50,9 +47,7 @@ fn refused_memory_has_its_status(rt: HostRuntime) -> Result<(), Fail> {
 // Whether the status is that of a failed write exactly where a write of the output failed, and not where that of the
 // line on Err did.
 fn keeps_status(alloc: Global, desk: &mut MuteDesk) -> Result<bool, AllocError> {
-    load(&mut desk.inner, &START)?;
-    let words = words_of(alloc, START.words)?;
-    let status = run(alloc, &words, desk);
+    let status = mute_status_on(alloc, desk, &START)?;
     let is_whole = status != 0 || desk.inner.file("r") == Some(SHIFT_REGISTER_REPORT);
     Ok(is_whole && (status == 5) == desk.output_failed && line_at(status).is_some())
 }

@@ -78,6 +78,17 @@ fn is_left(desk: &MuteDesk, status: u8) -> bool {
     desk.out_faults == faults && desk.inner.err().is_empty() && desk.inner.file("r") == report
 }
 
+/// The status of the run, over a mute desk without files.
+pub fn mute_status_on(
+    alloc: Global,
+    desk: &mut MuteDesk,
+    start: &Setup<'_>,
+) -> Result<u8, AllocError> {
+    load(&mut desk.inner, start)?;
+    let words = words_of(alloc, start.words)?;
+    Ok(run(alloc, &words, desk))
+}
+
 // Whether the run has this status over the mute desk, and leaves what it may.
 fn ends_on(
     alloc: Global,
@@ -85,9 +96,7 @@ fn ends_on(
     start: &Setup<'_>,
     status: u8,
 ) -> Result<bool, AllocError> {
-    load(&mut desk.inner, start)?;
-    let words = words_of(alloc, start.words)?;
-    Ok(run(alloc, &words, desk) == status && is_left(desk, status))
+    Ok(mute_status_on(alloc, desk, start)? == status && is_left(desk, status))
 }
 
 fn ends_with(alloc: Global, start: &Setup<'_>, status: u8) -> Result<bool, AllocError> {
