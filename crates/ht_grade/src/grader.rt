@@ -89,7 +89,7 @@ impl<'c> Grader<'c> {
     /// Adds vectors after those so far, and finds what they detect.
     ///
     /// # Errors
-    /// Out of memory, or there would be more than 2^62 vectors; nothing has changed, but each later call says so too.
+    /// Out of memory, or there would be more than 2^62 vectors; nothing has changed.
     pub fn apply(&mut self, alloc: Global, list: &Vectors) -> Result<(), AllocError>
         requires { list.now.width ≡ self.old.circuit.inputs }
         ensures added { OnOk result
