@@ -491,6 +491,41 @@ class OneFrameWindow(Window):
         return difference_status(outputs + [state for j, state in enumerate(states) if j not in self.z])
 
 
+def meets(values, clause):
+    """Whether some literal of a clause, a flip-flop and a bit, has its bit among values by flip-flop."""
+    return any(values(j) == bit for j, bit in clause)
+
+
+def breaks(values, clause):
+    """Whether every literal of a clause has the other bit."""
+    return all(values(j) == 1 - bit for j, bit in clause)
+
+
+class ClauseWindow(OneFrameWindow):
+    """A one-frame window under clauses on the good latches, which every state that counts meets: a path that breaks one is
+    dead, and none is sure before it meets them all. Where a clause is given to be broken, its next states with the other
+    bits are looked for in place of a difference, in the good machine."""
+
+    def __init__(self, circuit, fault, z, clauses, broken=None):
+        super().__init__(circuit, fault, z)
+        self.clauses, self.broken = clauses, broken
+
+    def breach_status(self, path):
+        _, states = self.sets_after(path)
+        wanted = [(states[j], ALIKE[1 - bit]) for j, bit in self.broken]
+        if any(not state & want for state, want in wanted):
+            return DEAD
+        return SURE if all(state == want for state, want in wanted) else OPEN
+
+    def status(self, path):
+        decided = lambda j: path.get(self.circuit.inputs + j)
+        if any(breaks(decided, clause) for clause in self.clauses):
+            return DEAD
+        status = super().status(path) if self.broken is None else self.breach_status(path)
+        met = all(meets(decided, clause) for clause in self.clauses)
+        return OPEN if status is SURE and not met else status
+
+
 class BackWindow(Window):
     """One frame of the good machine, after which the latches are to have the values of a cube, where it has one; at most
     `limit` frames, this one among them, may lead there. Variable n + j is latch j, which may be unknown too."""
@@ -602,8 +637,8 @@ class Entry:
 
     def __init__(self, number, kind):
         self.number, self.kind = number, kind
-        self.z, self.told, self.sweep = [], [], []
-        self.walk, self.aim = None, None
+        self.z, self.told, self.sweep, self.clauses = [], [], [], []
+        self.walk, self.aim, self.state = None, None, None
 
 
 def told_set(circuit, fault, z, told):
@@ -699,8 +734,31 @@ def is_sweep(circuit, fault, budget, walks):
     )
 
 
+class Clause(NamedTuple):
+    """A clause on latches: its literals, each a flip-flop and a bit, and the walk of its closing window."""
+
+    literals: list
+    tokens: list
+
+
+def is_invariant(circuit, state, clauses):
+    """The state has a bit for each flip-flop and meets 1 to 32 clauses, and from a state that meets them no frame leads to
+    one that doesn't."""
+    literals = [clause.literals for clause in clauses]
+    known = all(j < circuit.flip_flops for clause in literals for j, _ in clause)
+    if len(state) != circuit.flip_flops or not 1 <= len(clauses) <= MAX_CLAUSES or not known:
+        return False
+    return all(meets(lambda j: state[j], clause) for clause in literals) and all(
+        is_complete(ClauseWindow(circuit, None, [], literals, clause.literals), clause.tokens) for clause in clauses
+    )
+
+
 def passes(circuit, fault, budget, entry):
     """Whether an entry shows what it says of its fault."""
+    if entry.state is not None:
+        known = all(j < circuit.flip_flops for j in entry.z)
+        window = ClauseWindow(circuit, fault, entry.z, [clause.literals for clause in entry.clauses])
+        return known and is_invariant(circuit, entry.state, entry.clauses) and is_complete(window, entry.walk)
     if entry.kind == b"untestable":
         known = all(j < circuit.flip_flops for j in entry.z)
         return known and is_complete(OneFrameWindow(circuit, fault, entry.z), entry.walk)
@@ -719,12 +777,16 @@ def passes(circuit, fault, budget, entry):
 # ---- the text of proofs
 
 MAX_NUMBER = 4_294_967_295
+MAX_CLAUSES = 32
 N, BITS = rb"([1-9][0-9]{0,9})", rb"(-|[01]{1,4096})"
 LINES = [
     (kind, re.compile(pattern))
     for kind, pattern in [
-        ("proofs", rb"proofs 1"),
+        ("proofs", rb"proofs ([12])"),
         ("entry", rb"entry " + N + rb" (untestable|aborted)"),
+        ("from", rb"entry " + N + rb" untestable from ([01]{1,16384})"),
+        ("clause", rb"clause " + N + rb" ([01])"),
+        ("clause", rb"clause " + N + rb" ([01]) " + N + rb" ([01])"),
         ("z", rb"z " + N),
         ("walk", rb"walk"),
         ("token", rb"(lo|hi|x) " + N),
@@ -742,12 +804,15 @@ LINES = [
 ]
 # Which lines may come where: by what was read last, the lines that may follow. A walk is one of a refutation or of an
 # aborted entry.
-ENDS_ENTRY = {"entry", "end"}
+ENDS_ENTRY = {"entry", "from", "end"}
 FOLLOWS = {
     "nothing": {"proofs"},
     "proofs": ENDS_ENTRY,
     "untestable": {"z", "walk"},
     "refutation": {"token"} | ENDS_ENTRY,
+    "from": {"clause"},
+    "clause": {"clause", "token", "z", "walk"},
+    "late z": {"z", "walk"},
     "aborted": {"frame", "walk", "aim", "sweep"},
     "frame": {"set", "frame", "walk", "aim", "sweep"},
     "walk": {"token", "aim", "sweep"},
@@ -764,12 +829,17 @@ class Malformed(Exception):
     """A line that no proofs text has there."""
 
 
+def is_bits(kind, at):
+    """Whether a part of a line is a list of bits, whose length counts."""
+    return kind in ("justify", "ahead") or (kind, at) == ("from", 1)
+
+
 def parse_line(line):
     """The kind of a line and its parts: numbers as such, words and bits as bytes."""
     for kind, pattern in LINES:
         match = pattern.fullmatch(line)
         if match:
-            parts = [int(part) if kind not in ("justify", "ahead") and part.isdigit() else part for part in match.groups()]
+            parts = [part if is_bits(kind, at) or not part.isdigit() else int(part) for at, part in enumerate(match.groups())]
             if any(isinstance(part, int) and part > MAX_NUMBER for part in parts):
                 raise Malformed
             return kind, parts
@@ -786,7 +856,7 @@ class ProofReader:
     """Reads a proofs text line by line."""
 
     def __init__(self):
-        self.stands, self.entry, self.tokens, self.last = "nothing", None, None, 0
+        self.stands, self.entry, self.tokens, self.last, self.format = "nothing", None, None, 0, 0
 
     def take(self, line):
         """Takes a line, or raises Malformed. The number of the entry that it begins (None for `end`), and the entry that
@@ -800,18 +870,29 @@ class ProofReader:
         self.stands = getattr(self, "take_" + kind)(*parts) or kind
         return ended
 
-    def take_proofs(self):
-        pass
+    def take_proofs(self, number):
+        self.format = number
 
     def take_entry(self, number, kind):
         require(number > self.last)
         self.last, self.entry = number, Entry(number, kind)
         return kind.decode()
 
+    def take_from(self, number, bits):
+        require(self.format == 2)
+        self.take_entry(number, b"untestable")
+        self.entry.state = [bit - ord("0") for bit in bits]
+
+    def take_clause(self, *parts):
+        literals = [(j - 1, bit) for j, bit in zip(parts[0::2], parts[1::2])]
+        require(len(self.entry.clauses) < MAX_CLAUSES and (len(literals) == 1 or literals[0][0] < literals[1][0]))
+        self.tokens = []
+        self.entry.clauses.append(Clause(literals, self.tokens))
+
     def take_z(self, j):
         require(not self.entry.z or j - 1 > self.entry.z[-1])
         self.entry.z.append(j - 1)
-        return "untestable"
+        return "untestable" if self.entry.state is None else "late z"
 
     def take_walk(self):
         self.tokens = self.entry.walk = []

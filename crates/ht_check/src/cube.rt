@@ -35,8 +35,8 @@ impl Met {
         }
     }
 
-    // Of a latch that is wanted at a value, where the next state has this set.
-    fn wanted(value: Tern, set: PairSet) -> Met
+    /// Of a latch that is wanted at a value, where the next state has this set.
+    pub fn wanted(value: Tern, set: PairSet) -> Met
         ensures { result ≡ met_in (record { value = value; set = set } ∷ []) }
     {
         let may = set.has(value, value);
@@ -58,8 +58,8 @@ impl Met {
         }
     }
 
-    // Of these latches and others.
-    fn and(self, others: Met) -> Met
+    /// Of these latches and others.
+    pub fn and(self, others: Met) -> Met
         ensures { result ≡ in_both self others }
     {
         Met {
@@ -69,8 +69,8 @@ impl Met {
         }
     }
 
-    // The status of a window that looks for such a cube, with so many frames left.
-    fn status(self, limit: u32) -> Status3
+    /// The status of a window that looks for such a cube, with so many frames left.
+    pub fn status(self, limit: u32) -> Status3
         ensures { result ≡ status_by_met self limit }
     {
         if !self.some {

@@ -1,6 +1,7 @@
 //! Windows of every kind, whose frames settle at each node.
 ghost use Rattle.std.specs.Prelude.{◌≡◌, ◌<◌, ℕ, List, length, get_or, true, IfOk};
-ghost use Rattle.std.specs.List.{list_all};
+ghost use Rattle.std.specs.List.{All, list_all};
+ghost use Rattle.std.specs.Prelude.{[]};
 ghost use Rattle.ht_tern.specs.declared.tern.Tern.{Tern};
 ghost use Rattle.ht_pairs.specs.Pairs.{differs};
 ghost use Rattle.ht_tree.specs.Counts.{seeks_difference};
@@ -10,8 +11,11 @@ ghost use Rattle.ht_tree.specs.Nodes.{judge_of, may_go_before, window_at};
 ghost use Rattle.ht_tree.specs.Walks.{path_of};
 ghost use Rattle.ht_tree.specs.WindowStatus.{status_at, without_place};
 ghost use Rattle.ht_tree.specs.Windows.{IsStart, back, back_window, forward_window, one_frame_window, sweep_window, token_weight};
+ghost use Rattle.ht_tree.specs.Clauses.{IsClause, literals_of, literals_of_each};
+ghost use Rattle.ht_tree.specs.ClauseWindows.{breach_status, good_window, open_if_sure, under_clauses};
 ghost use Rattle.ht_check.specs.FreshStarts.{IsStartOf, fresh_start};
 
+use crate::clauses::{breach_status, breaks_any, meets_each};
 use crate::cube::{cube_status, decided_cube, enter_node, wants_any};
 use crate::decisions::write_decisions;
 use crate::frame_sets::{FrameSets, run_frames};
@@ -20,7 +24,7 @@ use crate::judged::JudgedWindow;
 use crate::kept_frames::KeptFrames;
 use ht_net::Fault;
 use ht_tern::Tern;
-use ht_tree::{Assign3, Spot, Status3, WalkNode};
+use ht_tree::{Assign3, Clause, Spot, Status3, WalkNode};
 use std::alloc::{AllocError, Global};
 use std::marker::Model;
 
@@ -99,6 +103,23 @@ impl<'c, 's> FreshWindow<'c, 's> {
         FreshWindow::new(alloc, kept, Some(fault), 1, start)
     }
 
+    /// One frame of the good machine alone, from any state of bits. The set of flip-flops that it is made with is empty.
+    ///
+    /// # Errors
+    /// Out of memory.
+    pub fn good(
+        alloc: Global,
+        kept: KeptFrames<'c>,
+        z: &'s [u32],
+    ) -> Result<FreshWindow<'c, 's>, AllocError>
+        requires { z.now ≡ [] }
+        ensures { IfOk result (λ window. window ≡ good_window kept.entry.circuit) }
+    {
+        let marks = marks_of(alloc, z, kept.circuit().dffs() as usize)?;
+        let start = FreshStart::OneFrame { z, marks };
+        FreshWindow::new(alloc, kept, None, 1, start)
+    }
+
     /// So many frames of a fault, from all-unknown.
     ///
     /// # Errors
@@ -164,8 +185,8 @@ impl<'c, 's> FreshWindow<'c, 's> {
 }
 
 impl<'c, 's> FreshWindow<'c, 's> {
-    // The status of a window that looks for a difference, at a path.
-    fn difference_status(&mut self, path: &[Assign3]) -> Status3
+    /// The status of a window that looks for a difference, at a path.
+    pub fn difference_status(&mut self, path: &[Assign3]) -> Status3
         requires { seeks_difference self.old.start ≡ true }
         ensures status { result ≡ without_place (status_at self.old path.now) }
         ensures same { self.new ≡ self.old }
@@ -189,6 +210,43 @@ impl<'c, 's> FreshWindow<'c, 's> {
         self.frame.begin(&self.start, &self.decisions);
         self.frame.run(&self.decisions, 0, 0);
         self.frame.must_differ(place)
+    }
+
+    /// The status of a window of one frame in which a next state is looked for that doesn't meet a clause, at a path.
+    pub fn breach_status(&mut self, path: &[Assign3], clause: &Clause) -> Status3
+        requires one { self.old.frames ≡ 1 }
+        requires known { IsClause self.old.circuit clause.now }
+        ensures status { result ≡ breach_status self.old path.now (literals_of clause.now) }
+        ensures same { self.new ≡ self.old }
+    {
+        write_decisions(&mut self.decisions, path);
+        self.frame.begin(&self.start, &self.decisions);
+        self.frame.run(&self.decisions, 0, 0);
+        breach_status(self.frame.latches(), clause)
+    }
+
+    /// What clauses make of the status of a window of one frame, at a path.
+    pub fn under_clauses(
+        &mut self,
+        path: &[Assign3],
+        clauses: &[Clause],
+        sought: Status3,
+    ) -> Status3
+        requires one { self.old.frames ≡ 1 }
+        requires known { All (IsClause self.old.circuit) clauses.now }
+        ensures status { result
+            ≡ under_clauses self.old.circuit path.now (literals_of_each clauses.now) sought }
+        ensures same { self.new ≡ self.old }
+    {
+        write_decisions(&mut self.decisions, path);
+        let first = self.frame.circuit().inputs();
+        if breaks_any(&self.decisions, first, clauses) {
+            return Status3::Dead;
+        }
+        if meets_each(&self.decisions, first, clauses) {
+            return sought;
+        }
+        open_if_sure(sought)
     }
 
     /// Whether a variable may be decided to two values.
@@ -253,6 +311,16 @@ impl<'c, 's> FreshWindow<'c, 's> {
         let circuit = self.frame.circuit();
         let inputs = circuit.inputs();
         inputs <= var && var < inputs + circuit.dffs()
+    }
+}
+
+// A status that clauses which aren't met leave: what is sure isn't sure yet.
+fn open_if_sure(status: Status3) -> Status3
+    ensures { result ≡ open_if_sure status }
+{
+    match status {
+        Status3::Dead => Status3::Dead,
+        Status3::Sure | Status3::Open => Status3::Open,
     }
 }
 

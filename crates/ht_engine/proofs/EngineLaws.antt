@@ -17,20 +17,20 @@ use Rattle.ht_faults.specs.FaultList.{no_fault}
 use Rattle.ht_collapse.specs.Classes.{fault_at}
 use Rattle.ht_grade.specs.GraderView.{GraderView}
 use Rattle.ht_tree.specs.declared.entry.Entry as recorded
-use Rattle.ht_tree.specs.declared.entry.Entry.TheVariants as entry
+use Rattle.ht_tree.specs.declared.kind.EntryKind.{EntryKind}
+use Rattle.ht_tree.specs.declared.kind.EntryKind.TheVariants as kind
+use Rattle.ht_tree.specs.Entries.{kind_of}
 use Rattle.ht_tree.specs.Entries.{Passes}
 use Rattle.ht_tree.specs.Reached.{AreVectors}
 use Rattle.ht_entries.specs.declared.numbered.Numbered.{Numbered}
 use Rattle.ht_valid.specs.ValidFiles.{HasEntry, IsOwn}
 use Rattle.ht_random.proofs.RandomVectorLaws.{random_vectors_count}
-use Rattle.ht_engine.specs.declared.engine.EntryKind.{EntryKind}
-use Rattle.ht_engine.specs.declared.engine.EntryKind.TheVariants.{Refuted, GivenUp}
 use Rattle.ht_engine.specs.declared.step.Step.{Step}
 use Rattle.ht_engine.specs.declared.step.Step.TheVariants.{Vectors, Entry, Finished}
 use Rattle.ht_engine.specs.declared.work.Work.{Work}
 use Rattle.ht_engine.specs.EngineOf.{IsEngine}
-use Rattle.ht_engine.specs.EngineStands.{AllPass, EngineStandsFor, EngineView, HasSameWork, IsKindIn, IsOfKind, IsSaid, Makes, MakesStep, MeansOfStep, first_of, kind_at, remaining}
-use Rattle.ht_engine.specs.OneStep.{Advances, Ends, GivesEntry, GivesList, GivesRandom, IsNextUndetected, IsUndetected, kind_of_entry, said_by}
+use Rattle.ht_engine.specs.EngineStands.{AllPass, EngineStandsFor, EngineView, HasSameWork, IsKindIn, IsSaid, Makes, MakesStep, MeansOfStep, first_of, kind_at, remaining}
+use Rattle.ht_engine.specs.OneStep.{Advances, Ends, GivesEntry, GivesList, GivesRandom, IsNextUndetected, IsUndetected, said_by}
 use Rattle.ht_engine.specs.Steps.{AwaitsVerdict, Follows, IsNextFault, entries_of, one_more, one_vector, vectors_of_steps}
 use Rattle.ht_engine.proofs.StepLaws.{awaited_before, contains_last, entries_more, entries_with_list, has_cases, has_last, numbered, vectors_more, vectors_with_entry}
 
@@ -216,10 +216,6 @@ module _ (e new : EngineView) (steps : List Step) (s : EngineStandsFor e steps) 
 
 -- ---- an entry
 
-pub kind_fits : (e : recorded.Entry) → IsOfKind (kind_of_entry e) e
-kind_fits (entry.Untestable z tokens) = tt
-kind_fits (entry.Aborted told walk aim sweep) = tt
-
 -- the entry of another fault changes nothing
 kind_stays : (entries : List Numbered) (fault : ℕ) (made : recorded.Entry) (i : ℕ) → i ≢ fault
     → (kind : Option EntryKind) → IsKindIn entries i kind → IsKindIn (entries ++ numbered fault made ∷ []) i kind
@@ -244,20 +240,20 @@ module _ (e new : EngineView) (steps : List Step) (s : EngineStandsFor e steps) 
   })
 
   abbrev kinds_now : List (Option EntryKind)
-  kinds_now = set e.kinds fault (Some (kind_of_entry made))
+  kinds_now = set e.kinds fault (Some (kind_of made))
 
   kinds_more : (i : ℕ) → i < length e.representatives
       → IsKindIn (entries_of steps ++ numbered fault made ∷ []) i (get_or kinds_now i None)
   kinds_more i l = elim (eqb_tells i fault) [
     | inl t ↦
-        let kind = Some (kind_of_entry made) in
+        let kind = Some (kind_of made) in
         subst (λ (k : ℕ). IsKindIn (entries_of steps ++ numbered fault made ∷ []) k (get_or kinds_now k None))
         (sym t.1) (subst (IsKindIn (entries_of steps ++ numbered fault made ∷ []) fault)
         (sym (get_or-set_same e.kinds fault kind None g.room))
-        (made, contains_last (entries_of steps) (numbered fault made), kind_fits made))
+        (made, contains_last (entries_of steps) (numbered fault made), refl))
     | inr t ↦
         subst (IsKindIn (entries_of steps ++ numbered fault made ∷ []) i)
-        (sym (get_or-set_other e.kinds fault i (Some (kind_of_entry made)) None t.1))
+        (sym (get_or-set_other e.kinds fault i (Some (kind_of made)) None t.1))
         (kind_stays (entries_of steps) fault made i t.1 (kind_at e i) (s.kinds i l))
   ]
 
@@ -357,7 +353,7 @@ same_work old new (Vectors list) (inl g) =
 same_work old new (Vectors list) (inr g) =
     same_by old new (old.list ++ list.list) old.kinds (g.fault + 1) old.left g.after
 same_work old new (Entry fault made) g =
-    same_by old new old.list (set old.kinds fault (Some (kind_of_entry made))) (fault + 1) old.left g.after
+    same_by old new old.list (set old.kinds fault (Some (kind_of made))) (fault + 1) old.left g.after
 same_work old new Finished g = same_by old new old.list old.kinds (length old.representatives) old.left g.after
 
 -- a random vector less, or a place further
@@ -400,11 +396,11 @@ said_is e steps s i own l first None at = record {
       first;
   without_entry = subst (IsKindIn (entries_of steps) i) at (s.kinds i l);
 }
-said_is e steps s i own l first (Some Refuted) at = (
+said_is e steps s i own l first (Some kind.Untestable) at = (
   subst (λ (list : List (List Bool)). IsFirstDetection e.circuit (fault_at e.circuit i) list None) s.list first,
   subst (IsKindIn (entries_of steps) i) at (s.kinds i l),
 )
-said_is e steps s i own l first (Some GivenUp) at = (
+said_is e steps s i own l first (Some kind.Aborted) at = (
   subst (λ (list : List (List Bool)). IsFirstDetection e.circuit (fault_at e.circuit i) list None) s.list first,
   subst (IsKindIn (entries_of steps) i) at (s.kinds i l),
 )

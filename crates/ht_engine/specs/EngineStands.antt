@@ -4,16 +4,15 @@ use Rattle.std.specs.List.{All, Contains}
 use Rattle.ht_net.specs.Netlist.{Netlist}
 use Rattle.ht_net.specs.Detection.{Detects, IsFirstDetection}
 use Rattle.ht_collapse.specs.Classes.{fault_at}
-use Rattle.ht_tree.specs.Entries.{Passes}
+use Rattle.ht_tree.specs.Entries.{Passes, kind_of}
 use Rattle.ht_tree.specs.Reached.{AreVectors}
 use Rattle.ht_texts.specs.declared.said.Said.{Said}
 use Rattle.ht_texts.specs.declared.said.Said.TheVariants as said
 use Rattle.ht_tree.specs.declared.entry.Entry as recorded
-use Rattle.ht_tree.specs.declared.entry.Entry.TheVariants as entry
+use Rattle.ht_tree.specs.declared.kind.EntryKind.{EntryKind}
+use Rattle.ht_tree.specs.declared.kind.EntryKind.TheVariants as kind
 use Rattle.ht_entries.specs.declared.numbered.Numbered.{Numbered}
 use Rattle.ht_valid.specs.ValidFiles.{HasEntry}
-use Rattle.ht_engine.specs.declared.engine.EntryKind.{EntryKind}
-use Rattle.ht_engine.specs.declared.engine.EntryKind.TheVariants as kind
 use Rattle.ht_engine.specs.declared.step.Step.{Step}
 use Rattle.ht_engine.specs.declared.step.Step.TheVariants.{Vectors, Entry, Finished}
 use Rattle.ht_engine.specs.Steps.{AreFinished, AreSteps, AwaitsVerdict, Follows, Settings, entries_of, first_vectors, vectors_of_steps}
@@ -41,16 +40,11 @@ first_of e = first_vectors e.circuit e.settings
 abbrev pub kind_at : EngineView → ℕ → Option EntryKind
 kind_at e i = get_or e.kinds i None
 
-abbrev pub IsOfKind : EntryKind → recorded.Entry → Type 0
-IsOfKind kind.Refuted (entry.Untestable z tokens) = Unit {0}
-IsOfKind kind.GivenUp (entry.Aborted told walk aim sweep) = Unit {0}
-IsOfKind _ _ = ⊥
-
 -- fault i has an entry of this kind among the entries, or none
 abbrev pub IsKindIn : List Numbered → ℕ → Option EntryKind → Type 0
 IsKindIn entries i None = ¬ HasEntry entries i
 IsKindIn entries i (Some kind) = (e : recorded.Entry)
-    × Contains entries (record { number = i + 1; entry = e }) × IsOfKind kind e
+    × Contains entries (record { number = i + 1; entry = e }) × (kind_of e ≡ kind)
 
 -- Each entry passes, for the fault of its number.
 abbrev pub AllPass : Netlist → ℕ → List Numbered → Type 0
@@ -116,8 +110,8 @@ IsSaid c representatives steps i (said.Detected place) =
     IsFirstDetection c (fault_at c i) (vectors_of_steps steps) (Some place)
 IsSaid c representatives steps i said.Untestable =
     IsFirstDetection c (fault_at c i) (vectors_of_steps steps) None
-    × IsKindIn (entries_of steps) i (Some kind.Refuted)
+    × IsKindIn (entries_of steps) i (Some kind.Untestable)
 IsSaid c representatives steps i said.Aborted =
     IsFirstDetection c (fault_at c i) (vectors_of_steps steps) None
-    × IsKindIn (entries_of steps) i (Some kind.GivenUp)
+    × IsKindIn (entries_of steps) i (Some kind.Aborted)
 IsSaid c representatives steps i said.Undetected = AwaitsVerdict c representatives steps i

@@ -6,12 +6,10 @@ use Rattle.ht_collapse.specs.Classes.{fault_at}
 use Rattle.ht_texts.specs.declared.said.Said.{Said}
 use Rattle.ht_texts.specs.declared.said.Said.TheVariants as said
 use Rattle.ht_tree.specs.declared.entry.Entry as recorded
-use Rattle.ht_tree.specs.declared.entry.Entry.TheVariants.{Untestable, Aborted}
-use Rattle.ht_tree.specs.Entries.{Passes}
+use Rattle.ht_tree.specs.declared.kind.EntryKind.{EntryKind}
+use Rattle.ht_tree.specs.Entries.{Passes, kind_of}
 use Rattle.ht_tree.specs.Reached.{AreVectors}
-use Rattle.ht_valid.specs.ValidFiles.{IsOwn}
-use Rattle.ht_engine.specs.declared.engine.EntryKind.{EntryKind}
-use Rattle.ht_engine.specs.declared.engine.EntryKind.TheVariants.{Refuted, GivenUp}
+use Rattle.ht_valid.specs.ValidFiles.{IsOwn, said_by_kind}
 use Rattle.ht_engine.specs.declared.step.Step.{Step}
 use Rattle.ht_engine.specs.declared.step.Step.TheVariants.{Vectors, Entry, Finished}
 use Rattle.ht_engine.specs.declared.work.Work.TheVariants as work
@@ -39,16 +37,11 @@ abbrev pub IsNextOf : EngineView → Option ℕ → Type 0
 IsNextOf e None = (k : ℕ) → e.place ≤ k → ¬ IsUndetected e k
 IsNextOf e (Some i) = IsNextUndetected e i
 
--- ---- what is kept of an entry, and said by it
-
-abbrev pub kind_of_entry : recorded.Entry → EntryKind
-kind_of_entry (Untestable z tokens) = Refuted
-kind_of_entry (Aborted told walk aim sweep) = GivenUp
+-- ---- what is said by the kind of an entry
 
 abbrev pub said_by : Option EntryKind → Said
 said_by None = said.Undetected
-said_by (Some Refuted) = said.Untestable
-said_by (Some GivenUp) = said.Aborted
+said_by (Some kind) = said_by_kind kind
 
 -- ---- the step
 
@@ -80,7 +73,7 @@ pub record GivesEntry (old new : EngineView) (fault : ℕ) (entry : recorded.Ent
   pub holds : Passes old.circuit (fault_at old.circuit fault) old.settings.budget entry
   pub room : fault < length old.kinds
   pub after : new
-      ≡ record old { kinds = slice_set old.kinds fault (Some (kind_of_entry entry)); place = fault + 1 }
+      ≡ record old { kinds = slice_set old.kinds fault (Some (kind_of entry)); place = fault + 1 }
 
 -- There is no next fault.
 pub record Ends (old new : EngineView) : Type 0 where

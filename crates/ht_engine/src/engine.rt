@@ -14,7 +14,7 @@ ghost use Rattle.ht_engine.specs.declared.step.Step.TheVariants as made_step;
 ghost use Rattle.ht_engine.specs.declared.work.Work.TheVariants as work;
 ghost use Rattle.ht_engine.specs.Attempts.{DetectsAlways};
 ghost use Rattle.ht_engine.specs.FaultWork.{IsWork};
-ghost use Rattle.ht_engine.specs.OneStep.{Advances, IsNextOf, IsNextUndetected, IsUndetected, MakesNone, kind_of_entry, next_vector, said_by};
+ghost use Rattle.ht_engine.specs.OneStep.{Advances, IsNextOf, IsNextUndetected, IsUndetected, MakesNone, next_vector, said_by};
 ghost use Rattle.ht_engine.specs.EngineStands.{EngineStandsFor, HasSameWork, IsSaid, Makes, MeansOfStep, remaining};
 
 use crate::step::Step;
@@ -25,31 +25,10 @@ use ht_grade::Grader;
 use ht_net::{Circuit, Vectors};
 use ht_random::Words;
 use ht_texts::Said;
-use ht_tree::Entry;
+use ht_tree::{Entry, EntryKind};
 use ht_window::Bases;
 use std::alloc::{AllocError, Global};
 use std::marker::Model;
-
-/// What the entry of a fault says.
-#[derive(Clone, Copy, PartialEq, Eq, Debug)]
-pub enum EntryKind {
-    /// No list of vectors detects the fault.
-    Refuted,
-    /// The budget was spent on it.
-    GivenUp,
-}
-
-impl EntryKind {
-    // What an entry says.
-    fn of(entry: &Entry) -> EntryKind
-        ensures { result ≡ kind_of_entry entry.now }
-    {
-        match entry {
-            Entry::Untestable { .. } => EntryKind::Refuted,
-            Entry::Aborted { .. } => EntryKind::GivenUp,
-        }
-    }
-}
 
 // No fault has an entry yet.
 fn no_kinds(alloc: Global, count: u32) -> Result<Vec<Option<EntryKind>>, AllocError>
@@ -65,8 +44,8 @@ fn said_by(kind: Option<EntryKind>) -> Said
 {
     match kind {
         None => Said::Undetected,
-        Some(EntryKind::Refuted) => Said::Untestable,
-        Some(EntryKind::GivenUp) => Said::Aborted,
+        Some(EntryKind::Untestable) => Said::Untestable,
+        Some(EntryKind::Aborted) => Said::Aborted,
     }
 }
 
@@ -233,7 +212,7 @@ impl<'c> Engine<'c> {
             self.old.settings.budget entry }
         ensures { Advances self.old self.new result }
     {
-        self.kinds[fault as usize] = Some(EntryKind::of(&entry));
+        self.kinds[fault as usize] = Some(entry.kind());
         self.place = fault + 1;
         Step::Entry { fault, entry }
     }

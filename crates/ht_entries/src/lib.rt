@@ -10,7 +10,10 @@
 mod aim;
 mod entry_part;
 mod entry_text;
+mod format;
+mod from_state;
 mod grow;
+mod limits;
 mod numbered;
 mod parse_line;
 mod parse_vector;
@@ -29,14 +32,18 @@ mod write_line;
 mod write_lists;
 
 pub use entry_text::write_entry;
+pub use format::Format;
+pub use from_state::FromStateLine;
+pub use limits::MAX_PROOF_LINE_BYTES;
 pub use numbered::Numbered;
 pub use proof_line::ProofLine;
 pub use reader::ProofReader;
 pub use reader_state::Stand;
 pub use text_error::TextError;
 pub use theorems::{
-    entries_are_read_back, first_wrong_proof_line, fronts_are_read, lines_have_one_reading,
-    malformed_lines_are_unread, malformed_proofs_are_none, proof_lines_are_short,
-    text_has_one_list, texts_are_proofs_or_malformed, written_entries_are_a_text,
+    entries_are_read_back, first_wrong_proof_line, formats_have_entries, fronts_are_read,
+    lines_have_one_reading, malformed_lines_are_unread, malformed_proofs_are_none,
+    proof_lines_are_short, text_has_one_list, texts_are_proofs_or_malformed,
+    written_entries_are_a_text,
 };
 pub use write_line::{end_line, head_line};

@@ -1,7 +1,7 @@
 //! Entries as rows of numbers: each list by its length and its members, each choice by its number from 0.
 use ht_items::Items;
 use ht_net::Vectors;
-use ht_tree::{Aim, Assign, Entry, Spot, Token, Told};
+use ht_tree::{Aim, Assign, Clause, Entry, Literal, Spot, Token, Told};
 use std::alloc::AllocError;
 
 // A list's length, and its numbers.
@@ -120,11 +120,51 @@ fn push_walks(row: &mut Vec<u64>, walks: &[Items<Token>]) -> Result<(), AllocErr
     Ok(())
 }
 
-/// Appends the numbers of an entry: 0 and an untestable one, or 1 and an aborted one.
+fn push_literal(row: &mut Vec<u64>, literal: Literal) -> Result<(), AllocError> {
+    row.push(u64::from(literal.dff))?;
+    row.push(u64::from(literal.value))?;
+    Ok(())
+}
+
+// A clause: how many literals it has after the first, and these; and its tokens.
+fn push_clause(row: &mut Vec<u64>, clause: &Clause) -> Result<(), AllocError> {
+    push_literal(row, clause.first)?;
+    match clause.second {
+        None => row.push(0)?,
+        Some(literal) => {
+            row.push(1)?;
+            push_literal(row, literal)?;
+        }
+    }
+    push_tokens(row, clause.tokens.as_slice())
+}
+
+fn push_clauses(row: &mut Vec<u64>, clauses: &[Clause]) -> Result<(), AllocError> {
+    row.push(clauses.len() as u64)?;
+    for clause in clauses {
+        push_clause(row, clause)?;
+    }
+    Ok(())
+}
+
+/// Appends the numbers of an entry: 0 and an untestable one, 1 and an aborted one, or 2 and an untestable one from a
+/// state.
 pub fn push_entry(row: &mut Vec<u64>, entry: &Entry) -> Result<(), AllocError> {
     match entry {
         Entry::Untestable { z, tokens } => {
             row.push(0)?;
+            push_numbers(row, z.as_slice())?;
+            push_tokens(row, tokens.as_slice())
+        }
+        Entry::UntestableFrom {
+            state,
+            clauses,
+            z,
+            tokens,
+        } => {
+            row.push(2)?;
+            push_bits(row, state.as_slice())?;
+            push_clauses(row, clauses.as_slice())?;
             push_numbers(row, z.as_slice())?;
             push_tokens(row, tokens.as_slice())
         }

@@ -1,7 +1,7 @@
 //! Entries from rows of numbers: each list by its length and its members, each choice by its number from 0.
 use ht_items::Items;
 use ht_net::Vectors;
-use ht_tree::{Aim, Assign, Entry, Spot, Token, Told};
+use ht_tree::{Aim, Assign, Clause, Entry, Literal, Spot, Token, Told};
 use std::alloc::{AllocError, Global};
 
 /// The rest of a row. A row that ends too early, or has a number that can't stand there, is answered as out of memory.
@@ -155,13 +155,55 @@ fn take_walks(alloc: Global, row: &mut Row) -> Result<Items<Items<Token>>, Alloc
     Ok(Items::from_vec(walks))
 }
 
-/// The next entry of a row.
-pub fn take_entry(alloc: Global, row: &mut Row) -> Result<Entry, AllocError> {
-    if row.next()? == 0 {
-        let z = take_numbers(alloc, row)?;
-        let tokens = take_tokens(alloc, row)?;
-        return Ok(Entry::Untestable { z, tokens });
+fn take_literal(row: &mut Row) -> Result<Literal, AllocError> {
+    let dff = row.next_u32()?;
+    let value = row.next()? == 1;
+    Ok(Literal { dff, value })
+}
+
+fn take_clause(alloc: Global, row: &mut Row) -> Result<Clause, AllocError> {
+    let first = take_literal(row)?;
+    let second = match row.next()? {
+        0 => None,
+        _ => Some(take_literal(row)?),
+    };
+    let tokens = take_tokens(alloc, row)?;
+    Ok(Clause {
+        first,
+        second,
+        tokens,
+    })
+}
+
+fn take_clauses(alloc: Global, row: &mut Row) -> Result<Items<Clause>, AllocError> {
+    let mut clauses = Vec::new(alloc);
+    for _ in 0..row.next()? {
+        let clause = take_clause(alloc, row)?;
+        clauses.push(clause)?;
     }
+    Ok(Items::from_vec(clauses))
+}
+
+fn take_untestable(alloc: Global, row: &mut Row) -> Result<Entry, AllocError> {
+    let z = take_numbers(alloc, row)?;
+    let tokens = take_tokens(alloc, row)?;
+    Ok(Entry::Untestable { z, tokens })
+}
+
+fn take_untestable_from(alloc: Global, row: &mut Row) -> Result<Entry, AllocError> {
+    let state = Items::from_vec(take_bits(alloc, row)?);
+    let clauses = take_clauses(alloc, row)?;
+    let z = take_numbers(alloc, row)?;
+    let tokens = take_tokens(alloc, row)?;
+    Ok(Entry::UntestableFrom {
+        state,
+        clauses,
+        z,
+        tokens,
+    })
+}
+
+fn take_aborted(alloc: Global, row: &mut Row) -> Result<Entry, AllocError> {
     let told = take_chain(alloc, row)?;
     let walk = take_walk(alloc, row)?;
     let aim = take_aim(alloc, row)?;
@@ -172,4 +214,13 @@ pub fn take_entry(alloc: Global, row: &mut Row) -> Result<Entry, AllocError> {
         aim,
         sweep,
     })
+}
+
+/// The next entry of a row.
+pub fn take_entry(alloc: Global, row: &mut Row) -> Result<Entry, AllocError> {
+    match row.next()? {
+        0 => take_untestable(alloc, row),
+        1 => take_aborted(alloc, row),
+        _ => take_untestable_from(alloc, row),
+    }
 }

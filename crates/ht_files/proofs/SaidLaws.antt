@@ -1,34 +1,20 @@
 -- What an engine says, once it is finished: that agrees with the vectors, and the entries back it.
-use Rattle.std.proofs.Common.{◌≡◌, ◌+◌, ℕ, List, sym, ap, subst}
+use Rattle.std.proofs.Common.{◌≡◌, ◌∙◌, ◌+◌, ℕ, List, sym, ap}
 use Rattle.std.specs.List.{Contains}
 use Rattle.ht_net.specs.Netlist.{Netlist}
 use Rattle.ht_collapse.specs.Classes.{fault_at}
 use Rattle.ht_tree.specs.declared.entry.Entry.{Entry}
-use Rattle.ht_tree.specs.declared.entry.Entry.TheVariants as entries
-use Rattle.ht_tree.specs.Entries.{Passes}
+use Rattle.ht_tree.specs.Entries.{Passes, kind_of}
 use Rattle.ht_tree.specs.Rising.{Rises}
 use Rattle.ht_texts.specs.declared.said.Said.{Said}
 use Rattle.ht_texts.specs.declared.said.Said.TheVariants.{Detected, Untestable, Aborted, Undetected}
 use Rattle.ht_entries.specs.declared.numbered.Numbered.{Numbered}
 use Rattle.ht_entries.specs.EntryTexts.{numbers_of}
-use Rattle.ht_valid.specs.ValidFiles.{AgreesWithTests, Backs, HasEntry, NeedsEntry}
-use Rattle.ht_engine.specs.declared.engine.EntryKind.TheVariants as kind
+use Rattle.ht_valid.specs.ValidFiles.{AgreesWithTests, Backs, HasEntry, NeedsEntry, said_by_kind}
 use Rattle.ht_engine.specs.declared.step.Step.{Step}
-use Rattle.ht_engine.specs.EngineStands.{EngineView, IsOfKind, IsSaid}
+use Rattle.ht_engine.specs.EngineStands.{EngineView, IsSaid}
 use Rattle.ht_engine.specs.Steps.{AwaitsVerdict, entries_of, vectors_of_steps}
 use Rattle.ht_files.proofs.OneEntryLaws.{one_entry}
-
--- ---- the kind of an entry
-
-refuted_backs : (c : Netlist) (budget i : ℕ) (e : Entry) → IsOfKind kind.Refuted e → Passes c (fault_at c i) budget e
-    → Backs c budget i e Untestable
-refuted_backs c budget i (entries.Untestable z tokens) is passes = passes
-refuted_backs c budget i (entries.Aborted told walk aim sweep) is passes = absurd is
-
-given_up_backs : (c : Netlist) (budget i : ℕ) (e : Entry) → IsOfKind kind.GivenUp e → Passes c (fault_at c i) budget e
-    → Backs c budget i e Aborted
-given_up_backs c budget i (entries.Untestable z tokens) is passes = absurd is
-given_up_backs c budget i (entries.Aborted told walk aim sweep) is passes = passes
 
 module _ (e : EngineView) (steps : List Step) (i : ℕ)
     (finished : ¬ AwaitsVerdict e.circuit e.representatives steps i) where
@@ -58,8 +44,12 @@ module _ (e : EngineView) (steps : List Step) (i : ℕ)
     pub backs_if_said : (said : Said) → IsSaid e.circuit e.representatives steps i said
         → Backs e.circuit e.settings.budget i entry.entry said
     backs_if_said (Detected place) is = tt
-    backs_if_said Untestable is = refuted_backs e.circuit e.settings.budget i entry.entry
-        (subst (IsOfKind kind.Refuted) (same_entry is.1.0 is.1.1) is.1.2) passes
-    backs_if_said Aborted is = given_up_backs e.circuit e.settings.budget i entry.entry
-        (subst (IsOfKind kind.GivenUp) (same_entry is.1.0 is.1.1) is.1.2) passes
+    backs_if_said Untestable is = (
+      ap said_by_kind (sym (ap kind_of (same_entry is.1.0 is.1.1)) ∙ is.1.2),
+      passes,
+    )
+    backs_if_said Aborted is = (
+      ap said_by_kind (sym (ap kind_of (same_entry is.1.0 is.1.1)) ∙ is.1.2),
+      passes,
+    )
     backs_if_said Undetected is = absurd (finished is)

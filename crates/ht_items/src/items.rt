@@ -62,6 +62,18 @@ impl<T: Copy> Items<T> {
         Ok(Items { items })
     }
 
+    /// A copy of these items, by the allocator that they have.
+    ///
+    /// # Errors
+    /// Out of memory.
+    pub fn copy(&self) -> Result<Items<T>, AllocError>
+        ensures { IfOk result (λ copy. copy ≡ self.now) }
+    {
+        let alloc = *self.items.allocator();
+        let items = Vec::from_slice(alloc, &self.items)?;
+        Ok(Items { items })
+    }
+
     /// Adds an item at the end.
     ///
     /// # Errors

@@ -35,7 +35,7 @@ judged_is_valid c representatives tests report proofs content vectors true_repor
   vectors = vectors;
   reported = record { report = true_report.report; short = short };
   agrees = true_report.agrees;
-  proved = record { are = complete.are; lines = complete.lines_are; short = few };
+  proved = record { format = complete.format; are = complete.are; lines = complete.lines_are; short = few };
   backed = backed_with c representatives content complete.entries complete.entries complete.backed;
   complete = complete.complete;
 }

@@ -7,6 +7,7 @@ mod check;
 mod entries;
 mod events;
 mod forward;
+mod from_state;
 mod justify;
 mod oneframe;
 mod report;

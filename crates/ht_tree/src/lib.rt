@@ -10,12 +10,17 @@
 //! is looked for, and what is left to decide), `Nodes` (the window of a node), `WalkBack` (the choice of variable),
 //! `Searches` (how a search ends), `Counts` (how many tokens it can take), `FoundLists` and `Reached` (the lists that
 //! a search finds, and what lists do), `ToldChains`, `SearchRecords`, `AimedAttempts` and `AbortRecords` (what is left
-//! where none is found), `Budgets` (which are enough) and `Entries` (what an entry says). What they are good for stands
-//! in `theorems`, and in ht_records what follows for every list of vectors.
+//! where none is found), `Budgets` (which are enough) and `Entries` (what an entry says). Of states that meet clauses
+//! speak `Clauses` (which are met and broken), `ClauseWindows` and `ClauseSearches` (windows under them, and the choice
+//! of variable there), `Invariants` (those that no frame leaves), `SealedInClauses`, `RefutationsFrom` (refutations
+//! from one named state) and `ToldUnder`. What they are good for stands in `theorems`, of clauses in ht_clauses, and in
+//! ht_records what follows for every list of vectors.
 #![tactic(auto)]
 
 mod aim;
+mod clause;
 mod entry;
+mod kind;
 mod limits;
 mod node;
 mod stack;
@@ -26,8 +31,10 @@ mod walk;
 mod window;
 
 pub use aim::Aim;
+pub use clause::{Clause, Literal};
 pub use entry::Entry;
-pub use limits::{BACK_LIMIT, FORWARD_FRAMES, MAX_BUDGET};
+pub use kind::EntryKind;
+pub use limits::{BACK_LIMIT, FORWARD_FRAMES, MAX_BUDGET, MAX_CLAUSES};
 pub use node::WalkNode;
 pub use theorems::{
     before_opens_the_window_below, complete_walk_seals, decided_window_is_not_open,

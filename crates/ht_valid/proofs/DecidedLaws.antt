@@ -8,23 +8,24 @@ use Rattle.ht_collapse.specs.Classes.{fault_at}
 use Rattle.ht_tree.specs.declared.entry.Entry.{Entry}
 use Rattle.ht_tree.specs.declared.entry.Entry.TheVariants as entries
 use Rattle.ht_tree.specs.Budgets.{refutation_cost, sweep_cost}
-use Rattle.ht_tree.proofs.RefutationLaws.{refuted}
-use Rattle.ht_records.proofs.AbortLaws.{enough_undetected, enough_unsealed}
+use Rattle.ht_records.proofs.AbortLaws.{enough_undetected, enough_unsealed, passing_means}
 use Rattle.ht_texts.specs.declared.said.Said.{Said}
 use Rattle.ht_texts.specs.declared.said.Said.TheVariants.{Detected, Untestable, Aborted, Undetected}
 use Rattle.ht_texts.specs.Verdicts.{said_at}
 use Rattle.ht_valid.specs.ValidFiles.{AgreesWithTests, Backs, Content, IsJustified}
 use Rattle.ht_valid.specs.TrueVerdicts.{AreDecided, SaysDetected}
 use Rattle.ht_valid.proofs.BackedLaws.{IsBackedIfNeeded, justified_backs}
+use Rattle.ht_valid.proofs.MemberLaws.{kind_said, untestable_undetected}
 
 module _ (c : Netlist) (content : Content) (i : ℕ) (circuit : IsCircuit c) where
   -- with a budget for all one-frame windows no abort record backs what is said of a sealed fault
   sealed_unaborted : (z : ℕ → Bool) → Sealed c (fault_at c i) z → refutation_cost c ≤ content.budget → (e : Entry)
       → ¬ Backs c content.budget i e Aborted
-  sealed_unaborted z seal enough (entries.Untestable y tokens) backs = backs
+  sealed_unaborted z seal enough (entries.Untestable y tokens) backs = let no = backs.0 in cc
+  sealed_unaborted z seal enough (entries.UntestableFrom state clauses y tokens) backs = let no = backs.0 in cc
   sealed_unaborted z seal enough (entries.Aborted told walk aim sweep) backs =
       enough_unsealed c (fault_at c i) content.budget
-      (record { told = told; walk = walk; aim = aim; sweep = sweep }) circuit enough backs z seal
+      (record { told = told; walk = walk; aim = aim; sweep = sweep }) circuit enough backs.1 z seal
 
   sealed_said : (z : ℕ → Bool) → Sealed c (fault_at c i) z → refutation_cost c ≤ content.budget → (said : Said)
       → AgreesWithTests c content.list i said → IsBackedIfNeeded c content i said → said ≡ Untestable
@@ -36,21 +37,23 @@ module _ (c : Netlist) (content : Content) (i : ℕ) (circuit : IsCircuit c) whe
       absurd (sealed_unaborted z seal enough by.entry by.backs)
   sealed_said z seal enough Undetected agrees backed = absurd agrees
 
-  -- what some list detects, no refutation backs
+  -- what some list detects, no entry of the kind untestable backs
   detected_unrefuted : (list : List (List Bool)) (t o : ℕ) → Detects c (fault_at c i) list t o → (e : Entry)
       → ¬ Backs c content.budget i e Untestable
-  detected_unrefuted list t o detects (entries.Untestable z tokens) backs =
-      (refuted c (fault_at c i) z tokens circuit backs).undetected list t o detects
-  detected_unrefuted list t o detects (entries.Aborted told walk aim sweep) backs = backs
+  detected_unrefuted list t o detects e backs =
+      untestable_undetected c (fault_at c i) e (kind_said e backs.0)
+      (passing_means c (fault_at c i) content.budget e circuit backs.1) list t o detects
 
   -- with a budget for the sweeps of d frames no abort record backs what is said of a fault that so few vectors detect
   short_unaborted : (d : ℕ) (list : List (List Bool)) (t o : ℕ) → length list ≤ d
       → Detects c (fault_at c i) list t o → sweep_cost c.inputs d ≤ content.budget → (e : Entry)
       → ¬ Backs c content.budget i e Aborted
-  short_unaborted d list t o few detects enough (entries.Untestable z tokens) backs = backs
+  short_unaborted d list t o few detects enough (entries.Untestable z tokens) backs = let no = backs.0 in cc
+  short_unaborted d list t o few detects enough (entries.UntestableFrom state clauses z tokens) backs =
+      let no = backs.0 in cc
   short_unaborted d list t o few detects enough (entries.Aborted told walk aim sweep) backs =
       enough_undetected c (fault_at c i) content.budget d
-      (record { told = told; walk = walk; aim = aim; sweep = sweep }) circuit enough backs list few t o detects
+      (record { told = told; walk = walk; aim = aim; sweep = sweep }) circuit enough backs.1 list few t o detects
 
   short_said : (d : ℕ) (list : List (List Bool)) (t o : ℕ) → length list ≤ d → Detects c (fault_at c i) list t o
       → sweep_cost c.inputs d ≤ content.budget → (said : Said) → AgreesWithTests c content.list i said

@@ -1,8 +1,10 @@
 pub mod BackedLaws
+pub mod MemberLaws
 pub mod TruthLaws
 pub mod DecidedLaws
 pub mod TokenTextLaws
 pub mod SweepTextLaws
+pub mod FromTextLaws
 pub mod EntryTextLaws
 pub mod NextLaws
 pub mod ReportTroubleLaws

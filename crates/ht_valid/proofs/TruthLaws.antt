@@ -1,28 +1,23 @@
 -- The verdict of each listed fault is true in what is justified.
-use Rattle.std.proofs.Common.{◌∙◌, ◌+◌, ℕ, List, [], ◌∷◌, Bool, get_or, Option, Some, None, ap, subst}
+use Rattle.std.proofs.Common.{◌+◌, ℕ, List, get_or, Option, Some, None}
 use Rattle.std.specs.List.{Contains}
 use Rattle.ht_net.specs.declared.place.Place.{Place}
 use Rattle.ht_net.specs.Netlist.{Netlist, IsCircuit}
-use Rattle.ht_net.specs.Frame.{next_state}
-use Rattle.ht_net.specs.Faults.{bool_rules}
 use Rattle.ht_net.specs.Detection.{IsFirstDetection}
-use Rattle.ht_net.specs.Silence.{AgreeOutside, Sealed}
 use Rattle.ht_net.proofs.ApartLaws.{detected_apart}
 use Rattle.ht_collapse.specs.Classes.{AreClasses, SameClass, fault_at}
-use Rattle.ht_collapse.proofs.RunLaws.{bool_members_alike, members_detected}
+use Rattle.ht_collapse.proofs.RunLaws.{members_detected}
 use Rattle.ht_tree.specs.declared.entry.Entry.{Entry}
 use Rattle.ht_tree.specs.declared.entry.Entry.TheVariants as entries
 use Rattle.ht_tree.specs.AbortRecords.{AbortView}
-use Rattle.ht_tree.specs.Decisions.{is_in}
-use Rattle.ht_tree.specs.Refutations.{IsUntestable}
-use Rattle.ht_tree.proofs.RefutationLaws.{refuted}
-use Rattle.ht_records.proofs.AbortLaws.{abort_means}
+use Rattle.ht_records.proofs.AbortLaws.{abort_means, passing_means}
 use Rattle.ht_texts.specs.declared.said.Said.{Said}
 use Rattle.ht_texts.specs.declared.said.Said.TheVariants.{Detected, Untestable, Aborted, Undetected}
 use Rattle.ht_texts.specs.Verdicts.{said_at}
 use Rattle.ht_valid.specs.ValidFiles.{AgreesWithTests, Backs, Content, IsJustified}
 use Rattle.ht_valid.specs.TrueVerdicts.{HasVerdict, HaveTrueVerdicts, IsAborted, IsDetected, IsProvedUntestable}
 use Rattle.ht_valid.proofs.BackedLaws.{IsBackedIfNeeded, justified_backs, representative_is_own}
+use Rattle.ht_valid.proofs.MemberLaws.{kind_said, member_means, untestable_undetected}
 
 module _ (c : Netlist) (content : Content) (r i : ℕ) (circuit : IsCircuit c)
     (same : SameClass c (fault_at c r) (fault_at c i)) where
@@ -40,51 +35,34 @@ module _ (c : Netlist) (content : Content) (r i : ℕ) (circuit : IsCircuit c)
         apart = detected_apart c (fault_at c i) content.list place.vector place.output here.0;
       }
 
-  -- one frame of the member's machine is one of the representative's
-  sealed_member : (z : ℕ → Bool) → Sealed c (fault_at c r) z → Sealed c (fault_at c i) z
-  sealed_member z seal =
-      let alike = bool_members_alike c (fault_at c r) (fault_at c i) circuit same in
-      record {
-        outputs = λ vector state state' width is is' agree. seal.outputs vector state state' width is is' agree
-            ∙ ap (λ (rows : List (List Bool)). get_or rows 0 []) (alike.outputs state' (vector ∷ []));
-        stays = λ vector state state' width is is' agree.
-            subst (AgreeOutside c z (next_state c (bool_rules None) vector state))
-            (alike.states state' (vector ∷ [])) (seal.stays vector state state' width is is' agree);
-      }
-
-  untestable_member : (z : List ℕ) → IsUntestable c (fault_at c r) z → IsUntestable c (fault_at c i) z
-  untestable_member z means =
-      let alike = bool_members_alike c (fault_at c r) (fault_at c i) circuit same in
-      record {
-        sealed = sealed_member (is_in z) means.sealed;
-        silent = λ state is list. means.silent state is list ∙ alike.outputs state list;
-        undetected = λ list.
-            (members_detected c (fault_at c r) (fault_at c i) list None circuit same).0 (means.undetected list);
-      }
-
   untestable_by : (e : Entry) → Contains content.entries (record { number = r + 1; entry = e })
       → Backs c content.budget r e Untestable → IsProvedUntestable c content r i
-  untestable_by (entries.Untestable z tokens) among backs = record {
-    z = z;
-    tokens = tokens;
-    held = among;
-    refutes = backs;
-    means = untestable_member z (refuted c (fault_at c r) z tokens circuit backs);
-  }
-  untestable_by (entries.Aborted told walk aim sweep) among backs = absurd backs
+  untestable_by e among backs =
+      let is = kind_said e backs.0 in
+      let means = member_means c (fault_at c r) (fault_at c i) circuit same e is
+      (passing_means c (fault_at c r) content.budget e circuit backs.1) in
+      record {
+        entry = e;
+        held = among;
+        kind = is;
+        passes = backs.1;
+        means = means;
+        undetected = untestable_undetected c (fault_at c i) e is means;
+      }
 
   aborted_by : (e : Entry) → Contains content.entries (record { number = r + 1; entry = e })
       → Backs c content.budget r e Aborted → IsFirstDetection c (fault_at c r) content.list None
       → IsAborted c content r i
-  aborted_by (entries.Untestable z tokens) among backs none = absurd backs
+  aborted_by (entries.Untestable z tokens) among backs none = let no = backs.0 in cc
+  aborted_by (entries.UntestableFrom state clauses z tokens) among backs none = let no = backs.0 in cc
   aborted_by (entries.Aborted told walk aim sweep) among backs none =
       let spent : AbortView = record { told = told; walk = walk; aim = aim; sweep = sweep } in
       record {
         undetected = first_of_member None none;
         spent = spent;
         held = among;
-        passes = backs;
-        means = abort_means c (fault_at c r) content.budget spent circuit backs;
+        passes = backs.1;
+        means = abort_means c (fault_at c r) content.budget spent circuit backs.1;
       }
 
   verdict_by : (said : Said) → AgreesWithTests c content.list r said → IsBackedIfNeeded c content r said

@@ -61,9 +61,9 @@ pub record EndsWrongEntry (c : Netlist) (representatives : List ℕ) (content : 
 -- once entry N is begun, the entries of lower numbers are due, and after `end` all
 abbrev pub IsDue : ℕ → ProofReading → Type 0
 IsDue i before_first = ⊥
-IsDue i after_first = ⊥
-IsDue i (within_entry closed number p) = i + 1 < number
-IsDue i (after_last closed) = Unit {0}
+IsDue i (after_first format) = ⊥
+IsDue i (within_entry format closed number p) = i + 1 < number
+IsDue i (after_last format closed) = Unit {0}
 
 -- Representative i needs an entry, which is due, and has none.
 pub record IsMissing (c : Netlist) (representatives : List ℕ) (content : Content) (at : ProofReading) (i : ℕ)

@@ -10,10 +10,10 @@ use Rattle.ht_faults.specs.Sites.{faults_of}
 use Rattle.ht_collapse.specs.Classes.{fault_at}
 use Rattle.ht_tree.specs.declared.entry.Entry.{Entry}
 use Rattle.ht_tree.specs.declared.entry.Entry.TheVariants as entry
-use Rattle.ht_tree.specs.declared.token.Token.{Token}
+use Rattle.ht_tree.specs.declared.kind.EntryKind.TheVariants as kinds
 use Rattle.ht_tree.specs.AbortRecords.{AbortMeans, AbortView, IsAbortRecord}
 use Rattle.ht_tree.specs.Budgets.{refutation_cost, sweep_cost}
-use Rattle.ht_tree.specs.Refutations.{IsUntestable, Refutes}
+use Rattle.ht_tree.specs.Entries.{Means, Passes, kind_of}
 use Rattle.ht_texts.specs.declared.said.Said.{Said}
 use Rattle.ht_texts.specs.declared.said.Said.TheVariants.{Detected, Untestable, Aborted, Undetected}
 use Rattle.ht_texts.specs.Verdicts.{said_at}
@@ -27,14 +27,16 @@ pub record IsDetected (c : Netlist) (list : List (List Bool)) (i : ℕ) (place :
   pub first : IsFirstDetection c (fault_at c i) list (Some place)
   pub apart : Apart c (fault_at c i) list place.vector place.output
 
--- The proofs hold a refutation of the representative: a difference can't leave its set of flip-flops, from every common
--- start state both machines give equal outputs for ever, and no list of vectors of any length detects the fault.
+-- The proofs hold an entry of the representative that passes, in one of the forms of the kind untestable. What it means
+-- holds of the fault: from every common start state both machines give equal outputs for ever, or from the named one;
+-- and no list of vectors of any length detects the fault.
 pub record IsProvedUntestable (c : Netlist) (content : Content) (representative i : ℕ) : Type 0 where
-  pub z : List ℕ
-  pub tokens : List Token
-  pub held : Contains content.entries (record { number = representative + 1; entry = entry.Untestable z tokens })
-  pub refutes : Refutes c (fault_at c representative) z tokens
-  pub means : IsUntestable c (fault_at c i) z
+  pub entry : Entry
+  pub held : Contains content.entries (record { number = representative + 1; entry = entry })
+  pub kind : kind_of entry ≡ kinds.Untestable
+  pub passes : Passes c (fault_at c representative) content.budget entry
+  pub means : Means c (fault_at c i) entry
+  pub undetected : (list : List (List Bool)) (t o : ℕ) → ¬ Detects c (fault_at c i) list t o
 
 -- The entry of an aborted fault, as it stands in the proofs.
 abbrev pub abort_entry : AbortView → Entry

@@ -6,8 +6,9 @@ use Rattle.ht_net.specs.Detection.{IsFirstDetection}
 use Rattle.ht_faults.specs.Sites.{faults_of}
 use Rattle.ht_collapse.specs.Classes.{fault_at, is_representative}
 use Rattle.ht_tree.specs.declared.entry.Entry.{Entry}
-use Rattle.ht_tree.specs.declared.entry.Entry.TheVariants as entry
-use Rattle.ht_tree.specs.Entries.{Passes}
+use Rattle.ht_tree.specs.declared.kind.EntryKind.{EntryKind}
+use Rattle.ht_tree.specs.declared.kind.EntryKind.TheVariants as kinds
+use Rattle.ht_tree.specs.Entries.{Passes, kind_of}
 use Rattle.ht_texts.specs.declared.said.Said.{Said}
 use Rattle.ht_texts.specs.declared.said.Said.TheVariants.{Detected, Untestable, Aborted, Undetected}
 use Rattle.ht_texts.specs.Tests.{IsTestText}
@@ -40,14 +41,15 @@ AgreesWithTests c list i Undetected = ⊥
 
 -- ---- the proofs
 
+-- what is said of a fault by an entry of this kind
+abbrev pub said_by_kind : EntryKind → Said
+said_by_kind kinds.Untestable = Untestable
+said_by_kind kinds.Aborted = Aborted
+
 -- The entry backs what is said of fault i: it is of that kind, and passes. The entry of a detected fault isn't judged.
 abbrev pub Backs : Netlist → ℕ → ℕ → Entry → Said → Type 0
 Backs c budget i e (Detected place) = Unit {0}
-Backs c budget i (entry.Untestable z tokens) Untestable =
-    Passes c (fault_at c i) budget (entry.Untestable z tokens)
-Backs c budget i (entry.Aborted told walk aim sweep) Aborted =
-    Passes c (fault_at c i) budget (entry.Aborted told walk aim sweep)
-Backs c budget i e said = ⊥
+Backs c budget i e said = (said_by_kind (kind_of e) ≡ said) × Passes c (fault_at c i) budget e
 
 -- The number of the entry is that of a representative, and the entry backs what is said of it.
 pub record IsBacking (c : Netlist) (representatives : List ℕ) (content : Content) (e : Numbered) : Type 0 where

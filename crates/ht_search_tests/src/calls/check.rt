@@ -1,17 +1,12 @@
 //! Tests of ht_check: entries by hand. In each circuit the fault is net 1 stuck at 0.
 use super::small::{circuit_of, stuck_at, stuck_at_0};
-use super::tokens::{D, TWO_0};
+use super::tokens::{D, TWO_0, ZERO_FIRST};
 use ht_check::{KeptFrames, entry, entry_by_frames};
 use ht_items::Items;
 use ht_samples::{ALWAYS_ZERO, HIDDEN, TOGGLE};
 use ht_tree::{Entry, Token};
 use std::alloc::{AllocError, Global};
 use std::test::Fail;
-
-const ZERO_FIRST: Token = Token::Two {
-    var: 0,
-    first: false,
-};
 
 /// A circuit, a set and a walk, and whether these pass as an untestable entry.
 type Row = (&'static [u8], &'static [u32], &'static [Token], bool);

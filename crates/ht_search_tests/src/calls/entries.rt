@@ -1,5 +1,5 @@
 //! Tests of ht_entries: worked texts byte for byte, and each damage with its line.
-use ht_entries::{Numbered, ProofReader, TextError, end_line, head_line, write_entry};
+use ht_entries::{Format, Numbered, ProofReader, TextError, end_line, head_line, write_entry};
 use std::alloc::{AllocError, Global};
 use std::test::Fail;
 
@@ -10,6 +10,8 @@ type Lines = &'static [&'static [u8]];
 type Text = &'static [Lines];
 
 const HEAD: Lines = &[b"proofs 1"];
+
+const SECOND_HEAD: Lines = &[b"proofs 2"];
 
 const END: Lines = &[b"end"];
 
@@ -70,12 +72,38 @@ const TEXTS: &[Text] = &[
     NO_ENTRY, CONSTANT, TOGGLE, TWO_FRAMES, IN_THE_SET, ONE_TOKEN, ATTEMPT, NO_INPUTS,
 ];
 
+// two flip-flops that stay equal from the state 00 on
+const EQUAL_FLIP_FLOPS: Text = &[
+    &[b"entry 3 untestable from 00"],
+    &[b"clause 1 0 2 1", b"hi 1", b"dead", b"dead"],
+    &[b"clause 1 1 2 0", b"lo 1", b"dead", b"dead"],
+    &[b"walk", b"hi 3", b"hi 4", b"dead", b"dead"],
+    &[b"hi 4", b"dead", b"dead"],
+];
+
+// a clause without tokens, the greatest numbers, and flip-flops at which the two machines may differ
+const ONE_LITERAL: Text = &[
+    &[b"entry 4294967294 untestable from 1"],
+    &[b"clause 4294967295 1", b"z 1", b"z 4294967295", b"walk"],
+    &[b"entry 4294967295 untestable", b"walk", b"dead"],
+];
+
+// the texts that the second format has alone
+const SECOND_TEXTS: &[Text] = &[EQUAL_FLIP_FLOPS, ONE_LITERAL];
+
 /// A text, its entries as they are written again, and the reader between the two.
 #[derive(Drop)]
 struct Rewriting {
     text: Vec<u8>,
     written: Vec<u8>,
     reader: ProofReader,
+}
+
+fn head_of(format: Format) -> Lines {
+    match format {
+        Format::One => HEAD,
+        Format::Two => SECOND_HEAD,
+    }
 }
 
 impl Rewriting {
@@ -111,9 +139,9 @@ impl Rewriting {
         Ok(())
     }
 
-    fn text(&mut self, alloc: Global, entries: Text) -> Result<(), TextError> {
-        self.written.extend_from_slice(head_line())?;
-        self.lines(alloc, HEAD)?;
+    fn text(&mut self, alloc: Global, format: Format, entries: Text) -> Result<(), TextError> {
+        self.written.extend_from_slice(head_line(format))?;
+        self.lines(alloc, head_of(format))?;
         for lines in entries {
             self.lines(alloc, lines)?;
         }
@@ -128,16 +156,20 @@ impl Rewriting {
 }
 
 /// Whether a text is read, and its entries are written as they stand there.
-fn is_rewritten(alloc: Global, entries: Text) -> Result<bool, TextError> {
+fn is_rewritten(alloc: Global, format: Format, entries: Text) -> Result<bool, TextError> {
     let mut rewriting = Rewriting::new(alloc);
-    rewriting.text(alloc, entries)?;
+    rewriting.text(alloc, format, entries)?;
     Ok(rewriting.is_same())
 }
 
 #[test]
 fn worked_texts_are_read_and_written(rt: HostRuntime) -> Result<(), Fail> {
     for entries in TEXTS {
-        assert!(rt; is_rewritten(rt.alloc(), entries)?);
+        assert!(rt; is_rewritten(rt.alloc(), Format::One, entries)?);
+        assert!(rt; is_rewritten(rt.alloc(), Format::Two, entries)?);
+    }
+    for entries in SECOND_TEXTS {
+        assert!(rt; is_rewritten(rt.alloc(), Format::Two, entries)?);
     }
     Ok(())
 }
@@ -182,10 +214,23 @@ const UNTESTABLE: Lines = &[b"proofs 1", b"entry 1 untestable"];
 
 const ABORTED: Lines = &[b"proofs 1", b"entry 1 aborted"];
 
+const FROM_STATE: Lines = &[b"proofs 2", b"entry 1 untestable from 01"];
+
+const EIGHT_CLAUSES: Lines = &[
+    b"clause 1 0",
+    b"clause 1 1",
+    b"clause 2 0",
+    b"clause 2 1",
+    b"clause 1 0 2 0",
+    b"clause 1 0 2 1",
+    b"clause 1 1 2 0",
+    b"clause 1 1 2 1",
+];
+
 const DAMAGES: &[(Text, u64)] = &[
     // no line, another head, no end
     (&[], 1),
-    (&[&[b"proofs 2"]], 1),
+    (&[&[b"proofs 3"]], 1),
     (&[&[b"proofs 1 "]], 1),
     (&[HEAD], 2),
     // a line after the end
@@ -216,6 +261,43 @@ const DAMAGES: &[(Text, u64)] = &[
     (&[ABORTED, &[b"attempt", b"justify 10", b"ahead 1"]], 5),
     (&[ABORTED, &[b"attempt", b"ahead 1", b"justify 1"]], 5),
     (&[ABORTED, &[b"attempt", b"ahead 1x"]], 4),
+    // an entry from a state in the first format, and states that are none
+    (&[HEAD, &[b"entry 1 untestable from 01"]], 2),
+    (&[SECOND_HEAD, &[b"entry 1 untestable from "]], 2),
+    (&[SECOND_HEAD, &[b"entry 1 untestable from -"]], 2),
+    (&[SECOND_HEAD, &[b"entry 0 untestable from 01"]], 2),
+    (&[SECOND_HEAD, &[b"entry 1 aborted from 01"]], 2),
+    // before the first clause: a walk, a flip-flop, a token, the end
+    (&[FROM_STATE, &[b"walk"]], 3),
+    (&[FROM_STATE, &[b"z 1"]], 3),
+    (&[FROM_STATE, &[b"dead"]], 3),
+    (&[FROM_STATE, END], 3),
+    // clauses of other literals, of the same flip-flop twice, of flip-flops that fall
+    (&[FROM_STATE, &[b"clause 0 1"]], 3),
+    (&[FROM_STATE, &[b"clause 1 2"]], 3),
+    (&[FROM_STATE, &[b"clause 1 0 2"]], 3),
+    (&[FROM_STATE, &[b"clause 1 0 1 1"]], 3),
+    (&[FROM_STATE, &[b"clause 2 0 1 1"]], 3),
+    (&[FROM_STATE, &[b"clause 1 0 2 1 3 0"]], 3),
+    // a clause too many
+    (
+        &[
+            FROM_STATE,
+            EIGHT_CLAUSES,
+            EIGHT_CLAUSES,
+            EIGHT_CLAUSES,
+            EIGHT_CLAUSES,
+            &[b"clause 3 0"],
+        ],
+        35,
+    ),
+    // a clause or a token after a flip-flop, a flip-flop after the walk, and no walk
+    (&[FROM_STATE, &[b"clause 1 0", b"z 1", b"clause 2 0"]], 5),
+    (&[FROM_STATE, &[b"clause 1 0", b"z 1", b"dead"]], 5),
+    (&[FROM_STATE, &[b"clause 1 0", b"walk", b"z 1"]], 5),
+    (&[FROM_STATE, &[b"clause 1 0", b"z 1", b"end"]], 5),
+    // a clause in a plain refutation
+    (&[&[b"proofs 2", b"entry 1 untestable", b"clause 1 0"]], 3),
 ];
 
 #[test]

@@ -1,0 +1,37 @@
+-- What decisions, and sets of next states, make of clauses.
+use Rattle.std.specs.Prelude.{◌+◌, ◌&&◌, ℕ, List, [], Bool, not, if◌then◌else◌, get_or, Option, None}
+use Rattle.std.specs.List.{list_any, list_all}
+use Rattle.ht_tern.specs.declared.tern.Tern.{Tern}
+use Rattle.ht_tern.specs.Gate.{tern_of}
+use Rattle.ht_pairs.specs.Pairs.{Pair, pair, is_member}
+use Rattle.ht_tree.specs.declared.token.Status3.{Status3}
+use Rattle.ht_tree.specs.declared.token.Status3.TheVariants.{Dead, Sure, Open}
+use Rattle.ht_tree.specs.Windows.{is_undetermined}
+use Rattle.ht_tree.specs.declared.clause.Literal.{Literal}
+use Rattle.ht_tree.specs.Clauses.{is_decided_against, is_decided_to}
+
+-- what was decided for a literal's latch, where the latches have the variables from the first on
+abbrev pub value_in : List (Option Tern) → ℕ → Literal → Option Tern
+value_in decisions first literal = get_or decisions (first + literal.dff) None
+
+-- decisions meet a clause, and break one
+abbrev pub meets_in : List (Option Tern) → ℕ → List Literal → Bool
+meets_in decisions first literals =
+    list_any (λ (literal : Literal). is_decided_to literal.value (value_in decisions first literal)) literals
+
+abbrev pub breaks_in : List (Option Tern) → ℕ → List Literal → Bool
+breaks_in decisions first literals =
+    list_all (λ (literal : Literal). is_decided_against literal.value (value_in decisions first literal)) literals
+
+-- a next state of these sets can have the other bit of a literal, and no other value
+abbrev pub may_miss_in : List (List Pair) → Literal → Bool
+may_miss_in sets literal =
+    is_member (pair (tern_of (not literal.value)) (tern_of (not literal.value))) (get_or sets literal.dff [])
+
+abbrev pub must_miss_in : List (List Pair) → Literal → Bool
+must_miss_in sets literal = may_miss_in sets literal && not (is_undetermined (get_or sets literal.dff []))
+
+abbrev pub breach_in : List (List Pair) → List Literal → Status3
+breach_in sets literals =
+    if list_all (must_miss_in sets) literals then Sure
+    else if list_all (may_miss_in sets) literals then Open else Dead

@@ -1,0 +1,50 @@
+//! Refutations: a set of flip-flops, and a walk that shows that a difference can't leave it.
+ghost use Rattle.std.specs.Prelude.{◌≡◌, ◌<◌, ◌↔◌, ℕ, length, get_or, IfOk, IsTrue};
+ghost use Rattle.ht_tree.specs.Refutations.{Refutes};
+ghost use Rattle.ht_tree.specs.Rising.{Rises};
+
+use crate::fresh_window::FreshWindow;
+use crate::kept_frames::KeptFrames;
+use crate::window_walks::is_complete_walk;
+use ht_net::Fault;
+use ht_tree::Token;
+use std::alloc::{AllocError, Global};
+
+/// Whether a set of flip-flops and a walk refute a fault: the flip-flops rise and are the circuit's, and the tokens are a
+/// complete walk of the one-frame window of the fault and the set.
+///
+/// # Errors
+/// Out of memory.
+pub fn refutes(
+    alloc: Global,
+    kept: &mut KeptFrames,
+    fault: Fault,
+    z: &[u32],
+    tokens: &[Token],
+) -> Result<bool, AllocError>
+    ensures passes { IfOk result
+        (λ passes. IsTrue passes ↔ Refutes kept.old.circuit fault z.now tokens.now) }
+    ensures circuit { kept.new.circuit ≡ kept.old.circuit }
+{
+    if !names_flip_flops(z, kept.circuit().dffs()) {
+        return Ok(false);
+    }
+    let window = FreshWindow::one_frame(alloc, kept.take(alloc)?, fault, z)?;
+    is_complete_walk(alloc, kept, window, tokens)
+}
+
+/// Whether numbers rise and are below a count.
+pub fn names_flip_flops(z: &[u32], count: u32) -> bool
+    ensures { IsTrue result
+        ↔ (Rises z.now × ((i : ℕ) → i < length z.now → get_or z.now i 0 < count)) }
+{
+    for i in 0..z.len() {
+        if z[i] >= count {
+            return false;
+        }
+        if i + 1 < z.len() && z[i] >= z[i + 1] {
+            return false;
+        }
+    }
+    true
+}

@@ -1,0 +1,40 @@
+//! Refutations from one named state: an invariant of the state, and a refutation as long as its clauses are met.
+ghost use Rattle.std.specs.Prelude.{◌≡◌, ◌↔◌, IfOk, IsTrue};
+ghost use Rattle.ht_tree.specs.RefutationsFrom.{RefutesFrom};
+
+use crate::clause_window::FreshClauseWindow;
+use crate::invariants::is_invariant;
+use crate::kept_frames::KeptFrames;
+use crate::refutations::names_flip_flops;
+use crate::window_walks::is_complete_walk_under;
+use ht_net::Fault;
+use ht_tree::{Clause, Token};
+use std::alloc::{AllocError, Global};
+
+/// Whether a state, clauses, a set of flip-flops and a walk are a refutation of a fault from the state: an invariant,
+/// and a complete walk of the one-frame window of the fault and the set under the clauses.
+///
+/// # Errors
+/// Out of memory.
+pub fn refutes_from(
+    alloc: Global,
+    kept: &mut KeptFrames,
+    fault: Fault,
+    state: &[bool],
+    clauses: &[Clause],
+    z: &[u32],
+    tokens: &[Token],
+) -> Result<bool, AllocError>
+    ensures passes { IfOk result (λ passes. IsTrue passes
+        ↔ RefutesFrom kept.old.circuit fault state.now clauses.now z.now tokens.now) }
+    ensures circuit { kept.new.circuit ≡ kept.old.circuit }
+{
+    if !names_flip_flops(z, kept.circuit().dffs()) {
+        return Ok(false);
+    }
+    if !is_invariant(alloc, kept, state, clauses)? {
+        return Ok(false);
+    }
+    let window = FreshClauseWindow::one_frame(alloc, kept.take(alloc)?, fault, z, clauses)?;
+    is_complete_walk_under(alloc, kept, window, tokens)
+}

@@ -1,0 +1,26 @@
+-- A search of a window under clauses is never spent where its budget has room for twice the leaves of its variables.
+use Rattle.std.proofs.Common.{◌≡◌, ◌≤◌, ◌+◌, ◌^◌, ℕ, List, true, arith}
+use Rattle.ht_tree.specs.declared.token.Token.{Token}
+use Rattle.ht_tree.specs.Walks.{Node}
+use Rattle.ht_tree.specs.Windows.{Start, one_frame, unknown, state_pair, back}
+use Rattle.ht_tree.specs.Variables.{variable_count}
+use Rattle.ht_tree.specs.Searches.{SpendsAt}
+use Rattle.ht_tree.specs.Counts.{seeks_difference, undecided_at}
+use Rattle.ht_tree.specs.ClauseWindows.{ClauseWindow, IsClauseWindow, is_one_frame, judge_under}
+use Rattle.ht_tree.specs.ClauseSearches.{guide_under}
+use Rattle.ht_tree.proofs.CountLaws.{enough}
+use Rattle.ht_tree.proofs.DifferenceCountLaws.{undecided_measures_by}
+
+-- a window of one frame has none under it, as a window that looks for a difference
+one_frame_seeks : (s : Start) → is_one_frame s ≡ true → seeks_difference s ≡ true
+one_frame_seeks (one_frame z) h = h
+one_frame_seeks unknown h = cc
+one_frame_seeks (state_pair good faulty) h = cc
+one_frame_seeks (back cube limit) h = cc
+
+pub clause_search_enough : (w : ClauseWindow) (budget : ℕ) (tokens : List Token) (n : Node) → IsClauseWindow w
+    → 2 ^ (variable_count w.window + 1) ≤ budget → ¬ SpendsAt (guide_under w) budget 1 tokens n
+clause_search_enough w budget tokens n is h =
+    enough (guide_under w) (undecided_at w.window) budget 1 tokens n
+    (undecided_measures_by w.window is.window (one_frame_seeks w.window.start is.one_frame) (judge_under w).status)
+    (omega (arith, h))
