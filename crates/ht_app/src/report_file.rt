@@ -18,6 +18,7 @@ use crate::run_error::RunError;
 use ht_judge::{Claims, JudgeError, ReportJudge};
 use ht_net::{Circuit, Place};
 use ht_ports::{Desk, InPort};
+use ht_texts::MAX_LINE_BYTES;
 use ht_valid::Trouble;
 use std::alloc::Global;
 
@@ -77,7 +78,14 @@ pub fn read_report<D: Desk>(
         (D.view desk.old) (D.view desk.new)) }
 {
     let mut judge = ReportJudge::new(alloc, circuit, &listed.faults, &listed.classes, places)?;
-    read_lines(alloc, desk, InPort::Report, name, &mut judge)?;
+    read_lines(
+        alloc,
+        desk,
+        InPort::Report,
+        name,
+        MAX_LINE_BYTES,
+        &mut judge,
+    )?;
     let claims = judge.end()?;
     Ok(claims)
 }

@@ -1,5 +1,4 @@
 //! The limits of texts.
 
-/// The most bytes of a line of the report of a search or of a proofs text, without its end: the longest is `justify `
-/// and a character for each of the 4,096 inputs that a circuit may have.
+/// The most bytes of a line of the report of a search, without its end: more than any has, since a name has at most 255.
 pub const MAX_LINE_BYTES: u32 = 4_104;
