@@ -1,5 +1,6 @@
 //! The judging of a report and of proofs, without the search.
 use crate::circuit::Circuit;
+use crate::clauses::{Clause, Literals, Under};
 use crate::faults::{Fault, FaultList, SiteText};
 use crate::grading::{Group, Place, detects, step_both};
 use crate::guide::{Choice, wants};
@@ -10,6 +11,7 @@ use crate::texts::{Said, head, total};
 use crate::windows::{Plan, Spot, Start, Window};
 use crate::words::Value::{self, Unknown};
 use crate::work::{Aim, BACK_LIMIT, Entry, FORWARD_FRAMES, Told, ToldFrame};
+use std::rc::Rc;
 
 const MAX_BUDGET: u64 = 100_000;
 
@@ -105,9 +107,9 @@ impl<'c> Judge<'c> {
                 }
                 next += 1;
             }
-            let Mark::Entry { number, untestable } = mark else { break };
+            let Mark::Entry { number, kind } = mark else { break };
             last = number;
-            entry = Some(reader.entry(untestable).ok_or_else(|| malformed(&reader))?);
+            entry = Some(reader.entry(kind).ok_or_else(|| malformed(&reader))?);
         }
         if reader.is_at_end() { Ok(()) } else { Err(malformed(&reader)) }
     }
@@ -115,7 +117,12 @@ impl<'c> Judge<'c> {
     fn is_right(&mut self, fault: Fault, said: Said, entry: &Entry) -> bool {
         match (said, entry) {
             (Said::Detected(_), _) => true,
-            (Said::Untestable, Entry::Untestable { z, tokens }) => self.is_refuted(fault, z, tokens),
+            (Said::Untestable, Entry::Untestable { z, tokens }) => self.is_refuted(fault, z, None, tokens),
+            (Said::Untestable, Entry::UntestableFrom { state, clauses, z, tokens }) => {
+                let literals: Rc<[Literals]> = clauses.iter().map(|clause| clause.literals.clone()).collect();
+                self.is_invariant(state, clauses, &literals)
+                    && self.is_refuted(fault, z, Some(Under { clauses: literals, broken: None }), tokens)
+            }
             (Said::Aborted, Entry::Aborted { told, walk, aim, sweep }) => {
                 self.is_told(fault, told, walk.as_deref())
                     && self.is_aim(fault, told.first(), aim.as_ref())
@@ -125,14 +132,33 @@ impl<'c> Judge<'c> {
         }
     }
 
-    fn is_refuted(&mut self, fault: Fault, z: &[u32], tokens: &[Token]) -> bool {
+    fn is_invariant(&mut self, state: &[bool], clauses: &[Clause], literals: &Rc<[Literals]>) -> bool {
+        let dffs = self.circuit.dffs();
+        let is_held = |clause: &Literals| {
+            clause.iter().all(|(j, _)| (*j as usize) < dffs) && clause.iter().any(|(j, bit)| state[*j as usize] == *bit)
+        };
+        if state.len() != dffs || !literals.iter().all(is_held) {
+            return false;
+        }
+        clauses.iter().all(|clause| {
+            let under = Under { clauses: literals.clone(), broken: Some(clause.literals.clone()) };
+            self.tree.begin_under(None, Start::OneFrame { z: vec![false; dffs] }, under);
+            self.tree.judge(&clause.tokens) == Some(true)
+        })
+    }
+
+    fn is_refuted(&mut self, fault: Fault, z: &[u32], under: Option<Under>, tokens: &[Token]) -> bool {
         let dffs = self.circuit.dffs();
         if z.iter().any(|j| *j as usize >= dffs) {
             return false;
         }
         let mut marks = vec![false; dffs];
         z.iter().for_each(|j| marks[*j as usize] = true);
-        self.tree.begin(Some(fault), 1, Start::OneFrame { z: marks });
+        let start = Start::OneFrame { z: marks };
+        match under {
+            None => self.tree.begin(Some(fault), 1, start),
+            Some(under) => self.tree.begin_under(Some(fault), start, under),
+        }
         self.tree.judge(tokens) == Some(true)
     }
 

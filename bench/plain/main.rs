@@ -6,6 +6,7 @@
 //! generator adds to a file is written before the next step begins. A netlist is read in normal text. It and the tests
 //! of `sim` have to be ones that `ht_cli` accepts: they aren't judged here.
 mod circuit;
+mod clauses;
 mod faults;
 mod grading;
 mod guide;
@@ -119,7 +120,7 @@ fn generate(names: [&str; 4], budget: usize, random: usize, seed: u64) -> Result
             Work::Entry(entry) => {
                 texts::write_entry(i + 1, &entry, &mut proofs)?;
                 proofs.flush()?;
-                otherwise[k] = if let Entry::Untestable { .. } = entry { Said::Untestable } else { Said::Aborted };
+                otherwise[k] = if let Entry::Aborted { .. } = entry { Said::Aborted } else { Said::Untestable };
             }
         }
     }

@@ -8,7 +8,7 @@ use crate::windows::Spot;
 use crate::work::{Aim, Entry, Told};
 use std::io::{self, Write};
 
-pub const HEAD: &str = "proofs 1";
+pub const HEAD: &str = "proofs 2";
 pub const END: &str = "end";
 
 /// What a report says of a representative.
@@ -139,16 +139,30 @@ fn write_aim(aim: &Aim, proofs: &mut impl Write) -> io::Result<()> {
     }
 }
 
+fn write_refutation(z: &[u32], tokens: &[Token], proofs: &mut impl Write) -> io::Result<()> {
+    for j in z {
+        writeln!(proofs, "z {}", j + 1)?;
+    }
+    writeln!(proofs, "walk")?;
+    write_tokens(tokens, proofs)
+}
+
 /// The lines of an entry; the fault counts from 1.
 pub fn write_entry(number: u32, entry: &Entry, proofs: &mut impl Write) -> io::Result<()> {
     match entry {
         Entry::Untestable { z, tokens } => {
             writeln!(proofs, "entry {number} untestable")?;
-            for j in z {
-                writeln!(proofs, "z {}", j + 1)?;
+            write_refutation(z, tokens, proofs)
+        }
+        Entry::UntestableFrom { state, clauses, z, tokens } => {
+            writeln!(proofs, "entry {number} untestable from {}", bits(state))?;
+            for clause in clauses {
+                write!(proofs, "clause")?;
+                clause.literals.iter().try_for_each(|(j, bit)| write!(proofs, " {} {}", j + 1, u8::from(*bit)))?;
+                writeln!(proofs)?;
+                write_tokens(&clause.tokens, proofs)?;
             }
-            writeln!(proofs, "walk")?;
-            write_tokens(tokens, proofs)
+            write_refutation(z, tokens, proofs)
         }
         Entry::Aborted { told, walk, aim, sweep } => {
             writeln!(proofs, "entry {number} aborted")?;

@@ -1,6 +1,7 @@
 //! Some frames of the good and of the faulty machine over sets of pairs, changed in place: by events when a variable is
 //! decided, and by a trail when decisions are taken back.
 use crate::circuit::{Circuit, Rows};
+use crate::clauses::Under;
 use crate::faults::{Fault, Site};
 use crate::sets::{self, Set};
 use crate::words::Value::{self, One, Unknown, Zero};
@@ -117,6 +118,8 @@ pub struct Window<'c> {
     stuck: Stuck,
     pub frames: usize,
     pub start: Start,
+    /// The clauses that its states meet, where there are any.
+    pub under: Option<Under>,
     /// The set of each net, frame by frame, and what cells held before the decisions.
     cells: Vec<Set>,
     trail: Vec<(u32, Set)>,
@@ -136,6 +139,7 @@ impl<'c> Window<'c> {
             stuck: Stuck::of(None),
             frames: 0,
             start: Start::Unknown,
+            under: None,
             cells: Vec::new(),
             trail: Vec::new(),
             values: Vec::new(),
@@ -169,6 +173,7 @@ impl<'c> Window<'c> {
         self.stuck = Stuck::of(fault);
         self.frames = frames;
         self.start = start;
+        self.under = None;
         self.trail.clear();
         self.path.clear();
         self.values.clear();

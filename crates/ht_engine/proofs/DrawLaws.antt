@@ -39,6 +39,8 @@ module _ (e now : EngineView) (listed : List Fault) (grader : GraderView) (words
         budget = is.budget;
         kinds = is.kinds;
         place = is.place;
+        found = is.found;
+        holds = is.holds;
         words =
             after_is
             ∙ ap (λ (k : ℕ). after_words k words) width_is

@@ -22,6 +22,7 @@ use Rattle.ht_tree.specs.declared.kind.EntryKind.TheVariants as kind
 use Rattle.ht_tree.specs.Entries.{kind_of}
 use Rattle.ht_tree.specs.Entries.{Passes}
 use Rattle.ht_tree.specs.Reached.{AreVectors}
+use Rattle.ht_invariant.specs.declared.finding.Invariant.{Invariant}
 use Rattle.ht_entries.specs.declared.numbered.Numbered.{Numbered}
 use Rattle.ht_valid.specs.ValidFiles.{HasEntry, IsOwn}
 use Rattle.ht_random.proofs.RandomVectorLaws.{random_vectors_count}
@@ -159,6 +160,8 @@ module _ (e new : EngineView) (steps : List Step) (s : EngineStandsFor e steps) 
     after = all_given e steps s g.none_left;
     fault = g.fault;
     next = is_next e steps s g.fault g.next;
+    invariant = e.zero_invariant;
+    found = g.found;
     given = g.given;
   })
 
@@ -236,6 +239,8 @@ module _ (e new : EngineView) (steps : List Step) (s : EngineStandsFor e steps) 
     after = all_given e steps s g.none_left;
     fault = fault;
     next = is_next e steps s fault g.next;
+    invariant = e.zero_invariant;
+    found = g.found;
     given = (refl, g.given);
   })
 
@@ -458,10 +463,11 @@ module _ (e now : EngineView) (listed : List Fault) (grader : GraderView) (words
   fault_of i f got = got ∙ ap (λ (l : List Fault). get_or l i no_fault) known.faults
 
   -- what holds of the work on a listed fault holds of what it gave
-  pub of_work : (P : Netlist → Fault → ℕ → Work → Type 0) (i : ℕ) (f : Fault) → f ≡ get_or listed i no_fault
-      → (w given : Work) → w ≡ given → P e.circuit f e.settings.budget w
-      → P now.circuit (fault_at now.circuit i) now.settings.budget given
+  pub of_work : (P : Netlist → Fault → ℕ → Invariant → Work → Type 0) (i : ℕ) (f : Fault)
+      → f ≡ get_or listed i no_fault → (w given : Work) → w ≡ given
+      → P e.circuit f e.settings.budget e.zero_invariant w
+      → P now.circuit (fault_at now.circuit i) now.settings.budget now.zero_invariant given
   of_work P i f got w given is_given h =
-      subst (P now.circuit (fault_at now.circuit i) now.settings.budget) is_given
-      (subst (λ (f : Fault). P now.circuit f now.settings.budget w) (fault_of i f got)
-      (subst (λ (v : EngineView). P v.circuit f v.settings.budget w) at h))
+      subst (P now.circuit (fault_at now.circuit i) now.settings.budget now.zero_invariant) is_given
+      (subst (λ (f : Fault). P now.circuit f now.settings.budget now.zero_invariant w) (fault_of i f got)
+      (subst (λ (v : EngineView). P v.circuit f v.settings.budget v.zero_invariant w) at h))

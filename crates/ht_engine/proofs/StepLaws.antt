@@ -6,25 +6,19 @@ use Rattle.std.proofs.lemmas.Bool.{lt-ltb}
 use Rattle.std.proofs.lemmas.List.{append-nil, map-append}
 use Rattle.std.proofs.lemmas.List.Concat.{flat_map-append}
 use Rattle.std.proofs.lemmas.List.Elements.{All-append, All-cons, All-head, All-nil, All-tail, Contains-append_cases, Contains-append_left, Contains-append_right}
-use Rattle.ht_net.specs.declared.fault.Fault.{Fault}
 use Rattle.ht_net.specs.Netlist.{Netlist}
 use Rattle.ht_net.specs.Rows.{Rows}
 use Rattle.ht_net.specs.Detection.{IsFirstDetection}
 use Rattle.ht_collapse.specs.Classes.{fault_at}
 use Rattle.ht_tree.specs.declared.entry.Entry as recorded
-use Rattle.ht_tree.specs.declared.entry.Entry.TheVariants.{Untestable, UntestableFrom, Aborted}
 use Rattle.ht_tree.specs.Rising.{Rises}
 use Rattle.ht_entries.specs.declared.numbered.Numbered.{Numbered}
-use Rattle.ht_entries.specs.declared.format.Format.TheVariants.{One}
-use Rattle.ht_entries.specs.EntryLines.{whole_part}
-use Rattle.ht_entries.specs.EntryTexts.{FitsFormat, has_form, numbers_of}
+use Rattle.ht_entries.specs.EntryTexts.{numbers_of}
 use Rattle.ht_entries.specs.ProofSteps.{is_above}
 use Rattle.ht_entries.proofs.RisesLaws.{rises_add, rises_none}
 use Rattle.ht_valid.specs.ValidFiles.{HasEntry, IsOwn}
 use Rattle.ht_engine.specs.declared.step.Step.{Step}
 use Rattle.ht_engine.specs.declared.step.Step.TheVariants.{Vectors, Entry, Finished}
-use Rattle.ht_engine.specs.declared.work.Work.TheVariants as work
-use Rattle.ht_engine.specs.FaultWork.{IsWork}
 use Rattle.ht_engine.specs.Steps.{AreSteps, AwaitsVerdict, Follows, IsNextFault, IsOwnEntry, IsWorkStep, entries_of, none, one_more, one_vector, step_entries, step_vectors, vectors_of_steps}
 use Rattle.ht_engine.proofs.MoreVectorsLaws.{undetected_before}
 
@@ -112,21 +106,12 @@ above_entries (e ∷ []) j h = lt-ltb e.number j (All-head (λ (e : Numbered). e
 above_entries (e ∷ f ∷ entries) j h =
     above_entries (f ∷ entries) j (All-tail (λ (e : Numbered). e.number < j) e (f ∷ entries) h)
 
--- the first format has the form of each entry that the work on a fault makes
-made_form : (c : Netlist) (fault : Fault) (budget : ℕ) (e : recorded.Entry) → IsWork c fault budget (work.Entry e)
-    → has_form One (whole_part e) ≡ true
-made_form c fault budget (Untestable z tokens) is = refl
-made_form c fault budget (UntestableFrom state clauses z tokens) is = absurd is
-made_form c fault budget (Aborted told walk aim sweep) is = refl
-
--- Each entry is of a lower fault than those that still await their verdict; the entries rise, each of an own fault, and
--- the first format has their forms.
+-- Each entry is of a lower fault than those that still await their verdict; the entries rise, each of an own fault.
 pub record AreInOrder (c : Netlist) (representatives : List ℕ) (steps : List Step) : Type 0 where
   pub below : (k : ℕ) → AwaitsVerdict c representatives steps k
       → All (λ (e : Numbered). e.number < k + 1) (entries_of steps)
   pub rises : Rises (numbers_of (entries_of steps))
   pub own : All (IsOwnEntry c representatives) (entries_of steps)
-  pub fits : All (FitsFormat One) (entries_of steps)
 
 after_list : (c : Netlist) (representatives : List ℕ) (steps : List Step) (list : Rows)
     → AreInOrder c representatives steps → AreInOrder c representatives (steps ++ Vectors list ∷ [])
@@ -137,7 +122,6 @@ after_list c representatives steps list o =
           (o.below k (awaited_before c representatives steps (Vectors list) k a));
       rises = subst (λ (entries : List Numbered). Rises (numbers_of entries)) same o.rises;
       own = subst (All (IsOwnEntry c representatives)) same o.own;
-      fits = subst (All (FitsFormat One)) same o.fits;
     }
 
 above_by : (i k : ℕ) → (k < i → ⊥) → (i ≡ k → ⊥) → i < k
@@ -163,9 +147,9 @@ rises_more entries i e rises below =
     (rises_add (numbers_of entries) (i + 1) rises (above_entries entries (i + 1) below))
 
 after_entry : (c : Netlist) (representatives : List ℕ) (steps : List Step) (i : ℕ) (e : recorded.Entry)
-    → IsNextFault c representatives steps i → has_form One (whole_part e) ≡ true → AreInOrder c representatives steps
+    → IsNextFault c representatives steps i → AreInOrder c representatives steps
     → AreInOrder c representatives (steps ++ Entry i e ∷ [])
-after_entry c representatives steps i e n form o =
+after_entry c representatives steps i e n o =
     let more = sym (entries_more steps (Entry i e)) in
     let entries = entries_of steps in
     let last = numbered i e in
@@ -182,9 +166,6 @@ after_entry c representatives steps i e n form o =
           let P : Numbered → Type 0 = IsOwnEntry c representatives in
           subst (All P) more (All-append P entries (last ∷ []) o.own
           (All-cons P last [] (own_entry c representatives i e n.awaits.own) (All-nil P)));
-      fits =
-          let P : Numbered → Type 0 = FitsFormat One in
-          subst (All P) more (All-append P entries (last ∷ []) o.fits (All-cons P last [] form (All-nil P)));
     }
 
 after_work : (c : Netlist) (representatives : List ℕ) (first : List (List Bool)) (budget : ℕ) (steps : List Step)
@@ -192,8 +173,7 @@ after_work : (c : Netlist) (representatives : List ℕ) (first : List (List Bool
     → AreInOrder c representatives (steps ++ step ∷ [])
 after_work c representatives first budget steps (Vectors list) f o = after_list c representatives steps list o
 after_work c representatives first budget steps (Entry fault e) f o =
-    after_entry c representatives steps fault e (subst (IsNextFault c representatives steps) (sym f.given.0) f.next)
-    (made_form c (fault_at c f.fault) budget e f.given.1) o
+    after_entry c representatives steps fault e (subst (IsNextFault c representatives steps) (sym f.given.0) f.next) o
 after_work c representatives first budget steps Finished f o = absurd f.given
 
 after_step : (c : Netlist) (representatives : List ℕ) (first : List (List Bool)) (budget : ℕ) (steps : List Step)
@@ -211,7 +191,6 @@ steps_in_order c representatives first budget steps none = record {
   below = λ k a. All-nil _;
   rises = rises_none;
   own = All-nil _;
-  fits = All-nil _;
 }
 steps_in_order c representatives first budget steps (one_more before step are follows) =
     after_step c representatives first budget before step follows

@@ -9,12 +9,14 @@ use Rattle.ht_texts.specs.SearchReports.{IsBudget}
 use Rattle.ht_random.specs.RandomVectors.{generator_after}
 use Rattle.ht_engine.specs.declared.engine.Engine.TheInside.{Inside}
 use Rattle.ht_engine.specs.EngineStands.{EngineView}
+use Rattle.ht_engine.specs.FaultWork.{HoldsIfAny, IsZeroInvariant}
 
 abbrev pub engine_of : Inside → EngineView
 engine_of a = record {
   circuit = a.circuit.now;
   representatives = a.classes.now;
   settings = record { budget = a.budget; random = a.random; seed = a.seed };
+  zero_invariant = a.zero_invariant;
   list = a.grader.list;
   kinds = a.kinds.items;
   place = a.place;
@@ -22,8 +24,8 @@ engine_of a = record {
   live = a.live;
 }
 
--- The faults and the grader are the circuit's, each fault has a place for its kind, and the words are those of the
--- random vectors that are left.
+-- The faults and the grader are the circuit's, each fault has a place for its kind, the invariant is the one that is
+-- found, and the words are those of the random vectors that are left.
 pub record IsEngine (e : EngineView) (listed : List Fault) (grader : GraderView) (generator : Lcg) : Type 0 where
   pub faults : listed ≡ faults_of e.circuit
   pub classes : AreClasses e.circuit e.representatives
@@ -33,6 +35,8 @@ pub record IsEngine (e : EngineView) (listed : List Fault) (grader : GraderView)
   pub kinds : length e.kinds ≡ length e.representatives
   pub place : e.place ≤ length e.representatives
   pub left : e.left ≤ e.settings.random
+  pub found : IsZeroInvariant e.circuit e.settings.budget e.zero_invariant
+  pub holds : HoldsIfAny e.circuit e.zero_invariant
   pub words : generator ≡ generator_after e.circuit.inputs (e.settings.random - e.left) e.settings.seed
 
 -- The fields of an engine, with bases of its circuit.

@@ -11,6 +11,7 @@ use Rattle.ht_texts.specs.declared.said.Said.TheVariants as said
 use Rattle.ht_tree.specs.declared.entry.Entry as recorded
 use Rattle.ht_tree.specs.declared.kind.EntryKind.{EntryKind}
 use Rattle.ht_tree.specs.declared.kind.EntryKind.TheVariants as kind
+use Rattle.ht_invariant.specs.declared.finding.Invariant.{Invariant}
 use Rattle.ht_entries.specs.declared.numbered.Numbered.{Numbered}
 use Rattle.ht_valid.specs.ValidFiles.{HasEntry}
 use Rattle.ht_engine.specs.declared.step.Step.{Step}
@@ -22,6 +23,8 @@ pub record EngineView : Type 0 where
   pub circuit : Netlist
   pub representatives : List ℕ
   pub settings : Settings
+  -- the invariant of the state in which each latch holds 0
+  pub zero_invariant : Invariant
   -- what it keeps of the steps so far: their vectors, the kind of each fault's entry, and the number of the first fault
   -- that may still await its verdict
   pub list : List (List Bool)

@@ -15,7 +15,7 @@ use Rattle.ht_engine.specs.declared.step.Step.TheVariants.{Vectors, Entry, Finis
 use Rattle.ht_engine.specs.declared.work.Work.TheVariants as work
 use Rattle.ht_engine.specs.Attempts.{DetectsAlways}
 use Rattle.ht_engine.specs.EngineStands.{EngineView, first_of}
-use Rattle.ht_engine.specs.FaultWork.{IsWork}
+use Rattle.ht_engine.specs.FaultWork.{IsWork, IsZeroInvariant}
 use Rattle.ht_engine.specs.Steps.{one_vector}
 
 -- ---- the fault that is worked on
@@ -59,17 +59,21 @@ pub record GivesRandom (old new : EngineView) (list : Rows) : Type 0 where
 -- A list was given for the next fault: its vectors are kept.
 pub record GivesList (old new : EngineView) (list : Rows) : Type 0 where
   pub none_left : old.left ≡ 0
+  pub found : IsZeroInvariant old.circuit old.settings.budget old.zero_invariant
   pub fault : ℕ
   pub next : IsNextUndetected old fault
-  pub given : IsWork old.circuit (fault_at old.circuit fault) old.settings.budget (work.List list)
+  pub given : IsWork old.circuit (fault_at old.circuit fault) old.settings.budget old.zero_invariant
+      (work.List list)
   pub holds : DetectsAlways old.circuit (fault_at old.circuit fault) list
   pub after : new ≡ record old { list = old.list ++ list.list; place = fault + 1 }
 
 -- An entry was given for the next fault: its kind is kept.
 pub record GivesEntry (old new : EngineView) (fault : ℕ) (entry : recorded.Entry) : Type 0 where
   pub none_left : old.left ≡ 0
+  pub found : IsZeroInvariant old.circuit old.settings.budget old.zero_invariant
   pub next : IsNextUndetected old fault
-  pub given : IsWork old.circuit (fault_at old.circuit fault) old.settings.budget (work.Entry entry)
+  pub given : IsWork old.circuit (fault_at old.circuit fault) old.settings.budget old.zero_invariant
+      (work.Entry entry)
   pub holds : Passes old.circuit (fault_at old.circuit fault) old.settings.budget entry
   pub room : fault < length old.kinds
   pub after : new

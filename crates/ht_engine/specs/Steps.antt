@@ -6,11 +6,12 @@ use Rattle.ht_net.specs.Detection.{IsFirstDetection}
 use Rattle.ht_collapse.specs.Classes.{fault_at}
 use Rattle.ht_entries.specs.declared.numbered.Numbered.{Numbered}
 use Rattle.ht_valid.specs.ValidFiles.{HasEntry, IsOwn}
+use Rattle.ht_invariant.specs.declared.finding.Invariant.{Invariant}
 use Rattle.ht_random.specs.RandomVectors.{random_vectors}
 use Rattle.ht_engine.specs.declared.work.Work.TheVariants as work
 use Rattle.ht_engine.specs.declared.step.Step.{Step}
 use Rattle.ht_engine.specs.declared.step.Step.TheVariants.{Vectors, Entry, Finished}
-use Rattle.ht_engine.specs.FaultWork.{IsWork}
+use Rattle.ht_engine.specs.FaultWork.{IsWork, IsZeroInvariant}
 
 -- ---- the vectors and the entries of steps
 
@@ -66,23 +67,27 @@ one_vector c vector = record { width = c.inputs; list = vector ∷ [] }
 -- ---- the steps
 
 -- the step is what the work on fault i gives
-abbrev pub IsStepOn : Netlist → ℕ → ℕ → Step → Type 0
-IsStepOn c budget i (Vectors list) = IsWork c (fault_at c i) budget (work.List list)
-IsStepOn c budget i (Entry fault entry) = (fault ≡ i) × IsWork c (fault_at c i) budget (work.Entry entry)
-IsStepOn c budget i Finished = ⊥
+abbrev pub IsStepOn : Netlist → ℕ → Invariant → ℕ → Step → Type 0
+IsStepOn c budget invariant i (Vectors list) = IsWork c (fault_at c i) budget invariant (work.List list)
+IsStepOn c budget invariant i (Entry fault entry) =
+    (fault ≡ i) × IsWork c (fault_at c i) budget invariant (work.Entry entry)
+IsStepOn c budget invariant i Finished = ⊥
 
 -- The step gives the next of the first vectors, by itself.
 pub record IsFirstStep (c : Netlist) (first : List (List Bool)) (before : List Step) (step : Step) : Type 0 where
   pub left : length before < length first
   pub given : step ≡ Vectors (one_vector c (get_or first (length before) []))
 
--- The first vectors are all given, and the step is what the work on the next fault gives.
+-- The first vectors are all given, and the step is what the work on the next fault gives, with the invariant that is
+-- found from the state in which each latch holds 0.
 pub record IsWorkStep (c : Netlist) (representatives : List ℕ) (first : List (List Bool)) (budget : ℕ)
     (before : List Step) (step : Step) : Type 0 where
   pub after : length first ≤ length before
   pub fault : ℕ
   pub next : IsNextFault c representatives before fault
-  pub given : IsStepOn c budget fault step
+  pub invariant : Invariant
+  pub found : IsZeroInvariant c budget invariant
+  pub given : IsStepOn c budget invariant fault step
 
 -- the step may come after these
 abbrev pub Follows : Netlist → List ℕ → List (List Bool) → ℕ → List Step → Step → Type 0

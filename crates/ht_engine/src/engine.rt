@@ -1,5 +1,5 @@
 //! The generator over all representatives, one step at a time.
-ghost use Rattle.std.specs.Prelude.{◌≡◌, ◌≢◌, ◌↔◌, ◌≤◌, ◌<◌, ◌+◌, ◌-◌, ◌^◌, ℕ, List, [], true, false, None, length, get_or, IfOk, OnErr, OnOk};
+ghost use Rattle.std.specs.Prelude.{◌≡◌, ◌≢◌, ◌↔◌, ◌≤◌, ◌<◌, ◌+◌, ◌-◌, ◌^◌, ℕ, List, [], true, false, None, length, get_or, replicate, IfOk, OnErr, OnOk};
 ghost use Rattle.std.specs.Option.{ForSome};
 ghost use Rattle.ht_net.specs.Netlist.{Netlist};
 ghost use Rattle.ht_faults.specs.Sites.{faults_of};
@@ -22,6 +22,7 @@ use crate::work::{Work, work_on};
 use ht_collapse::Classes;
 use ht_faults::FaultList;
 use ht_grade::Grader;
+use ht_invariant::{Invariant, find};
 use ht_net::{Circuit, Vectors};
 use ht_random::Words;
 use ht_texts::Said;
@@ -36,6 +37,13 @@ fn no_kinds(alloc: Global, count: u32) -> Result<Vec<Option<EntryKind>>, AllocEr
     ensures none { IfOk result (λ kinds. (i : ℕ) → i < count → get_or kinds.items i None ≡ None) }
 {
     vec![in alloc; None; count as usize]
+}
+
+// As many latches, each of which holds 0.
+fn zero_latches(alloc: Global, count: u32) -> Result<Vec<bool>, AllocError>
+    ensures { IfOk result (λ latches. latches.items ≡ replicate count false) }
+{
+    vec![in alloc; false; count as usize]
 }
 
 // What is said of a fault that no vectors detect, by the kind of its entry.
@@ -60,6 +68,8 @@ pub struct Engine<'c> {
     grader: Grader<'c>,
     // what the windows for each fault are copied from
     bases: Bases<'c>,
+    // the clauses that hold in each run from the state in which each latch holds 0
+    zero_invariant: Invariant,
     // the kind of each fault's entry, by number from 0
     kinds: Vec<Option<EntryKind>>,
     // the first fault that may still await its verdict
@@ -112,6 +122,8 @@ impl<'c> Engine<'c> {
         let grader = Grader::new(alloc, circuit, faults, classes)?;
         let kinds = no_kinds(alloc, classes.len())?;
         let bases = Bases::new(alloc, circuit)?;
+        let zeros = zero_latches(alloc, circuit.dffs())?;
+        let zero_invariant = find(alloc, circuit, &zeros, budget)?;
         Ok(Engine {
             alloc,
             circuit,
@@ -120,6 +132,7 @@ impl<'c> Engine<'c> {
             budget,
             grader,
             bases,
+            zero_invariant,
             kinds,
             place: 0,
             random,
@@ -191,7 +204,7 @@ impl<'c> Engine<'c> {
         requires none_left { self.old.left ≡ 0 }
         requires next { IsNextUndetected self.old fault }
         requires given { IsWork self.old.circuit (fault_at self.old.circuit fault)
-            self.old.settings.budget (work.List list) }
+            self.old.settings.budget self.old.zero_invariant (work.List list) }
         requires holds { DetectsAlways self.old.circuit (fault_at self.old.circuit fault) list }
         ensures advances { IfOk result (Advances self.old self.new) }
         ensures same { OnErr result (self.new ≡ self.old) }
@@ -207,7 +220,7 @@ impl<'c> Engine<'c> {
         requires none_left { self.old.left ≡ 0 }
         requires next { IsNextUndetected self.old fault }
         requires given { IsWork self.old.circuit (fault_at self.old.circuit fault)
-            self.old.settings.budget (work.Entry entry) }
+            self.old.settings.budget self.old.zero_invariant (work.Entry entry) }
         requires holds { Passes self.old.circuit (fault_at self.old.circuit fault)
             self.old.settings.budget entry }
         ensures { Advances self.old self.new result }
@@ -234,6 +247,7 @@ impl<'c> Engine<'c> {
             &mut self.bases,
             self.faults.get(fault),
             self.budget,
+            &self.zero_invariant,
         )? {
             Work::List(list) => self.give_list(fault, list),
             Work::Entry(entry) => Ok(self.give_entry(fault, entry)),

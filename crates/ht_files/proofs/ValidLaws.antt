@@ -1,5 +1,5 @@
 -- The files of the steps that a finished engine stands for are valid.
-use Rattle.std.proofs.Common.{◌≡◌, ◌≤◌, ◌+◌, ◌-◌, ℕ, List, Some, length, subst, arith}
+use Rattle.std.proofs.Common.{◌≡◌, ◌≤◌, ◌+◌, ◌-◌, ℕ, List, true, Some, length, refl, subst, arith}
 use Rattle.std.specs.List.{Contains}
 use Rattle.std.proofs.lemmas.List.Elements.{All-contains}
 use Rattle.ht_net.specs.Netlist.{IsCircuit}
@@ -7,6 +7,8 @@ use Rattle.ht_faults.specs.Sites.{faults_of}
 use Rattle.ht_collapse.specs.Classes.{AreClasses, fault_at}
 use Rattle.ht_bench.proofs.AllLaws.{all_from}
 use Rattle.ht_ports.specs.LineRule.{max_text_bytes}
+use Rattle.ht_tree.specs.declared.entry.Entry.{Entry}
+use Rattle.ht_tree.specs.declared.entry.Entry.TheVariants as entries
 use Rattle.ht_tree.specs.Entries.{Passes}
 use Rattle.ht_texts.specs.declared.said.Said.{Said}
 use Rattle.ht_texts.specs.Reports.{report_text}
@@ -15,8 +17,9 @@ use Rattle.ht_texts.specs.Verdicts.{said_at}
 use Rattle.ht_texts.proofs.ReportWrittenLaws.{written_is_report}
 use Rattle.ht_texts.proofs.WrittenLaws.{written_is_test_text}
 use Rattle.ht_entries.specs.declared.numbered.Numbered.{Numbered}
-use Rattle.ht_entries.specs.EntryTexts.{AreEntryTexts, IsEntryText}
-use Rattle.ht_entries.specs.declared.format.Format.TheVariants.{One}
+use Rattle.ht_entries.specs.EntryTexts.{AreEntryTexts, FitsFormat, IsEntryText, has_form}
+use Rattle.ht_entries.specs.EntryLines.{whole_part}
+use Rattle.ht_entries.specs.declared.format.Format.TheVariants.{Two}
 use Rattle.ht_entries.proofs.TextLaws.{written_is_proof_text}
 use Rattle.ht_valid.specs.ValidFiles.{AreValid, IsBacking, IsOwn}
 use Rattle.ht_valid.proofs.EntryTextLaws.{passing_text}
@@ -28,6 +31,12 @@ use Rattle.ht_files.specs.Generated.{content_of}
 use Rattle.ht_files.specs.Saids.{AreSaid}
 use Rattle.ht_files.specs.StepTexts.{proofs_of, tests_of}
 use Rattle.ht_files.proofs.SaidLaws.{agrees_if_said, backs_if_said, has_entry_if_said}
+
+-- the second format has each form of an entry
+second_has : (e : Entry) → has_form Two (whole_part e) ≡ true
+second_has (entries.Untestable z tokens) = refl
+second_has (entries.UntestableFrom state clauses z tokens) = refl
+second_has (entries.Aborted told walk aim sweep) = refl
 
 -- Steps that an engine stands for when it is finished, and what it says of each fault.
 pub record IsFinishedWork (e : EngineView) (steps : List Step) (saids : List Said) : Type 0 where
@@ -85,10 +94,10 @@ module _ (e : EngineView) (steps : List Step) (saids : List Said) (work : IsFini
       (passing_text e.circuit (fault_at e.circuit (entry.number - 1)) e.settings.budget (entry.number - 1) entry.entry
       work.circuit number.own.listed work.budget.1 (passes entry among))
 
-  have_texts : AreEntryTexts One (entries_of steps)
+  have_texts : AreEntryTexts Two (entries_of steps)
   have_texts = record {
     each = all_from IsEntryText (entries_of steps) has_text;
-    fits = in_order.fits;
+    fits = all_from (FitsFormat Two) (entries_of steps) (λ entry among. second_has entry.entry);
     rises = in_order.rises;
   }
 
@@ -118,7 +127,7 @@ module _ (e : EngineView) (steps : List Step) (saids : List Said) (work : IsFini
     reported = written_is_report e.circuit e.representatives e.settings.budget saids work.circuit work.classes names
         is_search short_report;
     agrees = λ i own. agrees_if_said e steps i (work.finished.none_awaits i) (said_at saids i) (says i own);
-    proved = written_is_proof_text One (entries_of steps) have_texts short_proofs;
+    proved = written_is_proof_text Two (entries_of steps) have_texts short_proofs;
     backed = all_from (IsBacking e.circuit e.representatives (content_of e.settings.budget steps saids))
         (entries_of steps) is_backing;
     complete = λ i own needs. has_entry_if_said e steps i (work.finished.none_awaits i) (said_at saids i)

@@ -5,7 +5,7 @@ ghost use Rattle.ht_bench.specs.Text.{IsNetlistOf};
 ghost use Rattle.ht_collapse.specs.Classes.{AreClasses};
 ghost use Rattle.ht_texts.specs.Lines.{with_lf};
 ghost use Rattle.ht_texts.specs.SearchReports.{HasPlainNames, HasShortNames};
-ghost use Rattle.ht_entries.specs.declared.format.Format.TheVariants.{One};
+ghost use Rattle.ht_entries.specs.declared.format.Format.TheVariants.{Two};
 ghost use Rattle.ht_entries.specs.declared.proof_line.ProofLine.TheVariants as line;
 ghost use Rattle.ht_entries.specs.ProofLines.{line_text};
 ghost use Rattle.ht_valid.specs.declared.trouble.Trouble.{Trouble};
@@ -35,7 +35,7 @@ pub fn files_grow_by_steps()
 
 /// The proofs begin with the head line, and the end line makes them whole.
 pub fn proofs_begin_and_end()
-    ensures begin { proofs_so_far [] ≡ with_lf (line_text (line.Head One)) }
+    ensures begin { proofs_so_far [] ≡ with_lf (line_text (line.Head Two)) }
     ensures end { (steps : List made.Step)
         → proofs_of steps ≡ proofs_so_far steps ++ with_lf (line_text line.End) }
 {}

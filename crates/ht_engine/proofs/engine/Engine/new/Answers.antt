@@ -1,9 +1,12 @@
-use Rattle.std.specs.Prelude.{◌≡◌, ◌<◌, ◌-◌, ℕ, [], None, length, refl}
+use Rattle.std.specs.Prelude.{◌≡◌, ◌<◌, ◌-◌, ℕ, List, [], Bool, false, None, length, refl, replicate}
 use Rattle.std.proofs.Common.{arith, ap, subst, sym, ◌∙◌}
 use Rattle.std.proofs.lemmas.List.Elements.{All-nil}
 use Rattle.ht_grade.specs.GraderView.{GraderView}
+use Rattle.ht_tree.specs.Invariants.{IsInvariant}
+use Rattle.ht_invariant.specs.Found.{FindsClauses}
 use Rattle.ht_random.specs.RandomVectors.{generator_after}
 use Rattle.ht_valid.specs.ValidFiles.{HasEntry}
+use Rattle.ht_engine.specs.FaultWork.{zero_state}
 use Rattle.ht_engine.specs.EngineStands.{EngineStandsFor, EngineView, IsKindIn, kind_at}
 use Rattle.ht_engine.specs.Steps.{none}
 use Rattle.ht_engine.proofs.engine.Engine.new.Goals as goal
@@ -29,6 +32,11 @@ new_stands e list empty place left = record {
 pub invariant_of-result : goal.invariant_of-result
 invariant_of-result c =
     let started = c.in_ok-grader.ensures in
+    let made = c.in_ok-zero_invariant.ensures in
+    let clauses = c.in_ok-zero_invariant.zero_invariant.clauses in
+    let zeros : c.deref.result.now ≡ zero_state c.args.circuit.now =
+    c.deref.ensures.value
+    ∙ (c.in_ok-zeros.ensures ∙ ap (λ (n : ℕ). replicate n false) c.dffs.ensures) in
     let none_drawn : c.args.random - c.args.random ≡ 0 = omega arith in
     record {
       engine = record {
@@ -40,6 +48,12 @@ invariant_of-result c =
         kinds = c.in_ok-kinds.ensures.each ∙ c.len.ensures;
         place = omega arith;
         left = omega arith;
+        found = record {
+          state = made.state ∙ zeros;
+          found = subst (λ (s : List Bool). FindsClauses c.args.circuit.now c.args.budget s clauses) zeros made.clauses;
+        };
+        holds = λ some.
+            subst (λ (s : List Bool). IsInvariant c.args.circuit.now s clauses) (sym made.state) (made.holds some);
         words = c.from_seed.ensures
             ∙ ap (λ k. generator_after c.args.circuit.now.inputs k c.args.seed) (sym none_drawn);
       };
