@@ -1,5 +1,0 @@
-pub mod Trials
-pub mod Rounds
-pub mod Found
-pub mod FromStates
-pub mod FromAnswers
