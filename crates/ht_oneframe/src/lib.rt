@@ -12,13 +12,16 @@
 //! |---|---|
 //! | refutation | the rounds: `refute`, `refute_from_bases` |
 //! | round | one search |
-//! | told_frame | what a search tells |
+//! | telling | what a search tells |
 //! | marks | the set |
 #![tactic(auto)]
 
 mod marks;
 mod refutation;
 mod round;
-mod told_frame;
+mod telling;
 
+pub use marks::marked;
 pub use refutation::{OneFrame, refute, refute_from_bases};
+pub use round::Round;
+pub use telling::told_frame;

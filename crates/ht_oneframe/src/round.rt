@@ -1,9 +1,9 @@
 //! One round: the search of a one-frame window.
 ghost use Rattle.std.specs.Prelude.{◌≡◌, length, IfOk};
 ghost use Rattle.ht_window.specs.Starts.{marked};
-ghost use Rattle.ht_oneframe.specs.Rounds.{IsRound};
+ghost use Rattle.ht_oneframe.specs.Rounds.{IsRound, guide_in};
 
-use crate::told_frame::told_frame;
+use crate::telling::told_frame;
 use ht_items::Items;
 use ht_net::Fault;
 use ht_search::Outcome;
@@ -37,7 +37,8 @@ pub fn search_one_frame(
 ) -> Result<Round, AllocError>
     requires { length marks.now ≡ length bases.old.circuit.dffs }
     ensures circuit { bases.new.circuit ≡ bases.old.circuit }
-    ensures round { IfOk result (IsRound bases.old.circuit fault budget (marked 0 marks.now)) }
+    ensures round { IfOk result (IsRound bases.old.circuit fault (guide_in bases.old.circuit fault)
+        budget (marked 0 marks.now)) }
 {
     // for the proof: the circuit is well formed
     let _ = bases.circuit().nets();

@@ -1,0 +1,9 @@
+pub mod KnownLaws
+pub mod LiteralLaws
+pub mod LookLaws
+pub mod StateLaws
+pub mod OfferLaws
+pub mod TrialLaws
+pub mod ClosingRoundLaws
+pub mod FindLaws
+pub mod BaseLaws

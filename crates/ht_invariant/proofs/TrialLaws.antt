@@ -1,0 +1,107 @@
+-- What a window under clauses says of the node where its decisions stand.
+use Rattle.std.proofs.Common.{◌≡◌, ◌∙◌, ℕ, List, [], ◌∷◌, Bool, true, false, Option, IsTrue, refl, sym, ap, subst}
+use Rattle.ht_tern.specs.declared.tern.Tern.{Tern}
+use Rattle.ht_net.specs.declared.fault.Fault.{Fault}
+use Rattle.ht_net.specs.Netlist.{Netlist}
+use Rattle.ht_tree.specs.declared.token.Assign3.{Assign3}
+use Rattle.ht_tree.specs.declared.token.Choice.{Choice}
+use Rattle.ht_tree.specs.declared.token.Choice.TheVariants as choice
+use Rattle.ht_tree.specs.declared.token.Status3.TheVariants as status3
+use Rattle.ht_tree.specs.Walks.{Node, Fits, decides, path_of}
+use Rattle.ht_tree.specs.Searches.{deciding_token, guide_of}
+use Rattle.ht_tree.specs.Windows.{Start, one_frame, unknown, state_pair, back, IsStart, SearchWindow, IsWindow}
+use Rattle.ht_tree.specs.Variables.{IsLegalChoice, may_two, may_three}
+use Rattle.ht_tree.specs.Counts.{seeks_difference}
+use Rattle.ht_tree.proofs.DifferenceLaws.{window_stays}
+use Rattle.ht_search.specs.Legal.{MayDecide}
+use Rattle.ht_search.specs.WindowSteps.{node_of, steps_under}
+use Rattle.ht_search.proofs.WindowStepLaws.{window_path}
+use Rattle.ht_window.specs.States.{IsLegalDecision}
+use Rattle.ht_trial.proofs.TrialLaws as trial
+use Rattle.ht_tree.specs.declared.clause.Clause.{Clause}
+use Rattle.ht_tree.specs.Clauses.{second_of}
+use Rattle.ht_tree.specs.ClauseWindows.{ClauseWindow, IsClauseWindow, IsSought, is_one_frame, judge_under, status_under}
+use Rattle.ht_tree.specs.ClauseSearches.{guide_under, pick_under}
+use Rattle.ht_clauses.proofs.ChoiceLaws.{open_legal}
+use Rattle.ht_invariant.specs.declared.sought.Sought.{Sought}
+use Rattle.ht_invariant.specs.declared.sought.Sought.TheVariants.{Difference, Breach}
+use Rattle.ht_invariant.specs.Trials.{clause_window, knows_each, knows_sought, sought_of}
+use Rattle.ht_invariant.proofs.KnownLaws.{known_all, known_each}
+
+pub seeks_one : (s : Start) → is_one_frame s ≡ true → seeks_difference s ≡ true
+seeks_one (one_frame z) h = h
+seeks_one unknown h = cc
+seeks_one (state_pair good faulty) h = cc
+seeks_one (back cube limit) h = cc
+
+frames_by : (c : Netlist) (fault : Option Fault) (frames : ℕ) (s : Start) → is_one_frame s ≡ true
+    → IsStart c fault frames s → frames ≡ 1
+frames_by c fault frames (one_frame z) h is = is
+frames_by c fault frames unknown h is = cc
+frames_by c fault frames (state_pair good faulty) h is = cc
+frames_by c fault frames (back cube limit) h is = cc
+
+pub one_frame_long : (w : SearchWindow) → is_one_frame w.start ≡ true → IsWindow w → w.frames ≡ 1
+one_frame_long w h valid = frames_by w.circuit w.fault w.frames w.start h valid.start
+
+sought_known : (c : Netlist) (sought : Sought) → knows_sought c sought ≡ true → IsSought c (sought_of sought)
+sought_known c Difference h = tt
+sought_known c (Breach first second) h = known_all c (first ∷ second_of second) h
+
+module _ (w : SearchWindow) (sought : Sought) (clauses : List Clause) (ds : List Assign3)
+    (one : is_one_frame w.start ≡ true) where
+  abbrev here : Node
+  here = node_of (steps_under [] ds)
+
+  abbrev cw : ClauseWindow
+  cw = clause_window w sought clauses
+
+  path : path_of here ≡ ds
+  path = window_path [] ds
+
+  seeks : seeks_difference w.start ≡ true
+  seeks = seeks_one w.start one
+
+  pub status_here : status_under cw ds ≡ (guide_under cw).judge.status here
+  status_here = ap (status_under cw) (sym path)
+
+  pub choice_here : pick_under cw ds ≡ (guide_under cw).choice here
+  choice_here = ap (pick_under cw) (sym path)
+
+  same_may : (var : ℕ) (value : Tern) → MayDecide (guide_under cw).judge here var value
+      → MayDecide (guide_of w).judge here var value
+  same_may var value may = record { legal = may.legal; undecided = may.undecided }
+
+  pub undecided_here : (var : ℕ) (value : Tern) → MayDecide (guide_under cw).judge here var value
+      → decides ds var ≡ false
+  undecided_here var value may = trial.undecided_here w ds seeks var value (same_may var value may)
+
+  pub legal_here : (var : ℕ) (value : Tern) → MayDecide (guide_under cw).judge here var value
+      → IsLegalDecision w var value
+  legal_here var value may = trial.legal_here w ds seeks var value (same_may var value may)
+
+  fits_by : (chosen : Choice) → (guide_under cw).judge.status here ≡ status3.Open → IsLegalChoice w ds chosen
+      → Fits (guide_under cw).judge here (deciding_token chosen)
+  fits_by (choice.Two var first) opens h = (
+    opens,
+    subst IsTrue (ap (λ (v : SearchWindow). may_two v var) (sym (window_stays w here seeks))) h.0,
+    ap (λ (p : List Assign3). decides p var) path ∙ h.1,
+  )
+  fits_by (choice.Three var) opens h = (
+    opens,
+    subst IsTrue (ap (λ (v : SearchWindow). may_three v var) (sym (window_stays w here seeks))) h.0,
+    ap (λ (p : List Assign3). decides p var) path ∙ h.1,
+  )
+
+  pub choice_fits : IsWindow w → knows_sought w.circuit sought ≡ true → knows_each w.circuit clauses ≡ true
+      → (guide_under cw).judge.status here ≡ status3.Open → (chosen : Choice) → chosen ≡ pick_under cw ds
+      → Fits (guide_under cw).judge here (deciding_token chosen)
+  choice_fits valid known_sought known_clauses opens chosen is =
+      let all : IsClauseWindow cw = record {
+        window = valid;
+        one_frame = one;
+        sought = sought_known w.circuit sought known_sought;
+        known = known_each w.circuit clauses known_clauses;
+      } in
+      fits_by chosen opens
+      (subst (IsLegalChoice w ds) (sym is) (open_legal cw ds all (status_here ∙ opens)))

@@ -1,0 +1,6 @@
+pub mod Looks
+pub mod Trials
+pub mod ClosingRounds
+pub mod UnderWay
+pub mod Found
+pub mod Offers

@@ -1,0 +1,32 @@
+-- Windows under clauses as a search holds them.
+use Rattle.std.specs.Prelude.{◌≡◌, ℕ, List, ◌∷◌, Bool, true, nat_lt, length}
+use Rattle.std.specs.List.{list_all}
+use Rattle.ht_net.specs.Netlist.{Netlist}
+use Rattle.ht_tree.specs.Windows.{SearchWindow}
+use Rattle.ht_tree.specs.declared.clause.Literal.{Literal}
+use Rattle.ht_tree.specs.declared.clause.Clause.{Clause}
+use Rattle.ht_tree.specs.Clauses.{literals_of, literals_of_each, second_of}
+use Rattle.ht_tree.specs.ClauseWindows as windows
+use Rattle.ht_tree.specs.ClauseWindows.{ClauseWindow}
+use Rattle.ht_invariant.specs.declared.sought.Sought.{Sought}
+use Rattle.ht_invariant.specs.declared.sought.Sought.TheVariants.{Difference, Breach}
+
+-- what is looked for, in memory
+abbrev pub sought_of : Sought → windows.Sought
+sought_of Difference = windows.difference
+sought_of (Breach first second) = windows.breach (first ∷ second_of second)
+
+-- a window under clauses, from what a search holds
+abbrev pub clause_window : SearchWindow → Sought → List Clause → ClauseWindow
+clause_window w sought clauses = record { window = w; sought = sought_of sought; clauses = literals_of_each clauses }
+
+-- the flip-flops of literals, of what is looked for, and of clauses are the circuit's
+abbrev pub knows : Netlist → List Literal → Bool
+knows c literals = list_all (λ (literal : Literal). nat_lt literal.dff (length c.dffs)) literals
+
+abbrev pub knows_sought : Netlist → Sought → Bool
+knows_sought c Difference = true
+knows_sought c (Breach first second) = knows c (first ∷ second_of second)
+
+abbrev pub knows_each : Netlist → List Clause → Bool
+knows_each c clauses = list_all (λ (clause : Clause). knows c (literals_of clause)) clauses

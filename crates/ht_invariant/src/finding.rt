@@ -1,0 +1,102 @@
+//! The search for an invariant.
+ghost use Rattle.std.specs.Prelude.{◌≡◌, ◌<◌, ℕ, [], true, false, length, replicate, IfOk, OnOk};
+ghost use Rattle.ht_tree.specs.ClauseWindows.{good_window};
+ghost use Rattle.ht_tree.specs.Invariants.{IsInvariant};
+ghost use Rattle.ht_invariant.specs.Trials.{knows_each};
+ghost use Rattle.ht_invariant.specs.ClosingRounds.{AreClosingRounds};
+ghost use Rattle.ht_invariant.specs.Found.{FindsClauses};
+
+use crate::candidates::kept_candidates;
+use crate::round::round;
+use crate::states::tried_states;
+use ht_tree::Clause;
+use ht_items::Items;
+use ht_net::Circuit;
+use ht_window::{Bases, Start, Window};
+use std::alloc::{AllocError, Global};
+
+/// A state, and clauses that it meets and that no frame breaks: each has a complete walk of its closing window.
+#[derive(Drop)]
+pub struct Invariant {
+    /// A bit for each flip-flop.
+    pub state: Items<bool>,
+    /// The clauses.
+    pub clauses: Items<Clause>,
+}
+
+// The rounds: the first that drops none gives the walks.
+fn close_clauses(
+    alloc: Global,
+    window: Window,
+    clauses: &mut Vec<Clause>,
+    budget: u64,
+) -> Result<(), AllocError>
+    requires good { window.window ≡ good_window window.window.circuit }
+    requires start { window.decisions ≡ [] }
+    requires known { knows_each window.window.circuit clauses.old.items ≡ true }
+    ensures { OnOk result ((n : ℕ)
+        × AreClosingRounds window.entry.window.circuit budget n clauses.old.items clauses.new.items) }
+{
+    let mut current = window;
+    'rounds: loop {
+        let count = clauses.len();
+        let after = round(alloc, current, clauses, budget)?;
+        current = after;
+        if clauses.len() == count {
+            return Ok(());
+        }
+    }
+}
+
+// So many marks, none of which is set.
+fn no_marks(alloc: Global, count: usize) -> Result<Vec<bool>, AllocError>
+    ensures { IfOk result (λ marks. marks.items ≡ replicate count false) }
+{
+    let mut marks = Vec::new(alloc);
+    marks.resize(count, false)?;
+    Ok(marks)
+}
+
+// The window of all closing windows, before its first decision.
+fn closing_base<'c>(alloc: Global, circuit: &'c Circuit) -> Result<Window<'c>, AllocError>
+    ensures window { IfOk result (λ window. window.window ≡ good_window circuit.now) }
+    ensures decisions { IfOk result (λ window. window.decisions ≡ []) }
+{
+    // for the proof: the circuit is well formed
+    let _ = circuit.nets();
+    let marks = no_marks(alloc, circuit.dffs() as usize)?;
+    let z = Items::from_vec(marks);
+    let mut bases = Bases::new(alloc, circuit)?;
+    let window = bases.window(alloc, None, 1, &Start::OneFrame { z })?;
+    Ok(window)
+}
+
+/// The clauses that the rounds keep.
+///
+/// # Errors
+/// Out of memory.
+pub fn find(
+    alloc: Global,
+    circuit: &Circuit,
+    state: &[bool],
+    budget: u64,
+) -> Result<Invariant, AllocError>
+    requires { length state.now ≡ length circuit.now.dffs }
+    ensures state { IfOk result (λ invariant. invariant.state ≡ state.now) }
+    ensures clauses { IfOk result
+        (λ invariant. FindsClauses circuit.now budget state.now invariant.clauses) }
+    ensures holds { IfOk result (λ invariant. 0 < length invariant.clauses
+        → IsInvariant circuit.now state.now invariant.clauses) }
+{
+    // for the proof: the circuit is well formed
+    let _ = circuit.nets();
+    let states = tried_states(alloc, circuit, state)?;
+    let mut clauses = kept_candidates(alloc, state, &states)?;
+    let window = closing_base(alloc, circuit)?;
+    close_clauses(alloc, window, &mut clauses, budget)?;
+    let state = Items::from_slice(alloc, state)?;
+    Ok(Invariant {
+        state,
+        clauses: Items::from_vec(clauses),
+    })
+}

@@ -1,0 +1,13 @@
+//! Refutations from one named state: clauses on latches that no frame breaks, and windows searched under them.
+#![tactic(auto)]
+
+mod candidates;
+mod finding;
+mod literals;
+mod look;
+mod round;
+mod sought;
+mod states;
+mod trial;
+
+pub use finding::{Invariant, find};

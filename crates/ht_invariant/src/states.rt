@@ -1,0 +1,98 @@
+//! The states of some frames of the good machine, and whether a clause holds at each.
+ghost use Rattle.std.specs.Prelude.{◌≡◌, false, length, get_or, IfOk};
+ghost use Rattle.ht_net.specs.Frame.{next_state};
+ghost use Rattle.ht_net.specs.Faults.{bool_rules};
+ghost use Rattle.ht_tree.specs.Clauses.{literals_of, meets, meets_literal};
+ghost use Rattle.ht_invariant.specs.Found.{is_met_by_each, tried_states};
+
+use ht_tree::{Clause, Literal};
+use ht_items::FlatRows;
+use ht_net::Circuit;
+use ht_random::Words;
+use ht_serial::BoolMachine;
+use std::alloc::{AllocError, Global};
+
+/// So many frames are tried from the named state.
+pub const TRIED_FRAMES: u32 = 64;
+
+// The bit of a latch.
+fn bit_at(state: &[bool], j: u32) -> bool
+    ensures { result ≡ get_or state.now j false }
+{
+    match state.get(j as usize) {
+        Some(bit) => *bit,
+        None => false,
+    }
+}
+
+// A latch is as a literal says.
+fn meets_literal(state: &[bool], literal: Literal) -> bool
+    ensures { result ≡ meets_literal state.now literal }
+{
+    if literal.value {
+        bit_at(state, literal.dff)
+    } else {
+        !bit_at(state, literal.dff)
+    }
+}
+
+// A state meets a clause: one of its literals' latches has its bit.
+fn meets(state: &[bool], clause: &Clause) -> bool
+    ensures { result ≡ meets state.now (literals_of clause.now) }
+{
+    let first = meets_literal(state, clause.first);
+    match clause.second {
+        None => first,
+        Some(second) => first || meets_literal(state, second),
+    }
+}
+
+/// Each state meets a clause.
+pub fn all_meet(states: &FlatRows<bool>, clause: &Clause) -> bool
+    ensures { result ≡ is_met_by_each states.now clause.now }
+{
+    for k in 0..states.len() {
+        if !meets(states.row(k), clause) {
+            return false;
+        }
+    }
+    true
+}
+
+// The latches of a machine.
+fn latches(alloc: Global, machine: &BoolMachine, count: u32) -> Result<Vec<bool>, AllocError>
+    requires count { count ≡ length machine.now.circuit.dffs }
+    requires latches { length machine.now.latches ≡ count }
+    ensures { IfOk result (λ latches. latches.items ≡ machine.now.latches) }
+{
+    let mut latches = Vec::new(alloc);
+    for j in 0..count {
+        latches.push(machine.state(j))?;
+    }
+    Ok(latches)
+}
+
+/// The state, and the ones after 1, 2, .. frames under the random vectors of seed 0.
+///
+/// # Errors
+/// Out of memory.
+pub fn tried_states(
+    alloc: Global,
+    circuit: &Circuit,
+    state: &[bool],
+) -> Result<FlatRows<bool>, AllocError>
+    requires { length state.now ≡ length circuit.now.dffs }
+    ensures { IfOk result (λ states. states ≡ tried_states circuit.now state.now) }
+{
+    let mut states = FlatRows::new(alloc);
+    let mut words = Words::from_seed(0);
+    let mut machine = BoolMachine::start_from(alloc, circuit, None, state)?;
+    states.push(state)?;
+    'frame: for _frame in 0..TRIED_FRAMES {
+        let vector = words.vector(alloc, circuit.inputs())?;
+        machine.step(&vector);
+        let row = latches(alloc, &machine, circuit.dffs())?;
+        states.push(&row)?;
+    }
+    Ok(states)
+}
