@@ -1,8 +1,8 @@
 use Rattle.std.proofs.Common.{◌≡◌, ◌<◌, ◌==◌, ℕ, suc, zero, List, length, subst, sym, ◌∙◌, arith, true, false}
+use Rattle.std.specs.List.{All}
 use Rattle.std.proofs.lemmas.Bool.{true≢false}
 use Rattle.ht_tree.specs.declared.clause.Clause.{Clause}
-use Rattle.ht_invariant.specs.Trials.{knows_each}
-use Rattle.ht_engine.proofs.KnownLaws.{knows_clauses}
+use Rattle.ht_tree.specs.Clauses.{IsClause}
 use Rattle.ht_engine.proofs.work.refute_from_state.Goals as goal
 
 is_above_zero : (n : ℕ) → (n == 0) ≡ false → 0 < n
@@ -11,10 +11,8 @@ is_above_zero (suc n) is = omega arith
 
 pub refute_under-requires : goal.refute_under-requires
 refute_under-requires c =
-    let circuit = c.args.bases.now.circuit in
     let is = c.as_slice-clauses.ensures in
     let some : 0 < length c.args.invariant.now.clauses =
     subst (λ (l : List Clause). 0 < length l) is
     (is_above_zero (length c.as_slice-clauses.result.now) (sym c.is_empty.ensures ∙ c.if-is_empty.false)) in
-    subst (λ (l : List Clause). knows_each circuit l ≡ true) (sym is)
-    (knows_clauses circuit c.args.invariant.now.clauses (c.requires some).known)
+    subst (All (IsClause c.args.bases.now.circuit)) (sym is) (c.requires some).known
