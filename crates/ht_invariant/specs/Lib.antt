@@ -4,3 +4,4 @@ pub mod ClosingRounds
 pub mod UnderWay
 pub mod Found
 pub mod Offers
+pub mod FromStates
