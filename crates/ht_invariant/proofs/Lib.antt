@@ -6,4 +6,5 @@ pub mod OfferLaws
 pub mod TrialLaws
 pub mod ClosingRoundLaws
 pub mod FindLaws
-pub mod BaseLaws
+pub mod MarkLaws
+pub mod FromLaws

@@ -1,5 +1,5 @@
 //! The search for an invariant.
-ghost use Rattle.std.specs.Prelude.{◌≡◌, ◌<◌, ℕ, [], true, false, length, replicate, IfOk, OnOk};
+ghost use Rattle.std.specs.Prelude.{◌≡◌, ◌<◌, ℕ, [], true, length, IfOk, OnOk};
 ghost use Rattle.ht_tree.specs.ClauseWindows.{good_window};
 ghost use Rattle.ht_tree.specs.Invariants.{IsInvariant};
 ghost use Rattle.ht_invariant.specs.Trials.{knows_each};
@@ -7,6 +7,7 @@ ghost use Rattle.ht_invariant.specs.ClosingRounds.{AreClosingRounds};
 ghost use Rattle.ht_invariant.specs.Found.{FindsClauses};
 
 use crate::candidates::kept_candidates;
+use crate::marks::no_marks;
 use crate::round::round;
 use crate::states::tried_states;
 use ht_tree::Clause;
@@ -46,15 +47,6 @@ fn close_clauses(
             return Ok(());
         }
     }
-}
-
-// So many marks, none of which is set.
-fn no_marks(alloc: Global, count: usize) -> Result<Vec<bool>, AllocError>
-    ensures { IfOk result (λ marks. marks.items ≡ replicate count false) }
-{
-    let mut marks = Vec::new(alloc);
-    marks.resize(count, false)?;
-    Ok(marks)
 }
 
 // The window of all closing windows, before its first decision.

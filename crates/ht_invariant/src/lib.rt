@@ -5,6 +5,7 @@ mod candidates;
 mod finding;
 mod literals;
 mod look;
+mod marks;
 mod refutation;
 mod round;
 mod sought;

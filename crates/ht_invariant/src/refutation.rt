@@ -1,17 +1,25 @@
 //! The refutation of a fault from one named state.
-ghost use Rattle.std.specs.Prelude.{◌≡◌, ◌≤◌, ℕ, List, Bool, IfOk};
+ghost use Rattle.std.specs.Prelude.{◌≡◌, ◌≤◌, ℕ, List, Bool, true, length, IfOk};
 ghost use Rattle.std.specs.List.{All};
 ghost use Rattle.ht_tree.specs.Budgets.{refutation_cost};
 ghost use Rattle.ht_tree.specs.Clauses.{IsClause, literals_of_each};
 ghost use Rattle.ht_tree.specs.Invariants.{IsInvariant};
 ghost use Rattle.ht_tree.specs.SealedInClauses.{SealedIn};
-ghost use Rattle.ht_invariant.specs.FromStates.{FromStateHolds, IsFromState, IsRefutedFrom};
+ghost use Rattle.ht_window.specs.Starts.{marked};
+ghost use Rattle.ht_oneframe.specs.Rounds.{IsRound};
+ghost use Rattle.ht_invariant.specs.Trials.{knows_each};
+ghost use Rattle.ht_invariant.specs.FromStates.{FromStateHolds, IsFromState, IsRefutedFrom, guide_from};
 
 use crate::finding::Invariant;
+use crate::marks::no_marks;
+use crate::sought::Sought;
+use crate::trial::{ClauseTrial, explore};
 use ht_items::Items;
 use ht_net::{Circuit, Fault};
-use ht_tree::{Assign, Clause, Spot, Token};
-use ht_window::Bases;
+use ht_oneframe::{Round, marked, told_frame};
+use ht_search::Outcome;
+use ht_tree::{Assign, Clause, Spot, Status, Token, Told};
+use ht_window::{Bases, Start};
 use std::alloc::{AllocError, Global};
 
 /// What the one-frame windows of a fault under the clauses of an invariant say of it. Flip-flops count from 0, and rise.
@@ -33,6 +41,47 @@ pub enum FromState {
         z: Items<u32>,
         tokens: Items<Token>,
     },
+}
+
+// Searches the one-frame window of a fault and marked flip-flops under clauses. Each token takes one from the budget.
+fn search_under(
+    alloc: Global,
+    bases: &mut Bases,
+    fault: Fault,
+    clauses: &[Clause],
+    budget: u64,
+    marks: &[bool],
+) -> Result<Round, AllocError>
+    requires marks { length marks.now ≡ length bases.old.circuit.dffs }
+    requires known { knows_each bases.old.circuit clauses.now ≡ true }
+    ensures circuit { bases.new.circuit ≡ bases.old.circuit }
+    ensures round { IfOk result (IsRound bases.old.circuit fault
+        (guide_from bases.old.circuit fault (literals_of_each clauses.now)) budget
+        (marked 0 marks.now)) }
+{
+    // for the proof: the circuit is well formed
+    let _ = bases.circuit().nets();
+    let z = Items::from_slice(alloc, marks)?;
+    let window = bases.window(alloc, Some(fault), 1, &Start::OneFrame { z })?;
+    let mut trial = ClauseTrial {
+        window,
+        sought: Sought::Difference,
+        clauses,
+    };
+    match explore(alloc, &mut trial, budget)? {
+        Outcome::Closed { tokens } => Ok(Round::Closed {
+            tokens: Items::from_vec(tokens),
+        }),
+        Outcome::Spent { tokens } => Ok(Round::Spent {
+            tokens: Items::from_vec(tokens),
+        }),
+        Outcome::Found { tokens: _ } => match trial.window.status() {
+            Status::Sure { frame: _, place } => Ok(Round::Told {
+                told: told_frame(alloc, &trial.window, place)?,
+            }),
+            Status::Dead | Status::Open => unreachable!(),
+        },
+    }
 }
 
 /// Searches the one-frame windows of a fault under the clauses of an invariant, from no flip-flop on: each flip-flop
@@ -93,5 +142,31 @@ pub fn refute_under(
         → SealedIn bases.old.circuit fault z (literals_of_each clauses.now)
         → IfOk result IsRefutedFrom }
 {
-    Err(AllocError)
+    let circuit = bases.circuit();
+    // for the proof: the circuit is well formed
+    let _ = circuit.nets();
+    let mut marks = no_marks(alloc, circuit.dffs() as usize)?;
+    'rounds: loop {
+        match search_under(alloc, bases, fault, clauses, budget, &marks)? {
+            Round::Closed { tokens } => {
+                let z = marked(alloc, &marks)?;
+                return Ok(FromState::Refuted { z, tokens });
+            },
+            Round::Spent { tokens } => {
+                let z = marked(alloc, &marks)?;
+                return Ok(FromState::Spent { z, tokens });
+            },
+            Round::Told { told } => {
+                let Told { place, sets } = told;
+                match place {
+                    Spot::State(j) => marks[j as usize] = true,
+                    Spot::Output(_) => {
+                        let z = marked(alloc, &marks)?;
+                        return Ok(FromState::Told { z, place, sets });
+                    },
+                    Spot::Cube => unreachable!(),
+                }
+            },
+        }
+    }
 }

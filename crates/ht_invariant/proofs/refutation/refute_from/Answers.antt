@@ -1,0 +1,7 @@
+use Rattle.std.proofs.Common.{List}
+use Rattle.ht_tree.specs.declared.clause.Clause.{Clause}
+use Rattle.ht_invariant.proofs.refutation.refute_from.Goals as goal
+
+pub returns-clause-answer : goal.returns-clause-answer
+returns-clause-answer c =
+    rw c.as_slice.ensures at (rw c.in_ok-bases.ensures at c.refute_under.ensures.answer)
