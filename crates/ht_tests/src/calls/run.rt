@@ -2,6 +2,7 @@
 
 pub mod cases;
 mod checked;
+mod checked_from_state;
 mod compacted;
 mod damaged;
 mod demo;

@@ -8,13 +8,13 @@ use std::test::Fail;
 
 const CHECK: &[&str] = &["check", "n", "t", "r", "p"];
 
-// The four files; a report that isn't there can't be opened.
+/// The four files; a report that isn't there can't be opened.
 #[derive(Drop)]
-struct Files<'a> {
-    netlist: &'a [u8],
-    tests: &'a [u8],
-    report: Option<&'a [u8]>,
-    proofs: &'a [u8],
+pub struct Files<'a> {
+    pub netlist: &'a [u8],
+    pub tests: &'a [u8],
+    pub report: Option<&'a [u8]>,
+    pub proofs: &'a [u8],
 }
 
 /// The status of a run, and its one line, which is on Out where the files are valid, and else on Err.
@@ -54,7 +54,8 @@ fn answers_on(
     Ok(status == answer.0 && says(desk, answer))
 }
 
-fn answers(alloc: Global, files: &Files<'_>, answer: Answer<'_>) -> Result<bool, AllocError> {
+/// Whether `check` answers so on the files.
+pub fn answers(alloc: Global, files: &Files<'_>, answer: Answer<'_>) -> Result<bool, AllocError> {
     let mut desk = MemoryDesk::new(alloc);
     answers_on(alloc, &mut desk, files, answer)
 }
