@@ -104,7 +104,7 @@ fn empty_gives<'a>(
         netlist: b"",
         tests: b"",
         report,
-        proofs: b"proofs 1\nend\n",
+        proofs: b"proofs 2\nend\n",
         out: b"total 0 detected 0 untestable 0 aborted 0\n",
     };
     gives(alloc, &example)
@@ -131,7 +131,7 @@ const EXAMPLES: &[Example<'static>] = &[
             4 n s-a-1 detected 1 z\n5 z s-a-0 as 3\n6 z s-a-1 detected 1 z\n7 n(1) s-a-0 as 4\n\
             8 n(1) s-a-1 as 3\n9 z(1) s-a-0 as 3\n10 z(1) s-a-1 detected 2 z\n\
             total 6 detected 3 untestable 3 aborted 0\n",
-        proofs: b"proofs 1\n\
+        proofs: b"proofs 2\n\
             entry 1 untestable\nwalk\nhi 1\ndead\ndead\n\
             entry 2 untestable\nwalk\nhi 1\ndead\ndead\n\
             entry 3 untestable\nwalk\nhi 1\ndead\ndead\n\
@@ -147,7 +147,7 @@ const EXAMPLES: &[Example<'static>] = &[
         report: b"circuit inputs 0 outputs 1 flip-flops 1 gates 1 faults 6 classes 4 budget 10\n\
             1 q s-a-0 aborted\n2 q s-a-1 aborted\n3 n s-a-0 aborted\n4 n s-a-1 aborted\n\
             5 n(1) s-a-0 as 4\n6 n(1) s-a-1 as 3\ntotal 4 detected 0 untestable 0 aborted 4\n",
-        proofs: b"proofs 1\n\
+        proofs: b"proofs 2\n\
             entry 1 aborted\nframe output 1\nset 1 1\nback open\nx 1\nbefore\nx 1\ndead\n\
             before\nx 1\nbefore\nx 1\ndead\nbefore\n\
             sweep\nlength 1\ndead\nlength 2\ndead\nlength 3\ndead\nlength 4\ndead\nlength 5\n\
@@ -171,7 +171,7 @@ const EXAMPLES: &[Example<'static>] = &[
         report: b"circuit inputs 0 outputs 0 flip-flops 1 gates 0 faults 2 classes 2 budget 8\n\
             1 q s-a-0 untestable\n2 q s-a-1 untestable\n\
             total 2 detected 0 untestable 2 aborted 0\n",
-        proofs: b"proofs 1\n\
+        proofs: b"proofs 2\n\
             entry 1 untestable\nz 1\nwalk\ndead\n\
             entry 2 untestable\nz 1\nwalk\ndead\n\
             end\n",
@@ -185,7 +185,7 @@ const EXAMPLES: &[Example<'static>] = &[
         report: b"circuit inputs 2 outputs 1 flip-flops 0 gates 0 faults 4 classes 4 budget 1000\n\
             1 a s-a-0 untestable\n2 a s-a-1 untestable\n3 b s-a-0 detected 1 b\n\
             4 b s-a-1 detected 2 b\ntotal 4 detected 2 untestable 2 aborted 0\n",
-        proofs: b"proofs 1\n\
+        proofs: b"proofs 2\n\
             entry 1 untestable\nwalk\ndead\n\
             entry 2 untestable\nwalk\ndead\n\
             end\n",
@@ -201,7 +201,7 @@ const EXAMPLES: &[Example<'static>] = &[
             4 q s-a-1 untestable\n5 r s-a-0 untestable\n6 r s-a-1 untestable\n\
             7 q(1) s-a-0 untestable\n8 q(1) s-a-1 untestable\n\
             total 8 detected 2 untestable 6 aborted 0\n",
-        proofs: b"proofs 1\n\
+        proofs: b"proofs 2\n\
             entry 3 untestable\nz 2\nwalk\ndead\n\
             entry 4 untestable\nz 2\nwalk\ndead\n\
             entry 5 untestable\nwalk\ndead\n\
@@ -219,7 +219,7 @@ const EXAMPLES: &[Example<'static>] = &[
         report: b"circuit inputs 2 outputs 2 flip-flops 0 gates 0 faults 4 classes 4 budget 1\n\
             1 a s-a-0 detected 1 a\n2 a s-a-1 detected 2 a\n3 b s-a-0 detected 2 b\n\
             4 b s-a-1 detected 1 b\ntotal 4 detected 4 untestable 0 aborted 0\n",
-        proofs: b"proofs 1\n\
+        proofs: b"proofs 2\n\
             entry 2 aborted\nwalk\nhi 1\n\
             sweep\nlength 1\nhi 1\n\
             end\n",
@@ -233,7 +233,7 @@ const EXAMPLES: &[Example<'static>] = &[
         report: b"circuit inputs 2 outputs 2 flip-flops 0 gates 0 faults 4 classes 4 budget 1000\n\
             1 a s-a-0 detected 2 a\n2 a s-a-1 detected 1 a\n3 b s-a-0 detected 1 b\n\
             4 b s-a-1 detected 2 b\ntotal 4 detected 4 untestable 0 aborted 0\n",
-        proofs: b"proofs 1\nend\n",
+        proofs: b"proofs 2\nend\n",
         out: b"total 4 detected 4 untestable 0 aborted 0\n",
     },
     // A vector without inputs is an empty line.
@@ -243,7 +243,7 @@ const EXAMPLES: &[Example<'static>] = &[
         tests: b"\n\n\n",
         report: b"circuit inputs 0 outputs 0 flip-flops 0 gates 0 faults 0 classes 0 budget 1000\n\
             total 0 detected 0 untestable 0 aborted 0\n",
-        proofs: b"proofs 1\nend\n",
+        proofs: b"proofs 2\nend\n",
         out: b"total 0 detected 0 untestable 0 aborted 0\n",
     },
     // With so small a budget the attempts forward find what the sweep can't.
@@ -255,7 +255,7 @@ const EXAMPLES: &[Example<'static>] = &[
             1 a s-a-0 detected 3 r\n2 a s-a-1 detected 4 r\n3 q s-a-0 detected 3 r\n\
             4 q s-a-1 detected 4 r\n5 r s-a-0 detected 3 r\n6 r s-a-1 detected 4 r\n\
             total 6 detected 6 untestable 0 aborted 0\n",
-        proofs: b"proofs 1\nend\n",
+        proofs: b"proofs 2\nend\n",
         out: b"total 6 detected 6 untestable 0 aborted 0\n",
     },
     // The fault of entry 1 spoils its own justification: the attempt has a list, and it doesn't detect.
@@ -268,7 +268,7 @@ const EXAMPLES: &[Example<'static>] = &[
             4 p s-a-1 detected 3 z\n5 z s-a-0 detected 2 z\n6 z s-a-1 detected 3 z\n\
             7 p(1) s-a-0 detected 2 z\n8 p(1) s-a-1 detected 3 z\n9 z(2) s-a-0 detected 5 z\n\
             10 z(2) s-a-1 detected 2 z\ntotal 10 detected 10 untestable 0 aborted 0\n",
-        proofs: b"proofs 1\n\
+        proofs: b"proofs 2\n\
             entry 1 aborted\nframe output 1\nset 1 1\nset 2 1\nattempt\njustify 1\n\
             sweep\nlength 1\ndead\nlength 2\nhi 1\nhi 2\n\
             end\n",

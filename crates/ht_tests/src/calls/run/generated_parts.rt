@@ -101,31 +101,53 @@ const SHIFT_REGISTER_KNOWN: Known<'static> = Known {
     proofs: &[],
 };
 
-// The cube has two different values for two flip-flops that always agree.
+// From 00 on the two flip-flops are equal, so the fault that shows where they differ is refuted from there.
 const TWINS_KNOWN: Known<'static> = Known {
     words: GEN,
     netlist: TWINS,
-    out: b"total 14 ",
+    out: b"total 14 detected 10 untestable 2 aborted 2\n",
     report: &[
         b"circuit inputs 2 outputs 1 flip-flops 2 gates 2 faults 16 classes 14 budget 1000\n",
-        b"\n3 b s-a-0 aborted\n",
+        b"\n3 b s-a-0 untestable\n4 b s-a-1 untestable\n",
         b"\n9 x s-a-0 as 3\n",
         b"\n11 z s-a-0 as 3\n",
     ],
     proofs: &[
-        b"\nentry 3 aborted
-frame output 1
-set 2 1
-set 3 1
-set 4 0
-back closed
+        b"\nentry 3 untestable from 00
+clause 1 0 2 1
 hi 1
 dead
 dead
-sweep
-length 1
+clause 1 1 2 0
+lo 1
 dead
-length 2
+dead
+walk
+hi 3
+hi 4
+dead
+dead
+hi 4
+dead
+dead
+entry 4 untestable from 00
+clause 1 0 2 1
+hi 1
+dead
+dead
+clause 1 1 2 0
+lo 1
+dead
+dead
+walk
+hi 3
+hi 4
+dead
+dead
+hi 4
+dead
+dead
+end
 ",
     ],
 };
