@@ -30,7 +30,9 @@ use Rattle.ht_engine.specs.declared.step.Step.{Step}
 use Rattle.ht_engine.specs.declared.step.Step.TheVariants.{Vectors, Entry, Finished}
 use Rattle.ht_engine.specs.declared.work.Work.{Work}
 use Rattle.ht_engine.specs.EngineOf.{IsEngine}
-use Rattle.ht_engine.specs.EngineStands.{AllPass, EngineStandsFor, EngineView, HasSameWork, IsKindIn, IsSaid, Makes, MakesStep, MeansOfStep, first_of, kind_at, remaining}
+use Rattle.ht_engine.specs.declared.work.Work.TheVariants as work
+use Rattle.ht_engine.specs.Enough.{IsEnough}
+use Rattle.ht_engine.specs.EngineStands.{AllPass, AreEnough, EngineStandsFor, EngineView, HasSameWork, IsKindIn, IsSaid, Makes, MakesStep, MeansOfStep, first_of, kind_at, remaining}
 use Rattle.ht_engine.specs.OneStep.{Advances, Ends, GivesEntry, GivesList, GivesRandom, IsNextUndetected, IsUndetected, said_by}
 use Rattle.ht_engine.specs.Steps.{AwaitsVerdict, Follows, IsNextFault, entries_of, one_more, one_vector, vectors_of_steps}
 use Rattle.ht_engine.proofs.StepLaws.{awaited_before, contains_last, entries_more, entries_with_list, has_cases, has_last, numbered, vectors_more, vectors_with_entry}
@@ -137,6 +139,9 @@ module _ (e new : EngineView) (steps : List Step) (s : EngineStandsFor e steps) 
             (All-append (λ (v : List Bool). length v ≡ e.circuit.inputs) (vectors_of_steps steps) list.list s.wide
             g.wide);
         pass = subst (AllPass e.circuit e.settings.budget) same s.pass;
+        found = s.found;
+        holds = s.holds;
+        enough = subst (AreEnough e.circuit e.settings.budget e.zero_invariant.clauses) same s.enough;
       }
 
   pub random_made : MakesStep e new steps (Vectors list)
@@ -161,7 +166,7 @@ module _ (e new : EngineView) (steps : List Step) (s : EngineStandsFor e steps) 
     fault = g.fault;
     next = is_next e steps s g.fault g.next;
     invariant = e.zero_invariant;
-    found = g.found;
+    found = s.found;
     given = g.given;
   })
 
@@ -209,6 +214,9 @@ module _ (e new : EngineView) (steps : List Step) (s : EngineStandsFor e steps) 
             (All-append (λ (v : List Bool). length v ≡ e.circuit.inputs) (vectors_of_steps steps) list.list s.wide
             g.holds.wide);
         pass = subst (AllPass e.circuit e.settings.budget) same s.pass;
+        found = s.found;
+        holds = s.holds;
+        enough = subst (AreEnough e.circuit e.settings.budget e.zero_invariant.clauses) same s.enough;
       }
 
   pub list_made : MakesStep e new steps (Vectors list)
@@ -240,7 +248,7 @@ module _ (e new : EngineView) (steps : List Step) (s : EngineStandsFor e steps) 
     fault = fault;
     next = is_next e steps s fault g.next;
     invariant = e.zero_invariant;
-    found = g.found;
+    found = s.found;
     given = (refl, g.given);
   })
 
@@ -277,13 +285,15 @@ module _ (e new : EngineView) (steps : List Step) (s : EngineStandsFor e steps) 
     | inr same ↦ omega (arith, same)
   ]
 
-  entry_passes : AllPass e.circuit e.settings.budget (entries_of steps ++ numbered fault made ∷ [])
-  entry_passes =
-      let P : Numbered → Type 0 =
-      λ (n : Numbered). Passes e.circuit (fault_at e.circuit (n.number - 1)) e.settings.budget n.entry in
+  -- what holds of each entry by its fault holds of one more
+  all_more : (P : ℕ → recorded.Entry → Type 0)
+      → All (λ (n : Numbered). P (n.number - 1) n.entry) (entries_of steps) → P fault made
+      → All (λ (n : Numbered). P (n.number - 1) n.entry) (entries_of steps ++ numbered fault made ∷ [])
+  all_more P are is =
+      let Q : Numbered → Type 0 = λ (n : Numbered). P (n.number - 1) n.entry in
       let at : fault ≡ fault + 1 - 1 = omega arith in
-      All-append P (entries_of steps) (numbered fault made ∷ []) s.pass (All-cons P (numbered fault made) []
-      (subst (λ (k : ℕ). Passes e.circuit (fault_at e.circuit k) e.settings.budget made) at g.holds) (All-nil P))
+      All-append Q (entries_of steps) (numbered fault made ∷ []) are
+      (All-cons Q (numbered fault made) [] (subst (λ (k : ℕ). P k made) at is) (All-nil Q))
 
   entry_stands : EngineStandsFor (record e { kinds = kinds_now; place = fault + 1 }) more
   entry_stands =
@@ -298,7 +308,13 @@ module _ (e new : EngineView) (steps : List Step) (s : EngineStandsFor e steps) 
         entered = λ k h.
             entry_entered k (subst (λ (entries : List Numbered). HasEntry entries k) (sym same) h);
         wide = subst (AreVectors e.circuit) (sym (vectors_with_entry steps fault made)) s.wide;
-        pass = subst (AllPass e.circuit e.settings.budget) same entry_passes;
+        pass = subst (AllPass e.circuit e.settings.budget) same
+            (all_more (λ k made. Passes e.circuit (fault_at e.circuit k) e.settings.budget made) s.pass g.holds);
+        found = s.found;
+        holds = s.holds;
+        enough = subst (AreEnough e.circuit e.settings.budget e.zero_invariant.clauses) same
+            (all_more (λ k made. IsEnough e.circuit (fault_at e.circuit k) e.settings.budget e.zero_invariant.clauses
+            (work.Entry made)) s.enough g.enough);
       }
 
   pub entry_made : MakesStep e new steps (Entry fault made)
@@ -323,6 +339,9 @@ end_made e new steps s g =
       entered = λ i h. let below = s.entered i h in let within = g.within in omega (arith, below, within);
       wide = s.wide;
       pass = s.pass;
+      found = s.found;
+      holds = s.holds;
+      enough = s.enough;
     } in (
       record { given = all_given e steps s g.none_left; none_awaits = last },
       subst (λ (v : EngineView). EngineStandsFor v steps) (sym g.after) at,

@@ -20,7 +20,7 @@ use Rattle.ht_engine.specs.Enough.{IsEnough, IsList, IsRefutation}
 use Rattle.ht_engine.specs.FaultWork.{IsFromEntry, WorkHolds}
 
 -- what is sealed where no clause has to be met is sealed
-sealed_by_none : (c : Netlist) (fault : Fault) (z : ℕ → Bool) → SealedIn c fault z [] → Sealed c fault z
+pub sealed_by_none : (c : Netlist) (fault : Fault) (z : ℕ → Bool) → SealedIn c fault z [] → Sealed c fault z
 sealed_by_none c fault z seal = record {
   outputs = λ vector state state' wide is is' agree. seal.outputs vector state state' wide is is' refl agree;
   stays = λ vector state state' wide is is' agree. seal.stays vector state state' wide is is' refl agree;

@@ -8,6 +8,7 @@ use Rattle.ht_tree.specs.Entries.{Passes, kind_of}
 use Rattle.ht_tree.specs.Reached.{AreVectors}
 use Rattle.ht_texts.specs.declared.said.Said.{Said}
 use Rattle.ht_texts.specs.declared.said.Said.TheVariants as said
+use Rattle.ht_tree.specs.declared.clause.Clause.{Clause}
 use Rattle.ht_tree.specs.declared.entry.Entry as recorded
 use Rattle.ht_tree.specs.declared.kind.EntryKind.{EntryKind}
 use Rattle.ht_tree.specs.declared.kind.EntryKind.TheVariants as kind
@@ -16,6 +17,9 @@ use Rattle.ht_entries.specs.declared.numbered.Numbered.{Numbered}
 use Rattle.ht_valid.specs.ValidFiles.{HasEntry}
 use Rattle.ht_engine.specs.declared.step.Step.{Step}
 use Rattle.ht_engine.specs.declared.step.Step.TheVariants.{Vectors, Entry, Finished}
+use Rattle.ht_engine.specs.declared.work.Work.TheVariants as work
+use Rattle.ht_engine.specs.Enough.{IsEnough}
+use Rattle.ht_engine.specs.FaultWork.{HoldsIfAny, IsZeroInvariant}
 use Rattle.ht_engine.specs.Steps.{AreFinished, AreSteps, AwaitsVerdict, Follows, Settings, entries_of, first_vectors, vectors_of_steps}
 
 pub record EngineView : Type 0 where
@@ -53,7 +57,13 @@ IsKindIn entries i (Some kind) = (e : recorded.Entry)
 abbrev pub AllPass : Netlist → ℕ → List Numbered → Type 0
 AllPass c budget entries = All (λ (e : Numbered). Passes c (fault_at c (e.number - 1)) budget e.entry) entries
 
--- The engine stands for these steps: what it keeps is theirs.
+-- The budget is enough for what each entry says, if it is enough for anything (`IsEnough`).
+abbrev pub AreEnough : Netlist → ℕ → List Clause → List Numbered → Type 0
+AreEnough c budget clauses entries =
+    All (λ (e : Numbered). IsEnough c (fault_at c (e.number - 1)) budget clauses (work.Entry e.entry)) entries
+
+-- The engine stands for these steps: what it keeps is theirs. Its invariant is the one that is found from the state in
+-- which each latch holds 0.
 pub record EngineStandsFor (e : EngineView) (steps : List Step) : Type 0 where
   pub are : AreSteps e.circuit e.representatives (first_of e) e.settings.budget steps
   pub left : e.left ≡ e.settings.random - length steps
@@ -64,6 +74,9 @@ pub record EngineStandsFor (e : EngineView) (steps : List Step) : Type 0 where
   -- what the steps mean
   pub wide : AreVectors e.circuit (vectors_of_steps steps)
   pub pass : AllPass e.circuit e.settings.budget (entries_of steps)
+  pub found : IsZeroInvariant e.circuit e.settings.budget e.zero_invariant
+  pub holds : HoldsIfAny e.circuit e.zero_invariant
+  pub enough : AreEnough e.circuit e.settings.budget e.zero_invariant.clauses (entries_of steps)
 
 -- ---- one more step
 

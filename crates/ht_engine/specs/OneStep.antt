@@ -15,7 +15,8 @@ use Rattle.ht_engine.specs.declared.step.Step.TheVariants.{Vectors, Entry, Finis
 use Rattle.ht_engine.specs.declared.work.Work.TheVariants as work
 use Rattle.ht_engine.specs.Attempts.{DetectsAlways}
 use Rattle.ht_engine.specs.EngineStands.{EngineView, first_of}
-use Rattle.ht_engine.specs.FaultWork.{IsWork, IsZeroInvariant}
+use Rattle.ht_engine.specs.Enough.{IsEnough}
+use Rattle.ht_engine.specs.FaultWork.{IsWork}
 use Rattle.ht_engine.specs.Steps.{one_vector}
 
 -- ---- the fault that is worked on
@@ -59,7 +60,6 @@ pub record GivesRandom (old new : EngineView) (list : Rows) : Type 0 where
 -- A list was given for the next fault: its vectors are kept.
 pub record GivesList (old new : EngineView) (list : Rows) : Type 0 where
   pub none_left : old.left ≡ 0
-  pub found : IsZeroInvariant old.circuit old.settings.budget old.zero_invariant
   pub fault : ℕ
   pub next : IsNextUndetected old fault
   pub given : IsWork old.circuit (fault_at old.circuit fault) old.settings.budget old.zero_invariant
@@ -70,11 +70,12 @@ pub record GivesList (old new : EngineView) (list : Rows) : Type 0 where
 -- An entry was given for the next fault: its kind is kept.
 pub record GivesEntry (old new : EngineView) (fault : ℕ) (entry : recorded.Entry) : Type 0 where
   pub none_left : old.left ≡ 0
-  pub found : IsZeroInvariant old.circuit old.settings.budget old.zero_invariant
   pub next : IsNextUndetected old fault
   pub given : IsWork old.circuit (fault_at old.circuit fault) old.settings.budget old.zero_invariant
       (work.Entry entry)
   pub holds : Passes old.circuit (fault_at old.circuit fault) old.settings.budget entry
+  pub enough : IsEnough old.circuit (fault_at old.circuit fault) old.settings.budget old.zero_invariant.clauses
+      (work.Entry entry)
   pub room : fault < length old.kinds
   pub after : new
       ≡ record old { kinds = slice_set old.kinds fault (Some (kind_of entry)); place = fault + 1 }

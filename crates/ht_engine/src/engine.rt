@@ -13,6 +13,7 @@ ghost use Rattle.ht_engine.specs.declared.step.Step as made;
 ghost use Rattle.ht_engine.specs.declared.step.Step.TheVariants as made_step;
 ghost use Rattle.ht_engine.specs.declared.work.Work.TheVariants as work;
 ghost use Rattle.ht_engine.specs.Attempts.{DetectsAlways};
+ghost use Rattle.ht_engine.specs.Enough.{IsEnough};
 ghost use Rattle.ht_engine.specs.FaultWork.{IsWork};
 ghost use Rattle.ht_engine.specs.OneStep.{Advances, IsNextOf, IsNextUndetected, IsUndetected, MakesNone, next_vector, said_by};
 ghost use Rattle.ht_engine.specs.EngineStands.{EngineStandsFor, HasSameWork, IsSaid, Makes, MeansOfStep, remaining};
@@ -223,6 +224,8 @@ impl<'c> Engine<'c> {
             self.old.settings.budget self.old.zero_invariant (work.Entry entry) }
         requires holds { Passes self.old.circuit (fault_at self.old.circuit fault)
             self.old.settings.budget entry }
+        requires enough { IsEnough self.old.circuit (fault_at self.old.circuit fault)
+            self.old.settings.budget self.old.zero_invariant.clauses (work.Entry entry) }
         ensures { Advances self.old self.new result }
     {
         self.kinds[fault as usize] = Some(entry.kind());

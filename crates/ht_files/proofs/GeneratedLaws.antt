@@ -21,6 +21,7 @@ use Rattle.ht_engine.specs.Steps.{AreFinished, first_vectors}
 use Rattle.ht_files.specs.Generated.{content_of, IsGenerated, IsTotalOf}
 use Rattle.ht_files.specs.Saids.{AreSaid}
 use Rattle.ht_files.specs.StepTexts.{proofs_of, tests_of}
+use Rattle.ht_files.proofs.DecidedInLaws.{decided_under}
 use Rattle.ht_files.proofs.ValidLaws.{are_valid, IsFinishedWork}
 
 -- the body and the total line are the report
@@ -54,6 +55,9 @@ are_generated e steps saids report total work names short_tests short_proofs sho
       valid = valid;
       verdicts = true_verdicts e.circuit e.representatives content work.circuit work.classes is;
       decided = are_decided e.circuit e.representatives content work.circuit is;
+      invariant = e.zero_invariant;
+      found = work.stands.found;
+      decided_in = decided_under e steps saids work;
       steps_are = work.stands.are;
       finished = work.finished;
       tests_are = refl;

@@ -48,7 +48,7 @@ pub record IsFinishedWork (e : EngineView) (steps : List Step) (saids : List Sai
   pub said : AreSaid e (length (faults_of e.circuit)) saids
 
 module _ (e : EngineView) (steps : List Step) (saids : List Said) (work : IsFinishedWork e steps saids) where
-  says : (i : ℕ) → IsOwn e.circuit e.representatives i → IsSaid e.circuit e.representatives steps i (said_at saids i)
+  pub says : (i : ℕ) → IsOwn e.circuit e.representatives i → IsSaid e.circuit e.representatives steps i (said_at saids i)
   says i own = (work.said.says i own.listed own).by_steps steps work.stands
 
   -- ---- the report

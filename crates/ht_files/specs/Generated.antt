@@ -1,8 +1,14 @@
 -- The headline: what the three files and the total line of a finished run say, and that it is true.
-use Rattle.std.specs.Prelude.{◌≡◌, ℕ, List, Some}
+use Rattle.std.specs.Prelude.{◌≡◌, ◌≤◌, ℕ, List, Bool, Some}
 use Rattle.ht_net.specs.Netlist.{Netlist}
-use Rattle.ht_collapse.specs.Classes.{AreClasses}
+use Rattle.ht_collapse.specs.Classes.{AreClasses, fault_at}
+use Rattle.ht_tree.specs.declared.clause.Clause.{Clause}
+use Rattle.ht_tree.specs.Budgets.{refutation_cost}
+use Rattle.ht_tree.specs.Clauses.{literals_of_each}
+use Rattle.ht_tree.specs.SealedInClauses.{SealedIn}
+use Rattle.ht_invariant.specs.declared.finding.Invariant.{Invariant}
 use Rattle.ht_texts.specs.declared.said.Said.{Said}
+use Rattle.ht_texts.specs.declared.said.Said.TheVariants.{Untestable}
 use Rattle.ht_texts.specs.Lines.{with_lf}
 use Rattle.ht_texts.specs.Reports.{report_text, report_sums, total_line}
 use Rattle.ht_texts.specs.Verdicts.{said_at}
@@ -10,6 +16,7 @@ use Rattle.ht_valid.specs.ValidFiles.{Content, AreValid, IsOwn}
 use Rattle.ht_valid.specs.TrueVerdicts.{AreDecided, HaveTrueVerdicts}
 use Rattle.ht_engine.specs.declared.step.Step.{Step}
 use Rattle.ht_engine.specs.EngineStands.{IsSaid}
+use Rattle.ht_engine.specs.FaultWork.{IsZeroInvariant}
 use Rattle.ht_engine.specs.Steps.{AreFinished, AreSteps, Settings, entries_of, first_vectors, vectors_of_steps}
 use Rattle.ht_files.specs.StepTexts.{proofs_of, tests_of}
 
@@ -22,18 +29,25 @@ content_of budget steps saids = record {
   entries = entries_of steps;
 }
 
+-- With a budget for all windows of one frame, each representative that some set of flip-flops seals as long as the clauses
+-- are met is said to be untestable.
+abbrev pub AreDecidedIn : Netlist → List ℕ → ℕ → List Said → List Clause → Type 0
+AreDecidedIn c representatives budget saids clauses = refutation_cost c ≤ budget → (i : ℕ) → IsOwn c representatives i
+    → (z : ℕ → Bool) → SealedIn c (fault_at c i) z (literals_of_each clauses) → said_at saids i ≡ Untestable
+
 -- The three files of a circuit are valid, and give one verdict to each fault of its list, which is true. A fault that
 -- doesn't represent its class has the verdict of its representative, and what the proofs hold is of the representative.
 --
 -- - detected: at exactly the first written vector, and there the least output, where simulation over three values from
 --   all-unknown shows opposite definite values of the good and the faulty machine; so the two differ there from every
 --   pair of start states;
--- - untestable: the proofs hold a refutation that passes; no list of vectors of any length detects the fault, and from
---   every common start state both machines give equal outputs for ever;
+-- - untestable: the proofs hold a refutation that passes, or one from a named state; no list of vectors of any length
+--   detects the fault, and from every common start state, or from the named one, both machines give equal outputs for
+--   ever;
 -- - aborted: the written vectors don't detect it, and the proofs hold a record that used up the budget.
 --
 -- For n inputs and m flip-flops, a budget of 2^(n + 2m + 1) finds every fault untestable that some set of flip-flops
--- seals, and one of the sum of k * 2^(k * n + 1) over k from 1 to d finds every fault detected that d vectors can. The
+-- seals, be it as long as the clauses are met that are found from the state in which each latch holds 0, and one of the sum of k * 2^(k * n + 1) over k from 1 to d finds every fault detected that d vectors can. The
 -- tests and the proofs hold the lists and the entries of the generator's steps and nothing else: the first vectors are
 -- the random ones of the seed, and the work on what they don't detect comes after them. The total line is that of the
 -- report.
@@ -46,6 +60,9 @@ pub record IsGenerated (c : Netlist) (settings : Settings) (tests report proofs 
   pub valid : AreValid c representatives tests report proofs (content_of settings.budget steps saids)
   pub verdicts : HaveTrueVerdicts c representatives (content_of settings.budget steps saids)
   pub decided : AreDecided c representatives (content_of settings.budget steps saids)
+  pub invariant : Invariant
+  pub found : IsZeroInvariant c settings.budget invariant
+  pub decided_in : AreDecidedIn c representatives settings.budget saids invariant.clauses
   -- the files of all steps
   pub steps_are : AreSteps c representatives (first_vectors c settings) settings.budget steps
   pub finished : AreFinished c representatives (first_vectors c settings) steps

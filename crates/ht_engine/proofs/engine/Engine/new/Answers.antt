@@ -6,10 +6,11 @@ use Rattle.ht_tree.specs.Invariants.{IsInvariant}
 use Rattle.ht_invariant.specs.Found.{FindsClauses}
 use Rattle.ht_random.specs.RandomVectors.{generator_after}
 use Rattle.ht_valid.specs.ValidFiles.{HasEntry}
-use Rattle.ht_engine.specs.FaultWork.{zero_state}
+use Rattle.ht_engine.specs.FaultWork.{HoldsIfAny, IsZeroInvariant, zero_state}
 use Rattle.ht_engine.specs.EngineStands.{EngineStandsFor, EngineView, IsKindIn, kind_at}
 use Rattle.ht_engine.specs.Steps.{none}
 use Rattle.ht_engine.proofs.engine.Engine.new.Goals as goal
+use Rattle.ht_engine.proofs.engine.Engine.new.Goals.{In_ok-zero_invariant}
 
 no_entry : (i : ℕ) → ¬ HasEntry [] i
 no_entry i h = let l = h.among.1 in absurd (omega (arith, l))
@@ -17,8 +18,9 @@ no_entry i h = let l = h.among.1 in absurd (omega (arith, l))
 -- nothing is kept, so the engine stands for no steps
 new_stands : (e : EngineView) → e.list ≡ []
     → ((i : ℕ) → i < length e.representatives → kind_at e i ≡ None) → e.place ≡ 0
-    → e.left ≡ e.settings.random → EngineStandsFor e []
-new_stands e list empty place left = record {
+    → e.left ≡ e.settings.random → IsZeroInvariant e.circuit e.settings.budget e.zero_invariant
+    → HoldsIfAny e.circuit e.zero_invariant → EngineStandsFor e []
+new_stands e list empty place left found holds = record {
   are = none;
   left = omega (arith, left);
   list = list;
@@ -27,16 +29,34 @@ new_stands e list empty place left = record {
   entered = λ i h. absurd (no_entry i h);
   wide = All-nil _;
   pass = All-nil _;
+  found = found;
+  holds = holds;
+  enough = All-nil _;
 }
+
+-- the invariant that was found
+found_zero : (c : In_ok-zero_invariant)
+    → IsZeroInvariant c.args.circuit.now c.args.budget c.in_ok-zero_invariant.zero_invariant
+found_zero c =
+    let made = c.in_ok-zero_invariant.ensures in
+    let zeros : c.deref.result.now ≡ zero_state c.args.circuit.now =
+    c.deref.ensures.value
+    ∙ (c.in_ok-zeros.ensures ∙ ap (λ (n : ℕ). replicate n false) c.dffs.ensures) in
+    record {
+      state = made.state ∙ zeros;
+      found = subst (λ (s : List Bool). FindsClauses c.args.circuit.now c.args.budget s
+          c.in_ok-zero_invariant.zero_invariant.clauses) zeros made.clauses;
+    }
+
+holds_zero : (c : In_ok-zero_invariant) → HoldsIfAny c.args.circuit.now c.in_ok-zero_invariant.zero_invariant
+holds_zero c = λ some.
+    let made = c.in_ok-zero_invariant.ensures in
+    subst (λ (s : List Bool). IsInvariant c.args.circuit.now s c.in_ok-zero_invariant.zero_invariant.clauses)
+    (sym made.state) (made.holds some)
 
 pub invariant_of-result : goal.invariant_of-result
 invariant_of-result c =
     let started = c.in_ok-grader.ensures in
-    let made = c.in_ok-zero_invariant.ensures in
-    let clauses = c.in_ok-zero_invariant.zero_invariant.clauses in
-    let zeros : c.deref.result.now ≡ zero_state c.args.circuit.now =
-    c.deref.ensures.value
-    ∙ (c.in_ok-zeros.ensures ∙ ap (λ (n : ℕ). replicate n false) c.dffs.ensures) in
     let none_drawn : c.args.random - c.args.random ≡ 0 = omega arith in
     record {
       engine = record {
@@ -48,12 +68,8 @@ invariant_of-result c =
         kinds = c.in_ok-kinds.ensures.each ∙ c.len.ensures;
         place = omega arith;
         left = omega arith;
-        found = record {
-          state = made.state ∙ zeros;
-          found = subst (λ (s : List Bool). FindsClauses c.args.circuit.now c.args.budget s clauses) zeros made.clauses;
-        };
-        holds = λ some.
-            subst (λ (s : List Bool). IsInvariant c.args.circuit.now s clauses) (sym made.state) (made.holds some);
+        found = found_zero (goal.at.invariant_of-result c).In_ok-zero_invariant;
+        holds = holds_zero (goal.at.invariant_of-result c).In_ok-zero_invariant;
         words = c.from_seed.ensures
             ∙ ap (λ k. generator_after c.args.circuit.now.inputs k c.args.seed) (sym none_drawn);
       };
@@ -65,3 +81,5 @@ returns-clause-none c =
     let count = c.len.ensures in
     new_stands _ (ap (λ (g : GraderView). g.list) c.in_ok-grader.ensures)
     (λ i l. c.in_ok-kinds.ensures.none i (omega (arith, l, count))) refl refl
+    (found_zero (goal.at.returns-clause-none c).In_ok-zero_invariant)
+    (holds_zero (goal.at.returns-clause-none c).In_ok-zero_invariant)
