@@ -16,8 +16,8 @@ use Rattle.ht_tree.specs.Clauses.{IsClause, IsSecond, literals_of, literals_of_e
 use Rattle.ht_tree.specs.ClauseWindows.{closing_window, judge_under}
 use Rattle.ht_tree.specs.Invariants.{IsClosedUnder, IsInvariant, max_clauses}
 use Rattle.ht_invariant.specs.Trials.{knows, knows_each}
-use Rattle.ht_invariant.specs.ClosingRounds.{AreClosingAnswers, AreClosingRounds, IsClosingRound, closing_guide, kept_by, kept_of}
-use Rattle.ht_invariant.specs.Found.{FindsClauses, candidates_at, candidates_of, clause_of, first_clauses, is_met_by_each, literal, of_two, reach, state_after, tried_frames, tried_states}
+use Rattle.ht_invariant.specs.ClosingRounds.{AreClosingAnswers, AreClosingRounds, IsClosingRound, closing_guide, clause_kept, clauses_kept}
+use Rattle.ht_invariant.specs.FoundClauses.{FindsClauses, candidates_at, candidates_of, clause_of, first_clauses, is_met_by_each, literal, of_two, reach, state_after, tried_frames, tried_states}
 
 -- a clause of the circuit that the state meets, whatever its walk
 pub record IsMetClause (c : Netlist) (state : List Bool) (k : Clause) : Type 0 where
@@ -40,18 +40,18 @@ module _ (c : Netlist) where
 
   module _ (state : List Bool) where
     good_kept : (clauses : List Clause) (walks : List (Option (List Token))) → All (IsMetClause c state) clauses
-        → All (IsMetClause c state) (kept_of clauses walks)
+        → All (IsMetClause c state) (clauses_kept clauses walks)
     good_kept [] walks h = All-nil (IsMetClause c state)
     good_kept (k ∷ clauses) [] h = All-nil (IsMetClause c state)
     good_kept (k ∷ clauses) (None ∷ walks) h = good_kept clauses walks (All-tail (IsMetClause c state) k clauses h)
     good_kept (k ∷ clauses) (Some tokens ∷ walks) h =
         let g = All-head (IsMetClause c state) k clauses h in
-        All-cons (IsMetClause c state) (record k { tokens = tokens }) (kept_of clauses walks)
+        All-cons (IsMetClause c state) (record k { tokens = tokens }) (clauses_kept clauses walks)
         (record { clause = record { first = g.clause.first; second = g.clause.second }; met = g.met })
         (good_kept clauses walks (All-tail (IsMetClause c state) k clauses h))
 
   few_kept : (clauses : List Clause) (walks : List (Option (List Token)))
-      → length (kept_of clauses walks) ≤ length clauses
+      → length (clauses_kept clauses walks) ≤ length clauses
   few_kept [] walks = omega arith
   few_kept (k ∷ clauses) [] = omega arith
   few_kept (k ∷ clauses) (None ∷ walks) = let l = few_kept clauses walks in omega (arith, l)
@@ -64,9 +64,9 @@ module _ (c : Netlist) where
   module _ (budget : ℕ) where
     last_closed : (before clauses : List Clause) (walks : List (Option (List Token))) (all : List (List Literal))
         → all ≡ literals_of_each (before ++ clauses) → AreClosingAnswers c budget before clauses walks
-        → length (kept_of clauses walks) ≡ length clauses
-        → (literals_of_each (kept_of clauses walks) ≡ literals_of_each clauses)
-        × All (ClosedIn all) (kept_of clauses walks)
+        → length (clauses_kept clauses walks) ≡ length clauses
+        → (literals_of_each (clauses_kept clauses walks) ≡ literals_of_each clauses)
+        × All (ClosedIn all) (clauses_kept clauses walks)
     last_closed before [] [] all is h none = (refl, All-nil (ClosedIn all))
     last_closed before [] (walk ∷ walks) all is h none = absurd h
     last_closed before (k ∷ clauses) [] all is h none = absurd h
@@ -82,7 +82,7 @@ module _ (c : Netlist) where
         subst (λ (ls : List (List Literal)). IsComplete (judge_under (closing_window c ls (literals_of k))) tokens)
         (sym is) h.0.walk in (
           ap (λ (ls : List (List Literal)). literals_of k ∷ ls) rest.0,
-          All-cons (ClosedIn all) y (kept_of clauses walks) closed rest.1,
+          All-cons (ClosedIn all) y (clauses_kept clauses walks) closed rest.1,
         )
 
     round_few : (clauses kept : List Clause) → IsClosingRound c budget clauses kept → length kept ≤ length clauses

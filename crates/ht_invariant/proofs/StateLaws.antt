@@ -16,7 +16,7 @@ use Rattle.ht_serial.specs.MachineState.{MachineState}
 use Rattle.ht_serial.proofs.RunLaws.{run_state_more}
 use Rattle.ht_tree.specs.declared.clause.Clause.{Clause}
 use Rattle.ht_tree.specs.Clauses.{literals_of, meets}
-use Rattle.ht_invariant.specs.Found.{is_met_by_each, state_after, tried_frames}
+use Rattle.ht_invariant.specs.FoundClauses.{is_met_by_each, state_after, tried_frames}
 
 -- one more state of which a clause is asked
 pub row_step : (states : List (List Bool)) (clause : Clause) (k : ℕ) (row : List Bool) (b : Bool) → k < length states

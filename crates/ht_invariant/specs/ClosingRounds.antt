@@ -25,9 +25,9 @@ IsClosingAnswer g budget None = EndsOpen g budget
 IsClosingAnswer g budget (Some tokens) = Closes g budget 1 tokens
 
 -- a clause stays with the walk that closes it, and is dropped without one
-abbrev pub kept_by : Clause → Option (List Token) → List Clause
-kept_by clause None = []
-kept_by clause (Some tokens) = record clause { tokens = tokens } ∷ []
+abbrev pub clause_kept : Clause → Option (List Token) → List Clause
+clause_kept clause None = []
+clause_kept clause (Some tokens) = record clause { tokens = tokens } ∷ []
 
 -- The searches of a round, one for each clause, where some clauses were kept before them.
 abbrev pub AreClosingAnswers : Netlist → ℕ → List Clause → List Clause → List (Option (List Token)) → Type 0
@@ -36,19 +36,19 @@ AreClosingAnswers c budget before [] (walk ∷ walks) = ⊥
 AreClosingAnswers c budget before (clause ∷ clauses) [] = ⊥
 AreClosingAnswers c budget before (clause ∷ clauses) (walk ∷ walks) =
     IsClosingAnswer (closing_guide c (before ++ clause ∷ clauses) clause) budget walk
-    × AreClosingAnswers c budget (before ++ kept_by clause walk) clauses walks
+    × AreClosingAnswers c budget (before ++ clause_kept clause walk) clauses walks
 
 -- the clauses that stay
-abbrev pub kept_of : List Clause → List (Option (List Token)) → List Clause
-kept_of [] walks = []
-kept_of (clause ∷ clauses) [] = []
-kept_of (clause ∷ clauses) (walk ∷ walks) = kept_by clause walk ++ kept_of clauses walks
+abbrev pub clauses_kept : List Clause → List (Option (List Token)) → List Clause
+clauses_kept [] walks = []
+clauses_kept (clause ∷ clauses) [] = []
+clauses_kept (clause ∷ clauses) (walk ∷ walks) = clause_kept clause walk ++ clauses_kept clauses walks
 
 -- One round: what it makes of clauses.
 pub record IsClosingRound (c : Netlist) (budget : ℕ) (clauses kept : List Clause) : Type 0 where
   pub walks : List (Option (List Token))
   pub answers : AreClosingAnswers c budget [] clauses walks
-  pub stay : kept ≡ kept_of clauses walks
+  pub stay : kept ≡ clauses_kept clauses walks
 
 -- The rounds from some clauses on, of which so many drop a clause: the first round after them that drops none gives the
 -- walks.

@@ -2,6 +2,6 @@ pub mod Looks
 pub mod Trials
 pub mod ClosingRounds
 pub mod UnderWay
-pub mod Found
+pub mod FoundClauses
 pub mod Offers
 pub mod FromStates

@@ -1,7 +1,8 @@
 //! The clauses with which the rounds begin.
-ghost use Rattle.std.specs.Prelude.{◌≡◌, ◌<◌, ◌+◌, ◌-◌, ◌^◌, ◌∷◌, [], flat_map, min, length, None, Some, IfOk, OnOk};
+ghost use Rattle.std.specs.Prelude.{◌≡◌, ◌<◌, ◌+◌, ◌-◌, ◌^◌, ◌∷◌, [], take, filter, flat_map, min, length, None, Some, IfOk, OnOk};
 ghost use Rattle.std.specs.List.{range_with_len};
-ghost use Rattle.ht_invariant.specs.Found.{candidates_of, clause_of, is_met_by_each, literal, of_two, reach};
+ghost use Rattle.ht_tree.specs.Invariants.{max_clauses};
+ghost use Rattle.ht_invariant.specs.FoundClauses.{candidates_of, clause_of, is_met_by_each, literal, of_two, reach};
 ghost use Rattle.ht_invariant.specs.Offers.{offered};
 
 use crate::states::all_meet;
@@ -95,7 +96,7 @@ fn offer_from(
     Ok(())
 }
 
-/// The first candidates that hold at each of some states, of which the first is the named one.
+/// The first candidates of a state that each of some states meets, as many as an invariant may have.
 ///
 /// # Errors
 /// Out of memory.
@@ -106,7 +107,7 @@ pub fn kept_candidates(
 ) -> Result<Vec<Clause>, AllocError>
     requires { length state.now < 2 ^ 32 }
     ensures { IfOk result (λ kept. kept.items
-        ≡ offered (is_met_by_each states.now) [] (candidates_of state.now)) }
+        ≡ take max_clauses (filter (is_met_by_each states.now) (candidates_of state.now))) }
 {
     let mut kept = Vec::new(alloc);
     for i in 0..state.len() {

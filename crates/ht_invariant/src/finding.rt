@@ -4,24 +4,25 @@ ghost use Rattle.ht_tree.specs.ClauseWindows.{good_window};
 ghost use Rattle.ht_tree.specs.Invariants.{IsInvariant};
 ghost use Rattle.ht_invariant.specs.Trials.{knows_each};
 ghost use Rattle.ht_invariant.specs.ClosingRounds.{AreClosingRounds};
-ghost use Rattle.ht_invariant.specs.Found.{FindsClauses};
+ghost use Rattle.ht_invariant.specs.FoundClauses.{FindsClauses};
 
 use crate::candidates::kept_candidates;
+use crate::closing::closing_round;
 use crate::marks::no_marks;
-use crate::round::round;
 use crate::states::tried_states;
-use ht_tree::Clause;
 use ht_items::Items;
 use ht_net::Circuit;
+use ht_tree::Clause;
 use ht_window::{Bases, Start, Window};
 use std::alloc::{AllocError, Global};
 
-/// A state, and clauses that it meets and that no frame breaks: each has a complete walk of its closing window.
+/// A state, and clauses that it meets and that no frame of the good machine breaks: each has a complete walk of its
+/// closing window under all of them.
 #[derive(Drop)]
 pub struct Invariant {
     /// A bit for each flip-flop.
     pub state: Items<bool>,
-    /// The clauses.
+    /// The clauses, at most 32.
     pub clauses: Items<Clause>,
 }
 
@@ -41,7 +42,7 @@ fn close_clauses(
     let mut current = window;
     'rounds: loop {
         let count = clauses.len();
-        let after = round(alloc, current, clauses, budget)?;
+        let after = closing_round(alloc, current, clauses, budget)?;
         current = after;
         if clauses.len() == count {
             return Ok(());
@@ -63,7 +64,14 @@ fn closing_base<'c>(alloc: Global, circuit: &'c Circuit) -> Result<Window<'c>, A
     Ok(window)
 }
 
-/// The clauses that the rounds keep.
+/// Finds clauses on the latches that hold in every run of the good machine from a state, which has a bit for each
+/// flip-flop. There may be none.
+///
+/// A candidate says that the latch of one flip-flop keeps its bit of the state, or that of two flip-flops, the second at
+/// most 8 after the first, one has a given bit. The first 32 are taken that the state meets, and each state after 1 to
+/// 64 frames from it under the random vectors of seed 0. Then rounds begin: the closing window of each clause is
+/// searched under those that are still kept, with the whole budget, of which a token takes one, and a clause whose
+/// search isn't closed is dropped at once. The first round that drops none gives the walks.
 ///
 /// # Errors
 /// Out of memory.

@@ -110,11 +110,7 @@ fn is_open_at(window: &Window, literal: Literal) -> bool
 }
 
 // The first literal whose latch's next state is undetermined.
-fn undetermined_literal(
-    window: &Window,
-    first: Literal,
-    second: Option<Literal>,
-) -> Option<Literal>
+fn undetermined_literal(window: &Window, first: Literal, second: Option<Literal>) -> Option<Literal>
     requires one { window.now.window.frames ≡ 1 }
     requires known { knows window.now.window.circuit (first ∷ second_of second) ≡ true }
     ensures { result ≡ find (λ (literal : Literal). is_undetermined

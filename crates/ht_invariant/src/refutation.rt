@@ -13,7 +13,7 @@ ghost use Rattle.ht_invariant.specs.FromStates.{FromStateHolds, IsFromState, IsR
 use crate::finding::Invariant;
 use crate::marks::no_marks;
 use crate::sought::Sought;
-use crate::trial::{ClauseTrial, explore};
+use crate::trial::{ClauseTrial, explore_under};
 use ht_items::Items;
 use ht_net::{Circuit, Fault};
 use ht_oneframe::{Round, marked, told_frame};
@@ -68,7 +68,7 @@ fn search_under(
         sought: Sought::Difference,
         clauses,
     };
-    match explore(alloc, &mut trial, budget)? {
+    match explore_under(alloc, &mut trial, budget)? {
         Outcome::Closed { tokens } => Ok(Round::Closed {
             tokens: Items::from_vec(tokens),
         }),

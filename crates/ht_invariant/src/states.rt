@@ -3,13 +3,13 @@ ghost use Rattle.std.specs.Prelude.{◌≡◌, false, length, get_or, IfOk};
 ghost use Rattle.ht_net.specs.Frame.{next_state};
 ghost use Rattle.ht_net.specs.Faults.{bool_rules};
 ghost use Rattle.ht_tree.specs.Clauses.{literals_of, meets, meets_literal};
-ghost use Rattle.ht_invariant.specs.Found.{is_met_by_each, tried_states};
+ghost use Rattle.ht_invariant.specs.FoundClauses.{is_met_by_each, tried_states};
 
-use ht_tree::{Clause, Literal};
 use ht_items::FlatRows;
 use ht_net::Circuit;
 use ht_random::Words;
 use ht_serial::BoolMachine;
+use ht_tree::{Clause, Literal};
 use std::alloc::{AllocError, Global};
 
 /// So many frames are tried from the named state.

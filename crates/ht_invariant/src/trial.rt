@@ -81,7 +81,7 @@ impl<'c, 'k> Problem for ClauseTrial<'c, 'k> {
 ///
 /// # Errors
 /// Out of memory.
-pub fn explore<'c, 'k>(
+pub fn explore_under<'c, 'k>(
     alloc: Global,
     trial: &mut ClauseTrial<'c, 'k>,
     budget: u64,

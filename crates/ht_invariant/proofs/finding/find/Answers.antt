@@ -4,8 +4,9 @@ use Rattle.ht_tree.specs.Windows.{SearchWindow}
 use Rattle.ht_tree.specs.declared.clause.Clause.{Clause}
 use Rattle.ht_invariant.specs.Trials.{knows_each}
 use Rattle.ht_invariant.specs.ClosingRounds.{AreClosingRounds}
-use Rattle.ht_invariant.specs.Found.{FindsClauses, candidates_of, first_clauses, is_met_by_each}
-use Rattle.ht_invariant.specs.Offers.{offered}
+use Rattle.ht_invariant.specs.FoundClauses.{FindsClauses, candidates_of, first_clauses, is_met_by_each}
+use Rattle.std.specs.Prelude.{take, filter}
+use Rattle.ht_tree.specs.Invariants.{max_clauses}
 use Rattle.ht_invariant.proofs.FindLaws.{first_known, found_invariant}
 use Rattle.ht_invariant.proofs.finding.find.Goals as goal
 use Rattle.ht_invariant.proofs.finding.find.Goals.{In_ok-window}
@@ -14,7 +15,8 @@ use Rattle.ht_invariant.proofs.finding.find.Goals.{In_ok-window}
 first : (c : In_ok-window) → c.in_ok-clauses.clauses.items ≡ first_clauses c.args.circuit.now c.args.state.now
 first c =
     c.in_ok-clauses.ensures
-    ∙ ap (λ (states : List (List Bool)). offered (is_met_by_each states) [] (candidates_of c.args.state.now))
+    ∙ ap (λ (states : List (List Bool)). take max_clauses (filter (is_met_by_each states)
+    (candidates_of c.args.state.now)))
     c.in_ok-states.ensures
 
 pub close_clauses-requires-clause-known : goal.close_clauses-requires-clause-known

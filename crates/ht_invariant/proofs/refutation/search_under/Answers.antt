@@ -19,13 +19,13 @@ pub returns-in-Sure-clause-round : goal.returns-in-Sure-clause-round
 returns-in-Sure-clause-round c =
     let n = c.args.bases.now.circuit in
     let f = c.args.fault in
-    let s = c.explore.new.trial.window in
+    let s = c.explore_under.new.trial.window in
     let told = c.in_ok-told_frame-in-Sure in
     let ks = c.args.clauses.now in
     let window : c.in_ok-window.window.window ≡ one_frame_window n f (marked 0 c.args.marks.now) =
     c.in_ok-window.ensures.window
     ∙ ap (λ (xs : List Bool). one_frame_window n f (marked 0 xs)) c.in_ok-z.ensures in
-    let same = ap (λ (w : ClauseWindow). w.window) c.explore.ensures.subject ∙ window in
+    let same = ap (λ (w : ClauseWindow). w.window) c.explore_under.ensures.subject ∙ window in
     let found = rw c.in-Found.is at c.in_ok-tokens.ensures.outcome in
     frame_found n f (guide_from n f (literals_of_each ks)) c.args.budget (marked 0 c.args.marks.now) told.field-0
     c.in-Found.tokens.items s.decisions c.in-Sure.frame

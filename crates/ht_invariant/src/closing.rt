@@ -11,22 +11,21 @@ ghost use Rattle.ht_invariant.specs.ClosingRounds.{IsClosingAnswer, IsClosingRou
 ghost use Rattle.ht_invariant.specs.UnderWay.{IsUnderWay};
 
 use crate::sought::Sought;
-use crate::trial::{ClauseTrial, explore};
+use crate::trial::{ClauseTrial, explore_under};
 use ht_items::Items;
 use ht_search::Outcome;
 use ht_tree::{Clause, Token};
 use ht_window::Window;
 use std::alloc::{AllocError, Global};
 
-/// The window of the closing windows, before its first decision, and the walk that closes one of them, if its search
-/// closed it.
+// The window of the closing windows, before its first decision, and the walk of one of them if its search closed it.
 #[derive(Drop)]
-pub struct Closing<'c> {
-    pub window: Window<'c>,
-    pub tokens: Option<Items<Token>>,
+struct Closing<'c> {
+    window: Window<'c>,
+    tokens: Option<Items<Token>>,
 }
 
-// The walk of a search that is closed.
+// The walk of a search that is closed, whatever it goes by.
 fn closing_tokens(outcome: Outcome) -> Option<Items<Token>>
     ensures { (g : Guide) (budget : ℕ) (path : List Assign3)
         → IsOutcome g budget 1 (node_at path) outcome → IsClosingAnswer g budget result }
@@ -64,7 +63,7 @@ fn close<'c>(
         sought,
         clauses,
     };
-    let outcome = explore(alloc, &mut trial, budget)?;
+    let outcome = explore_under(alloc, &mut trial, budget)?;
     let ClauseTrial {
         mut window,
         sought: _,
@@ -75,7 +74,7 @@ fn close<'c>(
     Ok(Closing { window, tokens })
 }
 
-// Gives clause i its walk.
+// Gives clause i its walk, in place of the one of the round before.
 fn give_walk(clauses: &mut Vec<Clause>, i: usize, tokens: Items<Token>)
     requires { i < vec_len clauses.old }
     ensures { (d : Clause) → clauses.new.items ≡ slice_set clauses.old.items i
@@ -86,7 +85,7 @@ fn give_walk(clauses: &mut Vec<Clause>, i: usize, tokens: Items<Token>)
 
 // The window before its first decision, and the clause that is searched next.
 #[derive(Drop)]
-struct Step<'c> {
+struct NextSearch<'c> {
     window: Window<'c>,
     next: usize,
 }
@@ -98,7 +97,7 @@ fn search_clause<'c>(
     clauses: &mut Vec<Clause>,
     i: usize,
     budget: u64,
-) -> Result<Step<'c>, AllocError>
+) -> Result<NextSearch<'c>, AllocError>
     requires good { window.window ≡ good_window window.window.circuit }
     requires start { window.decisions ≡ [] }
     requires known { knows_each window.window.circuit clauses.old.items ≡ true }
@@ -118,14 +117,14 @@ fn search_clause<'c>(
     match tokens {
         Some(tokens) => {
             give_walk(clauses, i, tokens);
-            Ok(Step {
+            Ok(NextSearch {
                 window,
                 next: i + 1,
             })
         },
         None => {
             let _ = clauses.remove(i);
-            Ok(Step { window, next: i })
+            Ok(NextSearch { window, next: i })
         },
     }
 }
@@ -135,7 +134,7 @@ fn search_clause<'c>(
 ///
 /// # Errors
 /// Out of memory.
-pub fn round<'c>(
+pub fn closing_round<'c>(
     alloc: Global,
     window: Window<'c>,
     clauses: &mut Vec<Clause>,
@@ -155,7 +154,7 @@ pub fn round<'c>(
     let mut i = 0;
     'each: while i < clauses.len() {
         let step = search_clause(alloc, current, clauses, i, budget)?;
-        let Step { window, next } = step;
+        let NextSearch { window, next } = step;
         current = window;
         i = next;
     }

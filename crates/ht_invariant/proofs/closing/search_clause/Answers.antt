@@ -3,7 +3,7 @@ use Rattle.ht_tree.specs.declared.token.Token.{Token}
 use Rattle.ht_tree.specs.declared.clause.Clause.{Clause}
 use Rattle.ht_invariant.specs.ClosingRounds.{IsClosingAnswer, closing_guide}
 use Rattle.ht_invariant.proofs.ClosingRoundLaws.{clause_drops, clause_stays}
-use Rattle.ht_invariant.proofs.round.search_clause.Goals as goal
+use Rattle.ht_invariant.proofs.closing.search_clause.Goals as goal
 
 pub returns-in-Some-clause-way : goal.returns-in-Some-clause-way
 returns-in-Some-clause-way c =

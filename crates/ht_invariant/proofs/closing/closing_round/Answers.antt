@@ -4,7 +4,7 @@ use Rattle.ht_tree.specs.Windows.{SearchWindow}
 use Rattle.ht_invariant.specs.UnderWay.{IsUnderWay}
 use Rattle.ht_invariant.proofs.ClosingRoundLaws.{round_ends}
 use Rattle.ht_tree.specs.ClauseWindows.{good_window}
-use Rattle.ht_invariant.proofs.round.round.Goals as goal
+use Rattle.ht_invariant.proofs.closing.closing_round.Goals as goal
 
 pub search_clause-requires-clause-good : goal.search_clause-requires-clause-good
 search_clause-requires-clause-good c =

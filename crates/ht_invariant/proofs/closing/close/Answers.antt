@@ -6,14 +6,14 @@ use Rattle.ht_tree.specs.ClauseSearches.{guide_under}
 use Rattle.ht_invariant.specs.declared.sought.Sought.TheVariants.{Breach}
 use Rattle.ht_invariant.specs.Trials.{clause_window}
 use Rattle.ht_invariant.specs.ClosingRounds.{closing_guide}
-use Rattle.ht_invariant.proofs.round.close.Goals as goal
+use Rattle.ht_invariant.proofs.closing.close.Goals as goal
 
 pub returns-clause-answer : goal.returns-clause-answer
 returns-clause-answer c =
     let k = c.args.clause.now in
     c.closing_tokens-tokens.ensures (closing_guide c.args.window.window.circuit c.args.clauses.now k) c.args.budget
-    c.explore.new.trial.window.decisions
+    c.explore_under.new.trial.window.decisions
     (subst (λ (w : SearchWindow). IsOutcome
     (guide_under (clause_window w (Breach k.first k.second) c.args.clauses.now)) c.args.budget 1
-    (node_at c.explore.new.trial.window.decisions) c.in_ok-outcome.outcome) c.requires.good
+    (node_at c.explore_under.new.trial.window.decisions) c.in_ok-outcome.outcome) c.requires.good
     c.in_ok-outcome.ensures.outcome)

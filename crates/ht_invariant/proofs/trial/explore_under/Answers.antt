@@ -4,7 +4,7 @@ use Rattle.ht_search.specs.Outcomes.{IsOutcome}
 use Rattle.ht_search.proofs.WindowStepLaws.{window_node}
 use Rattle.ht_tree.specs.ClauseSearches.{guide_under}
 use Rattle.ht_invariant.specs.Trials.{clause_window}
-use Rattle.ht_invariant.proofs.trial.explore.Goals as goal
+use Rattle.ht_invariant.proofs.trial.explore_under.Goals as goal
 
 pub returns-clause-outcome : goal.returns-clause-outcome
 returns-clause-outcome c =
