@@ -1,5 +1,6 @@
 -- An engine that makes one step stands for the steps with it.
 use Rattle.std.specs.Prelude.{◌≡◌, ◌≢◌, ◌↔◌, ◌<◌, ◌≤◌, ◌+◌, ◌-◌, ℕ, List, [], ◌∷◌, ◌++◌, Bool, true, false, not, length, get_or, refl, Option, Some, None}
+use Rattle.std.specs.List.{All}
 use Rattle.std.specs.Option.{is_some}
 use Rattle.rand_pcg.specs.Lcg.{Lcg}
 use Rattle.std.proofs.Common.{arith, ap, eq-eqb, inl, inr, length-append, set, sym, ◌∙◌, subst}

@@ -3,7 +3,7 @@ use Rattle.std.proofs.Common.{arith, ap, subst, sym, ◌∙◌}
 use Rattle.std.proofs.lemmas.List.Elements.{All-nil}
 use Rattle.ht_grade.specs.GraderView.{GraderView}
 use Rattle.ht_tree.specs.Invariants.{IsInvariant}
-use Rattle.ht_invariant.specs.Found.{FindsClauses}
+use Rattle.ht_invariant.specs.FoundClauses.{FindsClauses}
 use Rattle.ht_random.specs.RandomVectors.{generator_after}
 use Rattle.ht_valid.specs.ValidFiles.{HasEntry}
 use Rattle.ht_engine.specs.FaultWork.{HoldsIfAny, IsZeroInvariant, zero_state}
