@@ -1,5 +1,5 @@
 -- What the rounds leave is an invariant.
-use Rattle.std.proofs.Common.{◌≡◌, ◌<◌, ◌≤◌, ◌+◌, ◌-◌, ◌∙◌, ◌&&◌, ℕ, suc, zero, List, [], ◌∷◌, ◌++◌, map, min, Bool, true, false, Option, Some, None, length, get_or, take, refl, sym, ap, subst, arith, append_assoc}
+use Rattle.std.proofs.Common.{◌≡◌, ◌<◌, ◌≤◌, ◌+◌, ◌-◌, ◌∙◌, ℕ, suc, zero, List, [], ◌∷◌, ◌++◌, map, min, Bool, true, false, Option, Some, None, length, get_or, refl, sym, ap, subst, arith, append_assoc}
 use Rattle.std.specs.Prelude.{flat_map}
 use Rattle.std.specs.List.{All, filter, list_all, range_with_len}
 use Rattle.std.proofs.lemmas.Bool.{and_from, and_parts, lt-ltb}
@@ -16,7 +16,7 @@ use Rattle.ht_tree.specs.Clauses.{IsClause, IsSecond, literals_of, literals_of_e
 use Rattle.ht_tree.specs.ClauseWindows.{closing_window, judge_under}
 use Rattle.ht_tree.specs.Invariants.{IsClosedUnder, IsInvariant, max_clauses}
 use Rattle.ht_invariant.specs.Trials.{knows, knows_each}
-use Rattle.ht_invariant.specs.ClosingRounds.{AreClosingAnswers, AreClosingRounds, IsClosingRound, closing_guide, clause_kept, clauses_kept}
+use Rattle.ht_invariant.specs.ClosingRounds.{AreClosingAnswers, AreClosingRounds, IsClosingRound, clauses_kept}
 use Rattle.ht_invariant.specs.FoundClauses.{FindsClauses, candidates_at, candidates_of, clause_of, first_clauses, is_met_by_each, literal, of_two, reach, state_after, tried_frames, tried_states}
 
 -- a clause of the circuit that the state meets, whatever its walk
@@ -39,16 +39,16 @@ module _ (c : Netlist) where
       (each_known clauses (All-tail (IsClause c) k clauses h))
 
   module _ (state : List Bool) where
-    good_kept : (clauses : List Clause) (walks : List (Option (List Token))) → All (IsMetClause c state) clauses
+    met_kept : (clauses : List Clause) (walks : List (Option (List Token))) → All (IsMetClause c state) clauses
         → All (IsMetClause c state) (clauses_kept clauses walks)
-    good_kept [] walks h = All-nil (IsMetClause c state)
-    good_kept (k ∷ clauses) [] h = All-nil (IsMetClause c state)
-    good_kept (k ∷ clauses) (None ∷ walks) h = good_kept clauses walks (All-tail (IsMetClause c state) k clauses h)
-    good_kept (k ∷ clauses) (Some tokens ∷ walks) h =
+    met_kept [] walks h = All-nil (IsMetClause c state)
+    met_kept (k ∷ clauses) [] h = All-nil (IsMetClause c state)
+    met_kept (k ∷ clauses) (None ∷ walks) h = met_kept clauses walks (All-tail (IsMetClause c state) k clauses h)
+    met_kept (k ∷ clauses) (Some tokens ∷ walks) h =
         let g = All-head (IsMetClause c state) k clauses h in
         All-cons (IsMetClause c state) (record k { tokens = tokens }) (clauses_kept clauses walks)
         (record { clause = record { first = g.clause.first; second = g.clause.second }; met = g.met })
-        (good_kept clauses walks (All-tail (IsMetClause c state) k clauses h))
+        (met_kept clauses walks (All-tail (IsMetClause c state) k clauses h))
 
   few_kept : (clauses : List Clause) (walks : List (Option (List Token)))
       → length (clauses_kept clauses walks) ≤ length clauses
@@ -91,31 +91,31 @@ module _ (c : Netlist) where
         let l = few_kept clauses h.walks in
         omega (arith, e, l)
 
-    round_good : (state : List Bool) (clauses kept : List Clause) → IsClosingRound c budget clauses kept
+    round_met : (state : List Bool) (clauses kept : List Clause) → IsClosingRound c budget clauses kept
         → All (IsMetClause c state) clauses → All (IsMetClause c state) kept
-    round_good state clauses kept h good =
-        subst (All (IsMetClause c state)) (sym h.stay) (good_kept state clauses h.walks good)
+    round_met state clauses kept h are_met =
+        subst (All (IsMetClause c state)) (sym h.stay) (met_kept state clauses h.walks are_met)
 
     round_closed : (clauses kept : List Clause) → IsClosingRound c budget clauses kept → length kept ≡ length clauses
         → All (IsClosedUnder c kept) kept
     round_closed clauses kept h none =
-        let last = last_closed [] clauses h.walks (literals_of_each clauses) refl h.answers (sym (ap length h.stay) ∙ none)
-        in
+        let last = last_closed [] clauses h.walks (literals_of_each clauses) refl h.answers
+        (sym (ap length h.stay) ∙ none) in
         let same : literals_of_each clauses ≡ literals_of_each kept =
         sym (ap literals_of_each h.stay ∙ last.0) in
         subst (λ (ls : List (List Literal)). All (ClosedIn ls) kept) same
         (subst (All (ClosedIn (literals_of_each clauses))) (sym h.stay) last.1)
 
-    pub rounds_hold : (state : List Bool) (n : ℕ) (clauses kept : List Clause) → AreClosingRounds c budget n clauses kept
-        → All (IsMetClause c state) clauses
+    pub rounds_hold : (state : List Bool) (n : ℕ) (clauses kept : List Clause)
+        → AreClosingRounds c budget n clauses kept → All (IsMetClause c state) clauses
         → All (IsMetClause c state) kept × ((length kept ≤ length clauses) × All (IsClosedUnder c kept) kept)
-    rounds_hold state zero clauses kept h good = (
-      round_good state clauses kept h.0 good,
+    rounds_hold state zero clauses kept h are_met = (
+      round_met state clauses kept h.0 are_met,
       (round_few clauses kept h.0, round_closed clauses kept h.0 h.1),
     )
-    rounds_hold state (suc n) clauses kept h good =
+    rounds_hold state (suc n) clauses kept h are_met =
         let next = h.0 in
-        let rest = rounds_hold state n next kept h.1.2 (round_good state clauses next h.1.0 good) in
+        let rest = rounds_hold state n next kept h.1.2 (round_met state clauses next h.1.0 are_met) in
         let l = rest.1.0 in
         let m = h.1.1 in
         (rest.0, (omega (arith, l, m), rest.1.1))
@@ -127,12 +127,12 @@ each_met c state (k ∷ clauses) h =
     and_from _ _ (All-head (IsMetClause c state) k clauses h).met
     (each_met c state clauses (All-tail (IsMetClause c state) k clauses h))
 
-good_clauses : (c : Netlist) (state : List Bool) (clauses : List Clause) → All (IsMetClause c state) clauses
+met_clauses : (c : Netlist) (state : List Bool) (clauses : List Clause) → All (IsMetClause c state) clauses
     → All (IsClause c) clauses
-good_clauses c state [] h = All-nil (IsClause c)
-good_clauses c state (k ∷ clauses) h =
+met_clauses c state [] h = All-nil (IsClause c)
+met_clauses c state (k ∷ clauses) h =
     All-cons (IsClause c) k clauses (All-head (IsMetClause c state) k clauses h).clause
-    (good_clauses c state clauses (All-tail (IsMetClause c state) k clauses h))
+    (met_clauses c state clauses (All-tail (IsMetClause c state) k clauses h))
 
 module _ (c : Netlist) (state : List Bool) (held : IsState c state) where
   two_clauses : (i j : ℕ) → i < j → j < length state → All (IsClause c) (of_two i j)
@@ -196,27 +196,27 @@ module _ (c : Netlist) (state : List Bool) (held : IsState c state) where
       (both clauses (All-tail (IsClause c) k clauses h)
       (All-tail (λ k. is_met_by_each (tried_states c state) k ≡ true) k clauses p))
 
-  pub first_good : All (IsMetClause c state) (first_clauses c state)
-  first_good =
+  pub first_met : All (IsMetClause c state) (first_clauses c state)
+  first_met =
       let test = is_met_by_each (tried_states c state) in
       All-take (IsMetClause c state) max_clauses (filter test (candidates_of state))
       (both (filter test (candidates_of state)) (All-filter test (IsClause c) (candidates_of state) all_clauses)
       (filter_passes test (candidates_of state)))
 
   pub first_known : knows_each c (first_clauses c state) ≡ true
-  first_known = each_known c (first_clauses c state) (good_clauses c state (first_clauses c state) first_good)
+  first_known = each_known c (first_clauses c state) (met_clauses c state (first_clauses c state) first_met)
 
   pub found_invariant : (budget : ℕ) (clauses : List Clause) → FindsClauses c budget state clauses
       → 0 < length clauses → IsInvariant c state clauses
   found_invariant budget clauses h some =
-      let r = rounds_hold c budget state h.dropping (first_clauses c state) clauses h.rounds first_good in
+      let r = rounds_hold c budget state h.dropping (first_clauses c state) clauses h.rounds first_met in
       let l = r.1.0 in
       let t = length-take max_clauses (filter (is_met_by_each (tried_states c state)) (candidates_of state)) in
       record {
         held = held;
         some = some;
         few = omega (arith, l, t);
-        known = good_clauses c state clauses r.0;
+        known = met_clauses c state clauses r.0;
         met = each_met c state clauses r.0;
         closed = r.1.1;
       }

@@ -15,7 +15,6 @@ use Rattle.ht_tree.specs.ToldChains.{AreChained, is_output, path_by, states_of}
 use Rattle.ht_tree.specs.Clauses.{AreKnownClauses, literals_of_each}
 use Rattle.ht_tree.specs.ClauseWindows.{judge_under, window_under}
 use Rattle.ht_tree.specs.Invariants.{IsInvariant}
-use Rattle.ht_tree.specs.SealedInClauses.{SealedIn}
 use Rattle.ht_tree.specs.RefutationsFrom.{RefutesFrom}
 use Rattle.ht_tree.specs.ToldUnder.{TellsUnder}
 use Rattle.ht_clauses.proofs.FromLaws.{refuted_from}
@@ -70,7 +69,8 @@ module _ (c : Netlist) (fault : Fault) (clauses : List (List Literal)) where
               (meets_by_values c (path_by told.sets) h.path values) ∙ (sure_under w h.path h.found.found.sure).0;
         }
 
-    chain_tells_under : (chain : List Told) → AreChained (FindsFrame c fault (guide_from c fault clauses) budget) [] chain
+    chain_tells_under : (chain : List Told)
+        → AreChained (FindsFrame c fault (guide_from c fault clauses) budget) [] chain
         → AreChained (TellsUnder c fault clauses) [] chain
     chain_tells_under chain h =
         chained_each (FindsFrame c fault (guide_from c fault clauses) budget) (TellsUnder c fault clauses)

@@ -1,12 +1,12 @@
 -- Where the walk back from a next state begins.
-use Rattle.std.proofs.Common.{◌≡◌, ◌<◌, ◌∙◌, ℕ, List, [], ◌∷◌, Bool, true, false, ◌&&◌, cond, Option, Some, None, length, refl, sym, ap, subst, arith}
+use Rattle.std.proofs.Common.{◌≡◌, ◌<◌, List, [], ◌∷◌, Bool, true, false, ◌&&◌, cond, Some, length, refl, subst, arith}
 use Rattle.std.specs.List.{find}
 use Rattle.std.proofs.lemmas.Bool.{and_parts, ltb-true}
 use Rattle.ht_net.specs.Netlist.{IsCircuit}
 use Rattle.ht_net.specs.Faults.{is_data_pin}
 use Rattle.ht_tree.specs.declared.token.Assign3.{Assign3}
 use Rattle.ht_tree.specs.declared.window.Spot.TheVariants.{State}
-use Rattle.ht_tree.specs.Windows.{SearchWindow, IsWindow, cell_at, is_undetermined}
+use Rattle.ht_tree.specs.Windows.{SearchWindow, cell_at, is_undetermined}
 use Rattle.ht_tree.specs.Places.{set_at, spot_net}
 use Rattle.ht_tree.specs.WalkBack.{CanWalk}
 use Rattle.ht_tree.proofs.UndeterminedLaws.{forced_undetermined}

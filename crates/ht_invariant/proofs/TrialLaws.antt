@@ -1,5 +1,5 @@
 -- What a window under clauses says of the node where its decisions stand.
-use Rattle.std.proofs.Common.{◌≡◌, ◌∙◌, ℕ, List, [], ◌∷◌, Bool, true, false, Option, IsTrue, refl, sym, ap, subst}
+use Rattle.std.proofs.Common.{◌≡◌, ◌∙◌, ℕ, List, [], ◌∷◌, true, false, Option, IsTrue, sym, ap, subst}
 use Rattle.ht_tern.specs.declared.tern.Tern.{Tern}
 use Rattle.ht_net.specs.declared.fault.Fault.{Fault}
 use Rattle.ht_net.specs.Netlist.{Netlist}
@@ -20,7 +20,7 @@ use Rattle.ht_window.specs.States.{IsLegalDecision}
 use Rattle.ht_trial.proofs.TrialLaws as trial
 use Rattle.ht_tree.specs.declared.clause.Clause.{Clause}
 use Rattle.ht_tree.specs.Clauses.{second_of}
-use Rattle.ht_tree.specs.ClauseWindows.{ClauseWindow, IsClauseWindow, IsSought, is_one_frame, judge_under, status_under}
+use Rattle.ht_tree.specs.ClauseWindows.{ClauseWindow, IsClauseWindow, IsSought, is_one_frame, status_under}
 use Rattle.ht_tree.specs.ClauseSearches.{guide_under, pick_under}
 use Rattle.ht_clauses.proofs.ChoiceLaws.{open_legal}
 use Rattle.ht_invariant.specs.declared.sought.Sought.{Sought}

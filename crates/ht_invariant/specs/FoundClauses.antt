@@ -1,5 +1,5 @@
 -- The invariant that is found from a state: its candidates, and what the rounds leave of them.
-use Rattle.std.specs.Prelude.{◌≡◌, ◌<◌, ◌+◌, ◌-◌, ℕ, List, [], ◌∷◌, ◌++◌, map, take, filter, flat_map, min, Bool, true, false, Option, Some, None, length, get_or}
+use Rattle.std.specs.Prelude.{◌+◌, ◌-◌, ℕ, List, [], ◌∷◌, map, take, filter, flat_map, min, Bool, true, false, Option, Some, None, length, get_or}
 use Rattle.std.specs.List.{list_all, range_with_len}
 use Rattle.ht_net.specs.Netlist.{Netlist}
 use Rattle.ht_net.specs.Frame.{run_state}
@@ -8,7 +8,7 @@ use Rattle.ht_random.specs.RandomVectors.{random_vectors}
 use Rattle.ht_tree.specs.declared.clause.Literal.{Literal}
 use Rattle.ht_tree.specs.declared.clause.Clause.{Clause}
 use Rattle.ht_tree.specs.Clauses.{literals_of, meets}
-use Rattle.ht_tree.specs.Invariants.{IsInvariant, max_clauses}
+use Rattle.ht_tree.specs.Invariants.{max_clauses}
 use Rattle.ht_invariant.specs.ClosingRounds.{AreClosingRounds}
 
 -- a literal, and a clause that has no walk yet

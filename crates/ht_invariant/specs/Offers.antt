@@ -1,5 +1,5 @@
 -- Candidates that are offered one after the other.
-use Rattle.std.specs.Prelude.{◌-◌, ℕ, List, ◌++◌, take, filter, Bool, length}
+use Rattle.std.specs.Prelude.{◌-◌, List, ◌++◌, take, filter, Bool, length}
 use Rattle.ht_tree.specs.declared.clause.Clause.{Clause}
 use Rattle.ht_tree.specs.Invariants.{max_clauses}
 

@@ -1,5 +1,5 @@
 -- Windows under clauses as a search holds them.
-use Rattle.std.specs.Prelude.{◌≡◌, ℕ, List, ◌∷◌, Bool, true, nat_lt, length}
+use Rattle.std.specs.Prelude.{List, ◌∷◌, Bool, true, nat_lt, length}
 use Rattle.std.specs.List.{list_all}
 use Rattle.ht_net.specs.Netlist.{Netlist}
 use Rattle.ht_tree.specs.Windows.{SearchWindow}

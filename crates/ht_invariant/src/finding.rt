@@ -36,8 +36,8 @@ fn close_clauses(
     requires good { window.window ≡ good_window window.window.circuit }
     requires start { window.decisions ≡ [] }
     requires known { knows_each window.window.circuit clauses.old.items ≡ true }
-    ensures { OnOk result ((n : ℕ)
-        × AreClosingRounds window.entry.window.circuit budget n clauses.old.items clauses.new.items) }
+    ensures { OnOk result ((n : ℕ) × AreClosingRounds window.entry.window.circuit budget n
+        clauses.old.items clauses.new.items) }
 {
     let mut current = window;
     'rounds: loop {
@@ -67,8 +67,8 @@ fn closing_base<'c>(alloc: Global, circuit: &'c Circuit) -> Result<Window<'c>, A
 /// Finds clauses on the latches that hold in every run of the good machine from a state, which has a bit for each
 /// flip-flop. There may be none.
 ///
-/// A candidate says that the latch of one flip-flop keeps its bit of the state, or that of two flip-flops, the second at
-/// most 8 after the first, one has a given bit. The first 32 are taken that the state meets, and each state after 1 to
+/// A candidate says that the latch of one flip-flop keeps its bit of the state, or that one of two flip-flops, the
+/// second at most 8 after the first, has a bit. The first 32 are taken that the state meets, and each state after 1 to
 /// 64 frames from it under the random vectors of seed 0. Then rounds begin: the closing window of each clause is
 /// searched under those that are still kept, with the whole budget, of which a token takes one, and a clause whose
 /// search isn't closed is dropped at once. The first round that drops none gives the walks.

@@ -22,7 +22,8 @@ use ht_tree::{Assign, Clause, Spot, Status, Token, Told};
 use ht_window::{Bases, Start};
 use std::alloc::{AllocError, Global};
 
-/// What the one-frame windows of a fault under the clauses of an invariant say of it. Flip-flops count from 0, and rise.
+/// What the one-frame windows of a fault under the clauses of an invariant say of it. Flip-flops count from 0, and
+/// rise.
 #[derive(Drop)]
 pub enum FromState {
     /// A difference doesn't leave the flip-flops `z`: a complete walk of their window under the clauses.
@@ -30,7 +31,7 @@ pub enum FromState {
         z: Items<u32>,
         tokens: Items<Token>,
     },
-    /// A difference comes to an output, through the flip-flops `z`: the output and the decisions in the window of these.
+    /// A difference comes to an output through the flip-flops `z`: the output, and the decisions in the window of `z`.
     Told {
         z: Items<u32>,
         place: Spot,

@@ -16,7 +16,8 @@ each-preserved c =
     let first = c.args.clauses.now.items in (
       c.in_ok-step.ensures.window ∙ c.each.invariant.0,
       c.in_ok-step.ensures.decisions,
-      subst (λ (n : Netlist). IsUnderWay n c.args.budget first c.search_clause.new.clauses.items c.in_ok-step.step.next) e
+      subst (λ (n : Netlist). IsUnderWay n c.args.budget first c.search_clause.new.clauses.items
+          c.in_ok-step.step.next) e
           (c.in_ok-step.ensures.way first
           (subst (λ (n : Netlist). IsUnderWay n c.args.budget first c.each.clauses.items c.each.i) (sym e)
           c.each.invariant.2)),

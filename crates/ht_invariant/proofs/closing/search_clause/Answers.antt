@@ -42,5 +42,6 @@ returns-in-None-clause-way c =
     let answer =
     subst (λ (xs : List Clause). IsClosingAnswer (closing_guide n xs k) b c.in_ok-closing.closing.tokens) value
     c.in_ok-closing.ensures.answer in
-    let open_end = subst (λ (o : Option (List Token)). IsClosingAnswer (closing_guide n ks k) b o) c.in-None.is answer in
+    let open_end =
+    subst (λ (o : Option (List Token)). IsClosingAnswer (closing_guide n ks k) b o) c.in-None.is answer in
     λ initial way. clause_drops n b initial ks i way inside k is c.remove.new.self.items c.remove.ensures.items open_end

@@ -26,7 +26,8 @@ rounds-preserved c =
       c.in_ok-after.ensures.decisions,
       subst (λ (n : Netlist). knows_each n new ≡ true) e c.in_ok-after.ensures.known,
       rounds_go_on c.args.window.window.circuit c.args.budget c.args.clauses.now.items old new c.rounds.invariant.3
-          (subst (λ (n : Netlist). IsClosingRound n c.args.budget old new) e c.in_ok-after.ensures.round) (omega (arith, few)),
+          (subst (λ (n : Netlist). IsClosingRound n c.args.budget old new) e c.in_ok-after.ensures.round)
+          (omega (arith, few)),
     )
 
 pub returns-then-len-count : goal.returns-then-len-count

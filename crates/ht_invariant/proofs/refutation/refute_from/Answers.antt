@@ -1,5 +1,3 @@
-use Rattle.std.proofs.Common.{List}
-use Rattle.ht_tree.specs.declared.clause.Clause.{Clause}
 use Rattle.ht_invariant.proofs.refutation.refute_from.Goals as goal
 
 pub returns-clause-answer : goal.returns-clause-answer

@@ -112,7 +112,8 @@ pub returns-in-Spent-clause-enough : goal.returns-in-Spent-clause-enough
 returns-in-Spent-clause-enough c =
     let at = (goal.at.returns-in-Spent-clause-enough c).In_ok-marks in
     λ large z seal. spends_little c.args.bases.now.circuit c.args.fault (literals_of_each c.args.clauses.now)
-    c.args.budget c.in_ok-z-in-Spent.z c.in-Spent.tokens (valid at) (known at) (returns-in-Spent-clause-answer c).1 large
+    c.args.budget c.in_ok-z-in-Spent.z c.in-Spent.tokens (valid at) (known at) (returns-in-Spent-clause-answer c).1
+    large
 
 pub index_mut-requires : goal.index_mut-requires
 index_mut-requires c =
