@@ -84,21 +84,21 @@ module _ (netlist tests report proofs : List ℕ) (c : net.Netlist) (representat
         → HasCircuit netlist c representatives a m → InCall Tests m b
         → ReadStops (check netlist name report proofs) basis Tests name m b e → IsPrepared job IsJudged (Err e) a b
     ends_at_tests m b e name is h frame stops =
-        stops_prepared job basis 1 a m (reads_circuit m h) Tests tests b refl refl frame refl IsJudged e
+        stops_prepared job basis 1 a m (reads_circuit m h) Tests tests b refl refl frame IsJudged e
         (subst (λ (n : List ℕ). ReadStops (check netlist n report proofs) basis Tests n m b e) is stops)
 
     pub ends_at_report : (n b : DeskView) (e : RunError) (name : List ℕ) → name ≡ report
         → HasVectors netlist tests c representatives content.list a n → InCall Report n b
         → ReadStops (check netlist tests name proofs) basis Report name n b e → IsPrepared job IsJudged (Err e) a b
     ends_at_report n b e name is h frame stops =
-        stops_prepared job basis 3 a n (reads_vectors n h) Report report b refl refl frame refl IsJudged e
+        stops_prepared job basis 3 a n (reads_vectors n h) Report report b refl refl frame IsJudged e
         (subst (λ (l : List ℕ). ReadStops (check netlist tests l proofs) basis Report l n b e) is stops)
 
     pub ends_at_proofs : (o b : DeskView) (e : RunError) (name : List ℕ) → name ≡ proofs
         → HasReport netlist tests report c representatives content a o → InCall Proofs o b
         → ReadStops (check netlist tests report name) basis Proofs name o b e → IsPrepared job IsJudged (Err e) a b
     ends_at_proofs o b e name is h frame stops =
-        stops_prepared job basis 4 a o (reads_report o h) Proofs proofs b refl refl frame refl IsJudged e
+        stops_prepared job basis 4 a o (reads_report o h) Proofs proofs b refl refl frame IsJudged e
         (subst (λ (n : List ℕ). ReadStops (check netlist tests report n) basis Proofs n o b e) is stops)
 
     -- ---- all are read

@@ -65,7 +65,7 @@ module _ (netlist tests : List ℕ) where
         let job = compact netlist tests out in
         stops_prepared job basis 1 a read.between
         (netlist_before job netlist tests refl refl (MAX_COMPACTED + 1) (λ basis text good. good) basis a b read)
-        Tests tests b refl refl read.frame refl IsMade TooManyVectors (
+        Tests tests b refl refl read.frame IsMade TooManyVectors (
           refl,
           read_so Tests tests (AreVectorsUpTo c (MAX_COMPACTED + 1) list) _ read.between
               (λ text are. record { list = list; first = are.first; many = omega (arith, read.upto, many) }) read.read,

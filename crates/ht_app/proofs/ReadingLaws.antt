@@ -254,32 +254,28 @@ module _ (job : Asked) (basis : JobBasis) (place : ℕ) (a m : DeskView) (h : Ha
     reads_netlist : (q : InPort) → order_of q ≡ 0 → IsSome (input_name job q) → IsSome (input_name job Netlist)
     reads_netlist q zero some = subst (λ (p : InPort). IsSome (input_name job p)) (in_order q Netlist zero) some
 
-    pub stops_there : IsSome (input_name job Netlist) → (e : RunError) → ReadStops job basis port name m b e
-        → HasCause job a b e
-    stops_there netlist (Denied trouble) stops = refuses (Denied trouble) stops
-    stops_there netlist Usage stops = absurd stops
-    stops_there netlist TooLong stops = refuses TooLong stops
-    stops_there netlist (Refused error) stops = refuses (Refused error) stops
-    stops_there netlist ReadFault stops = record {
+    pub stops_there : (e : RunError) → ReadStops job basis port name m b e → HasCause job a b e
+    stops_there (Denied trouble) stops = refuses (Denied trouble) stops
+    stops_there Usage stops = absurd stops
+    stops_there TooLong stops = refuses TooLong stops
+    stops_there (Refused error) stops = refuses (Refused error) stops
+    stops_there ReadFault stops = record {
       rose = rose stops.rose;
-      reads = netlist;
-      lacks = λ steady. record {
-        basis = basis;
-        port = port;
-        name = name;
-        reads = is;
-        lacks = λ holds. stops.lacks (subst IsTrue (sym h.reads.after.steady) steady)
-            (holds_later name a m h.reads holds);
-        held = held steady;
-        before = λ p before. h.accepts p (omega (arith, before, at));
-      };
+      basis = basis;
+      port = port;
+      name = name;
+      reads = is;
+      before = λ p before. h.accepts p (omega (arith, before, at));
+      lacks = λ steady holds. stops.lacks (subst IsTrue (sym h.reads.after.steady) steady)
+          (holds_later name a m h.reads holds);
+      held = held;
     }
-    stops_there netlist WriteFault stops = absurd stops
-    stops_there netlist NoMemory stops = inl (did_nothing a b (call.written ∙ h.reads.written)
+    stops_there WriteFault stops = absurd stops
+    stops_there NoMemory stops = inl (did_nothing a b (call.written ∙ h.reads.written)
         (call.named ∙ h.reads.named) (call.is_created ∙ h.reads.is_created))
-    stops_there netlist (BadTests line) stops = refuses (BadTests line) stops
-    stops_there netlist TooManyVectors stops = refuses TooManyVectors stops
-    stops_there netlist (BadResponses line) stops = refuses (BadResponses line) stops
+    stops_there (BadTests line) stops = refuses (BadTests line) stops
+    stops_there TooManyVectors stops = refuses TooManyVectors stops
+    stops_there (BadResponses line) stops = refuses (BadResponses line) stops
 
     pub stop_changes : ChangedOnly (reading job) a b
     stop_changes = changes_by_reading job a b (reads_then a m b h.reads (only_reads port m b call)) other_at
