@@ -42,12 +42,12 @@ at_port {A} port p this that got same other = by (is_port p port) refl
 
 -- ---- acts after acts
 
-pub written_then : (p : OutPort) (xs ys : List Act) (w : Option (List ℕ))
+written_then : (p : OutPort) (xs ys : List Act) (w : Option (List ℕ))
     → written_after p (xs ++ ys) w ≡ written_after p ys (written_after p xs w)
 written_then p [] ys w = refl
 written_then p (x ∷ xs) ys w = written_then p xs ys (written_by p x w)
 
-pub named_then : (p : OutPort) (xs ys : List Act) (n : Option (List ℕ))
+named_then : (p : OutPort) (xs ys : List Act) (n : Option (List ℕ))
     → named_after p (xs ++ ys) n ≡ named_after p ys (named_after p xs n)
 named_then p [] ys n = refl
 named_then p (x ∷ xs) ys n = named_then p xs ys (named_by p x n)

@@ -83,8 +83,8 @@ module _ (size seed : ℕ) where
 
     pub ends_in_head : (e : RunError) (b : DeskView) → Does (put Out head ∷ []) (Err e) a b
         → EndsJob {A = Unit {0}} job (Err e) a b
-    ends_in_head e b does = ends_in_part job a a (reads_none a) basis (inputs a) (put Out head ∷ []) b e does.1 (inr
-        says)
+    ends_in_head e b does = ends_in_part job a a (reads_none a) basis (inputs a) (put Out head ∷ []) b e does.1
+        (inr says)
         (subst (StopsBy (writing job) (put Out head ∷ []) a b) does.1
         (does.0 (writing job) [] a (nothing_written (writing job) a) head_permitted))
 

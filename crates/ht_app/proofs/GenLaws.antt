@@ -29,10 +29,10 @@ use Rattle.ht_app.specs.declared.run_error.RunError.{RunError}
 use Rattle.ht_app.specs.declared.run_error.RunError.TheVariants.{WriteFault, NoMemory}
 use Rattle.ht_app.specs.Acts.{Act, put, makes}
 use Rattle.ht_app.specs.Changed.{ChangedOnly, Ports, job_ports}
-use Rattle.ht_app.specs.Generating.{WritesAfter, creation}
+use Rattle.ht_app.specs.Generating.{WritesAfter}
 use Rattle.ht_app.specs.Inputs.{AcceptsInputs, JobBasis}
 use Rattle.ht_app.specs.Jobs.{input_name, order_of, output_name, settings_of}
-use Rattle.ht_app.specs.Outputs.{WritesFiles, WritesSteps, beginning, ending, step_acts}
+use Rattle.ht_app.specs.Outputs.{WritesFiles, WritesSteps, creation, ending, step_acts}
 use Rattle.ht_app.specs.Steps.{Does, EndsJob, HasReadTo, NetlistStops, NetlistWasRead, PermitsAll, Tries, reading, writing}
 use Rattle.ht_app.proofs.ChangedLaws.{ArePortsWithin}
 use Rattle.ht_app.proofs.EndLaws.{ends_done, ends_in_memory, ends_in_part, ends_unmade, ends_unwritten, nothing_written}
@@ -42,13 +42,16 @@ use Rattle.ht_app.proofs.WritingLaws.{permits_then, tries_then}
 
 -- ---- the parts of the files, after they are made
 
+abbrev beginning : RunFiles → List Act
+beginning files = creation files ++ put Proofs (proofs_so_far []) ∷ []
+
 abbrev pub steps_part : List Step → List Act
 steps_part steps = put Proofs (proofs_so_far []) ∷ flat_map step_acts steps
 
 abbrev pub end_text : List ℕ
 end_text = with_lf (line_text End)
 
-abbrev pub end_part : List ℕ → List ℕ → List Act
+abbrev end_part : List ℕ → List ℕ → List Act
 end_part body total = put Proofs end_text ∷ put Report body ∷ put Out total ∷ ending Report total
 
 module _ (files : RunFiles) (c : net.Netlist) (settings : Settings) (representatives : List ℕ)
@@ -56,7 +59,7 @@ module _ (files : RunFiles) (c : net.Netlist) (settings : Settings) (representat
   where
     module _ (steps : List Step) (are : AreSteps c representatives (first_vectors c settings) settings.budget steps)
       where
-        pub steps_written : WritesSteps files c settings (creation files ++ steps_part steps)
+        steps_written : WritesSteps files c settings (creation files ++ steps_part steps)
         steps_written = record {
           representatives = representatives;
           steps = steps;
@@ -65,7 +68,7 @@ module _ (files : RunFiles) (c : net.Netlist) (settings : Settings) (representat
           acts_are = refl;
         }
 
-        pub all_written : (body total : List ℕ)
+        all_written : (body total : List ℕ)
             → IsGenerated c settings (tests_of steps) (body ++ total) (proofs_of steps) total
             → WritesFiles files c settings (creation files ++ (steps_part steps ++ end_part body total))
         unfolding steps_written
@@ -88,12 +91,12 @@ module _ (files : RunFiles) (c : net.Netlist) (settings : Settings) (representat
         }
 
         module _ (body total : List ℕ)
-            (generated : IsGenerated c settings (tests_of steps) (body ++ total) (proofs_of steps) total) (a m b :
-            DeskView)
+            (generated : IsGenerated c settings (tests_of steps) (body ++ total) (proofs_of steps) total)
+            (a m b : DeskView)
             (first : Tries {A = Unit {0}} (steps_part steps) (Ok tt) a m)
           where
-            pub ends_well : Does (end_part body total) (Ok tt) m b → WritesAfter (creation files) files c settings (Ok
-                tt) a b
+            pub ends_well : Does (end_part body total) (Ok tt) m b
+                → WritesAfter (creation files) files c settings (Ok tt) a b
             ends_well does = record {
               acts = steps_part steps ++ end_part body total;
               tries = tries_then {B = Unit {0}} (steps_part steps) (end_part body total) (tt {0}) (Ok tt) a m b first
@@ -147,7 +150,7 @@ fits steps old new count more short =
     omega (arith, count, more, short, ap length (proofs_end steps), length-append (proofs_so_far steps) end_text)
 
 -- what `write_report` says of a report
-abbrev pub Reports : net.Netlist → List ℕ → EngineView → List ℕ → List ℕ → Type 0
+abbrev Reports : net.Netlist → List ℕ → EngineView → List ℕ → List ℕ → Type 0
 Reports c representatives e body total = (steps : List Step) → EngineStandsFor e steps
     → AreFinished c representatives (first_vectors c e.settings) steps → HasPlainNames c
     → length (tests_of steps) ≤ max_text_bytes → length (proofs_of steps) ≤ max_text_bytes
@@ -191,7 +194,7 @@ module _ (ports : Ports) (tests : ports.writes Tests ≡ true) (proofs : ports.w
       (steps_permitted (before ++ step_acts step) (made_still Tests before (step_acts step) of_tests)
       (made_still Proofs before (step_acts step) of_proofs) steps)
 
-  pub begun_permitted : (files : RunFiles) (c : net.Netlist) (settings : Settings) (acts : List Act)
+  begun_permitted : (files : RunFiles) (c : net.Netlist) (settings : Settings) (acts : List Act)
       → PermitsAll ports [] (beginning files) → WritesSteps files c settings acts → PermitsAll ports [] acts
   begun_permitted files c settings acts first w = subst (PermitsAll ports []) (sym w.acts_are)
       (permits_then ports [] (beginning files) (flat_map step_acts w.steps) first
@@ -258,7 +261,7 @@ module _ (netlist tests report proofs : List ℕ) (options : GenOptions) where
           basis.circuit (settings_of options) acts
           ((tt, refl, refl), ((tt, refl, refl), ((tt, refl, refl), ((refl, λ file. refl), tt)))) w))
 
-      pub ends_files : (result : Result (Unit {0}) RunError)
+      ends_files : (result : Result (Unit {0}) RunError)
           → WritesAfter [] files basis.circuit (settings_of options) result m b → EndsJob job result a b
       ends_files (Ok value) w = ends_done job a m x basis inputs w.acts b w.done
           (w.tries (writing job) [] m (nothing_written (writing job) m) (files_may basis.circuit w.acts w.done))

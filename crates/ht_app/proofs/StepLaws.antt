@@ -128,12 +128,6 @@ module _ {A : Type 0} (steps : List Step) (AtEnd : Type 0) (e later : EngineView
   runs_out before a stands never = nothing_more (Err NoMemory) a stands.engine.are
       (runs_out_first A [] a) tt (λ end. absurd (never end))
 
-pub writes_none : (steps : List Step) (e : EngineView) (sizes : Sizes) (a : DeskView) → StandsAt steps e sizes
-    → WritesOn {A = Unit {0}} steps ⊥ e e sizes (Ok tt) a a
-writes_none steps e sizes a stands =
-    nothing_more {A = Unit {0}} steps ⊥ e e sizes (Ok (tt {0})) a stands.engine.are (tries_none (tt {0}) a) stands (λ
-    end. absurd end)
-
 pub all_made : (steps : List Step) (old new : EngineView) (step : Step) (sizes : Sizes) (a : DeskView) (End : Type 0)
     → step ≡ Finished → StandsAt steps old sizes → Makes old new steps step
     → WritesOn steps End old new sizes (Ok false) a a

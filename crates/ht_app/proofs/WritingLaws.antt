@@ -19,12 +19,12 @@ use Rattle.ht_app.proofs.CreatedLaws.{named_again}
 
 -- ---- what is permitted
 
-pub permits_first : (ports : Ports) (before xs ys : List Act) → PermitsAll ports before (xs ++ ys)
+permits_first : (ports : Ports) (before xs ys : List Act) → PermitsAll ports before (xs ++ ys)
     → PermitsAll ports before xs
 permits_first ports before [] ys all = tt
 permits_first ports before (x ∷ xs) ys all = (all.0, permits_first ports (before ++ x ∷ []) xs ys all.1)
 
-pub permits_rest : (ports : Ports) (before xs ys : List Act) → PermitsAll ports before (xs ++ ys)
+permits_rest : (ports : Ports) (before xs ys : List Act) → PermitsAll ports before (xs ++ ys)
     → PermitsAll ports (before ++ xs) ys
 permits_rest ports before [] ys all = subst (λ (l : List Act). PermitsAll ports l ys) (sym (append-nil before)) all
 permits_rest ports before (x ∷ xs) ys all = subst (λ (l : List Act). PermitsAll ports l ys)
@@ -139,7 +139,7 @@ has_made ports port name before a m b h permits call made = record {
   permitted = permits_then ports [] before (make port name ∷ []) h.permitted permits;
   did = did_then before (make port name ∷ []) a m b h.did (did_make port name m b call made);
   changed = changed_trans ports a m b h.changed
-      (changed_by_creating ports port name m b permits.0.0 permits.0.1 permits.0.2 call made);
+      (changed_by_creating ports port name m b permits.0.1 permits.0.2 call made);
 }
 
 -- ---- a failed write
@@ -200,7 +200,7 @@ tries_none value a = λ ports before start h permits.
     subst (λ (l : List Act). HasWritten ports l start a) (sym (append-nil before)) h
 
 -- memory runs out after the first acts
-pub tries_in_part : {A : Type 0} (B : Type 0) (xs ys : List Act) (value : A) (a b : DeskView)
+tries_in_part : {A : Type 0} (B : Type 0) (xs ys : List Act) (value : A) (a b : DeskView)
     → Tries {A = A} xs (Ok value) a b → Tries {A = B} (xs ++ ys) (Err NoMemory) a b
 tries_in_part B xs ys value a b first = λ ports before start h permits.
     let wrote = first ports before start h (permits_first ports before xs ys permits) in (

@@ -18,8 +18,8 @@ IsJudged judged basis = AreTrue basis
 module _ (f : RunFiles) where
   ends : (a m b : DeskView) (result : Result (Unit {0}) RunError)
       → IsPrepared (check f.netlist f.tests f.report f.proofs) IsJudged (Ok tt) a m
-      → Does (put Out (codes "valid\n") ∷ []) result m b → EndsJob (check f.netlist f.tests f.report f.proofs) result
-      a b
+      → Does (put Out (codes "valid\n") ∷ []) result m b
+      → EndsJob (check f.netlist f.tests f.report f.proofs) result a b
   ends a m b result prepared does = ends_by (check f.netlist f.tests f.report f.proofs) IsJudged a m tt prepared
       (put Out (codes "valid\n") ∷ []) (λ basis are. (are, refl)) ((refl, λ file. absurd file), tt) b result does
 

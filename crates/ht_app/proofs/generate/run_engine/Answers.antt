@@ -1,6 +1,6 @@
 use Rattle.std.proofs.Common.{[], ◌++◌, rules}
 use Rattle.ht_app.specs.declared.run_error.RunError.TheVariants.{NoMemory}
-use Rattle.ht_app.specs.Generating.{creation}
+use Rattle.ht_app.specs.Outputs.{creation}
 use Rattle.ht_app.proofs.GenLaws.{steps_part, stops_making}
 use Rattle.ht_app.proofs.WritingLaws.{runs_out_first}
 use Rattle.ht_app.proofs.generate.run_engine.Goals as goal

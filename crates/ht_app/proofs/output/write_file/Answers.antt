@@ -1,4 +1,4 @@
-use Rattle.std.proofs.Common.{◌≡◌, ◌≢◌, List, ℕ, [], ◌∷◌, refl, subst, sym, rules}
+use Rattle.std.proofs.Common.{◌≡◌, ◌≢◌, ◌++◌, List, ℕ, [], ◌∷◌, refl, subst, sym, rules}
 use Rattle.std.specs.Prelude.{Ok, Err}
 use Rattle.ht_ports.specs.declared.ports.OutPort.{OutPort}
 use Rattle.ht_ports.specs.declared.ports.OutPort.TheVariants.{Report, Out}
@@ -8,7 +8,7 @@ use Rattle.ht_app.specs.Steps.{Does}
 use Rattle.ht_app.proofs.WritingLaws.{does_in_part, does_then}
 use Rattle.ht_app.proofs.output.write_file.Given as given
 use Rattle.ht_app.proofs.output.write_file.Goals as goal
-use Rattle.ht_app.proofs.output.write_file.Goals.{In_ok-put}
+use Rattle.ht_app.proofs.output.write_file.Goals.{In_ok-put, in-Report+in_ok-put-2, in_default}
 
 report_ending : (port : OutPort) (total : List ℕ) → port ≡ Report → put port total ∷ [] ≡ ending port total
 report_ending port total is = subst (λ (p : OutPort). put p total ∷ [] ≡ ending p total) (sym is) refl
@@ -57,8 +57,8 @@ returns-in_err-put-2 g c =
     let a = g.D.Desk.view c.args.desk.now in
     let b = g.D.Desk.view c.put-in-Report.new.desk in
     let e = c.in_err-put-2.field-0.0 in
-    let does = subst (λ (l : List Act). Does (make port c.args.name.now ∷ put port body ∷ put Out total ∷ l) (Err e)
-    a b)
+    let does = subst
+    (λ (l : List Act). Does (make port c.args.name.now ∷ put port body ∷ put Out total ∷ l) (Err e) a b)
     (report_ending port total c.in-Report.is)
     (does_then acts (put port total ∷ []) (Err e) a (g.D.Desk.view c.put.new.desk) b
     (said g (goal.at.returns-in_err-put-2 g c).In_ok-put)
@@ -68,21 +68,19 @@ returns-in_err-put-2 g c =
 pub returns : goal.returns
 returns g c =
     let port = c.args.port in
-    let body = c.args.made.now.body.items in
     let total = c.args.made.now.total.items in
-    subst (λ (l : List Act). Does (make port c.args.name.now ∷ put port body ∷ put Out total ∷ l) (Ok tt)
-    (g.D.Desk.view c.args.desk.now) (g.D.Desk.view c.put.new.desk)) (no_ending port total c.in_default.not-Report)
-    (said g (goal.at.returns g c).In_ok-put)
-
-pub returns-in-Report : goal.returns-in-Report
-returns-in-Report g c =
-    let port = c.args.port in
-    let body = c.args.made.now.body.items in
-    let total = c.args.made.now.total.items in
+    let begun = make port c.args.name.now ∷ put port c.args.made.now.body.items ∷ put Out total ∷ [] in
     let a = g.D.Desk.view c.args.desk.now in
-    let b = g.D.Desk.view c.put-in-Report.new.desk in
-    subst (λ (l : List Act). Does (make port c.args.name.now ∷ put port body ∷ put Out total ∷ l) (Ok tt) a b)
-    (report_ending port total c.in-Report.is)
-    (does_then (make port c.args.name.now ∷ put port body ∷ put Out total ∷ []) (put port total ∷ []) (Ok tt) a
-    (g.D.Desk.view c.put.new.desk) b (said g (goal.at.returns-in-Report g c).In_ok-put)
-    (rw c.deref-in-Report.ensures.value at c.in_ok-put-2.ensures.does))
+    let m = g.D.Desk.view c.put.new.desk in
+    let first = said g (goal.at.returns g c).In_ok-put in
+    elim c.match-port.branch [
+      | in-Report+in_ok-put-2 w ↦ subst (λ (d : g.row.D.Denot). Does (begun ++ ending port total) (Ok tt) a
+          (g.D.Desk.view d)) (sym w.desk-is)
+          (subst (λ (l : List Act). Does (begun ++ l) (Ok tt) a (g.D.Desk.view w.put-in-Report.new.desk))
+          (report_ending port total w.in-Report.is)
+          (does_then begun (put port total ∷ []) (Ok tt) a m (g.D.Desk.view w.put-in-Report.new.desk) first
+          (rw w.deref-in-Report.ensures.value at w.in_ok-put-2.ensures.does)))
+      | in_default w ↦ subst (λ (d : g.row.D.Denot). Does (begun ++ ending port total) (Ok tt) a (g.D.Desk.view d))
+          (sym w.desk-is) (subst (λ (l : List Act). Does (begun ++ l) (Ok tt) a m)
+          (no_ending port total w.in_default.not-Report) first)
+    ]
