@@ -43,11 +43,11 @@ pub record WritesOn {A : Type 0} (steps : List Step) (AtEnd : Type 0) (e later :
 
 -- ---- the files
 
--- After these acts all files are tried to be written. Once all steps are, memory doesn't run out.
-pub record WritesAfter (before : List Act) (files : RunFiles) (c : net.Netlist) (settings : Settings)
-    (result : Result (Unit {0}) RunError) (old new : DeskView) : Type 0 where
+-- The files are tried to be made and written. Once all steps are, memory doesn't run out.
+pub record WritesAll (files : RunFiles) (c : net.Netlist) (settings : Settings) (result : Result (Unit {0}) RunError)
+    (old new : DeskView) : Type 0 where
   pub acts : List Act
   pub tries : Tries acts result old new
-  pub done : OnOk result (WritesFiles files c settings (before ++ acts))
-  pub stopped : IfErr result (λ error. WritesSteps files c settings (before ++ acts)
-      ⊎ ((error ≡ WriteFault) × WritesFiles files c settings (before ++ acts)))
+  pub done : OnOk result (WritesFiles files c settings acts)
+  pub stopped : IfErr result (λ error. WritesSteps files c settings acts
+      ⊎ ((error ≡ WriteFault) × WritesFiles files c settings acts))
