@@ -42,12 +42,12 @@ at_port {A} port p this that got same other = by (is_port p port) refl
 
 -- ---- acts after acts
 
-pub written_then : (p : OutPort) (xs ys : List Act) (w : Option (List ℕ))
+written_then : (p : OutPort) (xs ys : List Act) (w : Option (List ℕ))
     → written_after p (xs ++ ys) w ≡ written_after p ys (written_after p xs w)
 written_then p [] ys w = refl
 written_then p (x ∷ xs) ys w = written_then p xs ys (written_by p x w)
 
-pub named_then : (p : OutPort) (xs ys : List Act) (n : Option (List ℕ))
+named_then : (p : OutPort) (xs ys : List Act) (n : Option (List ℕ))
     → named_after p (xs ++ ys) n ≡ named_after p ys (named_after p xs n)
 named_then p [] ys n = refl
 named_then p (x ∷ xs) ys n = named_then p xs ys (named_by p x n)
@@ -58,8 +58,8 @@ either_made true false was = refl
 either_made false true was = refl
 either_made false false was = refl
 
-pub did_then : (xs ys : List Act) (a m b : DeskView) → Did xs a m → Did ys m b → Did (xs ++ ys) a b
-did_then xs ys a m b x y = record {
+pub did_then : {xs ys : List Act} {a m b : DeskView} → Did xs a m → Did ys m b → Did (xs ++ ys) a b
+did_then {xs = xs} {ys = ys} {a = a} x y = record {
   written = λ p. y.written p ∙ ap (written_after p ys) (x.written p) ∙ sym (written_then p xs ys (a.written p));
   named = λ p. y.named p ∙ ap (named_after p ys) (x.named p) ∙ sym (named_then p xs ys (a.named p));
   is_created = λ p. y.is_created p ∙ ap (λ f. list_any (makes p) ys || f) (x.is_created p)
@@ -68,17 +68,16 @@ did_then xs ys a m b x y = record {
 }
 
 -- nothing but counts changed
-pub did_nothing : (a b : DeskView) → b.written ≡ a.written → b.named ≡ a.named → b.is_created ≡ a.is_created
-    → Did [] a b
-did_nothing a b written named created = record {
+pub did_nothing : {a b : DeskView} → b.written ≡ a.written → b.named ≡ a.named → b.is_created ≡ a.is_created → Did [] a b
+did_nothing written named created = record {
   written = λ p. ap (λ f. f p) written;
   named = λ p. ap (λ f. f p) named;
   is_created = λ p. ap (λ f. f p) created;
 }
 
-pub did_put : (port : OutPort) (text : List ℕ) (a b : DeskView) → Writes port a b
+pub did_put : {a b : DeskView} (port : OutPort) (text : List ℕ) → Writes port a b
     → b.written port ≡ append_known (a.written port) text → Did (put port text ∷ []) a b
-did_put port text a b w added = record {
+did_put {a = a} {b = b} port text w added = record {
   written = λ p. at_port port p (append_known (a.written p) text) (a.written p) (b.written p)
       (λ same. subst (λ (q : OutPort). b.written q ≡ append_known (a.written q) text) (sym same) added)
       (w.call.written.others p);
@@ -86,9 +85,9 @@ did_put port text a b w added = record {
   is_created = λ p. ap (λ f. f p) w.is_created;
 }
 
-pub did_make : (port : OutPort) (name : List ℕ) (a b : DeskView) → OutCall port a b → Created port name a b
+pub did_make : {a b : DeskView} (port : OutPort) (name : List ℕ) → OutCall port a b → Created port name a b
     → Did (make port name ∷ []) a b
-did_make port name a b call made = record {
+did_make {a = a} {b = b} port name call made = record {
   written = λ p. at_port port p (option_map (λ (_ : List ℕ). []) (a.written p)) (a.written p) (b.written p)
       (λ same. subst (λ (q : OutPort). b.written q ≡ option_map (λ (_ : List ℕ). []) (a.written q)) (sym same)
       made.written)
@@ -106,8 +105,8 @@ did_make port name a b call made = record {
 
 -- ---- where acts stop
 
-pub stops_first : (xs ys : List Act) (a b : DeskView) → Stops xs a b → Stops (xs ++ ys) a b
-stops_first xs ys a b s = record {
+pub stops_first : {xs : List Act} {a b : DeskView} (ys : List Act) → Stops xs a b → Stops (xs ++ ys) a b
+stops_first ys s = record {
   whole = s.whole;
   act = s.act;
   rest = s.rest ++ ys;
@@ -117,8 +116,8 @@ stops_first xs ys a b s = record {
   did = s.did;
 }
 
-pub stops_then : (xs ys : List Act) (a m b : DeskView) → Did xs a m → Stops ys m b → Stops (xs ++ ys) a b
-stops_then xs ys a m b did s = record {
+pub stops_then : {xs ys : List Act} {a m b : DeskView} → Did xs a m → Stops ys m b → Stops (xs ++ ys) a b
+stops_then {xs = xs} {a = a} {b = b} did s = record {
   whole = xs ++ s.whole;
   act = s.act;
   rest = s.rest;
@@ -126,5 +125,5 @@ stops_then xs ys a m b did s = record {
   are = ap (λ (l : List Act). xs ++ l) s.are ∙ sym (append_assoc xs s.whole (s.act ∷ s.rest));
   in_part = s.in_part;
   did = subst (λ (l : List Act). Did l a b) (sym (append_assoc xs s.whole s.part))
-      (did_then xs (s.whole ++ s.part) a m b did s.did);
+      (did_then did s.did);
 }

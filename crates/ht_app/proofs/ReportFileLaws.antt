@@ -33,7 +33,7 @@ use Rattle.ht_app.specs.Judging.{AreFine, HasFront, HasLines, HasLongLine, IsWro
 use Rattle.ht_app.specs.Refusals.{IsRefusedFor, refused_port}
 use Rattle.ht_app.specs.Steps.{ReadStops}
 use Rattle.ht_app.proofs.JudgedLaws.{same_circuit}
-use Rattle.ht_app.proofs.PreparedLaws.{read_so}
+use Rattle.ht_app.proofs.ReadingLaws.{read_so}
 use Rattle.ht_app.proofs.FirstTroubleLaws.{HasTroubleAt, IsWrongAt, first_after, front_is, grown_to, next_is, shorter, whole_front}
 
 -- ---- what a judge stands for contradicts nothing
@@ -77,12 +77,10 @@ module _ (v : ReportJudgeView) (basis : JobBasis) where
   judged_is_fine before line h (Proofs number) wrong = wrong
   judged_is_fine before line h (Fault number) wrong = wrong
   judged_is_fine before line h (Report number) (is, inl none) =
-      none (same_circuit (λ c r. IsReportFront c r (before ++ line ∷ [])) v.circuit basis.circuit v.representatives
-      basis.representatives h.circuit h.representatives
+      none (same_circuit (λ c r. IsReportFront c r (before ++ line ∷ [])) h.circuit h.representatives
       (reading_is_front v.circuit v.representatives (before ++ line ∷ []) h.judges.at h.judges.read))
   judged_is_fine before line h (Report number) (is, inr contradicts) =
-      same_circuit (λ c r. ¬ ContradictsTests c r basis.content.list (before ++ line ∷ [])) v.circuit basis.circuit
-      v.representatives basis.representatives h.circuit h.representatives
+      same_circuit (λ c r. ¬ ContradictsTests c r basis.content.list (before ++ line ∷ [])) h.circuit h.representatives
       (contradicts_nothing v basis.content.list (before ++ line ∷ [])
       (subst IsCircuit (sym h.circuit) h.well_formed) h.judges) contradicts
 
@@ -97,8 +95,7 @@ module _ (v : ReportJudgeView) (basis : JobBasis) where
       by (Report number) denied = (
         denied.0,
         same_circuit (λ c r. (¬ IsReportFront c r (before ++ line ∷ []))
-            ⊎ ContradictsTests c r basis.content.list (before ++ line ∷ [])) v.circuit basis.circuit v.representatives
-            basis.representatives h.circuit h.representatives denied.1,
+            ⊎ ContradictsTests c r basis.content.list (before ++ line ∷ [])) h.circuit h.representatives denied.1,
       )
       by (Tests number) denied = denied
       by (Proofs number) denied = denied
@@ -198,25 +195,25 @@ module _ (basis : JobBasis) (text : List ℕ) (is : IsCircuit basis.circuit) whe
 
 -- ---- why reading a report ends the run
 
-module _ (netlist tests name proofs : List ℕ) (basis : JobBasis) (is : IsCircuit basis.circuit) (a b : DeskView) where
+module _ (netlist tests report proofs name : List ℕ) (basis : JobBasis) (is : IsCircuit basis.circuit) (a b : DeskView)
+  where
   abbrev Stops : RunError → Type 0
-  Stops = ReadStops (check netlist tests name proofs) basis in_port.Report name a b
+  Stops = ReadStops (check netlist tests report proofs) basis in_port.Report name a b
 
-  refuses : (trouble : Trouble) (IsSo : List ℕ → Type 0)
-      → refused_port (check netlist tests name proofs) (Denied trouble) ≡ Some in_port.Report
-      → ((text : List ℕ) → IsSo text → IsRefusedFor (check netlist tests name proofs) basis (Denied trouble) text)
-      → WasRead in_port.Report name IsSo a → Stops (Denied trouble)
-  refuses trouble IsSo at so read = (at, read_so in_port.Report name IsSo _ a so read)
+  refuses : (number : ℕ) (IsSo : List ℕ → Type 0) → ((text : List ℕ) → IsSo text
+      → IsRefusedFor (check netlist tests report proofs) basis (Denied (Report number)) text)
+      → WasRead in_port.Report name IsSo a → Stops (Denied (Report number))
+  refuses number IsSo so read = (refl, read_so _ so read)
 
   pub report_stops : AreClasses basis.circuit basis.representatives → HasShortNames basis.circuit → (e : RunError)
       → LinesStop (IsWrongInReport basis) Report MAX_LINE_BYTES in_port.Report name a b e → Stops e
   report_stops classes names (Denied (Report number)) (inl s) =
-      refuses (Report number) (HasFront (s.before ++ s.line ∷ [])) refl
+      refuses number (HasFront (s.before ++ s.line ∷ []))
       (λ text front. first_refused basis text is s.before s.line number s.fine front s.wrong) s.read
   report_stops classes names (Denied trouble) (inl s) = absurd s.wrong
   report_stops classes names (Denied (Report number)) (inr (line, same, s)) =
       let here : number ≡ length s.before + 1 = (let e = same in cc) ∙ s.line_is in
-      refuses (Report number) (HasLongLine MAX_LINE_BYTES s.before) refl
+      refuses number (HasLongLine MAX_LINE_BYTES s.before)
       (λ text long. first_long basis text is s.before number classes names s.fine here long) s.read
   report_stops classes names (Denied trouble) (inr (line, same, s)) = let e = same in cc
   report_stops classes names ReadFault s = s
@@ -228,10 +225,9 @@ module _ (netlist tests name proofs : List ℕ) (basis : JobBasis) (is : IsCircu
       → (read : StandsForFile (StandsForReport v basis) (IsWrongInReport basis) in_port.Report name a)
       → (e : JudgeError) → ReportEndHasCause v read.lines e → Stops (judged_error_of e)
   report_ends v read (judge.Denied (Report number)) h =
-      let none = same_circuit (λ c r. (budget : ℕ) (saids : List Said) → ¬ IsSearchReport c r read.lines budget saids)
-      v.circuit basis.circuit v.representatives basis.representatives read.stands.circuit
+      let none = same_circuit (λ c r. (budget : ℕ) (saids : List Said) → ¬ IsSearchReport c r read.lines budget saids) read.stands.circuit
       read.stands.representatives h.1 in
-      refuses (Report number) (HasLines read.lines) refl
+      refuses number (HasLines read.lines)
       (λ text has. first_missing basis text is read.lines number read.fine has h.0 none) read.read
   report_ends v read (judge.Denied trouble) h = absurd h
   report_ends v read judge.NoMemory h = tt
@@ -244,8 +240,7 @@ pub report_is_read : (v : ReportJudgeView) (basis : JobBasis) (name : List ℕ) 
     → IsTrueReport v.circuit v.representatives basis.content.list read.lines budget saids → ReportIsRead basis name a
 report_is_read v basis name a read budget saids same_budget same_saids whole =
     let says = basis.content in
-    let is = same_circuit (λ c r. IsTrueReport c r says.list read.lines says.budget says.saids) v.circuit basis.circuit
-    v.representatives basis.representatives read.stands.circuit read.stands.representatives
+    let is = same_circuit (λ c r. IsTrueReport c r says.list read.lines says.budget says.saids) read.stands.circuit read.stands.representatives
     (subst (λ n. IsTrueReport v.circuit v.representatives says.list read.lines n says.saids) (sym same_budget)
     (subst (λ l. IsTrueReport v.circuit v.representatives says.list read.lines budget l) (sym same_saids) whole)) in
     record {

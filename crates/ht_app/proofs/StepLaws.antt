@@ -27,34 +27,34 @@ use Rattle.ht_app.proofs.WritingLaws.{runs_out_first, tries_none, tries_then}
 
 -- ---- where the text of a step goes
 
-pub list_acts : (step : Step) (list : Rows) (text : List ℕ) → step ≡ Vectors list → text ≡ step_text step
+pub list_acts : {step : Step} {list : Rows} {text : List ℕ} → step ≡ Vectors list → text ≡ step_text step
     → put Tests text ∷ [] ≡ step_acts step
-list_acts step list text is e = ap (λ t. put Tests t ∷ []) (e ∙ ap step_text is) ∙ sym (ap step_acts is)
+list_acts is e = ap (λ t. put Tests t ∷ []) (e ∙ ap step_text is) ∙ sym (ap step_acts is)
 
-pub entry_acts : (step : Step) (fault : ℕ) (entry : recorded.Entry) (text : List ℕ) → step ≡ Entry fault entry
+pub entry_acts : {step : Step} {fault : ℕ} {entry : recorded.Entry} {text : List ℕ} → step ≡ Entry fault entry
     → text ≡ step_text step → put Proofs text ∷ [] ≡ step_acts step
-entry_acts step fault entry text is e = ap (λ t. put Proofs t ∷ []) (e ∙ ap step_text is) ∙ sym (ap step_acts is)
+entry_acts is e = ap (λ t. put Proofs t ∷ []) (e ∙ ap step_text is) ∙ sym (ap step_acts is)
 
-pub counts_list : (step : Step) (list : Rows) (text : List ℕ) (old : Sizes) (new : TextSize) → step ≡ Vectors list
+pub counts_list : {step : Step} {list : Rows} {text : List ℕ} (old : Sizes) (new : TextSize) → step ≡ Vectors list
     → text ≡ step_text step → new.bytes ≡ old.tests.bytes + length text → new.bytes ≤ max_text_bytes
     → CountsStep step old (record old { tests = new })
-counts_list step list text old new is e counts short = record {
+counts_list old new is e counts short = record {
   tests = counts ∙ ap (λ t. old.tests.bytes + length t) (e ∙ ap step_text is ∙ sym (ap tests_step is));
   proofs = omega (arith, ap (λ s. length (proofs_step s)) is);
   short = λ before. short;
 }
 
-pub counts_entry : (step : Step) (fault : ℕ) (entry : recorded.Entry) (text : List ℕ) (old : Sizes) (new : TextSize)
+pub counts_entry : {step : Step} {fault : ℕ} {entry : recorded.Entry} {text : List ℕ} (old : Sizes) (new : TextSize)
     → step ≡ Entry fault entry → text ≡ step_text step → new.bytes ≡ old.proofs.bytes + length text
     → CountsStep step old (record old { proofs = new })
-counts_entry step fault entry text old new is e counts = record {
+counts_entry old new is e counts = record {
   tests = omega (arith, ap (λ s. length (tests_step s)) is);
   proofs = counts ∙ ap (λ t. old.proofs.bytes + length t) (e ∙ ap step_text is ∙ sym (ap proofs_step is));
   short = λ before. before;
 }
 
-pub counts_nothing : (step : Step) (sizes : Sizes) → step ≡ Finished → CountsStep step sizes sizes
-counts_nothing step sizes is = record {
+pub counts_nothing : {step : Step} (sizes : Sizes) → step ≡ Finished → CountsStep step sizes sizes
+counts_nothing sizes is = record {
   tests = omega (arith, ap (λ s. length (tests_step s)) is);
   proofs = omega (arith, ap (λ s. length (proofs_step s)) is);
   short = λ before. before;
@@ -65,8 +65,8 @@ counts_nothing step sizes is = record {
 pub same_work : (e : EngineView) → HasSameWork e e
 same_work e = record { circuit = refl; representatives = refl; settings = refl }
 
-pub same_work_trans : (a b c : EngineView) → HasSameWork a b → HasSameWork b c → HasSameWork a c
-same_work_trans a b c x y = record {
+pub same_work_trans : {a b c : EngineView} → HasSameWork a b → HasSameWork b c → HasSameWork a c
+same_work_trans x y = record {
   circuit = y.circuit ∙ x.circuit;
   representatives = y.representatives ∙ x.representatives;
   settings = y.settings ∙ x.settings;
@@ -79,67 +79,48 @@ same_as P old new same p = subst (λ c. P c old.representatives old.settings) sa
     (subst (λ r. P new.circuit r old.settings) same.representatives
     (subst (λ s. P new.circuit new.representatives s) same.settings p))
 
-steps_as : (old new : EngineView) (steps : List Step) → HasSameWork old new
-    → AreSteps new.circuit new.representatives (first_of new) new.settings.budget steps
-    → AreSteps old.circuit old.representatives (first_of old) old.settings.budget steps
-steps_as old new steps = same_as (λ c r s. AreSteps c r (first_vectors c s) s.budget steps) old new
-
-finished_as : (old new : EngineView) (steps : List Step) → HasSameWork old new
-    → AreFinished new.circuit new.representatives (first_of new) steps
-    → AreFinished old.circuit old.representatives (first_of old) steps
-finished_as old new steps = same_as (λ c r s. AreFinished c r (first_vectors c s) steps) old new
-
-same_work_back : (a b : EngineView) → HasSameWork a b → HasSameWork b a
-same_work_back a b x =
-    record { circuit = sym x.circuit; representatives = sym x.representatives; settings = sym x.settings }
-
-pub finished_later : (old new : EngineView) (steps : List Step) → HasSameWork old new
+pub finished_later : {old new : EngineView} {steps : List Step} → HasSameWork old new
     → AreFinished old.circuit old.representatives (first_of old) steps
     → AreFinished new.circuit new.representatives (first_of new) steps
-finished_later old new steps same = finished_as new old steps (same_work_back old new same)
+finished_later {old = old} {new = new} {steps = steps} same = same_as (λ c r s. AreFinished c r (first_vectors c s) steps) new old
+    (record { circuit = sym same.circuit; representatives = sym same.representatives; settings = sym same.settings })
 
-pub makes_step : (old new : EngineView) (steps : List Step) (step : Step) → step ≢ Finished → Makes old new steps step
+pub makes_step : {old new : EngineView} {steps : List Step} (step : Step) → step ≢ Finished → Makes old new steps step
     → MakesStep old new steps step
-makes_step old new steps (Vectors list) other made = made
-makes_step old new steps (Entry fault entry) other made = made
-makes_step old new steps Finished other made = absurd (other refl)
+makes_step Finished other made = absurd (other refl)
+makes_step step other made = made
 
 -- ---- no step more, or one
 
-module _ {A : Type 0} (steps : List Step) (AtEnd : Type 0) (e later : EngineView) (sizes : Sizes) where
-  -- the same where no step is made
-  nothing_more : (result : Result A RunError) (a : DeskView)
-      → AreSteps e.circuit e.representatives (first_of e) e.settings.budget steps → Tries [] result a a
-      → OnOk result (StandsAt steps later sizes)
-      → (AtEnd → AreFinished e.circuit e.representatives (first_of e) steps)
-      → WritesOn steps AtEnd e later sizes result a a
-  nothing_more result a are tries stands finished =
-      let same = sym (append-nil steps) in
-      record {
-        more = [];
-        are = subst (AreSteps e.circuit e.representatives (first_of e) e.settings.budget) same are;
-        tries = tries;
-        stands = subst (λ (l : List Step). OnOk result (StandsAt l later sizes)) same stands;
-        finished = λ end. subst (AreFinished e.circuit e.representatives (first_of e)) same (finished end);
-      }
+-- the same where no step is made
+nothing_more : {A : Type 0} {steps : List Step} {AtEnd : Type 0} {e later : EngineView} {sizes : Sizes}
+    {result : Result A RunError} {a : DeskView}
+    → AreSteps e.circuit e.representatives (first_of e) e.settings.budget steps → Tries [] result a a
+    → OnOk result (StandsAt steps later sizes)
+    → (AtEnd → AreFinished e.circuit e.representatives (first_of e) steps)
+    → WritesOn steps AtEnd e later sizes result a a
+nothing_more {steps = steps} {e = e} {later = later} {sizes = sizes} {result = result} are tries stands finished =
+    let same = sym (append-nil steps) in
+    record {
+      more = [];
+      are = subst (AreSteps e.circuit e.representatives (first_of e) e.settings.budget) same are;
+      tries = tries;
+      stands = subst (λ (l : List Step). OnOk result (StandsAt l later sizes)) same stands;
+      finished = λ end. subst (AreFinished e.circuit e.representatives (first_of e)) same (finished end);
+    }
 
-  pub runs_out : (before : Sizes) (a : DeskView) → StandsAt steps e before → (AtEnd → ⊥)
-      → WritesOn {A = A} steps AtEnd e later sizes (Err NoMemory) a a
-  runs_out before a stands never = nothing_more (Err NoMemory) a stands.engine.are
-      (runs_out_first A [] a) tt (λ end. absurd (never end))
+pub runs_out : {A : Type 0} {steps : List Step} {AtEnd : Type 0} {e : EngineView} {before : Sizes} (later : EngineView)
+    (sizes : Sizes) (a : DeskView) → StandsAt steps e before → (AtEnd → ⊥)
+    → WritesOn {A = A} steps AtEnd e later sizes (Err NoMemory) a a
+runs_out {A} later sizes a stands never =
+    nothing_more stands.engine.are (runs_out_first A [] a) tt (λ end. absurd (never end))
 
-pub writes_none : (steps : List Step) (e : EngineView) (sizes : Sizes) (a : DeskView) → StandsAt steps e sizes
-    → WritesOn {A = Unit {0}} steps ⊥ e e sizes (Ok tt) a a
-writes_none steps e sizes a stands =
-    nothing_more {A = Unit {0}} steps ⊥ e e sizes (Ok (tt {0})) a stands.engine.are (tries_none (tt {0}) a) stands (λ
-    end. absurd end)
-
-pub all_made : (steps : List Step) (old new : EngineView) (step : Step) (sizes : Sizes) (a : DeskView) (End : Type 0)
+pub all_made : {steps : List Step} {old new : EngineView} {step : Step} {sizes : Sizes} (a : DeskView) (End : Type 0)
     → step ≡ Finished → StandsAt steps old sizes → Makes old new steps step
     → WritesOn steps End old new sizes (Ok false) a a
-all_made steps old new step sizes a End is stands made =
+all_made {steps = steps} {old = old} {new = new} a End is stands made =
     let last : Makes old new steps Finished = subst (Makes old new steps) is made in
-    nothing_more {A = Bool} steps End old new sizes (Ok false) a stands.engine.are (tries_none false a)
+    nothing_more stands.engine.are tries_none
     (record { engine = last.1; tests = stands.tests; proofs = stands.proofs; short = stands.short }) (λ end. last.0)
 
 -- the bytes of one step more are counted
@@ -148,7 +129,7 @@ counted_more : (bytes more all : List ℕ) (old new : ℕ) → all ≡ bytes ++ 
 counted_more bytes more all old new is before counts =
     omega (arith, counts, before, ap length is, length-append bytes more)
 
-module _ {A : Type 0} (steps : List Step) (AtEnd : Type 0) (old new : EngineView) (step : Step) (before after : Sizes)
+module _ {A : Type 0} {steps : List Step} {old new : EngineView} {step : Step} {before : Sizes} (after : Sizes)
     (stands : StandsAt steps old before) (made : MakesStep old new steps step) where
   stands_later : (result : Result A RunError) → OnOk result (CountsStep step before after)
       → OnOk result (StandsAt (steps ++ step ∷ []) new after)
@@ -161,9 +142,9 @@ module _ {A : Type 0} (steps : List Step) (AtEnd : Type 0) (old new : EngineView
   }
   stands_later (Err error) counts = tt
 
-  pub made_one : (result : Result A RunError) (a b : DeskView) → Tries (step_acts step) result a b
+  pub made_one : {AtEnd : Type 0} {a b : DeskView} (result : Result A RunError) → Tries (step_acts step) result a b
       → OnOk result (CountsStep step before after) → (AtEnd → ⊥) → WritesOn steps AtEnd old new after result a b
-  made_one result a b tries counts never = record {
+  made_one {a = a} {b = b} result tries counts never = record {
     more = step ∷ [];
     are = one_more steps step stands.engine.are made.follows;
     tries = subst (λ (l : List Act). Tries l result a b) (sym (append-nil (step_acts step))) tries;
@@ -173,23 +154,24 @@ module _ {A : Type 0} (steps : List Step) (AtEnd : Type 0) (old new : EngineView
 
 -- ---- steps after steps
 
-pub writes_then : {A B : Type 0} (steps : List Step) (e l new : EngineView) (between after : Sizes) (E F : Type 0)
-    (r : Result A RunError) (s : Result B RunError) (a m b : DeskView) → HasSameWork e l
+pub writes_then : {A B : Type 0} {steps : List Step} {e l new : EngineView} {between after : Sizes} {E : Type 0}
+    (F : Type 0) {r : Result A RunError} (s : Result B RunError) {a m b : DeskView} → HasSameWork e l
     → (first : WritesOn {A = Unit {0}} steps ⊥ e l between (Ok tt) a m)
     → WritesOn (steps ++ first.more) E l new after r m b → (F → E)
     → ((acts : List Act) → Tries acts r m b → Tries acts s m b)
     → ((all : List Step) → OnOk r (StandsAt all new after) → OnOk s (StandsAt all new after))
     → WritesOn steps F e new after s a b
-writes_then steps e l new between after E F r s a m b same first second ends tries stands =
+writes_then {steps = steps} {e = e} {l = l} {new = new} {after = after} F s {a = a} {b = b} same first second ends tries
+    stands =
     let all = append_assoc steps first.more second.more in
     record {
       more = first.more ++ second.more;
-      are = steps_as e l (steps ++ (first.more ++ second.more)) same
+      are = same_as (λ c r s. AreSteps c r (first_vectors c s) s.budget (steps ++ (first.more ++ second.more))) e l same
           (subst (AreSteps l.circuit l.representatives (first_of l) l.settings.budget) all second.are);
       tries = subst (λ (acts : List Act). Tries acts s a b) (sym (flat_map-append step_acts first.more second.more))
-          (tries_then (flat_map step_acts first.more) (flat_map step_acts second.more) (tt {0}) s a m b first.tries
-          (tries (flat_map step_acts second.more) second.tries));
+          (tries_then first.tries (tries (flat_map step_acts second.more) second.tries));
       stands = subst (λ (l : List Step). OnOk s (StandsAt l new after)) all (stands _ second.stands);
-      finished = λ end. finished_as e l (steps ++ (first.more ++ second.more)) same
+      finished = λ end.
+          same_as (λ c r s. AreFinished c r (first_vectors c s) (steps ++ (first.more ++ second.more))) e l same
           (subst (AreFinished l.circuit l.representatives (first_of l)) all (second.finished (ends end)));
     }

@@ -1,8 +1,7 @@
 -- What the steps of `gen` promise each other.
-use Rattle.std.specs.Prelude.{◌≡◌, ◌⊎◌, ◌≤◌, ◌+◌, ◌++◌, ◌∷◌, List, [], length, flat_map, Result, OnOk, IfErr}
+use Rattle.std.specs.Prelude.{◌≡◌, ◌⊎◌, ◌≤◌, ◌+◌, ◌++◌, List, length, flat_map, Result, OnOk, IfErr}
 use Rattle.ht_ports.specs.LineRule.{max_text_bytes}
 use Rattle.ht_ports.specs.Desk.{DeskView}
-use Rattle.ht_ports.specs.declared.ports.OutPort.TheVariants.{Tests, Report, Proofs}
 use Rattle.ht_net.specs.Netlist as net
 use Rattle.ht_engine.specs.declared.step.Step.{Step}
 use Rattle.ht_engine.specs.Steps.{AreFinished, AreSteps, Settings}
@@ -12,13 +11,9 @@ use Rattle.ht_words.specs.declared.job.RunFiles.{RunFiles}
 use Rattle.ht_app.specs.declared.generate.sizes.Sizes.{Sizes}
 use Rattle.ht_app.specs.declared.run_error.RunError.{RunError}
 use Rattle.ht_app.specs.declared.run_error.RunError.TheVariants.{WriteFault}
-use Rattle.ht_app.specs.Acts.{Act, make}
+use Rattle.ht_app.specs.Acts.{Act}
 use Rattle.ht_app.specs.Outputs.{WritesFiles, WritesSteps, step_acts}
 use Rattle.ht_app.specs.Steps.{Tries}
-
--- the creation of the three files
-abbrev pub creation : RunFiles → List Act
-creation files = make Tests files.tests ∷ make Report files.report ∷ make Proofs files.proofs ∷ []
 
 -- ---- sizes
 
@@ -48,11 +43,11 @@ pub record WritesOn {A : Type 0} (steps : List Step) (AtEnd : Type 0) (e later :
 
 -- ---- the files
 
--- After these acts all files are tried to be written. Once all steps are, memory doesn't run out.
-pub record WritesAfter (before : List Act) (files : RunFiles) (c : net.Netlist) (settings : Settings)
-    (result : Result (Unit {0}) RunError) (old new : DeskView) : Type 0 where
+-- The files are tried to be made and written. Once all steps are, memory doesn't run out.
+pub record WritesAll (files : RunFiles) (c : net.Netlist) (settings : Settings) (result : Result (Unit {0}) RunError)
+    (old new : DeskView) : Type 0 where
   pub acts : List Act
   pub tries : Tries acts result old new
-  pub done : OnOk result (WritesFiles files c settings (before ++ acts))
-  pub stopped : IfErr result (λ error. WritesSteps files c settings (before ++ acts)
-      ⊎ ((error ≡ WriteFault) × WritesFiles files c settings (before ++ acts)))
+  pub done : OnOk result (WritesFiles files c settings acts)
+  pub stopped : IfErr result (λ error. WritesSteps files c settings acts
+      ⊎ ((error ≡ WriteFault) × WritesFiles files c settings acts))

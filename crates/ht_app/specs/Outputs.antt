@@ -55,10 +55,9 @@ pub record AreTrue (basis : JobBasis) : Type 0 where
 
 -- ---- `gen`
 
--- the files are made, and the proofs get their head line
-abbrev pub beginning : RunFiles → List Act
-beginning files = make Tests files.tests ∷ make Report files.report ∷ make Proofs files.proofs
-    ∷ put Proofs (proofs_so_far []) ∷ []
+-- the creation of the three files
+abbrev pub creation : RunFiles → List Act
+creation files = make Tests files.tests ∷ make Report files.report ∷ make Proofs files.proofs ∷ []
 
 -- a step's vectors go to the tests, its entry to the proofs
 abbrev pub step_acts : Step → List Act
@@ -66,13 +65,13 @@ step_acts (Vectors list) = put Tests (step_text (Vectors list)) ∷ []
 step_acts (Entry fault entry) = put Proofs (step_text (Entry fault entry)) ∷ []
 step_acts Finished = []
 
--- The steps of the generator, put one after the other.
+-- The files are made, the proofs get their head line, and the steps of the generator are put one after the other.
 pub record WritesSteps (files : RunFiles) (c : net.Netlist) (settings : Settings) (acts : List Act) : Type 0 where
   pub representatives : List ℕ
   pub steps : List Step
   pub classes : AreClasses c representatives
   pub steps_are : AreSteps c representatives (first_vectors c settings) settings.budget steps
-  pub acts_are : acts ≡ beginning files ++ flat_map step_acts steps
+  pub acts_are : acts ≡ creation files ++ put Proofs (proofs_so_far []) ∷ flat_map step_acts steps
 
 -- All steps, and then the end of the proofs and the report. The three files and the total line are those of a finished
 -- run of the generator.

@@ -1,10 +1,9 @@
 -- How a run ends, and why.
-use Rattle.std.specs.Prelude.{◌≡◌, ◌⊎◌, ℕ, ◌<◌, List, [], length, take, Some, None, IsTrue, IsSome, Option}
+use Rattle.std.specs.Prelude.{◌≡◌, ◌⊎◌, ℕ, ◌<◌, List, [], length, take, Some, None, IsTrue, Option}
 use Rattle.std.specs.Io.KnownBytes.{append_known}
 use Rattle.ht_ports.specs.Causes.{Rose}
 use Rattle.ht_ports.specs.Desk.{DeskView, IsAfter, Holds, Writes}
 use Rattle.ht_ports.specs.declared.ports.InPort.{InPort}
-use Rattle.ht_ports.specs.declared.ports.InPort.TheVariants.{Netlist}
 use Rattle.ht_ports.specs.declared.ports.OutPort.TheVariants.{Err}
 use Rattle.ht_asked.specs.Asked.{Asked}
 use Rattle.ht_app.specs.declared.run_error.RunError.{RunError}
@@ -32,21 +31,18 @@ AskedIsDone asked old new = (job : Asked) × (asked ≡ Some job) × IsDone job 
 
 -- ---- a fault of the desk, or want of memory
 
--- A file that the job reads isn't there; those before it are there, and say what is basis.
-pub record LacksInput (job : Asked) (desk : DeskView) : Type 0 where
+-- A fault of reading was counted at a file of the job, after those before it were accepted. A steady desk makes one only
+-- where it doesn't hold the file; it holds those before.
+pub record FailsToRead (job : Asked) (old new : DeskView) : Type 0 where
+  pub rose : Rose old.in_faults new.in_faults
   pub basis : JobBasis
   pub port : InPort
   pub name : List ℕ
   pub reads : input_name job port ≡ Some name
-  pub lacks : ¬ Holds desk name
-  pub held : (p : InPort) (n : List ℕ) → order_of p < order_of port → input_name job p ≡ Some n → Holds desk n
-  pub before : AcceptsBefore job basis port desk
-
--- A fault of reading was counted, by a job that reads; a steady desk makes one only where it lacks an input.
-pub record FailsToRead (job : Asked) (old new : DeskView) : Type 0 where
-  pub rose : Rose old.in_faults new.in_faults
-  pub reads : IsSome (input_name job Netlist)
-  pub lacks : IsTrue old.steady → LacksInput job old
+  pub before : AcceptsBefore job basis port old
+  pub lacks : IsTrue old.steady → ¬ Holds old name
+  pub held : IsTrue old.steady → (p : InPort) (n : List ℕ) → order_of p < order_of port → input_name job p ≡ Some n
+      → Holds old n
 
 -- a fault of writing was counted, and the desk isn't steady
 pub record IsWriteFault (old new : DeskView) : Type 0 where

@@ -2,15 +2,14 @@
 //!
 //! `create` makes the three files, and `fill` writes them: `sizes` begins the proofs, `steps` writes the engine's steps,
 //! and the report comes last.
-ghost use Rattle.std.specs.Prelude.{◌≡◌, ◌≤◌, []};
+ghost use Rattle.std.specs.Prelude.{◌≡◌, ◌≤◌};
 ghost use Rattle.ht_faults.specs.Sites.{faults_of};
 ghost use Rattle.ht_collapse.specs.Classes.{AreClasses};
 ghost use Rattle.ht_texts.specs.SearchReports.{HasPlainNames};
-ghost use Rattle.ht_engine.specs.EngineStands.{EngineStandsFor};
 ghost use Rattle.ht_asked.specs.declared.limits.TheConstants.{MAX_BUDGET, MIN_BUDGET};
 ghost use Rattle.ht_words.specs.Jobs.{asked_by};
 ghost use Rattle.ht_words.specs.declared.job.Job.TheVariants as job_of;
-ghost use Rattle.ht_app.specs.Generating.{WritesAfter};
+ghost use Rattle.ht_app.specs.Generating.{WritesAll};
 ghost use Rattle.ht_app.specs.Steps.{EndsJob};
 
 mod create;
@@ -18,7 +17,6 @@ mod fill;
 pub mod sizes;
 mod steps;
 
-use crate::generate::create::create_files;
 use crate::generate::fill::write_files;
 use crate::listed::{Listed, list_faults};
 use crate::netlist::read_netlist;
@@ -28,30 +26,6 @@ use ht_net::Circuit;
 use ht_ports::Desk;
 use ht_words::RunFiles;
 use std::alloc::Global;
-
-// Makes the files, and writes a new engine's steps and the report.
-// For the proof: it borrows the engine, since each way on which a value is dropped is a goal.
-fn make_files<D: Desk>(
-    alloc: Global,
-    circuit: &Circuit,
-    listed: &Listed,
-    files: &RunFiles,
-    engine: &mut Engine,
-    desk: &mut D,
-) -> Result<(), RunError>
-    requires plain { HasPlainNames circuit.now }
-    requires circuit { engine.old.circuit ≡ circuit.now }
-    requires faults { listed.now.faults ≡ faults_of circuit.now }
-    requires classes { AreClasses circuit.now listed.now.classes }
-    requires representatives { engine.old.representatives ≡ listed.now.classes }
-    requires new { EngineStandsFor engine.old [] }
-    ensures { WritesAfter [] files.now circuit.now engine.old.settings result
-        (D.view desk.old) (D.view desk.new) }
-{
-    create_files(desk, files)?;
-    write_files(alloc, circuit, listed, engine, desk)?;
-    Ok(())
-}
 
 // Makes an engine, and the files with it.
 fn run_engine<D: Desk>(
@@ -68,14 +42,14 @@ fn run_engine<D: Desk>(
     requires faults { listed.now.faults ≡ faults_of circuit.now }
     requires classes { AreClasses circuit.now listed.now.classes }
     requires budget { (MIN_BUDGET ≤ budget) × (budget ≤ MAX_BUDGET) }
-    ensures { WritesAfter [] files.now circuit.now
+    ensures { WritesAll files.now circuit.now
         (record { budget = budget; random = random; seed = seed }) result
         (D.view desk.old) (D.view desk.new) }
 {
     let faults = &listed.faults;
     let classes = &listed.classes;
     let mut engine = Engine::new(alloc, circuit, faults, classes, budget, random, seed)?;
-    make_files(alloc, circuit, listed, files, &mut engine, desk)
+    write_files(alloc, circuit, listed, files, &mut engine, desk)
 }
 
 /// Runs `gen`: reads the netlist, generates tests, and writes them, the proofs and the report. The budget is that of

@@ -70,10 +70,10 @@ pub fn read_report<D: Desk>(
         → IfOk result (λ claims. content.budget ≡ claims.budget
         → content.saids ≡ claims.saids.items → ReportIsRead
         (check_basis circuit.now listed.now.classes content) name.now (D.view desk.old)) }
-    ensures stops { (netlist tests proofs : List ℕ) (content : Content)
+    ensures stops { (netlist tests report proofs : List ℕ) (content : Content)
         → AreFirstDetections circuit.now listed.now.classes content.list places.now
         → HasShortNames circuit.now
-        → IfErr result (ReadStops (asked.check netlist tests name.now proofs)
+        → IfErr result (ReadStops (asked.check netlist tests report proofs)
         (check_basis circuit.now listed.now.classes content) in_port.Report name.now
         (D.view desk.old) (D.view desk.new)) }
 {

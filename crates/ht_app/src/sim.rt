@@ -1,15 +1,16 @@
 //! The command `sim`.
-ghost use Rattle.std.specs.Prelude.{◌≡◌, ◌≤◌, ◌++◌, List, ℕ, length, IfOk};
+ghost use Rattle.std.specs.Prelude.{◌≡◌, ◌≤◌, ◌++◌, List, ℕ, length, IfOk, IfErr};
 ghost use Rattle.ht_ports.specs.LineRule.{max_text_bytes};
 ghost use Rattle.ht_ports.specs.declared.ports.OutPort.TheVariants as out_port;
 ghost use Rattle.ht_asked.specs.Asked as asked;
-ghost use Rattle.ht_app.specs.Outputs.{MakesOutput, file_acts};
-ghost use Rattle.ht_app.specs.Steps.{IsPrepared};
+ghost use Rattle.ht_app.specs.Outputs.{file_acts};
+ghost use Rattle.ht_app.specs.Steps.{EndsReading, IsPrepared};
 ghost use Rattle.ht_app.specs.Simulation.{IsReportOf};
 
 use crate::made::Made;
+use crate::netlist::read_netlist;
 use crate::run_error::RunError;
-use crate::tested::read_tested;
+use crate::vectors_file::read_tests;
 use ht_collapse::collapse;
 use ht_grade::first_detections;
 use ht_net::{Circuit, Vectors};
@@ -44,12 +45,15 @@ pub fn simulate<D: Desk>(
     tests: &str,
     desk: &mut D,
 ) -> Result<Made, RunError>
-    ensures { (report : List ℕ) → let job = asked.sim netlist.now tests.now report in
-        IsPrepared job (λ made basis. MakesOutput job basis
-        (file_acts out_port.Report report made.body.items made.total.items))
-        result (D.view desk.old) (D.view desk.new) }
+    ensures made { (report : List ℕ) → IfOk result (λ made. IsPrepared
+        (asked.sim netlist.now tests.now report)
+        (file_acts out_port.Report report made.body.items made.total.items) (D.view desk.old)
+        (D.view desk.new)) }
+    ensures stopped { (report : List ℕ) → IfErr result (EndsReading
+        (asked.sim netlist.now tests.now report) (D.view desk.old) (D.view desk.new)) }
 {
-    let tested = read_tested(alloc, netlist, tests, u64::MAX, desk)?;
-    let made = report_texts(alloc, &tested.circuit, &tested.list)?;
+    let circuit = read_netlist(alloc, desk, netlist)?;
+    let list = read_tests(alloc, desk, tests, &circuit, u64::MAX)?;
+    let made = report_texts(alloc, &circuit, &list)?;
     Ok(made)
 }

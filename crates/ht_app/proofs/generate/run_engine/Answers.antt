@@ -1,18 +1,15 @@
-use Rattle.std.proofs.Common.{[], ◌++◌, rules}
-use Rattle.ht_app.specs.declared.run_error.RunError.TheVariants.{NoMemory}
-use Rattle.ht_app.specs.Generating.{creation}
-use Rattle.ht_app.proofs.GenLaws.{steps_part, stops_making}
+use Rattle.std.proofs.Common.{[], rules}
+use Rattle.ht_engine.specs.Steps.{Settings, none}
+use Rattle.ht_app.proofs.GenLaws.{begun_acts, stops_in_steps}
 use Rattle.ht_app.proofs.WritingLaws.{runs_out_first}
 use Rattle.ht_app.proofs.generate.run_engine.Goals as goal
 
 pub returns-in_err-engine : goal.returns-in_err-engine
 returns-in_err-engine g c =
-    let files = c.args.files.now in
-    let a = g.D.Desk.view c.args.desk.now in
-    let stops = stops_making files c.args.circuit.now
-    (record { budget = c.args.budget; random = c.args.random; seed = c.args.seed }) c.args.listed.now.classes
-    c.requires.classes NoMemory a a (runs_out_first (Unit {0}) (creation files ++ steps_part []) a) in
+    let settings : Settings = record { budget = c.args.budget; random = c.args.random; seed = c.args.seed } in
+    let stops = stops_in_steps c.args.files.now c.args.circuit.now settings c.requires.classes none
+    (runs_out_first (Unit {0}) (begun_acts c.args.files.now []) (g.D.Desk.view c.args.desk.now)) in
     search (rules, stops)
 
 pub returns : goal.returns
-returns g c = rw c.in_ok-engine.ensures.settings at c.make_files.ensures
+returns g c = rw c.in_ok-engine.ensures.settings at c.write_files.ensures

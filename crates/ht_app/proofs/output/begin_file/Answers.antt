@@ -1,25 +1,17 @@
 use Rattle.std.proofs.Common.{[], ◌∷◌, rules}
-use Rattle.std.specs.Prelude.{Ok, Err}
-use Rattle.ht_app.specs.Acts.{make, put}
+use Rattle.ht_app.specs.Acts.{put}
 use Rattle.ht_app.proofs.WritingLaws.{does_in_part, does_then}
 use Rattle.ht_app.proofs.output.begin_file.Goals as goal
 
 pub returns-in_err-create-clause-does : goal.returns-in_err-create-clause-does
 returns-in_err-create-clause-does g c =
-    let does = does_in_part (make c.args.port c.args.name.now ∷ []) (put c.args.port c.args.text.now ∷ [])
-    c.in_err-create.field-0.0 (g.D.Desk.view c.args.desk.now) (g.D.Desk.view c.create.new.desk)
-    c.in_err-create.ensures.does in
+    let does = does_in_part (put c.args.port c.args.text.now ∷ []) c.in_err-create.ensures.does in
     search (rules, does)
 
 pub returns-in_err-put-clause-does : goal.returns-in_err-put-clause-does
 returns-in_err-put-clause-does g c =
-    let does = does_then (make c.args.port c.args.name.now ∷ []) (put c.args.port c.args.text.now ∷ [])
-    (Err c.in_err-put.field-0.0) (g.D.Desk.view c.args.desk.now) (g.D.Desk.view c.create.new.desk)
-    (g.D.Desk.view c.put.new.desk) c.in_ok-create.ensures.does c.in_err-put.ensures.does in
+    let does = does_then c.in_ok-create.ensures.does c.in_err-put.ensures.does in
     search (rules, does)
 
 pub returns-clause-does : goal.returns-clause-does
-returns-clause-does g c = does_then (make c.args.port c.args.name.now ∷ []) (put c.args.port c.args.text.now ∷ [])
-    (Ok tt)
-    (g.D.Desk.view c.args.desk.now) (g.D.Desk.view c.create.new.desk) (g.D.Desk.view c.put.new.desk)
-    c.in_ok-create.ensures.does c.in_ok-put.ensures.does
+returns-clause-does g c = does_then c.in_ok-create.ensures.does c.in_ok-put.ensures.does

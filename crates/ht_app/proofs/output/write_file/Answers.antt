@@ -1,88 +1,32 @@
-use Rattle.std.proofs.Common.{◌≡◌, ◌≢◌, List, ℕ, [], ◌∷◌, refl, subst, sym, rules}
-use Rattle.std.specs.Prelude.{Ok, Err}
-use Rattle.ht_ports.specs.declared.ports.OutPort.{OutPort}
-use Rattle.ht_ports.specs.declared.ports.OutPort.TheVariants.{Report, Out}
-use Rattle.ht_app.specs.Acts.{Act, make, put}
+use Rattle.std.proofs.Common.{[], ◌∷◌, rules}
+use Rattle.ht_ports.specs.declared.ports.OutPort.TheVariants.{Out}
+use Rattle.ht_app.specs.Acts.{put}
 use Rattle.ht_app.specs.Outputs.{ending}
-use Rattle.ht_app.specs.Steps.{Does}
 use Rattle.ht_app.proofs.WritingLaws.{does_in_part, does_then}
-use Rattle.ht_app.proofs.output.write_file.Given as given
 use Rattle.ht_app.proofs.output.write_file.Goals as goal
-use Rattle.ht_app.proofs.output.write_file.Goals.{In_ok-put}
-
-report_ending : (port : OutPort) (total : List ℕ) → port ≡ Report → put port total ∷ [] ≡ ending port total
-report_ending port total is = subst (λ (p : OutPort). put p total ∷ [] ≡ ending p total) (sym is) refl
-
-no_ending : (port : OutPort) (total : List ℕ) → port ≢ Report → [] ≡ ending port total
-no_ending Report total other = absurd (other refl)
-no_ending port total other = refl
-
--- the file without its ending
-said : (g : given.Over) (c : In_ok-put g)
-    → Does (make c.args.port c.args.name.now ∷ put c.args.port c.args.made.now.body.items
-    ∷ put Out c.args.made.now.total.items ∷ []) (Ok tt) (g.D.Desk.view c.args.desk.now) (g.D.Desk.view c.put.new.desk)
-said g c = does_then (make c.args.port c.args.name.now ∷ put c.args.port c.args.made.now.body.items ∷ [])
-    (put Out c.args.made.now.total.items ∷ []) (Ok tt) (g.D.Desk.view c.args.desk.now)
-    (g.D.Desk.view c.begin_file.new.desk) (g.D.Desk.view c.put.new.desk)
-    (rw c.deref.ensures.value at c.in_ok-begin_file.ensures.does)
-    (rw c.deref-2.ensures.value at c.in_ok-put.ensures.does)
 
 pub returns-in_err-begin_file : goal.returns-in_err-begin_file
 returns-in_err-begin_file g c =
-    let acts = make c.args.port c.args.name.now ∷ put c.args.port c.args.made.now.body.items ∷ [] in
     let total = c.args.made.now.total.items in
-    let does = does_in_part acts (put Out total ∷ ending c.args.port total) c.in_err-begin_file.field-0.0
-    (g.D.Desk.view c.args.desk.now) (g.D.Desk.view c.begin_file.new.desk)
+    let does = does_in_part (put Out total ∷ ending c.args.port total)
     (rw c.deref.ensures.value at c.in_err-begin_file.ensures.does) in
     search (rules, does)
 
 pub returns-in_err-put : goal.returns-in_err-put
 returns-in_err-put g c =
-    let acts = make c.args.port c.args.name.now ∷ put c.args.port c.args.made.now.body.items ∷ [] in
-    let total = c.args.made.now.total.items in
-    let e = c.in_err-put.field-0.0 in
-    let b = g.D.Desk.view c.put.new.desk in
-    let does = does_then acts (put Out total ∷ ending c.args.port total) (Err e) (g.D.Desk.view c.args.desk.now)
-    (g.D.Desk.view c.begin_file.new.desk) b (rw c.deref.ensures.value at c.in_ok-begin_file.ensures.does)
-    (does_in_part (put Out total ∷ []) (ending c.args.port total) e (g.D.Desk.view c.begin_file.new.desk) b
+    let does = does_then (rw c.deref.ensures.value at c.in_ok-begin_file.ensures.does)
+    (does_in_part (ending c.args.port c.args.made.now.total.items)
     (rw c.deref-2.ensures.value at c.in_err-put.ensures.does)) in
     search (rules, does)
 
-pub returns-in_err-put-2 : goal.returns-in_err-put-2
-returns-in_err-put-2 g c =
-    let port = c.args.port in
-    let body = c.args.made.now.body.items in
-    let total = c.args.made.now.total.items in
-    let acts = make port c.args.name.now ∷ put port body ∷ put Out total ∷ [] in
-    let a = g.D.Desk.view c.args.desk.now in
-    let b = g.D.Desk.view c.put-in-Report.new.desk in
-    let e = c.in_err-put-2.field-0.0 in
-    let does = subst (λ (l : List Act). Does (make port c.args.name.now ∷ put port body ∷ put Out total ∷ l) (Err e)
-    a b)
-    (report_ending port total c.in-Report.is)
-    (does_then acts (put port total ∷ []) (Err e) a (g.D.Desk.view c.put.new.desk) b
-    (said g (goal.at.returns-in_err-put-2 g c).In_ok-put)
-    (rw c.deref-in-Report.ensures.value at c.in_err-put-2.ensures.does)) in
+pub returns-in_err-end_file : goal.returns-in_err-end_file
+returns-in_err-end_file g c =
+    let does = does_then (rw c.deref.ensures.value at c.in_ok-begin_file.ensures.does)
+    (does_then (rw c.deref-2.ensures.value at c.in_ok-put.ensures.does)
+    (rw c.deref-3.ensures.value at c.in_err-end_file.ensures)) in
     search (rules, does)
 
 pub returns : goal.returns
-returns g c =
-    let port = c.args.port in
-    let body = c.args.made.now.body.items in
-    let total = c.args.made.now.total.items in
-    subst (λ (l : List Act). Does (make port c.args.name.now ∷ put port body ∷ put Out total ∷ l) (Ok tt)
-    (g.D.Desk.view c.args.desk.now) (g.D.Desk.view c.put.new.desk)) (no_ending port total c.in_default.not-Report)
-    (said g (goal.at.returns g c).In_ok-put)
-
-pub returns-in-Report : goal.returns-in-Report
-returns-in-Report g c =
-    let port = c.args.port in
-    let body = c.args.made.now.body.items in
-    let total = c.args.made.now.total.items in
-    let a = g.D.Desk.view c.args.desk.now in
-    let b = g.D.Desk.view c.put-in-Report.new.desk in
-    subst (λ (l : List Act). Does (make port c.args.name.now ∷ put port body ∷ put Out total ∷ l) (Ok tt) a b)
-    (report_ending port total c.in-Report.is)
-    (does_then (make port c.args.name.now ∷ put port body ∷ put Out total ∷ []) (put port total ∷ []) (Ok tt) a
-    (g.D.Desk.view c.put.new.desk) b (said g (goal.at.returns-in-Report g c).In_ok-put)
-    (rw c.deref-in-Report.ensures.value at c.in_ok-put-2.ensures.does))
+returns g c = does_then (rw c.deref.ensures.value at c.in_ok-begin_file.ensures.does)
+    (does_then (rw c.deref-2.ensures.value at c.in_ok-put.ensures.does)
+    (rw c.deref-3.ensures.value at c.in_ok-end_file.ensures))
