@@ -69,7 +69,7 @@ pub const ZERO_REPORT: &[u8] =
     total 6 detected 3 untestable 3 aborted 0\n";
 
 /// Its proofs.
-pub const ZERO_PROOFS: &[u8] = b"proofs 1\n\
+pub const ZERO_PROOFS: &[u8] = b"proofs 2\n\
     entry 1 untestable\nwalk\nhi 1\ndead\ndead\n\
     entry 2 untestable\nwalk\nhi 1\ndead\ndead\n\
     entry 3 untestable\nwalk\nhi 1\ndead\ndead\n\
@@ -78,6 +78,16 @@ pub const ZERO_PROOFS: &[u8] = b"proofs 1\n\
 // Reports and proofs of `ALWAYS_ZERO`, and what is answered.
 const ZERO_ROWS: &[(Option<&[u8]>, &[u8], Answer<'static>)] = &[
     (Some(ZERO_REPORT), ZERO_PROOFS, (0, b"valid\n")),
+    // The same proofs in the first format.
+    (
+        Some(ZERO_REPORT),
+        b"proofs 1\n\
+            entry 1 untestable\nwalk\nhi 1\ndead\ndead\n\
+            entry 2 untestable\nwalk\nhi 1\ndead\ndead\n\
+            entry 3 untestable\nwalk\nhi 1\ndead\ndead\n\
+            end\n",
+        (0, b"valid\n"),
+    ),
     (None, ZERO_PROOFS, (4, b"read fault\n")),
     // The first vector detects fault 4.
     (

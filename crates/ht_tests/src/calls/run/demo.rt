@@ -17,7 +17,7 @@ const SAID: Left<'static> = Left {
     report: None,
     proofs: None,
     out: b"circuit inputs 16 outputs 12 flip-flops 2 gates 16 faults 110 classes 84 budget 10\n\
-        total 84 detected 25 untestable 29 aborted 30\n",
+        total 84 detected 25 untestable 34 aborted 25\n",
     err: b"",
 };
 
