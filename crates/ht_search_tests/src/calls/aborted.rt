@@ -124,13 +124,32 @@ impl Parts {
         }
     }
 
+    fn tell(&mut self, alloc: Global, rows: &[FrameRow]) -> Result<(), AllocError> {
+        self.told = frames(alloc, rows)?;
+        Ok(())
+    }
+
+    fn end(&mut self, alloc: Global, row: Option<&[Token]>) -> Result<(), AllocError> {
+        self.walk = walk(alloc, row)?;
+        Ok(())
+    }
+
+    fn aim(&mut self, alloc: Global, row: Option<&[Token]>) -> Result<(), AllocError> {
+        self.aim = back_open(alloc, row)?;
+        Ok(())
+    }
+
+    fn sweep(&mut self, alloc: Global, rows: &[&[Token]]) -> Result<(), AllocError> {
+        self.sweep = walks(alloc, rows)?;
+        Ok(())
+    }
+
     fn fill(&mut self, alloc: Global, record: Record) -> Result<(), AllocError> {
         let (told, last, aim, sweep) = record;
-        self.told = frames(alloc, told)?;
-        self.walk = walk(alloc, last)?;
-        self.aim = back_open(alloc, aim)?;
-        self.sweep = walks(alloc, sweep)?;
-        Ok(())
+        self.tell(alloc, told)?;
+        self.end(alloc, last)?;
+        self.aim(alloc, aim)?;
+        self.sweep(alloc, sweep)
     }
 
     fn entry(self) -> Entry {
