@@ -1,5 +1,5 @@
--- Windows under clauses: one frame from the states that meet some clauses, in which a difference of the two machines is
--- looked for, or a next state of the good machine that doesn't meet a clause.
+-- Windows under clauses: one frame from the states that meet each of these clauses, in which a difference of the two
+-- machines is looked for, or a next state of the good machine that doesn't meet a clause.
 use Rattle.std.specs.Prelude.{◌≡◌, ℕ, List, [], Bool, true, false, not, ◌&&◌, if◌then◌else◌, None}
 use Rattle.std.specs.List.{list_any, list_all}
 use Rattle.ht_tern.specs.Gate.{tern_of}
@@ -42,11 +42,12 @@ abbrev pub window_under : Netlist → Fault → List ℕ → List (List Literal)
 window_under c fault z clauses =
     record { window = one_frame_window c fault z; sought = difference; clauses = clauses }
 
--- the next state of a literal's latch can have the other bit, and no other value
+-- the next state of a literal's latch can have the other bit
 abbrev pub may_miss : SearchWindow → List Assign3 → Literal → Bool
 may_miss w path literal =
     is_member (pair (tern_of (not literal.value)) (tern_of (not literal.value))) (set_at w path 0 (State literal.dff))
 
+-- it can have no other value
 abbrev pub must_miss : SearchWindow → List Assign3 → Literal → Bool
 must_miss w path literal =
     may_miss w path literal && not (is_undetermined (set_at w path 0 (State literal.dff)))
