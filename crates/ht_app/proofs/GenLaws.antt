@@ -182,10 +182,10 @@ module _ (netlist tests report proofs : List ℕ) (options : GenOptions) where
       ends_tries job x inputs w.acts (Ok value) w.tries (files_may w.done) w.done tt
   ends_files x inputs (Err e) w = elim w.stopped [
     | inl part ↦ ends_tries job x inputs w.acts (Err e) w.tries (steps_may part) tt (inl (
-        part,
-        begun_permitted (begun job) refl refl
-            ((refl, refl), ((refl, refl), ((refl, refl), ((refl, λ file. refl), tt)))) part,
-      ))
+      part,
+      begun_permitted (begun job) refl refl
+          ((refl, refl), ((refl, refl), ((refl, refl), ((refl, λ file. refl), tt)))) part,
+    ))
     | inr whole ↦ ends_tries job x inputs w.acts (Err e) w.tries (files_may whole.1) tt (inr whole)
   ]
 

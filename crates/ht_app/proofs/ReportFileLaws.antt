@@ -197,40 +197,40 @@ module _ (basis : JobBasis) (text : List ℕ) (is : IsCircuit basis.circuit) whe
 
 module _ (netlist tests report proofs name : List ℕ) (basis : JobBasis) (is : IsCircuit basis.circuit) (a b : DeskView)
   where
-  abbrev Stops : RunError → Type 0
-  Stops = ReadStops (check netlist tests report proofs) basis in_port.Report name a b
+    abbrev Stops : RunError → Type 0
+    Stops = ReadStops (check netlist tests report proofs) basis in_port.Report name a b
 
-  refuses : (number : ℕ) (IsSo : List ℕ → Type 0) → ((text : List ℕ) → IsSo text
-      → IsRefusedFor (check netlist tests report proofs) basis (Denied (Report number)) text)
-      → WasRead in_port.Report name IsSo a → Stops (Denied (Report number))
-  refuses number IsSo so read = (refl, read_so _ so read)
+    refuses : (number : ℕ) (IsSo : List ℕ → Type 0) → ((text : List ℕ) → IsSo text
+        → IsRefusedFor (check netlist tests report proofs) basis (Denied (Report number)) text)
+        → WasRead in_port.Report name IsSo a → Stops (Denied (Report number))
+    refuses number IsSo so read = (refl, read_so _ so read)
 
-  pub report_stops : AreClasses basis.circuit basis.representatives → HasShortNames basis.circuit → (e : RunError)
-      → LinesStop (IsWrongInReport basis) Report MAX_LINE_BYTES in_port.Report name a b e → Stops e
-  report_stops classes names (Denied (Report number)) (inl s) =
-      refuses number (HasFront (s.before ++ s.line ∷ []))
-      (λ text front. first_refused basis text is s.before s.line number s.fine front s.wrong) s.read
-  report_stops classes names (Denied trouble) (inl s) = absurd s.wrong
-  report_stops classes names (Denied (Report number)) (inr (line, same, s)) =
-      let here : number ≡ length s.before + 1 = (let e = same in cc) ∙ s.line_is in
-      refuses number (HasLongLine MAX_LINE_BYTES s.before)
-      (λ text long. first_long basis text is s.before number classes names s.fine here long) s.read
-  report_stops classes names (Denied trouble) (inr (line, same, s)) = let e = same in cc
-  report_stops classes names ReadFault s = s
-  report_stops classes names NoMemory s = tt
-  report_stops classes names e s = absurd s
+    pub report_stops : AreClasses basis.circuit basis.representatives → HasShortNames basis.circuit → (e : RunError)
+        → LinesStop (IsWrongInReport basis) Report MAX_LINE_BYTES in_port.Report name a b e → Stops e
+    report_stops classes names (Denied (Report number)) (inl s) =
+        refuses number (HasFront (s.before ++ s.line ∷ []))
+        (λ text front. first_refused basis text is s.before s.line number s.fine front s.wrong) s.read
+    report_stops classes names (Denied trouble) (inl s) = absurd s.wrong
+    report_stops classes names (Denied (Report number)) (inr (line, same, s)) =
+        let here : number ≡ length s.before + 1 = (let e = same in cc) ∙ s.line_is in
+        refuses number (HasLongLine MAX_LINE_BYTES s.before)
+        (λ text long. first_long basis text is s.before number classes names s.fine here long) s.read
+    report_stops classes names (Denied trouble) (inr (line, same, s)) = let e = same in cc
+    report_stops classes names ReadFault s = s
+    report_stops classes names NoMemory s = tt
+    report_stops classes names e s = absurd s
 
-  -- what the end of a report denies
-  pub report_ends : (v : ReportJudgeView)
-      → (read : StandsForFile (StandsForReport v basis) (IsWrongInReport basis) in_port.Report name a)
-      → (e : JudgeError) → ReportEndHasCause v read.lines e → Stops (judged_error_of e)
-  report_ends v read (judge.Denied (Report number)) h =
-      let none = same_circuit (λ c r. (budget : ℕ) (saids : List Said) → ¬ IsSearchReport c r read.lines budget saids) read.stands.circuit
-      read.stands.representatives h.1 in
-      refuses number (HasLines read.lines)
-      (λ text has. first_missing basis text is read.lines number read.fine has h.0 none) read.read
-  report_ends v read (judge.Denied trouble) h = absurd h
-  report_ends v read judge.NoMemory h = tt
+    -- what the end of a report denies
+    pub report_ends : (v : ReportJudgeView)
+        → (read : StandsForFile (StandsForReport v basis) (IsWrongInReport basis) in_port.Report name a)
+        → (e : JudgeError) → ReportEndHasCause v read.lines e → Stops (judged_error_of e)
+    report_ends v read (judge.Denied (Report number)) h =
+        let none = same_circuit (λ c r. (budget : ℕ) (saids : List Said) → ¬ IsSearchReport c r read.lines budget saids) read.stands.circuit
+        read.stands.representatives h.1 in
+        refuses number (HasLines read.lines)
+        (λ text has. first_missing basis text is read.lines number read.fine has h.0 none) read.read
+    report_ends v read (judge.Denied trouble) h = absurd h
+    report_ends v read judge.NoMemory h = tt
 
 -- ---- a report that is whole
 

@@ -138,8 +138,11 @@ returns-clause-made g c =
     let justified : IsJustified c.in_ok-circuit.circuit c.in_ok-listed.listed.classes (claimed g at entries) =
     record { agrees = (report_is g at entries).agrees; backed = proofs.backed; complete = proofs.complete } in
     all_read (one_more (report_read g at entries) refl (ap Some (sym c.as_str-3.ensures))
-    c.in_ok-read_proofs.ensures.frame netlist proofs.read) (no_more c.args.files.now) netlist _ (record {
-      classes = classes;
-      verdicts = true_verdicts _ _ _ circuit classes justified;
-      decided = are_decided _ _ _ circuit justified;
-    }, refl)
+    c.in_ok-read_proofs.ensures.frame netlist proofs.read) (no_more c.args.files.now) netlist _ (
+      record {
+        classes = classes;
+        verdicts = true_verdicts _ _ _ circuit classes justified;
+        decided = are_decided _ _ _ circuit justified;
+      },
+      refl,
+    )

@@ -23,10 +23,10 @@ returns-then-len-gt-MAX_COMPACTED-clause-stops g c = λ netlist tests out repres
       refl,
       read_so (IsRefusedFor (compact netlist tests out) (check_basis c.args.circuit.now representatives content)
           TooManyVectors) (λ text are. record {
-        list = c.in_ok-list.list.list;
-        first = are.first;
-        many = omega (arith, c.in_ok-list.ensures.upto, many);
-      }) c.in_ok-list.ensures.read,
+            list = c.in_ok-list.list.list;
+            first = are.first;
+            many = omega (arith, c.in_ok-list.ensures.upto, many);
+          }) c.in_ok-list.ensures.read,
     )
 
 pub returns-clause-read : goal.returns-clause-read
