@@ -30,7 +30,7 @@ use Rattle.ht_app.specs.declared.run_error.RunError.TheVariants.{Denied, ReadFau
 use Rattle.ht_app.specs.Errors.{judged_error_of}
 use Rattle.ht_app.specs.Inputs.{JobBasis, WasRead}
 use Rattle.ht_app.specs.Judging.{AreFine, HasFront, HasLines, HasLongLine, IsWrongInReport, LinesStop, ReportIsRead, StandsForFile, StandsForReport}
-use Rattle.ht_app.specs.Refusals.{IsRefusedFor, refused_port}
+use Rattle.ht_app.specs.Refusals.{IsRefusedFor}
 use Rattle.ht_app.specs.Steps.{ReadStops}
 use Rattle.ht_app.proofs.JudgedLaws.{same_circuit}
 use Rattle.ht_app.proofs.ReadingLaws.{read_so}

@@ -1,5 +1,4 @@
-use Rattle.std.proofs.Common.{◌≤◌, ◌<◌, ◌+◌, length, refl, rules, arith}
-use Rattle.ht_ports.specs.declared.ports.InPort.TheVariants.{Tests}
+use Rattle.std.proofs.Common.{◌≤◌, ◌<◌, length, refl, rules, arith}
 use Rattle.ht_compact.specs.TestsToCompact.{IsTestTextToCompact}
 use Rattle.ht_compact.specs.declared.compaction.TheConstants.{MAX_COMPACTED}
 use Rattle.ht_asked.specs.Asked.{compact}

@@ -1,4 +1,4 @@
-use Rattle.std.proofs.Common.{List, subst, rules}
+use Rattle.std.proofs.Common.{subst, rules}
 use Rattle.std.specs.Prelude.{Result, Err, IfOk, IfErr}
 use Rattle.ht_ports.specs.Desk.{DeskView}
 use Rattle.ht_asked.specs.Asked.{Asked}

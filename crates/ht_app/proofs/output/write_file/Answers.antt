@@ -1,4 +1,4 @@
-use Rattle.std.proofs.Common.{[], ◌∷◌, rules}
+use Rattle.std.proofs.Common.{◌∷◌, rules}
 use Rattle.ht_ports.specs.declared.ports.OutPort.TheVariants.{Out}
 use Rattle.ht_app.specs.Acts.{put}
 use Rattle.ht_app.specs.Outputs.{ending}
