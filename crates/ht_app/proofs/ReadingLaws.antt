@@ -21,23 +21,17 @@ use Rattle.ht_app.specs.Refusals.{IsRefusedFor, RefusesInput, refused_port}
 use Rattle.ht_app.specs.Run.{HasCause}
 use Rattle.ht_app.specs.Steps.{EndsReading, HasReadTo, IsPrepared, OnlyReads, ReadStops, TestsStop, reading}
 use Rattle.ht_app.proofs.ActLaws.{did_nothing}
-use Rattle.ht_app.proofs.CreatedLaws.{kept}
+use Rattle.ht_app.proofs.ChangedLaws.{kept}
 
 -- ---- ports
 
-pub same_or_other : (p q : InPort) → (p ≡ q) ⊎ (order_of p ≢ order_of q)
+same_or_other : (p q : InPort) → (p ≡ q) ⊎ (order_of p ≢ order_of q)
 same_or_other Netlist Netlist = inl refl
 same_or_other Tests Tests = inl refl
 same_or_other Report Report = inl refl
 same_or_other Proofs Proofs = inl refl
 same_or_other Extra Extra = inl refl
 same_or_other p q = inr (λ e. omega (arith, e))
-
-pub in_order : (p q : InPort) → order_of p ≡ order_of q → p ≡ q
-in_order p q e = elim (same_or_other p q) [
-  | inl same ↦ same
-  | inr ne ↦ absurd (ne e)
-]
 
 -- ---- calls that read
 

@@ -15,8 +15,7 @@ use Rattle.ht_app.specs.Changed.{ChangedOnly, IsCreatedOnly, IsOtherFile, Ports}
 use Rattle.ht_app.specs.Run.{IsWriteFault}
 use Rattle.ht_app.specs.Steps.{Does, EndsWriting, HasWritten, Permits, PermitsAll, StopsBy, Tries}
 use Rattle.ht_app.proofs.ActLaws.{did_make, did_nothing, did_put, did_then, is_no_port, is_that_port, stops_first}
-use Rattle.ht_app.proofs.ChangedLaws.{changed_by_creating, changed_by_writing, changed_trans, not_created}
-use Rattle.ht_app.proofs.CreatedLaws.{kept, named_since}
+use Rattle.ht_app.proofs.ChangedLaws.{changed_by_creating, changed_by_writing, changed_trans, kept, named_since, not_created}
 
 -- ---- what is permitted
 
