@@ -2,11 +2,7 @@
 use Rattle.std.proofs.Common.{◌≡◌, ◌⊎◌, inl, inr, ℕ, suc, ◌+◌, ◌-◌, ◌<◌, ◌≤◌, List, [], ◌∷◌, ◌++◌, length, take, get_or, append_assoc, sym, ◌∙◌, ap, subst, arith}
 use Rattle.std.proofs.lemmas.List.{length-append}
 use Rattle.std.proofs.Math.Seq.{take-suc, take-append_seam, get_or-append_seam}
-use Rattle.ht_ports.specs.LineRule.{lines_of}
-use Rattle.ht_texts.specs.Tests.{IsTooLong}
-use Rattle.ht_app.specs.declared.run_error.RunError.{RunError}
-use Rattle.ht_valid.specs.FirstTrouble.{IsFirst}
-use Rattle.ht_app.specs.Judging.{AreFine, HasFront, HasLongLine}
+use Rattle.ht_app.proofs.Common.{AreFine, HasFront, HasLongLine, IsFirst, IsTooLong, RunError, lines_of}
 use Rattle.ht_app.proofs.JudgedLaws.{get_front, take_front}
 
 -- the first lines up to one are those before it and it

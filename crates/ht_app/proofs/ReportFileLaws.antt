@@ -4,14 +4,15 @@ use Rattle.std.specs.Prelude.{if◌then◌else◌}
 use Rattle.std.proofs.lemmas.Bool.{cases_lt}
 use Rattle.std.proofs.lemmas.List.{length-append}
 use Rattle.std.proofs.Math.Seq.{get_or-append_seam}
-use Rattle.ht_ports.specs.Desk.{DeskView}
-use Rattle.ht_ports.specs.LineRule.{lines_of}
+use Rattle.ht_app.proofs.Common.{AreClasses, AreFine, Denied, DeskView, HasFront, HasLines, HasLongLine, IsFirst}
+use Rattle.ht_app.proofs.Common.{IsRefusedFor, JobBasis, JudgeError, LinesStop, ReadStops, ReportIsRead, RunError}
+use Rattle.ht_app.proofs.Common.{Said, StandsForFile, StandsForReport, StopsAtLine, WasRead, check, judged_error_of}
+use Rattle.ht_app.proofs.Common.{lines_of, refused_port}
 use Rattle.ht_ports.specs.declared.ports.InPort.TheVariants as in_port
 use Rattle.ht_net.specs.Netlist.{Netlist, IsCircuit}
-use Rattle.ht_collapse.specs.Classes.{AreClasses, is_representative}
+use Rattle.ht_collapse.specs.Classes.{is_representative}
 use Rattle.ht_texts.specs.declared.limits.TheConstants.{MAX_LINE_BYTES}
 use Rattle.ht_texts.specs.declared.item.Item.TheVariants.{Verdict, Member}
-use Rattle.ht_texts.specs.declared.said.Said.{Said}
 use Rattle.ht_texts.specs.SearchReports.{HasShortNames, IsReportFront, IsSearchReport}
 use Rattle.ht_texts.specs.ReportReading.{ReportReading, before_report, in_report, after_report, last_item, SaySame}
 use Rattle.ht_texts.specs.Verdicts.{said_at}
@@ -19,18 +20,11 @@ use Rattle.ht_texts.proofs.ReportFrontLaws.{one_reading, reading_is_front}
 use Rattle.ht_texts.proofs.LineLengthLaws.{report_is_short}
 use Rattle.ht_valid.specs.declared.trouble.Trouble.TheVariants.{Report}
 use Rattle.ht_valid.specs.ValidFiles.{AgreesWithTests}
-use Rattle.ht_valid.specs.FirstTrouble.{ContradictsTests, IsFirst, IsReportTrouble}
-use Rattle.ht_judge.specs.declared.judge_error.JudgeError.{JudgeError}
+use Rattle.ht_valid.specs.FirstTrouble.{ContradictsTests, IsReportTrouble}
 use Rattle.ht_judge.specs.declared.judge_error.JudgeError.TheVariants as judge
 use Rattle.ht_judge.specs.ReportJudging.{KeepsSaid, IsTrueReport, JudgesReport, ReportEndHasCause, ReportJudgeView, ReportLineDeniedFor}
-use Rattle.ht_asked.specs.Asked.{check}
-use Rattle.ht_app.specs.declared.run_error.RunError.{RunError}
-use Rattle.ht_app.specs.declared.run_error.RunError.TheVariants.{Denied, NoMemory}
-use Rattle.ht_app.specs.Errors.{judged_error_of}
-use Rattle.ht_app.specs.Inputs.{JobBasis, WasRead}
-use Rattle.ht_app.specs.Judging.{AreFine, HasFront, HasLines, HasLongLine, IsWrongInReport, LinesStop, ReportIsRead, StandsForFile, StandsForReport, StopsAtLine}
-use Rattle.ht_app.specs.Refusals.{IsRefusedFor, refused_port}
-use Rattle.ht_app.specs.Steps.{ReadStops}
+use Rattle.ht_app.specs.declared.run_error.RunError.TheVariants.{NoMemory}
+use Rattle.ht_app.specs.Judging.{IsWrongInReport}
 use Rattle.ht_app.proofs.JudgedLaws.{lines_stop, same_circuit, whole_file, whole_front}
 use Rattle.ht_app.proofs.ReadingLaws.{read_so}
 use Rattle.ht_app.proofs.FirstTroubleLaws.{HasTroubleAt, IsWrongAt, first_after, front_is, grown_to, next_is, shorter}

@@ -5,22 +5,17 @@ use Rattle.std.proofs.lemmas.Bool.{cases_lt}
 use Rattle.std.proofs.lemmas.List.{length-append, length-map, length-take-le}
 use Rattle.std.proofs.Math.ListN.{replicate, length-replicate}
 use Rattle.std.proofs.Math.Seq.{take-append_seam}
-use Rattle.ht_ports.specs.Desk.{DeskView}
-use Rattle.ht_ports.specs.LineRule.{lines_of}
+use Rattle.ht_app.proofs.Common.{AreFine, BadResponses, BadTests, DeskView, HasFront, HasLines, HasLongLine}
+use Rattle.ht_app.proofs.Common.{IsMalformedResponse, IsMalformedTest, IsTestText, IsTooLong, JobBasis, LinesStop}
+use Rattle.ht_app.proofs.Common.{ObservationView, ReadStops, Rows, RunError, StandsForFile, StandsForResponses}
+use Rattle.ht_app.proofs.Common.{StandsForTests, StopsAtLine, Tern, TestsStop, WasRead, diagnose, lines_of, row_text}
+use Rattle.ht_app.proofs.Common.{vector_text}
 use Rattle.ht_ports.specs.declared.ports.InPort.TheVariants as in_port
-use Rattle.ht_tern.specs.declared.tern.Tern.{Tern}
 use Rattle.ht_net.specs.Netlist.{max_inputs, max_nets, no_net}
-use Rattle.ht_net.specs.Rows.{Rows}
-use Rattle.ht_texts.specs.Tests.{IsCoded, IsMalformedTest, IsNoVector, IsTestText, IsTextOf, IsTooLong, IsWrongLine, bit_code, line_at, vector_text}
+use Rattle.ht_texts.specs.Tests.{IsCoded, IsNoVector, IsTextOf, IsWrongLine, bit_code, line_at}
 use Rattle.ht_compact.specs.TestsToCompact.{AreFirstVectors}
-use Rattle.ht_dictionary.specs.ObservationView.{ObservationView}
-use Rattle.ht_dictionary.specs.ResponseTexts.{IsMalformedResponse, IsNoResponse, IsResponseText, IsRowText, IsWrongResponse, row_text, tern_code}
-use Rattle.ht_asked.specs.Asked.{diagnose}
-use Rattle.ht_app.specs.declared.run_error.RunError.{RunError}
-use Rattle.ht_app.specs.declared.run_error.RunError.TheVariants.{BadResponses, BadTests}
-use Rattle.ht_app.specs.Inputs.{JobBasis, WasRead}
-use Rattle.ht_app.specs.Judging.{AreFine, HasFront, HasLines, HasLongLine, LinesStop, StandsForFile, StandsForResponses, StandsForTests, StopsAtLine}
-use Rattle.ht_app.specs.Steps.{AreVectorsUpTo, ReadStops, TestsStop}
+use Rattle.ht_dictionary.specs.ResponseTexts.{IsNoResponse, IsResponseText, IsRowText, IsWrongResponse, tern_code}
+use Rattle.ht_app.specs.Steps.{AreVectorsUpTo}
 use Rattle.ht_app.proofs.FirstTroubleLaws.{HasTroubleAt, IsWrongAt, at_line, first_after, front_is, shorter}
 use Rattle.ht_app.proofs.JudgedLaws.{lines_stop, whole_file, whole_front}
 use Rattle.ht_app.proofs.ReadingLaws.{basis_of, no_circuit, read_so}

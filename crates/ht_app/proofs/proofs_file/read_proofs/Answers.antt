@@ -1,7 +1,5 @@
 use Rattle.std.proofs.Common.{◌≡◌, [], ◌∙◌, sym, rules}
-use Rattle.ht_valid.specs.ValidFiles.{Content}
-use Rattle.ht_app.specs.Judging.{StandsForProofs, check_basis}
-use Rattle.ht_app.specs.Refusals.{before_proofs}
+use Rattle.ht_app.proofs.Common.{Content, StandsForProofs, before_proofs, check_basis}
 use Rattle.ht_app.proofs.ProofsFileLaws.{fewer_lines, proofs_are_read, proofs_end, proofs_stop}
 use Rattle.ht_app.proofs.proofs_file.read_proofs.Given as given
 use Rattle.ht_app.proofs.proofs_file.read_proofs.Goals as goal

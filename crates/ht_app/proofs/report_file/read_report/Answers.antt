@@ -1,7 +1,5 @@
 use Rattle.std.proofs.Common.{[], rules}
-use Rattle.ht_grade.specs.Detections.{AreFirstDetections}
-use Rattle.ht_valid.specs.ValidFiles.{Content}
-use Rattle.ht_app.specs.Judging.{StandsForReport, check_basis}
+use Rattle.ht_app.proofs.Common.{AreFirstDetections, Content, StandsForReport, check_basis}
 use Rattle.ht_app.proofs.ReportFileLaws.{report_ends, report_is_read, report_stops}
 use Rattle.ht_app.proofs.report_file.read_report.Given as given
 use Rattle.ht_app.proofs.report_file.read_report.Goals as goal

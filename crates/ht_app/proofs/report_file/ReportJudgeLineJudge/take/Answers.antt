@@ -1,7 +1,5 @@
 use Rattle.std.proofs.Common.{◌++◌, ◌∷◌, [], ◌∙◌, List, ℕ, rules, ◌≡◌, ◌≤◌, ◌+◌, length, arith}
-use Rattle.ht_ports.specs.LineRule.{max_text_bytes}
-use Rattle.ht_app.specs.Inputs.{JobBasis}
-use Rattle.ht_app.specs.Judging.{StandsForReport}
+use Rattle.ht_app.proofs.Common.{JobBasis, StandsForReport, max_text_bytes}
 use Rattle.ht_app.proofs.ReportFileLaws.{denied_is_wrong, judged_is_fine}
 use Rattle.ht_app.proofs.report_file.ReportJudgeLineJudge.take.Goals as goal
 use Rattle.ht_app.proofs.report_file.ReportJudgeLineJudge.take.Goals.{In_ok-line}
