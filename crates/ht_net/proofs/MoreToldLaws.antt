@@ -69,7 +69,8 @@ shown_refines c fault more less list t o h =
 pub detects_where_refined : (c : Netlist) (fault : Fault) (more less : List Tern) (list : List (List Bool)) (t o : ℕ)
     → AllRelated Refines more less → DetectsFrom c fault less list t o → DetectsFrom c fault more list t o
 detects_where_refined c fault more less list t o h d =
-    still_opposite _ _ _ _ (shown_refines c None more less list t o h) (shown_refines c (Some fault) more less list t o h)
+    still_opposite _ _ _ _ (shown_refines c None more less list t o h)
+    (shown_refines c (Some fault) more less list t o h)
     d
 
 -- ---- after other vectors
