@@ -8,13 +8,14 @@ use Rattle.ht_ports.specs.declared.ports.InPort.TheVariants.{Netlist, Tests, Rep
 use Rattle.ht_ports.proofs.CallLaws.{after_trans}
 use Rattle.ht_tern.specs.declared.tern.Tern.{Tern}
 use Rattle.ht_net.specs.Netlist as net
+use Rattle.ht_net.specs.Detection.{unknown_state}
 use Rattle.ht_texts.specs.Tests.{IsMalformedTest}
 use Rattle.ht_asked.specs.Asked.{Asked}
 use Rattle.ht_app.specs.declared.run_error.RunError.{RunError}
 use Rattle.ht_app.specs.declared.run_error.RunError.TheVariants.{Usage, ReadFault, WriteFault, NoMemory, BadTests}
 use Rattle.ht_app.specs.Acts.{Act}
 use Rattle.ht_app.specs.Changed.{ChangedOnly, IsUnread}
-use Rattle.ht_app.specs.Inputs.{AcceptsInputs, HasNetlist, JobBasis, SaysBasis, WasRead}
+use Rattle.ht_app.specs.Inputs.{AcceptsInputs, HasNetlist, IsStated, JobBasis, SaysBasis, WasRead}
 use Rattle.ht_app.specs.Jobs.{input_name, order_of}
 use Rattle.ht_app.specs.Outputs.{MakesOutput}
 use Rattle.ht_app.specs.Refusals.{IsRefusedFor, RefusesInput, refused_port}
@@ -125,11 +126,12 @@ changes_by_reading job {a = a} {b = b} x others = record {
 
 -- ---- one file more
 
-pub nothing_read : (job : Asked) (basis : JobBasis) (a : DeskView)
+pub nothing_read : (job : Asked) (basis : JobBasis) (a : DeskView) → IsStated basis
     → ((name : List ℕ) → IsTrue a.steady → IsSome (a.file name)) → HasReadTo job basis 0 a a
-nothing_read job basis a tells = record {
+nothing_read job basis a stated tells = record {
   reads = reads_none;
   netlist = λ some. absurd (omega (arith, some));
+  stated = stated;
   accepts = λ p before. absurd (omega (arith, before));
   unread = λ p after. record { left = refl; is_open = refl };
   others = λ p none. record { left = refl; is_open = refl };
@@ -143,6 +145,7 @@ module _ {job : Asked} {basis : JobBasis} {place : ℕ} {a m : DeskView} (h : Ha
   skipped port at none netlist = record {
     reads = h.reads;
     netlist = λ some. netlist;
+    stated = h.stated;
     accepts = λ p before name is. elim (same_or_other p port) [
       | inl e ↦ let some : None ≡ Some name =
           sym none ∙ ap (input_name job) (sym e) ∙ is in cc
@@ -174,6 +177,7 @@ module _ {job : Asked} {basis : JobBasis} {place : ℕ} {a m : DeskView} (h : Ha
     one_more netlist read = record {
       reads = reads_then h.reads (only_reads call);
       netlist = λ some. netlist;
+      stated = h.stated;
       accepts = λ p before other reads. elim (same_or_other p port) [
         | inl e ↦ subst (λ (q : InPort). WasRead q other (SaysBasis job basis q) a) (sym e)
             (subst (λ (n : List ℕ). WasRead port n (SaysBasis job basis port) a) (sym (read_there p other e reads))
@@ -196,6 +200,7 @@ module _ {job : Asked} {basis : JobBasis} {place : ℕ} {a m : DeskView} (h : Ha
       at = refused.0;
       reads = is;
       circuit = λ some. h.netlist (omega (arith, some, at));
+      stated = h.stated;
       before = λ p before. h.accepts p (omega (arith, before, at));
       refused = read_before h.reads refused.1;
       unread = λ p after. unread_at p (omega (arith, after, at));
@@ -241,6 +246,7 @@ module _ {job : Asked} {basis : JobBasis} {place : ℕ} {a m : DeskView} (h : Ha
       | inl before ↦ h.accepts p before name is
       | inr after ↦ let none : None ≡ Some name = sym (rest p after) ∙ is in cc
     ];
+    stated = h.stated;
     circuit = λ some. netlist;
   }
 
@@ -264,7 +270,7 @@ basis_of c list rows = record {
   circuit = c;
   rows = rows;
   representatives = [];
-  content = record { list = list; budget = 0; saids = []; entries = [] };
+  content = record { start = unknown_state c; list = list; budget = 0; saids = []; entries = [] };
 }
 
 -- why reading tests ends a job that refuses a malformed line of them

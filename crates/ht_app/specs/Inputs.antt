@@ -6,6 +6,7 @@ use Rattle.ht_ports.specs.declared.ports.InPort.{InPort}
 use Rattle.ht_ports.specs.declared.ports.InPort.TheVariants.{Netlist, Tests, Report, Proofs, Extra}
 use Rattle.ht_tern.specs.declared.tern.Tern.{Tern}
 use Rattle.ht_net.specs.Netlist as net
+use Rattle.ht_net.specs.Detection.{unknown_state}
 use Rattle.ht_bench.specs.Text.{max_netlist_bytes, IsNetlistOf}
 use Rattle.ht_texts.specs.Tests.{IsTestText}
 use Rattle.ht_texts.specs.Verdicts.{said_at}
@@ -45,8 +46,8 @@ HasNetlist c = (text : List ℕ) × IsGoodNetlist text c
 
 -- ---- all files of a job
 
--- What the files say, by which a job goes: the netlist's circuit; the vectors of the tests; the rows of the responses;
--- and of `check` the classes of faults, and what the report and the proofs say.
+-- What the files say, by which a job goes: the netlist's circuit; the start; the vectors of the tests; the rows of the
+-- responses; and of `check` the classes of faults, and what the report and the proofs say.
 pub record JobBasis : Type 0 where
   pub circuit : net.Netlist
   pub rows : List (List Tern)
@@ -56,7 +57,12 @@ pub record JobBasis : Type 0 where
 -- The text is the report of a search that says this, and agrees with the vectors.
 pub record IsGoodReport (c : net.Netlist) (representatives : List ℕ) (content : Content) (text : List ℕ) : Type 0 where
   pub reported : IsReportText c representatives text content.budget content.saids
-  pub agrees : (i : ℕ) → IsOwn c representatives i → AgreesWithTests c content.list i (said_at content.saids i)
+  pub agrees : (i : ℕ) → IsOwn c representatives i
+      → AgreesWithTests c content.start content.list i (said_at content.saids i)
+
+-- No start is stated: that of the basis is all-unknown.
+abbrev pub IsStated : JobBasis → Type 0
+IsStated basis = basis.content.start ≡ unknown_state basis.circuit
 
 -- The text has these entries, each of which backs what the report says, and none that is needed is missing.
 pub record AreGoodProofs (c : net.Netlist) (representatives : List ℕ) (content : Content) (text : List ℕ) : Type 0 where
@@ -86,8 +92,9 @@ AcceptsFile job basis port old = (name : List ℕ) → input_name job port ≡ S
 abbrev pub AcceptsBefore : Asked → JobBasis → InPort → DeskView → Type 0
 AcceptsBefore job basis port old = (p : InPort) → order_of p < order_of port → AcceptsFile job basis p old
 
--- All were; and the circuit is that of a netlist, whatever the desk tells.
+-- All were; and the circuit is that of a netlist, and the start is stated, whatever the desk tells.
 pub record AcceptsInputs (job : Asked) (basis : JobBasis) (old : DeskView) : Type 0 where
+  pub stated : IsStated basis
   pub each : (port : InPort) → AcceptsFile job basis port old
   pub circuit : IsSome (input_name job Netlist) → HasNetlist basis.circuit
 
@@ -97,5 +104,6 @@ pub record AcceptsInputs (job : Asked) (basis : JobBasis) (old : DeskView) : Typ
 pub record AreGoodInputs (job : Asked) (desk : DeskView) : Type 0 where
   pub texts : InPort → List ℕ
   pub basis : JobBasis
+  pub stated : IsStated basis
   pub told : (p : InPort) (name : List ℕ) → input_name job p ≡ Some name → IsInput p name (texts p) desk
   pub say : (p : InPort) (name : List ℕ) → input_name job p ≡ Some name → SaysBasis job basis p (texts p)

@@ -5,12 +5,14 @@ use Rattle.ht_ports.specs.declared.ports.InPort.{InPort}
 use Rattle.ht_ports.specs.declared.ports.InPort.TheVariants as in_port
 use Rattle.ht_ports.specs.declared.ports.OutPort.{OutPort}
 use Rattle.ht_ports.specs.declared.ports.OutPort.TheVariants.{Tests, Report, Proofs}
+use Rattle.ht_tern.specs.declared.tern.Tern.{Tern}
 use Rattle.ht_asked.specs.Asked.{Asked, sim, gen, check, norm, compact, diagnose, GenOptions}
 use Rattle.ht_engine.specs.Steps.{Settings}
 
--- what the options of `gen` tell the generator
-abbrev pub settings_of : GenOptions → Settings
-settings_of options = record { budget = options.budget; random = options.random; seed = options.seed }
+-- what the start and the options of `gen` tell the generator
+abbrev pub settings_of : List Tern → GenOptions → Settings
+settings_of start options =
+    record { budget = options.budget; random = options.random; seed = options.seed; start = start }
 
 -- the file that the job reads from the port
 abbrev pub input_name : Asked → InPort → Option (List ℕ)

@@ -94,20 +94,21 @@ pub record StandsForReport (v : ReportJudgeView) (basis : JobBasis) (lines : Lis
   pub well_formed : IsCircuit basis.circuit
   pub circuit : v.circuit ≡ basis.circuit
   pub representatives : v.representatives ≡ basis.representatives
-  pub judges : JudgesReport v basis.content.list lines
+  pub judges : JudgesReport v basis.content.start basis.content.list lines
 
 -- the line isn't one of a report after these, or contradicts the tests
 abbrev pub IsWrongInReport : JobBasis → List (List ℕ) → List ℕ → Trouble → Type 0
 IsWrongInReport basis before line (Report number) = (number ≡ length before + 1)
     × ((¬ IsReportFront basis.circuit basis.representatives (before ++ line ∷ []))
-    ⊎ ContradictsTests basis.circuit basis.representatives basis.content.list (before ++ line ∷ []))
+    ⊎ ContradictsTests basis.circuit basis.representatives basis.content.start basis.content.list
+    (before ++ line ∷ []))
 IsWrongInReport basis before line other = ⊥
 
 -- The report of this name says its part of the basis, and one verdict for each fault, which agrees with the tests.
 pub record ReportIsRead (basis : JobBasis) (name : List ℕ) (old : DeskView) : Type 0 where
   pub each : length basis.content.saids ≡ length (faults_of basis.circuit)
   pub agrees : (i : ℕ) → IsOwn basis.circuit basis.representatives i
-      → AgreesWithTests basis.circuit basis.content.list i (said_at basis.content.saids i)
+      → AgreesWithTests basis.circuit basis.content.start basis.content.list i (said_at basis.content.saids i)
   pub read : WasRead in_port.Report name (IsGoodReport basis.circuit basis.representatives basis.content) old
 
 -- ---- the proofs

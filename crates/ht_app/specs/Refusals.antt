@@ -4,6 +4,7 @@ use Rattle.ht_ports.specs.Desk.{DeskView}
 use Rattle.ht_ports.specs.declared.ports.InPort.{InPort}
 use Rattle.ht_ports.specs.declared.ports.InPort.TheVariants.{Netlist, Tests, Report, Proofs, Extra}
 use Rattle.ht_net.specs.Netlist as net
+use Rattle.ht_net.specs.Detection.{unknown_state}
 use Rattle.ht_bench.specs.Text.{max_netlist_bytes, IsNetlistOf, Refuses}
 use Rattle.ht_bench.specs.declared.error.BenchError.{BenchError}
 use Rattle.ht_bench.specs.declared.error.BenchError.TheVariants as bench
@@ -17,7 +18,7 @@ use Rattle.ht_valid.specs.declared.trouble.Trouble.TheVariants as trouble
 use Rattle.ht_asked.specs.Asked.{Asked, sim, check, compact, diagnose}
 use Rattle.ht_app.specs.declared.run_error.RunError.{RunError}
 use Rattle.ht_app.specs.declared.run_error.RunError.TheVariants.{Denied, TooLong, Refused, BadTests, TooManyVectors, BadResponses}
-use Rattle.ht_app.specs.Inputs.{AcceptsBefore, HasNetlist, IsInput, JobBasis, IsGoodNetlist, WasRead}
+use Rattle.ht_app.specs.Inputs.{AcceptsBefore, HasNetlist, IsInput, IsStated, JobBasis, IsGoodNetlist, WasRead}
 use Rattle.ht_app.specs.Jobs.{input_name, order_of}
 use Rattle.ht_app.specs.Changed.{IsUnread}
 
@@ -61,7 +62,7 @@ IsRefusedFor job basis (BadResponses line) text =
     IsMalformedResponse (length basis.circuit.outputs) (length basis.content.list) text line
 IsRefusedFor job basis (Denied (trouble.Tests line)) text = IsMalformedTest basis.circuit text line
 IsRefusedFor job basis (Denied (trouble.Report line)) text =
-    IsFirst (IsReportTrouble basis.circuit basis.representatives basis.content.list text) line
+    IsFirst (IsReportTrouble basis.circuit basis.representatives basis.content.start basis.content.list text) line
 IsRefusedFor job basis (Denied (trouble.Proofs line)) text =
     IsFirstProofLine basis.circuit basis.representatives (before_proofs basis.content) text line
 IsRefusedFor job basis (Denied (trouble.Fault number)) text =
@@ -77,6 +78,7 @@ pub record RefusesInput (job : Asked) (error : RunError) (old new : DeskView) : 
   pub at : refused_port job error ≡ Some port
   pub reads : input_name job port ≡ Some name
   pub circuit : 0 < order_of port → HasNetlist basis.circuit
+  pub stated : IsStated basis
   pub before : AcceptsBefore job basis port old
   pub refused : WasRead port name (IsRefusedFor job basis error) old
   pub unread : (p : InPort) → order_of port < order_of p → IsUnread p old new
@@ -104,7 +106,7 @@ AreRefusedWith (compact netlist tests out) texts Tests status =
     ⊎ ((status ≡ 9) × HasCircuit texts (λ c. HasTooManyVectors c (texts Tests)))
 AreRefusedWith (check netlist tests report proofs) texts Proofs status =
     (status ≡ 1) × HasCircuit texts (λ c. (representatives : List ℕ) × AreClasses c representatives
-    × (¬ AreValidFiles c representatives (texts Tests) (texts Report) (texts Proofs)))
+    × (¬ AreValidFiles c representatives (unknown_state c) (texts Tests) (texts Report) (texts Proofs)))
 AreRefusedWith job texts port status = ⊥
 
 -- The desk tells texts of the job's files up to a port, of which one is refused with this status.

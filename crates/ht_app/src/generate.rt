@@ -3,6 +3,7 @@
 //! `create` makes the three files, and `fill` writes them: `sizes` begins the proofs, `steps` writes the engine's steps,
 //! and the report comes last.
 ghost use Rattle.std.specs.Prelude.{◌≡◌, ◌≤◌};
+ghost use Rattle.ht_net.specs.Detection.{unknown_state};
 ghost use Rattle.ht_faults.specs.Sites.{faults_of};
 ghost use Rattle.ht_collapse.specs.Classes.{AreClasses};
 ghost use Rattle.ht_texts.specs.SearchReports.{HasPlainNames};
@@ -43,8 +44,12 @@ fn run_engine<D: Desk>(
     requires classes { AreClasses circuit.now listed.now.classes }
     requires budget { (MIN_BUDGET ≤ budget) × (budget ≤ MAX_BUDGET) }
     ensures { WritesAll files.now circuit.now
-        (record { budget = budget; random = random; seed = seed }) result
-        (D.view desk.old) (D.view desk.new) }
+        (record {
+          budget = budget;
+          random = random;
+          seed = seed;
+          start = unknown_state circuit.now;
+        }) result (D.view desk.old) (D.view desk.new) }
 {
     let faults = &listed.faults;
     let classes = &listed.classes;

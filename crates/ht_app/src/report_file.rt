@@ -45,7 +45,7 @@ impl<'c> LineJudge for ReportJudge<'c> {
 }
 
 /// Opens the report and reads what it claims, up to the first line that is malformed or contradicts the tests, which
-/// detect the representatives at these places first.
+/// detect the representatives at these places first, from the start.
 ///
 /// # Errors
 /// - `ReadFault`: the desk counted a fault.
@@ -66,12 +66,12 @@ pub fn read_report<D: Desk>(
     ensures frame { InCall in_port.Report (D.view desk.old) (D.view desk.new) }
     ensures budget { IfOk result (λ claims. IsBudget claims.budget) }
     ensures read { (content : Content)
-        → AreFirstDetections circuit.now listed.now.classes content.list places.now
+        → AreFirstDetections circuit.now listed.now.classes content.start content.list places.now
         → IfOk result (λ claims. content.budget ≡ claims.budget
         → content.saids ≡ claims.saids.items → ReportIsRead
         (check_basis circuit.now listed.now.classes content) name.now (D.view desk.old)) }
     ensures stops { (netlist tests report proofs : List ℕ) (content : Content)
-        → AreFirstDetections circuit.now listed.now.classes content.list places.now
+        → AreFirstDetections circuit.now listed.now.classes content.start content.list places.now
         → HasShortNames circuit.now
         → IfErr result (ReadStops (asked.check netlist tests report proofs)
         (check_basis circuit.now listed.now.classes content) in_port.Report name.now

@@ -2,6 +2,7 @@
 ghost use Rattle.std.specs.Prelude.{◌≡◌, ◌≤◌, ◌++◌, List, ℕ, length, IfOk, IfErr};
 ghost use Rattle.ht_ports.specs.LineRule.{max_text_bytes};
 ghost use Rattle.ht_ports.specs.declared.ports.OutPort.TheVariants as out_port;
+ghost use Rattle.ht_net.specs.Detection.{unknown_state};
 ghost use Rattle.ht_asked.specs.Asked as asked;
 ghost use Rattle.ht_app.specs.Outputs.{file_acts};
 ghost use Rattle.ht_app.specs.Steps.{EndsReading, IsPrepared};
@@ -23,8 +24,8 @@ fn report_texts(alloc: Global, circuit: &Circuit, list: &Vectors) -> Result<Made
     requires width { list.now.width ≡ circuit.now.inputs }
     requires few { length list.now.list ≤ max_text_bytes }
     ensures { IfOk result
-        (λ texts. IsReportOf circuit.now list.now.list (texts.body.items ++ texts.total.items)
-        texts.total.items) }
+        (λ texts. IsReportOf circuit.now (unknown_state circuit.now) list.now.list
+        (texts.body.items ++ texts.total.items) texts.total.items) }
 {
     let faults = ht_faults::list(alloc, circuit)?;
     let classes = collapse(alloc, circuit, &faults)?;

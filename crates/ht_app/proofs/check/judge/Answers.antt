@@ -3,6 +3,9 @@ use Rattle.std.specs.Prelude.{None, Some}
 use Rattle.ht_ports.specs.declared.ports.InPort.{InPort}
 use Rattle.ht_ports.specs.declared.ports.InPort.TheVariants.{Netlist, Tests, Report, Proofs, Extra}
 use Rattle.ht_net.specs.declared.place.Place.{Place}
+use Rattle.ht_net.specs.Netlist as net
+use Rattle.ht_net.specs.Detection.{unknown_state}
+use Rattle.ht_net.proofs.MoreToldLaws.{unknown_is_start}
 use Rattle.ht_grade.specs.Detections.{AreFirstDetections}
 use Rattle.ht_texts.specs.declared.said.Said.{Said}
 use Rattle.ht_entries.specs.declared.numbered.Numbered.{Numbered}
@@ -31,36 +34,41 @@ no_more files p late = absurd (omega (arith, late))
 
 -- ---- what was read
 
-circuit_read : (g : given.Over) (c : In_ok-listed g) (content : Content) → HasReadTo (job c.args.files.now)
+circuit_read : (g : given.Over) (c : In_ok-listed g) (content : Content)
+    → content.start ≡ unknown_state c.in_ok-circuit.circuit → HasReadTo (job c.args.files.now)
     (check_basis c.in_ok-circuit.circuit c.in_ok-listed.listed.classes content) 1 (g.D.Desk.view c.args.desk.now)
     (g.D.Desk.view c.read_netlist.new.desk)
-circuit_read g c content = c.in_ok-circuit.ensures.read (job c.args.files.now)
-    (check_basis c.in_ok-circuit.circuit c.in_ok-listed.listed.classes content) (ap Some (sym c.as_str.ensures)) refl
-    (λ text good. (good, c.in_ok-listed.ensures.classes))
+circuit_read g c content stated = c.in_ok-circuit.ensures.read (job c.args.files.now)
+    (check_basis c.in_ok-circuit.circuit c.in_ok-listed.listed.classes content) (ap Some (sym c.as_str.ensures)) stated
+    refl (λ text good. (good, c.in_ok-listed.ensures.classes))
 
--- what the files say, of these vectors
-abbrev claims : List (List Bool) → ℕ → List Said → List Numbered → Content
-claims list budget saids entries = record { list = list; budget = budget; saids = saids; entries = entries }
+-- what the files say, of these vectors from all-unknown
+abbrev claims : net.Netlist → List (List Bool) → ℕ → List Said → List Numbered → Content
+claims c list budget saids entries =
+    record { start = unknown_state c; list = list; budget = budget; saids = saids; entries = entries }
 
 vectors_read : (g : given.Over) (c : In_ok-list g) (budget : ℕ) (saids : List Said) (entries : List Numbered)
     → HasReadTo (job c.args.files.now) (check_basis c.in_ok-circuit.circuit c.in_ok-listed.listed.classes
-    (claims c.in_ok-list.list.list budget saids entries)) 3 (g.D.Desk.view c.args.desk.now)
+    (claims c.in_ok-circuit.circuit c.in_ok-list.list.list budget saids entries)) 3 (g.D.Desk.view c.args.desk.now)
     (g.D.Desk.view c.read_checked_tests.new.desk)
 vectors_read g c budget saids entries =
     let before = circuit_read g (goal.at.In_ok-list g c).In_ok-listed
-    (claims c.in_ok-list.list.list budget saids entries) in
+    (claims c.in_ok-circuit.circuit c.in_ok-list.list.list budget saids entries) refl in
     skipped (one_more before refl (ap Some (sym c.as_str-2.ensures)) c.in_ok-list.ensures.frame
     c.in_ok-circuit.ensures.netlist c.in_ok-list.ensures.read) Extra refl refl c.in_ok-circuit.ensures.netlist
 
 first_known : (g : given.Over) (c : After-deref g)
-    → AreFirstDetections c.in_ok-circuit.circuit c.in_ok-listed.listed.classes c.in_ok-list.list.list c.deref.result.now
+    → AreFirstDetections c.in_ok-circuit.circuit c.in_ok-listed.listed.classes (unknown_state c.in_ok-circuit.circuit)
+    c.in_ok-list.list.list c.deref.result.now
 first_known g c = subst (λ (l : List (Option Place)).
-    AreFirstDetections c.in_ok-circuit.circuit c.in_ok-listed.listed.classes c.in_ok-list.list.list l)
+    AreFirstDetections c.in_ok-circuit.circuit c.in_ok-listed.listed.classes (unknown_state c.in_ok-circuit.circuit)
+    c.in_ok-list.list.list l)
     (sym c.deref.ensures.value) c.in_ok-places.ensures.first
 
 -- the basis once the report is read, with any entries
 abbrev claimed : (g : given.Over) → In_ok-claims g → List Numbered → Content
-claimed g c = claims c.in_ok-list.list.list c.in_ok-claims.claims.budget c.in_ok-claims.claims.saids.items
+claimed g c = claims c.in_ok-circuit.circuit c.in_ok-list.list.list c.in_ok-claims.claims.budget
+    c.in_ok-claims.claims.saids.items
 
 report_is : (g : given.Over) (c : In_ok-claims g) (entries : List Numbered) → ReportIsRead
     (check_basis c.in_ok-circuit.circuit c.in_ok-listed.listed.classes (claimed g c entries))
@@ -84,8 +92,9 @@ returns-in_err-circuit-clause-stopped g c =
 
 pub returns-in_err-listed-clause-stopped : goal.returns-in_err-listed-clause-stopped
 returns-in_err-listed-clause-stopped g c =
-    let before = nothing_read (job c.args.files.now) (check_basis c.in_ok-circuit.circuit [] (claims [] 0 [] []))
-    (g.D.Desk.view c.args.desk.now) (λ name. g.met.D.Desk.steady_tells c.args.desk.now name) in
+    let before = nothing_read (job c.args.files.now) (check_basis c.in_ok-circuit.circuit []
+    (claims c.in_ok-circuit.circuit [] 0 [] [])) (g.D.Desk.view c.args.desk.now) refl
+    (λ name. g.met.D.Desk.steady_tells c.args.desk.now name) in
     let ends = stops_there before refl (ap Some (sym c.as_str.ensures)) c.in_ok-circuit.ensures.frame NoMemory tt in
     search (rules, ends)
 
@@ -97,9 +106,11 @@ returns-in_err-places-clause-stopped g c =
 pub returns-in_err-list-clause-stopped : goal.returns-in_err-list-clause-stopped
 returns-in_err-list-clause-stopped g c =
     let f = c.args.files.now in
-    let before = circuit_read g (goal.at.returns-in_err-list-clause-stopped g c).In_ok-listed (claims [] 0 [] []) in
+    let before = circuit_read g (goal.at.returns-in_err-list-clause-stopped g c).In_ok-listed
+    (claims c.in_ok-circuit.circuit [] 0 [] []) refl in
     let ends = stops_there before refl (ap Some (sym c.as_str-2.ensures)) c.in_err-list.ensures.frame
-    c.in_err-list.field-0.0 (c.in_err-list.ensures.stops f.netlist f.tests f.report f.proofs _ (claims [] 0 [] [])) in
+    c.in_err-list.field-0.0 (c.in_err-list.ensures.stops f.netlist f.tests f.report f.proofs _
+    (claims c.in_ok-circuit.circuit [] 0 [] [])) in
     search (rules, ends)
 
 pub returns-in_err-claims-clause-stopped : goal.returns-in_err-claims-clause-stopped
@@ -110,12 +121,17 @@ returns-in_err-claims-clause-stopped g c =
     c.in_ok-circuit.ensures.netlist.1.stands in
     let ends = stops_there (vectors_read g at.In_ok-list 0 [] []) refl (ap Some (sym c.as_str-report.ensures))
     c.in_err-claims.ensures.frame c.in_err-claims.field-0.0 (c.in_err-claims.ensures.stops f.netlist f.tests f.report
-    f.proofs (claims c.in_ok-list.list.list 0 [] []) (first_known g at.After-deref) names) in
+    f.proofs (claims c.in_ok-circuit.circuit c.in_ok-list.list.list 0 [] []) (first_known g at.After-deref) names) in
     search (rules, ends)
 
 pub read_proofs-requires-clause-each : goal.read_proofs-requires-clause-each
 read_proofs-requires-clause-each g c =
     (report_is g (goal.at.read_proofs-requires-clause-each g c).In_ok-claims []).each
+
+pub returns-in_err-start-clause-stopped : goal.returns-in_err-start-clause-stopped
+returns-in_err-start-clause-stopped g c =
+    let ends = no_room (report_read g (goal.at.returns-in_err-start-clause-stopped g c).In_ok-claims []) in
+    search (rules, ends)
 
 pub returns-in_err-read_proofs-clause-stopped : goal.returns-in_err-read_proofs-clause-stopped
 returns-in_err-read_proofs-clause-stopped g c =
@@ -123,7 +139,7 @@ returns-in_err-read_proofs-clause-stopped g c =
     let at = (goal.at.returns-in_err-read_proofs-clause-stopped g c).In_ok-claims in
     let ends = stops_there (report_read g at []) refl (ap Some (sym c.as_str-3.ensures))
     c.in_err-read_proofs.ensures.frame c.in_err-read_proofs.field-0.0 (c.in_err-read_proofs.ensures.stops f.netlist
-    f.tests f.report f.proofs (claimed g at []) refl refl) in
+    f.tests f.report f.proofs (claimed g at []) (sym (c.deref-2.ensures.value ∙ c.in_ok-start.ensures)) refl refl) in
     search (rules, ends)
 
 -- ---- all are valid
@@ -134,15 +150,17 @@ returns-clause-made g c =
     let netlist = c.in_ok-circuit.ensures.netlist in
     let circuit = netlist.1.stands.is_circuit in
     let classes = c.in_ok-listed.ensures.classes in
-    let (entries, proofs) = c.in_ok-read_proofs.ensures.read (claimed g at []) refl refl in
+    let latches = unknown_is_start c.in_ok-circuit.circuit in
+    let (entries, proofs) = c.in_ok-read_proofs.ensures.read (claimed g at [])
+    (sym (c.deref-2.ensures.value ∙ c.in_ok-start.ensures)) refl refl in
     let justified : IsJustified c.in_ok-circuit.circuit c.in_ok-listed.listed.classes (claimed g at entries) =
     record { agrees = (report_is g at entries).agrees; backed = proofs.backed; complete = proofs.complete } in
     all_read (one_more (report_read g at entries) refl (ap Some (sym c.as_str-3.ensures))
     c.in_ok-read_proofs.ensures.frame netlist proofs.read) (no_more c.args.files.now) netlist _ (
       record {
         classes = classes;
-        verdicts = true_verdicts _ _ _ circuit classes justified;
-        decided = are_decided _ _ _ circuit justified;
+        verdicts = true_verdicts _ _ _ circuit classes latches justified;
+        decided = are_decided _ _ _ circuit latches justified;
       },
       refl,
     )

@@ -12,32 +12,34 @@ pub returns-clause-stands : goal.returns-clause-stands
 returns-clause-stands c = λ basis before stands few.
     let judged = c.line.ensures in
     let lines = before ++ c.args.line.now ∷ [] in
-    IfOk-weaker c.line.result (λ u. JudgesReport c.line.new.self basis.content.list lines)
+    IfOk-weaker c.line.result (λ u. JudgesReport c.line.new.self basis.content.start basis.content.list lines)
     (λ u. StandsForReport c.line.new.self basis lines)
     (λ u judges. record {
       well_formed = stands.well_formed;
       circuit = judged.circuit ∙ stands.circuit;
       representatives = judged.representatives ∙ stands.representatives;
       judges = judges;
-    }) (judged.taken basis.content.list before stands.judges)
+    }) (judged.taken basis.content.start basis.content.list before stands.judges)
 
 pub returns-clause-fine : goal.returns-clause-fine
 returns-clause-fine c = λ basis before stands few.
     let judged = c.line.ensures in
     let line = c.args.line.now in
-    IfOk-weaker c.line.result (λ u. JudgesReport c.line.new.self basis.content.list (before ++ line ∷ []))
+    IfOk-weaker c.line.result
+    (λ u. JudgesReport c.line.new.self basis.content.start basis.content.list (before ++ line ∷ []))
     (λ u. (trouble : Trouble) → ¬ IsWrongInReport basis before line trouble)
     (λ u judges. judged_is_fine c.line.new.self basis before line (record {
       well_formed = stands.well_formed;
       circuit = judged.circuit ∙ stands.circuit;
       representatives = judged.representatives ∙ stands.representatives;
       judges = judges;
-    })) (judged.taken basis.content.list before stands.judges)
+    })) (judged.taken basis.content.start basis.content.list before stands.judges)
 
 pub returns-clause-wrong : goal.returns-clause-wrong
 returns-clause-wrong c = λ basis before stands few.
     let line = c.args.line.now in
-    IfErr-weaker c.line.result (ReportLineDeniedFor c.args.self.now basis.content.list before line)
+    IfErr-weaker c.line.result
+    (ReportLineDeniedFor c.args.self.now basis.content.start basis.content.list before line)
     (λ (e : JudgeError). (trouble : Trouble) → e ≡ judge.Denied trouble → IsWrongInReport basis before line trouble)
     (denied_is_wrong c.args.self.now basis before line stands)
-    (c.line.ensures.cause basis.content.list before stands.judges)
+    (c.line.ensures.cause basis.content.start basis.content.list before stands.judges)
