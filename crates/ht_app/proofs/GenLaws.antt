@@ -7,7 +7,7 @@ use Rattle.std.proofs.lemmas.List.Folds.{list_any-append}
 use Rattle.ht_ports.specs.LineRule.{max_text_bytes}
 use Rattle.ht_ports.specs.Desk.{DeskView}
 use Rattle.ht_ports.specs.declared.ports.InPort.{InPort}
-use Rattle.ht_ports.specs.declared.ports.InPort.TheVariants.{Netlist}
+use Rattle.ht_ports.specs.declared.ports.InPort.TheVariants.{Netlist, Extra}
 use Rattle.ht_ports.specs.declared.ports.OutPort.{OutPort}
 use Rattle.ht_ports.specs.declared.ports.OutPort.TheVariants.{Tests, Report, Proofs, Out}
 use Rattle.ht_tern.specs.declared.tern.Tern.{Tern}
@@ -193,6 +193,7 @@ module _ (netlist tests report proofs : List ℕ) (options : GenOptions) where
     | inr whole ↦ ends_tries job x inputs w.acts (Err e) w.tries (files_may whole.1) tt (inr whole)
   ]
 
-  pub no_more : (p : InPort) → 1 ≤ order_of p → input_name job p ≡ None
+  pub no_more : (p : InPort) → 2 ≤ order_of job p → input_name job p ≡ None
   no_more Netlist late = absurd (omega (arith, late))
+  no_more Extra late = absurd (omega (arith, late))
   no_more port late = refl

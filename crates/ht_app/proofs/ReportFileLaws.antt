@@ -1,5 +1,5 @@
 -- The first trouble of a report that is read line by line.
-use Rattle.std.proofs.Common.{◌≡◌, ◌⊎◌, inl, inr, ℕ, zero, suc, ◌+◌, ◌-◌, ◌<◌, ◌≤◌, List, [], ◌∷◌, ◌++◌, Bool, true, false, length, take, get_or, Some, refl, sym, ◌∙◌, ap, subst, arith}
+use Rattle.std.proofs.Common.{◌≡◌, ◌⊎◌, inl, inr, ℕ, zero, suc, ◌+◌, ◌-◌, ◌<◌, ◌≤◌, List, [], ◌∷◌, ◌++◌, Bool, true, false, length, take, get_or, Some, Option, refl, sym, ◌∙◌, ap, subst, arith}
 use Rattle.std.specs.Prelude.{if◌then◌else◌}
 use Rattle.std.proofs.lemmas.Bool.{cases_lt}
 use Rattle.std.proofs.lemmas.List.{length-append}
@@ -204,13 +204,14 @@ module _ (basis : JobBasis) (text : List ℕ) (is : IsCircuit basis.circuit) whe
 
 -- ---- why reading a report ends the run
 
-module _ (netlist tests report proofs name : List ℕ) (basis : JobBasis) (is : IsCircuit basis.circuit) (a b : DeskView)
+module _ (netlist tests report proofs : List ℕ) (start : Option (List ℕ)) (name : List ℕ) (basis : JobBasis)
+    (is : IsCircuit basis.circuit) (a b : DeskView)
   where
     abbrev Stops : RunError → Type 0
-    Stops = ReadStops (check netlist tests report proofs) basis in_port.Report name a b
+    Stops = ReadStops (check netlist tests report proofs start) basis in_port.Report name a b
 
     refuses : (number : ℕ) (IsSo : List ℕ → Type 0) → ((text : List ℕ) → IsSo text
-        → IsRefusedFor (check netlist tests report proofs) basis (Denied (Report number)) text)
+        → IsRefusedFor (check netlist tests report proofs start) basis (Denied (Report number)) text)
         → WasRead in_port.Report name IsSo a → Stops (Denied (Report number))
     refuses number IsSo so read = (refl, read_so _ so read)
 

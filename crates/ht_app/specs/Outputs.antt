@@ -111,13 +111,13 @@ pub record SaysTotals (size seed : ℕ) (acts : List Act) : Type 0 where
 
 -- What a command does to its outputs, once its inputs say the basis.
 abbrev pub MakesOutput : Asked → JobBasis → List Act → Type 0
-MakesOutput (sim netlist tests report) basis acts =
+MakesOutput (sim netlist tests report start) basis acts =
     WritesFile Report report
     (λ body total. IsReportOf basis.circuit basis.content.start basis.content.list (body ++ total) total) acts
 MakesOutput (gen netlist tests report proofs options) basis acts =
     WritesFiles (record { netlist = netlist; tests = tests; report = report; proofs = proofs }) basis.circuit
     (settings_of basis.content.start options) acts
-MakesOutput (check netlist tests report proofs) basis acts = AreTrue basis × (acts ≡ put Out (codes "valid\n") ∷ [])
+MakesOutput (check netlist tests report proofs start) basis acts = AreTrue basis × (acts ≡ put Out (codes "valid\n") ∷ [])
 MakesOutput (norm netlist out) basis acts = acts ≡ make Report out ∷ put Report (normal_text basis.circuit) ∷ []
 MakesOutput (demo size seed) basis acts = SaysTotals size seed acts
 MakesOutput (compact netlist tests out) basis acts =

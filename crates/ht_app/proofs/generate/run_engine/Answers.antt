@@ -1,5 +1,4 @@
 use Rattle.std.proofs.Common.{[], rules}
-use Rattle.ht_net.specs.Detection.{unknown_state}
 use Rattle.ht_engine.specs.Steps.{Settings, none}
 use Rattle.ht_app.proofs.GenLaws.{begun_acts, stops_in_steps}
 use Rattle.ht_app.proofs.WritingLaws.{runs_out_first}
@@ -11,7 +10,7 @@ returns-in_err-engine g c =
       budget = c.args.budget;
       random = c.args.random;
       seed = c.args.seed;
-      start = unknown_state c.args.circuit.now;
+      start = c.args.start.now;
     } in
     let stops = stops_in_steps c.args.files.now c.args.circuit.now settings c.requires.classes none
     (runs_out_first (Unit {0}) (begun_acts c.args.files.now []) (g.D.Desk.view c.args.desk.now)) in

@@ -25,21 +25,21 @@ begins g c content start budget saids =
     }
 
 pub returns-in_err-read_lines-clause-stops : goal.returns-in_err-read_lines-clause-stops
-returns-in_err-read_lines-clause-stops g c = λ netlist tests report proofs content start budget saids.
+returns-in_err-read_lines-clause-stops g c = λ netlist tests report proofs start_file content start budget saids.
     let at = goal.at.returns-in_err-read_lines-clause-stops g c in
     let basis = check_basis c.args.circuit.now c.args.listed.now.classes content in
-    let stops = proofs_stop netlist tests report proofs c.args.name.now basis (g.D.Desk.view c.args.desk.now)
+    let stops = proofs_stop netlist tests report proofs start_file c.args.name.now basis (g.D.Desk.view c.args.desk.now)
     (g.D.Desk.view c.read_lines.new.desk) c.in_err-read_lines.field-0.0
     (c.in_err-read_lines.ensures.stops basis (begins g at.After-new-judge content start budget saids)) in
     search (rules, stops)
 
 pub returns-in_err-end-clause-stops : goal.returns-in_err-end-clause-stops
-returns-in_err-end-clause-stops g c = λ netlist tests report proofs content start budget saids.
+returns-in_err-end-clause-stops g c = λ netlist tests report proofs start_file content start budget saids.
     let at = goal.at.returns-in_err-end-clause-stops g c in
     let basis = check_basis c.args.circuit.now c.args.listed.now.classes content in
     let read = c.in_ok-read_lines.ensures.stands basis (begins g at.After-new-judge content start budget saids) in
     let judges = read.stands.judges in
-    let stops = proofs_end netlist tests report proofs c.args.name.now basis (g.D.Desk.view c.args.desk.now)
+    let stops = proofs_end netlist tests report proofs start_file c.args.name.now basis (g.D.Desk.view c.args.desk.now)
     (g.D.Desk.view c.read_lines.new.desk) c.read_lines.new.judge read c.in_err-end.field-0.0
     (c.in_err-end.ensures.err (before_proofs content) read.lines judges
     (fewer_lines read.lines judges.at judges.stands.read read.few)) in
