@@ -1,6 +1,6 @@
 -- The start, read line by line after the netlist: its first line, and no other.
 use Rattle.std.proofs.Common.{◌≡◌, ◌⊎◌, ◌^◌, inl, inr, ℕ, zero, suc, ◌+◌, ◌-◌, ◌<◌, ◌≤◌, List, [], ◌∷◌, ◌++◌, Vec, true, length, take, get_or, cond, ap, subst, sym, refl, ◌∙◌, arith}
-use Rattle.std.specs.Prelude.{IfErr, IfOk, Err, Ok, Option, Result, Some, ◌==◌}
+use Rattle.std.specs.Prelude.{IfErr, IfOk, Err, Ok, Result, Some, None, Bool, if◌then◌else◌, ◌==◌}
 use Rattle.std.specs.declared.alloc.Global.{Global}
 use Rattle.std.proofs.lemmas.Bool.{cases_eq, cases_lt}
 use Rattle.std.proofs.lemmas.Bool.Decides.{nat_tests}
@@ -19,7 +19,6 @@ use Rattle.ht_texts.proofs.LfLaws.{lf_count-cons}
 use Rattle.ht_texts.proofs.StartLaws.{other_length_no_start, start_or_none}
 use Rattle.ht_app.specs.declared.run_error.RunError.TheVariants.{BadStart}
 use Rattle.ht_app.specs.Jobs.{may_state_start, place_of}
-use Rattle.ht_app.specs.Judging.{StandsForStart}
 use Rattle.ht_app.proofs.FirstTroubleLaws.{front_is, shorter}
 use Rattle.ht_app.proofs.JudgedLaws.{get_front, lines_stop}
 use Rattle.ht_app.proofs.ReadingLaws.{one_more, read_so, stops_there}
@@ -128,10 +127,7 @@ module _ (basis : JobBasis) (text : List ℕ) (before : List (List ℕ)) (fine :
 -- ---- a job that states a start
 
 refuses_start : (job : Asked) → may_state_start job ≡ true → (line : ℕ) → refused_port job (BadStart line) ≡ Some Extra
-refuses_start (sim netlist tests report start) may line = refl
-refuses_start (gen netlist tests report proofs options) may line = refl
-refuses_start (check netlist tests report proofs start) may line = refl
-refuses_start job may line = cc
+refuses_start job may line = ap (λ (is_start : Bool). if is_start then Some Extra else None) may
 
 says_start : (job : Asked) (basis : JobBasis) (text : List ℕ) → may_state_start job ≡ true
     → IsStartText (length basis.circuit.dffs) text basis.content.start → SaysBasis job basis Extra text

@@ -1,5 +1,5 @@
 -- Which texts a job refuses, and for which error.
-use Rattle.std.specs.Prelude.{◌≡◌, ◌≢◌, ◌⊎◌, ◌<◌, ◌≤◌, ℕ, List, [], Bool, length, Option, Some, None}
+use Rattle.std.specs.Prelude.{◌≡◌, ◌≢◌, ◌⊎◌, ◌<◌, ◌≤◌, ℕ, List, [], Bool, length, Option, Some, None, if◌then◌else◌}
 use Rattle.ht_ports.specs.Desk.{DeskView}
 use Rattle.ht_ports.specs.declared.ports.InPort.{InPort}
 use Rattle.ht_ports.specs.declared.ports.InPort.TheVariants.{Netlist, Tests, Report, Proofs, Extra}
@@ -17,11 +17,11 @@ use Rattle.ht_collapse.specs.Classes.{AreClasses}
 use Rattle.ht_valid.specs.ValidFiles.{AreValidFiles, Content}
 use Rattle.ht_valid.specs.FirstTrouble.{IsFirst, IsFirstFault, IsFirstProofLine, IsReportTrouble}
 use Rattle.ht_valid.specs.declared.trouble.Trouble.TheVariants as trouble
-use Rattle.ht_asked.specs.Asked.{Asked, sim, gen, check, compact, diagnose}
+use Rattle.ht_asked.specs.Asked.{Asked, sim, check, compact, diagnose}
 use Rattle.ht_app.specs.declared.run_error.RunError.{RunError}
 use Rattle.ht_app.specs.declared.run_error.RunError.TheVariants.{Denied, TooLong, Refused, BadStart, BadTests, TooManyVectors, BadResponses}
 use Rattle.ht_app.specs.Inputs.{AcceptsBefore, HasNetlist, IsInput, IsStated, JobBasis, IsGoodNetlist, WasRead}
-use Rattle.ht_app.specs.Jobs.{input_name, order_of}
+use Rattle.ht_app.specs.Jobs.{input_name, may_state_start, order_of}
 use Rattle.ht_app.specs.Changed.{IsUnread}
 
 -- ---- why a text is refused
@@ -37,10 +37,8 @@ pub record IsRefused (error : BenchError) (text : List ℕ) : Type 0 where
 abbrev pub refused_port : Asked → RunError → Option InPort
 refused_port job TooLong = Some Netlist
 refused_port job (Refused error) = Some Netlist
-refused_port (sim netlist tests report start) (BadStart line) = Some Extra
+refused_port job (BadStart line) = if may_state_start job then Some Extra else None
 refused_port (sim netlist tests report start) (BadTests line) = Some Tests
-refused_port (gen netlist tests report proofs options) (BadStart line) = Some Extra
-refused_port (check netlist tests report proofs start) (BadStart line) = Some Extra
 refused_port (compact netlist tests out) (BadTests line) = Some Tests
 refused_port (compact netlist tests out) TooManyVectors = Some Tests
 refused_port (diagnose netlist tests responses out) (BadTests line) = Some Tests
@@ -95,11 +93,6 @@ pub record RefusesInput (job : Asked) (error : RunError) (old new : DeskView) : 
 abbrev pub HasCircuit : (InPort → List ℕ) → (net.Netlist → Type 0) → Type 0
 HasCircuit texts IsSo = (c : net.Netlist) × IsGoodNetlist (texts Netlist) c × IsSo c
 
--- the text of the start is none of the netlist's circuit
-abbrev pub HasBadStart : (InPort → List ℕ) → Type 0
-HasBadStart texts =
-    HasCircuit texts (λ c. (line : ℕ) × IsMalformedStart (length c.dffs) (texts Extra) line)
-
 -- the start that the texts state, or all-unknown where the job states none
 abbrev pub IsStartOf : Option (List ℕ) → net.Netlist → (InPort → List ℕ) → List Tern → Type 0
 IsStartOf (Some name) c texts start = IsStartText (length c.dffs) (texts Extra) start
@@ -110,9 +103,6 @@ IsStartOf None c texts start = start ≡ unknown_state c
 -- malformed early or too many; the files of `check` aren't valid for the start.
 abbrev pub AreRefusedWith : Asked → (InPort → List ℕ) → InPort → ℕ → Type 0
 AreRefusedWith job texts Netlist status = (status ≡ 3) × ((c : net.Netlist) → ¬ IsGoodNetlist (texts Netlist) c)
-AreRefusedWith (sim netlist tests report start) texts Extra status = (status ≡ 8) × HasBadStart texts
-AreRefusedWith (gen netlist tests report proofs options) texts Extra status = (status ≡ 8) × HasBadStart texts
-AreRefusedWith (check netlist tests report proofs start) texts Extra status = (status ≡ 8) × HasBadStart texts
 AreRefusedWith (sim netlist tests report start) texts Tests status = (status ≡ 7) × HasCircuit texts
     (λ c. (values : List Tern) × (line : ℕ) × IsStartOf start c texts values × IsMalformedTest c (texts Tests) line)
 AreRefusedWith (diagnose netlist tests responses out) texts Tests status =
@@ -120,6 +110,8 @@ AreRefusedWith (diagnose netlist tests responses out) texts Tests status =
 AreRefusedWith (diagnose netlist tests responses out) texts Extra status =
     (status ≡ 10) × HasCircuit texts (λ c. (list : List (List Bool)) × IsTestText c (texts Tests) list
     × ((line : ℕ) × IsMalformedResponse (length c.outputs) (length list) (texts Extra) line))
+AreRefusedWith job texts Extra status =
+    (status ≡ 8) × HasCircuit texts (λ c. (line : ℕ) × IsMalformedStart (length c.dffs) (texts Extra) line)
 AreRefusedWith (compact netlist tests out) texts Tests status =
     ((status ≡ 7) × HasCircuit texts (λ c. (line : ℕ) × IsMalformedEarly c (texts Tests) line))
     ⊎ ((status ≡ 9) × HasCircuit texts (λ c. HasTooManyVectors c (texts Tests)))
