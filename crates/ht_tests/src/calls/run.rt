@@ -19,4 +19,5 @@ mod norm;
 mod refusals;
 mod sim;
 mod started;
+mod started_files;
 mod words;
