@@ -9,8 +9,8 @@ use Rattle.ht_net.specs.Netlist.{Netlist, net_count}
 use Rattle.ht_tree.specs.Decisions.{is_in}
 use Rattle.ht_faults.specs.FaultList.{no_fault}
 use Rattle.ht_uninit.specs.declared.record.Out3.{Out3}
-use Rattle.ht_uninit.specs.Cones.{IsHidden, cone_root, output_net}
-use Rattle.ht_uninit.specs.Exposed.{TellsHidden, is_marked}
+use Rattle.ht_uninit.specs.Cones.{IsHidden, output_net}
+use Rattle.ht_uninit.specs.Exposed.{TellsHidden, begins_unmarked}
 use Rattle.ht_uninit.specs.HeldStates.{HeldState}
 use Rattle.ht_uninit.specs.Records.{IsUninit, UninitState, given_faults}
 use Rattle.ht_uninit.specs.RoundStates.{AreOutputs, IsFinished}
@@ -61,7 +61,7 @@ not_true false h = refl
 hidden_at : (c : Netlist) (mute : ℕ → Bool) (marks : List Bool) → TellsHidden c mute marks → (faults : List Fault)
     (which : List ℕ) (i : ℕ) (fault : Fault) → i < length which
     → fault ≡ get_or (given_faults faults which) i fault
-    → (get_or (map (λ k. not (is_marked marks (cone_root c (get_or faults k no_fault).site))) which) i false ≡ true)
+    → (get_or (map (begins_unmarked c faults marks) which) i false ≡ true)
     ↔ IsHidden c mute fault
 hidden_at c mute marks tells faults [] i fault l is = absurd (omega arith)
 hidden_at c mute marks tells faults (k ∷ which) zero fault l is = (
@@ -75,7 +75,7 @@ pub whole_record : (c : Netlist) (budget : ℕ) (faults : List Fault) (which : L
     → (held : HeldState) → IsFinished c budget held r.removed r.walks
     → length r.outs ≡ length c.outputs → AreOutputs c budget held.members (length c.outputs) r.outs
     → TellsHidden c (mutes_of r.outs) marks
-    → r.hidden ≡ map (λ k. not (is_marked marks (cone_root c (get_or faults k no_fault).site))) which
+    → r.hidden ≡ map (begins_unmarked c faults marks) which
     → IsUninit c budget (given_faults faults which) r
 whole_record c budget faults which r marks held done every outs tells hidden =
     let given = length-map which (λ k. get_or faults k no_fault) in
@@ -86,7 +86,7 @@ whole_record c budget faults which r marks held done every outs tells hidden =
       outs = λ o out l is. subst (λ (u : List ℕ). IsOutput c budget u (output_net c o) out) done.members
           (outs o out l is);
       counted = ap (λ (bs : List Bool). length bs) hidden
-          ∙ (length-map which (λ k. not (is_marked marks (cone_root c (get_or faults k no_fault).site)))
+          ∙ (length-map which (begins_unmarked c faults marks)
           ∙ sym given);
       hidden = λ i fault l is. subst (λ (bs : List Bool). (get_or bs i false ≡ true) ↔ IsHidden c (mutes_of r.outs) fault)
           (sym hidden) (hidden_at c (mutes_of r.outs) marks tells faults which i fault (omega (arith, l, given)) is);

@@ -1,9 +1,10 @@
 -- The nets from which an output that isn't mute is reached, as marks, while they are found.
-use Rattle.std.specs.Prelude.{◌≡◌, ◌<◌, ◌≤◌, ◌+◌, ◌++◌, ◌⊎◌, ◌==◌, ◌↔◌, ℕ, List, [], ◌∷◌, Bool, true, false, length, get_or, cond}
+use Rattle.std.specs.Prelude.{◌≡◌, ◌<◌, ◌≤◌, ◌+◌, ◌++◌, ◌⊎◌, ◌==◌, ◌↔◌, ℕ, List, [], ◌∷◌, Bool, true, false, length, get_or, cond, not}
 use Rattle.std.specs.List.{list_any, sum_by}
 use Rattle.ht_net.specs.declared.fault.Fault.{Fault}
 use Rattle.ht_net.specs.declared.net.NetId.{NetId}
 use Rattle.ht_net.specs.Netlist.{Netlist, arg_at, first_gate_net, gate_at, net_count}
+use Rattle.ht_faults.specs.FaultList.{no_fault}
 use Rattle.ht_faults.specs.Sites.{data_net}
 use Rattle.ht_uninit.specs.Cones.{InCone, IsHidden, cone_root, output_net}
 
@@ -53,6 +54,10 @@ work_left marks todo = sum_by if_unmarked marks + length todo
 -- what waits after a net is marked: the net too, if it wasn't marked before
 abbrev pub waiting_after : List Bool → List NetId → NetId → List NetId
 waiting_after marks todo n = cond (is_marked marks n.0) todo (todo ++ n ∷ [])
+
+-- the cone of fault k of a list begins at a net without a mark
+abbrev pub begins_unmarked : Netlist → List Fault → List Bool → ℕ → Bool
+begins_unmarked c faults marks k = not (is_marked marks (cone_root c (get_or faults k no_fault).site))
 
 -- the marks tell which faults are hidden
 abbrev pub TellsHidden : Netlist → (ℕ → Bool) → List Bool → Type 0

@@ -103,7 +103,7 @@ pub struct Searched<'c> {
 fn said(alloc: Global, held: &HeldWindow, outcome: Outcome) -> Result<Out3, AllocError>
     ensures { IfOk result (λ out. (budget x : ℕ)
         → IsOutcome (held_guide held.now.circuit held.now.members x) budget 1
-        (node_at held.now.path) outcome.entry
+        (node_at held.now.path) outcome
         → IsOutput held.now.circuit budget held.now.members x out) }
 {
     match outcome {

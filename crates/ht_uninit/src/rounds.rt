@@ -30,7 +30,7 @@ fn remove<'c>(rounds: Rounds<'c>, j: u32, why: Removed) -> Result<Rounds<'c>, Al
     ensures members { IfOk result (λ r. r.held.members ≡ without rounds.entry.held.members j) }
     ensures path { IfOk result (λ r. r.held.path ≡ []) }
     ensures removed { IfOk result
-        (λ r. r.removed.items ≡ rounds.entry.removed.items ++ why.entry ∷ []) }
+        (λ r. r.removed.items ≡ rounds.entry.removed.items ++ why ∷ []) }
     ensures walks { IfOk result (λ r. r.walks.items ≡ set rounds.entry.walks.items j None) }
     ensures before { IfOk result (λ r. r.before ≡ rounds.entry.before) }
 {
@@ -98,7 +98,8 @@ fn search_member<'c>(
                 walks,
                 before,
             };
-            remove(rounds, j, Removed::Free { dff: j, sets })
+            let freed = remove(rounds, j, Removed::Free { dff: j, sets })?;
+            Ok(freed)
         },
         Out3::Open { tokens } => {
             let rounds = Rounds {
@@ -107,7 +108,8 @@ fn search_member<'c>(
                 walks,
                 before,
             };
-            remove(rounds, j, Removed::Spent { dff: j, tokens })
+            let spent = remove(rounds, j, Removed::Spent { dff: j, tokens })?;
+            Ok(spent)
         },
     }
 }
@@ -159,17 +161,20 @@ pub fn find_held<'c>(
         r.walks.items) }
 {
     let held = HeldWindow::new(alloc, circuit)?;
+    let removed = Vec::new(alloc);
     let walks = no_walks(alloc, circuit.dffs() as usize)?;
     let mut rounds = Rounds {
         held,
-        removed: Vec::new(alloc),
+        removed,
         walks,
         before: 0,
     };
     'rounds: loop {
-        rounds = round(alloc, circuit, rounds, budget)?;
-        if rounds.removed.len() == rounds.before {
-            return Ok(rounds);
+        let next = round(alloc, circuit, rounds, budget)?;
+        let last = next.removed.len() == next.before;
+        if last {
+            return Ok(next);
         }
+        rounds = next;
     }
 }

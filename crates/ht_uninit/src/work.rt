@@ -1,11 +1,10 @@
 //! The flip-flops that never get a definite value, the outputs that never show one, and the faults that they hide.
-ghost use Rattle.std.specs.Prelude.{◌≡◌, ◌<◌, [], length, get_or, map, not, IfOk};
+ghost use Rattle.std.specs.Prelude.{◌≡◌, ◌<◌, [], length, map, IfOk};
 ghost use Rattle.std.specs.List.{All};
 ghost use Rattle.ht_net.specs.Netlist.{net_count};
-ghost use Rattle.ht_faults.specs.FaultList.{no_fault};
 ghost use Rattle.ht_faults.specs.Sites.{IsFaultSite, faults_of};
 ghost use Rattle.ht_uninit.specs.Cones.{cone_root};
-ghost use Rattle.ht_uninit.specs.Exposed.{is_marked};
+ghost use Rattle.ht_uninit.specs.Exposed.{begins_unmarked};
 ghost use Rattle.ht_uninit.specs.Records.{IsUninit, UninitHolds, given_faults};
 ghost use Rattle.ht_uninit.specs.RoundStates.{AreOutputs};
 
@@ -61,8 +60,18 @@ fn cone_root(circuit: &Circuit, site: Site) -> NetId
     }
 }
 
-// Which of the given faults are hidden: those whose cones begin at a net without a mark.
-#[tactic(none)]
+// Whether the cone of fault k begins at a net without a mark.
+fn is_hidden(circuit: &Circuit, faults: &FaultList, marks: &[bool], k: u32) -> bool
+    requires faults { faults.now ≡ faults_of circuit.now }
+    requires fault { k < length faults.now }
+    requires long { length marks.now ≡ net_count circuit.now }
+    ensures { result ≡ begins_unmarked circuit.now faults.now marks.now k }
+{
+    let root = cone_root(circuit, faults.get(k).site);
+    !marks[root.index()]
+}
+
+// Which of the given faults are hidden.
 fn hidden_faults(
     alloc: Global,
     circuit: &Circuit,
@@ -73,14 +82,12 @@ fn hidden_faults(
     requires faults { faults.now ≡ faults_of circuit.now }
     requires which { All (λ k. k < length faults.now) which.now }
     requires long { length marks.now ≡ net_count circuit.now }
-    ensures { IfOk result (λ hidden. hidden.items ≡ map
-        (λ k. not (is_marked marks.now (cone_root circuit.now (get_or faults.now k no_fault).site)))
-        which.now) }
+    ensures { IfOk result (λ hidden. hidden.items
+        ≡ map (begins_unmarked circuit.now faults.now marks.now) which.now) }
 {
-    let mut hidden = Vec::new(alloc);
+    let mut hidden = Vec::with_capacity(alloc, which.len())?;
     for k in which {
-        let root = cone_root(circuit, faults.get(*k).site);
-        hidden.push(!marks[root.index()])?;
+        hidden.push(is_hidden(circuit, faults, marks, *k))?;
     }
     Ok(hidden)
 }
