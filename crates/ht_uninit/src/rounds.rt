@@ -1,6 +1,5 @@
 //! The rounds in which flip-flops are removed from the set that is held unknown.
-ghost use Rattle.std.specs.Prelude.{◌≡◌, ◌<◌, ◌+◌, ◌++◌, ◌∷◌, [], None, length, replicate, set, true, IfOk};
-ghost use Rattle.ht_tree.specs.Decisions.{is_in};
+ghost use Rattle.std.specs.Prelude.{◌≡◌, ◌<◌, ◌+◌, ◌++◌, ◌∷◌, [], None, length, replicate, set, IfOk};
 ghost use Rattle.ht_uninit.specs.HeldWindows.{without};
 ghost use Rattle.ht_uninit.specs.RoundStates.{IsAt, IsFinished};
 
@@ -52,7 +51,6 @@ fn remove<'c>(rounds: Rounds<'c>, j: u32, why: Removed) -> Result<Rounds<'c>, Al
 }
 
 // Searches the next state of flip-flop j, if it is a member, and removes it where the search isn't closed.
-#[tactic(none)]
 fn search_member<'c>(
     alloc: Global,
     circuit: &'c Circuit,
@@ -73,41 +71,31 @@ fn search_member<'c>(
     }
     // for the proof: the circuit is well formed
     let _ = circuit.nets();
+    let net = circuit.dff_data(j);
     let Rounds {
         held,
         removed,
-        mut walks,
+        walks,
         before,
     } = rounds;
-    let net = circuit.dff_data(j);
-    let Searched { held, out } = search_net(alloc, held, net, budget)?;
+    let searched = search_net(alloc, held, net, budget)?;
+    let Searched { held, out } = searched;
+    let mut rounds = Rounds {
+        held,
+        removed,
+        walks,
+        before,
+    };
     match out {
         Out3::Mute { tokens } => {
-            walks[j as usize] = Some(tokens);
-            Ok(Rounds {
-                held,
-                removed,
-                walks,
-                before,
-            })
+            rounds.walks[j as usize] = Some(tokens);
+            Ok(rounds)
         },
         Out3::Seen { sets } => {
-            let rounds = Rounds {
-                held,
-                removed,
-                walks,
-                before,
-            };
             let freed = remove(rounds, j, Removed::Free { dff: j, sets })?;
             Ok(freed)
         },
         Out3::Open { tokens } => {
-            let rounds = Rounds {
-                held,
-                removed,
-                walks,
-                before,
-            };
             let spent = remove(rounds, j, Removed::Spent { dff: j, tokens })?;
             Ok(spent)
         },
@@ -115,7 +103,6 @@ fn search_member<'c>(
 }
 
 // One round.
-#[tactic(none)]
 fn round<'c>(
     alloc: Global,
     circuit: &'c Circuit,
@@ -151,7 +138,6 @@ fn no_walks(alloc: Global, count: usize) -> Result<Vec<Option<Items<Token>>>, Al
 ///
 /// # Errors
 /// Out of memory.
-#[tactic(none)]
 pub fn find_held<'c>(
     alloc: Global,
     circuit: &'c Circuit,

@@ -19,7 +19,6 @@ use ht_net::{Circuit, NetId, Site};
 use std::alloc::{AllocError, Global};
 
 // Searches each output.
-#[tactic(none)]
 fn search_outputs<'c>(
     alloc: Global,
     circuit: &Circuit,
@@ -38,7 +37,8 @@ fn search_outputs<'c>(
     let mut outs = Vec::new(alloc);
     for o in 0..circuit.outputs() {
         let net = circuit.output(o);
-        let Searched { held: next, out } = search_net(alloc, window, net, budget)?;
+        let searched = search_net(alloc, window, net, budget)?;
+        let Searched { held: next, out } = searched;
         window = next;
         outs.push(out)?;
     }
@@ -97,7 +97,6 @@ fn hidden_faults(
 ///
 /// # Errors
 /// Out of memory.
-#[tactic(none)]
 pub fn uninit(
     alloc: Global,
     circuit: &Circuit,
@@ -113,12 +112,13 @@ pub fn uninit(
 {
     // for the proof: the circuit is well formed
     let _ = circuit.nets();
+    let rounds = find_held(alloc, circuit, budget)?;
     let Rounds {
         held,
         removed,
         walks,
         before: _,
-    } = find_held(alloc, circuit, budget)?;
+    } = rounds;
     let outs = search_outputs(alloc, circuit, held, budget)?;
     let marks = find_exposed(alloc, circuit, &outs)?;
     let hidden = hidden_faults(alloc, circuit, faults, which, &marks)?;

@@ -23,8 +23,8 @@ returns-in-Found c = λ budget x h.
       listed = c.in_ok-sets-in-Found.ensures;
     }
 
-pub returns-in-Spent : goal.returns-in-Spent
-returns-in-Spent c = λ budget x h.
+pub returns : goal.returns
+returns c = λ budget x h.
     let v = c.args.held.now in
     subst (SpendsHeld v.circuit budget v.members x) (sym c.from_vec-in-Spent.ensures)
     (v.path, subst (IsOutcome (held_guide v.circuit v.members x) budget 1 (node_at v.path)) c.in-Spent.is h)

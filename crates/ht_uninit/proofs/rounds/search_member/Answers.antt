@@ -1,6 +1,7 @@
-use Rattle.std.proofs.Common.{◌≡◌, ◌<◌, ◌∙◌, ◌+◌, ℕ, List, true, false, None, ap, refl, sym, subst}
+use Rattle.std.proofs.Common.{◌≡◌, ◌<◌, ◌∙◌, ◌+◌, ℕ, List, true, length, ap, arith, refl, sym, subst}
 use Rattle.ht_faults.specs.Sites.{data_net}
 use Rattle.ht_net.specs.declared.net.NetId.{NetId}
+use Rattle.ht_net.specs.Netlist.{Netlist}
 use Rattle.ht_tree.specs.Decisions.{is_in}
 use Rattle.ht_uninit.specs.declared.record.Removed.TheVariants.{Free, Spent}
 use Rattle.ht_uninit.specs.HeldWindows.{without}
@@ -9,26 +10,29 @@ use Rattle.ht_uninit.specs.Rounds.{IsOutput}
 use Rattle.ht_uninit.proofs.OutputLaws.{net_inside, output_here}
 use Rattle.ht_uninit.proofs.RoundLaws.{at_keeps, at_passes, at_removes, dff_inside, dff_walk}
 use Rattle.ht_uninit.proofs.rounds.search_member.Goals as goal
-use Rattle.ht_uninit.proofs.rounds.search_member.Goals.{In_ok-held}
+use Rattle.ht_uninit.proofs.rounds.search_member.Goals.{In_ok-searched}
 
 -- flip-flop j is a member
-member : (c : In_ok-held) → is_in c.args.rounds.held.members c.args.j ≡ true
+member : (c : In_ok-searched) → is_in c.args.rounds.held.members c.args.j ≡ true
 member c = sym c.is_member-stranger.ensures ∙ c.if-stranger.false
 
--- the search is for its data net
-data_is : (c : In_ok-held) → c.dff_data-net.result.0 ≡ data_net c.args.circuit.now c.args.j
-data_is c = ap (λ (n : NetId). n.0) c.dff_data-net.ensures
+-- the window that the search leaves is of the circuit
+circuit_is : (c : In_ok-searched) → c.in_ok-searched.searched.held.circuit ≡ c.args.circuit.now
+circuit_is c = c.in_ok-searched.ensures.circuit ∙ c.requires.at.circuit
 
 -- what the search came to
-output : (c : In_ok-held) → IsOutput c.args.circuit.now c.args.budget c.args.rounds.held.members
-    (data_net c.args.circuit.now c.args.j) c.in_ok-held.out
+output : (c : In_ok-searched) → IsOutput c.args.circuit.now c.args.budget c.args.rounds.held.members
+    (data_net c.args.circuit.now c.args.j) c.in_ok-searched.searched.out
 output c =
     output_here c.args.circuit.now c.args.budget c.args.rounds.held.members c.args.rounds.held c.requires.at.circuit refl
     c.dff_data-net.result (data_net c.args.circuit.now c.args.j) (ap (λ (n : NetId). n.0) c.dff_data-net.ensures)
-    c.in_ok-held.out c.in_ok-held.ensures.out
+    c.in_ok-searched.searched.out c.in_ok-searched.ensures.out
 
-pub is_member-requires : goal.is_member-requires
-is_member-requires c = dff_inside _ _ _ _ _ _ _ c.requires.at c.requires.member
+inside : (c : In_ok-searched) → c.args.j < length c.in_ok-searched.searched.held.circuit.dffs
+inside c = subst (λ (n : Netlist). c.args.j < length n.dffs) (sym (circuit_is c)) c.requires.member
+
+pub is_member-stranger-requires : goal.is_member-stranger-requires
+is_member-stranger-requires c = dff_inside _ _ _ _ _ _ _ c.requires.at c.requires.member
 
 pub returns-then-stranger-clause-at : goal.returns-then-stranger-clause-at
 returns-then-stranger-clause-at c =
@@ -44,58 +48,55 @@ pub search_net-requires-clause-path : goal.search_net-requires-clause-path
 search_net-requires-clause-path c = c.requires.at.fresh
 
 pub index_mut-requires : goal.index_mut-requires
-index_mut-requires c = dff_walk _ _ _ _ _ _ _ c.requires.at c.requires.member
+index_mut-requires c =
+    let walks = c.args.rounds.walks in
+    let l = dff_walk _ _ _ _ _ _ _ c.requires.at c.requires.member in
+    omega (arith, l)
 
 pub returns-in-Mute-clause-at : goal.returns-in-Mute-clause-at
 returns-in-Mute-clause-at c =
-    let held = (goal.at.returns-in-Mute-clause-at c).In_ok-held in
+    let s = (goal.at.returns-in-Mute-clause-at c).In_ok-searched in
     let x = data_net c.args.circuit.now c.args.j in
-    at_keeps _ _ _ _ _ _ _ c.requires.at c.in_ok-held.held (c.in_ok-held.ensures.circuit ∙ c.requires.at.circuit)
-    c.in_ok-held.ensures.path c.requires.member (member held) c.in_ok-held.ensures.members c.in-Mute.tokens
-    (subst (IsOutput c.args.circuit.now c.args.budget c.args.rounds.held.members x) c.in-Mute.is (output held)) _ refl
+    at_keeps _ _ _ _ _ _ _ c.requires.at c.in_ok-searched.searched.held (circuit_is s) c.in_ok-searched.ensures.path
+    c.requires.member (member s) c.in_ok-searched.ensures.members c.in-Mute.tokens
+    (subst (IsOutput c.args.circuit.now c.args.budget c.args.rounds.held.members x) c.in-Mute.is (output s)) _ refl
 
 pub remove-requires-clause-member : goal.remove-requires-clause-member
-remove-requires-clause-member c =
-    subst (λ (n : ℕ). c.args.j < n)
-    (ap (λ n. length n.dffs) (sym (c.in_ok-held.ensures.circuit ∙ c.requires.at.circuit))) c.requires.member
+remove-requires-clause-member c = inside (goal.at.remove-requires-clause-member c).In_ok-searched
 
 pub remove-requires-clause-walks : goal.remove-requires-clause-walks
 remove-requires-clause-walks c = dff_walk _ _ _ _ _ _ _ c.requires.at c.requires.member
 
-pub returns-in-Seen-clause-at : goal.returns-in-Seen-clause-at
-returns-in-Seen-clause-at c =
-    let held = (goal.at.returns-in-Seen-clause-at c).In_ok-held in
+pub returns-in_ok-freed-in-Seen-clause-at : goal.returns-in_ok-freed-in-Seen-clause-at
+returns-in_ok-freed-in-Seen-clause-at c =
+    let s = (goal.at.returns-in_ok-freed-in-Seen-clause-at c).In_ok-searched in
     let x = data_net c.args.circuit.now c.args.j in
-    let rest = c.in_ok-freed in
-    subst (λ (before : ℕ). IsAt c.args.circuit.now c.args.budget before (c.args.j + 1) rest.freed.held
-    rest.freed.removed.items rest.freed.walks.items) (sym rest.ensures.before)
-    (at_removes _ _ _ _ _ _ _ c.requires.at rest.freed.held
-    (rest.ensures.circuit ∙ (c.in_ok-held.ensures.circuit ∙ c.requires.at.circuit)) rest.ensures.path c.requires.member
-    (member held)
-    (rest.ensures.members ∙ ap (λ (u : List ℕ). without u c.args.j) c.in_ok-held.ensures.members)
+    let r = c.in_ok-freed-in-Seen.freed in
+    let is = c.in_ok-freed-in-Seen.ensures in
+    subst (λ (before : ℕ). IsAt c.args.circuit.now c.args.budget before (c.args.j + 1) r.held r.removed.items
+    r.walks.items) (sym is.before)
+    (at_removes _ _ _ _ _ _ _ c.requires.at r.held (is.circuit ∙ circuit_is s) is.path c.requires.member (member s)
+    (is.members ∙ ap (λ (u : List ℕ). without u c.args.j) c.in_ok-searched.ensures.members)
     (Free c.args.j c.in-Seen.sets) refl
-    (subst (IsOutput c.args.circuit.now c.args.budget c.args.rounds.held.members x) c.in-Seen.is (output held)) _
-    rest.ensures.removed _ rest.ensures.walks)
+    (subst (IsOutput c.args.circuit.now c.args.budget c.args.rounds.held.members x) c.in-Seen.is (output s)) _ is.removed
+    _ is.walks)
 
-pub remove-requires-clause-member-in-Open : goal.remove-requires-clause-member-in-Open
-remove-requires-clause-member-in-Open c =
-    subst (λ (n : ℕ). c.args.j < n)
-    (ap (λ n. length n.dffs) (sym (c.in_ok-held.ensures.circuit ∙ c.requires.at.circuit))) c.requires.member
+pub remove-requires-in-Open-clause-member : goal.remove-requires-in-Open-clause-member
+remove-requires-in-Open-clause-member c = inside (goal.at.remove-requires-in-Open-clause-member c).In_ok-searched
 
-pub remove-requires-clause-walks-in-Open : goal.remove-requires-clause-walks-in-Open
-remove-requires-clause-walks-in-Open c = dff_walk _ _ _ _ _ _ _ c.requires.at c.requires.member
+pub remove-requires-in-Open-clause-walks : goal.remove-requires-in-Open-clause-walks
+remove-requires-in-Open-clause-walks c = dff_walk _ _ _ _ _ _ _ c.requires.at c.requires.member
 
-pub returns-in-Open-clause-at : goal.returns-in-Open-clause-at
-returns-in-Open-clause-at c =
-    let held = (goal.at.returns-in-Open-clause-at c).In_ok-held in
+pub returns-in_ok-spent-in-Open-clause-at : goal.returns-in_ok-spent-in-Open-clause-at
+returns-in_ok-spent-in-Open-clause-at c =
+    let s = (goal.at.returns-in_ok-spent-in-Open-clause-at c).In_ok-searched in
     let x = data_net c.args.circuit.now c.args.j in
-    let rest = c.in_ok-spent in
-    subst (λ (before : ℕ). IsAt c.args.circuit.now c.args.budget before (c.args.j + 1) rest.spent.held
-    rest.spent.removed.items rest.spent.walks.items) (sym rest.ensures.before)
-    (at_removes _ _ _ _ _ _ _ c.requires.at rest.spent.held
-    (rest.ensures.circuit ∙ (c.in_ok-held.ensures.circuit ∙ c.requires.at.circuit)) rest.ensures.path c.requires.member
-    (member held)
-    (rest.ensures.members ∙ ap (λ (u : List ℕ). without u c.args.j) c.in_ok-held.ensures.members)
+    let r = c.in_ok-spent-in-Open.spent in
+    let is = c.in_ok-spent-in-Open.ensures in
+    subst (λ (before : ℕ). IsAt c.args.circuit.now c.args.budget before (c.args.j + 1) r.held r.removed.items
+    r.walks.items) (sym is.before)
+    (at_removes _ _ _ _ _ _ _ c.requires.at r.held (is.circuit ∙ circuit_is s) is.path c.requires.member (member s)
+    (is.members ∙ ap (λ (u : List ℕ). without u c.args.j) c.in_ok-searched.ensures.members)
     (Spent c.args.j c.in-Open.tokens) refl
-    (subst (IsOutput c.args.circuit.now c.args.budget c.args.rounds.held.members x) c.in-Open.is (output held)) _
-    rest.ensures.removed _ rest.ensures.walks)
+    (subst (IsOutput c.args.circuit.now c.args.budget c.args.rounds.held.members x) c.in-Open.is (output s)) _ is.removed
+    _ is.walks)

@@ -1,14 +1,12 @@
-use Rattle.std.proofs.Common.{◌<◌, ◌∙◌, List, Bool, length, get_or, not, ap, sym, subst, arith, false}
-use Rattle.std.proofs.lemmas.List.{get_or_default}
+use Rattle.std.proofs.Common.{◌<◌, ◌∙◌, List, length, get_or, ap, sym, subst}
 use Rattle.ht_net.specs.declared.fault.Fault.{Fault}
-use Rattle.ht_net.specs.declared.fault.Site.{Site}
 use Rattle.ht_faults.proofs.MemberLaws.{fault_site}
 use Rattle.ht_faults.specs.FaultList.{no_fault}
 use Rattle.ht_faults.specs.Sites.{IsFaultSite}
 use Rattle.ht_uninit.proofs.work.is_hidden.Goals as goal
 
-pub cone_root-requires : goal.cone_root-requires
-cone_root-requires c =
+pub cone_root-root-requires : goal.cone_root-root-requires
+cone_root-root-requires c =
     let n = c.args.circuit.now in
     let k = c.args.k in
     let is = c.get.ensures ∙ ap (λ (fs : List Fault). get_or fs k no_fault) c.requires.faults in

@@ -8,10 +8,16 @@ use Rattle.ht_uninit.proofs.OutputLaws.{net_inside, output_here, output_more}
 use Rattle.ht_uninit.proofs.work.search_outputs.Goals as goal
 
 pub loop-o-init : goal.loop-o-init
-loop-o-init c = (c.requires.circuit, refl, c.requires.path, refl, λ o out l is. absurd (omega (arith, l)))
+loop-o-init c = (
+  c.requires.circuit,
+  refl,
+  c.requires.path,
+  ap (λ (outs : List Out3). length outs) c.new-outs.ensures.items,
+  λ o out l is. absurd (omega (arith, l)),
+)
 
-pub output-requires : goal.output-requires
-output-requires c =
+pub output-net-requires : goal.output-net-requires
+output-net-requires c =
     let test = c.loop-o-test.true in
     let count = c.outputs-o-end.ensures in
     omega (arith, test, count)
@@ -34,16 +40,16 @@ loop-o-preserved c =
     let u = c.args.held.members in
     let o = c.loop-o.o in
     let inv = c.loop-o.invariant in
-    let done = c.in_ok-next.ensures in
+    let done = c.in_ok-searched.ensures in
     let push = c.in_ok-push.ensures.items in (
       done.circuit ∙ inv.0,
       done.members ∙ inv.1,
       done.path,
       ap (λ (outs : List Out3). length outs) push
-          ∙ (length_push c.loop-o.outs.items c.in_ok-next.out ∙ ap (λ (k : ℕ). k + 1) inv.3),
-      output_more n c.args.budget u o c.loop-o.outs.items _ c.in_ok-next.out inv.3 push
+          ∙ (length_push c.loop-o.outs.items c.in_ok-searched.searched.out ∙ ap (λ (k : ℕ). k + 1) inv.3),
+      output_more n c.args.budget u o c.loop-o.outs.items _ c.in_ok-searched.searched.out inv.3 push
           (output_here n c.args.budget u c.loop-o.window inv.0 inv.1 c.output-net.result (output_net n o)
-          (ap (λ (x : NetId). x.0) c.output-net.ensures) c.in_ok-next.out done.out)
+          (ap (λ (x : NetId). x.0) c.output-net.ensures) c.in_ok-searched.searched.out done.out)
           inv.4,
     )
 

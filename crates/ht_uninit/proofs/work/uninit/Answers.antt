@@ -1,18 +1,25 @@
-use Rattle.std.proofs.Common.{◌∙◌, ap, arith}
+use Rattle.std.proofs.Common.{arith}
+use Rattle.ht_uninit.specs.Records.{UninitState}
 use Rattle.ht_uninit.proofs.OutputLaws.{whole_record}
 use Rattle.ht_uninit.proofs.RecordLaws.{record_holds}
 use Rattle.ht_uninit.proofs.work.uninit.Goals as goal
 
 pub search_outputs-requires-clause-circuit : goal.search_outputs-requires-clause-circuit
-search_outputs-requires-clause-circuit c = c.in_ok-held.ensures.circuit
+search_outputs-requires-clause-circuit c = c.in_ok-rounds.ensures.circuit
 
 pub search_outputs-requires-clause-path : goal.search_outputs-requires-clause-path
-search_outputs-requires-clause-path c = c.in_ok-held.ensures.fresh
+search_outputs-requires-clause-path c = c.in_ok-rounds.ensures.fresh
 
 pub returns-clause-answer : goal.returns-clause-answer
 returns-clause-answer c =
-    whole_record c.args.circuit.now c.args.budget c.args.faults.now c.args.which.now _ c.in_ok-marks.marks.items
-    c.in_ok-held.held c.in_ok-held.ensures c.in_ok-outs.ensures.every c.in_ok-outs.ensures.outs
+    let r : UninitState = record {
+      removed = c.in_ok-rounds.rounds.removed.items;
+      walks = c.in_ok-rounds.rounds.walks.items;
+      outs = c.in_ok-outs.outs.items;
+      hidden = c.in_ok-hidden.hidden.items;
+    } in
+    whole_record c.args.circuit.now c.args.budget c.args.faults.now c.args.which.now r c.in_ok-marks.marks.items
+    c.in_ok-rounds.rounds.held c.in_ok-rounds.ensures c.in_ok-outs.ensures.every c.in_ok-outs.ensures.outs
     c.in_ok-marks.ensures.hidden c.in_ok-hidden.ensures
 
 pub returns-clause-holds : goal.returns-clause-holds
@@ -20,6 +27,6 @@ returns-clause-holds c = record_holds _ _ _ _ (returns-clause-answer c)
 
 pub invariant_of-result : goal.invariant_of-result
 invariant_of-result c =
-    let few = c.in_ok-held.ensures.few in
+    let few = c.in_ok-rounds.ensures.few in
     let dffs = c.nets.ensures.circuit.few_dffs in
     record { few = omega (arith, few, dffs) }
