@@ -81,6 +81,7 @@ whole_record c budget faults which r marks held done every outs tells hidden =
     let given = length-map which (λ k. get_or faults k no_fault) in
     record {
       ends = done.ends;
+      long = done.long;
       walks = done.each;
       every = every;
       outs = λ o out l is. subst (λ (u : List ℕ). IsOutput c budget u (output_net c o) out) done.members

@@ -34,6 +34,7 @@ IsWalkOf c budget removed j (Some tokens) =
 -- The record that the work gives for some faults.
 pub record IsUninit (c : Netlist) (budget : ℕ) (faults : List Fault) (r : UninitState) : Type 0 where
   pub ends : EndsWith c budget r.removed
+  pub long : length r.walks ≡ length c.dffs
   pub walks : (j : ℕ) → j < length c.dffs → IsWalkOf c budget r.removed j (get_or r.walks j None)
   pub every : length r.outs ≡ length c.outputs
   pub outs : (o : ℕ) (out : Out3) → o < length c.outputs → out ≡ get_or r.outs o out
