@@ -1,8 +1,8 @@
 -- The set of held flip-flops is closed, and a closed set stays unknown from all-unknown.
-use Rattle.std.proofs.Common.{◌≡◌, ◌<◌, ◌≤◌, ℕ, suc, zero, List, [], Bool, true, None, length, get_or, refl, sym, ◌∙◌, ap, inl, inr, arith, subst}
+use Rattle.std.proofs.Common.{◌≡◌, ◌<◌, ◌≤◌, ℕ, suc, zero, List, [], Bool, true, None, length, get_or, refl, sym, ◌∙◌, ap, inl, inr, arith}
 use Rattle.ht_tern.specs.declared.tern.Tern.{Tern}
 use Rattle.ht_tern.specs.declared.tern.Tern.TheVariants.{Unk}
-use Rattle.ht_tern.specs.Gate.{AllRelated, Refines}
+use Rattle.ht_tern.specs.Gate.{Refines}
 use Rattle.ht_net.specs.Detection.{terns_of, unknown_state}
 use Rattle.ht_net.specs.Faults.{forced, tern_rules}
 use Rattle.ht_net.specs.Frame.{net_value, next_state}
@@ -14,7 +14,7 @@ use Rattle.ht_tree.specs.declared.token.Token.{Token}
 use Rattle.ht_records.proofs.RunStateLaws.{end_state, nth, state_held, state_in, unknown_held}
 use Rattle.ht_records.proofs.ShownLaws.{next_at, unknown_at}
 use Rattle.ht_records.proofs.WidthLaws.{fit_length, fit_list, fit_vectors, state_refines}
-use Rattle.ht_uninit.specs.ClosedSets.{AreUnknown, IsClosedSet, StayUnknown, state_after}
+use Rattle.ht_uninit.specs.ClosedSets.{AreUnknown, IsClosedSet, StayUnknown}
 use Rattle.ht_faults.specs.Sites.{data_net}
 use Rattle.ht_uninit.specs.HeldWindows.{held_judge}
 use Rattle.ht_uninit.proofs.UnknownLaws.{net_unknown}

@@ -1,8 +1,7 @@
 -- Marking what leads out.
 use Rattle.std.specs.Prelude.{eqb, ◌==◌, ◌↔◌}
-use Rattle.std.specs.List.{list_any, sum_by}
-use Rattle.std.proofs.Common.{◌≡◌, ◌≢◌, ◌⊎◌, ◌<◌, ◌≤◌, ◌+◌, ◌-◌, ℕ, suc, zero, List, [], ◌∷◌, ◌++◌, Bool, true, false, not, ◌||◌, cond, length, get_or, set, replicate, refl, sym, ◌∙◌, ap, inl, inr, arith, subst, get_or-set_other, get_or-set_same}
-use Rattle.std.proofs.lemmas.Bool.{false≢true, false_from_ne_true, not_from_false, not_from_true, or_cases, true_from_ne_false}
+use Rattle.std.proofs.Common.{◌≡◌, ◌⊎◌, ◌<◌, ◌≤◌, ◌+◌, ◌-◌, ℕ, suc, zero, List, [], ◌∷◌, ◌++◌, Bool, true, false, not, ◌||◌, cond, length, get_or, set, replicate, refl, sym, ◌∙◌, ap, inl, inr, arith, subst, get_or-set_other, get_or-set_same}
+use Rattle.std.proofs.lemmas.Bool.{false≢true, false_from_ne_true, not_from_false, or_cases, true_from_ne_false}
 use Rattle.std.proofs.lemmas.Bool.Decides.{eqb_tells, nat_tests}
 use Rattle.std.proofs.lemmas.List.{length-replicate, length-set, length_push, set-get_or}
 use Rattle.std.proofs.lemmas.List.Folds.{list_any-append}
@@ -15,8 +14,8 @@ use Rattle.ht_records.proofs.ListLaws.{get_end}
 use Rattle.ht_uninit.specs.declared.record.Out3.{Out3}
 use Rattle.ht_uninit.specs.Rounds.{is_mute, mutes_of}
 use Rattle.ht_faults.specs.Sites.{data_net}
-use Rattle.ht_uninit.specs.Cones.{InCone, IsForwardClosed, IsHidden, cone_root, output_net}
-use Rattle.ht_uninit.specs.Exposed.{AreExposed, IsFollowed, LeadsOut, TellsHidden, if_unmarked, is_marked, waiting_after, waits, work_left}
+use Rattle.ht_uninit.specs.Cones.{IsForwardClosed, IsHidden, cone_root, output_net}
+use Rattle.ht_uninit.specs.Exposed.{AreExposed, IsFollowed, LeadsOut, if_unmarked, is_marked, waiting_after, waits, work_left}
 
 -- ---- one more mark
 

@@ -1,9 +1,9 @@
 -- What a search that found decisions says: no closed set within the held one has the flip-flop. So the set that is left
 -- where no removal was for want of budget has each member of each closed set.
 use Rattle.std.specs.Prelude.{eqb, ltb, leb, is_some, IsTrue, ◌==◌}
-use Rattle.std.specs.List.{list_all, list_any, range_with_len}
-use Rattle.std.proofs.Common.{◌≡◌, ◌⊎◌, ◌<◌, ◌≤◌, ◌+◌, ◌*◌, ℕ, suc, zero, List, [], ◌∷◌, ◌++◌, map, Bool, true, false, not, ◌&&◌, ◌||◌, cond, Option, Some, None, length, get_or, refl, sym, ◌∙◌, ap, inl, inr, arith, subst}
-use Rattle.std.proofs.lemmas.Bool.{and_parts, false≢true, false_from_ne_true, not_from_false, not_from_true, or_parts}
+use Rattle.std.specs.List.{list_all, range_with_len}
+use Rattle.std.proofs.Common.{◌≡◌, ◌⊎◌, ◌<◌, ◌≤◌, ◌+◌, ◌*◌, ℕ, List, [], ◌∷◌, ◌++◌, Bool, true, false, not, ◌&&◌, ◌||◌, cond, Option, Some, None, length, get_or, refl, sym, ◌∙◌, ap, inl, inr, arith, subst}
+use Rattle.std.proofs.lemmas.Bool.{and_parts, false≢true, false_from_ne_true, not_from_false}
 use Rattle.std.proofs.lemmas.Bool.Decides.{eqb_tells, nat_tests}
 use Rattle.std.proofs.lemmas.List.Folds.{list_all-append, list_any-append}
 use Rattle.std.proofs.lemmas.List.FromFn.{get_or-map-range_with_len, length-map-range_with_len}
@@ -20,7 +20,7 @@ use Rattle.ht_tree.specs.Decisions.{decided_value, is_in, latch_values_left, new
 use Rattle.ht_tree.specs.FoundLists.{bit_or_zero, vector_of}
 use Rattle.ht_tree.specs.Nodes.{cube_of, or_unknown}
 use Rattle.ht_tree.specs.Searches.{node_at}
-use Rattle.ht_tree.specs.Walks.{Fits, Node, children, decide, decides, root}
+use Rattle.ht_tree.specs.Walks.{Fits, Node, children, decide, decides}
 use Rattle.ht_tree.specs.WindowStatus.{is_definite}
 use Rattle.ht_tree.specs.declared.token.Assign3.{Assign3}
 use Rattle.ht_tree.specs.declared.token.Token.{Token}
@@ -28,7 +28,7 @@ use Rattle.ht_tree.specs.declared.token.Token.TheVariants as token
 use Rattle.ht_tree.proofs.DecidedLaws.{decides_more, decides_value}
 use Rattle.ht_tree.proofs.MemberLaws.{member_filter, member_range}
 use Rattle.ht_records.proofs.BackFrameLaws.{cube_value}
-use Rattle.ht_records.proofs.BitPathLaws.{AreBitsAt, IsBitOrNone, bit_definite, bit_read, bits_decided, bits_more}
+use Rattle.ht_records.proofs.BitPathLaws.{AreBitsAt, bit_definite, bit_read, bits_decided, bits_more}
 use Rattle.ht_records.proofs.CubeLaws.{cube_held}
 use Rattle.ht_records.proofs.LeadLaws.{IsInput}
 use Rattle.ht_records.proofs.ListLaws.{filter_member, range_member}

@@ -1,15 +1,12 @@
 -- What the record of a run means.
 use Rattle.std.specs.List.{list_all, list_any}
-use Rattle.std.proofs.Common.{◌≡◌, ◌⊎◌, ◌<◌, ◌≤◌, ◌+◌, ℕ, suc, zero, List, [], ◌∷◌, ◌++◌, Bool, true, false, ◌&&◌, Option, Some, None, length, get_or, map, refl, sym, ◌∙◌, ap, inl, inr, arith, subst}
+use Rattle.std.proofs.Common.{◌≡◌, ◌<◌, ◌≤◌, ℕ, suc, zero, List, [], ◌∷◌, ◌++◌, true, false, Option, Some, None, length, get_or, refl, sym, ◌∙◌, arith}
 use Rattle.std.proofs.lemmas.Bool.{and_from, false≢true, or_from}
 use Rattle.std.proofs.lemmas.List.Folds.{list_all-append}
 use Rattle.ht_net.specs.declared.fault.Fault.{Fault}
-use Rattle.ht_net.specs.Detection.{Detects}
 use Rattle.ht_net.specs.Netlist.{Netlist}
-use Rattle.ht_net.proofs.FrameLaws.{le_or_lt}
 use Rattle.ht_tree.specs.declared.token.Token.{Token}
 use Rattle.ht_tree.specs.Budgets.{refutation_cost}
-use Rattle.ht_tree.specs.Decisions.{is_in}
 use Rattle.ht_tree.specs.Searches.{node_at}
 use Rattle.ht_tree.specs.Walks.{IsComplete}
 use Rattle.ht_uninit.specs.declared.record.Removed.{Removed}

@@ -54,6 +54,6 @@ pub record HeldNet : Type 0 where
   pub members : List ℕ
   pub net : ℕ
 
--- what the search for it goes by
+-- what the search for a net goes by
 abbrev pub guide_for : HeldNet → Guide
 guide_for s = held_guide s.circuit s.members s.net

@@ -3,7 +3,7 @@
 --
 -- It is a back window that wants nothing, in which the members are decided to X before the search begins: these
 -- decisions stand before the path of every node, and `Three` decides the latches that they leave.
-use Rattle.std.specs.Prelude.{◌+◌, ◌++◌, ◌==◌, ℕ, List, map, filter, Bool, true, false, not, ◌&&◌, if◌then◌else◌}
+use Rattle.std.specs.Prelude.{◌+◌, ◌++◌, ◌==◌, ℕ, List, map, filter, true, false, not, ◌&&◌, if◌then◌else◌}
 use Rattle.ht_tern.specs.declared.tern.Tern.TheVariants.{Unk}
 use Rattle.ht_pairs.specs.Pairs.{Pair, pair, is_member}
 use Rattle.ht_net.specs.Netlist.{Netlist}
@@ -21,11 +21,11 @@ use Rattle.ht_tree.specs.Searches.{Guide}
 abbrev pub good_window : Netlist → SearchWindow
 good_window c = back_window c (unknown_state c) 0
 
--- latch j is decided to X
+-- the decision that holds latch j at X
 abbrev pub decided_unknown : Netlist → ℕ → Assign3
 decided_unknown c j = record { var = c.inputs + j; value = Unk }
 
--- so are all members of a set
+-- the decisions that hold the members of a set
 abbrev pub held_unknown : Netlist → List ℕ → List Assign3
 held_unknown c u = map (decided_unknown c) u
 
@@ -37,7 +37,7 @@ without u j = filter (λ k. not (j == k)) u
 abbrev pub set_held : Netlist → List ℕ → ℕ → List Assign3 → List Pair
 set_held c u x path = cell_at (good_window c) (held_unknown c u ++ path) 0 x
 
--- Sure where X is no member, Dead where it is the only one, else Open
+-- the status of a set: Sure where X is no member, Dead where it is the only one, else Open
 abbrev pub known_status : List Pair → Status3
 known_status set =
     if is_member (pair Unk Unk) set then (if is_undetermined set then status3.Open else status3.Dead)

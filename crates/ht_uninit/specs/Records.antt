@@ -1,5 +1,5 @@
 -- The record of a run, and what it means.
-use Rattle.std.specs.Prelude.{◌≡◌, ◌≢◌, ◌<◌, ◌≤◌, ◌+◌, ◌↔◌, ℕ, List, Bool, true, false, Option, Some, None, length, get_or, map}
+use Rattle.std.specs.Prelude.{◌≡◌, ◌<◌, ◌≤◌, ◌↔◌, ℕ, List, Bool, true, false, Option, Some, None, length, get_or, map}
 use Rattle.std.specs.List.{list_all, list_any}
 use Rattle.ht_net.specs.declared.fault.Fault.{Fault}
 use Rattle.ht_faults.specs.FaultList.{no_fault}
@@ -10,7 +10,6 @@ use Rattle.ht_tree.specs.Budgets.{refutation_cost}
 use Rattle.ht_tree.specs.Decisions.{is_in}
 use Rattle.ht_uninit.specs.declared.record.Removed.{Removed}
 use Rattle.ht_uninit.specs.declared.record.Out3.{Out3}
-use Rattle.ht_uninit.specs.declared.record.Out3.TheVariants.{Open}
 use Rattle.ht_uninit.specs.ClosedSets.{Contains, IsClosedSet, StayUnknown}
 use Rattle.ht_faults.specs.Sites.{data_net}
 use Rattle.ht_uninit.specs.Cones.{IsHidden, output_net}

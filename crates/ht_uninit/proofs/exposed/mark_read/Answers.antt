@@ -1,8 +1,8 @@
-use Rattle.std.proofs.Common.{◌≡◌, ◌∙◌, ◌<◌, ◌≤◌, ◌+◌, ◌-◌, ℕ, length, get_or, ap, arith, subst}
-use Rattle.ht_net.specs.Netlist.{IsCircuit, first_gate_net, no_net}
+use Rattle.std.proofs.Common.{◌≡◌, ◌∙◌, ◌+◌, ◌-◌, ℕ, ap, arith, subst}
+use Rattle.ht_net.specs.Netlist.{IsCircuit, first_gate_net}
 use Rattle.ht_faults.specs.Sites.{data_net}
 use Rattle.ht_uninit.specs.Exposed.{AreExposed}
-use Rattle.ht_uninit.proofs.ExposedLaws.{input_done, latch_step, work_step}
+use Rattle.ht_uninit.proofs.ExposedLaws.{input_done, latch_step}
 use Rattle.ht_uninit.proofs.exposed.mark_read.Goals as goal
 
 pub returns-then-net-first_gate_net-clause-exposed : goal.returns-then-net-first_gate_net-clause-exposed

@@ -1,4 +1,4 @@
-use Rattle.std.proofs.Common.{◌∙◌, [], List, ℕ, ap, sym, subst}
+use Rattle.std.proofs.Common.{◌∙◌, ap, sym, subst}
 use Rattle.ht_search.proofs.WindowStepLaws.{window_node}
 use Rattle.ht_search.specs.Outcomes.{IsOutcome}
 use Rattle.ht_tree.specs.Searches.{node_at}

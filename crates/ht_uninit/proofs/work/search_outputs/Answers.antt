@@ -1,4 +1,4 @@
-use Rattle.std.proofs.Common.{◌≡◌, ◌<◌, ◌∙◌, ◌+◌, ℕ, List, length, ap, refl, sym, subst, arith}
+use Rattle.std.proofs.Common.{◌≡◌, ◌∙◌, ◌+◌, ℕ, List, length, ap, refl, subst, arith}
 use Rattle.std.proofs.lemmas.List.{length_push}
 use Rattle.ht_net.specs.declared.net.NetId.{NetId}
 use Rattle.ht_uninit.specs.declared.record.Out3.{Out3}
