@@ -9,13 +9,15 @@
 //!
 //! The definitions stand in `specs/`: `ClosedSets` (closed sets, and what they are good for), `Cones` (where the effect
 //! of a fault may come to), `HeldWindows` and `HeldSearches` (the window in which a set is held unknown, and its
-//! searches), `Rounds` (in which order flip-flops are removed, and why) and `Records` (what a run answers, and what that
-//! means); `Exposed`, `HeldStates`, `RoundStates`, `RecordOf` and `Shallow` are of single functions.
+//! searches), `Rounds` (in which order flip-flops are removed, and why), `Records` (what a run answers, and what that
+//! means) and `UninitTexts` (its text); `Exposed`, `HeldStates`, `RoundStates`, `RecordOf` and `Shallow` are of single
+//! functions.
 //!
 //! | File | Holds |
 //! |---|---|
 //! | work | the whole: `uninit` |
 //! | uninit_record | its record |
+//! | uninit_text, record_lines | its text |
 //! | record | why a flip-flop was removed, and what the search of an output came to |
 //! | rounds | the rounds that remove flip-flops |
 //! | net_search | the search for a net that isn't unknown |
@@ -27,9 +29,11 @@ mod exposed;
 mod held_window;
 mod net_search;
 mod record;
+mod record_lines;
 mod rounds;
 mod theorems;
 mod uninit_record;
+mod uninit_text;
 mod work;
 
 pub use record::{Out3, Removed};
@@ -38,4 +42,5 @@ pub use theorems::{
     free_removals_leave_closed_sets, hidden_faults_are_undetected, record_means_what_it_says,
 };
 pub use uninit_record::UninitRecord;
+pub use uninit_text::{write_uninit_body, write_uninit_total};
 pub use work::uninit;
