@@ -1,7 +1,7 @@
 -- The text of a record: a head line, the removals in their order, the walks of the flip-flops that are held to the end,
 -- the outputs, a line for each fault, and the total. Lines that are defined by themselves are without their LF. The
 -- record is of the whole fault list, so that the mark of a fault has the fault's number.
-use Rattle.std.specs.Prelude.{◌-◌, ℕ, List, [], ◌∷◌, ◌++◌, if◌then◌else◌, Bool, true, false, length, get_or, map, flat_map, Option, Some, None, count_by, codes}
+use Rattle.std.specs.Prelude.{◌-◌, ℕ, List, [], ◌++◌, if◌then◌else◌, Bool, true, false, length, get_or, map, flat_map, Option, Some, None, count_by, codes}
 use Rattle.std.specs.Fmt.{decimal}
 use Rattle.std.specs.List.{range_with_len}
 use Rattle.ht_tern.specs.declared.tern.Tern.{Tern}
