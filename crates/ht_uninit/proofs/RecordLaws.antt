@@ -1,8 +1,9 @@
 -- What the record of a run means.
-use Rattle.std.specs.List.{list_all, list_any}
-use Rattle.std.proofs.Common.{◌≡◌, ◌<◌, ◌≤◌, ℕ, suc, zero, List, [], ◌∷◌, ◌++◌, true, false, Option, Some, None, length, get_or, refl, sym, ◌∙◌, arith}
+use Rattle.std.specs.List.{All, list_all, list_any, range_with_len}
+use Rattle.std.proofs.Common.{◌≡◌, ◌<◌, ◌≤◌, ℕ, suc, zero, List, [], ◌∷◌, ◌++◌, true, false, Option, Some, None, length, get_or, refl, sym, subst, ap, ◌+◌, ◌∙◌, arith}
 use Rattle.std.proofs.lemmas.Bool.{and_from, false≢true, or_from}
 use Rattle.std.proofs.lemmas.List.Folds.{list_all-append}
+use Rattle.std.proofs.lemmas.List.FromFn.{fill_by_all}
 use Rattle.ht_net.specs.declared.fault.Fault.{Fault}
 use Rattle.ht_net.specs.Netlist.{Netlist}
 use Rattle.ht_tree.specs.declared.token.Token.{Token}
@@ -14,10 +15,11 @@ use Rattle.ht_uninit.specs.declared.record.Removed.TheVariants.{Free, Spent}
 use Rattle.ht_uninit.specs.declared.record.Out3.{Out3}
 use Rattle.ht_uninit.specs.declared.record.Out3.TheVariants.{Mute, Open, Seen}
 use Rattle.ht_uninit.specs.ClosedSets.{IsClosedSet}
+use Rattle.ht_faults.specs.FaultList.{no_fault}
 use Rattle.ht_faults.specs.Sites.{data_net}
 use Rattle.ht_uninit.specs.Cones.{output_net}
 use Rattle.ht_uninit.specs.HeldWindows.{held_judge}
-use Rattle.ht_uninit.specs.Records.{IsUninit, IsWalkOf, UninitHolds, UninitState, held_in}
+use Rattle.ht_uninit.specs.Records.{IsUninit, IsWalkOf, UninitHolds, UninitState, given_faults, held_in}
 use Rattle.ht_uninit.specs.Rounds.{ComesTo, IsOutput, IsRemoval, again, begins, held_after, is_free, is_mute, is_open, is_removed, keeps, mutes_of, passes, removes}
 use Rattle.ht_uninit.proofs.BudgetLaws.{held_unspent}
 use Rattle.ht_uninit.proofs.ClosedLaws.{closed_stays, held_closed}
@@ -100,3 +102,19 @@ record_holds c budget faults r h =
       decided = λ large. none_open r.outs (λ o out l is.
           not_open c budget u (output_net c o) out large (h.outs o out (omega (arith, l, every)) is));
     }
+
+-- ---- the whole fault list
+
+-- all faults are given by their numbers
+pub all_given : (faults : List Fault) (which : List ℕ) → which ≡ range_with_len 0 (length faults)
+    → given_faults faults which ≡ faults
+all_given faults which is = ap (given_faults faults) is
+    ∙ sym (fill_by_all (λ k. get_or faults k no_fault) faults (length faults) no_fault refl (λ k inside. refl))
+
+numbers_below : (n a count : ℕ) → a + count ≤ n → All (λ k. k < n) (range_with_len a count)
+numbers_below n a zero within = tt
+numbers_below n a (suc count) within =
+    (omega (arith, within), numbers_below n (a + 1) count (omega (arith, within)))
+
+pub all_known : (n : ℕ) (which : List ℕ) → which ≡ range_with_len 0 n → All (λ k. k < n) which
+all_known n which is = subst (All (λ k. k < n)) (sym is) (numbers_below n 0 n (omega arith))

@@ -15,7 +15,7 @@
 //!
 //! | File | Holds |
 //! |---|---|
-//! | work | the whole: `uninit` |
+//! | work | the whole: `uninit`, and `uninit_of_all` for all faults |
 //! | uninit_record | its record |
 //! | uninit_text, record_lines | its text |
 //! | record | why a flip-flop was removed, and what the search of an output came to |
@@ -43,4 +43,4 @@ pub use theorems::{
 };
 pub use uninit_record::UninitRecord;
 pub use uninit_text::{write_uninit_body, write_uninit_total};
-pub use work::uninit;
+pub use work::{uninit, uninit_of_all};

@@ -4,11 +4,11 @@ ghost use Rattle.std.specs.Fmt.{decimal};
 ghost use Rattle.ht_faults.specs.Sites.{faults_of};
 ghost use Rattle.ht_collapse.specs.Classes.{AreClasses, is_representative};
 ghost use Rattle.ht_texts.specs.Lines.{with_lf};
-ghost use Rattle.ht_entries.specs.ProofLines.{numbered_from_1, token_text};
 ghost use Rattle.ht_uninit.specs.UninitTexts.{decision_text, decisions_text, hidden_line, removal_text, searched_text, walk_text};
 
 use crate::record::{Out3, Removed};
 use ht_collapse::Classes;
+use ht_entries::{push_indexed, push_token};
 use ht_faults::FaultList;
 use ht_net::Circuit;
 use ht_tern::Tern;
@@ -25,28 +25,6 @@ pub fn push_counted(text: &mut Vec<u8>, word: &[u8], number: u64) -> Result<(), 
 {
     text.extend_from_slice(word)?;
     push_number(text, number)
-}
-
-// Appends the line of a word and of the number, from 1, of what has this index.
-fn push_indexed(text: &mut Vec<u8>, word: &[u8], index: u32) -> Result<(), AllocError>
-    ensures { OnOk result
-        (text.new.items ≡ text.old.items ++ with_lf (numbered_from_1 word.now index)) }
-{
-    push_counted(text, word, u64::from(index) + 1)?;
-    text.extend_from_slice(b"\n")
-}
-
-// Appends the line of a token.
-fn push_token(text: &mut Vec<u8>, token: Token) -> Result<(), AllocError>
-    ensures { OnOk result (text.new.items ≡ text.old.items ++ with_lf (token_text token)) }
-{
-    match token {
-        Token::Two { var, first: false } => push_indexed(text, b"lo ", var),
-        Token::Two { var, first: true } => push_indexed(text, b"hi ", var),
-        Token::Three { var } => push_indexed(text, b"x ", var),
-        Token::Dead => text.extend_from_slice(b"dead\n"),
-        Token::Before => text.extend_from_slice(b"before\n"),
-    }
 }
 
 // Appends the line of a decision.

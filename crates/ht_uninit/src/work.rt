@@ -1,6 +1,6 @@
 //! The flip-flops that never get a definite value, the outputs that never show one, and the faults that they hide.
 ghost use Rattle.std.specs.Prelude.{◌≡◌, ◌<◌, [], length, map, IfOk};
-ghost use Rattle.std.specs.List.{All};
+ghost use Rattle.std.specs.List.{All, range_with_len};
 ghost use Rattle.ht_net.specs.Netlist.{net_count};
 ghost use Rattle.ht_faults.specs.Sites.{IsFaultSite, faults_of};
 ghost use Rattle.ht_uninit.specs.Cones.{cone_root};
@@ -128,4 +128,33 @@ pub fn uninit(
         outs,
         hidden,
     })
+}
+
+// The numbers of so many faults, rising.
+fn every_number(alloc: Global, count: u32) -> Result<Vec<u32>, AllocError>
+    ensures { IfOk result (λ every. every.items ≡ range_with_len 0 count) }
+{
+    let mut every = Vec::with_capacity(alloc, count as usize)?;
+    for k in 0..count {
+        every.push(k)?;
+    }
+    Ok(every)
+}
+
+/// The same for the whole fault list: mark i of the record is that of fault i.
+///
+/// # Errors
+/// Out of memory.
+pub fn uninit_of_all(
+    alloc: Global,
+    circuit: &Circuit,
+    faults: &FaultList,
+    budget: u64,
+) -> Result<UninitRecord, AllocError>
+    requires { faults.now ≡ faults_of circuit.now }
+    ensures answer { IfOk result (IsUninit circuit.now budget (faults_of circuit.now)) }
+    ensures holds { IfOk result (UninitHolds circuit.now budget) }
+{
+    let every = every_number(alloc, faults.len())?;
+    uninit(alloc, circuit, faults, &every, budget)
 }
