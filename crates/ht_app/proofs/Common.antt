@@ -25,8 +25,8 @@ pub use Rattle.ht_collapse.specs.Classes.{AreClasses}
 pub use Rattle.ht_demo.specs.Demo.{demo_netlist}
 pub use Rattle.ht_dictionary.specs.ObservationView.{ObservationView}
 pub use Rattle.ht_dictionary.specs.ResponseTexts.{IsMalformedResponse, row_text}
-pub use Rattle.ht_engine.specs.EngineStands.{EngineStandsFor, EngineView, HasSameWork, Makes, first_of, remaining}
-pub use Rattle.ht_engine.specs.Steps.{AreFinished, AreSteps, Settings, first_vectors}
+pub use Rattle.ht_engine.specs.EngineStands.{EngineStandsFor, EngineView, HasSameWork, Makes, remaining}
+pub use Rattle.ht_engine.specs.Steps.{AreFinished, AreSteps, Settings}
 pub use Rattle.ht_engine.specs.declared.step.Step.{Step}
 pub use Rattle.ht_engine.specs.declared.step.Step.TheVariants.{Entry, Finished, Vectors}
 pub use Rattle.ht_entries.specs.ProofLines.{line_text}
@@ -35,6 +35,7 @@ pub use Rattle.ht_files.specs.Generated.{IsGenerated}
 pub use Rattle.ht_files.specs.StepTexts.{proofs_of, proofs_so_far, tests_of}
 pub use Rattle.ht_grade.specs.Detections.{AreFirstDetections}
 pub use Rattle.ht_judge.specs.declared.judge_error.JudgeError.{JudgeError}
+pub use Rattle.ht_net.specs.Detection.{unknown_state}
 pub use Rattle.ht_net.specs.Rows.{Rows}
 pub use Rattle.ht_ports.proofs.CallLaws.{after_trans}
 pub use Rattle.ht_ports.specs.Desk.{Created, DeskView, InCall, IsFilePort, IsOtherName, NotCreated, OutCall, Writes}

@@ -3,7 +3,7 @@ use Rattle.std.proofs.Common.{◌≡◌, inl, ℕ, List, [], ◌∷◌, true, fa
 use Rattle.std.specs.Prelude.{Result, Ok, Err, Some, None}
 use Rattle.ht_app.proofs.Common.{AcceptsInputs, AreClasses, AreFinished, Asked, ChangedOnly, DeskView, Does, EndsJob}
 use Rattle.ht_app.proofs.Common.{EngineStandsFor, EngineView, HasSameWork, Out, RunError, Settings, Step, Tries, demo}
-use Rattle.ht_app.proofs.Common.{demo_netlist, first_of, first_vectors, put, reading, with_lf}
+use Rattle.ht_app.proofs.Common.{demo_netlist, put, reading, with_lf}
 use Rattle.ht_net.specs.Netlist as net
 use Rattle.ht_texts.specs.Reports.{head_line}
 use Rattle.ht_files.specs.Generated.{IsTotalOf}
@@ -33,13 +33,13 @@ says_head size seed {representatives = representatives} is classes head_is = rec
 pub total_found : {c : net.Netlist} {representatives : List ℕ} {e new : EngineView} (total : List ℕ) → e.circuit ≡ c
     → e.representatives ≡ representatives → HasSameWork e new
     → (all : (steps : List Step) × EngineStandsFor new steps
-    × AreFinished new.circuit new.representatives (first_of new) steps)
+    × AreFinished new.circuit new.representatives new.settings steps)
     → ((steps : List Step) → EngineStandsFor new steps
-    → AreFinished c representatives (first_vectors c new.settings) steps → IsTotalOf c new.settings total)
+    → AreFinished c representatives new.settings steps → IsTotalOf c new.settings total)
     → IsTotalOf c e.settings total
 total_found {c = c} {new = new} total of_c of_r same all found =
     subst (λ (s : Settings). IsTotalOf c s total) same.settings (found all.0 all.1
-    (of_circuit (λ d r. AreFinished d r (first_vectors d new.settings) all.0) new (same.circuit ∙ of_c)
+    (of_circuit (λ d r. AreFinished d r new.settings all.0) new (same.circuit ∙ of_c)
     (same.representatives ∙ of_r) all.2))
 
 -- ---- what it leaves
@@ -53,6 +53,7 @@ module _ (size seed : ℕ) where
 
   inputs : (a : DeskView) → AcceptsInputs job (basis_of no_circuit [] []) a
   inputs a = record {
+    stated = refl;
     each = λ p name is. let none : None ≡ Some name = is in absurd (cc);
     circuit = λ some. let none : false ≡ true = some in absurd (cc);
   }
@@ -67,7 +68,8 @@ module _ (size seed : ℕ) where
         ((refl, λ file. absurd file), tt) tt (inl (says, ((refl, λ file. absurd file), tt)))
 
     pub ends_by_total : {total : List ℕ} {m b : DeskView} (result : Result (Unit {0}) RunError)
-        → IsTotalOf (demo_netlist size seed) (demo_settings seed) total → Does (put Out head ∷ []) (Ok tt) a m
+        → IsTotalOf (demo_netlist size seed) (demo_settings (demo_netlist size seed) seed) total → Does
+        (put Out head ∷ []) (Ok tt) a m
         → Does (put Out total ∷ []) result m b → EndsJob job result a b
     ends_by_total {total = total} result total_is first second =
         ends_does job (no_change a) (inputs a) (put Out head ∷ put Out total ∷ []) result (does_then first second)

@@ -5,11 +5,11 @@ use Rattle.std.specs.List.{list_any}
 use Rattle.std.proofs.lemmas.List.{length-append}
 use Rattle.std.proofs.lemmas.List.Folds.{list_any-append}
 use Rattle.ht_app.proofs.Common.{AcceptsInputs, Act, AreClasses, AreFinished, AreSteps, Asked, ChangedOnly, DeskView}
-use Rattle.ht_app.proofs.Common.{Does, EndsJob, EngineStandsFor, EngineView, Entry, Finished, GenOptions, HasSameWork}
-use Rattle.ht_app.proofs.Common.{InPort, IsGenerated, JobBasis, Out, OutPort, PermitsAll, Ports, RunError, RunFiles}
-use Rattle.ht_app.proofs.Common.{Settings, Step, Tries, Vectors, WritesAll, ending, first_of, first_vectors, gen}
-use Rattle.ht_app.proofs.Common.{input_name, line_text, makes, max_text_bytes, order_of, proofs_of, proofs_so_far, put}
-use Rattle.ht_app.proofs.Common.{reading, step_acts, tests_of, with_lf, writing}
+use Rattle.ht_app.proofs.Common.{Does, EndsJob, EngineStandsFor, EngineView, Entry, Extra, Finished, GenOptions}
+use Rattle.ht_app.proofs.Common.{HasSameWork, InPort, IsGenerated, JobBasis, Out, OutPort, PermitsAll, Ports}
+use Rattle.ht_app.proofs.Common.{RunError, RunFiles, Settings, Step, Tern, Tries, Vectors, WritesAll, ending, gen}
+use Rattle.ht_app.proofs.Common.{input_name, line_text, makes, max_text_bytes, order_of, proofs_of, proofs_so_far}
+use Rattle.ht_app.proofs.Common.{put, reading, step_acts, tests_of, with_lf, writing}
 use Rattle.ht_ports.specs.declared.ports.InPort.TheVariants.{Netlist}
 use Rattle.ht_ports.specs.declared.ports.OutPort.TheVariants.{Tests, Report, Proofs}
 use Rattle.ht_net.specs.Netlist as net
@@ -34,7 +34,7 @@ end_part body total = put Proofs end_text ∷ put Report body ∷ put Out total 
 
 module _ (files : RunFiles) (c : net.Netlist) (settings : Settings) {representatives : List ℕ}
     (classes : AreClasses c representatives) {steps : List Step}
-    (are : AreSteps c representatives (first_vectors c settings) settings.budget steps) where
+    (are : AreSteps c representatives settings steps) where
   steps_written : WritesSteps files c settings (begun_acts files steps)
   steps_written = record {
     representatives = representatives;
@@ -93,20 +93,20 @@ fits steps count more short =
 -- what `write_report` says of a report
 abbrev Reports : net.Netlist → List ℕ → EngineView → List ℕ → List ℕ → Type 0
 Reports c representatives e body total = (steps : List Step) → EngineStandsFor e steps
-    → AreFinished c representatives (first_vectors c e.settings) steps → HasPlainNames c
+    → AreFinished c representatives e.settings steps → HasPlainNames c
     → length (tests_of steps) ≤ max_text_bytes → length (proofs_of steps) ≤ max_text_bytes
     → IsGenerated c e.settings (tests_of steps) (body ++ total) (proofs_of steps) total
 
 pub generated : {c : net.Netlist} {representatives : List ℕ} {old new : EngineView} {steps : List Step}
     (body total : List ℕ) → old.circuit ≡ c → old.representatives ≡ representatives → HasSameWork old new
-    → EngineStandsFor new steps → AreFinished old.circuit old.representatives (first_of old) steps → HasPlainNames c
+    → EngineStandsFor new steps → AreFinished old.circuit old.representatives old.settings steps → HasPlainNames c
     → length (tests_of steps) ≤ max_text_bytes → length (proofs_of steps) ≤ max_text_bytes
     → Reports c representatives new body total
     → IsGenerated c old.settings (tests_of steps) (body ++ total) (proofs_of steps) total
 generated {c = c} {representatives = representatives} {old = old} {steps = steps} body total of_c of_r same stands
     finished plain tests_fit proofs_fit reports =
-    let are = subst (λ (s : Settings). AreFinished c representatives (first_vectors c s) steps) (sym same.settings)
-    (of_circuit (λ d r. AreFinished d r (first_vectors d old.settings) steps) old of_c of_r finished) in
+    let are = subst (λ (s : Settings). AreFinished c representatives s steps) (sym same.settings)
+    (of_circuit (λ d r. AreFinished d r old.settings steps) old of_c of_r finished) in
     subst (λ (s : Settings). IsGenerated c s (tests_of steps) (body ++ total) (proofs_of steps) total) same.settings
     (reports steps stands are plain tests_fit proofs_fit)
 
@@ -148,12 +148,14 @@ module _ (netlist tests report proofs : List ℕ) (options : GenOptions) where
   abbrev files : RunFiles
   files = record { netlist = netlist; tests = tests; report = report; proofs = proofs }
 
-  steps_may : {c : net.Netlist} {acts : List Act} → WritesSteps files c (settings_of options) acts
+  steps_may : {start : List Tern} {c : net.Netlist} {acts : List Act}
+      → WritesSteps files c (settings_of start options) acts
       → PermitsAll (writing job) [] acts
   steps_may w = begun_permitted (writing job) refl refl
       ((refl, refl), ((refl, refl), ((refl, refl), ((refl, λ file. refl), tt)))) w
 
-  files_may : {c : net.Netlist} {acts : List Act} → WritesFiles files c (settings_of options) acts
+  files_may : {start : List Tern} {c : net.Netlist} {acts : List Act}
+      → WritesFiles files c (settings_of start options) acts
       → PermitsAll (writing job) [] acts
   files_may w = subst (PermitsAll (writing job) []) (sym w.acts_are)
       (permits_then (writing job) [] w.first (end_part w.body w.total) (steps_may w.begun)
@@ -161,7 +163,8 @@ module _ (netlist tests report proofs : List ℕ) (options : GenOptions) where
       ((refl, λ file. refl), ((refl, λ file. refl), ((refl, λ file. absurd file), ((refl, λ file. refl), tt))))))
 
   pub ends_files : {basis : JobBasis} {a m b : DeskView} → ChangedOnly (reading job) a m → AcceptsInputs job basis a
-      → (result : Result (Unit {0}) RunError) → WritesAll files basis.circuit (settings_of options) result m b
+      → (result : Result (Unit {0}) RunError)
+      → WritesAll files basis.circuit (settings_of basis.content.start options) result m b
       → EndsJob job result a b
   ends_files x inputs (Ok value) w =
       ends_tries job x inputs w.acts (Ok value) w.tries (files_may w.done) w.done tt
@@ -174,6 +177,7 @@ module _ (netlist tests report proofs : List ℕ) (options : GenOptions) where
     | inr whole ↦ ends_tries job x inputs w.acts (Err e) w.tries (files_may whole.1) tt (inr whole)
   ]
 
-  pub no_more : (p : InPort) → 1 ≤ order_of p → input_name job p ≡ None
+  pub no_more : (p : InPort) → 2 ≤ order_of job p → input_name job p ≡ None
   no_more Netlist late = absurd (omega (arith, late))
+  no_more Extra late = absurd (omega (arith, late))
   no_more port late = refl

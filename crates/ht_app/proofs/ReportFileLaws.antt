@@ -1,13 +1,13 @@
 -- The first trouble of a report that is read line by line.
-use Rattle.std.proofs.Common.{◌≡◌, ◌⊎◌, ◌^◌, inl, inr, ℕ, zero, suc, ◌+◌, ◌-◌, ◌<◌, ◌≤◌, List, [], ◌∷◌, ◌++◌, Bool, true, false, length, take, get_or, Some, refl, sym, ◌∙◌, ap, subst, arith}
+use Rattle.std.proofs.Common.{◌≡◌, ◌⊎◌, ◌^◌, inl, inr, ℕ, zero, suc, ◌+◌, ◌-◌, ◌<◌, ◌≤◌, List, [], ◌∷◌, ◌++◌, Bool, true, false, length, take, get_or, Some, refl, sym, ◌∙◌, ap, subst, arith, Option}
 use Rattle.std.specs.Prelude.{if◌then◌else◌}
 use Rattle.std.proofs.lemmas.Bool.{cases_lt}
 use Rattle.std.proofs.lemmas.List.{length-append}
 use Rattle.std.proofs.Math.Seq.{get_or-append_seam}
 use Rattle.ht_app.proofs.Common.{AreClasses, AreFine, Denied, DeskView, HasFront, HasLines, HasLongLine, IsFirst}
 use Rattle.ht_app.proofs.Common.{IsRefusedFor, JobBasis, JudgeError, LinesStop, ReadStops, ReportIsRead, RunError}
-use Rattle.ht_app.proofs.Common.{Said, StandsForFile, StandsForReport, StopsAtLine, WasRead, check, judged_error_of}
-use Rattle.ht_app.proofs.Common.{lines_of, refused_port}
+use Rattle.ht_app.proofs.Common.{Said, StandsForFile, StandsForReport, StopsAtLine, Tern, WasRead, check}
+use Rattle.ht_app.proofs.Common.{judged_error_of, lines_of}
 use Rattle.ht_ports.specs.declared.ports.InPort.TheVariants as in_port
 use Rattle.ht_net.specs.Netlist.{Netlist, IsCircuit}
 use Rattle.ht_collapse.specs.Classes.{is_representative}
@@ -38,29 +38,32 @@ item_is true i fault last said e = (refl, (let same = e in cc), (let same = e in
 item_is false i fault last said e = let other = e in cc
 
 -- what the last line says of a fault was judged
-last_agrees : (c : Netlist) (representatives : List ℕ) (list : List (List Bool)) (at there : ReportReading)
-    (budget : ℕ) (saids : List Said) (fault : ℕ) (said : Said) → SaySame representatives at there
+last_agrees : (c : Netlist) (representatives : List ℕ) (start : List Tern) (list : List (List Bool))
+    (at there : ReportReading) (budget : ℕ) (saids : List Said) (fault : ℕ) (said : Said) → SaySame representatives at
+    there
     → KeepsSaid at budget saids
     → ((i : ℕ) → i < length saids → is_representative representatives i ≡ true
-    → AgreesWithTests c list i (said_at saids i))
-    → last_item representatives there ≡ Some (Verdict fault said) → AgreesWithTests c list fault said
-last_agrees c r list at before_report budget saids fault said same kept agree says = let other = says in cc
-last_agrees c r list at (after_report b s) budget saids fault said same kept agree says = let other = says in cc
-last_agrees c r list at (in_report b []) budget saids fault said same kept agree says = let other = says in cc
-last_agrees c r list before_report (in_report b (s ∷ ss)) budget saids fault said same kept agree says = absurd same
-last_agrees c r list (after_report d t) (in_report b (s ∷ ss)) budget saids fault said same kept agree says =
+    → AgreesWithTests c start list i (said_at saids i))
+    → last_item representatives there ≡ Some (Verdict fault said) → AgreesWithTests c start list fault said
+last_agrees c r start list at before_report budget saids fault said same kept agree says = let other = says in cc
+last_agrees c r start list at (after_report b s) budget saids fault said same kept agree says = let other = says in cc
+last_agrees c r start list at (in_report b []) budget saids fault said same kept agree says = let other = says in cc
+last_agrees c r start list before_report (in_report b (s ∷ ss)) budget saids fault said same kept agree says = absurd
+    same
+last_agrees c r start list (after_report d t) (in_report b (s ∷ ss)) budget saids fault said same kept agree says =
     absurd same
-last_agrees c r list (in_report d t) (in_report b (s ∷ ss)) budget saids fault said same kept agree says =
+last_agrees c r start list (in_report d t) (in_report b (s ∷ ss)) budget saids fault said same kept agree says =
     let n = length ss in
     let is = item_is (is_representative r n) n fault (said_at (s ∷ ss) n) said says in
     let judged = agree n (omega (arith, ap length kept.1, same.counts)) is.0 in
     let heard : said_at saids n ≡ said = ap (λ l. said_at l n) kept.1 ∙ same.verdicts n is.0 ∙ is.2 in
-    subst (λ i. AgreesWithTests c list i said) is.1 (subst (AgreesWithTests c list n) heard judged)
+    subst (λ i. AgreesWithTests c start list i said) is.1 (subst (AgreesWithTests c start list n) heard judged)
 
-contradicts_nothing : (v : ReportJudgeView) (list : List (List Bool)) (lines : List (List ℕ)) → IsCircuit v.circuit
-    → JudgesReport v list lines → ¬ ContradictsTests v.circuit v.representatives list lines
-contradicts_nothing v list lines is j wrong = wrong.contradicts
-    (last_agrees v.circuit v.representatives list j.at wrong.at v.budget v.saids wrong.fault wrong.said
+contradicts_nothing : (v : ReportJudgeView) (start : List Tern) (list : List (List Bool)) (lines : List (List ℕ))
+    → IsCircuit v.circuit → JudgesReport v start list lines
+    → ¬ ContradictsTests v.circuit v.representatives start list lines
+contradicts_nothing v start list lines is j wrong = wrong.contradicts
+    (last_agrees v.circuit v.representatives start list j.at wrong.at v.budget v.saids wrong.fault wrong.said
     (one_reading v.circuit v.representatives lines j.at wrong.at is j.read wrong.read) j.kept j.agree wrong.says)
 
 module _ (v : ReportJudgeView) (basis : JobBasis) where
@@ -70,19 +73,19 @@ module _ (v : ReportJudgeView) (basis : JobBasis) where
       none (same_circuit (λ c r. IsReportFront c r (before ++ line ∷ [])) h.circuit h.representatives
       (reading_is_front v.circuit v.representatives (before ++ line ∷ []) h.judges.at h.judges.read))
   judged_is_fine before line h (Denied (Report number)) (is, inr contradicts) =
-      same_circuit (λ c r. ¬ ContradictsTests c r basis.content.list (before ++ line ∷ [])) h.circuit h.representatives
-      (contradicts_nothing v basis.content.list (before ++ line ∷ [])
+      same_circuit (λ c r. ¬ ContradictsTests c r basis.content.start basis.content.list (before ++ line ∷ [])) h.circuit h.representatives
+      (contradicts_nothing v basis.content.start basis.content.list (before ++ line ∷ [])
       (subst IsCircuit (sym h.circuit) h.well_formed) h.judges) contradicts
 
   judged_is_fine before line h error wrong = wrong
 
   pub denied_is_wrong : (before : List (List ℕ)) (line : List ℕ) → StandsForReport v basis before → (e : JudgeError)
-      → ReportLineDeniedFor v basis.content.list before line e
+      → ReportLineDeniedFor v basis.content.start basis.content.list before line e
       → (judged_error_of e ≡ NoMemory) ⊎ IsWrongInReport basis before line (judged_error_of e)
   denied_is_wrong before line h (judge.Denied (Report number)) denied = inr (
     denied.0,
     same_circuit (λ c r. (¬ IsReportFront c r (before ++ line ∷ []))
-        ⊎ ContradictsTests c r basis.content.list (before ++ line ∷ [])) h.circuit h.representatives denied.1,
+        ⊎ ContradictsTests c r basis.content.start basis.content.list (before ++ line ∷ [])) h.circuit h.representatives denied.1,
   )
   denied_is_wrong before line h judge.NoMemory denied = inl refl
   denied_is_wrong before line h e denied = absurd denied
@@ -90,9 +93,9 @@ module _ (v : ReportJudgeView) (basis : JobBasis) where
 -- ---- the first trouble
 
 -- no line says nothing
-nothing_contradicts : (c : Netlist) (representatives : List ℕ) (list : List (List Bool)) → IsCircuit c
-    → ¬ ContradictsTests c representatives list []
-nothing_contradicts c representatives list is wrong =
+nothing_contradicts : (c : Netlist) (representatives : List ℕ) (start : List Tern) (list : List (List Bool))
+    → IsCircuit c → ¬ ContradictsTests c representatives start list []
+nothing_contradicts c representatives start list is wrong =
     let same = one_reading c representatives [] before_report wrong.at is (record { readable = tt; lines_are = refl })
     wrong.read in
     silent wrong.at same wrong.says
@@ -105,11 +108,11 @@ nothing_contradicts c representatives list is wrong =
 
 module _ (basis : JobBasis) (text : List ℕ) (is : IsCircuit basis.circuit) where
   abbrev IsTrouble : ℕ → Type 0
-  IsTrouble = IsReportTrouble basis.circuit basis.representatives basis.content.list text
+  IsTrouble = IsReportTrouble basis.circuit basis.representatives basis.content.start basis.content.list text
 
   abbrev IsRefused : List (List ℕ) → Type 0
   IsRefused lines = (¬ IsReportFront basis.circuit basis.representatives lines)
-      ⊎ ContradictsTests basis.circuit basis.representatives basis.content.list lines
+      ⊎ ContradictsTests basis.circuit basis.representatives basis.content.start basis.content.list lines
 
   refused_at : (n : ℕ) → 0 < n → n ≤ length (lines_of text) → IsRefused (take n (lines_of text))
       → HasTroubleAt (IsWrongInReport basis) text n (Denied (Report (length (take (n - 1) (lines_of text)) + 1)))
@@ -118,10 +121,10 @@ module _ (basis : JobBasis) (text : List ℕ) (is : IsCircuit basis.circuit) whe
     wrong = (refl, subst IsRefused (grown_to (lines_of text) n some within) refused);
   }
 
-  contradicts_at : (n : ℕ) → ContradictsTests basis.circuit basis.representatives basis.content.list
+  contradicts_at : (n : ℕ) → ContradictsTests basis.circuit basis.representatives basis.content.start basis.content.list
       (take n (lines_of text)) → IsWrongAt (IsWrongInReport basis) text n
   contradicts_at zero wrong =
-      absurd (nothing_contradicts basis.circuit basis.representatives basis.content.list is wrong)
+      absurd (nothing_contradicts basis.circuit basis.representatives basis.content.start basis.content.list is wrong)
   contradicts_at (suc n) wrong = elim (cases_lt n (length (lines_of text))) [
     | inl inside ↦ inl (_, refused_at (suc n) (omega arith) (omega (arith, inside)) (inr wrong))
     | inr past ↦ inr (inl (omega (arith, past)))
@@ -141,7 +144,8 @@ module _ (basis : JobBasis) (text : List ℕ) (is : IsCircuit basis.circuit) whe
     none = subst (λ l. ¬ IsReportFront basis.circuit basis.representatives l) (sym grown) none;
   }))
   refused_line before line there grown (inr wrong) =
-      inr (subst (ContradictsTests basis.circuit basis.representatives basis.content.list) (sym grown) wrong)
+      inr (subst (ContradictsTests basis.circuit basis.representatives basis.content.start basis.content.list)
+      (sym grown) wrong)
 
   pub first_refused : (before : List (List ℕ)) (line : List ℕ) (number : ℕ) → AreFine (IsWrongInReport basis) before
       → HasFront (before ++ line ∷ []) text → IsWrongInReport basis before line (Denied (Report number))
@@ -181,13 +185,14 @@ module _ (basis : JobBasis) (text : List ℕ) (is : IsCircuit basis.circuit) whe
 
 -- ---- why reading a report ends the run
 
-module _ (netlist tests report proofs name : List ℕ) (basis : JobBasis) (is : IsCircuit basis.circuit) (a b : DeskView)
+module _ (netlist tests report proofs : List ℕ) (start : Option (List ℕ)) (name : List ℕ) (basis : JobBasis)
+    (is : IsCircuit basis.circuit) (a b : DeskView)
   where
   abbrev Stops : RunError → Type 0
-  Stops = ReadStops (check netlist tests report proofs) basis in_port.Report name a b
+  Stops = ReadStops (check netlist tests report proofs start) basis in_port.Report name a b
 
   refuses : (number : ℕ) (IsSo : List ℕ → Type 0) → ((text : List ℕ) → IsSo text
-      → IsRefusedFor (check netlist tests report proofs) basis (Denied (Report number)) text)
+      → IsRefusedFor (check netlist tests report proofs start) basis (Denied (Report number)) text)
       → WasRead in_port.Report name IsSo a → Stops (Denied (Report number))
   refuses number IsSo so read = (refl, read_so _ so read)
 
@@ -220,12 +225,16 @@ module _ (netlist tests report proofs name : List ℕ) (basis : JobBasis) (is : 
 pub report_is_read : (v : ReportJudgeView) (basis : JobBasis) (name : List ℕ) (a : DeskView)
     → (read : StandsForFile (StandsForReport v basis) (IsWrongInReport basis) (2 ^ 64 - 1) in_port.Report name a) (budget : ℕ)
     (saids : List Said) → basis.content.budget ≡ budget → basis.content.saids ≡ saids
-    → IsTrueReport v.circuit v.representatives basis.content.list read.lines budget saids → ReportIsRead basis name a
+    → IsTrueReport v.circuit v.representatives basis.content.start basis.content.list read.lines budget saids
+    → ReportIsRead basis name a
 report_is_read v basis name a read budget saids same_budget same_saids whole =
     let says = basis.content in
-    let is = same_circuit (λ c r. IsTrueReport c r says.list read.lines says.budget says.saids) read.stands.circuit read.stands.representatives
-    (subst (λ n. IsTrueReport v.circuit v.representatives says.list read.lines n says.saids) (sym same_budget)
-    (subst (λ l. IsTrueReport v.circuit v.representatives says.list read.lines budget l) (sym same_saids) whole)) in
+    let is = same_circuit (λ c r. IsTrueReport c r says.start says.list read.lines says.budget says.saids)
+    read.stands.circuit read.stands.representatives
+    (subst (λ n. IsTrueReport v.circuit v.representatives says.start says.list read.lines n says.saids)
+    (sym same_budget)
+    (subst (λ l. IsTrueReport v.circuit v.representatives says.start says.list read.lines budget l) (sym same_saids)
+    whole)) in
     record {
       each = is.report.search.saids_are.each;
       agrees = is.agrees;

@@ -1,6 +1,7 @@
 -- What the reading of a file leaves that is judged line by line.
-use Rattle.std.specs.Prelude.{◌≡◌, ◌⊎◌, ◌<◌, ◌≤◌, ◌+◌, ◌++◌, ◌∷◌, ℕ, List, [], Bool, length, map, take, get_or}
+use Rattle.std.specs.Prelude.{◌≡◌, ◌⊎◌, ◌<◌, ◌≤◌, ◌+◌, ◌++◌, ◌∷◌, ℕ, List, [], Bool, Option, Vec, length, map, take, get_or, MatchOption}
 use Rattle.std.specs.List.{All}
+use Rattle.std.specs.declared.alloc.Global.{Global}
 use Rattle.ht_ports.specs.Desk.{DeskView}
 use Rattle.ht_ports.specs.LineRule.{lines_of, max_text_bytes}
 use Rattle.ht_ports.specs.declared.ports.InPort.{InPort}
@@ -11,6 +12,7 @@ use Rattle.ht_tern.specs.declared.tern.Tern.{Tern}
 use Rattle.ht_net.specs.Rows.{Rows}
 use Rattle.ht_dictionary.specs.ObservationView.{ObservationView}
 use Rattle.ht_dictionary.specs.ResponseTexts.{row_text}
+use Rattle.ht_texts.specs.StartTexts.{IsStartLine}
 use Rattle.ht_texts.specs.Tests.{IsTooLong, vector_text}
 use Rattle.ht_texts.specs.Verdicts.{said_at}
 use Rattle.ht_texts.specs.SearchReports.{IsReportFront}
@@ -101,20 +103,21 @@ pub record StandsForReport (v : ReportJudgeView) (basis : JobBasis) (lines : Lis
   pub well_formed : IsCircuit basis.circuit
   pub circuit : v.circuit ≡ basis.circuit
   pub representatives : v.representatives ≡ basis.representatives
-  pub judges : JudgesReport v basis.content.list lines
+  pub judges : JudgesReport v basis.content.start basis.content.list lines
 
 -- the line isn't one of a report after these, or contradicts the tests
 abbrev pub IsWrongInReport : JobBasis → List (List ℕ) → List ℕ → RunError → Type 0
 IsWrongInReport basis before line (Denied (Report number)) = (number ≡ length before + 1)
     × ((¬ IsReportFront basis.circuit basis.representatives (before ++ line ∷ []))
-    ⊎ ContradictsTests basis.circuit basis.representatives basis.content.list (before ++ line ∷ []))
+    ⊎ ContradictsTests basis.circuit basis.representatives basis.content.start basis.content.list
+    (before ++ line ∷ []))
 IsWrongInReport basis before line other = ⊥
 
 -- The report of this name says its part of the basis, and one verdict for each fault, which agrees with the tests.
 pub record ReportIsRead (basis : JobBasis) (name : List ℕ) (old : DeskView) : Type 0 where
   pub each : length basis.content.saids ≡ length (faults_of basis.circuit)
   pub agrees : (i : ℕ) → IsOwn basis.circuit basis.representatives i
-      → AgreesWithTests basis.circuit basis.content.list i (said_at basis.content.saids i)
+      → AgreesWithTests basis.circuit basis.content.start basis.content.list i (said_at basis.content.saids i)
   pub read : WasRead in_port.Report name (IsGoodReport basis.circuit basis.representatives basis.content) old
 
 -- ---- the proofs
@@ -141,7 +144,15 @@ pub record ProofsAreRead (c : Netlist) (representatives : List ℕ) (content : C
       → HasEntry content.entries i
   pub read : WasRead in_port.Proofs name (AreGoodProofs c representatives content) old
 
--- ---- the tests, and the responses
+-- ---- the start, the tests, and the responses
+
+-- The start is that of the first of these lines, or there is none that has it; and there is no second line. A line that
+-- is missing is read as an empty one.
+pub record StandsForStart (start : Option (Vec Tern Global)) (basis : JobBasis) (lines : List (List ℕ)) : Type 0 where
+  pub line : MatchOption start
+      ((values : List Tern) → ¬ IsStartLine (length basis.circuit.dffs) (get_or lines 0 []) values)
+      (λ values. IsStartLine (length basis.circuit.dffs) (get_or lines 0 []) values.items)
+  pub only : length lines ≤ 1
 
 -- The vectors are those of these lines of tests.
 pub record StandsForTests (v : Rows) (basis : JobBasis) (lines : List (List ℕ)) : Type 0 where

@@ -2,6 +2,8 @@
 use Rattle.std.specs.Prelude.{◌≡◌, ◌++◌, ◌∷◌, ℕ, List, [], flat_map, codes, Some, Option, None, Bool, length}
 use Rattle.ht_ports.specs.declared.ports.OutPort.{OutPort}
 use Rattle.ht_ports.specs.declared.ports.OutPort.TheVariants.{Tests, Report, Proofs, Out}
+use Rattle.ht_net.specs.Netlist as net
+use Rattle.ht_net.specs.Detection.{unknown_state}
 use Rattle.ht_bench.specs.Normal.{normal_text}
 use Rattle.ht_texts.specs.Lines.{with_lf}
 use Rattle.ht_texts.specs.Reports.{head_line, report_text, report_sums, total_line}
@@ -12,7 +14,7 @@ use Rattle.ht_valid.specs.TrueVerdicts.{AreDecided, HaveTrueVerdicts}
 use Rattle.ht_demo.specs.Demo.{demo_netlist}
 use Rattle.ht_engine.specs.declared.step.Step.{Step}
 use Rattle.ht_engine.specs.declared.step.Step.TheVariants.{Vectors, Entry, Finished}
-use Rattle.ht_engine.specs.Steps.{AreSteps, Settings, first_vectors}
+use Rattle.ht_engine.specs.Steps.{AreSteps, Settings}
 use Rattle.ht_files.specs.Generated.{IsGenerated, IsTotalOf}
 use Rattle.ht_files.specs.StepTexts.{proofs_of, proofs_so_far, step_text, tests_of}
 use Rattle.ht_faults.specs.Sites.{faults_of}
@@ -35,7 +37,6 @@ use Rattle.ht_tern.specs.declared.tern.Tern.{Tern}
 use Rattle.ht_dictionary.specs.Diagnoses.{Diagnoses}
 use Rattle.ht_dictionary.specs.DiagnosisTexts.{diagnosis_text, diagnosis_total}
 use Rattle.ht_dictionary.specs.DiagnosisView.{DiagnosisView}
-use Rattle.ht_net.specs.Netlist as net
 
 -- ---- one file, and its total line on Out
 
@@ -81,7 +82,7 @@ pub record WritesSteps (files : RunFiles) (c : net.Netlist) (settings : Settings
   pub representatives : List ℕ
   pub steps : List Step
   pub classes : AreClasses c representatives
-  pub steps_are : AreSteps c representatives (first_vectors c settings) settings.budget steps
+  pub steps_are : AreSteps c representatives settings steps
   pub acts_are : acts ≡ creation files ++ put Proofs (proofs_so_far []) ∷ flat_map step_acts steps
 
 -- All steps, and then the end of the proofs and the report. The three files and the total line are those of a finished
@@ -97,9 +98,10 @@ pub record WritesFiles (files : RunFiles) (c : net.Netlist) (settings : Settings
 
 -- ---- `demo`
 
--- the budget of each search, how many random vectors come first, and their seed
-abbrev pub demo_settings : ℕ → Settings
-demo_settings seed = record { budget = DEMO_BUDGET; random = DEMO_RANDOM; seed = seed }
+-- the budget of each search, how many random vectors come first, and their seed, from all-unknown
+abbrev pub demo_settings : net.Netlist → ℕ → Settings
+demo_settings c seed =
+    record { budget = DEMO_BUDGET; random = DEMO_RANDOM; seed = seed; start = unknown_state c }
 
 -- The head line of a report on the netlist is said.
 pub record SaysHead (size seed : ℕ) (acts : List Act) : Type 0 where
@@ -113,18 +115,19 @@ pub record SaysTotals (size seed : ℕ) (acts : List Act) : Type 0 where
   pub first : List Act
   pub total : List ℕ
   pub head : SaysHead size seed first
-  pub total_is : IsTotalOf (demo_netlist size seed) (demo_settings seed) total
+  pub total_is : IsTotalOf (demo_netlist size seed) (demo_settings (demo_netlist size seed) seed) total
   pub acts_are : acts ≡ first ++ put Out total ∷ []
 
 -- ---- `sim`
 
--- The report of a circuit over these vectors, and its total line. A fault that represents its class has its own
--- verdict, and every other names its representative.
-pub record IsReportOf (c : Netlist) (list : List (List Bool)) (report total : List ℕ) : Type 0 where
+-- The report of a circuit over these vectors from a start, and its total line. A fault that represents its class has
+-- its own verdict, and every other names its representative.
+pub record IsReportOf (c : Netlist) (start : List Tern) (list : List (List Bool)) (report total : List ℕ)
+    : Type 0 where
   pub representatives : List ℕ
   pub places : List (Option Place)
   pub classes : AreClasses c representatives
-  pub detections : AreFirstDetections c representatives list places
+  pub detections : AreFirstDetections c representatives start list places
   pub report_is : report ≡ report_text c representatives None (saids_of places)
   pub total_is : total ≡ with_lf (total_line (report_sums representatives None (saids_of places)))
 
@@ -170,12 +173,13 @@ pub record IsUninitReport (c : net.Netlist) (budget : ℕ) (report total : List 
 
 -- What a command does to its outputs, once its inputs say the basis.
 abbrev pub MakesOutput : Asked → JobBasis → List Act → Type 0
-MakesOutput (sim netlist tests report) basis acts =
-    WritesFile Report report (λ body total. IsReportOf basis.circuit basis.content.list (body ++ total) total) acts
+MakesOutput (sim netlist tests report start) basis acts =
+    WritesFile Report report
+    (λ body total. IsReportOf basis.circuit basis.content.start basis.content.list (body ++ total) total) acts
 MakesOutput (gen netlist tests report proofs options) basis acts =
     WritesFiles (record { netlist = netlist; tests = tests; report = report; proofs = proofs }) basis.circuit
-    (settings_of options) acts
-MakesOutput (check netlist tests report proofs) basis acts = AreTrue basis × (acts ≡ put Out (codes "valid\n") ∷ [])
+    (settings_of basis.content.start options) acts
+MakesOutput (check netlist tests report proofs start) basis acts = AreTrue basis × (acts ≡ put Out (codes "valid\n") ∷ [])
 MakesOutput (norm netlist out) basis acts = acts ≡ make Report out ∷ put Report (normal_text basis.circuit) ∷ []
 MakesOutput (demo size seed) basis acts = SaysTotals size seed acts
 MakesOutput (compact netlist tests out) basis acts =
@@ -190,6 +194,6 @@ MakesOutput (uninit netlist out budget) basis acts =
 abbrev pub BeginsOutput : Asked → JobBasis → List Act → Type 0
 BeginsOutput (gen netlist tests report proofs options) basis acts =
     WritesSteps (record { netlist = netlist; tests = tests; report = report; proofs = proofs }) basis.circuit
-    (settings_of options) acts
+    (settings_of basis.content.start options) acts
 BeginsOutput (demo size seed) basis acts = SaysHead size seed acts
 BeginsOutput job basis acts = ⊥

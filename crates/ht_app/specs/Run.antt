@@ -41,7 +41,7 @@ pub record FailsToRead (job : Asked) (old new : DeskView) : Type 0 where
   pub reads : input_name job port ≡ Some name
   pub before : AcceptsBefore job basis port old
   pub lacks : IsTrue old.steady → ¬ Holds old name
-  pub held : IsTrue old.steady → (p : InPort) (n : List ℕ) → order_of p < order_of port → input_name job p ≡ Some n
+  pub held : IsTrue old.steady → (p : InPort) (n : List ℕ) → order_of job p < order_of job port → input_name job p ≡ Some n
       → Holds old n
 
 -- a fault of writing was counted, and the desk isn't steady

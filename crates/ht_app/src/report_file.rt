@@ -1,5 +1,5 @@
 //! The report, from its file to what it claims.
-ghost use Rattle.std.specs.Prelude.{◌≡◌, List, ℕ, length, IfOk, IfErr};
+ghost use Rattle.std.specs.Prelude.{◌≡◌, List, ℕ, Option, length, IfOk, IfErr};
 ghost use Rattle.ht_ports.specs.Desk.{InCall};
 ghost use Rattle.ht_ports.specs.declared.ports.InPort.TheVariants as in_port;
 ghost use Rattle.ht_net.specs.Netlist.{IsCircuit};
@@ -49,7 +49,7 @@ impl<'c> LineJudge for ReportJudge<'c> {
 }
 
 /// Opens the report and reads what it claims, up to the first line that is malformed or contradicts the tests, which
-/// detect the representatives at these places first.
+/// detect the representatives at these places first, from the start.
 ///
 /// # Errors
 /// - `ReadFault`: the desk counted a fault.
@@ -70,14 +70,15 @@ pub fn read_report<D: Desk>(
     ensures frame { InCall in_port.Report (D.view desk.old) (D.view desk.new) }
     ensures budget { IfOk result (λ claims. IsBudget claims.budget) }
     ensures read { (content : Content)
-        → AreFirstDetections circuit.now listed.now.classes content.list places.now
+        → AreFirstDetections circuit.now listed.now.classes content.start content.list places.now
         → IfOk result (λ claims. content.budget ≡ claims.budget
         → content.saids ≡ claims.saids.items → ReportIsRead
         (check_basis circuit.now listed.now.classes content) name.now (D.view desk.old)) }
-    ensures stops { (netlist tests report proofs : List ℕ) (content : Content)
-        → AreFirstDetections circuit.now listed.now.classes content.list places.now
+    ensures stops { (netlist tests report proofs : List ℕ) (start_file : Option (List ℕ))
+        (content : Content)
+        → AreFirstDetections circuit.now listed.now.classes content.start content.list places.now
         → HasShortNames circuit.now
-        → IfErr result (ReadStops (asked.check netlist tests report proofs)
+        → IfErr result (ReadStops (asked.check netlist tests report proofs start_file)
         (check_basis circuit.now listed.now.classes content) in_port.Report name.now
         (D.view desk.old) (D.view desk.new)) }
 {

@@ -12,6 +12,7 @@ told_with budget random seed = Some (gen (codes "n") (codes "t") (codes "r") (co
   budget = budget;
   random = random;
   seed = seed;
+  start = None;
 }))
 
 -- a budget alone
@@ -86,13 +87,20 @@ demos : map (λ words. asked (codes "demo" ∷ words)) (
 unfolding asked given parts
 demos = refl
 
--- `check` has four names and no option
+-- `check` has four names, and may have a start
+abbrev checked : Option Text → Option Asked
+checked start = Some (check (codes "n") (codes "t") (codes "r") (codes "p") start)
+
 checks : map (λ words. asked (codes "check" ∷ words)) (
     (codes "n" ∷ codes "t" ∷ codes "r" ∷ codes "p" ∷ [])
     ∷ (codes "n" ∷ codes "t" ∷ codes "r" ∷ [])
     ∷ (codes "n" ∷ codes "t" ∷ codes "r" ∷ codes "p" ∷ codes "--budget=5" ∷ [])
+    ∷ (codes "n" ∷ codes "t" ∷ codes "r" ∷ codes "p" ∷ codes "--start" ∷ codes "s" ∷ [])
+    ∷ (codes "--start=-s" ∷ codes "n" ∷ codes "t" ∷ codes "r" ∷ codes "p" ∷ [])
+    ∷ (codes "n" ∷ codes "t" ∷ codes "r" ∷ codes "p" ∷ codes "--start" ∷ codes "-s" ∷ [])
+    ∷ (codes "n" ∷ codes "t" ∷ codes "r" ∷ codes "p" ∷ codes "--start=s" ∷ codes "--start=s" ∷ [])
     ∷ [])
-    ≡ Some (check (codes "n") (codes "t") (codes "r") (codes "p")) ∷ None ∷ None ∷ []
+    ≡ checked None ∷ None ∷ None ∷ checked (Some (codes "s")) ∷ checked (Some (codes "-s")) ∷ None ∷ None ∷ []
 unfolding asked given parts
 checks = refl
 

@@ -15,17 +15,19 @@ use Rattle.ht_asked.specs.Numbers.{number_in, number_or}
 abbrev pub words_of : List (String Global) → List Text
 words_of = map (λ s. string_bytes s)
 
--- what the options of `gen` say: the budget of each search, how many random vectors come first, and their seed
+-- what the options of `gen` say: the budget of each search, how many random vectors come first, their seed, and the file
+-- of the start, if one is stated
 pub record GenOptions : Type 0 where
   pub budget : ℕ
   pub random : ℕ
   pub seed : ℕ
+  pub start : Option Text
 
--- a command with the names of its files, and with its numbers
+-- a command with the names of its files, of which the start's may be left out, and with its numbers
 pub data Asked : Type 0 where
-  sim : Text → Text → Text → Asked
+  sim : Text → Text → Text → Option Text → Asked
   gen : Text → Text → Text → Text → GenOptions → Asked
-  check : Text → Text → Text → Text → Asked
+  check : Text → Text → Text → Text → Option Text → Asked
   norm : Text → Text → Asked
   demo : ℕ → ℕ → Asked
   compact : Text → Text → Text → Asked
@@ -48,12 +50,19 @@ abbrev pub of_four : (Text → Text → Text → Text → Asked) → List Text �
 of_four job (first ∷ second ∷ third ∷ fourth ∷ []) = Some (job first second third fourth)
 of_four job _ = None
 
--- `sim NETLIST TESTS REPORT`
+-- `sim NETLIST TESTS REPORT [--start FILE]`
+abbrev pub sim_of : List Text → List (Option Text) → Option Asked
+sim_of (netlist ∷ tests ∷ report ∷ []) (start ∷ []) = Some (sim netlist tests report start)
+sim_of _ _ = None
+
 abbrev pub sim_command : Command
 sim_command = record {
   name = codes "sim";
-  form = names_form (codes "netlist" ∷ codes "tests" ∷ codes "report" ∷ []);
-  asks = λ g. of_three sim g.positionals;
+  form = record {
+    positionals = codes "netlist" ∷ codes "tests" ∷ codes "report" ∷ [];
+    options = codes "start" ∷ [];
+  };
+  asks = λ g. sim_of g.positionals g.options;
 }
 
 -- the budget of a search, where the option's text is one or is left out
@@ -68,17 +77,17 @@ random_of = number_or DEFAULT_RANDOM 0 MAX_RANDOM
 abbrev pub seed_of : Option Text → Option ℕ
 seed_of = number_or DEFAULT_SEED 0 MAX_SEED
 
--- the options, where each of the three has a number
-abbrev pub options_with : Option ℕ → Option ℕ → Option ℕ → Option GenOptions
-options_with (Some budget) (Some random) (Some seed) =
-    Some (record { budget = budget; random = random; seed = seed })
-options_with _ _ _ = None
+-- the options, where each of the first three has a number
+abbrev pub options_with : Option ℕ → Option ℕ → Option ℕ → Option Text → Option GenOptions
+options_with (Some budget) (Some random) (Some seed) start =
+    Some (record { budget = budget; random = random; seed = seed; start = start })
+options_with _ _ _ _ = None
 
--- `gen NETLIST TESTS REPORT PROOFS [--budget N] [--random N] [--seed S]`
+-- `gen NETLIST TESTS REPORT PROOFS [--budget N] [--random N] [--seed S] [--start FILE]`
 abbrev pub gen_of : List Text → List (Option Text) → Option Asked
-gen_of (netlist ∷ tests ∷ report ∷ proofs ∷ []) (budget ∷ random ∷ seed ∷ []) = option_map
+gen_of (netlist ∷ tests ∷ report ∷ proofs ∷ []) (budget ∷ random ∷ seed ∷ start ∷ []) = option_map
     (gen netlist tests report proofs)
-    (options_with (budget_of budget) (random_of random) (seed_of seed))
+    (options_with (budget_of budget) (random_of random) (seed_of seed) start)
 gen_of _ _ = None
 
 abbrev pub gen_command : Command
@@ -86,17 +95,24 @@ gen_command = record {
   name = codes "gen";
   form = record {
     positionals = codes "netlist" ∷ codes "tests" ∷ codes "report" ∷ codes "proofs" ∷ [];
-    options = codes "budget" ∷ codes "random" ∷ codes "seed" ∷ [];
+    options = codes "budget" ∷ codes "random" ∷ codes "seed" ∷ codes "start" ∷ [];
   };
   asks = λ g. gen_of g.positionals g.options;
 }
 
--- `check NETLIST TESTS REPORT PROOFS`
+-- `check NETLIST TESTS REPORT PROOFS [--start FILE]`
+abbrev pub check_of : List Text → List (Option Text) → Option Asked
+check_of (netlist ∷ tests ∷ report ∷ proofs ∷ []) (start ∷ []) = Some (check netlist tests report proofs start)
+check_of _ _ = None
+
 abbrev pub check_command : Command
 check_command = record {
   name = codes "check";
-  form = names_form (codes "netlist" ∷ codes "tests" ∷ codes "report" ∷ codes "proofs" ∷ []);
-  asks = λ g. of_four check g.positionals;
+  form = record {
+    positionals = codes "netlist" ∷ codes "tests" ∷ codes "report" ∷ codes "proofs" ∷ [];
+    options = codes "start" ∷ [];
+  };
+  asks = λ g. check_of g.positionals g.options;
 }
 
 -- `norm NETLIST OUT`

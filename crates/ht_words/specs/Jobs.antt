@@ -8,10 +8,10 @@ use Rattle.ht_words.specs.declared.job.WordsFault.TheVariants.{Usage}
 
 -- what words ask for where they ask for the job
 abbrev pub asked_by : Job → Asked
-asked_by (job.Sim netlist tests report) = sim netlist tests report
-asked_by (job.Gen files budget random seed) = gen files.netlist files.tests files.report files.proofs
-    (record { budget = budget; random = random; seed = seed })
-asked_by (job.Check files) = check files.netlist files.tests files.report files.proofs
+asked_by (job.Sim netlist tests report start) = sim netlist tests report start
+asked_by (job.Gen files budget random seed start) = gen files.netlist files.tests files.report files.proofs
+    (record { budget = budget; random = random; seed = seed; start = start })
+asked_by (job.Check files start) = check files.netlist files.tests files.report files.proofs start
 asked_by (job.Norm netlist out) = norm netlist out
 asked_by (job.Demo size seed) = demo size seed
 asked_by (job.Compact netlist tests out) = compact netlist tests out

@@ -54,14 +54,22 @@ fn with_tests<'a>(alloc: Global, name: &'a str) -> Result<Command<'a>, AllocErro
         .arg(positional(alloc, "tests"))
 }
 
-/// A command with the arguments of `sim`, which `gen` and `check` have too: `NETLIST TESTS REPORT`.
+/// A command whose first arguments are `NETLIST TESTS REPORT`.
 fn with_report<'a>(alloc: Global, name: &'a str) -> Result<Command<'a>, AllocError>
-    ensures { IfOk result (λ c. app_of c ≡ app_with name.entry.now sim_command.form) }
+    ensures { IfOk result (λ c. app_of c ≡ app_with name.entry.now
+        (names_form (codes "netlist" ∷ codes "tests" ∷ codes "report" ∷ []))) }
 {
     with_tests(alloc, name)?.arg(positional(alloc, "report"))
 }
 
-/// `gen NETLIST TESTS REPORT PROOFS [--budget N] [--random N] [--seed S]`.
+/// `sim NETLIST TESTS REPORT [--start FILE]`.
+fn define_sim<'a>(alloc: Global) -> Result<Command<'a>, AllocError>
+    ensures { IfOk result (λ c. app_of c ≡ app_with sim_command.name sim_command.form) }
+{
+    with_report(alloc, "sim")?.arg(option(alloc, "start"))
+}
+
+/// `gen NETLIST TESTS REPORT PROOFS [--budget N] [--random N] [--seed S] [--start FILE]`.
 fn define_gen<'a>(alloc: Global) -> Result<Command<'a>, AllocError>
     ensures { IfOk result (λ c. app_of c ≡ app_with gen_command.name gen_command.form) }
 {
@@ -69,14 +77,17 @@ fn define_gen<'a>(alloc: Global) -> Result<Command<'a>, AllocError>
         .arg(positional(alloc, "proofs"))?
         .arg(option(alloc, "budget"))?
         .arg(option(alloc, "random"))?
-        .arg(option(alloc, "seed"))
+        .arg(option(alloc, "seed"))?
+        .arg(option(alloc, "start"))
 }
 
-/// `check NETLIST TESTS REPORT PROOFS`.
+/// `check NETLIST TESTS REPORT PROOFS [--start FILE]`.
 fn define_check<'a>(alloc: Global) -> Result<Command<'a>, AllocError>
     ensures { IfOk result (λ c. app_of c ≡ app_with check_command.name check_command.form) }
 {
-    with_report(alloc, "check")?.arg(positional(alloc, "proofs"))
+    with_report(alloc, "check")?
+        .arg(positional(alloc, "proofs"))?
+        .arg(option(alloc, "start"))
 }
 
 /// `demo SIZE SEED`.
@@ -119,7 +130,7 @@ pub fn definition<'a>(alloc: Global, word: &str) -> Result<Option<Command<'a>>, 
         (λ found. IfSome found (λ c. is_simple_and_free (app_of c) ≡ true)) }
 {
     match word {
-        "sim" => Ok(Some(with_report(alloc, "sim")?)),
+        "sim" => Ok(Some(define_sim(alloc)?)),
         "gen" => Ok(Some(define_gen(alloc)?)),
         "check" => Ok(Some(define_check(alloc)?)),
         "norm" => Ok(Some(with_out(alloc, "norm")?)),

@@ -30,6 +30,8 @@ pub enum Job {
         tests: FileName,
         /// The report to write.
         report: FileName,
+        /// The start to read, if one is stated.
+        start: Option<FileName>,
     },
     /// Generates tests for the netlist, and reports each fault.
     Gen {
@@ -41,11 +43,15 @@ pub enum Job {
         random: u32,
         /// The seed of the random vectors.
         seed: u64,
+        /// The start to read, if one is stated.
+        start: Option<FileName>,
     },
     /// Judges the tests, the report and the proofs that a search wrote.
     Check {
         /// The files to read.
         files: RunFiles,
+        /// The start to read, if one is stated.
+        start: Option<FileName>,
     },
     /// Writes the netlist in its normal form.
     Norm {

@@ -49,9 +49,10 @@ fn is_job(job: &Job, names: &[&str]) -> bool {
             netlist,
             tests,
             report,
-        } => are_three("sim", netlist, tests, report, names),
-        Job::Gen { files, .. } => are_files("gen", files, names),
-        Job::Check { files } => are_files("check", files, names),
+            start,
+        } => start.is_none() && are_three("sim", netlist, tests, report, names),
+        Job::Gen { files, start, .. } => start.is_none() && are_files("gen", files, names),
+        Job::Check { files, start } => start.is_none() && are_files("check", files, names),
         Job::Norm { netlist, out } => are_two("norm", netlist, out, names),
         Job::Demo { .. } => false,
         Job::Compact {
@@ -147,6 +148,13 @@ const ROWS: &[(&[&str], &[&str])] = &[
     (&["demo", "0", "1"], &[]),
     (&["gen", "n", "t", "r", "p", "--help"], &[]),
     (&["norm", "n"], &[]),
+    (&["norm", "n", "o", "--start", "s"], &[]),
+    (&["sim", "n", "t", "r", "--start"], &[]),
+    (&["sim", "n", "t", "r", "--start", "-s"], &[]),
+    (
+        &["check", "n", "t", "r", "p", "--start=s", "--start=s"],
+        &[],
+    ),
     (&["norm", "n", "o", "x"], &[]),
     (&["norm", "n", "o", "--help"], &[]),
 ];
@@ -156,6 +164,61 @@ fn words_of_a_form_give_its_names_and_others_are_usage(rt: HostRuntime) -> Resul
     for row in ROWS {
         let (words, names) = *row;
         assert!(rt; asks(rt.alloc(), words, names)?);
+    }
+    Ok(())
+}
+
+// The name of the start that the answer has.
+fn start_in(answer: &Result<Job, WordsFault>) -> Option<&str> {
+    match answer {
+        Ok(
+            Job::Sim {
+                start: Some(name),
+                ..
+            },
+        ) => Some(name.as_str()),
+        Ok(
+            Job::Gen {
+                start: Some(name),
+                ..
+            },
+        ) => Some(name.as_str()),
+        Ok(
+            Job::Check {
+                start: Some(name),
+                ..
+            },
+        ) => Some(name.as_str()),
+        _ => None,
+    }
+}
+
+fn has_start(alloc: Global, words: &[&str], name: &str) -> Result<bool, AllocError> {
+    let list = words_of(alloc, words)?;
+    let answer = command(alloc, &list);
+    Ok(match start_in(&answer) {
+        Some(text) => text == name,
+        None => false,
+    })
+}
+
+/// Words, and the name of the start that they give.
+const STARTS: &[(&[&str], &str)] = &[
+    (&["sim", "n", "t", "r", "--start", "s"], "s"),
+    (&["sim", "--start=-s", "n", "t", "r"], "-s"),
+    (&["sim", "n", "--start", "-", "t", "r"], "-"),
+    (
+        &["gen", "n", "t", "r", "p", "--start", "s", "--seed=5"],
+        "s",
+    ),
+    (&["check", "n", "t", "r", "p", "--start="], ""),
+];
+
+#[test]
+fn words_of_a_start_give_its_name(rt: HostRuntime) -> Result<(), Fail> {
+    for row in STARTS {
+        let (words, name) = *row;
+        assert!(rt; has_start(rt.alloc(), words, name)?);
     }
     Ok(())
 }

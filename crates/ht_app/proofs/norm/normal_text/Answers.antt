@@ -12,9 +12,9 @@ reads : (g : given.Over) (c : In_ok-circuit g) (out : List ℕ)
     → HasReadTo (norm c.args.netlist.now out) (basis_of c.in_ok-circuit.circuit [] []) 1 (g.D.Desk.view c.args.desk.now)
     (g.D.Desk.view c.read_netlist.new.desk)
 reads g c out = c.in_ok-circuit.ensures.read (norm c.args.netlist.now out) (basis_of c.in_ok-circuit.circuit [] [])
-    refl refl (λ text good. good)
+    refl (λ none. refl) refl (λ text good. good)
 
-no_more : (netlist out : List ℕ) (p : InPort) → 1 ≤ order_of p → input_name (norm netlist out) p ≡ None
+no_more : (netlist out : List ℕ) (p : InPort) → 1 ≤ order_of (norm netlist out) p → input_name (norm netlist out) p ≡ None
 no_more netlist out Netlist late = absurd (omega (arith, late))
 no_more netlist out p late = refl
 

@@ -11,9 +11,9 @@ reads : (g : given.Over) (c : In_ok-circuit g) (out : List ℕ)
     → HasReadTo (uninit c.args.netlist.now out c.args.budget) (basis_of c.in_ok-circuit.circuit [] []) 1
     (g.D.Desk.view c.args.desk.now) (g.D.Desk.view c.read_netlist.new.desk)
 reads g c out = c.in_ok-circuit.ensures.read (uninit c.args.netlist.now out c.args.budget)
-    (basis_of c.in_ok-circuit.circuit [] []) refl refl (λ text good. good)
+    (basis_of c.in_ok-circuit.circuit [] []) refl (λ none. refl) refl (λ text good. good)
 
-no_more : (netlist out : List ℕ) (budget : ℕ) (p : InPort) → 1 ≤ order_of p
+no_more : (netlist out : List ℕ) (budget : ℕ) (p : InPort) → 1 ≤ order_of (uninit netlist out budget) p
     → input_name (uninit netlist out budget) p ≡ None
 no_more netlist out budget Netlist late = absurd (omega (arith, late))
 no_more netlist out budget p late = refl

@@ -1,4 +1,4 @@
-use Rattle.std.proofs.Common.{◌++◌, ◌∷◌, [], ◌∙◌, List, ℕ, rules, ◌≡◌, ◌≤◌, ◌+◌, length, arith}
+use Rattle.std.proofs.Common.{◌++◌, ◌∷◌, [], ◌∙◌, List, ℕ, rules, ◌≡◌, ◌≤◌, ◌+◌, length}
 use Rattle.ht_app.proofs.Common.{JobBasis, StandsForReport, max_text_bytes}
 use Rattle.ht_app.proofs.ReportFileLaws.{denied_is_wrong, judged_is_fine}
 use Rattle.ht_app.proofs.report_file.ReportJudgeLineJudge.take.Goals as goal
@@ -12,7 +12,7 @@ later c basis before stands within number = record {
   well_formed = stands.well_formed;
   circuit = c.in_ok-line.ensures.circuit ∙ stands.circuit;
   representatives = c.in_ok-line.ensures.representatives ∙ stands.representatives;
-  judges = c.in_ok-line.ensures.taken basis.content.list before stands.judges;
+  judges = c.in_ok-line.ensures.taken basis.content.start basis.content.list before stands.judges;
 }
 
 pub returns-clause-stands : goal.returns-clause-stands
@@ -26,5 +26,5 @@ returns-clause-fine c = λ basis before stands number within. judged_is_fine c.l
 pub returns-in_err-line-clause-wrong : goal.returns-in_err-line-clause-wrong
 returns-in_err-line-clause-wrong c = λ basis before stands number within.
     let wrong = denied_is_wrong c.args.self.now basis before c.args.line.now stands c.in_err-line.field-0.0
-    (c.in_err-line.ensures.cause basis.content.list before stands.judges) in
+    (c.in_err-line.ensures.cause basis.content.start basis.content.list before stands.judges) in
     search (rules, wrong)

@@ -1,9 +1,11 @@
-use Rattle.std.proofs.Common.{[], refl, ap}
+use Rattle.std.proofs.Common.{List, [], length, refl, sym, ap, subst, ◌∙◌}
+use Rattle.ht_tern.specs.declared.tern.Tern.{Tern}
+use Rattle.ht_proofs.specs.PackedView.{GraderStandsFor}
 use Rattle.ht_grade.specs.GraderView.{GraderView}
 use Rattle.ht_grade.specs.GraderOf.{all_vectors}
 use Rattle.ht_grade.proofs.DetectionLaws.{chosen_again}
 use Rattle.ht_grade.proofs.GraderLaws.{is_graded}
-use Rattle.ht_grade.proofs.grader.Grader.new.Goals as goal
+use Rattle.ht_grade.proofs.grader.Grader.new_from.Goals as goal
 
 pub places_of-requires-clause-faults : goal.places_of-requires-clause-faults
 places_of-requires-clause-faults c =
@@ -15,9 +17,13 @@ invariant_of-result c =
     let empty : GraderView = record {
       circuit = c.args.circuit.now;
       representatives = c.args.classes.now;
+      start = c.in_ok-start.start.items;
       list = all_vectors c.new.result.items;
     } in
     is_graded empty [] 0 c.in_ok-places.places.items c.in_ok-machines.machines c.requires.classes
+    (ap (λ (l : List Tern). length l) c.in_ok-start.ensures.items ∙ c.requires.latches)
     (ap all_vectors c.new.ensures.items) refl
-    c.in_ok-machines.ensures.circuit c.in_ok-machines.ensures.faults c.in_ok-machines.ensures.stands
+    c.in_ok-machines.ensures.circuit c.in_ok-machines.ensures.faults
+    (subst (λ (s : List Tern). GraderStandsFor c.in_ok-machines.machines s []) (sym c.in_ok-start.ensures.items)
+    c.in_ok-machines.ensures.stands)
     c.in_ok-places.ensures.first c.in_ok-places.ensures.within
