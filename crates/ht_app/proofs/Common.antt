@@ -18,7 +18,7 @@ pub use Rattle.ht_app.specs.declared.generate.sizes.Sizes.{Sizes}
 pub use Rattle.ht_app.specs.declared.run_error.RunError.{RunError}
 pub use Rattle.ht_app.specs.declared.run_error.RunError.TheVariants.{BadResponses, BadTests, Denied, ReadFault}
 pub use Rattle.ht_app.specs.declared.run_error.RunError.TheVariants.{TooManyVectors, Usage, WriteFault}
-pub use Rattle.ht_asked.specs.Asked.{Asked, GenOptions, check, compact, demo, diagnose, gen, norm, sim, words_of}
+pub use Rattle.ht_asked.specs.Asked.{Asked, GenOptions, check, compact, demo, diagnose, gen, norm, sim, uninit, words_of}
 pub use Rattle.ht_bench.proofs.OneLaws.{one_circuit}
 pub use Rattle.ht_bench.specs.Text.{IsNetlistOf, max_netlist_bytes}
 pub use Rattle.ht_collapse.specs.Classes.{AreClasses}

@@ -17,7 +17,10 @@ use Rattle.ht_engine.specs.declared.step.Step.TheVariants.{Vectors, Entry, Finis
 use Rattle.ht_engine.specs.Steps.{AreSteps, Settings}
 use Rattle.ht_files.specs.Generated.{IsGenerated, IsTotalOf}
 use Rattle.ht_files.specs.StepTexts.{proofs_of, proofs_so_far, step_text, tests_of}
-use Rattle.ht_asked.specs.Asked.{Asked, sim, gen, check, norm, demo, compact, diagnose}
+use Rattle.ht_faults.specs.Sites.{faults_of}
+use Rattle.ht_uninit.specs.Records.{IsUninit, UninitHolds, UninitState}
+use Rattle.ht_uninit.specs.UninitTexts.{uninit_text, uninit_total}
+use Rattle.ht_asked.specs.Asked.{Asked, sim, gen, check, norm, demo, compact, diagnose, uninit}
 use Rattle.ht_words.specs.declared.job.RunFiles.{RunFiles}
 use Rattle.ht_app.specs.declared.demo.TheConstants.{DEMO_BUDGET, DEMO_RANDOM}
 use Rattle.ht_app.specs.Acts.{Act, make, put}
@@ -153,6 +156,19 @@ pub record IsDiagnosisReport (c : net.Netlist) (list : List (List Bool)) (rows :
   pub report_is : report ≡ diagnosis_text c representatives (length list) diagnosis
   pub total_is : total ≡ with_lf (diagnosis_total representatives diagnosis.places)
 
+-- ---- `uninit`
+
+-- The report is the text of the record that the work gives for all faults, and what such a record means holds: its set
+-- is closed and stays unknown, and no list detects a hidden fault. The total line is its last.
+pub record IsUninitReport (c : net.Netlist) (budget : ℕ) (report total : List ℕ) : Type 0 where
+  pub representatives : List ℕ
+  pub answer : UninitState
+  pub classes : AreClasses c representatives
+  pub is_answer : IsUninit c budget (faults_of c) answer
+  pub holds : UninitHolds c budget answer
+  pub report_is : report ≡ uninit_text c representatives budget answer
+  pub total_is : total ≡ with_lf (uninit_total c representatives answer)
+
 -- ---- all commands
 
 -- What a command does to its outputs, once its inputs say the basis.
@@ -171,6 +187,8 @@ MakesOutput (compact netlist tests out) basis acts =
 MakesOutput (diagnose netlist tests responses out) basis acts =
     WritesFile Report out
     (λ body total. IsDiagnosisReport basis.circuit basis.content.list basis.rows (body ++ total) total) acts
+MakesOutput (uninit netlist out budget) basis acts =
+    WritesFile Report out (λ body total. IsUninitReport basis.circuit budget (body ++ total) total) acts
 
 -- What it does while it may still ask for memory.
 abbrev pub BeginsOutput : Asked → JobBasis → List Act → Type 0

@@ -20,4 +20,5 @@ mod refusals;
 mod sim;
 mod started;
 mod started_files;
+mod uninit;
 mod words;
