@@ -1,5 +1,5 @@
 -- What a machine shows contradicts neither it nor the representative of its class.
-use Rattle.std.proofs.Common.{◌≡◌, ◌<◌, ℕ, suc, List, [], ◌∷◌, Bool, Option, Some, None, length, get_or, map, refl, sym, ◌∙◌, ap, arith}
+use Rattle.std.proofs.Common.{◌≡◌, ◌<◌, ℕ, suc, List, [], ◌∷◌, Bool, Option, Some, None, length, get_or, map, refl, ◌∙◌, ap}
 use Rattle.std.proofs.lemmas.Bool.{eq-eqb}
 use Rattle.ht_tern.specs.declared.tern.Tern.{Tern}
 use Rattle.ht_net.specs.declared.fault.Fault.{Fault}
@@ -9,7 +9,7 @@ use Rattle.ht_net.specs.Detection.{IsStart, Allows, outputs_from, terns_of}
 use Rattle.ht_net.proofs.ApartLaws.{output_stands}
 use Rattle.ht_net.proofs.SilenceLaws.{some_allowed}
 use Rattle.ht_faults.specs.Sites.{faults_of}
-use Rattle.ht_collapse.specs.Classes.{AreClasses, fault_at, is_representative}
+use Rattle.ht_collapse.specs.Classes.{AreClasses, fault_at}
 use Rattle.ht_collapse.proofs.ClassLaws.{own_representative}
 use Rattle.ht_collapse.proofs.RunLaws.{tern_members_alike}
 use Rattle.ht_dictionary.specs.Contradictions.{Contradicts, IsFirstContradiction}

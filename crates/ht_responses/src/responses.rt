@@ -25,8 +25,8 @@ pub fn respond(
     requires start { IsStart circuit.now start.now }
     requires inputs { list.now.width ≡ circuit.now.inputs }
     ensures { IfOk result (λ shown. shown ≡ record {
-        width = length circuit.now.outputs;
-        rows = outputs_from circuit.now fault start.now list.now.list;
+      width = length circuit.now.outputs;
+      rows = outputs_from circuit.now fault start.now list.now.list;
     }) }
 {
     let mut machine = Machine::start_from(alloc, circuit, fault, start)?;
