@@ -33,7 +33,8 @@ pub fn respond(
     let mut shown = Observation::new(alloc, circuit.outputs());
     for t in 0..list.len() {
         machine.step(list.get(t));
-        shown.push(machine.output_row(alloc)?)?;
+        let row = machine.output_row(alloc)?;
+        shown.push(row)?;
     }
     Ok(shown)
 }

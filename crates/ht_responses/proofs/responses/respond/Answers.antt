@@ -14,7 +14,7 @@ push-requires c =
     let inside : c.loop-t.t < length list = omega arith in
     let ran = ran_more n c.args.fault start list c.loop-t.t c.loop-t.machine c.step.new.self c.get.result.now inside
     c.loop-t.invariant.machine c.get.ensures.row c.step.ensures in
-    ap (λ (l : List Tern). length l) (c.in_ok-output_row.ensures ∙ ran.row)
+    ap (λ (l : List Tern). length l) (c.in_ok-row.ensures ∙ ran.row)
     ∙ rows_wide n c.args.fault start list c.loop-t.t [] (omega (arith, rows_count n c.args.fault start list))
     ∙ sym (ap (λ (o : ObservationView). o.width) c.loop-t.invariant.shown)
 
@@ -30,8 +30,8 @@ loop-t-preserved c =
     record {
       machine = ran.next;
       shown = shown_more (length n.outputs) c.loop-t.t rows c.loop-t.shown c.push.new.self
-          c.in_ok-output_row.field-0.items (omega (arith, rows_count n c.args.fault start list))
-          c.loop-t.invariant.shown c.in_ok-push.ensures.ok (c.in_ok-output_row.ensures ∙ ran.row);
+          c.in_ok-row.row.items (omega (arith, rows_count n c.args.fault start list))
+          c.loop-t.invariant.shown c.in_ok-push.ensures.ok (c.in_ok-row.ensures ∙ ran.row);
     }
 
 pub returns : goal.returns
