@@ -1,0 +1,4 @@
+pub mod GoalLaws
+pub mod RunGoalLaws
+pub mod LengthLaws
+pub mod DeepLaws

@@ -1,0 +1,4 @@
+pub mod Goals
+pub mod Shallow
+pub mod Lengths
+pub mod RunGoals
