@@ -1,26 +1,15 @@
 -- What `demo` says.
 use Rattle.std.proofs.Common.{◌≡◌, inl, ℕ, List, [], ◌∷◌, true, false, refl, ◌∙◌, ap, subst}
 use Rattle.std.specs.Prelude.{Result, Ok, Err, Some, None}
-use Rattle.ht_ports.specs.Desk.{DeskView}
-use Rattle.ht_ports.specs.declared.ports.OutPort.TheVariants.{Out}
+use Rattle.ht_app.proofs.Common.{AcceptsInputs, AreClasses, AreFinished, Asked, ChangedOnly, DeskView, Does, EndsJob}
+use Rattle.ht_app.proofs.Common.{EngineStandsFor, EngineView, HasSameWork, Out, RunError, Settings, Step, Tries, demo}
+use Rattle.ht_app.proofs.Common.{demo_netlist, first_of, first_vectors, put, reading, with_lf}
 use Rattle.ht_net.specs.Netlist as net
-use Rattle.ht_collapse.specs.Classes.{AreClasses}
-use Rattle.ht_texts.specs.Lines.{with_lf}
 use Rattle.ht_texts.specs.Reports.{head_line}
-use Rattle.ht_engine.specs.declared.step.Step.{Step}
-use Rattle.ht_engine.specs.EngineStands.{EngineStandsFor, EngineView, HasSameWork, first_of}
-use Rattle.ht_engine.specs.Steps.{AreFinished, Settings, first_vectors}
-use Rattle.ht_asked.specs.Asked.{Asked, demo}
-use Rattle.ht_demo.specs.Demo.{demo_netlist}
 use Rattle.ht_files.specs.Generated.{IsTotalOf}
-use Rattle.ht_app.specs.declared.run_error.RunError.{RunError}
 use Rattle.ht_app.specs.declared.run_error.RunError.TheVariants.{NoMemory}
 use Rattle.ht_app.specs.declared.demo.TheConstants.{DEMO_BUDGET}
-use Rattle.ht_app.specs.Acts.{put}
-use Rattle.ht_app.specs.Changed.{ChangedOnly}
-use Rattle.ht_app.specs.Inputs.{AcceptsInputs}
 use Rattle.ht_app.specs.Outputs.{SaysHead, demo_settings}
-use Rattle.ht_app.specs.Steps.{Does, EndsJob, Tries, reading}
 use Rattle.ht_app.proofs.ActLaws.{did_nothing}
 use Rattle.ht_app.proofs.EndLaws.{ends_does, ends_tries, ends_unwritten}
 use Rattle.ht_app.proofs.GenLaws.{of_circuit}

@@ -4,35 +4,20 @@ use Rattle.std.specs.Prelude.{Result, Ok, Err, None}
 use Rattle.std.specs.List.{list_any}
 use Rattle.std.proofs.lemmas.List.{length-append}
 use Rattle.std.proofs.lemmas.List.Folds.{list_any-append}
-use Rattle.ht_ports.specs.LineRule.{max_text_bytes}
-use Rattle.ht_ports.specs.Desk.{DeskView}
-use Rattle.ht_ports.specs.declared.ports.InPort.{InPort}
+use Rattle.ht_app.proofs.Common.{AcceptsInputs, Act, AreClasses, AreFinished, AreSteps, Asked, ChangedOnly, DeskView}
+use Rattle.ht_app.proofs.Common.{Does, EndsJob, EngineStandsFor, EngineView, Entry, Finished, GenOptions, HasSameWork}
+use Rattle.ht_app.proofs.Common.{InPort, IsGenerated, JobBasis, Out, OutPort, PermitsAll, Ports, RunError, RunFiles}
+use Rattle.ht_app.proofs.Common.{Settings, Step, Tries, Vectors, WritesAll, ending, first_of, first_vectors, gen}
+use Rattle.ht_app.proofs.Common.{input_name, line_text, makes, max_text_bytes, order_of, proofs_of, proofs_so_far, put}
+use Rattle.ht_app.proofs.Common.{reading, step_acts, tests_of, with_lf, writing}
 use Rattle.ht_ports.specs.declared.ports.InPort.TheVariants.{Netlist}
-use Rattle.ht_ports.specs.declared.ports.OutPort.{OutPort}
-use Rattle.ht_ports.specs.declared.ports.OutPort.TheVariants.{Tests, Report, Proofs, Out}
+use Rattle.ht_ports.specs.declared.ports.OutPort.TheVariants.{Tests, Report, Proofs}
 use Rattle.ht_net.specs.Netlist as net
-use Rattle.ht_collapse.specs.Classes.{AreClasses}
-use Rattle.ht_texts.specs.Lines.{with_lf}
 use Rattle.ht_texts.specs.SearchReports.{HasPlainNames}
-use Rattle.ht_entries.specs.ProofLines.{line_text}
 use Rattle.ht_entries.specs.declared.proof_line.ProofLine.TheVariants.{End}
-use Rattle.ht_engine.specs.declared.step.Step.{Step}
-use Rattle.ht_engine.specs.declared.step.Step.TheVariants.{Vectors, Entry, Finished}
-use Rattle.ht_engine.specs.Steps.{AreFinished, AreSteps, Settings, first_vectors}
-use Rattle.ht_engine.specs.EngineStands.{EngineStandsFor, EngineView, HasSameWork, first_of}
-use Rattle.ht_files.specs.StepTexts.{proofs_of, proofs_so_far, tests_of}
-use Rattle.ht_files.specs.Generated.{IsGenerated}
 use Rattle.ht_files.proofs.StepTextLaws.{proofs_end}
-use Rattle.ht_asked.specs.Asked.{Asked, gen, GenOptions}
-use Rattle.ht_words.specs.declared.job.RunFiles.{RunFiles}
-use Rattle.ht_app.specs.declared.run_error.RunError.{RunError}
-use Rattle.ht_app.specs.Acts.{Act, put, makes}
-use Rattle.ht_app.specs.Changed.{ChangedOnly, Ports}
-use Rattle.ht_app.specs.Generating.{WritesAll}
-use Rattle.ht_app.specs.Inputs.{AcceptsInputs, JobBasis}
-use Rattle.ht_app.specs.Jobs.{input_name, order_of, settings_of}
-use Rattle.ht_app.specs.Outputs.{WritesFiles, WritesSteps, creation, ending, step_acts}
-use Rattle.ht_app.specs.Steps.{Does, EndsJob, PermitsAll, Tries, reading, writing}
+use Rattle.ht_app.specs.Jobs.{settings_of}
+use Rattle.ht_app.specs.Outputs.{WritesFiles, WritesSteps, creation}
 use Rattle.ht_app.proofs.EndLaws.{begun, ends_tries}
 use Rattle.ht_app.proofs.WritingLaws.{permits_then, tries_then}
 

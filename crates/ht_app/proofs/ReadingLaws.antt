@@ -1,43 +1,29 @@
 -- A job's files, read one after the other.
-use Rattle.std.proofs.Common.{◌≡◌, ◌≢◌, ◌<◌, ◌≤◌, ◌+◌, ◌⊎◌, ℕ, List, [], Bool, true, false, IsTrue, inl, inr, refl, sym, ◌∙◌, ap, subst, arith}
+use Rattle.std.proofs.Common.{◌≡◌, ◌≢◌, ◌≤◌, ◌+◌, ◌⊎◌, ℕ, List, [], Bool, true, false, IsTrue, inl, inr, refl, sym, ◌∙◌, ap, subst, arith}
 use Rattle.std.specs.Prelude.{IsSome, is_some, Option, Some, None}
 use Rattle.std.proofs.lemmas.Bool.{cases_lt}
-use Rattle.ht_ports.specs.Desk.{DeskView, InCall}
-use Rattle.ht_ports.specs.declared.ports.InPort.{InPort}
-use Rattle.ht_ports.specs.declared.ports.InPort.TheVariants.{Netlist, Tests, Report, Proofs, Extra}
-use Rattle.ht_ports.proofs.CallLaws.{after_trans}
-use Rattle.ht_tern.specs.declared.tern.Tern.{Tern}
+use Rattle.ht_app.proofs.Common.{AcceptsInputs, Act, Asked, BadTests, ChangedOnly, DeskView, EndsReading, Extra}
+use Rattle.ht_app.proofs.Common.{HasCause, HasNetlist, HasReadTo, InCall, InPort, IsMalformedTest, IsPrepared}
+use Rattle.ht_app.proofs.Common.{IsRefusedFor, JobBasis, MakesOutput, ReadFault, ReadStops, RefusesInput, RunError}
+use Rattle.ht_app.proofs.Common.{SaysBasis, Tern, TestsStop, Usage, WasRead, WriteFault, after_trans, input_name}
+use Rattle.ht_app.proofs.Common.{order_of, reading, refused_port}
+use Rattle.ht_ports.specs.declared.ports.InPort.TheVariants.{Netlist, Tests, Report, Proofs}
 use Rattle.ht_net.specs.Netlist as net
-use Rattle.ht_texts.specs.Tests.{IsMalformedTest}
-use Rattle.ht_asked.specs.Asked.{Asked}
-use Rattle.ht_app.specs.declared.run_error.RunError.{RunError}
-use Rattle.ht_app.specs.declared.run_error.RunError.TheVariants.{Usage, ReadFault, WriteFault, NoMemory, BadTests}
-use Rattle.ht_app.specs.Acts.{Act}
-use Rattle.ht_app.specs.Changed.{ChangedOnly, IsUnread}
-use Rattle.ht_app.specs.Inputs.{AcceptsInputs, HasNetlist, JobBasis, SaysBasis, WasRead}
-use Rattle.ht_app.specs.Jobs.{input_name, order_of}
-use Rattle.ht_app.specs.Outputs.{MakesOutput}
-use Rattle.ht_app.specs.Refusals.{IsRefusedFor, RefusesInput, refused_port}
-use Rattle.ht_app.specs.Run.{HasCause}
-use Rattle.ht_app.specs.Steps.{EndsReading, HasReadTo, IsPrepared, OnlyReads, ReadStops, TestsStop, reading}
+use Rattle.ht_app.specs.declared.run_error.RunError.TheVariants.{NoMemory}
+use Rattle.ht_app.specs.Changed.{IsUnread}
+use Rattle.ht_app.specs.Steps.{OnlyReads}
 use Rattle.ht_app.proofs.ActLaws.{did_nothing}
-use Rattle.ht_app.proofs.CreatedLaws.{kept}
+use Rattle.ht_app.proofs.ChangedLaws.{kept}
 
 -- ---- ports
 
-pub same_or_other : (p q : InPort) → (p ≡ q) ⊎ (order_of p ≢ order_of q)
+same_or_other : (p q : InPort) → (p ≡ q) ⊎ (order_of p ≢ order_of q)
 same_or_other Netlist Netlist = inl refl
 same_or_other Tests Tests = inl refl
 same_or_other Report Report = inl refl
 same_or_other Proofs Proofs = inl refl
 same_or_other Extra Extra = inl refl
 same_or_other p q = inr (λ e. omega (arith, e))
-
-pub in_order : (p q : InPort) → order_of p ≡ order_of q → p ≡ q
-in_order p q e = elim (same_or_other p q) [
-  | inl same ↦ same
-  | inr ne ↦ absurd (ne e)
-]
 
 -- ---- calls that read
 

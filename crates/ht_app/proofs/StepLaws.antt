@@ -1,28 +1,21 @@
 -- The engine's steps, written and counted one after the other.
-use Rattle.std.proofs.Common.{◌≡◌, ◌≢◌, ℕ, ◌+◌, ◌≤◌, List, [], ◌∷◌, ◌++◌, Bool, false, length, flat_map, refl, sym, ◌∙◌, ap, subst, arith, append_assoc, append-nil}
+use Rattle.std.proofs.Common.{◌≡◌, ◌≢◌, ℕ, ◌+◌, ◌≤◌, List, [], ◌∷◌, ◌++◌, false, length, flat_map, refl, sym, ◌∙◌, ap, subst, arith, append_assoc, append-nil}
 use Rattle.std.specs.Prelude.{Result, Ok, Err, OnOk}
 use Rattle.std.proofs.lemmas.List.{length-append}
 use Rattle.std.proofs.lemmas.List.Concat.{flat_map-append}
-use Rattle.ht_ports.specs.LineRule.{max_text_bytes}
-use Rattle.ht_ports.specs.Desk.{DeskView}
+use Rattle.ht_app.proofs.Common.{Act, AreFinished, AreSteps, DeskView, EngineView, Entry, Finished, HasSameWork, Makes}
+use Rattle.ht_app.proofs.Common.{Rows, RunError, Settings, Sizes, StandsAt, Step, Tries, Vectors, WritesOn, first_of}
+use Rattle.ht_app.proofs.Common.{first_vectors, max_text_bytes, proofs_so_far, put, step_acts, tests_of}
 use Rattle.ht_ports.specs.declared.ports.OutPort.TheVariants.{Tests, Proofs}
 use Rattle.ht_net.specs.Netlist as net
-use Rattle.ht_net.specs.Rows.{Rows}
 use Rattle.ht_tree.specs.declared.entry.Entry as recorded
-use Rattle.ht_engine.specs.declared.step.Step.{Step}
-use Rattle.ht_engine.specs.declared.step.Step.TheVariants.{Vectors, Entry, Finished}
-use Rattle.ht_engine.specs.Steps.{AreFinished, AreSteps, Settings, first_vectors, one_more}
-use Rattle.ht_engine.specs.EngineStands.{EngineView, HasSameWork, Makes, MakesStep, first_of}
-use Rattle.ht_files.specs.StepTexts.{proofs_so_far, proofs_step, step_text, tests_of, tests_step}
+use Rattle.ht_engine.specs.Steps.{one_more}
+use Rattle.ht_engine.specs.EngineStands.{MakesStep}
+use Rattle.ht_files.specs.StepTexts.{proofs_step, step_text, tests_step}
 use Rattle.ht_files.proofs.StepTextLaws.{proofs_grow, tests_grow}
 use Rattle.ht_files.specs.declared.text_size.TextSize.{TextSize}
-use Rattle.ht_app.specs.declared.generate.sizes.Sizes.{Sizes}
-use Rattle.ht_app.specs.declared.run_error.RunError.{RunError}
 use Rattle.ht_app.specs.declared.run_error.RunError.TheVariants.{NoMemory}
-use Rattle.ht_app.specs.Acts.{Act, put}
-use Rattle.ht_app.specs.Outputs.{step_acts}
-use Rattle.ht_app.specs.Steps.{Tries}
-use Rattle.ht_app.specs.Generating.{CountsStep, StandsAt, WritesOn}
+use Rattle.ht_app.specs.Generating.{CountsStep}
 use Rattle.ht_app.proofs.WritingLaws.{runs_out_first, tries_none, tries_then}
 
 -- ---- where the text of a step goes

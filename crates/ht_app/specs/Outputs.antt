@@ -1,11 +1,10 @@
 -- What each command does to its outputs.
-use Rattle.std.specs.Prelude.{◌≡◌, ◌++◌, ◌∷◌, ℕ, List, [], flat_map, codes, Some}
+use Rattle.std.specs.Prelude.{◌≡◌, ◌++◌, ◌∷◌, ℕ, List, [], flat_map, codes, Some, Option, None, Bool, length}
 use Rattle.ht_ports.specs.declared.ports.OutPort.{OutPort}
 use Rattle.ht_ports.specs.declared.ports.OutPort.TheVariants.{Tests, Report, Proofs, Out}
-use Rattle.ht_net.specs.Netlist as net
 use Rattle.ht_bench.specs.Normal.{normal_text}
 use Rattle.ht_texts.specs.Lines.{with_lf}
-use Rattle.ht_texts.specs.Reports.{head_line}
+use Rattle.ht_texts.specs.Reports.{head_line, report_text, report_sums, total_line}
 use Rattle.ht_entries.specs.ProofLines.{line_text}
 use Rattle.ht_entries.specs.declared.proof_line.ProofLine.TheVariants.{End}
 use Rattle.ht_collapse.specs.Classes.{AreClasses}
@@ -16,15 +15,27 @@ use Rattle.ht_engine.specs.declared.step.Step.TheVariants.{Vectors, Entry, Finis
 use Rattle.ht_engine.specs.Steps.{AreSteps, Settings, first_vectors}
 use Rattle.ht_files.specs.Generated.{IsGenerated, IsTotalOf}
 use Rattle.ht_files.specs.StepTexts.{proofs_of, proofs_so_far, step_text, tests_of}
-use Rattle.ht_asked.specs.Asked.{Asked, sim, gen, check, norm, demo, compact, diagnose}
+use Rattle.ht_faults.specs.Sites.{faults_of}
+use Rattle.ht_uninit.specs.Records.{IsUninit, UninitHolds, UninitState}
+use Rattle.ht_uninit.specs.UninitTexts.{uninit_text, uninit_total}
+use Rattle.ht_asked.specs.Asked.{Asked, sim, gen, check, norm, demo, compact, diagnose, uninit}
 use Rattle.ht_words.specs.declared.job.RunFiles.{RunFiles}
 use Rattle.ht_app.specs.declared.demo.TheConstants.{DEMO_BUDGET, DEMO_RANDOM}
 use Rattle.ht_app.specs.Acts.{Act, make, put}
-use Rattle.ht_app.specs.CompactedTests.{IsCompactionOf}
-use Rattle.ht_app.specs.DiagnosisReports.{IsDiagnosisReport}
 use Rattle.ht_app.specs.Inputs.{JobBasis}
 use Rattle.ht_app.specs.Jobs.{settings_of}
-use Rattle.ht_app.specs.Simulation.{IsReportOf}
+use Rattle.ht_net.specs.declared.place.Place.{Place}
+use Rattle.ht_net.specs.Netlist.{Netlist}
+use Rattle.ht_grade.specs.Detections.{AreFirstDetections}
+use Rattle.ht_texts.specs.Verdicts.{saids_of}
+use Rattle.ht_texts.specs.Tests.{test_text}
+use Rattle.ht_compact.specs.Compacts.{Compacts}
+use Rattle.ht_compact.specs.CompactionText.{compaction_line}
+use Rattle.ht_tern.specs.declared.tern.Tern.{Tern}
+use Rattle.ht_dictionary.specs.Diagnoses.{Diagnoses}
+use Rattle.ht_dictionary.specs.DiagnosisTexts.{diagnosis_text, diagnosis_total}
+use Rattle.ht_dictionary.specs.DiagnosisView.{DiagnosisView}
+use Rattle.ht_net.specs.Netlist as net
 
 -- ---- one file, and its total line on Out
 
@@ -105,6 +116,56 @@ pub record SaysTotals (size seed : ℕ) (acts : List Act) : Type 0 where
   pub total_is : IsTotalOf (demo_netlist size seed) (demo_settings seed) total
   pub acts_are : acts ≡ first ++ put Out total ∷ []
 
+-- ---- `sim`
+
+-- The report of a circuit over these vectors, and its total line. A fault that represents its class has its own
+-- verdict, and every other names its representative.
+pub record IsReportOf (c : Netlist) (list : List (List Bool)) (report total : List ℕ) : Type 0 where
+  pub representatives : List ℕ
+  pub places : List (Option Place)
+  pub classes : AreClasses c representatives
+  pub detections : AreFirstDetections c representatives list places
+  pub report_is : report ≡ report_text c representatives None (saids_of places)
+  pub total_is : total ≡ with_lf (total_line (report_sums representatives None (saids_of places)))
+
+-- ---- `compact`
+
+-- The text is that of the vectors to which this list is compacted, and the total line says how many vectors there were
+-- and how many are kept.
+pub record IsCompactionOf (c : net.Netlist) (list : List (List Bool)) (text total : List ℕ) : Type 0 where
+  pub representatives : List ℕ
+  pub kept : List (List Bool)
+  pub classes : AreClasses c representatives
+  pub compacted : Compacts c representatives list kept
+  pub text_is : text ≡ test_text kept
+  pub total_is : total ≡ with_lf (compaction_line (length list) (length kept))
+
+-- ---- `diagnose`
+
+-- The report says where the good machine and the representative of each class first contradict what was observed over
+-- these vectors, or that they are consistent. The total line is its last.
+pub record IsDiagnosisReport (c : net.Netlist) (list : List (List Bool)) (rows : List (List Tern))
+    (report total : List ℕ) : Type 0 where
+  pub representatives : List ℕ
+  pub diagnosis : DiagnosisView
+  pub classes : AreClasses c representatives
+  pub first : Diagnoses c representatives list rows diagnosis
+  pub report_is : report ≡ diagnosis_text c representatives (length list) diagnosis
+  pub total_is : total ≡ with_lf (diagnosis_total representatives diagnosis.places)
+
+-- ---- `uninit`
+
+-- The report is the text of the record that the work gives for all faults, and what such a record means holds: its set
+-- is closed and stays unknown, and no list detects a hidden fault. The total line is its last.
+pub record IsUninitReport (c : net.Netlist) (budget : ℕ) (report total : List ℕ) : Type 0 where
+  pub representatives : List ℕ
+  pub answer : UninitState
+  pub classes : AreClasses c representatives
+  pub is_answer : IsUninit c budget (faults_of c) answer
+  pub holds : UninitHolds c budget answer
+  pub report_is : report ≡ uninit_text c representatives budget answer
+  pub total_is : total ≡ with_lf (uninit_total c representatives answer)
+
 -- ---- all commands
 
 -- What a command does to its outputs, once its inputs say the basis.
@@ -122,6 +183,8 @@ MakesOutput (compact netlist tests out) basis acts =
 MakesOutput (diagnose netlist tests responses out) basis acts =
     WritesFile Report out
     (λ body total. IsDiagnosisReport basis.circuit basis.content.list basis.rows (body ++ total) total) acts
+MakesOutput (uninit netlist out budget) basis acts =
+    WritesFile Report out (λ body total. IsUninitReport basis.circuit budget (body ++ total) total) acts
 
 -- What it does while it may still ask for memory.
 abbrev pub BeginsOutput : Asked → JobBasis → List Act → Type 0

@@ -15,7 +15,7 @@ ghost use Rattle.ht_app.specs.Steps.{ReadStops};
 use crate::judged_file::{LineJudge, read_lines};
 use crate::listed::Listed;
 use crate::run_error::RunError;
-use ht_judge::{Claims, JudgeError, ReportJudge};
+use ht_judge::{Claims, ReportJudge};
 use ht_net::{Circuit, Place};
 use ht_ports::{Desk, InPort};
 use ht_texts::MAX_LINE_BYTES;
@@ -25,6 +25,7 @@ use std::alloc::Global;
 impl<'c> LineJudge for ReportJudge<'c> {
     ghost use Rattle.std.specs.Prelude.{IsTrue};
     ghost use Rattle.ht_valid.specs.declared.trouble.Trouble.TheVariants as trouble;
+    ghost use Rattle.ht_app.specs.declared.run_error.RunError.TheVariants.{Denied};
     ghost use Rattle.ht_app.specs.Judging.{IsWrongInReport, StandsForReport};
 
     ghost live = { λ judge. IsTrue judge.live };
@@ -33,14 +34,17 @@ impl<'c> LineJudge for ReportJudge<'c> {
 
     ghost is_wrong = { IsWrongInReport };
 
-    ghost trouble_at = { trouble.Report };
+    ghost error_at = { λ line. Denied (trouble.Report line) };
 
-    fn take(&mut self, line: &[u8]) -> Result<(), JudgeError> {
-        self.line(line)
+    fn take(&mut self, _number: u64, line: &[u8]) -> Result<(), RunError> {
+        self.line(line)?;
+        Ok(())
     }
 
-    fn too_long(&self, line: u64) -> Trouble {
-        Trouble::Report { line }
+    fn too_long(&self, line: u64) -> RunError {
+        RunError::Denied {
+            trouble: Trouble::Report { line },
+        }
     }
 }
 
@@ -84,6 +88,7 @@ pub fn read_report<D: Desk>(
         InPort::Report,
         name,
         MAX_LINE_BYTES,
+        u64::MAX,
         &mut judge,
     )?;
     let claims = judge.end()?;

@@ -3,9 +3,8 @@ ghost use Rattle.std.specs.Prelude.{◌≡◌, ◌≤◌, ◌++◌, List, ℕ, l
 ghost use Rattle.ht_ports.specs.LineRule.{max_text_bytes};
 ghost use Rattle.ht_ports.specs.declared.ports.OutPort.TheVariants as out_port;
 ghost use Rattle.ht_asked.specs.Asked as asked;
-ghost use Rattle.ht_app.specs.Outputs.{file_acts};
+ghost use Rattle.ht_app.specs.Outputs.{IsReportOf, file_acts};
 ghost use Rattle.ht_app.specs.Steps.{EndsReading, IsPrepared};
-ghost use Rattle.ht_app.specs.Simulation.{IsReportOf};
 
 use crate::made::Made;
 use crate::netlist::read_netlist;

@@ -2,7 +2,7 @@
 use Rattle.std.proofs.Common.{◌≡◌, ◌∷◌, ℕ, List, [], map, Option, Some, None, refl, arith, codes}
 use Rattle.clap.specs.Walk.{Text}
 use Rattle.ht_asked.specs.Forms.{given, parts}
-use Rattle.ht_asked.specs.Asked.{Asked, asked, budget_of, check, compact, demo, diagnose, gen, gen_command}
+use Rattle.ht_asked.specs.Asked.{Asked, asked, budget_of, check, compact, demo, diagnose, gen, gen_command, uninit}
 use Rattle.ht_asked.specs.ByClap.{app_with, given_by_clap}
 use Rattle.ht_asked.proofs.States.{AreReadable}
 use Rattle.ht_asked.proofs.FormByClap.{form_by_clap}
@@ -111,6 +111,22 @@ further : map asked (
     ∷ None ∷ None ∷ None ∷ Some (diagnose (codes "n") (codes "t") (codes "r") (codes "o")) ∷ None ∷ None ∷ []
 unfolding asked given parts
 further = refl
+
+-- `uninit` has two names and a budget
+uninits : map (λ words. asked (codes "uninit" ∷ words)) (
+    (codes "n" ∷ codes "o" ∷ [])
+    ∷ (codes "n" ∷ codes "--budget" ∷ codes "100000" ∷ codes "o" ∷ [])
+    ∷ (codes "--budget=007" ∷ codes "n" ∷ codes "--" ∷ codes "-o" ∷ [])
+    ∷ (codes "n" ∷ [])
+    ∷ (codes "n" ∷ codes "o" ∷ codes "p" ∷ [])
+    ∷ (codes "n" ∷ codes "o" ∷ codes "--budget=0" ∷ [])
+    ∷ (codes "n" ∷ codes "o" ∷ codes "--budget=100001" ∷ [])
+    ∷ (codes "n" ∷ codes "o" ∷ codes "--random=3" ∷ [])
+    ∷ [])
+    ≡ Some (uninit (codes "n") (codes "o") 1000) ∷ Some (uninit (codes "n") (codes "o") 100000)
+    ∷ Some (uninit (codes "n") (codes "-o") 7) ∷ None ∷ None ∷ None ∷ None ∷ None ∷ []
+unfolding asked given parts
+uninits = refl
 
 -- `clap` reads the command's form as the plain reading does
 by_clap : (words : List Text) → AreReadable words

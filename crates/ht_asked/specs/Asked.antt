@@ -30,6 +30,7 @@ pub data Asked : Type 0 where
   demo : ℕ → ℕ → Asked
   compact : Text → Text → Text → Asked
   diagnose : Text → Text → Text → Text → Asked
+  uninit : Text → Text → ℕ → Asked
 
 -- a command: its name in lower case, the form of the words after it, and what they ask for
 pub record Command : Type 0 where
@@ -151,10 +152,25 @@ diagnose_command = record {
   asks = λ g. of_four diagnose g.positionals;
 }
 
+-- `uninit NETLIST OUT [--budget N]`
+abbrev pub uninit_of : List Text → List (Option Text) → Option Asked
+uninit_of (netlist ∷ out ∷ []) (budget ∷ []) = option_map (uninit netlist out) (budget_of budget)
+uninit_of _ _ = None
+
+abbrev pub uninit_command : Command
+uninit_command = record {
+  name = codes "uninit";
+  form = record {
+    positionals = codes "netlist" ∷ codes "out" ∷ [];
+    options = codes "budget" ∷ [];
+  };
+  asks = λ g. uninit_of g.positionals g.options;
+}
+
 -- the commands, in the order of the usage line
 abbrev pub commands : List Command
 commands = sim_command ∷ gen_command ∷ check_command ∷ norm_command ∷ demo_command
-    ∷ compact_command ∷ diagnose_command ∷ []
+    ∷ compact_command ∷ diagnose_command ∷ uninit_command ∷ []
 
 abbrev pub command_named : Text → Option Command
 command_named name = find (λ c. bytes_eq name c.name) commands

@@ -4,7 +4,7 @@ ghost use Rattle.clap.specs.Words.{app_of, is_simple_and_free, rule_of};
 ghost use Rattle.ht_asked.specs.Forms.{names_form};
 ghost use Rattle.ht_asked.specs.Asked.{check_command, command_named, compact_command};
 ghost use Rattle.ht_asked.specs.Asked.{demo_command, diagnose_command, gen_command};
-ghost use Rattle.ht_asked.specs.Asked.{norm_command, sim_command};
+ghost use Rattle.ht_asked.specs.Asked.{norm_command, sim_command, uninit_command};
 ghost use Rattle.ht_asked.specs.ByClap.{app_named, app_with, optional, wanted};
 
 use clap::{Arg, Command};
@@ -33,6 +33,15 @@ fn option<'a>(alloc: Global, id: &'a str) -> Arg<'a>
     ensures local { result.global ≡ false }
 {
     Arg::new(alloc, id).long(id)
+}
+
+/// A command whose arguments are `NETLIST OUT`.
+fn with_out<'a>(alloc: Global, name: &'a str) -> Result<Command<'a>, AllocError>
+    ensures { IfOk result (λ c. app_of c ≡ app_with name.entry.now norm_command.form) }
+{
+    plain_command(alloc, name)
+        .arg(positional(alloc, "netlist"))?
+        .arg(positional(alloc, "out"))
 }
 
 /// A command whose first arguments are `NETLIST TESTS`.
@@ -70,15 +79,6 @@ fn define_check<'a>(alloc: Global) -> Result<Command<'a>, AllocError>
     with_report(alloc, "check")?.arg(positional(alloc, "proofs"))
 }
 
-/// `norm NETLIST OUT`.
-fn define_norm<'a>(alloc: Global) -> Result<Command<'a>, AllocError>
-    ensures { IfOk result (λ c. app_of c ≡ app_with norm_command.name norm_command.form) }
-{
-    plain_command(alloc, "norm")
-        .arg(positional(alloc, "netlist"))?
-        .arg(positional(alloc, "out"))
-}
-
 /// `demo SIZE SEED`.
 fn define_demo<'a>(alloc: Global) -> Result<Command<'a>, AllocError>
     ensures { IfOk result (λ c. app_of c ≡ app_with demo_command.name demo_command.form) }
@@ -104,6 +104,13 @@ fn define_diagnose<'a>(alloc: Global) -> Result<Command<'a>, AllocError>
         .arg(positional(alloc, "out"))
 }
 
+/// `uninit NETLIST OUT [--budget N]`.
+fn define_uninit<'a>(alloc: Global) -> Result<Command<'a>, AllocError>
+    ensures { IfOk result (λ c. app_of c ≡ app_with uninit_command.name uninit_command.form) }
+{
+    with_out(alloc, "uninit")?.arg(option(alloc, "budget"))
+}
+
 /// The definition of the command that the word names, in lower case.
 pub fn definition<'a>(alloc: Global, word: &str) -> Result<Option<Command<'a>>, AllocError>
     ensures named { IfOk result (λ found. option_map app_of found
@@ -115,10 +122,11 @@ pub fn definition<'a>(alloc: Global, word: &str) -> Result<Option<Command<'a>>, 
         "sim" => Ok(Some(with_report(alloc, "sim")?)),
         "gen" => Ok(Some(define_gen(alloc)?)),
         "check" => Ok(Some(define_check(alloc)?)),
-        "norm" => Ok(Some(define_norm(alloc)?)),
+        "norm" => Ok(Some(with_out(alloc, "norm")?)),
         "demo" => Ok(Some(define_demo(alloc)?)),
         "compact" => Ok(Some(define_compact(alloc)?)),
         "diagnose" => Ok(Some(define_diagnose(alloc)?)),
+        "uninit" => Ok(Some(define_uninit(alloc)?)),
         _ => Ok(None),
     }
 }

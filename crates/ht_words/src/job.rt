@@ -81,6 +81,15 @@ pub enum Job {
         /// The diagnosis to write.
         out: FileName,
     },
+    /// Says which of the netlist's flip-flops never get a definite value, and which faults they hide.
+    Uninit {
+        /// The netlist to read.
+        netlist: FileName,
+        /// The record to write.
+        out: FileName,
+        /// The budget of each search, 1 to 100,000.
+        budget: u64,
+    },
 }
 
 /// Why words are no job.

@@ -2,7 +2,7 @@
 ghost use Rattle.std.specs.Prelude.{◌≡◌, IfOk, None, Some, codes, false, option_and_then, true};
 ghost use Rattle.clap.specs.Words.{app_of, first_of, found_of, is_simple_and_free, matches_of, rows_of};
 ghost use Rattle.ht_asked.specs.Asked.{asked, check_command, command_named, gen_command, words_of};
-ghost use Rattle.ht_asked.specs.Asked.{demo_with, seed_in, size_in};
+ghost use Rattle.ht_asked.specs.Asked.{demo_with, seed_in, size_in, uninit_command};
 ghost use Rattle.ht_asked.specs.ByClap.{asked_by_clap, asked_in_rows, is_taken};
 ghost use Rattle.ht_words.specs.Jobs.{IsAnswer};
 ghost use Rattle.ht_words.specs.declared.job.WordsFault.TheVariants as fault;
@@ -84,6 +84,7 @@ fn job(alloc: Global, word: &str, matches: &ArgMatches<'_>) -> Result<Job, Words
             responses: value(alloc, matches, "responses")?,
             out: value(alloc, matches, "out")?,
         }),
+        "uninit" => uninit_job(alloc, matches),
         _ => Err(WordsFault::Usage),
     }
 }
@@ -133,6 +134,17 @@ fn demo_job(matches: &ArgMatches<'_>) -> Result<Job, WordsFault>
     Ok(Job::Demo {
         size: size(matches)?,
         seed: wanted_number(matches, "seed", 0, MAX_SEED)?,
+    })
+}
+
+/// The job of `uninit`.
+fn uninit_job(alloc: Global, matches: &ArgMatches<'_>) -> Result<Job, WordsFault>
+    ensures { IsAnswer (asked_in_rows uninit_command (rows_of (found_of matches.now))) result }
+{
+    Ok(Job::Uninit {
+        netlist: value(alloc, matches, "netlist")?,
+        out: value(alloc, matches, "out")?,
+        budget: budget(matches)?,
     })
 }
 

@@ -1,22 +1,13 @@
 use Rattle.std.proofs.Common.{◌≡◌, ◌≤◌, List, [], ℕ, Bool, Option, refl, sym, ap, subst, rules, arith}
 use Rattle.std.specs.Prelude.{None, Some}
-use Rattle.ht_ports.specs.declared.ports.InPort.{InPort}
-use Rattle.ht_ports.specs.declared.ports.InPort.TheVariants.{Netlist, Tests, Report, Proofs, Extra}
+use Rattle.ht_app.proofs.Common.{AreFirstDetections, Asked, Content, Extra, HasReadTo, InPort, Numbered, ReportIsRead}
+use Rattle.ht_app.proofs.Common.{RunFiles, Said, check, check_basis, input_name, order_of}
 use Rattle.ht_net.specs.declared.place.Place.{Place}
-use Rattle.ht_grade.specs.Detections.{AreFirstDetections}
-use Rattle.ht_texts.specs.declared.said.Said.{Said}
-use Rattle.ht_entries.specs.declared.numbered.Numbered.{Numbered}
 use Rattle.ht_files.proofs.ShortNameLaws.{short_names}
-use Rattle.ht_valid.specs.ValidFiles.{Content, IsJustified}
+use Rattle.ht_valid.specs.ValidFiles.{IsJustified}
 use Rattle.ht_valid.proofs.DecidedLaws.{are_decided}
 use Rattle.ht_valid.proofs.TruthLaws.{true_verdicts}
-use Rattle.ht_words.specs.declared.job.RunFiles.{RunFiles}
-use Rattle.ht_asked.specs.Asked.{Asked, check}
 use Rattle.ht_app.specs.declared.run_error.RunError.TheVariants.{NoMemory}
-use Rattle.ht_app.specs.Jobs.{input_name, order_of}
-use Rattle.ht_app.specs.Judging.{ReportIsRead, check_basis}
-use Rattle.ht_app.specs.Outputs.{AreTrue}
-use Rattle.ht_app.specs.Steps.{HasReadTo}
 use Rattle.ht_app.proofs.ReadingLaws.{all_read, no_room, nothing_read, one_more, skipped, stops_there}
 use Rattle.ht_app.proofs.check.judge.Given as given
 use Rattle.ht_app.proofs.check.judge.Goals as goal

@@ -1,5 +1,6 @@
 use Rattle.std.proofs.Common.{[], rules}
-use Rattle.ht_engine.specs.Steps.{Settings, none}
+use Rattle.ht_app.proofs.Common.{Settings}
+use Rattle.ht_engine.specs.Steps.{none}
 use Rattle.ht_app.proofs.GenLaws.{begun_acts, stops_in_steps}
 use Rattle.ht_app.proofs.WritingLaws.{runs_out_first}
 use Rattle.ht_app.proofs.generate.run_engine.Goals as goal

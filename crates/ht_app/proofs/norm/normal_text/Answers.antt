@@ -1,12 +1,8 @@
 use Rattle.std.proofs.Common.{◌≡◌, ◌≤◌, ◌∷◌, [], List, ℕ, refl, ap, rules, arith}
 use Rattle.std.specs.Prelude.{None}
-use Rattle.ht_ports.specs.declared.ports.InPort.{InPort}
+use Rattle.ht_app.proofs.Common.{HasReadTo, InPort, input_name, make, norm, order_of, put}
 use Rattle.ht_ports.specs.declared.ports.InPort.TheVariants.{Netlist}
 use Rattle.ht_ports.specs.declared.ports.OutPort.TheVariants.{Report}
-use Rattle.ht_asked.specs.Asked.{norm}
-use Rattle.ht_app.specs.Acts.{make, put}
-use Rattle.ht_app.specs.Jobs.{input_name, order_of}
-use Rattle.ht_app.specs.Steps.{HasReadTo}
 use Rattle.ht_app.proofs.ReadingLaws.{all_read, basis_of, no_room}
 use Rattle.ht_app.proofs.norm.normal_text.Given as given
 use Rattle.ht_app.proofs.norm.normal_text.Goals as goal

@@ -1,7 +1,5 @@
 use Rattle.std.proofs.Common.{◌≡◌, [], ◌∙◌, sym, rules}
-use Rattle.ht_valid.specs.ValidFiles.{Content}
-use Rattle.ht_app.specs.Judging.{StandsForProofs, check_basis}
-use Rattle.ht_app.specs.Refusals.{before_proofs}
+use Rattle.ht_app.proofs.Common.{Content, StandsForProofs, before_proofs, check_basis}
 use Rattle.ht_app.proofs.ProofsFileLaws.{fewer_lines, proofs_are_read, proofs_end, proofs_stop}
 use Rattle.ht_app.proofs.proofs_file.read_proofs.Given as given
 use Rattle.ht_app.proofs.proofs_file.read_proofs.Goals as goal
@@ -25,7 +23,7 @@ returns-in_err-read_lines-clause-stops g c = λ netlist tests report proofs cont
     let at = goal.at.returns-in_err-read_lines-clause-stops g c in
     let basis = check_basis c.args.circuit.now c.args.listed.now.classes content in
     let stops = proofs_stop netlist tests report proofs c.args.name.now basis (g.D.Desk.view c.args.desk.now)
-    (g.D.Desk.view c.read_lines.new.desk) c.in_err-read_lines.field-0.0
+    (g.D.Desk.view c.read_lines.new.desk)
     (c.in_err-read_lines.ensures.stops basis (start g at.After-new-judge content budget saids)) in
     search (rules, stops)
 
@@ -36,7 +34,7 @@ returns-in_err-end-clause-stops g c = λ netlist tests report proofs content bud
     let read = c.in_ok-read_lines.ensures.stands basis (start g at.After-new-judge content budget saids) in
     let judges = read.stands.judges in
     let stops = proofs_end netlist tests report proofs c.args.name.now basis (g.D.Desk.view c.args.desk.now)
-    (g.D.Desk.view c.read_lines.new.desk) c.read_lines.new.judge read c.in_err-end.field-0.0
+    (g.D.Desk.view c.read_lines.new.desk) read c.in_err-end.field-0.0
     (c.in_err-end.ensures.err (before_proofs content) read.lines judges
     (fewer_lines read.lines judges.at judges.stands.read read.few)) in
     search (rules, stops)

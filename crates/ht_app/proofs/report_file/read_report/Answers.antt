@@ -1,7 +1,5 @@
 use Rattle.std.proofs.Common.{[], rules}
-use Rattle.ht_grade.specs.Detections.{AreFirstDetections}
-use Rattle.ht_valid.specs.ValidFiles.{Content}
-use Rattle.ht_app.specs.Judging.{StandsForReport, check_basis}
+use Rattle.ht_app.proofs.Common.{AreFirstDetections, Content, StandsForReport, check_basis}
 use Rattle.ht_app.proofs.ReportFileLaws.{report_ends, report_is_read, report_stops}
 use Rattle.ht_app.proofs.report_file.read_report.Given as given
 use Rattle.ht_app.proofs.report_file.read_report.Goals as goal
@@ -26,7 +24,6 @@ returns-in_err-read_lines-clause-stops g c = λ netlist tests report proofs cont
     let basis = check_basis c.args.circuit.now c.args.listed.now.classes content in
     let stops = report_stops netlist tests report proofs c.args.name.now basis c.requires.well_formed
     (g.D.Desk.view c.args.desk.now) (g.D.Desk.view c.read_lines.new.desk) c.requires.classes names
-    c.in_err-read_lines.field-0.0
     (c.in_err-read_lines.ensures.stops basis (start g at.In_ok-judge content first)) in
     search (rules, stops)
 
@@ -36,7 +33,7 @@ returns-in_err-claims-clause-stops g c = λ netlist tests report proofs content 
     let basis = check_basis c.args.circuit.now c.args.listed.now.classes content in
     let read = c.in_ok-read_lines.ensures.stands basis (start g at.In_ok-judge content first) in
     let stops = report_ends netlist tests report proofs c.args.name.now basis c.requires.well_formed
-    (g.D.Desk.view c.args.desk.now) (g.D.Desk.view c.read_lines.new.desk) c.read_lines.new.judge read
+    (g.D.Desk.view c.args.desk.now) (g.D.Desk.view c.read_lines.new.desk) read
     c.in_err-claims.field-0.0 (c.in_err-claims.ensures.err content.list read.lines read.stands.judges) in
     search (rules, stops)
 

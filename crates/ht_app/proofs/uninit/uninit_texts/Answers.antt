@@ -1,0 +1,2 @@
+use Rattle.std.proofs.Common.{◌≡◌, ◌∙◌, ap, sym, rules}
+use Rattle.ht_app.proofs.uninit.uninit_texts.Goals as goal
