@@ -5,7 +5,7 @@ use Rattle.ht_ports.specs.declared.ports.InPort.{InPort}
 use Rattle.ht_ports.specs.declared.ports.InPort.TheVariants as in_port
 use Rattle.ht_ports.specs.declared.ports.OutPort.{OutPort}
 use Rattle.ht_ports.specs.declared.ports.OutPort.TheVariants.{Tests, Report, Proofs}
-use Rattle.ht_asked.specs.Asked.{Asked, sim, gen, check, norm, compact, diagnose, uninit, GenOptions}
+use Rattle.ht_asked.specs.Asked.{Asked, sim, gen, check, norm, compact, diagnose, uninit, sync, GenOptions}
 use Rattle.ht_engine.specs.Steps.{Settings}
 
 -- what the options of `gen` tell the generator
@@ -28,6 +28,7 @@ input_name (diagnose netlist tests responses out) in_port.Netlist = Some netlist
 input_name (diagnose netlist tests responses out) in_port.Tests = Some tests
 input_name (diagnose netlist tests responses out) in_port.Extra = Some responses
 input_name (uninit netlist out budget) in_port.Netlist = Some netlist
+input_name (sync netlist tests out budget) in_port.Netlist = Some netlist
 input_name _ _ = None
 
 -- the file that it writes at the port
@@ -40,6 +41,8 @@ output_name (norm netlist out) Report = Some out
 output_name (compact netlist tests out) Tests = Some out
 output_name (diagnose netlist tests responses out) Report = Some out
 output_name (uninit netlist out budget) Report = Some out
+output_name (sync netlist tests out budget) Tests = Some tests
+output_name (sync netlist tests out budget) Report = Some out
 output_name _ _ = None
 
 -- the order in which a job reads its files, each whole before the next is opened

@@ -10,7 +10,7 @@ use Rattle.ht_asked.specs.declared.limits.TheConstants.{MAX_BUDGET, MAX_RANDOM, 
 use Rattle.ht_asked.specs.Forms.{Given, given}
 use Rattle.ht_asked.specs.Numbers.{is_number, number_in, number_or}
 use Rattle.ht_asked.specs.Asked.{Asked, Command, asked, commands, demo_of, demo_with, gen, gen_of, norm_of, of_four, of_three, options_with}
-use Rattle.ht_asked.specs.Asked.{check, compact, diagnose, sim, uninit, uninit_of}
+use Rattle.ht_asked.specs.Asked.{check, compact, diagnose, sim, sync, sync_of, uninit, uninit_of}
 use Rattle.ht_asked.specs.Asked.{budget_of, random_of, seed_in, seed_of, size_in}
 use Rattle.ht_asked.specs.Ranges.{IsInRange}
 
@@ -104,10 +104,14 @@ by_demo (a ∷ b ∷ c ∷ rest) = tt
 by_demo (a ∷ b ∷ []) = by_numbers (size_in a) (seed_in b) (number_is_in_range MIN_SIZE MAX_SIZE a)
     (number_is_in_range 0 MAX_SEED b)
 
-by_budget : (netlist out : Text) (budget : Option ℕ) → IfSome budget (InRange MIN_BUDGET MAX_BUDGET)
-    → AsksInRange (option_map (uninit netlist out) budget)
-by_budget netlist out None b = tt
-by_budget netlist out (Some budget) b = b
+-- a job with a budget alone
+by_budget : (job : ℕ → Asked) → ((n : ℕ) → InRange MIN_BUDGET MAX_BUDGET n → IsInRange (job n)) → (t : Option Text)
+    → AsksInRange (option_map job (budget_of t))
+by_budget job so t = by (budget_of t) (option_is_in_range 1000 MIN_BUDGET MAX_BUDGET (omega arith, omega arith) t)
+  where
+    by : (budget : Option ℕ) → IfSome budget (InRange MIN_BUDGET MAX_BUDGET) → AsksInRange (option_map job budget)
+    by None b = tt
+    by (Some budget) b = so budget b
 
 by_uninit : (names : List Text) (texts : List (Option Text)) → AsksInRange (uninit_of names texts)
 by_uninit [] texts = tt
@@ -115,8 +119,16 @@ by_uninit (a ∷ []) texts = tt
 by_uninit (a ∷ b ∷ c ∷ rest) texts = tt
 by_uninit (a ∷ b ∷ []) [] = tt
 by_uninit (a ∷ b ∷ []) (t ∷ u ∷ rest) = tt
-by_uninit (a ∷ b ∷ []) (t ∷ []) =
-    by_budget a b (budget_of t) (option_is_in_range 1000 MIN_BUDGET MAX_BUDGET (omega arith, omega arith) t)
+by_uninit (a ∷ b ∷ []) (t ∷ []) = by_budget (uninit a b) (λ n h. h) t
+
+by_sync : (names : List Text) (texts : List (Option Text)) → AsksInRange (sync_of names texts)
+by_sync [] texts = tt
+by_sync (a ∷ []) texts = tt
+by_sync (a ∷ b ∷ []) texts = tt
+by_sync (a ∷ b ∷ c ∷ d ∷ rest) texts = tt
+by_sync (a ∷ b ∷ c ∷ []) [] = tt
+by_sync (a ∷ b ∷ c ∷ []) (t ∷ u ∷ rest) = tt
+by_sync (a ∷ b ∷ c ∷ []) (t ∷ []) = by_budget (sync a b c) (λ n h. h) t
 
 -- ---- the table of the commands
 
@@ -139,7 +151,7 @@ commands_ask_in_range = (
             λ g. by_three compact (λ a b c. tt) g.positionals,
             (
               λ g. by_four diagnose (λ a b c d. tt) g.positionals,
-              (λ g. by_uninit g.positionals g.options, tt),
+              (λ g. by_uninit g.positionals g.options, (λ g. by_sync g.positionals g.options, tt)),
             ),
           ),
         ),

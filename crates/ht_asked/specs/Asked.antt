@@ -31,6 +31,7 @@ pub data Asked : Type 0 where
   compact : Text → Text → Text → Asked
   diagnose : Text → Text → Text → Text → Asked
   uninit : Text → Text → ℕ → Asked
+  sync : Text → Text → Text → ℕ → Asked
 
 -- a command: its name in lower case, the form of the words after it, and what they ask for
 pub record Command : Type 0 where
@@ -167,10 +168,25 @@ uninit_command = record {
   asks = λ g. uninit_of g.positionals g.options;
 }
 
+-- `sync NETLIST TESTS OUT [--budget N]`
+abbrev pub sync_of : List Text → List (Option Text) → Option Asked
+sync_of (netlist ∷ tests ∷ out ∷ []) (budget ∷ []) = option_map (sync netlist tests out) (budget_of budget)
+sync_of _ _ = None
+
+abbrev pub sync_command : Command
+sync_command = record {
+  name = codes "sync";
+  form = record {
+    positionals = codes "netlist" ∷ codes "tests" ∷ codes "out" ∷ [];
+    options = codes "budget" ∷ [];
+  };
+  asks = λ g. sync_of g.positionals g.options;
+}
+
 -- the commands, in the order of the usage line
 abbrev pub commands : List Command
 commands = sim_command ∷ gen_command ∷ check_command ∷ norm_command ∷ demo_command
-    ∷ compact_command ∷ diagnose_command ∷ uninit_command ∷ []
+    ∷ compact_command ∷ diagnose_command ∷ uninit_command ∷ sync_command ∷ []
 
 abbrev pub command_named : Text → Option Command
 command_named name = find (λ c. bytes_eq name c.name) commands

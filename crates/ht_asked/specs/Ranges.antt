@@ -1,7 +1,7 @@
 -- Ranges of the numbers that words give.
 use Rattle.std.specs.Prelude.{◌≤◌}
 use Rattle.ht_asked.specs.declared.limits.TheConstants.{MAX_BUDGET, MAX_RANDOM, MAX_SEED, MAX_SIZE, MIN_BUDGET, MIN_SIZE}
-use Rattle.ht_asked.specs.Asked.{Asked, GenOptions, demo, gen, uninit}
+use Rattle.ht_asked.specs.Asked.{Asked, GenOptions, demo, gen, sync, uninit}
 
 -- the options of `gen` are in their ranges
 pub record AreOptions (options : GenOptions) : Type 0 where
@@ -14,4 +14,5 @@ abbrev pub IsInRange : Asked → Type 0
 IsInRange (gen netlist tests report proofs options) = AreOptions options
 IsInRange (demo size seed) = (MIN_SIZE ≤ size) × (size ≤ MAX_SIZE) × (seed ≤ MAX_SEED)
 IsInRange (uninit netlist out budget) = (MIN_BUDGET ≤ budget) × (budget ≤ MAX_BUDGET)
+IsInRange (sync netlist tests out budget) = (MIN_BUDGET ≤ budget) × (budget ≤ MAX_BUDGET)
 IsInRange job = Unit {0}

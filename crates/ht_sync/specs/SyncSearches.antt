@@ -5,6 +5,7 @@ use Rattle.ht_net.specs.Rows.{Rows}
 use Rattle.ht_events.specs.Plans.{max_frames}
 use Rattle.ht_tree.specs.declared.token.Assign3.{Assign3}
 use Rattle.ht_tree.specs.declared.token.Token.{Token}
+use Rattle.ht_tree.specs.Budgets.{sweep_cost}
 use Rattle.ht_tree.specs.FoundLists.{list_of}
 use Rattle.ht_tree.specs.Reached.{AreVectors}
 use Rattle.ht_tree.specs.Searches.{Closes, FindsAt, SpendsAt, node_at}
@@ -79,3 +80,8 @@ SynchronizedHolds c budget (Spent walks) = IsSpentRecord c budget walks
 abbrev pub IsFound : Synchronized → Type 0
 IsFound (Found list state walks) = Unit {0}
 IsFound (Spent walks) = ⊥
+
+-- Where the budget is enough for d lengths and some list of at most d vectors synchronizes, a list is found.
+abbrev pub FindsWithin : Netlist → ℕ → Synchronized → Type 0
+FindsWithin c budget answer = (d : ℕ) (list : List (List Bool)) → sweep_cost c.inputs d ≤ budget → length list ≤ d
+    → Synchronizes c list → IsFound answer

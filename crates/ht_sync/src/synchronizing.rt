@@ -1,8 +1,6 @@
 //! The search for a shortest list that synchronizes.
-ghost use Rattle.std.specs.Prelude.{◌≡◌, ◌≤◌, ℕ, List, Bool, IfOk, length};
-ghost use Rattle.ht_tree.specs.Budgets.{sweep_cost};
-ghost use Rattle.ht_sync.specs.Synchronizing.{Synchronizes};
-ghost use Rattle.ht_sync.specs.SyncSearches.{IsFound, IsSynchronized, SynchronizedHolds};
+ghost use Rattle.std.specs.Prelude.{◌≡◌, ◌≤◌, IfOk};
+ghost use Rattle.ht_sync.specs.SyncSearches.{FindsWithin, IsSynchronized, SynchronizedHolds};
 
 use crate::final_state::end_state;
 use crate::length::{OneLength, search_length};
@@ -35,8 +33,7 @@ pub fn sync(alloc: Global, circuit: &Circuit, budget: u64) -> Result<Synchronize
     requires { budget ≤ MAX_BUDGET }
     ensures answer { IfOk result (IsSynchronized circuit.now budget) }
     ensures holds { IfOk result (SynchronizedHolds circuit.now budget) }
-    ensures enough { (d : ℕ) (list : List (List Bool)) → sweep_cost circuit.now.inputs d ≤ budget
-        → length list ≤ d → Synchronizes circuit.now list → IfOk result IsFound }
+    ensures enough { IfOk result (FindsWithin circuit.now budget) }
 {
     if circuit.dffs() == 0 {
         return Ok(Synchronized::Found {

@@ -90,6 +90,17 @@ pub enum Job {
         /// The budget of each search, 1 to 100,000.
         budget: u64,
     },
+    /// Finds a shortest list of vectors after which every flip-flop of the netlist has a definite value.
+    Sync {
+        /// The netlist to read.
+        netlist: FileName,
+        /// The list to write.
+        tests: FileName,
+        /// The record to write.
+        out: FileName,
+        /// The budget of all lengths together, 1 to 100,000.
+        budget: u64,
+    },
 }
 
 /// Why words are no job.

@@ -2,7 +2,7 @@
 ghost use Rattle.std.specs.Prelude.{◌≡◌, IfOk, None, Some, codes, false, option_and_then, true};
 ghost use Rattle.clap.specs.Words.{app_of, first_of, found_of, is_simple_and_free, matches_of, rows_of};
 ghost use Rattle.ht_asked.specs.Asked.{asked, check_command, command_named, gen_command, words_of};
-ghost use Rattle.ht_asked.specs.Asked.{demo_with, seed_in, size_in, uninit_command};
+ghost use Rattle.ht_asked.specs.Asked.{demo_with, seed_in, size_in, sync_command, uninit_command};
 ghost use Rattle.ht_asked.specs.ByClap.{asked_by_clap, asked_in_rows, is_taken};
 ghost use Rattle.ht_words.specs.Jobs.{IsAnswer};
 ghost use Rattle.ht_words.specs.declared.job.WordsFault.TheVariants as fault;
@@ -85,6 +85,7 @@ fn job(alloc: Global, word: &str, matches: &ArgMatches<'_>) -> Result<Job, Words
             out: value(alloc, matches, "out")?,
         }),
         "uninit" => uninit_job(alloc, matches),
+        "sync" => sync_job(alloc, matches),
         _ => Err(WordsFault::Usage),
     }
 }
@@ -143,6 +144,18 @@ fn uninit_job(alloc: Global, matches: &ArgMatches<'_>) -> Result<Job, WordsFault
 {
     Ok(Job::Uninit {
         netlist: value(alloc, matches, "netlist")?,
+        out: value(alloc, matches, "out")?,
+        budget: budget(matches)?,
+    })
+}
+
+/// The job of `sync`.
+fn sync_job(alloc: Global, matches: &ArgMatches<'_>) -> Result<Job, WordsFault>
+    ensures { IsAnswer (asked_in_rows sync_command (rows_of (found_of matches.now))) result }
+{
+    Ok(Job::Sync {
+        netlist: value(alloc, matches, "netlist")?,
+        tests: value(alloc, matches, "tests")?,
         out: value(alloc, matches, "out")?,
         budget: budget(matches)?,
     })
