@@ -18,4 +18,5 @@ mod mute;
 mod norm;
 mod refusals;
 mod sim;
+mod uninit;
 mod words;

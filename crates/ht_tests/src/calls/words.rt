@@ -4,6 +4,11 @@ use ht_words::{FileName, Job, RunFiles, WordsFault, command};
 use std::alloc::{AllocError, Global};
 use std::test::Fail;
 
+/// The names are the command's, and then those of two files.
+fn are_two(command: &str, a: &FileName, b: &FileName, names: &[&str]) -> bool {
+    names.len() == 3 && names[0] == command && names[1] == a.as_str() && names[2] == b.as_str()
+}
+
 /// The names are the command's, and then those of three files.
 fn are_three(command: &str, a: &FileName, b: &FileName, c: &FileName, names: &[&str]) -> bool {
     names.len() == 4
@@ -47,12 +52,7 @@ fn is_job(job: &Job, names: &[&str]) -> bool {
         } => are_three("sim", netlist, tests, report, names),
         Job::Gen { files, .. } => are_files("gen", files, names),
         Job::Check { files } => are_files("check", files, names),
-        Job::Norm { netlist, out } => {
-            names.len() == 3
-                && names[0] == "norm"
-                && names[1] == netlist.as_str()
-                && names[2] == out.as_str()
-        }
+        Job::Norm { netlist, out } => are_two("norm", netlist, out, names),
         Job::Demo { .. } => false,
         Job::Compact {
             netlist,
@@ -65,6 +65,7 @@ fn is_job(job: &Job, names: &[&str]) -> bool {
             responses,
             out,
         } => are_four("diagnose", netlist, tests, responses, out, names),
+        Job::Uninit { netlist, out, .. } => are_two("uninit", netlist, out, names),
     }
 }
 
@@ -116,6 +117,11 @@ const ROWS: &[(&[&str], &[&str])] = &[
         &["diagnose", "n", "t", "s", "o"],
     ),
     (&["diagnose", "n", "t", "o"], &[]),
+    (
+        &["uninit", "n", "--budget=5", "--", "-o"],
+        &["uninit", "n", "-o"],
+    ),
+    (&["uninit", "n", "o", "--budget=0"], &[]),
     (&["norm", "--", "-n", "-o"], &["norm", "-n", "-o"]),
     (&[], &[]),
     (&["SIM", "n", "t", "r"], &[]),
