@@ -18,5 +18,6 @@ mod mute;
 mod norm;
 mod refusals;
 mod sim;
+mod synchronized;
 mod uninit;
 mod words;
