@@ -2,3 +2,4 @@ pub mod GoalLaws
 pub mod RunGoalLaws
 pub mod LengthLaws
 pub mod DeepLaws
+pub mod LengthFinds

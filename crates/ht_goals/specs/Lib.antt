@@ -2,3 +2,4 @@ pub mod Goals
 pub mod Shallow
 pub mod Lengths
 pub mod RunGoals
+pub mod LengthAnswers

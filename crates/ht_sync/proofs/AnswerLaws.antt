@@ -1,6 +1,5 @@
 -- What the answers of the search for a list that synchronizes mean.
 use Rattle.std.proofs.Common.{◌≡◌, ◌<◌, ◌≤◌, ◌+◌, ◌-◌, ℕ, suc, zero, List, [], ◌∷◌, Bool, length, get_or, refl, sym, ◌∙◌, ap, inl, inr, arith, subst}
-use Rattle.ht_events.specs.Plans.{max_frames}
 use Rattle.ht_net.specs.Netlist.{Netlist}
 use Rattle.ht_net.specs.Rows.{Rows}
 use Rattle.ht_net.proofs.FrameLaws.{le_or_lt}
@@ -12,12 +11,13 @@ use Rattle.ht_tree.specs.Walks.{IsComplete}
 use Rattle.ht_tree.specs.declared.token.Token.{Token}
 use Rattle.ht_records.proofs.SureLaws.{list_length}
 use Rattle.ht_records.proofs.WindowVectorLaws.{list_wide}
-use Rattle.ht_goals.specs.Lengths.{CloseEach, IsLengthRecord, SpendEach, left_after, next_length}
+use Rattle.ht_goals.specs.LengthAnswers.{FindsAfter}
+use Rattle.ht_goals.specs.Lengths.{IsLengthRecord, left_after, next_length}
 use Rattle.ht_sync.specs.Synchronizing.{Synchronizes, SynchronizesTo}
 use Rattle.ht_sync.specs.SyncSearches.{FindsSyncList, IsShortest, IsSpentRecord, NoneShorter, SyncFinds, SyncSpends}
 use Rattle.ht_sync.specs.SyncWindows.{sync_guide}
 use Rattle.ht_goals.proofs.DeepLaws.{record_deep}
-use Rattle.ht_goals.proofs.LengthLaws.{IsClosedTo, closed_walk, frames_few, left_is, spends_record}
+use Rattle.ht_goals.proofs.LengthLaws.{closed_walk, spends_record}
 use Rattle.ht_sync.proofs.SyncLaws.{complete_unsynchronized, empty_unsynchronized, ends_each_run, found_synchronizes, sync_walks_short}
 
 -- complete walks for lengths 1 to d: no list of at most d vectors synchronizes
@@ -62,33 +62,30 @@ none_to_synchronize c budget none ends = record {
   none = λ list h. absurd (omega (arith, h));
 }
 
-module _ (c : Netlist) (budget frames left : ℕ) (walks : List (List Token)) (latches : 0 < length c.dffs)
-    (closed : IsClosedTo (sync_guide c) budget frames left walks) where
-  pub found_is_answer : (list : Rows) (state : List Bool) → FindsSyncList c frames left list
-      → SynchronizesTo c list.list state → SyncFinds c budget list state walks
-  found_is_answer list state finds ends = record {
-    closes = closed.closes;
-    none = λ e. absurd (omega (arith, latches, e));
-    some = λ h. subst (λ (k : ℕ). FindsSyncList c k (left_after budget walks) list) closed.count
-        (subst (λ (b : ℕ). FindsSyncList c frames b list) (left_is (sync_guide c) budget frames left walks closed) finds);
-    ends = ends;
-  }
+module _ (c : Netlist) (budget : ℕ) (list : Rows) (walks : List (List Token)) (latches : 0 < length c.dffs)
+    (finds : FindsAfter (sync_guide c) (FindsSyncList c) budget list walks) where
+  pub found_list_synchronizes : Synchronizes c list.list
+  found_list_synchronizes =
+      list_synchronizes c (next_length walks) (left_after budget walks) list finds.finds (omega arith)
 
-  pub found_is_shortest : (list : Rows) (state : List Bool) → frames ≤ max_frames → FindsSyncList c frames left list
-      → SynchronizesTo c list.list state → IsShortest c list state walks
-  found_is_shortest list state few finds ends =
-      let n = list_counts c frames left list finds in
-      let count = closed.count in
-      let complete = closed_walk (sync_guide c) budget walks closed.closes in
+  pub found_is_answer : (state : List Bool) → SynchronizesTo c list.list state → SyncFinds c budget list state walks
+  found_is_answer state ends =
+      record { none = λ e. absurd (omega (arith, latches, e)); some = λ h. finds; ends = ends }
+
+  pub found_is_shortest : (state : List Bool) → SynchronizesTo c list.list state → IsShortest c list state walks
+  found_is_shortest state ends =
+      let n = list_counts c (next_length walks) (left_after budget walks) list finds.finds in
+      let few = finds.few in
+      let complete = closed_walk (sync_guide c) budget walks finds.closes in
       record {
-        width = width_fits c frames left list finds;
-        wide = list_fits c frames left list finds;
+        width = width_fits c (next_length walks) (left_after budget walks) list finds.finds;
+        wide = list_fits c (next_length walks) (left_after budget walks) list finds.finds;
         few = omega (arith, n, few);
         ends = ends;
         each = ends_each_run c list.list state ends;
-        walked = omega (arith, n, count);
+        walked = omega (arith, n);
         complete = complete;
-        none = λ other h. none_of c (length walks) walks latches complete other (omega (arith, h, n, count));
+        none = λ other h. none_of c (length walks) walks latches complete other (omega (arith, h, n));
       }
 
 module _ (c : Netlist) (budget : ℕ) (walks : List (List Token)) (spends : SyncSpends c budget walks) where

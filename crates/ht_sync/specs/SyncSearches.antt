@@ -8,13 +8,12 @@ use Rattle.ht_tree.specs.declared.token.Token.{Token}
 use Rattle.ht_tree.specs.Budgets.{sweep_cost}
 use Rattle.ht_tree.specs.FoundLists.{list_of}
 use Rattle.ht_tree.specs.Reached.{AreVectors}
-use Rattle.ht_tree.specs.Searches.{Closes, FindsAt, SpendsAt, node_at}
+use Rattle.ht_tree.specs.Searches.{FindsAt, node_at}
 use Rattle.ht_tree.specs.Walks.{IsComplete}
-use Rattle.ht_goals.specs.Lengths.{CloseEach, IsLengthRecord, SpendEach, left_after, next_length}
+use Rattle.ht_goals.specs.LengthAnswers.{FindsAfter}
+use Rattle.ht_goals.specs.Lengths.{IsLengthRecord, SpendEach}
 use Rattle.ht_sync.specs.Synchronizing.{EndsEachRun, Synchronizes, SynchronizesTo}
 use Rattle.ht_sync.specs.SyncWindows.{sync_guide}
-use Rattle.ht_sync.specs.declared.length.OneLength.{OneLength}
-use Rattle.ht_sync.specs.declared.length.OneLength.TheVariants as one
 use Rattle.ht_sync.specs.declared.synchronizing.Synchronized.{Synchronized}
 use Rattle.ht_sync.specs.declared.synchronizing.Synchronized.TheVariants.{Found, Spent}
 
@@ -25,20 +24,12 @@ pub record FindsSyncList (c : Netlist) (frames budget : ℕ) (list : Rows) : Typ
   pub found : FindsAt (sync_guide c frames) budget frames tokens (node_at path)
   pub listed : list ≡ record { width = c.inputs; list = list_of c path frames }
 
--- what the search of so many frames within a budget comes to
-abbrev pub IsOneLength : Netlist → ℕ → ℕ → OneLength → Type 0
-IsOneLength c frames budget (one.Found list) = FindsSyncList c frames budget list
-IsOneLength c frames budget (one.Closed tokens) = Closes (sync_guide c frames) budget frames tokens
-IsOneLength c frames budget (one.Spent tokens) =
-    (path : List Assign3) × SpendsAt (sync_guide c frames) budget frames tokens (node_at path)
-
 -- The search that leads to a list: without a flip-flop the empty list, and else the one of the first length that isn't
 -- closed.
 pub record SyncFinds (c : Netlist) (budget : ℕ) (list : Rows) (state : List Bool) (walks : List (List Token))
     : Type 0 where
-  pub closes : CloseEach (sync_guide c) budget 1 walks
   pub none : length c.dffs ≡ 0 → (walks ≡ []) × (list ≡ record { width = c.inputs; list = [] })
-  pub some : 0 < length c.dffs → FindsSyncList c (next_length walks) (left_after budget walks) list
+  pub some : 0 < length c.dffs → FindsAfter (sync_guide c) (FindsSyncList c) budget list walks
   pub ends : SynchronizesTo c list.list state
 
 -- The search that leads to no list. A circuit without flip-flops has none.

@@ -3,7 +3,8 @@ ghost use Rattle.std.specs.Prelude.{◌≡◌, ◌≤◌, IfOk};
 ghost use Rattle.ht_sync.specs.SyncSearches.{FindsWithin, IsSynchronized, SynchronizedHolds};
 
 use crate::final_state::end_state;
-use crate::length::{OneLength, search_length};
+use crate::length::SyncSearch;
+use ht_goals::{Lengths, search_lengths};
 use ht_items::Items;
 use ht_net::{Circuit, Vectors};
 use ht_tree::{MAX_BUDGET, Token};
@@ -42,31 +43,15 @@ pub fn sync(alloc: Global, circuit: &Circuit, budget: u64) -> Result<Synchronize
             walks: Items::new(alloc),
         });
     }
-    let mut bases = Bases::new(alloc, circuit)?;
-    let mut walks = Vec::new(alloc);
-    let mut left = budget;
-    let mut frames: u32 = 1;
-    'lengths: loop {
-        match search_length(alloc, &mut bases, frames, left)? {
-            OneLength::Found { list } => {
-                let state = end_state(alloc, circuit, &list)?;
-                return Ok(Synchronized::Found {
-                    list,
-                    state,
-                    walks: Items::from_vec(walks),
-                });
-            },
-            OneLength::Spent { tokens } => {
-                walks.push(tokens)?;
-                return Ok(Synchronized::Spent {
-                    walks: Items::from_vec(walks),
-                });
-            },
-            OneLength::Closed { tokens } => {
-                left -= tokens.as_slice().len() as u64 * frames as u64;
-                frames += 1;
-                walks.push(tokens)?;
-            },
-        }
+    let mut search = SyncSearch {
+        bases: Bases::new(alloc, circuit)?,
+    };
+    let lengths = search_lengths(alloc, &mut search, budget)?;
+    match lengths {
+        Lengths::Found { list, walks } => {
+            let state = end_state(alloc, circuit, &list)?;
+            Ok(Synchronized::Found { list, state, walks })
+        },
+        Lengths::Spent { walks } => Ok(Synchronized::Spent { walks }),
     }
 }
