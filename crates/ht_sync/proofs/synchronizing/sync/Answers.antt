@@ -23,7 +23,7 @@ returns-in-Found-clause-answer c =
     found_is_answer c.args.circuit.now c.args.budget c.in-Found.list c.in-Found.walks (omega (arith, none, dffs))
     (subst (λ (n : Netlist). FindsAfter (sync_guide n) (FindsSyncList n) c.args.budget c.in-Found.list c.in-Found.walks)
     c.in_ok-new.ensures (rw c.in-Found.is at c.in_ok-lengths.ensures.answer))
-    c.in_ok-state.state c.in_ok-state.ensures
+    c.in_ok-state-in-Found.state c.in_ok-state-in-Found.ensures
 
 pub returns-in-Found-clause-holds : goal.returns-in-Found-clause-holds
 returns-in-Found-clause-holds c =
@@ -32,10 +32,10 @@ returns-in-Found-clause-holds c =
     found_is_shortest c.args.circuit.now c.args.budget c.in-Found.list c.in-Found.walks (omega (arith, none, dffs))
     (subst (λ (n : Netlist). FindsAfter (sync_guide n) (FindsSyncList n) c.args.budget c.in-Found.list c.in-Found.walks)
     c.in_ok-new.ensures (rw c.in-Found.is at c.in_ok-lengths.ensures.answer))
-    c.in_ok-state.state c.in_ok-state.ensures
+    c.in_ok-state-in-Found.state c.in_ok-state-in-Found.ensures
 
-pub returns-in-Spent-clause-answer : goal.returns-in-Spent-clause-answer
-returns-in-Spent-clause-answer c =
+pub returns-clause-answer : goal.returns-clause-answer
+returns-clause-answer c =
     let none = c.if-dffs-eq0.false in
     let dffs = c.dffs.ensures in
     record {
@@ -44,11 +44,11 @@ returns-in-Spent-clause-answer c =
           (rw c.in-Spent.is at c.in_ok-lengths.ensures.answer);
     }
 
-pub returns-in-Spent-clause-holds : goal.returns-in-Spent-clause-holds
-returns-in-Spent-clause-holds c =
-    spent_is_record c.args.circuit.now c.args.budget c.in-Spent.walks (returns-in-Spent-clause-answer c)
+pub returns-clause-holds : goal.returns-clause-holds
+returns-clause-holds c =
+    spent_is_record c.args.circuit.now c.args.budget c.in-Spent.walks (returns-clause-answer c)
 
-pub returns-in-Spent-clause-enough : goal.returns-in-Spent-clause-enough
-returns-in-Spent-clause-enough c = λ d list enough few h.
-    enough_finds c.args.circuit.now c.args.budget c.in-Spent.walks (returns-in-Spent-clause-answer c) d list
+pub returns-clause-enough : goal.returns-clause-enough
+returns-clause-enough c = λ d list enough few h.
+    enough_finds c.args.circuit.now c.args.budget c.in-Spent.walks (returns-clause-answer c) d list
     enough few h
