@@ -15,6 +15,7 @@ mod parse;
 mod random;
 mod search;
 mod sets;
+mod sync;
 mod texts;
 mod uninit;
 mod windows;
@@ -34,7 +35,8 @@ use windows::{Fill, Plan};
 use work::{Entry, Work, Worker};
 
 const USAGE: &str = "usage: sim NETLIST TESTS REPORT, gen NETLIST TESTS REPORT PROOFS BUDGET RANDOM SEED, \
-                     check NETLIST TESTS REPORT PROOFS, uninit NETLIST OUT BUDGET";
+                     check NETLIST TESTS REPORT PROOFS, uninit NETLIST OUT BUDGET, \
+                     sync NETLIST TESTS OUT BUDGET";
 
 /// The circuit of a netlist. `PLAIN_ORDER` says in which order its gates have their places: `lines`, `level` or `kind`.
 fn read_circuit(name: &str) -> Result<Circuit, Box<dyn Error>> {
@@ -160,6 +162,14 @@ fn uninit(netlist: &str, out: &str, budget: usize) -> Result<(), Box<dyn Error>>
     Ok(record.write(&circuit, &list, &mut BufWriter::new(File::create(out)?))?)
 }
 
+fn synchronize(netlist: &str, tests: &str, out: &str, budget: usize) -> Result<(), Box<dyn Error>> {
+    let circuit = read_circuit(netlist)?;
+    let plan = plan(&circuit);
+    let record = sync::sync(&plan, budget);
+    let mut tests = BufWriter::new(File::create(tests)?);
+    Ok(record.write(&plan, &mut tests, &mut BufWriter::new(File::create(out)?))?)
+}
+
 fn run(words: &[&str]) -> Result<i32, Box<dyn Error>> {
     match *words {
         ["sim", netlist, tests, report] => sim(netlist, tests, report).map(|()| 0),
@@ -178,6 +188,7 @@ fn run(words: &[&str]) -> Result<i32, Box<dyn Error>> {
             }
         },
         ["uninit", netlist, out, budget] => uninit(netlist, out, budget.parse()?).map(|()| 0),
+        ["sync", netlist, tests, out, budget] => synchronize(netlist, tests, out, budget.parse()?).map(|()| 0),
         _ => Err(USAGE.into()),
     }
 }

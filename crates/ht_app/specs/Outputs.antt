@@ -20,7 +20,10 @@ use Rattle.ht_files.specs.StepTexts.{proofs_of, proofs_so_far, step_text, tests_
 use Rattle.ht_faults.specs.Sites.{faults_of}
 use Rattle.ht_uninit.specs.Records.{IsUninit, UninitHolds, UninitState}
 use Rattle.ht_uninit.specs.UninitTexts.{uninit_text, uninit_total}
-use Rattle.ht_asked.specs.Asked.{Asked, sim, gen, check, norm, demo, compact, diagnose, uninit}
+use Rattle.ht_asked.specs.Asked.{Asked, sim, gen, check, norm, demo, compact, diagnose, uninit, sync}
+use Rattle.ht_sync.specs.SyncSearches.{FindsWithin, IsSynchronized, SynchronizedHolds}
+use Rattle.ht_sync.specs.SyncTexts.{last_sync_line, sync_list, sync_said, sync_text}
+use Rattle.ht_sync.specs.declared.synchronizing.Synchronized.{Synchronized}
 use Rattle.ht_words.specs.declared.job.RunFiles.{RunFiles}
 use Rattle.ht_app.specs.declared.demo.TheConstants.{DEMO_BUDGET, DEMO_RANDOM}
 use Rattle.ht_app.specs.Acts.{Act, make, put}
@@ -169,6 +172,34 @@ pub record IsUninitReport (c : net.Netlist) (budget : ℕ) (report total : List 
   pub report_is : report ≡ uninit_text c representatives budget answer
   pub total_is : total ≡ with_lf (uninit_total c representatives answer)
 
+-- ---- `sync`
+
+-- The tests are the list that the search within the budget finds, or none, and the record says what it found. What such
+-- an answer means holds: the list synchronizes, and no shorter one does. A budget that is enough finds one.
+pub record IsSyncRecord (c : net.Netlist) (budget : ℕ) (tests record_text said last : List ℕ) : Type 0 where
+  pub answer : Synchronized
+  pub is_answer : IsSynchronized c budget answer
+  pub holds : SynchronizedHolds c budget answer
+  pub enough : FindsWithin c budget answer
+  pub tests_are : tests ≡ test_text (sync_list answer)
+  pub record_is : record_text ≡ sync_text (length c.dffs) budget answer
+  pub said_is : said ≡ with_lf (sync_said answer)
+  pub last_is : last ≡ with_lf (last_sync_line answer)
+
+-- The tests are made before the record. What is said stands on Out before the record's last line.
+abbrev pub sync_acts : List ℕ → List ℕ → List ℕ → List ℕ → List ℕ → List ℕ → List Act
+sync_acts tests out list body said last = make Tests tests ∷ make Report out
+    ∷ put Tests list ∷ put Report body ∷ put Out said ∷ put Report last ∷ []
+
+-- Both files are written, as such a search leaves them.
+pub record WritesSync (tests out : List ℕ) (c : net.Netlist) (budget : ℕ) (acts : List Act) : Type 0 where
+  pub list : List ℕ
+  pub body : List ℕ
+  pub said : List ℕ
+  pub last : List ℕ
+  pub so : IsSyncRecord c budget list (body ++ last) said last
+  pub acts_are : acts ≡ sync_acts tests out list body said last
+
 -- ---- all commands
 
 -- What a command does to its outputs, once its inputs say the basis.
@@ -189,6 +220,7 @@ MakesOutput (diagnose netlist tests responses out) basis acts =
     (λ body total. IsDiagnosisReport basis.circuit basis.content.list basis.rows (body ++ total) total) acts
 MakesOutput (uninit netlist out budget) basis acts =
     WritesFile Report out (λ body total. IsUninitReport basis.circuit budget (body ++ total) total) acts
+MakesOutput (sync netlist tests out budget) basis acts = WritesSync tests out basis.circuit budget acts
 
 -- What it does while it may still ask for memory.
 abbrev pub BeginsOutput : Asked → JobBasis → List Act → Type 0

@@ -2,7 +2,7 @@
 use Rattle.std.proofs.Common.{◌≡◌, ◌∷◌, ℕ, List, [], map, Option, Some, None, refl, arith, codes}
 use Rattle.clap.specs.Walk.{Text}
 use Rattle.ht_asked.specs.Forms.{given, parts}
-use Rattle.ht_asked.specs.Asked.{Asked, asked, budget_of, check, compact, demo, diagnose, gen, gen_command, uninit}
+use Rattle.ht_asked.specs.Asked.{Asked, asked, budget_of, check, compact, demo, diagnose, gen, gen_command, respond, sync, uninit}
 use Rattle.ht_asked.specs.ByClap.{app_with, given_by_clap}
 use Rattle.ht_asked.proofs.States.{AreReadable}
 use Rattle.ht_asked.proofs.FormByClap.{form_by_clap}
@@ -135,6 +135,34 @@ uninits : map (λ words. asked (codes "uninit" ∷ words)) (
     ∷ Some (uninit (codes "n") (codes "-o") 7) ∷ None ∷ None ∷ None ∷ None ∷ None ∷ []
 unfolding asked given parts
 uninits = refl
+
+-- `sync` has three names and a budget
+syncs : map (λ words. asked (codes "sync" ∷ words)) (
+    (codes "n" ∷ codes "t" ∷ codes "o" ∷ [])
+    ∷ (codes "n" ∷ codes "--budget" ∷ codes "1" ∷ codes "t" ∷ codes "o" ∷ [])
+    ∷ (codes "n" ∷ codes "t" ∷ [])
+    ∷ (codes "n" ∷ codes "t" ∷ codes "o" ∷ codes "--budget=0" ∷ [])
+    ∷ [])
+    ≡ Some (sync (codes "n") (codes "t") (codes "o") 1000) ∷ Some (sync (codes "n") (codes "t") (codes "o") 1)
+    ∷ None ∷ None ∷ []
+unfolding asked given parts
+syncs = refl
+
+-- `respond` has three names, and may have a fault and a start
+responds : map (λ words. asked (codes "respond" ∷ words)) (
+    (codes "n" ∷ codes "t" ∷ codes "o" ∷ [])
+    ∷ (codes "n" ∷ codes "t" ∷ codes "o" ∷ codes "--fault" ∷ codes "655358" ∷ [])
+    ∷ (codes "--fault=007" ∷ codes "n" ∷ codes "--start" ∷ codes "s" ∷ codes "t" ∷ codes "o" ∷ [])
+    ∷ (codes "n" ∷ codes "t" ∷ codes "o" ∷ codes "--fault=0" ∷ [])
+    ∷ (codes "n" ∷ codes "t" ∷ codes "o" ∷ codes "--fault=655359" ∷ [])
+    ∷ (codes "n" ∷ codes "t" ∷ [])
+    ∷ [])
+    ≡ Some (respond (codes "n") (codes "t") (codes "o") None None)
+    ∷ Some (respond (codes "n") (codes "t") (codes "o") (Some 655358) None)
+    ∷ Some (respond (codes "n") (codes "t") (codes "o") (Some 7) (Some (codes "s")))
+    ∷ None ∷ None ∷ None ∷ []
+unfolding asked given parts
+responds = refl
 
 -- `clap` reads the command's form as the plain reading does
 by_clap : (words : List Text) → AreReadable words

@@ -6,11 +6,11 @@ use Rattle.std.specs.Str.Parse.{digits_value}
 use Rattle.std.proofs.lemmas.Bool.{leb-true}
 use Rattle.clap.specs.Walk.{Text}
 use Rattle.clap.proofs.WalkLemmas.{both}
-use Rattle.ht_asked.specs.declared.limits.TheConstants.{MAX_BUDGET, MAX_RANDOM, MAX_SEED, MAX_SIZE, MIN_BUDGET, MIN_SIZE}
+use Rattle.ht_asked.specs.declared.limits.TheConstants.{MAX_BUDGET, MAX_FAULT, MAX_RANDOM, MAX_SEED, MAX_SIZE, MIN_BUDGET, MIN_FAULT, MIN_SIZE}
 use Rattle.ht_asked.specs.Forms.{Given, given}
 use Rattle.ht_asked.specs.Numbers.{is_number, number_in, number_or}
 use Rattle.ht_asked.specs.Asked.{Asked, Command, asked, check_of, commands, demo_of, demo_with, gen, gen_of, norm_of, of_four, of_three, options_with, sim_of}
-use Rattle.ht_asked.specs.Asked.{compact, diagnose, uninit, uninit_of}
+use Rattle.ht_asked.specs.Asked.{compact, diagnose, respond, respond_of, sync, sync_of, uninit, uninit_of}
 use Rattle.ht_asked.specs.Asked.{budget_of, random_of, seed_in, seed_of, size_in}
 use Rattle.ht_asked.specs.Ranges.{IsInRange}
 
@@ -124,10 +124,14 @@ by_demo (a ∷ b ∷ c ∷ rest) = tt
 by_demo (a ∷ b ∷ []) = by_numbers (size_in a) (seed_in b) (number_is_in_range MIN_SIZE MAX_SIZE a)
     (number_is_in_range 0 MAX_SEED b)
 
-by_budget : (netlist out : Text) (budget : Option ℕ) → IfSome budget (InRange MIN_BUDGET MAX_BUDGET)
-    → AsksInRange (option_map (uninit netlist out) budget)
-by_budget netlist out None b = tt
-by_budget netlist out (Some budget) b = b
+-- a job with a budget alone
+by_budget : (job : ℕ → Asked) → ((n : ℕ) → InRange MIN_BUDGET MAX_BUDGET n → IsInRange (job n)) → (t : Option Text)
+    → AsksInRange (option_map job (budget_of t))
+by_budget job so t = by (budget_of t) (option_is_in_range 1000 MIN_BUDGET MAX_BUDGET (omega arith, omega arith) t)
+  where
+    by : (budget : Option ℕ) → IfSome budget (InRange MIN_BUDGET MAX_BUDGET) → AsksInRange (option_map job budget)
+    by None b = tt
+    by (Some budget) b = so budget b
 
 by_uninit : (names : List Text) (texts : List (Option Text)) → AsksInRange (uninit_of names texts)
 by_uninit [] texts = tt
@@ -135,8 +139,34 @@ by_uninit (a ∷ []) texts = tt
 by_uninit (a ∷ b ∷ c ∷ rest) texts = tt
 by_uninit (a ∷ b ∷ []) [] = tt
 by_uninit (a ∷ b ∷ []) (t ∷ u ∷ rest) = tt
-by_uninit (a ∷ b ∷ []) (t ∷ []) =
-    by_budget a b (budget_of t) (option_is_in_range 1000 MIN_BUDGET MAX_BUDGET (omega arith, omega arith) t)
+by_uninit (a ∷ b ∷ []) (t ∷ []) = by_budget (uninit a b) (λ n h. h) t
+
+by_sync : (names : List Text) (texts : List (Option Text)) → AsksInRange (sync_of names texts)
+by_sync [] texts = tt
+by_sync (a ∷ []) texts = tt
+by_sync (a ∷ b ∷ []) texts = tt
+by_sync (a ∷ b ∷ c ∷ d ∷ rest) texts = tt
+by_sync (a ∷ b ∷ c ∷ []) [] = tt
+by_sync (a ∷ b ∷ c ∷ []) (t ∷ u ∷ rest) = tt
+by_sync (a ∷ b ∷ c ∷ []) (t ∷ []) = by_budget (sync a b c) (λ n h. h) t
+
+by_fault : (netlist tests out : Text) (start : Option Text) (fault : Option ℕ)
+    → IfSome fault (InRange MIN_FAULT MAX_FAULT)
+    → AsksInRange (option_map (λ number. respond netlist tests out number start) (option_map Some fault))
+by_fault netlist tests out start None within = tt
+by_fault netlist tests out start (Some number) within = within
+
+by_respond : (names : List Text) (texts : List (Option Text)) → AsksInRange (respond_of names texts)
+by_respond [] texts = tt
+by_respond (a ∷ []) texts = tt
+by_respond (a ∷ b ∷ []) texts = tt
+by_respond (a ∷ b ∷ c ∷ d ∷ rest) texts = tt
+by_respond (a ∷ b ∷ c ∷ []) [] = tt
+by_respond (a ∷ b ∷ c ∷ []) (t ∷ []) = tt
+by_respond (a ∷ b ∷ c ∷ []) (t ∷ u ∷ v ∷ rest) = tt
+by_respond (a ∷ b ∷ c ∷ []) (None ∷ u ∷ []) = tt
+by_respond (a ∷ b ∷ c ∷ []) (Some text ∷ u ∷ []) =
+    by_fault a b c u (number_in MIN_FAULT MAX_FAULT text) (number_is_in_range MIN_FAULT MAX_FAULT text)
 
 -- ---- the table of the commands
 
@@ -159,7 +189,10 @@ commands_ask_in_range = (
             λ g. by_three compact (λ a b c. tt) g.positionals,
             (
               λ g. by_four diagnose (λ a b c d. tt) g.positionals,
-              (λ g. by_uninit g.positionals g.options, tt),
+              (
+                λ g. by_uninit g.positionals g.options,
+                (λ g. by_sync g.positionals g.options, (λ g. by_respond g.positionals g.options, tt)),
+              ),
             ),
           ),
         ),

@@ -7,7 +7,7 @@ use Rattle.std.specs.Str.{bytes_eq}
 use Rattle.clap.specs.Walk.{Text}
 use Rattle.ht_asked.specs.declared.limits.TheConstants.{DEFAULT_BUDGET, MAX_BUDGET, MIN_BUDGET}
 use Rattle.ht_asked.specs.declared.limits.TheConstants.{DEFAULT_RANDOM, DEFAULT_SEED, MAX_RANDOM, MAX_SEED}
-use Rattle.ht_asked.specs.declared.limits.TheConstants.{MAX_SIZE, MIN_SIZE}
+use Rattle.ht_asked.specs.declared.limits.TheConstants.{MAX_FAULT, MAX_SIZE, MIN_FAULT, MIN_SIZE}
 use Rattle.ht_asked.specs.Forms.{Form, Given, given, names_form}
 use Rattle.ht_asked.specs.Numbers.{number_in, number_or}
 
@@ -23,7 +23,7 @@ pub record GenOptions : Type 0 where
   pub seed : ℕ
   pub start : Option Text
 
--- a command with the names of its files, of which the start's may be left out, and with its numbers
+-- a command with the names of its files and its numbers, of which the start's and the fault's may be left out
 pub data Asked : Type 0 where
   sim : Text → Text → Text → Option Text → Asked
   gen : Text → Text → Text → Text → GenOptions → Asked
@@ -33,6 +33,8 @@ pub data Asked : Type 0 where
   compact : Text → Text → Text → Asked
   diagnose : Text → Text → Text → Text → Asked
   uninit : Text → Text → ℕ → Asked
+  sync : Text → Text → Text → ℕ → Asked
+  respond : Text → Text → Text → Option ℕ → Option Text → Asked
 
 -- a command: its name in lower case, the form of the words after it, and what they ask for
 pub record Command : Type 0 where
@@ -183,10 +185,46 @@ uninit_command = record {
   asks = λ g. uninit_of g.positionals g.options;
 }
 
+-- `sync NETLIST TESTS OUT [--budget N]`
+abbrev pub sync_of : List Text → List (Option Text) → Option Asked
+sync_of (netlist ∷ tests ∷ out ∷ []) (budget ∷ []) = option_map (sync netlist tests out) (budget_of budget)
+sync_of _ _ = None
+
+abbrev pub sync_command : Command
+sync_command = record {
+  name = codes "sync";
+  form = record {
+    positionals = codes "netlist" ∷ codes "tests" ∷ codes "out" ∷ [];
+    options = codes "budget" ∷ [];
+  };
+  asks = λ g. sync_of g.positionals g.options;
+}
+
+-- the number of a fault, where the option's text is one, or none where it is left out
+abbrev pub fault_of : Option Text → Option (Option ℕ)
+fault_of None = Some None
+fault_of (Some text) = option_map Some (number_in MIN_FAULT MAX_FAULT text)
+
+-- `respond NETLIST TESTS OUT [--fault N] [--start FILE]`
+abbrev pub respond_of : List Text → List (Option Text) → Option Asked
+respond_of (netlist ∷ tests ∷ out ∷ []) (fault ∷ start ∷ []) =
+    option_map (λ number. respond netlist tests out number start) (fault_of fault)
+respond_of _ _ = None
+
+abbrev pub respond_command : Command
+respond_command = record {
+  name = codes "respond";
+  form = record {
+    positionals = codes "netlist" ∷ codes "tests" ∷ codes "out" ∷ [];
+    options = codes "fault" ∷ codes "start" ∷ [];
+  };
+  asks = λ g. respond_of g.positionals g.options;
+}
+
 -- the commands, in the order of the usage line
 abbrev pub commands : List Command
 commands = sim_command ∷ gen_command ∷ check_command ∷ norm_command ∷ demo_command
-    ∷ compact_command ∷ diagnose_command ∷ uninit_command ∷ []
+    ∷ compact_command ∷ diagnose_command ∷ uninit_command ∷ sync_command ∷ respond_command ∷ []
 
 abbrev pub command_named : Text → Option Command
 command_named name = find (λ c. bytes_eq name c.name) commands

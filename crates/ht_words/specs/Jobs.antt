@@ -1,6 +1,6 @@
 -- Jobs as what words ask for.
 use Rattle.std.specs.Prelude.{◌≡◌, Option, Some, None, Result, Err, IfOk}
-use Rattle.ht_asked.specs.Asked.{Asked, check, compact, demo, diagnose, gen, norm, sim, uninit}
+use Rattle.ht_asked.specs.Asked.{Asked, check, compact, demo, diagnose, gen, norm, respond, sim, sync, uninit}
 use Rattle.ht_words.specs.declared.job.Job.{Job}
 use Rattle.ht_words.specs.declared.job.Job.TheVariants as job
 use Rattle.ht_words.specs.declared.job.WordsFault.{WordsFault}
@@ -17,6 +17,8 @@ asked_by (job.Demo size seed) = demo size seed
 asked_by (job.Compact netlist tests out) = compact netlist tests out
 asked_by (job.Diagnose netlist tests responses out) = diagnose netlist tests responses out
 asked_by (job.Uninit netlist out budget) = uninit netlist out budget
+asked_by (job.Sync netlist tests out budget) = sync netlist tests out budget
+asked_by (job.Respond netlist tests out fault start) = respond netlist tests out fault start
 
 -- the answer to what words ask for: the job, or a refusal; `Usage` only where they ask for none
 pub record IsAnswer (asked : Option Asked) (result : Result Job WordsFault) : Type 0 where

@@ -4,7 +4,7 @@ ghost use Rattle.clap.specs.Words.{app_of, is_simple_and_free, rule_of};
 ghost use Rattle.ht_asked.specs.Forms.{names_form};
 ghost use Rattle.ht_asked.specs.Asked.{check_command, command_named, compact_command};
 ghost use Rattle.ht_asked.specs.Asked.{demo_command, diagnose_command, gen_command};
-ghost use Rattle.ht_asked.specs.Asked.{norm_command, sim_command, uninit_command};
+ghost use Rattle.ht_asked.specs.Asked.{norm_command, respond_command, sim_command, sync_command, uninit_command};
 ghost use Rattle.ht_asked.specs.ByClap.{app_named, app_with, optional, wanted};
 
 use clap::{Arg, Command};
@@ -122,6 +122,25 @@ fn define_uninit<'a>(alloc: Global) -> Result<Command<'a>, AllocError>
     with_out(alloc, "uninit")?.arg(option(alloc, "budget"))
 }
 
+/// `sync NETLIST TESTS OUT [--budget N]`.
+fn define_sync<'a>(alloc: Global) -> Result<Command<'a>, AllocError>
+    ensures { IfOk result (λ c. app_of c ≡ app_with sync_command.name sync_command.form) }
+{
+    with_tests(alloc, "sync")?
+        .arg(positional(alloc, "out"))?
+        .arg(option(alloc, "budget"))
+}
+
+/// `respond NETLIST TESTS OUT [--fault N] [--start FILE]`.
+fn define_respond<'a>(alloc: Global) -> Result<Command<'a>, AllocError>
+    ensures { IfOk result (λ c. app_of c ≡ app_with respond_command.name respond_command.form) }
+{
+    with_tests(alloc, "respond")?
+        .arg(positional(alloc, "out"))?
+        .arg(option(alloc, "fault"))?
+        .arg(option(alloc, "start"))
+}
+
 /// The definition of the command that the word names, in lower case.
 pub fn definition<'a>(alloc: Global, word: &str) -> Result<Option<Command<'a>>, AllocError>
     ensures named { IfOk result (λ found. option_map app_of found
@@ -138,6 +157,8 @@ pub fn definition<'a>(alloc: Global, word: &str) -> Result<Option<Command<'a>>, 
         "compact" => Ok(Some(define_compact(alloc)?)),
         "diagnose" => Ok(Some(define_diagnose(alloc)?)),
         "uninit" => Ok(Some(define_uninit(alloc)?)),
+        "sync" => Ok(Some(define_sync(alloc)?)),
+        "respond" => Ok(Some(define_respond(alloc)?)),
         _ => Ok(None),
     }
 }

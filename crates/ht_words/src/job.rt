@@ -96,6 +96,30 @@ pub enum Job {
         /// The budget of each search, 1 to 100,000.
         budget: u64,
     },
+    /// Finds a shortest list of vectors after which every flip-flop of the netlist has a definite value.
+    Sync {
+        /// The netlist to read.
+        netlist: FileName,
+        /// The list to write.
+        tests: FileName,
+        /// The record to write.
+        out: FileName,
+        /// The budget of all lengths together, 1 to 100,000.
+        budget: u64,
+    },
+    /// Says what a machine shows over the tests.
+    Respond {
+        /// The netlist to read.
+        netlist: FileName,
+        /// The tests to read.
+        tests: FileName,
+        /// The responses to write.
+        out: FileName,
+        /// The number of the machine's fault, from 1; without one it is the good machine.
+        fault: Option<u32>,
+        /// The start to read, if one is stated.
+        start: Option<FileName>,
+    },
 }
 
 /// Why words are no job.

@@ -2,7 +2,7 @@
 ghost use Rattle.std.specs.Prelude.{◌≡◌, ◌≢◌, IfOk, None, Some, codes, false, option_and_then, true};
 ghost use Rattle.clap.specs.Words.{app_of, first_of, found_of, is_simple_and_free, matches_of, rows_of};
 ghost use Rattle.ht_asked.specs.Asked.{asked, check_command, command_named, gen_command, sim_command, words_of};
-ghost use Rattle.ht_asked.specs.Asked.{demo_with, seed_in, size_in, uninit_command};
+ghost use Rattle.ht_asked.specs.Asked.{demo_with, respond_command, seed_in, size_in, sync_command, uninit_command};
 ghost use Rattle.ht_asked.specs.ByClap.{asked_by_clap, asked_in_rows, is_taken};
 ghost use Rattle.ht_words.specs.Jobs.{IsAnswer};
 ghost use Rattle.ht_words.specs.declared.job.WordsFault.TheVariants as fault;
@@ -10,7 +10,7 @@ ghost use Rattle.ht_words.specs.declared.job.WordsFault.TheVariants as fault;
 use crate::definitions::definition;
 use crate::file_name::FileName;
 use crate::job::{Job, RunFiles, WordsFault};
-use crate::number::{budget, random, seed, size, wanted_number};
+use crate::number::{budget, fault_number, random, seed, size, wanted_number};
 use clap::error::ErrorKind;
 use clap::{ArgMatches, Command};
 use ht_asked::MAX_SEED;
@@ -81,6 +81,8 @@ fn job(alloc: Global, word: &str, matches: &ArgMatches<'_>) -> Result<Job, Words
             out: value(alloc, matches, "out")?,
         }),
         "uninit" => uninit_job(alloc, matches),
+        "sync" => sync_job(alloc, matches),
+        "respond" => respond_job(alloc, matches),
         _ => Err(WordsFault::Usage),
     }
 }
@@ -156,6 +158,31 @@ fn uninit_job(alloc: Global, matches: &ArgMatches<'_>) -> Result<Job, WordsFault
         netlist: value(alloc, matches, "netlist")?,
         out: value(alloc, matches, "out")?,
         budget: budget(matches)?,
+    })
+}
+
+/// The job of `sync`.
+fn sync_job(alloc: Global, matches: &ArgMatches<'_>) -> Result<Job, WordsFault>
+    ensures { IsAnswer (asked_in_rows sync_command (rows_of (found_of matches.now))) result }
+{
+    Ok(Job::Sync {
+        netlist: value(alloc, matches, "netlist")?,
+        tests: value(alloc, matches, "tests")?,
+        out: value(alloc, matches, "out")?,
+        budget: budget(matches)?,
+    })
+}
+
+/// The job of `respond`.
+fn respond_job(alloc: Global, matches: &ArgMatches<'_>) -> Result<Job, WordsFault>
+    ensures { IsAnswer (asked_in_rows respond_command (rows_of (found_of matches.now))) result }
+{
+    Ok(Job::Respond {
+        netlist: value(alloc, matches, "netlist")?,
+        tests: value(alloc, matches, "tests")?,
+        out: value(alloc, matches, "out")?,
+        fault: fault_number(matches)?,
+        start: optional_value(alloc, matches, "start")?,
     })
 }
 

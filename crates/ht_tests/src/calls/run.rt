@@ -20,5 +20,6 @@ mod refusals;
 mod sim;
 mod started;
 mod started_files;
+mod synchronized;
 mod uninit;
 mod words;

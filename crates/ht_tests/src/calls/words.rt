@@ -67,6 +67,12 @@ fn is_job(job: &Job, names: &[&str]) -> bool {
             out,
         } => are_four("diagnose", netlist, tests, responses, out, names),
         Job::Uninit { netlist, out, .. } => are_two("uninit", netlist, out, names),
+        Job::Sync {
+            netlist,
+            tests,
+            out,
+            ..
+        } => are_three("sync", netlist, tests, out, names),
     }
 }
 
@@ -123,6 +129,11 @@ const ROWS: &[(&[&str], &[&str])] = &[
         &["uninit", "n", "-o"],
     ),
     (&["uninit", "n", "o", "--budget=0"], &[]),
+    (
+        &["sync", "n", "t", "--budget=5", "o"],
+        &["sync", "n", "t", "o"],
+    ),
+    (&["sync", "n", "o"], &[]),
     (&["norm", "--", "-n", "-o"], &["norm", "-n", "-o"]),
     (&[], &[]),
     (&["SIM", "n", "t", "r"], &[]),

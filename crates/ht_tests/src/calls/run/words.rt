@@ -5,7 +5,7 @@ use ht_samples::SHIFT_REGISTER;
 use std::test::Fail;
 
 const USAGE: &[u8] =
-    b"usage: sim NETLIST TESTS REPORT, gen NETLIST TESTS REPORT PROOFS [--budget N] [--random N] [--seed S], check NETLIST TESTS REPORT PROOFS, norm NETLIST OUT, demo SIZE SEED, compact NETLIST TESTS OUT, diagnose NETLIST TESTS RESPONSES OUT, uninit NETLIST OUT [--budget N]\n";
+    b"usage: sim NETLIST TESTS REPORT, gen NETLIST TESTS REPORT PROOFS [--budget N] [--random N] [--seed S], check NETLIST TESTS REPORT PROOFS, norm NETLIST OUT, demo SIZE SEED, compact NETLIST TESTS OUT, diagnose NETLIST TESTS RESPONSES OUT, uninit NETLIST OUT [--budget N], sync NETLIST TESTS OUT [--budget N]\n";
 
 const WITHOUT_FORM: &[&[&str]] = &[
     &[],
