@@ -9,7 +9,7 @@ pub use Rattle.ht_app.specs.Jobs.{input_name, order_of}
 pub use Rattle.ht_app.specs.Judging.{AreFine, HasFront, HasLines, HasLongLine, LinesStop, ReportIsRead, StandsForFile}
 pub use Rattle.ht_app.specs.Judging.{StandsForProofs, StandsForReport, StandsForResponses, StandsForTests, StopsAtLine}
 pub use Rattle.ht_app.specs.Judging.{check_basis}
-pub use Rattle.ht_app.specs.Outputs.{MakesOutput, ending, file_acts, step_acts, sync_acts}
+pub use Rattle.ht_app.specs.Outputs.{MakesOutput, ending, file_acts, response_acts, step_acts, sync_acts}
 pub use Rattle.ht_app.specs.Refusals.{IsRefusedFor, RefusesInput, before_proofs, refused_port}
 pub use Rattle.ht_app.specs.Run.{HasCause}
 pub use Rattle.ht_app.specs.Steps.{Does, EndsJob, EndsReading, HasReadTo, IsPrepared, PermitsAll, ReadStops, TestsStop}
@@ -19,7 +19,7 @@ pub use Rattle.ht_app.specs.declared.run_error.RunError.{RunError}
 pub use Rattle.ht_app.specs.declared.run_error.RunError.TheVariants.{BadResponses, BadTests, Denied, ReadFault}
 pub use Rattle.ht_app.specs.declared.run_error.RunError.TheVariants.{TooManyVectors, Usage, WriteFault}
 pub use Rattle.ht_asked.specs.Asked.{Asked, GenOptions, check, compact, demo, diagnose, gen, norm, sim, sync, uninit}
-pub use Rattle.ht_asked.specs.Asked.{words_of}
+pub use Rattle.ht_asked.specs.Asked.{respond, words_of}
 pub use Rattle.ht_bench.proofs.OneLaws.{one_circuit}
 pub use Rattle.ht_bench.specs.Text.{IsNetlistOf, max_netlist_bytes}
 pub use Rattle.ht_collapse.specs.Classes.{AreClasses}

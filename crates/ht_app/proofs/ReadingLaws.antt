@@ -9,11 +9,12 @@ use Rattle.ht_app.proofs.Common.{SaysBasis, Tern, TestsStop, Usage, WasRead, Wri
 use Rattle.ht_app.proofs.Common.{order_of, reading, refused_port}
 use Rattle.ht_ports.specs.declared.ports.InPort.TheVariants.{Netlist, Tests, Report, Proofs}
 use Rattle.ht_net.specs.Netlist as net
-use Rattle.ht_app.specs.declared.run_error.RunError.TheVariants.{NoMemory}
+use Rattle.ht_app.specs.declared.run_error.RunError.TheVariants.{NoMemory, NoSuchFault}
 use Rattle.ht_app.specs.Changed.{IsUnread}
 use Rattle.ht_app.specs.Steps.{OnlyReads}
 use Rattle.ht_net.specs.Detection.{unknown_state}
-use Rattle.ht_app.specs.Inputs.{IsStated}
+use Rattle.ht_app.specs.Inputs.{HasFault, IsStated}
+use Rattle.ht_app.specs.Refusals.{NamesAbove}
 use Rattle.ht_app.specs.Jobs.{may_state_start, place_of}
 use Rattle.ht_app.proofs.ActLaws.{did_nothing}
 use Rattle.ht_app.proofs.ChangedLaws.{kept}
@@ -224,6 +225,8 @@ module _ {job : Asked} {basis : JobBasis} {place : ℕ} {a m : DeskView} (h : Ha
     has_cause WriteFault stops = absurd stops
     has_cause NoMemory stops = inl (did_nothing (call.written ∙ h.reads.written) (call.named ∙ h.reads.named)
         (call.is_created ∙ h.reads.is_created))
+    has_cause (BadTests line) stops = (refuses (BadTests line) (stops.0, stops.1), stops.2)
+    has_cause (NoSuchFault faults) stops = let none : None ≡ Some port = stops.0 in cc
     has_cause e stops = refuses e stops
 
     pub stops_there : (e : RunError) → ReadStops job basis port name m b e → EndsReading job a b e
@@ -238,6 +241,21 @@ module _ {job : Asked} {basis : JobBasis} {place : ℕ} {a m : DeskView} (h : Ha
   no_room = record {
     reads = changes_by_reading job h.reads h.others;
     cause = inl (did_nothing h.reads.written h.reads.named h.reads.is_created);
+  }
+
+  -- the fault that the job names isn't one of the circuit
+  pub lacks_there : (faults : ℕ) → order_of job Tests ≡ place → 0 < place → NamesAbove job basis.circuit faults
+      → EndsReading job a m (NoSuchFault faults)
+  lacks_there faults at some above = record {
+    reads = changes_by_reading job h.reads h.others;
+    cause = record {
+      basis = basis;
+      circuit = h.netlist some;
+      stated = h.stated;
+      before = λ p less. h.accepts p (omega (arith, less, at));
+      above = above;
+      unread = λ p after. h.unread p (omega (arith, after, at));
+    };
   }
 
   pub accepts_all : ((p : InPort) → place ≤ order_of job p → input_name job p ≡ None) → HasNetlist basis.circuit
@@ -283,9 +301,9 @@ pub tests_stop : (job : Asked) (basis : JobBasis) (most : ℕ) (name : List ℕ)
     → ((line : ℕ) → refused_port job (BadTests line) ≡ Some Tests)
     → ((line : ℕ) (text : List ℕ) → line ≤ most → IsMalformedTest basis.circuit text line
     → IsRefusedFor job basis (BadTests line) text)
-    → (e : RunError) → TestsStop basis.circuit most name a b e → ReadStops job basis Tests name a b e
-tests_stop job basis most name a b at refuses ReadFault s = s
-tests_stop job basis most name a b at refuses NoMemory s = tt
-tests_stop job basis most name a b at refuses (BadTests line) s =
-    (at line, read_so (IsRefusedFor job basis (BadTests line)) (λ text. refuses line text s.1) s.0)
-tests_stop job basis most name a b at refuses e s = absurd s
+    → HasFault job basis.circuit → (e : RunError) → TestsStop basis.circuit most name a b e → ReadStops job basis Tests name a b e
+tests_stop job basis most name a b at refuses fault ReadFault s = s
+tests_stop job basis most name a b at refuses fault NoMemory s = tt
+tests_stop job basis most name a b at refuses fault (BadTests line) s =
+    (at line, read_so (IsRefusedFor job basis (BadTests line)) (λ text. refuses line text s.1) s.0, fault)
+tests_stop job basis most name a b at refuses fault e s = absurd s

@@ -1,5 +1,5 @@
 -- What the files that a job reads say.
-use Rattle.std.specs.Prelude.{◌≡◌, ◌≢◌, ◌<◌, ◌≤◌, ℕ, List, length, Some, None, IsSome}
+use Rattle.std.specs.Prelude.{◌≡◌, ◌≢◌, ◌<◌, ◌≤◌, ℕ, List, length, Option, Some, None, IsSome}
 use Rattle.std.specs.List.{All}
 use Rattle.ht_ports.specs.Desk.{DeskView}
 use Rattle.ht_ports.specs.declared.ports.InPort.{InPort}
@@ -15,9 +15,10 @@ use Rattle.ht_texts.specs.SearchReports.{IsReportText}
 use Rattle.ht_entries.specs.EntryTexts.{IsProofText}
 use Rattle.ht_compact.specs.TestsToCompact.{IsTestTextToCompact}
 use Rattle.ht_dictionary.specs.ResponseTexts.{IsResponseText}
+use Rattle.ht_faults.specs.Sites.{faults_of}
 use Rattle.ht_collapse.specs.Classes.{AreClasses}
 use Rattle.ht_valid.specs.ValidFiles.{AgreesWithTests, Content, HasEntry, IsBacking, IsOwn, NeedsEntry}
-use Rattle.ht_asked.specs.Asked.{Asked, check, compact, diagnose}
+use Rattle.ht_asked.specs.Asked.{Asked, check, compact, diagnose, respond}
 use Rattle.ht_app.specs.Jobs.{input_name, order_of, start_name}
 
 -- ---- one file
@@ -85,6 +86,16 @@ SaysBasis job basis Extra text = IsStartText (length basis.circuit.dffs) text ba
 SaysBasis job basis Report text = IsGoodReport basis.circuit basis.representatives basis.content text
 SaysBasis job basis Proofs text = AreGoodProofs basis.circuit basis.representatives basis.content text
 
+-- the number of a fault, from 1, is that of one of the circuit, where one is given
+abbrev pub IsListed : net.Netlist → Option ℕ → Type 0
+IsListed c None = Unit {0}
+IsListed c (Some number) = number ≤ length (faults_of c)
+
+-- the fault that a job names is one of the circuit
+abbrev pub HasFault : Asked → net.Netlist → Type 0
+HasFault (respond netlist tests out fault start) c = IsListed c fault
+HasFault job c = Unit {0}
+
 -- The job's file of the port, where it reads one, was read and says its part of the basis.
 abbrev pub AcceptsFile : Asked → JobBasis → InPort → DeskView → Type 0
 AcceptsFile job basis port old = (name : List ℕ) → input_name job port ≡ Some name
@@ -103,10 +114,11 @@ pub record AcceptsInputs (job : Asked) (basis : JobBasis) (old : DeskView) : Typ
 
 -- ---- inputs that a desk tells
 
--- The desk tells the texts of all files of the job, and they are good.
+-- The desk tells the texts of all files of the job, and they are good; the fault that it names is one of the circuit.
 pub record AreGoodInputs (job : Asked) (desk : DeskView) : Type 0 where
   pub texts : InPort → List ℕ
   pub basis : JobBasis
   pub stated : IsStated job basis
+  pub fault : HasFault job basis.circuit
   pub told : (p : InPort) (name : List ℕ) → input_name job p ≡ Some name → IsInput p name (texts p) desk
   pub say : (p : InPort) (name : List ℕ) → input_name job p ≡ Some name → SaysBasis job basis p (texts p)

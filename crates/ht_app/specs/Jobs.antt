@@ -6,7 +6,7 @@ use Rattle.ht_ports.specs.declared.ports.InPort.TheVariants as in_port
 use Rattle.ht_ports.specs.declared.ports.OutPort.{OutPort}
 use Rattle.ht_ports.specs.declared.ports.OutPort.TheVariants.{Tests, Report, Proofs}
 use Rattle.ht_tern.specs.declared.tern.Tern.{Tern}
-use Rattle.ht_asked.specs.Asked.{Asked, sim, gen, check, norm, compact, diagnose, uninit, sync, GenOptions}
+use Rattle.ht_asked.specs.Asked.{Asked, sim, gen, check, norm, compact, diagnose, uninit, sync, respond, GenOptions}
 use Rattle.ht_engine.specs.Steps.{Settings}
 
 -- what the start and the options of `gen` tell the generator
@@ -34,6 +34,9 @@ input_name (diagnose netlist tests responses out) in_port.Tests = Some tests
 input_name (diagnose netlist tests responses out) in_port.Extra = Some responses
 input_name (uninit netlist out budget) in_port.Netlist = Some netlist
 input_name (sync netlist tests out budget) in_port.Netlist = Some netlist
+input_name (respond netlist tests out fault start) in_port.Netlist = Some netlist
+input_name (respond netlist tests out fault start) in_port.Extra = start
+input_name (respond netlist tests out fault start) in_port.Tests = Some tests
 input_name _ _ = None
 
 -- the job may state a start, which it reads from the port Extra
@@ -41,6 +44,7 @@ abbrev pub may_state_start : Asked → Bool
 may_state_start (sim netlist tests report start) = true
 may_state_start (gen netlist tests report proofs options) = true
 may_state_start (check netlist tests report proofs start) = true
+may_state_start (respond netlist tests out fault start) = true
 may_state_start _ = false
 
 -- the file of the start, where the job states one
@@ -59,6 +63,7 @@ output_name (diagnose netlist tests responses out) Report = Some out
 output_name (uninit netlist out budget) Report = Some out
 output_name (sync netlist tests out budget) Tests = Some tests
 output_name (sync netlist tests out budget) Report = Some out
+output_name (respond netlist tests out fault start) Report = Some out
 output_name _ _ = None
 
 -- the place of a port in the order of reading: what the port Extra has is read before the tests where it is a start, and

@@ -1,5 +1,5 @@
 -- What each command does to its outputs.
-use Rattle.std.specs.Prelude.{◌≡◌, ◌++◌, ◌∷◌, ℕ, List, [], flat_map, codes, Some, Option, None, Bool, length}
+use Rattle.std.specs.Prelude.{◌≡◌, ◌-◌, ◌++◌, ◌∷◌, ℕ, List, [], flat_map, codes, Some, Option, None, Bool, length}
 use Rattle.ht_ports.specs.declared.ports.OutPort.{OutPort}
 use Rattle.ht_ports.specs.declared.ports.OutPort.TheVariants.{Tests, Report, Proofs, Out}
 use Rattle.ht_net.specs.Netlist as net
@@ -9,7 +9,7 @@ use Rattle.ht_texts.specs.Lines.{with_lf}
 use Rattle.ht_texts.specs.Reports.{head_line, report_text, report_sums, total_line}
 use Rattle.ht_entries.specs.ProofLines.{line_text}
 use Rattle.ht_entries.specs.declared.proof_line.ProofLine.TheVariants.{End}
-use Rattle.ht_collapse.specs.Classes.{AreClasses}
+use Rattle.ht_collapse.specs.Classes.{AreClasses, fault_at}
 use Rattle.ht_valid.specs.TrueVerdicts.{AreDecided, HaveTrueVerdicts}
 use Rattle.ht_demo.specs.Demo.{demo_netlist}
 use Rattle.ht_engine.specs.declared.step.Step.{Step}
@@ -20,15 +20,16 @@ use Rattle.ht_files.specs.StepTexts.{proofs_of, proofs_so_far, step_text, tests_
 use Rattle.ht_faults.specs.Sites.{faults_of}
 use Rattle.ht_uninit.specs.Records.{IsUninit, UninitHolds, UninitState}
 use Rattle.ht_uninit.specs.UninitTexts.{uninit_text, uninit_total}
-use Rattle.ht_asked.specs.Asked.{Asked, sim, gen, check, norm, demo, compact, diagnose, uninit, sync}
+use Rattle.ht_asked.specs.Asked.{Asked, sim, gen, check, norm, demo, compact, diagnose, uninit, sync, respond}
 use Rattle.ht_sync.specs.SyncSearches.{FindsWithin, IsSynchronized, SynchronizedHolds}
 use Rattle.ht_sync.specs.SyncTexts.{last_sync_line, sync_list, sync_said, sync_text}
 use Rattle.ht_sync.specs.declared.synchronizing.Synchronized.{Synchronized}
 use Rattle.ht_words.specs.declared.job.RunFiles.{RunFiles}
 use Rattle.ht_app.specs.declared.demo.TheConstants.{DEMO_BUDGET, DEMO_RANDOM}
 use Rattle.ht_app.specs.Acts.{Act, make, put}
-use Rattle.ht_app.specs.Inputs.{JobBasis}
+use Rattle.ht_app.specs.Inputs.{IsListed, JobBasis}
 use Rattle.ht_app.specs.Jobs.{settings_of}
+use Rattle.ht_net.specs.declared.fault.Fault.{Fault}
 use Rattle.ht_net.specs.declared.place.Place.{Place}
 use Rattle.ht_net.specs.Netlist.{Netlist}
 use Rattle.ht_grade.specs.Detections.{AreFirstDetections}
@@ -40,6 +41,7 @@ use Rattle.ht_tern.specs.declared.tern.Tern.{Tern}
 use Rattle.ht_dictionary.specs.Diagnoses.{Diagnoses}
 use Rattle.ht_dictionary.specs.DiagnosisTexts.{diagnosis_text, diagnosis_total}
 use Rattle.ht_dictionary.specs.DiagnosisView.{DiagnosisView}
+use Rattle.ht_responses.specs.Responses.{IsResponses}
 
 -- ---- one file, and its total line on Out
 
@@ -200,6 +202,28 @@ pub record WritesSync (tests out : List ℕ) (c : net.Netlist) (budget : ℕ) (a
   pub so : IsSyncRecord c budget list (body ++ last) said last
   pub acts_are : acts ≡ sync_acts tests out list body said last
 
+-- ---- `respond`
+
+-- the machine that the number of a fault names: the one with that fault, or without a number the good one
+abbrev pub IsMachineOf : net.Netlist → Option ℕ → Option Fault → Type 0
+IsMachineOf c None fault = fault ≡ None
+IsMachineOf c (Some number) fault = IsListed c (Some number) × (fault ≡ Some (fault_at c (number - 1)))
+
+-- What is said stands on Out before the last line of the responses.
+abbrev pub response_acts : List ℕ → List ℕ → List ℕ → List ℕ → List Act
+response_acts out body said last = make Report out ∷ put Report body ∷ put Out said ∷ put Report last ∷ []
+
+-- The file has exactly what that machine shows over the vectors, from the start.
+pub record WritesResponses (out : List ℕ) (c : net.Netlist) (number : Option ℕ) (start : List Tern)
+    (list : List (List Bool)) (acts : List Act) : Type 0 where
+  pub fault : Option Fault
+  pub body : List ℕ
+  pub said : List ℕ
+  pub last : List ℕ
+  pub machine : IsMachineOf c number fault
+  pub so : IsResponses c fault start list body last said
+  pub acts_are : acts ≡ response_acts out body said last
+
 -- ---- all commands
 
 -- What a command does to its outputs, once its inputs say the basis.
@@ -221,6 +245,8 @@ MakesOutput (diagnose netlist tests responses out) basis acts =
 MakesOutput (uninit netlist out budget) basis acts =
     WritesFile Report out (λ body total. IsUninitReport basis.circuit budget (body ++ total) total) acts
 MakesOutput (sync netlist tests out budget) basis acts = WritesSync tests out basis.circuit budget acts
+MakesOutput (respond netlist tests out number start) basis acts =
+    WritesResponses out basis.circuit number basis.content.start basis.content.list acts
 
 -- What it does while it may still ask for memory.
 abbrev pub BeginsOutput : Asked → JobBasis → List Act → Type 0

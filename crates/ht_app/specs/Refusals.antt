@@ -13,15 +13,16 @@ use Rattle.ht_texts.specs.StartTexts.{IsMalformedStart, IsStartText}
 use Rattle.ht_texts.specs.Tests.{IsTestText, IsMalformedTest}
 use Rattle.ht_compact.specs.TestsToCompact.{HasTooManyVectors, IsMalformedEarly}
 use Rattle.ht_dictionary.specs.ResponseTexts.{IsMalformedResponse}
+use Rattle.ht_faults.specs.Sites.{faults_of}
 use Rattle.ht_collapse.specs.Classes.{AreClasses}
 use Rattle.ht_valid.specs.ValidFiles.{AreValidFiles, Content}
 use Rattle.ht_valid.specs.FirstTrouble.{IsFirst, IsFirstFault, IsFirstProofLine, IsReportTrouble}
 use Rattle.ht_valid.specs.declared.trouble.Trouble.TheVariants as trouble
-use Rattle.ht_asked.specs.Asked.{Asked, sim, check, compact, diagnose}
+use Rattle.ht_asked.specs.Asked.{Asked, sim, check, compact, diagnose, respond}
 use Rattle.ht_app.specs.declared.run_error.RunError.{RunError}
-use Rattle.ht_app.specs.declared.run_error.RunError.TheVariants.{Denied, TooLong, Refused, BadStart, BadTests, TooManyVectors, BadResponses}
-use Rattle.ht_app.specs.Inputs.{AcceptsBefore, HasNetlist, IsInput, IsStated, JobBasis, IsGoodNetlist, WasRead}
-use Rattle.ht_app.specs.Jobs.{input_name, may_state_start, order_of}
+use Rattle.ht_app.specs.declared.run_error.RunError.TheVariants.{Denied, TooLong, Refused, BadStart, BadTests, TooManyVectors, BadResponses, NoMemory, NoSuchFault}
+use Rattle.ht_app.specs.Inputs.{AcceptsBefore, HasFault, HasNetlist, IsInput, IsListed, IsStated, JobBasis, IsGoodNetlist, WasRead}
+use Rattle.ht_app.specs.Jobs.{input_name, may_state_start, order_of, start_name}
 use Rattle.ht_app.specs.Changed.{IsUnread}
 
 -- ---- why a text is refused
@@ -41,6 +42,7 @@ refused_port job (BadStart line) = if may_state_start job then Some Extra else N
 refused_port (sim netlist tests report start) (BadTests line) = Some Tests
 refused_port (compact netlist tests out) (BadTests line) = Some Tests
 refused_port (compact netlist tests out) TooManyVectors = Some Tests
+refused_port (respond netlist tests out fault start) (BadTests line) = Some Tests
 refused_port (diagnose netlist tests responses out) (BadTests line) = Some Tests
 refused_port (diagnose netlist tests responses out) (BadResponses line) = Some Extra
 refused_port (check netlist tests report proofs start) (Denied (trouble.Tests line)) = Some Tests
@@ -87,6 +89,33 @@ pub record RefusesInput (job : Asked) (error : RunError) (old new : DeskView) : 
   pub refused : WasRead port name (IsRefusedFor job basis error) old
   pub unread : (p : InPort) → order_of job port < order_of job p → IsUnread p old new
 
+-- ---- why a fault is refused
+
+-- the number is above that of the last fault, which is how many there are
+abbrev pub IsAbove : net.Netlist → Option ℕ → ℕ → Type 0
+IsAbove c None faults = ⊥
+IsAbove c (Some number) faults = (faults ≡ length (faults_of c)) × (faults < number)
+
+-- so is the number of the fault that the job names
+abbrev pub NamesAbove : Asked → net.Netlist → ℕ → Type 0
+NamesAbove (respond netlist tests out number start) c faults = IsAbove c number faults
+NamesAbove job c faults = ⊥
+
+-- why a number is no fault's
+abbrev pub FaultStops : net.Netlist → Option ℕ → RunError → Type 0
+FaultStops c number NoMemory = Unit {0}
+FaultStops c number (NoSuchFault faults) = IsAbove c number faults
+FaultStops c number error = ⊥
+
+-- The files before the tests say the basis, and the fault isn't one of the circuit: no further file was opened.
+pub record LacksFault (job : Asked) (faults : ℕ) (old new : DeskView) : Type 0 where
+  pub basis : JobBasis
+  pub circuit : HasNetlist basis.circuit
+  pub stated : IsStated job basis
+  pub before : AcceptsBefore job basis Tests old
+  pub above : NamesAbove job basis.circuit faults
+  pub unread : (p : InPort) → order_of job Tests ≤ order_of job p → IsUnread p old new
+
 -- ---- texts that a desk tells, and a job refuses
 
 -- The text of the netlist is that of a circuit of which this holds.
@@ -105,6 +134,9 @@ abbrev pub AreRefusedWith : Asked → (InPort → List ℕ) → InPort → ℕ �
 AreRefusedWith job texts Netlist status = (status ≡ 3) × ((c : net.Netlist) → ¬ IsGoodNetlist (texts Netlist) c)
 AreRefusedWith (sim netlist tests report start) texts Tests status = (status ≡ 7) × HasCircuit texts
     (λ c. (values : List Tern) × (line : ℕ) × IsStartOf start c texts values × IsMalformedTest c (texts Tests) line)
+AreRefusedWith (respond netlist tests out fault start) texts Tests status = (status ≡ 7) × HasCircuit texts
+    (λ c. (values : List Tern) × (line : ℕ) × IsStartOf start c texts values × IsListed c fault
+    × IsMalformedTest c (texts Tests) line)
 AreRefusedWith (diagnose netlist tests responses out) texts Tests status =
     (status ≡ 7) × HasCircuit texts (λ c. (line : ℕ) × IsMalformedTest c (texts Tests) line)
 AreRefusedWith (diagnose netlist tests responses out) texts Extra status =
@@ -130,3 +162,15 @@ pub record HasRefusedInputs (job : Asked) (status : ℕ) (desk : DeskView) : Typ
   pub told : (p : InPort) (name : List ℕ) → order_of job p ≤ order_of job port → input_name job p ≡ Some name
       → IsInput p name (texts p) desk
   pub refused : AreRefusedWith job texts port status
+
+-- The desk tells the texts of the job's files before the tests, which are good, and the fault that the job names isn't
+-- one of the circuit.
+pub record HasNoSuchFault (job : Asked) (desk : DeskView) : Type 0 where
+  pub texts : InPort → List ℕ
+  pub circuit : net.Netlist
+  pub start : List Tern
+  pub netlist : IsGoodNetlist (texts Netlist) circuit
+  pub started : IsStartOf (start_name job) circuit texts start
+  pub told : (p : InPort) (name : List ℕ) → order_of job p < order_of job Tests → input_name job p ≡ Some name
+      → IsInput p name (texts p) desk
+  pub unlisted : ¬ HasFault job circuit

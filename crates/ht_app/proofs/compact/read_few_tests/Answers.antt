@@ -8,7 +8,7 @@ use Rattle.ht_app.proofs.compact.read_few_tests.Goals as goal
 pub returns-in_err-list-clause-stops : goal.returns-in_err-list-clause-stops
 returns-in_err-list-clause-stops g c = λ netlist tests out representatives content.
     let stops = tests_stop (compact netlist tests out) (check_basis c.args.circuit.now representatives content) _ _ _ _
-    (λ line. refl) (λ line text early wrong. record { malformed = wrong; early = early }) _
+    (λ line. refl) (λ line text early wrong. record { malformed = wrong; early = early }) tt _
     c.in_err-list.ensures.stops in
     search (rules, stops)
 
