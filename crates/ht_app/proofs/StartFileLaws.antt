@@ -1,6 +1,6 @@
 -- The start, read line by line after the netlist: its first line, and no other.
 use Rattle.std.proofs.Common.{◌≡◌, ◌⊎◌, ◌^◌, inl, inr, ℕ, zero, suc, ◌+◌, ◌-◌, ◌<◌, ◌≤◌, List, [], ◌∷◌, ◌++◌, Vec, true, length, take, get_or, cond, ap, subst, sym, refl, ◌∙◌, arith}
-use Rattle.std.specs.Prelude.{IfErr, IfOk, Err, Ok, Result, Some, None, Bool, if◌then◌else◌, ◌==◌}
+use Rattle.std.specs.Prelude.{IfErr, IfOk, Err, Ok, Result, Some, None, Bool, if◌then◌else◌, ◌==◌, Option}
 use Rattle.std.specs.declared.alloc.Global.{Global}
 use Rattle.std.proofs.lemmas.Bool.{cases_eq, cases_lt}
 use Rattle.std.proofs.lemmas.Bool.Decides.{nat_tests}
@@ -19,6 +19,7 @@ use Rattle.ht_texts.proofs.LfLaws.{lf_count-cons}
 use Rattle.ht_texts.proofs.StartLaws.{other_length_no_start, start_or_none}
 use Rattle.ht_app.specs.declared.run_error.RunError.TheVariants.{BadStart}
 use Rattle.ht_app.specs.Jobs.{may_state_start, place_of}
+use Rattle.ht_app.specs.Judging.{StandsForStart}
 use Rattle.ht_app.proofs.FirstTroubleLaws.{front_is, shorter}
 use Rattle.ht_app.proofs.JudgedLaws.{get_front, lines_stop}
 use Rattle.ht_app.proofs.ReadingLaws.{one_more, read_so, stops_there}
@@ -103,24 +104,24 @@ module _ (basis : JobBasis) (text : List ℕ) (before : List (List ℕ)) (fine :
       → (length before ≡ 0 → (start : List Tern) → ¬ IsFirstLine (line_at text 1) start) → IsBadAt (length before + 1)
   bad_at front there none = elim (cases_lt 0 (length before)) [
     | inl some ↦ inr (omega (arith, few, some), omega (arith, there, some), first_start front some)
-    | inr zero ↦ inl (omega (arith, zero), none (omega (arith, zero)))
+    | inr first ↦ inl (omega (arith, first), none (omega (arith, first)))
   ]
 
   pub bad_start : (line : List ℕ) (error : RunError) → HasFront (before ++ line ∷ []) text
       → IsNoStartLine basis before line error → IsBadAt (length before + 1)
   bad_start line error front wrong =
-      bad_at (shorter before line text front) (front_is before line text front).0 (λ zero start is.
-      let some = wrong.1 start (subst (λ (l : List ℕ). IsFirstLine l start) (first_is before line text front zero) is) in
-      omega (arith, some, zero))
+      bad_at (shorter before line text front) (front_is before line text front).0 (λ first start is.
+      let some = wrong.1 start (subst (λ (l : List ℕ). IsFirstLine l start) (first_is before line text front first) is) in
+      omega (arith, some, first))
 
   pub long_start : length basis.circuit.dffs ≤ max_dffs → HasLongLine max_dffs before text → IsBadAt (length before + 1)
-  long_start fits long = bad_at long.front long.there (λ zero.
+  long_start fits long = bad_at long.front long.there (λ first.
       other_length_no_start (length basis.circuit.dffs) (line_at text 1) (λ same. elim long.long [
         | inl wide ↦
-            let wider = subst (λ n. max_dffs < length (get_or (lines_of text) n [])) zero wide in
+            let wider = subst (λ n. max_dffs < length (get_or (lines_of text) n [])) first wide in
             omega (arith, wider, fits, same)
         | inr late ↦
-            let longer = long_line text (subst (λ n. IsTooLong text (n + 1)) zero late) in
+            let longer = long_line text (subst (λ n. IsTooLong text (n + 1)) first late) in
             omega (arith, longer, fits, same)
       ]))
 
@@ -165,6 +166,17 @@ module _ (job : Asked) (may : may_state_start job ≡ true) (basis : JobBasis) (
           (sym has.lines_are) none,
     )) read,
   )
+
+-- what a reader that stands for the lines of a file has
+pub line_of : (basis : JobBasis) (lines : List (List ℕ)) (start : Option (Vec Tern Global)) (values : Vec Tern Global)
+    → StandsForStart start basis lines → start ≡ Some values
+    → IsStartLine (length basis.circuit.dffs) (get_or lines 0 []) values.items
+line_of basis lines start values stands is = rw is at stands.line
+
+pub none_of : (basis : JobBasis) (lines : List (List ℕ)) (start : Option (Vec Tern Global))
+    → StandsForStart start basis lines → start ≡ None
+    → (values : List Tern) → ¬ IsStartLine (length basis.circuit.dffs) (get_or lines 0 []) values
+none_of basis lines start stands is = rw is at stands.line
 
 -- they have it
 pub start_read : (width : ℕ) (start : List Tern) (lines : List (List ℕ)) (name : List ℕ) (a : DeskView)

@@ -5,6 +5,7 @@ ghost use Rattle.ht_ports.specs.declared.ports.InPort.TheVariants as in_port;
 ghost use Rattle.ht_tern.specs.declared.tern.Tern.{Tern};
 ghost use Rattle.ht_net.specs.Netlist.{IsCircuit};
 ghost use Rattle.ht_net.specs.Detection.{IsStart, unknown_state};
+ghost use Rattle.ht_app.specs.declared.run_error.RunError.TheVariants as error;
 ghost use Rattle.ht_texts.specs.StartTexts.{IsStartLine, IsStartText};
 ghost use Rattle.ht_asked.specs.Asked.{Asked};
 ghost use Rattle.ht_app.specs.Inputs.{JobBasis, WasRead};
@@ -38,6 +39,17 @@ fn read_first(
         return Ok(None);
     }
     read_start(alloc, line, width)
+}
+
+// The start that was read, where there is one.
+fn whole(start: Option<Vec<Tern>>) -> Result<Vec<Tern>, RunError>
+    ensures read { IfOk result (λ values. start ≡ Some values) }
+    ensures none { IfErr result (λ e. (start ≡ None) × (e ≡ error.BadStart 1)) }
+{
+    match start {
+        Some(values) => Ok(values),
+        None => Err(RunError::BadStart { line: 1 }),
+    }
 }
 
 // Reads a start, line by line. A line that is missing is read as an empty one.
@@ -108,10 +120,7 @@ fn read_start_file<D: Desk>(
         u64::MAX,
         &mut reader,
     )?;
-    match reader.start {
-        Some(start) => Ok(start),
-        None => Err(RunError::BadStart { line: 1 }),
-    }
+    whole(reader.start)
 }
 
 /// The start that a job states, read from its file, or all-unknown where it states none; then the desk isn't called.
