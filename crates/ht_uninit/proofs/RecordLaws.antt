@@ -1,9 +1,10 @@
 -- What the record of a run means.
 use Rattle.std.specs.List.{All, list_all, list_any, range_with_len}
-use Rattle.std.proofs.Common.{◌≡◌, ◌<◌, ◌≤◌, ℕ, suc, zero, List, [], ◌∷◌, ◌++◌, true, false, Option, Some, None, length, get_or, refl, sym, subst, ap, ◌+◌, ◌∙◌, arith}
+use Rattle.std.proofs.Common.{◌≡◌, ◌<◌, ◌≤◌, ℕ, suc, zero, List, [], ◌∷◌, ◌++◌, true, false, Option, Some, None, length, get_or, refl, sym, subst, ap, ◌∙◌, arith}
 use Rattle.std.proofs.lemmas.Bool.{and_from, false≢true, or_from}
+use Rattle.std.proofs.lemmas.List.Elements.{All-from_get_or}
 use Rattle.std.proofs.lemmas.List.Folds.{list_all-append}
-use Rattle.std.proofs.lemmas.List.FromFn.{fill_by_all}
+use Rattle.std.proofs.lemmas.List.FromFn.{fill_by_all, get_or-range_with_len, length-range_with_len}
 use Rattle.ht_net.specs.declared.fault.Fault.{Fault}
 use Rattle.ht_net.specs.Netlist.{Netlist}
 use Rattle.ht_tree.specs.declared.token.Token.{Token}
@@ -111,10 +112,7 @@ pub all_given : (faults : List Fault) (which : List ℕ) → which ≡ range_wit
 all_given faults which is = ap (given_faults faults) is
     ∙ sym (fill_by_all (λ k. get_or faults k no_fault) faults (length faults) no_fault refl (λ k inside. refl))
 
-numbers_below : (n a count : ℕ) → a + count ≤ n → All (λ k. k < n) (range_with_len a count)
-numbers_below n a zero within = tt
-numbers_below n a (suc count) within =
-    (omega (arith, within), numbers_below n (a + 1) count (omega (arith, within)))
-
 pub all_known : (n : ℕ) (which : List ℕ) → which ≡ range_with_len 0 n → All (λ k. k < n) which
-all_known n which is = subst (All (λ k. k < n)) (sym is) (numbers_below n 0 n (omega arith))
+all_known n which is = subst (All (λ k. k < n)) (sym is) (All-from_get_or (λ k. k < n) (range_with_len 0 n) 0 (λ i inside.
+    let within : i < n = omega (arith, inside, length-range_with_len 0 n) in
+    omega (arith, within, get_or-range_with_len 0 n i 0 within)))

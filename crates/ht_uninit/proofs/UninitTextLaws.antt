@@ -19,13 +19,22 @@ range_more a (suc n) =
     ap (λ (xs : List ℕ). a ∷ xs) (range_more (a + 1) n
     ∙ ap (λ (x : ℕ). range_with_len (a + 1) n ++ x ∷ []) (omega arith))
 
+numbers_more : (n : ℕ) → range_with_len 0 (n + 1) ≡ range_with_len 0 n ++ n ∷ []
+numbers_more n =
+    ap (range_with_len 0) (add-one n)
+    ∙ (range_more 0 n ∙ ap (λ (x : ℕ). range_with_len 0 n ++ x ∷ []) (omega arith))
+
+-- one number more after the first n
+pub number_more : (n : ℕ) (before after : List ℕ) → before ≡ range_with_len 0 n → after ≡ before ++ n ∷ []
+    → after ≡ range_with_len 0 (n + 1)
+number_more n before after first more = more ∙ (ap (λ (t : List ℕ). t ++ n ∷ []) first ∙ sym (numbers_more n))
+
 pieces_more : (f : ℕ → List ℕ) (n : ℕ)
     → flat_map f (range_with_len 0 (n + 1)) ≡ flat_map f (range_with_len 0 n) ++ f n
 pieces_more f n =
-    ap (λ (m : ℕ). flat_map f (range_with_len 0 m)) (add-one n)
-    ∙ (ap (flat_map f) (range_more 0 n ∙ ap (λ (x : ℕ). range_with_len 0 n ++ x ∷ []) (omega arith))
+    ap (flat_map f) (numbers_more n)
     ∙ (flat_map-append f (range_with_len 0 n) (n ∷ [])
-    ∙ ap (λ (t : List ℕ). flat_map f (range_with_len 0 n) ++ t) (append-nil (f n))))
+    ∙ ap (λ (t : List ℕ). flat_map f (range_with_len 0 n) ++ t) (append-nil (f n)))
 
 -- one piece more after the first n
 pub piece_more : (f : ℕ → List ℕ) (n : ℕ) (start before after piece : List ℕ)
