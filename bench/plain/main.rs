@@ -7,6 +7,7 @@
 //! of `sim` have to be ones that `ht_cli` accepts: they aren't judged here.
 mod circuit;
 mod clauses;
+mod families;
 mod faults;
 mod grading;
 mod guide;
@@ -21,6 +22,7 @@ mod words;
 mod work;
 
 use circuit::{Circuit, Order};
+use families::Families;
 use faults::FaultList;
 use grading::{Grader, Place};
 use random::Words;
@@ -30,6 +32,7 @@ use std::io::{BufWriter, Write};
 use std::{env, process};
 use texts::Said;
 use windows::{Fill, Plan};
+use words::Value;
 use work::{Entry, Work, Worker};
 
 const USAGE: &str = "usage: sim NETLIST TESTS REPORT, gen NETLIST TESTS REPORT PROOFS BUDGET RANDOM SEED, \
@@ -151,6 +154,23 @@ fn check(names: [&str; 4]) -> Result<Result<(), String>, Box<dyn Error>> {
     Ok(judge::Judge::new(&plan, budget).judge(&list, &said, &fs::read(names[3])?))
 }
 
+/// How many listed faults have a family that closes from all-unknown, and how many pairs their families hold.
+fn close(netlist: &str) -> Result<(), Box<dyn Error>> {
+    let circuit = read_circuit(netlist)?;
+    let list = FaultList::of(&circuit);
+    let start = vec![Value::Unknown; circuit.dffs()];
+    let mut families = Families::new(&circuit);
+    let (mut closed, mut pairs) = (0, 0);
+    for fault in list.faults {
+        if let Some(family) = families.closing(fault, &start) {
+            closed += 1;
+            pairs += family.iter().map(|set| set.count_ones()).sum::<u32>();
+        }
+    }
+    println!("closed {closed} pairs {pairs}");
+    Ok(())
+}
+
 fn run(words: &[&str]) -> Result<i32, Box<dyn Error>> {
     match *words {
         ["sim", netlist, tests, report] => sim(netlist, tests, report).map(|()| 0),
@@ -168,6 +188,7 @@ fn run(words: &[&str]) -> Result<i32, Box<dyn Error>> {
                 Ok(1)
             }
         },
+        ["close", netlist] => close(netlist).map(|()| 0),
         _ => Err(USAGE.into()),
     }
 }
