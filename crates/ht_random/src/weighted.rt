@@ -1,5 +1,5 @@
 //! Weighted vectors, in bursts.
-ghost use Rattle.std.specs.Prelude.{◌≡◌, ◌≢◌, ◌×◌, ◌%◌, ◌+◌, ◌-◌, ◌<◌, ◌^◌, IfOk, OnOk, OnErr, length};
+ghost use Rattle.std.specs.Prelude.{◌≡◌, ◌≢◌, ◌%◌, ◌+◌, ◌-◌, ◌<◌, ◌^◌, IfOk, OnOk, OnErr, length};
 ghost use Rattle.ht_random.specs.Words.{after_words};
 ghost use Rattle.ht_random.specs.WeightedVectors.{burst_length, drawn_weights, vector_by, weight_numbered, weighted_vector};
 
