@@ -7,6 +7,7 @@
 //! of `sim` have to be ones that `ht_cli` accepts: they aren't judged here.
 mod circuit;
 mod clauses;
+mod families;
 mod faults;
 mod grading;
 mod guide;
@@ -23,6 +24,7 @@ mod words;
 mod work;
 
 use circuit::{Circuit, Order};
+use families::Families;
 use faults::FaultList;
 use grading::{Grader, Place};
 use random::Words;
@@ -32,11 +34,12 @@ use std::io::{BufWriter, Write};
 use std::{env, process};
 use texts::Said;
 use windows::{Fill, Plan};
+use words::Value;
 use work::{Entry, Work, Worker};
 
 const USAGE: &str = "usage: sim NETLIST TESTS REPORT, gen NETLIST TESTS REPORT PROOFS BUDGET RANDOM SEED, \
                      check NETLIST TESTS REPORT PROOFS, uninit NETLIST OUT BUDGET, \
-                     sync NETLIST TESTS OUT BUDGET";
+                     sync NETLIST TESTS OUT BUDGET, close NETLIST";
 
 /// The circuit of a netlist. `PLAIN_ORDER` says in which order its gates have their places: `lines`, `level` or `kind`.
 fn read_circuit(name: &str) -> Result<Circuit, Box<dyn Error>> {
@@ -170,6 +173,23 @@ fn synchronize(netlist: &str, tests: &str, out: &str, budget: usize) -> Result<(
     Ok(record.write(&plan, &mut tests, &mut BufWriter::new(File::create(out)?))?)
 }
 
+/// How many listed faults have a family that closes from all-unknown, and how many pairs their families hold.
+fn close(netlist: &str) -> Result<(), Box<dyn Error>> {
+    let circuit = read_circuit(netlist)?;
+    let list = FaultList::of(&circuit);
+    let start = vec![Value::Unknown; circuit.dffs()];
+    let mut families = Families::new(&circuit);
+    let (mut closed, mut pairs) = (0, 0);
+    for fault in list.faults {
+        if let Some(family) = families.closing(fault, &start) {
+            closed += 1;
+            pairs += family.iter().map(|set| set.count_ones()).sum::<u32>();
+        }
+    }
+    println!("closed {closed} pairs {pairs}");
+    Ok(())
+}
+
 fn run(words: &[&str]) -> Result<i32, Box<dyn Error>> {
     match *words {
         ["sim", netlist, tests, report] => sim(netlist, tests, report).map(|()| 0),
@@ -189,6 +209,7 @@ fn run(words: &[&str]) -> Result<i32, Box<dyn Error>> {
         },
         ["uninit", netlist, out, budget] => uninit(netlist, out, budget.parse()?).map(|()| 0),
         ["sync", netlist, tests, out, budget] => synchronize(netlist, tests, out, budget.parse()?).map(|()| 0),
+        ["close", netlist] => close(netlist).map(|()| 0),
         _ => Err(USAGE.into()),
     }
 }
