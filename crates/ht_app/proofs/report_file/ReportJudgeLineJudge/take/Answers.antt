@@ -1,4 +1,4 @@
-use Rattle.std.proofs.Common.{◌++◌, ◌∷◌, [], ◌∙◌, List, ℕ, rules, ◌≡◌, ◌≤◌, ◌+◌, length, arith}
+use Rattle.std.proofs.Common.{◌++◌, ◌∷◌, [], ◌∙◌, List, ℕ, rules, ◌≡◌, ◌≤◌, ◌+◌, length}
 use Rattle.ht_app.proofs.Common.{JobBasis, StandsForReport, max_text_bytes}
 use Rattle.ht_app.proofs.ReportFileLaws.{denied_is_wrong, judged_is_fine}
 use Rattle.ht_app.proofs.report_file.ReportJudgeLineJudge.take.Goals as goal
