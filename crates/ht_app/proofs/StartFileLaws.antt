@@ -135,6 +135,7 @@ says_start : (job : Asked) (basis : JobBasis) (text : List ℕ) → may_state_st
 says_start (sim netlist tests report start) basis text may is = is
 says_start (gen netlist tests report proofs options) basis text may is = is
 says_start (check netlist tests report proofs start) basis text may is = is
+says_start (respond netlist tests out fault start) basis text may is = is
 says_start job basis text may is = cc
 
 module _ (job : Asked) (may : may_state_start job ≡ true) (basis : JobBasis) (name : List ℕ) (a b : DeskView) where
