@@ -14,6 +14,7 @@ mod guide;
 mod judge;
 mod parse;
 mod random;
+mod respond;
 mod search;
 mod sets;
 mod sync;
@@ -28,6 +29,7 @@ use families::Families;
 use faults::FaultList;
 use grading::{Grader, Place};
 use random::Words;
+use respond::Machine;
 use std::error::Error;
 use std::fs::{self, File};
 use std::io::{BufWriter, Write};
@@ -39,7 +41,8 @@ use work::{Entry, Work, Worker};
 
 const USAGE: &str = "usage: sim NETLIST TESTS REPORT, gen NETLIST TESTS REPORT PROOFS BUDGET RANDOM SEED, \
                      check NETLIST TESTS REPORT PROOFS, uninit NETLIST OUT BUDGET, \
-                     sync NETLIST TESTS OUT BUDGET, close NETLIST";
+                     sync NETLIST TESTS OUT BUDGET, close NETLIST, \
+                     respond NETLIST TESTS OUT FAULT";
 
 /// The circuit of a netlist. `PLAIN_ORDER` says in which order its gates have their places: `lines`, `level` or `kind`.
 fn read_circuit(name: &str) -> Result<Circuit, Box<dyn Error>> {
@@ -190,6 +193,25 @@ fn close(netlist: &str) -> Result<(), Box<dyn Error>> {
     Ok(())
 }
 
+/// What the good machine shows, or for a number other than 0 the one with that fault.
+fn respond(netlist: &str, tests: &str, out: &str, number: usize) -> Result<(), Box<dyn Error>> {
+    let circuit = read_circuit(netlist)?;
+    let fault = match number {
+        0 => None,
+        _ => Some(*FaultList::of(&circuit).faults.get(number - 1).ok_or("no such fault")?),
+    };
+    let vectors = judge::read_tests(&circuit, &fs::read(tests)?)?;
+    let mut machine = Machine::new(&circuit, fault);
+    let mut text = BufWriter::new(File::create(out)?);
+    for bits in &vectors {
+        machine.step(bits);
+        machine.write_row(&mut text)?;
+    }
+    text.flush()?;
+    println!("responses vectors {} outputs {}", vectors.len(), circuit.outputs.len());
+    Ok(())
+}
+
 fn run(words: &[&str]) -> Result<i32, Box<dyn Error>> {
     match *words {
         ["sim", netlist, tests, report] => sim(netlist, tests, report).map(|()| 0),
@@ -209,6 +231,7 @@ fn run(words: &[&str]) -> Result<i32, Box<dyn Error>> {
         },
         ["uninit", netlist, out, budget] => uninit(netlist, out, budget.parse()?).map(|()| 0),
         ["sync", netlist, tests, out, budget] => synchronize(netlist, tests, out, budget.parse()?).map(|()| 0),
+        ["respond", netlist, tests, out, number] => respond(netlist, tests, out, number.parse()?).map(|()| 0),
         ["close", netlist] => close(netlist).map(|()| 0),
         _ => Err(USAGE.into()),
     }

@@ -1,17 +1,18 @@
 #!/usr/bin/env python3
-"""Makes a Verilog test bench of a netlist, its tests and its report.
+"""Makes a Verilog test bench of a netlist, its tests, their responses and its report.
 
-    examples/verilog/test_bench.py NETLIST TESTS REPORT NAMES OUT.v
+    examples/verilog/test_bench.py NETLIST TESTS RESPONSES REPORT NAMES OUT.v
 
-The bench reads the tests and runs, each from flip-flops at x:
+The bench reads the tests and the responses and runs, each from flip-flops at x:
 
 - for each detected fault two machines made of Verilog's gates, one of them with its line held at the stuck value by `force`:
   the first opposite bits have to be shown at the vector and the output that the report names;
-- once the machine beside the module that NAMES says (the design, or the netlist of yosys): no output may show the opposite.
+- once the machine beside the module that NAMES says (the design, or the netlist of yosys): no output may show the opposite;
+- in that run the machine beside the responses: each output has to show the bit that stands there. An X isn't compared.
 
-It prints a line for each detected fault, and a last one that ends in `0 failed` where all of this holds. The tests are read
-from the folder that the bench runs in, by the name in TESTS. The fault list is that of tools/check_proofs.py. NAMES is what
-to_bench.py writes.
+It prints a line for each detected fault, and a last one that ends in `0 failed` where all of this holds. The tests and the
+responses are read from the folder that the bench runs in, by the names in TESTS and RESPONSES. The fault list is that of
+tools/check_proofs.py. NAMES is what to_bench.py writes.
 """
 import pathlib
 import re
@@ -20,6 +21,7 @@ import sys
 sys.dont_write_bytecode = True
 sys.path.insert(0, str(pathlib.Path(__file__).resolve().parent.parent.parent / "tools"))
 import check_proofs  # noqa: E402
+from applied import read_applied  # noqa: E402
 
 DETECTED = re.compile(r"(\d+) (\S+) s-a-([01]) detected (\d+) (\S+)")
 
@@ -104,7 +106,22 @@ TASKS = """
     end
   endtask
 
-  // The good machine over all vectors beside the design, whose flip-flops are at x by themselves in the first run.
+  // The good machine beside the responses at vector t; the first output is the leftmost of a line.
+  task compare_responses;
+    for (o = 0; o < OUTPUTS; o = o + 1) begin
+      expected = responses[t][OUTPUTS-1-o];
+      if (expected !== 1'bx) begin
+        compared = compared + 1;
+        if (good_out[o] !== expected) begin
+          failed = failed + 1;
+          $display("responses: another bit at vector %0d output %0d: %b", t + 1, o + 1, good_out[o]);
+        end
+      end
+    end
+  endtask
+
+  // The good machine over all vectors beside the responses and beside the design, whose flip-flops are at x by themselves in
+  // the first run.
   task compare_design;
     begin
       clk = 0;
@@ -112,6 +129,7 @@ TASKS = """
       for (t = 0; t < VECTORS; t = t + 1) begin
         in = vectors[t];
         #1;
+        compare_responses;
         for (o = 0; o < PORTS; o = o + 1)
           if ((port_values[o] ^ design_values[o]) === 1'b1) begin
             failed = failed + 1;
@@ -171,32 +189,34 @@ def fault_lines(machine, report):
             yield f"    force {wire}= 1'b{match[3]}; shows({number}, {vector}, {output_of[match[5]]}); release {wire};"
 
 
-def bench_text(machine, vectors, tests_name, report, names_text):
+def bench_text(machine, vectors, tests_name, responses_name, report, names_text):
     """The whole file."""
     c = machine.circuit
     head = [
         "module test;",
         f"  localparam INPUTS = {c.inputs}, OUTPUTS = {len(c.outputs)}, VECTORS = {vectors};",
         "  reg clk; reg [INPUTS-1:0] in; reg [INPUTS-1:0] vectors [0:VECTORS-1];",
-        "  wire [OUTPUTS-1:0] good_out, faulty_out;",
-        "  integer t, o, at, place, shown = 0, failed = 0; reg good_bit, faulty_bit;",
+        "  reg [OUTPUTS-1:0] responses [0:VECTORS-1]; wire [OUTPUTS-1:0] good_out, faulty_out;",
+        "  integer t, o, at, place, shown = 0, compared = 0, failed = 0; reg good_bit, faulty_bit, expected;",
         "  machine good (clk, in, good_out);",
         "  machine faulty (clk, in, faulty_out);",
     ]
-    run = ["  initial begin", f'    $readmemb("{tests_name}", vectors);', "    compare_design;", *fault_lines(machine, report)]
-    run += ['    $display("%0d detected faults shown, %0d failed", shown, failed);', "  end", "endmodule", ""]
+    read = [f'    $readmemb("{tests_name}", vectors);', f'    $readmemb("{responses_name}", responses);']
+    run = ["  initial begin", *read, "    compare_design;", *fault_lines(machine, report)]
+    said = '"%0d bits as in the responses, %0d detected faults shown, %0d failed"'
+    run += [f"    $display({said}, compared, shown, failed);", "  end", "endmodule", ""]
     return "\n".join([machine.text(), *head, *design_lines(machine, names_text), TASKS, *run])
 
 
 def main():
-    if len(sys.argv) != 6:
-        sys.exit("usage: test_bench.py NETLIST TESTS REPORT NAMES OUT.v")
-    netlist, tests, report, names, out = map(pathlib.Path, sys.argv[1:])
-    circuit = check_proofs.read_netlist(netlist.read_bytes())
-    vectors = check_proofs.read_tests(circuit, tests.read_bytes())
-    if not circuit.inputs or not circuit.outputs or not vectors:
+    if len(sys.argv) != 7:
+        sys.exit("usage: test_bench.py NETLIST TESTS RESPONSES REPORT NAMES OUT.v")
+    netlist, tests, responses, report, names, out = map(pathlib.Path, sys.argv[1:])
+    applied = read_applied(netlist, tests, responses)
+    circuit, count = applied.circuit, len(applied.tests)
+    if not circuit.inputs or not circuit.outputs or not count:
         sys.exit("test_bench: there is no input, no output or no vector to run")
-    out.write_text(bench_text(Machine(circuit), len(vectors), tests, report.read_text(), names.read_text()))
+    out.write_text(bench_text(Machine(circuit), count, tests, responses, report.read_text(), names.read_text()))
 
 
 if __name__ == "__main__":

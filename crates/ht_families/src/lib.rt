@@ -17,7 +17,5 @@ pub use check::closes;
 pub use search::closing;
 pub use theorems::closed_families_hold_all_runs;
 
-use ht_pairs::PairSet;
-
 /// A set of pairs (good, faulty) for each flip-flop.
-pub type Family = Vec<PairSet>;
+pub type Family = Vec<ht_pairs::PairSet>;

@@ -1,11 +1,10 @@
 -- A list that the next search finds.
 use Rattle.std.proofs.Common.{◌≤◌, ℕ, List, arith, subst}
 use Rattle.ht_net.specs.Rows.{Rows}
-use Rattle.ht_events.specs.Plans.{max_frames}
 use Rattle.ht_tree.specs.Searches.{Guide}
 use Rattle.ht_tree.specs.declared.limits.TheConstants.{MAX_BUDGET}
 use Rattle.ht_tree.specs.declared.token.Token.{Token}
-use Rattle.ht_goals.specs.Lengths.{left_after, next_length}
+use Rattle.ht_goals.specs.Lengths.{left_after}
 use Rattle.ht_goals.proofs.LengthLaws.{IsClosedTo, frames_few, left_is}
 use Rattle.ht_goals.specs.LengthAnswers.{FindsAfter}
 

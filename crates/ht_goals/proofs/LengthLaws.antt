@@ -9,7 +9,7 @@ use Rattle.ht_tree.specs.Searches.{Closes, Guide, SpendsAt}
 use Rattle.ht_tree.specs.Walks.{IsComplete, IsOpen, Judge, Node, weight_of}
 use Rattle.ht_forward.proofs.CloseLaws.{complete_weighs}
 use Rattle.ht_forward.proofs.WeightLaws.{least_weight, lengths_few, longest_weighs, weight_push}
-use Rattle.ht_goals.specs.Lengths.{CloseEach, IsLengthRecord, SpendEach, left_after, next_length}
+use Rattle.ht_goals.specs.Lengths.{CloseEach, IsLengthRecord, SpendEach, left_after}
 
 -- All searches before the one of so many frames are closed, and so much is left of the budget.
 pub record IsClosedTo (guide : ℕ → Guide) (budget frames left : ℕ) (walks : List (List Token)) : Type 0 where
@@ -70,51 +70,51 @@ module _ (guide : ℕ → Guide) where
 
   module _ (budget frames left : ℕ) (walks : List (List Token)) (closed : IsClosedTo guide budget frames left walks)
     where
-    pub left_is : left ≡ left_after budget walks
-    left_is = let weight = closed.weight in omega (arith, weight)
+      pub left_is : left ≡ left_after budget walks
+      left_is = let weight = closed.weight in omega (arith, weight)
 
-    pub frames_few : budget ≤ MAX_BUDGET → frames ≤ max_frames
-    frames_few small =
-        let weight = closed.weight in
-        let count = closed.count in
-        let longest = longest_weighs in
-        let few = lengths_few (length walks) (sweep_weight 1 walks) closed.heavy (omega (arith, weight, small, longest))
-        in
-        omega (arith, few, count)
+      pub frames_few : budget ≤ MAX_BUDGET → frames ≤ max_frames
+      frames_few small =
+          let weight = closed.weight in
+          let count = closed.count in
+          let longest = longest_weighs in
+          let few = lengths_few (length walks) (sweep_weight 1 walks) closed.heavy (omega (arith, weight, small, longest))
+          in
+          omega (arith, few, count)
 
-    pub one_spends : (last : List Token) (n : Node) → SpendsAt (guide frames) left frames last n
-        → SpendEach guide budget (walks ++ last ∷ [])
-    one_spends last n h = record {
-      closed = walks;
-      last = last;
-      node = n;
-      all = refl;
-      closes = closed.closes;
-      spends = subst (λ (k : ℕ). SpendsAt (guide k) (left_after budget walks) k last n) closed.count
-          (subst (λ (b : ℕ). SpendsAt (guide frames) b frames last n) left_is h);
-    }
+      pub one_spends : (last : List Token) (n : Node) → SpendsAt (guide frames) left frames last n
+          → SpendEach guide budget (walks ++ last ∷ [])
+      one_spends last n h = record {
+        closed = walks;
+        last = last;
+        node = n;
+        all = refl;
+        closes = closed.closes;
+        spends = subst (λ (k : ℕ). SpendsAt (guide k) (left_after budget walks) k last n) closed.count
+            (subst (λ (b : ℕ). SpendsAt (guide frames) b frames last n) left_is h);
+      }
 
-    pub one_closes : (walk : List Token) (left' : ℕ) → Closes (guide frames) left frames walk
-        → left' ≡ left - weight_of frames walk → IsClosedTo guide budget (frames + 1) left' (walks ++ walk ∷ [])
-    one_closes walk left' h is =
-        let count = closed.count in
-        let heavy = closed.heavy in
-        let weight = closed.weight in
-        let next : frames ≡ 1 + length walks = omega (arith, count) in
-        let within = h.keeps.within in
-        let push = weight_push 1 walks walk in
-        let times = ap (λ (n : ℕ). length walk * n) next in
-        let some = complete_weighs (guide frames).judge frames walk h.walk in
-        let long = length_push walks walk in
-        let more : length (walks ++ walk ∷ []) ≡ suc (length walks) = omega (arith, long) in
-        let least = ap least_weight more in
-        record {
-          count = omega (arith, count, more);
-          closes = closes_push budget 1 walks walk closed.closes
-              (closes_as frames (1 + length walks) left (left_after budget walks) walk next left_is h);
-          weight = omega (arith, push, times, weight, within, is);
-          heavy = omega (arith, least, push, times, some, count, heavy);
-        }
+      pub one_closes : (walk : List Token) (left' : ℕ) → Closes (guide frames) left frames walk
+          → left' ≡ left - weight_of frames walk → IsClosedTo guide budget (frames + 1) left' (walks ++ walk ∷ [])
+      one_closes walk left' h is =
+          let count = closed.count in
+          let heavy = closed.heavy in
+          let weight = closed.weight in
+          let next : frames ≡ 1 + length walks = omega (arith, count) in
+          let within = h.keeps.within in
+          let push = weight_push 1 walks walk in
+          let times = ap (λ (n : ℕ). length walk * n) next in
+          let some = complete_weighs (guide frames).judge frames walk h.walk in
+          let long = length_push walks walk in
+          let more : length (walks ++ walk ∷ []) ≡ suc (length walks) = omega (arith, long) in
+          let least = ap least_weight more in
+          record {
+            count = omega (arith, count, more);
+            closes = closes_push budget 1 walks walk closed.closes
+                (closes_as frames (1 + length walks) left (left_after budget walks) walk next left_is h);
+            weight = omega (arith, push, times, weight, within, is);
+            heavy = omega (arith, least, push, times, some, count, heavy);
+          }
 
   module _ (budget : ℕ) (walks : List (List Token)) (h : SpendEach guide budget walks) where
     abbrev judge : ℕ → Judge

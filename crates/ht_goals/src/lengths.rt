@@ -30,7 +30,9 @@ pub enum Lengths {
         walks: Items<Items<Token>>,
     },
     /// The budget was spent: the walks for 1 frame, 2 frames and so on, all complete but the last.
-    Spent { walks: Items<Items<Token>> },
+    Spent {
+        walks: Items<Items<Token>>,
+    },
 }
 
 /// The search of each length.

@@ -51,7 +51,7 @@ module _ (n k seed : ℕ) where
         let first = begins e.1 in (
           first.0 ∙ ap (drawn_weights n) (stands.between e.1),
           first.1 ∙ (ap (after_words n) (stands.between e.1)
-          ∙ (sym (burst_begins n begin) ∙ ap (λ (m : ℕ). in_burst n m begin) (sym e.1))),
+              ∙ (sym (burst_begins n begin) ∙ ap (λ (m : ℕ). in_burst n m begin) (sym e.1))),
         )
     | inr e ↦
         let later = goes_on e.1 in (later.0 ∙ stands.weights_are e.1, later.1 ∙ stands.within e.1)

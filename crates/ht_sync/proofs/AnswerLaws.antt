@@ -1,8 +1,7 @@
 -- What the answers of the search for a list that synchronizes mean.
-use Rattle.std.proofs.Common.{◌≡◌, ◌<◌, ◌≤◌, ◌+◌, ◌-◌, ℕ, suc, zero, List, [], ◌∷◌, Bool, length, get_or, refl, sym, ◌∙◌, ap, inl, inr, arith, subst}
+use Rattle.std.proofs.Common.{◌≡◌, ◌<◌, ◌≤◌, ◌+◌, ◌-◌, ℕ, List, [], ◌∷◌, Bool, length, get_or, refl, sym, ◌∙◌, ap, arith, subst}
 use Rattle.ht_net.specs.Netlist.{Netlist}
 use Rattle.ht_net.specs.Rows.{Rows}
-use Rattle.ht_net.proofs.FrameLaws.{le_or_lt}
 use Rattle.ht_tree.specs.Budgets.{sweep_cost}
 use Rattle.ht_tree.specs.FoundLists.{list_of}
 use Rattle.ht_tree.specs.Reached.{AreVectors}
@@ -14,7 +13,7 @@ use Rattle.ht_records.proofs.WindowVectorLaws.{list_wide}
 use Rattle.ht_goals.specs.LengthAnswers.{FindsAfter}
 use Rattle.ht_goals.specs.Lengths.{IsLengthRecord, left_after, next_length}
 use Rattle.ht_sync.specs.Synchronizing.{Synchronizes, SynchronizesTo}
-use Rattle.ht_sync.specs.SyncSearches.{FindsSyncList, IsShortest, IsSpentRecord, NoneShorter, SyncFinds, SyncSpends}
+use Rattle.ht_sync.specs.SyncSearches.{FindsSyncList, IsShortest, IsSpentRecord, SyncFinds, SyncSpends}
 use Rattle.ht_sync.specs.SyncWindows.{sync_guide}
 use Rattle.ht_goals.proofs.DeepLaws.{record_deep}
 use Rattle.ht_goals.proofs.LengthLaws.{closed_walk, spends_record}

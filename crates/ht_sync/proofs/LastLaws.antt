@@ -1,27 +1,26 @@
 -- The sets of latches after the last frame of a window: what a dead and a sure status say of them, and where the walk
 -- back begins.
-use Rattle.std.specs.List.{find, list_any, range_with_len}
-use Rattle.std.proofs.Common.{◌≡◌, ◌<◌, ◌≤◌, ◌+◌, ◌-◌, ℕ, suc, zero, List, [], ◌∷◌, Bool, true, false, not, ◌&&◌, ◌||◌, cond, Option, Some, None, length, get_or, refl, sym, ◌∙◌, ap, inl, inr, arith, subst}
+use Rattle.std.specs.List.{find, list_any}
+use Rattle.std.proofs.Common.{◌≡◌, ◌<◌, ◌+◌, ◌-◌, ℕ, suc, List, [], ◌∷◌, Bool, true, false, not, ◌&&◌, cond, Some, None, length, get_or, refl, sym, ◌∙◌, ap, inl, inr, arith, subst}
 use Rattle.std.proofs.lemmas.Bool.{and_parts, both_ways, ltb-true, not_from_true, or_cases}
 use Rattle.std.proofs.lemmas.Bool.Decides.{nat_tests}
 use Rattle.ht_tern.specs.declared.tern.Tern.{Tern}
 use Rattle.ht_tern.specs.declared.tern.Tern.TheVariants.{One, Unk, Zero}
-use Rattle.ht_pairs.specs.Pairs.{IsMember, Pair, is_member, pair}
+use Rattle.ht_pairs.specs.Pairs.{IsMember, Pair, pair}
 use Rattle.ht_pairs.proofs.SetLaws.{is_member-from, is_member-true}
 use Rattle.ht_net.specs.Faults.{is_data_pin}
 use Rattle.ht_net.specs.Frame.{next_state}
-use Rattle.ht_net.specs.Netlist.{Netlist, no_net}
+use Rattle.ht_net.specs.Netlist.{no_net}
 use Rattle.ht_tree.specs.Places.{set_at, spot_net}
 use Rattle.ht_tree.specs.WindowStatus.{is_definite}
 use Rattle.ht_tree.specs.Windows.{SearchWindow, cell_at, is_undetermined, latches_at, pair_set_rules}
 use Rattle.ht_tree.specs.declared.token.Assign3.{Assign3}
-use Rattle.ht_tree.specs.declared.token.Status3.{Status3}
 use Rattle.ht_tree.specs.declared.token.Status3.TheVariants.{Dead, Open, Sure}
 use Rattle.ht_tree.specs.declared.window.Spot.TheVariants.{State}
 use Rattle.ht_tree.proofs.MemberLaws.{member_range, none_passes}
 use Rattle.ht_tree.proofs.PlaceLaws.{taken_at}
 use Rattle.ht_tree.proofs.UndeterminedLaws.{forced_undetermined}
-use Rattle.ht_records.proofs.ListLaws.{found_member, none_pass, range_member}
+use Rattle.ht_records.proofs.ListLaws.{found_member, range_member}
 use Rattle.ht_sync.specs.SyncWindows.{flip_flops, last_set, may_be_unknown, must_be_unknown, sync_status}
 
 -- the set of latch j after frame f, which its data pin has in it

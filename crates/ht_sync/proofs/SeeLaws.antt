@@ -1,6 +1,6 @@
 -- The latches of a window, one by one.
 use Rattle.std.specs.List.{find, list_any, range_with_len}
-use Rattle.std.proofs.Common.{◌≡◌, ◌<◌, ◌≤◌, ◌+◌, ◌-◌, ℕ, suc, zero, List, [], ◌∷◌, Bool, true, false, not, ◌&&◌, ◌||◌, cond, Option, Some, None, length, refl, sym, ◌∙◌, ap, arith}
+use Rattle.std.proofs.Common.{◌≡◌, ◌<◌, ◌≤◌, ◌+◌, ◌-◌, ℕ, suc, List, [], ◌∷◌, Bool, true, false, not, ◌&&◌, ◌||◌, cond, Some, None, length, refl, sym, ◌∙◌, ap, arith}
 use Rattle.ht_pairs.specs.Pairs.{Pair}
 use Rattle.ht_tree.specs.Windows.{SearchWindow, is_undetermined}
 use Rattle.ht_tree.specs.declared.token.Assign3.{Assign3}

@@ -1,36 +1,33 @@
 -- What the searches for a list that synchronizes rule out, and what a found list does.
-use Rattle.std.specs.List.{range_with_len}
-use Rattle.std.proofs.Common.{◌≡◌, ◌<◌, ◌≤◌, ◌+◌, ◌-◌, ◌*◌, ◌^◌, ℕ, suc, zero, List, [], ◌∷◌, map, replicate, Bool, true, false, IsTrue, None, length, get_or, refl, sym, ◌∙◌, ap, inl, inr, arith, subst}
+use Rattle.std.proofs.Common.{◌≡◌, ◌<◌, ◌-◌, ◌*◌, ℕ, suc, zero, List, [], ◌∷◌, map, replicate, Bool, true, false, IsTrue, None, length, get_or, refl, sym, ◌∙◌, ap, inl, inr, arith, subst}
 use Rattle.std.proofs.lemmas.Bool.{both_ways, ltb-true, or_cases}
 use Rattle.ht_tern.specs.Gate.{AllRelated, Refines, StandsFor, tern_of}
 use Rattle.ht_tern.specs.declared.tern.Tern.{Tern}
 use Rattle.ht_tern.specs.declared.tern.Tern.TheVariants.{One, Unk, Zero}
 use Rattle.ht_pairs.specs.Pairs.{IsMember, Pair, pair}
-use Rattle.ht_net.specs.Detection.{IsState, terns_of, unknown_state}
+use Rattle.ht_net.specs.Detection.{terns_of, unknown_state}
 use Rattle.ht_net.specs.Faults.{bool_rules, tern_rules}
 use Rattle.ht_net.specs.Frame.{next_state, run_state}
 use Rattle.ht_net.specs.Netlist.{Netlist}
 use Rattle.ht_net.proofs.FaultLaws.{machine_bits}
 use Rattle.ht_net.proofs.RelationLaws.{get_related, next_related}
 use Rattle.ht_tree.specs.FoundLists.{list_of}
-use Rattle.ht_tree.specs.Places.{set_at, spot_net}
+use Rattle.ht_tree.specs.Places.{set_at}
 use Rattle.ht_tree.specs.Reached.{AreVectors}
-use Rattle.ht_tree.specs.Searches.{FindsAt, IsFound}
+use Rattle.ht_tree.specs.Searches.{FindsAt}
 use Rattle.ht_tree.specs.Variables.{may_two}
-use Rattle.ht_tree.specs.Walks.{AllFit, IsComplete, Node, path_of, root_stack}
+use Rattle.ht_tree.specs.Walks.{IsComplete, Node, path_of}
 use Rattle.ht_tree.specs.WindowStatus.{is_definite}
 use Rattle.ht_tree.specs.WalkBack.{wants_one}
-use Rattle.ht_tree.specs.Windows.{SearchWindow, first_input}
+use Rattle.ht_tree.specs.Windows.{SearchWindow}
 use Rattle.ht_tree.specs.declared.token.Assign3.{Assign3}
 use Rattle.ht_tree.specs.declared.token.Status3.TheVariants.{Dead, Sure}
 use Rattle.ht_tree.specs.declared.token.Token.{Token}
 use Rattle.ht_tree.specs.declared.window.Spot.TheVariants.{State}
-use Rattle.ht_records.proofs.BitPathLaws.{AnyVariable, bits_decided}
-use Rattle.ht_records.proofs.ListBitLaws.{inputs_left, joined, joined_value}
 use Rattle.ht_records.proofs.RunLaws.{AllowsRun, next_has}
-use Rattle.ht_records.proofs.RunStateLaws.{end_state, nth, run_held, run_state_by, state_by, state_in, states_related, unknown_held}
+use Rattle.ht_records.proofs.RunStateLaws.{end_state, nth, run_held, state_in, unknown_held}
 use Rattle.ht_records.proofs.ShownLaws.{next_at, unknown_at}
-use Rattle.ht_records.proofs.SureLaws.{list_allowed, list_length}
+use Rattle.ht_records.proofs.SureLaws.{list_length}
 use Rattle.ht_records.proofs.WidthLaws.{fit_length, fit_list, fit_vectors, state_refines}
 use Rattle.ht_goals.specs.RunGoals.{RunHas}
 use Rattle.ht_goals.specs.Lengths.{AreShort}

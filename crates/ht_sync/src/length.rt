@@ -29,12 +29,7 @@ impl<'c> LengthSearch for SyncSearch<'c> {
 
     ghost Finds = { λ c frames budget list. FindsSyncList c frames budget list };
 
-    fn search(
-        &mut self,
-        alloc: Global,
-        frames: u32,
-        budget: u64,
-    ) -> Result<OneLength, AllocError> {
+    fn search(&mut self, alloc: Global, frames: u32, budget: u64) -> Result<OneLength, AllocError> {
         let window = self.bases.window(alloc, None, frames, &Start::Unknown)?;
         let mut trial = SyncTrial { window, frames };
         match explore(alloc, &mut trial, budget)? {

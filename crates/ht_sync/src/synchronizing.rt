@@ -21,7 +21,9 @@ pub enum Synchronized {
         walks: Items<Items<Token>>,
     },
     /// The budget was spent: the walks for 1 vector, 2 vectors and so on, all complete but the last.
-    Spent { walks: Items<Items<Token>> },
+    Spent {
+        walks: Items<Items<Token>>,
+    },
 }
 
 /// Searches the lists of no vector, 1 vector, 2 vectors and so on for one that brings every flip-flop from unknown to a

@@ -17,6 +17,7 @@ mod memory;
 mod mute;
 mod norm;
 mod refusals;
+mod responded;
 mod sim;
 mod started;
 mod started_files;

@@ -73,6 +73,12 @@ fn is_job(job: &Job, names: &[&str]) -> bool {
             out,
             ..
         } => are_three("sync", netlist, tests, out, names),
+        Job::Respond {
+            netlist,
+            tests,
+            out,
+            ..
+        } => are_three("respond", netlist, tests, out, names),
     }
 }
 
@@ -134,6 +140,11 @@ const ROWS: &[(&[&str], &[&str])] = &[
         &["sync", "n", "t", "o"],
     ),
     (&["sync", "n", "o"], &[]),
+    (
+        &["respond", "n", "--fault=5", "t", "--start", "s", "o"],
+        &["respond", "n", "t", "o"],
+    ),
+    (&["respond", "n", "t", "o", "--fault=655359"], &[]),
     (&["norm", "--", "-n", "-o"], &["norm", "-n", "-o"]),
     (&[], &[]),
     (&["SIM", "n", "t", "r"], &[]),

@@ -1,8 +1,6 @@
-use Rattle.std.proofs.Common.{◌≡◌, ◌∙◌, ◌+◌, ◌-◌, ◌*◌, ℕ, List, length, ap, sym, subst}
+use Rattle.std.proofs.Common.{◌∙◌, ◌+◌, ◌-◌, ◌*◌, ℕ, List, length, ap, sym, subst}
 use Rattle.ht_tree.specs.declared.token.Token.{Token}
-use Rattle.ht_events.specs.Plans.{max_frames}
-use Rattle.ht_goals.specs.Lengths.{left_after, next_length}
-use Rattle.ht_goals.proofs.LengthLaws.{IsClosedTo, frames_few, left_is, one_closes}
+use Rattle.ht_goals.proofs.LengthLaws.{IsClosedTo, frames_few, one_closes}
 use Rattle.ht_goals.specs.LengthAnswers.{FindsAfter}
 use Rattle.ht_goals.proofs.LengthFinds.{finds_after}
 use Rattle.ht_goals.proofs.lengths.search_lengths.Goals as goal

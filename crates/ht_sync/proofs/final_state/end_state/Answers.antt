@@ -1,4 +1,4 @@
-use Rattle.std.proofs.Common.{◌≡◌, ◌∙◌, List, None, length, map, ap, sym, arith}
+use Rattle.std.proofs.Common.{◌∙◌, None, length, map, ap, sym}
 use Rattle.ht_tern.specs.declared.tern.Tern.{Tern}
 use Rattle.ht_net.specs.Detection.{terns_of, unknown_state}
 use Rattle.ht_tree.specs.WalkBack.{wants_one}

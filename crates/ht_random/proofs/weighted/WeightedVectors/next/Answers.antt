@@ -1,10 +1,9 @@
 use Rattle.std.proofs.Common.{◌≡◌, ◌+◌, ℕ, Bool, List, length, sym, ◌∙◌, ap, arith, subst}
 use Rattle.std.proofs.lemmas.List.{with_items_is}
-use Rattle.rand_pcg.specs.Lcg.{Lcg}
 use Rattle.ht_random.specs.Words.{after_words}
 use Rattle.ht_random.specs.WeightedVectors.{vector_by, weighted_vector}
 use Rattle.ht_random.specs.WeightedOf.{Drawn, StandsAt}
-use Rattle.ht_random.proofs.WeightedLaws.{before_vector, begun, goes_on, kept_weights}
+use Rattle.ht_random.proofs.WeightedLaws.{begun, goes_on}
 use Rattle.ht_random.proofs.weighted.WeightedVectors.next.Goals as goal
 
 pub invariant_of-self : goal.invariant_of-self

@@ -18,11 +18,13 @@ returns-in-Closed-clause-answer c =
 pub returns-in-Spent-clause-answer : goal.returns-in-Spent-clause-answer
 returns-in-Spent-clause-answer c =
     let n = node_at c.explore.new.trial.window.decisions in
-    let outcome = rw c.in-Spent.is at c.in_ok-tokens.ensures.outcome in
-    (n, subst (λ (ts : List Token). SpendsAt (sync_guide c.args.self.now.bases.circuit c.args.frames) c.args.budget
-    c.args.frames ts n) (sym c.from_vec-in-Spent.ensures)
-    (subst (λ (w : SearchWindow). SpendsAt (guide_to (sync_goal w)) c.args.budget w.frames c.in-Spent.tokens.items n)
-    c.in_ok-window.ensures.window outcome))
+    let outcome = rw c.in-Spent.is at c.in_ok-tokens.ensures.outcome in (
+      n,
+      subst (λ (ts : List Token). SpendsAt (sync_guide c.args.self.now.bases.circuit c.args.frames) c.args.budget
+          c.args.frames ts n) (sym c.from_vec-in-Spent.ensures)
+          (subst (λ (w : SearchWindow). SpendsAt (guide_to (sync_goal w)) c.args.budget w.frames c.in-Spent.tokens.items n)
+          c.in_ok-window.ensures.window outcome),
+    )
 
 pub returns-clause-answer : goal.returns-clause-answer
 returns-clause-answer c =
