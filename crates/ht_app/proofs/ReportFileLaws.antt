@@ -76,7 +76,6 @@ module _ (v : ReportJudgeView) (basis : JobBasis) where
       same_circuit (λ c r. ¬ ContradictsTests c r basis.content.start basis.content.list (before ++ line ∷ [])) h.circuit h.representatives
       (contradicts_nothing v basis.content.start basis.content.list (before ++ line ∷ [])
       (subst IsCircuit (sym h.circuit) h.well_formed) h.judges) contradicts
-
   judged_is_fine before line h error wrong = wrong
 
   pub denied_is_wrong : (before : List (List ℕ)) (line : List ℕ) → StandsForReport v basis before → (e : JudgeError)
@@ -188,37 +187,37 @@ module _ (basis : JobBasis) (text : List ℕ) (is : IsCircuit basis.circuit) whe
 module _ (netlist tests report proofs : List ℕ) (start : Option (List ℕ)) (name : List ℕ) (basis : JobBasis)
     (is : IsCircuit basis.circuit) (a b : DeskView)
   where
-  abbrev Stops : RunError → Type 0
-  Stops = ReadStops (check netlist tests report proofs start) basis in_port.Report name a b
+    abbrev Stops : RunError → Type 0
+    Stops = ReadStops (check netlist tests report proofs start) basis in_port.Report name a b
 
-  refuses : (number : ℕ) (IsSo : List ℕ → Type 0) → ((text : List ℕ) → IsSo text
-      → IsRefusedFor (check netlist tests report proofs start) basis (Denied (Report number)) text)
-      → WasRead in_port.Report name IsSo a → Stops (Denied (Report number))
-  refuses number IsSo so read = (refl, read_so _ so read)
+    refuses : (number : ℕ) (IsSo : List ℕ → Type 0) → ((text : List ℕ) → IsSo text
+        → IsRefusedFor (check netlist tests report proofs start) basis (Denied (Report number)) text)
+        → WasRead in_port.Report name IsSo a → Stops (Denied (Report number))
+    refuses number IsSo so read = (refl, read_so _ so read)
 
-  pub report_stops : {most : ℕ} {e : RunError} → AreClasses basis.circuit basis.representatives
-      → HasShortNames basis.circuit → LinesStop (IsWrongInReport basis) (λ line. Denied (Report line)) MAX_LINE_BYTES
-      most in_port.Report name a b e → Stops e
-  report_stops {most = most} classes names stops = lines_stop Stops (λ s. s) tt at_line (λ line s.
-      refuses line (HasLongLine MAX_LINE_BYTES s.before)
-      (λ text long. first_long basis text is s.before line classes names s.fine s.line_is long) s.read) stops
-    where
-      at_line : (e : RunError) → StopsAtLine (IsWrongInReport basis) most e in_port.Report name a → Stops e
-      at_line (Denied (Report number)) s = refuses number (HasFront (s.before ++ s.line ∷ []))
-          (λ text front. first_refused basis text is s.before s.line number s.fine front s.wrong) s.read
-      at_line e s = absurd s.wrong
+    pub report_stops : {most : ℕ} {e : RunError} → AreClasses basis.circuit basis.representatives
+        → HasShortNames basis.circuit → LinesStop (IsWrongInReport basis) (λ line. Denied (Report line)) MAX_LINE_BYTES
+        most in_port.Report name a b e → Stops e
+    report_stops {most = most} classes names stops = lines_stop Stops (λ s. s) tt at_line (λ line s.
+        refuses line (HasLongLine MAX_LINE_BYTES s.before)
+        (λ text long. first_long basis text is s.before line classes names s.fine s.line_is long) s.read) stops
+      where
+        at_line : (e : RunError) → StopsAtLine (IsWrongInReport basis) most e in_port.Report name a → Stops e
+        at_line (Denied (Report number)) s = refuses number (HasFront (s.before ++ s.line ∷ []))
+            (λ text front. first_refused basis text is s.before s.line number s.fine front s.wrong) s.read
+        at_line e s = absurd s.wrong
 
-  -- what the end of a report denies
-  pub report_ends : {v : ReportJudgeView}
-      → (read : StandsForFile (StandsForReport v basis) (IsWrongInReport basis) (2 ^ 64 - 1) in_port.Report name a)
-      → (e : JudgeError) → ReportEndHasCause v read.lines e → Stops (judged_error_of e)
-  report_ends {v = v} read (judge.Denied (Report number)) h =
-      let none = same_circuit (λ c r. (budget : ℕ) (saids : List Said) → ¬ IsSearchReport c r read.lines budget saids)
-      read.stands.circuit read.stands.representatives h.1 in
-      refuses number (HasLines read.lines)
-      (λ text has. first_missing basis text is read.lines number read.fine has h.0 none) (whole_file read)
-  report_ends read (judge.Denied trouble) h = absurd h
-  report_ends read judge.NoMemory h = tt
+    -- what the end of a report denies
+    pub report_ends : {v : ReportJudgeView}
+        → (read : StandsForFile (StandsForReport v basis) (IsWrongInReport basis) (2 ^ 64 - 1) in_port.Report name a)
+        → (e : JudgeError) → ReportEndHasCause v read.lines e → Stops (judged_error_of e)
+    report_ends {v = v} read (judge.Denied (Report number)) h =
+        let none = same_circuit (λ c r. (budget : ℕ) (saids : List Said) → ¬ IsSearchReport c r read.lines budget saids)
+        read.stands.circuit read.stands.representatives h.1 in
+        refuses number (HasLines read.lines)
+        (λ text has. first_missing basis text is read.lines number read.fine has h.0 none) (whole_file read)
+    report_ends read (judge.Denied trouble) h = absurd h
+    report_ends read judge.NoMemory h = tt
 
 -- ---- a report that is whole
 

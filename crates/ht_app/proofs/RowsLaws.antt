@@ -6,17 +6,15 @@ use Rattle.std.proofs.lemmas.List.{length-append, length-map, length-take-le}
 use Rattle.std.proofs.Math.ListN.{replicate, length-replicate}
 use Rattle.std.proofs.Math.Seq.{take-append_seam}
 use Rattle.ht_app.proofs.Common.{AreFine, BadResponses, BadTests, DeskView, HasFront, HasLines, HasLongLine}
-use Rattle.ht_app.proofs.Common.{IsMalformedResponse, IsMalformedTest, IsTestText, IsTooLong, JobBasis, LinesStop}
+use Rattle.ht_app.proofs.Common.{IsMalformedResponse, IsMalformedTest, JobBasis, LinesStop}
 use Rattle.ht_app.proofs.Common.{ObservationView, ReadStops, Rows, RunError, StandsForFile, StandsForResponses}
-use Rattle.ht_app.proofs.Common.{StandsForTests, StopsAtLine, Tern, TestsStop, WasRead, diagnose, lines_of, row_text}
-use Rattle.ht_app.proofs.Common.{vector_text}
+use Rattle.ht_app.proofs.Common.{StandsForTests, Tern, TestsStop, WasRead, diagnose, lines_of, row_text}
 use Rattle.ht_ports.specs.declared.ports.InPort.TheVariants as in_port
 use Rattle.ht_net.specs.Netlist.{max_inputs, max_nets, no_net}
-use Rattle.ht_texts.specs.Tests.{IsCoded, IsNoVector, IsTextOf, IsWrongLine, bit_code, line_at}
-use Rattle.ht_compact.specs.TestsToCompact.{AreFirstVectors}
-use Rattle.ht_dictionary.specs.ResponseTexts.{IsNoResponse, IsResponseText, IsRowText, IsWrongResponse, tern_code}
+use Rattle.ht_texts.specs.Tests.{IsTextOf, IsWrongLine, bit_code}
+use Rattle.ht_dictionary.specs.ResponseTexts.{IsResponseText, IsRowText, IsWrongResponse, tern_code}
 use Rattle.ht_app.specs.Steps.{AreVectorsUpTo}
-use Rattle.ht_app.proofs.FirstTroubleLaws.{HasTroubleAt, IsWrongAt, at_line, first_after, front_is, shorter}
+use Rattle.ht_app.proofs.FirstTroubleLaws.{IsWrongAt, at_line, first_after, shorter}
 use Rattle.ht_app.proofs.JudgedLaws.{lines_stop, whole_file, whole_front}
 use Rattle.ht_app.proofs.ReadingLaws.{basis_of, no_circuit, read_so}
 
@@ -50,12 +48,12 @@ module _ (basis : JobBasis) (text : List ℕ) (before : List (List ℕ)) (fine :
         → IsMalformedTest basis.circuit text (length before + 1)
     long_vector few long = malformed long.front (elim long.long [
       | inl wide ↦ inl (record {
-          counted = (omega arith, omega (arith, long.there));
-          none = λ vector of.
-              let one : length before + 1 - 1 ≡ length before = omega arith in
-              let is = subst (λ n. get_or (lines_of text) n [] ≡ map bit_code vector) one of.characters in
-              absurd (omega (arith, wide, few, of.count, ap length is, length-map vector bit_code));
-        })
+        counted = (omega arith, omega (arith, long.there));
+        none = λ vector of.
+            let one : length before + 1 - 1 ≡ length before = omega arith in
+            let is = subst (λ n. get_or (lines_of text) n [] ≡ map bit_code vector) one of.characters in
+            absurd (omega (arith, wide, few, of.count, ap length is, length-map vector bit_code));
+      })
       | inr late ↦ inr late
     ])
 
@@ -131,17 +129,27 @@ module _ (basis : JobBasis) (text : List ℕ) (before : List (List ℕ)) (fine :
   IsBadAt = IsMalformedResponse (length basis.circuit.outputs) (length basis.content.list) text
 
   row_parts : (n : ℕ) → IsWrongRow n → IsWrongAt (IsNoRowLine basis) text n
-  row_parts n (inl none) = inl (_, record {
-    counted = none.counted;
-    wrong = (
-      refl,
-      λ row of. elim none.wrong [
-        | inl many ↦ omega (arith, many, none.counted.1, length-take-le (n - 1) (lines_of text) (omega (arith,
-            none.counted.1)))
-        | inr no_row ↦ absurd (no_row row of)
-      ],
-    );
-  })
+  row_parts n (inl none) = inl (
+    _,
+    record {
+      counted = none.counted;
+      wrong = (
+        refl,
+        λ row of. elim none.wrong [
+          | inl many ↦ omega (
+            arith,
+            many,
+            none.counted.1,
+            length-take-le (n - 1) (lines_of text) (omega (
+              arith,
+              none.counted.1,
+            )),
+          )
+          | inr no_row ↦ absurd (no_row row of)
+        ],
+      );
+    },
+  )
   row_parts n (inr (inl early)) = inr (inl early.missing)
   row_parts n (inr (inr long)) = inr (inr long)
 
@@ -159,8 +167,12 @@ module _ (basis : JobBasis) (text : List ℕ) (before : List (List ℕ)) (fine :
         counted = at.counted;
         wrong = elim (cases_lt (length basis.content.list) (length before + 1)) [
           | inl many ↦ inl many
-          | inr fits ↦ inr (λ row of. absurd (omega (arith, fits, at.wrong.1 row of,
-              length-take-le (length before + 1 - 1) (lines_of text) (omega (arith, at.counted.1)))))
+          | inr fits ↦ inr (λ row of. absurd (omega (
+            arith,
+            fits,
+            at.wrong.1 row of,
+            length-take-le (length before + 1 - 1) (lines_of text) (omega (arith, at.counted.1)),
+          )))
         ];
       }))
 
@@ -168,12 +180,12 @@ module _ (basis : JobBasis) (text : List ℕ) (before : List (List ℕ)) (fine :
       → IsBadAt (length before + 1)
   long_row few long = bad_at long.front (elim long.long [
     | inl wide ↦ inl (record {
-        counted = (omega arith, omega (arith, long.there));
-        wrong = inr (λ row of.
-            let one : length before + 1 - 1 ≡ length before = omega arith in
-            let is = subst (λ n. get_or (lines_of text) n [] ≡ map tern_code row) one of.characters in
-            absurd (omega (arith, wide, few, of.count, ap length is, length-map row tern_code)));
-      })
+      counted = (omega arith, omega (arith, long.there));
+      wrong = inr (λ row of.
+          let one : length before + 1 - 1 ≡ length before = omega arith in
+          let is = subst (λ n. get_or (lines_of text) n [] ≡ map tern_code row) one of.characters in
+          absurd (omega (arith, wide, few, of.count, ap length is, length-map row tern_code)));
+    })
     | inr late ↦ inr (inr late)
   ])
 

@@ -1,5 +1,5 @@
 -- The start, read line by line after the netlist: its first line, and no other.
-use Rattle.std.proofs.Common.{◌≡◌, ◌⊎◌, ◌^◌, inl, inr, ℕ, zero, suc, ◌+◌, ◌-◌, ◌<◌, ◌≤◌, List, [], ◌∷◌, ◌++◌, Vec, true, length, take, get_or, cond, ap, subst, sym, refl, ◌∙◌, arith}
+use Rattle.std.proofs.Common.{◌≡◌, inl, inr, ℕ, zero, suc, ◌+◌, ◌<◌, ◌≤◌, List, [], ◌∷◌, ◌++◌, Vec, true, length, take, get_or, cond, ap, subst, sym, refl, arith}
 use Rattle.std.specs.Prelude.{IfErr, IfOk, Err, Ok, Result, Some, None, Bool, if◌then◌else◌, ◌==◌, Option}
 use Rattle.std.specs.declared.alloc.Global.{Global}
 use Rattle.std.proofs.lemmas.Bool.{cases_eq, cases_lt}
@@ -94,10 +94,10 @@ module _ (basis : JobBasis) (text : List ℕ) (before : List (List ℕ)) (fine :
   first_start front some = elim (start_or_none (length basis.circuit.dffs) (line_at text 1)) [
     | inl read ↦ read
     | inr none ↦ absurd (fine 0 (BadStart (length (take 0 before) + 1)) some (
-        refl,
-        λ start is. absurd (none start (subst (λ (l : List ℕ). IsFirstLine l start)
-            (sym (get_front before front.more (lines_of text) 0 front.lines_are some)) is)),
-      ))
+      refl,
+      λ start is. absurd (none start (subst (λ (l : List ℕ). IsFirstLine l start)
+          (sym (get_front before front.more (lines_of text) 0 front.lines_are some)) is)),
+    ))
   ]
 
   bad_at : HasFront before text → length before < length (lines_of text)

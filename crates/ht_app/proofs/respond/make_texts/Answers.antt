@@ -3,10 +3,6 @@ use Rattle.std.specs.Prelude.{None, Option}
 use Rattle.ht_app.proofs.Common.{Extra, HasReadTo, InPort, SaysBasis, Tern, input_name, order_of, respond}
 use Rattle.ht_ports.specs.declared.ports.InPort.TheVariants.{Netlist, Tests}
 use Rattle.ht_net.specs.Detection.{unknown_state}
-use Rattle.ht_net.specs.Netlist as net
-use Rattle.ht_net.specs.declared.fault.Fault.{Fault}
-use Rattle.ht_app.specs.Inputs.{IsListed}
-use Rattle.ht_app.specs.Outputs.{IsMachineOf}
 use Rattle.ht_app.proofs.FaultLaws.{fault_ends, machine_listed}
 use Rattle.ht_app.proofs.ReadingLaws.{all_read, basis_from, basis_of, no_room, one_more, read_so, stops_there, tests_stop}
 use Rattle.ht_app.proofs.respond.make_texts.Given as given

@@ -1,4 +1,4 @@
-use Rattle.std.proofs.Common.{◌≡◌, ◌∙◌, ◌++◌, ℕ, List, length, ap}
+use Rattle.std.proofs.Common.{◌∙◌, ◌++◌, ℕ, List, length, ap}
 use Rattle.ht_app.proofs.Common.{ObservationView, with_lf}
 use Rattle.ht_responses.specs.Responses.{last_row, response_text, responses_line, rows_but_last}
 use Rattle.ht_responses.proofs.ResponseLaws.{text_parts}

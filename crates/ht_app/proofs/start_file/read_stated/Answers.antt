@@ -1,5 +1,5 @@
-use Rattle.std.proofs.Common.{◌≡◌, ◌∙◌, ap, length, sym, rules, arith}
-use Rattle.std.specs.Prelude.{None, Some}
+use Rattle.std.proofs.Common.{◌∙◌, ap, length, sym, rules, arith}
+use Rattle.std.specs.Prelude.{Some}
 use Rattle.ht_app.proofs.Common.{Extra}
 use Rattle.ht_app.specs.Jobs.{place_of}
 use Rattle.ht_app.proofs.ReadingLaws.{no_room, skipped}
