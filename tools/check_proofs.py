@@ -1,12 +1,12 @@
 #!/usr/bin/env python3
 """Checks a netlist, tests, a report and proofs as `check` does, and shares no code with it.
 
-    tools/check_proofs.py NETLIST TESTS REPORT PROOFS
+    tools/check_proofs.py NETLIST TESTS REPORT PROOFS [--start FILE]
 
 Written from docs/FORMATS.md and docs/DEFINITIONS.md, for whoever wants a second opinion: the answer, its stream and the
-status are those of `./ht check`. 0: `valid`. 1: `denied: ` and the first trouble. 2: the words aren't four names. 3: the
-netlist is refused. 4: a file can't be read. 5: the answer can't be written. 6: out of memory. Where gates form several
-cycles the two may name different ones. It needs Python 3.9 or later and nothing else, and is made to be read, not to be fast:
+status are those of `./ht check`. 0: `valid`. 1: `denied: ` and the first trouble. 2: the words aren't four names, with at
+most one start. 3: the netlist is refused. 4: a file can't be read. 5: the answer can't be written. 6: out of memory. 8: the
+start is refused. Where gates form several cycles the two may name different ones. It needs Python 3.9 or later and nothing else, and is made to be read, not to be fast:
 a vector takes about a microsecond for each gate and each fault that isn't detected yet.
 
 Numbers of nets, gates, flip-flops, faults, vectors and variables count from 0 here, and from 1 in the texts.
@@ -398,6 +398,29 @@ def frames(circuit, fault, vectors, latches):
         nets = frame(circuit, fault, [ALIKE[bit] for bit in vector], latches)
         latches = next_state(circuit, fault, nets)
         yield [nets[net] for net in circuit.outputs], latches
+
+
+START_VALUES = {ord("0"): 0, ord("1"): 1, ord("X"): X, ord("x"): X}
+
+
+class StartRefused(Exception):
+    """A text that is no start of the circuit; the words after `start: `."""
+
+
+def read_start(circuit, text):
+    """What each flip-flop holds before the first vector: one line with a character for each. A missing line is read as an
+    empty one."""
+    lines = lines_of(text) or [b""]
+    if len(lines[0]) != circuit.flip_flops or not START_VALUES.keys() >= set(lines[0]):
+        raise StartRefused(b"line 1")
+    if len(lines) > 1:
+        raise StartRefused(b"line 2")
+    return [START_VALUES[character] for character in lines[0]]
+
+
+def allows(start, state):
+    """Whether a state has a bit for each flip-flop, and the start's value where that is 0 or 1."""
+    return len(start) == len(state) and all(value in (X, bit) for value, bit in zip(start, state))
 
 
 def first_detection(circuit, fault, vectors, latches=None):
@@ -959,10 +982,11 @@ def read_tests(circuit, text):
 
 
 class Files:
-    """A circuit with its faults and their classes, and what its files say one after the other."""
+    """A circuit with its faults and their classes, the start, and what its files say one after the other."""
 
     def __init__(self, circuit):
         self.circuit = circuit
+        self.start = [X] * circuit.flip_flops
         self.faults = faults_of(circuit)
         self.representatives = representatives_of(circuit, self.faults)
         self.vectors, self.budget = [], 0
@@ -983,7 +1007,8 @@ class Files:
         """What a report that agrees with the tests may say of a fault, after the fault's name."""
         if self.representatives[number] != number:
             return [b"as %d" % (self.representatives[number] + 1)]
-        detection = first_detection(self.circuit, self.faults[number], self.vectors)
+        latches = [ALIKE[value] for value in self.start]
+        detection = first_detection(self.circuit, self.faults[number], self.vectors, latches)
         if detection is None:
             return [b"untestable", b"aborted"]
         return [b"detected %d %s" % (detection[0] + 1, self.circuit.names[self.circuit.outputs[detection[1]]])]
@@ -1026,7 +1051,8 @@ class Files:
         claim = self.claims.get(number)
         if claim == b"detected":
             return
-        if claim != entry.kind or not passes(self.circuit, self.faults[number], self.budget, entry):
+        allowed = entry.state is None or allows(self.start, entry.state)
+        if claim != entry.kind or not allowed or not passes(self.circuit, self.faults[number], self.budget, entry):
             raise Denied(b"fault %d" % entry.number)
 
     def judge_proofs(self, text):
@@ -1058,18 +1084,21 @@ def read_file(name):
         return file.read()
 
 
-def judge(netlist, tests, report, proofs):
-    """Reads the four files of these names in this order, each after those before it are accepted."""
+def judge(netlist, tests, report, proofs, start=None):
+    """Reads the files of these names, each after those before it are accepted: the netlist, the start if one is stated, and
+    then the tests, the report and the proofs."""
     files = Files(read_netlist(read_file(netlist)))
+    if start is not None:
+        files.start = read_start(files.circuit, read_file(start))
     files.vectors = read_tests(files.circuit, read_file(tests))
     files.judge_report(read_file(report))
     files.judge_proofs(read_file(proofs))
 
 
-def answer(names):
-    """The status of the run over four names, and the line for the standard error."""
+def answer(names, start=None):
+    """The status of the run over four names, and a start's, and the line for the standard error."""
     try:
-        judge(*names)
+        judge(*names, start)
     except Denied as denied:
         return 1, b"denied: " + denied.args[0]
     except Refused as refused:
@@ -1078,16 +1107,33 @@ def answer(names):
         return 4, b"read fault"
     except MemoryError:
         return 6, b"no memory"
+    except StartRefused as refused:
+        return 8, b"start: " + refused.args[0]
     return 0, b""
 
 
+def is_option(word):
+    """The word begins with `-` and has more after it."""
+    return word.startswith("-") and word != "-"
+
+
 def names_in(words):
-    """The four names among the words, or None: the first `--` is left out, and words before it are no options."""
-    options_end = words.index("--") if "--" in words else len(words)
-    if any(word.startswith("-") and word != "-" for word in words[:options_end]):
-        return None
-    names = words[:options_end] + words[options_end + 1 :]
-    return names if len(names) == 4 else None
+    """The four names among the words and the start's or None; None where they have no form. The first `--` is left out, and
+    each word after it is a name. `--start FILE` or `--start=FILE` stands at most once, the other words are names."""
+    names, starts, left = [], [], list(words)
+    while left:
+        word = left.pop(0)
+        if word == "--":
+            names, left = names + left, []
+        elif word == "--start" and left and not is_option(left[0]):
+            starts.append(left.pop(0))
+        elif word.startswith("--start="):
+            starts.append(word[len("--start=") :])
+        elif is_option(word):
+            return None
+        else:
+            names.append(word)
+    return (names, starts[0] if starts else None) if len(names) == 4 and len(starts) <= 1 else None
 
 
 def put(stream, line):
@@ -1098,8 +1144,8 @@ def put(stream, line):
 
 
 def main():
-    names = names_in(sys.argv[1:])
-    status, line = answer(names) if names else (2, b"usage: check_proofs.py NETLIST TESTS REPORT PROOFS")
+    asked = names_in(sys.argv[1:])
+    status, line = answer(*asked) if asked else (2, b"usage: check_proofs.py NETLIST TESTS REPORT PROOFS [--start FILE]")
     try:
         if status == 0:
             put(1, b"valid")

@@ -7,6 +7,7 @@
 //! of `sim` have to be ones that `ht_cli` accepts: they aren't judged here.
 mod circuit;
 mod clauses;
+mod families;
 mod faults;
 mod grading;
 mod guide;
@@ -15,12 +16,15 @@ mod parse;
 mod random;
 mod search;
 mod sets;
+mod sync;
 mod texts;
+mod uninit;
 mod windows;
 mod words;
 mod work;
 
 use circuit::{Circuit, Order};
+use families::Families;
 use faults::FaultList;
 use grading::{Grader, Place};
 use random::Words;
@@ -30,10 +34,12 @@ use std::io::{BufWriter, Write};
 use std::{env, process};
 use texts::Said;
 use windows::{Fill, Plan};
+use words::Value;
 use work::{Entry, Work, Worker};
 
 const USAGE: &str = "usage: sim NETLIST TESTS REPORT, gen NETLIST TESTS REPORT PROOFS BUDGET RANDOM SEED, \
-                     check NETLIST TESTS REPORT PROOFS";
+                     check NETLIST TESTS REPORT PROOFS, uninit NETLIST OUT BUDGET, \
+                     sync NETLIST TESTS OUT BUDGET, close NETLIST";
 
 /// The circuit of a netlist. `PLAIN_ORDER` says in which order its gates have their places: `lines`, `level` or `kind`.
 fn read_circuit(name: &str) -> Result<Circuit, Box<dyn Error>> {
@@ -151,6 +157,39 @@ fn check(names: [&str; 4]) -> Result<Result<(), String>, Box<dyn Error>> {
     Ok(judge::Judge::new(&plan, budget).judge(&list, &said, &fs::read(names[3])?))
 }
 
+fn uninit(netlist: &str, out: &str, budget: usize) -> Result<(), Box<dyn Error>> {
+    let circuit = read_circuit(netlist)?;
+    let list = FaultList::of(&circuit);
+    let plan = plan(&circuit);
+    let record = uninit::uninit(&plan, budget);
+    Ok(record.write(&circuit, &list, &mut BufWriter::new(File::create(out)?))?)
+}
+
+fn synchronize(netlist: &str, tests: &str, out: &str, budget: usize) -> Result<(), Box<dyn Error>> {
+    let circuit = read_circuit(netlist)?;
+    let plan = plan(&circuit);
+    let record = sync::sync(&plan, budget);
+    let mut tests = BufWriter::new(File::create(tests)?);
+    Ok(record.write(&plan, &mut tests, &mut BufWriter::new(File::create(out)?))?)
+}
+
+/// How many listed faults have a family that closes from all-unknown, and how many pairs their families hold.
+fn close(netlist: &str) -> Result<(), Box<dyn Error>> {
+    let circuit = read_circuit(netlist)?;
+    let list = FaultList::of(&circuit);
+    let start = vec![Value::Unknown; circuit.dffs()];
+    let mut families = Families::new(&circuit);
+    let (mut closed, mut pairs) = (0, 0);
+    for fault in list.faults {
+        if let Some(family) = families.closing(fault, &start) {
+            closed += 1;
+            pairs += family.iter().map(|set| set.count_ones()).sum::<u32>();
+        }
+    }
+    println!("closed {closed} pairs {pairs}");
+    Ok(())
+}
+
 fn run(words: &[&str]) -> Result<i32, Box<dyn Error>> {
     match *words {
         ["sim", netlist, tests, report] => sim(netlist, tests, report).map(|()| 0),
@@ -168,6 +207,9 @@ fn run(words: &[&str]) -> Result<i32, Box<dyn Error>> {
                 Ok(1)
             }
         },
+        ["uninit", netlist, out, budget] => uninit(netlist, out, budget.parse()?).map(|()| 0),
+        ["sync", netlist, tests, out, budget] => synchronize(netlist, tests, out, budget.parse()?).map(|()| 0),
+        ["close", netlist] => close(netlist).map(|()| 0),
         _ => Err(USAGE.into()),
     }
 }

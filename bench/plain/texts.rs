@@ -88,7 +88,7 @@ pub fn bits(vector: &[bool]) -> String {
     vector.iter().map(|bit| if *bit { '1' } else { '0' }).collect()
 }
 
-fn write_tokens(tokens: &[Token], proofs: &mut impl Write) -> io::Result<()> {
+pub fn write_tokens(tokens: &[Token], proofs: &mut impl Write) -> io::Result<()> {
     for token in tokens {
         match token {
             Token::Decide(Choice::Two { var, first: false }) => writeln!(proofs, "lo {}", var + 1)?,

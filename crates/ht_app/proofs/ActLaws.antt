@@ -5,10 +5,10 @@ use Rattle.std.specs.List.{list_any}
 use Rattle.std.specs.Option.{option_map}
 use Rattle.std.specs.Io.KnownBytes.{append_known}
 use Rattle.std.proofs.lemmas.List.Folds.{list_any-append}
-use Rattle.ht_ports.specs.Desk.{Created, DeskView, OutCall, Writes}
-use Rattle.ht_ports.specs.declared.ports.OutPort.{OutPort}
-use Rattle.ht_ports.specs.declared.ports.OutPort.TheVariants.{Tests, Report, Proofs, Out, Err}
-use Rattle.ht_app.specs.Acts.{Act, make, put, is_port, written_by, named_by, makes, written_after, named_after, Did, Stops}
+use Rattle.ht_app.proofs.Common.{Act, Created, DeskView, Did, Err, Out, OutCall, OutPort, Writes, is_port, make, makes}
+use Rattle.ht_app.proofs.Common.{put}
+use Rattle.ht_ports.specs.declared.ports.OutPort.TheVariants.{Tests, Report, Proofs}
+use Rattle.ht_app.specs.Acts.{written_by, named_by, written_after, named_after, Stops}
 
 -- ---- ports
 

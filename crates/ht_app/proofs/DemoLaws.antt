@@ -1,26 +1,15 @@
 -- What `demo` says.
 use Rattle.std.proofs.Common.{◌≡◌, inl, ℕ, List, [], ◌∷◌, true, false, refl, ◌∙◌, ap, subst}
 use Rattle.std.specs.Prelude.{Result, Ok, Err, Some, None}
-use Rattle.ht_ports.specs.Desk.{DeskView}
-use Rattle.ht_ports.specs.declared.ports.OutPort.TheVariants.{Out}
+use Rattle.ht_app.proofs.Common.{AcceptsInputs, AreClasses, AreFinished, Asked, ChangedOnly, DeskView, Does, EndsJob}
+use Rattle.ht_app.proofs.Common.{EngineStandsFor, EngineView, HasSameWork, Out, RunError, Settings, Step, Tries, demo}
+use Rattle.ht_app.proofs.Common.{demo_netlist, put, reading, with_lf}
 use Rattle.ht_net.specs.Netlist as net
-use Rattle.ht_collapse.specs.Classes.{AreClasses}
-use Rattle.ht_texts.specs.Lines.{with_lf}
 use Rattle.ht_texts.specs.Reports.{head_line}
-use Rattle.ht_engine.specs.declared.step.Step.{Step}
-use Rattle.ht_engine.specs.EngineStands.{EngineStandsFor, EngineView, HasSameWork, first_of}
-use Rattle.ht_engine.specs.Steps.{AreFinished, Settings, first_vectors}
-use Rattle.ht_asked.specs.Asked.{Asked, demo}
-use Rattle.ht_demo.specs.Demo.{demo_netlist}
 use Rattle.ht_files.specs.Generated.{IsTotalOf}
-use Rattle.ht_app.specs.declared.run_error.RunError.{RunError}
 use Rattle.ht_app.specs.declared.run_error.RunError.TheVariants.{NoMemory}
 use Rattle.ht_app.specs.declared.demo.TheConstants.{DEMO_BUDGET}
-use Rattle.ht_app.specs.Acts.{put}
-use Rattle.ht_app.specs.Changed.{ChangedOnly}
-use Rattle.ht_app.specs.Inputs.{AcceptsInputs}
 use Rattle.ht_app.specs.Outputs.{SaysHead, demo_settings}
-use Rattle.ht_app.specs.Steps.{Does, EndsJob, Tries, reading}
 use Rattle.ht_app.proofs.ActLaws.{did_nothing}
 use Rattle.ht_app.proofs.EndLaws.{ends_does, ends_tries, ends_unwritten}
 use Rattle.ht_app.proofs.GenLaws.{of_circuit}
@@ -44,13 +33,13 @@ says_head size seed {representatives = representatives} is classes head_is = rec
 pub total_found : {c : net.Netlist} {representatives : List ℕ} {e new : EngineView} (total : List ℕ) → e.circuit ≡ c
     → e.representatives ≡ representatives → HasSameWork e new
     → (all : (steps : List Step) × EngineStandsFor new steps
-    × AreFinished new.circuit new.representatives (first_of new) steps)
+    × AreFinished new.circuit new.representatives new.settings steps)
     → ((steps : List Step) → EngineStandsFor new steps
-    → AreFinished c representatives (first_vectors c new.settings) steps → IsTotalOf c new.settings total)
+    → AreFinished c representatives new.settings steps → IsTotalOf c new.settings total)
     → IsTotalOf c e.settings total
 total_found {c = c} {new = new} total of_c of_r same all found =
     subst (λ (s : Settings). IsTotalOf c s total) same.settings (found all.0 all.1
-    (of_circuit (λ d r. AreFinished d r (first_vectors d new.settings) all.0) new (same.circuit ∙ of_c)
+    (of_circuit (λ d r. AreFinished d r new.settings all.0) new (same.circuit ∙ of_c)
     (same.representatives ∙ of_r) all.2))
 
 -- ---- what it leaves
@@ -64,6 +53,7 @@ module _ (size seed : ℕ) where
 
   inputs : (a : DeskView) → AcceptsInputs job (basis_of no_circuit [] []) a
   inputs a = record {
+    stated = refl;
     each = λ p name is. let none : None ≡ Some name = is in absurd (cc);
     circuit = λ some. let none : false ≡ true = some in absurd (cc);
   }
@@ -78,7 +68,8 @@ module _ (size seed : ℕ) where
         ((refl, λ file. absurd file), tt) tt (inl (says, ((refl, λ file. absurd file), tt)))
 
     pub ends_by_total : {total : List ℕ} {m b : DeskView} (result : Result (Unit {0}) RunError)
-        → IsTotalOf (demo_netlist size seed) (demo_settings seed) total → Does (put Out head ∷ []) (Ok tt) a m
+        → IsTotalOf (demo_netlist size seed) (demo_settings (demo_netlist size seed) seed) total → Does
+        (put Out head ∷ []) (Ok tt) a m
         → Does (put Out total ∷ []) result m b → EndsJob job result a b
     ends_by_total {total = total} result total_is first second =
         ends_does job (no_change a) (inputs a) (put Out head ∷ put Out total ∷ []) result (does_then first second)

@@ -1,12 +1,8 @@
--- The first trouble of a text whose first lines have none.
-use Rattle.std.proofs.Common.{◌≡◌, ◌⊎◌, inl, inr, ℕ, suc, ◌+◌, ◌-◌, ◌<◌, ◌≤◌, List, [], ◌∷◌, ◌++◌, length, take, get_or, append_assoc, append-nil, sym, ◌∙◌, ap, subst, arith}
+-- The first error of a text whose first lines have none.
+use Rattle.std.proofs.Common.{◌≡◌, ◌⊎◌, inl, inr, ℕ, suc, ◌+◌, ◌-◌, ◌<◌, ◌≤◌, List, [], ◌∷◌, ◌++◌, length, take, get_or, append_assoc, sym, ◌∙◌, ap, subst, arith}
 use Rattle.std.proofs.lemmas.List.{length-append}
 use Rattle.std.proofs.Math.Seq.{take-suc, take-append_seam, get_or-append_seam}
-use Rattle.ht_ports.specs.LineRule.{lines_of}
-use Rattle.ht_texts.specs.Tests.{IsTooLong}
-use Rattle.ht_valid.specs.declared.trouble.Trouble.{Trouble}
-use Rattle.ht_valid.specs.FirstTrouble.{IsFirst}
-use Rattle.ht_app.specs.Judging.{AreFine, HasFront, HasLines, HasLongLine}
+use Rattle.ht_app.proofs.Common.{AreFine, HasFront, HasLongLine, IsFirst, IsTooLong, RunError, lines_of}
 use Rattle.ht_app.proofs.JudgedLaws.{get_front, take_front}
 
 -- the first lines up to one are those before it and it
@@ -24,14 +20,6 @@ grown_to lines n some within =
     ap (λ k. take k lines) same ∙ grown lines (n - 1) (omega (arith, some, within))
 
 -- ---- a front of a text
-
--- all lines are a front
-pub whole_front : (lines : List (List ℕ)) (text : List ℕ) → HasLines lines text → HasFront lines text
-whole_front lines text has = record {
-  more = [];
-  lines_are = has.lines_are ∙ sym (append-nil lines);
-  short = λ n upto long. omega (arith, long.long, has.short);
-}
 
 -- and so are the lines before one
 pub shorter : (before : List (List ℕ)) (line text : List ℕ) → HasFront (before ++ line ∷ []) text → HasFront before text
@@ -61,40 +49,40 @@ next_is most before text long = grown (lines_of text) (length before) long.there
 
 -- ---- the first trouble
 
-module _ (IsWrong : List (List ℕ) → List ℕ → Trouble → Type 0) (text : List ℕ) where
-  -- line n is there and has this trouble after those before it
-  pub record HasTroubleAt (n : ℕ) (trouble : Trouble) : Type 0 where
+module _ (IsWrong : List (List ℕ) → List ℕ → RunError → Type 0) (text : List ℕ) where
+  -- line n is there and has this error after those before it
+  pub record HasTroubleAt (n : ℕ) (error : RunError) : Type 0 where
     pub counted : (0 < n) × (n ≤ length (lines_of text))
-    pub wrong : IsWrong (take (n - 1) (lines_of text)) (get_or (lines_of text) (n - 1) []) trouble
+    pub wrong : IsWrong (take (n - 1) (lines_of text)) (get_or (lines_of text) (n - 1) []) error
 
-  pub at_line : (before : List (List ℕ)) (line : List ℕ) → HasFront (before ++ line ∷ []) text → (trouble : Trouble)
-      → IsWrong before line trouble → HasTroubleAt (length before + 1) trouble
-  at_line before line front trouble wrong =
+  pub at_line : (before : List (List ℕ)) (line : List ℕ) → HasFront (before ++ line ∷ []) text → (error : RunError)
+      → IsWrong before line error → HasTroubleAt (length before + 1) error
+  at_line before line front error wrong =
       let after = line ∷ front.more in
       let whole : lines_of text ≡ before ++ after = front.lines_are ∙ append_assoc before (line ∷ []) front.more in
       let one : length before ≡ length before + 1 - 1 = omega arith in
       let there = (front_is before line text front).0 in
       record {
         counted = (omega arith, omega (arith, there));
-        wrong = subst (λ k. IsWrong (take k (lines_of text)) (get_or (lines_of text) k []) trouble) one
-            (subst (λ l. IsWrong (take (length before) l) (get_or l (length before) []) trouble) (sym whole)
-            (subst (λ l. IsWrong l (get_or (before ++ after) (length before) []) trouble)
+        wrong = subst (λ k. IsWrong (take k (lines_of text)) (get_or (lines_of text) k []) error) one
+            (subst (λ l. IsWrong (take (length before) l) (get_or l (length before) []) error) (sym whole)
+            (subst (λ l. IsWrong l (get_or (before ++ after) (length before) []) error)
             (sym (take-append_seam before after))
-            (subst (λ l. IsWrong before l trouble) (sym (get_or-append_seam before line front.more [])) wrong)));
+            (subst (λ l. IsWrong before l error) (sym (get_or-append_seam before line front.more [])) wrong)));
       }
 
   -- something is wrong at line n: with the line, or at the end of the text, or it gets too long there
   abbrev pub IsWrongAt : ℕ → Type 0
-  IsWrongAt n = ((trouble : Trouble) × HasTroubleAt n trouble) ⊎ ((length (lines_of text) < n) ⊎ IsTooLong text n)
+  IsWrongAt n = ((error : RunError) × HasTroubleAt n error) ⊎ ((length (lines_of text) < n) ⊎ IsTooLong text n)
 
   module _ (before : List (List ℕ)) (fine : AreFine IsWrong before) (front : HasFront before text) where
     none_before : (n : ℕ) → n < length before + 1 → ¬ IsWrongAt n
-    none_before n lt (inl (trouble, at)) =
+    none_before n lt (inl (error, at)) =
         let inside : n - 1 < length before = omega (arith, lt, at.counted.0) in
-        fine (n - 1) trouble inside
-        (subst (λ l. IsWrong l (get_or before (n - 1) []) trouble)
+        fine (n - 1) error inside
+        (subst (λ l. IsWrong l (get_or before (n - 1) []) error)
         (take_front before front.more (lines_of text) (n - 1) front.lines_are (omega (arith, inside)))
-        (subst (λ l. IsWrong (take (n - 1) (lines_of text)) l trouble)
+        (subst (λ l. IsWrong (take (n - 1) (lines_of text)) l error)
         (get_front before front.more (lines_of text) (n - 1) front.lines_are inside) at.wrong))
     none_before n lt (inr (inl late)) =
         omega (arith, lt, late, ap length front.lines_are, length-append before front.more)

@@ -4,35 +4,20 @@ use Rattle.std.specs.Prelude.{Result, Ok, Err, None}
 use Rattle.std.specs.List.{list_any}
 use Rattle.std.proofs.lemmas.List.{length-append}
 use Rattle.std.proofs.lemmas.List.Folds.{list_any-append}
-use Rattle.ht_ports.specs.LineRule.{max_text_bytes}
-use Rattle.ht_ports.specs.Desk.{DeskView}
-use Rattle.ht_ports.specs.declared.ports.InPort.{InPort}
+use Rattle.ht_app.proofs.Common.{AcceptsInputs, Act, AreClasses, AreFinished, AreSteps, Asked, ChangedOnly, DeskView}
+use Rattle.ht_app.proofs.Common.{Does, EndsJob, EngineStandsFor, EngineView, Entry, Extra, Finished, GenOptions}
+use Rattle.ht_app.proofs.Common.{HasSameWork, InPort, IsGenerated, JobBasis, Out, OutPort, PermitsAll, Ports}
+use Rattle.ht_app.proofs.Common.{RunError, RunFiles, Settings, Step, Tern, Tries, Vectors, WritesAll, ending, gen}
+use Rattle.ht_app.proofs.Common.{input_name, line_text, makes, max_text_bytes, order_of, proofs_of, proofs_so_far}
+use Rattle.ht_app.proofs.Common.{put, reading, step_acts, tests_of, with_lf, writing}
 use Rattle.ht_ports.specs.declared.ports.InPort.TheVariants.{Netlist}
-use Rattle.ht_ports.specs.declared.ports.OutPort.{OutPort}
-use Rattle.ht_ports.specs.declared.ports.OutPort.TheVariants.{Tests, Report, Proofs, Out}
+use Rattle.ht_ports.specs.declared.ports.OutPort.TheVariants.{Tests, Report, Proofs}
 use Rattle.ht_net.specs.Netlist as net
-use Rattle.ht_collapse.specs.Classes.{AreClasses}
-use Rattle.ht_texts.specs.Lines.{with_lf}
 use Rattle.ht_texts.specs.SearchReports.{HasPlainNames}
-use Rattle.ht_entries.specs.ProofLines.{line_text}
 use Rattle.ht_entries.specs.declared.proof_line.ProofLine.TheVariants.{End}
-use Rattle.ht_engine.specs.declared.step.Step.{Step}
-use Rattle.ht_engine.specs.declared.step.Step.TheVariants.{Vectors, Entry, Finished}
-use Rattle.ht_engine.specs.Steps.{AreFinished, AreSteps, Settings, first_vectors}
-use Rattle.ht_engine.specs.EngineStands.{EngineStandsFor, EngineView, HasSameWork, first_of}
-use Rattle.ht_files.specs.StepTexts.{proofs_of, proofs_so_far, tests_of}
-use Rattle.ht_files.specs.Generated.{IsGenerated}
 use Rattle.ht_files.proofs.StepTextLaws.{proofs_end}
-use Rattle.ht_asked.specs.Asked.{Asked, gen, GenOptions}
-use Rattle.ht_words.specs.declared.job.RunFiles.{RunFiles}
-use Rattle.ht_app.specs.declared.run_error.RunError.{RunError}
-use Rattle.ht_app.specs.Acts.{Act, put, makes}
-use Rattle.ht_app.specs.Changed.{ChangedOnly, Ports}
-use Rattle.ht_app.specs.Generating.{WritesAll}
-use Rattle.ht_app.specs.Inputs.{AcceptsInputs, JobBasis}
-use Rattle.ht_app.specs.Jobs.{input_name, order_of, settings_of}
-use Rattle.ht_app.specs.Outputs.{WritesFiles, WritesSteps, creation, ending, step_acts}
-use Rattle.ht_app.specs.Steps.{Does, EndsJob, PermitsAll, Tries, reading, writing}
+use Rattle.ht_app.specs.Jobs.{settings_of}
+use Rattle.ht_app.specs.Outputs.{WritesFiles, WritesSteps, creation}
 use Rattle.ht_app.proofs.EndLaws.{begun, ends_tries}
 use Rattle.ht_app.proofs.WritingLaws.{permits_then, tries_then}
 
@@ -49,7 +34,7 @@ end_part body total = put Proofs end_text ∷ put Report body ∷ put Out total 
 
 module _ (files : RunFiles) (c : net.Netlist) (settings : Settings) {representatives : List ℕ}
     (classes : AreClasses c representatives) {steps : List Step}
-    (are : AreSteps c representatives (first_vectors c settings) settings.budget steps) where
+    (are : AreSteps c representatives settings steps) where
   steps_written : WritesSteps files c settings (begun_acts files steps)
   steps_written = record {
     representatives = representatives;
@@ -108,20 +93,20 @@ fits steps count more short =
 -- what `write_report` says of a report
 abbrev Reports : net.Netlist → List ℕ → EngineView → List ℕ → List ℕ → Type 0
 Reports c representatives e body total = (steps : List Step) → EngineStandsFor e steps
-    → AreFinished c representatives (first_vectors c e.settings) steps → HasPlainNames c
+    → AreFinished c representatives e.settings steps → HasPlainNames c
     → length (tests_of steps) ≤ max_text_bytes → length (proofs_of steps) ≤ max_text_bytes
     → IsGenerated c e.settings (tests_of steps) (body ++ total) (proofs_of steps) total
 
 pub generated : {c : net.Netlist} {representatives : List ℕ} {old new : EngineView} {steps : List Step}
     (body total : List ℕ) → old.circuit ≡ c → old.representatives ≡ representatives → HasSameWork old new
-    → EngineStandsFor new steps → AreFinished old.circuit old.representatives (first_of old) steps → HasPlainNames c
+    → EngineStandsFor new steps → AreFinished old.circuit old.representatives old.settings steps → HasPlainNames c
     → length (tests_of steps) ≤ max_text_bytes → length (proofs_of steps) ≤ max_text_bytes
     → Reports c representatives new body total
     → IsGenerated c old.settings (tests_of steps) (body ++ total) (proofs_of steps) total
 generated {c = c} {representatives = representatives} {old = old} {steps = steps} body total of_c of_r same stands
     finished plain tests_fit proofs_fit reports =
-    let are = subst (λ (s : Settings). AreFinished c representatives (first_vectors c s) steps) (sym same.settings)
-    (of_circuit (λ d r. AreFinished d r (first_vectors d old.settings) steps) old of_c of_r finished) in
+    let are = subst (λ (s : Settings). AreFinished c representatives s steps) (sym same.settings)
+    (of_circuit (λ d r. AreFinished d r old.settings steps) old of_c of_r finished) in
     subst (λ (s : Settings). IsGenerated c s (tests_of steps) (body ++ total) (proofs_of steps) total) same.settings
     (reports steps stands are plain tests_fit proofs_fit)
 
@@ -163,12 +148,14 @@ module _ (netlist tests report proofs : List ℕ) (options : GenOptions) where
   abbrev files : RunFiles
   files = record { netlist = netlist; tests = tests; report = report; proofs = proofs }
 
-  steps_may : {c : net.Netlist} {acts : List Act} → WritesSteps files c (settings_of options) acts
+  steps_may : {start : List Tern} {c : net.Netlist} {acts : List Act}
+      → WritesSteps files c (settings_of start options) acts
       → PermitsAll (writing job) [] acts
   steps_may w = begun_permitted (writing job) refl refl
       ((refl, refl), ((refl, refl), ((refl, refl), ((refl, λ file. refl), tt)))) w
 
-  files_may : {c : net.Netlist} {acts : List Act} → WritesFiles files c (settings_of options) acts
+  files_may : {start : List Tern} {c : net.Netlist} {acts : List Act}
+      → WritesFiles files c (settings_of start options) acts
       → PermitsAll (writing job) [] acts
   files_may w = subst (PermitsAll (writing job) []) (sym w.acts_are)
       (permits_then (writing job) [] w.first (end_part w.body w.total) (steps_may w.begun)
@@ -176,7 +163,8 @@ module _ (netlist tests report proofs : List ℕ) (options : GenOptions) where
       ((refl, λ file. refl), ((refl, λ file. refl), ((refl, λ file. absurd file), ((refl, λ file. refl), tt))))))
 
   pub ends_files : {basis : JobBasis} {a m b : DeskView} → ChangedOnly (reading job) a m → AcceptsInputs job basis a
-      → (result : Result (Unit {0}) RunError) → WritesAll files basis.circuit (settings_of options) result m b
+      → (result : Result (Unit {0}) RunError)
+      → WritesAll files basis.circuit (settings_of basis.content.start options) result m b
       → EndsJob job result a b
   ends_files x inputs (Ok value) w =
       ends_tries job x inputs w.acts (Ok value) w.tries (files_may w.done) w.done tt
@@ -189,6 +177,7 @@ module _ (netlist tests report proofs : List ℕ) (options : GenOptions) where
     | inr whole ↦ ends_tries job x inputs w.acts (Err e) w.tries (files_may whole.1) tt (inr whole)
   ]
 
-  pub no_more : (p : InPort) → 1 ≤ order_of p → input_name job p ≡ None
+  pub no_more : (p : InPort) → 2 ≤ order_of job p → input_name job p ≡ None
   no_more Netlist late = absurd (omega (arith, late))
+  no_more Extra late = absurd (omega (arith, late))
   no_more port late = refl

@@ -1,49 +1,52 @@
 -- A job's files, read one after the other.
-use Rattle.std.proofs.Common.{◌≡◌, ◌≢◌, ◌<◌, ◌≤◌, ◌+◌, ◌⊎◌, ℕ, List, [], Bool, true, false, IsTrue, inl, inr, refl, sym, ◌∙◌, ap, subst, arith}
+use Rattle.std.proofs.Common.{◌≡◌, ◌≢◌, ◌≤◌, ◌+◌, ◌⊎◌, ℕ, List, [], Bool, true, false, IsTrue, inl, inr, refl, sym, ◌∙◌, ap, subst, arith}
 use Rattle.std.specs.Prelude.{IsSome, is_some, Option, Some, None}
 use Rattle.std.proofs.lemmas.Bool.{cases_lt}
-use Rattle.ht_ports.specs.Desk.{DeskView, InCall}
-use Rattle.ht_ports.specs.declared.ports.InPort.{InPort}
-use Rattle.ht_ports.specs.declared.ports.InPort.TheVariants.{Netlist, Tests, Report, Proofs, Extra}
-use Rattle.ht_ports.proofs.CallLaws.{after_trans}
-use Rattle.ht_tern.specs.declared.tern.Tern.{Tern}
+use Rattle.ht_app.proofs.Common.{AcceptsInputs, Act, Asked, BadTests, ChangedOnly, DeskView, EndsReading, Extra}
+use Rattle.ht_app.proofs.Common.{HasCause, HasNetlist, HasReadTo, InCall, InPort, IsMalformedTest, IsPrepared}
+use Rattle.ht_app.proofs.Common.{IsRefusedFor, JobBasis, MakesOutput, ReadFault, ReadStops, RefusesInput, RunError}
+use Rattle.ht_app.proofs.Common.{SaysBasis, Tern, TestsStop, Usage, WasRead, WriteFault, after_trans, input_name}
+use Rattle.ht_app.proofs.Common.{order_of, reading, refused_port}
+use Rattle.ht_ports.specs.declared.ports.InPort.TheVariants.{Netlist, Tests, Report, Proofs}
 use Rattle.ht_net.specs.Netlist as net
-use Rattle.ht_texts.specs.Tests.{IsMalformedTest}
-use Rattle.ht_asked.specs.Asked.{Asked}
-use Rattle.ht_app.specs.declared.run_error.RunError.{RunError}
-use Rattle.ht_app.specs.declared.run_error.RunError.TheVariants.{Usage, ReadFault, WriteFault, NoMemory, BadTests}
-use Rattle.ht_app.specs.Acts.{Act}
-use Rattle.ht_app.specs.Changed.{ChangedOnly, IsUnread}
-use Rattle.ht_app.specs.Inputs.{AcceptsInputs, HasNetlist, JobBasis, SaysBasis, WasRead}
-use Rattle.ht_app.specs.Jobs.{input_name, order_of}
-use Rattle.ht_app.specs.Outputs.{MakesOutput}
-use Rattle.ht_app.specs.Refusals.{IsRefusedFor, RefusesInput, refused_port}
-use Rattle.ht_app.specs.Run.{HasCause}
-use Rattle.ht_app.specs.Steps.{EndsReading, HasReadTo, IsPrepared, OnlyReads, ReadStops, TestsStop, reading}
+use Rattle.ht_app.specs.declared.run_error.RunError.TheVariants.{NoMemory, NoSuchFault}
+use Rattle.ht_app.specs.Changed.{IsUnread}
+use Rattle.ht_app.specs.Steps.{OnlyReads}
+use Rattle.ht_net.specs.Detection.{unknown_state}
+use Rattle.ht_app.specs.Inputs.{HasFault, IsStated}
+use Rattle.ht_app.specs.Refusals.{NamesAbove}
+use Rattle.ht_app.specs.Jobs.{may_state_start, place_of}
 use Rattle.ht_app.proofs.ActLaws.{did_nothing}
-use Rattle.ht_app.proofs.CreatedLaws.{kept}
+use Rattle.ht_app.proofs.ChangedLaws.{kept}
 
 -- ---- ports
 
-pub same_or_other : (p q : InPort) → (p ≡ q) ⊎ (order_of p ≢ order_of q)
+same_or_other : (p q : InPort) → (p ≡ q) ⊎ (p ≢ q)
 same_or_other Netlist Netlist = inl refl
 same_or_other Tests Tests = inl refl
 same_or_other Report Report = inl refl
 same_or_other Proofs Proofs = inl refl
 same_or_other Extra Extra = inl refl
-same_or_other p q = inr (λ e. omega (arith, e))
+same_or_other p q = inr (λ e. cc)
 
-pub in_order : (p q : InPort) → order_of p ≡ order_of q → p ≡ q
-in_order p q e = elim (same_or_other p q) [
-  | inl same ↦ same
-  | inr ne ↦ absurd (ne e)
-]
+-- two ports have two places, whether a start is read or not
+place_differs : (is_start : Bool) (p q : InPort) → p ≢ q → place_of p is_start ≢ place_of q is_start
+place_differs is_start Netlist Netlist ne e = absurd (ne refl)
+place_differs is_start Tests Tests ne e = absurd (ne refl)
+place_differs is_start Report Report ne e = absurd (ne refl)
+place_differs is_start Proofs Proofs ne e = absurd (ne refl)
+place_differs is_start Extra Extra ne e = absurd (ne refl)
+place_differs true p q ne e = absurd (omega (arith, e))
+place_differs false p q ne e = absurd (omega (arith, e))
+
+order_differs : (job : Asked) (p q : InPort) → p ≢ q → order_of job p ≢ order_of job q
+order_differs job p q = place_differs (may_state_start job) p q
 
 -- ---- calls that read
 
 module _ {port : InPort} {a b : DeskView} (call : InCall port a b) where
-  left_still : (p : InPort) → order_of p ≢ order_of port → b.left p ≡ a.left p
-  left_still p ne = call.left.others p (λ e. ne (ap order_of e))
+  left_still : (p : InPort) → p ≢ port → b.left p ≡ a.left p
+  left_still p ne = call.left.others p ne
 
   only_reads : OnlyReads a b
   only_reads = record {
@@ -58,9 +61,8 @@ module _ {port : InPort} {a b : DeskView} (call : InCall port a b) where
     ];
   }
 
-  unread_by : (p : InPort) → order_of p ≢ order_of port → IsUnread p a b
-  unread_by p ne =
-      record { left = left_still p ne; is_open = call.is_open.others p (λ e. ne (ap order_of e)) }
+  unread_by : (p : InPort) → p ≢ port → IsUnread p a b
+  unread_by p ne = record { left = left_still p ne; is_open = call.is_open.others p ne }
 
 reads_none : {a : DeskView} → OnlyReads a a
 reads_none = record {
@@ -125,11 +127,12 @@ changes_by_reading job {a = a} {b = b} x others = record {
 
 -- ---- one file more
 
-pub nothing_read : (job : Asked) (basis : JobBasis) (a : DeskView)
+pub nothing_read : (job : Asked) (basis : JobBasis) (a : DeskView) → IsStated job basis
     → ((name : List ℕ) → IsTrue a.steady → IsSome (a.file name)) → HasReadTo job basis 0 a a
-nothing_read job basis a tells = record {
+nothing_read job basis a stated tells = record {
   reads = reads_none;
   netlist = λ some. absurd (omega (arith, some));
+  stated = stated;
   accepts = λ p before. absurd (omega (arith, before));
   unread = λ p after. record { left = refl; is_open = refl };
   others = λ p none. record { left = refl; is_open = refl };
@@ -138,30 +141,32 @@ nothing_read job basis a tells = record {
 
 module _ {job : Asked} {basis : JobBasis} {place : ℕ} {a m : DeskView} (h : HasReadTo job basis place a m) where
   -- a port that the job doesn't read
-  pub skipped : (port : InPort) → order_of port ≡ place → input_name job port ≡ None → HasNetlist basis.circuit
+  pub skipped : (port : InPort) → order_of job port ≡ place → input_name job port ≡ None → HasNetlist basis.circuit
       → HasReadTo job basis (place + 1) a m
   skipped port at none netlist = record {
     reads = h.reads;
     netlist = λ some. netlist;
+    stated = h.stated;
     accepts = λ p before name is. elim (same_or_other p port) [
       | inl e ↦ let some : None ≡ Some name =
           sym none ∙ ap (input_name job) (sym e) ∙ is in cc
-      | inr ne ↦ h.accepts p (omega (arith, before, at, ne)) name is
+      | inr ne ↦ h.accepts p (omega (arith, before, at, order_differs job p port ne)) name is
     ];
     unread = λ p after. h.unread p (omega (arith, after));
     others = h.others;
     tells = h.tells;
   }
 
-  module _ {port : InPort} {name : List ℕ} {b : DeskView} (at : order_of port ≡ place)
+  module _ {port : InPort} {name : List ℕ} {b : DeskView} (at : order_of job port ≡ place)
       (is : input_name job port ≡ Some name) (call : InCall port m b) where
     read_there : (p : InPort) (other : List ℕ) → p ≡ port → input_name job p ≡ Some other → other ≡ name
     read_there p other e reads =
         let same : Some other ≡ Some name = sym reads ∙ ap (input_name job) e ∙ is in cc
 
-    unread_at : (p : InPort) → place + 1 ≤ order_of p → IsUnread p a b
+    unread_at : (p : InPort) → place + 1 ≤ order_of job p → IsUnread p a b
     unread_at p after = unread_then (h.unread p (omega (arith, after)))
-        (unread_by call p (λ e. omega (arith, after, at, e)))
+        (unread_by call p (λ e. let same : order_of job p ≡ order_of job port = ap (order_of job) e in
+        omega (arith, after, at, same)))
 
     other_at : (p : InPort) → input_name job p ≡ None → IsUnread p a b
     other_at p none = elim (same_or_other p port) [
@@ -174,11 +179,12 @@ module _ {job : Asked} {basis : JobBasis} {place : ℕ} {a m : DeskView} (h : Ha
     one_more netlist read = record {
       reads = reads_then h.reads (only_reads call);
       netlist = λ some. netlist;
+      stated = h.stated;
       accepts = λ p before other reads. elim (same_or_other p port) [
         | inl e ↦ subst (λ (q : InPort). WasRead q other (SaysBasis job basis q) a) (sym e)
             (subst (λ (n : List ℕ). WasRead port n (SaysBasis job basis port) a) (sym (read_there p other e reads))
             (read_before h.reads read))
-        | inr ne ↦ h.accepts p (omega (arith, before, at, ne)) other reads
+        | inr ne ↦ h.accepts p (omega (arith, before, at, order_differs job p port ne)) other reads
       ];
       unread = unread_at;
       others = other_at;
@@ -196,6 +202,7 @@ module _ {job : Asked} {basis : JobBasis} {place : ℕ} {a m : DeskView} (h : Ha
       at = refused.0;
       reads = is;
       circuit = λ some. h.netlist (omega (arith, some, at));
+      stated = h.stated;
       before = λ p before. h.accepts p (omega (arith, before, at));
       refused = read_before h.reads refused.1;
       unread = λ p after. unread_at p (omega (arith, after, at));
@@ -218,6 +225,8 @@ module _ {job : Asked} {basis : JobBasis} {place : ℕ} {a m : DeskView} (h : Ha
     has_cause WriteFault stops = absurd stops
     has_cause NoMemory stops = inl (did_nothing (call.written ∙ h.reads.written) (call.named ∙ h.reads.named)
         (call.is_created ∙ h.reads.is_created))
+    has_cause (BadTests line) stops = (refuses (BadTests line) (stops.0, stops.1), stops.2)
+    has_cause (NoSuchFault faults) stops = let none : None ≡ Some port = stops.0 in cc
     has_cause e stops = refuses e stops
 
     pub stops_there : (e : RunError) → ReadStops job basis port name m b e → EndsReading job a b e
@@ -234,17 +243,33 @@ module _ {job : Asked} {basis : JobBasis} {place : ℕ} {a m : DeskView} (h : Ha
     cause = inl (did_nothing h.reads.written h.reads.named h.reads.is_created);
   }
 
-  pub accepts_all : ((p : InPort) → place ≤ order_of p → input_name job p ≡ None) → HasNetlist basis.circuit
+  -- the fault that the job names isn't one of the circuit
+  pub lacks_there : (faults : ℕ) → order_of job Tests ≡ place → 0 < place → NamesAbove job basis.circuit faults
+      → EndsReading job a m (NoSuchFault faults)
+  lacks_there faults at some above = record {
+    reads = changes_by_reading job h.reads h.others;
+    cause = record {
+      basis = basis;
+      circuit = h.netlist some;
+      stated = h.stated;
+      before = λ p less. h.accepts p (omega (arith, less, at));
+      above = above;
+      unread = λ p after. h.unread p (omega (arith, after, at));
+    };
+  }
+
+  pub accepts_all : ((p : InPort) → place ≤ order_of job p → input_name job p ≡ None) → HasNetlist basis.circuit
       → AcceptsInputs job basis a
   accepts_all rest netlist = record {
-    each = λ p name is. elim (cases_lt (order_of p) place) [
+    each = λ p name is. elim (cases_lt (order_of job p) place) [
       | inl before ↦ h.accepts p before name is
       | inr after ↦ let none : None ≡ Some name = sym (rest p after) ∙ is in cc
     ];
+    stated = h.stated;
     circuit = λ some. netlist;
   }
 
-  pub all_read : ((p : InPort) → place ≤ order_of p → input_name job p ≡ None) → HasNetlist basis.circuit
+  pub all_read : ((p : InPort) → place ≤ order_of job p → input_name job p ≡ None) → HasNetlist basis.circuit
       → (acts : List Act) → MakesOutput job basis acts → IsPrepared job acts a m
   all_read rest netlist acts makes = record {
     reads = changes_by_reading job h.reads h.others;
@@ -258,23 +283,27 @@ module _ {job : Asked} {basis : JobBasis} {place : ℕ} {a m : DeskView} (h : Ha
 pub no_circuit : net.Netlist
 no_circuit = record { inputs = 0; dffs = []; gates = []; outputs = []; names = [] }
 
--- the basis of a job that reads vectors, and rows
-abbrev pub basis_of : net.Netlist → List (List Bool) → List (List Tern) → JobBasis
-basis_of c list rows = record {
+-- the basis of a job that reads a start, vectors, and rows
+abbrev pub basis_from : net.Netlist → List Tern → List (List Bool) → List (List Tern) → JobBasis
+basis_from c start list rows = record {
   circuit = c;
   rows = rows;
   representatives = [];
-  content = record { list = list; budget = 0; saids = []; entries = [] };
+  content = record { start = start; list = list; budget = 0; saids = []; entries = [] };
 }
+
+-- that of a job that states no start
+abbrev pub basis_of : net.Netlist → List (List Bool) → List (List Tern) → JobBasis
+basis_of c = basis_from c (unknown_state c)
 
 -- why reading tests ends a job that refuses a malformed line of them
 pub tests_stop : (job : Asked) (basis : JobBasis) (most : ℕ) (name : List ℕ) (a b : DeskView)
     → ((line : ℕ) → refused_port job (BadTests line) ≡ Some Tests)
     → ((line : ℕ) (text : List ℕ) → line ≤ most → IsMalformedTest basis.circuit text line
     → IsRefusedFor job basis (BadTests line) text)
-    → (e : RunError) → TestsStop basis.circuit most name a b e → ReadStops job basis Tests name a b e
-tests_stop job basis most name a b at refuses ReadFault s = s
-tests_stop job basis most name a b at refuses NoMemory s = tt
-tests_stop job basis most name a b at refuses (BadTests line) s =
-    (at line, read_so (IsRefusedFor job basis (BadTests line)) (λ text. refuses line text s.1) s.0)
-tests_stop job basis most name a b at refuses e s = absurd s
+    → HasFault job basis.circuit → (e : RunError) → TestsStop basis.circuit most name a b e → ReadStops job basis Tests name a b e
+tests_stop job basis most name a b at refuses fault ReadFault s = s
+tests_stop job basis most name a b at refuses fault NoMemory s = tt
+tests_stop job basis most name a b at refuses fault (BadTests line) s =
+    (at line, read_so (IsRefusedFor job basis (BadTests line)) (λ text. refuses line text s.1) s.0, fault)
+tests_stop job basis most name a b at refuses fault e s = absurd s

@@ -1,28 +1,21 @@
 -- The engine's steps, written and counted one after the other.
-use Rattle.std.proofs.Common.{◌≡◌, ◌≢◌, ℕ, ◌+◌, ◌≤◌, List, [], ◌∷◌, ◌++◌, Bool, false, length, flat_map, refl, sym, ◌∙◌, ap, subst, arith, append_assoc, append-nil}
+use Rattle.std.proofs.Common.{◌≡◌, ◌≢◌, ℕ, ◌+◌, ◌≤◌, List, [], ◌∷◌, ◌++◌, false, length, flat_map, refl, sym, ◌∙◌, ap, subst, arith, append_assoc, append-nil}
 use Rattle.std.specs.Prelude.{Result, Ok, Err, OnOk}
 use Rattle.std.proofs.lemmas.List.{length-append}
 use Rattle.std.proofs.lemmas.List.Concat.{flat_map-append}
-use Rattle.ht_ports.specs.LineRule.{max_text_bytes}
-use Rattle.ht_ports.specs.Desk.{DeskView}
+use Rattle.ht_app.proofs.Common.{Act, AreFinished, AreSteps, DeskView, EngineView, Entry, Finished, HasSameWork}
+use Rattle.ht_app.proofs.Common.{Makes, Rows, RunError, Settings, Sizes, StandsAt, Step, Tries, Vectors, WritesOn}
+use Rattle.ht_app.proofs.Common.{max_text_bytes, proofs_so_far, put, step_acts, tests_of}
 use Rattle.ht_ports.specs.declared.ports.OutPort.TheVariants.{Tests, Proofs}
 use Rattle.ht_net.specs.Netlist as net
-use Rattle.ht_net.specs.Rows.{Rows}
 use Rattle.ht_tree.specs.declared.entry.Entry as recorded
-use Rattle.ht_engine.specs.declared.step.Step.{Step}
-use Rattle.ht_engine.specs.declared.step.Step.TheVariants.{Vectors, Entry, Finished}
-use Rattle.ht_engine.specs.Steps.{AreFinished, AreSteps, Settings, first_vectors, one_more}
-use Rattle.ht_engine.specs.EngineStands.{EngineView, HasSameWork, Makes, MakesStep, first_of}
-use Rattle.ht_files.specs.StepTexts.{proofs_so_far, proofs_step, step_text, tests_of, tests_step}
+use Rattle.ht_engine.specs.Steps.{one_more}
+use Rattle.ht_engine.specs.EngineStands.{MakesStep}
+use Rattle.ht_files.specs.StepTexts.{proofs_step, step_text, tests_step}
 use Rattle.ht_files.proofs.StepTextLaws.{proofs_grow, tests_grow}
 use Rattle.ht_files.specs.declared.text_size.TextSize.{TextSize}
-use Rattle.ht_app.specs.declared.generate.sizes.Sizes.{Sizes}
-use Rattle.ht_app.specs.declared.run_error.RunError.{RunError}
 use Rattle.ht_app.specs.declared.run_error.RunError.TheVariants.{NoMemory}
-use Rattle.ht_app.specs.Acts.{Act, put}
-use Rattle.ht_app.specs.Outputs.{step_acts}
-use Rattle.ht_app.specs.Steps.{Tries}
-use Rattle.ht_app.specs.Generating.{CountsStep, StandsAt, WritesOn}
+use Rattle.ht_app.specs.Generating.{CountsStep}
 use Rattle.ht_app.proofs.WritingLaws.{runs_out_first, tries_none, tries_then}
 
 -- ---- where the text of a step goes
@@ -80,9 +73,9 @@ same_as P old new same p = subst (λ c. P c old.representatives old.settings) sa
     (subst (λ s. P new.circuit new.representatives s) same.settings p))
 
 pub finished_later : {old new : EngineView} {steps : List Step} → HasSameWork old new
-    → AreFinished old.circuit old.representatives (first_of old) steps
-    → AreFinished new.circuit new.representatives (first_of new) steps
-finished_later {old = old} {new = new} {steps = steps} same = same_as (λ c r s. AreFinished c r (first_vectors c s) steps) new old
+    → AreFinished old.circuit old.representatives old.settings steps
+    → AreFinished new.circuit new.representatives new.settings steps
+finished_later {old = old} {new = new} {steps = steps} same = same_as (λ c r s. AreFinished c r s steps) new old
     (record { circuit = sym same.circuit; representatives = sym same.representatives; settings = sym same.settings })
 
 pub makes_step : {old new : EngineView} {steps : List Step} (step : Step) → step ≢ Finished → Makes old new steps step
@@ -95,18 +88,18 @@ makes_step step other made = made
 -- the same where no step is made
 nothing_more : {A : Type 0} {steps : List Step} {AtEnd : Type 0} {e later : EngineView} {sizes : Sizes}
     {result : Result A RunError} {a : DeskView}
-    → AreSteps e.circuit e.representatives (first_of e) e.settings.budget steps → Tries [] result a a
+    → AreSteps e.circuit e.representatives e.settings steps → Tries [] result a a
     → OnOk result (StandsAt steps later sizes)
-    → (AtEnd → AreFinished e.circuit e.representatives (first_of e) steps)
+    → (AtEnd → AreFinished e.circuit e.representatives e.settings steps)
     → WritesOn steps AtEnd e later sizes result a a
 nothing_more {steps = steps} {e = e} {later = later} {sizes = sizes} {result = result} are tries stands finished =
     let same = sym (append-nil steps) in
     record {
       more = [];
-      are = subst (AreSteps e.circuit e.representatives (first_of e) e.settings.budget) same are;
+      are = subst (AreSteps e.circuit e.representatives e.settings) same are;
       tries = tries;
       stands = subst (λ (l : List Step). OnOk result (StandsAt l later sizes)) same stands;
-      finished = λ end. subst (AreFinished e.circuit e.representatives (first_of e)) same (finished end);
+      finished = λ end. subst (AreFinished e.circuit e.representatives e.settings) same (finished end);
     }
 
 pub runs_out : {A : Type 0} {steps : List Step} {AtEnd : Type 0} {e : EngineView} {before : Sizes} (later : EngineView)
@@ -166,12 +159,12 @@ writes_then {steps = steps} {e = e} {l = l} {new = new} {after = after} F s {a =
     let all = append_assoc steps first.more second.more in
     record {
       more = first.more ++ second.more;
-      are = same_as (λ c r s. AreSteps c r (first_vectors c s) s.budget (steps ++ (first.more ++ second.more))) e l same
-          (subst (AreSteps l.circuit l.representatives (first_of l) l.settings.budget) all second.are);
+      are = same_as (λ c r s. AreSteps c r s (steps ++ (first.more ++ second.more))) e l same
+          (subst (AreSteps l.circuit l.representatives l.settings) all second.are);
       tries = subst (λ (acts : List Act). Tries acts s a b) (sym (flat_map-append step_acts first.more second.more))
           (tries_then first.tries (tries (flat_map step_acts second.more) second.tries));
       stands = subst (λ (l : List Step). OnOk s (StandsAt l new after)) all (stands _ second.stands);
       finished = λ end.
-          same_as (λ c r s. AreFinished c r (first_vectors c s) (steps ++ (first.more ++ second.more))) e l same
-          (subst (AreFinished l.circuit l.representatives (first_of l)) all (second.finished (ends end)));
+          same_as (λ c r s. AreFinished c r s (steps ++ (first.more ++ second.more))) e l same
+          (subst (AreFinished l.circuit l.representatives l.settings) all (second.finished (ends end)));
     }

@@ -6,17 +6,16 @@ use Rattle.std.specs.List.{list_any}
 use Rattle.std.specs.Option.{option_map}
 use Rattle.std.specs.Io.KnownBytes.{append_known}
 use Rattle.std.proofs.lemmas.List.Folds.{list_any-append}
-use Rattle.ht_ports.specs.Desk.{AddedPart, Created, DeskView, IsOtherName, NotCreated, OutCall, Writes}
-use Rattle.ht_ports.specs.declared.ports.OutPort.{OutPort}
-use Rattle.ht_app.specs.declared.run_error.RunError.{RunError}
-use Rattle.ht_app.specs.declared.run_error.RunError.TheVariants.{WriteFault, NoMemory}
-use Rattle.ht_app.specs.Acts.{Act, make, put, is_port, makes, Did, Stops}
-use Rattle.ht_app.specs.Changed.{ChangedOnly, IsCreatedOnly, IsOtherFile, Ports}
+use Rattle.ht_app.proofs.Common.{Act, ChangedOnly, Created, DeskView, Did, Does, IsCreatedOnly, IsOtherFile}
+use Rattle.ht_app.proofs.Common.{IsOtherName, NotCreated, OutCall, OutPort, PermitsAll, Ports, RunError, Tries}
+use Rattle.ht_app.proofs.Common.{WriteFault, Writes, is_port, make, makes, put}
+use Rattle.ht_ports.specs.Desk.{AddedPart}
+use Rattle.ht_app.specs.declared.run_error.RunError.TheVariants.{NoMemory}
+use Rattle.ht_app.specs.Acts.{Stops}
 use Rattle.ht_app.specs.Run.{IsWriteFault}
-use Rattle.ht_app.specs.Steps.{Does, EndsWriting, HasWritten, Permits, PermitsAll, StopsBy, Tries}
+use Rattle.ht_app.specs.Steps.{EndsWriting, HasWritten, Permits, StopsBy}
 use Rattle.ht_app.proofs.ActLaws.{did_make, did_nothing, did_put, did_then, is_no_port, is_that_port, stops_first}
-use Rattle.ht_app.proofs.ChangedLaws.{changed_by_creating, changed_by_writing, changed_trans, not_created}
-use Rattle.ht_app.proofs.CreatedLaws.{kept, named_since}
+use Rattle.ht_app.proofs.ChangedLaws.{changed_by_creating, changed_by_writing, changed_trans, kept, named_since, not_created}
 
 -- ---- what is permitted
 

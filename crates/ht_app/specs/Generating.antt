@@ -5,7 +5,7 @@ use Rattle.ht_ports.specs.Desk.{DeskView}
 use Rattle.ht_net.specs.Netlist as net
 use Rattle.ht_engine.specs.declared.step.Step.{Step}
 use Rattle.ht_engine.specs.Steps.{AreFinished, AreSteps, Settings}
-use Rattle.ht_engine.specs.EngineStands.{EngineStandsFor, EngineView, first_of}
+use Rattle.ht_engine.specs.EngineStands.{EngineStandsFor, EngineView}
 use Rattle.ht_files.specs.StepTexts.{proofs_so_far, proofs_step, tests_of, tests_step}
 use Rattle.ht_words.specs.declared.job.RunFiles.{RunFiles}
 use Rattle.ht_app.specs.declared.generate.sizes.Sizes.{Sizes}
@@ -36,10 +36,10 @@ pub record StandsAt (steps : List Step) (e : EngineView) (sizes : Sizes) : Type 
 pub record WritesOn {A : Type 0} (steps : List Step) (AtEnd : Type 0) (e later : EngineView) (sizes : Sizes)
     (result : Result A RunError) (old new : DeskView) : Type 0 where
   pub more : List Step
-  pub are : AreSteps e.circuit e.representatives (first_of e) e.settings.budget (steps ++ more)
+  pub are : AreSteps e.circuit e.representatives e.settings (steps ++ more)
   pub tries : Tries (flat_map step_acts more) result old new
   pub stands : OnOk result (StandsAt (steps ++ more) later sizes)
-  pub finished : AtEnd → AreFinished e.circuit e.representatives (first_of e) (steps ++ more)
+  pub finished : AtEnd → AreFinished e.circuit e.representatives e.settings (steps ++ more)
 
 -- ---- the files
 

@@ -1,19 +1,24 @@
 -- What the reading of a file leaves that is judged line by line.
-use Rattle.std.specs.Prelude.{◌≡◌, ◌⊎◌, ◌<◌, ◌≤◌, ◌+◌, ◌++◌, ◌∷◌, ℕ, List, [], length, take, get_or}
+use Rattle.std.specs.Prelude.{◌≡◌, ◌⊎◌, ◌<◌, ◌≤◌, ◌+◌, ◌++◌, ◌∷◌, ℕ, List, [], Bool, Option, Vec, length, map, take, get_or, MatchOption}
 use Rattle.std.specs.List.{All}
+use Rattle.std.specs.declared.alloc.Global.{Global}
 use Rattle.ht_ports.specs.Desk.{DeskView}
 use Rattle.ht_ports.specs.LineRule.{lines_of, max_text_bytes}
 use Rattle.ht_ports.specs.declared.ports.InPort.{InPort}
 use Rattle.ht_ports.specs.declared.ports.InPort.TheVariants as in_port
 use Rattle.ht_net.specs.Netlist.{Netlist, IsCircuit}
 use Rattle.ht_faults.specs.Sites.{faults_of}
-use Rattle.ht_texts.specs.Tests.{IsTooLong}
+use Rattle.ht_tern.specs.declared.tern.Tern.{Tern}
+use Rattle.ht_net.specs.Rows.{Rows}
+use Rattle.ht_dictionary.specs.ObservationView.{ObservationView}
+use Rattle.ht_dictionary.specs.ResponseTexts.{row_text}
+use Rattle.ht_texts.specs.StartTexts.{IsStartLine}
+use Rattle.ht_texts.specs.Tests.{IsTooLong, vector_text}
 use Rattle.ht_texts.specs.Verdicts.{said_at}
 use Rattle.ht_texts.specs.SearchReports.{IsReportFront}
 use Rattle.ht_entries.specs.ProofReading.{IsMalformedAfter}
 use Rattle.ht_valid.specs.ValidFiles.{AgreesWithTests, Content, HasEntry, IsBacking, IsOwn, NeedsEntry}
 use Rattle.ht_valid.specs.FirstTrouble.{ContradictsTests, IsFaultTrouble}
-use Rattle.ht_valid.specs.declared.trouble.Trouble.{Trouble}
 use Rattle.ht_valid.specs.declared.trouble.Trouble.TheVariants.{Report, Proofs, Fault}
 use Rattle.ht_judge.specs.ReportJudging.{ReportJudgeView, JudgesReport}
 use Rattle.ht_judge.specs.ProofJudging.{ProofJudgeView, JudgesProofs}
@@ -25,10 +30,10 @@ use Rattle.ht_app.specs.Steps.{IsReadFault}
 
 -- ---- any file
 
--- no line has a trouble, after those before it
-abbrev pub AreFine : (List (List ℕ) → List ℕ → Trouble → Type 0) → List (List ℕ) → Type 0
+-- no line ends the run with an error, after those before it
+abbrev pub AreFine : (List (List ℕ) → List ℕ → RunError → Type 0) → List (List ℕ) → Type 0
 AreFine IsWrong lines =
-    (k : ℕ) (trouble : Trouble) → k < length lines → ¬ IsWrong (take k lines) (get_or lines k []) trouble
+    (k : ℕ) (error : RunError) → k < length lines → ¬ IsWrong (take k lines) (get_or lines k []) error
 
 -- The text has these lines, and is no longer than a text may be.
 pub record HasLines (lines : List (List ℕ)) (text : List ℕ) : Type 0 where
@@ -42,45 +47,49 @@ pub record HasFront (lines : List (List ℕ)) (text : List ℕ) : Type 0 where
   pub short : (n : ℕ) → n ≤ length lines → ¬ IsTooLong text n
 
 -- The line that comes next has more bytes than this, or the text gets too long in it.
-pub record HasLongLine (most : ℕ) (lines : List (List ℕ)) (text : List ℕ) : Type 0 where
+pub record HasLongLine (longest : ℕ) (lines : List (List ℕ)) (text : List ℕ) : Type 0 where
   pub front : HasFront lines text
   pub there : length lines < length (lines_of text)
-  pub long : (most < length (get_or (lines_of text) (length lines) [])) ⊎ IsTooLong text (length lines + 1)
+  pub long : (longest < length (get_or (lines_of text) (length lines) [])) ⊎ IsTooLong text (length lines + 1)
 
--- A judge stands for the lines of the file. The first line has its bytes, and each other at least one.
-pub record StandsForFile (Stands : List (List ℕ) → Type 0) (IsWrong : List (List ℕ) → List ℕ → Trouble → Type 0)
-    (port : InPort) (name : List ℕ) (old : DeskView) : Type 0 where
+-- A judge stands for the first `most` lines of the file, or for all where they are fewer. The first line has its bytes,
+-- and each other at least one.
+pub record StandsForFile (Stands : List (List ℕ) → Type 0) (IsWrong : List (List ℕ) → List ℕ → RunError → Type 0)
+    (most : ℕ) (port : InPort) (name : List ℕ) (old : DeskView) : Type 0 where
   pub lines : List (List ℕ)
   pub stands : Stands lines
   pub fine : AreFine IsWrong lines
   pub few : length (get_or lines 0 []) + length lines ≤ max_text_bytes + 1
-  pub read : WasRead port name (HasLines lines) old
+  pub fits : length lines ≤ max_text_bytes
+  pub upto : length lines ≤ most
+  pub front : WasRead port name (HasFront lines) old
+  pub whole : length lines < most → WasRead port name (HasLines lines) old
 
--- The file has a line with this trouble, and none before it.
-pub record StopsAtLine (IsWrong : List (List ℕ) → List ℕ → Trouble → Type 0) (trouble : Trouble) (port : InPort)
-    (name : List ℕ) (old : DeskView) : Type 0 where
+-- The file has a line that ends the run with this error, and none before it.
+pub record StopsAtLine (IsWrong : List (List ℕ) → List ℕ → RunError → Type 0) (most : ℕ) (error : RunError)
+    (port : InPort) (name : List ℕ) (old : DeskView) : Type 0 where
   pub before : List (List ℕ)
   pub line : List ℕ
   pub fine : AreFine IsWrong before
-  pub wrong : IsWrong before line trouble
+  pub upto : length before < most
+  pub wrong : IsWrong before line error
   pub read : WasRead port name (HasFront (before ++ line ∷ [])) old
 
--- A line of it is too long, and those before it have no trouble.
-pub record StopsAtLong (IsWrong : List (List ℕ) → List ℕ → Trouble → Type 0) (most line : ℕ) (port : InPort)
+-- A line of it is too long, and those before it are fine.
+pub record StopsAtLong (IsWrong : List (List ℕ) → List ℕ → RunError → Type 0) (longest most line : ℕ) (port : InPort)
     (name : List ℕ) (old : DeskView) : Type 0 where
   pub before : List (List ℕ)
   pub line_is : line ≡ length before + 1
   pub fine : AreFine IsWrong before
-  pub read : WasRead port name (HasLongLine most before) old
+  pub upto : length before < most
+  pub read : WasRead port name (HasLongLine longest before) old
 
--- why the file wasn't read whole: one of its lines has a trouble, the desk failed, or memory ran out
-abbrev pub LinesStop : (List (List ℕ) → List ℕ → Trouble → Type 0) → (ℕ → Trouble) → ℕ → InPort → List ℕ → DeskView
-    → DeskView → RunError → Type 0
-LinesStop IsWrong trouble_at most port name old new (Denied trouble) = StopsAtLine IsWrong trouble port name old
-    ⊎ ((line : ℕ) × (trouble ≡ trouble_at line) × StopsAtLong IsWrong most line port name old)
-LinesStop IsWrong trouble_at most port name old new ReadFault = IsReadFault name old new
-LinesStop IsWrong trouble_at most port name old new NoMemory = Unit {0}
-LinesStop IsWrong trouble_at most port name old new error = ⊥
+-- Why the file wasn't read: the desk failed, memory ran out, or a line ends the run with the error, or is too long.
+abbrev pub LinesStop : (List (List ℕ) → List ℕ → RunError → Type 0) → (ℕ → RunError) → ℕ → ℕ → InPort → List ℕ
+    → DeskView → DeskView → RunError → Type 0
+LinesStop IsWrong error_at longest most port name old new error = ((error ≡ ReadFault) × IsReadFault name old new)
+    ⊎ (error ≡ NoMemory) ⊎ StopsAtLine IsWrong most error port name old
+    ⊎ ((line : ℕ) × (error ≡ error_at line) × StopsAtLong IsWrong longest most line port name old)
 
 -- by what the files are judged: the netlist's circuit, its classes, and what the other files say
 abbrev pub check_basis : Netlist → List ℕ → Content → JobBasis
@@ -94,20 +103,21 @@ pub record StandsForReport (v : ReportJudgeView) (basis : JobBasis) (lines : Lis
   pub well_formed : IsCircuit basis.circuit
   pub circuit : v.circuit ≡ basis.circuit
   pub representatives : v.representatives ≡ basis.representatives
-  pub judges : JudgesReport v basis.content.list lines
+  pub judges : JudgesReport v basis.content.start basis.content.list lines
 
 -- the line isn't one of a report after these, or contradicts the tests
-abbrev pub IsWrongInReport : JobBasis → List (List ℕ) → List ℕ → Trouble → Type 0
-IsWrongInReport basis before line (Report number) = (number ≡ length before + 1)
+abbrev pub IsWrongInReport : JobBasis → List (List ℕ) → List ℕ → RunError → Type 0
+IsWrongInReport basis before line (Denied (Report number)) = (number ≡ length before + 1)
     × ((¬ IsReportFront basis.circuit basis.representatives (before ++ line ∷ []))
-    ⊎ ContradictsTests basis.circuit basis.representatives basis.content.list (before ++ line ∷ []))
+    ⊎ ContradictsTests basis.circuit basis.representatives basis.content.start basis.content.list
+    (before ++ line ∷ []))
 IsWrongInReport basis before line other = ⊥
 
 -- The report of this name says its part of the basis, and one verdict for each fault, which agrees with the tests.
 pub record ReportIsRead (basis : JobBasis) (name : List ℕ) (old : DeskView) : Type 0 where
   pub each : length basis.content.saids ≡ length (faults_of basis.circuit)
   pub agrees : (i : ℕ) → IsOwn basis.circuit basis.representatives i
-      → AgreesWithTests basis.circuit basis.content.list i (said_at basis.content.saids i)
+      → AgreesWithTests basis.circuit basis.content.start basis.content.list i (said_at basis.content.saids i)
   pub read : WasRead in_port.Report name (IsGoodReport basis.circuit basis.representatives basis.content) old
 
 -- ---- the proofs
@@ -119,9 +129,9 @@ pub record StandsForProofs (v : ProofJudgeView) (basis : JobBasis) (lines : List
   pub judges : JudgesProofs v (before_proofs basis.content) lines
 
 -- the line isn't one of proofs after these, or an entry is wrong or missing with it
-abbrev pub IsWrongInProofs : JobBasis → List (List ℕ) → List ℕ → Trouble → Type 0
-IsWrongInProofs basis before line (Proofs number) = (number ≡ length before + 1) × IsMalformedAfter before line
-IsWrongInProofs basis before line (Fault number) =
+abbrev pub IsWrongInProofs : JobBasis → List (List ℕ) → List ℕ → RunError → Type 0
+IsWrongInProofs basis before line (Denied (Proofs number)) = (number ≡ length before + 1) × IsMalformedAfter before line
+IsWrongInProofs basis before line (Denied (Fault number)) =
     IsFaultTrouble basis.circuit basis.representatives (before_proofs basis.content) before line number
 IsWrongInProofs basis before line other = ⊥
 
@@ -133,3 +143,26 @@ pub record ProofsAreRead (c : Netlist) (representatives : List ℕ) (content : C
   pub complete : (i : ℕ) → IsOwn c representatives i → NeedsEntry (said_at content.saids i)
       → HasEntry content.entries i
   pub read : WasRead in_port.Proofs name (AreGoodProofs c representatives content) old
+
+-- ---- the start, the tests, and the responses
+
+-- The start is that of the first of these lines, or there is none that has it; and there is no second line. A line that
+-- is missing is read as an empty one.
+pub record StandsForStart (start : Option (Vec Tern Global)) (basis : JobBasis) (lines : List (List ℕ)) : Type 0 where
+  pub line : MatchOption start
+      ((values : List Tern) → ¬ IsStartLine (length basis.circuit.dffs) (get_or lines 0 []) values)
+      (λ values. IsStartLine (length basis.circuit.dffs) (get_or lines 0 []) values.items)
+  pub only : length lines ≤ 1
+
+-- The vectors are those of these lines of tests.
+pub record StandsForTests (v : Rows) (basis : JobBasis) (lines : List (List ℕ)) : Type 0 where
+  pub width : v.width ≡ basis.circuit.inputs
+  pub lines_are : lines ≡ map vector_text v.list
+  pub widths : All (λ (vector : List Bool). length vector ≡ basis.circuit.inputs) v.list
+
+-- The rows are those of these lines of responses, and there are no more than vectors.
+pub record StandsForResponses (v : ObservationView) (basis : JobBasis) (lines : List (List ℕ)) : Type 0 where
+  pub width : v.width ≡ length basis.circuit.outputs
+  pub few : length v.rows ≤ length basis.content.list
+  pub lines_are : lines ≡ map row_text v.rows
+  pub widths : All (λ (row : List Tern). length row ≡ length basis.circuit.outputs) v.rows

@@ -1,30 +1,47 @@
 -- What each command does to its outputs.
-use Rattle.std.specs.Prelude.{◌≡◌, ◌++◌, ◌∷◌, ℕ, List, [], flat_map, codes, Some}
+use Rattle.std.specs.Prelude.{◌≡◌, ◌-◌, ◌++◌, ◌∷◌, ℕ, List, [], flat_map, codes, Some, Option, None, Bool, length}
 use Rattle.ht_ports.specs.declared.ports.OutPort.{OutPort}
 use Rattle.ht_ports.specs.declared.ports.OutPort.TheVariants.{Tests, Report, Proofs, Out}
 use Rattle.ht_net.specs.Netlist as net
+use Rattle.ht_net.specs.Detection.{unknown_state}
 use Rattle.ht_bench.specs.Normal.{normal_text}
 use Rattle.ht_texts.specs.Lines.{with_lf}
-use Rattle.ht_texts.specs.Reports.{head_line}
+use Rattle.ht_texts.specs.Reports.{head_line, report_text, report_sums, total_line}
 use Rattle.ht_entries.specs.ProofLines.{line_text}
 use Rattle.ht_entries.specs.declared.proof_line.ProofLine.TheVariants.{End}
-use Rattle.ht_collapse.specs.Classes.{AreClasses}
+use Rattle.ht_collapse.specs.Classes.{AreClasses, fault_at}
 use Rattle.ht_valid.specs.TrueVerdicts.{AreDecided, HaveTrueVerdicts}
 use Rattle.ht_demo.specs.Demo.{demo_netlist}
 use Rattle.ht_engine.specs.declared.step.Step.{Step}
 use Rattle.ht_engine.specs.declared.step.Step.TheVariants.{Vectors, Entry, Finished}
-use Rattle.ht_engine.specs.Steps.{AreSteps, Settings, first_vectors}
+use Rattle.ht_engine.specs.Steps.{AreSteps, Settings}
 use Rattle.ht_files.specs.Generated.{IsGenerated, IsTotalOf}
 use Rattle.ht_files.specs.StepTexts.{proofs_of, proofs_so_far, step_text, tests_of}
-use Rattle.ht_asked.specs.Asked.{Asked, sim, gen, check, norm, demo, compact, diagnose}
+use Rattle.ht_faults.specs.Sites.{faults_of}
+use Rattle.ht_uninit.specs.Records.{IsUninit, UninitHolds, UninitState}
+use Rattle.ht_uninit.specs.UninitTexts.{uninit_text, uninit_total}
+use Rattle.ht_asked.specs.Asked.{Asked, sim, gen, check, norm, demo, compact, diagnose, uninit, sync, respond}
+use Rattle.ht_sync.specs.SyncSearches.{FindsWithin, IsSynchronized, SynchronizedHolds}
+use Rattle.ht_sync.specs.SyncTexts.{last_sync_line, sync_list, sync_said, sync_text}
+use Rattle.ht_sync.specs.declared.synchronizing.Synchronized.{Synchronized}
 use Rattle.ht_words.specs.declared.job.RunFiles.{RunFiles}
 use Rattle.ht_app.specs.declared.demo.TheConstants.{DEMO_BUDGET, DEMO_RANDOM}
 use Rattle.ht_app.specs.Acts.{Act, make, put}
-use Rattle.ht_app.specs.CompactedTests.{IsCompactionOf}
-use Rattle.ht_app.specs.DiagnosisReports.{IsDiagnosisReport}
-use Rattle.ht_app.specs.Inputs.{JobBasis}
+use Rattle.ht_app.specs.Inputs.{IsListed, JobBasis}
 use Rattle.ht_app.specs.Jobs.{settings_of}
-use Rattle.ht_app.specs.Simulation.{IsReportOf}
+use Rattle.ht_net.specs.declared.fault.Fault.{Fault}
+use Rattle.ht_net.specs.declared.place.Place.{Place}
+use Rattle.ht_net.specs.Netlist.{Netlist}
+use Rattle.ht_grade.specs.Detections.{AreFirstDetections}
+use Rattle.ht_texts.specs.Verdicts.{saids_of}
+use Rattle.ht_texts.specs.Tests.{test_text}
+use Rattle.ht_compact.specs.Compacts.{Compacts}
+use Rattle.ht_compact.specs.CompactionText.{compaction_line}
+use Rattle.ht_tern.specs.declared.tern.Tern.{Tern}
+use Rattle.ht_dictionary.specs.Diagnoses.{Diagnoses}
+use Rattle.ht_dictionary.specs.DiagnosisTexts.{diagnosis_text, diagnosis_total}
+use Rattle.ht_dictionary.specs.DiagnosisView.{DiagnosisView}
+use Rattle.ht_responses.specs.Responses.{IsResponses}
 
 -- ---- one file, and its total line on Out
 
@@ -70,7 +87,7 @@ pub record WritesSteps (files : RunFiles) (c : net.Netlist) (settings : Settings
   pub representatives : List ℕ
   pub steps : List Step
   pub classes : AreClasses c representatives
-  pub steps_are : AreSteps c representatives (first_vectors c settings) settings.budget steps
+  pub steps_are : AreSteps c representatives settings steps
   pub acts_are : acts ≡ creation files ++ put Proofs (proofs_so_far []) ∷ flat_map step_acts steps
 
 -- All steps, and then the end of the proofs and the report. The three files and the total line are those of a finished
@@ -86,9 +103,10 @@ pub record WritesFiles (files : RunFiles) (c : net.Netlist) (settings : Settings
 
 -- ---- `demo`
 
--- the budget of each search, how many random vectors come first, and their seed
-abbrev pub demo_settings : ℕ → Settings
-demo_settings seed = record { budget = DEMO_BUDGET; random = DEMO_RANDOM; seed = seed }
+-- the budget of each search, how many random vectors come first, and their seed, from all-unknown
+abbrev pub demo_settings : net.Netlist → ℕ → Settings
+demo_settings c seed =
+    record { budget = DEMO_BUDGET; random = DEMO_RANDOM; seed = seed; start = unknown_state c }
 
 -- The head line of a report on the netlist is said.
 pub record SaysHead (size seed : ℕ) (acts : List Act) : Type 0 where
@@ -102,19 +120,121 @@ pub record SaysTotals (size seed : ℕ) (acts : List Act) : Type 0 where
   pub first : List Act
   pub total : List ℕ
   pub head : SaysHead size seed first
-  pub total_is : IsTotalOf (demo_netlist size seed) (demo_settings seed) total
+  pub total_is : IsTotalOf (demo_netlist size seed) (demo_settings (demo_netlist size seed) seed) total
   pub acts_are : acts ≡ first ++ put Out total ∷ []
+
+-- ---- `sim`
+
+-- The report of a circuit over these vectors from a start, and its total line. A fault that represents its class has
+-- its own verdict, and every other names its representative.
+pub record IsReportOf (c : Netlist) (start : List Tern) (list : List (List Bool)) (report total : List ℕ)
+    : Type 0 where
+  pub representatives : List ℕ
+  pub places : List (Option Place)
+  pub classes : AreClasses c representatives
+  pub detections : AreFirstDetections c representatives start list places
+  pub report_is : report ≡ report_text c representatives None (saids_of places)
+  pub total_is : total ≡ with_lf (total_line (report_sums representatives None (saids_of places)))
+
+-- ---- `compact`
+
+-- The text is that of the vectors to which this list is compacted, and the total line says how many vectors there were
+-- and how many are kept.
+pub record IsCompactionOf (c : net.Netlist) (list : List (List Bool)) (text total : List ℕ) : Type 0 where
+  pub representatives : List ℕ
+  pub kept : List (List Bool)
+  pub classes : AreClasses c representatives
+  pub compacted : Compacts c representatives list kept
+  pub text_is : text ≡ test_text kept
+  pub total_is : total ≡ with_lf (compaction_line (length list) (length kept))
+
+-- ---- `diagnose`
+
+-- The report says where the good machine and the representative of each class first contradict what was observed over
+-- these vectors, or that they are consistent. The total line is its last.
+pub record IsDiagnosisReport (c : net.Netlist) (list : List (List Bool)) (rows : List (List Tern))
+    (report total : List ℕ) : Type 0 where
+  pub representatives : List ℕ
+  pub diagnosis : DiagnosisView
+  pub classes : AreClasses c representatives
+  pub first : Diagnoses c representatives list rows diagnosis
+  pub report_is : report ≡ diagnosis_text c representatives (length list) diagnosis
+  pub total_is : total ≡ with_lf (diagnosis_total representatives diagnosis.places)
+
+-- ---- `uninit`
+
+-- The report is the text of the record that the work gives for all faults, and what such a record means holds: its set
+-- is closed and stays unknown, and no list detects a hidden fault. The total line is its last.
+pub record IsUninitReport (c : net.Netlist) (budget : ℕ) (report total : List ℕ) : Type 0 where
+  pub representatives : List ℕ
+  pub answer : UninitState
+  pub classes : AreClasses c representatives
+  pub is_answer : IsUninit c budget (faults_of c) answer
+  pub holds : UninitHolds c budget answer
+  pub report_is : report ≡ uninit_text c representatives budget answer
+  pub total_is : total ≡ with_lf (uninit_total c representatives answer)
+
+-- ---- `sync`
+
+-- The tests are the list that the search within the budget finds, or none, and the record says what it found. What such
+-- an answer means holds: the list synchronizes, and no shorter one does. A budget that is enough finds one.
+pub record IsSyncRecord (c : net.Netlist) (budget : ℕ) (tests record_text said last : List ℕ) : Type 0 where
+  pub answer : Synchronized
+  pub is_answer : IsSynchronized c budget answer
+  pub holds : SynchronizedHolds c budget answer
+  pub enough : FindsWithin c budget answer
+  pub tests_are : tests ≡ test_text (sync_list answer)
+  pub record_is : record_text ≡ sync_text (length c.dffs) budget answer
+  pub said_is : said ≡ with_lf (sync_said answer)
+  pub last_is : last ≡ with_lf (last_sync_line answer)
+
+-- The tests are made before the record. What is said stands on Out before the record's last line.
+abbrev pub sync_acts : List ℕ → List ℕ → List ℕ → List ℕ → List ℕ → List ℕ → List Act
+sync_acts tests out list body said last = make Tests tests ∷ make Report out
+    ∷ put Tests list ∷ put Report body ∷ put Out said ∷ put Report last ∷ []
+
+-- Both files are written, as such a search leaves them.
+pub record WritesSync (tests out : List ℕ) (c : net.Netlist) (budget : ℕ) (acts : List Act) : Type 0 where
+  pub list : List ℕ
+  pub body : List ℕ
+  pub said : List ℕ
+  pub last : List ℕ
+  pub so : IsSyncRecord c budget list (body ++ last) said last
+  pub acts_are : acts ≡ sync_acts tests out list body said last
+
+-- ---- `respond`
+
+-- the machine that the number of a fault names: the one with that fault, or without a number the good one
+abbrev pub IsMachineOf : net.Netlist → Option ℕ → Option Fault → Type 0
+IsMachineOf c None fault = fault ≡ None
+IsMachineOf c (Some number) fault = IsListed c (Some number) × (fault ≡ Some (fault_at c (number - 1)))
+
+-- What is said stands on Out before the last line of the responses.
+abbrev pub response_acts : List ℕ → List ℕ → List ℕ → List ℕ → List Act
+response_acts out body said last = make Report out ∷ put Report body ∷ put Out said ∷ put Report last ∷ []
+
+-- The file has exactly what that machine shows over the vectors, from the start.
+pub record WritesResponses (out : List ℕ) (c : net.Netlist) (number : Option ℕ) (start : List Tern)
+    (list : List (List Bool)) (acts : List Act) : Type 0 where
+  pub fault : Option Fault
+  pub body : List ℕ
+  pub said : List ℕ
+  pub last : List ℕ
+  pub machine : IsMachineOf c number fault
+  pub so : IsResponses c fault start list body last said
+  pub acts_are : acts ≡ response_acts out body said last
 
 -- ---- all commands
 
 -- What a command does to its outputs, once its inputs say the basis.
 abbrev pub MakesOutput : Asked → JobBasis → List Act → Type 0
-MakesOutput (sim netlist tests report) basis acts =
-    WritesFile Report report (λ body total. IsReportOf basis.circuit basis.content.list (body ++ total) total) acts
+MakesOutput (sim netlist tests report start) basis acts =
+    WritesFile Report report
+    (λ body total. IsReportOf basis.circuit basis.content.start basis.content.list (body ++ total) total) acts
 MakesOutput (gen netlist tests report proofs options) basis acts =
     WritesFiles (record { netlist = netlist; tests = tests; report = report; proofs = proofs }) basis.circuit
-    (settings_of options) acts
-MakesOutput (check netlist tests report proofs) basis acts = AreTrue basis × (acts ≡ put Out (codes "valid\n") ∷ [])
+    (settings_of basis.content.start options) acts
+MakesOutput (check netlist tests report proofs start) basis acts = AreTrue basis × (acts ≡ put Out (codes "valid\n") ∷ [])
 MakesOutput (norm netlist out) basis acts = acts ≡ make Report out ∷ put Report (normal_text basis.circuit) ∷ []
 MakesOutput (demo size seed) basis acts = SaysTotals size seed acts
 MakesOutput (compact netlist tests out) basis acts =
@@ -122,11 +242,16 @@ MakesOutput (compact netlist tests out) basis acts =
 MakesOutput (diagnose netlist tests responses out) basis acts =
     WritesFile Report out
     (λ body total. IsDiagnosisReport basis.circuit basis.content.list basis.rows (body ++ total) total) acts
+MakesOutput (uninit netlist out budget) basis acts =
+    WritesFile Report out (λ body total. IsUninitReport basis.circuit budget (body ++ total) total) acts
+MakesOutput (sync netlist tests out budget) basis acts = WritesSync tests out basis.circuit budget acts
+MakesOutput (respond netlist tests out number start) basis acts =
+    WritesResponses out basis.circuit number basis.content.start basis.content.list acts
 
 -- What it does while it may still ask for memory.
 abbrev pub BeginsOutput : Asked → JobBasis → List Act → Type 0
 BeginsOutput (gen netlist tests report proofs options) basis acts =
     WritesSteps (record { netlist = netlist; tests = tests; report = report; proofs = proofs }) basis.circuit
-    (settings_of options) acts
+    (settings_of basis.content.start options) acts
 BeginsOutput (demo size seed) basis acts = SaysHead size seed acts
 BeginsOutput job basis acts = ⊥

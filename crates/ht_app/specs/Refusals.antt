@@ -1,24 +1,28 @@
 -- Which texts a job refuses, and for which error.
-use Rattle.std.specs.Prelude.{◌≡◌, ◌≢◌, ◌⊎◌, ◌<◌, ◌≤◌, ℕ, List, [], Bool, length, Option, Some, None}
+use Rattle.std.specs.Prelude.{◌≡◌, ◌≢◌, ◌⊎◌, ◌<◌, ◌≤◌, ℕ, List, [], Bool, length, Option, Some, None, if◌then◌else◌}
 use Rattle.ht_ports.specs.Desk.{DeskView}
 use Rattle.ht_ports.specs.declared.ports.InPort.{InPort}
 use Rattle.ht_ports.specs.declared.ports.InPort.TheVariants.{Netlist, Tests, Report, Proofs, Extra}
+use Rattle.ht_tern.specs.declared.tern.Tern.{Tern}
 use Rattle.ht_net.specs.Netlist as net
+use Rattle.ht_net.specs.Detection.{unknown_state}
 use Rattle.ht_bench.specs.Text.{max_netlist_bytes, IsNetlistOf, Refuses}
 use Rattle.ht_bench.specs.declared.error.BenchError.{BenchError}
 use Rattle.ht_bench.specs.declared.error.BenchError.TheVariants as bench
+use Rattle.ht_texts.specs.StartTexts.{IsMalformedStart, IsStartText}
 use Rattle.ht_texts.specs.Tests.{IsTestText, IsMalformedTest}
 use Rattle.ht_compact.specs.TestsToCompact.{HasTooManyVectors, IsMalformedEarly}
 use Rattle.ht_dictionary.specs.ResponseTexts.{IsMalformedResponse}
+use Rattle.ht_faults.specs.Sites.{faults_of}
 use Rattle.ht_collapse.specs.Classes.{AreClasses}
 use Rattle.ht_valid.specs.ValidFiles.{AreValidFiles, Content}
 use Rattle.ht_valid.specs.FirstTrouble.{IsFirst, IsFirstFault, IsFirstProofLine, IsReportTrouble}
 use Rattle.ht_valid.specs.declared.trouble.Trouble.TheVariants as trouble
-use Rattle.ht_asked.specs.Asked.{Asked, sim, check, compact, diagnose}
+use Rattle.ht_asked.specs.Asked.{Asked, sim, check, compact, diagnose, respond}
 use Rattle.ht_app.specs.declared.run_error.RunError.{RunError}
-use Rattle.ht_app.specs.declared.run_error.RunError.TheVariants.{Denied, TooLong, Refused, BadTests, TooManyVectors, BadResponses}
-use Rattle.ht_app.specs.Inputs.{AcceptsBefore, HasNetlist, IsInput, JobBasis, IsGoodNetlist, WasRead}
-use Rattle.ht_app.specs.Jobs.{input_name, order_of}
+use Rattle.ht_app.specs.declared.run_error.RunError.TheVariants.{Denied, TooLong, Refused, BadStart, BadTests, TooManyVectors, BadResponses, NoMemory, NoSuchFault}
+use Rattle.ht_app.specs.Inputs.{AcceptsBefore, HasFault, HasNetlist, IsInput, IsListed, IsStated, JobBasis, IsGoodNetlist, WasRead}
+use Rattle.ht_app.specs.Jobs.{input_name, may_state_start, order_of, start_name}
 use Rattle.ht_app.specs.Changed.{IsUnread}
 
 -- ---- why a text is refused
@@ -34,15 +38,17 @@ pub record IsRefused (error : BenchError) (text : List ℕ) : Type 0 where
 abbrev pub refused_port : Asked → RunError → Option InPort
 refused_port job TooLong = Some Netlist
 refused_port job (Refused error) = Some Netlist
-refused_port (sim netlist tests report) (BadTests line) = Some Tests
+refused_port job (BadStart line) = if may_state_start job then Some Extra else None
+refused_port (sim netlist tests report start) (BadTests line) = Some Tests
 refused_port (compact netlist tests out) (BadTests line) = Some Tests
 refused_port (compact netlist tests out) TooManyVectors = Some Tests
+refused_port (respond netlist tests out fault start) (BadTests line) = Some Tests
 refused_port (diagnose netlist tests responses out) (BadTests line) = Some Tests
 refused_port (diagnose netlist tests responses out) (BadResponses line) = Some Extra
-refused_port (check netlist tests report proofs) (Denied (trouble.Tests line)) = Some Tests
-refused_port (check netlist tests report proofs) (Denied (trouble.Report line)) = Some Report
-refused_port (check netlist tests report proofs) (Denied (trouble.Proofs line)) = Some Proofs
-refused_port (check netlist tests report proofs) (Denied (trouble.Fault number)) = Some Proofs
+refused_port (check netlist tests report proofs start) (Denied (trouble.Tests line)) = Some Tests
+refused_port (check netlist tests report proofs start) (Denied (trouble.Report line)) = Some Report
+refused_port (check netlist tests report proofs start) (Denied (trouble.Proofs line)) = Some Proofs
+refused_port (check netlist tests report proofs start) (Denied (trouble.Fault number)) = Some Proofs
 refused_port job error = None
 
 -- what the files say before the proofs are read
@@ -54,6 +60,7 @@ before_proofs content = record content { entries = [] }
 abbrev pub IsRefusedFor : Asked → JobBasis → RunError → List ℕ → Type 0
 IsRefusedFor job basis TooLong text = max_netlist_bytes < length text
 IsRefusedFor job basis (Refused error) text = IsRefused error text
+IsRefusedFor job basis (BadStart line) text = IsMalformedStart (length basis.circuit.dffs) text line
 IsRefusedFor (compact netlist tests out) basis (BadTests line) text = IsMalformedEarly basis.circuit text line
 IsRefusedFor job basis (BadTests line) text = IsMalformedTest basis.circuit text line
 IsRefusedFor job basis TooManyVectors text = HasTooManyVectors basis.circuit text
@@ -61,7 +68,7 @@ IsRefusedFor job basis (BadResponses line) text =
     IsMalformedResponse (length basis.circuit.outputs) (length basis.content.list) text line
 IsRefusedFor job basis (Denied (trouble.Tests line)) text = IsMalformedTest basis.circuit text line
 IsRefusedFor job basis (Denied (trouble.Report line)) text =
-    IsFirst (IsReportTrouble basis.circuit basis.representatives basis.content.list text) line
+    IsFirst (IsReportTrouble basis.circuit basis.representatives basis.content.start basis.content.list text) line
 IsRefusedFor job basis (Denied (trouble.Proofs line)) text =
     IsFirstProofLine basis.circuit basis.representatives (before_proofs basis.content) text line
 IsRefusedFor job basis (Denied (trouble.Fault number)) text =
@@ -76,10 +83,38 @@ pub record RefusesInput (job : Asked) (error : RunError) (old new : DeskView) : 
   pub name : List ℕ
   pub at : refused_port job error ≡ Some port
   pub reads : input_name job port ≡ Some name
-  pub circuit : 0 < order_of port → HasNetlist basis.circuit
+  pub circuit : 0 < order_of job port → HasNetlist basis.circuit
+  pub stated : IsStated job basis
   pub before : AcceptsBefore job basis port old
   pub refused : WasRead port name (IsRefusedFor job basis error) old
-  pub unread : (p : InPort) → order_of port < order_of p → IsUnread p old new
+  pub unread : (p : InPort) → order_of job port < order_of job p → IsUnread p old new
+
+-- ---- why a fault is refused
+
+-- the number is above that of the last fault, which is how many there are
+abbrev pub IsAbove : net.Netlist → Option ℕ → ℕ → Type 0
+IsAbove c None faults = ⊥
+IsAbove c (Some number) faults = (faults ≡ length (faults_of c)) × (faults < number)
+
+-- so is the number of the fault that the job names
+abbrev pub NamesAbove : Asked → net.Netlist → ℕ → Type 0
+NamesAbove (respond netlist tests out number start) c faults = IsAbove c number faults
+NamesAbove job c faults = ⊥
+
+-- why a number is no fault's
+abbrev pub FaultStops : net.Netlist → Option ℕ → RunError → Type 0
+FaultStops c number NoMemory = Unit {0}
+FaultStops c number (NoSuchFault faults) = IsAbove c number faults
+FaultStops c number error = ⊥
+
+-- The files before the tests say the basis, and the fault isn't one of the circuit: no further file was opened.
+pub record LacksFault (job : Asked) (faults : ℕ) (old new : DeskView) : Type 0 where
+  pub basis : JobBasis
+  pub circuit : HasNetlist basis.circuit
+  pub stated : IsStated job basis
+  pub before : AcceptsBefore job basis Tests old
+  pub above : NamesAbove job basis.circuit faults
+  pub unread : (p : InPort) → order_of job Tests ≤ order_of job p → IsUnread p old new
 
 -- ---- texts that a desk tells, and a job refuses
 
@@ -87,24 +122,35 @@ pub record RefusesInput (job : Asked) (error : RunError) (old new : DeskView) : 
 abbrev pub HasCircuit : (InPort → List ℕ) → (net.Netlist → Type 0) → Type 0
 HasCircuit texts IsSo = (c : net.Netlist) × IsGoodNetlist (texts Netlist) c × IsSo c
 
--- Of the texts up to this port a job refuses one, and then ends with this status: the netlist is that of no circuit; a
--- line of the tests is no vector; the responses aren't a row for each vector; the tests of `compact` are malformed
--- early or too many; the files of `check` aren't valid.
+-- the start that the texts state, or all-unknown where the job states none
+abbrev pub IsStartOf : Option (List ℕ) → net.Netlist → (InPort → List ℕ) → List Tern → Type 0
+IsStartOf (Some name) c texts start = IsStartText (length c.dffs) (texts Extra) start
+IsStartOf None c texts start = start ≡ unknown_state c
+
+-- Of the texts up to this port a job refuses one, and then ends with this status: the netlist is that of no circuit; the
+-- start is none; a line of the tests is no vector; the responses aren't a row for each vector; the tests of `compact` are
+-- malformed early or too many; the files of `check` aren't valid for the start.
 abbrev pub AreRefusedWith : Asked → (InPort → List ℕ) → InPort → ℕ → Type 0
 AreRefusedWith job texts Netlist status = (status ≡ 3) × ((c : net.Netlist) → ¬ IsGoodNetlist (texts Netlist) c)
-AreRefusedWith (sim netlist tests report) texts Tests status =
-    (status ≡ 7) × HasCircuit texts (λ c. (line : ℕ) × IsMalformedTest c (texts Tests) line)
+AreRefusedWith (sim netlist tests report start) texts Tests status = (status ≡ 7) × HasCircuit texts
+    (λ c. (values : List Tern) × (line : ℕ) × IsStartOf start c texts values × IsMalformedTest c (texts Tests) line)
+AreRefusedWith (respond netlist tests out fault start) texts Tests status = (status ≡ 7) × HasCircuit texts
+    (λ c. (values : List Tern) × (line : ℕ) × IsStartOf start c texts values × IsListed c fault
+    × IsMalformedTest c (texts Tests) line)
 AreRefusedWith (diagnose netlist tests responses out) texts Tests status =
     (status ≡ 7) × HasCircuit texts (λ c. (line : ℕ) × IsMalformedTest c (texts Tests) line)
 AreRefusedWith (diagnose netlist tests responses out) texts Extra status =
     (status ≡ 10) × HasCircuit texts (λ c. (list : List (List Bool)) × IsTestText c (texts Tests) list
     × ((line : ℕ) × IsMalformedResponse (length c.outputs) (length list) (texts Extra) line))
+AreRefusedWith job texts Extra status =
+    (status ≡ 8) × HasCircuit texts (λ c. (line : ℕ) × IsMalformedStart (length c.dffs) (texts Extra) line)
 AreRefusedWith (compact netlist tests out) texts Tests status =
     ((status ≡ 7) × HasCircuit texts (λ c. (line : ℕ) × IsMalformedEarly c (texts Tests) line))
     ⊎ ((status ≡ 9) × HasCircuit texts (λ c. HasTooManyVectors c (texts Tests)))
-AreRefusedWith (check netlist tests report proofs) texts Proofs status =
-    (status ≡ 1) × HasCircuit texts (λ c. (representatives : List ℕ) × AreClasses c representatives
-    × (¬ AreValidFiles c representatives (texts Tests) (texts Report) (texts Proofs)))
+AreRefusedWith (check netlist tests report proofs start) texts Proofs status =
+    (status ≡ 1) × HasCircuit texts (λ c. (representatives : List ℕ) × (values : List Tern) × AreClasses c representatives
+    × IsStartOf start c texts values
+    × (¬ AreValidFiles c representatives values (texts Tests) (texts Report) (texts Proofs)))
 AreRefusedWith job texts port status = ⊥
 
 -- The desk tells texts of the job's files up to a port, of which one is refused with this status.
@@ -113,6 +159,18 @@ pub record HasRefusedInputs (job : Asked) (status : ℕ) (desk : DeskView) : Typ
   pub port : InPort
   pub name : List ℕ
   pub reads : input_name job port ≡ Some name
-  pub told : (p : InPort) (name : List ℕ) → order_of p ≤ order_of port → input_name job p ≡ Some name
+  pub told : (p : InPort) (name : List ℕ) → order_of job p ≤ order_of job port → input_name job p ≡ Some name
       → IsInput p name (texts p) desk
   pub refused : AreRefusedWith job texts port status
+
+-- The desk tells the texts of the job's files before the tests, which are good, and the fault that the job names isn't
+-- one of the circuit.
+pub record HasNoSuchFault (job : Asked) (desk : DeskView) : Type 0 where
+  pub texts : InPort → List ℕ
+  pub circuit : net.Netlist
+  pub start : List Tern
+  pub netlist : IsGoodNetlist (texts Netlist) circuit
+  pub started : IsStartOf (start_name job) circuit texts start
+  pub told : (p : InPort) (name : List ℕ) → order_of job p < order_of job Tests → input_name job p ≡ Some name
+      → IsInput p name (texts p) desk
+  pub unlisted : ¬ HasFault job circuit

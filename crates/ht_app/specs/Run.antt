@@ -7,13 +7,13 @@ use Rattle.ht_ports.specs.declared.ports.InPort.{InPort}
 use Rattle.ht_ports.specs.declared.ports.OutPort.TheVariants.{Err}
 use Rattle.ht_asked.specs.Asked.{Asked}
 use Rattle.ht_app.specs.declared.run_error.RunError.{RunError}
-use Rattle.ht_app.specs.declared.run_error.RunError.TheVariants.{Usage, ReadFault, WriteFault, NoMemory}
+use Rattle.ht_app.specs.declared.run_error.RunError.TheVariants.{Usage, ReadFault, WriteFault, NoMemory, BadTests, NoSuchFault}
 use Rattle.ht_app.specs.Acts.{Act, Did, Stops}
 use Rattle.ht_app.specs.Errors.{exit_status, err_line}
-use Rattle.ht_app.specs.Inputs.{AcceptsBefore, AcceptsInputs, JobBasis}
+use Rattle.ht_app.specs.Inputs.{AcceptsBefore, AcceptsInputs, HasFault, JobBasis}
 use Rattle.ht_app.specs.Jobs.{input_name, order_of}
 use Rattle.ht_app.specs.Outputs.{BeginsOutput, MakesOutput}
-use Rattle.ht_app.specs.Refusals.{RefusesInput}
+use Rattle.ht_app.specs.Refusals.{LacksFault, RefusesInput}
 
 -- ---- done
 
@@ -41,7 +41,7 @@ pub record FailsToRead (job : Asked) (old new : DeskView) : Type 0 where
   pub reads : input_name job port ≡ Some name
   pub before : AcceptsBefore job basis port old
   pub lacks : IsTrue old.steady → ¬ Holds old name
-  pub held : IsTrue old.steady → (p : InPort) (n : List ℕ) → order_of p < order_of port → input_name job p ≡ Some n
+  pub held : IsTrue old.steady → (p : InPort) (n : List ℕ) → order_of job p < order_of job port → input_name job p ≡ Some n
       → Holds old n
 
 -- a fault of writing was counted, and the desk isn't steady
@@ -70,12 +70,15 @@ pub record StopsForMemory (job : Asked) (old new : DeskView) : Type 0 where
 -- ---- the causes
 
 -- Why the work of a job ends by an error. Memory may run out at any time: before anything is written, or while the
--- output is begun.
+-- output is begun. Tests are refused only where the fault that the job names is one of the circuit.
 abbrev pub HasCause : Asked → DeskView → DeskView → RunError → Type 0
 HasCause job old new Usage = ⊥
 HasCause job old new ReadFault = FailsToRead job old new
 HasCause job old new WriteFault = FailsToWrite job old new
 HasCause job old new NoMemory = Did [] old new ⊎ StopsForMemory job old new
+HasCause job old new (BadTests line) = (refuses : RefusesInput job (BadTests line) old new)
+    × HasFault job refuses.basis.circuit
+HasCause job old new (NoSuchFault faults) = LacksFault job faults old new
 HasCause job old new error = RefusesInput job error old new
 
 -- The same where words ask for a job or for none. Where they have no form, the desk isn't touched; memory may run out

@@ -5,7 +5,7 @@ ghost use Rattle.ht_faults.specs.Sites.{faults_of};
 ghost use Rattle.ht_collapse.specs.Classes.{AreClasses};
 ghost use Rattle.ht_demo.specs.Demo.{demo_netlist};
 ghost use Rattle.ht_engine.specs.declared.step.Step as made;
-ghost use Rattle.ht_engine.specs.EngineStands.{EngineStandsFor, HasSameWork, first_of};
+ghost use Rattle.ht_engine.specs.EngineStands.{EngineStandsFor, HasSameWork};
 ghost use Rattle.ht_engine.specs.Steps.{AreFinished};
 ghost use Rattle.ht_files.specs.Generated.{IsTotalOf};
 ghost use Rattle.ht_asked.specs.Asked as asked;
@@ -78,7 +78,7 @@ fn make_steps(engine: &mut Engine) -> Result<(), AllocError>
     requires { EngineStandsFor engine.old [] }
     ensures work { HasSameWork engine.old engine.new }
     ensures made { OnOk result ((steps : List made.Step) × EngineStandsFor engine.new steps
-        × AreFinished engine.new.circuit engine.new.representatives (first_of engine.new) steps) }
+        × AreFinished engine.new.circuit engine.new.representatives engine.new.settings steps) }
 {
     'steps: loop {
         let step = engine.next()?;
@@ -120,7 +120,8 @@ fn find_total(alloc: Global, prepared: &Prepared, seed: u64) -> Result<Vec<u8>, 
     requires faults { prepared.now.listed.faults ≡ faults_of prepared.now.circuit }
     requires classes { AreClasses prepared.now.circuit prepared.now.listed.classes }
     ensures { IfOk result
-        (λ total. IsTotalOf prepared.now.circuit (demo_settings seed) total.items) }
+        (λ total. IsTotalOf prepared.now.circuit (demo_settings prepared.now.circuit seed)
+        total.items) }
 {
     let mut engine = Engine::new(
         alloc,

@@ -1,5 +1,5 @@
 //! The report, from its file to what it claims.
-ghost use Rattle.std.specs.Prelude.{◌≡◌, List, ℕ, length, IfOk, IfErr};
+ghost use Rattle.std.specs.Prelude.{◌≡◌, List, ℕ, Option, length, IfOk, IfErr};
 ghost use Rattle.ht_ports.specs.Desk.{InCall};
 ghost use Rattle.ht_ports.specs.declared.ports.InPort.TheVariants as in_port;
 ghost use Rattle.ht_net.specs.Netlist.{IsCircuit};
@@ -15,7 +15,7 @@ ghost use Rattle.ht_app.specs.Steps.{ReadStops};
 use crate::judged_file::{LineJudge, read_lines};
 use crate::listed::Listed;
 use crate::run_error::RunError;
-use ht_judge::{Claims, JudgeError, ReportJudge};
+use ht_judge::{Claims, ReportJudge};
 use ht_net::{Circuit, Place};
 use ht_ports::{Desk, InPort};
 use ht_texts::MAX_LINE_BYTES;
@@ -25,6 +25,7 @@ use std::alloc::Global;
 impl<'c> LineJudge for ReportJudge<'c> {
     ghost use Rattle.std.specs.Prelude.{IsTrue};
     ghost use Rattle.ht_valid.specs.declared.trouble.Trouble.TheVariants as trouble;
+    ghost use Rattle.ht_app.specs.declared.run_error.RunError.TheVariants.{Denied};
     ghost use Rattle.ht_app.specs.Judging.{IsWrongInReport, StandsForReport};
 
     ghost live = { λ judge. IsTrue judge.live };
@@ -33,19 +34,22 @@ impl<'c> LineJudge for ReportJudge<'c> {
 
     ghost is_wrong = { IsWrongInReport };
 
-    ghost trouble_at = { trouble.Report };
+    ghost error_at = { λ line. Denied (trouble.Report line) };
 
-    fn take(&mut self, line: &[u8]) -> Result<(), JudgeError> {
-        self.line(line)
+    fn take(&mut self, _number: u64, line: &[u8]) -> Result<(), RunError> {
+        self.line(line)?;
+        Ok(())
     }
 
-    fn too_long(&self, line: u64) -> Trouble {
-        Trouble::Report { line }
+    fn too_long(&self, line: u64) -> RunError {
+        RunError::Denied {
+            trouble: Trouble::Report { line },
+        }
     }
 }
 
 /// Opens the report and reads what it claims, up to the first line that is malformed or contradicts the tests, which
-/// detect the representatives at these places first.
+/// detect the representatives at these places first, from the start.
 ///
 /// # Errors
 /// - `ReadFault`: the desk counted a fault.
@@ -66,14 +70,15 @@ pub fn read_report<D: Desk>(
     ensures frame { InCall in_port.Report (D.view desk.old) (D.view desk.new) }
     ensures budget { IfOk result (λ claims. IsBudget claims.budget) }
     ensures read { (content : Content)
-        → AreFirstDetections circuit.now listed.now.classes content.list places.now
+        → AreFirstDetections circuit.now listed.now.classes content.start content.list places.now
         → IfOk result (λ claims. content.budget ≡ claims.budget
         → content.saids ≡ claims.saids.items → ReportIsRead
         (check_basis circuit.now listed.now.classes content) name.now (D.view desk.old)) }
-    ensures stops { (netlist tests report proofs : List ℕ) (content : Content)
-        → AreFirstDetections circuit.now listed.now.classes content.list places.now
+    ensures stops { (netlist tests report proofs : List ℕ) (start_file : Option (List ℕ))
+        (content : Content)
+        → AreFirstDetections circuit.now listed.now.classes content.start content.list places.now
         → HasShortNames circuit.now
-        → IfErr result (ReadStops (asked.check netlist tests report proofs)
+        → IfErr result (ReadStops (asked.check netlist tests report proofs start_file)
         (check_basis circuit.now listed.now.classes content) in_port.Report name.now
         (D.view desk.old) (D.view desk.new)) }
 {
@@ -84,6 +89,7 @@ pub fn read_report<D: Desk>(
         InPort::Report,
         name,
         MAX_LINE_BYTES,
+        u64::MAX,
         &mut judge,
     )?;
     let claims = judge.end()?;

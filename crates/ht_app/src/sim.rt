@@ -2,58 +2,69 @@
 ghost use Rattle.std.specs.Prelude.{◌≡◌, ◌≤◌, ◌++◌, List, ℕ, length, IfOk, IfErr};
 ghost use Rattle.ht_ports.specs.LineRule.{max_text_bytes};
 ghost use Rattle.ht_ports.specs.declared.ports.OutPort.TheVariants as out_port;
+ghost use Rattle.ht_net.specs.Detection.{IsStart};
 ghost use Rattle.ht_asked.specs.Asked as asked;
-ghost use Rattle.ht_app.specs.Outputs.{file_acts};
+ghost use Rattle.ht_app.specs.Outputs.{IsReportOf, file_acts};
 ghost use Rattle.ht_app.specs.Steps.{EndsReading, IsPrepared};
-ghost use Rattle.ht_app.specs.Simulation.{IsReportOf};
 
 use crate::made::Made;
 use crate::netlist::read_netlist;
 use crate::run_error::RunError;
+use crate::start_file::read_stated;
 use crate::vectors_file::read_tests;
 use ht_collapse::collapse;
-use ht_grade::first_detections;
+use ht_grade::first_detections_from;
 use ht_net::{Circuit, Vectors};
 use ht_ports::Desk;
+use ht_tern::Tern;
 use ht_texts::{Sums, saids_of, write_body, write_total};
+use ht_words::FileName;
 use std::alloc::{AllocError, Global};
 
-// Simulates the representative of each class of faults over the vectors.
-fn report_texts(alloc: Global, circuit: &Circuit, list: &Vectors) -> Result<Made, AllocError>
+// Simulates the representative of each class of faults over the vectors, from the start.
+fn report_texts(
+    alloc: Global,
+    circuit: &Circuit,
+    start: &[Tern],
+    list: &Vectors,
+) -> Result<Made, AllocError>
+    requires latches { IsStart circuit.now start.now }
     requires width { list.now.width ≡ circuit.now.inputs }
     requires few { length list.now.list ≤ max_text_bytes }
     ensures { IfOk result
-        (λ texts. IsReportOf circuit.now list.now.list (texts.body.items ++ texts.total.items)
-        texts.total.items) }
+        (λ texts. IsReportOf circuit.now start.now list.now.list
+        (texts.body.items ++ texts.total.items) texts.total.items) }
 {
     let faults = ht_faults::list(alloc, circuit)?;
     let classes = collapse(alloc, circuit, &faults)?;
-    let places = first_detections(alloc, circuit, &faults, &classes, list)?;
+    let places = first_detections_from(alloc, circuit, &faults, &classes, start, list)?;
     let saids = saids_of(alloc, &places)?;
     let body = write_body(alloc, circuit, &faults, &classes, None, &saids)?;
     let total = write_total(alloc, Sums::of(&classes, &saids, false))?;
     Ok(Made { body, total })
 }
 
-/// Reads the netlist and then the tests, simulates, and makes the report.
+/// Reads the netlist, the start if one is stated, and the tests, in this order, simulates, and makes the report.
 ///
 /// # Errors
-/// Those of the two files, or out of memory.
+/// Those of the files, or out of memory.
 pub fn simulate<D: Desk>(
     alloc: Global,
     netlist: &str,
     tests: &str,
+    start: &Option<FileName>,
     desk: &mut D,
 ) -> Result<Made, RunError>
     ensures made { (report : List ℕ) → IfOk result (λ made. IsPrepared
-        (asked.sim netlist.now tests.now report)
+        (asked.sim netlist.now tests.now report start.now)
         (file_acts out_port.Report report made.body.items made.total.items) (D.view desk.old)
         (D.view desk.new)) }
     ensures stopped { (report : List ℕ) → IfErr result (EndsReading
-        (asked.sim netlist.now tests.now report) (D.view desk.old) (D.view desk.new)) }
+        (asked.sim netlist.now tests.now report start.now) (D.view desk.old) (D.view desk.new)) }
 {
     let circuit = read_netlist(alloc, desk, netlist)?;
+    let start = read_stated(alloc, desk, &circuit, start)?;
     let list = read_tests(alloc, desk, tests, &circuit, u64::MAX)?;
-    let made = report_texts(alloc, &circuit, &list)?;
+    let made = report_texts(alloc, &circuit, &start, &list)?;
     Ok(made)
 }

@@ -23,7 +23,16 @@ commands_are_sound = (
         record { differ = refl; few = omega arith },
         (
           record { differ = refl; few = omega arith },
-          (record { differ = refl; few = omega arith }, (record { differ = refl; few = omega arith }, tt)),
+          (
+            record { differ = refl; few = omega arith },
+            (
+              record { differ = refl; few = omega arith },
+              (
+                record { differ = refl; few = omega arith },
+                (record { differ = refl; few = omega arith }, (record { differ = refl; few = omega arith }, tt)),
+              ),
+            ),
+          ),
         ),
       ),
     ),

@@ -2,7 +2,7 @@
 use Rattle.std.proofs.Common.{◌≡◌, ◌∷◌, ℕ, List, [], map, Option, Some, None, refl, arith, codes}
 use Rattle.clap.specs.Walk.{Text}
 use Rattle.ht_asked.specs.Forms.{given, parts}
-use Rattle.ht_asked.specs.Asked.{Asked, asked, budget_of, check, compact, demo, diagnose, gen, gen_command}
+use Rattle.ht_asked.specs.Asked.{Asked, asked, budget_of, check, compact, demo, diagnose, gen, gen_command, respond, sync, uninit}
 use Rattle.ht_asked.specs.ByClap.{app_with, given_by_clap}
 use Rattle.ht_asked.proofs.States.{AreReadable}
 use Rattle.ht_asked.proofs.FormByClap.{form_by_clap}
@@ -12,6 +12,7 @@ told_with budget random seed = Some (gen (codes "n") (codes "t") (codes "r") (co
   budget = budget;
   random = random;
   seed = seed;
+  start = None;
 }))
 
 -- a budget alone
@@ -86,13 +87,20 @@ demos : map (λ words. asked (codes "demo" ∷ words)) (
 unfolding asked given parts
 demos = refl
 
--- `check` has four names and no option
+-- `check` has four names, and may have a start
+abbrev checked : Option Text → Option Asked
+checked start = Some (check (codes "n") (codes "t") (codes "r") (codes "p") start)
+
 checks : map (λ words. asked (codes "check" ∷ words)) (
     (codes "n" ∷ codes "t" ∷ codes "r" ∷ codes "p" ∷ [])
     ∷ (codes "n" ∷ codes "t" ∷ codes "r" ∷ [])
     ∷ (codes "n" ∷ codes "t" ∷ codes "r" ∷ codes "p" ∷ codes "--budget=5" ∷ [])
+    ∷ (codes "n" ∷ codes "t" ∷ codes "r" ∷ codes "p" ∷ codes "--start" ∷ codes "s" ∷ [])
+    ∷ (codes "--start=-s" ∷ codes "n" ∷ codes "t" ∷ codes "r" ∷ codes "p" ∷ [])
+    ∷ (codes "n" ∷ codes "t" ∷ codes "r" ∷ codes "p" ∷ codes "--start" ∷ codes "-s" ∷ [])
+    ∷ (codes "n" ∷ codes "t" ∷ codes "r" ∷ codes "p" ∷ codes "--start=s" ∷ codes "--start=s" ∷ [])
     ∷ [])
-    ≡ Some (check (codes "n") (codes "t") (codes "r") (codes "p")) ∷ None ∷ None ∷ []
+    ≡ checked None ∷ None ∷ None ∷ checked (Some (codes "s")) ∷ checked (Some (codes "-s")) ∷ None ∷ None ∷ []
 unfolding asked given parts
 checks = refl
 
@@ -111,6 +119,50 @@ further : map asked (
     ∷ None ∷ None ∷ None ∷ Some (diagnose (codes "n") (codes "t") (codes "r") (codes "o")) ∷ None ∷ None ∷ []
 unfolding asked given parts
 further = refl
+
+-- `uninit` has two names and a budget
+uninits : map (λ words. asked (codes "uninit" ∷ words)) (
+    (codes "n" ∷ codes "o" ∷ [])
+    ∷ (codes "n" ∷ codes "--budget" ∷ codes "100000" ∷ codes "o" ∷ [])
+    ∷ (codes "--budget=007" ∷ codes "n" ∷ codes "--" ∷ codes "-o" ∷ [])
+    ∷ (codes "n" ∷ [])
+    ∷ (codes "n" ∷ codes "o" ∷ codes "p" ∷ [])
+    ∷ (codes "n" ∷ codes "o" ∷ codes "--budget=0" ∷ [])
+    ∷ (codes "n" ∷ codes "o" ∷ codes "--budget=100001" ∷ [])
+    ∷ (codes "n" ∷ codes "o" ∷ codes "--random=3" ∷ [])
+    ∷ [])
+    ≡ Some (uninit (codes "n") (codes "o") 1000) ∷ Some (uninit (codes "n") (codes "o") 100000)
+    ∷ Some (uninit (codes "n") (codes "-o") 7) ∷ None ∷ None ∷ None ∷ None ∷ None ∷ []
+unfolding asked given parts
+uninits = refl
+
+-- `sync` has three names and a budget
+syncs : map (λ words. asked (codes "sync" ∷ words)) (
+    (codes "n" ∷ codes "t" ∷ codes "o" ∷ [])
+    ∷ (codes "n" ∷ codes "--budget" ∷ codes "1" ∷ codes "t" ∷ codes "o" ∷ [])
+    ∷ (codes "n" ∷ codes "t" ∷ [])
+    ∷ (codes "n" ∷ codes "t" ∷ codes "o" ∷ codes "--budget=0" ∷ [])
+    ∷ [])
+    ≡ Some (sync (codes "n") (codes "t") (codes "o") 1000) ∷ Some (sync (codes "n") (codes "t") (codes "o") 1)
+    ∷ None ∷ None ∷ []
+unfolding asked given parts
+syncs = refl
+
+-- `respond` has three names, and may have a fault and a start
+responds : map (λ words. asked (codes "respond" ∷ words)) (
+    (codes "n" ∷ codes "t" ∷ codes "o" ∷ [])
+    ∷ (codes "n" ∷ codes "t" ∷ codes "o" ∷ codes "--fault" ∷ codes "655358" ∷ [])
+    ∷ (codes "--fault=007" ∷ codes "n" ∷ codes "--start" ∷ codes "s" ∷ codes "t" ∷ codes "o" ∷ [])
+    ∷ (codes "n" ∷ codes "t" ∷ codes "o" ∷ codes "--fault=0" ∷ [])
+    ∷ (codes "n" ∷ codes "t" ∷ codes "o" ∷ codes "--fault=655359" ∷ [])
+    ∷ (codes "n" ∷ codes "t" ∷ [])
+    ∷ [])
+    ≡ Some (respond (codes "n") (codes "t") (codes "o") None None)
+    ∷ Some (respond (codes "n") (codes "t") (codes "o") (Some 655358) None)
+    ∷ Some (respond (codes "n") (codes "t") (codes "o") (Some 7) (Some (codes "s")))
+    ∷ None ∷ None ∷ None ∷ []
+unfolding asked given parts
+responds = refl
 
 -- `clap` reads the command's form as the plain reading does
 by_clap : (words : List Text) → AreReadable words

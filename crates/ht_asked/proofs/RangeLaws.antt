@@ -6,11 +6,11 @@ use Rattle.std.specs.Str.Parse.{digits_value}
 use Rattle.std.proofs.lemmas.Bool.{leb-true}
 use Rattle.clap.specs.Walk.{Text}
 use Rattle.clap.proofs.WalkLemmas.{both}
-use Rattle.ht_asked.specs.declared.limits.TheConstants.{MAX_BUDGET, MAX_RANDOM, MAX_SEED, MAX_SIZE, MIN_BUDGET, MIN_SIZE}
+use Rattle.ht_asked.specs.declared.limits.TheConstants.{MAX_BUDGET, MAX_FAULT, MAX_RANDOM, MAX_SEED, MAX_SIZE, MIN_BUDGET, MIN_FAULT, MIN_SIZE}
 use Rattle.ht_asked.specs.Forms.{Given, given}
 use Rattle.ht_asked.specs.Numbers.{is_number, number_in, number_or}
-use Rattle.ht_asked.specs.Asked.{Asked, Command, asked, commands, demo_of, demo_with, gen, gen_of, norm_of, of_four, of_three, options_with}
-use Rattle.ht_asked.specs.Asked.{check, compact, diagnose, sim}
+use Rattle.ht_asked.specs.Asked.{Asked, Command, asked, check_of, commands, demo_of, demo_with, gen, gen_of, norm_of, of_four, of_three, options_with, sim_of}
+use Rattle.ht_asked.specs.Asked.{compact, diagnose, respond, respond_of, sync, sync_of, uninit, uninit_of}
 use Rattle.ht_asked.specs.Asked.{budget_of, random_of, seed_in, seed_of, size_in}
 use Rattle.ht_asked.specs.Ranges.{IsInRange}
 
@@ -60,14 +60,14 @@ by_four job so (a ∷ b ∷ c ∷ []) = tt
 by_four job so (a ∷ b ∷ c ∷ d ∷ []) = so a b c d
 by_four job so (a ∷ b ∷ c ∷ d ∷ x ∷ rest) = tt
 
-by_options : (netlist tests report proofs : Text) (budget random seed : Option ℕ)
+by_options : (netlist tests report proofs : Text) (budget random seed : Option ℕ) (start : Option Text)
     → IfSome budget (InRange MIN_BUDGET MAX_BUDGET) → IfSome random (InRange 0 MAX_RANDOM)
     → IfSome seed (InRange 0 MAX_SEED)
-    → AsksInRange (option_map (gen netlist tests report proofs) (options_with budget random seed))
-by_options netlist tests report proofs None random seed b r s = tt
-by_options netlist tests report proofs (Some budget) None seed b r s = tt
-by_options netlist tests report proofs (Some budget) (Some random) None b r s = tt
-by_options netlist tests report proofs (Some budget) (Some random) (Some seed) b r s =
+    → AsksInRange (option_map (gen netlist tests report proofs) (options_with budget random seed start))
+by_options netlist tests report proofs None random seed start b r s = tt
+by_options netlist tests report proofs (Some budget) None seed start b r s = tt
+by_options netlist tests report proofs (Some budget) (Some random) None start b r s = tt
+by_options netlist tests report proofs (Some budget) (Some random) (Some seed) start b r s =
     record { budget = b; random = r.1; seed = s.1 }
 
 by_gen : (names : List Text) (texts : List (Option Text)) → AsksInRange (gen_of names texts)
@@ -79,11 +79,31 @@ by_gen (a ∷ b ∷ c ∷ d ∷ x ∷ rest) texts = tt
 by_gen (a ∷ b ∷ c ∷ d ∷ []) [] = tt
 by_gen (a ∷ b ∷ c ∷ d ∷ []) (t ∷ []) = tt
 by_gen (a ∷ b ∷ c ∷ d ∷ []) (t ∷ u ∷ []) = tt
-by_gen (a ∷ b ∷ c ∷ d ∷ []) (t ∷ u ∷ v ∷ w ∷ rest) = tt
-by_gen (a ∷ b ∷ c ∷ d ∷ []) (t ∷ u ∷ v ∷ []) = by_options a b c d (budget_of t) (random_of u) (seed_of v)
+by_gen (a ∷ b ∷ c ∷ d ∷ []) (t ∷ u ∷ v ∷ []) = tt
+by_gen (a ∷ b ∷ c ∷ d ∷ []) (t ∷ u ∷ v ∷ w ∷ x ∷ rest) = tt
+by_gen (a ∷ b ∷ c ∷ d ∷ []) (t ∷ u ∷ v ∷ w ∷ []) = by_options a b c d (budget_of t) (random_of u) (seed_of v) w
     (option_is_in_range 1000 MIN_BUDGET MAX_BUDGET (omega arith, omega arith) t)
     (option_is_in_range 0 0 MAX_RANDOM (omega arith, omega arith) u)
     (option_is_in_range 0 0 MAX_SEED (omega arith, omega arith) v)
+
+by_sim : (names : List Text) (texts : List (Option Text)) → AsksInRange (sim_of names texts)
+by_sim [] texts = tt
+by_sim (a ∷ []) texts = tt
+by_sim (a ∷ b ∷ []) texts = tt
+by_sim (a ∷ b ∷ c ∷ d ∷ rest) texts = tt
+by_sim (a ∷ b ∷ c ∷ []) [] = tt
+by_sim (a ∷ b ∷ c ∷ []) (t ∷ []) = tt
+by_sim (a ∷ b ∷ c ∷ []) (t ∷ u ∷ rest) = tt
+
+by_check : (names : List Text) (texts : List (Option Text)) → AsksInRange (check_of names texts)
+by_check [] texts = tt
+by_check (a ∷ []) texts = tt
+by_check (a ∷ b ∷ []) texts = tt
+by_check (a ∷ b ∷ c ∷ []) texts = tt
+by_check (a ∷ b ∷ c ∷ d ∷ x ∷ rest) texts = tt
+by_check (a ∷ b ∷ c ∷ d ∷ []) [] = tt
+by_check (a ∷ b ∷ c ∷ d ∷ []) (t ∷ []) = tt
+by_check (a ∷ b ∷ c ∷ d ∷ []) (t ∷ u ∷ rest) = tt
 
 by_norm : (names : List Text) → AsksInRange (norm_of names)
 by_norm [] = tt
@@ -104,6 +124,50 @@ by_demo (a ∷ b ∷ c ∷ rest) = tt
 by_demo (a ∷ b ∷ []) = by_numbers (size_in a) (seed_in b) (number_is_in_range MIN_SIZE MAX_SIZE a)
     (number_is_in_range 0 MAX_SEED b)
 
+-- a job with a budget alone
+by_budget : (job : ℕ → Asked) → ((n : ℕ) → InRange MIN_BUDGET MAX_BUDGET n → IsInRange (job n)) → (t : Option Text)
+    → AsksInRange (option_map job (budget_of t))
+by_budget job so t = by (budget_of t) (option_is_in_range 1000 MIN_BUDGET MAX_BUDGET (omega arith, omega arith) t)
+  where
+    by : (budget : Option ℕ) → IfSome budget (InRange MIN_BUDGET MAX_BUDGET) → AsksInRange (option_map job budget)
+    by None b = tt
+    by (Some budget) b = so budget b
+
+by_uninit : (names : List Text) (texts : List (Option Text)) → AsksInRange (uninit_of names texts)
+by_uninit [] texts = tt
+by_uninit (a ∷ []) texts = tt
+by_uninit (a ∷ b ∷ c ∷ rest) texts = tt
+by_uninit (a ∷ b ∷ []) [] = tt
+by_uninit (a ∷ b ∷ []) (t ∷ u ∷ rest) = tt
+by_uninit (a ∷ b ∷ []) (t ∷ []) = by_budget (uninit a b) (λ n h. h) t
+
+by_sync : (names : List Text) (texts : List (Option Text)) → AsksInRange (sync_of names texts)
+by_sync [] texts = tt
+by_sync (a ∷ []) texts = tt
+by_sync (a ∷ b ∷ []) texts = tt
+by_sync (a ∷ b ∷ c ∷ d ∷ rest) texts = tt
+by_sync (a ∷ b ∷ c ∷ []) [] = tt
+by_sync (a ∷ b ∷ c ∷ []) (t ∷ u ∷ rest) = tt
+by_sync (a ∷ b ∷ c ∷ []) (t ∷ []) = by_budget (sync a b c) (λ n h. h) t
+
+by_fault : (netlist tests out : Text) (start : Option Text) (fault : Option ℕ)
+    → IfSome fault (InRange MIN_FAULT MAX_FAULT)
+    → AsksInRange (option_map (λ number. respond netlist tests out number start) (option_map Some fault))
+by_fault netlist tests out start None within = tt
+by_fault netlist tests out start (Some number) within = within
+
+by_respond : (names : List Text) (texts : List (Option Text)) → AsksInRange (respond_of names texts)
+by_respond [] texts = tt
+by_respond (a ∷ []) texts = tt
+by_respond (a ∷ b ∷ []) texts = tt
+by_respond (a ∷ b ∷ c ∷ d ∷ rest) texts = tt
+by_respond (a ∷ b ∷ c ∷ []) [] = tt
+by_respond (a ∷ b ∷ c ∷ []) (t ∷ []) = tt
+by_respond (a ∷ b ∷ c ∷ []) (t ∷ u ∷ v ∷ rest) = tt
+by_respond (a ∷ b ∷ c ∷ []) (None ∷ u ∷ []) = tt
+by_respond (a ∷ b ∷ c ∷ []) (Some text ∷ u ∷ []) =
+    by_fault a b c u (number_in MIN_FAULT MAX_FAULT text) (number_is_in_range MIN_FAULT MAX_FAULT text)
+
 -- ---- the table of the commands
 
 abbrev All : List Command → Type 0
@@ -112,18 +176,24 @@ All (c ∷ cs) = ((g : Given) → AsksInRange (c.asks g)) × All cs
 
 commands_ask_in_range : All commands
 commands_ask_in_range = (
-  λ g. by_three sim (λ a b c. tt) g.positionals,
+  λ g. by_sim g.positionals g.options,
   (
     λ g. by_gen g.positionals g.options,
     (
-      λ g. by_four check (λ a b c d. tt) g.positionals,
+      λ g. by_check g.positionals g.options,
       (
         λ g. by_norm g.positionals,
         (
           λ g. by_demo g.positionals,
           (
             λ g. by_three compact (λ a b c. tt) g.positionals,
-            (λ g. by_four diagnose (λ a b c d. tt) g.positionals, tt),
+            (
+              λ g. by_four diagnose (λ a b c d. tt) g.positionals,
+              (
+                λ g. by_uninit g.positionals g.options,
+                (λ g. by_sync g.positionals g.options, (λ g. by_respond g.positionals g.options, tt)),
+              ),
+            ),
           ),
         ),
       ),

@@ -7,7 +7,7 @@ use Rattle.std.specs.Str.{bytes_eq}
 use Rattle.clap.specs.Walk.{Text}
 use Rattle.ht_asked.specs.declared.limits.TheConstants.{DEFAULT_BUDGET, MAX_BUDGET, MIN_BUDGET}
 use Rattle.ht_asked.specs.declared.limits.TheConstants.{DEFAULT_RANDOM, DEFAULT_SEED, MAX_RANDOM, MAX_SEED}
-use Rattle.ht_asked.specs.declared.limits.TheConstants.{MAX_SIZE, MIN_SIZE}
+use Rattle.ht_asked.specs.declared.limits.TheConstants.{MAX_FAULT, MAX_SIZE, MIN_FAULT, MIN_SIZE}
 use Rattle.ht_asked.specs.Forms.{Form, Given, given, names_form}
 use Rattle.ht_asked.specs.Numbers.{number_in, number_or}
 
@@ -15,21 +15,26 @@ use Rattle.ht_asked.specs.Numbers.{number_in, number_or}
 abbrev pub words_of : List (String Global) → List Text
 words_of = map (λ s. string_bytes s)
 
--- what the options of `gen` say: the budget of each search, how many random vectors come first, and their seed
+-- what the options of `gen` say: the budget of each search, how many random vectors come first, their seed, and the file
+-- of the start, if one is stated
 pub record GenOptions : Type 0 where
   pub budget : ℕ
   pub random : ℕ
   pub seed : ℕ
+  pub start : Option Text
 
--- a command with the names of its files, and with its numbers
+-- a command with the names of its files and its numbers, of which the start's and the fault's may be left out
 pub data Asked : Type 0 where
-  sim : Text → Text → Text → Asked
+  sim : Text → Text → Text → Option Text → Asked
   gen : Text → Text → Text → Text → GenOptions → Asked
-  check : Text → Text → Text → Text → Asked
+  check : Text → Text → Text → Text → Option Text → Asked
   norm : Text → Text → Asked
   demo : ℕ → ℕ → Asked
   compact : Text → Text → Text → Asked
   diagnose : Text → Text → Text → Text → Asked
+  uninit : Text → Text → ℕ → Asked
+  sync : Text → Text → Text → ℕ → Asked
+  respond : Text → Text → Text → Option ℕ → Option Text → Asked
 
 -- a command: its name in lower case, the form of the words after it, and what they ask for
 pub record Command : Type 0 where
@@ -47,12 +52,19 @@ abbrev pub of_four : (Text → Text → Text → Text → Asked) → List Text �
 of_four job (first ∷ second ∷ third ∷ fourth ∷ []) = Some (job first second third fourth)
 of_four job _ = None
 
--- `sim NETLIST TESTS REPORT`
+-- `sim NETLIST TESTS REPORT [--start FILE]`
+abbrev pub sim_of : List Text → List (Option Text) → Option Asked
+sim_of (netlist ∷ tests ∷ report ∷ []) (start ∷ []) = Some (sim netlist tests report start)
+sim_of _ _ = None
+
 abbrev pub sim_command : Command
 sim_command = record {
   name = codes "sim";
-  form = names_form (codes "netlist" ∷ codes "tests" ∷ codes "report" ∷ []);
-  asks = λ g. of_three sim g.positionals;
+  form = record {
+    positionals = codes "netlist" ∷ codes "tests" ∷ codes "report" ∷ [];
+    options = codes "start" ∷ [];
+  };
+  asks = λ g. sim_of g.positionals g.options;
 }
 
 -- the budget of a search, where the option's text is one or is left out
@@ -67,17 +79,17 @@ random_of = number_or DEFAULT_RANDOM 0 MAX_RANDOM
 abbrev pub seed_of : Option Text → Option ℕ
 seed_of = number_or DEFAULT_SEED 0 MAX_SEED
 
--- the options, where each of the three has a number
-abbrev pub options_with : Option ℕ → Option ℕ → Option ℕ → Option GenOptions
-options_with (Some budget) (Some random) (Some seed) =
-    Some (record { budget = budget; random = random; seed = seed })
-options_with _ _ _ = None
+-- the options, where each of the first three has a number
+abbrev pub options_with : Option ℕ → Option ℕ → Option ℕ → Option Text → Option GenOptions
+options_with (Some budget) (Some random) (Some seed) start =
+    Some (record { budget = budget; random = random; seed = seed; start = start })
+options_with _ _ _ _ = None
 
--- `gen NETLIST TESTS REPORT PROOFS [--budget N] [--random N] [--seed S]`
+-- `gen NETLIST TESTS REPORT PROOFS [--budget N] [--random N] [--seed S] [--start FILE]`
 abbrev pub gen_of : List Text → List (Option Text) → Option Asked
-gen_of (netlist ∷ tests ∷ report ∷ proofs ∷ []) (budget ∷ random ∷ seed ∷ []) = option_map
+gen_of (netlist ∷ tests ∷ report ∷ proofs ∷ []) (budget ∷ random ∷ seed ∷ start ∷ []) = option_map
     (gen netlist tests report proofs)
-    (options_with (budget_of budget) (random_of random) (seed_of seed))
+    (options_with (budget_of budget) (random_of random) (seed_of seed) start)
 gen_of _ _ = None
 
 abbrev pub gen_command : Command
@@ -85,17 +97,24 @@ gen_command = record {
   name = codes "gen";
   form = record {
     positionals = codes "netlist" ∷ codes "tests" ∷ codes "report" ∷ codes "proofs" ∷ [];
-    options = codes "budget" ∷ codes "random" ∷ codes "seed" ∷ [];
+    options = codes "budget" ∷ codes "random" ∷ codes "seed" ∷ codes "start" ∷ [];
   };
   asks = λ g. gen_of g.positionals g.options;
 }
 
--- `check NETLIST TESTS REPORT PROOFS`
+-- `check NETLIST TESTS REPORT PROOFS [--start FILE]`
+abbrev pub check_of : List Text → List (Option Text) → Option Asked
+check_of (netlist ∷ tests ∷ report ∷ proofs ∷ []) (start ∷ []) = Some (check netlist tests report proofs start)
+check_of _ _ = None
+
 abbrev pub check_command : Command
 check_command = record {
   name = codes "check";
-  form = names_form (codes "netlist" ∷ codes "tests" ∷ codes "report" ∷ codes "proofs" ∷ []);
-  asks = λ g. of_four check g.positionals;
+  form = record {
+    positionals = codes "netlist" ∷ codes "tests" ∷ codes "report" ∷ codes "proofs" ∷ [];
+    options = codes "start" ∷ [];
+  };
+  asks = λ g. check_of g.positionals g.options;
 }
 
 -- `norm NETLIST OUT`
@@ -151,10 +170,61 @@ diagnose_command = record {
   asks = λ g. of_four diagnose g.positionals;
 }
 
+-- `uninit NETLIST OUT [--budget N]`
+abbrev pub uninit_of : List Text → List (Option Text) → Option Asked
+uninit_of (netlist ∷ out ∷ []) (budget ∷ []) = option_map (uninit netlist out) (budget_of budget)
+uninit_of _ _ = None
+
+abbrev pub uninit_command : Command
+uninit_command = record {
+  name = codes "uninit";
+  form = record {
+    positionals = codes "netlist" ∷ codes "out" ∷ [];
+    options = codes "budget" ∷ [];
+  };
+  asks = λ g. uninit_of g.positionals g.options;
+}
+
+-- `sync NETLIST TESTS OUT [--budget N]`
+abbrev pub sync_of : List Text → List (Option Text) → Option Asked
+sync_of (netlist ∷ tests ∷ out ∷ []) (budget ∷ []) = option_map (sync netlist tests out) (budget_of budget)
+sync_of _ _ = None
+
+abbrev pub sync_command : Command
+sync_command = record {
+  name = codes "sync";
+  form = record {
+    positionals = codes "netlist" ∷ codes "tests" ∷ codes "out" ∷ [];
+    options = codes "budget" ∷ [];
+  };
+  asks = λ g. sync_of g.positionals g.options;
+}
+
+-- the number of a fault, where the option's text is one, or none where it is left out
+abbrev pub fault_of : Option Text → Option (Option ℕ)
+fault_of None = Some None
+fault_of (Some text) = option_map Some (number_in MIN_FAULT MAX_FAULT text)
+
+-- `respond NETLIST TESTS OUT [--fault N] [--start FILE]`
+abbrev pub respond_of : List Text → List (Option Text) → Option Asked
+respond_of (netlist ∷ tests ∷ out ∷ []) (fault ∷ start ∷ []) =
+    option_map (λ number. respond netlist tests out number start) (fault_of fault)
+respond_of _ _ = None
+
+abbrev pub respond_command : Command
+respond_command = record {
+  name = codes "respond";
+  form = record {
+    positionals = codes "netlist" ∷ codes "tests" ∷ codes "out" ∷ [];
+    options = codes "fault" ∷ codes "start" ∷ [];
+  };
+  asks = λ g. respond_of g.positionals g.options;
+}
+
 -- the commands, in the order of the usage line
 abbrev pub commands : List Command
 commands = sim_command ∷ gen_command ∷ check_command ∷ norm_command ∷ demo_command
-    ∷ compact_command ∷ diagnose_command ∷ []
+    ∷ compact_command ∷ diagnose_command ∷ uninit_command ∷ sync_command ∷ respond_command ∷ []
 
 abbrev pub command_named : Text → Option Command
 command_named name = find (λ c. bytes_eq name c.name) commands

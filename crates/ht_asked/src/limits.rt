@@ -26,3 +26,9 @@ pub const MIN_SIZE: u64 = 1;
 
 /// The greatest size of a demonstration netlist.
 pub const MAX_SIZE: u64 = 20_000;
+
+/// The least number of a fault.
+pub const MIN_FAULT: u64 = 1;
+
+/// The greatest number of a fault: two for each of 65,535 nets and 262,144 pins.
+pub const MAX_FAULT: u64 = 655_358;

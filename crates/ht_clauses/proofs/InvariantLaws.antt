@@ -8,7 +8,8 @@ use Rattle.ht_net.specs.Netlist.{Netlist, IsCircuit}
 use Rattle.ht_net.specs.Frame.{next_state, run_state}
 use Rattle.ht_net.specs.Faults.{bool_rules}
 use Rattle.ht_net.specs.Detection.{IsState}
-use Rattle.ht_tree.proofs.FittedLaws.{fitted, next_fitted, next_long}
+use Rattle.ht_tree.proofs.FittedLaws.{fitted, next_fitted}
+use Rattle.ht_net.proofs.ValueLaws.{next_long}
 use Rattle.ht_tree.specs.declared.clause.Literal.{Literal}
 use Rattle.ht_tree.specs.declared.clause.Clause.{Clause}
 use Rattle.ht_tree.specs.Clauses.{IsClause, literals_of, literals_of_each, meets, meets_each}

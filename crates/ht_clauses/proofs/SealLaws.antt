@@ -9,14 +9,14 @@ use Rattle.ht_net.specs.Faults.{bool_rules}
 use Rattle.ht_net.specs.Detection.{IsState}
 use Rattle.ht_net.specs.Silence.{AgreeOutside}
 use Rattle.ht_net.proofs.DepthLaws.{circuit_depth}
-use Rattle.ht_net.proofs.ValueLaws.{seen_same}
+use Rattle.ht_net.proofs.ValueLaws.{seen_same, next_long}
 use Rattle.ht_tree.specs.declared.token.Token.{Token}
 use Rattle.ht_tree.specs.declared.window.Spot.TheVariants.{Output, State}
 use Rattle.ht_tree.specs.Walks.{IsComplete}
 use Rattle.ht_tree.specs.Decisions.{is_in}
 use Rattle.ht_tree.specs.Windows.{SearchWindow, one_frame_window}
 use Rattle.ht_tree.specs.Places.{set_at}
-use Rattle.ht_tree.proofs.FittedLaws.{fitted, outputs_fitted, next_fitted, next_long}
+use Rattle.ht_tree.proofs.FittedLaws.{fitted, outputs_fitted, next_fitted}
 use Rattle.ht_tree.proofs.PlaceLaws.{output_listed, state_listed, place_quiet, bits_same}
 use Rattle.ht_tree.proofs.WindowLaws.{cell_has, next_has}
 use Rattle.ht_tree.specs.declared.clause.Literal.{Literal}

@@ -13,7 +13,7 @@ use Rattle.ht_net.specs.Netlist.{Netlist, first_gate_net, gate_at, arg_at, IsCir
 use Rattle.ht_net.specs.Frame.{Rules, frame_outputs, next_state, run_outputs, run_state}
 use Rattle.ht_net.specs.Faults.{rules_of, tern_rules, bool_rules}
 use Rattle.ht_tern.specs.Opposite.{Opposite}
-use Rattle.ht_net.specs.Detection.{terns_of, unknown_state, tern_outputs, output_at, IsBefore, IsFirstDetection}
+use Rattle.ht_net.specs.Detection.{IsBefore, IsFirstFrom, output_from, outputs_from, terns_of}
 use Rattle.ht_faults.specs.Sites.{is_fanout, faults_of}
 use Rattle.ht_collapse.specs.Table.{equivalent_output}
 use Rattle.ht_collapse.specs.Classes.{EquivalentPair, SameClass, itself, paired, turned, joined, output_line, fault_at, AreClasses}
@@ -106,27 +106,27 @@ pub bool_members_alike : (c : Netlist) (f g : Fault) → IsCircuit c → SameCla
 bool_members_alike c f g circuit h = members_alike false bool_gate_value (λ b. b) bool_table c circuit f g h
 
 -- What a list detects first depends on the faulty machine's outputs alone.
-abbrev DetectsBy : Netlist → List (List Bool) → List (List Tern) → ℕ → ℕ → Type 0
-DetectsBy c list rows t o = Opposite (output_at c None list t o) (get_or (get_or rows t []) o Unk)
+abbrev DetectsBy : Netlist → List Tern → List (List Bool) → List (List Tern) → ℕ → ℕ → Type 0
+DetectsBy c start list rows t o = Opposite (output_from c None start list t o) (get_or (get_or rows t []) o Unk)
 
-abbrev IsFirstBy : Netlist → List (List Bool) → Option Place → List (List Tern) → Type 0
-IsFirstBy c list place rows =
-    MatchOption place ((t o : ℕ) → ¬ DetectsBy c list rows t o)
-    (λ p. DetectsBy c list rows p.vector p.output × ((t o : ℕ) → IsBefore t o p → ¬ DetectsBy c list rows t o))
+abbrev IsFirstBy : Netlist → List Tern → List (List Bool) → Option Place → List (List Tern) → Type 0
+IsFirstBy c start list place rows =
+    MatchOption place ((t o : ℕ) → ¬ DetectsBy c start list rows t o)
+    (λ p. DetectsBy c start list rows p.vector p.output
+    × ((t o : ℕ) → IsBefore t o p → ¬ DetectsBy c start list rows t o))
 
-pub members_detected : (c : Netlist) (f g : Fault) (list : List (List Bool)) (place : Option Place) → IsCircuit c
-    → SameClass c f g
-    → IsFirstDetection c f list place ↔ IsFirstDetection c g list place
-members_detected c f g list place circuit h =
-    let rows : tern_outputs c (Some f) list
-    ≡ tern_outputs c (Some g) list = (tern_members_alike c f g circuit h).outputs (unknown_state c)
-    (map terns_of list) in
-    (subst (IsFirstBy c list place) rows, subst (IsFirstBy c list place) (sym rows))
+pub members_detected : (c : Netlist) (f g : Fault) (start : List Tern) (list : List (List Bool)) (place : Option Place)
+    → IsCircuit c → SameClass c f g
+    → IsFirstFrom c f start list place ↔ IsFirstFrom c g start list place
+members_detected c f g start list place circuit h =
+    let rows : outputs_from c (Some f) start list
+    ≡ outputs_from c (Some g) start list = (tern_members_alike c f g circuit h).outputs start (map terns_of list) in
+    (subst (IsFirstBy c start list place) rows, subst (IsFirstBy c start list place) (sym rows))
 
-pub representative_detected : (c : Netlist) (representatives : List ℕ) (i : ℕ) (list : List (List Bool))
-    (place : Option Place) → IsCircuit c → AreClasses c representatives
-    → i < length (faults_of c) → IsFirstDetection c (fault_at c (get_or representatives i 0)) list place
-    ↔ IsFirstDetection c (fault_at c i) list place
-representative_detected c representatives i list place circuit h inside =
-    members_detected c (fault_at c (get_or representatives i 0)) (fault_at c i) list place circuit
+pub representative_detected : (c : Netlist) (representatives : List ℕ) (i : ℕ) (start : List Tern)
+    (list : List (List Bool)) (place : Option Place) → IsCircuit c → AreClasses c representatives
+    → i < length (faults_of c) → IsFirstFrom c (fault_at c (get_or representatives i 0)) start list place
+    ↔ IsFirstFrom c (fault_at c i) start list place
+representative_detected c representatives i start list place circuit h inside =
+    members_detected c (fault_at c (get_or representatives i 0)) (fault_at c i) start list place circuit
     (h.exact i inside).member

@@ -10,7 +10,7 @@ use Rattle.std.proofs.lemmas.Option.{slice_get-map, slice_get-get_or}
 use Rattle.ht_net.specs.declared.fault.Fault.{Fault}
 use Rattle.ht_net.specs.declared.place.Place.{Place}
 use Rattle.ht_net.specs.Netlist.{Netlist}
-use Rattle.ht_net.specs.Detection.{IsFirstDetection}
+use Rattle.ht_net.specs.Detection.{IsFirstDetection, IsFirstFrom, unknown_state}
 use Rattle.ht_net.proofs.FrameLaws.{le_or_lt}
 use Rattle.ht_faults.specs.Sites.{faults_of}
 use Rattle.ht_collapse.specs.Classes.{AreClasses, fault_at, is_representative, own_representatives}
@@ -37,10 +37,11 @@ undetected_first c list i (Some p) none first is = cc
 -- The verdict of a packed grader on the k-th of its faults is its first detection.
 pub chosen_first : (c : Netlist) (wanted : List ℕ) (list : List (List Bool)) (grader : PackedView) (k : ℕ)
     → grader.circuit ≡ c → grader.faults ≡ chosen_faults (faults_of c) wanted → k < length wanted
-    → GraderStandsFor grader list
+    → GraderStandsFor grader (unknown_state c) list
     → IsFirstDetection c (fault_at c (get_or wanted k 0)) list (verdict_at grader k)
 chosen_first c wanted list grader k circuit faults inside stands =
-    subst (λ (n : Netlist). IsFirstDetection n (fault_at c (get_or wanted k 0)) list (verdict_at grader k)) circuit
+    subst (λ (n : Netlist). IsFirstFrom n (fault_at c (get_or wanted k 0)) (unknown_state c) list (verdict_at grader k))
+    circuit
     (stands.first k (fault_at c (get_or wanted k 0)) (ap (λ (l : List Fault). slice_get l k) faults
     ∙ (slice_get-map (fault_at c) wanted k ∙ ap (option_map (fault_at c)) (slice_get-get_or wanted k 0 inside))))
 
@@ -52,7 +53,7 @@ pub record AreSeenSoFar (c : Netlist) (wanted : List ℕ) (list : List (List Boo
 -- one vector more
 pub more_seen : (c : Netlist) (wanted : List ℕ) (list : List (List Bool)) (t seen more : ℕ) (grader : PackedView)
     → AreSeenSoFar c wanted list t seen → grader.circuit ≡ c → grader.faults ≡ chosen_faults (faults_of c) wanted
-    → GraderStandsFor grader (take (t + 1) list) → more ≤ length wanted
+    → GraderStandsFor grader (unknown_state c) (take (t + 1) list) → more ≤ length wanted
     → ((k : ℕ) → seen ≤ k → k < more → is_some (verdict_at grader k) ≡ true)
     → AreSeenSoFar c wanted list (t + 1) more
 more_seen c wanted list t seen more grader so_far circuit faults stands some found = record {
@@ -71,7 +72,7 @@ more_seen c wanted list t seen more grader so_far circuit faults stands some fou
 -- a grader that has applied all vectors, or has seen all faults
 pub run_to_end : (c : Netlist) (wanted : List ℕ) (list : List (List Bool)) (t : ℕ) (grader : PackedView)
     → grader.circuit ≡ c → grader.faults ≡ chosen_faults (faults_of c) wanted
-    → GraderStandsFor grader (take t list) → length list ≤ t → HasRunWanted c wanted list grader
+    → GraderStandsFor grader (unknown_state c) (take t list) → length list ≤ t → HasRunWanted c wanted list grader
 run_to_end c wanted list t grader circuit faults stands done = record {
   count = t;
   stands = stands;
@@ -84,7 +85,7 @@ run_to_end c wanted list t grader circuit faults stands done = record {
 
 pub run_to_last : (c : Netlist) (wanted : List ℕ) (list : List (List Bool)) (t seen : ℕ) (grader : PackedView)
     → AreSeenSoFar c wanted list t seen → grader.circuit ≡ c → grader.faults ≡ chosen_faults (faults_of c) wanted
-    → GraderStandsFor grader (take t list) → seen ≡ length wanted → HasRunWanted c wanted list grader
+    → GraderStandsFor grader (unknown_state c) (take t list) → seen ≡ length wanted → HasRunWanted c wanted list grader
 run_to_last c wanted list t seen grader so_far circuit faults stands all = record {
   count = t;
   stands = stands;
@@ -151,7 +152,8 @@ own_passes representatives k inside =
 -- the first detection of the representative of class k
 pub own_first : (c : Netlist) (representatives : List ℕ) (list : List (List Bool)) (places : List (Option Place))
     (k i : ℕ) (place : Option Place) → AreClasses c representatives
-    → AreFirstDetections c representatives list places → k < length (own_representatives representatives)
+    → AreFirstDetections c representatives (unknown_state c) list places → k < length
+    (own_representatives representatives)
     → i ≡ own_at representatives k → place ≡ get_or places i place → IsFirstDetection c (fault_at c i) list place
 own_first c representatives list places k i place classes are inside is read =
     let fault : i < length (faults_of c) = omega (arith, is, own_is_fault representatives k inside, classes.every) in

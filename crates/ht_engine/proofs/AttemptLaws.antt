@@ -12,7 +12,7 @@ use Rattle.ht_tree.specs.FoundLists.{bit_or_zero}
 use Rattle.ht_tree.specs.Nodes.{or_unknown}
 use Rattle.ht_tree.specs.Reached.{AreVectors}
 use Rattle.ht_tree.specs.ToldChains.{AreChained, IsToldPlace, Tells, state_of_spot, told_path}
-use Rattle.ht_records.proofs.LaterLaws.{detects_later}
+use Rattle.ht_net.proofs.MoreToldLaws.{detects_from_any}
 use Rattle.ht_engine.specs.declared.told_frame.ToldFrame.{ToldFrame}
 use Rattle.ht_engine.specs.ToldFrames.{IsFrameOf}
 use Rattle.ht_tree.specs.declared.told.Told.{Told}
@@ -58,13 +58,14 @@ module _ (c : Netlist) (fault : Fault) (budget : ℕ) (told : Told) (j : ℕ) (a
       told_ahead answer (subst (λ (s : List Tern). AheadHolds c fault (told_state c None told) s budget answer) is'
       (subst (λ (s : List Tern). AheadHolds c fault s faulty budget answer) is h))
 
--- a list that detects does so after any list
+-- a list that detects does so from every start, after any list
 pub always_detects : (c : Netlist) (fault : Fault) (list : Rows) (t o : ℕ) → AreVectors c list.list
     → list.width ≡ c.inputs → Detects c fault list.list t o → DetectsAlways c fault list
 always_detects c fault list t o wide width detects = record {
   wide = wide;
   width = width;
-  detects = λ before. (length before + t, o, detects_later c fault before list.list t o detects);
+  detects = λ start is before.
+      (length before + t, o, detects_from_any c fault start before list.list t o is detects);
 }
 
 -- a list, a vector and another list have the circuit's width

@@ -36,6 +36,7 @@ module _ (e now : EngineView) (listed : List Fault) (grader : GraderView) (words
         circuit = is.circuit;
         left = omega (arith, left);
         representatives = is.representatives;
+        start = is.start;
         budget = is.budget;
         kinds = is.kinds;
         place = is.place;

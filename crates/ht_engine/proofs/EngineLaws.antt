@@ -8,20 +8,22 @@ use Rattle.std.proofs.lemmas.Bool.{false≢true, true≢false}
 use Rattle.std.proofs.lemmas.Bool.Decides.{eqb_tells}
 use Rattle.std.proofs.lemmas.List.{get_or-set_other, get_or-set_same, get_or_default}
 use Rattle.std.proofs.lemmas.List.Elements.{All-append, All-cons, All-nil, Contains-append_left}
+use Rattle.ht_tern.specs.declared.tern.Tern.{Tern}
 use Rattle.ht_net.specs.declared.fault.Fault.{Fault}
 use Rattle.ht_net.specs.declared.place.Place.{Place}
-use Rattle.ht_net.specs.Detection.{IsFirstDetection}
+use Rattle.ht_net.specs.Detection.{Allows, IsFirstFrom, IsStart}
 use Rattle.ht_net.specs.Netlist.{Netlist}
 use Rattle.ht_net.specs.Rows.{Rows}
 use Rattle.ht_net.proofs.FrameLaws.{le_or_lt}
+use Rattle.ht_net.proofs.SilenceLaws.{some_allowed}
 use Rattle.ht_faults.specs.FaultList.{no_fault}
 use Rattle.ht_collapse.specs.Classes.{fault_at}
 use Rattle.ht_grade.specs.GraderView.{GraderView}
 use Rattle.ht_tree.specs.declared.entry.Entry as recorded
+use Rattle.ht_tree.specs.declared.entry.Entry.TheVariants as entries
 use Rattle.ht_tree.specs.declared.kind.EntryKind.{EntryKind}
 use Rattle.ht_tree.specs.declared.kind.EntryKind.TheVariants as kind
-use Rattle.ht_tree.specs.Entries.{kind_of}
-use Rattle.ht_tree.specs.Entries.{Passes}
+use Rattle.ht_tree.specs.Entries.{AllowsEntry, kind_of}
 use Rattle.ht_tree.specs.Reached.{AreVectors}
 use Rattle.ht_invariant.specs.declared.finding.Invariant.{Invariant}
 use Rattle.ht_entries.specs.declared.numbered.Numbered.{Numbered}
@@ -33,7 +35,8 @@ use Rattle.ht_engine.specs.declared.work.Work.{Work}
 use Rattle.ht_engine.specs.EngineOf.{IsEngine}
 use Rattle.ht_engine.specs.declared.work.Work.TheVariants as work
 use Rattle.ht_engine.specs.Enough.{IsEnough}
-use Rattle.ht_engine.specs.EngineStands.{AllPass, AreEnough, EngineStandsFor, EngineView, HasSameWork, IsKindIn, IsSaid, Makes, MakesStep, MeansOfStep, first_of, kind_at, remaining}
+use Rattle.ht_engine.specs.FaultWork.{IsNamedInvariant, IsWork}
+use Rattle.ht_engine.specs.EngineStands.{AllHold, AreEnough, EngineStandsFor, EntryHolds, EngineView, HasSameWork, IsKindIn, IsSaid, Makes, MakesStep, MeansOfStep, first_of, kind_at, remaining}
 use Rattle.ht_engine.specs.OneStep.{Advances, Ends, GivesEntry, GivesList, GivesRandom, IsNextUndetected, IsUndetected, said_by}
 use Rattle.ht_engine.specs.Steps.{AwaitsVerdict, Follows, IsNextFault, entries_of, one_more, one_vector, vectors_of_steps}
 use Rattle.ht_engine.proofs.StepLaws.{awaited_before, contains_last, entries_more, entries_with_list, has_cases, has_last, numbered, vectors_more, vectors_with_entry}
@@ -41,7 +44,7 @@ use Rattle.ht_engine.proofs.StepLaws.{awaited_before, contains_last, entries_mor
 -- ---- what is undetected
 
 pub undetected_tells : (e : EngineView) (i : ℕ) (place : Option Place) (nowhere : Bool)
-    → IsOwn e.circuit e.representatives i → IsFirstDetection e.circuit (fault_at e.circuit i) e.list place
+    → IsOwn e.circuit e.representatives i → IsFirstFrom e.circuit (fault_at e.circuit i) e.settings.start e.list place
     → is_some place ≡ not nowhere → (nowhere ≡ true) ↔ IsUndetected e i
 undetected_tells e i None true own first is = (λ h. record { own = own; undetected = first }, λ u. refl)
 undetected_tells e i None false own first is = absurd (false≢true is)
@@ -52,24 +55,26 @@ undetected_tells e i (Some p) false own first is =
 -- ---- the next fault
 
 module _ (e : EngineView) (steps : List Step) (s : EngineStandsFor e steps) where
-  awaits_of : (i : ℕ) → e.place ≤ i → IsUndetected e i → AwaitsVerdict e.circuit e.representatives steps i
+  awaits_of : (i : ℕ) → e.place ≤ i → IsUndetected e i
+      → AwaitsVerdict e.circuit e.representatives e.settings.start steps i
   awaits_of i from u = record {
     own = u.own;
     undetected =
-        subst (λ (list : List (List Bool)). IsFirstDetection e.circuit (fault_at e.circuit i) list None) s.list
+        subst (λ (list : List (List Bool)). IsFirstFrom e.circuit (fault_at e.circuit i) e.settings.start list None)
+        s.list
         u.undetected;
     without_entry = λ h. let below = s.entered i h in absurd (omega (arith, below, from));
   }
 
-  undetected_of : (i : ℕ) → AwaitsVerdict e.circuit e.representatives steps i → IsUndetected e i
+  undetected_of : (i : ℕ) → AwaitsVerdict e.circuit e.representatives e.settings.start steps i → IsUndetected e i
   undetected_of i a = record {
     own = a.own;
     undetected =
-        subst (λ (list : List (List Bool)). IsFirstDetection e.circuit (fault_at e.circuit i) list None)
+        subst (λ (list : List (List Bool)). IsFirstFrom e.circuit (fault_at e.circuit i) e.settings.start list None)
         (sym s.list) a.undetected;
   }
 
-  pub is_next : (i : ℕ) → IsNextUndetected e i → IsNextFault e.circuit e.representatives steps i
+  pub is_next : (i : ℕ) → IsNextUndetected e i → IsNextFault e.circuit e.representatives e.settings.start steps i
   is_next i n = record {
     awaits = awaits_of i n.from n.undetected;
     least = λ k below a. elim (le_or_lt e.place k) [
@@ -79,7 +84,7 @@ module _ (e : EngineView) (steps : List Step) (s : EngineStandsFor e steps) wher
   }
 
   pub none_awaits : ((k : ℕ) → e.place ≤ k → ¬ IsUndetected e k)
-      → (k : ℕ) → ¬ AwaitsVerdict e.circuit e.representatives steps k
+      → (k : ℕ) → ¬ AwaitsVerdict e.circuit e.representatives e.settings.start steps k
   none_awaits last k a = elim (le_or_lt e.place k) [
     | inl from ↦ last k from (undetected_of k a)
     | inr under ↦ s.done k under a
@@ -112,7 +117,7 @@ module _ (e new : EngineView) (steps : List Step) (s : EngineStandsFor e steps) 
   some_left : length steps < e.settings.random
   some_left = let left = s.left in let some = g.left in omega (arith, left, some)
 
-  random_follows : Follows e.circuit e.representatives (first_of e) e.settings.budget steps (Vectors list)
+  random_follows : Follows e.circuit e.representatives e.settings steps (Vectors list)
   random_follows =
       let count = random_vectors_count e.circuit.inputs e.settings.random e.settings.seed in
       let some = some_left in
@@ -129,20 +134,22 @@ module _ (e new : EngineView) (steps : List Step) (s : EngineStandsFor e steps) 
       let left = s.left in
       let some = g.left in
       record {
+        latches = s.latches;
         are = one_more steps (Vectors list) s.are random_follows;
         left = omega (arith, more, left, some);
         list =
             ap (λ (x : List (List Bool)). x ++ list.list) s.list ∙ sym (vectors_more steps (Vectors list));
         kinds = λ i l. subst (λ (entries : List Numbered). IsKindIn entries i (kind_at e i)) same (s.kinds i l);
-        done = λ k l a. s.done k l (awaited_before e.circuit e.representatives steps (Vectors list) k a);
+        done = λ k l a. s.done k l
+            (awaited_before e.circuit e.representatives e.settings.start steps (Vectors list) k a);
         entered = λ k h. s.entered k (subst (λ (entries : List Numbered). HasEntry entries k) (sym same) h);
         wide = subst (AreVectors e.circuit) (sym (vectors_more steps (Vectors list)))
             (All-append (λ (v : List Bool). length v ≡ e.circuit.inputs) (vectors_of_steps steps) list.list s.wide
             g.wide);
-        pass = subst (AllPass e.circuit e.settings.budget) same s.pass;
+        pass = subst (AllHold e.circuit e.settings) same s.pass;
         found = s.found;
         holds = s.holds;
-        enough = subst (AreEnough e.circuit e.settings.budget e.zero_invariant.clauses) same s.enough;
+        enough = subst (AreEnough e.circuit e.settings.budget e.named_invariant.clauses) same s.enough;
       }
 
   pub random_made : MakesStep e new steps (Vectors list)
@@ -161,19 +168,19 @@ module _ (e new : EngineView) (steps : List Step) (s : EngineStandsFor e steps) 
   abbrev longer : List Step
   longer = steps ++ Vectors list ∷ []
 
-  list_follows : Follows e.circuit e.representatives (first_of e) e.settings.budget steps (Vectors list)
+  list_follows : Follows e.circuit e.representatives e.settings steps (Vectors list)
   list_follows = inr (record {
     after = all_given e steps s g.none_left;
     fault = g.fault;
     next = is_next e steps s g.fault g.next;
-    invariant = e.zero_invariant;
+    invariant = e.named_invariant;
     found = s.found;
     given = g.given;
   })
 
   pub list_useful : MeansOfStep e steps (Vectors list)
   list_useful = λ all.
-      let d = g.holds.detects (vectors_of_steps steps) in
+      let d = g.holds.detects e.settings.start s.latches (vectors_of_steps steps) in
       record {
         fault = g.fault;
         awaited = (is_next e steps s g.fault g.next).awaits;
@@ -182,25 +189,26 @@ module _ (e new : EngineView) (steps : List Step) (s : EngineStandsFor e steps) 
         detects = d.2;
       }
 
-  detected_now : ¬ AwaitsVerdict e.circuit e.representatives longer g.fault
+  detected_now : ¬ AwaitsVerdict e.circuit e.representatives e.settings.start longer g.fault
   detected_now a =
-      let d = g.holds.detects (vectors_of_steps steps) in
-      subst (λ (list : List (List Bool)). IsFirstDetection e.circuit (fault_at e.circuit g.fault) list None)
+      let d = g.holds.detects e.settings.start s.latches (vectors_of_steps steps) in
+      subst (λ (list : List (List Bool)). IsFirstFrom e.circuit (fault_at e.circuit g.fault) e.settings.start list None)
       (vectors_more steps (Vectors list)) a.undetected d.0 d.1 d.2
 
-  list_done : (k : ℕ) → k < g.fault + 1 → ¬ AwaitsVerdict e.circuit e.representatives longer k
+  list_done : (k : ℕ) → k < g.fault + 1 → ¬ AwaitsVerdict e.circuit e.representatives e.settings.start longer k
   list_done k l a = elim (le_or_lt g.fault k) [
     | inl from ↦
         let at : k ≡ g.fault = omega (arith, from, l) in
-        detected_now (subst (AwaitsVerdict e.circuit e.representatives longer) at a)
+        detected_now (subst (AwaitsVerdict e.circuit e.representatives e.settings.start longer) at a)
     | inr under ↦ (is_next e steps s g.fault g.next).least k under
-        (awaited_before e.circuit e.representatives steps (Vectors list) k a)
+        (awaited_before e.circuit e.representatives e.settings.start steps (Vectors list) k a)
   ]
 
   list_stands : EngineStandsFor (record e { list = e.list ++ list.list; place = g.fault + 1 }) longer
   list_stands =
       let same = sym (entries_with_list steps list) in
       record {
+        latches = s.latches;
         are = one_more steps (Vectors list) s.are list_follows;
         left = none_more e steps s (Vectors list) g.none_left;
         list =
@@ -214,10 +222,10 @@ module _ (e new : EngineView) (steps : List Step) (s : EngineStandsFor e steps) 
         wide = subst (AreVectors e.circuit) (sym (vectors_more steps (Vectors list)))
             (All-append (λ (v : List Bool). length v ≡ e.circuit.inputs) (vectors_of_steps steps) list.list s.wide
             g.holds.wide);
-        pass = subst (AllPass e.circuit e.settings.budget) same s.pass;
+        pass = subst (AllHold e.circuit e.settings) same s.pass;
         found = s.found;
         holds = s.holds;
-        enough = subst (AreEnough e.circuit e.settings.budget e.zero_invariant.clauses) same s.enough;
+        enough = subst (AreEnough e.circuit e.settings.budget e.named_invariant.clauses) same s.enough;
       }
 
   pub list_made : MakesStep e new steps (Vectors list)
@@ -238,17 +246,26 @@ kind_stays entries fault made i other None h = λ has. elim (has_cases entries f
 kind_stays entries fault made i other (Some kind) h =
     (h.0, Contains-append_left entries (numbered fault made ∷ []) (numbered i h.0) h.1, h.2)
 
+-- The start allows the state that an entry names: it is the start with 0 where this is unknown.
+work_is_allowed : (c : Netlist) (fault : Fault) (start : List Tern) (budget : ℕ) (invariant : Invariant)
+    → IsNamedInvariant c start budget invariant → (made : recorded.Entry)
+    → IsWork c fault budget invariant (work.Entry made) → AllowsEntry start made
+work_is_allowed c fault start budget invariant found (entries.Untestable z tokens) given = tt
+work_is_allowed c fault start budget invariant found (entries.UntestableFrom state clauses z tokens) given =
+    subst (Allows start) (sym (given.under.same_state ∙ found.state)) (some_allowed start)
+work_is_allowed c fault start budget invariant found (entries.Aborted told walk aim walks) given = tt
+
 module _ (e new : EngineView) (steps : List Step) (s : EngineStandsFor e steps) (fault : ℕ) (made : recorded.Entry)
     (g : GivesEntry e new fault made) where
   abbrev more : List Step
   more = steps ++ Entry fault made ∷ []
 
-  entry_follows : Follows e.circuit e.representatives (first_of e) e.settings.budget steps (Entry fault made)
+  entry_follows : Follows e.circuit e.representatives e.settings steps (Entry fault made)
   entry_follows = inr (record {
     after = all_given e steps s g.none_left;
     fault = fault;
     next = is_next e steps s fault g.next;
-    invariant = e.zero_invariant;
+    invariant = e.named_invariant;
     found = s.found;
     given = (refl, g.given);
   })
@@ -271,13 +288,13 @@ module _ (e new : EngineView) (steps : List Step) (s : EngineStandsFor e steps) 
         (kind_stays (entries_of steps) fault made i t.1 (kind_at e i) (s.kinds i l))
   ]
 
-  entry_done : (k : ℕ) → k < fault + 1 → ¬ AwaitsVerdict e.circuit e.representatives more k
+  entry_done : (k : ℕ) → k < fault + 1 → ¬ AwaitsVerdict e.circuit e.representatives e.settings.start more k
   entry_done k l a = elim (le_or_lt fault k) [
     | inl from ↦
         let at : k ≡ fault = omega (arith, from, l) in
         a.without_entry (subst (HasEntry (entries_of more)) (sym at) (has_last steps fault made))
     | inr under ↦ (is_next e steps s fault g.next).least k under
-        (awaited_before e.circuit e.representatives steps (Entry fault made) k a)
+        (awaited_before e.circuit e.representatives e.settings.start steps (Entry fault made) k a)
   ]
 
   entry_entered : (k : ℕ) → HasEntry (entries_of steps ++ numbered fault made ∷ []) k → k < fault + 1
@@ -296,10 +313,18 @@ module _ (e new : EngineView) (steps : List Step) (s : EngineStandsFor e steps) 
       All-append Q (entries_of steps) (numbered fault made ∷ []) are
       (All-cons Q (numbered fault made) [] (subst (λ (k : ℕ). P k made) at is) (All-nil Q))
 
+  entry_holds : EntryHolds e.circuit e.settings fault made
+  entry_holds = (
+    g.holds,
+    work_is_allowed e.circuit (fault_at e.circuit fault) e.settings.start e.settings.budget e.named_invariant s.found
+        made g.given,
+  )
+
   entry_stands : EngineStandsFor (record e { kinds = kinds_now; place = fault + 1 }) more
   entry_stands =
       let same = sym (entries_more steps (Entry fault made)) in
       record {
+        latches = s.latches;
         are = one_more steps (Entry fault made) s.are entry_follows;
         left = none_more e steps s (Entry fault made) g.none_left;
         list = s.list ∙ sym (vectors_with_entry steps fault made);
@@ -309,12 +334,12 @@ module _ (e new : EngineView) (steps : List Step) (s : EngineStandsFor e steps) 
         entered = λ k h.
             entry_entered k (subst (λ (entries : List Numbered). HasEntry entries k) (sym same) h);
         wide = subst (AreVectors e.circuit) (sym (vectors_with_entry steps fault made)) s.wide;
-        pass = subst (AllPass e.circuit e.settings.budget) same
-            (all_more (λ k made. Passes e.circuit (fault_at e.circuit k) e.settings.budget made) s.pass g.holds);
+        pass = subst (AllHold e.circuit e.settings) same
+            (all_more (EntryHolds e.circuit e.settings) s.pass entry_holds);
         found = s.found;
         holds = s.holds;
-        enough = subst (AreEnough e.circuit e.settings.budget e.zero_invariant.clauses) same
-            (all_more (λ k made. IsEnough e.circuit (fault_at e.circuit k) e.settings.budget e.zero_invariant.clauses
+        enough = subst (AreEnough e.circuit e.settings.budget e.named_invariant.clauses) same
+            (all_more (λ k made. IsEnough e.circuit (fault_at e.circuit k) e.settings.budget e.named_invariant.clauses
             (work.Entry made)) s.enough g.enough);
       }
 
@@ -332,6 +357,7 @@ end_made e new steps s g =
     let last = none_awaits e steps s g.none in
     let at : EngineStandsFor (record e { place = length e.representatives }) steps =
     record {
+      latches = s.latches;
       are = s.are;
       left = s.left;
       list = s.list;
@@ -361,7 +387,7 @@ pub means : (old new : EngineView) (steps : List Step) → EngineStandsFor old s
     → Advances old new step → MeansOfStep old steps step
 means old new steps s (Vectors list) (inl g) = random_means old new steps s list g
 means old new steps s (Vectors list) (inr g) = list_useful old new steps s list g
-means old new steps s (Entry fault made) g = g.holds
+means old new steps s (Entry fault made) g = entry_holds old new steps s fault made g
 means old new steps s Finished g = tt
 
 same_by : (old new : EngineView) (list : List (List Bool)) (kinds : List (Option EntryKind)) (place left : ℕ)
@@ -413,28 +439,33 @@ nears old new Finished g other = absurd (other refl)
 
 pub said_is : (e : EngineView) (steps : List Step) → EngineStandsFor e steps → (i : ℕ)
     → IsOwn e.circuit e.representatives i → i < length e.representatives
-    → IsFirstDetection e.circuit (fault_at e.circuit i) e.list None
-    → (kind : Option EntryKind) → kind_at e i ≡ kind → IsSaid e.circuit e.representatives steps i (said_by kind)
+    → IsFirstFrom e.circuit (fault_at e.circuit i) e.settings.start e.list None
+    → (kind : Option EntryKind) → kind_at e i ≡ kind → IsSaid e.circuit e.representatives e.settings.start steps i
+    (said_by kind)
 said_is e steps s i own l first None at = record {
   own = own;
-  undetected = subst (λ (list : List (List Bool)). IsFirstDetection e.circuit (fault_at e.circuit i) list None) s.list
+  undetected = subst (λ (list : List (List Bool)). IsFirstFrom e.circuit (fault_at e.circuit i) e.settings.start list
+      None) s.list
       first;
   without_entry = subst (IsKindIn (entries_of steps) i) at (s.kinds i l);
 }
 said_is e steps s i own l first (Some kind.Untestable) at = (
-  subst (λ (list : List (List Bool)). IsFirstDetection e.circuit (fault_at e.circuit i) list None) s.list first,
+  subst (λ (list : List (List Bool)). IsFirstFrom e.circuit (fault_at e.circuit i) e.settings.start list None) s.list
+      first,
   subst (IsKindIn (entries_of steps) i) at (s.kinds i l),
 )
 said_is e steps s i own l first (Some kind.Aborted) at = (
-  subst (λ (list : List (List Bool)). IsFirstDetection e.circuit (fault_at e.circuit i) list None) s.list first,
+  subst (λ (list : List (List Bool)). IsFirstFrom e.circuit (fault_at e.circuit i) e.settings.start list None) s.list
+      first,
   subst (IsKindIn (entries_of steps) i) at (s.kinds i l),
 )
 
 pub said_detected : (e : EngineView) (steps : List Step) → EngineStandsFor e steps → (i : ℕ) (place : Place)
-    → IsFirstDetection e.circuit (fault_at e.circuit i) e.list (Some place)
-    → IsFirstDetection e.circuit (fault_at e.circuit i) (vectors_of_steps steps) (Some place)
+    → IsFirstFrom e.circuit (fault_at e.circuit i) e.settings.start e.list (Some place)
+    → IsFirstFrom e.circuit (fault_at e.circuit i) e.settings.start (vectors_of_steps steps) (Some place)
 said_detected e steps s i place first =
-    subst (λ (list : List (List Bool)). IsFirstDetection e.circuit (fault_at e.circuit i) list (Some place)) s.list
+    subst (λ (list : List (List Bool)). IsFirstFrom e.circuit (fault_at e.circuit i) e.settings.start list (Some place))
+    s.list
     first
 
 -- ---- what the fields say of the value
@@ -455,13 +486,14 @@ module _ (e now : EngineView) (listed : List Fault) (grader : GraderView) (words
       }
 
   pub detection_of : (i : ℕ) (place : Option Place)
-      → IsFirstDetection grader.circuit (fault_at grader.circuit i) grader.list place
-      → IsFirstDetection now.circuit (fault_at now.circuit i) now.list place
+      → IsFirstFrom grader.circuit (fault_at grader.circuit i) grader.start grader.list place
+      → IsFirstFrom now.circuit (fault_at now.circuit i) now.settings.start now.list place
   detection_of i place first =
       let list : grader.list ≡ now.list = same ∙ ap (λ (v : EngineView). v.list) at in
-      subst (λ (c : Netlist). IsFirstDetection c (fault_at c i) now.list place) known.circuit
-      (subst (λ (l : List (List Bool)). IsFirstDetection grader.circuit (fault_at grader.circuit i) l place) list
-      first)
+      subst (λ (c : Netlist). IsFirstFrom c (fault_at c i) now.settings.start now.list place) known.circuit
+      (subst (λ (s : List Tern). IsFirstFrom grader.circuit (fault_at grader.circuit i) s now.list place) known.start
+      (subst (λ (l : List (List Bool)). IsFirstFrom grader.circuit (fault_at grader.circuit i) grader.start l place)
+      list first))
 
   pub room_of : (i : ℕ) → IsOwn now.circuit now.representatives i → i < length now.kinds
   room_of i own =
@@ -485,9 +517,9 @@ module _ (e now : EngineView) (listed : List Fault) (grader : GraderView) (words
   -- what holds of the work on a listed fault holds of what it gave
   pub of_work : (P : Netlist → Fault → ℕ → Invariant → Work → Type 0) (i : ℕ) (f : Fault)
       → f ≡ get_or listed i no_fault → (w given : Work) → w ≡ given
-      → P e.circuit f e.settings.budget e.zero_invariant w
-      → P now.circuit (fault_at now.circuit i) now.settings.budget now.zero_invariant given
+      → P e.circuit f e.settings.budget e.named_invariant w
+      → P now.circuit (fault_at now.circuit i) now.settings.budget now.named_invariant given
   of_work P i f got w given is_given h =
-      subst (P now.circuit (fault_at now.circuit i) now.settings.budget now.zero_invariant) is_given
-      (subst (λ (f : Fault). P now.circuit f now.settings.budget now.zero_invariant w) (fault_of i f got)
-      (subst (λ (v : EngineView). P v.circuit f v.settings.budget v.zero_invariant w) at h))
+      subst (P now.circuit (fault_at now.circuit i) now.settings.budget now.named_invariant) is_given
+      (subst (λ (f : Fault). P now.circuit f now.settings.budget now.named_invariant w) (fault_of i f got)
+      (subst (λ (v : EngineView). P v.circuit f v.settings.budget v.named_invariant w) at h))

@@ -1,10 +1,11 @@
 -- What the work on a fault means leaves no other answer where the budget is enough.
 use Rattle.std.proofs.Common.{◌≤◌, ◌<◌, ℕ, List, [], ◌∷◌, Bool, Some, length, refl, arith}
 use Rattle.ht_net.specs.declared.fault.Fault.{Fault}
-use Rattle.ht_net.specs.Detection.{Detects}
+use Rattle.ht_net.specs.Detection.{Detects, unknown_state}
 use Rattle.ht_net.specs.Netlist.{IsCircuit, Netlist}
 use Rattle.ht_net.specs.Silence.{Sealed}
-use Rattle.ht_net.proofs.SilenceLaws.{sealed_undetected}
+use Rattle.ht_net.proofs.MoreToldLaws.{unknown_is_start}
+use Rattle.ht_net.proofs.SilenceLaws.{sealed_undetected_from}
 use Rattle.ht_tree.specs.declared.clause.Clause.{Clause}
 use Rattle.ht_tree.specs.declared.entry.Entry.{Entry}
 use Rattle.ht_tree.specs.declared.entry.Entry.TheVariants.{Untestable, UntestableFrom, Aborted}
@@ -31,7 +32,9 @@ module _ (c : Netlist) (fault : Fault) (budget : ℕ) (circuit : IsCircuit c) wh
   sealed_refuted : (w : Work) → WorkHolds c fault budget w → refutation_cost c ≤ budget → (z : ℕ → Bool)
       → Sealed c fault z → IsRefutation w
   sealed_refuted (work.List list) holds large z seal =
-      let found = holds.detects [] in sealed_undetected c fault z seal list.list found.0 found.1 found.2
+      let start = unknown_state c in
+      let found = holds.detects start (unknown_is_start c) [] in
+      sealed_undetected_from c fault z seal start (unknown_is_start c) list.list found.0 found.1 found.2
   sealed_refuted (work.Entry (Untestable z tokens)) holds large z' seal = refl
   sealed_refuted (work.Entry (UntestableFrom state clauses z tokens)) holds large z' seal = refl
   sealed_refuted (work.Entry (Aborted told walk aim walks)) holds large z seal = absurd

@@ -9,7 +9,7 @@ use Rattle.ht_net.specs.declared.fault.Fault.{Fault}
 use Rattle.ht_net.specs.Netlist.{Netlist}
 use Rattle.ht_net.specs.Frame.{Rules, next_state, run_outputs}
 use Rattle.ht_net.specs.Faults.{tern_rules}
-use Rattle.ht_net.specs.Detection.{Detects, IsFirstDetection, output_at, terns_of, unknown_state}
+use Rattle.ht_net.specs.Detection.{DetectsFrom, IsFirstFrom, output_from, terns_of}
 
 -- a value that is shown stays the same where vectors come after
 same_or_unknown : (c : Netlist) (r : Rules Tern) (latches : List Tern) (xs ys : List (List Tern)) (t o : ℕ)
@@ -20,13 +20,13 @@ same_or_unknown c r latches [] ys t o = inl refl
 same_or_unknown c r latches (x ∷ xs) ys zero o = inr refl
 same_or_unknown c r latches (x ∷ xs) ys (suc t) o = same_or_unknown c r (next_state c r x latches) xs ys t o
 
-output_more : (c : Netlist) (fault : Option Fault) (list more : List (List Bool)) (t o : ℕ)
-    → (output_at c fault list t o ≡ Unk) ⊎ (output_at c fault list t o ≡ output_at c fault (list ++ more) t o)
-output_more c fault list more t o =
+output_more : (c : Netlist) (fault : Option Fault) (s : List Tern) (list more : List (List Bool)) (t o : ℕ)
+    → (output_from c fault s list t o ≡ Unk) ⊎
+    (output_from c fault s list t o ≡ output_from c fault s (list ++ more) t o)
+output_more c fault s list more t o =
     let r = tern_rules fault in
-    let s = unknown_state c in
-    subst (λ (xs : List (List Tern)). (output_at c fault list t o ≡ Unk)
-    ⊎ (output_at c fault list t o ≡ get_or (get_or (run_outputs c r s xs) t []) o Unk))
+    subst (λ (xs : List (List Tern)). (output_from c fault s list t o ≡ Unk)
+    ⊎ (output_from c fault s list t o ≡ get_or (get_or (run_outputs c r s xs) t []) o Unk))
     (sym (map-append terns_of list more)) (same_or_unknown c r s (map terns_of list) (map terns_of more) t o)
 
 not_unknown : (g : Tern) → Opposite g Unk → ⊥
@@ -45,14 +45,14 @@ opposite_more g b g' b' (inr e) (inl f) d = absurd (not_unknown g (subst (λ (x 
 opposite_more g b g' b' (inr e) (inr f) d =
     subst (λ (x : Tern). Opposite g' x) f (subst (λ (x : Tern). Opposite x b) e d)
 
-pub detects_more : (c : Netlist) (fault : Fault) (list more : List (List Bool)) (t o : ℕ) → Detects c fault list t o
-    → Detects c fault (list ++ more) t o
-detects_more c fault list more t o d =
-    opposite_more (output_at c None list t o) (output_at c (Some fault) list t o)
-    (output_at c None (list ++ more) t o) (output_at c (Some fault) (list ++ more) t o)
-    (output_more c None list more t o) (output_more c (Some fault) list more t o) d
+pub detects_more : (c : Netlist) (fault : Fault) (s : List Tern) (list more : List (List Bool)) (t o : ℕ)
+    → DetectsFrom c fault s list t o → DetectsFrom c fault s (list ++ more) t o
+detects_more c fault s list more t o d =
+    opposite_more (output_from c None s list t o) (output_from c (Some fault) s list t o)
+    (output_from c None s (list ++ more) t o) (output_from c (Some fault) s (list ++ more) t o)
+    (output_more c None s list more t o) (output_more c (Some fault) s list more t o) d
 
 -- what all vectors don't detect the first ones don't
-pub undetected_before : (c : Netlist) (fault : Fault) (list more : List (List Bool))
-    → IsFirstDetection c fault (list ++ more) None → IsFirstDetection c fault list None
-undetected_before c fault list more h = λ t o d. h t o (detects_more c fault list more t o d)
+pub undetected_before : (c : Netlist) (fault : Fault) (s : List Tern) (list more : List (List Bool))
+    → IsFirstFrom c fault s (list ++ more) None → IsFirstFrom c fault s list None
+undetected_before c fault s list more h = λ t o d. h t o (detects_more c fault s list more t o d)

@@ -6,9 +6,10 @@ use Rattle.std.proofs.lemmas.Bool.{lt-ltb}
 use Rattle.std.proofs.lemmas.List.{append-nil, map-append}
 use Rattle.std.proofs.lemmas.List.Concat.{flat_map-append}
 use Rattle.std.proofs.lemmas.List.Elements.{All-append, All-cons, All-head, All-nil, All-tail, Contains-append_cases, Contains-append_left, Contains-append_right}
+use Rattle.ht_tern.specs.declared.tern.Tern.{Tern}
 use Rattle.ht_net.specs.Netlist.{Netlist}
 use Rattle.ht_net.specs.Rows.{Rows}
-use Rattle.ht_net.specs.Detection.{IsFirstDetection}
+use Rattle.ht_net.specs.Detection.{IsFirstFrom}
 use Rattle.ht_collapse.specs.Classes.{fault_at}
 use Rattle.ht_tree.specs.declared.entry.Entry as recorded
 use Rattle.ht_tree.specs.Rising.{Rises}
@@ -19,7 +20,7 @@ use Rattle.ht_entries.proofs.RisesLaws.{rises_add, rises_none}
 use Rattle.ht_valid.specs.ValidFiles.{HasEntry, IsOwn}
 use Rattle.ht_engine.specs.declared.step.Step.{Step}
 use Rattle.ht_engine.specs.declared.step.Step.TheVariants.{Vectors, Entry, Finished}
-use Rattle.ht_engine.specs.Steps.{AreSteps, AwaitsVerdict, Follows, IsNextFault, IsOwnEntry, IsWorkStep, entries_of, none, one_more, one_vector, step_entries, step_vectors, vectors_of_steps}
+use Rattle.ht_engine.specs.Steps.{AreSteps, AwaitsVerdict, Follows, IsNextFault, IsOwnEntry, IsWorkStep, Settings, entries_of, none, one_more, first_vectors, one_vector, step_entries, step_vectors, vectors_of_steps}
 use Rattle.ht_engine.proofs.MoreVectorsLaws.{undetected_before}
 
 -- ---- the vectors and the entries of one more step
@@ -85,12 +86,13 @@ has_last steps fault e = record {
 
 -- ---- who awaits its verdict after a step awaited it before
 
-pub awaited_before : (c : Netlist) (representatives : List ℕ) (steps : List Step) (step : Step) (k : ℕ)
-    → AwaitsVerdict c representatives (steps ++ step ∷ []) k → AwaitsVerdict c representatives steps k
-awaited_before c representatives steps step k a = record {
+pub awaited_before : (c : Netlist) (representatives : List ℕ) (start : List Tern) (steps : List Step) (step : Step)
+    (k : ℕ)
+    → AwaitsVerdict c representatives start (steps ++ step ∷ []) k → AwaitsVerdict c representatives start steps k
+awaited_before c representatives start steps step k a = record {
   own = a.own;
-  undetected = undetected_before c (fault_at c k) (vectors_of_steps steps) (step_vectors step)
-      (subst (λ (list : List (List Bool)). IsFirstDetection c (fault_at c k) list None) (vectors_more steps step)
+  undetected = undetected_before c (fault_at c k) start (vectors_of_steps steps) (step_vectors step)
+      (subst (λ (list : List (List Bool)). IsFirstFrom c (fault_at c k) start list None) (vectors_more steps step)
       a.undetected);
   without_entry = λ h. a.without_entry
       (subst (λ (entries : List Numbered). HasEntry entries k) (sym (entries_more steps step))
@@ -107,19 +109,19 @@ above_entries (e ∷ f ∷ entries) j h =
     above_entries (f ∷ entries) j (All-tail (λ (e : Numbered). e.number < j) e (f ∷ entries) h)
 
 -- Each entry is of a lower fault than those that still await their verdict; the entries rise, each of an own fault.
-pub record AreInOrder (c : Netlist) (representatives : List ℕ) (steps : List Step) : Type 0 where
-  pub below : (k : ℕ) → AwaitsVerdict c representatives steps k
+pub record AreInOrder (c : Netlist) (representatives : List ℕ) (start : List Tern) (steps : List Step) : Type 0 where
+  pub below : (k : ℕ) → AwaitsVerdict c representatives start steps k
       → All (λ (e : Numbered). e.number < k + 1) (entries_of steps)
   pub rises : Rises (numbers_of (entries_of steps))
   pub own : All (IsOwnEntry c representatives) (entries_of steps)
 
-after_list : (c : Netlist) (representatives : List ℕ) (steps : List Step) (list : Rows)
-    → AreInOrder c representatives steps → AreInOrder c representatives (steps ++ Vectors list ∷ [])
-after_list c representatives steps list o =
+after_list : (c : Netlist) (representatives : List ℕ) (start : List Tern) (steps : List Step) (list : Rows)
+    → AreInOrder c representatives start steps → AreInOrder c representatives start (steps ++ Vectors list ∷ [])
+after_list c representatives start steps list o =
     let same = sym (entries_with_list steps list) in
     record {
       below = λ k a. subst (All (λ (e : Numbered). e.number < k + 1)) same
-          (o.below k (awaited_before c representatives steps (Vectors list) k a));
+          (o.below k (awaited_before c representatives start steps (Vectors list) k a));
       rises = subst (λ (entries : List Numbered). Rises (numbers_of entries)) same o.rises;
       own = subst (All (IsOwnEntry c representatives)) same o.own;
     }
@@ -127,10 +129,12 @@ after_list c representatives steps list o =
 above_by : (i k : ℕ) → (k < i → ⊥) → (i ≡ k → ⊥) → i < k
 above_by i k f g = omega (arith, f, g)
 
-is_higher : (c : Netlist) (representatives : List ℕ) (steps : List Step) (i k : ℕ) (e : recorded.Entry)
-    → IsNextFault c representatives steps i → AwaitsVerdict c representatives (steps ++ Entry i e ∷ []) k → i < k
-is_higher c representatives steps i k e n a =
-    above_by i k (λ below. n.least k below (awaited_before c representatives steps (Entry i e) k a))
+is_higher : (c : Netlist) (representatives : List ℕ) (start : List Tern) (steps : List Step) (i k : ℕ)
+    (e : recorded.Entry)
+    → IsNextFault c representatives start steps i → AwaitsVerdict c representatives start (steps ++ Entry i e ∷ []) k
+    → i < k
+is_higher c representatives start steps i k e n a =
+    above_by i k (λ below. n.least k below (awaited_before c representatives start steps (Entry i e) k a))
     (λ same. a.without_entry
     (subst (HasEntry (entries_of (steps ++ Entry i e ∷ []))) same (has_last steps i e)))
 
@@ -146,20 +150,22 @@ rises_more entries i e rises below =
     subst Rises (sym (map-append (λ (e : Numbered). e.number) entries (numbered i e ∷ [])))
     (rises_add (numbers_of entries) (i + 1) rises (above_entries entries (i + 1) below))
 
-after_entry : (c : Netlist) (representatives : List ℕ) (steps : List Step) (i : ℕ) (e : recorded.Entry)
-    → IsNextFault c representatives steps i → AreInOrder c representatives steps
-    → AreInOrder c representatives (steps ++ Entry i e ∷ [])
-after_entry c representatives steps i e n o =
+after_entry : (c : Netlist) (representatives : List ℕ) (start : List Tern) (steps : List Step) (i : ℕ)
+    (e : recorded.Entry)
+    → IsNextFault c representatives start steps i → AreInOrder c representatives start steps
+    → AreInOrder c representatives start (steps ++ Entry i e ∷ [])
+after_entry c representatives start steps i e n o =
     let more = sym (entries_more steps (Entry i e)) in
     let entries = entries_of steps in
     let last = numbered i e in
     record {
       below = λ k a.
           let P : Numbered → Type 0 = λ (e : Numbered). e.number < k + 1 in
-          let higher = is_higher c representatives steps i k e n a in
+          let higher = is_higher c representatives start steps i k e n a in
           let under : i + 1 < k + 1 = omega (arith, higher) in
           subst (All P) more (All-append P entries (last ∷ [])
-          (o.below k (awaited_before c representatives steps (Entry i e) k a)) (All-cons P last [] under (All-nil P)));
+          (o.below k (awaited_before c representatives start steps (Entry i e) k a))
+          (All-cons P last [] under (All-nil P)));
       rises = subst (λ (entries : List Numbered). Rises (numbers_of entries)) more
           (rises_more entries i e o.rises (o.below i n.awaits));
       own =
@@ -168,30 +174,33 @@ after_entry c representatives steps i e n o =
           (All-cons P last [] (own_entry c representatives i e n.awaits.own) (All-nil P)));
     }
 
-after_work : (c : Netlist) (representatives : List ℕ) (first : List (List Bool)) (budget : ℕ) (steps : List Step)
-    (step : Step) → IsWorkStep c representatives first budget steps step → AreInOrder c representatives steps
-    → AreInOrder c representatives (steps ++ step ∷ [])
-after_work c representatives first budget steps (Vectors list) f o = after_list c representatives steps list o
-after_work c representatives first budget steps (Entry fault e) f o =
-    after_entry c representatives steps fault e (subst (IsNextFault c representatives steps) (sym f.given.0) f.next) o
-after_work c representatives first budget steps Finished f o = absurd f.given
+after_work : (c : Netlist) (representatives : List ℕ) (settings : Settings) (steps : List Step)
+    (step : Step) → IsWorkStep c representatives settings steps step → AreInOrder c representatives settings.start steps
+    → AreInOrder c representatives settings.start (steps ++ step ∷ [])
+after_work c representatives settings steps (Vectors list) f o = after_list c representatives settings.start steps list
+    o
+after_work c representatives settings steps (Entry fault e) f o =
+    after_entry c representatives settings.start steps fault e
+    (subst (IsNextFault c representatives settings.start steps) (sym f.given.0) f.next) o
+after_work c representatives settings steps Finished f o = absurd f.given
 
-after_step : (c : Netlist) (representatives : List ℕ) (first : List (List Bool)) (budget : ℕ) (steps : List Step)
-    (step : Step) → Follows c representatives first budget steps step → AreInOrder c representatives steps
-    → AreInOrder c representatives (steps ++ step ∷ [])
-after_step c representatives first budget steps step (inl f) o =
-    subst (λ (x : Step). AreInOrder c representatives (steps ++ x ∷ [])) (sym f.given)
-    (after_list c representatives steps (one_vector c (get_or first (length steps) [])) o)
-after_step c representatives first budget steps step (inr f) o =
-    after_work c representatives first budget steps step f o
+after_step : (c : Netlist) (representatives : List ℕ) (settings : Settings) (steps : List Step)
+    (step : Step) → Follows c representatives settings steps step → AreInOrder c representatives settings.start steps
+    → AreInOrder c representatives settings.start (steps ++ step ∷ [])
+after_step c representatives settings steps step (inl f) o =
+    subst (λ (x : Step). AreInOrder c representatives settings.start (steps ++ x ∷ [])) (sym f.given)
+    (after_list c representatives settings.start steps
+    (one_vector c (get_or (first_vectors c settings) (length steps) [])) o)
+after_step c representatives settings steps step (inr f) o =
+    after_work c representatives settings steps step f o
 
-pub steps_in_order : (c : Netlist) (representatives : List ℕ) (first : List (List Bool)) (budget : ℕ)
-    (steps : List Step) → AreSteps c representatives first budget steps → AreInOrder c representatives steps
-steps_in_order c representatives first budget steps none = record {
+pub steps_in_order : (c : Netlist) (representatives : List ℕ) (settings : Settings)
+    (steps : List Step) → AreSteps c representatives settings steps → AreInOrder c representatives settings.start steps
+steps_in_order c representatives settings steps none = record {
   below = λ k a. All-nil _;
   rises = rises_none;
   own = All-nil _;
 }
-steps_in_order c representatives first budget steps (one_more before step are follows) =
-    after_step c representatives first budget before step follows
-    (steps_in_order c representatives first budget before are)
+steps_in_order c representatives settings steps (one_more before step are follows) =
+    after_step c representatives settings before step follows
+    (steps_in_order c representatives settings before are)

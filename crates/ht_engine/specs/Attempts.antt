@@ -2,10 +2,11 @@
 -- that it needs.
 use Rattle.std.specs.Prelude.{◌≡◌, ◌++◌, ℕ, List, [], ◌∷◌, Bool, Option, Some, None}
 use Rattle.std.specs.List.{All}
+use Rattle.ht_tern.specs.declared.tern.Tern.{Tern}
 use Rattle.ht_net.specs.declared.fault.Fault.{Fault}
 use Rattle.ht_net.specs.Netlist.{Netlist}
 use Rattle.ht_net.specs.Rows.{Rows}
-use Rattle.ht_net.specs.Detection.{Detects}
+use Rattle.ht_net.specs.Detection.{Detects, DetectsFrom, IsStart}
 use Rattle.ht_tree.specs.declared.aim.Aim.{Aim}
 use Rattle.ht_tree.specs.declared.aim.Aim.TheVariants as aim
 use Rattle.ht_tree.specs.declared.told.Told.{Told}
@@ -103,12 +104,12 @@ abbrev pub IsAttempted : Netlist → Fault → ℕ → List Told → Attempted �
 IsAttempted c fault budget told (Detected list) = ComposesFirst c fault budget told list
 IsAttempted c fault budget told (Failed aim) = FailsFirst c fault budget told aim
 
--- A list that detects the fault, also after any other list.
+-- A list that detects the fault from every start, also after any other list.
 pub record DetectsAlways (c : Netlist) (fault : Fault) (list : Rows) : Type 0 where
   pub wide : AreVectors c list.list
   pub width : list.width ≡ c.inputs
-  pub detects : (before : List (List Bool))
-      → (vector : ℕ) × (output : ℕ) × Detects c fault (before ++ list.list) vector output
+  pub detects : (start : List Tern) → IsStart c start → (before : List (List Bool))
+      → (vector : ℕ) × (output : ℕ) × DetectsFrom c fault start (before ++ list.list) vector output
 
 -- A list ahead of a told frame.
 pub record IsListAheadOf (c : Netlist) (fault : Fault) (told : Told) (list : Rows) : Type 0 where

@@ -9,14 +9,14 @@ use Rattle.ht_texts.specs.SearchReports.{IsBudget}
 use Rattle.ht_random.specs.RandomVectors.{generator_after}
 use Rattle.ht_engine.specs.declared.engine.Engine.TheInside.{Inside}
 use Rattle.ht_engine.specs.EngineStands.{EngineView}
-use Rattle.ht_engine.specs.FaultWork.{HoldsIfAny, IsZeroInvariant}
+use Rattle.ht_engine.specs.FaultWork.{HoldsIfAny, IsNamedInvariant}
 
 abbrev pub engine_of : Inside → EngineView
 engine_of a = record {
   circuit = a.circuit.now;
   representatives = a.classes.now;
-  settings = record { budget = a.budget; random = a.random; seed = a.seed };
-  zero_invariant = a.zero_invariant;
+  settings = record { budget = a.budget; random = a.random; seed = a.seed; start = a.start.items };
+  named_invariant = a.named_invariant;
   list = a.grader.list;
   kinds = a.kinds.items;
   place = a.place;
@@ -31,12 +31,13 @@ pub record IsEngine (e : EngineView) (listed : List Fault) (grader : GraderView)
   pub classes : AreClasses e.circuit e.representatives
   pub circuit : grader.circuit ≡ e.circuit
   pub representatives : grader.representatives ≡ e.representatives
+  pub start : grader.start ≡ e.settings.start
   pub budget : IsBudget e.settings.budget
   pub kinds : length e.kinds ≡ length e.representatives
   pub place : e.place ≤ length e.representatives
   pub left : e.left ≤ e.settings.random
-  pub found : IsZeroInvariant e.circuit e.settings.budget e.zero_invariant
-  pub holds : HoldsIfAny e.circuit e.zero_invariant
+  pub found : IsNamedInvariant e.circuit e.settings.start e.settings.budget e.named_invariant
+  pub holds : HoldsIfAny e.circuit e.named_invariant
   pub words : generator ≡ generator_after e.circuit.inputs (e.settings.random - e.left) e.settings.seed
 
 -- The fields of an engine, with bases of its circuit.

@@ -1,10 +1,11 @@
 -- An engine, and the steps that it stands for.
 use Rattle.std.specs.Prelude.{◌≡◌, ◌<◌, ◌≤◌, ◌-◌, ◌+◌, ℕ, List, [], ◌∷◌, ◌++◌, Bool, get_or, length, Option, Some, None}
 use Rattle.std.specs.List.{All, Contains}
+use Rattle.ht_tern.specs.declared.tern.Tern.{Tern}
 use Rattle.ht_net.specs.Netlist.{Netlist}
-use Rattle.ht_net.specs.Detection.{Detects, IsFirstDetection}
+use Rattle.ht_net.specs.Detection.{DetectsFrom, IsFirstFrom, IsStart}
 use Rattle.ht_collapse.specs.Classes.{fault_at}
-use Rattle.ht_tree.specs.Entries.{Passes, kind_of}
+use Rattle.ht_tree.specs.Entries.{AllowsEntry, Passes, kind_of}
 use Rattle.ht_tree.specs.Reached.{AreVectors}
 use Rattle.ht_texts.specs.declared.said.Said.{Said}
 use Rattle.ht_texts.specs.declared.said.Said.TheVariants as said
@@ -19,7 +20,7 @@ use Rattle.ht_engine.specs.declared.step.Step.{Step}
 use Rattle.ht_engine.specs.declared.step.Step.TheVariants.{Vectors, Entry, Finished}
 use Rattle.ht_engine.specs.declared.work.Work.TheVariants as work
 use Rattle.ht_engine.specs.Enough.{IsEnough}
-use Rattle.ht_engine.specs.FaultWork.{HoldsIfAny, IsZeroInvariant}
+use Rattle.ht_engine.specs.FaultWork.{HoldsIfAny, IsNamedInvariant}
 use Rattle.ht_engine.specs.Steps.{AreFinished, AreSteps, AwaitsVerdict, Follows, Settings, entries_of, first_vectors, vectors_of_steps}
 
 pub record EngineView : Type 0 where
@@ -27,8 +28,8 @@ pub record EngineView : Type 0 where
   pub circuit : Netlist
   pub representatives : List ℕ
   pub settings : Settings
-  -- the invariant of the state in which each latch holds 0
-  pub zero_invariant : Invariant
+  -- the invariant of the state that is named: the start, with 0 where it is unknown
+  pub named_invariant : Invariant
   -- what it keeps of the steps so far: their vectors, the kind of each fault's entry, and the number of the first fault
   -- that may still await its verdict
   pub list : List (List Bool)
@@ -53,30 +54,35 @@ IsKindIn entries i None = ¬ HasEntry entries i
 IsKindIn entries i (Some kind) = (e : recorded.Entry)
     × Contains entries (record { number = i + 1; entry = e }) × (kind_of e ≡ kind)
 
--- Each entry passes, for the fault of its number.
-abbrev pub AllPass : Netlist → ℕ → List Numbered → Type 0
-AllPass c budget entries = All (λ (e : Numbered). Passes c (fault_at c (e.number - 1)) budget e.entry) entries
+-- the entry of fault i passes, and the start allows the state that it names
+abbrev pub EntryHolds : Netlist → Settings → ℕ → recorded.Entry → Type 0
+EntryHolds c settings i made = Passes c (fault_at c i) settings.budget made × AllowsEntry settings.start made
+
+-- so does each entry, for the fault of its number
+abbrev pub AllHold : Netlist → Settings → List Numbered → Type 0
+AllHold c settings entries = All (λ (e : Numbered). EntryHolds c settings (e.number - 1) e.entry) entries
 
 -- The budget is enough for what each entry says, if it is enough for anything (`IsEnough`).
 abbrev pub AreEnough : Netlist → ℕ → List Clause → List Numbered → Type 0
 AreEnough c budget clauses entries =
     All (λ (e : Numbered). IsEnough c (fault_at c (e.number - 1)) budget clauses (work.Entry e.entry)) entries
 
--- The engine stands for these steps: what it keeps is theirs. Its invariant is the one that is found from the state in
--- which each latch holds 0.
+-- The engine stands for these steps: what it keeps is theirs. Its invariant is the one that is found from the state
+-- named for its start.
 pub record EngineStandsFor (e : EngineView) (steps : List Step) : Type 0 where
-  pub are : AreSteps e.circuit e.representatives (first_of e) e.settings.budget steps
+  pub latches : IsStart e.circuit e.settings.start
+  pub are : AreSteps e.circuit e.representatives e.settings steps
   pub left : e.left ≡ e.settings.random - length steps
   pub list : e.list ≡ vectors_of_steps steps
   pub kinds : (i : ℕ) → i < length e.representatives → IsKindIn (entries_of steps) i (kind_at e i)
-  pub done : (i : ℕ) → i < e.place → ¬ AwaitsVerdict e.circuit e.representatives steps i
+  pub done : (i : ℕ) → i < e.place → ¬ AwaitsVerdict e.circuit e.representatives e.settings.start steps i
   pub entered : (i : ℕ) → HasEntry (entries_of steps) i → i < e.place
   -- what the steps mean
   pub wide : AreVectors e.circuit (vectors_of_steps steps)
-  pub pass : AllPass e.circuit e.settings.budget (entries_of steps)
-  pub found : IsZeroInvariant e.circuit e.settings.budget e.zero_invariant
-  pub holds : HoldsIfAny e.circuit e.zero_invariant
-  pub enough : AreEnough e.circuit e.settings.budget e.zero_invariant.clauses (entries_of steps)
+  pub pass : AllHold e.circuit e.settings (entries_of steps)
+  pub found : IsNamedInvariant e.circuit e.settings.start e.settings.budget e.named_invariant
+  pub holds : HoldsIfAny e.circuit e.named_invariant
+  pub enough : AreEnough e.circuit e.settings.budget e.named_invariant.clauses (entries_of steps)
 
 -- ---- one more step
 
@@ -92,42 +98,43 @@ remaining e = e.left + (length e.representatives - e.place)
 
 -- the engine made a step that may come after these, and stands for them with it
 pub record MakesStep (old new : EngineView) (steps : List Step) (step : Step) : Type 0 where
-  pub follows : Follows old.circuit old.representatives (first_of old) old.settings.budget steps step
+  pub follows : Follows old.circuit old.representatives old.settings steps step
   pub stands : EngineStandsFor new (steps ++ step ∷ [])
 
 -- the engine made the step after these, or is finished where they are all
 abbrev pub Makes : EngineView → EngineView → List Step → Step → Type 0
 Makes old new steps Finished =
-    AreFinished old.circuit old.representatives (first_of old) steps × EngineStandsFor new steps
+    AreFinished old.circuit old.representatives old.settings steps × EngineStandsFor new steps
 Makes old new steps step = MakesStep old new steps step
 
--- A list of vectors after those so far, which detects a representative that awaited its verdict.
-pub record IsUseful (c : Netlist) (representatives : List ℕ) (steps : List Step) (list : List (List Bool))
-    : Type 0 where
+-- A list of vectors after those so far, with which a representative is detected from the start that awaited its
+-- verdict.
+pub record IsUseful (c : Netlist) (representatives : List ℕ) (start : List Tern) (steps : List Step)
+    (list : List (List Bool)) : Type 0 where
   pub fault : ℕ
-  pub awaited : AwaitsVerdict c representatives steps fault
+  pub awaited : AwaitsVerdict c representatives start steps fault
   pub vector : ℕ
   pub output : ℕ
-  pub detects : Detects c (fault_at c fault) (vectors_of_steps steps ++ list) vector output
+  pub detects : DetectsFrom c (fault_at c fault) start (vectors_of_steps steps ++ list) vector output
 
--- each list after the random vectors is useful, and each entry passes
+-- each list after the random vectors is useful, and each entry passes and names a state that the start allows, if any
 abbrev pub MeansOfStep : EngineView → List Step → Step → Type 0
 MeansOfStep e steps (Vectors list) =
-    e.settings.random ≤ length steps → IsUseful e.circuit e.representatives steps list.list
-MeansOfStep e steps (Entry fault made) = Passes e.circuit (fault_at e.circuit fault) e.settings.budget made
+    e.settings.random ≤ length steps → IsUseful e.circuit e.representatives e.settings.start steps list.list
+MeansOfStep e steps (Entry fault made) = EntryHolds e.circuit e.settings fault made
 MeansOfStep e steps Finished = Unit {0}
 
 -- ---- what is said of a representative
 
 -- Detected at the first place where the vectors detect it; where they don't, what its entry says. Undetected is said
 -- only while it awaits its verdict.
-abbrev pub IsSaid : Netlist → List ℕ → List Step → ℕ → Said → Type 0
-IsSaid c representatives steps i (said.Detected place) =
-    IsFirstDetection c (fault_at c i) (vectors_of_steps steps) (Some place)
-IsSaid c representatives steps i said.Untestable =
-    IsFirstDetection c (fault_at c i) (vectors_of_steps steps) None
+abbrev pub IsSaid : Netlist → List ℕ → List Tern → List Step → ℕ → Said → Type 0
+IsSaid c representatives start steps i (said.Detected place) =
+    IsFirstFrom c (fault_at c i) start (vectors_of_steps steps) (Some place)
+IsSaid c representatives start steps i said.Untestable =
+    IsFirstFrom c (fault_at c i) start (vectors_of_steps steps) None
     × IsKindIn (entries_of steps) i (Some kind.Untestable)
-IsSaid c representatives steps i said.Aborted =
-    IsFirstDetection c (fault_at c i) (vectors_of_steps steps) None
+IsSaid c representatives start steps i said.Aborted =
+    IsFirstFrom c (fault_at c i) start (vectors_of_steps steps) None
     × IsKindIn (entries_of steps) i (Some kind.Aborted)
-IsSaid c representatives steps i said.Undetected = AwaitsVerdict c representatives steps i
+IsSaid c representatives start steps i said.Undetected = AwaitsVerdict c representatives start steps i

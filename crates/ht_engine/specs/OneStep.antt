@@ -1,6 +1,6 @@
 -- What one step changes of what an engine keeps.
 use Rattle.std.specs.Prelude.{◌≡◌, ◌⊎◌, ◌<◌, ◌≤◌, ◌+◌, ◌-◌, ◌++◌, ℕ, List, [], Bool, Option, Some, None, get_or, length, slice_set}
-use Rattle.ht_net.specs.Detection.{IsFirstDetection}
+use Rattle.ht_net.specs.Detection.{IsFirstFrom}
 use Rattle.ht_net.specs.Rows.{Rows}
 use Rattle.ht_collapse.specs.Classes.{fault_at}
 use Rattle.ht_texts.specs.declared.said.Said.{Said}
@@ -21,10 +21,10 @@ use Rattle.ht_engine.specs.Steps.{one_vector}
 
 -- ---- the fault that is worked on
 
--- Fault i represents its class, and the vectors so far don't detect it.
+-- Fault i represents its class, and the vectors so far don't detect it from the start.
 pub record IsUndetected (e : EngineView) (i : ℕ) : Type 0 where
   pub own : IsOwn e.circuit e.representatives i
-  pub undetected : IsFirstDetection e.circuit (fault_at e.circuit i) e.list None
+  pub undetected : IsFirstFrom e.circuit (fault_at e.circuit i) e.settings.start e.list None
 
 -- the least undetected fault that isn't below the place
 pub record IsNextUndetected (e : EngineView) (i : ℕ) : Type 0 where
@@ -62,7 +62,7 @@ pub record GivesList (old new : EngineView) (list : Rows) : Type 0 where
   pub none_left : old.left ≡ 0
   pub fault : ℕ
   pub next : IsNextUndetected old fault
-  pub given : IsWork old.circuit (fault_at old.circuit fault) old.settings.budget old.zero_invariant
+  pub given : IsWork old.circuit (fault_at old.circuit fault) old.settings.budget old.named_invariant
       (work.List list)
   pub holds : DetectsAlways old.circuit (fault_at old.circuit fault) list
   pub after : new ≡ record old { list = old.list ++ list.list; place = fault + 1 }
@@ -71,10 +71,10 @@ pub record GivesList (old new : EngineView) (list : Rows) : Type 0 where
 pub record GivesEntry (old new : EngineView) (fault : ℕ) (entry : recorded.Entry) : Type 0 where
   pub none_left : old.left ≡ 0
   pub next : IsNextUndetected old fault
-  pub given : IsWork old.circuit (fault_at old.circuit fault) old.settings.budget old.zero_invariant
+  pub given : IsWork old.circuit (fault_at old.circuit fault) old.settings.budget old.named_invariant
       (work.Entry entry)
   pub holds : Passes old.circuit (fault_at old.circuit fault) old.settings.budget entry
-  pub enough : IsEnough old.circuit (fault_at old.circuit fault) old.settings.budget old.zero_invariant.clauses
+  pub enough : IsEnough old.circuit (fault_at old.circuit fault) old.settings.budget old.named_invariant.clauses
       (work.Entry entry)
   pub room : fault < length old.kinds
   pub after : new

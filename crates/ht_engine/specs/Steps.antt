@@ -1,8 +1,9 @@
 -- The steps of the generator, the first vectors and then the work on all representatives: which may come after which.
 use Rattle.std.specs.Prelude.{◌≡◌, ◌⊎◌, ◌<◌, ◌≤◌, ◌+◌, ◌-◌, ℕ, List, [], ◌∷◌, ◌++◌, flat_map, get_or, length, Bool, None}
+use Rattle.ht_tern.specs.declared.tern.Tern.{Tern}
 use Rattle.ht_net.specs.Netlist.{Netlist}
 use Rattle.ht_net.specs.Rows.{Rows}
-use Rattle.ht_net.specs.Detection.{IsFirstDetection}
+use Rattle.ht_net.specs.Detection.{IsFirstFrom}
 use Rattle.ht_collapse.specs.Classes.{fault_at}
 use Rattle.ht_entries.specs.declared.numbered.Numbered.{Numbered}
 use Rattle.ht_valid.specs.ValidFiles.{HasEntry, IsOwn}
@@ -11,7 +12,7 @@ use Rattle.ht_random.specs.RandomVectors.{random_vectors}
 use Rattle.ht_engine.specs.declared.work.Work.TheVariants as work
 use Rattle.ht_engine.specs.declared.step.Step.{Step}
 use Rattle.ht_engine.specs.declared.step.Step.TheVariants.{Vectors, Entry, Finished}
-use Rattle.ht_engine.specs.FaultWork.{IsWork, IsZeroInvariant}
+use Rattle.ht_engine.specs.FaultWork.{IsWork, IsNamedInvariant}
 
 -- ---- the vectors and the entries of steps
 
@@ -38,24 +39,29 @@ pub record IsOwnEntry (c : Netlist) (representatives : List ℕ) (e : Numbered) 
 
 -- ---- which fault comes next
 
--- Fault i awaits its verdict: it represents its class, the vectors so far don't detect it, and it has no entry.
-pub record AwaitsVerdict (c : Netlist) (representatives : List ℕ) (steps : List Step) (i : ℕ) : Type 0 where
+-- Fault i awaits its verdict: it represents its class, the vectors so far don't detect it from the start, and it has no
+-- entry.
+pub record AwaitsVerdict (c : Netlist) (representatives : List ℕ) (start : List Tern) (steps : List Step) (i : ℕ)
+    : Type 0 where
   pub own : IsOwn c representatives i
-  pub undetected : IsFirstDetection c (fault_at c i) (vectors_of_steps steps) None
+  pub undetected : IsFirstFrom c (fault_at c i) start (vectors_of_steps steps) None
   pub without_entry : ¬ HasEntry (entries_of steps) i
 
 -- the least that awaits it
-pub record IsNextFault (c : Netlist) (representatives : List ℕ) (steps : List Step) (i : ℕ) : Type 0 where
-  pub awaits : AwaitsVerdict c representatives steps i
-  pub least : (k : ℕ) → k < i → ¬ AwaitsVerdict c representatives steps k
+pub record IsNextFault (c : Netlist) (representatives : List ℕ) (start : List Tern) (steps : List Step) (i : ℕ)
+    : Type 0 where
+  pub awaits : AwaitsVerdict c representatives start steps i
+  pub least : (k : ℕ) → k < i → ¬ AwaitsVerdict c representatives start steps k
 
 -- ---- the vectors that come first
 
--- What a generator is told: the budget of each search, how many random vectors come first, and their seed.
+-- What a generator is told: the budget of each search, how many random vectors come first, their seed, and what each
+-- flip-flop holds before the first vector.
 pub record Settings : Type 0 where
   pub budget : ℕ
   pub random : ℕ
   pub seed : ℕ
+  pub start : List Tern
 
 abbrev pub first_vectors : Netlist → Settings → List (List Bool)
 first_vectors c s = random_vectors c.inputs s.random s.seed
@@ -79,31 +85,29 @@ pub record IsFirstStep (c : Netlist) (first : List (List Bool)) (before : List S
   pub given : step ≡ Vectors (one_vector c (get_or first (length before) []))
 
 -- The first vectors are all given, and the step is what the work on the next fault gives, with the invariant that is
--- found from the state in which each latch holds 0.
-pub record IsWorkStep (c : Netlist) (representatives : List ℕ) (first : List (List Bool)) (budget : ℕ)
-    (before : List Step) (step : Step) : Type 0 where
-  pub after : length first ≤ length before
+-- found from the state named for the start.
+pub record IsWorkStep (c : Netlist) (representatives : List ℕ) (settings : Settings) (before : List Step) (step : Step)
+    : Type 0 where
+  pub after : length (first_vectors c settings) ≤ length before
   pub fault : ℕ
-  pub next : IsNextFault c representatives before fault
+  pub next : IsNextFault c representatives settings.start before fault
   pub invariant : Invariant
-  pub found : IsZeroInvariant c budget invariant
-  pub given : IsStepOn c budget invariant fault step
+  pub found : IsNamedInvariant c settings.start settings.budget invariant
+  pub given : IsStepOn c settings.budget invariant fault step
 
 -- the step may come after these
-abbrev pub Follows : Netlist → List ℕ → List (List Bool) → ℕ → List Step → Step → Type 0
-Follows c representatives first budget before step =
-    IsFirstStep c first before step ⊎ IsWorkStep c representatives first budget before step
+abbrev pub Follows : Netlist → List ℕ → Settings → List Step → Step → Type 0
+Follows c representatives settings before step =
+    IsFirstStep c (first_vectors c settings) before step ⊎ IsWorkStep c representatives settings before step
 
 -- Steps, each of which may come after those before it.
-pub data AreSteps (c : Netlist) (representatives : List ℕ) (first : List (List Bool)) (budget : ℕ)
-    : List Step → Type 0 where
-  none : AreSteps c representatives first budget []
-  one_more : (steps : List Step) (step : Step) → AreSteps c representatives first budget steps
-      → Follows c representatives first budget steps step
-      → AreSteps c representatives first budget (steps ++ step ∷ [])
+pub data AreSteps (c : Netlist) (representatives : List ℕ) (settings : Settings) : List Step → Type 0 where
+  none : AreSteps c representatives settings []
+  one_more : (steps : List Step) (step : Step) → AreSteps c representatives settings steps
+      → Follows c representatives settings steps step → AreSteps c representatives settings (steps ++ step ∷ [])
 
 -- The first vectors are all given, and no fault awaits its verdict.
-pub record AreFinished (c : Netlist) (representatives : List ℕ) (first : List (List Bool)) (steps : List Step)
+pub record AreFinished (c : Netlist) (representatives : List ℕ) (settings : Settings) (steps : List Step)
     : Type 0 where
-  pub given : length first ≤ length steps
-  pub none_awaits : (i : ℕ) → ¬ AwaitsVerdict c representatives steps i
+  pub given : length (first_vectors c settings) ≤ length steps
+  pub none_awaits : (i : ℕ) → ¬ AwaitsVerdict c representatives settings.start steps i

@@ -2,6 +2,7 @@
 ghost use Rattle.std.specs.Prelude.{◌≡◌, ◌≢◌, ◌↔◌, ◌≤◌, ◌<◌, ◌+◌, ◌-◌, ◌^◌, ℕ, List, [], true, false, None, length, get_or, replicate, IfOk, OnErr, OnOk};
 ghost use Rattle.std.specs.Option.{ForSome};
 ghost use Rattle.ht_net.specs.Netlist.{Netlist};
+ghost use Rattle.ht_net.specs.Detection.{IsStart, unknown_state};
 ghost use Rattle.ht_faults.specs.Sites.{faults_of};
 ghost use Rattle.ht_collapse.specs.Classes.{AreClasses, fault_at};
 ghost use Rattle.ht_tree.specs.declared.limits.TheConstants.{MAX_BUDGET};
@@ -24,8 +25,9 @@ use ht_collapse::Classes;
 use ht_faults::FaultList;
 use ht_grade::Grader;
 use ht_invariant::{Invariant, find};
-use ht_net::{Circuit, Vectors};
+use ht_net::{Circuit, Vectors, some_state, unknown_start};
 use ht_random::Words;
+use ht_tern::Tern;
 use ht_texts::Said;
 use ht_tree::{Entry, EntryKind};
 use ht_window::Bases;
@@ -38,13 +40,6 @@ fn no_kinds(alloc: Global, count: u32) -> Result<Vec<Option<EntryKind>>, AllocEr
     ensures none { IfOk result (λ kinds. (i : ℕ) → i < count → get_or kinds.items i None ≡ None) }
 {
     vec![in alloc; None; count as usize]
-}
-
-// As many latches, each of which holds 0.
-fn zero_latches(alloc: Global, count: u32) -> Result<Vec<bool>, AllocError>
-    ensures { IfOk result (λ latches. latches.items ≡ replicate count false) }
-{
-    vec![in alloc; false; count as usize]
 }
 
 // What is said of a fault that no vectors detect, by the kind of its entry.
@@ -67,10 +62,12 @@ pub struct Engine<'c> {
     classes: &'c Classes,
     budget: u64,
     grader: Grader<'c>,
+    // what each flip-flop holds before the first vector
+    start: Vec<Tern>,
     // what the windows for each fault are copied from
     bases: Bases<'c>,
-    // the clauses that hold in each run from the state in which each latch holds 0
-    zero_invariant: Invariant,
+    // the clauses that hold in each run from the state that is named: the start, with 0 where it is unknown
+    named_invariant: Invariant,
     // the kind of each fault's entry, by number from 0
     kinds: Vec<Option<EntryKind>>,
     // the first fault that may still await its verdict
@@ -97,7 +94,8 @@ impl<'c> Model for Engine<'c> {
 }
 
 impl<'c> Engine<'c> {
-    /// A generator before its first step. The budget is that of each search; `random` vectors of the seed come first.
+    /// A generator before its first step, from all-unknown. The budget is that of each search; `random` vectors of the
+    /// seed come first.
     ///
     /// # Errors
     /// Out of memory.
@@ -116,15 +114,49 @@ impl<'c> Engine<'c> {
         ensures none { IfOk result (λ engine. EngineStandsFor engine []) }
         ensures circuit { IfOk result (λ engine. engine.circuit ≡ circuit.now) }
         ensures classes { IfOk result (λ engine. engine.representatives ≡ classes.now) }
-        ensures settings { IfOk result (λ engine. engine.settings
-            ≡ record { budget = budget; random = random; seed = seed }) }
+        ensures settings { IfOk result (λ engine. engine.settings ≡ record
+            { budget = budget; random = random; seed = seed; start = unknown_state circuit.now }) }
         ensures live { IfOk result (λ engine. engine.live ≡ true) }
     {
-        let grader = Grader::new(alloc, circuit, faults, classes)?;
+        let start = unknown_start(alloc, circuit)?;
+        Engine::new_from(
+            alloc, circuit, faults, classes, budget, random, seed, &start,
+        )
+    }
+
+    /// The same where each flip-flop holds its value of `start` before the first vector. What the vectors show is from
+    /// it, and the state that refutations may name is the start with 0 where it is unknown; all searches for lists stay
+    /// from all-unknown.
+    ///
+    /// # Errors
+    /// Out of memory.
+    pub fn new_from(
+        alloc: Global,
+        circuit: &'c Circuit,
+        faults: &'c FaultList,
+        classes: &'c Classes,
+        budget: u64,
+        random: u32,
+        seed: u64,
+        start: &[Tern],
+    ) -> Result<Engine<'c>, AllocError>
+        requires faults { faults.now ≡ faults_of circuit.now }
+        requires classes { AreClasses circuit.now classes.now }
+        requires budget { (0 < budget) × (budget ≤ MAX_BUDGET) }
+        requires latches { IsStart circuit.now start.now }
+        ensures none { IfOk result (λ engine. EngineStandsFor engine []) }
+        ensures circuit { IfOk result (λ engine. engine.circuit ≡ circuit.now) }
+        ensures classes { IfOk result (λ engine. engine.representatives ≡ classes.now) }
+        ensures settings { IfOk result (λ engine. engine.settings ≡ record
+            { budget = budget; random = random; seed = seed; start = start.now }) }
+        ensures live { IfOk result (λ engine. engine.live ≡ true) }
+    {
+        let grader = Grader::new_from(alloc, circuit, faults, classes, start)?;
         let kinds = no_kinds(alloc, classes.len())?;
         let bases = Bases::new(alloc, circuit)?;
-        let zeros = zero_latches(alloc, circuit.dffs())?;
-        let zero_invariant = find(alloc, circuit, &zeros, budget)?;
+        let named = some_state(alloc, start)?;
+        let named_invariant = find(alloc, circuit, &named, budget)?;
+        let start = Vec::from_slice(alloc, start)?;
         Ok(Engine {
             alloc,
             circuit,
@@ -132,8 +164,9 @@ impl<'c> Engine<'c> {
             classes,
             budget,
             grader,
+            start,
             bases,
-            zero_invariant,
+            named_invariant,
             kinds,
             place: 0,
             random,
@@ -205,7 +238,7 @@ impl<'c> Engine<'c> {
         requires none_left { self.old.left ≡ 0 }
         requires next { IsNextUndetected self.old fault }
         requires given { IsWork self.old.circuit (fault_at self.old.circuit fault)
-            self.old.settings.budget self.old.zero_invariant (work.List list) }
+            self.old.settings.budget self.old.named_invariant (work.List list) }
         requires holds { DetectsAlways self.old.circuit (fault_at self.old.circuit fault) list }
         ensures advances { IfOk result (Advances self.old self.new) }
         ensures same { OnErr result (self.new ≡ self.old) }
@@ -221,11 +254,11 @@ impl<'c> Engine<'c> {
         requires none_left { self.old.left ≡ 0 }
         requires next { IsNextUndetected self.old fault }
         requires given { IsWork self.old.circuit (fault_at self.old.circuit fault)
-            self.old.settings.budget self.old.zero_invariant (work.Entry entry) }
+            self.old.settings.budget self.old.named_invariant (work.Entry entry) }
         requires holds { Passes self.old.circuit (fault_at self.old.circuit fault)
             self.old.settings.budget entry }
         requires enough { IsEnough self.old.circuit (fault_at self.old.circuit fault)
-            self.old.settings.budget self.old.zero_invariant.clauses (work.Entry entry) }
+            self.old.settings.budget self.old.named_invariant.clauses (work.Entry entry) }
         ensures { Advances self.old self.new result }
     {
         self.kinds[fault as usize] = Some(entry.kind());
@@ -250,7 +283,7 @@ impl<'c> Engine<'c> {
             &mut self.bases,
             self.faults.get(fault),
             self.budget,
-            &self.zero_invariant,
+            &self.named_invariant,
         )? {
             Work::List(list) => self.give_list(fault, list),
             Work::Entry(entry) => Ok(self.give_entry(fault, entry)),
@@ -291,7 +324,8 @@ impl<'c> Engine<'c> {
     pub fn said(&self, fault: u32) -> Said
         requires { IsOwn self.now.circuit self.now.representatives fault }
         ensures said { (steps : List made.Step) → EngineStandsFor self.now steps
-            → IsSaid self.now.circuit self.now.representatives steps fault result }
+            → IsSaid self.now.circuit self.now.representatives self.now.settings.start steps fault
+            result }
         ensures sayable { IsSayable self.now.circuit result }
     {
         match self.grader.verdict(fault) {

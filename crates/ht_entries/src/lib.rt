@@ -46,4 +46,5 @@ pub use theorems::{
     proof_lines_are_short, text_has_one_list, texts_are_proofs_or_malformed,
     written_entries_are_a_text,
 };
-pub use write_line::{end_line, head_line};
+pub use write_line::{end_line, head_line, push_counted, push_indexed, push_token};
+pub use write_lists::push_lengths;

@@ -1,6 +1,6 @@
 //! Lists of lines of a proofs text.
 ghost use Rattle.std.specs.Prelude.{◌≡◌, ◌++◌, flat_map, OnOk, Some};
-ghost use Rattle.ht_entries.specs.EntryLines.{told_lines, walk_lines, attempt_lines, aim_lines, sweep_lines};
+ghost use Rattle.ht_entries.specs.EntryLines.{told_lines, walk_lines, attempt_lines, aim_lines, length_lines, sweep_lines};
 ghost use Rattle.ht_entries.specs.LineTexts.{lines_text, z_lines, token_lines, set_lines, vectors_text};
 
 use crate::write_line::{
@@ -126,15 +126,26 @@ fn push_search(text: &mut Vec<u8>, line: &[u8], tokens: &Items<Token>) -> Result
     push_tokens(text, tokens.as_slice())
 }
 
-// Appends the lines of a sweep: the walks for 1 frame, 2 frames and so on.
-pub fn push_sweep(text: &mut Vec<u8>, walks: &[Items<Token>]) -> Result<(), AllocError>
+/// Appends the lines of the walks for 1 frame, 2 frames and so on.
+///
+/// # Errors
+/// Out of memory.
+pub fn push_lengths(text: &mut Vec<u8>, walks: &[Items<Token>]) -> Result<(), AllocError>
     ensures { OnOk result
-        (text.new.items ≡ text.old.items ++ lines_text (sweep_lines (Some walks.now))) }
+        (text.new.items ≡ text.old.items ++ lines_text (length_lines 1 walks.now)) }
 {
-    text.extend_from_slice(b"sweep\n")?;
     for i in 0..walks.len() {
         push_counted(text, b"length ", i as u64 + 1)?;
         push_tokens(text, walks[i].as_slice())?;
     }
     Ok(())
+}
+
+// Appends the lines of a sweep.
+pub fn push_sweep(text: &mut Vec<u8>, walks: &[Items<Token>]) -> Result<(), AllocError>
+    ensures { OnOk result
+        (text.new.items ≡ text.old.items ++ lines_text (sweep_lines (Some walks.now))) }
+{
+    text.extend_from_slice(b"sweep\n")?;
+    push_lengths(text, walks)
 }

@@ -2,10 +2,11 @@
 use Rattle.std.proofs.Common.{◌≡◌, ◌≤◌, ◌<◌, ◌+◌, ◌-◌, ◌∙◌, ℕ, List, [], ◌∷◌, Bool, Some, length, refl, sym, ap, subst, arith}
 use Rattle.std.specs.List.{Contains}
 use Rattle.std.proofs.lemmas.List.Elements.{All-contains}
+use Rattle.ht_tern.specs.declared.tern.Tern.{Tern}
 use Rattle.ht_net.specs.declared.fault.Fault.{Fault}
-use Rattle.ht_net.specs.Detection.{Detects}
+use Rattle.ht_net.specs.Detection.{Allows, DetectsFrom, IsStart}
 use Rattle.ht_net.specs.Netlist.{IsCircuit, Netlist}
-use Rattle.ht_net.proofs.SilenceLaws.{sealed_undetected, silent_undetected}
+use Rattle.ht_net.proofs.SilenceLaws.{sealed_undetected_from, silent_undetected_from, some_allowed}
 use Rattle.ht_collapse.specs.Classes.{fault_at}
 use Rattle.ht_tree.specs.declared.clause.Clause.{Clause}
 use Rattle.ht_tree.specs.declared.entry.Entry.{Entry}
@@ -32,42 +33,51 @@ use Rattle.ht_engine.proofs.EnoughLaws.{sealed_by_none}
 use Rattle.ht_files.specs.Generated.{AreDecidedIn}
 use Rattle.ht_files.proofs.ValidLaws.{IsFinishedWork, says}
 
--- no list detects a fault that is sealed as long as the clauses of an invariant are met
-sealed_in_undetected : (c : Netlist) (fault : Fault) (z : ℕ → Bool) (state : List Bool) (clauses : List Clause)
-    → IsCircuit c → (0 < length clauses → IsInvariant c state clauses)
-    → SealedIn c fault z (literals_of_each clauses) → (list : List (List Bool)) (t o : ℕ) → ¬ Detects c fault list t o
-sealed_in_undetected c fault z state [] circuit holds seal = sealed_undetected c fault z (sealed_by_none c fault z seal)
-sealed_in_undetected c fault z state (clause ∷ clauses) circuit holds seal =
+-- no list detects from a start a fault that is sealed as long as the clauses of an invariant are met, whose state the
+-- start allows
+sealed_in_undetected : (c : Netlist) (fault : Fault) (start : List Tern) (z : ℕ → Bool) (state : List Bool)
+    (clauses : List Clause) → IsCircuit c → IsStart c start → Allows start state
+    → (0 < length clauses → IsInvariant c state clauses) → SealedIn c fault z (literals_of_each clauses)
+    → (list : List (List Bool)) (t o : ℕ) → ¬ DetectsFrom c fault start list t o
+sealed_in_undetected c fault start z state [] circuit latches allowed holds seal =
+    sealed_undetected_from c fault z (sealed_by_none c fault z seal) start latches
+sealed_in_undetected c fault start z state (clause ∷ clauses) circuit latches allowed holds seal =
     let is = holds (omega arith) in
-    silent_undetected c fault state is.held (sealed_in_silent c fault z state (clause ∷ clauses) circuit is seal)
+    silent_undetected_from c fault start state allowed
+    (sealed_in_silent c fault z state (clause ∷ clauses) circuit is seal)
 
 module _ (e : EngineView) (steps : List Step) (saids : List Said) (w : IsFinishedWork e steps saids)
     (large : refutation_cost e.circuit ≤ e.settings.budget) (i : ℕ) (z : ℕ → Bool)
-    (seal : SealedIn e.circuit (fault_at e.circuit i) z (literals_of_each e.zero_invariant.clauses)) where
+    (seal : SealedIn e.circuit (fault_at e.circuit i) z (literals_of_each e.named_invariant.clauses)) where
   -- no entry of the fault gives it up
   entry_is_refutation : (entry : Entry) → Contains (entries_of steps) (record { number = i + 1; entry = entry })
       → kind_of entry ≡ kind.Untestable
   entry_is_refutation entry among =
       let at : i + 1 - 1 ≡ i = omega arith in
-      let enough : IsEnough e.circuit (fault_at e.circuit (i + 1 - 1)) e.settings.budget e.zero_invariant.clauses
+      let enough : IsEnough e.circuit (fault_at e.circuit (i + 1 - 1)) e.settings.budget e.named_invariant.clauses
       (work.Entry entry) =
       All-contains (λ (n : Numbered). IsEnough e.circuit (fault_at e.circuit (n.number - 1)) e.settings.budget
-      e.zero_invariant.clauses (work.Entry n.entry)) (entries_of steps)
+      e.named_invariant.clauses (work.Entry n.entry)) (entries_of steps)
       (record { number = i + 1; entry = entry }) w.stands.enough among in
       enough.sealed_in large z
-      (subst (λ (k : ℕ). SealedIn e.circuit (fault_at e.circuit k) z (literals_of_each e.zero_invariant.clauses))
+      (subst (λ (k : ℕ). SealedIn e.circuit (fault_at e.circuit k) z (literals_of_each e.named_invariant.clauses))
       (sym at) seal)
 
-  said_untestable : (said : Said) → IsSaid e.circuit e.representatives steps i said → said ≡ Untestable
+  named_allowed : Allows e.settings.start e.named_invariant.state
+  named_allowed = subst (Allows e.settings.start) (sym w.stands.found.state) (some_allowed e.settings.start)
+
+  said_untestable : (said : Said) → IsSaid e.circuit e.representatives e.settings.start steps i said
+      → said ≡ Untestable
   said_untestable (Detected place) is =
-      absurd (sealed_in_undetected e.circuit (fault_at e.circuit i) z e.zero_invariant.state e.zero_invariant.clauses
-      w.circuit w.stands.holds seal _ place.vector place.output is.0)
+      absurd (sealed_in_undetected e.circuit (fault_at e.circuit i) e.settings.start z e.named_invariant.state
+      e.named_invariant.clauses w.circuit w.stands.latches named_allowed w.stands.holds seal _ place.vector
+      place.output is.0)
   said_untestable Untestable is = refl
   said_untestable Aborted is =
       let same : kind.Untestable ≡ kind.Aborted = sym (entry_is_refutation is.1.0 is.1.1) ∙ is.1.2 in cc
   said_untestable Undetected is = absurd (w.finished.none_awaits i is)
 
 pub decided_under : (e : EngineView) (steps : List Step) (saids : List Said) → IsFinishedWork e steps saids
-    → AreDecidedIn e.circuit e.representatives e.settings.budget saids e.zero_invariant.clauses
+    → AreDecidedIn e.circuit e.representatives e.settings.budget saids e.named_invariant.clauses
 decided_under e steps saids w large i own z seal =
     said_untestable e steps saids w large i z seal (said_at saids i) (says e steps saids w i own)

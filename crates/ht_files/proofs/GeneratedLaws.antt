@@ -1,6 +1,5 @@
 -- What a finished engine's report and the texts of its steps say is true.
-use Rattle.std.proofs.Common.{◌≡◌, ◌≤◌, ◌++◌, ◌+◌, ℕ, List, Some, true, ◌∙◌}
-use Rattle.std.proofs.Common.{length, refl, sym, ap, subst, length-append, arith}
+use Rattle.std.proofs.Common.{◌≡◌, ◌≤◌, ◌++◌, ◌+◌, ℕ, List, Some, true, ◌∙◌, length, refl, sym, ap, subst, length-append, arith}
 use Rattle.ht_net.specs.Netlist.{IsCircuit, Netlist}
 use Rattle.ht_faults.specs.Sites.{faults_of}
 use Rattle.ht_collapse.specs.Classes.{AreClasses}
@@ -17,7 +16,7 @@ use Rattle.ht_valid.proofs.DecidedLaws.{are_decided}
 use Rattle.ht_valid.proofs.TruthLaws.{true_verdicts}
 use Rattle.ht_engine.specs.declared.step.Step.{Step}
 use Rattle.ht_engine.specs.EngineStands.{EngineStandsFor, EngineView}
-use Rattle.ht_engine.specs.Steps.{AreFinished, first_vectors}
+use Rattle.ht_engine.specs.Steps.{AreFinished}
 use Rattle.ht_files.specs.Generated.{content_of, IsGenerated, IsTotalOf}
 use Rattle.ht_files.specs.Saids.{AreSaid}
 use Rattle.ht_files.specs.StepTexts.{proofs_of, tests_of}
@@ -41,21 +40,23 @@ pub are_generated : (e : EngineView) (steps : List Step) (saids : List Said) (re
     → total ≡ with_lf (total_line (report_sums e.representatives (Some e.settings.budget) saids))
     → IsGenerated e.circuit e.settings (tests_of steps) report (proofs_of steps) total
 are_generated e steps saids report total work names short_tests short_proofs short_report report_is total_is =
-    let content = content_of e.settings.budget steps saids in
+    let content = content_of e.settings steps saids in
     let short = subst (λ (l : List ℕ). length l ≤ max_text_bytes) report_is short_report in
     let valid = subst
-    (λ (l : List ℕ). AreValid e.circuit e.representatives (tests_of steps) l (proofs_of steps) content) (sym report_is)
+    (λ (l : List ℕ). AreValid e.circuit e.representatives e.settings.start (tests_of steps) l (proofs_of steps) content)
+    (sym report_is)
     (are_valid e steps saids work names short_tests short_proofs short) in
-    let is = justified e.circuit e.representatives (tests_of steps) report (proofs_of steps) content valid in
+    let is = justified e.circuit e.representatives e.settings.start (tests_of steps) report (proofs_of steps) content
+    valid in
     record {
       representatives = e.representatives;
       steps = steps;
       saids = saids;
       classes = work.classes;
       valid = valid;
-      verdicts = true_verdicts e.circuit e.representatives content work.circuit work.classes is;
-      decided = are_decided e.circuit e.representatives content work.circuit is;
-      invariant = e.zero_invariant;
+      verdicts = true_verdicts e.circuit e.representatives content work.circuit work.classes work.stands.latches is;
+      decided = are_decided e.circuit e.representatives content work.circuit work.stands.latches is;
+      invariant = e.named_invariant;
       found = work.stands.found;
       decided_in = decided_under e steps saids work;
       steps_are = work.stands.are;
@@ -71,7 +72,7 @@ abbrev Generates : EngineView → List Said → List ℕ → List ℕ → List S
 Generates e saids body total steps c representatives budget = IsCircuit c → AreClasses c representatives
     → AreSaid e (length (faults_of c)) saids → body ≡ report_body c representatives (Some budget) saids
     → total ≡ with_lf (total_line (report_sums representatives (Some budget) saids))
-    → AreFinished c representatives (first_vectors c e.settings) steps → HasPlainNames c
+    → AreFinished c representatives e.settings steps → HasPlainNames c
     → IsGenerated c e.settings (tests_of steps) (body ++ total) (proofs_of steps) total
 
 module _ (e : EngineView) (saids : List Said) (body total : List ℕ) (steps : List Step)
@@ -109,7 +110,7 @@ module _ (e : EngineView) (saids : List Said) (body total : List ℕ) (steps : L
 abbrev Totals : EngineView → List Said → List ℕ → List Step → Netlist → List ℕ → Type 0
 Totals e saids total steps c representatives = AreClasses c representatives
     → AreSaid e (length (faults_of c)) saids → total ≡ with_lf (total_line (sums_of representatives saids true))
-    → AreFinished c representatives (first_vectors c e.settings) steps → IsTotalOf c e.settings total
+    → AreFinished c representatives e.settings steps → IsTotalOf c e.settings total
 
 pub total_is_of : (e : EngineView) (saids : List Said) (total : List ℕ) (steps : List Step) → EngineStandsFor e steps
     → (c : Netlist) (representatives : List ℕ) → e.circuit ≡ c → e.representatives ≡ representatives

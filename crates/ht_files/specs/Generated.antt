@@ -16,21 +16,22 @@ use Rattle.ht_valid.specs.ValidFiles.{Content, AreValid, IsOwn}
 use Rattle.ht_valid.specs.TrueVerdicts.{AreDecided, HaveTrueVerdicts}
 use Rattle.ht_engine.specs.declared.step.Step.{Step}
 use Rattle.ht_engine.specs.EngineStands.{IsSaid}
-use Rattle.ht_engine.specs.FaultWork.{IsZeroInvariant}
-use Rattle.ht_engine.specs.Steps.{AreFinished, AreSteps, Settings, entries_of, first_vectors, vectors_of_steps}
+use Rattle.ht_engine.specs.FaultWork.{IsNamedInvariant}
+use Rattle.ht_engine.specs.Steps.{AreFinished, AreSteps, Settings, entries_of, vectors_of_steps}
 use Rattle.ht_files.specs.StepTexts.{proofs_of, tests_of}
 
 -- what the files of steps say
-abbrev pub content_of : ℕ → List Step → List Said → Content
-content_of budget steps saids = record {
+abbrev pub content_of : Settings → List Step → List Said → Content
+content_of settings steps saids = record {
+  start = settings.start;
   list = vectors_of_steps steps;
-  budget = budget;
+  budget = settings.budget;
   saids = saids;
   entries = entries_of steps;
 }
 
--- With a budget for all windows of one frame, each representative that some set of flip-flops seals as long as the clauses
--- are met is said to be untestable.
+-- With a budget for all windows of one frame, each representative that some set of flip-flops seals as long as the
+-- clauses are met is said to be untestable.
 abbrev pub AreDecidedIn : Netlist → List ℕ → ℕ → List Said → List Clause → Type 0
 AreDecidedIn c representatives budget saids clauses = refutation_cost c ≤ budget → (i : ℕ) → IsOwn c representatives i
     → (z : ℕ → Bool) → SealedIn c (fault_at c i) z (literals_of_each clauses) → said_at saids i ≡ Untestable
@@ -39,33 +40,37 @@ AreDecidedIn c representatives budget saids clauses = refutation_cost c ≤ budg
 -- doesn't represent its class has the verdict of its representative, and what the proofs hold is of the representative.
 --
 -- - detected: at exactly the first written vector, and there the least output, where simulation over three values from
---   all-unknown shows opposite definite values of the good and the faulty machine; so the two differ there from every
---   pair of start states;
--- - untestable: the proofs hold a refutation that passes, or one from a named state; no list of vectors of any length
---   detects the fault, and from every common start state, or from the named one, both machines give equal outputs for
---   ever;
--- - aborted: the written vectors don't detect it, and the proofs hold a record that used up the budget.
+--   the stated start shows opposite definite values of the good and the faulty machine; so the two differ there from
+--   every pair of states that the start allows;
+-- - untestable: the proofs hold a refutation that passes, or one from a named state that the start allows; no list of
+--   vectors of any length detects the fault, from all-unknown or from the stated start, and from every common start
+--   state, or from the named one, both machines give equal outputs for ever;
+-- - aborted: the written vectors don't detect it from the stated start, and the proofs hold a record that used up the
+--   budget.
+--
+-- Where no start is stated it is all-unknown.
 --
 -- For n inputs and m flip-flops, a budget of 2^(n + 2m + 1) finds every fault untestable that some set of flip-flops
--- seals, be it as long as the clauses are met that are found from the state in which each latch holds 0, and one of the sum of k * 2^(k * n + 1) over k from 1 to d finds every fault detected that d vectors can. The
--- tests and the proofs hold the lists and the entries of the generator's steps and nothing else: the first vectors are
--- the random ones of the seed, and the work on what they don't detect comes after them. The total line is that of the
--- report.
+-- seals, be it as long as the clauses are met that are found from the state named for the start, which holds 0 where
+-- the start is unknown. One of the sum of k * 2^(k * n + 1) over k from 1 to d finds every fault detected that d
+-- vectors detect from all-unknown. The tests and the proofs hold the lists and the entries of the generator's steps and
+-- nothing else: the first vectors are the random ones of the seed, and the work on what they don't detect comes after
+-- them. The total line is that of the report.
 pub record IsGenerated (c : Netlist) (settings : Settings) (tests report proofs total : List ℕ) : Type 0 where
   pub representatives : List ℕ
   pub steps : List Step
   pub saids : List Said
   pub classes : AreClasses c representatives
   -- one true verdict for each fault
-  pub valid : AreValid c representatives tests report proofs (content_of settings.budget steps saids)
-  pub verdicts : HaveTrueVerdicts c representatives (content_of settings.budget steps saids)
-  pub decided : AreDecided c representatives (content_of settings.budget steps saids)
+  pub valid : AreValid c representatives settings.start tests report proofs (content_of settings steps saids)
+  pub verdicts : HaveTrueVerdicts c representatives (content_of settings steps saids)
+  pub decided : AreDecided c representatives (content_of settings steps saids)
   pub invariant : Invariant
-  pub found : IsZeroInvariant c settings.budget invariant
+  pub found : IsNamedInvariant c settings.start settings.budget invariant
   pub decided_in : AreDecidedIn c representatives settings.budget saids invariant.clauses
   -- the files of all steps
-  pub steps_are : AreSteps c representatives (first_vectors c settings) settings.budget steps
-  pub finished : AreFinished c representatives (first_vectors c settings) steps
+  pub steps_are : AreSteps c representatives settings steps
+  pub finished : AreFinished c representatives settings steps
   pub tests_are : tests ≡ tests_of steps
   pub report_is : report ≡ report_text c representatives (Some settings.budget) saids
   pub proofs_are : proofs ≡ proofs_of steps
@@ -78,7 +83,7 @@ pub record IsTotalOf (c : Netlist) (settings : Settings) (total : List ℕ) : Ty
   pub steps : List Step
   pub saids : List Said
   pub classes : AreClasses c representatives
-  pub steps_are : AreSteps c representatives (first_vectors c settings) settings.budget steps
-  pub finished : AreFinished c representatives (first_vectors c settings) steps
-  pub said : (i : ℕ) → IsOwn c representatives i → IsSaid c representatives steps i (said_at saids i)
+  pub steps_are : AreSteps c representatives settings steps
+  pub finished : AreFinished c representatives settings steps
+  pub said : (i : ℕ) → IsOwn c representatives i → IsSaid c representatives settings.start steps i (said_at saids i)
   pub total_is : total ≡ with_lf (total_line (report_sums representatives (Some settings.budget) saids))

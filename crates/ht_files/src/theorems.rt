@@ -45,5 +45,5 @@ pub fn generated_files_have_no_trouble()
     ensures { (c : Netlist) (representatives : List ℕ) (settings : Settings)
         (tests report proofs total : List ℕ) (trouble : Trouble) → IsCircuit c
         → AreClasses c representatives → IsGenerated c settings tests report proofs total
-        → ¬ IsFirstTrouble c representatives tests report proofs trouble }
+        → ¬ IsFirstTrouble c representatives settings.start tests report proofs trouble }
 {}

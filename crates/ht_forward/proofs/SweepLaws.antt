@@ -11,7 +11,7 @@ use Rattle.ht_tree.specs.SearchRecords.{Fills, IsSweepRecord, sweep_weight}
 use Rattle.ht_tree.specs.Walks.{IsComplete, IsOpen}
 use Rattle.ht_tree.specs.Windows.{sweep_window}
 use Rattle.ht_events.specs.Plans.{max_frames}
-use Rattle.ht_records.proofs.LaterLaws.{detects_later}
+use Rattle.ht_net.proofs.MoreToldLaws.{detects_later}
 use Rattle.ht_forward.specs.AheadSearches.{FindsList}
 use Rattle.ht_forward.specs.Sweeps.{IsSweptList, SweepSpends}
 use Rattle.ht_forward.proofs.CloseLaws.{close_at, close_within}

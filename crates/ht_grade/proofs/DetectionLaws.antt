@@ -1,8 +1,7 @@
 -- First detections, class by class, from what a packed grader keeps of the representatives.
-use Rattle.std.proofs.Common.{◌≡◌, ◌<◌, ◌≤◌, ◌+◌, inl, inr, ℕ, List, [], Bool, length, get_or, set, Option, Some, None, refl, sym, ◌∙◌, ap, subst, arith}
+use Rattle.std.proofs.Common.{◌≡◌, ◌<◌, ◌≤◌, ◌+◌, inl, inr, ℕ, List, Bool, length, get_or, set, Option, None, sym, ◌∙◌, ap, subst, arith}
 use Rattle.std.specs.List.{slice_get}
 use Rattle.std.specs.Option.{ForSome, option_map}
-use Rattle.std.proofs.Math.ListN.{get_or-eq_default}
 use Rattle.std.proofs.lemmas.Option.{slice_get-map, slice_get-get_or}
 use Rattle.std.proofs.lemmas.Bool.{cases_eq}
 use Rattle.std.proofs.lemmas.List.{length-set, get_or-set_same, get_or-set_other}
@@ -10,41 +9,40 @@ use Rattle.ht_tern.specs.declared.tern.Tern.{Tern}
 use Rattle.ht_net.specs.declared.fault.Fault.{Fault}
 use Rattle.ht_net.specs.declared.place.Place.{Place}
 use Rattle.ht_net.specs.Netlist.{Netlist}
-use Rattle.ht_net.specs.Detection.{Detects, IsFirstDetection, tern_outputs}
-use Rattle.ht_net.proofs.FrameLaws.{le_or_lt}
+use Rattle.ht_net.specs.Detection.{DetectsFrom, IsFirstFrom}
 use Rattle.ht_faults.specs.Sites.{faults_of}
 use Rattle.ht_collapse.specs.Classes.{fault_at, own_representatives}
 use Rattle.ht_collapse.proofs.OwnLaws.{representative_is_own}
-use Rattle.ht_serial.specs.Opposites.{IsOppositeAt}
 use Rattle.ht_serial.specs.Places.{IsWithin}
-use Rattle.ht_serial.proofs.DetectionLaws.{frames_count, place_within}
 use Rattle.ht_proofs.specs.PackedView.{PackedView, GraderStandsFor, chosen_faults, verdict_at}
+use Rattle.ht_proofs.proofs.VectorLaws.{found_inside, found_output}
 use Rattle.ht_grade.specs.Detections.{place_at, AreFirstDetections, AreWithin}
 
 -- the first detections of the first k classes
-pub record AreFirstSoFar (c : Netlist) (representatives : List ℕ) (list : List (List Bool)) (k : ℕ)
+pub record AreFirstSoFar (c : Netlist) (representatives : List ℕ) (start : List Tern) (list : List (List Bool)) (k : ℕ)
     (places : List (Option Place)) : Type 0 where
   pub each : length places ≡ length (faults_of c)
-  pub first : (j : ℕ) → j < k → IsFirstDetection c (fault_at c (get_or (own_representatives representatives) j 0)) list
+  pub first : (j : ℕ) → j < k → IsFirstFrom c (fault_at c (get_or (own_representatives representatives) j 0)) start list
       (place_at places (get_or (own_representatives representatives) j 0))
   pub within : AreWithin c list places
 
 -- one class more: its representative's entry is written
-pub one_more : (c : Netlist) (representatives : List ℕ) (list : List (List Bool)) (places : List (Option Place))
+pub one_more : (c : Netlist) (representatives : List ℕ) (start : List Tern) (list : List (List Bool))
+    (places : List (Option Place))
     (place : Option Place) (k i : ℕ)
-    → AreFirstSoFar c representatives list k places → i ≡ get_or (own_representatives representatives) k 0
-    → i < length places → IsFirstDetection c (fault_at c i) list place → ForSome place (IsWithin c list)
-    → AreFirstSoFar c representatives list (k + 1) (set places i place)
-one_more c representatives list places place k i so_far is inside first within = record {
+    → AreFirstSoFar c representatives start list k places → i ≡ get_or (own_representatives representatives) k 0
+    → i < length places → IsFirstFrom c (fault_at c i) start list place → ForSome place (IsWithin c list)
+    → AreFirstSoFar c representatives start list (k + 1) (set places i place)
+one_more c representatives start list places place k i so_far is inside first within = record {
   each = length-set places i place ∙ so_far.each;
   first = λ j less. elim (cases_eq (own j) i) [
     | inl same ↦
-        subst (λ n. IsFirstDetection c (fault_at c n) list (place_at (set places i place) n)) (sym same)
-        (subst (IsFirstDetection c (fault_at c i) list) (sym written) first)
+        subst (λ n. IsFirstFrom c (fault_at c n) start list (place_at (set places i place) n)) (sym same)
+        (subst (IsFirstFrom c (fault_at c i) start list) (sym written) first)
     | inr other ↦ elim (cases_eq j k) [
       | inl last ↦ absurd (other (ap own last ∙ sym is))
       | inr before ↦
-          subst (IsFirstDetection c (fault_at c (own j)) list)
+          subst (IsFirstFrom c (fault_at c (own j)) start list)
           (sym (get_or-set_other places i (own j) place None other))
           (so_far.first j (omega arith))
     ]
@@ -65,42 +63,35 @@ one_more c representatives list places place k i so_far is inside first within =
     written = get_or-set_same places i place None inside
 
 -- all classes
-pub all_first : (c : Netlist) (representatives : List ℕ) (list : List (List Bool)) (places : List (Option Place))
+pub all_first : (c : Netlist) (representatives : List ℕ) (start : List Tern) (list : List (List Bool))
+    (places : List (Option Place))
     (k : ℕ)
-    → length representatives ≡ length (faults_of c) → AreFirstSoFar c representatives list k places
-    → length (own_representatives representatives) ≤ k → AreFirstDetections c representatives list places
-all_first c representatives list places k every so_far done = record {
+    → length representatives ≡ length (faults_of c) → AreFirstSoFar c representatives start list k places
+    → length (own_representatives representatives) ≤ k → AreFirstDetections c representatives start list places
+all_first c representatives start list places k every so_far done = record {
   each = so_far.each;
   first = λ i inside is.
       let found = representative_is_own representatives i (omega (arith, inside, every)) is in
-      subst (λ n. IsFirstDetection c (fault_at c n) list (place_at places n)) found.2
+      subst (λ n. IsFirstFrom c (fault_at c n) start list (place_at places n)) found.2
       (so_far.first found.0 (omega (arith, found.1, done)));
 }
 
 -- a place where a list detects a fault is one of the circuit and of the list
-pub detected_within : (c : Netlist) (fault : Fault) (list : List (List Bool)) (p : Place)
-    → Detects c fault list p.vector p.output → IsWithin c list p
-detected_within c fault list p d = elim (le_or_lt (length list) p.vector) [
-  | inl beyond ↦
-      let row : get_or rows p.vector [] ≡ [] =
-      get_or-eq_default rows [] (omega (arith, beyond, frames_count c None list)) in
-      absurd (subst (λ (shown : List Tern). IsOppositeAt shown faulty p.output) row d)
-  | inr inside ↦ place_within c list p (get_or rows p.vector []) faulty inside refl d
-]
-  where
-    rows : List (List Tern)
-    rows = tern_outputs c None list
-
-    faulty : List Tern
-    faulty = get_or (tern_outputs c (Some fault) list) p.vector []
+pub detected_within : (c : Netlist) (fault : Fault) (start : List Tern) (list : List (List Bool)) (p : Place)
+    → DetectsFrom c fault start list p.vector p.output → IsWithin c list p
+detected_within c fault start list p d = record {
+  vector = found_inside c fault start list p.vector p.output d;
+  output = found_output c fault start list p.vector p.output d;
+}
 
 -- The verdict of a packed grader on the k-th representative is its first detection.
-pub own_verdict : (c : Netlist) (representatives : List ℕ) (list : List (List Bool)) (packed : PackedView) (k : ℕ)
+pub own_verdict : (c : Netlist) (representatives : List ℕ) (start : List Tern) (list : List (List Bool))
+    (packed : PackedView) (k : ℕ)
     → packed.circuit ≡ c → packed.faults ≡ chosen_faults (faults_of c) (own_representatives representatives)
-    → k < length (own_representatives representatives) → GraderStandsFor packed list
-    → IsFirstDetection c (fault_at c (get_or (own_representatives representatives) k 0)) list (verdict_at packed k)
-own_verdict c representatives list packed k circuit faults inside stands =
-    subst (λ (n : Netlist). IsFirstDetection n (fault_at c (get_or own k 0)) list (verdict_at packed k)) circuit
+    → k < length (own_representatives representatives) → GraderStandsFor packed start list
+    → IsFirstFrom c (fault_at c (get_or (own_representatives representatives) k 0)) start list (verdict_at packed k)
+own_verdict c representatives start list packed k circuit faults inside stands =
+    subst (λ (n : Netlist). IsFirstFrom n (fault_at c (get_or own k 0)) start list (verdict_at packed k)) circuit
     (stands.first k (fault_at c (get_or own k 0)) (ap (λ (l : List Fault). slice_get l k) faults
     ∙ (slice_get-map (fault_at c) own k ∙ ap (option_map (fault_at c)) (slice_get-get_or own k 0 inside))))
   where
@@ -108,10 +99,10 @@ own_verdict c representatives list packed k circuit faults inside stands =
     own = own_representatives representatives
 
 -- a first detection is within the circuit and the list
-pub first_within : (c : Netlist) (fault : Fault) (list : List (List Bool)) (place : Option Place)
-    → IsFirstDetection c fault list place → ForSome place (IsWithin c list)
-first_within c fault list place first =
-    λ p is. detected_within c fault list p (subst (IsFirstDetection c fault list) is first).0
+pub first_within : (c : Netlist) (fault : Fault) (start : List Tern) (list : List (List Bool)) (place : Option Place)
+    → IsFirstFrom c fault start list place → ForSome place (IsWithin c list)
+first_within c fault start list place first =
+    λ p is. detected_within c fault start list p (subst (IsFirstFrom c fault start list) is first).0
 
 -- the representatives of the circuit of a packed grader are its faults, whatever the circuit is called
 pub chosen_again : (c d : Netlist) (representatives : List ℕ) (faults : List Fault) → d ≡ c

@@ -2,6 +2,7 @@
 use Rattle.std.specs.Prelude.{◌≡◌, ℕ, List, Bool, true, Option, length}
 use Rattle.std.specs.List.{flat_map}
 use Rattle.ht_net.specs.declared.place.Place.{Place}
+use Rattle.ht_net.specs.Detection.{IsStart}
 use Rattle.ht_net.specs.Rows.{Rows}
 use Rattle.ht_collapse.specs.Classes.{AreClasses, own_representatives}
 use Rattle.ht_faults.specs.Sites.{faults_of}
@@ -18,6 +19,7 @@ abbrev pub grader_of : Inside → GraderView
 grader_of a = record {
   circuit = a.circuit.now;
   representatives = a.classes.now;
+  start = a.start.items;
   list = all_vectors a.lists.items;
 }
 
@@ -25,12 +27,13 @@ grader_of a = record {
 pub record IsGraded (v : GraderView) (count : ℕ) (places : List (Option Place)) (machines : PackedView) (live : Bool)
     : Type 0 where
   pub all_classes : AreClasses v.circuit v.representatives
+  pub latches : IsStart v.circuit v.start
   pub counted : count ≡ length v.list
-  pub first : AreFirstDetections v.circuit v.representatives v.list places
+  pub first : AreFirstDetections v.circuit v.representatives v.start v.list places
   pub within : AreWithin v.circuit v.list places
   pub same : machines.circuit ≡ v.circuit
   pub all_faults : machines.faults ≡ chosen_faults (faults_of v.circuit) (own_representatives v.representatives)
-  pub stands : live ≡ true → GraderStandsFor machines v.list
+  pub stands : live ≡ true → GraderStandsFor machines v.start v.list
 
 abbrev pub AreGraderFields : Inside → Type 0
 AreGraderFields a = IsGraded (grader_of a) a.count a.places.items a.machines a.live

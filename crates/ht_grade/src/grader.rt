@@ -1,26 +1,29 @@
 //! First detections over a list of vectors that grows.
 ghost use Rattle.std.specs.Prelude.{◌≡◌, ◌<◌, ◌^◌, ◌++◌, [], true, length, IfOk, OnOk, OnErr};
 ghost use Rattle.std.specs.Option.{ForSome};
-ghost use Rattle.ht_net.specs.Detection.{IsFirstDetection, IsPlace, Apart};
+ghost use Rattle.ht_net.specs.Detection.{ApartFrom, IsFirstFrom, IsPlace, IsStart, unknown_state};
 ghost use Rattle.ht_faults.specs.Sites.{faults_of};
 ghost use Rattle.ht_collapse.specs.Classes.{AreClasses, fault_at, is_representative};
 ghost use Rattle.ht_serial.specs.Places.{IsWithin};
 
-use crate::packed::{apply_all, places_of, start};
+use crate::packed::{apply_all, begin, places_of};
 use ht_collapse::Classes;
 use ht_faults::FaultList;
-use ht_net::{Circuit, Place, Vectors};
+use ht_net::{Circuit, Place, Vectors, unknown_start};
 use ht_proofs as packed;
+use ht_tern::Tern;
 use std::alloc::{AllocError, Global};
 use std::marker::Model;
 
-/// The first detections of the representatives of all classes over a list of vectors that grows. Each vector is
-/// simulated once, for all representatives side by side that aren't detected yet. A grader keeps the vectors that it
-/// was given too, so it is known from itself alone which list its verdicts are of.
+/// The first detections of the representatives of all classes over a list of vectors that grows, from a start. Each
+/// vector is simulated once, for all representatives side by side that aren't detected yet. A grader keeps the start
+/// and the vectors that it was given too, so it is known from itself alone what its verdicts are of.
 #[derive(Drop)]
 pub struct Grader<'c> {
     circuit: &'c Circuit,
     classes: &'c Classes,
+    // what each flip-flop holds before the first vector
+    start: Vec<Tern>,
     // what it was given, one list a call
     lists: Vec<Vectors>,
     // how many vectors the lists have
@@ -58,7 +61,7 @@ fn copy_of(alloc: Global, width: u32, list: &Vectors) -> Result<Vectors, AllocEr
 }
 
 impl<'c> Grader<'c> {
-    /// A grader with no vectors yet.
+    /// A grader with no vectors yet, from all-unknown.
     ///
     /// # Errors
     /// Out of memory.
@@ -70,14 +73,45 @@ impl<'c> Grader<'c> {
     ) -> Result<Grader<'c>, AllocError>
         requires faults { faults.now ≡ faults_of circuit.now }
         requires classes { AreClasses circuit.now classes.now }
-        ensures { IfOk result (λ grader. grader
-            ≡ record { circuit = circuit.now; representatives = classes.now; list = [] }) }
+        ensures { IfOk result (λ grader. grader ≡ record {
+          circuit = circuit.now;
+          representatives = classes.now;
+          start = unknown_state circuit.now;
+          list = [];
+        }) }
     {
-        let machines = start(alloc, circuit, faults, classes)?;
+        let start = unknown_start(alloc, circuit)?;
+        Grader::new_from(alloc, circuit, faults, classes, &start)
+    }
+
+    /// A grader with no vectors yet, from a start.
+    ///
+    /// # Errors
+    /// Out of memory.
+    pub fn new_from(
+        alloc: Global,
+        circuit: &'c Circuit,
+        faults: &'c FaultList,
+        classes: &'c Classes,
+        start: &[Tern],
+    ) -> Result<Grader<'c>, AllocError>
+        requires faults { faults.now ≡ faults_of circuit.now }
+        requires classes { AreClasses circuit.now classes.now }
+        requires latches { IsStart circuit.now start.now }
+        ensures { IfOk result (λ grader. grader ≡ record {
+          circuit = circuit.now;
+          representatives = classes.now;
+          start = start.now;
+          list = [];
+        }) }
+    {
+        let machines = begin(alloc, circuit, faults, classes, start)?;
         let places = places_of(alloc, classes, &machines)?;
+        let start = Vec::from_slice(alloc, start)?;
         Ok(Grader {
             circuit,
             classes,
+            start,
             lists: Vec::new(alloc),
             count: 0,
             places,
@@ -121,17 +155,18 @@ impl<'c> Grader<'c> {
         self.count
     }
 
-    /// The first place where the vectors so far detect fault `i`, which is a representative, or none. It takes no
-    /// memory. There the good and the faulty machine show opposite bits in two-valued runs from any two states.
+    /// The first place where the vectors so far detect fault `i` from the start, or none. The fault represents its
+    /// class. It takes no memory. There the good and the faulty machine show opposite bits in two-valued runs from any
+    /// two states that the start allows.
     pub fn verdict(&self, i: u32) -> Option<Place>
         requires fault { i < length (faults_of self.now.circuit) }
         requires representative { is_representative self.now.representatives i ≡ true }
-        ensures first { IsFirstDetection self.now.circuit (fault_at self.now.circuit i)
-            self.now.list result }
+        ensures first { IsFirstFrom self.now.circuit (fault_at self.now.circuit i)
+            self.now.start self.now.list result }
         ensures place { ForSome result (IsPlace self.now.circuit) }
         ensures within { ForSome result (IsWithin self.now.circuit self.now.list) }
-        ensures apart { ForSome result (λ p. Apart self.now.circuit
-            (fault_at self.now.circuit i) self.now.list p.vector p.output) }
+        ensures apart { ForSome result (λ p. ApartFrom self.now.circuit
+            (fault_at self.now.circuit i) self.now.start self.now.list p.vector p.output) }
     {
         // for the proof: the number of a vector fits 64 bits
         self.len();

@@ -5,7 +5,7 @@ use Rattle.std.proofs.lemmas.List.{at_drop_more}
 use Rattle.std.proofs.lemmas.List.FromFn.{map-range_with_len_more}
 use Rattle.ht_net.specs.Netlist.{Netlist}
 use Rattle.ht_net.specs.Frame.{next_state, run_state}
-use Rattle.ht_tree.proofs.FittedLaws.{next_long}
+use Rattle.ht_net.proofs.ValueLaws.{next_long}
 use Rattle.ht_net.specs.Faults.{bool_rules}
 use Rattle.ht_random.specs.RandomVectors.{generator_after, random_vector, random_vectors}
 use Rattle.ht_random.specs.Words.{after_words}

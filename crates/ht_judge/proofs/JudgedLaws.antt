@@ -1,7 +1,8 @@
 -- Files that judges took to their ends are valid.
-use Rattle.std.proofs.Common.{◌≤◌, ℕ, List, [], ◌∷◌, length}
+use Rattle.std.proofs.Common.{◌≤◌, ℕ, List, [], ◌∷◌, length, refl}
 use Rattle.std.specs.List.{All}
 use Rattle.std.proofs.lemmas.List.Elements.{All-cons, All-head, All-nil, All-tail}
+use Rattle.ht_tern.specs.declared.tern.Tern.{Tern}
 use Rattle.ht_ports.specs.LineRule.{lines_of, max_text_bytes}
 use Rattle.ht_net.specs.Netlist.{Netlist}
 use Rattle.ht_texts.specs.Tests.{IsTestText}
@@ -27,11 +28,12 @@ backed_with c representatives content entries (e ∷ all) backed =
 
 pub judged_is_valid : (c : Netlist) (representatives tests report proofs : List ℕ) (content : Content)
     → IsTestText c tests content.list
-    → IsTrueReport c representatives content.list (lines_of report) content.budget content.saids
+    → IsTrueReport c representatives content.start content.list (lines_of report) content.budget content.saids
     → length report ≤ max_text_bytes → (complete : AreCompleteProofs c representatives content (lines_of proofs))
     → length proofs ≤ max_text_bytes
-    → AreValid c representatives tests report proofs (record content { entries = complete.entries })
+    → AreValid c representatives content.start tests report proofs (record content { entries = complete.entries })
 judged_is_valid c representatives tests report proofs content vectors true_report short complete few = record {
+  stated = refl;
   vectors = vectors;
   reported = record { report = true_report.report; short = short };
   agrees = true_report.agrees;

@@ -3,10 +3,11 @@ use Rattle.std.proofs.Common.{◌≡◌, ◌∙◌, ◌<◌, ◌≤◌, ◌+◌,
 use Rattle.std.specs.Prelude.{IsTrue, cond}
 use Rattle.std.proofs.lemmas.Bool.{cases_lt, false≢true}
 use Rattle.std.proofs.lemmas.List.{append-nil}
+use Rattle.ht_tern.specs.declared.tern.Tern.{Tern}
 use Rattle.ht_net.specs.declared.fault.Fault.{Fault}
 use Rattle.ht_net.specs.declared.place.Place.{Place}
 use Rattle.ht_net.specs.Netlist.{Netlist}
-use Rattle.ht_net.specs.Detection.{IsFirstDetection}
+use Rattle.ht_net.specs.Detection.{IsFirstFrom}
 use Rattle.ht_faults.specs.Sites.{faults_of}
 use Rattle.ht_collapse.specs.Classes.{fault_at, is_representative}
 use Rattle.ht_texts.specs.declared.item.Item.{Item}
@@ -41,16 +42,16 @@ starts c representatives = record {
 -- ---- what is said, and the first detections
 
 -- two first detections are at one place
-not_before : (c : Netlist) (f : Fault) (list : List (List Bool)) (p q : Place)
-    → IsFirstDetection c f list (Some p) → IsFirstDetection c f list (Some q) → q.vector ≤ p.vector
-not_before c f list p q a b = elim (cases_lt p.vector q.vector) [
+not_before : (c : Netlist) (f : Fault) (start : List Tern) (list : List (List Bool)) (p q : Place)
+    → IsFirstFrom c f start list (Some p) → IsFirstFrom c f start list (Some q) → q.vector ≤ p.vector
+not_before c f start list p q a b = elim (cases_lt p.vector q.vector) [
   | inl less ↦ absurd (b.1 p.vector p.output (inl less) a.0)
   | inr upto ↦ upto
 ]
 
-not_lower : (c : Netlist) (f : Fault) (list : List (List Bool)) (p q : Place) → p.vector ≡ q.vector
-    → IsFirstDetection c f list (Some p) → IsFirstDetection c f list (Some q) → q.output ≤ p.output
-not_lower c f list p q same a b = elim (cases_lt p.output q.output) [
+not_lower : (c : Netlist) (f : Fault) (start : List Tern) (list : List (List Bool)) (p q : Place) → p.vector ≡ q.vector
+    → IsFirstFrom c f start list (Some p) → IsFirstFrom c f start list (Some q) → q.output ≤ p.output
+not_lower c f start list p q same a b = elim (cases_lt p.output q.output) [
   | inl less ↦ absurd (b.1 p.vector p.output (inr (same, less)) a.0)
   | inr upto ↦ upto
 ]
@@ -60,35 +61,38 @@ place_is p q vector output =
     let P : ℕ → ℕ → Place = λ v o. record { vector = v; output = o } in
     ap (λ v. P v p.output) vector ∙ ap (P q.vector) output
 
-one_place : (c : Netlist) (f : Fault) (list : List (List Bool)) (p q : Place)
-    → IsFirstDetection c f list (Some p) → IsFirstDetection c f list (Some q) → p ≡ q
-one_place c f list p q a b =
-    let vector : p.vector ≡ q.vector = omega (arith, not_before c f list p q a b, not_before c f list q p b a) in
+one_place : (c : Netlist) (f : Fault) (start : List Tern) (list : List (List Bool)) (p q : Place)
+    → IsFirstFrom c f start list (Some p) → IsFirstFrom c f start list (Some q) → p ≡ q
+one_place c f start list p q a b =
+    let vector : p.vector ≡ q.vector = omega
+    (arith, not_before c f start list p q a b, not_before c f start list q p b a) in
     place_is p q vector
-    (omega (arith, not_lower c f list p q vector a b, not_lower c f list q p (sym vector) b a))
+    (omega (arith, not_lower c f start list p q vector a b, not_lower c f start list q p (sym vector) b a))
 
-agrees_with_tests : (c : Netlist) (list : List (List Bool)) (i : ℕ) (place : Option Place) (said : Said)
-    → IsFirstDetection c (fault_at c i) list place → AgreesWithPlace place said → AgreesWithTests c list i said
-agrees_with_tests c list i (Some p) (Detected q) is same =
-    subst (λ x. IsFirstDetection c (fault_at c i) list (Some x)) same is
-agrees_with_tests c list i (Some p) Untestable is agrees = absurd agrees
-agrees_with_tests c list i (Some p) Aborted is agrees = absurd agrees
-agrees_with_tests c list i (Some p) Undetected is agrees = absurd agrees
-agrees_with_tests c list i None (Detected q) is agrees = absurd agrees
-agrees_with_tests c list i None Untestable is agrees = is
-agrees_with_tests c list i None Aborted is agrees = is
-agrees_with_tests c list i None Undetected is agrees = absurd agrees
+agrees_with_tests : (c : Netlist) (start : List Tern) (list : List (List Bool)) (i : ℕ) (place : Option Place)
+    (said : Said)
+    → IsFirstFrom c (fault_at c i) start list place → AgreesWithPlace place said → AgreesWithTests c start list i said
+agrees_with_tests c start list i (Some p) (Detected q) is same =
+    subst (λ x. IsFirstFrom c (fault_at c i) start list (Some x)) same is
+agrees_with_tests c start list i (Some p) Untestable is agrees = absurd agrees
+agrees_with_tests c start list i (Some p) Aborted is agrees = absurd agrees
+agrees_with_tests c start list i (Some p) Undetected is agrees = absurd agrees
+agrees_with_tests c start list i None (Detected q) is agrees = absurd agrees
+agrees_with_tests c start list i None Untestable is agrees = is
+agrees_with_tests c start list i None Aborted is agrees = is
+agrees_with_tests c start list i None Undetected is agrees = absurd agrees
 
-agrees_with_place : (c : Netlist) (list : List (List Bool)) (i : ℕ) (place : Option Place) (said : Said)
-    → IsFirstDetection c (fault_at c i) list place → AgreesWithTests c list i said → AgreesWithPlace place said
-agrees_with_place c list i (Some p) (Detected q) is agrees = one_place c (fault_at c i) list p q is agrees
-agrees_with_place c list i (Some p) Untestable is agrees = absurd (agrees p.vector p.output is.0)
-agrees_with_place c list i (Some p) Aborted is agrees = absurd (agrees p.vector p.output is.0)
-agrees_with_place c list i (Some p) Undetected is agrees = absurd agrees
-agrees_with_place c list i None (Detected q) is agrees = absurd (is q.vector q.output agrees.0)
-agrees_with_place c list i None Untestable is agrees = tt
-agrees_with_place c list i None Aborted is agrees = tt
-agrees_with_place c list i None Undetected is agrees = absurd agrees
+agrees_with_place : (c : Netlist) (start : List Tern) (list : List (List Bool)) (i : ℕ) (place : Option Place)
+    (said : Said)
+    → IsFirstFrom c (fault_at c i) start list place → AgreesWithTests c start list i said → AgreesWithPlace place said
+agrees_with_place c start list i (Some p) (Detected q) is agrees = one_place c (fault_at c i) start list p q is agrees
+agrees_with_place c start list i (Some p) Untestable is agrees = absurd (agrees p.vector p.output is.0)
+agrees_with_place c start list i (Some p) Aborted is agrees = absurd (agrees p.vector p.output is.0)
+agrees_with_place c start list i (Some p) Undetected is agrees = absurd agrees
+agrees_with_place c start list i None (Detected q) is agrees = absurd (is q.vector q.output agrees.0)
+agrees_with_place c start list i None Untestable is agrees = tt
+agrees_with_place c start list i None Aborted is agrees = tt
+agrees_with_place c start list i None Undetected is agrees = absurd agrees
 
 -- ---- what the next line says
 
@@ -171,31 +175,31 @@ module _ (c : Netlist) (representatives : List ℕ) (before : List (List ℕ)) (
       (sym (last_item_push representatives b s Undetected) ∙ says)
   next_member (after_report b s) k budget saids old new says kept = absurd (unmoved (after_report b s) old new)
 
-  module _ (list : List (List Bool)) (places : List (Option Place))
-      (first : AreFirstDetections c representatives list places) where
+  module _ (start : List Tern) (list : List (List Bool)) (places : List (Option Place))
+      (first : AreFirstDetections c representatives start list places) where
     -- what is said of the first faults agrees with the vectors
     abbrev pub AgreeAll : List Said → Type 0
     AgreeAll saids = (i : ℕ) → i < length saids → is_representative representatives i ≡ true
-        → AgreesWithTests c list i (said_at saids i)
+        → AgreesWithTests c start list i (said_at saids i)
 
     agree_front : (saids more : List Said) (i : ℕ) → AgreeAll saids → i < length saids
-        → is_representative representatives i ≡ true → AgreesWithTests c list i (said_at (saids ++ more) i)
+        → is_representative representatives i ≡ true → AgreesWithTests c start list i (said_at (saids ++ more) i)
     agree_front saids more i agree below own =
-        subst (AgreesWithTests c list i) (sym (said_before saids more i below)) (agree i below own)
+        subst (AgreesWithTests c start list i) (sym (said_before saids more i below)) (agree i below own)
 
     agree_same : (saids : List Said) → AgreeAll saids → AgreeAll (saids ++ [])
     agree_same saids agree i below own =
         agree_front saids [] i agree (omega (arith, below, length-append saids [])) own
 
     agree_push : (saids : List Said) (said : Said) → AgreeAll saids
-        → (is_representative representatives (length saids) ≡ true → AgreesWithTests c list (length saids) said)
+        → (is_representative representatives (length saids) ≡ true → AgreesWithTests c start list (length saids) said)
         → AgreeAll (saids ++ said ∷ [])
     agree_push saids said agree last i below own = elim (cases_lt i (length saids)) [
       | inl less ↦ agree_front saids (said ∷ []) i agree less own
       | inr upto ↦
           let same : length saids ≡ i = omega (arith, below, upto, length-append saids (said ∷ [])) in
-          subst (λ k. AgreesWithTests c list k (said_at (saids ++ said ∷ []) k)) same
-          (subst (AgreesWithTests c list (length saids)) (sym (said_last saids said))
+          subst (λ k. AgreesWithTests c start list k (said_at (saids ++ said ∷ []) k)) same
+          (subst (AgreesWithTests c start list (length saids)) (sym (said_last saids said))
           (last (subst (λ k. is_representative representatives k ≡ true) (sym same) own)))
     ]
 
@@ -207,8 +211,8 @@ module _ (c : Netlist) (representatives : List ℕ) (before : List (List ℕ)) (
     agree_on at (Head b) budget saids old new says kept agrees all = agree_same saids all
     agree_on at (Verdict k said) budget saids old new says kept agrees all =
         let next = next_verdict at k said budget saids old new says kept in
-        agree_push saids said all (λ own. subst (λ i. AgreesWithTests c list i said) next.number
-        (agrees_with_tests c list k (place_at places k) said (first.first k next.listed next.own) agrees))
+        agree_push saids said all (λ own. subst (λ i. AgreesWithTests c start list i said) next.number
+        (agrees_with_tests c start list k (place_at places k) said (first.first k next.listed next.own) agrees))
     agree_on at (Member k) budget saids old new says kept agrees all =
         agree_push saids Undetected all
         (λ own. absurd (false≢true (sym (next_member at k budget saids old new says kept) ∙ own)))
@@ -217,7 +221,7 @@ module _ (c : Netlist) (representatives : List ℕ) (before : List (List ℕ)) (
     -- A line that doesn't agree with the first detections contradicts the vectors.
     pub record Contradicted (saids : List Said) : Type 0 where
       pub number : length before ≡ length saids + 1
-      pub contradicts : ContradictsTests c representatives list (before ++ line ∷ [])
+      pub contradicts : ContradictsTests c representatives start list (before ++ line ∷ [])
 
     contradicted : (at : ReportReading) (item : Item) (budget : ℕ) (saids : List Said)
         → ReportReadsTo c representatives before at
@@ -235,7 +239,7 @@ module _ (c : Netlist) (representatives : List ℕ) (before : List (List ℕ)) (
             fault = k;
             said = said;
             says = says;
-            contradicts = λ agrees. differs (agrees_with_place c list k (place_at places k) said
+            contradicts = λ agrees. differs (agrees_with_place c start list k (place_at places k) said
                 (first.first k next.listed next.own) agrees);
           };
         }
@@ -245,12 +249,13 @@ module _ (c : Netlist) (representatives : List ℕ) (before : List (List ℕ)) (
 -- ---- a call with a line
 
 -- what is known of the lines before
-pub record Judged (a : Inside) (list : List (List Bool)) (before : List (List ℕ)) (at : ReportReading) (c : Netlist)
+pub record Judged (a : Inside) (start : List Tern) (list : List (List Bool)) (before : List (List ℕ))
+    (at : ReportReading) (c : Netlist)
     (representatives : List ℕ) : Type 0 where
-  pub first : AreFirstDetections c representatives list a.detections.now
+  pub first : AreFirstDetections c representatives start list a.detections.now
   pub old : ReportReadsTo c representatives before at
   pub all : (i : ℕ) → i < length a.saids.items → is_representative representatives i ≡ true
-      → AgreesWithTests c list i (said_at a.saids.items i)
+      → AgreesWithTests c start list i (said_at a.saids.items i)
 
 -- the judge with what a call leaves
 abbrev pub judge_with : Inside → ReportView → ℕ → List Said → Bool → ReportJudgeView
@@ -272,20 +277,21 @@ Stops a r line error =
 
 module _ (a : Inside) (r : ReportView) (line : List ℕ) (item : Item) (keeps : KeepsReport a) (live : IsTrue a.live)
     (called : ReportCalled a.reader r line (Ok item)) where
-  reader_stands : (list : List (List Bool)) (before : List (List ℕ))
-      → (j : JudgesReport (report_judge_view a) list before) → ReportStands a.reader before j.at
-  reader_stands list before j = record {
+  reader_stands : (start : List Tern) (list : List (List Bool)) (before : List (List ℕ))
+      → (j : JudgesReport (report_judge_view a) start list before) → ReportStands a.reader before j.at
+  reader_stands start list before j = record {
     live = (keeps.stands live).2.live;
     read = j.read;
     lines_read = j.lines_read;
     sums = j.sums;
   }
 
-  judged : (list : List (List Bool)) (before : List (List ℕ)) (j : JudgesReport (report_judge_view a) list before)
-      → Judged a list before j.at r.circuit r.representatives
-  judged list before j =
-      subst (Judged a list before j.at r.circuit) (sym called.representatives)
-      (subst (λ c. Judged a list before j.at c a.reader.representatives) (sym called.circuit)
+  judged : (start : List Tern) (list : List (List Bool)) (before : List (List ℕ))
+      (j : JudgesReport (report_judge_view a) start list before)
+      → Judged a start list before j.at r.circuit r.representatives
+  judged start list before j =
+      subst (Judged a start list before j.at r.circuit) (sym called.representatives)
+      (subst (λ c. Judged a start list before j.at c a.reader.representatives) (sym called.circuit)
       (record { first = j.first; old = j.read; all = j.agree }))
 
   -- the reader stands for some lines after a line that it takes, and the budget of a head is one of a search
@@ -301,13 +307,13 @@ module _ (a : Inside) (r : ReportView) (line : List ℕ) (item : Item) (keeps : 
     circuit = called.circuit;
     representatives = called.representatives;
     live = refl;
-    taken = λ list before j.
-        let next = called.taken before j.at (reader_stands list before j) in
-        let known = judged list before j in
+    taken = λ start list before j.
+        let next = called.taken before j.at (reader_stands start list before j) in
+        let known = judged start list before j in
         let new = next.stands.read in
         let kept = kept_on r.circuit r.representatives before line j.at item a.budget a.saids.items known.old new
         j.kept in
-        let agree = agree_on r.circuit r.representatives before line list a.detections.now known.first j.at item
+        let agree = agree_on r.circuit r.representatives before line start list a.detections.now known.first j.at item
         a.budget a.saids.items known.old new next.says j.kept agrees known.all in
         record {
           live = refl;
@@ -318,10 +324,10 @@ module _ (a : Inside) (r : ReportView) (line : List ℕ) (item : Item) (keeps : 
           sums = next.stands.sums;
           kept = subst (λ b. KeepsSaid (read_on j.at item) b saids) (sym budget_is)
               (subst (KeepsSaid (read_on j.at item) (budget_with item a.budget)) (sym saids_are) kept);
-          agree = subst (AgreeAll r.circuit r.representatives before line list a.detections.now known.first)
+          agree = subst (AgreeAll r.circuit r.representatives before line start list a.detections.now known.first)
               (sym saids_are) agree;
         };
-    cause = λ list before j. tt;
+    cause = λ start list before j. tt;
   }
 
   pub line_contradicts : (number : ℕ) (error : JudgeError) → error ≡ Denied (Report number)
@@ -331,16 +337,17 @@ module _ (a : Inside) (r : ReportView) (line : List ℕ) (item : Item) (keeps : 
     circuit = called.circuit;
     representatives = called.representatives;
     live = refl;
-    taken = λ list before j. tt;
-    cause = λ list before j.
-        let next = called.taken before j.at (reader_stands list before j) in
-        let known = judged list before j in
-        let found = contradicted r.circuit r.representatives before line list a.detections.now known.first j.at item
+    taken = λ start list before j. tt;
+    cause = λ start list before j.
+        let next = called.taken before j.at (reader_stands start list before j) in
+        let known = judged start list before j in
+        let found = contradicted r.circuit r.representatives before line start list a.detections.now known.first j.at
+        item
         a.budget a.saids.items known.old next.stands.read next.says j.kept differs in
         let lines = before ++ line ∷ [] in (
           omega (arith, number_is, found.number),
-          inr (subst (λ c. ContradictsTests c a.reader.representatives list lines) called.circuit
-              (subst (λ x. ContradictsTests r.circuit x list lines) called.representatives found.contradicts)),
+          inr (subst (λ c. ContradictsTests c a.reader.representatives start list lines) called.circuit
+              (subst (λ x. ContradictsTests r.circuit x start list lines) called.representatives found.contradicts)),
         );
   })
 
@@ -378,8 +385,8 @@ line_refused a r line malformed error error_is keeps live called = subst (Stops 
   circuit = called.circuit;
   representatives = called.representatives;
   live = refl;
-  taken = λ list before j. tt;
-  cause = λ list before j.
+  taken = λ start list before j. tt;
+  cause = λ start list before j.
       let refused = called.refused before j.at (record {
         live = (keeps.stands live).2.live;
         read = j.read;
@@ -397,11 +404,11 @@ pub record ReadAndKept (c : Netlist) (representatives : List ℕ) (lines : List 
   pub read : ReportReadsTo c representatives lines at
   pub kept : KeepsSaid at budget saids
 
-pub whole_is_true : (v : ReportJudgeView) (list : List (List Bool)) (lines : List (List ℕ))
-    → (j : JudgesReport v list lines)
+pub whole_is_true : (v : ReportJudgeView) (start : List Tern) (list : List (List Bool)) (lines : List (List ℕ))
+    → (j : JudgesReport v start list lines)
     → (budget : ℕ) × (saids : List Said) × (j.at ≡ after_report budget saids)
-    → IsTrueReport v.circuit v.representatives list lines v.budget v.saids
-whole_is_true v list lines j (budget, saids, is) =
+    → IsTrueReport v.circuit v.representatives start list lines v.budget v.saids
+whole_is_true v start list lines j (budget, saids, is) =
     let whole = subst (ReadAndKept v.circuit v.representatives lines v.budget v.saids) is
     (record { read = j.read; kept = j.kept }) in
     let report : IsSearchReport v.circuit v.representatives lines v.budget v.saids =
@@ -413,8 +420,8 @@ whole_is_true v list lines j (budget, saids, is) =
       agrees = λ i own. j.agree i (omega (arith, own.listed, report.search.saids_are.each)) own.own;
     }
 
-module _ (a : Inside) (keeps : KeepsReport a) (list : List (List Bool)) (lines : List (List ℕ))
-    (j : JudgesReport (report_judge_view a) list lines) where
+module _ (a : Inside) (keeps : KeepsReport a) (start : List Tern) (list : List (List Bool)) (lines : List (List ℕ))
+    (j : JudgesReport (report_judge_view a) start list lines) where
   stands_at_end : ReportStands a.reader lines j.at
   stands_at_end = record {
     live = (keeps.stands j.live).2.live;
@@ -426,8 +433,8 @@ module _ (a : Inside) (keeps : KeepsReport a) (list : List (List Bool)) (lines :
   pub whole_ends : (u : Unit {0})
       → ((lines : List (List ℕ)) (at : ReportReading) → ReportStands a.reader lines at
       → EndsReport a.reader lines at (Ok u))
-      → IsTrueReport a.reader.circuit a.reader.representatives list lines a.budget a.saids.items
-  whole_ends u ends = whole_is_true (report_judge_view a) list lines j (ends lines j.at stands_at_end)
+      → IsTrueReport a.reader.circuit a.reader.representatives start list lines a.budget a.saids.items
+  whole_ends u ends = whole_is_true (report_judge_view a) start list lines j (ends lines j.at stands_at_end)
 
   pub early_ends : (malformed : MalformedLine) (error : JudgeError) → error ≡ Denied (Report malformed.line)
       → ((lines : List (List ℕ)) (at : ReportReading) → ReportStands a.reader lines at

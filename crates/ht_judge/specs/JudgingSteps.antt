@@ -21,9 +21,9 @@ stopped_by read.NoMemory = NoMemory
 
 -- ---- the entry that a line ends
 
--- what the report says, with no vectors and no entries
+-- the start and what the report says, with no vectors and no entries
 abbrev pub claimed : ProofJudgeView → Content
-claimed v = record { list = []; budget = v.budget; saids = v.saids; entries = [] }
+claimed v = record { start = v.start; list = []; budget = v.budget; saids = v.saids; entries = [] }
 
 -- a number, from 1, is that of a representative
 pub record IsOwnNumber (representatives : List ℕ) (number : ℕ) : Type 0 where

@@ -1,5 +1,6 @@
 -- A judge of the report of a search: the lines that it stands for, and why it denies.
 use Rattle.std.specs.Prelude.{◌≡◌, ◌⊎◌, ◌<◌, ◌+◌, ◌++◌, ◌∷◌, ℕ, List, [], Bool, true, length, IsTrue, Option, Some, None, Result, IfOk, IfErr, is_ok}
+use Rattle.ht_tern.specs.declared.tern.Tern.{Tern}
 use Rattle.ht_net.specs.declared.place.Place.{Place}
 use Rattle.ht_net.specs.Netlist.{Netlist}
 use Rattle.ht_collapse.specs.Classes.{is_representative}
@@ -65,28 +66,30 @@ AgreesWithPlaces places (Verdict fault said) = AgreesWithPlace (place_at places 
 AgreesWithPlaces places item = Unit {0}
 
 -- The judge is live and stands for these lines: they begin a report, and what they say agrees with the vectors.
-pub record JudgesReport (v : ReportJudgeView) (list : List (List Bool)) (lines : List (List ℕ)) : Type 0 where
+pub record JudgesReport (v : ReportJudgeView) (start : List Tern) (list : List (List Bool))
+    (lines : List (List ℕ)) : Type 0 where
   pub live : IsTrue v.live
-  pub first : AreFirstDetections v.circuit v.representatives list v.detections
+  pub first : AreFirstDetections v.circuit v.representatives start list v.detections
   pub at : ReportReading
   pub read : ReportReadsTo v.circuit v.representatives lines at
   pub kept : KeepsSaid at v.budget v.saids
   pub lines_read : v.lines_read ≡ length lines
   pub sums : v.sums ≡ sums_read v.representatives at
   pub agree : (i : ℕ) → i < length v.saids → is_representative v.representatives i ≡ true
-      → AgreesWithTests v.circuit list i (said_at v.saids i)
+      → AgreesWithTests v.circuit start list i (said_at v.saids i)
 
 -- no report begins with these lines, or the last of them contradicts the vectors
-abbrev pub IsRefusedReport : ReportJudgeView → List (List Bool) → List (List ℕ) → Type 0
-IsRefusedReport v list lines = (¬ IsReportFront v.circuit v.representatives lines)
-    ⊎ ContradictsTests v.circuit v.representatives list lines
+abbrev pub IsRefusedReport : ReportJudgeView → List Tern → List (List Bool) → List (List ℕ) → Type 0
+IsRefusedReport v start list lines = (¬ IsReportFront v.circuit v.representatives lines)
+    ⊎ ContradictsTests v.circuit v.representatives start list lines
 
 -- why the line was denied after these
-abbrev pub ReportLineDeniedFor : ReportJudgeView → List (List Bool) → List (List ℕ) → List ℕ → JudgeError → Type 0
-ReportLineDeniedFor v list before line (Denied (Report number)) =
-    (number ≡ length before + 1) × IsRefusedReport v list (before ++ line ∷ [])
-ReportLineDeniedFor v list before line (Denied other) = ⊥
-ReportLineDeniedFor v list before line NoMemory = Unit {0}
+abbrev pub ReportLineDeniedFor : ReportJudgeView → List Tern → List (List Bool) → List (List ℕ) → List ℕ → JudgeError
+    → Type 0
+ReportLineDeniedFor v start list before line (Denied (Report number)) =
+    (number ≡ length before + 1) × IsRefusedReport v start list (before ++ line ∷ [])
+ReportLineDeniedFor v start list before line (Denied other) = ⊥
+ReportLineDeniedFor v start list before line NoMemory = Unit {0}
 
 -- What a call with a line leaves, whatever lines the judge stood for.
 pub record ReportJudged (old new : ReportJudgeView) (line : List ℕ) (result : Result (Unit {0}) JudgeError)
@@ -94,16 +97,19 @@ pub record ReportJudged (old new : ReportJudgeView) (line : List ℕ) (result : 
   pub circuit : new.circuit ≡ old.circuit
   pub representatives : new.representatives ≡ old.representatives
   pub live : new.live ≡ is_ok result
-  pub taken : (list : List (List Bool)) (before : List (List ℕ)) → JudgesReport old list before
-      → IfOk result (λ u. JudgesReport new list (before ++ line ∷ []))
-  pub cause : (list : List (List Bool)) (before : List (List ℕ)) → JudgesReport old list before
-      → IfErr result (ReportLineDeniedFor old list before line)
+  pub taken : (start : List Tern) (list : List (List Bool)) (before : List (List ℕ))
+      → JudgesReport old start list before
+      → IfOk result (λ u. JudgesReport new start list (before ++ line ∷ []))
+  pub cause : (start : List Tern) (list : List (List Bool)) (before : List (List ℕ))
+      → JudgesReport old start list before
+      → IfErr result (ReportLineDeniedFor old start list before line)
 
 -- The lines are a whole report with this budget, which says this and agrees with the vectors.
-pub record IsTrueReport (c : Netlist) (representatives : List ℕ) (list : List (List Bool)) (lines : List (List ℕ))
+pub record IsTrueReport (c : Netlist) (representatives : List ℕ) (start : List Tern) (list : List (List Bool))
+    (lines : List (List ℕ))
     (budget : ℕ) (saids : List Said) : Type 0 where
   pub report : IsSearchReport c representatives lines budget saids
-  pub agrees : (i : ℕ) → IsOwn c representatives i → AgreesWithTests c list i (said_at saids i)
+  pub agrees : (i : ℕ) → IsOwn c representatives i → AgreesWithTests c start list i (said_at saids i)
 
 -- the report ended too early: the line after its last is missing
 abbrev pub ReportEndHasCause : ReportJudgeView → List (List ℕ) → JudgeError → Type 0

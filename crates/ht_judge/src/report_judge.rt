@@ -1,13 +1,13 @@
 //! A judge of a report.
 ghost use Rattle.std.specs.Prelude.{◌≡◌, ◌↔◌, ◌++◌, [], true, List, Bool, ℕ, length, IsTrue, IfOk, IfErr, OnOk};
+ghost use Rattle.ht_tern.specs.declared.tern.Tern as tern;
 ghost use Rattle.ht_faults.specs.Sites.{faults_of};
 ghost use Rattle.ht_collapse.specs.Classes.{AreClasses};
 ghost use Rattle.ht_grade.specs.Detections.{AreFirstDetections, place_at};
 ghost use Rattle.ht_texts.specs.SearchReports.{IsBudget};
 ghost use Rattle.ht_valid.specs.declared.trouble.Trouble.TheVariants as trouble;
 ghost use Rattle.ht_judge.specs.declared.judge_error.JudgeError.TheVariants as error;
-ghost use Rattle.ht_judge.specs.ReportJudging.{AgreesWithPlace, AgreesWithPlaces, budget_with, saids_in};
-ghost use Rattle.ht_judge.specs.ReportJudging.{JudgesReport, ReportJudged, IsTrueReport, ReportEndHasCause};
+ghost use Rattle.ht_judge.specs.ReportJudging.{AgreesWithPlace, AgreesWithPlaces, budget_with, saids_in, JudgesReport, ReportJudged, IsTrueReport, ReportEndHasCause};
 
 use crate::judge_error::JudgeError;
 use ht_collapse::Classes;
@@ -134,9 +134,9 @@ impl<'c> ReportJudge<'c> {
     ) -> Result<ReportJudge<'c>, AllocError>
         requires faults { faults.now ≡ faults_of circuit.now }
         requires classes { AreClasses circuit.now classes.now }
-        ensures stands { (list : List (List Bool))
-            → AreFirstDetections circuit.now classes.now list detections.now
-            → IfOk result (λ judge. JudgesReport judge list []) }
+        ensures stands { (start : List tern.Tern) (list : List (List Bool))
+            → AreFirstDetections circuit.now classes.now start list detections.now
+            → IfOk result (λ judge. JudgesReport judge start list []) }
         ensures circuit { IfOk result (λ judge. judge.circuit ≡ circuit.now) }
         ensures classes { IfOk result (λ judge. judge.representatives ≡ classes.now) }
         ensures live { IfOk result (λ judge. judge.live ≡ true) }
@@ -187,12 +187,12 @@ impl<'c> ReportJudge<'c> {
     /// `Denied` at the line after the last, exactly where the report isn't whole.
     pub fn end(self) -> Result<Claims, JudgeError>
         ensures budget { IfOk result (λ claims. IsBudget claims.budget) }
-        ensures ok { (list : List (List Bool)) (lines : List (List ℕ))
-            → JudgesReport self.entry list lines
+        ensures ok { (start : List tern.Tern) (list : List (List Bool)) (lines : List (List ℕ))
+            → JudgesReport self.entry start list lines
             → IfOk result (λ claims. IsTrueReport self.entry.circuit self.entry.representatives
-            list lines claims.budget claims.saids.items) }
-        ensures err { (list : List (List Bool)) (lines : List (List ℕ))
-            → JudgesReport self.entry list lines
+            start list lines claims.budget claims.saids.items) }
+        ensures err { (start : List tern.Tern) (list : List (List Bool)) (lines : List (List ℕ))
+            → JudgesReport self.entry start list lines
             → IfErr result (ReportEndHasCause self.entry lines) }
     {
         match self.reader.end() {

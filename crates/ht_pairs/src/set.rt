@@ -1,10 +1,11 @@
 //! Sets of pairs: how one is made, what it may be asked, and the stuck line.
-ghost use Rattle.std.specs.Prelude.{◌≡◌, ◌+◌, ◌*◌, ◌<◌, ◌↔◌, IsTrue, [], ◌∷◌, length, Some, None};
+ghost use Rattle.std.specs.Prelude.{◌≡◌, ◌+◌, ◌*◌, ◌<◌, ◌≤◌, ◌⊎◌, ◌↔◌, IsTrue, [], ◌∷◌, length, Some, None};
 ghost use Rattle.std.specs.List.{list_all, list_any};
 ghost use Rattle.ht_tern.specs.declared.tern.Tern.TheVariants.{Zero, One, Unk};
 ghost use Rattle.ht_pairs.specs.Pairs.{IsMember, MayDiffer, MustDiffer, differs, pair, stuck_set};
 ghost use Rattle.ht_pairs.specs.Members.{bit_of, tern_index};
 ghost use Rattle.ht_pairs.specs.Decided.{each_pair, same_pairs};
+ghost use Rattle.ht_pairs.specs.Included.{Includes, joined_set};
 
 use crate::moves::stuck;
 use ht_tern::Tern;
@@ -196,6 +197,24 @@ impl PairSet {
         ensures nonempty { 0 < length self }
     {
         self.bits & (self.bits - 1) == 0
+    }
+
+    /// Whether each member of another set is a member of this one.
+    pub fn includes(self, other: PairSet) -> bool
+        ensures { IsTrue result ↔ Includes self other }
+    {
+        self.bits | other.bits == self.bits
+    }
+
+    /// The members of both sets: no more than nine, and more than this set has unless it includes the other.
+    pub fn join(self, other: PairSet) -> PairSet
+        ensures members { result ≡ joined_set self other }
+        ensures grows { (result ≡ self) ⊎ (length self < length result) }
+        ensures few { length result ≤ 9 }
+    {
+        PairSet {
+            bits: self.bits | other.bits,
+        }
     }
 
     /// Whether some member has opposite definite values.

@@ -15,12 +15,12 @@ use Rattle.ht_net.specs.declared.fault.Fault.{Fault}
 use Rattle.ht_net.specs.declared.place.Place.{Place}
 use Rattle.ht_net.specs.Netlist.{Netlist}
 use Rattle.ht_net.specs.Faults.{tern_rules}
-use Rattle.ht_net.specs.Detection.{unknown_state}
 use Rattle.ht_net.proofs.FrameLaws.{le_or_lt}
 use Rattle.ht_faults.specs.FaultList.{no_fault}
 use Rattle.ht_faults.specs.Sites.{IsFaultSite, faults_of}
 use Rattle.ht_faults.proofs.MemberLaws.{fault_site}
 use Rattle.ht_diff.specs.Differences.{held, value_but, with_differences}
+use Rattle.ht_net.specs.Detection.{IsStart}
 use Rattle.ht_group.specs.GroupView.{GroupView, FaultyMachine, AreLatches, HasSite, words_for}
 use Rattle.ht_proofs.specs.declared.grade.Grade.{Grade}
 use Rattle.ht_proofs.specs.PackedView.{PackedView, GraderStandsFor, chosen_faults, grades_at_start, state_at, verdict_at}
@@ -135,14 +135,15 @@ undetected_at_start n =
     (range_with_len 0 (length none))
     ∙ ap (range_with_len 0) (length-replicate {A = Option Place} n None)
 
-pub start_stands : (c : Netlist) (faults : List Fault) → GraderStandsFor (grades_at_start c faults) []
-start_stands c faults = record {
+pub start_stands : (c : Netlist) (start : List Tern) (faults : List Fault)
+    → GraderStandsFor (grades_at_start c start faults) start []
+start_stands c start faults = record {
   counted = refl;
   good = refl;
   first = λ k fault has.
-      rw (none_at_start (length faults) k) (λ t o d. absurd (omega (arith, found_inside c fault [] t o d)));
+      rw (none_at_start (length faults) k) (λ t o d. absurd (omega (arith, found_inside c fault start [] t o d)));
   state = λ k fault has none.
-      get_or-replicate (length faults) k (unknown_state c) [] (slice_get_within faults k fault has);
+      get_or-replicate (length faults) k start [] (slice_get_within faults k fault has);
 }
 
 -- a site of the fault list is there
@@ -169,15 +170,18 @@ chosen_sites c faults which k fault is known has =
     (omega (arith, below, ap (λ (l : List Fault). length l) is))))
 
 -- the fields at the start
-pub start_fields : (c d : Netlist) (faults : List Fault) (which : List ℕ) (chosen : List Fault) (latches : List Tern)
+pub start_fields : (c d : Netlist) (start : List Tern) (faults : List Fault) (which : List ℕ) (chosen : List Fault)
+    (latches : List Tern)
     (verdicts : List (Option Place)) (undetected : List ℕ) (grades : List Grade) → faults ≡ faults_of c
-    → All (λ i. i < length faults) which → d ≡ c → chosen ≡ chosen_faults faults which → latches ≡ unknown_state c
+    → All (λ i. i < length faults) which → d ≡ c → IsStart c start → chosen ≡ chosen_faults faults which
+    → latches ≡ start
     → verdicts ≡ replicate (length chosen) None → undetected ≡ range_with_len 0 (length chosen)
     → grades ≡ replicate (length chosen) no_grade
     → IsPackedGrader d chosen 0 latches verdicts undetected grades true
-start_fields c d faults which chosen latches verdicts undetected grades is known same picked unknown none all empty =
+start_fields c d start faults which chosen latches verdicts undetected grades is known same long picked begun none all
+    empty =
     subst (λ (x : Netlist). IsPackedGrader x chosen 0 latches verdicts undetected grades true) (sym same) (record {
-      latch_count = ap (λ (l : List Tern). length l) unknown ∙ length-replicate (length c.dffs) Unk;
+      latch_count = ap (λ (l : List Tern). length l) begun ∙ long;
       verdict_count = ap (λ (l : List (Option Place)). length l) none ∙ length-replicate (length chosen) None;
       grade_count = ap (λ (l : List Grade). length l) empty ∙ length-replicate (length chosen) no_grade;
       sites = λ k fault has. chosen_sites c faults which k fault is known
@@ -195,8 +199,9 @@ start_fields c d faults which chosen latches verdicts undetected grades is known
           (λ i d less. absurd (omega arith));
     })
 
-pub start_view : (c d : Netlist) (faults : List Fault) (latches : List Tern) (verdicts : List (Option Place))
-    (grades : List Grade) → d ≡ c → latches ≡ unknown_state c → verdicts ≡ replicate (length faults) None
+pub start_view : (c d : Netlist) (start : List Tern) (faults : List Fault) (latches : List Tern)
+    (verdicts : List (Option Place))
+    (grades : List Grade) → d ≡ c → latches ≡ start → verdicts ≡ replicate (length faults) None
     → grades ≡ replicate (length faults) no_grade
     → record {
       circuit = d;
@@ -206,16 +211,16 @@ pub start_view : (c d : Netlist) (faults : List Fault) (latches : List Tern) (ve
       verdicts = verdicts;
       states = faulty_states latches grades;
       live = true;
-    } ≡ grades_at_start c faults
-start_view c d faults latches verdicts grades same unknown none empty =
-    let states : faulty_states latches grades ≡ replicate (length faults) (unknown_state c) =
+    } ≡ grades_at_start c start faults
+start_view c d start faults latches verdicts grades same begun none empty =
+    let states : faulty_states latches grades ≡ replicate (length faults) start =
     ap (faulty_states latches) empty
-    ∙ (states_at_start latches (length faults) ∙ ap (replicate (length faults)) unknown) in
+    ∙ (states_at_start latches (length faults) ∙ ap (replicate (length faults)) begun) in
     λ i. record {
       circuit = same i;
       faults = faults;
       count = 0;
-      latches = unknown i;
+      latches = begun i;
       verdicts = none i;
       states = states i;
       live = true;

@@ -11,12 +11,12 @@ use Rattle.ht_net.specs.declared.place.Place.{Place}
 use Rattle.ht_net.specs.Netlist.{Netlist}
 use Rattle.ht_net.specs.Frame.{Rules, net_value, run_state, run_outputs, next_state, frame_outputs}
 use Rattle.ht_net.specs.Faults.{tern_rules}
-use Rattle.ht_net.specs.Detection.{terns_of, unknown_state, tern_outputs, output_at, Detects, IsBefore, IsFirstDetection, Apart}
+use Rattle.ht_net.specs.Detection.{ApartFrom, DetectsFrom, IsBefore, IsFirstFrom, output_from, outputs_from, state_from, terns_of}
 use Rattle.ht_net.proofs.FrameLaws.{le_or_lt}
 use Rattle.ht_net.proofs.ValueLaws.{seen_length}
-use Rattle.ht_net.proofs.ApartLaws.{detected_apart}
+use Rattle.ht_net.proofs.ApartLaws.{detected_apart_from}
 use Rattle.ht_group.specs.GroupView.{GroupView, FaultyMachine, good_output, faulty_output}
-use Rattle.ht_proofs.specs.PackedView.{PackedView, GraderStandsFor, latches_from_unknown, verdict_at}
+use Rattle.ht_proofs.specs.PackedView.{PackedView, GraderStandsFor, verdict_at}
 use Rattle.ht_proofs.specs.Applied.{IsApplied, IsFirstSeen, IsSeen, grader_frame, machine_at}
 
 -- ---- runs
@@ -51,41 +51,44 @@ run_width c r latches [] t h = absurd (omega arith)
 run_width c r latches (w ∷ vectors) zero h = row_width c r w latches
 run_width c r latches (w ∷ vectors) (suc t) h = run_width c r (next_state c r w latches) vectors t (omega arith)
 
--- ---- runs of lists of bits, from all-unknown
+-- ---- runs of lists of bits, from a start
 
-latches_more : (c : Netlist) (f : Option Fault) (list : List (List Bool)) (v : List Bool)
-    → latches_from_unknown c f (list ++ v ∷ [])
-    ≡ next_state c (tern_rules f) (terns_of v) (latches_from_unknown c f list)
-latches_more c f list v =
-    ap (λ (l : List (List Tern)). run_state c (tern_rules f) (unknown_state c) l) (map-append terns_of list (v ∷ []))
-    ∙ state_more c (tern_rules f) (unknown_state c) (map terns_of list) (terns_of v)
+latches_more : (c : Netlist) (f : Option Fault) (start : List Tern) (list : List (List Bool)) (v : List Bool)
+    → state_from c f start (list ++ v ∷ [])
+    ≡ next_state c (tern_rules f) (terns_of v) (state_from c f start list)
+latches_more c f start list v =
+    ap (λ (l : List (List Tern)). run_state c (tern_rules f) start l) (map-append terns_of list (v ∷ []))
+    ∙ state_more c (tern_rules f) start (map terns_of list) (terns_of v)
 
-rows_more : (c : Netlist) (f : Option Fault) (list : List (List Bool)) (v : List Bool)
-    → tern_outputs c f (list ++ v ∷ [])
-    ≡ tern_outputs c f list ++ frame_outputs c (tern_rules f) (terns_of v) (latches_from_unknown c f list) ∷ []
-rows_more c f list v =
-    ap (λ (l : List (List Tern)). run_outputs c (tern_rules f) (unknown_state c) l) (map-append terns_of list (v ∷ []))
-    ∙ outputs_more c (tern_rules f) (unknown_state c) (map terns_of list) (terns_of v)
+rows_more : (c : Netlist) (f : Option Fault) (start : List Tern) (list : List (List Bool)) (v : List Bool)
+    → outputs_from c f start (list ++ v ∷ [])
+    ≡ outputs_from c f start list ++ frame_outputs c (tern_rules f) (terns_of v) (state_from c f start list) ∷ []
+rows_more c f start list v =
+    ap (λ (l : List (List Tern)). run_outputs c (tern_rules f) start l) (map-append terns_of list (v ∷ []))
+    ∙ outputs_more c (tern_rules f) start (map terns_of list) (terns_of v)
 
-rows_count : (c : Netlist) (f : Option Fault) (list : List (List Bool)) → length (tern_outputs c f list) ≡ length list
-rows_count c f list = outputs_count c (tern_rules f) (unknown_state c) (map terns_of list) ∙ length-map list terns_of
+rows_count : (c : Netlist) (f : Option Fault) (start : List Tern) (list : List (List Bool)) → length
+    (outputs_from c f start list) ≡ length list
+rows_count c f start list = outputs_count c (tern_rules f) start (map terns_of list) ∙ length-map list terns_of
 
 -- what is shown before the last vector, and at it
-shown_before : (c : Netlist) (f : Option Fault) (list : List (List Bool)) (v : List Bool) (t o : ℕ) → t < length list
-    → output_at c f (list ++ v ∷ []) t o ≡ output_at c f list t o
-shown_before c f list v t o h = ap (λ (row : List Tern). get_or row o Unk)
-    (ap (λ (rows : List (List Tern)). get_or rows t []) (rows_more c f list v)
-    ∙ get_or_append_left (tern_outputs c f list) _ [] t (omega (arith, h, rows_count c f list)))
+shown_before : (c : Netlist) (f : Option Fault) (start : List Tern) (list : List (List Bool)) (v : List Bool) (t o : ℕ)
+    → t < length list
+    → output_from c f start (list ++ v ∷ []) t o ≡ output_from c f start list t o
+shown_before c f start list v t o h = ap (λ (row : List Tern). get_or row o Unk)
+    (ap (λ (rows : List (List Tern)). get_or rows t []) (rows_more c f start list v)
+    ∙ get_or_append_left (outputs_from c f start list) _ [] t (omega (arith, h, rows_count c f start list)))
 
-shown_last : (c : Netlist) (f : Option Fault) (list : List (List Bool)) (v : List Bool) (t o : ℕ) → t ≡ length list
-    → output_at c f (list ++ v ∷ []) t o
-    ≡ get_or (frame_outputs c (tern_rules f) (terns_of v) (latches_from_unknown c f list)) o Unk
-shown_last c f list v t o h =
-    let last = frame_outputs c (tern_rules f) (terns_of v) (latches_from_unknown c f list) in
+shown_last : (c : Netlist) (f : Option Fault) (start : List Tern) (list : List (List Bool)) (v : List Bool) (t o : ℕ)
+    → t ≡ length list
+    → output_from c f start (list ++ v ∷ []) t o
+    ≡ get_or (frame_outputs c (tern_rules f) (terns_of v) (state_from c f start list)) o Unk
+shown_last c f start list v t o h =
+    let last = frame_outputs c (tern_rules f) (terns_of v) (state_from c f start list) in
     ap (λ (row : List Tern). get_or row o Unk)
-    (ap (λ (rows : List (List Tern)). get_or rows t []) (rows_more c f list v)
-    ∙ (ap (λ (n : ℕ). get_or (tern_outputs c f list ++ last ∷ []) n []) (h ∙ sym (rows_count c f list))
-    ∙ get_or-append_seam (tern_outputs c f list) last [] []))
+    (ap (λ (rows : List (List Tern)). get_or rows t []) (rows_more c f start list v)
+    ∙ (ap (λ (n : ℕ). get_or (outputs_from c f start list ++ last ∷ []) n []) (h ∙ sym (rows_count c f start list))
+    ∙ get_or-append_seam (outputs_from c f start list) last [] []))
 
 -- ---- what is detected
 
@@ -105,87 +108,103 @@ opposite_inside good faulty o h = elim (le_or_lt (length good) o) [
 ]
 
 -- what is detected is detected at a vector of the list, and at an output of the circuit
-pub found_inside : (c : Netlist) (f : Fault) (list : List (List Bool)) (t o : ℕ) → Detects c f list t o
+pub found_inside : (c : Netlist) (f : Fault) (start : List Tern) (list : List (List Bool)) (t o : ℕ)
+    → DetectsFrom c f start list t o
     → t < length list
-found_inside c f list t o d = elim (le_or_lt (length list) t) [
+found_inside c f start list t o d = elim (le_or_lt (length list) t) [
   | inl past ↦
-      let none : output_at c None list t o ≡ Unk =
+      let none : output_from c None start list t o ≡ Unk =
       ap (λ (row : List Tern). get_or row o Unk)
-      (get_or_past (tern_outputs c None list) t [] (omega (arith, past, rows_count c None list))) in
-      absurd (not_unknown (output_at c (Some f) list t o)
-      (subst (λ v. Opposite v (output_at c (Some f) list t o)) none d))
+      (get_or_past (outputs_from c None start list) t [] (omega (arith, past, rows_count c None start list))) in
+      absurd (not_unknown (output_from c (Some f) start list t o)
+      (subst (λ v. Opposite v (output_from c (Some f) start list t o)) none d))
   | inr inside ↦ inside
 ]
 
-found_output : (c : Netlist) (f : Fault) (list : List (List Bool)) (t o : ℕ) → Detects c f list t o
+pub found_output : (c : Netlist) (f : Fault) (start : List Tern) (list : List (List Bool)) (t o : ℕ)
+    → DetectsFrom c f start list t o
     → o < length c.outputs
-found_output c f list t o d =
-    let inside = found_inside c f list t o d in
-    let width = run_width c (tern_rules None) (unknown_state c) (map terns_of list) t
+found_output c f start list t o d =
+    let inside = found_inside c f start list t o d in
+    let width = run_width c (tern_rules None) start (map terns_of list) t
     (omega (arith, inside, length-map list terns_of)) in
-    omega (arith, width, opposite_inside (get_or (tern_outputs c None list) t []) (output_at c (Some f) list t o) o d)
+    omega (
+      arith,
+      width,
+      opposite_inside (get_or (outputs_from c None start list) t [])
+          (output_from c (Some f) start list t o) o d,
+    )
 
 -- What the longer list detects before its last vector is what the list detects.
-detects_shorter : (c : Netlist) (f : Fault) (list : List (List Bool)) (v : List Bool) (t o : ℕ) → t < length list
-    → Detects c f (list ++ v ∷ []) t o → Detects c f list t o
-detects_shorter c f list v t o h d =
-    opposite_along _ _ _ _ (shown_before c None list v t o h) (shown_before c (Some f) list v t o h) d
+detects_shorter : (c : Netlist) (f : Fault) (start : List Tern) (list : List (List Bool)) (v : List Bool) (t o : ℕ)
+    → t < length list
+    → DetectsFrom c f start (list ++ v ∷ []) t o → DetectsFrom c f start list t o
+detects_shorter c f start list v t o h d =
+    opposite_along _ _ _ _ (shown_before c None start list v t o h) (shown_before c (Some f) start list v t o h) d
 
-detects_longer : (c : Netlist) (f : Fault) (list : List (List Bool)) (v : List Bool) (t o : ℕ) → t < length list
-    → Detects c f list t o → Detects c f (list ++ v ∷ []) t o
-detects_longer c f list v t o h d =
-    opposite_along _ _ _ _ (sym (shown_before c None list v t o h)) (sym (shown_before c (Some f) list v t o h)) d
+detects_longer : (c : Netlist) (f : Fault) (start : List Tern) (list : List (List Bool)) (v : List Bool) (t o : ℕ)
+    → t < length list
+    → DetectsFrom c f start list t o → DetectsFrom c f start (list ++ v ∷ []) t o
+detects_longer c f start list v t o h d =
+    opposite_along _ _ _ _ (sym (shown_before c None start list v t o h))
+    (sym (shown_before c (Some f) start list v t o h)) d
 
 before_inside : (t o n : ℕ) (p : Place) → IsBefore t o p → p.vector < n → t < n
 before_inside t o n p (inl less) h = omega (arith, less, h)
 before_inside t o n p (inr same) h = omega (arith, same.0, h)
 
 -- a first detection stays the first
-first_kept : (c : Netlist) (f : Fault) (list : List (List Bool)) (v : List Bool) (p : Place)
-    → IsFirstDetection c f list (Some p) → IsFirstDetection c f (list ++ v ∷ []) (Some p)
-first_kept c f list v p first =
-    let inside : p.vector < length list = found_inside c f list p.vector p.output first.0 in (
-      detects_longer c f list v p.vector p.output inside first.0,
+first_kept : (c : Netlist) (f : Fault) (start : List Tern) (list : List (List Bool)) (v : List Bool) (p : Place)
+    → IsFirstFrom c f start list (Some p) → IsFirstFrom c f start (list ++ v ∷ []) (Some p)
+first_kept c f start list v p first =
+    let inside : p.vector < length list = found_inside c f start list p.vector p.output first.0 in (
+      detects_longer c f start list v p.vector p.output inside first.0,
       λ t o before d. first.1 t o before
-          (detects_shorter c f list v t o (before_inside t o (length list) p before inside) d),
+          (detects_shorter c f start list v t o (before_inside t o (length list) p before inside) d),
     )
 
 -- What the last vector detects is seen in its frame.
-pub record IsLast (frame : GroupView) (m : FaultyMachine) (list : List (List Bool)) (v : List Bool) : Type 0 where
+pub record IsLast (frame : GroupView) (m : FaultyMachine) (start : List Tern) (list : List (List Bool))
+    (v : List Bool) : Type 0 where
   pub vector : frame.vector ≡ terns_of v
-  pub good : frame.latches ≡ latches_from_unknown frame.circuit None list
-  pub faulty : m.latches ≡ latches_from_unknown frame.circuit (Some m.fault) list
+  pub good : frame.latches ≡ state_from frame.circuit None start list
+  pub faulty : m.latches ≡ state_from frame.circuit (Some m.fault) start list
 
-good_last : (frame : GroupView) (m : FaultyMachine) (list : List (List Bool)) (v : List Bool) (t o : ℕ)
-    → IsLast frame m list v → t ≡ length list
-    → output_at frame.circuit None (list ++ v ∷ []) t o ≡ good_output frame o
-good_last frame m list v t o last at =
-    shown_last frame.circuit None list v t o at
+good_last : (frame : GroupView) (m : FaultyMachine) (start : List Tern) (list : List (List Bool)) (v : List Bool)
+    (t o : ℕ)
+    → IsLast frame m start list v → t ≡ length list
+    → output_from frame.circuit None start (list ++ v ∷ []) t o ≡ good_output frame o
+good_last frame m start list v t o last at =
+    shown_last frame.circuit None start list v t o at
     ∙ (ap (λ (s : List Tern). get_or (frame_outputs frame.circuit (tern_rules None) (terns_of v) s) o Unk)
     (sym last.good)
     ∙ ap (λ (w : List Tern). get_or (frame_outputs frame.circuit (tern_rules None) w frame.latches) o Unk)
     (sym last.vector))
 
-faulty_last : (frame : GroupView) (m : FaultyMachine) (list : List (List Bool)) (v : List Bool) (t o : ℕ)
-    → IsLast frame m list v → t ≡ length list
-    → output_at frame.circuit (Some m.fault) (list ++ v ∷ []) t o ≡ faulty_output frame m o
-faulty_last frame m list v t o last at =
+faulty_last : (frame : GroupView) (m : FaultyMachine) (start : List Tern) (list : List (List Bool)) (v : List Bool)
+    (t o : ℕ)
+    → IsLast frame m start list v → t ≡ length list
+    → output_from frame.circuit (Some m.fault) start (list ++ v ∷ []) t o ≡ faulty_output frame m o
+faulty_last frame m start list v t o last at =
     let r = tern_rules (Some m.fault) in
-    shown_last frame.circuit (Some m.fault) list v t o at
+    shown_last frame.circuit (Some m.fault) start list v t o at
     ∙ (ap (λ (s : List Tern). get_or (frame_outputs frame.circuit r (terns_of v) s) o Unk) (sym last.faulty)
     ∙ ap (λ (w : List Tern). get_or (frame_outputs frame.circuit r w m.latches) o Unk) (sym last.vector))
 
-detects_last : (frame : GroupView) (m : FaultyMachine) (list : List (List Bool)) (v : List Bool) (t o : ℕ)
-    → IsLast frame m list v → t ≡ length list → IsSeen frame m o
-    → Detects frame.circuit m.fault (list ++ v ∷ []) t o
-detects_last frame m list v t o last at h =
-    opposite_along _ _ _ _ (sym (good_last frame m list v t o last at)) (sym (faulty_last frame m list v t o last at)) h
+detects_last : (frame : GroupView) (m : FaultyMachine) (start : List Tern) (list : List (List Bool)) (v : List Bool)
+    (t o : ℕ)
+    → IsLast frame m start list v → t ≡ length list → IsSeen frame m o
+    → DetectsFrom frame.circuit m.fault start (list ++ v ∷ []) t o
+detects_last frame m start list v t o last at h =
+    opposite_along _ _ _ _ (sym (good_last frame m start list v t o last at))
+    (sym (faulty_last frame m start list v t o last at)) h
 
-seen_last : (frame : GroupView) (m : FaultyMachine) (list : List (List Bool)) (v : List Bool) (t o : ℕ)
-    → IsLast frame m list v → t ≡ length list → Detects frame.circuit m.fault (list ++ v ∷ []) t o
+seen_last : (frame : GroupView) (m : FaultyMachine) (start : List Tern) (list : List (List Bool)) (v : List Bool)
+    (t o : ℕ)
+    → IsLast frame m start list v → t ≡ length list → DetectsFrom frame.circuit m.fault start (list ++ v ∷ []) t o
     → IsSeen frame m o
-seen_last frame m list v t o last at d =
-    opposite_along _ _ _ _ (good_last frame m list v t o last at) (faulty_last frame m list v t o last at) d
+seen_last frame m start list v t o last at d =
+    opposite_along _ _ _ _ (good_last frame m start list v t o last at) (faulty_last frame m start list v t o last at) d
 
 -- what is seen is seen at an output
 seen_inside : (frame : GroupView) (m : FaultyMachine) (o : ℕ) → IsSeen frame m o → o < length frame.circuit.outputs
@@ -198,27 +217,28 @@ seen_inside frame m o h =
     )
 
 -- Where no vector before detects the fault, the last one decides.
-first_new : (frame : GroupView) (m : FaultyMachine) (list : List (List Bool)) (v : List Bool) (number : ℕ)
-    (verdict : Option Place) → IsLast frame m list v → number ≡ length list
-    → IsFirstDetection frame.circuit m.fault list None
+first_new : (frame : GroupView) (m : FaultyMachine) (start : List Tern) (list : List (List Bool)) (v : List Bool)
+    (number : ℕ)
+    (verdict : Option Place) → IsLast frame m start list v → number ≡ length list
+    → IsFirstFrom frame.circuit m.fault start list None
     → IsFirstSeen frame m number (length frame.circuit.outputs) verdict
-    → IsFirstDetection frame.circuit m.fault (list ++ v ∷ []) verdict
-first_new frame m list v number (Some p) last count none is =
+    → IsFirstFrom frame.circuit m.fault start (list ++ v ∷ []) verdict
+first_new frame m start list v number (Some p) last count none is =
     let at : p.vector ≡ length list = is.0 ∙ count in (
-      detects_last frame m list v p.vector p.output last at is.2,
+      detects_last frame m start list v p.vector p.output last at is.2,
       λ t o before d. elim before [
         | inl earlier ↦
-            none t o (detects_shorter frame.circuit m.fault list v t o (omega (arith, earlier, at)) d)
-        | inr same ↦ is.3 o same.1 (seen_last frame m list v t o last (same.0 ∙ at) d)
+            none t o (detects_shorter frame.circuit m.fault start list v t o (omega (arith, earlier, at)) d)
+        | inr same ↦ is.3 o same.1 (seen_last frame m start list v t o last (same.0 ∙ at) d)
       ],
     )
-first_new frame m list v number None last count none is = λ t o d. elim (le_or_lt (length list) t) [
+first_new frame m start list v number None last count none is = λ t o d. elim (le_or_lt (length list) t) [
   | inl from ↦
-      let inside : t < length (list ++ v ∷ []) = found_inside frame.circuit m.fault (list ++ v ∷ []) t o d in
+      let inside : t < length (list ++ v ∷ []) = found_inside frame.circuit m.fault start (list ++ v ∷ []) t o d in
       let at : t ≡ length list = omega (arith, from, inside, length-append list (v ∷ [])) in
-      let seen = seen_last frame m list v t o last at d in
+      let seen = seen_last frame m start list v t o last at d in
       is o (seen_inside frame m o seen) seen
-  | inr before ↦ none t o (detects_shorter frame.circuit m.fault list v t o before d)
+  | inr before ↦ none t o (detects_shorter frame.circuit m.fault start list v t o before d)
 ]
 
 pub option_cases : {X : Type 0} → (x : Option X) → (x ≡ None) ⊎ ((p : X) × (x ≡ Some p))
@@ -233,49 +253,53 @@ still_undetected g v h k a e = elim (option_cases (verdict_at g k)) [
   | inr p ↦ let bad : None ≡ Some p.0 = sym e ∙ a.kept k p.0 p.1 in cc
 ]
 
-last_frame : (g : PackedView) (list : List (List Bool)) (v : List Bool) (k : ℕ) (f : Fault) → GraderStandsFor g list
-    → slice_get g.faults k ≡ Some f → verdict_at g k ≡ None → IsLast (grader_frame g v) (machine_at g k f) list v
-last_frame g list v k f s has none = record {
+last_frame : (g : PackedView) (start : List Tern) (list : List (List Bool)) (v : List Bool) (k : ℕ) (f : Fault)
+    → GraderStandsFor g start list
+    → slice_get g.faults k ≡ Some f → verdict_at g k ≡ None → IsLast (grader_frame g v) (machine_at g k f) start list v
+last_frame g start list v k f s has none = record {
   vector = refl;
   good = s.good;
   faulty = s.state k f has none;
 }
 
-pub applied_stands : (g h : PackedView) (list : List (List Bool)) (v : List Bool) → GraderStandsFor g list
-    → IsApplied g v h → GraderStandsFor h (list ++ v ∷ [])
-applied_stands g h list v s a = record {
+pub applied_stands : (g h : PackedView) (start : List Tern) (list : List (List Bool)) (v : List Bool)
+    → GraderStandsFor g start list
+    → IsApplied g v h → GraderStandsFor h start (list ++ v ∷ [])
+applied_stands g h start list v s a = record {
   counted = omega (arith, a.counted, s.counted, length-append list (v ∷ []));
   good =
       rw a.circuit_same
       (a.good ∙ (ap (next_state g.circuit (tern_rules None) (terns_of v)) s.good
-      ∙ sym (latches_more g.circuit None list v)));
+      ∙ sym (latches_more g.circuit None start list v)));
   first = λ k f has.
       let had : slice_get g.faults k ≡ Some f = ap (λ (l : List Fault). slice_get l k) (sym a.faults_same) ∙ has in
       let first = s.first k f had in
       rw a.circuit_same (elim (option_cases (verdict_at g k)) [
         | inl e ↦
-            first_new (grader_frame g v) (machine_at g k f) list v g.count (verdict_at h k)
-            (last_frame g list v k f s had e) s.counted (subst (IsFirstDetection g.circuit f list) e first)
+            first_new (grader_frame g v) (machine_at g k f) start list v g.count (verdict_at h k)
+            (last_frame g start list v k f s had e) s.counted (subst (IsFirstFrom g.circuit f start list) e first)
             (a.seen k f had e)
         | inr p ↦
-            subst (IsFirstDetection g.circuit f (list ++ v ∷ [])) (sym (a.kept k p.0 p.1))
-            (first_kept g.circuit f list v p.0 (subst (IsFirstDetection g.circuit f list) p.1 first))
+            subst (IsFirstFrom g.circuit f start (list ++ v ∷ [])) (sym (a.kept k p.0 p.1))
+            (first_kept g.circuit f start list v p.0 (subst (IsFirstFrom g.circuit f start list) p.1 first))
       ]);
   state = λ k f has e.
       let had : slice_get g.faults k ≡ Some f = ap (λ (l : List Fault). slice_get l k) (sym a.faults_same) ∙ has in
       let was = still_undetected g v h k a e in
       rw a.circuit_same (a.state k f had e
       ∙ (ap (next_state g.circuit (tern_rules (Some f)) (terns_of v)) (s.state k f had was)
-      ∙ sym (latches_more g.circuit (Some f) list v)));
+      ∙ sym (latches_more g.circuit (Some f) start list v)));
 }
 
 -- Where a grader stands for a list, its verdicts are within it, and apart.
-pub verdict_within : (g : PackedView) (list : List (List Bool)) (k : ℕ) (f : Fault) (p : Place) → GraderStandsFor g list
+pub verdict_within : (g : PackedView) (start : List Tern) (list : List (List Bool)) (k : ℕ) (f : Fault) (p : Place)
+    → GraderStandsFor g start list
     → slice_get g.faults k ≡ Some f → verdict_at g k ≡ Some p
-    → (p.vector < length list) × (p.output < length g.circuit.outputs) × Apart g.circuit f list p.vector p.output
-verdict_within g list k f p s has is =
-    let first = subst (IsFirstDetection g.circuit f list) is (s.first k f has) in (
-      found_inside g.circuit f list p.vector p.output first.0,
-      found_output g.circuit f list p.vector p.output first.0,
-      detected_apart g.circuit f list p.vector p.output first.0,
+    → (p.vector < length list) × (p.output < length g.circuit.outputs)
+    × ApartFrom g.circuit f start list p.vector p.output
+verdict_within g start list k f p s has is =
+    let first = subst (IsFirstFrom g.circuit f start list) is (s.first k f has) in (
+      found_inside g.circuit f start list p.vector p.output first.0,
+      found_output g.circuit f start list p.vector p.output first.0,
+      detected_apart_from g.circuit f start list p.vector p.output first.0,
     )

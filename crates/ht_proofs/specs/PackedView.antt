@@ -1,18 +1,12 @@
--- What a grader keeps of the faults that it grades, and the lists of vectors that it stands for.
+-- What a grader keeps of the faults that it grades, and the start and the lists of vectors that it stands for.
 use Rattle.std.specs.Prelude.{◌≡◌, ℕ, List, [], Bool, true, Option, Some, None, length, get_or, map, replicate}
 use Rattle.std.specs.List.{slice_get}
 use Rattle.ht_tern.specs.declared.tern.Tern.{Tern}
 use Rattle.ht_net.specs.declared.fault.Fault.{Fault}
 use Rattle.ht_net.specs.declared.place.Place.{Place}
 use Rattle.ht_net.specs.Netlist.{Netlist}
-use Rattle.ht_net.specs.Frame.{run_state}
-use Rattle.ht_net.specs.Faults.{tern_rules}
-use Rattle.ht_net.specs.Detection.{terns_of, unknown_state, IsFirstDetection}
+use Rattle.ht_net.specs.Detection.{IsFirstFrom, state_from}
 use Rattle.ht_faults.specs.FaultList.{no_fault}
-
--- what the flip-flops of a machine hold after a list of vectors, from all-unknown
-abbrev pub latches_from_unknown : Netlist → Option Fault → List (List Bool) → List Tern
-latches_from_unknown c fault list = run_state c (tern_rules fault) (unknown_state c) (map terns_of list)
 
 -- What a grader keeps of the given faults.
 pub record PackedView : Type 0 where
@@ -40,24 +34,24 @@ state_at g k = get_or g.states k []
 abbrev pub chosen_faults : List Fault → List ℕ → List Fault
 chosen_faults faults numbers = map (λ i. get_or faults i no_fault) numbers
 
--- A grader before the first vector: every latch is unknown, and no fault is detected.
-abbrev pub grades_at_start : Netlist → List Fault → PackedView
-grades_at_start c faults = record {
+-- A grader before the first vector: every machine holds the start, and no fault is detected.
+abbrev pub grades_at_start : Netlist → List Tern → List Fault → PackedView
+grades_at_start c start faults = record {
   circuit = c;
   faults = faults;
   count = 0;
-  latches = unknown_state c;
+  latches = start;
   verdicts = replicate (length faults) None;
-  states = replicate (length faults) (unknown_state c);
+  states = replicate (length faults) start;
   live = true;
 }
 
--- The grader stands for a list of vectors: it keeps the first detection of each fault over the list, and after the list
--- the latches of the good machine and of each fault's machine that is not detected.
-pub record GraderStandsFor (g : PackedView) (list : List (List Bool)) : Type 0 where
+-- The grader stands for a list of vectors from a start: it keeps the first detection of each fault over the list, and
+-- after the list the latches of the good machine and of each fault's machine that is not detected.
+pub record GraderStandsFor (g : PackedView) (start : List Tern) (list : List (List Bool)) : Type 0 where
   pub counted : g.count ≡ length list
-  pub good : g.latches ≡ latches_from_unknown g.circuit None list
+  pub good : g.latches ≡ state_from g.circuit None start list
   pub first : (k : ℕ) (fault : Fault) → slice_get g.faults k ≡ Some fault
-      → IsFirstDetection g.circuit fault list (verdict_at g k)
+      → IsFirstFrom g.circuit fault start list (verdict_at g k)
   pub state : (k : ℕ) (fault : Fault) → slice_get g.faults k ≡ Some fault → verdict_at g k ≡ None
-      → state_at g k ≡ latches_from_unknown g.circuit (Some fault) list
+      → state_at g k ≡ state_from g.circuit (Some fault) start list

@@ -1,10 +1,10 @@
 //! Faults graded by vectors that come one by one.
 ghost use Rattle.std.specs.Prelude.{◌≡◌, ◌<◌, ◌≤◌, ◌+◌, ◌*◌, ◌++◌, ◌∷◌, ◌^◌, ℕ, [], List, Bool, None, true, false, min, length, get_or, map, replicate, IfOk, OnOk, OnErr, IsErr};
-ghost use Rattle.std.specs.List.{All};
+ghost use Rattle.std.specs.List.{All, filter, range_with_len};
 ghost use Rattle.std.specs.Option.{ForSome};
-ghost use Rattle.std.specs.List.{filter, range_with_len};
+ghost use Rattle.ht_tern.specs.declared.tern.Tern as tern;
 ghost use Rattle.ht_tern.specs.declared.tern.Tern.TheVariants.{Unk};
-ghost use Rattle.ht_net.specs.Detection.{IsPlace, unknown_state};
+ghost use Rattle.ht_net.specs.Detection.{IsPlace, IsStart, unknown_state};
 ghost use Rattle.ht_faults.specs.Sites.{faults_of};
 ghost use Rattle.ht_proofs.specs.PackedView.{GraderStandsFor, chosen_faults, grades_at_start, state_at, verdict_at};
 ghost use Rattle.ht_proofs.specs.Applied.{IsApplied, groups_of, max_steps};
@@ -16,7 +16,7 @@ use crate::grade::Grade;
 use crate::steps::Steps;
 use ht_diff::Diffs;
 use ht_faults::FaultList;
-use ht_net::{Circuit, Fault, Place};
+use ht_net::{Circuit, Fault, Place, unknown_start};
 use ht_tern::Tern;
 use std::alloc::{AllocError, Global};
 use std::marker::Model;
@@ -127,17 +127,9 @@ fn drop_detected(verdicts: &[Option<Place>], numbers: &mut Vec<usize>)
     numbers.retain(|k| is_undetected(verdicts, *k));
 }
 
-// A latch for each flip-flop of a circuit, all unknown.
-fn unknown_latches(alloc: Global, circuit: &Circuit) -> Result<Vec<Tern>, AllocError>
-    ensures { IfOk result (λ latches. latches.items ≡ unknown_state circuit.now) }
-{
-    let mut latches = Vec::new(alloc);
-    latches.resize(circuit.dffs() as usize, Tern::Unk)?;
-    Ok(latches)
-}
-
 impl<'c> Grader<'c> {
-    /// The faults of a circuit's list that have these numbers, from 0, in this order, before the first vector.
+    /// The faults of a circuit's list that have these numbers, from 0, in this order, before the first vector, with
+    /// every flip-flop unknown.
     ///
     /// # Errors
     /// Out of memory.
@@ -149,12 +141,35 @@ impl<'c> Grader<'c> {
     ) -> Result<Grader<'c>, AllocError>
         requires faults { faults.now ≡ faults_of circuit.now }
         requires known { All (λ i. i < length faults.now) which.now }
+        ensures start { IfOk result (λ grader. grader ≡ grades_at_start circuit.now
+            (unknown_state circuit.now) (chosen_faults faults.now which.now)) }
+        ensures stands { IfOk result
+            (λ grader. GraderStandsFor grader (unknown_state circuit.now) []) }
+    {
+        let start = unknown_start(alloc, circuit)?;
+        Grader::new_from(alloc, circuit, faults, which, &start)
+    }
+
+    /// The same where every machine starts with these values in its flip-flops.
+    ///
+    /// # Errors
+    /// Out of memory.
+    pub fn new_from(
+        alloc: Global,
+        circuit: &'c Circuit,
+        faults: &FaultList,
+        which: &[u32],
+        start: &[Tern],
+    ) -> Result<Grader<'c>, AllocError>
+        requires faults { faults.now ≡ faults_of circuit.now }
+        requires known { All (λ i. i < length faults.now) which.now }
+        requires latches { IsStart circuit.now start.now }
         ensures start { IfOk result (λ grader. grader
-            ≡ grades_at_start circuit.now (chosen_faults faults.now which.now)) }
-        ensures stands { IfOk result (λ grader. GraderStandsFor grader []) }
+            ≡ grades_at_start circuit.now start.now (chosen_faults faults.now which.now)) }
+        ensures stands { IfOk result (λ grader. GraderStandsFor grader start.now []) }
     {
         let faults = choose(alloc, faults, which)?;
-        let latches = unknown_latches(alloc, circuit)?;
+        let latches = Vec::from_slice(alloc, start)?;
         let verdicts = verdicts_at_start(alloc, faults.len())?;
         let undetected = all_numbers(alloc, faults.len())?;
         let grades = grades_at_start(alloc, faults.len())?;
@@ -181,8 +196,9 @@ impl<'c> Grader<'c> {
         requires width { length vector.now ≡ self.old.circuit.inputs }
         requires few { self.old.count < 2 ^ 62 }
         ensures applied { OnOk result (IsApplied self.old vector.now self.new) }
-        ensures stands { OnOk result ((list : List (List Bool)) → GraderStandsFor self.old list
-            → GraderStandsFor self.new (list ++ vector.now ∷ [])) }
+        ensures stands { OnOk result ((start : List tern.Tern) (list : List (List Bool))
+            → GraderStandsFor self.old start list
+            → GraderStandsFor self.new start (list ++ vector.now ∷ [])) }
         ensures err { OnErr result ((self.new.verdicts ≡ self.old.verdicts)
             × (self.new.live ≡ false)) }
         ensures uncounted { OnErr result (self.new.count ≡ self.old.count) }

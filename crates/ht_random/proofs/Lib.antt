@@ -1,2 +1,3 @@
 mod KnownVectors
 pub mod RandomVectorLaws
+pub mod WeightedLaws

@@ -1,2 +1,4 @@
 pub mod Words
 pub mod RandomVectors
+pub mod WeightedVectors
+pub mod WeightedOf

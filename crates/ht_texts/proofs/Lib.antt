@@ -23,3 +23,4 @@ pub mod LineLengthLaws
 pub mod LfLaws
 pub mod LinesSoFarLaws
 pub mod WrongReportLaws
+pub mod StartLaws

@@ -3,6 +3,7 @@ pub mod LineLengths
 pub mod Numbers
 pub mod Fronts
 pub mod Tests
+pub mod StartTexts
 pub mod Sites
 pub mod Verdicts
 pub mod Counts

@@ -1,12 +1,13 @@
-//! The texts of vectors and of reports: what they are, as definitions over bytes, and the calls that write and read
-//! them.
+//! The texts of vectors, of reports and of starts: what they are, as definitions over bytes, and the calls that write
+//! and read them.
 //!
 //! `specs/Numbers` says which bytes are a number; `specs/Tests` which are a list of vectors, and at which line a text
 //! that is none goes wrong; `specs/Sites` names the lines of a circuit; `specs/Verdicts` has what is said of a class,
 //! `specs/Counts` of how many classes, and `specs/Reports` a report, line for line. `specs/SearchReports` says which
 //! texts are the report of a search, and at which line another goes wrong. A `ReportReader` takes such a report line by
 //! line: `specs/ReportReading` says how far it is read and what a line says, `specs/ReportStands` what the reader
-//! keeps. `specs/LineLengths` says how long its lines are at most.
+//! keeps. `specs/LineLengths` says how long its lines are at most. `specs/StartTexts` says which texts are that of a
+//! start, what each flip-flop holds before the first vector.
 #![tactic(auto)]
 
 mod body;
@@ -25,6 +26,7 @@ mod read_verdict;
 mod report_reader;
 mod said;
 mod site;
+mod start_line;
 mod strip;
 mod theorems;
 mod total;
@@ -39,10 +41,11 @@ pub use malformed_line::MalformedLine;
 pub use number::{push_number, read_number};
 pub use report_reader::ReportReader;
 pub use said::{Said, saids_of};
+pub use start_line::read_start;
 pub use theorems::{
     first_wrong_report_line, report_fronts_are_read, report_lines_are_short, reports_are_read,
     reports_say_one_thing, tests_are_read, texts_are_reports_or_malformed,
-    texts_are_tests_or_malformed,
+    texts_are_starts_or_malformed, texts_are_tests_or_malformed,
 };
 pub use total::{Sums, write_total};
 pub use vector::{read_vector, write_vector};

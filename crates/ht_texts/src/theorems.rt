@@ -1,4 +1,5 @@
-//! Which texts are tests, and which are reports. Each theorem is the contract of a function that does nothing.
+//! Which texts are tests, which are reports, and which are starts. Each theorem is the contract of a function that does
+//! nothing.
 ghost use Rattle.std.specs.Prelude.{◌≡◌, ◌<◌, ◌≤◌, ◌+◌, ◌⊎◌, ◌++◌, ◌∷◌, [], ℕ, List, Bool, Some, length, take};
 ghost use Rattle.std.specs.List.{All};
 ghost use Rattle.ht_ports.specs.LineRule.{lines_of, max_text_bytes};
@@ -7,6 +8,7 @@ ghost use Rattle.ht_faults.specs.Sites.{faults_of};
 ghost use Rattle.ht_collapse.specs.Classes.{AreClasses};
 ghost use Rattle.ht_texts.specs.declared.said.Said.{Said};
 ghost use Rattle.ht_texts.specs.Tests.{test_text, line_at, IsTestText, IsTooLong, IsMalformedTest, IsTestOrMalformed};
+ghost use Rattle.ht_texts.specs.StartTexts.{IsStartOrMalformed};
 ghost use Rattle.ht_texts.specs.Reports.{report_text};
 ghost use Rattle.ht_texts.specs.LineLengths.{IsShortLine};
 ghost use Rattle.ht_texts.specs.SearchReports.{HasPlainNames, HasShortNames, IsSearchOf, IsReportFront};
@@ -27,6 +29,11 @@ pub fn tests_are_read()
 /// A text is the test text of one list of vectors, or malformed at one line: never both, and never neither.
 pub fn texts_are_tests_or_malformed()
     ensures { (c : Netlist) (text : List ℕ) → IsTestOrMalformed c text }
+{}
+
+/// A text is that of one start of so many flip-flops, or malformed at one line: never both, and never neither.
+pub fn texts_are_starts_or_malformed()
+    ensures { (width : ℕ) (text : List ℕ) → IsStartOrMalformed width text }
 {}
 
 /// Lines that begin a report of a search are read, lines that are read begin such a report, and they are read in one

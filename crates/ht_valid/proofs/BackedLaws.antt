@@ -1,10 +1,12 @@
 -- What is justified backs what is said of each fault that needs an entry; what valid files say is justified.
-use Rattle.std.proofs.Common.{◌≡◌, ◌+◌, ◌-◌, ℕ, List, get_or, length, arith, subst}
+use Rattle.std.proofs.Common.{◌≡◌, ◌∙◌, ◌+◌, ◌-◌, ℕ, List, get_or, length, ap, arith, subst}
 use Rattle.std.specs.Prelude.{◌<◌}
 use Rattle.std.specs.List.{Contains}
 use Rattle.std.proofs.lemmas.Bool.{eq-eqb}
 use Rattle.std.proofs.lemmas.List.Elements.{All-contains}
+use Rattle.ht_tern.specs.declared.tern.Tern.{Tern}
 use Rattle.ht_net.specs.Netlist.{Netlist}
+use Rattle.ht_net.specs.Detection.{IsStart}
 use Rattle.ht_faults.specs.Sites.{faults_of}
 use Rattle.ht_collapse.specs.Classes.{AreClasses}
 use Rattle.ht_collapse.proofs.ClassLaws.{own_representative}
@@ -17,16 +19,24 @@ use Rattle.ht_valid.specs.ValidFiles.{AreValid, Backs, Content, IsBacking, IsJus
 pub record IsBacked (c : Netlist) (content : Content) (i : ℕ) (said : Said) : Type 0 where
   pub entry : Entry
   pub among : Contains content.entries (record { number = i + 1; entry = entry })
-  pub backs : Backs c content.budget i entry said
+  pub backs : Backs c content.start content.budget i entry said
 
 -- so it is where what is said needs an entry
 abbrev pub IsBackedIfNeeded : Netlist → Content → ℕ → Said → Type 0
 IsBackedIfNeeded c content i said = NeedsEntry said → IsBacked c content i said
 
-pub justified : (c : Netlist) (representatives tests report proofs : List ℕ) (content : Content)
-    → AreValid c representatives tests report proofs content → IsJustified c representatives content
-justified c representatives tests report proofs content valid =
+pub justified : (c : Netlist) (representatives : List ℕ) (start : List Tern) (tests report proofs : List ℕ)
+    (content : Content) → AreValid c representatives start tests report proofs content
+    → IsJustified c representatives content
+justified c representatives start tests report proofs content valid =
     record { agrees = valid.agrees; backed = valid.backed; complete = valid.complete }
+
+-- the start of valid files has a value for each latch
+pub valid_latches : (c : Netlist) (representatives : List ℕ) (start : List Tern) (tests report proofs : List ℕ)
+    (content : Content) → IsStart c start → AreValid c representatives start tests report proofs content
+    → IsStart c content.start
+valid_latches c representatives start tests report proofs content latches valid =
+    ap (λ (s : List Tern). length s) valid.stated ∙ latches
 
 pub justified_backs : (c : Netlist) (representatives : List ℕ) (content : Content) (i : ℕ)
     → IsJustified c representatives content → IsOwn c representatives i
@@ -39,7 +49,8 @@ justified_backs c representatives content i is own needs =
     record {
       entry = has.entry;
       among = has.among;
-      backs = subst (λ (n : ℕ). Backs c content.budget n has.entry (said_at content.saids n)) back backing.backs;
+      backs = subst (λ (n : ℕ). Backs c content.start content.budget n has.entry (said_at content.saids n)) back
+          backing.backs;
     }
 
 -- the representative of a listed fault is listed, and represents itself

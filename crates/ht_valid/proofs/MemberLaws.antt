@@ -1,12 +1,14 @@
 -- What entries of the kind untestable say of each fault of a class: what they mean of the representative, they mean of
--- its members, and no list of vectors detects these.
+-- its members, and no list of vectors detects these, from all-unknown or from a start that allows the entry.
 use Rattle.std.proofs.Common.{◌≡◌, ◌∙◌, ℕ, List, [], ◌∷◌, Bool, get_or, None, ap, refl, subst}
+use Rattle.ht_tern.specs.declared.tern.Tern.{Tern}
 use Rattle.ht_net.specs.declared.fault.Fault.{Fault}
 use Rattle.ht_net.specs.Netlist.{Netlist, IsCircuit}
 use Rattle.ht_net.specs.Frame.{next_state}
 use Rattle.ht_net.specs.Faults.{bool_rules}
-use Rattle.ht_net.specs.Detection.{Detects}
+use Rattle.ht_net.specs.Detection.{Detects, DetectsFrom, IsStart, unknown_state}
 use Rattle.ht_net.specs.Silence.{AgreeOutside, Sealed}
+use Rattle.ht_net.proofs.SilenceLaws.{sealed_undetected_from, silent_undetected_from}
 use Rattle.ht_collapse.specs.Classes.{SameClass}
 use Rattle.ht_collapse.proofs.RunLaws.{bool_members_alike, members_detected}
 use Rattle.ht_tree.specs.declared.clause.Clause.{Clause}
@@ -16,7 +18,7 @@ use Rattle.ht_tree.specs.declared.entry.Entry.TheVariants as entries
 use Rattle.ht_tree.specs.declared.kind.EntryKind.TheVariants as kinds
 use Rattle.ht_tree.specs.Clauses.{literals_of_each}
 use Rattle.ht_tree.specs.Decisions.{is_in}
-use Rattle.ht_tree.specs.Entries.{Means, kind_of}
+use Rattle.ht_tree.specs.Entries.{AllowsEntry, Means, kind_of}
 use Rattle.ht_tree.specs.Refutations.{IsUntestable}
 use Rattle.ht_tree.specs.RefutationsFrom.{IsUntestableFrom}
 use Rattle.ht_tree.specs.SealedInClauses.{SealedIn}
@@ -34,11 +36,21 @@ untestable_undetected c fault (entries.Untestable z tokens) is means = means.und
 untestable_undetected c fault (entries.UntestableFrom state clauses z tokens) is means = means.undetected
 untestable_undetected c fault (entries.Aborted told walk aim sweep) is means = cc
 
+-- nor does one from a start that allows the state that the entry names
+pub untestable_undetected_from : (c : Netlist) (fault : Fault) (start : List Tern) → IsStart c start → (e : Entry)
+    → kind_of e ≡ kinds.Untestable → AllowsEntry start e → Means c fault e → (list : List (List Bool)) (t o : ℕ)
+    → ¬ DetectsFrom c fault start list t o
+untestable_undetected_from c fault start latches (entries.Untestable z tokens) is allowed means =
+    sealed_undetected_from c fault (is_in z) means.sealed start latches
+untestable_undetected_from c fault start latches (entries.UntestableFrom state clauses z tokens) is allowed means =
+    silent_undetected_from c fault start state allowed means.silent
+untestable_undetected_from c fault start latches (entries.Aborted told walk aim sweep) is allowed means = cc
+
 module _ (c : Netlist) (r f : Fault) (circuit : IsCircuit c) (same : SameClass c r f) where
   -- what no list detects of the representative, none detects of the member
   undetected_member : ((list : List (List Bool)) (t o : ℕ) → ¬ Detects c r list t o)
       → (list : List (List Bool)) (t o : ℕ) → ¬ Detects c f list t o
-  undetected_member none list = (members_detected c r f list None circuit same).0 (none list)
+  undetected_member none list = (members_detected c r f (unknown_state c) list None circuit same).0 (none list)
 
   -- one frame of the member's machine is one of the representative's
   sealed_member : (z : ℕ → Bool) → Sealed c r z → Sealed c f z

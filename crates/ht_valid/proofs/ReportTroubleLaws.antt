@@ -3,6 +3,7 @@ use Rattle.std.proofs.Common.{◌≡◌, ◌∙◌, ◌<◌, ℕ, suc, Bool, tru
 use Rattle.std.specs.Prelude.{cond}
 use Rattle.std.proofs.lemmas.List.{append_cancel_left, get_or_append_left, take-append-drop}
 use Rattle.ht_ports.specs.LineRule.{lines_of}
+use Rattle.ht_tern.specs.declared.tern.Tern.{Tern}
 use Rattle.ht_net.specs.Netlist.{IsCircuit, Netlist}
 use Rattle.ht_faults.specs.Sites.{faults_of}
 use Rattle.ht_collapse.specs.Classes.{is_representative}
@@ -84,10 +85,10 @@ module _ (c : Netlist) (representatives : List ℕ) (lines : List (List ℕ)) (n
       (sym (line_of_representative c representatives k (said_at s k) own)
       ∙ (sym here ∙ (line_in_report k inside ∙ line_of_representative c representatives k (said_at saids k) own))))
 
-  module _ (list : List (List Bool))
-      (agrees : (i : ℕ) → IsOwn c representatives i → AgreesWithTests c list i (said_at saids i)) where
+  module _ (start : List Tern) (list : List (List Bool))
+      (agrees : (i : ℕ) → IsOwn c representatives i → AgreesWithTests c start list i (said_at saids i)) where
     says_truly : (at : ReportReading) (fault : ℕ) (said : Said) → ReportReadsTo c representatives (take n lines) at
-        → last_item representatives at ≡ Some (Verdict fault said) → AgreesWithTests c list fault said
+        → last_item representatives at ≡ Some (Verdict fault said) → AgreesWithTests c start list fault said
     says_truly before_report fault said read says = absurd cc
     says_truly (in_report b []) fault said read says = absurd cc
     says_truly (in_report b (first ∷ more)) fault said read says =
@@ -95,23 +96,25 @@ module _ (c : Netlist) (representatives : List ℕ) (lines : List (List ℕ)) (n
         let is = says_of (is_representative representatives k) k fault (said_at (first ∷ more) k) said says in
         let listed = read.readable.saids_are.listed in
         let truly = agrees k (record { listed = omega (arith, listed); own = is.representative }) in
-        subst (λ i. AgreesWithTests c list i said) is.fault
-        (subst (AgreesWithTests c list k) is.same
-        (subst (AgreesWithTests c list k)
+        subst (λ i. AgreesWithTests c start list i said) is.fault
+        (subst (AgreesWithTests c start list k) is.same
+        (subst (AgreesWithTests c start list k)
         (sym (said_in_front b (first ∷ more) k read (omega arith) is.representative)) truly))
     says_truly (after_report b s) fault said read says = absurd cc
 
-    uncontradicted : ¬ ContradictsTests c representatives list (take n lines)
+    uncontradicted : ¬ ContradictsTests c representatives start list (take n lines)
     uncontradicted found = found.contradicts (says_truly found.at found.fault found.said found.read found.says)
 
 -- Valid reports have no line at which something is wrong first.
-pub report_is_right : (c : Netlist) (representatives : List ℕ) (list : List (List Bool)) (text : List ℕ) (budget : ℕ)
-    (saids : List Said) (n : ℕ) → IsCircuit c → IsReportText c representatives text budget saids
-    → ((i : ℕ) → IsOwn c representatives i → AgreesWithTests c list i (said_at saids i))
-    → ¬ IsFirst (IsReportTrouble c representatives list text) n
-report_is_right c representatives list text budget saids n circuit is agrees trouble = elim trouble.wrong [
+pub report_is_right : (c : Netlist) (representatives : List ℕ) (start : List Tern) (list : List (List Bool))
+    (text : List ℕ) (budget : ℕ) (saids : List Said) (n : ℕ) → IsCircuit c
+    → IsReportText c representatives text budget saids
+    → ((i : ℕ) → IsOwn c representatives i → AgreesWithTests c start list i (said_at saids i))
+    → ¬ IsFirst (IsReportTrouble c representatives start list text) n
+report_is_right c representatives start list text budget saids n circuit is agrees trouble = elim trouble.wrong [
   | inl malformed ↦ report_is_not_malformed c representatives text budget saids n is
       (record { wrong = malformed; first = λ m less wrong. trouble.first m less (inl wrong) })
-  | inr contradicts ↦ uncontradicted c representatives (lines_of text) n budget saids circuit is.report list agrees
+  | inr contradicts ↦ uncontradicted c representatives (lines_of text) n budget saids circuit is.report start list
+      agrees
       contradicts
 ]

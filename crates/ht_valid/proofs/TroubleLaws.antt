@@ -5,6 +5,7 @@ use Rattle.std.proofs.lemmas.Bool.{cases_lt}
 use Rattle.std.proofs.lemmas.List.{same_from_push}
 use Rattle.std.proofs.lemmas.List.Elements.{All-cons, All-head, All-nil, All-tail}
 use Rattle.ht_ports.specs.LineRule.{lines_of}
+use Rattle.ht_tern.specs.declared.tern.Tern.{Tern}
 use Rattle.ht_net.specs.Netlist.{IsCircuit, Netlist}
 use Rattle.ht_texts.specs.Tests.{IsTestText, line_at}
 use Rattle.ht_texts.specs.SearchReports.{IsReportText}
@@ -40,22 +41,27 @@ number_in (Some e) = e.number
 -- ---- contents that say the same
 
 module _ (c : Netlist) (representatives : List ℕ) where
-  -- the same budget, and the same said of each representative
+  -- the same start and budget, and the same said of each representative
   pub record Same (a b : Content) : Type 0 where
+    pub start : a.start ≡ b.start
     pub budget : a.budget ≡ b.budget
     pub said : (i : ℕ) → IsOwn c representatives i → said_at a.saids i ≡ said_at b.saids i
 
   turned : (a b : Content) → Same a b → Same b a
-  turned a b same = record { budget = sym same.budget; said = λ i own. sym (same.said i own) }
+  turned a b same = record {
+    start = sym same.start;
+    budget = sym same.budget;
+    said = λ i own. sym (same.said i own);
+  }
 
   -- a report says one thing
-  reads_same : (report : List ℕ) (a b : Content) → IsCircuit c
+  reads_same : (report : List ℕ) (a b : Content) → IsCircuit c → a.start ≡ b.start
       → IsReportText c representatives report a.budget a.saids
       → IsReportText c representatives report b.budget b.saids → Same a b
-  reads_same report a b circuit of_a of_b =
+  reads_same report a b circuit stated of_a of_b =
       let same = one_report c representatives (lines_of report) a.budget b.budget a.saids b.saids circuit of_a.report
       of_b.report in
-      record { budget = same.budgets; said = λ i own. same.verdicts i own.own }
+      record { start = stated; budget = same.budgets; said = λ i own. same.verdicts i own.own }
 
   backing_same : (a b : Content) (e : Numbered) → Same a b → IsBacking c representatives a e
       → IsBacking c representatives b e
@@ -63,8 +69,9 @@ module _ (c : Netlist) (representatives : List ℕ) where
       let i = e.number - 1 in record {
         own = backing.own;
         counted = backing.counted;
-        backs = subst (Backs c b.budget i e.entry) (same.said i backing.own)
-            (subst (λ budget. Backs c budget i e.entry (said_at a.saids i)) same.budget backing.backs);
+        backs = subst (Backs c b.start b.budget i e.entry) (same.said i backing.own)
+            (subst (λ budget. Backs c b.start budget i e.entry (said_at a.saids i)) same.budget
+            (subst (λ start. Backs c start a.budget i e.entry (said_at a.saids i)) same.start backing.backs));
       }
 
   backings_same : (a b : Content) (all : List Numbered) → Same a b → All (IsBacking c representatives a) all
@@ -165,32 +172,37 @@ module _ (c : Netlist) (representatives : List ℕ) where
 
 -- ---- valid files
 
-module _ (c : Netlist) (representatives tests report proofs : List ℕ) (circuit : IsCircuit c) where
+module _ (c : Netlist) (representatives : List ℕ) (start : List Tern) (tests report proofs : List ℕ)
+    (circuit : IsCircuit c) where
   -- the report of tests has nothing wrong beside the same tests
-  report_right : (list other : List (List Bool)) (content : Content) (n : ℕ) → content.list ≡ list
+  report_right : (list other : List (List Bool)) (content : Content) (n : ℕ) → content.start ≡ start
+      → content.list ≡ list
       → IsTestText c tests list → IsTestText c tests other
       → IsReportText c representatives report content.budget content.saids
-      → ((i : ℕ) → IsOwn c representatives i → AgreesWithTests c content.list i (said_at content.saids i))
-      → ¬ IsFirst (IsReportTrouble c representatives other report) n
-  report_right list other content n of_content is is_other reported agrees =
+      → ((i : ℕ) → IsOwn c representatives i → AgreesWithTests c content.start content.list i (said_at content.saids i))
+      → ¬ IsFirst (IsReportTrouble c representatives start other report) n
+  report_right list other content n stated of_content is is_other reported agrees =
       let same : content.list ≡ other =
       of_content ∙ one_list c tests list other is is_other in
-      report_is_right c representatives other report content.budget content.saids n circuit reported
-      (λ i own. subst (λ l. AgreesWithTests c l i (said_at content.saids i)) same (agrees i own))
+      report_is_right c representatives start other report content.budget content.saids n circuit reported
+      (λ i own. subst (λ l. AgreesWithTests c start l i (said_at content.saids i)) same
+      (subst (λ s. AgreesWithTests c s content.list i (said_at content.saids i)) stated (agrees i own)))
 
   pub valid_has_no_trouble : (content : Content) (trouble : Trouble)
-      → AreValid c representatives tests report proofs content
-      → ¬ IsFirstTrouble c representatives tests report proofs trouble
+      → AreValid c representatives start tests report proofs content
+      → ¬ IsFirstTrouble c representatives start tests report proofs trouble
   valid_has_no_trouble content (Tests n) valid trouble =
       never_both c tests content.list n valid.vectors trouble
   valid_has_no_trouble content (Report n) valid trouble =
-      report_right content.list trouble.0 content n refl valid.vectors trouble.1 valid.reported valid.agrees trouble.2
+      report_right content.list trouble.0 content n valid.stated refl valid.vectors trouble.1 valid.reported
+      valid.agrees trouble.2
   valid_has_no_trouble content (Proofs n) valid trouble =
       text_is_not_malformed proofs content.entries n valid.proved trouble.2.malformed
   valid_has_no_trouble content (Fault number) valid trouble =
       let other = trouble.0 in
       let first = trouble.2 in
-      let same = reads_same c representatives report content other circuit valid.reported trouble.1.reported in
+      let same = reads_same c representatives report content other circuit
+      (valid.stated ∙ sym trouble.1.stated) valid.reported trouble.1.reported in
       nothing_wrong c representatives other content.entries proofs first.line valid.proved number
       (backings_same c representatives content other content.entries same valid.backed)
       (λ i own needs. valid.complete i own (subst NeedsEntry (sym (same.said i own)) needs)) first.wrong
@@ -198,38 +210,41 @@ module _ (c : Netlist) (representatives tests report proofs : List ℕ) (circuit
   -- ---- one trouble
 
   report_before : (content : Content) (n : ℕ) (list : List (List Bool)) → IsTestText c tests list
-      → IsFirst (IsReportTrouble c representatives list report) n → ¬ AreReadTo c representatives tests report content
+      → IsFirst (IsReportTrouble c representatives start list report) n
+      → ¬ AreReadTo c representatives start tests report content
   report_before content n list is first read =
-      report_right content.list list content n refl read.vectors is read.reported read.agrees first
+      report_right content.list list content n read.stated refl read.vectors is read.reported read.agrees first
 
-  one_line : (a b : Content) (n m : ℕ) → AreReadTo c representatives tests report a
-      → AreReadTo c representatives tests report b → IsFirst (IsProofTrouble c representatives a proofs) n
+  one_line : (a b : Content) (n m : ℕ) → AreReadTo c representatives start tests report a
+      → AreReadTo c representatives start tests report b → IsFirst (IsProofTrouble c representatives a proofs) n
       → IsFirst (IsProofTrouble c representatives b proofs) m → n ≡ m
   one_line a b n m read_a read_b =
-      let same = reads_same c representatives report a b circuit read_a.reported read_b.reported in
+      let same = reads_same c representatives report a b circuit (read_a.stated ∙ sym read_b.stated) read_a.reported
+      read_b.reported in
       one_first (IsProofTrouble c representatives a proofs) (IsProofTrouble c representatives b proofs) n m
       (λ k trouble. trouble_same c representatives a b proofs k same trouble)
       (λ k trouble. trouble_same c representatives b a proofs k (turned c representatives a b same) trouble)
 
-  malformed_or_wrong : (a b : Content) (n number : ℕ) → AreReadTo c representatives tests report a
-      → AreReadTo c representatives tests report b → IsFirstProofLine c representatives a proofs n
+  malformed_or_wrong : (a b : Content) (n number : ℕ) → AreReadTo c representatives start tests report a
+      → AreReadTo c representatives start tests report b → IsFirstProofLine c representatives a proofs n
       → ¬ IsFirstFault c representatives b proofs number
   malformed_or_wrong a b n number read_a read_b line fault =
       let same = one_line a b n fault.line read_a read_b line.first fault.first in
       fault.well_formed (subst (IsWrongProofLine proofs) same line.malformed)
 
-  one_fault : (a b : Content) (m n : ℕ) → AreReadTo c representatives tests report a
-      → AreReadTo c representatives tests report b → IsFirstFault c representatives a proofs m
+  one_fault : (a b : Content) (m n : ℕ) → AreReadTo c representatives start tests report a
+      → AreReadTo c representatives start tests report b → IsFirstFault c representatives a proofs m
       → IsFirstFault c representatives b proofs n → m ≡ n
   one_fault a b m n read_a read_b of_a of_b =
-      let same = reads_same c representatives report b a circuit read_b.reported read_a.reported in
+      let same = reads_same c representatives report b a circuit (read_b.stated ∙ sym read_a.stated) read_b.reported
+      read_a.reported in
       let line = one_line b a of_b.line of_a.line read_b read_a of_b.first of_a.first in
       let other = fault_same c representatives b a proofs of_a.line n same
       (subst (λ k. IsFaultTroubleAt c representatives b proofs k n) line of_b.wrong) in
       one_number c representatives a _ (line_at proofs of_a.line) m n of_a.wrong.trouble other.trouble
 
-  pub one_trouble : (t u : Trouble) → IsFirstTrouble c representatives tests report proofs t
-      → IsFirstTrouble c representatives tests report proofs u → t ≡ u
+  pub one_trouble : (t u : Trouble) → IsFirstTrouble c representatives start tests report proofs t
+      → IsFirstTrouble c representatives start tests report proofs u → t ≡ u
   one_trouble (Tests n) (Tests m) a b = ap Tests (one_malformed_test c tests n m a b)
   one_trouble (Tests n) (Report m) a b = absurd (never_both c tests b.0 n b.1 a)
   one_trouble (Tests n) (Proofs m) a b = absurd (never_both c tests b.0.list n b.1.vectors a)
@@ -237,9 +252,10 @@ module _ (c : Netlist) (representatives tests report proofs : List ℕ) (circuit
   one_trouble (Report n) (Tests m) a b = absurd (never_both c tests a.0 m a.1 b)
   one_trouble (Report n) (Report m) a b =
       let same = one_list c tests a.0 b.0 a.1 b.1 in
-      ap Report (one_first (IsReportTrouble c representatives a.0 report) (IsReportTrouble c representatives b.0 report)
-      n m (λ k wrong. subst (λ l. IsReportTrouble c representatives l report k) same wrong)
-      (λ k wrong. subst (λ l. IsReportTrouble c representatives l report k) (sym same) wrong) a.2 b.2)
+      ap Report (one_first (IsReportTrouble c representatives start a.0 report)
+      (IsReportTrouble c representatives start b.0 report)
+      n m (λ k wrong. subst (λ l. IsReportTrouble c representatives start l report k) same wrong)
+      (λ k wrong. subst (λ l. IsReportTrouble c representatives start l report k) (sym same) wrong) a.2 b.2)
   one_trouble (Report n) (Proofs m) a b = absurd (report_before b.0 n a.0 a.1 a.2 b.1)
   one_trouble (Report n) (Fault m) a b = absurd (report_before b.0 n a.0 a.1 a.2 b.1)
   one_trouble (Proofs n) (Tests m) a b = absurd (never_both c tests a.0.list m a.1.vectors b)

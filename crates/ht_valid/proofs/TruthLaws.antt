@@ -1,10 +1,11 @@
 -- The verdict of each listed fault is true in what is justified.
 use Rattle.std.proofs.Common.{◌+◌, ℕ, List, get_or, Option, Some, None}
 use Rattle.std.specs.List.{Contains}
+use Rattle.ht_tern.specs.declared.tern.Tern.{Tern}
 use Rattle.ht_net.specs.declared.place.Place.{Place}
 use Rattle.ht_net.specs.Netlist.{Netlist, IsCircuit}
-use Rattle.ht_net.specs.Detection.{IsFirstDetection}
-use Rattle.ht_net.proofs.ApartLaws.{detected_apart}
+use Rattle.ht_net.specs.Detection.{IsFirstFrom, IsStart}
+use Rattle.ht_net.proofs.ApartLaws.{detected_apart_from}
 use Rattle.ht_collapse.specs.Classes.{AreClasses, SameClass, fault_at}
 use Rattle.ht_collapse.proofs.RunLaws.{members_detected}
 use Rattle.ht_tree.specs.declared.entry.Entry.{Entry}
@@ -17,26 +18,27 @@ use Rattle.ht_texts.specs.Verdicts.{said_at}
 use Rattle.ht_valid.specs.ValidFiles.{AgreesWithTests, Backs, Content, IsJustified}
 use Rattle.ht_valid.specs.TrueVerdicts.{HasVerdict, HaveTrueVerdicts, IsAborted, IsDetected, IsProvedUntestable}
 use Rattle.ht_valid.proofs.BackedLaws.{IsBackedIfNeeded, justified_backs, representative_is_own}
-use Rattle.ht_valid.proofs.MemberLaws.{kind_said, member_means, untestable_undetected}
+use Rattle.ht_valid.proofs.MemberLaws.{kind_said, member_means, untestable_undetected, untestable_undetected_from}
 
-module _ (c : Netlist) (content : Content) (r i : ℕ) (circuit : IsCircuit c)
+module _ (c : Netlist) (content : Content) (r i : ℕ) (circuit : IsCircuit c) (latches : IsStart c content.start)
     (same : SameClass c (fault_at c r) (fault_at c i)) where
   -- what the vectors detect first of the representative, they detect first of the member
-  first_of_member : (place : Option Place) → IsFirstDetection c (fault_at c r) content.list place
-      → IsFirstDetection c (fault_at c i) content.list place
-  first_of_member place = (members_detected c (fault_at c r) (fault_at c i) content.list place circuit same).0
+  first_of_member : (place : Option Place) → IsFirstFrom c (fault_at c r) content.start content.list place
+      → IsFirstFrom c (fault_at c i) content.start content.list place
+  first_of_member place =
+      (members_detected c (fault_at c r) (fault_at c i) content.start content.list place circuit same).0
 
-  detected_of : (place : Place) → IsFirstDetection c (fault_at c r) content.list (Some place)
-      → IsDetected c content.list i place
+  detected_of : (place : Place) → IsFirstFrom c (fault_at c r) content.start content.list (Some place)
+      → IsDetected c content i place
   detected_of place first =
       let here = first_of_member (Some place) first in
       record {
         first = here;
-        apart = detected_apart c (fault_at c i) content.list place.vector place.output here.0;
+        apart = detected_apart_from c (fault_at c i) content.start content.list place.vector place.output here.0;
       }
 
   untestable_by : (e : Entry) → Contains content.entries (record { number = r + 1; entry = e })
-      → Backs c content.budget r e Untestable → IsProvedUntestable c content r i
+      → Backs c content.start content.budget r e Untestable → IsProvedUntestable c content r i
   untestable_by e among backs =
       let is = kind_said e backs.0 in
       let means = member_means c (fault_at c r) (fault_at c i) circuit same e is
@@ -46,12 +48,15 @@ module _ (c : Netlist) (content : Content) (r i : ℕ) (circuit : IsCircuit c)
         held = among;
         kind = is;
         passes = backs.1;
+        allowed = backs.2;
         means = means;
         undetected = untestable_undetected c (fault_at c i) e is means;
+        undetected_from =
+            untestable_undetected_from c (fault_at c i) content.start latches e is backs.2 means;
       }
 
   aborted_by : (e : Entry) → Contains content.entries (record { number = r + 1; entry = e })
-      → Backs c content.budget r e Aborted → IsFirstDetection c (fault_at c r) content.list None
+      → Backs c content.start content.budget r e Aborted → IsFirstFrom c (fault_at c r) content.start content.list None
       → IsAborted c content r i
   aborted_by (entries.Untestable z tokens) among backs none = let no = backs.0 in cc
   aborted_by (entries.UntestableFrom state clauses z tokens) among backs none = let no = backs.0 in cc
@@ -65,7 +70,7 @@ module _ (c : Netlist) (content : Content) (r i : ℕ) (circuit : IsCircuit c)
         means = abort_means c (fault_at c r) content.budget spent circuit backs.1;
       }
 
-  verdict_by : (said : Said) → AgreesWithTests c content.list r said → IsBackedIfNeeded c content r said
+  verdict_by : (said : Said) → AgreesWithTests c content.start content.list r said → IsBackedIfNeeded c content r said
       → HasVerdict c content r i said
   verdict_by (Detected place) agrees backed = detected_of place agrees
   verdict_by Untestable agrees backed =
@@ -77,9 +82,10 @@ module _ (c : Netlist) (content : Content) (r i : ℕ) (circuit : IsCircuit c)
   verdict_by Undetected agrees backed = absurd agrees
 
 pub true_verdicts : (c : Netlist) (representatives : List ℕ) (content : Content) → IsCircuit c
-    → AreClasses c representatives → IsJustified c representatives content → HaveTrueVerdicts c representatives content
-true_verdicts c representatives content circuit classes is i inside =
+    → AreClasses c representatives → IsStart c content.start → IsJustified c representatives content
+    → HaveTrueVerdicts c representatives content
+true_verdicts c representatives content circuit classes latches is i inside =
     let r = get_or representatives i 0 in
     let own = representative_is_own c representatives i classes inside in
-    verdict_by c content r i circuit (classes.exact i inside).member (said_at content.saids r) (is.agrees r own)
-    (justified_backs c representatives content r is own)
+    verdict_by c content r i circuit latches (classes.exact i inside).member (said_at content.saids r)
+    (is.agrees r own) (justified_backs c representatives content r is own)

@@ -3,6 +3,7 @@
 use Rattle.std.specs.Prelude.{◌≡◌, ◌⊎◌, ◌<◌, ◌≤◌, ◌+◌, ◌-◌, ◌++◌, ◌∷◌, ℕ, List, [], Bool, length, take, Option, Some}
 use Rattle.std.specs.Option.{ForSome}
 use Rattle.ht_ports.specs.LineRule.{lines_of}
+use Rattle.ht_tern.specs.declared.tern.Tern.{Tern}
 use Rattle.ht_net.specs.Netlist.{Netlist}
 use Rattle.ht_texts.specs.declared.item.Item.TheVariants.{Verdict}
 use Rattle.ht_texts.specs.declared.said.Said.{Said}
@@ -24,20 +25,20 @@ pub record IsFirst (IsWrong : ℕ → Type 0) (n : ℕ) : Type 0 where
 
 -- ---- the report
 
--- The last of these lines of a report says of a fault what the vectors contradict.
-pub record ContradictsTests (c : Netlist) (representatives : List ℕ) (list : List (List Bool)) (lines : List (List ℕ))
-    : Type 0 where
+-- The last of these lines of a report says of a fault what the vectors from the start contradict.
+pub record ContradictsTests (c : Netlist) (representatives : List ℕ) (start : List Tern) (list : List (List Bool))
+    (lines : List (List ℕ)) : Type 0 where
   pub at : ReportReading
   pub read : ReportReadsTo c representatives lines at
   pub fault : ℕ
   pub said : Said
   pub says : last_item representatives at ≡ Some (Verdict fault said)
-  pub contradicts : ¬ AgreesWithTests c list fault said
+  pub contradicts : ¬ AgreesWithTests c start list fault said
 
 -- line n of the report is malformed, or contradicts the tests
-abbrev pub IsReportTrouble : Netlist → List ℕ → List (List Bool) → List ℕ → ℕ → Type 0
-IsReportTrouble c representatives list text n = IsWrongReportLine c representatives text n
-    ⊎ ContradictsTests c representatives list (take n (lines_of text))
+abbrev pub IsReportTrouble : Netlist → List ℕ → List Tern → List (List Bool) → List ℕ → ℕ → Type 0
+IsReportTrouble c representatives start list text n = IsWrongReportLine c representatives text n
+    ⊎ ContradictsTests c representatives start list (take n (lines_of text))
 
 -- ---- the proofs
 
@@ -102,12 +103,15 @@ IsProofTrouble c representatives content text n = IsWrongProofLine text n
 
 -- ---- the first of all
 
--- The tests and the report are as valid files have them. The entries of the content are those of the proofs, which are
--- still to come: there are none.
-pub record AreReadTo (c : Netlist) (representatives : List ℕ) (tests report : List ℕ) (content : Content) : Type 0 where
+-- The tests and the report are as valid files have them, from the start. The entries of the content are those of the
+-- proofs, which are still to come: there are none.
+pub record AreReadTo (c : Netlist) (representatives : List ℕ) (start : List Tern) (tests report : List ℕ)
+    (content : Content) : Type 0 where
+  pub stated : content.start ≡ start
   pub vectors : IsTestText c tests content.list
   pub reported : IsReportText c representatives report content.budget content.saids
-  pub agrees : (i : ℕ) → IsOwn c representatives i → AgreesWithTests c content.list i (said_at content.saids i)
+  pub agrees : (i : ℕ) → IsOwn c representatives i
+      → AgreesWithTests c content.start content.list i (said_at content.saids i)
   pub none : content.entries ≡ []
 
 -- An entry is wrong or missing at a line that is well formed, and nothing is wrong at the lines before.
@@ -125,11 +129,11 @@ pub record IsFirstProofLine (c : Netlist) (representatives : List ℕ) (content 
   pub first : IsFirst (IsProofTrouble c representatives content proofs) n
 
 -- The files aren't valid, and this is their first trouble in the order in which they are read.
-abbrev pub IsFirstTrouble : Netlist → List ℕ → List ℕ → List ℕ → List ℕ → Trouble → Type 0
-IsFirstTrouble c representatives tests report proofs (Tests line) = IsMalformedTest c tests line
-IsFirstTrouble c representatives tests report proofs (Report line) = (list : List (List Bool))
-    × IsTestText c tests list × IsFirst (IsReportTrouble c representatives list report) line
-IsFirstTrouble c representatives tests report proofs (Proofs line) = (content : Content)
-    × AreReadTo c representatives tests report content × IsFirstProofLine c representatives content proofs line
-IsFirstTrouble c representatives tests report proofs (Fault number) = (content : Content)
-    × AreReadTo c representatives tests report content × IsFirstFault c representatives content proofs number
+abbrev pub IsFirstTrouble : Netlist → List ℕ → List Tern → List ℕ → List ℕ → List ℕ → Trouble → Type 0
+IsFirstTrouble c representatives start tests report proofs (Tests line) = IsMalformedTest c tests line
+IsFirstTrouble c representatives start tests report proofs (Report line) = (list : List (List Bool))
+    × IsTestText c tests list × IsFirst (IsReportTrouble c representatives start list report) line
+IsFirstTrouble c representatives start tests report proofs (Proofs line) = (content : Content)
+    × AreReadTo c representatives start tests report content × IsFirstProofLine c representatives content proofs line
+IsFirstTrouble c representatives start tests report proofs (Fault number) = (content : Content)
+    × AreReadTo c representatives start tests report content × IsFirstFault c representatives content proofs number

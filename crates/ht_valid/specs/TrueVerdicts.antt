@@ -4,7 +4,7 @@ use Rattle.std.specs.Prelude.{◌≡◌, ◌≤◌, ◌<◌, ◌+◌, ℕ, List,
 use Rattle.std.specs.List.{Contains}
 use Rattle.ht_net.specs.declared.place.Place.{Place}
 use Rattle.ht_net.specs.Netlist.{Netlist}
-use Rattle.ht_net.specs.Detection.{Apart, Detects, IsFirstDetection}
+use Rattle.ht_net.specs.Detection.{ApartFrom, Detects, DetectsFrom, IsFirstFrom}
 use Rattle.ht_net.specs.Silence.{Sealed}
 use Rattle.ht_faults.specs.Sites.{faults_of}
 use Rattle.ht_collapse.specs.Classes.{fault_at}
@@ -13,7 +13,7 @@ use Rattle.ht_tree.specs.declared.entry.Entry.TheVariants as entry
 use Rattle.ht_tree.specs.declared.kind.EntryKind.TheVariants as kinds
 use Rattle.ht_tree.specs.AbortRecords.{AbortMeans, AbortView, IsAbortRecord}
 use Rattle.ht_tree.specs.Budgets.{refutation_cost, sweep_cost}
-use Rattle.ht_tree.specs.Entries.{Means, Passes, kind_of}
+use Rattle.ht_tree.specs.Entries.{AllowsEntry, Means, Passes, kind_of}
 use Rattle.ht_texts.specs.declared.said.Said.{Said}
 use Rattle.ht_texts.specs.declared.said.Said.TheVariants.{Detected, Untestable, Aborted, Undetected}
 use Rattle.ht_texts.specs.Verdicts.{said_at}
@@ -21,31 +21,34 @@ use Rattle.ht_valid.specs.ValidFiles.{Content, IsOwn}
 
 -- ---- detected, untestable, aborted
 
--- The written vectors detect the fault, at this place first; and there the good and the faulty machine show opposite
--- bits from every pair of start states.
-pub record IsDetected (c : Netlist) (list : List (List Bool)) (i : ℕ) (place : Place) : Type 0 where
-  pub first : IsFirstDetection c (fault_at c i) list (Some place)
-  pub apart : Apart c (fault_at c i) list place.vector place.output
+-- The written vectors detect the fault from the start, at this place first; and there the good and the faulty machine
+-- show opposite bits from every pair of states that the start allows.
+pub record IsDetected (c : Netlist) (content : Content) (i : ℕ) (place : Place) : Type 0 where
+  pub first : IsFirstFrom c (fault_at c i) content.start content.list (Some place)
+  pub apart : ApartFrom c (fault_at c i) content.start content.list place.vector place.output
 
--- The proofs hold an entry of the representative that passes, in one of the forms of the kind untestable. What it means
--- holds of the fault: from every common start state both machines give equal outputs for ever, or from the named one;
--- and no list of vectors of any length detects the fault.
+-- The proofs hold an entry of the representative that passes, in one of the forms of the kind untestable, and the start
+-- allows the state that it names. What it means holds of the fault: from every common start state both machines give
+-- equal outputs for ever, or from the named one. And no list of vectors of any length detects the fault, from
+-- all-unknown or from the start.
 pub record IsProvedUntestable (c : Netlist) (content : Content) (representative i : ℕ) : Type 0 where
   pub entry : Entry
   pub held : Contains content.entries (record { number = representative + 1; entry = entry })
   pub kind : kind_of entry ≡ kinds.Untestable
   pub passes : Passes c (fault_at c representative) content.budget entry
+  pub allowed : AllowsEntry content.start entry
   pub means : Means c (fault_at c i) entry
   pub undetected : (list : List (List Bool)) (t o : ℕ) → ¬ Detects c (fault_at c i) list t o
+  pub undetected_from : (list : List (List Bool)) (t o : ℕ) → ¬ DetectsFrom c (fault_at c i) content.start list t o
 
 -- The entry of an aborted fault, as it stands in the proofs.
 abbrev pub abort_entry : AbortView → Entry
 abort_entry a = entry.Aborted a.told a.walk a.aim a.sweep
 
--- The fault is aborted: the written vectors don't detect it, and the proofs hold a record of the representative that
--- used up the budget, with what that record means of the representative.
+-- The fault is aborted: the written vectors don't detect it from the start, and the proofs hold a record of the
+-- representative that used up the budget, with what that record means of the representative.
 pub record IsAborted (c : Netlist) (content : Content) (representative i : ℕ) : Type 0 where
-  pub undetected : IsFirstDetection c (fault_at c i) content.list None
+  pub undetected : IsFirstFrom c (fault_at c i) content.start content.list None
   pub spent : AbortView
   pub held : Contains content.entries (record { number = representative + 1; entry = abort_entry spent })
   pub passes : IsAbortRecord c (fault_at c representative) content.budget spent
@@ -54,7 +57,7 @@ pub record IsAborted (c : Netlist) (content : Content) (representative i : ℕ) 
 -- ---- one verdict for each fault
 
 abbrev pub HasVerdict : Netlist → Content → ℕ → ℕ → Said → Type 0
-HasVerdict c content representative i (Detected place) = IsDetected c content.list i place
+HasVerdict c content representative i (Detected place) = IsDetected c content i place
 HasVerdict c content representative i Untestable = IsProvedUntestable c content representative i
 HasVerdict c content representative i Aborted = IsAborted c content representative i
 HasVerdict c content representative i Undetected = ⊥

@@ -1,14 +1,15 @@
 -- When tests, a report and proofs are valid for a circuit: what they say agrees, and nothing is missing.
 use Rattle.std.specs.Prelude.{◌≡◌, ◌<◌, ◌+◌, ◌-◌, ℕ, List, Bool, true, length, Some, None}
 use Rattle.std.specs.List.{All, Contains}
+use Rattle.ht_tern.specs.declared.tern.Tern.{Tern}
 use Rattle.ht_net.specs.Netlist.{Netlist}
-use Rattle.ht_net.specs.Detection.{IsFirstDetection}
+use Rattle.ht_net.specs.Detection.{IsFirstFrom}
 use Rattle.ht_faults.specs.Sites.{faults_of}
 use Rattle.ht_collapse.specs.Classes.{fault_at, is_representative}
 use Rattle.ht_tree.specs.declared.entry.Entry.{Entry}
 use Rattle.ht_tree.specs.declared.kind.EntryKind.{EntryKind}
 use Rattle.ht_tree.specs.declared.kind.EntryKind.TheVariants as kinds
-use Rattle.ht_tree.specs.Entries.{Passes, kind_of}
+use Rattle.ht_tree.specs.Entries.{AllowsEntry, Passes, kind_of}
 use Rattle.ht_texts.specs.declared.said.Said.{Said}
 use Rattle.ht_texts.specs.declared.said.Said.TheVariants.{Detected, Untestable, Aborted, Undetected}
 use Rattle.ht_texts.specs.Tests.{IsTestText}
@@ -17,9 +18,10 @@ use Rattle.ht_texts.specs.SearchReports.{IsReportText}
 use Rattle.ht_entries.specs.declared.numbered.Numbered.{Numbered}
 use Rattle.ht_entries.specs.EntryTexts.{IsProofText}
 
--- what the three files say: the vectors of the tests, the budget and the verdicts of the report, the entries of the
--- proofs
+-- what the files say: the stated start, or all-unknown where none is stated; the vectors of the tests, the budget and
+-- the verdicts of the report, the entries of the proofs
 pub record Content : Type 0 where
+  pub start : List Tern
   pub list : List (List Bool)
   pub budget : ℕ
   pub saids : List Said
@@ -32,12 +34,13 @@ pub record IsOwn (c : Netlist) (representatives : List ℕ) (i : ℕ) : Type 0 w
 
 -- ---- the report
 
--- What is said of fault i agrees with the vectors: it is detected exactly where they detect it, and there first.
-abbrev pub AgreesWithTests : Netlist → List (List Bool) → ℕ → Said → Type 0
-AgreesWithTests c list i (Detected place) = IsFirstDetection c (fault_at c i) list (Some place)
-AgreesWithTests c list i Untestable = IsFirstDetection c (fault_at c i) list None
-AgreesWithTests c list i Aborted = IsFirstDetection c (fault_at c i) list None
-AgreesWithTests c list i Undetected = ⊥
+-- What is said of fault i agrees with the vectors: it is detected exactly where they detect it from the start, and
+-- there first.
+abbrev pub AgreesWithTests : Netlist → List Tern → List (List Bool) → ℕ → Said → Type 0
+AgreesWithTests c start list i (Detected place) = IsFirstFrom c (fault_at c i) start list (Some place)
+AgreesWithTests c start list i Untestable = IsFirstFrom c (fault_at c i) start list None
+AgreesWithTests c start list i Aborted = IsFirstFrom c (fault_at c i) start list None
+AgreesWithTests c start list i Undetected = ⊥
 
 -- ---- the proofs
 
@@ -46,16 +49,18 @@ abbrev pub said_by_kind : EntryKind → Said
 said_by_kind kinds.Untestable = Untestable
 said_by_kind kinds.Aborted = Aborted
 
--- The entry backs what is said of fault i: it is of that kind, and passes. The entry of a detected fault isn't judged.
-abbrev pub Backs : Netlist → ℕ → ℕ → Entry → Said → Type 0
-Backs c budget i e (Detected place) = Unit {0}
-Backs c budget i e said = (said_by_kind (kind_of e) ≡ said) × Passes c (fault_at c i) budget e
+-- The entry backs what is said of fault i: it is of that kind, it passes, and the start allows the state that it names.
+-- The entry of a detected fault isn't judged.
+abbrev pub Backs : Netlist → List Tern → ℕ → ℕ → Entry → Said → Type 0
+Backs c start budget i e (Detected place) = Unit {0}
+Backs c start budget i e said =
+    (said_by_kind (kind_of e) ≡ said) × Passes c (fault_at c i) budget e × AllowsEntry start e
 
 -- The number of the entry is that of a representative, and the entry backs what is said of it.
 pub record IsBacking (c : Netlist) (representatives : List ℕ) (content : Content) (e : Numbered) : Type 0 where
   pub own : IsOwn c representatives (e.number - 1)
   pub counted : 0 < e.number
-  pub backs : Backs c content.budget (e.number - 1) e.entry (said_at content.saids (e.number - 1))
+  pub backs : Backs c content.start content.budget (e.number - 1) e.entry (said_at content.saids (e.number - 1))
 
 -- only a fault that isn't detected needs an entry
 abbrev pub NeedsEntry : Said → Type 0
@@ -69,27 +74,30 @@ pub record HasEntry (entries : List Numbered) (i : ℕ) : Type 0 where
 
 -- ---- the three together
 
--- What is said is justified: of each representative the report says what the vectors show; each entry backs what is said
--- of its fault; and none that is needed is missing.
+-- What is said is justified: of each representative the report says what the vectors show from the start; each entry
+-- backs what is said of its fault; and none that is needed is missing.
 pub record IsJustified (c : Netlist) (representatives : List ℕ) (content : Content) : Type 0 where
-  pub agrees : (i : ℕ) → IsOwn c representatives i → AgreesWithTests c content.list i (said_at content.saids i)
+  pub agrees : (i : ℕ) → IsOwn c representatives i
+      → AgreesWithTests c content.start content.list i (said_at content.saids i)
   pub backed : All (IsBacking c representatives content) content.entries
   pub complete : (i : ℕ) → IsOwn c representatives i → NeedsEntry (said_at content.saids i)
       → HasEntry content.entries i
 
--- The tests are vectors of the circuit; the report says of each representative what these vectors show; each entry of
--- the proofs backs what is said of its fault; and none that is needed is missing.
-pub record AreValid (c : Netlist) (representatives : List ℕ) (tests report proofs : List ℕ) (content : Content)
-    : Type 0 where
+-- The content is of the start; the tests are vectors of the circuit; the report says of each representative what these
+-- show from the start; each entry of the proofs backs what is said of its fault; and none that is needed is missing.
+pub record AreValid (c : Netlist) (representatives : List ℕ) (start : List Tern) (tests report proofs : List ℕ)
+    (content : Content) : Type 0 where
+  pub stated : content.start ≡ start
   pub vectors : IsTestText c tests content.list
   pub reported : IsReportText c representatives report content.budget content.saids
-  pub agrees : (i : ℕ) → IsOwn c representatives i → AgreesWithTests c content.list i (said_at content.saids i)
+  pub agrees : (i : ℕ) → IsOwn c representatives i
+      → AgreesWithTests c content.start content.list i (said_at content.saids i)
   pub proved : IsProofText content.entries proofs
   pub backed : All (IsBacking c representatives content) content.entries
   pub complete : (i : ℕ) → IsOwn c representatives i → NeedsEntry (said_at content.saids i)
       → HasEntry content.entries i
 
 -- some content makes them valid
-abbrev pub AreValidFiles : Netlist → List ℕ → List ℕ → List ℕ → List ℕ → Type 0
-AreValidFiles c representatives tests report proofs =
-    (content : Content) × AreValid c representatives tests report proofs content
+abbrev pub AreValidFiles : Netlist → List ℕ → List Tern → List ℕ → List ℕ → List ℕ → Type 0
+AreValidFiles c representatives start tests report proofs =
+    (content : Content) × AreValid c representatives start tests report proofs content

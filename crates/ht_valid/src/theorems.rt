@@ -1,7 +1,9 @@
 //! What follows from valid files. Each theorem is the contract of a function that does nothing.
 ghost use Rattle.std.specs.Prelude.{◌≡◌, ◌<◌, ◌≤◌, ◌+◌, ℕ, List, length};
+ghost use Rattle.ht_tern.specs.declared.tern.Tern.{Tern};
 ghost use Rattle.ht_net.specs.declared.fault.Fault.{Fault};
 ghost use Rattle.ht_net.specs.Netlist.{Netlist, IsCircuit};
+ghost use Rattle.ht_net.specs.Detection.{IsStart};
 ghost use Rattle.ht_faults.specs.Sites.{faults_of};
 ghost use Rattle.ht_collapse.specs.Classes.{AreClasses};
 ghost use Rattle.ht_tree.specs.declared.entry.Entry.{Entry};
@@ -13,19 +15,19 @@ ghost use Rattle.ht_valid.specs.ValidFiles.{Content, AreValid};
 ghost use Rattle.ht_valid.specs.FirstTrouble.{IsFirstTrouble};
 ghost use Rattle.ht_valid.specs.TrueVerdicts.{AreDecided, HaveTrueVerdicts};
 
-/// Each listed fault has one verdict in valid files, and it is true.
+/// Each listed fault has one verdict in valid files, and it is true for the start.
 pub fn valid_files_tell_the_truth()
-    ensures { (c : Netlist) (representatives tests report proofs : List ℕ) (content : Content)
-        → IsCircuit c → AreClasses c representatives
-        → AreValid c representatives tests report proofs content
+    ensures { (c : Netlist) (representatives : List ℕ) (start : List Tern)
+        (tests report proofs : List ℕ) (content : Content) → IsCircuit c → AreClasses c representatives
+        → IsStart c start → AreValid c representatives start tests report proofs content
         → HaveTrueVerdicts c representatives content }
 {}
 
 /// Valid files decide what their budget is enough for.
 pub fn valid_files_are_decided()
-    ensures { (c : Netlist) (representatives tests report proofs : List ℕ) (content : Content)
-        → IsCircuit c → AreClasses c representatives
-        → AreValid c representatives tests report proofs content
+    ensures { (c : Netlist) (representatives : List ℕ) (start : List Tern)
+        (tests report proofs : List ℕ) (content : Content) → IsCircuit c → AreClasses c representatives
+        → IsStart c start → AreValid c representatives start tests report proofs content
         → AreDecided c representatives content }
 {}
 
@@ -39,15 +41,16 @@ pub fn passing_entries_have_a_text()
 
 /// Valid files have no first trouble.
 pub fn valid_files_have_no_trouble()
-    ensures { (c : Netlist) (representatives tests report proofs : List ℕ) (content : Content)
-        (trouble : Trouble) → IsCircuit c
-        → AreValid c representatives tests report proofs content
-        → ¬ IsFirstTrouble c representatives tests report proofs trouble }
+    ensures { (c : Netlist) (representatives : List ℕ) (start : List Tern)
+        (tests report proofs : List ℕ) (content : Content) (trouble : Trouble) → IsCircuit c
+        → AreValid c representatives start tests report proofs content
+        → ¬ IsFirstTrouble c representatives start tests report proofs trouble }
 {}
 
 /// Files have at most one first trouble.
 pub fn files_have_one_trouble()
-    ensures { (c : Netlist) (representatives tests report proofs : List ℕ) (a b : Trouble)
-        → IsCircuit c → IsFirstTrouble c representatives tests report proofs a
-        → IsFirstTrouble c representatives tests report proofs b → a ≡ b }
+    ensures { (c : Netlist) (representatives : List ℕ) (start : List Tern)
+        (tests report proofs : List ℕ) (a b : Trouble)
+        → IsCircuit c → IsFirstTrouble c representatives start tests report proofs a
+        → IsFirstTrouble c representatives start tests report proofs b → a ≡ b }
 {}

@@ -4,7 +4,7 @@ ghost use Rattle.clap.specs.Words.{app_of, is_simple_and_free, rule_of};
 ghost use Rattle.ht_asked.specs.Forms.{names_form};
 ghost use Rattle.ht_asked.specs.Asked.{check_command, command_named, compact_command};
 ghost use Rattle.ht_asked.specs.Asked.{demo_command, diagnose_command, gen_command};
-ghost use Rattle.ht_asked.specs.Asked.{norm_command, sim_command};
+ghost use Rattle.ht_asked.specs.Asked.{norm_command, respond_command, sim_command, sync_command, uninit_command};
 ghost use Rattle.ht_asked.specs.ByClap.{app_named, app_with, optional, wanted};
 
 use clap::{Arg, Command};
@@ -35,6 +35,15 @@ fn option<'a>(alloc: Global, id: &'a str) -> Arg<'a>
     Arg::new(alloc, id).long(id)
 }
 
+/// A command whose arguments are `NETLIST OUT`.
+fn with_out<'a>(alloc: Global, name: &'a str) -> Result<Command<'a>, AllocError>
+    ensures { IfOk result (λ c. app_of c ≡ app_with name.entry.now norm_command.form) }
+{
+    plain_command(alloc, name)
+        .arg(positional(alloc, "netlist"))?
+        .arg(positional(alloc, "out"))
+}
+
 /// A command whose first arguments are `NETLIST TESTS`.
 fn with_tests<'a>(alloc: Global, name: &'a str) -> Result<Command<'a>, AllocError>
     ensures { IfOk result (λ c. app_of c
@@ -45,14 +54,22 @@ fn with_tests<'a>(alloc: Global, name: &'a str) -> Result<Command<'a>, AllocErro
         .arg(positional(alloc, "tests"))
 }
 
-/// A command with the arguments of `sim`, which `gen` and `check` have too: `NETLIST TESTS REPORT`.
+/// A command whose first arguments are `NETLIST TESTS REPORT`.
 fn with_report<'a>(alloc: Global, name: &'a str) -> Result<Command<'a>, AllocError>
-    ensures { IfOk result (λ c. app_of c ≡ app_with name.entry.now sim_command.form) }
+    ensures { IfOk result (λ c. app_of c ≡ app_with name.entry.now
+        (names_form (codes "netlist" ∷ codes "tests" ∷ codes "report" ∷ []))) }
 {
     with_tests(alloc, name)?.arg(positional(alloc, "report"))
 }
 
-/// `gen NETLIST TESTS REPORT PROOFS [--budget N] [--random N] [--seed S]`.
+/// `sim NETLIST TESTS REPORT [--start FILE]`.
+fn define_sim<'a>(alloc: Global) -> Result<Command<'a>, AllocError>
+    ensures { IfOk result (λ c. app_of c ≡ app_with sim_command.name sim_command.form) }
+{
+    with_report(alloc, "sim")?.arg(option(alloc, "start"))
+}
+
+/// `gen NETLIST TESTS REPORT PROOFS [--budget N] [--random N] [--seed S] [--start FILE]`.
 fn define_gen<'a>(alloc: Global) -> Result<Command<'a>, AllocError>
     ensures { IfOk result (λ c. app_of c ≡ app_with gen_command.name gen_command.form) }
 {
@@ -60,23 +77,17 @@ fn define_gen<'a>(alloc: Global) -> Result<Command<'a>, AllocError>
         .arg(positional(alloc, "proofs"))?
         .arg(option(alloc, "budget"))?
         .arg(option(alloc, "random"))?
-        .arg(option(alloc, "seed"))
+        .arg(option(alloc, "seed"))?
+        .arg(option(alloc, "start"))
 }
 
-/// `check NETLIST TESTS REPORT PROOFS`.
+/// `check NETLIST TESTS REPORT PROOFS [--start FILE]`.
 fn define_check<'a>(alloc: Global) -> Result<Command<'a>, AllocError>
     ensures { IfOk result (λ c. app_of c ≡ app_with check_command.name check_command.form) }
 {
-    with_report(alloc, "check")?.arg(positional(alloc, "proofs"))
-}
-
-/// `norm NETLIST OUT`.
-fn define_norm<'a>(alloc: Global) -> Result<Command<'a>, AllocError>
-    ensures { IfOk result (λ c. app_of c ≡ app_with norm_command.name norm_command.form) }
-{
-    plain_command(alloc, "norm")
-        .arg(positional(alloc, "netlist"))?
-        .arg(positional(alloc, "out"))
+    with_report(alloc, "check")?
+        .arg(positional(alloc, "proofs"))?
+        .arg(option(alloc, "start"))
 }
 
 /// `demo SIZE SEED`.
@@ -104,6 +115,32 @@ fn define_diagnose<'a>(alloc: Global) -> Result<Command<'a>, AllocError>
         .arg(positional(alloc, "out"))
 }
 
+/// `uninit NETLIST OUT [--budget N]`.
+fn define_uninit<'a>(alloc: Global) -> Result<Command<'a>, AllocError>
+    ensures { IfOk result (λ c. app_of c ≡ app_with uninit_command.name uninit_command.form) }
+{
+    with_out(alloc, "uninit")?.arg(option(alloc, "budget"))
+}
+
+/// `sync NETLIST TESTS OUT [--budget N]`.
+fn define_sync<'a>(alloc: Global) -> Result<Command<'a>, AllocError>
+    ensures { IfOk result (λ c. app_of c ≡ app_with sync_command.name sync_command.form) }
+{
+    with_tests(alloc, "sync")?
+        .arg(positional(alloc, "out"))?
+        .arg(option(alloc, "budget"))
+}
+
+/// `respond NETLIST TESTS OUT [--fault N] [--start FILE]`.
+fn define_respond<'a>(alloc: Global) -> Result<Command<'a>, AllocError>
+    ensures { IfOk result (λ c. app_of c ≡ app_with respond_command.name respond_command.form) }
+{
+    with_tests(alloc, "respond")?
+        .arg(positional(alloc, "out"))?
+        .arg(option(alloc, "fault"))?
+        .arg(option(alloc, "start"))
+}
+
 /// The definition of the command that the word names, in lower case.
 pub fn definition<'a>(alloc: Global, word: &str) -> Result<Option<Command<'a>>, AllocError>
     ensures named { IfOk result (λ found. option_map app_of found
@@ -112,13 +149,16 @@ pub fn definition<'a>(alloc: Global, word: &str) -> Result<Option<Command<'a>>, 
         (λ found. IfSome found (λ c. is_simple_and_free (app_of c) ≡ true)) }
 {
     match word {
-        "sim" => Ok(Some(with_report(alloc, "sim")?)),
+        "sim" => Ok(Some(define_sim(alloc)?)),
         "gen" => Ok(Some(define_gen(alloc)?)),
         "check" => Ok(Some(define_check(alloc)?)),
-        "norm" => Ok(Some(define_norm(alloc)?)),
+        "norm" => Ok(Some(with_out(alloc, "norm")?)),
         "demo" => Ok(Some(define_demo(alloc)?)),
         "compact" => Ok(Some(define_compact(alloc)?)),
         "diagnose" => Ok(Some(define_diagnose(alloc)?)),
+        "uninit" => Ok(Some(define_uninit(alloc)?)),
+        "sync" => Ok(Some(define_sync(alloc)?)),
+        "respond" => Ok(Some(define_respond(alloc)?)),
         _ => Ok(None),
     }
 }

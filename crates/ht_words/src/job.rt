@@ -30,6 +30,8 @@ pub enum Job {
         tests: FileName,
         /// The report to write.
         report: FileName,
+        /// The start to read, if one is stated.
+        start: Option<FileName>,
     },
     /// Generates tests for the netlist, and reports each fault.
     Gen {
@@ -41,11 +43,15 @@ pub enum Job {
         random: u32,
         /// The seed of the random vectors.
         seed: u64,
+        /// The start to read, if one is stated.
+        start: Option<FileName>,
     },
     /// Judges the tests, the report and the proofs that a search wrote.
     Check {
         /// The files to read.
         files: RunFiles,
+        /// The start to read, if one is stated.
+        start: Option<FileName>,
     },
     /// Writes the netlist in its normal form.
     Norm {
@@ -80,6 +86,39 @@ pub enum Job {
         responses: FileName,
         /// The diagnosis to write.
         out: FileName,
+    },
+    /// Says which of the netlist's flip-flops never get a definite value, and which faults they hide.
+    Uninit {
+        /// The netlist to read.
+        netlist: FileName,
+        /// The record to write.
+        out: FileName,
+        /// The budget of each search, 1 to 100,000.
+        budget: u64,
+    },
+    /// Finds a shortest list of vectors after which every flip-flop of the netlist has a definite value.
+    Sync {
+        /// The netlist to read.
+        netlist: FileName,
+        /// The list to write.
+        tests: FileName,
+        /// The record to write.
+        out: FileName,
+        /// The budget of all lengths together, 1 to 100,000.
+        budget: u64,
+    },
+    /// Says what a machine shows over the tests.
+    Respond {
+        /// The netlist to read.
+        netlist: FileName,
+        /// The tests to read.
+        tests: FileName,
+        /// The responses to write.
+        out: FileName,
+        /// The number of the machine's fault, from 1; without one it is the good machine.
+        fault: Option<u32>,
+        /// The start to read, if one is stated.
+        start: Option<FileName>,
     },
 }
 

@@ -1,15 +1,15 @@
 //! Numbers among the words: as their text, and as the values that `clap` found.
 ghost use Rattle.std.specs.Prelude.{◌≡◌, IfOk, None, Some, codes, option_and_then};
 ghost use Rattle.clap.specs.Words.{first_of, found_of, rows_of};
-ghost use Rattle.ht_asked.specs.Asked.{budget_of, random_of, seed_of, size_in};
+ghost use Rattle.ht_asked.specs.Asked.{budget_of, fault_of, random_of, seed_of, size_in};
 ghost use Rattle.ht_asked.specs.Numbers.{number_in, number_or};
 ghost use Rattle.ht_words.specs.declared.job.WordsFault.TheVariants as fault;
 
 use crate::job::WordsFault;
 use clap::ArgMatches;
 use ht_asked::{
-    DEFAULT_BUDGET, DEFAULT_RANDOM, DEFAULT_SEED, MAX_BUDGET, MAX_RANDOM, MAX_SEED, MAX_SIZE,
-    MIN_BUDGET, MIN_SIZE,
+    DEFAULT_BUDGET, DEFAULT_RANDOM, DEFAULT_SEED, MAX_BUDGET, MAX_FAULT, MAX_RANDOM, MAX_SEED,
+    MAX_SIZE, MIN_BUDGET, MIN_FAULT, MIN_SIZE,
 };
 
 /// The number that the text writes in the digits `0` to `9` and nothing else, where it is one from the least to the
@@ -96,6 +96,22 @@ pub fn seed(matches: &ArgMatches<'_>) -> Result<u64, WordsFault>
         seed_of (first_of (codes "seed") (rows_of (found_of matches.now))) ≡ Some number) }
 {
     number_or_default(matches, "seed", DEFAULT_SEED, 0, MAX_SEED)
+}
+
+/// The number of a fault, if one is given.
+pub fn fault_number(matches: &ArgMatches<'_>) -> Result<Option<u32>, WordsFault>
+    ensures usage { result ≡ Err fault.Usage →
+        fault_of (first_of (codes "fault") (rows_of (found_of matches.now))) ≡ None }
+    ensures ok { IfOk result (λ number.
+        fault_of (first_of (codes "fault") (rows_of (found_of matches.now))) ≡ Some number) }
+{
+    let Some(text) = matches.get_str("fault") else {
+        return Ok(None);
+    };
+    match read_number(text, MIN_FAULT, MAX_FAULT) {
+        Some(number) => Ok(Some(number as u32)),
+        None => Err(WordsFault::Usage),
+    }
 }
 
 /// The size of a demonstration netlist.

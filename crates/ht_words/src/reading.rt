@@ -1,8 +1,8 @@
 //! From words to a job.
-ghost use Rattle.std.specs.Prelude.{◌≡◌, IfOk, None, Some, codes, false, option_and_then, true};
+ghost use Rattle.std.specs.Prelude.{◌≡◌, ◌≢◌, IfOk, None, Some, codes, false, option_and_then, true};
 ghost use Rattle.clap.specs.Words.{app_of, first_of, found_of, is_simple_and_free, matches_of, rows_of};
-ghost use Rattle.ht_asked.specs.Asked.{asked, check_command, command_named, gen_command, words_of};
-ghost use Rattle.ht_asked.specs.Asked.{demo_with, seed_in, size_in};
+ghost use Rattle.ht_asked.specs.Asked.{asked, check_command, command_named, gen_command, sim_command, words_of};
+ghost use Rattle.ht_asked.specs.Asked.{demo_with, respond_command, seed_in, size_in, sync_command, uninit_command};
 ghost use Rattle.ht_asked.specs.ByClap.{asked_by_clap, asked_in_rows, is_taken};
 ghost use Rattle.ht_words.specs.Jobs.{IsAnswer};
 ghost use Rattle.ht_words.specs.declared.job.WordsFault.TheVariants as fault;
@@ -10,7 +10,7 @@ ghost use Rattle.ht_words.specs.declared.job.WordsFault.TheVariants as fault;
 use crate::definitions::definition;
 use crate::file_name::FileName;
 use crate::job::{Job, RunFiles, WordsFault};
-use crate::number::{budget, random, seed, size, wanted_number};
+use crate::number::{budget, fault_number, random, seed, size, wanted_number};
 use clap::error::ErrorKind;
 use clap::{ArgMatches, Command};
 use ht_asked::MAX_SEED;
@@ -61,11 +61,7 @@ fn job(alloc: Global, word: &str, matches: &ArgMatches<'_>) -> Result<Job, Words
         (λ c. asked_in_rows c (rows_of (found_of matches.now))) (command_named word.now)) result }
 {
     match word {
-        "sim" => Ok(Job::Sim {
-            netlist: value(alloc, matches, "netlist")?,
-            tests: value(alloc, matches, "tests")?,
-            report: value(alloc, matches, "report")?,
-        }),
+        "sim" => sim_job(alloc, matches),
         "gen" => gen_job(alloc, matches),
         "check" => check_job(alloc, matches),
         "norm" => Ok(Job::Norm {
@@ -84,8 +80,23 @@ fn job(alloc: Global, word: &str, matches: &ArgMatches<'_>) -> Result<Job, Words
             responses: value(alloc, matches, "responses")?,
             out: value(alloc, matches, "out")?,
         }),
+        "uninit" => uninit_job(alloc, matches),
+        "sync" => sync_job(alloc, matches),
+        "respond" => respond_job(alloc, matches),
         _ => Err(WordsFault::Usage),
     }
+}
+
+/// The job of `sim`.
+fn sim_job(alloc: Global, matches: &ArgMatches<'_>) -> Result<Job, WordsFault>
+    ensures { IsAnswer (asked_in_rows sim_command (rows_of (found_of matches.now))) result }
+{
+    Ok(Job::Sim {
+        netlist: value(alloc, matches, "netlist")?,
+        tests: value(alloc, matches, "tests")?,
+        report: value(alloc, matches, "report")?,
+        start: optional_value(alloc, matches, "start")?,
+    })
 }
 
 /// The job of `gen`.
@@ -102,6 +113,7 @@ fn gen_job(alloc: Global, matches: &ArgMatches<'_>) -> Result<Job, WordsFault>
         budget: budget(matches)?,
         random: random(matches)?,
         seed: seed(matches)?,
+        start: optional_value(alloc, matches, "start")?,
     })
 }
 
@@ -113,6 +125,7 @@ fn check_job(alloc: Global, matches: &ArgMatches<'_>) -> Result<Job, WordsFault>
     let tests = value(alloc, matches, "tests")?;
     let report = value(alloc, matches, "report")?;
     let proofs = value(alloc, matches, "proofs")?;
+    let start = optional_value(alloc, matches, "start")?;
     Ok(Job::Check {
         files: RunFiles {
             netlist,
@@ -120,6 +133,7 @@ fn check_job(alloc: Global, matches: &ArgMatches<'_>) -> Result<Job, WordsFault>
             report,
             proofs,
         },
+        start,
     })
 }
 
@@ -136,7 +150,43 @@ fn demo_job(matches: &ArgMatches<'_>) -> Result<Job, WordsFault>
     })
 }
 
-/// The value of an argument.
+/// The job of `uninit`.
+fn uninit_job(alloc: Global, matches: &ArgMatches<'_>) -> Result<Job, WordsFault>
+    ensures { IsAnswer (asked_in_rows uninit_command (rows_of (found_of matches.now))) result }
+{
+    Ok(Job::Uninit {
+        netlist: value(alloc, matches, "netlist")?,
+        out: value(alloc, matches, "out")?,
+        budget: budget(matches)?,
+    })
+}
+
+/// The job of `sync`.
+fn sync_job(alloc: Global, matches: &ArgMatches<'_>) -> Result<Job, WordsFault>
+    ensures { IsAnswer (asked_in_rows sync_command (rows_of (found_of matches.now))) result }
+{
+    Ok(Job::Sync {
+        netlist: value(alloc, matches, "netlist")?,
+        tests: value(alloc, matches, "tests")?,
+        out: value(alloc, matches, "out")?,
+        budget: budget(matches)?,
+    })
+}
+
+/// The job of `respond`.
+fn respond_job(alloc: Global, matches: &ArgMatches<'_>) -> Result<Job, WordsFault>
+    ensures { IsAnswer (asked_in_rows respond_command (rows_of (found_of matches.now))) result }
+{
+    Ok(Job::Respond {
+        netlist: value(alloc, matches, "netlist")?,
+        tests: value(alloc, matches, "tests")?,
+        out: value(alloc, matches, "out")?,
+        fault: fault_number(matches)?,
+        start: optional_value(alloc, matches, "start")?,
+    })
+}
+
+/// The value of an argument that has to be there.
 fn value(alloc: Global, matches: &ArgMatches<'_>, id: &str) -> Result<FileName, WordsFault>
     ensures usage { result ≡ Err fault.Usage → first_of id.now (rows_of (found_of matches.now))
         ≡ None }
@@ -146,5 +196,20 @@ fn value(alloc: Global, matches: &ArgMatches<'_>, id: &str) -> Result<FileName, 
     match matches.get_str(id) {
         Some(text) => Ok(FileName::new(String::from_str(alloc, text)?)),
         None => Err(WordsFault::Usage),
+    }
+}
+
+/// The value of an option, if it is given.
+fn optional_value(
+    alloc: Global,
+    matches: &ArgMatches<'_>,
+    id: &str,
+) -> Result<Option<FileName>, WordsFault>
+    ensures usage { result ≢ Err fault.Usage }
+    ensures ok { IfOk result (λ name. first_of id.now (rows_of (found_of matches.now)) ≡ name) }
+{
+    match matches.get_str(id) {
+        Some(text) => Ok(Some(FileName::new(String::from_str(alloc, text)?))),
+        None => Ok(None),
     }
 }

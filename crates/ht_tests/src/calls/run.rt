@@ -18,4 +18,8 @@ mod mute;
 mod norm;
 mod refusals;
 mod sim;
+mod started;
+mod started_files;
+mod synchronized;
+mod uninit;
 mod words;

@@ -4,6 +4,11 @@ use ht_words::{FileName, Job, RunFiles, WordsFault, command};
 use std::alloc::{AllocError, Global};
 use std::test::Fail;
 
+/// The names are the command's, and then those of two files.
+fn are_two(command: &str, a: &FileName, b: &FileName, names: &[&str]) -> bool {
+    names.len() == 3 && names[0] == command && names[1] == a.as_str() && names[2] == b.as_str()
+}
+
 /// The names are the command's, and then those of three files.
 fn are_three(command: &str, a: &FileName, b: &FileName, c: &FileName, names: &[&str]) -> bool {
     names.len() == 4
@@ -44,15 +49,11 @@ fn is_job(job: &Job, names: &[&str]) -> bool {
             netlist,
             tests,
             report,
-        } => are_three("sim", netlist, tests, report, names),
-        Job::Gen { files, .. } => are_files("gen", files, names),
-        Job::Check { files } => are_files("check", files, names),
-        Job::Norm { netlist, out } => {
-            names.len() == 3
-                && names[0] == "norm"
-                && names[1] == netlist.as_str()
-                && names[2] == out.as_str()
-        }
+            start,
+        } => start.is_none() && are_three("sim", netlist, tests, report, names),
+        Job::Gen { files, start, .. } => start.is_none() && are_files("gen", files, names),
+        Job::Check { files, start } => start.is_none() && are_files("check", files, names),
+        Job::Norm { netlist, out } => are_two("norm", netlist, out, names),
         Job::Demo { .. } => false,
         Job::Compact {
             netlist,
@@ -65,6 +66,13 @@ fn is_job(job: &Job, names: &[&str]) -> bool {
             responses,
             out,
         } => are_four("diagnose", netlist, tests, responses, out, names),
+        Job::Uninit { netlist, out, .. } => are_two("uninit", netlist, out, names),
+        Job::Sync {
+            netlist,
+            tests,
+            out,
+            ..
+        } => are_three("sync", netlist, tests, out, names),
     }
 }
 
@@ -116,6 +124,16 @@ const ROWS: &[(&[&str], &[&str])] = &[
         &["diagnose", "n", "t", "s", "o"],
     ),
     (&["diagnose", "n", "t", "o"], &[]),
+    (
+        &["uninit", "n", "--budget=5", "--", "-o"],
+        &["uninit", "n", "-o"],
+    ),
+    (&["uninit", "n", "o", "--budget=0"], &[]),
+    (
+        &["sync", "n", "t", "--budget=5", "o"],
+        &["sync", "n", "t", "o"],
+    ),
+    (&["sync", "n", "o"], &[]),
     (&["norm", "--", "-n", "-o"], &["norm", "-n", "-o"]),
     (&[], &[]),
     (&["SIM", "n", "t", "r"], &[]),
@@ -141,6 +159,13 @@ const ROWS: &[(&[&str], &[&str])] = &[
     (&["demo", "0", "1"], &[]),
     (&["gen", "n", "t", "r", "p", "--help"], &[]),
     (&["norm", "n"], &[]),
+    (&["norm", "n", "o", "--start", "s"], &[]),
+    (&["sim", "n", "t", "r", "--start"], &[]),
+    (&["sim", "n", "t", "r", "--start", "-s"], &[]),
+    (
+        &["check", "n", "t", "r", "p", "--start=s", "--start=s"],
+        &[],
+    ),
     (&["norm", "n", "o", "x"], &[]),
     (&["norm", "n", "o", "--help"], &[]),
 ];
@@ -150,6 +175,61 @@ fn words_of_a_form_give_its_names_and_others_are_usage(rt: HostRuntime) -> Resul
     for row in ROWS {
         let (words, names) = *row;
         assert!(rt; asks(rt.alloc(), words, names)?);
+    }
+    Ok(())
+}
+
+// The name of the start that the answer has.
+fn start_in(answer: &Result<Job, WordsFault>) -> Option<&str> {
+    match answer {
+        Ok(
+            Job::Sim {
+                start: Some(name),
+                ..
+            },
+        ) => Some(name.as_str()),
+        Ok(
+            Job::Gen {
+                start: Some(name),
+                ..
+            },
+        ) => Some(name.as_str()),
+        Ok(
+            Job::Check {
+                start: Some(name),
+                ..
+            },
+        ) => Some(name.as_str()),
+        _ => None,
+    }
+}
+
+fn has_start(alloc: Global, words: &[&str], name: &str) -> Result<bool, AllocError> {
+    let list = words_of(alloc, words)?;
+    let answer = command(alloc, &list);
+    Ok(match start_in(&answer) {
+        Some(text) => text == name,
+        None => false,
+    })
+}
+
+/// Words, and the name of the start that they give.
+const STARTS: &[(&[&str], &str)] = &[
+    (&["sim", "n", "t", "r", "--start", "s"], "s"),
+    (&["sim", "--start=-s", "n", "t", "r"], "-s"),
+    (&["sim", "n", "--start", "-", "t", "r"], "-"),
+    (
+        &["gen", "n", "t", "r", "p", "--start", "s", "--seed=5"],
+        "s",
+    ),
+    (&["check", "n", "t", "r", "p", "--start="], ""),
+];
+
+#[test]
+fn words_of_a_start_give_its_name(rt: HostRuntime) -> Result<(), Fail> {
+    for row in STARTS {
+        let (words, name) = *row;
+        assert!(rt; has_start(rt.alloc(), words, name)?);
     }
     Ok(())
 }

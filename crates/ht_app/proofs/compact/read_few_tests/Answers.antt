@@ -1,18 +1,14 @@
-use Rattle.std.proofs.Common.{◌≤◌, ◌<◌, ◌+◌, length, refl, rules, arith}
-use Rattle.ht_ports.specs.declared.ports.InPort.TheVariants.{Tests}
+use Rattle.std.proofs.Common.{◌≤◌, ◌<◌, length, refl, rules, arith}
 use Rattle.ht_compact.specs.TestsToCompact.{IsTestTextToCompact}
 use Rattle.ht_compact.specs.declared.compaction.TheConstants.{MAX_COMPACTED}
-use Rattle.ht_asked.specs.Asked.{compact}
-use Rattle.ht_app.specs.Judging.{check_basis}
-use Rattle.ht_app.specs.Refusals.{IsRefusedFor}
-use Rattle.ht_app.specs.declared.run_error.RunError.TheVariants.{TooManyVectors}
+use Rattle.ht_app.proofs.Common.{IsRefusedFor, TooManyVectors, check_basis, compact}
 use Rattle.ht_app.proofs.ReadingLaws.{read_so, tests_stop}
 use Rattle.ht_app.proofs.compact.read_few_tests.Goals as goal
 
 pub returns-in_err-list-clause-stops : goal.returns-in_err-list-clause-stops
 returns-in_err-list-clause-stops g c = λ netlist tests out representatives content.
     let stops = tests_stop (compact netlist tests out) (check_basis c.args.circuit.now representatives content) _ _ _ _
-    (λ line. refl) (λ line text early wrong. record { malformed = wrong; early = early }) _
+    (λ line. refl) (λ line text early wrong. record { malformed = wrong; early = early }) tt _
     c.in_err-list.ensures.stops in
     search (rules, stops)
 

@@ -1,12 +1,8 @@
 use Rattle.std.proofs.Common.{◌≡◌, ◌≤◌, ◌∷◌, [], List, ℕ, refl, ap, rules, arith}
 use Rattle.std.specs.Prelude.{None}
-use Rattle.ht_ports.specs.declared.ports.InPort.{InPort}
+use Rattle.ht_app.proofs.Common.{HasReadTo, InPort, input_name, make, norm, order_of, put}
 use Rattle.ht_ports.specs.declared.ports.InPort.TheVariants.{Netlist}
 use Rattle.ht_ports.specs.declared.ports.OutPort.TheVariants.{Report}
-use Rattle.ht_asked.specs.Asked.{norm}
-use Rattle.ht_app.specs.Acts.{make, put}
-use Rattle.ht_app.specs.Jobs.{input_name, order_of}
-use Rattle.ht_app.specs.Steps.{HasReadTo}
 use Rattle.ht_app.proofs.ReadingLaws.{all_read, basis_of, no_room}
 use Rattle.ht_app.proofs.norm.normal_text.Given as given
 use Rattle.ht_app.proofs.norm.normal_text.Goals as goal
@@ -16,9 +12,9 @@ reads : (g : given.Over) (c : In_ok-circuit g) (out : List ℕ)
     → HasReadTo (norm c.args.netlist.now out) (basis_of c.in_ok-circuit.circuit [] []) 1 (g.D.Desk.view c.args.desk.now)
     (g.D.Desk.view c.read_netlist.new.desk)
 reads g c out = c.in_ok-circuit.ensures.read (norm c.args.netlist.now out) (basis_of c.in_ok-circuit.circuit [] [])
-    refl refl (λ text good. good)
+    refl (λ none. refl) refl (λ text good. good)
 
-no_more : (netlist out : List ℕ) (p : InPort) → 1 ≤ order_of p → input_name (norm netlist out) p ≡ None
+no_more : (netlist out : List ℕ) (p : InPort) → 1 ≤ order_of (norm netlist out) p → input_name (norm netlist out) p ≡ None
 no_more netlist out Netlist late = absurd (omega (arith, late))
 no_more netlist out p late = refl
 

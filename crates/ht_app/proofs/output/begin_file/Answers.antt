@@ -1,5 +1,5 @@
 use Rattle.std.proofs.Common.{[], ◌∷◌, rules}
-use Rattle.ht_app.specs.Acts.{put}
+use Rattle.ht_app.proofs.Common.{put}
 use Rattle.ht_app.proofs.WritingLaws.{does_in_part, does_then}
 use Rattle.ht_app.proofs.output.begin_file.Goals as goal
 

@@ -1,10 +1,7 @@
 use Rattle.std.proofs.Common.{◌≡◌, ◌≢◌, List, ℕ, [], refl, subst}
 use Rattle.std.specs.Prelude.{Ok}
-use Rattle.ht_ports.specs.declared.ports.OutPort.{OutPort}
+use Rattle.ht_app.proofs.Common.{Act, Does, OutPort, ending}
 use Rattle.ht_ports.specs.declared.ports.OutPort.TheVariants.{Report}
-use Rattle.ht_app.specs.Acts.{Act}
-use Rattle.ht_app.specs.Outputs.{ending}
-use Rattle.ht_app.specs.Steps.{Does}
 use Rattle.ht_app.proofs.WritingLaws.{tries_none}
 use Rattle.ht_app.proofs.output.end_file.Goals as goal
 

@@ -1,11 +1,7 @@
-use Rattle.std.proofs.Common.{List, subst, rules}
+use Rattle.std.proofs.Common.{subst, rules}
 use Rattle.std.specs.Prelude.{Result, Err, IfOk, IfErr}
-use Rattle.ht_ports.specs.Desk.{DeskView}
-use Rattle.ht_asked.specs.Asked.{Asked}
+use Rattle.ht_app.proofs.Common.{Asked, DeskView, EndsReading, IsPrepared, RunError, file_acts}
 use Rattle.ht_app.specs.declared.made.Made.{Made}
-use Rattle.ht_app.specs.declared.run_error.RunError.{RunError}
-use Rattle.ht_app.specs.Outputs.{file_acts}
-use Rattle.ht_app.specs.Steps.{EndsReading, IsPrepared}
 use Rattle.ht_app.proofs.EndLaws.{ends_by, ends_unread, file_permitted}
 use Rattle.ht_app.proofs.output.finish.Given as given
 use Rattle.ht_app.proofs.output.finish.Goals as goal

@@ -1,7 +1,5 @@
-use Rattle.std.proofs.Common.{[], ◌∷◌, rules}
-use Rattle.ht_ports.specs.declared.ports.OutPort.TheVariants.{Out}
-use Rattle.ht_app.specs.Acts.{put}
-use Rattle.ht_app.specs.Outputs.{ending}
+use Rattle.std.proofs.Common.{◌∷◌, rules}
+use Rattle.ht_app.proofs.Common.{Out, ending, put}
 use Rattle.ht_app.proofs.WritingLaws.{does_in_part, does_then}
 use Rattle.ht_app.proofs.output.write_file.Goals as goal
 

@@ -1,4 +1,5 @@
-use Rattle.std.proofs.Common.{◌++◌, ◌-◌, length}
+use Rattle.std.proofs.Common.{◌+◌, ◌-◌, [], length}
+use Rattle.ht_net.proofs.MoreToldLaws.{detects_from_any}
 use Rattle.ht_engine.proofs.work.sweep_open.Goals as goal
 
 pub returns-in-Found-clause-holds : goal.returns-in-Found-clause-holds
@@ -8,5 +9,10 @@ returns-in-Found-clause-holds c =
     record {
       wide = h.vectors.wide;
       width = h.vectors.width;
-      detects = λ before. (length (before ++ list.list) - 1, h.output, h.detects before);
+      detects = λ start is before. (
+        length before + (length list.list - 1),
+        h.output,
+        detects_from_any c.args.bases.now.circuit c.args.fault start before list.list (length list.list - 1) h.output is
+            (h.detects []),
+      );
     }

@@ -1,6 +1,6 @@
 use Rattle.std.proofs.Common.{◌≡◌, ◌<◌, List, ℕ, length, get_or, refl, sym, ◌∙◌, ap, subst, arith}
 use Rattle.std.proofs.lemmas.List.{length-set}
-use Rattle.ht_net.specs.Detection.{IsFirstDetection}
+use Rattle.ht_net.specs.Detection.{IsFirstFrom}
 use Rattle.ht_collapse.specs.Classes.{fault_at, own_representatives}
 use Rattle.ht_collapse.proofs.OwnLaws.{own_below, own_within}
 use Rattle.ht_proofs.specs.PackedView.{verdict_at}
@@ -35,19 +35,20 @@ loop-k-preserved c =
     ) in
     record {
       each = length-set places i place ∙ c.loop-k.invariant.each;
-      first = λ list stands.
+      first = λ start list stands.
           let said = verdict_at c.args.packed.now k in
-          let found : IsFirstDetection circuit (fault_at circuit i) list place =
-          subst (IsFirstDetection circuit (fault_at circuit i) list) (sym c.verdict.ensures.verdict)
-          (subst (λ n. IsFirstDetection circuit (fault_at circuit n) list said) (sym same)
-          (own_verdict circuit classes list c.args.packed.now k refl c.requires.faults inside stands)) in
-          one_more circuit classes list places place k i (c.loop-k.invariant.first list stands) same
+          let found : IsFirstFrom circuit (fault_at circuit i) start list place =
+          subst (IsFirstFrom circuit (fault_at circuit i) start list) (sym c.verdict.ensures.verdict)
+          (subst (λ n. IsFirstFrom circuit (fault_at circuit n) start list said) (sym same)
+          (own_verdict circuit classes start list c.args.packed.now k refl c.requires.faults inside stands)) in
+          one_more circuit classes start list places place k i (c.loop-k.invariant.first start list stands) same
           (own_below classes _ k (length places) own c.loop-k-test.true c.loop-k.invariant.each) found
-          (first_within circuit (fault_at circuit i) list place found);
+          (first_within circuit (fault_at circuit i) start list place found);
     }
 
 pub returns-clause-first : goal.returns-clause-first
 returns-clause-first c =
     let own = ap (λ (l : List ℕ). length l) c.representatives-i-items.ensures in
-    λ list stands. all_first c.args.packed.now.circuit c.args.classes.now list c.loop-k.places.items c.loop-k.k
-    c.requires.classes.every (c.loop-k.invariant.first list stands) (omega (arith, own, c.loop-k-test.false))
+    λ start list stands. all_first c.args.packed.now.circuit c.args.classes.now start list c.loop-k.places.items
+    c.loop-k.k
+    c.requires.classes.every (c.loop-k.invariant.first start list stands) (omega (arith, own, c.loop-k-test.false))

@@ -8,6 +8,8 @@ use std::test::Fail;
 
 const CHECK: &[&str] = &["check", "n", "t", "r", "p"];
 
+const CHECK_FROM: &[&str] = &["check", "n", "t", "r", "p", "--start", "s"];
+
 /// The four files; a report that isn't there can't be opened.
 #[derive(Drop)]
 pub struct Files<'a> {
@@ -46,18 +48,31 @@ fn says(desk: &MemoryDesk, answer: Answer<'_>) -> bool {
 fn answers_on(
     alloc: Global,
     desk: &mut MemoryDesk,
+    words: &[&str],
     files: &Files<'_>,
     answer: Answer<'_>,
 ) -> Result<bool, AllocError> {
     load(desk, files)?;
-    let status = status_of(alloc, desk, CHECK)?;
+    let status = status_of(alloc, desk, words)?;
     Ok(status == answer.0 && says(desk, answer))
 }
 
 /// Whether `check` answers so on the files.
 pub fn answers(alloc: Global, files: &Files<'_>, answer: Answer<'_>) -> Result<bool, AllocError> {
     let mut desk = MemoryDesk::new(alloc);
-    answers_on(alloc, &mut desk, files, answer)
+    answers_on(alloc, &mut desk, CHECK, files, answer)
+}
+
+/// Whether it answers so with this text as the start.
+pub fn answers_from(
+    alloc: Global,
+    start: &[u8],
+    files: &Files<'_>,
+    answer: Answer<'_>,
+) -> Result<bool, AllocError> {
+    let mut desk = MemoryDesk::new(alloc);
+    desk.put("s", start)?;
+    answers_on(alloc, &mut desk, CHECK_FROM, files, answer)
 }
 
 /// The report of `gen` for the constant output.

@@ -1,6 +1,6 @@
 //! `check` of proofs of the second format: a refutation from one state, whole and damaged.
 
-use super::checked::{Answer, Files, answers};
+use super::checked::{Answer, Files, answers, answers_from};
 use ht_samples::TWINS;
 use std::alloc::{AllocError, Global};
 use std::test::Fail;
@@ -93,18 +93,26 @@ const ROWS: &[(&[&[u8]], Answer<'static>)] = &[
     ),
 ];
 
-fn parts_answer(alloc: Global, parts: &[&[u8]], answer: Answer<'_>) -> Result<bool, AllocError> {
+fn proofs_of(alloc: Global, parts: &[&[u8]]) -> Result<Vec<u8>, AllocError> {
     let mut proofs = Vec::new(alloc);
     for part in parts {
         proofs.extend_from_slice(part)?;
     }
-    let files = Files {
+    Ok(proofs)
+}
+
+fn files_with(proofs: &[u8]) -> Files<'_> {
+    Files {
         netlist: TWINS,
         tests: TESTS,
         report: Some(REPORT),
-        proofs: &proofs,
-    };
-    answers(alloc, &files, answer)
+        proofs,
+    }
+}
+
+fn parts_answer(alloc: Global, parts: &[&[u8]], answer: Answer<'_>) -> Result<bool, AllocError> {
+    let proofs = proofs_of(alloc, parts)?;
+    answers(alloc, &files_with(&proofs), answer)
 }
 
 #[test]
@@ -114,5 +122,22 @@ fn check_answers_whether_a_refutation_from_a_state_is_valid(rt: HostRuntime) -> 
         let (parts, answer) = *row;
         assert!(rt; parts_answer(alloc, parts, answer)?);
     }
+    Ok(())
+}
+
+// From the start `11` the verdicts are the same.
+fn parts_answer_from_11(
+    alloc: Global,
+    parts: &[&[u8]],
+    answer: Answer<'_>,
+) -> Result<bool, AllocError> {
+    let proofs = proofs_of(alloc, parts)?;
+    answers_from(alloc, b"11\n", &files_with(&proofs), answer)
+}
+
+#[test]
+fn a_state_that_the_start_excludes_is_denied(rt: HostRuntime) -> Result<(), Fail> {
+    let parts = ROWS[0].0;
+    assert!(rt; parts_answer_from_11(rt.alloc(), parts, (1, b"denied: fault 3\n"))?);
     Ok(())
 }

@@ -29,8 +29,8 @@ fn is_left(desk: &MemoryDesk, left: &Left<'_>) -> bool {
         && desk.err() == left.err
 }
 
-// Whether the run leaves what it must, over a desk without files.
-fn leaves_on(
+/// Whether the run leaves what it must, over a desk without these files.
+pub fn leaves_on(
     alloc: Global,
     desk: &mut MemoryDesk,
     start: &Setup<'_>,

@@ -5,7 +5,7 @@ use ht_samples::SHIFT_REGISTER;
 use std::test::Fail;
 
 const USAGE: &[u8] =
-    b"usage: sim NETLIST TESTS REPORT, gen NETLIST TESTS REPORT PROOFS [--budget N] [--random N] [--seed S], check NETLIST TESTS REPORT PROOFS, norm NETLIST OUT, demo SIZE SEED, compact NETLIST TESTS OUT, diagnose NETLIST TESTS RESPONSES OUT\n";
+    b"usage: sim NETLIST TESTS REPORT, gen NETLIST TESTS REPORT PROOFS [--budget N] [--random N] [--seed S], check NETLIST TESTS REPORT PROOFS, norm NETLIST OUT, demo SIZE SEED, compact NETLIST TESTS OUT, diagnose NETLIST TESTS RESPONSES OUT, uninit NETLIST OUT [--budget N], sync NETLIST TESTS OUT [--budget N]\n";
 
 const WITHOUT_FORM: &[&[&str]] = &[
     &[],
@@ -17,6 +17,7 @@ const WITHOUT_FORM: &[&[&str]] = &[
     &["gen", "n", "t", "r", "p", "--budget", "100001"],
     &["gen", "n", "t", "r", "p", "--random", "100001"],
     &["demo", "20001", "1"],
+    &["uninit", "n", "r", "--budget", "0"],
 ];
 
 #[test]

@@ -18,6 +18,7 @@ invariant_of-self-2 c =
     let new : GraderView = record {
       circuit = a.circuit.now;
       representatives = a.classes.now;
+      start = a.start.items;
       list = all_vectors c.push.new.self.items;
     } in
     let before = all_vectors a.lists.items in
@@ -25,7 +26,9 @@ invariant_of-self-2 c =
     c.in_ok-push.ensures.items c.in_ok-copy.ensures in
     let added : c.in-Some.count ≡ a.count + length list = search rules in
     is_graded new (before ++ list) c.in-Some.count c.in_ok-places.places.items c.apply_all.new.packed
-    c.self.invariant.all_classes more (omega (arith, added, c.self.invariant.counted, length-append before list))
+    c.self.invariant.all_classes c.self.invariant.latches more
+    (omega (arith, added, c.self.invariant.counted, length-append before list))
     (c.apply_all.ensures.circuit ∙ c.self.invariant.same) (c.apply_all.ensures.faults ∙ c.self.invariant.all_faults)
-    (c.in_ok-apply_all.ensures.stands before (c.self.invariant.stands c.if-not-self.false)) c.in_ok-places.ensures.first
+    (c.in_ok-apply_all.ensures.stands a.start.items before (c.self.invariant.stands c.if-not-self.false))
+    c.in_ok-places.ensures.first
     c.in_ok-places.ensures.within

@@ -3,10 +3,12 @@ use Rattle.ht_judge.proofs.report_judge.ReportJudge.end.Goals as goal
 
 pub returns-in-Ok-clause-ok : goal.returns-in-Ok-clause-ok
 returns-in-Ok-clause-ok c =
-    rw (← c.self.view_is) (λ list lines j. whole_ends c.self.inside c.self.invariant list lines j c.in-Ok.field-0
+    rw (← c.self.view_is)
+    (λ start list lines j. whole_ends c.self.inside c.self.invariant start list lines j c.in-Ok.field-0
     c.in-Ok.ensures)
 
 pub returns-in-Err-clause-err : goal.returns-in-Err-clause-err
 returns-in-Err-clause-err c =
-    rw (← c.self.view_is) (λ list lines j. early_ends c.self.inside c.self.invariant list lines j c.in-Err.malformed
+    rw (← c.self.view_is)
+    (λ start list lines j. early_ends c.self.inside c.self.invariant start list lines j c.in-Err.malformed
     c.denied.result c.denied.ensures c.in-Err.ensures)

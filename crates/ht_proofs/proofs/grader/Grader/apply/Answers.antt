@@ -72,8 +72,8 @@ returns-clause-applied c =
     (graded c) (has_run c))
 
 pub returns-clause-stands : goal.returns-clause-stands
-returns-clause-stands c = λ list stands.
-    applied_stands c.args.self.now (after c) list c.args.vector.now stands (returns-clause-applied c)
+returns-clause-stands c = λ start list stands.
+    applied_stands c.args.self.now (after c) start list c.args.vector.now stands (returns-clause-applied c)
 
 pub returns-in_err-grade_faults-clause-steps : goal.returns-in_err-grade_faults-clause-steps
 returns-in_err-grade_faults-clause-steps c =
@@ -98,7 +98,8 @@ invariant_of-self-2 c =
     ∙ (c.write_verdicts.ensures ∙ ap verdicts_of c.deref-5.ensures.value) in
     let listed = left_after a.verdicts.items (graded c) a.undetected.items c.drop_detected.new.numbers.items
     (omega (arith, c.self.invariant.verdict_count, c.self.invariant.grade_count, run.long)) c.self.invariant.listed
-    kept (c.drop_detected.ensures ∙ ap (λ (l : List (Option Place)). filter (is_undetected l) a.undetected.items) copied)
+    kept (c.drop_detected.ensures ∙ ap (λ (l : List (Option Place)). filter (is_undetected l) a.undetected.items)
+    copied)
     in
     run_fields (packed_of a) a.grades.items c.args.vector.now c.start.new.self.group (after c) (graded c)
     a.undetected.items c.drop_detected.new.numbers.items run c.self.invariant (omega (arith, few, c.requires.few))

@@ -1,0 +1,34 @@
+use Rattle.std.proofs.Common.{◌≡◌, ◌∙◌, ap, length, sym, arith}
+use Rattle.std.specs.Prelude.{None, Some}
+use Rattle.ht_app.proofs.Common.{Extra}
+use Rattle.ht_net.proofs.MoreToldLaws.{unknown_is_start}
+use Rattle.ht_app.specs.Jobs.{place_of}
+use Rattle.ht_app.proofs.ReadingLaws.{no_room, skipped}
+use Rattle.ht_app.proofs.StartFileLaws.{start_step, step_stops}
+use Rattle.ht_app.proofs.start_file.read_stated.Goals as goal
+
+-- ---- a start is stated
+
+pub returns-in-Some-clause-read : goal.returns-in-Some-clause-read
+returns-in-Some-clause-read g c = λ job basis first may reads same before.
+    start_step may (reads ∙ c.in-Some.is ∙ ap Some (sym c.as_str.ensures)) before c.read_start_file.ensures.frame
+    (length c.args.circuit.now.dffs) (ap (λ n. length n.dffs) same) c.read_start_file.result
+    c.read_start_file.ensures.read
+
+pub returns-in-Some-clause-stopped : goal.returns-in-Some-clause-stopped
+returns-in-Some-clause-stopped g c = λ job basis first may reads same before.
+    step_stops may (reads ∙ c.in-Some.is ∙ ap Some (sym c.as_str.ensures)) before c.read_start_file.ensures.frame
+    c.read_start_file.result (c.read_start_file.ensures.stops job basis may same)
+
+-- ---- none is stated
+
+pub returns-in-None-clause-latches : goal.returns-in-None-clause-latches
+returns-in-None-clause-latches g c =
+    ap length c.in_ok-unknown_start-in-None.ensures ∙ unknown_is_start c.args.circuit.now
+
+pub returns-in-None-clause-read : goal.returns-in-None-clause-read
+returns-in-None-clause-read g c = λ job basis first may reads same before from.
+    skipped before Extra (ap (place_of Extra) may) (reads ∙ c.in-None.is) (before.netlist (omega arith))
+
+pub returns-in_err-unknown_start-in-None-clause-stopped : goal.returns-in_err-unknown_start-in-None-clause-stopped
+returns-in_err-unknown_start-in-None-clause-stopped g c = λ job basis first may reads same before. no_room before

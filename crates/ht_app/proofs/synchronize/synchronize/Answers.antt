@@ -1,0 +1,28 @@
+use Rattle.std.proofs.Common.{List, [], ℕ, refl, rules}
+use Rattle.ht_app.proofs.Common.{PermitsAll, sync, sync_acts, writing}
+use Rattle.ht_app.proofs.EndLaws.{ends_by, ends_unread}
+use Rattle.ht_app.proofs.synchronize.synchronize.Goals as goal
+
+permitted : (netlist tests out : List ℕ) (budget : ℕ) (list body said last : List ℕ)
+    → PermitsAll (writing (sync netlist tests out budget)) [] (sync_acts tests out list body said last)
+permitted netlist tests out budget list body said last = (
+  (refl, refl),
+  (
+    (refl, refl),
+    ((refl, λ file. refl), ((refl, λ file. refl), ((refl, λ file. absurd file), ((refl, λ file. refl), tt)))),
+  ),
+)
+
+pub returns-in_err-texts : goal.returns-in_err-texts
+returns-in_err-texts g c =
+    let ends = ends_unread (c.in_err-texts.ensures.stopped c.args.tests.now c.args.out.now) in search (rules, ends)
+
+pub returns-in_err-write_texts : goal.returns-in_err-write_texts
+returns-in_err-write_texts g c =
+    let ends = ends_by (c.in_ok-texts.ensures.made c.args.tests.now c.args.out.now)
+    (permitted c.args.netlist.now c.args.tests.now c.args.out.now c.args.budget _ _ _ _) c.in_err-write_texts.ensures in
+    search (rules, ends)
+
+pub returns : goal.returns
+returns g c = ends_by (c.in_ok-texts.ensures.made c.args.tests.now c.args.out.now)
+    (permitted c.args.netlist.now c.args.tests.now c.args.out.now c.args.budget _ _ _ _) c.in_ok-write_texts.ensures

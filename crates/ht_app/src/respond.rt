@@ -1,0 +1,135 @@
+//! The command `respond`.
+ghost use Rattle.std.specs.Prelude.{◌≡◌, ◌≤◌, List, ℕ, IfOk, IfErr, IfSome};
+ghost use Rattle.ht_net.specs.Detection.{IsStart};
+ghost use Rattle.ht_responses.specs.Responses.{IsResponses};
+ghost use Rattle.ht_asked.specs.Asked as asked;
+ghost use Rattle.ht_app.specs.Outputs.{IsMachineOf, response_acts};
+ghost use Rattle.ht_app.specs.Refusals.{FaultStops};
+ghost use Rattle.ht_app.specs.Steps.{Does, EndsJob, EndsReading, IsPrepared};
+
+use crate::netlist::read_netlist;
+use crate::output::{create, put};
+use crate::run_error::RunError;
+use crate::start_file::read_stated;
+use crate::vectors_file::read_tests;
+use ht_asked::{MAX_FAULT, MIN_FAULT};
+use ht_net::{Circuit, Fault, Vectors};
+use ht_ports::{Desk, OutPort};
+use ht_responses::{write_last_response, write_response_body, write_response_total};
+use ht_tern::Tern;
+use ht_words::FileName;
+use std::alloc::{AllocError, Global};
+
+/// What `respond` writes.
+#[derive(Drop)]
+pub struct ResponseTexts {
+    /// The responses without their last line.
+    pub body: Vec<u8>,
+    /// The line for Out.
+    pub said: Vec<u8>,
+    /// The last line, empty where there is no vector.
+    pub last: Vec<u8>,
+}
+
+// The fault of this number, from 1, or none where no number is given.
+fn named_fault(
+    alloc: Global,
+    circuit: &Circuit,
+    number: Option<u32>,
+) -> Result<Option<Fault>, RunError>
+    requires { IfSome number (λ n. (MIN_FAULT ≤ n) × (n ≤ MAX_FAULT)) }
+    ensures machine { IfOk result (λ fault. IsMachineOf circuit.now number fault) }
+    ensures stops { IfErr result (FaultStops circuit.now number) }
+{
+    let Some(number) = number else {
+        return Ok(None);
+    };
+    let faults = ht_faults::list(alloc, circuit)?;
+    if number > faults.len() {
+        return Err(RunError::NoSuchFault {
+            faults: u64::from(faults.len()),
+        });
+    }
+    Ok(Some(faults.get(number - 1)))
+}
+
+// Runs the machine over the vectors, and makes what is written.
+fn response_texts(
+    alloc: Global,
+    circuit: &Circuit,
+    fault: Option<Fault>,
+    start: &[Tern],
+    list: &Vectors,
+) -> Result<ResponseTexts, AllocError>
+    requires latches { IsStart circuit.now start.now }
+    requires width { list.now.width ≡ circuit.now.inputs }
+    ensures { IfOk result (λ texts. IsResponses circuit.now fault start.now list.now.list
+        texts.body.items texts.last.items texts.said.items) }
+{
+    let shown = ht_responses::respond(alloc, circuit, fault, start, list)?;
+    let body = write_response_body(alloc, &shown)?;
+    let said = write_response_total(alloc, list.len(), circuit.outputs())?;
+    let last = write_last_response(alloc, &shown)?;
+    Ok(ResponseTexts { body, said, last })
+}
+
+// Reads the netlist and the start, if one is stated, finds the fault, reads the tests, and makes what is written.
+fn make_texts<D: Desk>(
+    alloc: Global,
+    netlist: &str,
+    tests: &str,
+    number: Option<u32>,
+    start: &Option<FileName>,
+    desk: &mut D,
+) -> Result<ResponseTexts, RunError>
+    requires { IfSome number (λ n. (MIN_FAULT ≤ n) × (n ≤ MAX_FAULT)) }
+    ensures made { (out : List ℕ) → IfOk result (λ texts. IsPrepared
+        (asked.respond netlist.now tests.now out number start.now)
+        (response_acts out texts.body.items texts.said.items texts.last.items)
+        (D.view desk.old) (D.view desk.new)) }
+    ensures stopped { (out : List ℕ) → IfErr result (EndsReading
+        (asked.respond netlist.now tests.now out number start.now) (D.view desk.old)
+        (D.view desk.new)) }
+{
+    let circuit = read_netlist(alloc, desk, netlist)?;
+    let start = read_stated(alloc, desk, &circuit, start)?;
+    let fault = named_fault(alloc, &circuit, number)?;
+    let list = read_tests(alloc, desk, tests, &circuit, u64::MAX)?;
+    let texts = response_texts(alloc, &circuit, fault, &start, &list)?;
+    Ok(texts)
+}
+
+// Makes the file, and writes it. The line on Out comes before the last line.
+fn write_texts<D: Desk>(desk: &mut D, out: &str, texts: &ResponseTexts) -> Result<(), RunError>
+    ensures { Does (response_acts out.now texts.now.body.items texts.now.said.items
+        texts.now.last.items) result (D.view desk.old) (D.view desk.new) }
+{
+    create(desk, OutPort::Report, out)?;
+    put(desk, OutPort::Report, &texts.body)?;
+    put(desk, OutPort::Out, &texts.said)?;
+    put(desk, OutPort::Report, &texts.last)?;
+    Ok(())
+}
+
+/// Runs `respond`: reads the netlist, the start if one is stated, and the tests, and writes what the machine shows over
+/// them: the one with the fault of the number, from 1, or without a number the good one.
+///
+/// # Errors
+/// Those of the run.
+pub fn respond<D: Desk>(
+    alloc: Global,
+    netlist: &str,
+    tests: &str,
+    out: &str,
+    number: Option<u32>,
+    start: &Option<FileName>,
+    desk: &mut D,
+) -> Result<(), RunError>
+    requires { IfSome number (λ n. (MIN_FAULT ≤ n) × (n ≤ MAX_FAULT)) }
+    ensures { EndsJob (asked.respond netlist.now tests.now out.now number start.now) result
+        (D.view desk.old) (D.view desk.new) }
+{
+    let texts = make_texts(alloc, netlist, tests, number, start, desk)?;
+    write_texts(desk, out, &texts)?;
+    Ok(())
+}

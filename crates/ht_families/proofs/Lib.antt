@@ -1,0 +1,5 @@
+pub mod RunFamilyLaws
+pub mod LeastLaws
+pub mod JoinEachLaws
+pub mod FamilyFrameLaws
+pub mod CloseLaws

@@ -1,0 +1,37 @@
+use Rattle.std.proofs.Common.{◌≡◌, ◌∙◌, ◌+◌, ◌-◌, ◌*◌, ℕ, List, length, ap, sym, subst}
+use Rattle.ht_tree.specs.declared.token.Token.{Token}
+use Rattle.ht_events.specs.Plans.{max_frames}
+use Rattle.ht_goals.specs.Lengths.{left_after, next_length}
+use Rattle.ht_goals.proofs.LengthLaws.{IsClosedTo, frames_few, left_is, one_closes}
+use Rattle.ht_goals.specs.LengthAnswers.{FindsAfter}
+use Rattle.ht_goals.proofs.LengthFinds.{finds_after}
+use Rattle.ht_goals.proofs.lengths.search_lengths.Goals as goal
+
+pub search-requires-clause-few : goal.search-requires-clause-few
+search-requires-clause-few g c =
+    frames_few (g.S.LengthSearch.guide (g.S.LengthSearch.subject c.args.search.now)) c.args.budget c.lengths.frames
+    c.lengths.left c.lengths.walks.items c.lengths.invariant.1 c.requires
+
+pub returns-in-Found-clause-answer : goal.returns-in-Found-clause-answer
+returns-in-Found-clause-answer g c =
+    let s = g.S.LengthSearch.subject c.args.search.now in
+    let guide = g.S.LengthSearch.guide s in
+    let Finds = g.S.LengthSearch.Finds s in
+    subst (FindsAfter guide Finds c.args.budget c.in-Found.list) (sym c.from_vec.ensures)
+    (finds_after guide Finds c.args.budget c.lengths.frames c.lengths.left c.in-Found.list c.lengths.walks.items
+    c.lengths.invariant.1 c.requires (rw c.in-Found.is at (rw c.lengths.invariant.0 at c.in_ok-list.ensures.answer)))
+
+pub lengths-preserved : goal.lengths-preserved
+lengths-preserved g c =
+    let s = g.S.LengthSearch.subject c.args.search.now in
+    let guide = g.S.LengthSearch.guide s in
+    let tokens = ap (λ (ts : List Token). length ts * c.lengths.frames) c.as_slice.ensures in
+    let closed = rw c.in-Closed.is at (rw c.lengths.invariant.0 at c.in_ok-list.ensures.answer) in (
+      c.search.ensures.subject ∙ c.lengths.invariant.0,
+      subst (IsClosedTo guide c.args.budget (c.lengths.frames + 1)
+          (c.lengths.left - length c.as_slice.result.now * c.lengths.frames)) (sym c.in_ok-push-in-Closed.ensures.items)
+          (one_closes guide c.args.budget c.lengths.frames c.lengths.left c.lengths.walks.items
+          c.lengths.invariant.1 c.in-Closed.tokens
+          (c.lengths.left - length c.as_slice.result.now * c.lengths.frames) closed
+          (ap (λ (k : ℕ). c.lengths.left - k) tokens)),
+    )

@@ -1,0 +1,5 @@
+pub mod Goals
+pub mod Shallow
+pub mod Lengths
+pub mod RunGoals
+pub mod LengthAnswers

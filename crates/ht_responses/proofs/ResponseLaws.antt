@@ -1,0 +1,74 @@
+-- The text of rows is read as these rows.
+use Rattle.std.proofs.Common.{◌≡◌, ◌≢◌, ◌≤◌, ◌-◌, ◌++◌, ℕ, List, [], ◌∷◌, Bool, Option, length, map, refl, sym, subst, ◌∙◌, ap, arith}
+use Rattle.std.specs.Prelude.{flat_map}
+use Rattle.std.specs.List.{All}
+use Rattle.std.proofs.lemmas.List.{length-map, map-append, take-append-drop}
+use Rattle.std.proofs.lemmas.List.Concat.{flat_map-append}
+use Rattle.ht_ports.specs.LineRule.{max_text_bytes}
+use Rattle.ht_tern.specs.declared.tern.Tern.{Tern}
+use Rattle.ht_tern.specs.declared.tern.Tern.TheVariants.{Zero, One, Unk}
+use Rattle.ht_net.specs.declared.fault.Fault.{Fault}
+use Rattle.ht_net.specs.Netlist.{Netlist}
+use Rattle.ht_net.specs.Detection.{outputs_from}
+use Rattle.ht_texts.specs.Lines.{with_lf}
+use Rattle.ht_texts.proofs.CodedLaws.{get_or-coded}
+use Rattle.ht_texts.proofs.LineLaws.{IsClean, AreClean, ends_without_cr, lines_are_lines}
+use Rattle.ht_dictionary.specs.ResponseTexts.{tern_code, row_text, IsResponseText, IsMalformedResponse}
+use Rattle.ht_dictionary.proofs.ResponseLaws.{never_both}
+use Rattle.ht_responses.specs.Responses.{response_text, rows_but_last, last_row}
+use Rattle.ht_responses.proofs.RunLaws.{rows_count, rows_wide}
+
+-- ---- what is written is read
+
+value_clean : (value : Tern) → (tern_code value ≢ 10) × (tern_code value ≢ 13)
+value_clean Zero = (λ e. absurd (omega (arith, e)), λ e. absurd (omega (arith, e)))
+value_clean One = (λ e. absurd (omega (arith, e)), λ e. absurd (omega (arith, e)))
+value_clean Unk = (λ e. absurd (omega (arith, e)), λ e. absurd (omega (arith, e)))
+
+row_clean : (row : List Tern) → IsClean (row_text row)
+row_clean row = record {
+  no_lf = λ k less e.
+      let found = get_or-coded tern_code row k (omega (arith, less, length-map row tern_code)) in
+      (value_clean found.0).0 (sym found.1 ∙ e);
+  no_cr = ends_without_cr (row_text row) (λ k less e.
+      let found = get_or-coded tern_code row k (omega (arith, less, length-map row tern_code)) in
+      (value_clean found.0).1 (sym found.1 ∙ e));
+}
+
+rows_clean : (rows : List (List Tern)) → AreClean (map row_text rows)
+rows_clean [] = tt
+rows_clean (row ∷ rows) = (row_clean row, rows_clean rows)
+
+pub written_is_read : (width : ℕ) (rows : List (List Tern)) → All (λ (row : List Tern). length row ≡ width) rows
+    → length (response_text rows) ≤ max_text_bytes → IsResponseText width (length rows) (response_text rows) rows
+written_is_read width rows widths short = record {
+  lines = lines_are_lines (map row_text rows) (rows_clean rows);
+  widths = widths;
+  each = refl;
+  short = short;
+}
+
+pub written_no_line : (width n : ℕ) (rows : List (List Tern)) → All (λ (row : List Tern). length row ≡ width) rows
+    → length (response_text rows) ≤ max_text_bytes → ¬ IsMalformedResponse width (length rows) (response_text rows) n
+written_no_line width n rows widths short =
+    never_both width (length rows) (response_text rows) rows n (written_is_read width rows widths short)
+
+pub shown_is_read : (c : Netlist) (fault : Option Fault) (start : List Tern) (list : List (List Bool))
+    → length (response_text (outputs_from c fault start list)) ≤ max_text_bytes
+    → IsResponseText (length c.outputs) (length list) (response_text (outputs_from c fault start list))
+    (outputs_from c fault start list)
+shown_is_read c fault start list short =
+    let rows = outputs_from c fault start list in
+    subst (λ (n : ℕ). IsResponseText (length c.outputs) n (response_text rows) rows) (rows_count c fault start list)
+    (written_is_read (length c.outputs) rows (rows_wide c fault start list) short)
+
+-- ---- the text is that of its parts
+
+text-append : (xs ys : List (List Tern)) → response_text (xs ++ ys) ≡ response_text xs ++ response_text ys
+text-append xs ys = ap (flat_map with_lf) (map-append row_text xs ys)
+    ∙ flat_map-append with_lf (map row_text xs) (map row_text ys)
+
+pub text_parts : (rows : List (List Tern))
+    → response_text (rows_but_last rows) ++ response_text (last_row rows) ≡ response_text rows
+text_parts rows = sym (text-append (rows_but_last rows) (last_row rows))
+    ∙ ap response_text (take-append-drop (length rows - 1) rows)

@@ -1,0 +1,8 @@
+use Rattle.ht_responses.proofs.ShownLaws.{good_diagnosed, fault_diagnosed}
+use Rattle.ht_responses.proofs.theorems.diagnoses_of_responses.Goals as goal
+
+pub returns-clause-good : goal.returns-clause-good
+returns-clause-good c = good_diagnosed
+
+pub returns-clause-fault : goal.returns-clause-fault
+returns-clause-fault c = fault_diagnosed

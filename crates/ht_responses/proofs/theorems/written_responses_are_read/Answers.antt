@@ -1,0 +1,11 @@
+use Rattle.ht_responses.proofs.ResponseLaws.{written_is_read, written_no_line, text_parts}
+use Rattle.ht_responses.proofs.theorems.written_responses_are_read.Goals as goal
+
+pub returns-clause-rows : goal.returns-clause-rows
+returns-clause-rows c = written_is_read
+
+pub returns-clause-no_line : goal.returns-clause-no_line
+returns-clause-no_line c = written_no_line
+
+pub returns-clause-parts : goal.returns-clause-parts
+returns-clause-parts c = text_parts

@@ -1,0 +1,82 @@
+//! The text of responses.
+ghost use Rattle.std.specs.Prelude.{◌≡◌, List, IfOk, length};
+ghost use Rattle.ht_texts.specs.Lines.{with_lf};
+ghost use Rattle.ht_dictionary.specs.ResponseTexts.{row_text, tern_code};
+ghost use Rattle.ht_responses.specs.Responses.{last_row, response_text, responses_line, rows_but_last};
+
+use ht_dictionary::Observation;
+use ht_tern::Tern;
+use ht_texts::push_number;
+use std::alloc::{AllocError, Global};
+
+/// The text of responses without its last line: the line of each row but the last, as `10X`, with its LF. Without rows
+/// it is empty.
+///
+/// # Errors
+///
+/// `AllocError`: out of memory.
+pub fn write_response_body(alloc: Global, shown: &Observation) -> Result<Vec<u8>, AllocError>
+    ensures { IfOk result (λ body. body.items ≡ response_text (rows_but_last shown.now.rows)) }
+{
+    let mut body = Vec::new(alloc);
+    for t in 0..shown.len().saturating_sub(1) {
+        let line = write_row(alloc, shown.get(t))?;
+        body.extend_from_slice(&line)?;
+    }
+    Ok(body)
+}
+
+/// The last line of the text of responses, with its LF. Without rows it is empty.
+///
+/// # Errors
+///
+/// `AllocError`: out of memory.
+pub fn write_last_response(alloc: Global, shown: &Observation) -> Result<Vec<u8>, AllocError>
+    ensures { IfOk result (λ line. line.items ≡ response_text (last_row shown.now.rows)) }
+{
+    if shown.len() == 0 {
+        return Ok(Vec::new(alloc));
+    }
+    write_row(alloc, shown.get(shown.len() - 1))
+}
+
+/// The line, with its LF, that says how many vectors there were and how many outputs: `responses vectors 3 outputs 1`.
+///
+/// # Errors
+///
+/// `AllocError`: out of memory.
+pub fn write_response_total(
+    alloc: Global,
+    vectors: u64,
+    outputs: u32,
+) -> Result<Vec<u8>, AllocError>
+    ensures { IfOk result (λ line. line.items ≡ with_lf (responses_line vectors outputs)) }
+{
+    let mut line = Vec::new(alloc);
+    line.extend_from_slice(b"responses vectors ")?;
+    push_number(&mut line, vectors)?;
+    line.extend_from_slice(b" outputs ")?;
+    push_number(&mut line, u64::from(outputs))?;
+    line.extend_from_slice(b"\n")?;
+    Ok(line)
+}
+
+// The line of a row, with its LF: a character for each output, in their order.
+fn write_row(alloc: Global, row: &[Tern]) -> Result<Vec<u8>, AllocError>
+    ensures { IfOk result (λ line. line.items ≡ with_lf (row_text row.now)) }
+{
+    let mut line: Vec<u8> = row.iter().map(|value| character_of(*value)).collect(alloc)?;
+    line.extend_from_slice(b"\n")?;
+    Ok(line)
+}
+
+// The character of a value, `0`, `1` or `X`.
+fn character_of(value: Tern) -> u8
+    ensures { result ≡ tern_code value }
+{
+    match value {
+        Tern::Zero => b'0',
+        Tern::One => b'1',
+        Tern::Unk => b'X',
+    }
+}

@@ -1,0 +1,4 @@
+pub mod Synchronizing
+pub mod SyncWindows
+pub mod SyncSearches
+pub mod SyncTexts

@@ -1,0 +1,6 @@
+use Rattle.ht_collapse.proofs.OwnLaws.{own_below}
+use Rattle.ht_uninit.proofs.uninit_text.count_hidden.Goals as goal
+
+pub hidden-requires : goal.hidden-requires
+hidden-requires c =
+    own_below c.args.classes.now _ c.loop-i.i-index _ c.representatives-i-items.ensures c.loop-i-test.true c.requires
