@@ -11,10 +11,10 @@ reads : (g : given.Over) (c : In_ok-circuit g) (tests out : List ℕ)
     → HasReadTo (sync c.args.netlist.now tests out c.args.budget) (basis_of c.in_ok-circuit.circuit [] []) 1
     (g.D.Desk.view c.args.desk.now) (g.D.Desk.view c.read_netlist.new.desk)
 reads g c tests out = c.in_ok-circuit.ensures.read (sync c.args.netlist.now tests out c.args.budget)
-    (basis_of c.in_ok-circuit.circuit [] []) refl refl (λ text good. good)
+    (basis_of c.in_ok-circuit.circuit [] []) refl (λ none. refl) refl (λ text good. good)
 
-no_more : (netlist tests out : List ℕ) (budget : ℕ) (p : InPort) → 1 ≤ order_of p
-    → input_name (sync netlist tests out budget) p ≡ None
+no_more : (netlist tests out : List ℕ) (budget : ℕ) (p : InPort)
+    → 1 ≤ order_of (sync netlist tests out budget) p → input_name (sync netlist tests out budget) p ≡ None
 no_more netlist tests out budget Netlist late = absurd (omega (arith, late))
 no_more netlist tests out budget p late = refl
 
