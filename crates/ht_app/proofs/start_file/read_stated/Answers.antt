@@ -1,7 +1,6 @@
-use Rattle.std.proofs.Common.{◌≡◌, ◌∙◌, ap, length, sym, arith}
+use Rattle.std.proofs.Common.{◌≡◌, ◌∙◌, ap, length, sym, rules, arith}
 use Rattle.std.specs.Prelude.{None, Some}
 use Rattle.ht_app.proofs.Common.{Extra}
-use Rattle.ht_net.proofs.MoreToldLaws.{unknown_is_start}
 use Rattle.ht_app.specs.Jobs.{place_of}
 use Rattle.ht_app.proofs.ReadingLaws.{no_room, skipped}
 use Rattle.ht_app.proofs.StartFileLaws.{start_step, step_stops}
@@ -22,13 +21,10 @@ returns-in-Some-clause-stopped g c = λ job basis first may reads same before.
 
 -- ---- none is stated
 
-pub returns-in-None-clause-latches : goal.returns-in-None-clause-latches
-returns-in-None-clause-latches g c =
-    ap length c.in_ok-unknown_start-in-None.ensures ∙ unknown_is_start c.args.circuit.now
-
-pub returns-in-None-clause-read : goal.returns-in-None-clause-read
-returns-in-None-clause-read g c = λ job basis first may reads same before from.
+pub returns-in_ok-unknown_start-in-None-clause-read : goal.returns-in_ok-unknown_start-in-None-clause-read
+returns-in_ok-unknown_start-in-None-clause-read g c = λ job basis first may reads same before from.
     skipped before Extra (ap (place_of Extra) may) (reads ∙ c.in-None.is) (before.netlist (omega arith))
 
 pub returns-in_err-unknown_start-in-None-clause-stopped : goal.returns-in_err-unknown_start-in-None-clause-stopped
-returns-in_err-unknown_start-in-None-clause-stopped g c = λ job basis first may reads same before. no_room before
+returns-in_err-unknown_start-in-None-clause-stopped g c = λ job basis first may reads same before.
+    let ends = no_room before in search (rules, ends)
