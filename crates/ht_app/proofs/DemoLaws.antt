@@ -53,7 +53,7 @@ module _ (size seed : ℕ) where
 
   inputs : (a : DeskView) → AcceptsInputs job (basis_of no_circuit [] []) a
   inputs a = record {
-    stated = refl;
+    stated = λ none. refl;
     each = λ p name is. let none : None ≡ Some name = is in absurd (cc);
     circuit = λ some. let none : false ≡ true = some in absurd (cc);
   }

@@ -1,5 +1,5 @@
 -- A job's files, read one after the other.
-use Rattle.std.proofs.Common.{◌≡◌, ◌≢◌, ◌≤◌, ◌+◌, ◌⊎◌, ℕ, List, [], Bool, true, false, IsTrue, inl, inr, refl, sym, ◌∙◌, ap, subst, arith}
+use Rattle.std.proofs.Common.{◌≡◌, ◌≢◌, ◌<◌, ◌≤◌, ◌+◌, ◌⊎◌, ℕ, List, [], Bool, true, false, IsTrue, inl, inr, refl, sym, ◌∙◌, ap, subst, arith}
 use Rattle.std.specs.Prelude.{IsSome, is_some, Option, Some, None}
 use Rattle.std.proofs.lemmas.Bool.{cases_lt}
 use Rattle.ht_app.proofs.Common.{AcceptsInputs, Act, Asked, BadTests, ChangedOnly, DeskView, EndsReading, Extra}
@@ -209,6 +209,7 @@ module _ {job : Asked} {basis : JobBasis} {place : ℕ} {a m : DeskView} (h : Ha
     }
 
     has_cause : (e : RunError) → ReadStops job basis port name m b e → HasCause job a b e
+    unfolding refuses
     has_cause Usage stops = absurd stops
     has_cause ReadFault stops = record {
       rose = omega (arith, h.reads.after.in_faults, stops.rose);

@@ -8,7 +8,7 @@ use Rattle.std.proofs.lemmas.List.{length-take-le}
 use Rattle.ht_app.proofs.Common.{AreFine, Asked, DeskView, EndsReading, Extra, HasFront, HasLines, HasLongLine}
 use Rattle.ht_app.proofs.Common.{HasReadTo, InCall, IsTooLong, JobBasis, LinesStop, ReadStops, RunError, SaysBasis}
 use Rattle.ht_app.proofs.Common.{Tern, WasRead, check, gen, input_name, lines_of, max_text_bytes, order_of}
-use Rattle.ht_app.proofs.Common.{refused_port, sim, without_cr}
+use Rattle.ht_app.proofs.Common.{refused_port, respond, sim, without_cr}
 use Rattle.ht_ports.specs.LineRule.{first_piece}
 use Rattle.ht_ports.proofs.PieceLaws.{length-without_cr}
 use Rattle.ht_ports.proofs.TextLaws.{first_line}
@@ -135,6 +135,7 @@ says_start : (job : Asked) (basis : JobBasis) (text : List ℕ) → may_state_st
 says_start (sim netlist tests report start) basis text may is = is
 says_start (gen netlist tests report proofs options) basis text may is = is
 says_start (check netlist tests report proofs start) basis text may is = is
+says_start (respond netlist tests out fault start) basis text may is = is
 says_start job basis text may is = cc
 
 module _ (job : Asked) (may : may_state_start job ≡ true) (basis : JobBasis) (name : List ℕ) (a b : DeskView) where

@@ -19,10 +19,15 @@ returns-in_err-texts g c =
 
 pub returns-in_err-write_texts : goal.returns-in_err-write_texts
 returns-in_err-write_texts g c =
+    let t = c.in_ok-texts.texts in
     let ends = ends_by (c.in_ok-texts.ensures.made c.args.tests.now c.args.out.now)
-    (permitted c.args.netlist.now c.args.tests.now c.args.out.now c.args.budget _ _ _ _) c.in_err-write_texts.ensures in
+    (permitted c.args.netlist.now c.args.tests.now c.args.out.now c.args.budget t.tests.items t.body.items
+    t.said.items t.last.items) c.in_err-write_texts.ensures in
     search (rules, ends)
 
 pub returns : goal.returns
-returns g c = ends_by (c.in_ok-texts.ensures.made c.args.tests.now c.args.out.now)
-    (permitted c.args.netlist.now c.args.tests.now c.args.out.now c.args.budget _ _ _ _) c.in_ok-write_texts.ensures
+returns g c =
+    let t = c.in_ok-texts.texts in
+    ends_by (c.in_ok-texts.ensures.made c.args.tests.now c.args.out.now)
+    (permitted c.args.netlist.now c.args.tests.now c.args.out.now c.args.budget t.tests.items t.body.items
+    t.said.items t.last.items) c.in_ok-write_texts.ensures

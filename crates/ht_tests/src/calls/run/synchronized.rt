@@ -10,8 +10,7 @@ const SYNC: &[&str] = &["sync", "n", "t", "r"];
 const SYNC_BY_10: &[&str] = &["sync", "n", "t", "r", "--budget", "10"];
 
 // A 0 comes to the second flip-flop with the second vector.
-const HIDDEN_RECORD: &[u8] =
-    b"sync flip-flops 2 budget 1000\nlength 1\ndead\nfound 2\nstate 00\n";
+const HIDDEN_RECORD: &[u8] = b"sync flip-flops 2 budget 1000\nlength 1\ndead\nfound 2\nstate 00\n";
 
 // No list makes the toggle definite. Lengths 1 to 4 take a budget of 10.
 const TOGGLE_RECORD: &[u8] = b"sync flip-flops 1 budget 10\n\
