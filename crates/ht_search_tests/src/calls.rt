@@ -6,6 +6,7 @@ mod bases;
 mod check;
 mod entries;
 mod events;
+mod families;
 mod forward;
 mod from_state;
 mod justify;
