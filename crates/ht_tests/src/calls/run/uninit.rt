@@ -16,7 +16,8 @@ const SHIFT_RECORD: &[u8] = b"uninit flip-flops 2 outputs 1 faults 6 classes 6 b
     1 a s-a-0 possible\n2 a s-a-1 possible\n3 q s-a-0 possible\n4 q s-a-1 possible\n\
     5 r s-a-0 possible\n6 r s-a-1 possible\ntotal 6 hidden 0 held 0\n";
 
-// Two latches have to be decided before their XOR is known, and a budget of 1 is spent at the first.
+// Two latches have to be decided before their XOR is known, and a budget of 1 is spent at the first. What q holds is read
+// nowhere.
 const XOR_OF_LATCHES: &[u8] =
     b"INPUT(a)\nINPUT(b)\nOUTPUT(z)\np = DFF(a)\nr = DFF(b)\nq = DFF(z)\nz = XOR(p, r)\n";
 
@@ -24,8 +25,8 @@ const XOR_RECORD: &[u8] = b"uninit flip-flops 3 outputs 1 faults 14 classes 14 b
     free 1\nfree 2\nspent 3\nx 3\nopen 1\nx 3\n\
     1 a s-a-0 possible\n2 a s-a-1 possible\n3 b s-a-0 possible\n4 b s-a-1 possible\n\
     5 p s-a-0 possible\n6 p s-a-1 possible\n7 r s-a-0 possible\n8 r s-a-1 possible\n\
-    9 q s-a-0 possible\n10 q s-a-1 possible\n11 z s-a-0 possible\n12 z s-a-1 possible\n\
-    13 q(1) s-a-0 possible\n14 q(1) s-a-1 possible\ntotal 14 hidden 0 held 0\n";
+    9 q s-a-0 hidden\n10 q s-a-1 hidden\n11 z s-a-0 possible\n12 z s-a-1 possible\n\
+    13 q(1) s-a-0 hidden\n14 q(1) s-a-1 hidden\ntotal 14 hidden 4 held 0\n";
 
 const UNINIT: &[&str] = &["uninit", "n", "r"];
 
@@ -44,7 +45,7 @@ const ROWS: &[(&[&str], &[u8], &[u8], &[u8])] = &[
         UNINIT_BY_1,
         XOR_OF_LATCHES,
         XOR_RECORD,
-        b"total 14 hidden 0 held 0\n",
+        b"total 14 hidden 4 held 0\n",
     ),
 ];
 
