@@ -208,32 +208,36 @@ module _ {job : Asked} {basis : JobBasis} {place : ℕ} {a m : DeskView} (h : Ha
       unread = λ p after. unread_at p (omega (arith, after, at));
     }
 
-    has_cause : (e : RunError) → ReadStops job basis port name m b e → HasCause job a b e
+    has_cause : (port ≡ Tests → HasFault job basis.circuit) → (e : RunError) → ReadStops job basis port name m b e → HasCause job a b e
     unfolding refuses
-    has_cause Usage stops = absurd stops
-    has_cause ReadFault stops = record {
+    has_cause fault Usage stops = absurd stops
+    has_cause fault ReadFault stops = record {
       rose = omega (arith, h.reads.after.in_faults, stops.rose);
       basis = basis;
       port = port;
       name = name;
       reads = is;
+      circuit = λ some. h.netlist (omega (arith, some, at));
+      stated = h.stated;
+      fault = fault;
       before = λ p before. h.accepts p (omega (arith, before, at));
       lacks = λ steady holds. stops.lacks (subst IsTrue (sym h.reads.after.steady) steady)
           (holds.0, ap (λ f. f name) h.reads.file ∙ holds.1);
       held = λ steady p n before reads. known_holds (a.file n) (h.tells n steady)
           (h.accepts p (omega (arith, before, at)) n reads).there;
     }
-    has_cause WriteFault stops = absurd stops
-    has_cause NoMemory stops = inl (did_nothing (call.written ∙ h.reads.written) (call.named ∙ h.reads.named)
+    has_cause fault WriteFault stops = absurd stops
+    has_cause fault NoMemory stops = inl (did_nothing (call.written ∙ h.reads.written) (call.named ∙ h.reads.named)
         (call.is_created ∙ h.reads.is_created))
-    has_cause (BadTests line) stops = (refuses (BadTests line) (stops.0, stops.1), stops.2)
-    has_cause (NoSuchFault faults) stops = let none : None ≡ Some port = stops.0 in cc
-    has_cause e stops = refuses e stops
+    has_cause fault (BadTests line) stops = (refuses (BadTests line) (stops.0, stops.1), stops.2)
+    has_cause fault (NoSuchFault faults) stops = let none : None ≡ Some port = stops.0 in cc
+    has_cause fault e stops = refuses e stops
 
-    pub stops_there : (e : RunError) → ReadStops job basis port name m b e → EndsReading job a b e
-    stops_there e stops = record {
+    pub stops_there : (port ≡ Tests → HasFault job basis.circuit) → (e : RunError) → ReadStops job basis port name m b e
+        → EndsReading job a b e
+    stops_there fault e stops = record {
       reads = changes_by_reading job (reads_then h.reads (only_reads call)) other_at;
-      cause = has_cause e stops;
+      cause = has_cause fault e stops;
     }
 
   -- ---- all files

@@ -9,6 +9,7 @@ use Rattle.ht_app.proofs.Common.{AreFine, Asked, DeskView, EndsReading, Extra, H
 use Rattle.ht_app.proofs.Common.{HasReadTo, InCall, IsTooLong, JobBasis, LinesStop, ReadStops, RunError, SaysBasis}
 use Rattle.ht_app.proofs.Common.{Tern, WasRead, check, gen, input_name, lines_of, max_text_bytes, order_of}
 use Rattle.ht_app.proofs.Common.{refused_port, respond, sim, without_cr}
+use Rattle.ht_ports.specs.declared.ports.InPort.TheVariants.{Tests}
 use Rattle.ht_ports.specs.LineRule.{first_piece}
 use Rattle.ht_ports.proofs.PieceLaws.{length-without_cr}
 use Rattle.ht_ports.proofs.TextLaws.{first_line}
@@ -209,4 +210,4 @@ module _ {job : Asked} {basis : JobBasis} {first old new : DeskView} (may : may_
     pub step_stops : (result : Result (Vec Tern Global) RunError) → IfErr result (ReadStops job basis Extra name old new)
         → IfErr result (EndsReading job first new)
     step_stops (Ok start) stops = tt
-    step_stops (Err e) stops = stops_there before (at_one job may) reads call e stops
+    step_stops (Err e) stops = stops_there before (at_one job may) reads call (λ is. let same : Extra ≡ Tests = is in cc) e stops

@@ -4,13 +4,14 @@ use Rattle.std.specs.Io.KnownBytes.{append_known}
 use Rattle.ht_ports.specs.Causes.{Rose}
 use Rattle.ht_ports.specs.Desk.{DeskView, IsAfter, Holds, Writes}
 use Rattle.ht_ports.specs.declared.ports.InPort.{InPort}
+use Rattle.ht_ports.specs.declared.ports.InPort.TheVariants.{Tests}
 use Rattle.ht_ports.specs.declared.ports.OutPort.TheVariants.{Err}
 use Rattle.ht_asked.specs.Asked.{Asked}
 use Rattle.ht_app.specs.declared.run_error.RunError.{RunError}
 use Rattle.ht_app.specs.declared.run_error.RunError.TheVariants.{Usage, ReadFault, WriteFault, NoMemory, BadTests, NoSuchFault}
 use Rattle.ht_app.specs.Acts.{Act, Did, Stops}
 use Rattle.ht_app.specs.Errors.{exit_status, err_line}
-use Rattle.ht_app.specs.Inputs.{AcceptsBefore, AcceptsInputs, HasFault, JobBasis}
+use Rattle.ht_app.specs.Inputs.{AcceptsBefore, AcceptsInputs, HasFault, HasNetlist, IsStated, JobBasis}
 use Rattle.ht_app.specs.Jobs.{input_name, order_of}
 use Rattle.ht_app.specs.Outputs.{BeginsOutput, MakesOutput}
 use Rattle.ht_app.specs.Refusals.{LacksFault, RefusesInput}
@@ -31,15 +32,18 @@ AskedIsDone asked old new = (job : Asked) × (asked ≡ Some job) × IsDone job 
 
 -- ---- a fault of the desk, or want of memory
 
--- A fault of reading was counted at a file of the job, after those before it were accepted. A steady desk makes one only
--- where it doesn't hold the file; it holds those before.
+-- A fault of reading was counted at a file of the job, after those before it were accepted; at the tests, after the fault
+-- that the job names was found. A steady desk makes one only where it doesn't hold the file; it holds those before.
 pub record FailsToRead (job : Asked) (old new : DeskView) : Type 0 where
   pub rose : Rose old.in_faults new.in_faults
   pub basis : JobBasis
   pub port : InPort
   pub name : List ℕ
   pub reads : input_name job port ≡ Some name
+  pub circuit : 0 < order_of job port → HasNetlist basis.circuit
+  pub stated : IsStated job basis
   pub before : AcceptsBefore job basis port old
+  pub fault : port ≡ Tests → HasFault job basis.circuit
   pub lacks : IsTrue old.steady → ¬ Holds old name
   pub held : IsTrue old.steady → (p : InPort) (n : List ℕ) → order_of job p < order_of job port → input_name job p ≡ Some n
       → Holds old n

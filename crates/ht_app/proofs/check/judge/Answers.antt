@@ -101,7 +101,8 @@ returns-in_err-listed-clause-stopped g c =
     let before = nothing_read (job c.args.files.now c.args.start.now) (check_basis c.in_ok-circuit.circuit []
     (claims (unknown_state c.in_ok-circuit.circuit) [] 0 [] [])) (g.D.Desk.view c.args.desk.now) (λ none. refl)
     (λ name. g.met.D.Desk.steady_tells c.args.desk.now name) in
-    let ends = stops_there before refl (ap Some (sym c.as_str.ensures)) c.in_ok-circuit.ensures.frame NoMemory tt in
+    let ends = stops_there before refl (ap Some (sym c.as_str.ensures)) c.in_ok-circuit.ensures.frame (λ is. tt)
+    NoMemory tt in
     search (rules, ends)
 
 pub returns-in_err-places-clause-stopped : goal.returns-in_err-places-clause-stopped
@@ -123,7 +124,7 @@ returns-in_err-list-clause-stopped g c =
     let f = c.args.files.now in
     let before = start_read g (goal.at.returns-in_err-list-clause-stopped g c).In_ok-start [] 0 [] [] in
     let ends = stops_there before refl (ap Some (sym c.as_str-2.ensures)) c.in_err-list.ensures.frame
-    c.in_err-list.field-0.0 (c.in_err-list.ensures.stops f.netlist f.tests f.report f.proofs _ c.args.start.now
+    (λ is. tt) c.in_err-list.field-0.0 (c.in_err-list.ensures.stops f.netlist f.tests f.report f.proofs _ c.args.start.now
     (claims c.in_ok-start.start.items [] 0 [] [])) in
     search (rules, ends)
 
@@ -134,7 +135,7 @@ returns-in_err-claims-clause-stopped g c =
     let names = short_names c.in_ok-circuit.ensures.netlist.0 c.in_ok-circuit.circuit
     c.in_ok-circuit.ensures.netlist.1.stands in
     let ends = stops_there (vectors_read g at.In_ok-list 0 [] []) refl (ap Some (sym c.as_str-report.ensures))
-    c.in_err-claims.ensures.frame c.in_err-claims.field-0.0 (c.in_err-claims.ensures.stops f.netlist f.tests f.report
+    c.in_err-claims.ensures.frame (λ is. tt) c.in_err-claims.field-0.0 (c.in_err-claims.ensures.stops f.netlist f.tests f.report
     f.proofs c.args.start.now (claims c.in_ok-start.start.items c.in_ok-list.list.list 0 [] [])
     (first_known g at.After-deref-2) names) in
     search (rules, ends)
@@ -148,7 +149,7 @@ returns-in_err-read_proofs-clause-stopped g c =
     let f = c.args.files.now in
     let at = (goal.at.returns-in_err-read_proofs-clause-stopped g c).In_ok-claims in
     let ends = stops_there (report_read g at []) refl (ap Some (sym c.as_str-3.ensures))
-    c.in_err-read_proofs.ensures.frame c.in_err-read_proofs.field-0.0 (c.in_err-read_proofs.ensures.stops f.netlist
+    c.in_err-read_proofs.ensures.frame (λ is. tt) c.in_err-read_proofs.field-0.0 (c.in_err-read_proofs.ensures.stops f.netlist
     f.tests f.report f.proofs c.args.start.now (claimed g at []) (sym c.deref-3.ensures.value) refl refl) in
     search (rules, ends)
 

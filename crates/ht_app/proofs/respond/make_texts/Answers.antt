@@ -74,7 +74,7 @@ pub returns-in_err-list-clause-stopped : goal.returns-in_err-list-clause-stopped
 returns-in_err-list-clause-stopped g c = λ out.
     let before = start_reads g (goal.at.returns-in_err-list-clause-stopped g c).In_ok-start out [] in
     let listed = machine_listed c.in_ok-circuit.circuit c.args.number c.in_ok-fault.fault c.in_ok-fault.ensures.machine in
-    let ends = stops_there before refl refl c.in_err-list.ensures.frame c.in_err-list.field-0.0
+    let ends = stops_there before refl refl c.in_err-list.ensures.frame (λ is. listed) c.in_err-list.field-0.0
     (tests_stop (respond c.args.netlist.now c.args.tests.now out c.args.number c.args.start.now)
     (basis_from c.in_ok-circuit.circuit c.in_ok-start.start.items [] []) _ _ _ _
     (λ line. refl) (λ line text early wrong. wrong) listed _ c.in_err-list.ensures.stops) in
