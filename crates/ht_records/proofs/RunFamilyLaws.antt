@@ -20,7 +20,7 @@ use Rattle.ht_tree.specs.Windows.{pair_set_rules}
 use Rattle.ht_tree.proofs.PairLaws.{Has, bits, pair_rules, paired, sets_keep}
 use Rattle.ht_records.proofs.PairRunLaws.{FaultyIs, GoodIs, faulty_half, good_half, paired_half}
 use Rattle.ht_records.proofs.WidthLaws.{fit_list, fit_vectors, shows_fitted}
-use Rattle.ht_families.specs.Families.{Closes, HoldsState, IncludesEach, any_vector, shown_sets, taken_sets, Family}
+use Rattle.ht_tree.specs.ClosedFamilies.{Closes, Family, HoldsState, IncludesEach, IsUndetectable, any_vector, shown_sets, taken_sets}
 
 pub taken_long : (c : Netlist) (fault : Fault) (family : Family)
     → length (taken_sets c fault family) ≡ length c.dffs
@@ -202,3 +202,6 @@ module _ (c : Netlist) (fault : Fault) (start : List Tern) (family : Family)
   closed_undetected is list t o d =
       closed_silent is list t o
       (detects_where_refined c fault start (unknown_state c) list t o (start_refines_unknown c start is) d)
+
+  pub closed_undetectable : IsStart c start → IsUndetectable c fault start
+  closed_undetectable is = record { from_start = closed_silent is; from_unknown = closed_undetected is }
