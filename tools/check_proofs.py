@@ -660,7 +660,7 @@ class Entry:
 
     def __init__(self, number, kind):
         self.number, self.kind = number, kind
-        self.z, self.told, self.sweep, self.clauses = [], [], [], []
+        self.z, self.told, self.sweep, self.clauses, self.sets = [], [], [], [], {}
         self.walk, self.aim, self.state = None, None, None
 
 
@@ -776,8 +776,24 @@ def is_invariant(circuit, state, clauses):
     )
 
 
-def passes(circuit, fault, budget, entry):
-    """Whether an entry shows what it says of its fault."""
+def closes(circuit, fault, start, sets):
+    """These sets, and the start's pair alone for the flip-flops without one, are kept by every frame, and no output differs."""
+    if any(j >= circuit.flip_flops for j in sets):
+        return False
+    family = [sets.get(j, ALIKE[value]) for j, value in enumerate(start)]
+    nets = frame(circuit, fault, [BIT] * circuit.inputs, family)
+    taken = next_state(circuit, fault, nets)
+    return (
+        all(ALIKE[value] & held for value, held in zip(start, family))
+        and not any(more & ~held for more, held in zip(taken, family))
+        and not any(nets[net] & DIFFERENT for net in circuit.outputs)
+    )
+
+
+def passes(circuit, fault, start, budget, entry):
+    """Whether an entry shows what it says of its fault, from the start."""
+    if entry.kind == b"undetectable":
+        return closes(circuit, fault, start, entry.sets)
     if entry.state is not None:
         known = all(j < circuit.flip_flops for j in entry.z)
         window = ClauseWindow(circuit, fault, entry.z, [clause.literals for clause in entry.clauses])
@@ -805,9 +821,11 @@ N, BITS = rb"([1-9][0-9]{0,9})", rb"(-|[01]{1,4096})"
 LINES = [
     (kind, re.compile(pattern))
     for kind, pattern in [
-        ("proofs", rb"proofs ([12])"),
+        ("proofs", rb"proofs ([123])"),
         ("entry", rb"entry " + N + rb" (untestable|aborted)"),
         ("from", rb"entry " + N + rb" untestable from ([01]{1,16384})"),
+        ("by_sets", rb"entry " + N + rb" undetectable by sets"),
+        ("pairs", rb"pairs " + N + rb" ([01X]{2}(?: [01X]{2})*)"),
         ("clause", rb"clause " + N + rb" ([01])"),
         ("clause", rb"clause " + N + rb" ([01]) " + N + rb" ([01])"),
         ("z", rb"z " + N),
@@ -827,7 +845,7 @@ LINES = [
 ]
 # Which lines may come where: by what was read last, the lines that may follow. A walk is one of a refutation or of an
 # aborted entry.
-ENDS_ENTRY = {"entry", "from", "end"}
+ENDS_ENTRY = {"entry", "from", "by_sets", "end"}
 FOLLOWS = {
     "nothing": {"proofs"},
     "proofs": ENDS_ENTRY,
@@ -836,6 +854,8 @@ FOLLOWS = {
     "from": {"clause"},
     "clause": {"clause", "token", "z", "walk"},
     "late z": {"z", "walk"},
+    "by_sets": {"pairs"} | ENDS_ENTRY,
+    "pairs": {"pairs"} | ENDS_ENTRY,
     "aborted": {"frame", "walk", "aim", "sweep"},
     "frame": {"set", "frame", "walk", "aim", "sweep"},
     "walk": {"token", "aim", "sweep"},
@@ -853,8 +873,8 @@ class Malformed(Exception):
 
 
 def is_bits(kind, at):
-    """Whether a part of a line is a list of bits, whose length counts."""
-    return kind in ("justify", "ahead") or (kind, at) == ("from", 1)
+    """Whether a part of a line is a list of bits or of pairs, whose length counts."""
+    return kind in ("justify", "ahead") or (kind, at) in (("from", 1), ("pairs", 1))
 
 
 def parse_line(line):
@@ -902,9 +922,19 @@ class ProofReader:
         return kind.decode()
 
     def take_from(self, number, bits):
-        require(self.format == 2)
+        require(self.format >= 2)
         self.take_entry(number, b"untestable")
         self.entry.state = [bit - ord("0") for bit in bits]
+
+    def take_by_sets(self, number):
+        require(self.format >= 3)
+        self.take_entry(number, b"undetectable")
+
+    def take_pairs(self, j, words):
+        pairs = [tuple(VALUES[b"01X".index(value)] for value in word) for word in words.split(b" ")]
+        require(not self.entry.sets or j - 1 > next(reversed(self.entry.sets)))
+        require(pairs == sorted(set(pairs)))
+        self.entry.sets[j - 1] = set_of(*pairs)
 
     def take_clause(self, *parts):
         literals = [(j - 1, bit) for j, bit in zip(parts[0::2], parts[1::2])]
@@ -981,6 +1011,11 @@ def read_tests(circuit, text):
     return vectors
 
 
+# The verdicts, in the order in which a total counts them; some only where there are any. Two need no entry.
+CLAIMS = b"detected", b"untestable", b"aborted", b"undetectable", b"undetected"
+ALWAYS_COUNTED, WITHOUT_ENTRY = CLAIMS[:3], (b"detected", b"undetected")
+
+
 class Files:
     """A circuit with its faults and their classes, the start, and what its files say one after the other."""
 
@@ -990,7 +1025,7 @@ class Files:
         self.faults = faults_of(circuit)
         self.representatives = representatives_of(circuit, self.faults)
         self.vectors, self.budget = [], 0
-        self.claims = {}  # what the report says of each representative: detected, untestable or aborted
+        self.claims = {}  # the verdict that the report gives each representative, without the place of a detection
 
     def first_line(self):
         """The head of the report, up to its budget."""
@@ -1000,8 +1035,8 @@ class Files:
 
     def total_line(self):
         counts = Counter(self.claims.values())
-        said = [counts[claim] for claim in (b"detected", b"untestable", b"aborted")]
-        return b"total %d detected %d untestable %d aborted %d" % (sum(said), *said)
+        said = [b" %s %d" % (claim, counts[claim]) for claim in CLAIMS if counts[claim] or claim in ALWAYS_COUNTED]
+        return b"total %d" % len(self.claims) + b"".join(said)
 
     def verdicts(self, number):
         """What a report that agrees with the tests may say of a fault, after the fault's name."""
@@ -1010,7 +1045,7 @@ class Files:
         latches = [ALIKE[value] for value in self.start]
         detection = first_detection(self.circuit, self.faults[number], self.vectors, latches)
         if detection is None:
-            return [b"untestable", b"aborted"]
+            return list(CLAIMS[1:])
         return [b"detected %d %s" % (detection[0] + 1, self.circuit.names[self.circuit.outputs[detection[1]]])]
 
     def judge_fault_line(self, number, line):
@@ -1052,13 +1087,16 @@ class Files:
         if claim == b"detected":
             return
         allowed = entry.state is None or allows(self.start, entry.state)
-        if claim != entry.kind or not allowed or not passes(self.circuit, self.faults[number], self.budget, entry):
+        if claim != entry.kind or not allowed or not self.passes(number, entry):
             raise Denied(b"fault %d" % entry.number)
+
+    def passes(self, number, entry):
+        return passes(self.circuit, self.faults[number], self.start, self.budget, entry)
 
     def judge_proofs(self, text):
         """Reads the proofs, or denies the first line that is malformed or after which an entry is wrong or missing."""
         reader, lines = ProofReader(), lines_of(text)
-        due = [number for number in sorted(self.claims) if self.claims[number] != b"detected"]
+        due = [number for number in sorted(self.claims) if self.claims[number] not in WITHOUT_ENTRY]
         for at, line in enumerate(lines, 1):
             try:
                 ended = reader.take(line)

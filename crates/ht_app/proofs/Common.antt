@@ -27,7 +27,8 @@ pub use Rattle.ht_demo.specs.Demo.{demo_netlist}
 pub use Rattle.ht_dictionary.specs.ObservationView.{ObservationView}
 pub use Rattle.ht_dictionary.specs.ResponseTexts.{IsMalformedResponse, row_text}
 pub use Rattle.ht_engine.specs.EngineStands.{EngineStandsFor, EngineView, HasSameWork, Makes, remaining}
-pub use Rattle.ht_engine.specs.Steps.{AreFinished, AreSteps, Settings}
+pub use Rattle.ht_engine.specs.Steps.{AreFinished, AreSteps}
+pub use Rattle.ht_engine.specs.declared.settings.Settings.{Settings}
 pub use Rattle.ht_engine.specs.declared.step.Step.{Step}
 pub use Rattle.ht_engine.specs.declared.step.Step.TheVariants.{Entry, Finished, Vectors}
 pub use Rattle.ht_entries.specs.ProofLines.{line_text}

@@ -6,13 +6,13 @@ use Rattle.ht_app.proofs.Common.{AcceptsInputs, Act, Asked, BadTests, DeskView, 
 use Rattle.ht_app.proofs.Common.{InPort, IsGoodNetlist, IsInput, IsRefusedFor, JobBasis, MakesOutput, ReadFault}
 use Rattle.ht_app.proofs.Common.{RefusesInput, RunError, Tern, Usage, WasRead, WriteFault, exit_status, input_name}
 use Rattle.ht_app.proofs.Common.{one_circuit, order_of, refused_port, respond}
-use Rattle.ht_ports.specs.declared.ports.InPort.TheVariants.{Netlist, Tests}
+use Rattle.ht_ports.specs.declared.ports.InPort.TheVariants.{Netlist, Tests, Faults}
 use Rattle.ht_net.specs.Netlist as net
 use Rattle.ht_net.specs.declared.fault.Fault.{Fault}
 use Rattle.ht_faults.specs.Sites.{faults_of}
 use Rattle.ht_texts.specs.StartTexts.{IsMalformedStart}
 use Rattle.ht_texts.proofs.StartLaws.{start_or_malformed}
-use Rattle.ht_app.specs.declared.run_error.RunError.TheVariants.{BadStart, NoMemory, NoSuchFault, Refused, TooLong}
+use Rattle.ht_app.specs.declared.run_error.RunError.TheVariants.{BadFaults, BadStart, NoMemory, NoSuchFault, Refused, TooLong}
 use Rattle.ht_app.specs.Inputs.{AcceptsBefore, AcceptsFile, AreGoodInputs, HasFault, IsListed}
 use Rattle.ht_app.specs.Outputs.{BeginsOutput, IsMachineOf}
 use Rattle.ht_app.specs.Refusals.{AreRefusedWith, FaultStops, HasNoSuchFault, HasRefusedInputs, IsAbove, IsStartOf}
@@ -156,6 +156,9 @@ unlisted_refused netlist tests out number start a b (BadStart line) other h lack
     (lacks.told Netlist netlist (omega arith) refl) (h.before Netlist before netlist refl) in
     not_malformed start h.name lacks.texts lacks.circuit h.basis.circuit lacks.start line reads same lacks.started bad
 unlisted_refused netlist tests out number start a b (BadTests line) other h lacks = other line refl
+unlisted_refused netlist tests out number start a b (BadFaults line) other h lacks =
+    let at : Faults ≡ h.port = (let both : Some Faults ≡ Some h.port = h.at in cc) in
+    let none : None ≡ Some h.name = ap (input_name (respond netlist tests out number start)) at ∙ h.reads in cc
 unlisted_refused netlist tests out number start a b e other h lacks = let none : None ≡ Some h.port = h.at in cc
 
 no_refusal : (job : Asked) (a b : DeskView) (e : RunError) → ((line : ℕ) → e ≢ BadTests line)

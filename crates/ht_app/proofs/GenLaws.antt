@@ -1,30 +1,30 @@
 -- The files of `gen`, one part after the other.
 use Rattle.std.proofs.Common.{◌≡◌, inl, inr, ℕ, ◌≤◌, ◌+◌, List, [], ◌∷◌, ◌++◌, Bool, true, ◌||◌, IsTrue, length, flat_map, refl, sym, ◌∙◌, ap, subst, arith}
-use Rattle.std.specs.Prelude.{Result, Ok, Err, None}
+use Rattle.std.specs.Prelude.{Result, Ok, Err, None, Option, Some, is_some, option_map}
 use Rattle.std.specs.List.{list_any}
 use Rattle.std.proofs.lemmas.List.{length-append}
 use Rattle.std.proofs.lemmas.List.Folds.{list_any-append}
 use Rattle.ht_app.proofs.Common.{AcceptsInputs, Act, AreClasses, AreFinished, AreSteps, Asked, ChangedOnly, DeskView}
 use Rattle.ht_app.proofs.Common.{Does, EndsJob, EngineStandsFor, EngineView, Entry, Extra, Finished, GenOptions}
 use Rattle.ht_app.proofs.Common.{HasSameWork, InPort, IsGenerated, JobBasis, Out, OutPort, PermitsAll, Ports}
-use Rattle.ht_app.proofs.Common.{RunError, RunFiles, Settings, Step, Tern, Tries, Vectors, WritesAll, ending, gen}
+use Rattle.ht_app.proofs.Common.{Rows, RunError, RunFiles, Settings, Step, Tries, Vectors, WritesAll, ending, gen}
 use Rattle.ht_app.proofs.Common.{input_name, line_text, makes, max_text_bytes, order_of, proofs_of, proofs_so_far}
 use Rattle.ht_app.proofs.Common.{put, reading, step_acts, tests_of, with_lf, writing}
-use Rattle.ht_ports.specs.declared.ports.InPort.TheVariants.{Netlist}
+use Rattle.ht_ports.specs.declared.ports.InPort.TheVariants as in_port
 use Rattle.ht_ports.specs.declared.ports.OutPort.TheVariants.{Tests, Report, Proofs}
 use Rattle.ht_net.specs.Netlist as net
 use Rattle.ht_texts.specs.SearchReports.{HasPlainNames}
 use Rattle.ht_entries.specs.declared.proof_line.ProofLine.TheVariants.{End}
 use Rattle.ht_files.proofs.StepTextLaws.{proofs_end}
-use Rattle.ht_app.specs.Jobs.{settings_of}
-use Rattle.ht_app.specs.Outputs.{WritesFiles, WritesSteps, creation}
+use Rattle.ht_app.specs.Outputs.{WritesFiles, WritesSteps, creation, settings_of, where_named}
 use Rattle.ht_app.proofs.EndLaws.{begun, ends_tries}
 use Rattle.ht_app.proofs.WritingLaws.{permits_then, tries_then}
 
 -- ---- the parts of the files
 
-abbrev pub begun_acts : RunFiles → List Step → List Act
-begun_acts files steps = creation files ++ put Proofs (proofs_so_far []) ∷ flat_map step_acts steps
+abbrev pub begun_acts : RunFiles → Settings → List Step → List Act
+begun_acts files settings steps =
+    creation files ++ put Proofs (proofs_so_far settings []) ∷ flat_map step_acts steps
 
 abbrev pub end_text : List ℕ
 end_text = with_lf (line_text End)
@@ -35,7 +35,7 @@ end_part body total = put Proofs end_text ∷ put Report body ∷ put Out total 
 module _ (files : RunFiles) (c : net.Netlist) (settings : Settings) {representatives : List ℕ}
     (classes : AreClasses c representatives) {steps : List Step}
     (are : AreSteps c representatives settings steps) where
-  steps_written : WritesSteps files c settings (begun_acts files steps)
+  steps_written : WritesSteps files c settings (begun_acts files settings steps)
   steps_written = record {
     representatives = representatives;
     steps = steps;
@@ -44,17 +44,17 @@ module _ (files : RunFiles) (c : net.Netlist) (settings : Settings) {representat
     acts_are = refl;
   }
 
-  pub stops_in_steps : {e : RunError} {a b : DeskView} → Tries {A = Unit {0}} (begun_acts files steps) (Err e) a b
+  pub stops_in_steps : {e : RunError} {a b : DeskView} → Tries {A = Unit {0}} (begun_acts files settings steps) (Err e) a b
       → WritesAll files c settings (Err e) a b
   stops_in_steps tries =
-      record { acts = begun_acts files steps; tries = tries; done = tt; stopped = inl steps_written }
+      record { acts = begun_acts files settings steps; tries = tries; done = tt; stopped = inl steps_written }
 
   module _ (body total : List ℕ)
-      (generated : IsGenerated c settings (tests_of steps) (body ++ total) (proofs_of steps) total) where
-    all_written : WritesFiles files c settings (begun_acts files steps ++ end_part body total)
+      (generated : IsGenerated c settings (tests_of steps) (body ++ total) (proofs_of settings steps) total) where
+    all_written : WritesFiles files c settings (begun_acts files settings steps ++ end_part body total)
     unfolding steps_written
     all_written = record {
-      first = begun_acts files steps;
+      first = begun_acts files settings steps;
       begun = steps_written;
       body = body;
       total = total;
@@ -63,16 +63,16 @@ module _ (files : RunFiles) (c : net.Netlist) (settings : Settings) {representat
     }
 
     pub ends_after : {a m b : DeskView} (result : Result (Unit {0}) RunError)
-        → Tries {A = Unit {0}} (begun_acts files steps) (Ok tt) a m → Does (end_part body total) result m b
+        → Tries {A = Unit {0}} (begun_acts files settings steps) (Ok tt) a m → Does (end_part body total) result m b
         → WritesAll files c settings result a b
     ends_after (Ok value) first does = record {
-      acts = begun_acts files steps ++ end_part body total;
+      acts = begun_acts files settings steps ++ end_part body total;
       tries = tries_then first does.tries;
       done = all_written;
       stopped = tt;
     }
     ends_after (Err e) first does = record {
-      acts = begun_acts files steps ++ end_part body total;
+      acts = begun_acts files settings steps ++ end_part body total;
       tries = tries_then first does.tries;
       done = tt;
       stopped = inr (does.only, all_written);
@@ -85,29 +85,35 @@ pub of_circuit : (P : net.Netlist → List ℕ → Type 0) (e : EngineView) {c :
     → e.circuit ≡ c → e.representatives ≡ representatives → P e.circuit e.representatives → P c representatives
 of_circuit P e {c = c} of_c of_r p = subst (λ r. P c r) of_r (subst (λ d. P d e.representatives) of_c p)
 
-pub fits : (steps : List Step) {old new : ℕ} → old ≡ length (proofs_so_far steps) → new ≡ old + length end_text
-    → new ≤ max_text_bytes → length (proofs_of steps) ≤ max_text_bytes
-fits steps count more short =
-    omega (arith, count, more, short, ap length (proofs_end steps), length-append (proofs_so_far steps) end_text)
+pub fits : (settings : Settings) (steps : List Step) {old new : ℕ} → old ≡ length (proofs_so_far settings steps)
+    → new ≡ old + length end_text → new ≤ max_text_bytes → length (proofs_of settings steps) ≤ max_text_bytes
+fits settings steps count more short = omega (
+  arith,
+  count,
+  more,
+  short,
+  ap length (proofs_end settings steps),
+  length-append (proofs_so_far settings steps) end_text,
+)
 
 -- what `write_report` says of a report
 abbrev Reports : net.Netlist → List ℕ → EngineView → List ℕ → List ℕ → Type 0
 Reports c representatives e body total = (steps : List Step) → EngineStandsFor e steps
     → AreFinished c representatives e.settings steps → HasPlainNames c
-    → length (tests_of steps) ≤ max_text_bytes → length (proofs_of steps) ≤ max_text_bytes
-    → IsGenerated c e.settings (tests_of steps) (body ++ total) (proofs_of steps) total
+    → length (tests_of steps) ≤ max_text_bytes → length (proofs_of e.settings steps) ≤ max_text_bytes
+    → IsGenerated c e.settings (tests_of steps) (body ++ total) (proofs_of e.settings steps) total
 
 pub generated : {c : net.Netlist} {representatives : List ℕ} {old new : EngineView} {steps : List Step}
     (body total : List ℕ) → old.circuit ≡ c → old.representatives ≡ representatives → HasSameWork old new
     → EngineStandsFor new steps → AreFinished old.circuit old.representatives old.settings steps → HasPlainNames c
-    → length (tests_of steps) ≤ max_text_bytes → length (proofs_of steps) ≤ max_text_bytes
+    → length (tests_of steps) ≤ max_text_bytes → length (proofs_of new.settings steps) ≤ max_text_bytes
     → Reports c representatives new body total
-    → IsGenerated c old.settings (tests_of steps) (body ++ total) (proofs_of steps) total
+    → IsGenerated c old.settings (tests_of steps) (body ++ total) (proofs_of old.settings steps) total
 generated {c = c} {representatives = representatives} {old = old} {steps = steps} body total of_c of_r same stands
     finished plain tests_fit proofs_fit reports =
     let are = subst (λ (s : Settings). AreFinished c representatives s steps) (sym same.settings)
     (of_circuit (λ d r. AreFinished d r old.settings steps) old of_c of_r finished) in
-    subst (λ (s : Settings). IsGenerated c s (tests_of steps) (body ++ total) (proofs_of steps) total) same.settings
+    subst (λ (s : Settings). IsGenerated c s (tests_of steps) (body ++ total) (proofs_of s steps) total) same.settings
     (reports steps stands are plain tests_fit proofs_fit)
 
 -- ---- what is permitted
@@ -134,10 +140,10 @@ module _ (ports : Ports) (tests : ports.writes Tests ≡ true) (proofs : ports.w
       (made_still Proofs before (step_acts step) of_proofs) steps)
 
   begun_permitted : {files : RunFiles} {c : net.Netlist} {settings : Settings} {acts : List Act}
-      → PermitsAll ports [] (begun_acts files []) → WritesSteps files c settings acts → PermitsAll ports [] acts
-  begun_permitted {files = files} first w = subst (PermitsAll ports []) (sym w.acts_are)
-      (permits_then ports [] (begun_acts files []) (flat_map step_acts w.steps) first
-      (steps_permitted (begun_acts files []) refl refl w.steps))
+      → PermitsAll ports [] (begun_acts files settings []) → WritesSteps files c settings acts → PermitsAll ports [] acts
+  begun_permitted {files = files} {settings = settings} first w = subst (PermitsAll ports []) (sym w.acts_are)
+      (permits_then ports [] (begun_acts files settings []) (flat_map step_acts w.steps) first
+      (steps_permitted (begun_acts files settings []) refl refl w.steps))
 
 -- ---- the end of the job
 
@@ -148,14 +154,12 @@ module _ (netlist tests report proofs : List ℕ) (options : GenOptions) where
   abbrev files : RunFiles
   files = record { netlist = netlist; tests = tests; report = report; proofs = proofs }
 
-  steps_may : {start : List Tern} {c : net.Netlist} {acts : List Act}
-      → WritesSteps files c (settings_of start options) acts
+  steps_may : {settings : Settings} {c : net.Netlist} {acts : List Act} → WritesSteps files c settings acts
       → PermitsAll (writing job) [] acts
   steps_may w = begun_permitted (writing job) refl refl
       ((refl, refl), ((refl, refl), ((refl, refl), ((refl, λ file. refl), tt)))) w
 
-  files_may : {start : List Tern} {c : net.Netlist} {acts : List Act}
-      → WritesFiles files c (settings_of start options) acts
+  files_may : {settings : Settings} {c : net.Netlist} {acts : List Act} → WritesFiles files c settings acts
       → PermitsAll (writing job) [] acts
   files_may w = subst (PermitsAll (writing job) []) (sym w.acts_are)
       (permits_then (writing job) [] w.first (end_part w.body w.total) (steps_may w.begun)
@@ -164,7 +168,7 @@ module _ (netlist tests report proofs : List ℕ) (options : GenOptions) where
 
   pub ends_files : {basis : JobBasis} {a m b : DeskView} → ChangedOnly (reading job) a m → AcceptsInputs job basis a
       → (result : Result (Unit {0}) RunError)
-      → WritesAll files basis.circuit (settings_of basis.content.start options) result m b
+      → WritesAll files basis.circuit (settings_of basis options) result m b
       → EndsJob job result a b
   ends_files x inputs (Ok value) w =
       ends_tries job x inputs w.acts (Ok value) w.tries (files_may w.done) w.done tt
@@ -177,7 +181,31 @@ module _ (netlist tests report proofs : List ℕ) (options : GenOptions) where
     | inr whole ↦ ends_tries job x inputs w.acts (Err e) w.tries (files_may whole.1) tt (inr whole)
   ]
 
-  pub no_more : (p : InPort) → 2 ≤ order_of job p → input_name job p ≡ None
-  no_more Netlist late = absurd (omega (arith, late))
-  no_more Extra late = absurd (omega (arith, late))
-  no_more port late = refl
+  pub no_more : (p : InPort) → 6 ≤ order_of job p → input_name job p ≡ None
+  no_more in_port.Netlist late = absurd (omega (arith, late))
+  no_more in_port.Extra late = absurd (omega (arith, late))
+  no_more in_port.Tests late = absurd (omega (arith, late))
+  no_more in_port.Report late = absurd (omega (arith, late))
+  no_more in_port.Proofs late = absurd (omega (arith, late))
+  no_more in_port.Faults late = absurd (omega (arith, late))
+
+-- ---- what the files that the options name tell the engine
+
+-- the vectors of a file that may be named
+pub given_first : (v : Rows) (name : Option (List ℕ)) (width : ℕ) → v.width ≡ width → (name ≡ None → v.list ≡ [])
+    → v ≡ record { width = width; list = where_named name v.list }
+given_first v (Some name) width is none = ap (λ (n : ℕ). record v { width = n }) is
+given_first v None width is none = ap (λ (n : ℕ). record v { width = n }) is
+    ∙ ap (λ (l : List (List Bool)). record v { width = width; list = l }) (none refl)
+
+-- the numbers of a list of faults that may be there
+abbrev pub numbers_of : Option (List ℕ) → List ℕ
+numbers_of (Some numbers) = numbers
+numbers_of None = []
+
+pub given_numbers : (numbers name : Option (List ℕ)) → is_some numbers ≡ is_some name
+    → numbers ≡ option_map (λ _. numbers_of numbers) name
+given_numbers (Some numbers) (Some name) is = refl
+given_numbers None None is = refl
+given_numbers (Some numbers) None is = cc
+given_numbers None (Some name) is = cc

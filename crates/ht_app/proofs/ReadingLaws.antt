@@ -7,7 +7,7 @@ use Rattle.ht_app.proofs.Common.{HasCause, HasNetlist, HasReadTo, InCall, InPort
 use Rattle.ht_app.proofs.Common.{IsRefusedFor, JobBasis, MakesOutput, ReadFault, ReadStops, RefusesInput, RunError}
 use Rattle.ht_app.proofs.Common.{SaysBasis, Tern, TestsStop, Usage, WasRead, WriteFault, after_trans, input_name}
 use Rattle.ht_app.proofs.Common.{order_of, reading, refused_port}
-use Rattle.ht_ports.specs.declared.ports.InPort.TheVariants.{Netlist, Tests, Report, Proofs}
+use Rattle.ht_ports.specs.declared.ports.InPort.TheVariants.{Netlist, Tests, Report, Proofs, Faults}
 use Rattle.ht_net.specs.Netlist as net
 use Rattle.ht_app.specs.declared.run_error.RunError.TheVariants.{NoMemory, NoSuchFault}
 use Rattle.ht_app.specs.Changed.{IsUnread}
@@ -26,6 +26,7 @@ same_or_other Netlist Netlist = inl refl
 same_or_other Tests Tests = inl refl
 same_or_other Report Report = inl refl
 same_or_other Proofs Proofs = inl refl
+same_or_other Faults Faults = inl refl
 same_or_other Extra Extra = inl refl
 same_or_other p q = inr (λ e. cc)
 
@@ -35,6 +36,7 @@ place_differs is_start Netlist Netlist ne e = absurd (ne refl)
 place_differs is_start Tests Tests ne e = absurd (ne refl)
 place_differs is_start Report Report ne e = absurd (ne refl)
 place_differs is_start Proofs Proofs ne e = absurd (ne refl)
+place_differs is_start Faults Faults ne e = absurd (ne refl)
 place_differs is_start Extra Extra ne e = absurd (ne refl)
 place_differs true p q ne e = absurd (omega (arith, e))
 place_differs false p q ne e = absurd (omega (arith, e))
@@ -293,8 +295,10 @@ abbrev pub basis_from : net.Netlist → List Tern → List (List Bool) → List 
 basis_from c start list rows = record {
   circuit = c;
   rows = rows;
+  chosen = [];
   representatives = [];
   content = record { start = start; list = list; budget = 0; saids = []; entries = [] };
+  follows = false;
 }
 
 -- that of a job that states no start

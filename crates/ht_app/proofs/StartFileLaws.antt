@@ -5,6 +5,7 @@ use Rattle.std.specs.declared.alloc.Global.{Global}
 use Rattle.std.proofs.lemmas.Bool.{cases_eq, cases_lt}
 use Rattle.std.proofs.lemmas.Bool.Decides.{nat_tests}
 use Rattle.std.proofs.lemmas.List.{length-take-le}
+use Rattle.ht_asked.specs.Asked as asked
 use Rattle.ht_app.proofs.Common.{AreFine, Asked, DeskView, EndsReading, Extra, HasFront, HasLines, HasLongLine}
 use Rattle.ht_app.proofs.Common.{HasReadTo, InCall, IsTooLong, JobBasis, LinesStop, ReadStops, RunError, SaysBasis}
 use Rattle.ht_app.proofs.Common.{Tern, WasRead, check, gen, input_name, lines_of, max_text_bytes, order_of}
@@ -137,6 +138,7 @@ says_start (sim netlist tests report start) basis text may is = is
 says_start (gen netlist tests report proofs options) basis text may is = is
 says_start (check netlist tests report proofs start) basis text may is = is
 says_start (respond netlist tests out fault start) basis text may is = is
+says_start (asked.report netlist tests proofs out budget start) basis text may is = is
 says_start job basis text may is = cc
 
 module _ (job : Asked) (may : may_state_start job ≡ true) (basis : JobBasis) (name : List ℕ) (a b : DeskView) where

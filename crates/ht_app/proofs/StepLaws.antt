@@ -109,12 +109,18 @@ runs_out {A} later sizes a stands never =
     nothing_more stands.engine.are (runs_out_first A [] a) tt (λ end. absurd (never end))
 
 pub all_made : {steps : List Step} {old new : EngineView} {step : Step} {sizes : Sizes} (a : DeskView) (End : Type 0)
-    → step ≡ Finished → StandsAt steps old sizes → Makes old new steps step
-    → WritesOn steps End old new sizes (Ok false) a a
-all_made {steps = steps} {old = old} {new = new} a End is stands made =
+    → step ≡ Finished → StandsAt steps old sizes → HasSameWork old new
+    → Makes old new steps step → WritesOn steps End old new sizes (Ok false) a a
+all_made {steps = steps} {old = old} {new = new} {sizes = sizes} a End is stands same made =
     let last : Makes old new steps Finished = subst (Makes old new steps) is made in
     nothing_more stands.engine.are tries_none
-    (record { engine = last.1; tests = stands.tests; proofs = stands.proofs; short = stands.short }) (λ end. last.0)
+    (record {
+      engine = last.1;
+      tests = stands.tests;
+      proofs = subst (λ (s : Settings). sizes.proofs.bytes ≡ length (proofs_so_far s steps)) (sym same.settings)
+          stands.proofs;
+      short = stands.short;
+    }) (λ end. last.0)
 
 -- the bytes of one step more are counted
 counted_more : (bytes more all : List ℕ) (old new : ℕ) → all ≡ bytes ++ more → old ≡ length bytes
@@ -123,14 +129,16 @@ counted_more bytes more all old new is before counts =
     omega (arith, counts, before, ap length is, length-append bytes more)
 
 module _ {A : Type 0} {steps : List Step} {old new : EngineView} {step : Step} {before : Sizes} (after : Sizes)
-    (stands : StandsAt steps old before) (made : MakesStep old new steps step) where
+    (stands : StandsAt steps old before) (same : HasSameWork old new) (made : MakesStep old new steps step) where
   stands_later : (result : Result A RunError) → OnOk result (CountsStep step before after)
       → OnOk result (StandsAt (steps ++ step ∷ []) new after)
   stands_later (Ok value) counts = record {
     engine = made.stands;
     tests = counted_more (tests_of steps) (tests_step step) _ _ _ (tests_grow steps step) stands.tests counts.tests;
-    proofs = counted_more (proofs_so_far steps) (proofs_step step) _ _ _ (proofs_grow steps step) stands.proofs
-        counts.proofs;
+    proofs = subst (λ (s : Settings). after.proofs.bytes ≡ length (proofs_so_far s (steps ++ step ∷ [])))
+        (sym same.settings)
+        (counted_more (proofs_so_far old.settings steps) (proofs_step step) _ _ _
+        (proofs_grow old.settings steps step) stands.proofs counts.proofs);
     short = counts.short stands.short;
   }
   stands_later (Err error) counts = tt

@@ -12,6 +12,7 @@ pub data Act : Type 0 where
   make : OutPort → List ℕ → Act
   put : OutPort → List ℕ → Act
 
+-- both are the same port
 abbrev pub is_port : OutPort → OutPort → Bool
 is_port Tests Tests = true
 is_port Report Report = true
@@ -22,11 +23,12 @@ is_port p q = false
 
 -- ---- what acts leave
 
--- what stands at a port after an act, and the name of its file
+-- what stands at a port after an act
 abbrev pub written_by : OutPort → Act → Option (List ℕ) → Option (List ℕ)
 written_by p (make port name) written = if is_port p port then option_map (λ _. []) written else written
 written_by p (put port text) written = if is_port p port then append_known written text else written
 
+-- the name of the port's file after an act
 abbrev pub named_by : OutPort → Act → Option (List ℕ) → Option (List ℕ)
 named_by p (make port name) named = if is_port p port then option_map (λ _. name) named else named
 named_by p (put port text) named = named
@@ -36,11 +38,12 @@ abbrev pub makes : OutPort → Act → Bool
 makes p (make port name) = is_port p port
 makes p (put port text) = false
 
--- the same after some acts, each after the one before
+-- what stands at a port after some acts, each after the one before
 abbrev pub written_after : OutPort → List Act → Option (List ℕ) → Option (List ℕ)
 written_after p [] written = written
 written_after p (act ∷ acts) written = written_after p acts (written_by p act written)
 
+-- the name of the port's file after them
 abbrev pub named_after : OutPort → List Act → Option (List ℕ) → Option (List ℕ)
 named_after p [] named = named
 named_after p (act ∷ acts) named = named_after p acts (named_by p act named)

@@ -4,7 +4,8 @@ use Rattle.ht_ports.specs.LineRule.{max_text_bytes}
 use Rattle.ht_ports.specs.Desk.{DeskView}
 use Rattle.ht_net.specs.Netlist as net
 use Rattle.ht_engine.specs.declared.step.Step.{Step}
-use Rattle.ht_engine.specs.Steps.{AreFinished, AreSteps, Settings}
+use Rattle.ht_engine.specs.declared.settings.Settings.{Settings}
+use Rattle.ht_engine.specs.Steps.{AreFinished, AreSteps}
 use Rattle.ht_engine.specs.EngineStands.{EngineStandsFor, EngineView}
 use Rattle.ht_files.specs.StepTexts.{proofs_so_far, proofs_step, tests_of, tests_step}
 use Rattle.ht_words.specs.declared.job.RunFiles.{RunFiles}
@@ -29,7 +30,7 @@ pub record CountsStep (step : Step) (old new : Sizes) : Type 0 where
 pub record StandsAt (steps : List Step) (e : EngineView) (sizes : Sizes) : Type 0 where
   pub engine : EngineStandsFor e steps
   pub tests : sizes.tests.bytes ≡ length (tests_of steps)
-  pub proofs : sizes.proofs.bytes ≡ length (proofs_so_far steps)
+  pub proofs : sizes.proofs.bytes ≡ length (proofs_so_far e.settings steps)
   pub short : sizes.tests.bytes ≤ max_text_bytes
 
 -- The engine's next steps are tried to be written; where this holds, they are all.

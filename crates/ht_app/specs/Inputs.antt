@@ -1,13 +1,13 @@
 -- What the files that a job reads say.
-use Rattle.std.specs.Prelude.{◌≡◌, ◌≢◌, ◌<◌, ◌≤◌, ℕ, List, length, Option, Some, None, IsSome}
-use Rattle.std.specs.List.{All}
+use Rattle.std.specs.Prelude.{◌≡◌, ◌≢◌, ◌<◌, ◌≤◌, ℕ, Bool, List, length, Option, Some, None, IsSome}
 use Rattle.ht_ports.specs.Desk.{DeskView}
 use Rattle.ht_ports.specs.declared.ports.InPort.{InPort}
-use Rattle.ht_ports.specs.declared.ports.InPort.TheVariants.{Netlist, Tests, Report, Proofs, Extra}
+use Rattle.ht_ports.specs.declared.ports.InPort.TheVariants.{Netlist, Tests, Report, Proofs, Faults, Extra}
 use Rattle.ht_tern.specs.declared.tern.Tern.{Tern}
 use Rattle.ht_net.specs.Netlist as net
 use Rattle.ht_net.specs.Detection.{unknown_state}
 use Rattle.ht_bench.specs.Text.{max_netlist_bytes, IsNetlistOf}
+use Rattle.ht_texts.specs.FaultListTexts.{IsFaultListText}
 use Rattle.ht_texts.specs.StartTexts.{IsStartText}
 use Rattle.ht_texts.specs.Tests.{IsTestText}
 use Rattle.ht_texts.specs.Verdicts.{said_at}
@@ -17,7 +17,8 @@ use Rattle.ht_compact.specs.TestsToCompact.{IsTestTextToCompact}
 use Rattle.ht_dictionary.specs.ResponseTexts.{IsResponseText}
 use Rattle.ht_faults.specs.Sites.{faults_of}
 use Rattle.ht_collapse.specs.Classes.{AreClasses}
-use Rattle.ht_valid.specs.ValidFiles.{AgreesWithTests, Content, HasEntry, IsBacking, IsOwn, NeedsEntry}
+use Rattle.ht_valid.specs.ValidFiles.{AgreesWithTests, Content, IsJustified, IsOwn}
+use Rattle.ht_asked.specs.Asked as asked
 use Rattle.ht_asked.specs.Asked.{Asked, check, compact, diagnose, respond}
 use Rattle.ht_app.specs.Jobs.{input_name, order_of, start_name}
 
@@ -49,12 +50,15 @@ HasNetlist c = (text : List ℕ) × IsGoodNetlist text c
 -- ---- all files of a job
 
 -- What the files say, by which a job goes: the netlist's circuit; the start; the vectors of the tests; the rows of the
--- responses; and of `check` the classes of faults, and what the report and the proofs say.
+-- responses; the numbers of the faults that `gen` works on; of `check` and `report` the classes of faults, and what the
+-- report and the proofs say; and whether there is no report, so that the verdicts follow the proofs.
 pub record JobBasis : Type 0 where
   pub circuit : net.Netlist
   pub rows : List (List Tern)
+  pub chosen : List ℕ
   pub representatives : List ℕ
   pub content : Content
+  pub follows : Bool
 
 -- The text is the report of a search that says this, and agrees with the vectors.
 pub record IsGoodReport (c : net.Netlist) (representatives : List ℕ) (content : Content) (text : List ℕ) : Type 0 where
@@ -66,16 +70,17 @@ pub record IsGoodReport (c : net.Netlist) (representatives : List ℕ) (content 
 abbrev pub IsStated : Asked → JobBasis → Type 0
 IsStated job basis = start_name job ≡ None → basis.content.start ≡ unknown_state basis.circuit
 
--- The text has these entries, each of which backs what the report says, and none that is needed is missing.
+-- The text has these entries, and with the vectors they justify what is said of the faults: each backs what is said of
+-- its fault, and none that is needed is missing.
 pub record AreGoodProofs (c : net.Netlist) (representatives : List ℕ) (content : Content) (text : List ℕ) : Type 0 where
   pub proved : IsProofText content.entries text
-  pub backed : All (IsBacking c representatives content) content.entries
-  pub complete : (i : ℕ) → IsOwn c representatives i → NeedsEntry (said_at content.saids i)
-      → HasEntry content.entries i
+  pub justified : IsJustified c representatives content
 
 -- The text of a job's file says its part of the basis.
 abbrev pub SaysBasis : Asked → JobBasis → InPort → List ℕ → Type 0
 SaysBasis (check netlist tests report proofs start) basis Netlist text =
+    IsGoodNetlist text basis.circuit × AreClasses basis.circuit basis.representatives
+SaysBasis (asked.report netlist tests proofs out budget start) basis Netlist text =
     IsGoodNetlist text basis.circuit × AreClasses basis.circuit basis.representatives
 SaysBasis job basis Netlist text = IsGoodNetlist text basis.circuit
 SaysBasis (compact netlist tests out) basis Tests text = IsTestTextToCompact basis.circuit text basis.content.list
@@ -83,7 +88,10 @@ SaysBasis job basis Tests text = IsTestText basis.circuit text basis.content.lis
 SaysBasis (diagnose netlist tests responses out) basis Extra text =
     IsResponseText (length basis.circuit.outputs) (length basis.content.list) text basis.rows
 SaysBasis job basis Extra text = IsStartText (length basis.circuit.dffs) text basis.content.start
+SaysBasis job basis Faults text = IsFaultListText (length (faults_of basis.circuit)) text basis.chosen
 SaysBasis job basis Report text = IsGoodReport basis.circuit basis.representatives basis.content text
+SaysBasis (asked.report netlist tests proofs out budget start) basis Proofs text =
+    (basis.content.budget ≡ budget) × AreGoodProofs basis.circuit basis.representatives basis.content text
 SaysBasis job basis Proofs text = AreGoodProofs basis.circuit basis.representatives basis.content text
 
 -- the number of a fault, from 1, is that of one of the circuit, where one is given
@@ -106,7 +114,8 @@ abbrev pub AcceptsBefore : Asked → JobBasis → InPort → DeskView → Type 0
 AcceptsBefore job basis port old =
     (p : InPort) → order_of job p < order_of job port → AcceptsFile job basis p old
 
--- All were; and the circuit is that of a netlist, and the start all-unknown where none is stated, whatever the desk tells.
+-- All were; and the circuit is that of a netlist, and the start all-unknown where none is stated, whatever the desk
+-- tells.
 pub record AcceptsInputs (job : Asked) (basis : JobBasis) (old : DeskView) : Type 0 where
   pub stated : IsStated job basis
   pub each : (port : InPort) → AcceptsFile job basis port old

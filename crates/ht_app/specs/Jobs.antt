@@ -5,14 +5,8 @@ use Rattle.ht_ports.specs.declared.ports.InPort.{InPort}
 use Rattle.ht_ports.specs.declared.ports.InPort.TheVariants as in_port
 use Rattle.ht_ports.specs.declared.ports.OutPort.{OutPort}
 use Rattle.ht_ports.specs.declared.ports.OutPort.TheVariants.{Tests, Report, Proofs}
-use Rattle.ht_tern.specs.declared.tern.Tern.{Tern}
-use Rattle.ht_asked.specs.Asked.{Asked, sim, gen, check, norm, compact, diagnose, uninit, sync, respond, GenOptions}
-use Rattle.ht_engine.specs.Steps.{Settings}
-
--- what the start and the options of `gen` tell the generator
-abbrev pub settings_of : List Tern → GenOptions → Settings
-settings_of start options =
-    record { budget = options.budget; random = options.random; seed = options.seed; start = start }
+use Rattle.ht_asked.specs.Asked as asked
+use Rattle.ht_asked.specs.Asked.{Asked, sim, gen, check, norm, compact, diagnose, uninit, sync, respond}
 
 -- the file that the job reads from the port
 abbrev pub input_name : Asked → InPort → Option (List ℕ)
@@ -21,6 +15,8 @@ input_name (sim netlist tests report start) in_port.Extra = start
 input_name (sim netlist tests report start) in_port.Tests = Some tests
 input_name (gen netlist tests report proofs options) in_port.Netlist = Some netlist
 input_name (gen netlist tests report proofs options) in_port.Extra = options.start
+input_name (gen netlist tests report proofs options) in_port.Tests = options.first
+input_name (gen netlist tests report proofs options) in_port.Faults = options.faults
 input_name (check netlist tests report proofs start) in_port.Netlist = Some netlist
 input_name (check netlist tests report proofs start) in_port.Extra = start
 input_name (check netlist tests report proofs start) in_port.Tests = Some tests
@@ -37,6 +33,10 @@ input_name (sync netlist tests out budget) in_port.Netlist = Some netlist
 input_name (respond netlist tests out fault start) in_port.Netlist = Some netlist
 input_name (respond netlist tests out fault start) in_port.Extra = start
 input_name (respond netlist tests out fault start) in_port.Tests = Some tests
+input_name (asked.report netlist tests proofs out budget start) in_port.Netlist = Some netlist
+input_name (asked.report netlist tests proofs out budget start) in_port.Extra = start
+input_name (asked.report netlist tests proofs out budget start) in_port.Tests = Some tests
+input_name (asked.report netlist tests proofs out budget start) in_port.Proofs = Some proofs
 input_name _ _ = None
 
 -- the job may state a start, which it reads from the port Extra
@@ -45,6 +45,7 @@ may_state_start (sim netlist tests report start) = true
 may_state_start (gen netlist tests report proofs options) = true
 may_state_start (check netlist tests report proofs start) = true
 may_state_start (respond netlist tests out fault start) = true
+may_state_start (asked.report netlist tests proofs out budget start) = true
 may_state_start _ = false
 
 -- the file of the start, where the job states one
@@ -64,6 +65,7 @@ output_name (uninit netlist out budget) Report = Some out
 output_name (sync netlist tests out budget) Tests = Some tests
 output_name (sync netlist tests out budget) Report = Some out
 output_name (respond netlist tests out fault start) Report = Some out
+output_name (asked.report netlist tests proofs out budget start) Report = Some out
 output_name _ _ = None
 
 -- the place of a port in the order of reading: what the port Extra has is read before the tests where it is a start, and
@@ -76,6 +78,7 @@ place_of in_port.Tests true = 2
 place_of in_port.Tests false = 1
 place_of in_port.Report is_start = 3
 place_of in_port.Proofs is_start = 4
+place_of in_port.Faults is_start = 5
 
 -- the order in which a job reads its files, each whole before the next is opened
 abbrev pub order_of : Asked → InPort → ℕ

@@ -1,5 +1,5 @@
 -- What the reading of a file leaves that is judged line by line.
-use Rattle.std.specs.Prelude.{◌≡◌, ◌⊎◌, ◌<◌, ◌≤◌, ◌+◌, ◌++◌, ◌∷◌, ℕ, List, [], Bool, Option, Vec, length, map, take, get_or, MatchOption}
+use Rattle.std.specs.Prelude.{◌≡◌, ◌⊎◌, ◌<◌, ◌≤◌, ◌+◌, ◌++◌, ◌∷◌, ℕ, List, [], Bool, true, false, Option, Vec, length, map, take, get_or, MatchOption}
 use Rattle.std.specs.List.{All}
 use Rattle.std.specs.declared.alloc.Global.{Global}
 use Rattle.ht_ports.specs.Desk.{DeskView}
@@ -17,11 +17,13 @@ use Rattle.ht_texts.specs.Tests.{IsTooLong, vector_text}
 use Rattle.ht_texts.specs.Verdicts.{said_at}
 use Rattle.ht_texts.specs.SearchReports.{IsReportFront}
 use Rattle.ht_entries.specs.ProofReading.{IsMalformedAfter}
-use Rattle.ht_valid.specs.ValidFiles.{AgreesWithTests, Content, HasEntry, IsBacking, IsOwn, NeedsEntry}
-use Rattle.ht_valid.specs.FirstTrouble.{ContradictsTests, IsFaultTrouble}
+use Rattle.ht_valid.specs.ValidFiles.{AgreesWithTests, Content, IsJustified, IsOwn}
+use Rattle.ht_valid.specs.FirstTrouble.{ContradictsTests, IsEvidenceTrouble, IsFaultTrouble, IsFirstFault, IsFirstProofLine}
 use Rattle.ht_valid.specs.declared.trouble.Trouble.TheVariants.{Report, Proofs, Fault}
+use Rattle.ht_entries.specs.declared.numbered.Numbered.{Numbered}
+use Rattle.ht_judge.specs.declared.report_judge.Claims.{Claims}
 use Rattle.ht_judge.specs.ReportJudging.{ReportJudgeView, JudgesReport}
-use Rattle.ht_judge.specs.ProofJudging.{ProofJudgeView, JudgesProofs}
+use Rattle.ht_judge.specs.ProofJudging.{ProofJudgeView, FollowsProofs, JudgesProofs}
 use Rattle.ht_app.specs.declared.run_error.RunError.{RunError}
 use Rattle.ht_app.specs.declared.run_error.RunError.TheVariants.{Denied, ReadFault, NoMemory}
 use Rattle.ht_app.specs.Inputs.{AreGoodProofs, IsGoodReport, JobBasis, WasRead}
@@ -91,10 +93,25 @@ LinesStop IsWrong error_at longest most port name old new error = ((error ≡ Re
     ⊎ (error ≡ NoMemory) ⊎ StopsAtLine IsWrong most error port name old
     ⊎ ((line : ℕ) × (error ≡ error_at line) × StopsAtLong IsWrong longest most line port name old)
 
--- by what the files are judged: the netlist's circuit, its classes, and what the other files say
+-- by what the files are judged: the netlist's circuit, its classes, and what the other files say, with a report or
+-- without
+abbrev pub judged_basis : Bool → Netlist → List ℕ → Content → JobBasis
+judged_basis follows c representatives content = record {
+  circuit = c;
+  rows = [];
+  chosen = [];
+  representatives = representatives;
+  content = content;
+  follows = follows;
+}
+
+-- that of files with a report
 abbrev pub check_basis : Netlist → List ℕ → Content → JobBasis
-check_basis c representatives content =
-    record { circuit = c; rows = []; representatives = representatives; content = content }
+check_basis = judged_basis false
+
+-- that of files without one
+abbrev pub report_basis : Netlist → List ℕ → Content → JobBasis
+report_basis = judged_basis true
 
 -- ---- the report
 
@@ -122,27 +139,60 @@ pub record ReportIsRead (basis : JobBasis) (name : List ℕ) (old : DeskView) : 
 
 -- ---- the proofs
 
+-- the judge goes by what a report says, or follows the proofs
+abbrev pub JudgesBy : Bool → ProofJudgeView → Content → List (List ℕ) → Type 0
+JudgesBy false = JudgesProofs
+JudgesBy true = FollowsProofs
+
+-- what is wrong with an entry then
+abbrev pub IsTroubleBy : Bool → Netlist → List ℕ → Content → List (List ℕ) → List ℕ → ℕ → Type 0
+IsTroubleBy false = IsFaultTrouble
+IsTroubleBy true = IsEvidenceTrouble
+
+-- the same by a basis
+abbrev pub IsTroubleIn : JobBasis → List (List ℕ) → List ℕ → ℕ → Type 0
+IsTroubleIn basis = IsTroubleBy basis.follows basis.circuit basis.representatives (before_proofs basis.content)
+
 -- The judge stands for these lines of proofs, by the basis.
 pub record StandsForProofs (v : ProofJudgeView) (basis : JobBasis) (lines : List (List ℕ)) : Type 0 where
   pub circuit : v.circuit ≡ basis.circuit
   pub representatives : v.representatives ≡ basis.representatives
-  pub judges : JudgesProofs v (before_proofs basis.content) lines
+  pub judges : JudgesBy basis.follows v (before_proofs basis.content) lines
 
--- the line isn't one of proofs after these, or an entry is wrong or missing with it
+-- the line isn't one of proofs after these, or something is wrong with an entry with it
 abbrev pub IsWrongInProofs : JobBasis → List (List ℕ) → List ℕ → RunError → Type 0
 IsWrongInProofs basis before line (Denied (Proofs number)) = (number ≡ length before + 1) × IsMalformedAfter before line
-IsWrongInProofs basis before line (Denied (Fault number)) =
-    IsFaultTrouble basis.circuit basis.representatives (before_proofs basis.content) before line number
+IsWrongInProofs basis before line (Denied (Fault number)) = IsTroubleIn basis before line number
 IsWrongInProofs basis before line other = ⊥
 
--- The proofs of this name have the entries of the content, which back what the report says; none that is needed is
--- missing.
+-- What is said of each representative agrees with the vectors.
+abbrev pub AgreeWithTests : Netlist → List ℕ → Content → Type 0
+AgreeWithTests c representatives content = (i : ℕ) → IsOwn c representatives i
+    → AgreesWithTests c content.start content.list i (said_at content.saids i)
+
+-- The proofs of this name have the entries of the content, which justify what is said of the faults.
 pub record ProofsAreRead (c : Netlist) (representatives : List ℕ) (content : Content) (name : List ℕ) (old : DeskView)
     : Type 0 where
-  pub backed : All (IsBacking c representatives content) content.entries
-  pub complete : (i : ℕ) → IsOwn c representatives i → NeedsEntry (said_at content.saids i)
-      → HasEntry content.entries i
+  pub justified : IsJustified c representatives content
   pub read : WasRead in_port.Proofs name (AreGoodProofs c representatives content) old
+
+-- The proofs of this name have some entries, which with the vectors justify these claims for the budget.
+pub record VerdictsAreRead (c : Netlist) (representatives : List ℕ) (content : Content) (name : List ℕ) (old : DeskView)
+    (claims : Claims) : Type 0 where
+  pub budget : claims.budget ≡ content.budget
+  pub each : length claims.saids.items ≡ length (faults_of c)
+  pub entries : List Numbered
+  pub are : ProofsAreRead c representatives (record content { saids = claims.saids.items; entries = entries }) name old
+
+-- why reading proofs ends the run
+abbrev pub ProofsStop : JobBasis → List ℕ → DeskView → DeskView → RunError → Type 0
+ProofsStop basis name old new (Denied (Proofs line)) =
+    WasRead in_port.Proofs name (λ text. IsFirstProofLine (IsTroubleIn basis) text line) old
+ProofsStop basis name old new (Denied (Fault number)) =
+    WasRead in_port.Proofs name (λ text. IsFirstFault (IsTroubleIn basis) text number) old
+ProofsStop basis name old new ReadFault = IsReadFault name old new
+ProofsStop basis name old new NoMemory = Unit {0}
+ProofsStop basis name old new error = ⊥
 
 -- ---- the start, the tests, and the responses
 

@@ -1,5 +1,5 @@
 -- What each command does to its outputs.
-use Rattle.std.specs.Prelude.{◌≡◌, ◌-◌, ◌++◌, ◌∷◌, ℕ, List, [], flat_map, codes, Some, Option, None, Bool, length}
+use Rattle.std.specs.Prelude.{◌≡◌, ◌-◌, ◌++◌, ◌∷◌, ℕ, List, [], flat_map, codes, Some, Option, None, Bool, true, false, length, option_map}
 use Rattle.ht_ports.specs.declared.ports.OutPort.{OutPort}
 use Rattle.ht_ports.specs.declared.ports.OutPort.TheVariants.{Tests, Report, Proofs, Out}
 use Rattle.ht_net.specs.Netlist as net
@@ -10,17 +10,23 @@ use Rattle.ht_texts.specs.Reports.{head_line, report_text, report_sums, total_li
 use Rattle.ht_entries.specs.ProofLines.{line_text}
 use Rattle.ht_entries.specs.declared.proof_line.ProofLine.TheVariants.{End}
 use Rattle.ht_collapse.specs.Classes.{AreClasses, fault_at}
-use Rattle.ht_valid.specs.TrueVerdicts.{AreDecided, HaveTrueVerdicts}
+use Rattle.ht_valid.specs.ValidFiles.{IsJustified}
+use Rattle.ht_texts.specs.SearchReports.{IsReportText}
+use Rattle.ht_valid.specs.TrueVerdicts.{AreDecided, HaveTrueVerdicts, IsWorkedOn}
 use Rattle.ht_demo.specs.Demo.{demo_netlist}
 use Rattle.ht_engine.specs.declared.step.Step.{Step}
 use Rattle.ht_engine.specs.declared.step.Step.TheVariants.{Vectors, Entry, Finished}
-use Rattle.ht_engine.specs.Steps.{AreSteps, Settings}
+use Rattle.ht_engine.specs.Steps.{AreSteps}
+use Rattle.ht_engine.specs.declared.settings.Search.{Search}
+use Rattle.ht_engine.specs.declared.settings.Search.TheVariants.{Plain, Deep}
+use Rattle.ht_engine.specs.declared.settings.Settings.{Settings}
 use Rattle.ht_files.specs.Generated.{IsGenerated, IsTotalOf}
 use Rattle.ht_files.specs.StepTexts.{proofs_of, proofs_so_far, step_text, tests_of}
 use Rattle.ht_faults.specs.Sites.{faults_of}
 use Rattle.ht_uninit.specs.Records.{IsUninit, UninitHolds, UninitState}
 use Rattle.ht_uninit.specs.UninitTexts.{uninit_text, uninit_total}
-use Rattle.ht_asked.specs.Asked.{Asked, sim, gen, check, norm, demo, compact, diagnose, uninit, sync, respond}
+use Rattle.ht_asked.specs.Asked as asked
+use Rattle.ht_asked.specs.Asked.{Asked, GenOptions, sim, gen, check, norm, demo, compact, diagnose, uninit, sync, respond}
 use Rattle.ht_sync.specs.SyncSearches.{FindsWithin, IsSynchronized, SynchronizedHolds}
 use Rattle.ht_sync.specs.SyncTexts.{last_sync_line, sync_list, sync_said, sync_text}
 use Rattle.ht_sync.specs.declared.synchronizing.Synchronized.{Synchronized}
@@ -28,11 +34,11 @@ use Rattle.ht_words.specs.declared.job.RunFiles.{RunFiles}
 use Rattle.ht_app.specs.declared.demo.TheConstants.{DEMO_BUDGET, DEMO_RANDOM}
 use Rattle.ht_app.specs.Acts.{Act, make, put}
 use Rattle.ht_app.specs.Inputs.{IsListed, JobBasis}
-use Rattle.ht_app.specs.Jobs.{settings_of}
 use Rattle.ht_net.specs.declared.fault.Fault.{Fault}
 use Rattle.ht_net.specs.declared.place.Place.{Place}
 use Rattle.ht_net.specs.Netlist.{Netlist}
 use Rattle.ht_grade.specs.Detections.{AreFirstDetections}
+use Rattle.ht_texts.specs.declared.said.Said.{Said}
 use Rattle.ht_texts.specs.Verdicts.{saids_of}
 use Rattle.ht_texts.specs.Tests.{test_text}
 use Rattle.ht_compact.specs.Compacts.{Compacts}
@@ -51,6 +57,7 @@ abbrev pub ending : OutPort → List ℕ → List Act
 ending Report total = put Report total ∷ []
 ending port total = []
 
+-- The file is made with its body, the total line is said on Out, and a report ends with it.
 abbrev pub file_acts : OutPort → List ℕ → List ℕ → List ℕ → List Act
 file_acts port name body total = make port name ∷ put port body ∷ put Out total ∷ ending port total
 
@@ -64,13 +71,47 @@ pub record WritesFile (port : OutPort) (name : List ℕ) (AreSo : List ℕ → L
 
 -- ---- `check`
 
--- The files say one verdict for each fault, which is true, and what the budget is enough for is decided.
+-- What is said of the faults is justified by the vectors and the entries: one verdict for each fault, which is true;
+-- and what the budget is enough for is decided.
 pub record AreTrue (basis : JobBasis) : Type 0 where
   pub classes : AreClasses basis.circuit basis.representatives
+  pub justified : IsJustified basis.circuit basis.representatives basis.content
   pub verdicts : HaveTrueVerdicts basis.circuit basis.representatives basis.content
-  pub decided : AreDecided basis.circuit basis.representatives basis.content
+  pub decided : AreDecided basis.circuit basis.representatives (IsWorkedOn basis.content) basis.content
+
+-- ---- `report`
+
+-- The report of a circuit with this budget, which says this of the faults. The total line is its last.
+pub record IsReportOfVerdicts (c : Netlist) (representatives : List ℕ) (budget : ℕ) (saids : List Said)
+    (report total : List ℕ) : Type 0 where
+  pub report_is : report ≡ report_text c representatives (Some budget) saids
+  pub reported : IsReportText c representatives report budget saids
+  pub total_is : total ≡ with_lf (total_line (report_sums representatives (Some budget) saids))
 
 -- ---- `gen`
+
+-- what a file says, where one is named, and else nothing
+abbrev pub where_named : {A : Type 0} → Option (List ℕ) → List A → List A
+where_named (Some name) said = said
+where_named None said = []
+
+-- the kind of search, deep or not
+abbrev pub search_of : Bool → Search
+search_of true = Deep
+search_of false = Plain
+
+-- what the options of `gen`, and the files that they name, tell the generator
+abbrev pub settings_of : JobBasis → GenOptions → Settings
+settings_of basis options = record {
+  budget = options.budget;
+  random = options.random;
+  seed = options.seed;
+  weighted = options.weighted;
+  search = search_of options.deep;
+  start = basis.content.start;
+  first = record { width = basis.circuit.inputs; list = where_named options.first basis.content.list };
+  chosen = option_map (λ _. basis.chosen) options.faults;
+}
 
 -- the creation of the three files
 abbrev pub creation : RunFiles → List Act
@@ -88,7 +129,7 @@ pub record WritesSteps (files : RunFiles) (c : net.Netlist) (settings : Settings
   pub steps : List Step
   pub classes : AreClasses c representatives
   pub steps_are : AreSteps c representatives settings steps
-  pub acts_are : acts ≡ creation files ++ put Proofs (proofs_so_far []) ∷ flat_map step_acts steps
+  pub acts_are : acts ≡ creation files ++ put Proofs (proofs_so_far settings []) ∷ flat_map step_acts steps
 
 -- All steps, and then the end of the proofs and the report. The three files and the total line are those of a finished
 -- run of the generator.
@@ -99,14 +140,23 @@ pub record WritesFiles (files : RunFiles) (c : net.Netlist) (settings : Settings
   pub total : List ℕ
   pub acts_are : acts ≡ first
       ++ put Proofs (with_lf (line_text End)) ∷ put Report body ∷ put Out total ∷ ending Report total
-  pub generated : IsGenerated c settings (tests_of begun.steps) (body ++ total) (proofs_of begun.steps) total
+  pub generated : IsGenerated c settings (tests_of begun.steps) (body ++ total) (proofs_of settings begun.steps) total
 
 -- ---- `demo`
 
--- the budget of each search, how many random vectors come first, and their seed, from all-unknown
+-- the budget of each search, how many random vectors come first, and their seed, from all-unknown; all faults are worked
+-- on, plainly
 abbrev pub demo_settings : net.Netlist → ℕ → Settings
-demo_settings c seed =
-    record { budget = DEMO_BUDGET; random = DEMO_RANDOM; seed = seed; start = unknown_state c }
+demo_settings c seed = record {
+  budget = DEMO_BUDGET;
+  random = DEMO_RANDOM;
+  seed = seed;
+  weighted = 0;
+  search = Plain;
+  start = unknown_state c;
+  first = record { width = c.inputs; list = [] };
+  chosen = None;
+}
 
 -- The head line of a report on the netlist is said.
 pub record SaysHead (size seed : ℕ) (acts : List Act) : Type 0 where
@@ -233,7 +283,7 @@ MakesOutput (sim netlist tests report start) basis acts =
     (λ body total. IsReportOf basis.circuit basis.content.start basis.content.list (body ++ total) total) acts
 MakesOutput (gen netlist tests report proofs options) basis acts =
     WritesFiles (record { netlist = netlist; tests = tests; report = report; proofs = proofs }) basis.circuit
-    (settings_of basis.content.start options) acts
+    (settings_of basis options) acts
 MakesOutput (check netlist tests report proofs start) basis acts = AreTrue basis × (acts ≡ put Out (codes "valid\n") ∷ [])
 MakesOutput (norm netlist out) basis acts = acts ≡ make Report out ∷ put Report (normal_text basis.circuit) ∷ []
 MakesOutput (demo size seed) basis acts = SaysTotals size seed acts
@@ -247,11 +297,14 @@ MakesOutput (uninit netlist out budget) basis acts =
 MakesOutput (sync netlist tests out budget) basis acts = WritesSync tests out basis.circuit budget acts
 MakesOutput (respond netlist tests out number start) basis acts =
     WritesResponses out basis.circuit number basis.content.start basis.content.list acts
+MakesOutput (asked.report netlist tests proofs out budget start) basis acts =
+    (basis.content.budget ≡ budget) × AreTrue basis × WritesFile Report out (λ body total. IsReportOfVerdicts
+    basis.circuit basis.representatives basis.content.budget basis.content.saids (body ++ total) total) acts
 
 -- What it does while it may still ask for memory.
 abbrev pub BeginsOutput : Asked → JobBasis → List Act → Type 0
 BeginsOutput (gen netlist tests report proofs options) basis acts =
     WritesSteps (record { netlist = netlist; tests = tests; report = report; proofs = proofs }) basis.circuit
-    (settings_of basis.content.start options) acts
+    (settings_of basis options) acts
 BeginsOutput (demo size seed) basis acts = SaysHead size seed acts
 BeginsOutput job basis acts = ⊥

@@ -19,9 +19,10 @@ use crate::output::put;
 use crate::run_error::RunError;
 use ht_bench::read;
 use ht_demo::netlist_text;
-use ht_engine::{Engine, Step};
+use ht_engine::{Engine, Search, Settings, Step};
 use ht_files::write_total_of;
-use ht_net::Circuit;
+use ht_items::Items;
+use ht_net::{Circuit, Vectors, unknown_start};
 use ht_ports::{Desk, OutPort};
 use ht_texts::write_head;
 use std::alloc::{AllocError, Global};
@@ -115,6 +116,23 @@ fn make_total(
     Ok(total)
 }
 
+// What the engine is told: no start, no first vectors, and a plain search for all faults.
+fn settings_for(alloc: Global, circuit: &Circuit, seed: u64) -> Result<Settings, AllocError>
+    ensures { IfOk result (λ settings. settings ≡ demo_settings circuit.now seed) }
+{
+    let start = unknown_start(alloc, circuit)?;
+    Ok(Settings {
+        budget: DEMO_BUDGET,
+        random: DEMO_RANDOM,
+        seed,
+        weighted: 0,
+        search: Search::Plain,
+        start: Items::from_vec(start),
+        first: Vectors::new(alloc, circuit.inputs()),
+        chosen: None,
+    })
+}
+
 // The total line of the report on the circuit.
 fn find_total(alloc: Global, prepared: &Prepared, seed: u64) -> Result<Vec<u8>, AllocError>
     requires faults { prepared.now.listed.faults ≡ faults_of prepared.now.circuit }
@@ -123,14 +141,13 @@ fn find_total(alloc: Global, prepared: &Prepared, seed: u64) -> Result<Vec<u8>, 
         (λ total. IsTotalOf prepared.now.circuit (demo_settings prepared.now.circuit seed)
         total.items) }
 {
+    let settings = settings_for(alloc, &prepared.circuit, seed)?;
     let mut engine = Engine::new(
         alloc,
         &prepared.circuit,
         &prepared.listed.faults,
         &prepared.listed.classes,
-        DEMO_BUDGET,
-        DEMO_RANDOM,
-        seed,
+        &settings,
     )?;
     make_total(alloc, prepared, &mut engine)
 }

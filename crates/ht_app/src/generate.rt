@@ -8,9 +8,11 @@ ghost use Rattle.ht_faults.specs.Sites.{faults_of};
 ghost use Rattle.ht_collapse.specs.Classes.{AreClasses};
 ghost use Rattle.ht_texts.specs.SearchReports.{HasPlainNames};
 ghost use Rattle.ht_asked.specs.declared.limits.TheConstants.{MAX_BUDGET, MIN_BUDGET};
-ghost use Rattle.ht_words.specs.Jobs.{asked_by};
+ghost use Rattle.ht_asked.specs.Ranges.{AreOptions};
+ghost use Rattle.ht_words.specs.Jobs.{asked_by, options_by};
 ghost use Rattle.ht_words.specs.declared.job.Job.TheVariants as job_of;
 ghost use Rattle.ht_app.specs.Generating.{WritesAll};
+ghost use Rattle.ht_app.specs.Outputs.{search_of};
 ghost use Rattle.ht_app.specs.Steps.{EndsJob};
 
 mod create;
@@ -18,74 +20,107 @@ mod fill;
 pub mod sizes;
 mod steps;
 
+use crate::faults_file::read_chosen;
 use crate::generate::fill::write_files;
 use crate::listed::{Listed, list_faults};
 use crate::netlist::read_netlist;
 use crate::run_error::RunError;
 use crate::start_file::read_stated;
-use ht_engine::Engine;
-use ht_net::Circuit;
+use crate::vectors_file::read_first;
+use ht_engine::{Engine, Search, Settings};
+use ht_items::Items;
+use ht_net::{Circuit, Vectors};
 use ht_ports::Desk;
 use ht_tern::Tern;
-use ht_words::{FileName, RunFiles};
+use ht_words::{GenOptions, RunFiles};
 use std::alloc::Global;
 
-// Makes an engine that works from the start, and the files with it.
+// What the options and the files that they name tell the engine.
+fn settings_for(
+    options: &GenOptions,
+    start: Vec<Tern>,
+    first: Vectors,
+    chosen: Option<Items<u32>>,
+) -> Settings
+    ensures { result ≡ record {
+      budget = options.now.budget;
+      random = options.now.random;
+      seed = options.now.seed;
+      weighted = options.now.weighted;
+      search = search_of options.now.deep;
+      start = start.items;
+      first = first;
+      chosen = chosen;
+    } }
+{
+    let search = if options.deep {
+        Search::Deep
+    } else {
+        Search::Plain
+    };
+    Settings {
+        budget: options.budget,
+        random: options.random,
+        seed: options.seed,
+        weighted: options.weighted,
+        search,
+        start: Items::from_vec(start),
+        first,
+        chosen,
+    }
+}
+
+// Makes an engine, and the files with it.
 fn run_engine<D: Desk>(
     alloc: Global,
     circuit: &Circuit,
     listed: &Listed,
     files: &RunFiles,
-    budget: u64,
-    random: u32,
-    seed: u64,
-    start: &[Tern],
+    settings: &Settings,
     desk: &mut D,
 ) -> Result<(), RunError>
     requires plain { HasPlainNames circuit.now }
     requires faults { listed.now.faults ≡ faults_of circuit.now }
     requires classes { AreClasses circuit.now listed.now.classes }
-    requires latches { IsStart circuit.now start.now }
-    requires budget { (MIN_BUDGET ≤ budget) × (budget ≤ MAX_BUDGET) }
-    ensures { WritesAll files.now circuit.now
-        (record {
-          budget = budget;
-          random = random;
-          seed = seed;
-          start = start.now;
-        }) result (D.view desk.old) (D.view desk.new) }
+    requires latches { IsStart circuit.now settings.now.start }
+    requires first { settings.now.first.width ≡ circuit.now.inputs }
+    requires budget { (MIN_BUDGET ≤ settings.now.budget) × (settings.now.budget ≤ MAX_BUDGET) }
+    ensures { WritesAll files.now circuit.now settings.now result (D.view desk.old)
+        (D.view desk.new) }
 {
     let faults = &listed.faults;
-    let classes = &listed.classes;
-    let mut engine = Engine::new_from(
-        alloc, circuit, faults, classes, budget, random, seed, start,
-    )?;
-    write_files(alloc, circuit, listed, files, &mut engine, desk)
+    let mut engine = Engine::new(alloc, circuit, faults, &listed.classes, settings)?;
+    write_files(
+        alloc,
+        circuit,
+        listed,
+        files,
+        settings.search,
+        &mut engine,
+        desk,
+    )
 }
 
-/// Runs `gen`: reads the netlist and the start, if one is stated, generates tests, and writes them, the proofs and the
-/// report. The budget is that of each search; `random` vectors of the seed come first.
+/// Runs `gen`: reads the netlist and the files that the options name, the start, the first vectors and the list of
+/// faults, generates tests, and writes them, the proofs and the report.
 ///
 /// # Errors
 /// Those of the run.
 pub fn generate<D: Desk>(
     alloc: Global,
     files: &RunFiles,
-    budget: u64,
-    random: u32,
-    seed: u64,
-    start: &Option<FileName>,
+    options: &GenOptions,
     desk: &mut D,
 ) -> Result<(), RunError>
-    requires { (MIN_BUDGET ≤ budget) × (budget ≤ MAX_BUDGET) }
-    ensures { EndsJob (asked_by (job_of.Gen files.now budget random seed start.now)) result
-        (D.view desk.old) (D.view desk.new) }
+    requires { AreOptions (options_by options.now) }
+    ensures { EndsJob (asked_by (job_of.Gen files.now options.now)) result (D.view desk.old)
+        (D.view desk.new) }
 {
     let circuit = read_netlist(alloc, desk, files.netlist.as_str())?;
-    let start = read_stated(alloc, desk, &circuit, start)?;
+    let start = read_stated(alloc, desk, &circuit, &options.start)?;
+    let first = read_first(alloc, desk, &circuit, &options.first)?;
     let listed = list_faults(alloc, &circuit)?;
-    run_engine(
-        alloc, &circuit, &listed, files, budget, random, seed, &start, desk,
-    )?;
-    Ok(())
+    let chosen = read_chosen(alloc, desk, listed.faults.len(), &options.faults)?;
+    let settings = settings_for(options, start, first, chosen);
+    run_engine(alloc, &circuit, &listed, files, &settings, desk)
 }

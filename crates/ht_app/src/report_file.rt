@@ -1,22 +1,18 @@
 //! The report, from its file to what it claims.
-ghost use Rattle.std.specs.Prelude.{◌≡◌, List, ℕ, Option, length, IfOk, IfErr};
+ghost use Rattle.std.specs.Prelude.{◌≡◌, List, ℕ, Option, IfOk, IfErr};
 ghost use Rattle.ht_ports.specs.Desk.{InCall};
 ghost use Rattle.ht_ports.specs.declared.ports.InPort.TheVariants as in_port;
-ghost use Rattle.ht_net.specs.Netlist.{IsCircuit};
-ghost use Rattle.ht_faults.specs.Sites.{faults_of};
-ghost use Rattle.ht_collapse.specs.Classes.{AreClasses};
-ghost use Rattle.ht_grade.specs.Detections.{AreFirstDetections};
 ghost use Rattle.ht_texts.specs.SearchReports.{HasShortNames, IsBudget};
 ghost use Rattle.ht_valid.specs.ValidFiles.{Content};
 ghost use Rattle.ht_asked.specs.Asked as asked;
+ghost use Rattle.ht_app.specs.Grading.{HasDetections, IsOfCircuit};
 ghost use Rattle.ht_app.specs.Judging.{ReportIsRead, check_basis};
 ghost use Rattle.ht_app.specs.Steps.{ReadStops};
 
+use crate::graded::Graded;
 use crate::judged_file::{LineJudge, read_lines};
-use crate::listed::Listed;
 use crate::run_error::RunError;
 use ht_judge::{Claims, ReportJudge};
-use ht_net::{Circuit, Place};
 use ht_ports::{Desk, InPort};
 use ht_texts::MAX_LINE_BYTES;
 use ht_valid::Trouble;
@@ -59,30 +55,33 @@ pub fn read_report<D: Desk>(
     alloc: Global,
     desk: &mut D,
     name: &str,
-    circuit: &Circuit,
-    listed: &Listed,
-    places: &[Option<Place>],
+    graded: &Graded,
 ) -> Result<Claims, RunError>
-    requires well_formed { IsCircuit circuit.now }
-    requires faults { listed.now.faults ≡ faults_of circuit.now }
-    requires classes { AreClasses circuit.now listed.now.classes }
-    requires each { length places.now ≡ length (faults_of circuit.now) }
+    requires { IsOfCircuit graded.now }
     ensures frame { InCall in_port.Report (D.view desk.old) (D.view desk.new) }
     ensures budget { IfOk result (λ claims. IsBudget claims.budget) }
     ensures read { (content : Content)
-        → AreFirstDetections circuit.now listed.now.classes content.start content.list places.now
+        → HasDetections graded.now content.start content.list
         → IfOk result (λ claims. content.budget ≡ claims.budget
         → content.saids ≡ claims.saids.items → ReportIsRead
-        (check_basis circuit.now listed.now.classes content) name.now (D.view desk.old)) }
+        (check_basis graded.now.circuit graded.now.listed.classes content) name.now
+        (D.view desk.old)) }
     ensures stops { (netlist tests report proofs : List ℕ) (start_file : Option (List ℕ))
         (content : Content)
-        → AreFirstDetections circuit.now listed.now.classes content.start content.list places.now
-        → HasShortNames circuit.now
+        → HasDetections graded.now content.start content.list
+        → HasShortNames graded.now.circuit
         → IfErr result (ReadStops (asked.check netlist tests report proofs start_file)
-        (check_basis circuit.now listed.now.classes content) in_port.Report name.now
+        (check_basis graded.now.circuit graded.now.listed.classes content) in_port.Report name.now
         (D.view desk.old) (D.view desk.new)) }
 {
-    let mut judge = ReportJudge::new(alloc, circuit, &listed.faults, &listed.classes, places)?;
+    let listed = &graded.listed;
+    let mut judge = ReportJudge::new(
+        alloc,
+        &graded.circuit,
+        &listed.faults,
+        &listed.classes,
+        &graded.places,
+    )?;
     read_lines(
         alloc,
         desk,

@@ -13,31 +13,7 @@ AreSound [] = Unit {0}
 AreSound (c ∷ cs) = IsSound c.form × AreSound cs
 
 commands_are_sound : AreSound commands
-commands_are_sound = (
-  record { differ = refl; few = omega arith },
-  (
-    record { differ = refl; few = omega arith },
-    (
-      record { differ = refl; few = omega arith },
-      (
-        record { differ = refl; few = omega arith },
-        (
-          record { differ = refl; few = omega arith },
-          (
-            record { differ = refl; few = omega arith },
-            (
-              record { differ = refl; few = omega arith },
-              (
-                record { differ = refl; few = omega arith },
-                (record { differ = refl; few = omega arith }, (record { differ = refl; few = omega arith }, tt)),
-              ),
-            ),
-          ),
-        ),
-      ),
-    ),
-  ),
-)
+commands_are_sound = (record { differ = refl; few = omega arith }, (record { differ = refl; few = omega arith }, (record { differ = refl; few = omega arith }, (record { differ = refl; few = omega arith }, (record { differ = refl; few = omega arith }, (record { differ = refl; few = omega arith }, (record { differ = refl; few = omega arith }, (record { differ = refl; few = omega arith }, (record { differ = refl; few = omega arith }, (record { differ = refl; few = omega arith }, (record { differ = refl; few = omega arith }, tt)))))))))))
 
 -- two answers that are the same for each of the commands are so for the one that is found
 same_found : (f g : Command → Option Asked) → ((c : Command) → IsSound c.form → f c ≡ g c) → (test : Command → Bool)

@@ -1,19 +1,31 @@
 -- Worked examples of the commands, read by computation.
-use Rattle.std.proofs.Common.{◌≡◌, ◌∷◌, ℕ, List, [], map, Option, Some, None, refl, arith, codes}
+use Rattle.std.proofs.Common.{◌≡◌, ◌∷◌, ℕ, true, false, List, [], map, Option, Some, None, refl, arith, codes}
 use Rattle.clap.specs.Walk.{Text}
 use Rattle.ht_asked.specs.Forms.{given, parts}
-use Rattle.ht_asked.specs.Asked.{Asked, asked, budget_of, check, compact, demo, diagnose, gen, gen_command, respond, sync, uninit}
+use Rattle.ht_asked.specs.Asked.{Asked, GenOptions, asked, budget_of, check, compact, demo, diagnose}
+use Rattle.ht_asked.specs.Asked.{gen, gen_command, report, respond, sync, uninit}
 use Rattle.ht_asked.specs.ByClap.{app_with, given_by_clap}
 use Rattle.ht_asked.proofs.States.{AreReadable}
 use Rattle.ht_asked.proofs.FormByClap.{form_by_clap}
 
-abbrev told_with : ℕ → ℕ → ℕ → Option Asked
-told_with budget random seed = Some (gen (codes "n") (codes "t") (codes "r") (codes "p") (record {
-  budget = budget;
-  random = random;
-  seed = seed;
+-- what is said where each option is left out
+abbrev unsaid : GenOptions
+unsaid = record {
+  budget = 1000;
+  random = 0;
+  seed = 0;
   start = None;
-}))
+  first = None;
+  faults = None;
+  weighted = 0;
+  deep = false;
+}
+
+abbrev told_by : GenOptions → Option Asked
+told_by options = Some (gen (codes "n") (codes "t") (codes "r") (codes "p") options)
+
+abbrev told_with : ℕ → ℕ → ℕ → Option Asked
+told_with budget random seed = told_by (record unsaid { budget = budget; random = random; seed = seed })
 
 -- a budget alone
 abbrev told : ℕ → Option Asked
@@ -73,6 +85,25 @@ random_vectors : map (λ words. asks (codes "n" ∷ codes "t" ∷ codes "r" ∷ 
     ≡ told_with 1000 3 7 ∷ told_with 5 100000 18446744073709551615 ∷ None ∷ None ∷ None ∷ []
 unfolding asked given parts
 random_vectors = refl
+
+-- the options of what is worked on, and how
+further_options : map (λ words. asks (codes "n" ∷ codes "t" ∷ codes "r" ∷ codes "p" ∷ words)) (
+    (codes "--first" ∷ codes "f" ∷ codes "--faults=l" ∷ codes "--start=s" ∷ [])
+    ∷ (codes "--weighted=007" ∷ codes "--search" ∷ codes "deep" ∷ [])
+    ∷ (codes "--search=plain" ∷ codes "--weighted" ∷ codes "100000" ∷ [])
+    ∷ (codes "--weighted" ∷ codes "100001" ∷ [])
+    ∷ (codes "--search=Deep" ∷ [])
+    ∷ (codes "--search=" ∷ [])
+    ∷ (codes "--search" ∷ [])
+    ∷ (codes "--search=deep" ∷ codes "--search=deep" ∷ [])
+    ∷ (codes "--first=f" ∷ codes "--first=f" ∷ [])
+    ∷ (codes "--faults" ∷ codes "-l" ∷ [])
+    ∷ [])
+    ≡ told_by (record unsaid { first = Some (codes "f"); faults = Some (codes "l"); start = Some (codes "s") })
+    ∷ told_by (record unsaid { weighted = 7; deep = true }) ∷ told_by (record unsaid { weighted = 100000 })
+    ∷ None ∷ None ∷ None ∷ None ∷ None ∷ None ∷ None ∷ []
+unfolding asked given parts
+further_options = refl
 
 -- `demo` has a size and a seed
 demos : map (λ words. asked (codes "demo" ∷ words)) (
@@ -163,6 +194,21 @@ responds : map (λ words. asked (codes "respond" ∷ words)) (
     ∷ None ∷ None ∷ None ∷ []
 unfolding asked given parts
 responds = refl
+
+-- `report` has four names, and may have a budget and a start
+reports : map (λ words. asked (codes "report" ∷ words)) (
+    (codes "n" ∷ codes "t" ∷ codes "p" ∷ codes "r" ∷ [])
+    ∷ (codes "--budget=007" ∷ codes "n" ∷ codes "t" ∷ codes "p" ∷ codes "--start" ∷ codes "s" ∷ codes "r" ∷ [])
+    ∷ (codes "n" ∷ codes "t" ∷ codes "p" ∷ codes "r" ∷ codes "--budget=0" ∷ [])
+    ∷ (codes "n" ∷ codes "t" ∷ codes "p" ∷ codes "r" ∷ codes "--budget=100001" ∷ [])
+    ∷ (codes "n" ∷ codes "t" ∷ codes "p" ∷ codes "r" ∷ codes "--search=deep" ∷ [])
+    ∷ (codes "n" ∷ codes "t" ∷ codes "p" ∷ [])
+    ∷ [])
+    ≡ Some (report (codes "n") (codes "t") (codes "p") (codes "r") 1000 None)
+    ∷ Some (report (codes "n") (codes "t") (codes "p") (codes "r") 7 (Some (codes "s")))
+    ∷ None ∷ None ∷ None ∷ None ∷ []
+unfolding asked given parts
+reports = refl
 
 -- `clap` reads the command's form as the plain reading does
 by_clap : (words : List Text) → AreReadable words

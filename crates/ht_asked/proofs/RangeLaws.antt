@@ -9,10 +9,11 @@ use Rattle.clap.proofs.WalkLemmas.{both}
 use Rattle.ht_asked.specs.declared.limits.TheConstants.{MAX_BUDGET, MAX_FAULT, MAX_RANDOM, MAX_SEED, MAX_SIZE, MIN_BUDGET, MIN_FAULT, MIN_SIZE}
 use Rattle.ht_asked.specs.Forms.{Given, given}
 use Rattle.ht_asked.specs.Numbers.{is_number, number_in, number_or}
-use Rattle.ht_asked.specs.Asked.{Asked, Command, asked, check_of, commands, demo_of, demo_with, gen, gen_of, norm_of, of_four, of_three, options_with, sim_of}
-use Rattle.ht_asked.specs.Asked.{compact, diagnose, respond, respond_of, sync, sync_of, uninit, uninit_of}
+use Rattle.ht_asked.specs.Asked.{Asked, Command, GenOptions, asked, check_of, commands, demo_of, demo_with, gen, gen_of, norm_of, of_four, of_three, options_with, sim_of}
+use Rattle.ht_asked.specs.Asked.{compact, deep_of, diagnose, report, report_of, respond, respond_of, sync, sync_of}
+use Rattle.ht_asked.specs.Asked.{uninit, uninit_of}
 use Rattle.ht_asked.specs.Asked.{budget_of, random_of, seed_in, seed_of, size_in}
-use Rattle.ht_asked.specs.Ranges.{IsInRange}
+use Rattle.ht_asked.specs.Ranges.{AreOptions, IsInRange}
 
 -- ---- numbers
 
@@ -60,15 +61,18 @@ by_four job so (a ∷ b ∷ c ∷ []) = tt
 by_four job so (a ∷ b ∷ c ∷ d ∷ []) = so a b c d
 by_four job so (a ∷ b ∷ c ∷ d ∷ x ∷ rest) = tt
 
-by_options : (netlist tests report proofs : Text) (budget random seed : Option ℕ) (start : Option Text)
+by_options : (names : GenOptions → Asked) → ((o : GenOptions) → AreOptions o → IsInRange (names o))
+    → (budget random seed weighted : Option ℕ) (deep : Option Bool) (start first faults : Option Text)
     → IfSome budget (InRange MIN_BUDGET MAX_BUDGET) → IfSome random (InRange 0 MAX_RANDOM)
-    → IfSome seed (InRange 0 MAX_SEED)
-    → AsksInRange (option_map (gen netlist tests report proofs) (options_with budget random seed start))
-by_options netlist tests report proofs None random seed start b r s = tt
-by_options netlist tests report proofs (Some budget) None seed start b r s = tt
-by_options netlist tests report proofs (Some budget) (Some random) None start b r s = tt
-by_options netlist tests report proofs (Some budget) (Some random) (Some seed) start b r s =
-    record { budget = b; random = r.1; seed = s.1 }
+    → IfSome seed (InRange 0 MAX_SEED) → IfSome weighted (InRange 0 MAX_RANDOM)
+    → AsksInRange (option_map names (options_with budget random seed start first faults weighted deep))
+by_options names so None random seed weighted deep start first faults b r s w = tt
+by_options names so (Some budget) None seed weighted deep start first faults b r s w = tt
+by_options names so (Some budget) (Some random) None weighted deep start first faults b r s w = tt
+by_options names so (Some budget) (Some random) (Some seed) None deep start first faults b r s w = tt
+by_options names so (Some budget) (Some random) (Some seed) (Some weighted) None start first faults b r s w = tt
+by_options names so (Some budget) (Some random) (Some seed) (Some weighted) (Some deep) start first faults b r s w =
+    so _ (record { budget = b; random = r.1; seed = s.1; weighted = w.1 })
 
 by_gen : (names : List Text) (texts : List (Option Text)) → AsksInRange (gen_of names texts)
 by_gen [] texts = tt
@@ -80,11 +84,17 @@ by_gen (a ∷ b ∷ c ∷ d ∷ []) [] = tt
 by_gen (a ∷ b ∷ c ∷ d ∷ []) (t ∷ []) = tt
 by_gen (a ∷ b ∷ c ∷ d ∷ []) (t ∷ u ∷ []) = tt
 by_gen (a ∷ b ∷ c ∷ d ∷ []) (t ∷ u ∷ v ∷ []) = tt
-by_gen (a ∷ b ∷ c ∷ d ∷ []) (t ∷ u ∷ v ∷ w ∷ x ∷ rest) = tt
-by_gen (a ∷ b ∷ c ∷ d ∷ []) (t ∷ u ∷ v ∷ w ∷ []) = by_options a b c d (budget_of t) (random_of u) (seed_of v) w
+by_gen (a ∷ b ∷ c ∷ d ∷ []) (t ∷ u ∷ v ∷ w ∷ []) = tt
+by_gen (a ∷ b ∷ c ∷ d ∷ []) (t ∷ u ∷ v ∷ w ∷ f ∷ []) = tt
+by_gen (a ∷ b ∷ c ∷ d ∷ []) (t ∷ u ∷ v ∷ w ∷ f ∷ l ∷ []) = tt
+by_gen (a ∷ b ∷ c ∷ d ∷ []) (t ∷ u ∷ v ∷ w ∷ f ∷ l ∷ n ∷ []) = tt
+by_gen (a ∷ b ∷ c ∷ d ∷ []) (t ∷ u ∷ v ∷ w ∷ f ∷ l ∷ n ∷ k ∷ x ∷ rest) = tt
+by_gen (a ∷ b ∷ c ∷ d ∷ []) (t ∷ u ∷ v ∷ w ∷ f ∷ l ∷ n ∷ k ∷ []) =
+    by_options (gen a b c d) (λ o so. so) (budget_of t) (random_of u) (seed_of v) (random_of n) (deep_of k) w f l
     (option_is_in_range 1000 MIN_BUDGET MAX_BUDGET (omega arith, omega arith) t)
     (option_is_in_range 0 0 MAX_RANDOM (omega arith, omega arith) u)
     (option_is_in_range 0 0 MAX_SEED (omega arith, omega arith) v)
+    (option_is_in_range 0 0 MAX_RANDOM (omega arith, omega arith) n)
 
 by_sim : (names : List Text) (texts : List (Option Text)) → AsksInRange (sim_of names texts)
 by_sim [] texts = tt
@@ -168,6 +178,17 @@ by_respond (a ∷ b ∷ c ∷ []) (None ∷ u ∷ []) = tt
 by_respond (a ∷ b ∷ c ∷ []) (Some text ∷ u ∷ []) =
     by_fault a b c u (number_in MIN_FAULT MAX_FAULT text) (number_is_in_range MIN_FAULT MAX_FAULT text)
 
+by_report : (names : List Text) (texts : List (Option Text)) → AsksInRange (report_of names texts)
+by_report [] texts = tt
+by_report (a ∷ []) texts = tt
+by_report (a ∷ b ∷ []) texts = tt
+by_report (a ∷ b ∷ c ∷ []) texts = tt
+by_report (a ∷ b ∷ c ∷ d ∷ x ∷ rest) texts = tt
+by_report (a ∷ b ∷ c ∷ d ∷ []) [] = tt
+by_report (a ∷ b ∷ c ∷ d ∷ []) (t ∷ []) = tt
+by_report (a ∷ b ∷ c ∷ d ∷ []) (t ∷ u ∷ v ∷ rest) = tt
+by_report (a ∷ b ∷ c ∷ d ∷ []) (t ∷ u ∷ []) = by_budget (λ n. report a b c d n u) (λ n h. h) t
+
 -- ---- the table of the commands
 
 abbrev All : List Command → Type 0
@@ -175,31 +196,7 @@ All [] = Unit {0}
 All (c ∷ cs) = ((g : Given) → AsksInRange (c.asks g)) × All cs
 
 commands_ask_in_range : All commands
-commands_ask_in_range = (
-  λ g. by_sim g.positionals g.options,
-  (
-    λ g. by_gen g.positionals g.options,
-    (
-      λ g. by_check g.positionals g.options,
-      (
-        λ g. by_norm g.positionals,
-        (
-          λ g. by_demo g.positionals,
-          (
-            λ g. by_three compact (λ a b c. tt) g.positionals,
-            (
-              λ g. by_four diagnose (λ a b c d. tt) g.positionals,
-              (
-                λ g. by_uninit g.positionals g.options,
-                (λ g. by_sync g.positionals g.options, (λ g. by_respond g.positionals g.options, tt)),
-              ),
-            ),
-          ),
-        ),
-      ),
-    ),
-  ),
-)
+commands_ask_in_range = (λ g. by_sim g.positionals g.options, (λ g. by_gen g.positionals g.options, (λ g. by_check g.positionals g.options, (λ g. by_norm g.positionals, (λ g. by_demo g.positionals, (λ g. by_three compact (λ a b c. tt) g.positionals, (λ g. by_four diagnose (λ a b c d. tt) g.positionals, (λ g. by_uninit g.positionals g.options, (λ g. by_sync g.positionals g.options, (λ g. by_respond g.positionals g.options, (λ g. by_report g.positionals g.options, tt)))))))))))
 
 by_given : (c : Command) → ((g : Given) → AsksInRange (c.asks g)) → (o : Option Given)
     → AsksInRange (option_and_then c.asks o)

@@ -1,5 +1,5 @@
 -- What the words of the command line ask for, in plain steps.
-use Rattle.std.specs.Prelude.{ℕ, List, [], ◌∷◌, Option, Some, None, codes, find, map}
+use Rattle.std.specs.Prelude.{ℕ, Bool, true, false, if◌then◌else◌, List, [], ◌∷◌, Option, Some, None, codes, find, map}
 use Rattle.std.specs.Prelude.{option_and_then, option_map}
 use Rattle.std.specs.Prelude.{String, string_bytes}
 use Rattle.std.specs.Global.{Global}
@@ -15,13 +15,18 @@ use Rattle.ht_asked.specs.Numbers.{number_in, number_or}
 abbrev pub words_of : List (String Global) → List Text
 words_of = map (λ s. string_bytes s)
 
--- what the options of `gen` say: the budget of each search, how many random vectors come first, their seed, and the file
--- of the start, if one is stated
+-- what the options of `gen` say: the budget of each search, how many random vectors come first, their seed, the files of
+-- the start, of the user's first vectors and of the faults that are worked on, if they are stated, how many weighted
+-- vectors come after the random ones, and whether the search is deep
 pub record GenOptions : Type 0 where
   pub budget : ℕ
   pub random : ℕ
   pub seed : ℕ
   pub start : Option Text
+  pub first : Option Text
+  pub faults : Option Text
+  pub weighted : ℕ
+  pub deep : Bool
 
 -- a command with the names of its files and its numbers, of which the start's and the fault's may be left out
 pub data Asked : Type 0 where
@@ -35,6 +40,7 @@ pub data Asked : Type 0 where
   uninit : Text → Text → ℕ → Asked
   sync : Text → Text → Text → ℕ → Asked
   respond : Text → Text → Text → Option ℕ → Option Text → Asked
+  report : Text → Text → Text → Text → ℕ → Option Text → Asked
 
 -- a command: its name in lower case, the form of the words after it, and what they ask for
 pub record Command : Type 0 where
@@ -54,9 +60,10 @@ of_four job _ = None
 
 -- `sim NETLIST TESTS REPORT [--start FILE]`
 abbrev pub sim_of : List Text → List (Option Text) → Option Asked
-sim_of (netlist ∷ tests ∷ report ∷ []) (start ∷ []) = Some (sim netlist tests report start)
+sim_of (netlist ∷ tests ∷ out ∷ []) (start ∷ []) = Some (sim netlist tests out start)
 sim_of _ _ = None
 
+-- the command `sim`
 abbrev pub sim_command : Command
 sim_command = record {
   name = codes "sim";
@@ -71,42 +78,64 @@ sim_command = record {
 abbrev pub budget_of : Option Text → Option ℕ
 budget_of = number_or DEFAULT_BUDGET MIN_BUDGET MAX_BUDGET
 
--- how many random vectors come first, where the option's text says it or is left out
+-- how many random vectors come first, or how many weighted ones after them, where the option's text says it or is left
+-- out
 abbrev pub random_of : Option Text → Option ℕ
 random_of = number_or DEFAULT_RANDOM 0 MAX_RANDOM
 
--- the seed of the random vectors, where the option's text is one or is left out
+-- the seed of the random and the weighted vectors, where the option's text is one or is left out
 abbrev pub seed_of : Option Text → Option ℕ
 seed_of = number_or DEFAULT_SEED 0 MAX_SEED
 
--- the options, where each of the first three has a number
-abbrev pub options_with : Option ℕ → Option ℕ → Option ℕ → Option Text → Option GenOptions
-options_with (Some budget) (Some random) (Some seed) start =
-    Some (record { budget = budget; random = random; seed = seed; start = start })
-options_with _ _ _ _ = None
+-- whether the search is deep, where the option's text is `plain` or `deep`, or is left out
+abbrev pub deep_of : Option Text → Option Bool
+deep_of None = Some false
+deep_of (Some text) = if bytes_eq text (codes "plain") then Some false
+    else (if bytes_eq text (codes "deep") then Some true else None)
 
--- `gen NETLIST TESTS REPORT PROOFS [--budget N] [--random N] [--seed S] [--start FILE]`
+-- the options, where each of those that are no file's name has a value
+abbrev pub options_with : Option ℕ → Option ℕ → Option ℕ → Option Text → Option Text → Option Text → Option ℕ
+    → Option Bool → Option GenOptions
+options_with (Some budget) (Some random) (Some seed) start first faults (Some weighted) (Some deep) = Some (record {
+  budget = budget;
+  random = random;
+  seed = seed;
+  start = start;
+  first = first;
+  faults = faults;
+  weighted = weighted;
+  deep = deep;
+})
+options_with _ _ _ _ _ _ _ _ = None
+
+-- `gen NETLIST TESTS REPORT PROOFS [--budget N] [--random N] [--seed S] [--start FILE] [--first FILE] [--faults FILE]
+-- [--weighted N] [--search plain|deep]`
 abbrev pub gen_of : List Text → List (Option Text) → Option Asked
-gen_of (netlist ∷ tests ∷ report ∷ proofs ∷ []) (budget ∷ random ∷ seed ∷ start ∷ []) = option_map
-    (gen netlist tests report proofs)
-    (options_with (budget_of budget) (random_of random) (seed_of seed) start)
+gen_of (netlist ∷ tests ∷ out ∷ proofs ∷ [])
+    (budget ∷ random ∷ seed ∷ start ∷ first ∷ faults ∷ weighted ∷ search ∷ []) = option_map
+    (gen netlist tests out proofs)
+    (options_with (budget_of budget) (random_of random) (seed_of seed) start first faults (random_of weighted)
+    (deep_of search))
 gen_of _ _ = None
 
+-- the command `gen`
 abbrev pub gen_command : Command
 gen_command = record {
   name = codes "gen";
   form = record {
     positionals = codes "netlist" ∷ codes "tests" ∷ codes "report" ∷ codes "proofs" ∷ [];
-    options = codes "budget" ∷ codes "random" ∷ codes "seed" ∷ codes "start" ∷ [];
+    options = codes "budget" ∷ codes "random" ∷ codes "seed" ∷ codes "start" ∷ codes "first" ∷ codes "faults"
+        ∷ codes "weighted" ∷ codes "search" ∷ [];
   };
   asks = λ g. gen_of g.positionals g.options;
 }
 
 -- `check NETLIST TESTS REPORT PROOFS [--start FILE]`
 abbrev pub check_of : List Text → List (Option Text) → Option Asked
-check_of (netlist ∷ tests ∷ report ∷ proofs ∷ []) (start ∷ []) = Some (check netlist tests report proofs start)
+check_of (netlist ∷ tests ∷ out ∷ proofs ∷ []) (start ∷ []) = Some (check netlist tests out proofs start)
 check_of _ _ = None
 
+-- the command `check`
 abbrev pub check_command : Command
 check_command = record {
   name = codes "check";
@@ -122,6 +151,7 @@ abbrev pub norm_of : List Text → Option Asked
 norm_of (netlist ∷ out ∷ []) = Some (norm netlist out)
 norm_of _ = None
 
+-- the command `norm`
 abbrev pub norm_command : Command
 norm_command = record {
   name = codes "norm";
@@ -147,6 +177,7 @@ abbrev pub demo_of : List Text → Option Asked
 demo_of (size ∷ seed ∷ []) = demo_with (size_in size) (seed_in seed)
 demo_of _ = None
 
+-- the command `demo`
 abbrev pub demo_command : Command
 demo_command = record {
   name = codes "demo";
@@ -175,6 +206,7 @@ abbrev pub uninit_of : List Text → List (Option Text) → Option Asked
 uninit_of (netlist ∷ out ∷ []) (budget ∷ []) = option_map (uninit netlist out) (budget_of budget)
 uninit_of _ _ = None
 
+-- the command `uninit`
 abbrev pub uninit_command : Command
 uninit_command = record {
   name = codes "uninit";
@@ -190,6 +222,7 @@ abbrev pub sync_of : List Text → List (Option Text) → Option Asked
 sync_of (netlist ∷ tests ∷ out ∷ []) (budget ∷ []) = option_map (sync netlist tests out) (budget_of budget)
 sync_of _ _ = None
 
+-- the command `sync`
 abbrev pub sync_command : Command
 sync_command = record {
   name = codes "sync";
@@ -211,6 +244,7 @@ respond_of (netlist ∷ tests ∷ out ∷ []) (fault ∷ start ∷ []) =
     option_map (λ number. respond netlist tests out number start) (fault_of fault)
 respond_of _ _ = None
 
+-- the command `respond`
 abbrev pub respond_command : Command
 respond_command = record {
   name = codes "respond";
@@ -221,11 +255,29 @@ respond_command = record {
   asks = λ g. respond_of g.positionals g.options;
 }
 
+-- `report NETLIST TESTS PROOFS REPORT [--budget N] [--start FILE]`
+abbrev pub report_of : List Text → List (Option Text) → Option Asked
+report_of (netlist ∷ tests ∷ proofs ∷ out ∷ []) (budget ∷ start ∷ []) =
+    option_map (λ number. report netlist tests proofs out number start) (budget_of budget)
+report_of _ _ = None
+
+-- the command `report`
+abbrev pub report_command : Command
+report_command = record {
+  name = codes "report";
+  form = record {
+    positionals = codes "netlist" ∷ codes "tests" ∷ codes "proofs" ∷ codes "report" ∷ [];
+    options = codes "budget" ∷ codes "start" ∷ [];
+  };
+  asks = λ g. report_of g.positionals g.options;
+}
+
 -- the commands, in the order of the usage line
 abbrev pub commands : List Command
 commands = sim_command ∷ gen_command ∷ check_command ∷ norm_command ∷ demo_command
-    ∷ compact_command ∷ diagnose_command ∷ uninit_command ∷ sync_command ∷ respond_command ∷ []
+    ∷ compact_command ∷ diagnose_command ∷ uninit_command ∷ sync_command ∷ respond_command ∷ report_command ∷ []
 
+-- the command that has this name, if there is one
 abbrev pub command_named : Text → Option Command
 command_named name = find (λ c. bytes_eq name c.name) commands
 

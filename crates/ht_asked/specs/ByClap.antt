@@ -34,11 +34,12 @@ is_taken app words = is_empty (fault_of app words)
 abbrev pub value_of : App → List Text → Text → Option Text
 value_of app words id = first_of id (matches_of app words)
 
--- all the values, where none is missing
+-- the values after the first, where none is missing, with the first before them, where it isn't missing either
 abbrev pub all_with : Option Text → Option (List Text) → Option (List Text)
 all_with None rest = None
 all_with (Some value) rest = option_map (λ values. value ∷ values) rest
 
+-- all the values, where none is missing
 abbrev pub all_of : List (Option Text) → Option (List Text)
 all_of [] = Some []
 all_of (value ∷ rest) = all_with value (all_of rest)

@@ -30,6 +30,7 @@ abbrev pub is_option : Text → Bool
 is_option (first ∷ second ∷ rest) = first == 45
 is_option _ = false
 
+-- the parts after this one, where they are known, with it before them
 abbrev pub with_part : Part → Option (List Part) → Option (List Part)
 with_part part = option_map (λ parts. part ∷ parts)
 
@@ -39,6 +40,7 @@ abbrev pub with_value : Text → Option Text → (Option Text → Option (List P
 with_value name (Some value) rest = with_part (option name value) (rest None)
 with_value name None rest = rest (Some name)
 
+-- an option by its name and its value, if it has one; nothing where the word is none
 abbrev pub with_option : Option (Text × Option Text) → (Option Text → Option (List Part))
     → Option (List Part)
 with_option None rest = None
@@ -55,19 +57,23 @@ parts None (word ∷ words) = if bytes_eq word (codes "--") then Some (map posit
 parts (Some name) (word ∷ words) = if is_option word then None
     else with_part (option name word) (parts None words)
 
+-- the positionals among the parts, in their order
 abbrev pub positionals_of : List Part → List Text
 positionals_of [] = []
 positionals_of (positional word ∷ rest) = word ∷ positionals_of rest
 positionals_of (option name value ∷ rest) = positionals_of rest
 
+-- the options among the parts, each a name and its value, in their order
 abbrev pub options_of : List Part → List (Text × Text)
 options_of [] = []
 options_of (positional word ∷ rest) = options_of rest
 options_of (option name value ∷ rest) = (name, value) ∷ options_of rest
 
+-- the name is one of these
 abbrev pub is_among : Text → List Text → Bool
 is_among name = list_any (λ other. bytes_eq other name)
 
+-- no name stands twice
 abbrev pub all_differ : List Text → Bool
 all_differ [] = true
 all_differ (name ∷ names) = not (is_among name names) && all_differ names
@@ -82,6 +88,7 @@ has_form form parts = length (positionals_of parts) == length form.positionals
     && (list_all (λ o. is_among o.0 form.options) (options_of parts)
     && all_differ (map (λ o. o.0) (options_of parts)))
 
+-- what the parts give to the form, where they have it
 abbrev pub given_by : Form → List Part → Option Given
 given_by form parts = if has_form form parts then Some (record {
   positionals = positionals_of parts;

@@ -9,13 +9,13 @@ pub const MIN_BUDGET: u64 = 1;
 /// The greatest budget of a search.
 pub const MAX_BUDGET: u64 = 100_000;
 
-/// How many random vectors come first where the words don't say.
+/// How many random vectors, or weighted ones, are made where the words don't say.
 pub const DEFAULT_RANDOM: u64 = 0;
 
-/// The most random vectors that come first.
+/// The most random vectors, and the most weighted ones.
 pub const MAX_RANDOM: u64 = 100_000;
 
-/// The seed of the random vectors where the words give none.
+/// The seed of the random and weighted vectors where the words give none.
 pub const DEFAULT_SEED: u64 = 0;
 
 /// The greatest seed.

@@ -29,6 +29,7 @@ abbrev pub add_error_of : NetError → AddError
 add_error_of (NetTooMany what) = Limit what
 add_error_of _ = AddNoMemory
 
+-- why a line isn't added, by why it isn't read
 abbrev pub line_error_of : StatementError → AddError
 line_error_of (LineRefused refusal) = Refused refusal
 line_error_of LineNoMemory = AddNoMemory

@@ -7,6 +7,7 @@ use Rattle.ht_net.specs.Named.{Name, NamedNetlist}
 use Rattle.ht_statement.specs.Statement.{Statement, blank_line, input_line, output_line, dff_line, gate_line, names_in}
 use Rattle.ht_bench.specs.Different.{with_name, different}
 
+-- a netlist of nothing
 abbrev pub no_parts : NamedNetlist
 no_parts = record { inputs = []; outputs = []; dffs = []; gates = [] }
 
@@ -31,9 +32,11 @@ driven_in (dff_line out data_pin) = out ∷ []
 driven_in (gate_line out kind args) = out ∷ []
 driven_in _ = []
 
+-- the names that the statements drive, in order
 abbrev pub driven_by : List Statement → List Name
 driven_by statements = flat_map driven_in statements
 
+-- the names that the statements mention, in order
 abbrev pub mentions_of : List Statement → List Name
 mentions_of statements = flat_map names_in statements
 

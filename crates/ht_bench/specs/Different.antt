@@ -4,6 +4,7 @@ use Rattle.std.specs.List.{list_any}
 use Rattle.std.specs.Str.{bytes_eq}
 use Rattle.ht_net.specs.Named.{Name}
 
+-- the name is one of these
 abbrev pub has_name : List Name → Name → Bool
 has_name names name = list_any (λ other. bytes_eq other name) names
 
@@ -15,5 +16,6 @@ with_name names name = cond (has_name names name) names (names ++ name ∷ [])
 abbrev pub with_names : List Name → List Name → List Name
 with_names names others = fold with_name names others
 
+-- the names without repetitions, each where it first stands
 abbrev pub different : List Name → List Name
 different names = with_names [] names

@@ -17,6 +17,7 @@ use Rattle.ht_bench.specs.AddErrors.{IsAddError}
 use Rattle.ht_bench.specs.declared.add_error.AddError.{AddError}
 use Rattle.ht_bench.specs.declared.add_error.AddError.TheVariants.{SecondDriver, Limit, NoMemory}
 
+-- the draft of a netlist by names
 abbrev pub drafted : List Name → NamedNetlist → Draft
 drafted names n = record { names = names; inputs = n.inputs; outputs = n.outputs; dffs = n.dffs; gates = n.gates }
 
@@ -64,6 +65,7 @@ RefusesDriver old name error = ((error ≡ SecondDriver name) × (has_name (driv
 abbrev pub Accepts : Draft → Statement → Draft → Type 0
 Accepts old s new = (new ≡ with_line old s) × (draft_error old s ≡ None)
 
+-- why a draft refuses a statement
 abbrev pub RefusesStatement : Draft → Statement → AddError → Type 0
 RefusesStatement old s error = IsAddError error (draft_error old s)
 
@@ -78,6 +80,7 @@ pub record AddsLine (old : Draft) (line : List ℕ) (new : Draft) : Type 0 where
   pub states : reading_of line ≡ stated statement
   pub accepts : Accepts old statement new
 
+-- why a draft refuses a line, whatever statements came before
 abbrev pub RefusesLine : Draft → List ℕ → AddError → Type 0
 RefusesLine old line error = (before : List Statement) → IsDraftOf before old
     → IsAddError error (reading_error before (reading_of line))

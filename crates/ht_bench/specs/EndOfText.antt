@@ -15,6 +15,7 @@ abbrev pub first_undriven : List Statement → Option Name
 first_undriven statements = find (λ net. not (has_name (driven_by statements) net))
     (stated_nets statements)
 
+-- the refusal of the first name that is mentioned and not driven, if there is one
 abbrev pub undriven_refusal : List Statement → Option BenchError
 undriven_refusal statements = option_map (λ net. Undriven (line_of Mentioned statements net) net)
     (first_undriven statements)

@@ -7,6 +7,7 @@ use Rattle.ht_net.specs.Named.{Name}
 use Rattle.ht_bench.specs.declared.error.BenchError.{BenchError}
 use Rattle.ht_bench.specs.declared.error.BenchError.TheVariants.{BadLine, BadName, BadKind, BadCount, Twice, TooMany, Undriven, Loop, NoMemory}
 
+-- the words for a limit that a netlist goes beyond
 abbrev pub limit_text : Limit → List ℕ
 limit_text limit.Nets = codes "too many nets"
 limit_text limit.Pins = codes "too many pins"

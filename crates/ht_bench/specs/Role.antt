@@ -8,6 +8,7 @@ use Rattle.ht_bench.specs.Contents.{driven_in}
 use Rattle.ht_bench.specs.declared.find_line.Role.{Role}
 use Rattle.ht_bench.specs.declared.find_line.Role.TheVariants.{Mentioned, Driven}
 
+-- the names that a statement drives, or all that it mentions
 abbrev pub nets_in : Role → Statement → List Name
 nets_in Mentioned statement = names_in statement
 nets_in Driven statement = driven_in statement

@@ -23,6 +23,7 @@ max_netlist_bytes = 16777216
 abbrev pub readings_of : List ℕ → List Reading
 readings_of text = map reading_of (lines_of text)
 
+-- what a reading states, as a list of at most one
 abbrev pub statement_in : Reading → List Statement
 statement_in (stated s) = s ∷ []
 statement_in (unreadable refusal) = []

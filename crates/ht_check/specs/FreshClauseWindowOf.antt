@@ -8,10 +8,12 @@ use Rattle.ht_check.specs.declared.clause_window.Goal.{Goal}
 use Rattle.ht_check.specs.declared.clause_window.Goal.TheVariants as goal
 use Rattle.ht_check.specs.declared.clause_window.FreshClauseWindow.TheInside.{Inside}
 
+-- what the checker's window looks for, as the definitions have it
 abbrev pub sought_by : Goal → Sought
 sought_by goal.Difference = difference
 sought_by (goal.Breach clause) = breach (literals_of clause.now)
 
+-- the window under clauses that the fields of the checker's stand for
 abbrev pub clause_window_of : Inside → ClauseWindow
 clause_window_of a = record {
   window = a.window;

@@ -14,23 +14,26 @@ use Rattle.ht_tree.specs.Clauses.{is_decided_against, is_decided_to}
 abbrev pub value_in : List (Option Tern) → ℕ → Literal → Option Tern
 value_in decisions first literal = get_or decisions (first + literal.dff) None
 
--- decisions meet a clause, and break one
+-- decisions meet a clause: some literal's latch was decided to its bit
 abbrev pub meets_in : List (Option Tern) → ℕ → List Literal → Bool
 meets_in decisions first literals =
     list_any (λ (literal : Literal). is_decided_to literal.value (value_in decisions first literal)) literals
 
+-- decisions break a clause: each literal's latch was decided to another value
 abbrev pub breaks_in : List (Option Tern) → ℕ → List Literal → Bool
 breaks_in decisions first literals =
     list_all (λ (literal : Literal). is_decided_against literal.value (value_in decisions first literal)) literals
 
--- a next state of these sets can have the other bit of a literal, and no other value
+-- the next states of these sets may miss a literal: its flip-flop may take the other bit
 abbrev pub may_miss_in : List (List Pair) → Literal → Bool
 may_miss_in sets literal =
     is_member (pair (tern_of (not literal.value)) (tern_of (not literal.value))) (get_or sets literal.dff [])
 
+-- the next states of these sets miss a literal for certain: its flip-flop takes the other bit and nothing else
 abbrev pub must_miss_in : List (List Pair) → Literal → Bool
 must_miss_in sets literal = may_miss_in sets literal && not (is_undetermined (get_or sets literal.dff []))
 
+-- the status of a window that looks for a breach of a clause, by the sets of next states
 abbrev pub breach_in : List (List Pair) → List Literal → Status3
 breach_in sets literals =
     if list_all (must_miss_in sets) literals then Sure

@@ -1,17 +1,20 @@
 //! Entries that pass.
 ghost use Rattle.std.specs.Prelude.{◌≡◌, ◌≤◌, ◌↔◌, IfOk, IsTrue};
 ghost use Rattle.ht_tree.specs.declared.limits.TheConstants.{MAX_BUDGET};
+ghost use Rattle.ht_net.specs.Detection.{IsStart};
 ghost use Rattle.ht_tree.specs.Entries.{Means, Passes};
 
 use crate::abort_records::is_abort_record;
 use crate::kept_frames::KeptFrames;
 use crate::refutations::refutes;
 use crate::refutations_from::refutes_from;
+use ht_families::closes_by_rows;
 use ht_net::{Circuit, Fault};
+use ht_tern::Tern;
 use ht_tree::{Entry, MAX_BUDGET};
 use std::alloc::{AllocError, Global};
 
-/// Whether an entry passes for a fault.
+/// Whether an entry passes for a fault and the stated start, which has a value for each flip-flop.
 ///
 /// An untestable entry passes where its flip-flops rise and are the circuit's, and its tokens are a complete walk of
 /// the one-frame window of the fault and these flip-flops; its walk may have any length, so the budget of the run plays
@@ -22,6 +25,10 @@ use std::alloc::{AllocError, Global};
 /// walk of the one-frame window of the fault and its flip-flops under the clauses. Then every state of a run of the
 /// good machine from the state meets the clauses, both machines give equal outputs from that state, and no list of
 /// vectors detects the fault from all-unknown (`IsUntestableFrom`).
+///
+/// An undetectable entry by sets passes where its rows rise and are of the circuit's flip-flops, and the family that
+/// they give with the start closes. Then no list of vectors detects the fault, from the start or from all-unknown
+/// (`IsUndetectable`). Entries of the other forms don't look at the start.
 ///
 /// An aborted entry passes where its frames are a told chain, and each of its searches closed or filled the budget: the
 /// walk after the chain, the aim at the first frame, and the sweep (`IsAbortRecord`). Then each set that seals the
@@ -36,17 +43,20 @@ use std::alloc::{AllocError, Global};
 pub fn entry(
     alloc: Global,
     circuit: &Circuit,
+    start: &[Tern],
     fault: Fault,
     budget: u64,
     entry: &Entry,
 ) -> Result<bool, AllocError>
+    requires start { IsStart circuit.now start.now }
     requires budget { budget ≤ MAX_BUDGET }
     ensures exact { IfOk result
-        (λ passes. IsTrue passes ↔ Passes circuit.now fault budget entry.now) }
-    ensures sound { IfOk result (λ passes. IsTrue passes → Means circuit.now fault entry.now) }
+        (λ passes. IsTrue passes ↔ Passes circuit.now start.now fault budget entry.now) }
+    ensures sound { IfOk result
+        (λ passes. IsTrue passes → Means circuit.now start.now fault entry.now) }
 {
     let mut kept = KeptFrames::new(alloc, circuit)?;
-    entry_by_frames(alloc, &mut kept, fault, budget, entry)
+    entry_by_frames(alloc, &mut kept, start, fault, budget, entry)
 }
 
 /// Whether an entry passes for a fault of the circuit of frames that are kept, as `entry` says it. The frames of each
@@ -57,15 +67,17 @@ pub fn entry(
 pub fn entry_by_frames(
     alloc: Global,
     kept: &mut KeptFrames,
+    start: &[Tern],
     fault: Fault,
     budget: u64,
     entry: &Entry,
 ) -> Result<bool, AllocError>
+    requires start { IsStart kept.old.circuit start.now }
     requires budget { budget ≤ MAX_BUDGET }
     ensures exact { IfOk result
-        (λ passes. IsTrue passes ↔ Passes kept.old.circuit fault budget entry.now) }
+        (λ passes. IsTrue passes ↔ Passes kept.old.circuit start.now fault budget entry.now) }
     ensures sound { IfOk result
-        (λ passes. IsTrue passes → Means kept.old.circuit fault entry.now) }
+        (λ passes. IsTrue passes → Means kept.old.circuit start.now fault entry.now) }
     ensures circuit { kept.new.circuit ≡ kept.old.circuit }
 {
     // for the proof: the circuit is well formed
@@ -92,6 +104,9 @@ pub fn entry_by_frames(
             z.as_slice(),
             tokens.as_slice(),
         ),
+        Entry::UndetectableBySets { rows } => {
+            closes_by_rows(alloc, kept.circuit(), fault, start, rows.as_slice())
+        }
         Entry::Aborted {
             told,
             walk,

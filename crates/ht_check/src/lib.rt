@@ -1,5 +1,5 @@
 //! The checker of entries: it follows the tokens of a walk and settles both machines over sets of pairs at each node.
-//! No code of a search is used.
+//! No code of a search is used. Families of sets are judged in ht_families, by one frame (`closes_by_rows`).
 //!
 //! `entry` is true exactly where the entry passes (`exact`), and what an entry that passes says of its fault holds
 //! (`sound`): no list of vectors detects it, or none of fewer vectors than a sweep has walks. `judge_walk` judges

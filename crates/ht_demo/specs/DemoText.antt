@@ -35,11 +35,14 @@ abbrev pub demo_gate_lines : ℕ → Lcg → ℕ → List ℕ
 demo_gate_lines size g n =
     flat_map (λ k. drawn_gate_line size (first_gate size + k) (after_gates k g)) (range_with_len 0 n)
 
+-- the lines of the first n flip-flops
 abbrev pub demo_dff_lines : ℕ → Lcg → ℕ → List ℕ
 demo_dff_lines size g n = flat_map (drawn_dff_line size g) (range_with_len 0 n)
 
+-- the lines of the first n inputs
 abbrev pub demo_input_lines : ℕ → ℕ → List ℕ
 demo_input_lines size n = flat_map (demo_input_line size) (range_with_len 0 n)
 
+-- the lines of these outputs
 abbrev pub demo_output_lines : ℕ → List NetId → List ℕ
 demo_output_lines size nets = flat_map (demo_output_line size) nets

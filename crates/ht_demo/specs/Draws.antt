@@ -25,6 +25,7 @@ is_unary Not = true
 is_unary Buf = true
 is_unary kind = false
 
+-- how many pins a gate of the demonstration netlist has
 abbrev pub argument_count : Kind → ℕ
 argument_count kind = if is_unary kind then 1 else 2
 
@@ -48,6 +49,7 @@ drawn_gate nets g = record {
 abbrev pub after_gate : Lcg → Lcg
 after_gate g = after_words (argument_count (kind_by_word (next_word g))) (after_word g)
 
+-- the generator after k gates were drawn
 abbrev pub after_gates : ℕ → Lcg → Lcg
 after_gates zero g = g
 after_gates (suc k) g = after_gate (after_gates k g)
@@ -66,6 +68,7 @@ drawn_gate_net size g n = gate_by_word size (next_word (after_words n g))
 abbrev pub includes_net : List NetId → NetId → Bool
 includes_net nets net = list_any (λ (other : NetId). nat_eq other.0 net.0) nets
 
+-- the nets with one more, unless it is among them
 abbrev pub with_net : List NetId → NetId → List NetId
 with_net nets net = if includes_net nets net then nets else nets ++ net ∷ []
 

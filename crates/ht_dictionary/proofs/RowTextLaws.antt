@@ -1,21 +1,11 @@
 -- Which lines are the text of a row.
-use Rattle.std.proofs.Common.{◌≡◌, ◌≢◌, ◌⊎◌, ℕ, List, inl, inr, refl, arith}
+use Rattle.std.proofs.Common.{◌≡◌, ◌≢◌, ◌⊎◌, ℕ, List, inl, inr}
 use Rattle.std.proofs.lemmas.Bool.{cases_eq}
 use Rattle.ht_tern.specs.declared.tern.Tern.{Tern}
 use Rattle.ht_tern.specs.declared.tern.Tern.TheVariants.{Zero, One, Unk}
 use Rattle.ht_texts.proofs.CodedLaws.{coded_or_none, map_injective}
+use Rattle.ht_texts.proofs.VectorLaws.{tern_code_injective}
 use Rattle.ht_dictionary.specs.ResponseTexts.{tern_code, row_text, IsRowText}
-
-tern_code_injective : (a b : Tern) → tern_code a ≡ tern_code b → a ≡ b
-tern_code_injective Zero Zero e = refl
-tern_code_injective Zero One e = absurd (omega (arith, e))
-tern_code_injective Zero Unk e = absurd (omega (arith, e))
-tern_code_injective One Zero e = absurd (omega (arith, e))
-tern_code_injective One One e = refl
-tern_code_injective One Unk e = absurd (omega (arith, e))
-tern_code_injective Unk Zero e = absurd (omega (arith, e))
-tern_code_injective Unk One e = absurd (omega (arith, e))
-tern_code_injective Unk Unk e = refl
 
 pub row_text_injective : (a b : List Tern) → row_text a ≡ row_text b → a ≡ b
 row_text_injective = map_injective tern_code tern_code_injective

@@ -2,6 +2,7 @@
 use Rattle.std.specs.Prelude.{List, Option}
 use Rattle.ht_net.specs.declared.place.Place.{Place}
 
+-- a diagnosis: where each machine first contradicts what was observed
 pub record DiagnosisView : Type 0 where
   -- of the good machine
   pub good : Option Place

@@ -4,6 +4,7 @@ use Rattle.ht_serial.specs.GoodRunOf.{value_rows}
 use Rattle.ht_dictionary.specs.ObservationView.{ObservationView}
 use Rattle.ht_dictionary.specs.declared.observation.Observation.TheInside.{Inside}
 
+-- the observation that the stored fields stand for
 abbrev pub observation_of : Inside → ObservationView
 observation_of a = record { width = a.width; rows = value_rows a.rows.items }
 

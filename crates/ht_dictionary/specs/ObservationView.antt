@@ -2,6 +2,7 @@
 use Rattle.std.specs.Prelude.{ℕ, List}
 use Rattle.ht_tern.specs.declared.tern.Tern.{Tern}
 
+-- an observation: the rows that were seen
 pub record ObservationView : Type 0 where
   -- how many outputs there are
   pub width : ℕ

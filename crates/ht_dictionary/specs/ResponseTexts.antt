@@ -2,17 +2,11 @@
 use Rattle.std.specs.Prelude.{◌≡◌, ◌⊎◌, ◌<◌, ◌≤◌, ℕ, List, length, map, take}
 use Rattle.std.specs.List.{All}
 use Rattle.ht_tern.specs.declared.tern.Tern.{Tern}
-use Rattle.ht_tern.specs.declared.tern.Tern.TheVariants.{Zero, One, Unk}
 use Rattle.ht_ports.specs.LineRule.{lines_of, max_text_bytes}
 use Rattle.ht_texts.specs.Tests.{line_at, IsCoded, IsTooLong}
+pub use Rattle.ht_texts.specs.Tests.{tern_code}
 
--- the character of a value, `0`, `1`, or `X` where nothing was seen
-abbrev pub tern_code : Tern → ℕ
-tern_code Zero = 48
-tern_code One = 49
-tern_code Unk = 88
-
--- the characters of a row, in the order of the outputs
+-- the characters of a row, in the order of the outputs; `X` where nothing was seen
 abbrev pub row_text : List Tern → List ℕ
 row_text row = map tern_code row
 

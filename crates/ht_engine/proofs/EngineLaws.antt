@@ -1,20 +1,20 @@
 -- An engine that makes one step stands for the steps with it.
-use Rattle.std.specs.Prelude.{◌≡◌, ◌≢◌, ◌↔◌, ◌<◌, ◌≤◌, ◌+◌, ◌-◌, ℕ, List, [], ◌∷◌, ◌++◌, Bool, true, false, not, length, get_or, refl, Option, Some, None}
+use Rattle.std.specs.Prelude.{◌≡◌, ◌≢◌, ◌↔◌, ◌<◌, ◌≤◌, ◌+◌, ◌-◌, ℕ, List, [], ◌∷◌, ◌++◌, Bool, true, false, not, drop, length, get_or, refl, Option, Some, None}
 use Rattle.std.specs.List.{All}
 use Rattle.std.specs.Option.{is_some}
-use Rattle.rand_pcg.specs.Lcg.{Lcg}
 use Rattle.std.proofs.Common.{arith, ap, eq-eqb, inl, inr, length-append, set, sym, ◌∙◌, subst}
 use Rattle.std.proofs.lemmas.Bool.{false≢true, true≢false}
 use Rattle.std.proofs.lemmas.Bool.Decides.{eqb_tells}
-use Rattle.std.proofs.lemmas.List.{get_or-set_other, get_or-set_same, get_or_default}
+use Rattle.std.proofs.lemmas.List.{drop_all, drop_more, get_or-set_other, get_or-set_same, get_or_default, length-drop}
 use Rattle.std.proofs.lemmas.List.Elements.{All-append, All-cons, All-nil, Contains-append_left}
 use Rattle.ht_tern.specs.declared.tern.Tern.{Tern}
 use Rattle.ht_net.specs.declared.fault.Fault.{Fault}
 use Rattle.ht_net.specs.declared.place.Place.{Place}
-use Rattle.ht_net.specs.Detection.{Allows, IsFirstFrom, IsStart}
+use Rattle.ht_net.specs.Detection.{Allows, IsFirstFrom, IsStart, state_from}
 use Rattle.ht_net.specs.Netlist.{Netlist}
 use Rattle.ht_net.specs.Rows.{Rows}
 use Rattle.ht_net.proofs.FrameLaws.{le_or_lt}
+use Rattle.ht_net.proofs.MoreToldLaws.{state_is_start}
 use Rattle.ht_net.proofs.SilenceLaws.{some_allowed}
 use Rattle.ht_faults.specs.FaultList.{no_fault}
 use Rattle.ht_collapse.specs.Classes.{fault_at}
@@ -25,40 +25,48 @@ use Rattle.ht_tree.specs.declared.kind.EntryKind.{EntryKind}
 use Rattle.ht_tree.specs.declared.kind.EntryKind.TheVariants as kind
 use Rattle.ht_tree.specs.Entries.{AllowsEntry, kind_of}
 use Rattle.ht_tree.specs.Reached.{AreVectors}
+use Rattle.ht_tree.specs.Windows as window
 use Rattle.ht_invariant.specs.declared.finding.Invariant.{Invariant}
 use Rattle.ht_entries.specs.declared.numbered.Numbered.{Numbered}
 use Rattle.ht_valid.specs.ValidFiles.{HasEntry, IsOwn}
-use Rattle.ht_random.proofs.RandomVectorLaws.{random_vectors_count}
+use Rattle.ht_engine.specs.declared.settings.Search.{Search}
+use Rattle.ht_engine.specs.declared.settings.Search.TheVariants.{Plain, Deep}
+use Rattle.ht_engine.specs.declared.settings.Settings.{Settings}
 use Rattle.ht_engine.specs.declared.step.Step.{Step}
 use Rattle.ht_engine.specs.declared.step.Step.TheVariants.{Vectors, Entry, Finished}
-use Rattle.ht_engine.specs.declared.work.Work.{Work}
 use Rattle.ht_engine.specs.EngineOf.{IsEngine}
+use Rattle.ht_engine.specs.declared.work.Work.{Work}
 use Rattle.ht_engine.specs.declared.work.Work.TheVariants as work
+use Rattle.ht_engine.specs.DeepWork.{DeepWorkHolds, DetectsAfter, IsDeepWork, IsWorkBy, states_reached}
 use Rattle.ht_engine.specs.Enough.{IsEnough}
-use Rattle.ht_engine.specs.FaultWork.{IsNamedInvariant, IsWork}
-use Rattle.ht_engine.specs.EngineStands.{AllHold, AreEnough, EngineStandsFor, EntryHolds, EngineView, HasSameWork, IsKindIn, IsSaid, Makes, MakesStep, MeansOfStep, first_of, kind_at, remaining}
-use Rattle.ht_engine.specs.OneStep.{Advances, Ends, GivesEntry, GivesList, GivesRandom, IsNextUndetected, IsUndetected, said_by}
-use Rattle.ht_engine.specs.Steps.{AwaitsVerdict, Follows, IsNextFault, entries_of, one_more, one_vector, vectors_of_steps}
+use Rattle.ht_engine.specs.FaultWork.{IsNamedInvariant, IsWork, WorkHolds}
+use Rattle.ht_engine.specs.EngineStands.{AllHold, AreEnough, EngineStandsFor, EntryHolds, EngineView, HasSameWork, IsKindIn, IsSaid, IsUndetectedWith, Makes, MakesStep, MeansOfStep, all_first, kind_at, remaining}
+use Rattle.ht_engine.specs.OneStep.{Advances, Ends, GivesEntry, GivesFirst, GivesList, IsNextUndetected, IsUndetected, IsWorkOn, said_by}
+use Rattle.ht_engine.specs.Steps.{AwaitsVerdict, Follows, IsChosen, IsNextFault, entries_of, one_more, one_vector, vectors_of_steps}
+use Rattle.ht_engine.proofs.DeepLaws.{deep_after, plain_after}
 use Rattle.ht_engine.proofs.StepLaws.{awaited_before, contains_last, entries_more, entries_with_list, has_cases, has_last, numbered, vectors_more, vectors_with_entry}
 
 -- ---- what is undetected
 
 pub undetected_tells : (e : EngineView) (i : ℕ) (place : Option Place) (nowhere : Bool)
-    → IsOwn e.circuit e.representatives i → IsFirstFrom e.circuit (fault_at e.circuit i) e.settings.start e.list place
+    → IsOwn e.circuit e.representatives i → IsChosen e.representatives e.settings i
+    → IsFirstFrom e.circuit (fault_at e.circuit i) e.settings.start e.list place
     → is_some place ≡ not nowhere → (nowhere ≡ true) ↔ IsUndetected e i
-undetected_tells e i None true own first is = (λ h. record { own = own; undetected = first }, λ u. refl)
-undetected_tells e i None false own first is = absurd (false≢true is)
-undetected_tells e i (Some p) true own first is = absurd (true≢false is)
-undetected_tells e i (Some p) false own first is =
+undetected_tells e i None true own chosen first is =
+    (λ h. record { own = own; chosen = chosen; undetected = first }, λ u. refl)
+undetected_tells e i None false own chosen first is = absurd (false≢true is)
+undetected_tells e i (Some p) true own chosen first is = absurd (true≢false is)
+undetected_tells e i (Some p) false own chosen first is =
     (λ h. absurd (false≢true h), λ u. absurd (u.undetected p.vector p.output first.0))
 
 -- ---- the next fault
 
 module _ (e : EngineView) (steps : List Step) (s : EngineStandsFor e steps) where
   awaits_of : (i : ℕ) → e.place ≤ i → IsUndetected e i
-      → AwaitsVerdict e.circuit e.representatives e.settings.start steps i
+      → AwaitsVerdict e.circuit e.representatives e.settings steps i
   awaits_of i from u = record {
     own = u.own;
+    chosen = u.chosen;
     undetected =
         subst (λ (list : List (List Bool)). IsFirstFrom e.circuit (fault_at e.circuit i) e.settings.start list None)
         s.list
@@ -66,15 +74,16 @@ module _ (e : EngineView) (steps : List Step) (s : EngineStandsFor e steps) wher
     without_entry = λ h. let below = s.entered i h in absurd (omega (arith, below, from));
   }
 
-  undetected_of : (i : ℕ) → AwaitsVerdict e.circuit e.representatives e.settings.start steps i → IsUndetected e i
+  undetected_of : (i : ℕ) → AwaitsVerdict e.circuit e.representatives e.settings steps i → IsUndetected e i
   undetected_of i a = record {
     own = a.own;
+    chosen = a.chosen;
     undetected =
         subst (λ (list : List (List Bool)). IsFirstFrom e.circuit (fault_at e.circuit i) e.settings.start list None)
         (sym s.list) a.undetected;
   }
 
-  pub is_next : (i : ℕ) → IsNextUndetected e i → IsNextFault e.circuit e.representatives e.settings.start steps i
+  pub is_next : (i : ℕ) → IsNextUndetected e i → IsNextFault e.circuit e.representatives e.settings steps i
   is_next i n = record {
     awaits = awaits_of i n.from n.undetected;
     least = λ k below a. elim (le_or_lt e.place k) [
@@ -84,82 +93,91 @@ module _ (e : EngineView) (steps : List Step) (s : EngineStandsFor e steps) wher
   }
 
   pub none_awaits : ((k : ℕ) → e.place ≤ k → ¬ IsUndetected e k)
-      → (k : ℕ) → ¬ AwaitsVerdict e.circuit e.representatives e.settings.start steps k
+      → (k : ℕ) → ¬ AwaitsVerdict e.circuit e.representatives e.settings steps k
   none_awaits last k a = elim (le_or_lt e.place k) [
     | inl from ↦ last k from (undetected_of k a)
     | inr under ↦ s.done k under a
   ]
 
-  -- where none is left all random vectors are given, and none is left after one step more
-  pub all_given : e.left ≡ 0 → length (first_of e) ≤ length steps
+  -- where none is left all first vectors are given, and none is left after one step more
+  pub all_given : e.rest ≡ [] → length (all_first e) ≤ length steps
   all_given none =
-      let count = random_vectors_count e.circuit.inputs e.settings.random e.settings.seed in
-      let left = s.left in
-      omega (arith, count, left, none)
+      let cut = length-drop (length steps) (all_first e) in
+      let empty = ap (λ (l : List (List Bool)). length l) (sym s.rest ∙ none) in
+      omega (arith, cut, empty)
 
-  pub none_more : (step : Step) → e.left ≡ 0 → e.left ≡ e.settings.random - length (steps ++ step ∷ [])
+  pub none_more : (step : Step) → e.rest ≡ [] → e.rest ≡ drop (length (steps ++ step ∷ [])) (all_first e)
   none_more step none =
       let more = length-append steps (step ∷ []) in
-      let left = s.left in
-      omega (arith, more, left, none)
+      let given = all_given none in
+      none ∙ sym (drop_all (length (steps ++ step ∷ [])) (all_first e) (omega (arith, more, given)))
 
--- ---- a random vector
+-- ---- one of the first vectors
 
 module _ (e new : EngineView) (steps : List Step) (s : EngineStandsFor e steps) (list : Rows)
-    (g : GivesRandom e new list) where
-  abbrev with_random : List Step
-  with_random = steps ++ Vectors list ∷ []
+    (g : GivesFirst e new list) where
+  abbrev with_first : List Step
+  with_first = steps ++ Vectors list ∷ []
 
-  -- the steps so far are the random vectors so far
-  so_far : e.settings.random - e.left ≡ length steps
-  so_far = let left = s.left in let some = g.left in omega (arith, left, some)
+  some_left : length steps < length (all_first e)
+  some_left =
+      let cut = length-drop (length steps) (all_first e) in
+      let some = ap (λ (l : List (List Bool)). length l) (sym s.rest ∙ g.left) in
+      omega (arith, cut, some)
 
-  some_left : length steps < e.settings.random
-  some_left = let left = s.left in let some = g.left in omega (arith, left, some)
+  -- the steps so far are the first vectors so far
+  left_is : get_or (all_first e) (length steps) [] ∷ drop (length steps + 1) (all_first e) ≡ g.vector ∷ g.rest
+  left_is = sym (drop_more (all_first e) (length steps) [] some_left) ∙ (sym s.rest ∙ g.left)
 
-  random_follows : Follows e.circuit e.representatives e.settings steps (Vectors list)
-  random_follows =
-      let count = random_vectors_count e.circuit.inputs e.settings.random e.settings.seed in
-      let some = some_left in
-      inl (record {
-        left = omega (arith, count, some);
-        given = ap Vectors (g.given
-            ∙ ap (λ (k : ℕ). one_vector e.circuit (get_or (first_of e) k [])) so_far);
-      })
+  vector_is : get_or (all_first e) (length steps) [] ≡ g.vector
+  vector_is = ap (λ (l : List (List Bool)). get_or l 0 []) left_is
 
-  random_stands : EngineStandsFor (record e { list = e.list ++ list.list; left = e.left - 1 }) with_random
-  random_stands =
+  rest_is : drop (length steps + 1) (all_first e) ≡ g.rest
+  rest_is = ap (λ (l : List (List Bool)). drop 1 l) left_is
+
+  first_follows : Follows e.circuit e.representatives e.settings steps (Vectors list)
+  first_follows = inl (record {
+    left = some_left;
+    given = ap Vectors (g.given ∙ ap (one_vector e.circuit) (sym vector_is));
+  })
+
+  list_wide : AreVectors e.circuit list.list
+  list_wide =
+      let P : List Bool → Type 0 = λ (v : List Bool). length v ≡ e.circuit.inputs in
+      subst (λ (r : Rows). AreVectors e.circuit r.list) (sym g.given) (All-cons P g.vector [] g.wide (All-nil P))
+
+  first_stands : EngineStandsFor (record e { list = e.list ++ list.list; rest = g.rest }) with_first
+  first_stands =
       let same = sym (entries_with_list steps list) in
-      let more = length-append steps (Vectors list ∷ []) in
-      let left = s.left in
-      let some = g.left in
+      let more : length steps + 1 ≡ length with_first =
+      let long = length-append steps (Vectors list ∷ []) in omega (arith, long) in
       record {
         latches = s.latches;
-        are = one_more steps (Vectors list) s.are random_follows;
-        left = omega (arith, more, left, some);
+        are = one_more steps (Vectors list) s.are first_follows;
+        rest = sym rest_is ∙ ap (λ (k : ℕ). drop k (all_first e)) more;
         list =
             ap (λ (x : List (List Bool)). x ++ list.list) s.list ∙ sym (vectors_more steps (Vectors list));
         kinds = λ i l. subst (λ (entries : List Numbered). IsKindIn entries i (kind_at e i)) same (s.kinds i l);
         done = λ k l a. s.done k l
-            (awaited_before e.circuit e.representatives e.settings.start steps (Vectors list) k a);
+            (awaited_before e.circuit e.representatives e.settings steps (Vectors list) k a);
         entered = λ k h. s.entered k (subst (λ (entries : List Numbered). HasEntry entries k) (sym same) h);
         wide = subst (AreVectors e.circuit) (sym (vectors_more steps (Vectors list)))
             (All-append (λ (v : List Bool). length v ≡ e.circuit.inputs) (vectors_of_steps steps) list.list s.wide
-            g.wide);
+            list_wide);
         pass = subst (AllHold e.circuit e.settings) same s.pass;
         found = s.found;
         holds = s.holds;
         enough = subst (AreEnough e.circuit e.settings.budget e.named_invariant.clauses) same s.enough;
       }
 
-  pub random_made : MakesStep e new steps (Vectors list)
-  random_made = record {
-    follows = random_follows;
-    stands = subst (λ (v : EngineView). EngineStandsFor v with_random) (sym g.after) random_stands;
+  pub first_made : MakesStep e new steps (Vectors list)
+  first_made = record {
+    follows = first_follows;
+    stands = subst (λ (v : EngineView). EngineStandsFor v with_first) (sym g.after) first_stands;
   }
 
-  pub random_means : MeansOfStep e steps (Vectors list)
-  random_means = λ all. let some = some_left in absurd (omega (arith, all, some))
+  pub first_means : MeansOfStep e steps (Vectors list)
+  first_means = λ all. let some = some_left in absurd (omega (arith, all, some))
 
 -- ---- a list
 
@@ -175,33 +193,36 @@ module _ (e new : EngineView) (steps : List Step) (s : EngineStandsFor e steps) 
     next = is_next e steps s g.fault g.next;
     invariant = e.named_invariant;
     found = s.found;
-    given = g.given;
+    given = subst (λ (before : List (List Bool)). IsWorkBy e.settings.search e.circuit (fault_at e.circuit g.fault)
+        e.settings before e.named_invariant (work.List list)) s.list g.work.given;
   })
 
+  -- the list detects the fault after the vectors of the steps
+  holds : DetectsAfter e.circuit (fault_at e.circuit g.fault) e.settings.start (vectors_of_steps steps) list
+  holds = subst (λ (before : List (List Bool)). DetectsAfter e.circuit (fault_at e.circuit g.fault) e.settings.start
+      before list) s.list g.work.holds
+
   pub list_useful : MeansOfStep e steps (Vectors list)
-  list_useful = λ all.
-      let d = g.holds.detects e.settings.start s.latches (vectors_of_steps steps) in
-      record {
-        fault = g.fault;
-        awaited = (is_next e steps s g.fault g.next).awaits;
-        vector = d.0;
-        output = d.1;
-        detects = d.2;
-      }
+  list_useful = λ all. record {
+    fault = g.fault;
+    awaited = (is_next e steps s g.fault g.next).awaits;
+    vector = holds.vector;
+    output = holds.output;
+    detects = holds.detects;
+  }
 
-  detected_now : ¬ AwaitsVerdict e.circuit e.representatives e.settings.start longer g.fault
+  detected_now : ¬ AwaitsVerdict e.circuit e.representatives e.settings longer g.fault
   detected_now a =
-      let d = g.holds.detects e.settings.start s.latches (vectors_of_steps steps) in
       subst (λ (list : List (List Bool)). IsFirstFrom e.circuit (fault_at e.circuit g.fault) e.settings.start list None)
-      (vectors_more steps (Vectors list)) a.undetected d.0 d.1 d.2
+      (vectors_more steps (Vectors list)) a.undetected holds.vector holds.output holds.detects
 
-  list_done : (k : ℕ) → k < g.fault + 1 → ¬ AwaitsVerdict e.circuit e.representatives e.settings.start longer k
+  list_done : (k : ℕ) → k < g.fault + 1 → ¬ AwaitsVerdict e.circuit e.representatives e.settings longer k
   list_done k l a = elim (le_or_lt g.fault k) [
     | inl from ↦
         let at : k ≡ g.fault = omega (arith, from, l) in
-        detected_now (subst (AwaitsVerdict e.circuit e.representatives e.settings.start longer) at a)
+        detected_now (subst (AwaitsVerdict e.circuit e.representatives e.settings longer) at a)
     | inr under ↦ (is_next e steps s g.fault g.next).least k under
-        (awaited_before e.circuit e.representatives e.settings.start steps (Vectors list) k a)
+        (awaited_before e.circuit e.representatives e.settings steps (Vectors list) k a)
   ]
 
   list_stands : EngineStandsFor (record e { list = e.list ++ list.list; place = g.fault + 1 }) longer
@@ -210,7 +231,7 @@ module _ (e new : EngineView) (steps : List Step) (s : EngineStandsFor e steps) 
       record {
         latches = s.latches;
         are = one_more steps (Vectors list) s.are list_follows;
-        left = none_more e steps s (Vectors list) g.none_left;
+        rest = none_more e steps s (Vectors list) g.none_left;
         list =
             ap (λ (x : List (List Bool)). x ++ list.list) s.list ∙ sym (vectors_more steps (Vectors list));
         kinds = λ i l. subst (λ (entries : List Numbered). IsKindIn entries i (kind_at e i)) same (s.kinds i l);
@@ -221,7 +242,7 @@ module _ (e new : EngineView) (steps : List Step) (s : EngineStandsFor e steps) 
             omega (arith, below, from);
         wide = subst (AreVectors e.circuit) (sym (vectors_more steps (Vectors list)))
             (All-append (λ (v : List Bool). length v ≡ e.circuit.inputs) (vectors_of_steps steps) list.list s.wide
-            g.holds.wide);
+            g.work.holds.wide);
         pass = subst (AllHold e.circuit e.settings) same s.pass;
         found = s.found;
         holds = s.holds;
@@ -253,7 +274,27 @@ work_is_allowed : (c : Netlist) (fault : Fault) (start : List Tern) (budget : �
 work_is_allowed c fault start budget invariant found (entries.Untestable z tokens) given = tt
 work_is_allowed c fault start budget invariant found (entries.UntestableFrom state clauses z tokens) given =
     subst (Allows start) (sym (given.under.same_state ∙ found.state)) (some_allowed start)
+work_is_allowed c fault start budget invariant found (entries.UndetectableBySets rows) given = tt
 work_is_allowed c fault start budget invariant found (entries.Aborted told walk aim walks) given = tt
+
+-- so does that of the deep work
+deep_is_allowed : (c : Netlist) (fault : Fault) (settings : Settings) (states : window.Start) (invariant : Invariant)
+    → IsNamedInvariant c settings.start settings.budget invariant → (made : recorded.Entry)
+    → IsDeepWork c fault settings states invariant (work.Entry made) → AllowsEntry settings.start made
+deep_is_allowed c fault settings states invariant found (entries.Untestable z tokens) given = tt
+deep_is_allowed c fault settings states invariant found (entries.UntestableFrom state clauses z tokens) given =
+    work_is_allowed c fault settings.start settings.budget invariant found
+    (entries.UntestableFrom state clauses z tokens) given
+deep_is_allowed c fault settings states invariant found (entries.UndetectableBySets rows) given = tt
+deep_is_allowed c fault settings states invariant found (entries.Aborted told walk aim walks) given = tt
+
+is_allowed : (search : Search) (c : Netlist) (fault : Fault) (settings : Settings) (before : List (List Bool))
+    (invariant : Invariant) → IsNamedInvariant c settings.start settings.budget invariant → (made : recorded.Entry)
+    → IsWorkBy search c fault settings before invariant (work.Entry made) → AllowsEntry settings.start made
+is_allowed Plain c fault settings before invariant found made given =
+    work_is_allowed c fault settings.start settings.budget invariant found made given
+is_allowed Deep c fault settings before invariant found made given =
+    deep_is_allowed c fault settings (states_reached c fault settings.start before) invariant found made given
 
 module _ (e new : EngineView) (steps : List Step) (s : EngineStandsFor e steps) (fault : ℕ) (made : recorded.Entry)
     (g : GivesEntry e new fault made) where
@@ -267,7 +308,11 @@ module _ (e new : EngineView) (steps : List Step) (s : EngineStandsFor e steps) 
     next = is_next e steps s fault g.next;
     invariant = e.named_invariant;
     found = s.found;
-    given = (refl, g.given);
+    given = (
+      refl,
+      subst (λ (before : List (List Bool)). IsWorkBy e.settings.search e.circuit (fault_at e.circuit fault) e.settings
+          before e.named_invariant (work.Entry made)) s.list g.work.given,
+    );
   })
 
   abbrev kinds_now : List (Option EntryKind)
@@ -288,13 +333,13 @@ module _ (e new : EngineView) (steps : List Step) (s : EngineStandsFor e steps) 
         (kind_stays (entries_of steps) fault made i t.1 (kind_at e i) (s.kinds i l))
   ]
 
-  entry_done : (k : ℕ) → k < fault + 1 → ¬ AwaitsVerdict e.circuit e.representatives e.settings.start more k
+  entry_done : (k : ℕ) → k < fault + 1 → ¬ AwaitsVerdict e.circuit e.representatives e.settings more k
   entry_done k l a = elim (le_or_lt fault k) [
     | inl from ↦
         let at : k ≡ fault = omega (arith, from, l) in
         a.without_entry (subst (HasEntry (entries_of more)) (sym at) (has_last steps fault made))
     | inr under ↦ (is_next e steps s fault g.next).least k under
-        (awaited_before e.circuit e.representatives e.settings.start steps (Entry fault made) k a)
+        (awaited_before e.circuit e.representatives e.settings steps (Entry fault made) k a)
   ]
 
   entry_entered : (k : ℕ) → HasEntry (entries_of steps ++ numbered fault made ∷ []) k → k < fault + 1
@@ -315,9 +360,9 @@ module _ (e new : EngineView) (steps : List Step) (s : EngineStandsFor e steps) 
 
   entry_holds : EntryHolds e.circuit e.settings fault made
   entry_holds = (
-    g.holds,
-    work_is_allowed e.circuit (fault_at e.circuit fault) e.settings.start e.settings.budget e.named_invariant s.found
-        made g.given,
+    g.work.holds,
+    is_allowed e.settings.search e.circuit (fault_at e.circuit fault) e.settings e.list e.named_invariant s.found made
+        g.work.given,
   )
 
   entry_stands : EngineStandsFor (record e { kinds = kinds_now; place = fault + 1 }) more
@@ -326,7 +371,7 @@ module _ (e new : EngineView) (steps : List Step) (s : EngineStandsFor e steps) 
       record {
         latches = s.latches;
         are = one_more steps (Entry fault made) s.are entry_follows;
-        left = none_more e steps s (Entry fault made) g.none_left;
+        rest = none_more e steps s (Entry fault made) g.none_left;
         list = s.list ∙ sym (vectors_with_entry steps fault made);
         kinds = λ i l. subst (λ (entries : List Numbered). IsKindIn entries i (get_or kinds_now i None)) same
             (kinds_more i l);
@@ -340,7 +385,7 @@ module _ (e new : EngineView) (steps : List Step) (s : EngineStandsFor e steps) 
         holds = s.holds;
         enough = subst (AreEnough e.circuit e.settings.budget e.named_invariant.clauses) same
             (all_more (λ k made. IsEnough e.circuit (fault_at e.circuit k) e.settings.budget e.named_invariant.clauses
-            (work.Entry made)) s.enough g.enough);
+            (work.Entry made)) s.enough g.work.enough);
       }
 
   pub entry_made : MakesStep e new steps (Entry fault made)
@@ -359,7 +404,7 @@ end_made e new steps s g =
     record {
       latches = s.latches;
       are = s.are;
-      left = s.left;
+      rest = s.rest;
       list = s.list;
       kinds = s.kinds;
       done = λ i l. last i;
@@ -378,87 +423,86 @@ end_made e new steps s g =
 
 pub makes : (old new : EngineView) (steps : List Step) → EngineStandsFor old steps → (step : Step)
     → Advances old new step → Makes old new steps step
-makes old new steps s (Vectors list) (inl g) = random_made old new steps s list g
+makes old new steps s (Vectors list) (inl g) = first_made old new steps s list g
 makes old new steps s (Vectors list) (inr g) = list_made old new steps s list g
 makes old new steps s (Entry fault made) g = entry_made old new steps s fault made g
 makes old new steps s Finished g = end_made old new steps s g
 
 pub means : (old new : EngineView) (steps : List Step) → EngineStandsFor old steps → (step : Step)
     → Advances old new step → MeansOfStep old steps step
-means old new steps s (Vectors list) (inl g) = random_means old new steps s list g
+means old new steps s (Vectors list) (inl g) = first_means old new steps s list g
 means old new steps s (Vectors list) (inr g) = list_useful old new steps s list g
 means old new steps s (Entry fault made) g = entry_holds old new steps s fault made g
 means old new steps s Finished g = tt
 
-same_by : (old new : EngineView) (list : List (List Bool)) (kinds : List (Option EntryKind)) (place left : ℕ)
-    → new ≡ record old { list = list; kinds = kinds; place = place; left = left } → HasSameWork old new
-same_by old new list kinds place left is = record {
+same_by : (old new : EngineView) (list : List (List Bool)) (kinds : List (Option EntryKind)) (place : ℕ)
+    (rest : List (List Bool)) → new ≡ record old { list = list; kinds = kinds; place = place; rest = rest }
+    → HasSameWork old new
+same_by old new list kinds place rest is = record {
   circuit = ap (λ (v : EngineView). v.circuit) is;
   representatives = ap (λ (v : EngineView). v.representatives) is;
   settings = ap (λ (v : EngineView). v.settings) is;
 }
 
 pub same_work : (old new : EngineView) (step : Step) → Advances old new step → HasSameWork old new
-same_work old new (Vectors list) (inl g) =
-    same_by old new (old.list ++ list.list) old.kinds old.place (old.left - 1) g.after
+same_work old new (Vectors list) (inl g) = same_by old new (old.list ++ list.list) old.kinds old.place g.rest g.after
 same_work old new (Vectors list) (inr g) =
-    same_by old new (old.list ++ list.list) old.kinds (g.fault + 1) old.left g.after
+    same_by old new (old.list ++ list.list) old.kinds (g.fault + 1) old.rest g.after
 same_work old new (Entry fault made) g =
-    same_by old new old.list (set old.kinds fault (Some (kind_of made))) (fault + 1) old.left g.after
-same_work old new Finished g = same_by old new old.list old.kinds (length old.representatives) old.left g.after
+    same_by old new old.list (set old.kinds fault (Some (kind_of made))) (fault + 1) old.rest g.after
+same_work old new Finished g = same_by old new old.list old.kinds (length old.representatives) old.rest g.after
 
--- a random vector less, or a place further
-fewer_left : (old new : EngineView) → 0 < old.left → new.left ≡ old.left - 1 → new.place ≡ old.place
+-- one of the first vectors less, or a place further
+fewer_left : (old new : EngineView) (vector : List Bool) → old.rest ≡ vector ∷ new.rest → new.place ≡ old.place
     → new.representatives ≡ old.representatives → remaining new < remaining old
-fewer_left old new some left place same =
+fewer_left old new vector left place same =
+    let one : length old.rest ≡ length (vector ∷ new.rest) = ap (λ (l : List (List Bool)). length l) left in
     let long : length new.representatives ≡ length old.representatives = ap length same in
-    omega (arith, some, left, place, long)
+    omega (arith, one, place, long)
 
-fewer_faults : (old new : EngineView) (fault : ℕ) → IsNextUndetected old fault → new.left ≡ old.left
+fewer_faults : (old new : EngineView) (fault : ℕ) → IsNextUndetected old fault → new.rest ≡ old.rest
     → new.place ≡ fault + 1 → new.representatives ≡ old.representatives → remaining new < remaining old
 fewer_faults old new fault next left place same =
     let long : length new.representatives ≡ length old.representatives = ap length same in
+    let rest = ap (λ (l : List (List Bool)). length l) left in
     let from = next.from in
     let inside = next.inside in
-    omega (arith, from, inside, left, place, long)
+    omega (arith, from, inside, rest, place, long)
 
 pub nears : (old new : EngineView) (step : Step) → Advances old new step → step ≢ Finished
     → remaining new < remaining old
 nears old new (Vectors list) (inl g) other =
-    fewer_left old new g.left (ap (λ (v : EngineView). v.left) g.after) (ap (λ (v : EngineView). v.place) g.after)
-    (ap (λ (v : EngineView). v.representatives) g.after)
+    fewer_left old new g.vector
+    (g.left ∙ ap (λ (l : List (List Bool)). g.vector ∷ l) (sym (ap (λ (v : EngineView). v.rest) g.after)))
+    (ap (λ (v : EngineView). v.place) g.after) (ap (λ (v : EngineView). v.representatives) g.after)
 nears old new (Vectors list) (inr g) other =
-    fewer_faults old new g.fault g.next (ap (λ (v : EngineView). v.left) g.after)
+    fewer_faults old new g.fault g.next (ap (λ (v : EngineView). v.rest) g.after)
     (ap (λ (v : EngineView). v.place) g.after) (ap (λ (v : EngineView). v.representatives) g.after)
 nears old new (Entry fault made) g other =
-    fewer_faults old new fault g.next (ap (λ (v : EngineView). v.left) g.after)
+    fewer_faults old new fault g.next (ap (λ (v : EngineView). v.rest) g.after)
     (ap (λ (v : EngineView). v.place) g.after) (ap (λ (v : EngineView). v.representatives) g.after)
 nears old new Finished g other = absurd (other refl)
 
 -- ---- what is said
 
-pub said_is : (e : EngineView) (steps : List Step) → EngineStandsFor e steps → (i : ℕ)
-    → IsOwn e.circuit e.representatives i → i < length e.representatives
+said_with : (c : Netlist) (start : List Tern) (steps : List Step) (i : ℕ) (kind : Option EntryKind)
+    → IsUndetectedWith c start steps i kind → IsSaid c start steps i (said_by kind)
+said_with c start steps i None is = is
+said_with c start steps i (Some kind.Untestable) is = is
+said_with c start steps i (Some kind.Undetectable) is = is
+said_with c start steps i (Some kind.Aborted) is = is
+
+pub said_is : (e : EngineView) (steps : List Step) → EngineStandsFor e steps → (i : ℕ) → i < length e.representatives
     → IsFirstFrom e.circuit (fault_at e.circuit i) e.settings.start e.list None
-    → (kind : Option EntryKind) → kind_at e i ≡ kind → IsSaid e.circuit e.representatives e.settings.start steps i
-    (said_by kind)
-said_is e steps s i own l first None at = record {
-  own = own;
-  undetected = subst (λ (list : List (List Bool)). IsFirstFrom e.circuit (fault_at e.circuit i) e.settings.start list
-      None) s.list
-      first;
-  without_entry = subst (IsKindIn (entries_of steps) i) at (s.kinds i l);
-}
-said_is e steps s i own l first (Some kind.Untestable) at = (
-  subst (λ (list : List (List Bool)). IsFirstFrom e.circuit (fault_at e.circuit i) e.settings.start list None) s.list
-      first,
-  subst (IsKindIn (entries_of steps) i) at (s.kinds i l),
-)
-said_is e steps s i own l first (Some kind.Aborted) at = (
-  subst (λ (list : List (List Bool)). IsFirstFrom e.circuit (fault_at e.circuit i) e.settings.start list None) s.list
-      first,
-  subst (IsKindIn (entries_of steps) i) at (s.kinds i l),
-)
+    → (kind : Option EntryKind) → kind_at e i ≡ kind → IsSaid e.circuit e.settings.start steps i (said_by kind)
+said_is e steps s i l first kind at =
+    let is : IsUndetectedWith e.circuit e.settings.start steps i kind = record {
+      undetected = subst
+          (λ (list : List (List Bool)). IsFirstFrom e.circuit (fault_at e.circuit i) e.settings.start list None) s.list
+          first;
+      kind_is = subst (IsKindIn (entries_of steps) i) at (s.kinds i l);
+    } in
+    said_with e.circuit e.settings.start steps i kind is
 
 pub said_detected : (e : EngineView) (steps : List Step) → EngineStandsFor e steps → (i : ℕ) (place : Place)
     → IsFirstFrom e.circuit (fault_at e.circuit i) e.settings.start e.list (Some place)
@@ -470,10 +514,10 @@ said_detected e steps s i place first =
 
 -- ---- what the fields say of the value
 
-module _ (e now : EngineView) (listed : List Fault) (grader : GraderView) (words : Lcg)
-    (is : IsEngine e listed grader words) (at : e ≡ now) (same : grader.list ≡ e.list) where
-  known : IsEngine now listed grader words
-  known = subst (λ (v : EngineView). IsEngine v listed grader words) at is
+module _ (e now : EngineView) (listed : List Fault) (grader : GraderView) (marks : List Bool)
+    (is : IsEngine e listed grader marks) (at : e ≡ now) (same : grader.list ≡ e.list) where
+  known : IsEngine now listed grader marks
+  known = subst (λ (v : EngineView). IsEngine v listed grader marks) at is
 
   pub own_of : (i r : ℕ) → i < length now.representatives → r ≡ get_or e.representatives i 0 → r ≡ i
       → IsOwn now.circuit now.representatives i
@@ -484,6 +528,14 @@ module _ (e now : EngineView) (listed : List Fault) (grader : GraderView) (words
         own = eq-eqb (get_or now.representatives i 0) i
             (ap (λ (v : EngineView). get_or v.representatives i 0) (sym at) ∙ (sym here ∙ own));
       }
+
+  -- a fault that is marked is to be worked on
+  pub chosen_of : (i : ℕ) (mark : Bool) → i < length now.representatives → mark ≡ get_or marks i mark → mark ≡ true
+      → IsChosen now.representatives now.settings i
+  chosen_of i mark l got is =
+      let each = known.marks.each in
+      (known.marks.chosen i l).0
+      (get_or_default marks i false mark (omega (arith, l, each)) ∙ (sym got ∙ is))
 
   pub detection_of : (i : ℕ) (place : Option Place)
       → IsFirstFrom grader.circuit (fault_at grader.circuit i) grader.start grader.list place
@@ -511,15 +563,77 @@ module _ (e now : EngineView) (listed : List Fault) (grader : GraderView) (words
       get_or_default now.kinds i None kind (room_of i own)
       ∙ (ap (λ (v : EngineView). get_or v.kinds i kind) (sym at) ∙ sym is)
 
-  fault_of : (i : ℕ) (f : Fault) → f ≡ get_or listed i no_fault → f ≡ fault_at now.circuit i
+  pub fault_of : (i : ℕ) (f : Fault) → f ≡ get_or listed i no_fault → f ≡ fault_at now.circuit i
   fault_of i f got = got ∙ ap (λ (l : List Fault). get_or l i no_fault) known.faults
 
-  -- what holds of the work on a listed fault holds of what it gave
-  pub of_work : (P : Netlist → Fault → ℕ → Invariant → Work → Type 0) (i : ℕ) (f : Fault)
-      → f ≡ get_or listed i no_fault → (w given : Work) → w ≡ given
-      → P e.circuit f e.settings.budget e.named_invariant w
-      → P now.circuit (fault_at now.circuit i) now.settings.budget now.named_invariant given
-  of_work P i f got w given is_given h =
-      subst (P now.circuit (fault_at now.circuit i) now.settings.budget now.named_invariant) is_given
-      (subst (λ (f : Fault). P now.circuit f now.settings.budget now.named_invariant w) (fault_of i f got)
-      (subst (λ (v : EngineView). P v.circuit f v.settings.budget v.named_invariant w) at h))
+  -- what the engine's vectors don't detect the grader's don't
+  pub grader_detection : (i : ℕ) (place : Option Place)
+      → IsFirstFrom now.circuit (fault_at now.circuit i) now.settings.start now.list place
+      → IsFirstFrom grader.circuit (fault_at grader.circuit i) grader.start grader.list place
+  grader_detection i place first =
+      let list : grader.list ≡ now.list = same ∙ ap (λ (v : EngineView). v.list) at in
+      subst (λ (l : List (List Bool)). IsFirstFrom grader.circuit (fault_at grader.circuit i) grader.start l place)
+      (sym list)
+      (subst (λ (s : List Tern). IsFirstFrom grader.circuit (fault_at grader.circuit i) s now.list place)
+      (sym known.start)
+      (subst (λ (c : Netlist). IsFirstFrom c (fault_at c i) now.settings.start now.list place) (sym known.circuit)
+      first))
+
+  -- the states of the grader are those to which the engine's vectors lead
+  pub state_of : (fault : Netlist → Option Fault)
+      → state_from grader.circuit (fault grader.circuit) grader.start grader.list
+      ≡ state_from now.circuit (fault now.circuit) now.settings.start now.list
+  state_of fault = λ k. state_from (known.circuit k) (fault (known.circuit k)) (known.start k)
+      ((same ∙ ap (λ (v : EngineView). v.list) at) k)
+
+  -- they have a value for each latch
+  pub reached_long : (bases : Netlist) (fault : Option Fault) (state : List Tern) → bases ≡ e.circuit
+      → state ≡ state_from now.circuit fault now.settings.start now.list → IsStart bases state
+  reached_long bases fault state b state_is =
+      subst (λ (n : Netlist). IsStart n state) (sym (b ∙ ap (λ (v : EngineView). v.circuit) at))
+      (subst (IsStart now.circuit) (sym state_is)
+      (state_is_start now.circuit fault now.settings.start now.list known.latches))
+
+  -- what holds of the work on a listed fault, with bases of the engine's circuit
+  of_work : (P : Netlist → Fault → Settings → Invariant → Type 0) (bases : Netlist) (i : ℕ) (f : Fault)
+      → bases ≡ e.circuit → f ≡ get_or listed i no_fault → P bases f e.settings e.named_invariant
+      → P now.circuit (fault_at now.circuit i) now.settings now.named_invariant
+  of_work P bases i f b got h =
+      subst (λ (v : EngineView). P v.circuit (fault_at now.circuit i) v.settings v.named_invariant) at
+      (subst (λ (f : Fault). P e.circuit f e.settings e.named_invariant) (fault_of i f got)
+      (subst (λ (n : Netlist). P n f e.settings e.named_invariant) b h))
+
+  module _ (bases : Netlist) (i : ℕ) (f : Fault) (b : bases ≡ e.circuit) (got : f ≡ get_or listed i no_fault) where
+    abbrev fault : Fault
+    fault = fault_at now.circuit i
+
+    -- what the plain work gives, where the search is plain
+    pub plain_on : now.settings.search ≡ Plain → (w : Work) → IsWork bases f e.settings.budget e.named_invariant w
+        → WorkHolds bases f e.settings.budget w
+        → IsEnough bases f e.settings.budget e.named_invariant.clauses w → IsWorkOn now i w
+    plain_on plain w answer holds enough = record {
+      given = subst (λ (search : Search). IsWorkBy search now.circuit fault now.settings now.list now.named_invariant w)
+          (sym plain) (of_work (λ n f s invariant. IsWork n f s.budget invariant w) bases i f b got answer);
+      holds = plain_after now.circuit fault now.settings known.latches now.list w
+          (of_work (λ n f s invariant. WorkHolds n f s.budget w) bases i f b got holds);
+      enough = of_work (λ n f s invariant. IsEnough n f s.budget invariant.clauses w) bases i f b got enough;
+    }
+
+    -- what the deep work gives from the states reached, where the search is deep
+    pub deep_on : now.settings.search ≡ Deep → (good faulty : List Tern)
+        → good ≡ state_from now.circuit None now.settings.start now.list
+        → faulty ≡ state_from now.circuit (Some fault) now.settings.start now.list → (w : Work)
+        → IsDeepWork bases f e.settings (window.state_pair good faulty) e.named_invariant w
+        → DeepWorkHolds bases f e.settings good faulty w
+        → IsEnough bases f e.settings.budget e.named_invariant.clauses w → IsWorkOn now i w
+    deep_on deep good faulty good_is faulty_is w answer holds enough = record {
+      given = subst (λ (search : Search). IsWorkBy search now.circuit fault now.settings now.list now.named_invariant w)
+          (sym deep)
+          (subst (λ (states : window.Start). IsDeepWork now.circuit fault now.settings states now.named_invariant w)
+          (λ k. window.state_pair (good_is k) (faulty_is k))
+          (of_work (λ n f s invariant. IsDeepWork n f s (window.state_pair good faulty) invariant w) bases i f b got
+          answer));
+      holds = deep_after now.circuit fault now.settings known.latches now.list good faulty good_is faulty_is w
+          (of_work (λ n f s invariant. DeepWorkHolds n f s good faulty w) bases i f b got holds);
+      enough = of_work (λ n f s invariant. IsEnough n f s.budget invariant.clauses w) bases i f b got enough;
+    }

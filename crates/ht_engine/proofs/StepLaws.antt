@@ -6,7 +6,6 @@ use Rattle.std.proofs.lemmas.Bool.{lt-ltb}
 use Rattle.std.proofs.lemmas.List.{append-nil, map-append}
 use Rattle.std.proofs.lemmas.List.Concat.{flat_map-append}
 use Rattle.std.proofs.lemmas.List.Elements.{All-append, All-cons, All-head, All-nil, All-tail, Contains-append_cases, Contains-append_left, Contains-append_right}
-use Rattle.ht_tern.specs.declared.tern.Tern.{Tern}
 use Rattle.ht_net.specs.Netlist.{Netlist}
 use Rattle.ht_net.specs.Rows.{Rows}
 use Rattle.ht_net.specs.Detection.{IsFirstFrom}
@@ -17,10 +16,14 @@ use Rattle.ht_entries.specs.declared.numbered.Numbered.{Numbered}
 use Rattle.ht_entries.specs.EntryTexts.{numbers_of}
 use Rattle.ht_entries.specs.ProofSteps.{is_above}
 use Rattle.ht_entries.proofs.RisesLaws.{rises_add, rises_none}
+use Rattle.ht_invariant.specs.declared.finding.Invariant.{Invariant}
 use Rattle.ht_valid.specs.ValidFiles.{HasEntry, IsOwn}
+use Rattle.ht_engine.specs.declared.settings.Settings.{Settings}
 use Rattle.ht_engine.specs.declared.step.Step.{Step}
 use Rattle.ht_engine.specs.declared.step.Step.TheVariants.{Vectors, Entry, Finished}
-use Rattle.ht_engine.specs.Steps.{AreSteps, AwaitsVerdict, Follows, IsNextFault, IsOwnEntry, IsWorkStep, Settings, entries_of, none, one_more, first_vectors, one_vector, step_entries, step_vectors, vectors_of_steps}
+use Rattle.ht_engine.specs.declared.work.Work.TheVariants as work
+use Rattle.ht_engine.specs.DeepWork.{IsWorkBy}
+use Rattle.ht_engine.specs.Steps.{AreSteps, AwaitsVerdict, Follows, IsNextFault, IsOwnEntry, IsWorkStep, entries_of, none, one_more, first_vectors, one_vector, step_entries, step_vectors, vectors_of_steps}
 use Rattle.ht_engine.proofs.MoreVectorsLaws.{undetected_before}
 
 -- ---- the vectors and the entries of one more step
@@ -86,13 +89,14 @@ has_last steps fault e = record {
 
 -- ---- who awaits its verdict after a step awaited it before
 
-pub awaited_before : (c : Netlist) (representatives : List ℕ) (start : List Tern) (steps : List Step) (step : Step)
+pub awaited_before : (c : Netlist) (representatives : List ℕ) (settings : Settings) (steps : List Step) (step : Step)
     (k : ℕ)
-    → AwaitsVerdict c representatives start (steps ++ step ∷ []) k → AwaitsVerdict c representatives start steps k
-awaited_before c representatives start steps step k a = record {
+    → AwaitsVerdict c representatives settings (steps ++ step ∷ []) k → AwaitsVerdict c representatives settings steps k
+awaited_before c representatives settings steps step k a = record {
   own = a.own;
-  undetected = undetected_before c (fault_at c k) start (vectors_of_steps steps) (step_vectors step)
-      (subst (λ (list : List (List Bool)). IsFirstFrom c (fault_at c k) start list None) (vectors_more steps step)
+  chosen = a.chosen;
+  undetected = undetected_before c (fault_at c k) settings.start (vectors_of_steps steps) (step_vectors step)
+      (subst (λ (list : List (List Bool)). IsFirstFrom c (fault_at c k) settings.start list None) (vectors_more steps step)
       a.undetected);
   without_entry = λ h. a.without_entry
       (subst (λ (entries : List Numbered). HasEntry entries k) (sym (entries_more steps step))
@@ -109,19 +113,19 @@ above_entries (e ∷ f ∷ entries) j h =
     above_entries (f ∷ entries) j (All-tail (λ (e : Numbered). e.number < j) e (f ∷ entries) h)
 
 -- Each entry is of a lower fault than those that still await their verdict; the entries rise, each of an own fault.
-pub record AreInOrder (c : Netlist) (representatives : List ℕ) (start : List Tern) (steps : List Step) : Type 0 where
-  pub below : (k : ℕ) → AwaitsVerdict c representatives start steps k
+pub record AreInOrder (c : Netlist) (representatives : List ℕ) (settings : Settings) (steps : List Step) : Type 0 where
+  pub below : (k : ℕ) → AwaitsVerdict c representatives settings steps k
       → All (λ (e : Numbered). e.number < k + 1) (entries_of steps)
   pub rises : Rises (numbers_of (entries_of steps))
   pub own : All (IsOwnEntry c representatives) (entries_of steps)
 
-after_list : (c : Netlist) (representatives : List ℕ) (start : List Tern) (steps : List Step) (list : Rows)
-    → AreInOrder c representatives start steps → AreInOrder c representatives start (steps ++ Vectors list ∷ [])
-after_list c representatives start steps list o =
+after_list : (c : Netlist) (representatives : List ℕ) (settings : Settings) (steps : List Step) (list : Rows)
+    → AreInOrder c representatives settings steps → AreInOrder c representatives settings (steps ++ Vectors list ∷ [])
+after_list c representatives settings steps list o =
     let same = sym (entries_with_list steps list) in
     record {
       below = λ k a. subst (All (λ (e : Numbered). e.number < k + 1)) same
-          (o.below k (awaited_before c representatives start steps (Vectors list) k a));
+          (o.below k (awaited_before c representatives settings steps (Vectors list) k a));
       rises = subst (λ (entries : List Numbered). Rises (numbers_of entries)) same o.rises;
       own = subst (All (IsOwnEntry c representatives)) same o.own;
     }
@@ -129,12 +133,12 @@ after_list c representatives start steps list o =
 above_by : (i k : ℕ) → (k < i → ⊥) → (i ≡ k → ⊥) → i < k
 above_by i k f g = omega (arith, f, g)
 
-is_higher : (c : Netlist) (representatives : List ℕ) (start : List Tern) (steps : List Step) (i k : ℕ)
+is_higher : (c : Netlist) (representatives : List ℕ) (settings : Settings) (steps : List Step) (i k : ℕ)
     (e : recorded.Entry)
-    → IsNextFault c representatives start steps i → AwaitsVerdict c representatives start (steps ++ Entry i e ∷ []) k
+    → IsNextFault c representatives settings steps i → AwaitsVerdict c representatives settings (steps ++ Entry i e ∷ []) k
     → i < k
-is_higher c representatives start steps i k e n a =
-    above_by i k (λ below. n.least k below (awaited_before c representatives start steps (Entry i e) k a))
+is_higher c representatives settings steps i k e n a =
+    above_by i k (λ below. n.least k below (awaited_before c representatives settings steps (Entry i e) k a))
     (λ same. a.without_entry
     (subst (HasEntry (entries_of (steps ++ Entry i e ∷ []))) same (has_last steps i e)))
 
@@ -150,21 +154,21 @@ rises_more entries i e rises below =
     subst Rises (sym (map-append (λ (e : Numbered). e.number) entries (numbered i e ∷ [])))
     (rises_add (numbers_of entries) (i + 1) rises (above_entries entries (i + 1) below))
 
-after_entry : (c : Netlist) (representatives : List ℕ) (start : List Tern) (steps : List Step) (i : ℕ)
+after_entry : (c : Netlist) (representatives : List ℕ) (settings : Settings) (steps : List Step) (i : ℕ)
     (e : recorded.Entry)
-    → IsNextFault c representatives start steps i → AreInOrder c representatives start steps
-    → AreInOrder c representatives start (steps ++ Entry i e ∷ [])
-after_entry c representatives start steps i e n o =
+    → IsNextFault c representatives settings steps i → AreInOrder c representatives settings steps
+    → AreInOrder c representatives settings (steps ++ Entry i e ∷ [])
+after_entry c representatives settings steps i e n o =
     let more = sym (entries_more steps (Entry i e)) in
     let entries = entries_of steps in
     let last = numbered i e in
     record {
       below = λ k a.
           let P : Numbered → Type 0 = λ (e : Numbered). e.number < k + 1 in
-          let higher = is_higher c representatives start steps i k e n a in
+          let higher = is_higher c representatives settings steps i k e n a in
           let under : i + 1 < k + 1 = omega (arith, higher) in
           subst (All P) more (All-append P entries (last ∷ [])
-          (o.below k (awaited_before c representatives start steps (Entry i e) k a))
+          (o.below k (awaited_before c representatives settings steps (Entry i e) k a))
           (All-cons P last [] under (All-nil P)));
       rises = subst (λ (entries : List Numbered). Rises (numbers_of entries)) more
           (rises_more entries i e o.rises (o.below i n.awaits));
@@ -175,27 +179,27 @@ after_entry c representatives start steps i e n o =
     }
 
 after_work : (c : Netlist) (representatives : List ℕ) (settings : Settings) (steps : List Step)
-    (step : Step) → IsWorkStep c representatives settings steps step → AreInOrder c representatives settings.start steps
-    → AreInOrder c representatives settings.start (steps ++ step ∷ [])
-after_work c representatives settings steps (Vectors list) f o = after_list c representatives settings.start steps list
+    (step : Step) → IsWorkStep c representatives settings steps step → AreInOrder c representatives settings steps
+    → AreInOrder c representatives settings (steps ++ step ∷ [])
+after_work c representatives settings steps (Vectors list) f o = after_list c representatives settings steps list
     o
 after_work c representatives settings steps (Entry fault e) f o =
-    after_entry c representatives settings.start steps fault e
-    (subst (IsNextFault c representatives settings.start steps) (sym f.given.0) f.next) o
+    after_entry c representatives settings steps fault e
+    (subst (IsNextFault c representatives settings steps) (sym f.given.0) f.next) o
 after_work c representatives settings steps Finished f o = absurd f.given
 
 after_step : (c : Netlist) (representatives : List ℕ) (settings : Settings) (steps : List Step)
-    (step : Step) → Follows c representatives settings steps step → AreInOrder c representatives settings.start steps
-    → AreInOrder c representatives settings.start (steps ++ step ∷ [])
+    (step : Step) → Follows c representatives settings steps step → AreInOrder c representatives settings steps
+    → AreInOrder c representatives settings (steps ++ step ∷ [])
 after_step c representatives settings steps step (inl f) o =
-    subst (λ (x : Step). AreInOrder c representatives settings.start (steps ++ x ∷ [])) (sym f.given)
-    (after_list c representatives settings.start steps
+    subst (λ (x : Step). AreInOrder c representatives settings (steps ++ x ∷ [])) (sym f.given)
+    (after_list c representatives settings steps
     (one_vector c (get_or (first_vectors c settings) (length steps) [])) o)
 after_step c representatives settings steps step (inr f) o =
     after_work c representatives settings steps step f o
 
 pub steps_in_order : (c : Netlist) (representatives : List ℕ) (settings : Settings)
-    (steps : List Step) → AreSteps c representatives settings steps → AreInOrder c representatives settings.start steps
+    (steps : List Step) → AreSteps c representatives settings steps → AreInOrder c representatives settings steps
 steps_in_order c representatives settings steps none = record {
   below = λ k a. All-nil _;
   rises = rises_none;
@@ -204,3 +208,38 @@ steps_in_order c representatives settings steps none = record {
 steps_in_order c representatives settings steps (one_more before step are follows) =
     after_step c representatives settings before step follows
     (steps_in_order c representatives settings before are)
+
+-- ---- what each entry is
+
+-- The entry is what the work on its fault gave, after some vectors and with some invariant.
+pub record IsMade (c : Netlist) (settings : Settings) (e : Numbered) : Type 0 where
+  pub before : List (List Bool)
+  pub invariant : Invariant
+  pub given : IsWorkBy settings.search c (fault_at c (e.number - 1)) settings before invariant (work.Entry e.entry)
+
+made_more : (c : Netlist) (representatives : List ℕ) (settings : Settings) (steps : List Step) (step : Step)
+    → IsWorkStep c representatives settings steps step → All (IsMade c settings) (step_entries step)
+made_more c representatives settings steps (Vectors list) w = All-nil _
+made_more c representatives settings steps (Entry fault e) w =
+    let at : w.fault ≡ fault + 1 - 1 = let same = w.given.0 in omega (arith, same) in
+    All-cons (IsMade c settings) (numbered fault e) [] (record {
+      before = vectors_of_steps steps;
+      invariant = w.invariant;
+      given = subst (λ (i : ℕ). IsWorkBy settings.search c (fault_at c i) settings (vectors_of_steps steps) w.invariant
+          (work.Entry e)) at w.given.1;
+    }) (All-nil _)
+made_more c representatives settings steps Finished w = absurd w.given
+
+made_after : (c : Netlist) (representatives : List ℕ) (settings : Settings) (steps : List Step) (step : Step)
+    → Follows c representatives settings steps step → All (IsMade c settings) (step_entries step)
+made_after c representatives settings steps step (inl f) =
+    subst (λ (x : Step). All (IsMade c settings) (step_entries x)) (sym f.given) (All-nil _)
+made_after c representatives settings steps step (inr f) = made_more c representatives settings steps step f
+
+pub steps_made : (c : Netlist) (representatives : List ℕ) (settings : Settings) (steps : List Step)
+    → AreSteps c representatives settings steps → All (IsMade c settings) (entries_of steps)
+steps_made c representatives settings steps none = All-nil _
+steps_made c representatives settings steps (one_more before step are follows) =
+    subst (All (IsMade c settings)) (sym (entries_more before step))
+    (All-append (IsMade c settings) (entries_of before) (step_entries step)
+    (steps_made c representatives settings before are) (made_after c representatives settings before step follows))

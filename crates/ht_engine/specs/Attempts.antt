@@ -24,33 +24,35 @@ use Rattle.ht_justify.specs.Answers.{IsBack}
 use Rattle.ht_engine.specs.declared.attempt.Attempted.{Attempted}
 use Rattle.ht_engine.specs.declared.attempt.Attempted.TheVariants.{Detected, Failed}
 
--- a frame is told at an output or at a next state
+-- A frame is told at an output or at a next state.
 abbrev pub IsFrameSpot : Spot → Type 0
 IsFrameSpot (Output o) = Unit {0}
 IsFrameSpot (State j) = Unit {0}
 IsFrameSpot Cube = ⊥
 
+-- Each frame is told at an output or at a next state.
 abbrev pub AreFrameSpots : List Told → Type 0
 AreFrameSpots told = All (λ (frame : Told). IsFrameSpot frame.place) told
 
--- no vectors
+-- No vectors.
 abbrev pub no_vectors : Netlist → Rows
 no_vectors c = record { width = c.inputs; list = [] }
 
--- what the search ahead comes to: none is made where the frame's place is an output
+-- What the search ahead comes to: none is made where the frame's place is an output.
 abbrev pub IsAheadOf : Netlist → Fault → ℕ → Told → Spot → Ahead → Type 0
 IsAheadOf c fault budget told (Output o) answer = answer ≡ ahead.Found (no_vectors c)
 IsAheadOf c fault budget told (State j) answer = IsAhead (ahead_window c fault told) budget answer
 IsAheadOf c fault budget told Cube answer = ⊥
 
--- what the search back comes to
+-- What the search back comes to.
 abbrev pub IsBackOf : Netlist → ℕ → Told → Back → Type 0
 IsBackOf c budget told answer = IsBack c (told_cube c told) back_limit budget answer
 
--- the list ahead and the list back are found
+-- The list ahead is found.
 abbrev pub FindsAhead : Netlist → Fault → ℕ → Told → Rows → Type 0
 FindsAhead c fault budget told list = IsAheadOf c fault budget told told.place (ahead.Found list)
 
+-- The list back is found.
 abbrev pub FindsBack : Netlist → ℕ → Told → Rows → Type 0
 FindsBack c budget told list = IsBackOf c budget told (back.Reached list)
 
@@ -59,7 +61,7 @@ pub record FindsBoth (c : Netlist) (fault : Fault) (budget : ℕ) (told : Told) 
   pub ahead : FindsAhead c fault budget told after
   pub back : FindsBack c budget told before
 
--- a list ahead is found, so there is a search back
+-- A list ahead is found, so there is a search back.
 abbrev pub TurnsBack : Netlist → Fault → ℕ → Told → Type 0
 TurnsBack c fault budget told = (list : Rows) × FindsAhead c fault budget told list
 
@@ -88,18 +90,19 @@ pub record Composes (c : Netlist) (fault : Fault) (budget : ℕ) (told : Told) (
   pub output : ℕ
   pub detects : Detects c fault list.list vector output
 
--- The attempt is made exactly where a frame was told, at the first one: it fails, or finds a list.
+-- The attempt is made exactly where a frame was told, at the first one, and it fails.
 abbrev pub FailsFirst : Netlist → Fault → ℕ → List Told → Option Aim → Type 0
 FailsFirst c fault budget [] None = Unit {0}
 FailsFirst c fault budget [] (Some aim) = ⊥
 FailsFirst c fault budget (told ∷ chain) None = ⊥
 FailsFirst c fault budget (told ∷ chain) (Some aim) = Fails c fault budget told aim
 
+-- The attempt at the first frame that was told finds the list.
 abbrev pub ComposesFirst : Netlist → Fault → ℕ → List Told → Rows → Type 0
 ComposesFirst c fault budget [] list = ⊥
 ComposesFirst c fault budget (told ∷ chain) list = Composes c fault budget told list
 
--- the searches that lead to each end of an attempt
+-- The searches that lead to each end of an attempt.
 abbrev pub IsAttempted : Netlist → Fault → ℕ → List Told → Attempted → Type 0
 IsAttempted c fault budget told (Detected list) = ComposesFirst c fault budget told list
 IsAttempted c fault budget told (Failed aim) = FailsFirst c fault budget told aim
@@ -117,13 +120,13 @@ pub record IsListAheadOf (c : Netlist) (fault : Fault) (told : Told) (list : Row
   pub width : list.width ≡ c.inputs
   pub goes : GoesAhead c fault told told.place list.list
 
--- what the end of the search ahead means
+-- What the end of the search ahead means.
 abbrev pub AheadOfHolds : Netlist → Fault → ℕ → Told → Ahead → Type 0
 AheadOfHolds c fault budget told (ahead.Found list) = IsListAheadOf c fault told list
 AheadOfHolds c fault budget told (ahead.Closed tokens) = IsAim c fault budget told (aim.ForwardClosed tokens)
 AheadOfHolds c fault budget told (ahead.Spent tokens) = IsAim c fault budget told (aim.ForwardOpen tokens)
 
--- what an attempt that ended means
+-- What an attempt that ended means.
 abbrev pub AttemptHolds : Netlist → Fault → ℕ → List Told → Attempted → Type 0
 AttemptHolds c fault budget told (Detected list) = DetectsAlways c fault list
 AttemptHolds c fault budget told (Failed aim) = IsFirstAim c fault budget told aim

@@ -1,5 +1,5 @@
 -- An engine, and the steps that it stands for.
-use Rattle.std.specs.Prelude.{◌≡◌, ◌<◌, ◌≤◌, ◌-◌, ◌+◌, ℕ, List, [], ◌∷◌, ◌++◌, Bool, get_or, length, Option, Some, None}
+use Rattle.std.specs.Prelude.{◌≡◌, ◌<◌, ◌≤◌, ◌-◌, ◌+◌, ℕ, List, [], ◌∷◌, ◌++◌, Bool, drop, get_or, length, Option, Some, None}
 use Rattle.std.specs.List.{All, Contains}
 use Rattle.ht_tern.specs.declared.tern.Tern.{Tern}
 use Rattle.ht_net.specs.Netlist.{Netlist}
@@ -16,13 +16,15 @@ use Rattle.ht_tree.specs.declared.kind.EntryKind.TheVariants as kind
 use Rattle.ht_invariant.specs.declared.finding.Invariant.{Invariant}
 use Rattle.ht_entries.specs.declared.numbered.Numbered.{Numbered}
 use Rattle.ht_valid.specs.ValidFiles.{HasEntry}
+use Rattle.ht_engine.specs.declared.settings.Settings.{Settings}
 use Rattle.ht_engine.specs.declared.step.Step.{Step}
 use Rattle.ht_engine.specs.declared.step.Step.TheVariants.{Vectors, Entry, Finished}
 use Rattle.ht_engine.specs.declared.work.Work.TheVariants as work
 use Rattle.ht_engine.specs.Enough.{IsEnough}
 use Rattle.ht_engine.specs.FaultWork.{HoldsIfAny, IsNamedInvariant}
-use Rattle.ht_engine.specs.Steps.{AreFinished, AreSteps, AwaitsVerdict, Follows, Settings, entries_of, first_vectors, vectors_of_steps}
+use Rattle.ht_engine.specs.Steps.{AreFinished, AreSteps, AwaitsVerdict, Follows, entries_of, first_vectors, vectors_of_steps}
 
+-- An engine as contracts see it: what it works on, and what it keeps.
 pub record EngineView : Type 0 where
   -- what it works on
   pub circuit : Netlist
@@ -35,30 +37,33 @@ pub record EngineView : Type 0 where
   pub list : List (List Bool)
   pub kinds : List (Option EntryKind)
   pub place : ℕ
-  -- how many of the random vectors are left
-  pub left : ℕ
+  -- the first vectors that are left
+  pub rest : List (List Bool)
   -- false from the first time that memory ran out
   pub live : Bool
 
 -- ---- the steps that an engine stands for
 
-abbrev pub first_of : EngineView → List (List Bool)
-first_of e = first_vectors e.circuit e.settings
+-- The vectors that come before all work of an engine.
+abbrev pub all_first : EngineView → List (List Bool)
+all_first e = first_vectors e.circuit e.settings
 
+-- The kind of the entry of fault i, or none, as an engine keeps it.
 abbrev pub kind_at : EngineView → ℕ → Option EntryKind
 kind_at e i = get_or e.kinds i None
 
--- fault i has an entry of this kind among the entries, or none
+-- Fault i has an entry of this kind among the entries, or none.
 abbrev pub IsKindIn : List Numbered → ℕ → Option EntryKind → Type 0
 IsKindIn entries i None = ¬ HasEntry entries i
 IsKindIn entries i (Some kind) = (e : recorded.Entry)
     × Contains entries (record { number = i + 1; entry = e }) × (kind_of e ≡ kind)
 
--- the entry of fault i passes, and the start allows the state that it names
+-- The entry of fault i passes, and the start allows the state that it names.
 abbrev pub EntryHolds : Netlist → Settings → ℕ → recorded.Entry → Type 0
-EntryHolds c settings i made = Passes c (fault_at c i) settings.budget made × AllowsEntry settings.start made
+EntryHolds c settings i made =
+    Passes c settings.start (fault_at c i) settings.budget made × AllowsEntry settings.start made
 
--- so does each entry, for the fault of its number
+-- Each entry passes for the fault of its number, and the start allows the state that it names.
 abbrev pub AllHold : Netlist → Settings → List Numbered → Type 0
 AllHold c settings entries = All (λ (e : Numbered). EntryHolds c settings (e.number - 1) e.entry) entries
 
@@ -72,10 +77,10 @@ AreEnough c budget clauses entries =
 pub record EngineStandsFor (e : EngineView) (steps : List Step) : Type 0 where
   pub latches : IsStart e.circuit e.settings.start
   pub are : AreSteps e.circuit e.representatives e.settings steps
-  pub left : e.left ≡ e.settings.random - length steps
+  pub rest : e.rest ≡ drop (length steps) (all_first e)
   pub list : e.list ≡ vectors_of_steps steps
   pub kinds : (i : ℕ) → i < length e.representatives → IsKindIn (entries_of steps) i (kind_at e i)
-  pub done : (i : ℕ) → i < e.place → ¬ AwaitsVerdict e.circuit e.representatives e.settings.start steps i
+  pub done : (i : ℕ) → i < e.place → ¬ AwaitsVerdict e.circuit e.representatives e.settings steps i
   pub entered : (i : ℕ) → HasEntry (entries_of steps) i → i < e.place
   -- what the steps mean
   pub wide : AreVectors e.circuit (vectors_of_steps steps)
@@ -86,22 +91,23 @@ pub record EngineStandsFor (e : EngineView) (steps : List Step) : Type 0 where
 
 -- ---- one more step
 
--- what it works on stays
+-- What the engine works on stays.
 pub record HasSameWork (old new : EngineView) : Type 0 where
   pub circuit : new.circuit ≡ old.circuit
   pub representatives : new.representatives ≡ old.representatives
   pub settings : new.settings ≡ old.settings
 
--- how many steps may still come: a random vector each, and one for each fault from the place on
+-- How many steps may still come: one for each of the first vectors that are left, and one for each fault from the place
+-- on.
 abbrev pub remaining : EngineView → ℕ
-remaining e = e.left + (length e.representatives - e.place)
+remaining e = length e.rest + (length e.representatives - e.place)
 
--- the engine made a step that may come after these, and stands for them with it
+-- The engine made a step that may come after these, and stands for them with it.
 pub record MakesStep (old new : EngineView) (steps : List Step) (step : Step) : Type 0 where
   pub follows : Follows old.circuit old.representatives old.settings steps step
   pub stands : EngineStandsFor new (steps ++ step ∷ [])
 
--- the engine made the step after these, or is finished where they are all
+-- The engine made the step after these, or is finished where they are all.
 abbrev pub Makes : EngineView → EngineView → List Step → Step → Type 0
 Makes old new steps Finished =
     AreFinished old.circuit old.representatives old.settings steps × EngineStandsFor new steps
@@ -109,32 +115,35 @@ Makes old new steps step = MakesStep old new steps step
 
 -- A list of vectors after those so far, with which a representative is detected from the start that awaited its
 -- verdict.
-pub record IsUseful (c : Netlist) (representatives : List ℕ) (start : List Tern) (steps : List Step)
+pub record IsUseful (c : Netlist) (representatives : List ℕ) (settings : Settings) (steps : List Step)
     (list : List (List Bool)) : Type 0 where
   pub fault : ℕ
-  pub awaited : AwaitsVerdict c representatives start steps fault
+  pub awaited : AwaitsVerdict c representatives settings steps fault
   pub vector : ℕ
   pub output : ℕ
-  pub detects : DetectsFrom c (fault_at c fault) start (vectors_of_steps steps ++ list) vector output
+  pub detects : DetectsFrom c (fault_at c fault) settings.start (vectors_of_steps steps ++ list) vector output
 
--- each list after the random vectors is useful, and each entry passes and names a state that the start allows, if any
+-- Each list after the first vectors is useful, and each entry passes and names a state that the start allows, if any.
 abbrev pub MeansOfStep : EngineView → List Step → Step → Type 0
 MeansOfStep e steps (Vectors list) =
-    e.settings.random ≤ length steps → IsUseful e.circuit e.representatives e.settings.start steps list.list
+    length (all_first e) ≤ length steps → IsUseful e.circuit e.representatives e.settings steps list.list
 MeansOfStep e steps (Entry fault made) = EntryHolds e.circuit e.settings fault made
 MeansOfStep e steps Finished = Unit {0}
 
 -- ---- what is said of a representative
 
--- Detected at the first place where the vectors detect it; where they don't, what its entry says. Undetected is said
--- only while it awaits its verdict.
-abbrev pub IsSaid : Netlist → List ℕ → List Tern → List Step → ℕ → Said → Type 0
-IsSaid c representatives start steps i (said.Detected place) =
+-- The vectors of the steps don't detect fault i, and it has an entry of this kind, or none.
+pub record IsUndetectedWith (c : Netlist) (start : List Tern) (steps : List Step) (i : ℕ) (kind : Option EntryKind)
+    : Type 0 where
+  pub undetected : IsFirstFrom c (fault_at c i) start (vectors_of_steps steps) None
+  pub kind_is : IsKindIn (entries_of steps) i kind
+
+-- What steps say of fault i: that it is detected at the first place where their vectors detect it; where they don't,
+-- what its entry says; and undetected where it has none.
+abbrev pub IsSaid : Netlist → List Tern → List Step → ℕ → Said → Type 0
+IsSaid c start steps i (said.Detected place) =
     IsFirstFrom c (fault_at c i) start (vectors_of_steps steps) (Some place)
-IsSaid c representatives start steps i said.Untestable =
-    IsFirstFrom c (fault_at c i) start (vectors_of_steps steps) None
-    × IsKindIn (entries_of steps) i (Some kind.Untestable)
-IsSaid c representatives start steps i said.Aborted =
-    IsFirstFrom c (fault_at c i) start (vectors_of_steps steps) None
-    × IsKindIn (entries_of steps) i (Some kind.Aborted)
-IsSaid c representatives start steps i said.Undetected = AwaitsVerdict c representatives start steps i
+IsSaid c start steps i said.Untestable = IsUndetectedWith c start steps i (Some kind.Untestable)
+IsSaid c start steps i said.Undetectable = IsUndetectedWith c start steps i (Some kind.Undetectable)
+IsSaid c start steps i said.Aborted = IsUndetectedWith c start steps i (Some kind.Aborted)
+IsSaid c start steps i said.Undetected = IsUndetectedWith c start steps i None

@@ -1,36 +1,35 @@
-//! The generator over all representatives, one step at a time.
-ghost use Rattle.std.specs.Prelude.{◌≡◌, ◌≢◌, ◌↔◌, ◌≤◌, ◌<◌, ◌+◌, ◌-◌, ◌^◌, ℕ, List, [], true, false, None, length, get_or, replicate, IfOk, OnErr, OnOk};
+//! The generator over the representatives of the chosen faults, one step at a time.
+ghost use Rattle.std.specs.Prelude.{◌≡◌, ◌≢◌, ◌↔◌, ◌≤◌, ◌<◌, ◌+◌, ◌∷◌, ◌++◌, ◌^◌, ℕ, List, Bool, [], true, false, None, Some, length, get_or, IfOk, MatchOption, OnErr, OnOk};
 ghost use Rattle.std.specs.Option.{ForSome};
-ghost use Rattle.ht_net.specs.Netlist.{Netlist};
-ghost use Rattle.ht_net.specs.Detection.{IsStart, unknown_state};
+ghost use Rattle.ht_net.specs.Detection.{IsStart, state_from};
 ghost use Rattle.ht_faults.specs.Sites.{faults_of};
 ghost use Rattle.ht_collapse.specs.Classes.{AreClasses, fault_at};
 ghost use Rattle.ht_tree.specs.declared.limits.TheConstants.{MAX_BUDGET};
-ghost use Rattle.ht_tree.specs.Entries.{Passes};
 ghost use Rattle.ht_texts.specs.SearchReports.{IsBudget};
 ghost use Rattle.ht_texts.specs.Verdicts.{IsSayable};
 ghost use Rattle.ht_valid.specs.ValidFiles.{IsOwn};
 ghost use Rattle.ht_engine.specs.declared.step.Step as made;
 ghost use Rattle.ht_engine.specs.declared.step.Step.TheVariants as made_step;
 ghost use Rattle.ht_engine.specs.declared.work.Work.TheVariants as work;
-ghost use Rattle.ht_engine.specs.Attempts.{DetectsAlways};
-ghost use Rattle.ht_engine.specs.Enough.{IsEnough};
-ghost use Rattle.ht_engine.specs.FaultWork.{IsWork};
-ghost use Rattle.ht_engine.specs.OneStep.{Advances, IsNextOf, IsNextUndetected, IsUndetected, MakesNone, next_vector, said_by};
+ghost use Rattle.ht_engine.specs.OneStep.{Advances, DrawsFirst, IsNextOf, IsNextUndetected, IsUndetected, IsWorkOn, MakesNone, said_by};
+ghost use Rattle.ht_engine.specs.Steps.{one_vector};
 ghost use Rattle.ht_engine.specs.EngineStands.{EngineStandsFor, HasSameWork, IsSaid, Makes, MeansOfStep, remaining};
 
+use crate::chosen::mark_chosen;
+use crate::deep::work_deep;
+use crate::first_vectors::FirstVectors;
+use crate::settings::{Search, Settings};
 use crate::step::Step;
 use crate::work::{Work, work_on};
 use ht_collapse::Classes;
 use ht_faults::FaultList;
 use ht_grade::Grader;
 use ht_invariant::{Invariant, find};
-use ht_net::{Circuit, Vectors, some_state, unknown_start};
-use ht_random::Words;
-use ht_tern::Tern;
+use ht_items::Items;
+use ht_net::{Circuit, Vectors, some_state};
 use ht_texts::Said;
 use ht_tree::{Entry, EntryKind};
-use ht_window::Bases;
+use ht_window::{Bases, PairState};
 use std::alloc::{AllocError, Global};
 use std::marker::Model;
 
@@ -49,6 +48,7 @@ fn said_by(kind: Option<EntryKind>) -> Said
     match kind {
         None => Said::Undetected,
         Some(EntryKind::Untestable) => Said::Untestable,
+        Some(EntryKind::Undetectable) => Said::Undetectable,
         Some(EntryKind::Aborted) => Said::Aborted,
     }
 }
@@ -60,24 +60,20 @@ pub struct Engine<'c> {
     circuit: &'c Circuit,
     faults: &'c FaultList,
     classes: &'c Classes,
-    budget: u64,
+    settings: &'c Settings,
     grader: Grader<'c>,
-    // what each flip-flop holds before the first vector
-    start: Vec<Tern>,
     // what the windows for each fault are copied from
     bases: Bases<'c>,
     // the clauses that hold in each run from the state that is named: the start, with 0 where it is unknown
     named_invariant: Invariant,
+    // whether each fault is a representative that is to be worked on, by number from 0
+    chosen: Vec<bool>,
     // the kind of each fault's entry, by number from 0
     kinds: Vec<Option<EntryKind>>,
     // the first fault that may still await its verdict
     place: u32,
-    // how many random vectors come first, and their seed
-    random: u32,
-    seed: u64,
-    // how many of them are left, and the generator of these
-    left: u32,
-    words: Words,
+    // the vectors that come before all work
+    first: FirstVectors<'c>,
     live: bool,
 }
 
@@ -94,8 +90,8 @@ impl<'c> Model for Engine<'c> {
 }
 
 impl<'c> Engine<'c> {
-    /// A generator before its first step, from all-unknown. The budget is that of each search; `random` vectors of the
-    /// seed come first.
+    /// A generator before its first step. What the vectors show is from the start of the settings, and the state that
+    /// refutations may name is the start with 0 where it is unknown.
     ///
     /// # Errors
     /// Out of memory.
@@ -104,75 +100,40 @@ impl<'c> Engine<'c> {
         circuit: &'c Circuit,
         faults: &'c FaultList,
         classes: &'c Classes,
-        budget: u64,
-        random: u32,
-        seed: u64,
+        settings: &'c Settings,
     ) -> Result<Engine<'c>, AllocError>
         requires faults { faults.now ≡ faults_of circuit.now }
         requires classes { AreClasses circuit.now classes.now }
-        requires budget { (0 < budget) × (budget ≤ MAX_BUDGET) }
+        requires budget { (0 < settings.now.budget) × (settings.now.budget ≤ MAX_BUDGET) }
+        requires latches { IsStart circuit.now settings.now.start }
+        requires first { settings.now.first.width ≡ circuit.now.inputs }
         ensures none { IfOk result (λ engine. EngineStandsFor engine []) }
         ensures circuit { IfOk result (λ engine. engine.circuit ≡ circuit.now) }
         ensures classes { IfOk result (λ engine. engine.representatives ≡ classes.now) }
-        ensures settings { IfOk result (λ engine. engine.settings ≡ record
-            { budget = budget; random = random; seed = seed; start = unknown_state circuit.now }) }
+        ensures settings { IfOk result (λ engine. engine.settings ≡ settings.now) }
         ensures live { IfOk result (λ engine. engine.live ≡ true) }
     {
-        let start = unknown_start(alloc, circuit)?;
-        Engine::new_from(
-            alloc, circuit, faults, classes, budget, random, seed, &start,
-        )
-    }
-
-    /// The same where each flip-flop holds its value of `start` before the first vector. What the vectors show is from
-    /// it, and the state that refutations may name is the start with 0 where it is unknown; all searches for lists stay
-    /// from all-unknown.
-    ///
-    /// # Errors
-    /// Out of memory.
-    pub fn new_from(
-        alloc: Global,
-        circuit: &'c Circuit,
-        faults: &'c FaultList,
-        classes: &'c Classes,
-        budget: u64,
-        random: u32,
-        seed: u64,
-        start: &[Tern],
-    ) -> Result<Engine<'c>, AllocError>
-        requires faults { faults.now ≡ faults_of circuit.now }
-        requires classes { AreClasses circuit.now classes.now }
-        requires budget { (0 < budget) × (budget ≤ MAX_BUDGET) }
-        requires latches { IsStart circuit.now start.now }
-        ensures none { IfOk result (λ engine. EngineStandsFor engine []) }
-        ensures circuit { IfOk result (λ engine. engine.circuit ≡ circuit.now) }
-        ensures classes { IfOk result (λ engine. engine.representatives ≡ classes.now) }
-        ensures settings { IfOk result (λ engine. engine.settings ≡ record
-            { budget = budget; random = random; seed = seed; start = start.now }) }
-        ensures live { IfOk result (λ engine. engine.live ≡ true) }
-    {
+        let start = settings.start.as_slice();
         let grader = Grader::new_from(alloc, circuit, faults, classes, start)?;
         let kinds = no_kinds(alloc, classes.len())?;
         let bases = Bases::new(alloc, circuit)?;
         let named = some_state(alloc, start)?;
-        let named_invariant = find(alloc, circuit, &named, budget)?;
-        let start = Vec::from_slice(alloc, start)?;
+        let named_invariant = find(alloc, circuit, &named, settings.budget)?;
+        let chosen = mark_chosen(alloc, classes, settings)?;
+        let first = FirstVectors::new(alloc, circuit.inputs(), settings)?;
         Ok(Engine {
             alloc,
             circuit,
             faults,
             classes,
-            budget,
+            settings,
             grader,
-            start,
             bases,
             named_invariant,
+            chosen,
             kinds,
             place: 0,
-            random,
-            seed,
-            left: random,
-            words: Words::from_seed(seed),
+            first,
             live: true,
         })
     }
@@ -182,18 +143,24 @@ impl<'c> Engine<'c> {
         ensures same { result ≡ self.now.settings.budget }
         ensures within { IsBudget self.now.settings.budget }
     {
-        self.budget
+        self.settings.budget
     }
 
-    // Fault `i` represents its class, and the vectors so far don't detect it.
+    // Fault `i` represents its class, it is to be worked on, and the vectors so far don't detect it.
     fn is_undetected(&self, i: u32) -> bool
         requires { i < length self.now.representatives }
         ensures { (result ≡ true) ↔ IsUndetected self.now i }
     {
-        self.classes.of(i) == i && self.grader.verdict(i).is_none()
+        if self.classes.of(i) != i {
+            return false;
+        }
+        if !self.chosen[i as usize] {
+            return false;
+        }
+        self.grader.verdict(i).is_none()
     }
 
-    // The least fault from the place on that represents its class and isn't detected.
+    // The least fault from the place on that is to be worked on and isn't detected.
     fn next_fault(&self) -> Option<u32>
         ensures next { IsNextOf self.now result }
         ensures fits { ForSome result (λ i. i + 1 < 2 ^ 32) }
@@ -206,40 +173,82 @@ impl<'c> Engine<'c> {
         None
     }
 
-    // Draws the next random vector.
-    fn draw(&mut self) -> Result<Vec<bool>, AllocError>
-        requires { 0 < self.old.left }
-        ensures vector { IfOk result (λ vector. vector.items ≡ next_vector self.old) }
-        ensures width { IfOk result (λ vector. length vector.items ≡ self.old.circuit.inputs) }
-        ensures drawn { OnOk result (self.new ≡ record self.old { left = self.old.left - 1 }) }
+    // Draws the next of the first vectors.
+    fn draw(&mut self) -> Result<Option<Vec<bool>>, AllocError>
+        ensures next { IfOk result (λ next. MatchOption next
+            ((self.old.rest ≡ []) × (self.new ≡ self.old))
+            (λ vector. DrawsFirst self.old vector.items self.new)) }
         ensures same { OnErr result (self.new ≡ self.old) }
     {
-        let vector = self.words.vector(self.alloc, self.circuit.inputs())?;
-        self.left -= 1;
-        Ok(vector)
+        self.first.next(self.alloc)
     }
 
-    // Gives the next random vector by itself, and keeps it.
-    fn give_random(&mut self) -> Result<Step, AllocError>
-        requires { 0 < self.old.left }
-        ensures advances { IfOk result (Advances self.old self.new) }
-        ensures none { OnErr result (MakesNone self.old self.new) }
+    // Gives one of the first vectors by itself, and keeps it.
+    fn give_first(&mut self, vector: Vec<bool>) -> Result<Step, AllocError>
+        requires { length vector.items ≡ self.old.circuit.inputs }
+        ensures given { IfOk result (λ step.
+            step ≡ made_step.Vectors (one_vector self.old.circuit vector.items)) }
+        ensures kept { OnOk result
+            (self.new ≡ record self.old { list = self.old.list ++ vector.items ∷ [] }) }
+        ensures same { OnErr result (self.new ≡ self.old) }
     {
-        let vector = self.draw()?;
         let mut one = Vectors::new(self.alloc, self.circuit.inputs());
         one.push(&vector)?;
         self.grader.apply(self.alloc, &one)?;
         Ok(Step::Vectors(one))
     }
 
+    // The states to which the vectors so far lead the good machine and that of a fault.
+    fn states_reached(&self, fault: u32) -> Result<PairState, AllocError>
+        requires { IsUndetected self.now fault }
+        ensures good { IfOk result (λ states. states.good
+            ≡ state_from self.now.circuit None self.now.settings.start self.now.list) }
+        ensures faulty { IfOk result (λ states. states.bad ≡ state_from self.now.circuit
+            (Some (fault_at self.now.circuit fault)) self.now.settings.start self.now.list) }
+    {
+        let good = self.grader.good_state(self.alloc)?;
+        let faulty = self.grader.faulty_state(self.alloc, fault)?;
+        Ok(PairState {
+            good: Items::from_vec(good),
+            bad: Items::from_vec(faulty),
+        })
+    }
+
+    // The work on a fault, by the kind of search.
+    fn work_by_search(&mut self, fault: u32) -> Result<Work, AllocError>
+        requires { IsUndetected self.old fault }
+        ensures same { self.new ≡ self.old }
+        ensures work { IfOk result (IsWorkOn self.old fault) }
+    {
+        let listed = self.faults.get(fault);
+        match self.settings.search {
+            Search::Plain => work_on(
+                self.alloc,
+                &mut self.bases,
+                listed,
+                self.settings.budget,
+                &self.named_invariant,
+            ),
+            Search::Deep => {
+                let states = self.states_reached(fault)?;
+                work_deep(
+                    self.alloc,
+                    &mut self.bases,
+                    listed,
+                    self.settings,
+                    &self.named_invariant,
+                    states,
+                )
+            },
+        }
+    }
+
     // Gives the list that the work on a fault found, and keeps its vectors.
     fn give_list(&mut self, fault: u32, list: Vectors) -> Result<Step, AllocError>
         requires fits { fault + 1 < 2 ^ 32 }
-        requires none_left { self.old.left ≡ 0 }
+        requires none_left { self.old.rest ≡ [] }
         requires next { IsNextUndetected self.old fault }
-        requires given { IsWork self.old.circuit (fault_at self.old.circuit fault)
-            self.old.settings.budget self.old.named_invariant (work.List list) }
-        requires holds { DetectsAlways self.old.circuit (fault_at self.old.circuit fault) list }
+        requires work { IsWorkOn self.old fault (work.List list) }
         ensures advances { IfOk result (Advances self.old self.new) }
         ensures same { OnErr result (self.new ≡ self.old) }
     {
@@ -251,14 +260,9 @@ impl<'c> Engine<'c> {
     // Gives the entry that the work on a fault made, and keeps its kind.
     fn give_entry(&mut self, fault: u32, entry: Entry) -> Step
         requires fits { fault + 1 < 2 ^ 32 }
-        requires none_left { self.old.left ≡ 0 }
+        requires none_left { self.old.rest ≡ [] }
         requires next { IsNextUndetected self.old fault }
-        requires given { IsWork self.old.circuit (fault_at self.old.circuit fault)
-            self.old.settings.budget self.old.named_invariant (work.Entry entry) }
-        requires holds { Passes self.old.circuit (fault_at self.old.circuit fault)
-            self.old.settings.budget entry }
-        requires enough { IsEnough self.old.circuit (fault_at self.old.circuit fault)
-            self.old.settings.budget self.old.named_invariant.clauses (work.Entry entry) }
+        requires work { IsWorkOn self.old fault (work.Entry entry) }
         ensures { Advances self.old self.new result }
     {
         self.kinds[fault as usize] = Some(entry.kind());
@@ -266,32 +270,35 @@ impl<'c> Engine<'c> {
         Step::Entry { fault, entry }
     }
 
-    // The next step, or none where memory runs out.
-    fn advance(&mut self) -> Result<Step, AllocError>
+    // Works on the next fault, or ends, where all first vectors were given.
+    fn work(&mut self) -> Result<Step, AllocError>
+        requires { self.old.rest ≡ [] }
         ensures advances { IfOk result (Advances self.old self.new) }
-        ensures none { OnErr result (MakesNone self.old self.new) }
+        ensures same { OnErr result (self.new ≡ self.old) }
     {
-        if self.left > 0 {
-            return self.give_random();
-        }
         let Some(fault) = self.next_fault() else {
             self.place = self.classes.len();
             return Ok(Step::Finished);
         };
-        match work_on(
-            self.alloc,
-            &mut self.bases,
-            self.faults.get(fault),
-            self.budget,
-            &self.named_invariant,
-        )? {
+        match self.work_by_search(fault)? {
             Work::List(list) => self.give_list(fault, list),
             Work::Entry(entry) => Ok(self.give_entry(fault, entry)),
         }
     }
 
-    /// The next step: a random vector while one is left, and then what the work on the least representative that awaits
-    /// its verdict gives.
+    // The next step, or none where memory runs out.
+    fn advance(&mut self) -> Result<Step, AllocError>
+        ensures advances { IfOk result (Advances self.old self.new) }
+        ensures none { OnErr result (MakesNone self.old self.new) }
+    {
+        match self.draw()? {
+            Some(vector) => self.give_first(vector),
+            None => self.work(),
+        }
+    }
+
+    /// The next step: one of the first vectors while one is left, and then what the work on the least representative that
+    /// awaits its verdict gives.
     ///
     /// # Errors
     /// Out of memory; and then always.
@@ -320,12 +327,11 @@ impl<'c> Engine<'c> {
     }
 
     /// What the steps so far say of a representative, by its number from 0. Once the generator is finished that isn't
-    /// `Undetected`.
+    /// `Undetected` of one that is to be worked on.
     pub fn said(&self, fault: u32) -> Said
         requires { IsOwn self.now.circuit self.now.representatives fault }
         ensures said { (steps : List made.Step) → EngineStandsFor self.now steps
-            → IsSaid self.now.circuit self.now.representatives self.now.settings.start steps fault
-            result }
+            → IsSaid self.now.circuit self.now.settings.start steps fault result }
         ensures sayable { IsSayable self.now.circuit result }
     {
         match self.grader.verdict(fault) {

@@ -1,6 +1,6 @@
 -- A refutation from a state, read line by line.
-use Rattle.std.proofs.Common.{◌≡◌, ◌⊎◌, ◌+◌, ◌<◌, ◌≤◌, ◌&&◌, ltb, eqb, inl, inr, ℕ, Bool, true, false, List, [], ◌∷◌, ◌++◌, Option, Some, None, length, map, flat_map, append_assoc, refl, sym, ap, ◌∙◌, subst, arith}
-use Rattle.std.proofs.lemmas.Bool.{and_parts, and_from, eqb-true, eq-eqb, ltb-true, lt-ltb, false≢true}
+use Rattle.std.proofs.Common.{◌≡◌, ◌+◌, ◌&&◌, ltb, eqb, ℕ, Bool, true, false, List, [], ◌∷◌, ◌++◌, Option, Some, None, length, map, flat_map, append_assoc, refl, sym, ap, ◌∙◌, subst, arith}
+use Rattle.std.proofs.lemmas.Bool.{and_parts, eqb-true, ltb-true}
 use Rattle.std.proofs.lemmas.Option.{none-some, same_Some}
 use Rattle.std.proofs.lemmas.List.{append-nil, length-append}
 use Rattle.std.proofs.lemmas.List.Concat.{flat_map-cons}
@@ -12,16 +12,15 @@ use Rattle.ht_tree.specs.declared.token.Token.{Token}
 use Rattle.ht_tree.specs.declared.clause.Clause.{Clause}
 use Rattle.ht_tree.specs.declared.clause.Literal.{Literal}
 use Rattle.ht_tree.specs.Invariants.{max_clauses}
-use Rattle.ht_tree.specs.Rising.{Rises}
 use Rattle.ht_entries.specs.declared.proof_line.ProofLine.{ProofLine}
 use Rattle.ht_entries.specs.declared.proof_line.ProofLine.TheVariants as line
 use Rattle.ht_entries.specs.declared.from_state.FromStateLine.TheVariants as form
 use Rattle.ht_entries.specs.declared.from_state.FromStatePart.{FromStatePart}
 use Rattle.ht_entries.specs.ProofLines.{IsIndex, IsTokenText, IsProofLine}
-use Rattle.ht_entries.specs.PartWords.{walk_lines, AreTokenTexts, AreRisingIndices, IsWalkText, where_true, only_where, is_above}
-use Rattle.ht_entries.specs.FromState.{IsSecondText, clause_lines, from_state_lines, IsClauseText, IsEmptySoFar, IsFromStateText, new_clause, add_clause_token, is_in_clauses, has_clause, with_clauses, grow_before_walk, grow_window_walk, grow_from_state_by, grow_from_state}
+use Rattle.ht_entries.specs.PartWords.{walk_lines, IsWalkText, where_true, only_where, is_above}
+use Rattle.ht_entries.specs.FromState.{IsSecondText, clause_lines, from_state_lines, IsClauseText, IsFromStateText, new_clause, add_clause_token, is_in_clauses, has_clause, with_clauses, grow_before_walk, grow_window_walk, grow_from_state_by, grow_from_state}
 use Rattle.ht_entries.proofs.RisesLaws.{rises_add}
-use Rattle.ht_entries.proofs.GrowLaws.{where_is, mapped_is, two_empty, grown_end, map_one, walk_end}
+use Rattle.ht_entries.proofs.GrowLaws.{where_is, mapped_is, grown_end, map_one, walk_end}
 
 -- a token more in the walk of the last clause
 abbrev with_token : Clause → Token → Clause

@@ -1,14 +1,13 @@
 -- The lines of a refutation from a state, told apart by their texts.
-use Rattle.std.proofs.Common.{◌≡◌, ◌≢◌, ◌==◌, ◌⊎◌, inl, inr, ℕ, ◌+◌, ◌<◌, ◌≤◌, Bool, true, false, List, [], ◌∷◌, ◌++◌, Option, Some, None, length, append_assoc, refl, sym, ap, ◌∙◌, subst, arith}
+use Rattle.std.proofs.Common.{◌≡◌, ◌≢◌, ◌==◌, ◌⊎◌, inl, inr, ℕ, ◌+◌, ◌≤◌, Bool, true, false, List, [], ◌∷◌, ◌++◌, Option, Some, None, length, append_assoc, refl, sym, ap, ◌∙◌, subst, arith}
 use Rattle.std.specs.Prelude.{codes}
 use Rattle.std.specs.Fmt.{decimal}
 use Rattle.std.proofs.lemmas.Bool.{true≢false}
 use Rattle.std.proofs.lemmas.List.{append-nil, append_cancel_left}
 use Rattle.ht_texts.specs.Tests.{bit_code, vector_text}
 use Rattle.ht_tree.specs.declared.clause.Literal.{Literal}
-use Rattle.ht_entries.specs.declared.from_state.FromStateLine.{FromStateLine}
 use Rattle.ht_entries.specs.declared.from_state.FromStateLine.TheVariants as form
-use Rattle.ht_entries.specs.ProofLines.{max_number, IsNumber, IsIndex}
+use Rattle.ht_entries.specs.ProofLines.{IsNumber, IsIndex}
 use Rattle.ht_entries.specs.FromState.{literal_text, second_text, first_text, from_state_text, IsStateText, IsSecondText, IsFromStateLine, IsNoClauseLine, IsNoFirstLine}
 use Rattle.ht_entries.proofs.SpaceLaws.{number_front_same}
 

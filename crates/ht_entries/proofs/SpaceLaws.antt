@@ -1,5 +1,5 @@
 -- Texts that are told apart at a space.
-use Rattle.std.proofs.Common.{◌≡◌, ◌≢◌, ◌==◌, ◌⊎◌, inl, inr, ℕ, suc, ◌+◌, ◌-◌, ◌<◌, ◌≤◌, Bool, true, false, List, [], ◌∷◌, ◌++◌, Option, Some, None, length, get_or, take, drop, length-append, length-take, length-drop, append_assoc, add-one, drop-cons, refl, sym, ap, ◌∙◌, subst, arith}
+use Rattle.std.proofs.Common.{◌≡◌, ◌≢◌, ◌==◌, inl, inr, ℕ, suc, ◌+◌, ◌-◌, ◌<◌, ◌≤◌, Bool, List, [], ◌∷◌, ◌++◌, Some, None, length, get_or, take, drop, length-append, length-take, length-drop, append_assoc, add-one, drop-cons, refl, sym, ap, ◌∙◌, subst, arith}
 use Rattle.std.specs.Prelude.{codes}
 use Rattle.std.specs.Fmt.{decimal}
 use Rattle.std.specs.List.{All, position, position_or_len}
@@ -15,6 +15,7 @@ use Rattle.std.proofs.lemmas.Str.Parse.{digit_from_value}
 use Rattle.std.proofs.Math.Seq.{get_or-append_seam, take-length}
 use Rattle.ht_texts.specs.Numbers.{IsNumberText}
 use Rattle.ht_entries.specs.ProofLines.{max_number, IsNumber}
+use Rattle.ht_entries.specs.ParsedLines.{IsSplitAt}
 
 -- ---- the first space
 
@@ -62,6 +63,21 @@ first_space text k at =
           let size : i < k = omega (arith, below, length-take k text) in
           let not_here = found.2 i size in
           true≢false (sym (eq-eqb (get_or text i 0) 32 (sym (get_or-take k text i 0 size) ∙ same)) ∙ not_here));
+    }
+
+-- a number before the first space
+pub number_at_space : (text : List ℕ) (k n : ℕ) → position is_space text ≡ Some k → take k text ≡ decimal n
+    → IsSplitAt text (decimal n) (take (length text - k) (drop k text))
+number_at_space text k n at number =
+    let found = position-Some is_space text k 0 at in
+    let rest : take (length text - k) (drop k text) ≡ drop k text =
+    ap (λ m. take m (drop k text)) (sym (length-drop k text)) ∙ take-length (drop k text) in
+    record {
+      parts = sym (take-append-drop k text) ∙ ap (λ t. t ++ drop k text) number ∙ ap (λ t. decimal n ++ t) (sym rest);
+      space = (
+        drop (suc k) text,
+        rest ∙ drop-cons text k 0 found.0 ∙ ap (λ x. x ∷ drop (suc k) text) (eqb-true (get_or text k 0) 32 found.1),
+      );
     }
 
 -- what follows a space

@@ -25,6 +25,7 @@ use Rattle.ht_entries.specs.PartWords.{walk_lines, AreTokenTexts, AreRisingIndic
 abbrev pub literal_text : Literal → List ℕ
 literal_text l = decimal (l.dff + 1) ++ codes " " ++ bit_code l.value ∷ []
 
+-- the second literal of a clause after a space, if there is one
 abbrev pub second_text : Option Literal → List ℕ
 second_text None = []
 second_text (Some l) = codes " " ++ literal_text l
@@ -33,6 +34,7 @@ second_text (Some l) = codes " " ++ literal_text l
 abbrev pub first_text : ℕ → List ℕ → List ℕ
 first_text number bits = codes "entry " ++ decimal number ++ codes " untestable from " ++ bits
 
+-- the text of a line of this form
 abbrev pub from_state_text : FromStateLine → List ℕ
 from_state_text (form.Begins number state) = first_text number (vector_text state)
 from_state_text (form.Clause first second) = codes "clause " ++ literal_text first ++ second_text second
@@ -46,6 +48,7 @@ abbrev pub IsSecondText : Literal → Option Literal → Type 0
 IsSecondText first None = Unit {0}
 IsSecondText first (Some l) = (first.dff < l.dff) × IsIndex l.dff
 
+-- a line of this form has a text
 abbrev pub IsFromStateLine : FromStateLine → Type 0
 IsFromStateLine (form.Begins number state) = IsNumber number × IsStateText state
 IsFromStateLine (form.Clause first second) = IsIndex first.dff × IsSecondText first second
@@ -71,10 +74,12 @@ IsNoFirstLine bytes = (number : ℕ) (state : List Bool) → IsFromStateLine (fo
 abbrev pub clause_lines : Clause → List ProofLine
 clause_lines clause = line.FromState (form.Clause clause.first clause.second) ∷ map line.Token clause.tokens
 
+-- the lines of as much of the entry as was read: its first line, its clauses, its flip-flops and its walk
 abbrev pub from_state_lines : ℕ → FromStatePart → List ProofLine
 from_state_lines number p =
     line.FromState (form.Begins number p.state) ∷ flat_map clause_lines p.clauses ++ map line.Z p.z ++ walk_lines p.walk
 
+-- A clause has a text, and each token of its walk has one.
 pub record IsClauseText (clause : Clause) : Type 0 where
   pub first : IsIndex clause.first.dff
   pub second : IsSecondText clause.first clause.second
@@ -100,6 +105,7 @@ pub record IsFromStateText (p : FromStatePart) : Type 0 where
 abbrev pub begun_by : List Bool → FromStatePart
 begun_by state = record { state = state; clauses = []; z = []; walk = None }
 
+-- a clause of which no token was read
 abbrev pub new_clause : Literal → Option Literal → Clause
 new_clause first second = record { first = first; second = second; tokens = [] }
 
@@ -113,9 +119,11 @@ add_clause_token (c ∷ next ∷ clauses) t = option_map (λ rest. c ∷ rest) (
 abbrev pub is_in_clauses : FromStatePart → Bool
 is_in_clauses p = eqb (length p.z) 0
 
+-- there is a clause
 abbrev pub has_clause : FromStatePart → Bool
 has_clause p = ltb 0 (length p.clauses)
 
+-- the part with these clauses in place of its own
 abbrev pub with_clauses : FromStatePart → List Clause → FromStatePart
 with_clauses p clauses = record p { clauses = clauses }
 
@@ -135,6 +143,7 @@ abbrev pub grow_window_walk : FromStatePart → List Token → ProofLine → Opt
 grow_window_walk p tokens (line.Token t) = Some (record p { walk = Some (tokens ++ t ∷ []) })
 grow_window_walk p tokens other = None
 
+-- the part with one line more, by whether the walk of the window has begun
 abbrev pub grow_from_state_by : FromStatePart → Option (List Token) → ProofLine → Option FromStatePart
 grow_from_state_by p None l = grow_before_walk p l
 grow_from_state_by p (Some tokens) l = grow_window_walk p tokens l

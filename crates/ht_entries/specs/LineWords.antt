@@ -14,6 +14,7 @@ use Rattle.ht_tree.specs.declared.window.Spot.TheVariants.{Output, State, Cube}
 abbrev pub numbered_from_1 : List ℕ → ℕ → List ℕ
 numbered_from_1 word index = word ++ decimal (index + 1)
 
+-- the line of a token: how many values its net was open to, and the number of its variable
 abbrev pub token_text : Token → List ℕ
 token_text (token.Two var false) = numbered_from_1 (codes "lo ") var
 token_text (token.Two var true) = numbered_from_1 (codes "hi ") var
@@ -38,6 +39,7 @@ bits_text (bit ∷ bits) = vector_text (bit ∷ bits)
 abbrev pub max_number : ℕ
 max_number = 4294967295
 
+-- a number that may stand in a text: from 1 to the greatest
 abbrev pub IsNumber : ℕ → Type 0
 IsNumber number = (0 < number) × (number ≤ max_number)
 
@@ -45,12 +47,14 @@ IsNumber number = (0 < number) × (number ≤ max_number)
 abbrev pub IsIndex : ℕ → Type 0
 IsIndex index = index < max_number
 
+-- a token has a text, by its variable
 abbrev pub IsTokenText : Token → Type 0
 IsTokenText (token.Two var first) = IsIndex var
 IsTokenText (token.Three var) = IsIndex var
 IsTokenText token.Dead = Unit {0}
 IsTokenText token.Before = Unit {0}
 
+-- a told frame has a text, by its place: the place of none is a cube, which has no text
 abbrev pub IsFrameText : Spot → Type 0
 IsFrameText (Output o) = IsIndex o
 IsFrameText (State j) = IsIndex j

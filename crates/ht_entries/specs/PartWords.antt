@@ -9,12 +9,14 @@ use Rattle.ht_entries.specs.LineWords.{IsIndex, IsTokenText}
 
 -- ---- lines
 
+-- the line that begins a walk and a line for each of its tokens, if there is a walk
 abbrev pub walk_lines : Option (List Token) → List ProofLine
 walk_lines None = []
 walk_lines (Some tokens) = line.Walk ∷ map line.Token tokens
 
 -- ---- which have a text
 
+-- each token of a walk has a text
 abbrev pub AreTokenTexts : List Token → Type 0
 AreTokenTexts tokens = All IsTokenText tokens
 
@@ -23,6 +25,7 @@ pub record AreRisingIndices (list : List ℕ) : Type 0 where
   pub each : All IsIndex list
   pub rises : Rises list
 
+-- a walk has a text where it is there and each of its tokens has one; one that is missing has none to have
 abbrev pub IsWalkText : Option (List Token) → Type 0
 IsWalkText None = Unit {0}
 IsWalkText (Some tokens) = AreTokenTexts tokens

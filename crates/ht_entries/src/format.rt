@@ -7,10 +7,12 @@ use crate::entry_part::EntryPart;
 /// A format of a proofs text, which its first line names.
 #[derive(Clone, Copy, PartialEq, Eq, Debug)]
 pub enum Format {
-    /// `proofs 1`: no entry refutes a fault from one named state.
+    /// `proofs 1`: no entry refutes a fault from one named state, and none says undetectable.
     One,
-    /// `proofs 2`: an entry may.
+    /// `proofs 2`: an entry may refute a fault from one named state.
     Two,
+    /// `proofs 3`: an entry may also say undetectable.
+    Three,
 }
 
 impl Format {
@@ -20,7 +22,8 @@ impl Format {
     {
         match part {
             EntryPart::Untestable { .. } | EntryPart::Aborted { .. } => true,
-            EntryPart::FromState(_) => matches!(self, Format::Two),
+            EntryPart::FromState(_) => matches!(self, Format::Two | Format::Three),
+            EntryPart::BySets { .. } => matches!(self, Format::Three),
         }
     }
 }

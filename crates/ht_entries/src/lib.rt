@@ -1,5 +1,9 @@
 //! The proofs text: the entries of faults as lines, written and read.
 //!
+//! A text has one of three formats, which its first line names. The first has refutations and aborts, the second also
+//! refutations from one named state (`specs/FromState`), and the third also faults that sets of pairs show undetectable
+//! (`specs/BySets`).
+//!
 //! `specs/ProofLines` has the text of one line, `specs/EntryLines` the lines of an entry and of a whole text, and
 //! `specs/EntryTexts` says which entries have a text, and what the text doesn't show of them. A `ProofReader` takes a
 //! text line by line: `specs/ProofReading` says where it stands after some lines, `specs/ProofSteps` what a further
@@ -8,6 +12,7 @@
 #![tactic(auto)]
 
 mod aim;
+mod by_sets;
 mod entry_part;
 mod entry_text;
 mod format;
@@ -31,6 +36,7 @@ mod told;
 mod write_line;
 mod write_lists;
 
+pub use by_sets::BySetsLine;
 pub use entry_text::write_entry;
 pub use format::Format;
 pub use from_state::FromStateLine;

@@ -5,6 +5,7 @@
 #![tactic(auto)]
 
 mod numbers;
+mod pairs;
 mod passes;
 mod proofs_text;
 mod reports;

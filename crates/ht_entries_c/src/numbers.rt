@@ -1,7 +1,9 @@
 //! Entries as rows of numbers: each list by its length and its members, each choice by its number from 0.
+use crate::pairs::{count, holds};
 use ht_items::Items;
 use ht_net::Vectors;
-use ht_tree::{Aim, Assign, Clause, Entry, Literal, Spot, Token, Told};
+use ht_pairs::PairSet;
+use ht_tree::{Aim, Assign, Clause, Entry, FamilyRow, Literal, Spot, Token, Told};
 use std::alloc::AllocError;
 
 // A list's length, and its numbers.
@@ -147,8 +149,28 @@ fn push_clauses(row: &mut Vec<u64>, clauses: &[Clause]) -> Result<(), AllocError
     Ok(())
 }
 
-/// Appends the numbers of an entry: 0 and an untestable one, 1 and an aborted one, or 2 and an untestable one from a
-/// state.
+// A set: how many members it has, and their numbers.
+fn push_set(row: &mut Vec<u64>, set: PairSet) -> Result<(), AllocError> {
+    row.push(count(set))?;
+    for pair in 0..9 {
+        if holds(set, pair) {
+            row.push(pair)?;
+        }
+    }
+    Ok(())
+}
+
+fn push_rows(row: &mut Vec<u64>, rows: &[FamilyRow]) -> Result<(), AllocError> {
+    row.push(rows.len() as u64)?;
+    for held in rows {
+        row.push(u64::from(held.dff))?;
+        push_set(row, held.set)?;
+    }
+    Ok(())
+}
+
+/// Appends the numbers of an entry: 0 and an untestable one, 1 and an aborted one, 2 and an untestable one from a state,
+/// or 3 and an undetectable one by sets.
 pub fn push_entry(row: &mut Vec<u64>, entry: &Entry) -> Result<(), AllocError> {
     match entry {
         Entry::Untestable { z, tokens } => {
@@ -167,6 +189,10 @@ pub fn push_entry(row: &mut Vec<u64>, entry: &Entry) -> Result<(), AllocError> {
             push_clauses(row, clauses.as_slice())?;
             push_numbers(row, z.as_slice())?;
             push_tokens(row, tokens.as_slice())
+        }
+        Entry::UndetectableBySets { rows } => {
+            row.push(3)?;
+            push_rows(row, rows.as_slice())
         }
         Entry::Aborted {
             told,

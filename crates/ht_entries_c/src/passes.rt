@@ -7,14 +7,15 @@ use ht_bench::read;
 use ht_check::entry;
 use ht_entries::write_entry;
 use ht_faults::list;
+use ht_net::unknown_start;
 use ht_tree::MAX_BUDGET;
 use std::alloc::{AllocError, Global};
 
 /// The most bytes of a netlist.
 pub const MAX_BYTES: usize = 16_777_216;
 
-/// Whether the entry of a row passes for a fault of a netlist, by its number from 0; none where the netlist is refused,
-/// there is no such fault or entry, or memory ran out.
+/// Whether the entry of a row passes from all-unknown for a fault of a netlist, by its number from 0; none where the
+/// netlist is refused, there is no such fault or entry, or memory ran out.
 pub fn passes(
     alloc: Global,
     netlist: &[u8],
@@ -32,7 +33,12 @@ pub fn passes(
     }
     let mut row = Row::new(numbers);
     let judged = take_entry(alloc, &mut row).ok()?;
-    entry(alloc, &circuit, faults.get(fault), budget, &judged).ok()
+    let start = unknown_start(alloc, &circuit).ok()?;
+    // for the proof: a start has a value for each flip-flop
+    if start.len() != circuit.dffs() as usize {
+        return None;
+    }
+    entry(alloc, &circuit, &start, faults.get(fault), budget, &judged).ok()
 }
 
 /// The text of the entry of a row.

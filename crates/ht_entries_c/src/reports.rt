@@ -15,7 +15,8 @@ fn push_verdict(row: &mut Vec<u64>, fault: u32, said: Said) -> Result<(), AllocE
         Said::Detected(place) => (0, place.vector, place.output),
         Said::Untestable => (1, 0, 0),
         Said::Aborted => (2, 0, 0),
-        Said::Undetected => (3, 0, 0),
+        Said::Undetectable => (3, 0, 0),
+        Said::Undetected => (4, 0, 0),
     };
     for number in [2, u64::from(fault), kind, vector, u64::from(output)] {
         row.push(number)?;

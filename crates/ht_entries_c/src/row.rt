@@ -1,7 +1,9 @@
 //! Entries from rows of numbers: each list by its length and its members, each choice by its number from 0.
+use crate::pairs::single;
 use ht_items::Items;
 use ht_net::Vectors;
-use ht_tree::{Aim, Assign, Clause, Entry, Literal, Spot, Token, Told};
+use ht_pairs::PairSet;
+use ht_tree::{Aim, Assign, Clause, Entry, FamilyRow, Literal, Spot, Token, Told};
 use std::alloc::{AllocError, Global};
 
 /// The rest of a row. A row that ends too early, or has a number that can't stand there, is answered as out of memory.
@@ -216,11 +218,38 @@ fn take_aborted(alloc: Global, row: &mut Row) -> Result<Entry, AllocError> {
     })
 }
 
+// A set, by how many members it has, at least one, and their numbers.
+fn take_set(row: &mut Row) -> Result<PairSet, AllocError> {
+    let count = row.next()?;
+    if count == 0 {
+        return Err(AllocError);
+    }
+    let mut set = single(row.next()?);
+    for _ in 1..count {
+        let pair = row.next()?;
+        set = set.join(single(pair));
+    }
+    Ok(set)
+}
+
+fn take_by_sets(alloc: Global, row: &mut Row) -> Result<Entry, AllocError> {
+    let mut rows = Vec::new(alloc);
+    for _ in 0..row.next()? {
+        let dff = row.next_u32()?;
+        let set = take_set(row)?;
+        rows.push(FamilyRow { dff, set })?;
+    }
+    Ok(Entry::UndetectableBySets {
+        rows: Items::from_vec(rows),
+    })
+}
+
 /// The next entry of a row.
 pub fn take_entry(alloc: Global, row: &mut Row) -> Result<Entry, AllocError> {
     match row.next()? {
         0 => take_untestable(alloc, row),
         1 => take_aborted(alloc, row),
-        _ => take_untestable_from(alloc, row),
+        2 => take_untestable_from(alloc, row),
+        _ => take_by_sets(alloc, row),
     }
 }

@@ -4,9 +4,10 @@ use Rattle.ht_tern.specs.declared.tern.Tern.{Tern}
 use Rattle.ht_pairs.specs.Pairs.{Pair, MayDiffer}
 use Rattle.ht_net.specs.declared.fault.Fault.{Fault}
 use Rattle.ht_net.specs.Netlist.{Netlist}
-use Rattle.ht_families.specs.Families.{Closes, HoldsState, IncludesEach, IsLeastClosing, shown_sets, taken_sets, Family}
+use Rattle.ht_tree.specs.ClosedFamilies.{Closes, HoldsState, IncludesEach, shown_sets, taken_sets, Family}
+use Rattle.ht_families.specs.Families.{IsLeastClosing}
 use Rattle.ht_families.specs.FamilyFrames.{FrameView, after_family, size_of}
-use Rattle.ht_families.proofs.RunFamilyLaws.{shown_long}
+use Rattle.ht_records.proofs.RunFamilyLaws.{shown_long}
 use Rattle.ht_families.proofs.LeastLaws.{IsGrown, none_closes}
 
 same_get : (xs : List (List Pair)) (k : ℕ) (d e : List Pair) → k < length xs → get_or xs k d ≡ get_or xs k e

@@ -13,8 +13,9 @@ use Rattle.ht_net.specs.Netlist.{Netlist}
 use Rattle.ht_net.proofs.FaultLaws.{rules_keep}
 use Rattle.ht_net.proofs.RelationLaws.{Preserves, get_related, next_related, outputs_related}
 use Rattle.ht_tree.specs.Windows.{pair_set_rules}
-use Rattle.ht_families.specs.Families.{Closes, HoldsState, IncludesEach, any_vector, shown_sets, start_family, taken_sets, Family}
-use Rattle.ht_families.proofs.RunFamilyLaws.{shown_long, taken_long}
+use Rattle.ht_tree.specs.ClosedFamilies.{Closes, HoldsState, IncludesEach, any_vector, shown_sets, taken_sets, Family}
+use Rattle.ht_families.specs.Families.{start_family}
+use Rattle.ht_records.proofs.RunFamilyLaws.{shown_long, taken_long}
 
 -- one set within another
 abbrev Below : List Pair → List Pair → Type 0

@@ -7,7 +7,7 @@ use Rattle.ht_net.specs.declared.fault.Fault.{Fault}
 use Rattle.ht_net.specs.Netlist.{Netlist, IsCircuit, max_arguments, net_count}
 use Rattle.ht_net.specs.Frame.{values_at}
 use Rattle.ht_frame.specs.Values.{env_of}
-use Rattle.ht_families.specs.Families.{Family, any_vector, shown_sets, taken_sets}
+use Rattle.ht_tree.specs.ClosedFamilies.{Family, any_vector, shown_sets, taken_sets}
 use Rattle.ht_families.specs.declared.frame.FamilyFrame.TheInside.{Inside}
 
 -- A circuit and a fault, with what the outputs showed and the flip-flops took in the last frame.
@@ -17,6 +17,7 @@ pub record FrameView : Type 0 where
   pub shown : List (List Pair)
   pub taken : Family
 
+-- the fields of a frame as this view
 abbrev pub frame_view : Inside → FrameView
 frame_view a = record {
   circuit = a.circuit.now;

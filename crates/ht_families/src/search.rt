@@ -1,7 +1,8 @@
 //! The least family that closes.
 ghost use Rattle.std.specs.Prelude.{IfOk, MatchOption};
 ghost use Rattle.ht_net.specs.Detection.{IsStart};
-ghost use Rattle.ht_families.specs.Families.{Closes, Family, IsLeastClosing};
+ghost use Rattle.ht_tree.specs.ClosedFamilies.{Closes, Family};
+ghost use Rattle.ht_families.specs.Families.{IsLeastClosing};
 
 use crate::Family;
 use crate::frame::FamilyFrame;

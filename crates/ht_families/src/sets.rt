@@ -1,7 +1,8 @@
 //! Families as lists of sets.
 ghost use Rattle.std.specs.Prelude.{◌≡◌, ◌↔◌, ◌⊎◌, ◌<◌, ◌≤◌, ◌*◌, [], ℕ, IsTrue, length, get_or, IfOk};
 ghost use Rattle.ht_pairs.specs.Included.{joined_set};
-ghost use Rattle.ht_families.specs.Families.{HoldsState, IncludesEach, start_family};
+ghost use Rattle.ht_tree.specs.ClosedFamilies.{HoldsState, IncludesEach};
+ghost use Rattle.ht_families.specs.Families.{start_family};
 ghost use Rattle.ht_families.specs.FamilyFrames.{size_of};
 
 use crate::Family;
@@ -32,7 +33,7 @@ pub fn holds_state(family: &[PairSet], state: &[Tern]) -> bool
     true
 }
 
-/// Whether each set of a family is within that of another.
+/// Whether each set of a family includes that of another.
 pub fn includes_each(family: &[PairSet], other: &[PairSet]) -> bool
     requires { length family.now ≡ length other.now }
     ensures { IsTrue result ↔ IncludesEach family.now other.now }

@@ -11,7 +11,6 @@ use Rattle.ht_texts.specs.Reports.{report_body, report_sums, report_text, total_
 use Rattle.ht_texts.specs.SearchReports.{HasPlainNames, IsBudget}
 use Rattle.ht_texts.proofs.ReportLaws.{report_splits}
 use Rattle.ht_valid.specs.ValidFiles.{AreValid}
-use Rattle.ht_valid.proofs.BackedLaws.{justified}
 use Rattle.ht_valid.proofs.DecidedLaws.{are_decided}
 use Rattle.ht_valid.proofs.TruthLaws.{true_verdicts}
 use Rattle.ht_engine.specs.declared.step.Step.{Step}
@@ -21,7 +20,7 @@ use Rattle.ht_files.specs.Generated.{content_of, IsGenerated, IsTotalOf}
 use Rattle.ht_files.specs.Saids.{AreSaid}
 use Rattle.ht_files.specs.StepTexts.{proofs_of, tests_of}
 use Rattle.ht_files.proofs.DecidedInLaws.{decided_under}
-use Rattle.ht_files.proofs.ValidLaws.{are_valid, IsFinishedWork}
+use Rattle.ht_files.proofs.ValidLaws.{are_valid, IsFinishedWork, justified, worked_on}
 
 -- the body and the total line are the report
 pub whole_report : (c : Netlist) (representatives : List ℕ) (budget : ℕ) (saids : List Said) (body total : List ℕ)
@@ -35,19 +34,18 @@ whole_report c representatives budget saids body total body_is total_is =
 
 pub are_generated : (e : EngineView) (steps : List Step) (saids : List Said) (report total : List ℕ)
     → IsFinishedWork e steps saids → HasPlainNames e.circuit → length (tests_of steps) ≤ max_text_bytes
-    → length (proofs_of steps) ≤ max_text_bytes → length report ≤ max_text_bytes
+    → length (proofs_of e.settings steps) ≤ max_text_bytes → length report ≤ max_text_bytes
     → report ≡ report_text e.circuit e.representatives (Some e.settings.budget) saids
     → total ≡ with_lf (total_line (report_sums e.representatives (Some e.settings.budget) saids))
-    → IsGenerated e.circuit e.settings (tests_of steps) report (proofs_of steps) total
+    → IsGenerated e.circuit e.settings (tests_of steps) report (proofs_of e.settings steps) total
 are_generated e steps saids report total work names short_tests short_proofs short_report report_is total_is =
     let content = content_of e.settings steps saids in
     let short = subst (λ (l : List ℕ). length l ≤ max_text_bytes) report_is short_report in
     let valid = subst
-    (λ (l : List ℕ). AreValid e.circuit e.representatives e.settings.start (tests_of steps) l (proofs_of steps) content)
+    (λ (l : List ℕ). AreValid e.circuit e.representatives e.settings.start (tests_of steps) l (proofs_of e.settings steps) content)
     (sym report_is)
     (are_valid e steps saids work names short_tests short_proofs short) in
-    let is = justified e.circuit e.representatives e.settings.start (tests_of steps) report (proofs_of steps) content
-    valid in
+    let is = justified e steps saids work in
     record {
       representatives = e.representatives;
       steps = steps;
@@ -55,7 +53,9 @@ are_generated e steps saids report total work names short_tests short_proofs sho
       classes = work.classes;
       valid = valid;
       verdicts = true_verdicts e.circuit e.representatives content work.circuit work.classes work.stands.latches is;
-      decided = are_decided e.circuit e.representatives content work.circuit work.stands.latches is;
+      worked_on = worked_on e steps saids work;
+      decided = λ i own chosen. are_decided e.circuit e.representatives content work.circuit work.stands.latches is i own
+          (worked_on e steps saids work i own chosen);
       invariant = e.named_invariant;
       found = work.stands.found;
       decided_in = decided_under e steps saids work;
@@ -73,13 +73,13 @@ Generates e saids body total steps c representatives budget = IsCircuit c → Ar
     → AreSaid e (length (faults_of c)) saids → body ≡ report_body c representatives (Some budget) saids
     → total ≡ with_lf (total_line (report_sums representatives (Some budget) saids))
     → AreFinished c representatives e.settings steps → HasPlainNames c
-    → IsGenerated c e.settings (tests_of steps) (body ++ total) (proofs_of steps) total
+    → IsGenerated c e.settings (tests_of steps) (body ++ total) (proofs_of e.settings steps) total
 
 module _ (e : EngineView) (saids : List Said) (body total : List ℕ) (steps : List Step)
     (budget_is : IsBudget e.settings.budget) (short : length body + length total ≤ max_text_bytes)
     (stands : EngineStandsFor e steps)
     (short_tests : length (tests_of steps) ≤ max_text_bytes)
-    (short_proofs : length (proofs_of steps) ≤ max_text_bytes) where
+    (short_proofs : length (proofs_of e.settings steps) ≤ max_text_bytes) where
   by_engine : Generates e saids body total steps e.circuit e.representatives e.settings.budget
   by_engine circuit classes said body_is total_is finished names =
       let long = length-append body total in

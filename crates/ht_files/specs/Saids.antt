@@ -9,7 +9,7 @@ use Rattle.ht_engine.specs.EngineStands.{EngineView, EngineStandsFor, IsSaid}
 -- The engine says it of fault i, whatever steps it stands for, and it may be said.
 pub record Says (e : EngineView) (i : ℕ) (said : Said) : Type 0 where
   pub by_steps : (steps : List Step) → EngineStandsFor e steps
-      → IsSaid e.circuit e.representatives e.settings.start steps i said
+      → IsSaid e.circuit e.settings.start steps i said
   pub sayable : IsSayable e.circuit said
 
 -- Something for each of the first n faults: of the representatives among them what the engine says.

@@ -5,15 +5,14 @@ ghost use Rattle.ht_bench.specs.Text.{IsNetlistOf};
 ghost use Rattle.ht_collapse.specs.Classes.{AreClasses};
 ghost use Rattle.ht_texts.specs.Lines.{with_lf};
 ghost use Rattle.ht_texts.specs.SearchReports.{HasPlainNames, HasShortNames};
-ghost use Rattle.ht_entries.specs.declared.format.Format.TheVariants.{Two};
 ghost use Rattle.ht_entries.specs.declared.proof_line.ProofLine.TheVariants as line;
 ghost use Rattle.ht_entries.specs.ProofLines.{line_text};
 ghost use Rattle.ht_valid.specs.declared.trouble.Trouble.{Trouble};
 ghost use Rattle.ht_valid.specs.FirstTrouble.{IsFirstTrouble};
+ghost use Rattle.ht_engine.specs.declared.settings.Settings.{Settings};
 ghost use Rattle.ht_engine.specs.declared.step.Step as made;
-ghost use Rattle.ht_engine.specs.Steps.{Settings};
 ghost use Rattle.ht_files.specs.Generated.{IsGenerated};
-ghost use Rattle.ht_files.specs.StepTexts.{proofs_of, proofs_so_far, proofs_step, tests_of, tests_step};
+ghost use Rattle.ht_files.specs.StepTexts.{format_of, proofs_of, proofs_so_far, proofs_step, tests_of, tests_step};
 
 /// No name of a circuit that was read has an LF or a CR.
 pub fn accepted_netlists_have_plain_names()
@@ -29,15 +28,17 @@ pub fn accepted_netlists_have_short_names()
 pub fn files_grow_by_steps()
     ensures tests { (steps : List made.Step) (step : made.Step)
         → tests_of (steps ++ step ∷ []) ≡ tests_of steps ++ tests_step step }
-    ensures proofs { (steps : List made.Step) (step : made.Step)
-        → proofs_so_far (steps ++ step ∷ []) ≡ proofs_so_far steps ++ proofs_step step }
+    ensures proofs { (settings : Settings) (steps : List made.Step) (step : made.Step)
+        → proofs_so_far settings (steps ++ step ∷ [])
+        ≡ proofs_so_far settings steps ++ proofs_step step }
 {}
 
 /// The proofs begin with the head line, and the end line makes them whole.
 pub fn proofs_begin_and_end()
-    ensures begin { proofs_so_far [] ≡ with_lf (line_text (line.Head Two)) }
-    ensures end { (steps : List made.Step)
-        → proofs_of steps ≡ proofs_so_far steps ++ with_lf (line_text line.End) }
+    ensures begin { (settings : Settings)
+        → proofs_so_far settings [] ≡ with_lf (line_text (line.Head (format_of settings.search))) }
+    ensures end { (settings : Settings) (steps : List made.Step)
+        → proofs_of settings steps ≡ proofs_so_far settings steps ++ with_lf (line_text line.End) }
 {}
 
 /// What a finished generator writes has no trouble, so each checker that keeps the definition accepts it.

@@ -7,9 +7,9 @@ use Rattle.ht_tree.specs.declared.token.Token.{Token}
 use Rattle.ht_tree.specs.Nodes.{judge_of}
 use Rattle.ht_tree.specs.SearchRecords.{sweep_weight}
 use Rattle.ht_tree.specs.Walks.{IsComplete, Judge, Node, weight_of}
-use Rattle.ht_tree.specs.Windows.{sweep_window}
+use Rattle.ht_tree.specs.Windows.{Start}
 use Rattle.ht_forward.specs.AheadSearches.{ClosesAhead}
-use Rattle.ht_forward.specs.Sweeps.{CloseEach}
+use Rattle.ht_forward.specs.Sweeps.{CloseEach, window_of}
 
 -- a complete walk has a token, so it weighs at least the frames of its window
 node_left : (n : Node) (rest : List Node) → n ∷ rest ≢ []
@@ -25,18 +25,18 @@ complete_weighs j frames walk h =
     let one : suc zero * frames ≡ frames = omega arith in
     omega (arith, times, one)
 
-module _ (c : Netlist) (fault : Fault) where
+module _ (c : Netlist) (fault : Fault) (start : Start) where
   -- a search depends on how many frames its window has, and on its budget
   pub closes_as : (frames frames' budget budget' : ℕ) (walk : List Token) → frames ≡ frames' → budget ≡ budget'
-      → ClosesAhead (sweep_window c fault frames) budget walk → ClosesAhead (sweep_window c fault frames') budget' walk
+      → ClosesAhead (window_of c fault start frames) budget walk → ClosesAhead (window_of c fault start frames') budget' walk
   closes_as frames frames' budget budget' walk count left h =
-      subst (λ (b : ℕ). ClosesAhead (sweep_window c fault frames') b walk) left
-      (subst (λ (n : ℕ). ClosesAhead (sweep_window c fault n) budget walk) count h)
+      subst (λ (b : ℕ). ClosesAhead (window_of c fault start frames') b walk) left
+      (subst (λ (n : ℕ). ClosesAhead (window_of c fault start n) budget walk) count h)
 
   pub closes_push : (budget frames : ℕ) (walks : List (List Token)) (walk : List Token)
-      → CloseEach c fault budget frames walks
-      → ClosesAhead (sweep_window c fault (frames + length walks)) (budget - sweep_weight frames walks) walk
-      → CloseEach c fault budget frames (walks ++ walk ∷ [])
+      → CloseEach c fault start budget frames walks
+      → ClosesAhead (window_of c fault start (frames + length walks)) (budget - sweep_weight frames walks) walk
+      → CloseEach c fault start budget frames (walks ++ walk ∷ [])
   closes_push budget frames [] walk h closes =
       (closes_as (frames + 0) frames (budget - 0) budget walk (omega arith) (omega arith) closes, tt)
   closes_push budget frames (first ∷ walks) walk h closes =
@@ -48,19 +48,19 @@ module _ (c : Netlist) (fault : Fault) where
             (omega arith) (omega arith) closes),
       )
 
-  pub close_at : (budget frames : ℕ) (walks : List (List Token)) → CloseEach c fault budget frames walks
-      → (k : ℕ) → k < length walks → IsComplete (judge_of (sweep_window c fault (frames + k))) (get_or walks k [])
+  pub close_at : (budget frames : ℕ) (walks : List (List Token)) → CloseEach c fault start budget frames walks
+      → (k : ℕ) → k < length walks → IsComplete (judge_of (window_of c fault start (frames + k))) (get_or walks k [])
   close_at budget frames [] h k l = absurd (omega (arith, l))
   close_at budget frames (walk ∷ walks) h zero l =
       let at : frames ≡ frames + 0 = omega arith in
-      subst (λ (n : ℕ). IsComplete (judge_of (sweep_window c fault n)) walk) at h.0.walk
+      subst (λ (n : ℕ). IsComplete (judge_of (window_of c fault start n)) walk) at h.0.walk
   close_at budget frames (walk ∷ walks) h (suc k) l =
       let at : frames + 1 + k ≡ frames + suc k = omega arith in
-      subst (λ (n : ℕ). IsComplete (judge_of (sweep_window c fault n)) (get_or walks k [])) at
+      subst (λ (n : ℕ). IsComplete (judge_of (window_of c fault start n)) (get_or walks k [])) at
       (close_at (budget - weight_of frames walk) (frames + 1) walks h.1 k (omega (arith, l)))
 
   -- they keep within the budget
-  pub close_within : (budget frames : ℕ) (walks : List (List Token)) → CloseEach c fault budget frames walks
+  pub close_within : (budget frames : ℕ) (walks : List (List Token)) → CloseEach c fault start budget frames walks
       → sweep_weight frames walks ≤ budget
   close_within budget frames [] h = omega arith
   close_within budget frames (walk ∷ walks) h =

@@ -30,15 +30,16 @@ pub record FindsList (w : SearchWindow) (budget : ℕ) (list : Rows) : Type 0 wh
   pub known : frame < w.frames
   pub listed : list ≡ record { width = w.circuit.inputs; list = list_of w.circuit path (frame + 1) }
 
--- the search of a window closes, or spends its budget after some decisions
+-- The search of a window closes.
 abbrev pub ClosesAhead : SearchWindow → ℕ → List Token → Type 0
 ClosesAhead w budget tokens = Closes (guide_of w) budget (token_weight w) tokens
 
+-- The search of a window spends its budget after some decisions.
 abbrev pub SpendsAhead : SearchWindow → ℕ → List Token → Type 0
 SpendsAhead w budget tokens =
     (path : List Assign3) × SpendsAt (guide_of w) budget (token_weight w) tokens (node_at path)
 
--- what the search of a window within a budget comes to
+-- What the search of a window within a budget comes to.
 abbrev pub IsAhead : SearchWindow → ℕ → Ahead → Type 0
 IsAhead w budget (Found list) = FindsList w budget list
 IsAhead w budget (Closed tokens) = ClosesAhead w budget tokens
@@ -51,9 +52,10 @@ pub record IsListWithin (c : Netlist) (most : ℕ) (list : Rows) : Type 0 where
   pub wide : AreVectors c list.list
   pub width : list.width ≡ c.inputs
 
--- A list ahead of two states: its last vector gives opposite definite values at an output.
-pub record IsListAhead (c : Netlist) (fault : Fault) (good faulty : List Tern) (list : Rows) : Type 0 where
-  pub vectors : IsListWithin c forward_frames list
+-- A list of at most so many vectors ahead of two states: its last vector gives opposite definite values at an output.
+pub record IsListAhead (c : Netlist) (most : ℕ) (fault : Fault) (good faulty : List Tern) (list : Rows)
+    : Type 0 where
+  pub vectors : IsListWithin c most list
   pub output : ℕ
   pub shows : ShowsFrom c fault good faulty list.list (length list.list - 1) output
 
@@ -63,9 +65,10 @@ pub record IsClosedAhead (c : Netlist) (fault : Fault) (good faulty : List Tern)
   pub none : (list : List (List Bool)) → length list ≤ forward_frames → (t o : ℕ)
       → ¬ ShowsFrom c fault good faulty list t o
 
--- what each answer of a search ahead of two states means
+-- What each answer of a search ahead of two states means.
 abbrev pub AheadHolds : Netlist → Fault → List Tern → List Tern → ℕ → Ahead → Type 0
-AheadHolds c fault good faulty budget (Found list) = IsListAhead c fault good faulty list
+AheadHolds c fault good faulty budget (Found list) =
+    IsListAhead c forward_frames fault good faulty list
 AheadHolds c fault good faulty budget (Closed tokens) = IsClosedAhead c fault good faulty tokens
 AheadHolds c fault good faulty budget (Spent tokens) =
     IsSpentWalk (forward_window c fault forward_frames good faulty) budget tokens

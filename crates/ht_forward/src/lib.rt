@@ -1,9 +1,9 @@
-//! The searches forward: the sweep from all-unknown, and the propagation from a pair of states.
+//! The searches forward: the sweep, and the propagation from a pair of states.
 //!
 //! `sweep` searches the windows of 1 frame, 2 frames and so on, in which every latch begins unknown, with one budget
-//! for all of them. `propagate` searches the window of 16 frames that begins at a given state of each machine. A list
-//! that is found has the vectors up to the frame in which an output differs for certain, with 0 for each input that
-//! is undecided.
+//! for all of them; `sweep_on_from_bases` does so from a given state of each machine. `propagate` searches the window of
+//! 16 frames that begins at such a pair of states. A list that is found has the vectors up to the frame in which an
+//! output differs for certain, with 0 for each input that is undecided.
 //!
 //! The definitions stand in `specs/`: `AheadSearches` (the search of one window, and what its answer means) and
 //! `Sweeps` (the searches of a sweep, and what their answer means). Modules: `ahead` (one window), `propagation`
@@ -17,4 +17,4 @@ mod sweeping;
 
 pub use ahead::Ahead;
 pub use propagation::{propagate, propagate_from_bases};
-pub use sweeping::{Swept, sweep, sweep_from_bases};
+pub use sweeping::{Swept, sweep, sweep_from_bases, sweep_on_from_bases};

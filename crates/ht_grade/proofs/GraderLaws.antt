@@ -1,18 +1,22 @@
 -- What a grader's fields say of its value, and how they change as vectors are added.
-use Rattle.std.proofs.Common.{◌≡◌, ◌<◌, ◌^◌, ℕ, List, [], ◌∷◌, ◌++◌, Bool, true, Option, None, length, get_or, sym, ◌∙◌, ap, subst, arith}
-use Rattle.std.specs.Option.{ForSome}
-use Rattle.std.proofs.lemmas.List.{flat_map_more, get_or_read}
+use Rattle.std.proofs.Common.{◌≡◌, ◌<◌, ◌^◌, ℕ, List, [], ◌∷◌, ◌++◌, Bool, true, Option, Some, None, length, get_or, refl, sym, ◌∙◌, ap, subst, arith}
+use Rattle.std.specs.List.{slice_get}
+use Rattle.std.specs.Option.{ForSome, option_map}
+use Rattle.std.proofs.lemmas.List.{flat_map_more, get_or_read, length-map}
+use Rattle.std.proofs.lemmas.Option.{slice_get-map, slice_get-get_or}
 use Rattle.ht_tern.specs.declared.tern.Tern.{Tern}
 use Rattle.ht_net.specs.declared.fault.Fault.{Fault}
 use Rattle.ht_net.specs.declared.place.Place.{Place}
 use Rattle.ht_net.specs.Netlist.{Netlist}
-use Rattle.ht_net.specs.Detection.{ApartFrom, IsFirstFrom, IsPlace, IsStart}
+use Rattle.ht_net.specs.Detection.{ApartFrom, IsFirstFrom, IsPlace, IsStart, state_from}
 use Rattle.ht_net.specs.Rows.{Rows}
 use Rattle.ht_net.proofs.ApartLaws.{detected_apart_from}
+use Rattle.ht_net.proofs.MoreToldLaws.{state_is_start}
+use Rattle.ht_faults.specs.FaultList.{no_fault}
 use Rattle.ht_faults.specs.Sites.{faults_of}
 use Rattle.ht_collapse.specs.Classes.{AreClasses, fault_at, is_representative, own_representatives}
 use Rattle.ht_serial.specs.Places.{IsWithin}
-use Rattle.ht_proofs.specs.PackedView.{PackedView, GraderStandsFor, chosen_faults}
+use Rattle.ht_proofs.specs.PackedView.{PackedView, GraderStandsFor, chosen_faults, state_at, verdict_at}
 use Rattle.ht_grade.specs.Detections.{AreFirstDetections, AreWithin, place_at}
 use Rattle.ht_grade.specs.GraderView.{GraderView}
 use Rattle.ht_grade.specs.GraderOf.{all_vectors, grader_of, IsGraded, AreGraderFields}
@@ -90,3 +94,48 @@ is_graded v list count places machines classes latches is counted same faults st
   where
     stands_here : GraderStandsFor machines v.start v.list
     stands_here = subst (GraderStandsFor machines v.start) (sym is) stands
+
+-- ---- the states of the machines
+
+module _ (v : GraderView) (count : ℕ) (places : List (Option Place)) (machines : PackedView)
+    (kept : IsGraded v count places machines true) where
+  pub good_is : machines.latches ≡ state_from v.circuit None v.start v.list
+  good_is = subst (λ (n : Netlist). machines.latches ≡ state_from n None v.start v.list) kept.same (kept.stands refl).good
+
+  abbrev own : List ℕ
+  own = own_representatives v.representatives
+
+  -- a representative that isn't detected, by its place among all of them
+  module _ (i k : ℕ) (within : k < length own) (is : get_or own k 0 ≡ i)
+      (undetected : IsFirstFrom v.circuit (fault_at v.circuit i) v.start v.list None) where
+    abbrev fault : Fault
+    fault = fault_at v.circuit i
+
+    pub machine_there : k < length machines.faults
+    machine_there =
+        let count = ap (λ (l : List Fault). length l) kept.all_faults in
+        let each = length-map own (λ i. get_or (faults_of v.circuit) i no_fault) in
+        omega (arith, within, count, each)
+
+    machine_is : slice_get machines.faults k ≡ Some fault
+    machine_is = ap (λ (l : List Fault). slice_get l k) kept.all_faults
+        ∙ (slice_get-map (fault_at v.circuit) own k ∙ (ap (option_map (fault_at v.circuit)) (slice_get-get_or own k 0 within)
+        ∙ ap (λ (n : ℕ). Some (fault_at v.circuit n)) is))
+
+    -- what isn't detected has no verdict
+    none_seen : (place : Option Place) → IsFirstFrom v.circuit fault v.start v.list place → place ≡ None
+    none_seen None first = refl
+    none_seen (Some p) first = absurd (undetected p.vector p.output first.0)
+
+    pub verdict_none : verdict_at machines k ≡ None
+    verdict_none = none_seen (verdict_at machines k)
+        (subst (λ (n : Netlist). IsFirstFrom n fault v.start v.list (verdict_at machines k)) kept.same
+        ((kept.stands refl).first k fault machine_is))
+
+    pub faulty_is : state_at machines k ≡ state_from v.circuit (Some fault) v.start v.list
+    faulty_is = subst (λ (n : Netlist). state_at machines k ≡ state_from n (Some fault) v.start v.list) kept.same
+        ((kept.stands refl).state k fault machine_is verdict_none)
+
+    pub faulty_long : length (state_at machines k) ≡ length v.circuit.dffs
+    faulty_long = ap (λ (s : List Tern). length s) faulty_is
+        ∙ state_is_start v.circuit (Some fault) v.start v.list kept.latches

@@ -9,6 +9,7 @@ use Rattle.ht_faults.specs.Sites.{faults_of}
 use Rattle.ht_collapse.specs.Classes.{fault_at, is_representative}
 use Rattle.ht_serial.specs.Places.{IsWithin}
 
+-- the first detection of fault i, if it has one
 abbrev pub place_at : List (Option Place) → ℕ → Option Place
 place_at places i = get_or places i None
 

@@ -15,6 +15,7 @@ use Rattle.ht_grade.specs.declared.grader.Grader.TheInside.{Inside}
 abbrev pub all_vectors : List Rows → List (List Bool)
 all_vectors lists = flat_map (λ (rows : Rows). rows.list) lists
 
+-- the grader that the stored fields stand for
 abbrev pub grader_of : Inside → GraderView
 grader_of a = record {
   circuit = a.circuit.now;
@@ -35,5 +36,6 @@ pub record IsGraded (v : GraderView) (count : ℕ) (places : List (Option Place)
   pub all_faults : machines.faults ≡ chosen_faults (faults_of v.circuit) (own_representatives v.representatives)
   pub stands : live ≡ true → GraderStandsFor machines v.start v.list
 
+-- The stored fields have what the vectors so far show.
 abbrev pub AreGraderFields : Inside → Type 0
 AreGraderFields a = IsGraded (grader_of a) a.count a.places.items a.machines a.live

@@ -1,12 +1,12 @@
 //! First detections over a list of vectors that grows.
-ghost use Rattle.std.specs.Prelude.{◌≡◌, ◌<◌, ◌^◌, ◌++◌, [], true, length, IfOk, OnOk, OnErr};
+ghost use Rattle.std.specs.Prelude.{◌≡◌, ◌<◌, ◌^◌, ◌++◌, [], true, Some, None, length, IfOk, OnOk, OnErr};
 ghost use Rattle.std.specs.Option.{ForSome};
-ghost use Rattle.ht_net.specs.Detection.{ApartFrom, IsFirstFrom, IsPlace, IsStart, unknown_state};
+ghost use Rattle.ht_net.specs.Detection.{ApartFrom, IsFirstFrom, IsPlace, IsStart, state_from, unknown_state};
 ghost use Rattle.ht_faults.specs.Sites.{faults_of};
 ghost use Rattle.ht_collapse.specs.Classes.{AreClasses, fault_at, is_representative};
 ghost use Rattle.ht_serial.specs.Places.{IsWithin};
 
-use crate::packed::{apply_all, begin, places_of};
+use crate::packed::{apply_all, begin, faulty_latches, place_among, places_of};
 use ht_collapse::Classes;
 use ht_faults::FaultList;
 use ht_net::{Circuit, Place, Vectors, unknown_start};
@@ -171,5 +171,39 @@ impl<'c> Grader<'c> {
         // for the proof: the number of a vector fits 64 bits
         self.len();
         self.places[i as usize]
+    }
+
+    /// What each flip-flop of the good machine holds after the vectors so far.
+    ///
+    /// # Errors
+    /// Out of memory, be it that an earlier call was.
+    pub fn good_state(&self, alloc: Global) -> Result<Vec<Tern>, AllocError>
+        ensures { IfOk result (λ state. state.items
+            ≡ state_from self.now.circuit None self.now.start self.now.list) }
+    {
+        if !self.live {
+            return Err(AllocError);
+        }
+        Vec::from_slice(alloc, self.machines.good_latches())
+    }
+
+    /// What each flip-flop of the machine of fault `i` holds after the vectors so far. The fault represents its class,
+    /// and isn't detected.
+    ///
+    /// # Errors
+    /// Out of memory, be it that an earlier call was.
+    pub fn faulty_state(&self, alloc: Global, i: u32) -> Result<Vec<Tern>, AllocError>
+        requires fault { i < length (faults_of self.now.circuit) }
+        requires representative { is_representative self.now.representatives i ≡ true }
+        requires undetected { IsFirstFrom self.now.circuit (fault_at self.now.circuit i)
+            self.now.start self.now.list None }
+        ensures { IfOk result (λ state. state.items ≡ state_from self.now.circuit
+            (Some (fault_at self.now.circuit i)) self.now.start self.now.list) }
+    {
+        if !self.live {
+            return Err(AllocError);
+        }
+        let k = place_among(self.classes, i);
+        faulty_latches(alloc, &self.machines, k, self.circuit.dffs())
     }
 }

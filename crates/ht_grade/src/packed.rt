@@ -1,8 +1,8 @@
 //! The packed grader of the representatives of all classes.
-ghost use Rattle.std.specs.Prelude.{◌≡◌, ◌++◌, [], List, Bool, IfOk, OnOk};
+ghost use Rattle.std.specs.Prelude.{◌≡◌, ◌<◌, ◌++◌, [], List, Bool, true, None, length, get_or, IfOk, OnOk};
 ghost use Rattle.ht_faults.specs.Sites.{faults_of};
-ghost use Rattle.ht_collapse.specs.Classes.{AreClasses, own_representatives};
-ghost use Rattle.ht_proofs.specs.PackedView.{GraderStandsFor, chosen_faults};
+ghost use Rattle.ht_collapse.specs.Classes.{AreClasses, is_representative, own_representatives};
+ghost use Rattle.ht_proofs.specs.PackedView.{GraderStandsFor, chosen_faults, state_at, verdict_at};
 ghost use Rattle.ht_net.specs.Detection.{IsStart};
 ghost use Rattle.ht_tern.specs.declared.tern.Tern as tern;
 ghost use Rattle.ht_grade.specs.Detections.{AreFirstDetections, AreWithin};
@@ -88,4 +88,44 @@ pub fn places_of(
         places[*i as usize] = packed.verdict(k as u32);
     }
     Ok(places)
+}
+
+/// The place of fault `i` among the representatives of all classes: it represents its class.
+pub fn place_among(classes: &Classes, i: u32) -> u32
+    requires listed { i < length classes.now }
+    requires representative { is_representative classes.now i ≡ true }
+    ensures within { result < length (own_representatives classes.now) }
+    ensures own { get_or (own_representatives classes.now) result 0 ≡ i }
+{
+    // for the proof: the faults are fewer than 2^32
+    let _ = classes.len();
+    for (k, own) in classes.representatives().iter().enumerate() {
+        if *own == i {
+            return k as u32;
+        }
+    }
+    unreachable!()
+}
+
+/// What the `count` flip-flops of the machine of fault `k` hold, where the fault isn't detected.
+///
+/// # Errors
+/// Out of memory.
+pub fn faulty_latches(
+    alloc: Global,
+    packed: &Grader,
+    k: u32,
+    count: u32,
+) -> Result<Vec<Tern>, AllocError>
+    requires dffs { count ≡ length packed.now.circuit.dffs }
+    requires latches { length (state_at packed.now k) ≡ count }
+    requires fault { k < length packed.now.faults }
+    requires undetected { verdict_at packed.now k ≡ None }
+    ensures { IfOk result (λ latches. latches.items ≡ state_at packed.now k) }
+{
+    let mut latches = Vec::new(alloc);
+    for j in 0..count {
+        latches.push(packed.state(k, j))?;
+    }
+    Ok(latches)
 }

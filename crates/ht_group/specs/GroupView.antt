@@ -29,6 +29,7 @@ pub record GroupView : Type 0 where
 abbrev pub good_output : GroupView → ℕ → Tern
 good_output g o = get_or (frame_outputs g.circuit (tern_rules None) g.vector g.latches) o Unk
 
+-- what flip-flop j of the good machine takes at the end of the frame
 abbrev pub good_next : GroupView → ℕ → Tern
 good_next g j = get_or (next_state g.circuit (tern_rules None) g.vector g.latches) j Unk
 
@@ -36,6 +37,7 @@ good_next g j = get_or (next_state g.circuit (tern_rules None) g.vector g.latche
 abbrev pub faulty_output : GroupView → FaultyMachine → ℕ → Tern
 faulty_output g m o = get_or (frame_outputs g.circuit (tern_rules (Some m.fault)) g.vector m.latches) o Unk
 
+-- what flip-flop j of a faulty machine takes at the end of the frame
 abbrev pub faulty_next : GroupView → FaultyMachine → ℕ → Tern
 faulty_next g m j = get_or (next_state g.circuit (tern_rules (Some m.fault)) g.vector m.latches) j Unk
 
@@ -61,5 +63,6 @@ words_for n = (n + (lane_count - 1)) / lane_count
 abbrev pub max_words : ℕ
 max_words = 4
 
+-- the most faulty machines of a group
 abbrev pub max_machines : ℕ
 max_machines = 256

@@ -17,6 +17,7 @@ rules_at faults k = tern_rules (slice_get faults k)
 abbrev pub in_lane : ℕ → List Lanes → List Tern
 in_lane k words = map (λ (w : Lanes). lane w k) words
 
+-- what net x holds in lane k of some words
 abbrev pub lane_env : ℕ → List Lanes → ℕ → Tern
 lane_env k words x = get_or (in_lane k words) x Unk
 

@@ -105,6 +105,7 @@ pub record HasRunRoom (c : Netlist) (m : Machines) : Type 0 where
   pub sources : length m.sources.words ≡ first_gate_net c
   pub nets : length m.nets.good ≡ net_count c
 
+-- Each of the first words has room for a run.
 abbrev pub HaveRunRoom : Netlist → ℕ → List Machines → Type 0
 HaveRunRoom c used words = (w : ℕ) (d : Machines) → w < used → HasRunRoom c (get_or words w d)
 
@@ -144,5 +145,6 @@ pub record AreFirstChanged (used : ℕ) (P : Machines → Machines → Type 0) (
 abbrev pub HasOneMore : Netlist → Machines → FaultyMachine → Machines → Type 0
 HasOneMore c old one new = machines_of c new ≡ machines_of c old ++ one ∷ []
 
+-- The machines are the same ones as before.
 abbrev pub HasSame : Netlist → Machines → Machines → Type 0
 HasSame c old new = machines_of c new ≡ machines_of c old

@@ -11,6 +11,7 @@ use Rattle.ht_group.specs.GroupView.{FaultyMachine, GroupView}
 abbrev pub good_value : GroupView → ℕ → Tern
 good_value g x = net_value g.circuit (tern_rules None) g.vector g.latches x
 
+-- what net x of a faulty machine holds in the frame
 abbrev pub faulty_value : GroupView → FaultyMachine → ℕ → Tern
 faulty_value g m x = net_value g.circuit (tern_rules (Some m.fault)) g.vector m.latches x
 

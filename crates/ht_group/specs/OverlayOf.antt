@@ -3,6 +3,7 @@ use Rattle.std.specs.Prelude.{◌≡◌, ◌<◌, ◌^◌, ℕ, false, length, g
 use Rattle.ht_group.specs.Overlays.{IsGoodWord}
 use Rattle.ht_group.specs.declared.overlay.Overlay.TheInside.{Inside}
 
+-- Where no word was written, a net holds the good machine's value in each lane.
 pub record IsOverlay (a : Inside) : Type 0 where
   pub few : length a.good.items < 2 ^ 32
   pub count : length a.words.items ≡ length a.good.items

@@ -15,9 +15,11 @@ use Rattle.ht_group.specs.declared.stuck_lines.StuckLines.{StuckLines}
 abbrev pub gate_slot : Netlist → ℕ → ℕ
 gate_slot c g = net_count c + g
 
+-- the slot of flip-flop j's data pin in a table of stuck lines: after those of the nets and the gates
 abbrev pub dff_slot : Netlist → ℕ → ℕ
 dff_slot c j = net_count c + length c.gates + j
 
+-- how many slots a table of stuck lines has
 abbrev pub slot_count : Netlist → ℕ
 slot_count c = net_count c + length c.gates + length c.dffs
 

@@ -15,6 +15,7 @@ use Rattle.ht_invariant.specs.ClosingRounds.{AreClosingRounds}
 abbrev pub literal : ℕ → Bool → Literal
 literal dff value = record { dff = dff; value = value }
 
+-- a clause of one literal or two, without a walk
 abbrev pub clause_of : Literal → Option Literal → Clause
 clause_of first second = record { first = first; second = second; tokens = [] }
 
@@ -34,6 +35,7 @@ abbrev pub candidates_at : List Bool → ℕ → List Clause
 candidates_at state i = clause_of (literal i (get_or state i false)) None
     ∷ flat_map (of_two i) (range_with_len (i + 1) (min reach (length state - (i + 1))))
 
+-- the candidates of a state, flip-flop by flip-flop, in the order in which they are tried
 abbrev pub candidates_of : List Bool → List Clause
 candidates_of state = flat_map (candidates_at state) (range_with_len 0 (length state))
 
@@ -45,6 +47,7 @@ tried_frames = 64
 abbrev pub state_after : Netlist → List Bool → ℕ → List Bool
 state_after c state k = run_state c (bool_rules None) state (random_vectors c.inputs k 0)
 
+-- the states of the good machine along the random vectors, from the named one on
 abbrev pub tried_states : Netlist → List Bool → List (List Bool)
 tried_states c state = map (state_after c state) (range_with_len 0 (tried_frames + 1))
 

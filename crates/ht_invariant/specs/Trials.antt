@@ -24,9 +24,11 @@ clause_window w sought clauses = record { window = w; sought = sought_of sought;
 abbrev pub knows : Netlist → List Literal → Bool
 knows c literals = list_all (λ (literal : Literal). nat_lt literal.dff (length c.dffs)) literals
 
+-- what is sought speaks of the circuit's flip-flops alone
 abbrev pub knows_sought : Netlist → Sought → Bool
 knows_sought c Difference = true
 knows_sought c (Breach first second) = knows c (first ∷ second_of second)
 
+-- each clause speaks of the circuit's flip-flops alone
 abbrev pub knows_each : Netlist → List Clause → Bool
 knows_each c clauses = list_all (λ (clause : Clause). knows c (literals_of clause)) clauses

@@ -14,10 +14,10 @@ use Rattle.ht_texts.specs.declared.item.Item.{Item}
 use Rattle.ht_texts.specs.declared.item.Item.TheVariants.{Head, Verdict, Member, Total}
 use Rattle.ht_texts.specs.declared.malformed_line.MalformedLine.{MalformedLine}
 use Rattle.ht_texts.specs.declared.said.Said.{Said}
-use Rattle.ht_texts.specs.declared.said.Said.TheVariants.{Detected, Untestable, Aborted, Undetected}
+use Rattle.ht_texts.specs.declared.said.Said.TheVariants.{Detected, Untestable, Undetectable, Aborted, Undetected}
 use Rattle.ht_texts.specs.Verdicts.{said_at}
 use Rattle.ht_texts.specs.SearchReports.{IsBudget, IsSearchReport}
-use Rattle.ht_texts.specs.ReportReading.{ReportReading, before_report, in_report, after_report, ReportReadsTo, IsReportReading, fault_item, last_item, read_on}
+use Rattle.ht_texts.specs.ReportReading.{ReportReading, before_report, in_report, after_report, ReportReadsTo, IsReportReading, last_item, read_on}
 use Rattle.ht_texts.specs.ReportStands.{EndsReport, ReportView, ReportStands, ReportCalled, new_report}
 use Rattle.ht_texts.proofs.SaidLaws.{said_before, said_last}
 use Rattle.ht_texts.proofs.ReadingLaws.{last_item_push, length-in_report}
@@ -75,24 +75,28 @@ agrees_with_tests : (c : Netlist) (start : List Tern) (list : List (List Bool)) 
 agrees_with_tests c start list i (Some p) (Detected q) is same =
     subst (λ x. IsFirstFrom c (fault_at c i) start list (Some x)) same is
 agrees_with_tests c start list i (Some p) Untestable is agrees = absurd agrees
+agrees_with_tests c start list i (Some p) Undetectable is agrees = absurd agrees
 agrees_with_tests c start list i (Some p) Aborted is agrees = absurd agrees
 agrees_with_tests c start list i (Some p) Undetected is agrees = absurd agrees
 agrees_with_tests c start list i None (Detected q) is agrees = absurd agrees
 agrees_with_tests c start list i None Untestable is agrees = is
+agrees_with_tests c start list i None Undetectable is agrees = is
 agrees_with_tests c start list i None Aborted is agrees = is
-agrees_with_tests c start list i None Undetected is agrees = absurd agrees
+agrees_with_tests c start list i None Undetected is agrees = is
 
 agrees_with_place : (c : Netlist) (start : List Tern) (list : List (List Bool)) (i : ℕ) (place : Option Place)
     (said : Said)
     → IsFirstFrom c (fault_at c i) start list place → AgreesWithTests c start list i said → AgreesWithPlace place said
 agrees_with_place c start list i (Some p) (Detected q) is agrees = one_place c (fault_at c i) start list p q is agrees
 agrees_with_place c start list i (Some p) Untestable is agrees = absurd (agrees p.vector p.output is.0)
+agrees_with_place c start list i (Some p) Undetectable is agrees = absurd (agrees p.vector p.output is.0)
 agrees_with_place c start list i (Some p) Aborted is agrees = absurd (agrees p.vector p.output is.0)
-agrees_with_place c start list i (Some p) Undetected is agrees = absurd agrees
+agrees_with_place c start list i (Some p) Undetected is agrees = absurd (agrees p.vector p.output is.0)
 agrees_with_place c start list i None (Detected q) is agrees = absurd (is q.vector q.output agrees.0)
 agrees_with_place c start list i None Untestable is agrees = tt
+agrees_with_place c start list i None Undetectable is agrees = tt
 agrees_with_place c start list i None Aborted is agrees = tt
-agrees_with_place c start list i None Undetected is agrees = absurd agrees
+agrees_with_place c start list i None Undetected is agrees = tt
 
 -- ---- what the next line says
 
@@ -153,7 +157,7 @@ module _ (c : Netlist) (representatives : List ℕ) (before : List (List ℕ)) (
       let here = own_item (is_representative representatives (length s)) (length s) k said said
       (sym (last_item_push representatives b s said) ∙ says) in
       let same : length s ≡ length saids = ap length (sym kept.1) in
-      let listed = new.readable.saids_are.listed in
+      let listed = new.readable.listed in
       record {
         number = sym here.1 ∙ same;
         own = ap (is_representative representatives) (sym here.1) ∙ here.0;

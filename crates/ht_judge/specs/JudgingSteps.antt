@@ -1,14 +1,17 @@
 -- What the calls that a line of proofs makes find: of the entry that it ends, and of the entries that are due with it.
-use Rattle.std.specs.Prelude.{◌≡◌, ◌<◌, ◌≤◌, ◌-◌, ℕ, List, [], true, length, min, Option, Some, None, Result, Ok, Err, IsOk}
+use Rattle.std.specs.Prelude.{◌≡◌, ◌≢◌, ◌<◌, ◌≤◌, ◌+◌, ◌-◌, ℕ, List, [], Bool, true, false, length, min, Option, Some, None, Result, Ok, Err, IsOk}
 use Rattle.ht_collapse.specs.Classes.{is_representative}
 use Rattle.ht_texts.specs.declared.said.Said.{Said}
+use Rattle.ht_texts.specs.declared.said.Said.TheVariants.{Detected}
 use Rattle.ht_texts.specs.Verdicts.{said_at}
 use Rattle.ht_entries.specs.declared.numbered.Numbered.{Numbered}
 use Rattle.ht_entries.specs.declared.reader_state.Stand.{Stand}
 use Rattle.ht_entries.specs.declared.reader_state.Stand.TheVariants.{Head, Entry, End}
 use Rattle.ht_entries.specs.declared.text_error.TextError.{TextError}
 use Rattle.ht_entries.specs.declared.text_error.TextError.TheVariants as read
-use Rattle.ht_valid.specs.ValidFiles.{Content, IsBacking, NeedsEntry}
+use Rattle.ht_tree.specs.declared.kind.EntryKind.{EntryKind}
+use Rattle.ht_tree.specs.Entries.{kind_of}
+use Rattle.ht_valid.specs.ValidFiles.{Content, IsBacking, NeedsEntry, said_by_kind}
 use Rattle.ht_valid.specs.declared.trouble.Trouble.TheVariants.{Proofs, Fault}
 use Rattle.ht_judge.specs.declared.judge_error.JudgeError.{JudgeError}
 use Rattle.ht_judge.specs.declared.judge_error.JudgeError.TheVariants.{Denied, NoMemory}
@@ -19,17 +22,36 @@ abbrev pub stopped_by : TextError → JudgeError
 stopped_by (read.BadText line) = Denied (Proofs line)
 stopped_by read.NoMemory = NoMemory
 
--- ---- the entry that a line ends
-
--- the start and what the report says, with no vectors and no entries
-abbrev pub claimed : ProofJudgeView → Content
-claimed v = record { start = v.start; list = []; budget = v.budget; saids = v.saids; entries = [] }
+-- ---- what a judge takes from an entry
 
 -- a number, from 1, is that of a representative
 pub record IsOwnNumber (representatives : List ℕ) (number : ℕ) : Type 0 where
   pub counted : (0 < number) × (number ≤ length representatives)
   pub own : is_representative representatives (number - 1) ≡ true
 
+-- What is said of a fault once its entry of this kind is whole: that it is detected stays, and else it is what the entry
+-- says.
+abbrev pub said_with : EntryKind → Said → Said
+said_with kind (Detected place) = Detected place
+said_with kind said = said_by_kind kind
+
+-- The verdict of the entry's fault is the one that comes with the entry, and all others are as before.
+pub record TakesVerdict (e : Numbered) (old new : List Said) : Type 0 where
+  pub taken : said_at new (e.number - 1) ≡ said_with (kind_of e.entry) (said_at old (e.number - 1))
+  pub others : (i : ℕ) → i + 1 ≢ e.number → said_at new i ≡ said_at old i
+
+-- Where the line ended an entry of a representative, its verdict is taken; where it ended none, nothing changes.
+abbrev pub FollowsEnded : List ℕ → Option Numbered → List Said → List Said → Type 0
+FollowsEnded representatives None old new = new ≡ old
+FollowsEnded representatives (Some e) old new = IsOwnNumber representatives e.number → TakesVerdict e old new
+
+-- ---- the entry that a line ends
+
+-- the start, the budget and the verdicts, with no vectors and no entries
+abbrev pub claimed : ProofJudgeView → Content
+claimed v = record { start = v.start; list = []; budget = v.budget; saids = v.saids; entries = [] }
+
+-- The entry doesn't back what is said of its fault, or memory ran out.
 abbrev pub DeniesEntry : ProofJudgeView → Numbered → JudgeError → Type 0
 DeniesEntry v e (Denied (Fault number)) =
     (number ≡ e.number) × (¬ IsBacking v.circuit v.representatives (claimed v) e)
@@ -54,7 +76,12 @@ due_of Head count = 0
 due_of (Entry number) count = min (number - 1) count
 due_of End count = count
 
--- the number of the last entry that was begun
+-- No entry is due where the verdicts follow the proofs.
+abbrev pub due_by : Bool → Stand → ℕ → ℕ
+due_by true stand count = 0
+due_by false stand count = due_of stand count
+
+-- the number of the last entry that was begun, after a line
 abbrev pub begun_by : Stand → ℕ → ℕ
 begun_by Head before = before
 begun_by (Entry number) before = number
@@ -71,6 +98,7 @@ pub record IsFirstNeeded (representatives : List ℕ) (saids : List Said) (from 
   pub needed : IsNeeded representatives saids i
   pub first : (k : ℕ) → from ≤ k → k < i → ¬ IsNeeded representatives saids k
 
+-- The least entry that is needed from the last one that was begun on is denied.
 abbrev pub DeniesDue : ProofJudgeView → ℕ → JudgeError → Type 0
 DeniesDue v due (Denied (Fault number)) =
     (0 < number) × IsFirstNeeded v.representatives v.saids v.begun due (number - 1)

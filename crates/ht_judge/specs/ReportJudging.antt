@@ -7,7 +7,7 @@ use Rattle.ht_collapse.specs.Classes.{is_representative}
 use Rattle.ht_texts.specs.declared.item.Item.{Item}
 use Rattle.ht_texts.specs.declared.item.Item.TheVariants.{Head, Verdict, Member, Total}
 use Rattle.ht_texts.specs.declared.said.Said.{Said}
-use Rattle.ht_texts.specs.declared.said.Said.TheVariants.{Detected, Untestable, Aborted, Undetected}
+use Rattle.ht_texts.specs.declared.said.Said.TheVariants.{Detected, Undetected}
 use Rattle.ht_texts.specs.declared.total.Sums.{Sums}
 use Rattle.ht_texts.specs.Verdicts.{said_at}
 use Rattle.ht_texts.specs.SearchReports.{IsReportFront, IsSearchReport}
@@ -20,6 +20,7 @@ use Rattle.ht_valid.specs.declared.trouble.Trouble.TheVariants.{Report}
 use Rattle.ht_judge.specs.declared.judge_error.JudgeError.{JudgeError}
 use Rattle.ht_judge.specs.declared.judge_error.JudgeError.TheVariants.{Denied, NoMemory}
 
+-- What a judge of reports keeps.
 pub record ReportJudgeView : Type 0 where
   pub circuit : Netlist
   pub representatives : List ℕ
@@ -56,9 +57,9 @@ budget_with Total before = before
 -- what is said agrees with the first detection, or with none
 abbrev pub AgreesWithPlace : Option Place → Said → Type 0
 AgreesWithPlace (Some place) (Detected said) = place ≡ said
-AgreesWithPlace None Untestable = Unit {0}
-AgreesWithPlace None Aborted = Unit {0}
-AgreesWithPlace place said = ⊥
+AgreesWithPlace (Some place) said = ⊥
+AgreesWithPlace None (Detected said) = ⊥
+AgreesWithPlace None said = Unit {0}
 
 -- what a line says agrees with the first detections
 abbrev pub AgreesWithPlaces : List (Option Place) → Item → Type 0

@@ -18,8 +18,8 @@ use ht_valid::Trouble;
 use std::alloc::{AllocError, Global};
 use std::marker::Model;
 
-/// What a report says: the budget, and what it says of each fault by number from 0. Of a fault that doesn't represent
-/// its class it says nothing that has an effect.
+/// What a report says or may say: the budget, and what it says of each fault by number from 0. Of a fault that doesn't
+/// represent its class it says nothing that has an effect.
 #[derive(Drop)]
 pub struct Claims {
     pub budget: u64,
@@ -78,11 +78,11 @@ fn agrees_with(place: Option<Place>, said: Said) -> bool
     match place {
         Some(place) => match said {
             Said::Detected(at) => place == at,
-            Said::Untestable | Said::Aborted | Said::Undetected => false,
+            Said::Untestable | Said::Undetectable | Said::Aborted | Said::Undetected => false,
         },
         None => match said {
-            Said::Untestable | Said::Aborted => true,
-            Said::Detected(_) | Said::Undetected => false,
+            Said::Untestable | Said::Undetectable | Said::Aborted | Said::Undetected => true,
+            Said::Detected(_) => false,
         },
     }
 }

@@ -15,6 +15,7 @@ pub record BackState : Type 0 where
   pub above : List (List Assign3)
   pub decisions : List Assign3
 
+-- how far a search back has come, by its stored fields
 abbrev pub back_state : Inside → BackState
 back_state a = record {
   first = back_window a.circuit.now a.cube.now a.limit;
@@ -32,5 +33,6 @@ pub record IsStacked (a : Inside) : Type 0 where
 abbrev pub node_here : BackState → Node
 node_here s = node_of (steps_under s.above s.decisions)
 
+-- the vectors that a search back found, the earliest first
 abbrev pub found_list : BackState → Rows
 found_list s = record { width = s.first.circuit.inputs; list = back_list s.first.circuit (node_here s) }

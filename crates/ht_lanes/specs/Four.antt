@@ -7,6 +7,7 @@ use Rattle.ht_lanes.specs.Rows.{AreApart, lanes_of}
 abbrev pub IsEach1 : (Lanes → Lanes) → List Lanes → List Lanes → Type 0
 IsEach1 op v result = (i : ℕ) → i < 4 → word_at result i ≡ op (word_at v i)
 
+-- Each of the four words of the result is that of an operation on the words at its place.
 abbrev pub IsEach2 : (Lanes → Lanes → Lanes) → List Lanes → List Lanes → List Lanes → Type 0
 IsEach2 op v w result = (i : ℕ) → i < 4 → word_at result i ≡ op (word_at v i) (word_at w i)
 

@@ -26,6 +26,7 @@ not_both (suc zero) (suc zero) h k m = cc
 not_both (suc zero) (suc (suc y)) h k m = absurd (omega (arith, k))
 not_both (suc (suc x)) y h k m = absurd (omega (arith, h))
 
+-- Two words without a common bit aren't both set at bit k.
 pub apart_at : (zeros ones k : ℕ) → bit_and zeros ones ≡ 0 → (is_set zeros k && is_set ones k) ≡ false
 apart_at zeros ones k h = not_both _ _ (bit_at-lt zeros k) (bit_at-lt ones k) (sym (bit_at_and zeros ones k)
     ∙ (ap (λ n. bit_at n k) h ∙ bit_at-zero k))
@@ -34,6 +35,7 @@ apart_at zeros ones k h = not_both _ _ (bit_at-lt zeros k) (bit_at-lt ones k) (s
 pub lane_of_each : (f : ℕ → Tern) (k : ℕ) → k < 64 → lane (each_lane f) k ≡ f k
 lane_of_each f k h = get_or-map-range_with_len f 0 64 k k Unk h (omega arith)
 
+-- Lane k below 64 of two words has the value that their bits k stand for.
 pub lane_is : (zeros ones k : ℕ) → k < 64 → lane (lanes_of zeros ones) k ≡ lane_value zeros ones k
 unfolding lanes_of
 lane_is zeros ones k h = lane_of_each (lane_value zeros ones) k h

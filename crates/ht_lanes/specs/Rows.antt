@@ -25,6 +25,7 @@ is_zero Zero = true
 is_zero One = false
 is_zero Unk = false
 
+-- the value is 1 for certain
 abbrev pub is_one : Tern → Bool
 is_one Zero = false
 is_one One = true
@@ -34,5 +35,6 @@ is_one Unk = false
 abbrev pub zero_bits_of : Lanes → ℕ
 zero_bits_of w = mask_l (map is_zero w)
 
+-- the number with bit k set exactly where lane k holds 1
 abbrev pub one_bits_of : Lanes → ℕ
 one_bits_of w = mask_l (map is_one w)

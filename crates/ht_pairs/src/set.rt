@@ -2,7 +2,7 @@
 ghost use Rattle.std.specs.Prelude.{◌≡◌, ◌+◌, ◌*◌, ◌<◌, ◌≤◌, ◌⊎◌, ◌↔◌, IsTrue, [], ◌∷◌, length, Some, None};
 ghost use Rattle.std.specs.List.{list_all, list_any};
 ghost use Rattle.ht_tern.specs.declared.tern.Tern.TheVariants.{Zero, One, Unk};
-ghost use Rattle.ht_pairs.specs.Pairs.{IsMember, MayDiffer, MustDiffer, differs, pair, stuck_set};
+ghost use Rattle.ht_pairs.specs.Pairs.{IsMember, MayDiffer, MustDiffer, differs, pair, set_of, stuck_set};
 ghost use Rattle.ht_pairs.specs.Members.{bit_of, tern_index};
 ghost use Rattle.ht_pairs.specs.Decided.{each_pair, same_pairs};
 ghost use Rattle.ht_pairs.specs.Included.{Includes, joined_set};
@@ -206,7 +206,7 @@ impl PairSet {
         self.bits | other.bits == self.bits
     }
 
-    /// The members of both sets: no more than nine, and more than this set has unless it includes the other.
+    /// The union of two sets: no more than nine pairs, and more than this set has unless it includes the other.
     pub fn join(self, other: PairSet) -> PairSet
         ensures members { result ≡ joined_set self other }
         ensures grows { (result ≡ self) ⊎ (length self < length result) }
@@ -215,6 +215,15 @@ impl PairSet {
         PairSet {
             bits: self.bits | other.bits,
         }
+    }
+
+    /// A law: a set lists each of its members once, in the order of all pairs. So a set has one list, and no other set
+    /// has that list.
+    pub fn is_listed_in_order(self)
+        ensures { self ≡ set_of self }
+    {
+        // for the proof: the bits say in which order the members stand
+        let _ = &self.bits;
     }
 
     /// Whether some member has opposite definite values.

@@ -1,6 +1,6 @@
 -- One value for each port.
 use Rattle.ht_ports.specs.declared.ports.InPort.{InPort}
-use Rattle.ht_ports.specs.declared.ports.InPort.TheVariants.{Netlist, Tests, Report, Proofs, Extra}
+use Rattle.ht_ports.specs.declared.ports.InPort.TheVariants.{Netlist, Tests, Report, Proofs, Faults, Extra}
 use Rattle.ht_ports.specs.declared.ports.OutPort.{OutPort}
 use Rattle.ht_ports.specs.declared.ports.OutPort.TheVariants as out_port
 use Rattle.ht_ports.specs.declared.per_port.PerInPort.{PerInPort}
@@ -12,6 +12,7 @@ at_in_port values Netlist = values.netlist
 at_in_port values Tests = values.tests
 at_in_port values Report = values.report
 at_in_port values Proofs = values.proofs
+at_in_port values Faults = values.faults
 at_in_port values Extra = values.extra
 
 -- the value of a port that is written

@@ -14,6 +14,7 @@ pub struct PerInPort<T> {
     pub tests: T,
     pub report: T,
     pub proofs: T,
+    pub faults: T,
     pub extra: T,
 }
 
@@ -27,6 +28,7 @@ impl<T: Copy> PerInPort<T> {
             tests: value,
             report: value,
             proofs: value,
+            faults: value,
             extra: value,
         }
     }
@@ -42,6 +44,7 @@ impl<T> PerInPort<Option<T>> {
             tests: None,
             report: None,
             proofs: None,
+            faults: None,
             extra: None,
         }
     }
@@ -57,6 +60,7 @@ impl<T> PerInPort<T> {
             InPort::Tests => &self.tests,
             InPort::Report => &self.report,
             InPort::Proofs => &self.proofs,
+            InPort::Faults => &self.faults,
             InPort::Extra => &self.extra,
         }
     }
@@ -72,6 +76,7 @@ impl<T> PerInPort<T> {
             InPort::Tests => mem::replace(&mut self.tests, value),
             InPort::Report => mem::replace(&mut self.report, value),
             InPort::Proofs => mem::replace(&mut self.proofs, value),
+            InPort::Faults => mem::replace(&mut self.faults, value),
             InPort::Extra => mem::replace(&mut self.extra, value),
         }
     }

@@ -27,6 +27,7 @@ pub record PackedView : Type 0 where
 abbrev pub verdict_at : PackedView → ℕ → Option Place
 verdict_at g k = get_or g.verdicts k None
 
+-- the latches of fault k after the vectors so far
 abbrev pub state_at : PackedView → ℕ → List Tern
 state_at g k = get_or g.states k []
 

@@ -244,6 +244,13 @@ impl<'c> Grader<'c> {
         self.verdicts[k as usize]
     }
 
+    /// What the flip-flops of the good machine hold after the vectors so far.
+    pub fn good_latches(&self) -> &[Tern]
+        ensures { result.now ≡ self.now.latches }
+    {
+        &self.latches
+    }
+
     /// What flip-flop `j` of the machine of fault `k` holds after the vectors so far, where the fault isn't detected.
     pub fn state(&self, k: u32, j: u32) -> Tern
         requires fault { k < length self.now.faults }

@@ -1,12 +1,12 @@
 //! The text of responses.
 ghost use Rattle.std.specs.Prelude.{◌≡◌, List, IfOk, length};
 ghost use Rattle.ht_texts.specs.Lines.{with_lf};
-ghost use Rattle.ht_dictionary.specs.ResponseTexts.{row_text, tern_code};
+ghost use Rattle.ht_dictionary.specs.ResponseTexts.{row_text};
 ghost use Rattle.ht_responses.specs.Responses.{last_row, response_text, responses_line, rows_but_last};
 
 use ht_dictionary::Observation;
 use ht_tern::Tern;
-use ht_texts::push_number;
+use ht_texts::{push_number, tern_character};
 use std::alloc::{AllocError, Global};
 
 /// The text of responses without its last line: the line of each row but the last, as `10X`, with its LF. Without rows
@@ -65,18 +65,10 @@ pub fn write_response_total(
 fn write_row(alloc: Global, row: &[Tern]) -> Result<Vec<u8>, AllocError>
     ensures { IfOk result (λ line. line.items ≡ with_lf (row_text row.now)) }
 {
-    let mut line: Vec<u8> = row.iter().map(|value| character_of(*value)).collect(alloc)?;
+    let mut line: Vec<u8> = row
+        .iter()
+        .map(|value| tern_character(*value))
+        .collect(alloc)?;
     line.extend_from_slice(b"\n")?;
     Ok(line)
-}
-
-// The character of a value, `0`, `1` or `X`.
-fn character_of(value: Tern) -> u8
-    ensures { result ≡ tern_code value }
-{
-    match value {
-        Tern::Zero => b'0',
-        Tern::One => b'1',
-        Tern::Unk => b'X',
-    }
 }

@@ -22,6 +22,7 @@ windows_entered [] = 0
 windows_entered (Decides a ∷ older) = windows_entered older
 windows_entered (Enters ∷ older) = windows_entered older + 1
 
+-- how many decisions came since the last window was entered
 abbrev pub last_decided : List Step → ℕ
 last_decided [] = 0
 last_decided (Decides a ∷ older) = last_decided older + 1
@@ -35,10 +36,12 @@ point_of steps = record { level = windows_entered steps; mark = last_decided ste
 abbrev pub stop_of : List Step → Stop
 stop_of steps = record { point = point_of steps; node = node_of steps }
 
+-- where the route stood before each of its steps, the latest first
 abbrev pub stops_before : List Step → List Stop
 stops_before [] = []
 stops_before (s ∷ older) = stop_of older ∷ stops_before older
 
+-- where steps lead, and where they stood before
 abbrev pub route_of : List Step → Route
 route_of steps = record { here = stop_of steps; earlier = stops_before steps }
 
@@ -46,9 +49,11 @@ route_of steps = record { here = stop_of steps; earlier = stops_before steps }
 abbrev pub steps_of : List Assign3 → List Step
 steps_of decisions = map Decides (reverse decisions)
 
+-- the steps that lead through the windows above, with their decisions
 abbrev pub steps_above : List (List Assign3) → List Step
 steps_above [] = []
 steps_above (decisions ∷ above) = Enters ∷ steps_of decisions ++ steps_above above
 
+-- the steps that lead through the windows above, and then these decisions
 abbrev pub steps_under : List (List Assign3) → List Assign3 → List Step
 steps_under above decisions = steps_of decisions ++ steps_above (reverse above)

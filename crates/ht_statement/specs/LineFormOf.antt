@@ -4,6 +4,7 @@ use Rattle.ht_statement.specs.declared.form.LineForm.TheVariants.{Blank as Borro
 use Rattle.ht_statement.specs.LineForm.{LineForm, blank_form, input_form, output_form, definition_form}
 use Rattle.ht_statement.specs.StatementOf.{texts_of}
 
+-- the form of a line that a stored one stands for
 abbrev pub form_meant : Borrowed → LineForm
 form_meant BorrowedBlank = blank_form
 form_meant (BorrowedInput name) = input_form name.now

@@ -12,6 +12,7 @@ use Rattle.ht_statement.specs.declared.error.LineRefusal.TheVariants.{BadLine, B
 use Rattle.ht_statement.specs.declared.error.StatementError.{StatementError}
 use Rattle.ht_statement.specs.declared.error.StatementError.TheVariants.{Refused, NoMemory}
 
+-- what the reading of a line comes to
 pub data Reading : Type 0 where
   stated : Statement → Reading
   unreadable : LineRefusal → Reading
@@ -40,6 +41,7 @@ abbrev pub tokens_reading : Option LineForm → Reading
 tokens_reading None = unreadable BadLine
 tokens_reading (Some form) = form_reading form
 
+-- what a line states, or why it is refused
 abbrev pub reading_of : List ℕ → Reading
 reading_of line = tokens_reading (form_of (tokens_of line))
 

@@ -9,6 +9,7 @@ use Rattle.ht_statement.specs.Statement.{Statement, blank_line, input_line, outp
 abbrev pub texts_of : List (Bor (List ℕ)) → List (List ℕ)
 texts_of texts = map (λ t. t.now) texts
 
+-- the statement that a stored one stands for
 abbrev pub statement_of : Borrowed → Statement
 statement_of BorrowedNothing = blank_line
 statement_of (BorrowedInput name) = input_line name.now

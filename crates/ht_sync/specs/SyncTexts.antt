@@ -32,6 +32,7 @@ last_sync_line (Spent walks) = codes "spent"
 abbrev pub sync_body : ℕ → ℕ → Synchronized → List ℕ
 sync_body latches budget answer = with_lfs (first_sync_lines latches budget answer)
 
+-- the whole text of an answer
 abbrev pub sync_text : ℕ → ℕ → Synchronized → List ℕ
 sync_text latches budget answer = sync_body latches budget answer ++ with_lf (last_sync_line answer)
 

@@ -32,6 +32,7 @@ last_set w path j = get_or (latches_at w path w.frames) j (pair Unk Unk ∷ [])
 abbrev pub may_be_unknown : List Pair → Bool
 may_be_unknown set = is_member (pair Unk Unk) set
 
+-- the net is unknown for certain
 abbrev pub must_be_unknown : List Pair → Bool
 must_be_unknown set = may_be_unknown set && not (is_undetermined set)
 
@@ -56,5 +57,6 @@ sync_choice w path =
 abbrev pub sync_goal : SearchWindow → Goal
 sync_goal w = goal_in w (sync_status w) (sync_choice w)
 
+-- the guide of the search for a synchronizing list of so many vectors
 abbrev pub sync_guide : Netlist → ℕ → Guide
 sync_guide c frames = guide_to (sync_goal (sync_window c frames))

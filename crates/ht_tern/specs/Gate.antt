@@ -11,6 +11,7 @@ complement_of Zero = One
 complement_of One = Zero
 complement_of Unk = Unk
 
+-- conjunction of two values by Kleene's strong logic: 0 where one is 0, 1 where both are 1, else unknown
 abbrev pub and_of : Tern → Tern → Tern
 and_of Zero b = Zero
 and_of One b = b
@@ -18,6 +19,7 @@ and_of Unk Zero = Zero
 and_of Unk One = Unk
 and_of Unk Unk = Unk
 
+-- disjunction of two values by Kleene's strong logic: 1 where one is 1, 0 where both are 0, else unknown
 abbrev pub or_of : Tern → Tern → Tern
 or_of One b = One
 or_of Zero b = b
@@ -25,11 +27,13 @@ or_of Unk One = One
 or_of Unk Zero = Unk
 or_of Unk Unk = Unk
 
+-- exclusive or of two values: unknown where one is unknown
 abbrev pub xor_of : Tern → Tern → Tern
 xor_of Unk b = Unk
 xor_of Zero b = b
 xor_of One b = complement_of b
 
+-- exclusive or of two bits
 abbrev pub bool_xor : Bool → Bool → Bool
 bool_xor false b = b
 bool_xor true b = not b
@@ -41,9 +45,11 @@ pub record Operations (V : Type 0) : Type 0 where
   pub disjunction : V → V → V
   pub parity : V → V → V
 
+-- the operations of three-valued logic (Kleene)
 abbrev pub tern_operations : Operations Tern
 tern_operations = record { complement = complement_of; conjunction = and_of; disjunction = or_of; parity = xor_of }
 
+-- the operations of two-valued logic
 abbrev pub bool_operations : Operations Bool
 bool_operations = record {
   complement = not;
@@ -75,6 +81,7 @@ inverts kind = false
 abbrev pub polarity_of : {V : Type 0} → Operations V → Kind → V → V
 polarity_of o kind = if inverts kind then o.complement else λ a. a
 
+-- an operation over a value and then each value of a list, from the left
 abbrev pub folded : {V : Type 0} → (V → V → V) → V → List V → V
 folded op a [] = a
 folded op a (b ∷ bs) = folded op (op a b) bs
@@ -88,6 +95,7 @@ gate_value_over o blank kind (a ∷ more) = polarity_of o kind (folded (operatio
 abbrev pub gate_value : Kind → List Tern → Tern
 gate_value kind args = gate_value_over tern_operations Unk kind args
 
+-- what a gate gives on bits
 abbrev pub bool_gate_value : Kind → List Bool → Bool
 bool_gate_value kind args = gate_value_over bool_operations false kind args
 

@@ -9,11 +9,11 @@ use Rattle.ht_collapse.specs.Classes.{is_representative}
 use Rattle.ht_texts.specs.declared.item.Item.{Item}
 use Rattle.ht_texts.specs.declared.item.Item.TheVariants.{Head, Verdict, Member, Total}
 use Rattle.ht_texts.specs.declared.said.Said.{Said}
-use Rattle.ht_texts.specs.declared.said.Said.TheVariants.{Detected, Untestable, Aborted, Undetected}
+use Rattle.ht_texts.specs.declared.said.Said.TheVariants.{Detected, Untestable, Undetectable, Aborted, Undetected}
 use Rattle.ht_texts.specs.declared.total.Sums.{Sums}
-use Rattle.ht_texts.specs.Verdicts.{place_text, verdict_text}
+use Rattle.ht_texts.specs.Verdicts.{IsSayable, place_text, says_detected, verdict_text}
 use Rattle.ht_texts.specs.Reports.{head_line, fault_line, total_line}
-use Rattle.ht_texts.specs.SearchReports.{IsBudget, IsSearched}
+use Rattle.ht_texts.specs.SearchReports.{IsBudget}
 use Rattle.ht_texts.specs.ReportLines.{SaysItem}
 
 -- the first line says nothing where no budget has it
@@ -25,10 +25,10 @@ no_head c representatives n sums line first none (Verdict i said) says = omega (
 no_head c representatives n sums line first none (Member i) says = omega (arith, first, says.0)
 no_head c representatives n sums line first none Total says = omega (arith, first, says.0)
 
--- the line of fault i says nothing where nothing that a search says has it
+-- the line of fault i says nothing where nothing that may be said has it
 pub no_fault_line : (c : Netlist) (representatives : List ℕ) (i : ℕ) (sums : Sums) (line : List ℕ)
     → i < length (faults_of c)
-    → ((said : Said) → (is_representative representatives i ≡ true → IsSearched c said)
+    → ((said : Said) → (is_representative representatives i ≡ true → IsSayable c said)
     → line ≢ fault_line c representatives i said)
     → (item : Item) → ¬ SaysItem c representatives (i + 1) sums line item
 no_fault_line c representatives i sums line inside none (Head budget) says = omega (arith, says.0)
@@ -54,11 +54,31 @@ no_total c representatives n sums line after none Total says = none says.0 says.
 
 -- ---- verdicts
 
--- a text that is none of the three verdicts of a search is that of none
-pub no_verdict : (c : Netlist) (text : List ℕ) → text ≢ codes "untestable" → text ≢ codes "aborted"
+-- a verdict that is a word may be said
+pub word_is_sayable : (c : Netlist) (said : Said) → says_detected said ≡ false → IsSayable c said
+word_is_sayable c (Detected place) other = cc
+word_is_sayable c Untestable other = tt
+word_is_sayable c Undetectable other = tt
+word_is_sayable c Aborted other = tt
+word_is_sayable c Undetected other = tt
+
+-- a text that is none of the words is that of none of their verdicts
+pub no_word : (c : Netlist) (text : List ℕ) → text ≢ codes "untestable" → text ≢ codes "undetectable"
+    → text ≢ codes "aborted" → text ≢ codes "undetected" → (said : Said) → says_detected said ≡ false
+    → text ≢ verdict_text c said
+no_word c text untestable undetectable aborted undetected (Detected place) other e = cc
+no_word c text untestable undetectable aborted undetected Untestable other e = untestable e
+no_word c text untestable undetectable aborted undetected Undetectable other e = undetectable e
+no_word c text untestable undetectable aborted undetected Aborted other e = aborted e
+no_word c text untestable undetectable aborted undetected Undetected other e = undetected e
+
+-- a text that is neither a word nor a detection is that of no verdict
+pub no_verdict : (c : Netlist) (text : List ℕ)
+    → ((said : Said) → says_detected said ≡ false → text ≢ verdict_text c said)
     → ((place : Place) → IsPlace c place → text ≢ codes "detected " ++ place_text c place) → (said : Said)
-    → IsSearched c said → text ≢ verdict_text c said
-no_verdict c text untestable aborted detected (Detected place) is e = detected place is.sayable e
-no_verdict c text untestable aborted detected Untestable is e = untestable e
-no_verdict c text untestable aborted detected Aborted is e = aborted e
-no_verdict c text untestable aborted detected Undetected is e = is.decided refl
+    → IsSayable c said → text ≢ verdict_text c said
+no_verdict c text word detected (Detected place) is e = detected place is e
+no_verdict c text word detected Untestable is e = word Untestable refl e
+no_verdict c text word detected Undetectable is e = word Undetectable refl e
+no_verdict c text word detected Aborted is e = word Aborted refl e
+no_verdict c text word detected Undetected is e = word Undetected refl e

@@ -24,3 +24,4 @@ pub mod LfLaws
 pub mod LinesSoFarLaws
 pub mod WrongReportLaws
 pub mod StartLaws
+pub mod FaultListLaws

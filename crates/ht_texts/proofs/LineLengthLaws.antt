@@ -1,5 +1,5 @@
 -- No line of the report of a search is long: it has some words, some numbers and at most two names.
-use Rattle.std.proofs.Common.{◌≡◌, inl, inr, ℕ, ◌+◌, ◌^◌, ◌<◌, ◌≤◌, Bool, true, List, [], ◌∷◌, ◌++◌, Some, length, get_or, refl, sym, ap, subst, arith}
+use Rattle.std.proofs.Common.{◌≡◌, ◌==◌, inl, inr, ℕ, ◌+◌, ◌^◌, ◌<◌, ◌≤◌, Bool, true, List, [], ◌∷◌, ◌++◌, Some, length, get_or, refl, sym, ap, subst, arith}
 use Rattle.std.specs.Prelude.{codes}
 use Rattle.std.specs.Fmt.{decimal}
 use Rattle.std.specs.List.{All, range_with_len}
@@ -20,13 +20,13 @@ use Rattle.ht_tree.proofs.FirstLaws.{All-range_with_len}
 use Rattle.ht_faults.specs.Sites.{faults_of}
 use Rattle.ht_collapse.specs.Classes.{AreClasses, is_representative, own_representatives, class_count, fault_at}
 use Rattle.ht_texts.specs.declared.said.Said.{Said}
-use Rattle.ht_texts.specs.declared.said.Said.TheVariants.{Detected, Untestable, Aborted, Undetected}
+use Rattle.ht_texts.specs.declared.said.Said.TheVariants.{Detected, Untestable, Undetectable, Aborted, Undetected}
 use Rattle.ht_texts.specs.Tests.{bit_code}
 use Rattle.ht_texts.specs.Sites.{IsSite, pin_text, site_text, output_text}
-use Rattle.ht_texts.specs.Verdicts.{said_at, IsSayable, verdict_text, says_detected, says_untestable, says_aborted}
+use Rattle.ht_texts.specs.Verdicts.{said_at, IsSayable, verdict_text, says_detected, says_untestable, says_undetectable, says_aborted, says_undetected}
 use Rattle.ht_texts.specs.Counts.{count_said}
 use Rattle.ht_texts.specs.LineLengths.{IsShortLine}
-use Rattle.ht_texts.specs.Reports.{head_line, fault_text, line_front, outcome_text, fault_line, fault_lines, report_sums, total_line, report_lines}
+use Rattle.ht_texts.specs.Reports.{head_line, fault_text, line_front, outcome_text, fault_line, fault_lines, report_sums, some_text, total_line, report_lines}
 use Rattle.ht_texts.specs.SearchReports.{HasShortNames, IsSearchOf, IsReportFront}
 use Rattle.ht_texts.proofs.ReaderLaws.{lines_few}
 use Rattle.ht_texts.proofs.ReportWrittenLaws.{classes_few, outputs_few}
@@ -51,6 +51,13 @@ counted_size : (text word : List ℕ) (n m k : ℕ) → IsUpTo m text → length
 counted_size text word n m k of_text of_word small =
     both_size (text ++ word) (decimal n) (m + k) 20 (both_size text word m k of_text (omega (arith, of_word)))
     (number_size n small)
+
+-- the same where there may be none
+some_size : (word : List ℕ) (n k : ℕ) → length word ≡ k → n < 2 ^ 64 → IsUpTo (k + 20) (some_text word n)
+some_size word n k of_word small = elim (cases_Bool (n == 0)) [
+  | inl none ↦ rw none (omega arith)
+  | inr some ↦ rw some (omega (arith, counted_size [] word n 0 k (omega arith) of_word small))
+]
 
 -- ---- the parts of a line
 
@@ -88,6 +95,7 @@ verdict_size c (Detected place) names is =
     (both_size vector (codes " ") 20 1 (number_size (place.vector + 1) (omega (arith, is.vector))) (omega arith))
     (name_size c (get_or c.outputs place.output no_net) names))
 verdict_size c Untestable names is = omega arith
+verdict_size c Undetectable names is = omega arith
 verdict_size c Aborted names is = omega arith
 verdict_size c Undetected names is = omega arith
 
@@ -167,8 +175,14 @@ total_is_short c representatives budget saids is classes =
     let of_a = counted_size [] (codes "total ") sums.classes 0 6 (omega arith) refl (omega (arith, few)) in
     let of_b = counted_size a (codes " detected ") sums.detected 26 10 of_a refl (fits says_detected) in
     let of_d = counted_size [] (codes " untestable ") sums.untestable 0 12 (omega arith) refl (fits says_untestable) in
-    let size = both_size b (d ++ codes " aborted " ++ decimal sums.aborted) 56 61 of_b
-    (counted_size d (codes " aborted ") sums.aborted 32 9 of_d refl (fits says_aborted)) in
+    let e = d ++ codes " aborted " ++ decimal sums.aborted in
+    let of_e = counted_size d (codes " aborted ") sums.aborted 32 9 of_d refl (fits says_aborted) in
+    let f = e ++ some_text (codes " undetectable ") sums.undetectable in
+    let of_f = both_size e (some_text (codes " undetectable ") sums.undetectable) 61 34 of_e
+    (some_size (codes " undetectable ") sums.undetectable 14 refl (fits says_undetectable)) in
+    let size = both_size b (f ++ some_text (codes " undetected ") sums.undetected) 56 127 of_b
+    (both_size f (some_text (codes " undetected ") sums.undetected) 95 32 of_f
+    (some_size (codes " undetected ") sums.undetected 12 refl (fits says_undetected))) in
     omega (arith, size)
 
 -- ---- the whole
@@ -188,7 +202,7 @@ lines_are_short c representatives budget saids is classes names search =
     (All-map IsShortLine line (range_with_len 0 (length (faults_of c)))
     (All-range_with_len (λ i. IsShortLine (line i)) 0 (length (faults_of c)) (λ i below.
     fault_is_short c representatives i (said_at saids i) is classes names (omega (arith, below))
-    (λ own. (search.saids_are.searched i (omega (arith, below)) own).sayable)))))
+    (search.saids_are.sayable i (omega (arith, below)))))))
     (All-cons IsShortLine total [] (total_is_short c representatives budget saids is classes) (All-nil IsShortLine))
 
 -- what begins lines that are short

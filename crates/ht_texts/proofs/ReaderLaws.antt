@@ -1,5 +1,5 @@
 -- A reader of reports after a call.
-use Rattle.std.proofs.Common.{◌≡◌, ◌≢◌, ℕ, ◌+◌, ◌-◌, ◌<◌, ◌^◌, false, List, [], ◌∷◌, ◌++◌, Ok, Err, length, length-append, refl, sym, ap, ◌∙◌, subst, arith}
+use Rattle.std.proofs.Common.{◌≡◌, ◌≢◌, ℕ, ◌+◌, ◌<◌, ◌^◌, false, List, [], ◌∷◌, ◌++◌, Ok, Err, length, length-append, refl, sym, ap, ◌∙◌, subst, arith}
 use Rattle.std.specs.Prelude.{IsTrue}
 use Rattle.ht_net.specs.Netlist.{Netlist, IsCircuit}
 use Rattle.ht_faults.specs.Sites.{faults_of, sites_of}
@@ -77,7 +77,7 @@ whole_read c representatives lines (in_report budget saids) read all = absurd (o
   arith,
   all,
   length-in_report c representatives lines budget saids read,
-  read.readable.saids_are.listed,
+  read.readable.listed,
 ))
 whole_read c representatives lines (after_report budget saids) read all = (budget, saids, refl)
 

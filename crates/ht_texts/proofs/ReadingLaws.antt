@@ -10,10 +10,10 @@ use Rattle.ht_texts.specs.declared.item.Item.TheVariants.{Head, Verdict, Member,
 use Rattle.ht_texts.specs.declared.said.Said.{Said}
 use Rattle.ht_texts.specs.declared.said.Said.TheVariants.{Undetected}
 use Rattle.ht_texts.specs.declared.total.Sums.{Sums}
-use Rattle.ht_texts.specs.Verdicts.{said_at, verdict_text}
+use Rattle.ht_texts.specs.Verdicts.{said_at, IsSayable, verdict_text}
 use Rattle.ht_texts.specs.Counts.{CountsItem, representatives_below, sums_among, sums_of}
 use Rattle.ht_texts.specs.Reports.{head_line, line_front, fault_line, fault_lines, first_lines, body_lines, report_sums, total_line}
-use Rattle.ht_texts.specs.SearchReports.{IsSearched, IsSearchOf}
+use Rattle.ht_texts.specs.SearchReports.{IsSearchOf}
 use Rattle.ht_texts.specs.ReportLines.{SaysOfFault, SaysItem}
 use Rattle.ht_texts.specs.ReportReading.{ReportReading, before_report, in_report, after_report, ReportReadsTo, fault_item, last_item, read_on}
 use Rattle.ht_texts.specs.ReportStands.{sums_read}
@@ -65,24 +65,24 @@ last_item_push representatives budget (first ∷ more) said =
     ap (λ k. Some (fault_item representatives k (said_at all k))) count
     ∙ ap (λ s. Some (fault_item representatives (length (first ∷ more)) s)) (said_last (first ∷ more) said)
 
-searched_push : (c : Netlist) (representatives : List ℕ) (budget : ℕ) (saids : List Said) (said : Said)
+said_push : (c : Netlist) (representatives : List ℕ) (budget : ℕ) (saids : List Said) (said : Said)
     → length saids < length (faults_of c)
-    → (is_representative representatives (length saids) ≡ true → IsSearched c said)
+    → (is_representative representatives (length saids) ≡ true → IsSayable c said)
     → IsSearchOf c representatives (length saids) budget saids
     → IsSearchOf c representatives (length (saids ++ said ∷ [])) budget (saids ++ said ∷ [])
-searched_push c representatives budget saids said inside searched is = record {
+said_push c representatives budget saids said inside sayable is = record {
   budget_is = is.budget_is;
+  listed = omega (arith, length-append saids (said ∷ []));
   saids_are = record {
     each = refl;
-    listed = omega (arith, length-append saids (said ∷ []));
-    searched = λ i below own. elim (cases_lt i (length saids)) [
-      | inl before ↦ subst (IsSearched c) (sym (said_before saids (said ∷ []) i before))
-          (is.saids_are.searched i before own)
+    sayable = λ i below own. elim (cases_lt i (length saids)) [
+      | inl before ↦ subst (IsSayable c) (sym (said_before saids (said ∷ []) i before))
+          (is.saids_are.sayable i before own)
       | inr upto ↦
           let last : length saids ≡ i = omega (arith, below, upto, length-append saids (said ∷ [])) in
-          subst (λ k. IsSearched c (said_at (saids ++ said ∷ []) k)) last
-          (subst (IsSearched c) (sym (said_last saids said))
-          (searched (subst (λ k. is_representative representatives k ≡ true) (sym last) own)))
+          subst (λ k. IsSayable c (said_at (saids ++ said ∷ []) k)) last
+          (subst (IsSayable c) (sym (said_last saids said))
+          (sayable (subst (λ k. is_representative representatives k ≡ true) (sym last) own)))
     ];
   };
 }
@@ -90,12 +90,12 @@ searched_push c representatives budget saids said inside searched is = record {
 -- the line of the next fault
 fault_read : (c : Netlist) (representatives : List ℕ) (lines : List (List ℕ)) (line : List ℕ) (budget : ℕ)
     (saids : List Said) (said : Said) → length saids < length (faults_of c)
-    → (is_representative representatives (length saids) ≡ true → IsSearched c said)
+    → (is_representative representatives (length saids) ≡ true → IsSayable c said)
     → line ≡ fault_line c representatives (length saids) said
     → ReportReadsTo c representatives lines (in_report budget saids)
     → ReportReadsTo c representatives (lines ++ line ∷ []) (in_report budget (saids ++ said ∷ []))
-fault_read c representatives lines line budget saids said inside searched is read = record {
-  readable = searched_push c representatives budget saids said inside searched read.readable;
+fault_read c representatives lines line budget saids said inside sayable is read = record {
+  readable = said_push c representatives budget saids said inside sayable read.readable;
   lines_are =
       let head = head_line c representatives (Some budget) in
       let all = saids ++ said ∷ [] in
@@ -107,13 +107,13 @@ fault_read c representatives lines line budget saids said inside searched is rea
 }
 
 verdict_read : (c : Netlist) (representatives : List ℕ) (lines : List (List ℕ)) (line : List ℕ) (budget : ℕ)
-    (saids : List Said) (said : Said) (old new : Sums) → IsSearched c said
+    (saids : List Said) (said : Said) (old new : Sums) → IsSayable c said
     → SaysOfFault c representatives (length saids) true line said
     → ReportReadsTo c representatives lines (in_report budget saids)
     → old ≡ sums_read representatives (in_report budget saids) → CountsItem (Verdict (length saids) said) old new
     → ReadsOn c representatives (lines ++ line ∷ []) (in_report budget saids) (Verdict (length saids) said) new
-verdict_read c representatives lines line budget saids said old new searched of_fault read sums counts = record {
-  read = fault_read c representatives lines line budget saids said of_fault.listed (λ _. searched) of_fault.line_is
+verdict_read c representatives lines line budget saids said old new sayable of_fault read sums counts = record {
+  read = fault_read c representatives lines line budget saids said of_fault.listed (λ _. sayable) of_fault.line_is
       read;
   says = last_item_push representatives budget saids said
       ∙ ap (λ item. Some item) (cond-true (is_representative representatives (length saids))
@@ -166,7 +166,8 @@ item_read c representatives lines before_report line (Head budget) old new liste
   read = record {
     readable = record {
       budget_is = says.1;
-      saids_are = record { each = refl; listed = omega arith; searched = λ i below. absurd (omega arith) };
+      listed = omega arith;
+      saids_are = record { each = refl; sayable = λ i below. absurd (omega arith) };
     };
     lines_are = ap (λ l. l ++ line ∷ []) read.lines_are ∙ ap (λ l. l ∷ []) says.2;
   };
@@ -207,12 +208,12 @@ item_read c representatives lines (after_report budget saids) line Total old new
 
 -- the line of fault n says its verdict, or that another fault represents it
 fault_says : (c : Netlist) (representatives : List ℕ) (n : ℕ) (sums : Sums) (line : List ℕ) (said : Said)
-    → n < length (faults_of c) → (is_representative representatives n ≡ true → IsSearched c said)
+    → n < length (faults_of c) → (is_representative representatives n ≡ true → IsSayable c said)
     → line ≡ fault_line c representatives n said
     → (item : Item) × SaysItem c representatives (n + 1) sums line item
-fault_says c representatives n sums line said listed searched is =
+fault_says c representatives n sums line said listed sayable is =
     elim (cases_Bool (is_representative representatives n)) [
-      | inl own ↦ (Verdict n said, (refl, searched own, record { listed = listed; own_is = own; line_is = is }))
+      | inl own ↦ (Verdict n said, (refl, sayable own, record { listed = listed; own_is = own; line_is = is }))
       | inr other ↦ (
         Member n,
         (
@@ -289,8 +290,8 @@ first_line_says c representatives lines line budget saids sums (suc m) some is e
     ∙ ap (λ n. first_lines c representatives (Some budget) saids n) (sym more)
     ∙ ap (λ l. head ∷ l) (fault_lines_more c representatives saids m) in
     subst (λ n. (item : Item) × SaysItem c representatives n sums line item) more
-    (fault_says c representatives m sums line (said_at saids m) (omega (arith, some, is.saids_are.listed))
-    (is.saids_are.searched m (omega (arith, some))) (same_from_push lines before line last split).1)
+    (fault_says c representatives m sums line (said_at saids m) (omega (arith, some, is.listed))
+    (is.saids_are.sayable m (omega (arith, some))) (same_from_push lines before line last split).1)
 
 -- a line after which the lines still begin a report says something
 pub next_line_says : (c : Netlist) (representatives : List ℕ) (lines : List (List ℕ)) (at next : ReportReading)

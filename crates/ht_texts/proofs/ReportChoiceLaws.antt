@@ -13,12 +13,11 @@ use Rattle.ht_tree.specs.declared.limits.TheConstants.{MAX_BUDGET}
 use Rattle.ht_texts.specs.declared.item.Item.{Item}
 use Rattle.ht_texts.specs.declared.item.Item.TheVariants.{Head, Verdict, Member, Total}
 use Rattle.ht_texts.specs.declared.said.Said.{Said}
-use Rattle.ht_texts.specs.declared.said.Said.TheVariants.{Detected, Untestable, Aborted, Undetected}
+use Rattle.ht_texts.specs.declared.said.Said.TheVariants.{Detected, Untestable, Undetectable, Aborted, Undetected}
 use Rattle.ht_texts.specs.declared.total.Sums.{Sums}
 use Rattle.ht_texts.specs.Counts.{one_if, CountsItem}
-use Rattle.ht_texts.specs.Verdicts.{says_detected, says_untestable, says_aborted}
+use Rattle.ht_texts.specs.Verdicts.{IsSayable, says_detected, says_untestable, says_undetectable, says_aborted, says_undetected}
 use Rattle.ht_texts.specs.Reports.{head_line, fault_line, total_line}
-use Rattle.ht_texts.specs.SearchReports.{IsSearched}
 use Rattle.ht_texts.specs.ReportLines.{SaysItem}
 use Rattle.ht_texts.specs.ReportReading.{ReportReading, before_report, ReportReadsTo, read_on}
 use Rattle.ht_texts.specs.ReportStands.{sums_read}
@@ -70,10 +69,23 @@ head_or_not c representatives sums line =
           (e ∙ ap (λ k. head_line c representatives (Some k)) (sym before))))
     ]
 
--- a verdict that the line has, or that no verdict of a search has it
+-- the verdicts that are words
+abbrev word_at : ℕ → Said
+word_at zero = Untestable
+word_at (suc zero) = Undetectable
+word_at (suc (suc zero)) = Aborted
+word_at (suc (suc (suc k))) = Undetected
+
+word_may_be_said : (c : Netlist) (k : ℕ) → IsSayable c (word_at k)
+word_may_be_said c zero = tt
+word_may_be_said c (suc zero) = tt
+word_may_be_said c (suc (suc zero)) = tt
+word_may_be_said c (suc (suc (suc k))) = tt
+
+-- a verdict that the line has, or that none has it
 SaidOrNot : Netlist → List ℕ → ℕ → List ℕ → Type 0
-SaidOrNot c representatives i line = ((said : Said) × IsSearched c said × (line ≡ fault_line c representatives i said))
-    ⊎ ((said : Said) → IsSearched c said → line ≢ fault_line c representatives i said)
+SaidOrNot c representatives i line = ((said : Said) × IsSayable c said × (line ≡ fault_line c representatives i said))
+    ⊎ ((said : Said) → IsSayable c said → line ≢ fault_line c representatives i said)
 
 abbrev place_at : ℕ → ℕ → Place
 place_at vector output = record { vector = vector; output = output }
@@ -104,25 +116,24 @@ said_or_not : (c : Netlist) (representatives : List ℕ) (i : ℕ) (line : List 
     → SaidOrNot c representatives i line
 unfolding SaidOrNot
 said_or_not c representatives i line =
-    elim (same_or_not line (fault_line c representatives i Untestable)) [
-      | inl untestable ↦ inl (Untestable, record { sayable = tt; decided = λ e. cc }, untestable)
-      | inr not_untestable ↦ elim (same_or_not line (fault_line c representatives i Aborted)) [
-        | inl aborted ↦ inl (Aborted, record { sayable = tt; decided = λ e. cc }, aborted)
-        | inr not_aborted ↦ elim (place_or_not c representatives i line) [
-          | inl found ↦ inl (Detected found.0, record { sayable = found.1; decided = λ e. cc }, found.2)
-          | inr not_detected ↦ inr (no_said c representatives i line not_untestable not_aborted not_detected)
-        ]
+    let word : ℕ → Type 0 = λ k. line ≡ fault_line c representatives i (word_at k) in
+    elim (some_below word (λ k. same_or_not line (fault_line c representatives i (word_at k))) 4) [
+      | inl found ↦ inl (word_at found.0, word_may_be_said c found.0, found.2)
+      | inr none ↦ elim (place_or_not c representatives i line) [
+        | inl found ↦ inl (Detected found.0, found.1, found.2)
+        | inr not_detected ↦ inr (no_said c representatives i line none not_detected)
       ]
     ]
   where
     no_said : (c : Netlist) (representatives : List ℕ) (i : ℕ) (line : List ℕ)
-        → line ≢ fault_line c representatives i Untestable → line ≢ fault_line c representatives i Aborted
+        → ((k : ℕ) → k < 4 → line ≢ fault_line c representatives i (word_at k))
         → ((place : Place) → IsPlace c place → line ≢ fault_line c representatives i (Detected place))
-        → (said : Said) → IsSearched c said → line ≢ fault_line c representatives i said
-    no_said c representatives i line untestable aborted detected (Detected place) is e = detected place is.sayable e
-    no_said c representatives i line untestable aborted detected Untestable is e = untestable e
-    no_said c representatives i line untestable aborted detected Aborted is e = aborted e
-    no_said c representatives i line untestable aborted detected Undetected is e = is.decided refl
+        → (said : Said) → IsSayable c said → line ≢ fault_line c representatives i said
+    no_said c representatives i line words detected (Detected place) is e = detected place is e
+    no_said c representatives i line words detected Untestable is e = words 0 (omega arith) e
+    no_said c representatives i line words detected Undetectable is e = words 1 (omega arith) e
+    no_said c representatives i line words detected Aborted is e = words 2 (omega arith) e
+    no_said c representatives i line words detected Undetected is e = words 3 (omega arith) e
 
 fault_or_not : (c : Netlist) (representatives : List ℕ) (i : ℕ) (sums : Sums) (line : List ℕ)
     → i < length (faults_of c) → SaysOrNot c representatives (i + 1) sums line
@@ -171,9 +182,19 @@ counted (Verdict i said) old = (
     detected = old.detected + one_if (says_detected said);
     untestable = old.untestable + one_if (says_untestable said);
     aborted = old.aborted + one_if (says_aborted said);
+    undetectable = old.undetectable + one_if (says_undetectable said);
+    undetected = old.undetected + one_if (says_undetected said);
     search = old.search;
   },
-  record { classes = refl; detected = refl; untestable = refl; aborted = refl; search = refl },
+  record {
+    classes = refl;
+    detected = refl;
+    untestable = refl;
+    aborted = refl;
+    undetectable = refl;
+    undetected = refl;
+    search = refl;
+  },
 )
 counted (Member i) old = (old, refl)
 counted Total old = (old, refl)

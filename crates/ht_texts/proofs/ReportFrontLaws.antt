@@ -13,9 +13,9 @@ use Rattle.ht_faults.specs.Sites.{faults_of}
 use Rattle.ht_collapse.specs.Classes.{is_representative}
 use Rattle.ht_texts.specs.declared.said.Said.{Said}
 use Rattle.ht_texts.specs.declared.said.Said.TheVariants.{Untestable, Undetected}
-use Rattle.ht_texts.specs.Verdicts.{said_at, verdict_text}
+use Rattle.ht_texts.specs.Verdicts.{said_at, AreSayableTo, IsSayable, verdict_text}
 use Rattle.ht_texts.specs.Reports.{circuit_sizes, fault_sizes, head_line, line_front, fault_line, fault_lines, first_lines, body_lines, report_sums, total_line, report_lines}
-use Rattle.ht_texts.specs.SearchReports.{IsSearched, AreSearched, IsSearchOf, IsSearchReport, IsReportFront}
+use Rattle.ht_texts.specs.SearchReports.{IsSearchOf, IsSearchReport, IsReportFront}
 use Rattle.ht_texts.specs.ReportReading.{ReportReading, before_report, in_report, after_report, ReportReadsTo, SameSearch, SaySame}
 use Rattle.ht_texts.proofs.SaidLaws.{said_before, line_of_representative, length-fault_lines, get_or-fault_lines, same_fault_lines}
 use Rattle.ht_texts.proofs.ReadingLaws.{length-first_lines, length-in_report, length-after_report}
@@ -54,9 +54,6 @@ take_report c representatives budget saids n within =
 completed : Netlist → List Said → List Said
 completed c saids = saids ++ replicate (length (faults_of c) - length saids) Untestable
 
-untestable_is_searched : (c : Netlist) → IsSearched c Untestable
-untestable_is_searched c = record { sayable = tt; decided = λ e. cc }
-
 completed_is_searched : (c : Netlist) (representatives : List ℕ) (n budget : ℕ) (saids : List Said)
     → IsSearchOf c representatives n budget saids
     → IsSearchOf c representatives (length (faults_of c)) budget (completed c saids)
@@ -64,8 +61,9 @@ unfolding completed
 completed_is_searched c representatives n budget saids is =
     let left = length (faults_of c) - length saids in
     let size = is.saids_are.each in
-    let room = is.saids_are.listed in record {
+    let room = is.listed in record {
       budget_is = is.budget_is;
+      listed = omega arith;
       saids_are = record {
         each = omega (
           arith,
@@ -74,14 +72,13 @@ completed_is_searched c representatives n budget saids is =
           length-append saids (replicate left Untestable),
           length-replicate left Untestable,
         );
-        listed = omega arith;
-        searched = λ i below own. elim (cases_lt i (length saids)) [
-          | inl before ↦ subst (IsSearched c) (sym (said_before saids (replicate left Untestable) i before))
-              (is.saids_are.searched i (omega (arith, before, size)) own)
-          | inr upto ↦ subst (IsSearched c)
+        sayable = λ i below own. elim (cases_lt i (length saids)) [
+          | inl before ↦ subst (IsSayable c) (sym (said_before saids (replicate left Untestable) i before))
+              (is.saids_are.sayable i (omega (arith, before, size)) own)
+          | inr upto ↦ subst (IsSayable c)
               (sym (get_or-append_right saids (replicate left Untestable) (length saids) i Undetected refl upto
               ∙ get_or-replicate left (i - length saids) Untestable Undetected (omega (arith, below, upto))))
-              (untestable_is_searched c)
+              tt
         ];
       };
     }
@@ -103,7 +100,8 @@ unfolding completed
 reading_is_front c representatives lines before_report read =
     let none : IsSearchOf c representatives 0 1 [] = record {
       budget_is = (omega arith, omega arith);
-      saids_are = record { each = refl; listed = omega arith; searched = λ i below. absurd (omega arith) };
+      listed = omega arith;
+      saids_are = record { each = refl; sayable = λ i below. absurd (omega arith) };
     } in
     front_of c representatives lines (report_lines c representatives (Some 1) (completed c [])) 0 1 (completed c [])
     read.lines_are
@@ -116,7 +114,7 @@ reading_is_front c representatives lines (in_report budget saids) read =
     let begins : lines ≡ take (suc n) whole = read.lines_are
     ∙ ap (λ l. head ∷ l) (same_fault_lines c representatives saids all n
     (λ i below _. sym (said_before saids (replicate (length (faults_of c) - n) Untestable) i below)))
-    ∙ sym (take_report c representatives budget all n read.readable.saids_are.listed) in
+    ∙ sym (take_report c representatives budget all n read.readable.listed) in
     front_of c representatives lines whole (suc n) budget all begins
     (record { search = completed_is_searched c representatives n budget saids read.readable; lines_are = refl })
 reading_is_front c representatives lines (after_report budget saids) read = record {
@@ -135,13 +133,13 @@ taken_is_searched : (c : Netlist) (representatives : List ℕ) (n k budget : ℕ
 taken_is_searched c representatives n k budget saids within is =
     let size : length (take k saids) ≡ k = length-take-le k saids (omega (arith, within, is.saids_are.each)) in record {
       budget_is = is.budget_is;
+      listed = omega (arith, size, within, is.listed);
       saids_are = record {
         each = refl;
-        listed = omega (arith, size, within, is.saids_are.listed);
-        searched = λ i below own.
+        sayable = λ i below own.
             let before : i < k = omega (arith, size, below) in
-            subst (IsSearched c) (sym (get_or-take k saids i Undetected before))
-            (is.saids_are.searched i (omega (arith, before, within)) own);
+            subst (IsSayable c) (sym (get_or-take k saids i Undetected before))
+            (is.saids_are.sayable i (omega (arith, before, within)) own);
       };
     }
 
@@ -208,13 +206,13 @@ one_budget c representatives a b a_fits b_fits e =
     (codes " budget " ++ decimal b) e))
 
 one_said : (c : Netlist) (representatives : List ℕ) (a b : List Said) (n i : ℕ) → IsCircuit c
-    → AreSearched c representatives n a → AreSearched c representatives n b
+    → AreSayableTo c representatives n a → AreSayableTo c representatives n b
     → fault_lines c representatives a n ≡ fault_lines c representatives b n
     → is_representative representatives i ≡ true → said_at a i ≡ said_at b i
 one_said c representatives a b n i is of_a of_b same own = elim (cases_lt i n) [
   | inl below ↦
-      one_verdict c (said_at a i) (said_at b i) is (of_a.searched i below own).sayable
-      (of_b.searched i below own).sayable
+      one_verdict c (said_at a i) (said_at b i) is (of_a.sayable i below own)
+      (of_b.sayable i below own)
       (append_cancel_left (line_front c i) (verdict_text c (said_at a i)) (verdict_text c (said_at b i))
       (sym (line_of_representative c representatives i (said_at a i) own)
       ∙ sym (get_or-fault_lines c representatives a n i below)
@@ -271,7 +269,7 @@ one_reading c representatives lines (in_report j a) (after_report k b) is of_a o
   arith,
   length-in_report c representatives lines j a of_a,
   length-after_report c representatives lines k b of_b,
-  of_a.readable.saids_are.listed,
+  of_a.readable.listed,
 )
 one_reading c representatives lines (after_report j a) before_report is of_a of_b =
     omega (arith, ap length of_b.lines_are, length-after_report c representatives lines j a of_a)
@@ -279,7 +277,7 @@ one_reading c representatives lines (after_report j a) (in_report k b) is of_a o
   arith,
   length-after_report c representatives lines j a of_a,
   length-in_report c representatives lines k b of_b,
-  of_b.readable.saids_are.listed,
+  of_b.readable.listed,
 )
 one_reading c representatives lines (after_report j a) (after_report k b) is of_a of_b =
     one_report c representatives lines j k a b is

@@ -22,13 +22,13 @@ use Rattle.ht_net.specs.Named.{name_of}
 use Rattle.ht_faults.specs.Sites.{faults_of}
 use Rattle.ht_collapse.specs.Classes.{AreClasses, is_representative, own_representatives, class_count, fault_at}
 use Rattle.ht_texts.specs.declared.said.Said.{Said}
-use Rattle.ht_texts.specs.declared.said.Said.TheVariants.{Detected, Untestable, Aborted, Undetected}
+use Rattle.ht_texts.specs.declared.said.Said.TheVariants.{Detected, Untestable, Undetectable, Aborted, Undetected}
 use Rattle.ht_ports.specs.LineRule.{max_text_bytes}
 use Rattle.ht_texts.specs.Tests.{bit_code}
 use Rattle.ht_texts.specs.Sites.{IsSite, pin_text, site_text, output_text}
-use Rattle.ht_texts.specs.Verdicts.{said_at, IsSayable, verdict_text, says_detected, says_untestable, says_aborted}
+use Rattle.ht_texts.specs.Verdicts.{said_at, IsSayable, verdict_text, says_detected, says_untestable, says_undetectable, says_aborted, says_undetected}
 use Rattle.ht_texts.specs.Counts.{count_said}
-use Rattle.ht_texts.specs.Reports.{head_line, fault_text, line_front, outcome_text, fault_line, fault_lines, report_sums, total_line, report_lines, report_text}
+use Rattle.ht_texts.specs.Reports.{head_line, fault_text, line_front, outcome_text, fault_line, fault_lines, report_sums, some_text, total_line, report_lines, report_text}
 use Rattle.ht_texts.specs.SearchReports.{is_line_byte, HasPlainNames, IsSearchOf, IsReportText}
 use Rattle.ht_texts.proofs.LineLaws.{IsClean, AreClean, ends_without_cr, lines_are_lines}
 use Rattle.ht_texts.proofs.ReaderLaws.{lines_few}
@@ -60,6 +60,13 @@ plain_counted : (text word : List ℕ) (n : ℕ) → ArePlain text → ArePlain 
     → ArePlain (text ++ word ++ decimal n)
 plain_counted text word n of_text of_word small =
     plain_both (text ++ word) (decimal n) (plain_both text word of_text of_word) (plain_decimal n small)
+
+-- the same where there may be none
+plain_some : (word : List ℕ) (n : ℕ) → ArePlain word → n < 2 ^ 64 → ArePlain (some_text word n)
+plain_some word n of_word small = elim (cases_Bool (n == 0)) [
+  | inl none ↦ rw none refl
+  | inr some ↦ rw some (plain_counted [] word n refl of_word small)
+]
 
 -- a line of plain bytes has no LF, and no CR at its end
 plain_at : (bytes : List ℕ) (k : ℕ) → ArePlain bytes → k < length bytes
@@ -121,6 +128,7 @@ plain_verdict c (Detected place) names is =
     (plain_both number (codes " ") (plain_decimal (place.vector + 1) (omega (arith, is.vector))) refl)
     (plain_name c (get_or c.outputs place.output no_net) names))
 plain_verdict c Untestable names is = refl
+plain_verdict c Undetectable names is = refl
 plain_verdict c Aborted names is = refl
 plain_verdict c Undetected names is = refl
 
@@ -227,8 +235,14 @@ plain_total c representatives budget saids is classes =
     let of_a = plain_counted [] (codes "total ") sums.classes refl refl (omega (arith, few)) in
     let of_b = plain_counted a (codes " detected ") sums.detected of_a refl (fits says_detected) in
     let of_d = plain_counted [] (codes " untestable ") sums.untestable refl refl (fits says_untestable) in
-    plain_both b (d ++ codes " aborted " ++ decimal sums.aborted) of_b
-    (plain_counted d (codes " aborted ") sums.aborted of_d refl (fits says_aborted))
+    let e = d ++ codes " aborted " ++ decimal sums.aborted in
+    let of_e = plain_counted d (codes " aborted ") sums.aborted of_d refl (fits says_aborted) in
+    let f = e ++ some_text (codes " undetectable ") sums.undetectable in
+    let of_f = plain_both e (some_text (codes " undetectable ") sums.undetectable) of_e
+    (plain_some (codes " undetectable ") sums.undetectable refl (fits says_undetectable)) in
+    plain_both b (f ++ some_text (codes " undetected ") sums.undetected) of_b
+    (plain_both f (some_text (codes " undetected ") sums.undetected) of_f
+    (plain_some (codes " undetected ") sums.undetected refl (fits says_undetected)))
 
 -- ---- the whole
 
@@ -255,7 +269,7 @@ written_is_report c representatives budget saids is classes names search short =
     let of_lines = clean_range (λ i. fault_line c representatives i (said_at saids i)) 0 (length (faults_of c))
     (λ i below. plain_is_clean (fault_line c representatives i (said_at saids i))
     (plain_fault_line c representatives i (said_at saids i) is classes names (omega (arith, below))
-    (λ own. (search.saids_are.searched i (omega (arith, below)) own).sayable))) in
+    (search.saids_are.sayable i (omega (arith, below))))) in
     let of_total = plain_is_clean total (plain_total c representatives budget saids is classes) in
     record {
       report = record {

@@ -1,15 +1,15 @@
 -- Sums of verdicts, fault by fault.
-use Rattle.std.proofs.Common.{◌≡◌, inl, inr, ◌<◌, ◌+◌, ℕ, zero, suc, List, [], ◌∷◌, ◌++◌, Bool, true, false, length, get_or, length-append, refl, sym, ap, ◌∙◌, subst, arith}
+use Rattle.std.proofs.Common.{◌≡◌, ◌==◌, inl, inr, ◌<◌, ◌+◌, ℕ, zero, suc, List, [], ◌∷◌, ◌++◌, Bool, true, false, length, get_or, length-append, refl, sym, ap, ◌∙◌, subst, arith}
 use Rattle.std.proofs.lemmas.Bool.{cases_eq, eq-eqb, eqb-true, eqb-false}
 use Rattle.std.proofs.lemmas.List.Sums.{sum_by_push}
 use Rattle.ht_collapse.specs.Classes.{is_representative}
 use Rattle.ht_collapse.proofs.OwnLaws.{own_more, own_same}
 use Rattle.ht_texts.specs.declared.said.Said.{Said}
 use Rattle.ht_texts.specs.declared.total.Sums.{Sums}
-use Rattle.ht_texts.specs.Verdicts.{said_at, says_detected, says_untestable, says_aborted}
+use Rattle.ht_texts.specs.Verdicts.{said_at, kind_number, says_detected, says_untestable, says_undetectable, says_aborted, says_undetected}
 use Rattle.ht_texts.specs.Counts.{count_said, sums_among, representatives_below, one_if, CountsOne}
 use Rattle.ht_texts.proofs.SaidLaws.{said_before, said_last}
-use Rattle.ht_texts.proofs.VerdictLaws.{SameKind, kinds_of_equal}
+use Rattle.ht_texts.proofs.VerdictLaws.{SameKind}
 
 -- ---- one fault more
 
@@ -49,24 +49,37 @@ same_count is_kind representatives a b (suc n) agree =
 -- ---- the sums
 
 same_sums : (s t : Sums) → s.classes ≡ t.classes → s.detected ≡ t.detected → s.untestable ≡ t.untestable
-    → s.aborted ≡ t.aborted → s.search ≡ t.search → s ≡ t
-same_sums s t classes detected untestable aborted searched =
-    let sums : ℕ → ℕ → ℕ → ℕ → Bool → Sums = λ k d u a b.
-    record { classes = k; detected = d; untestable = u; aborted = a; search = b } in
-    ap (λ k. sums k s.detected s.untestable s.aborted s.search) classes
-    ∙ ap (λ d. sums t.classes d s.untestable s.aborted s.search) detected
-    ∙ ap (λ u. sums t.classes t.detected u s.aborted s.search) untestable
-    ∙ ap (λ a. sums t.classes t.detected t.untestable a s.search) aborted
-    ∙ ap (λ b. sums t.classes t.detected t.untestable t.aborted b) searched
+    → s.aborted ≡ t.aborted → s.undetectable ≡ t.undetectable → s.undetected ≡ t.undetected → s.search ≡ t.search
+    → s ≡ t
+same_sums s t classes detected untestable aborted undetectable undetected searched =
+    let sums : ℕ → ℕ → ℕ → ℕ → ℕ → ℕ → Bool → Sums = λ k d u a x l b. record {
+      classes = k;
+      detected = d;
+      untestable = u;
+      aborted = a;
+      undetectable = x;
+      undetected = l;
+      search = b;
+    } in
+    ap (λ k. sums k s.detected s.untestable s.aborted s.undetectable s.undetected s.search) classes
+    ∙ ap (λ d. sums t.classes d s.untestable s.aborted s.undetectable s.undetected s.search) detected
+    ∙ ap (λ u. sums t.classes t.detected u s.aborted s.undetectable s.undetected s.search) untestable
+    ∙ ap (λ a. sums t.classes t.detected t.untestable a s.undetectable s.undetected s.search) aborted
+    ∙ ap (λ x. sums t.classes t.detected t.untestable t.aborted x s.undetected s.search) undetectable
+    ∙ ap (λ l. sums t.classes t.detected t.untestable t.aborted t.undetectable l s.search) undetected
+    ∙ ap (λ b. sums t.classes t.detected t.untestable t.aborted t.undetectable t.undetected b) searched
 
 pub sums_agree : (representatives : List ℕ) (a b : List Said) (of_search : Bool) (n : ℕ)
     → ((i : ℕ) → i < n → is_representative representatives i ≡ true → SameKind (said_at a i) (said_at b i))
     → sums_among representatives a of_search (representatives_below representatives n)
     ≡ sums_among representatives b of_search (representatives_below representatives n)
-sums_agree representatives a b of_search n agree = same_sums _ _ refl
-    (same_count says_detected representatives a b n (λ i below own. (agree i below own).detected))
-    (same_count says_untestable representatives a b n (λ i below own. (agree i below own).untestable))
-    (same_count says_aborted representatives a b n (λ i below own. (agree i below own).aborted)) refl
+sums_agree representatives a b of_search n agree =
+    let faults = representatives_below representatives n in
+    let each : (k : ℕ) → count_said (λ said. kind_number said == k) a faults
+    ≡ count_said (λ said. kind_number said == k) b faults =
+    λ k. same_count (λ said. kind_number said == k) representatives a b n
+    (λ i below own. ap (λ kind. kind == k) (agree i below own)) in
+    same_sums _ _ refl (each 0) (each 1) (each 3) (each 2) (each 4) refl
 
 -- ---- one verdict more
 
@@ -107,6 +120,10 @@ verdict_counted representatives saids said of_search old new own so_far one =
     ∙ sym (count_push says_untestable representatives saids said own))
     (one.aborted ∙ ap (λ (s : Sums). s.aborted + one_if (says_aborted said)) so_far
     ∙ sym (count_push says_aborted representatives saids said own))
+    (one.undetectable ∙ ap (λ (s : Sums). s.undetectable + one_if (says_undetectable said)) so_far
+    ∙ sym (count_push says_undetectable representatives saids said own))
+    (one.undetected ∙ ap (λ (s : Sums). s.undetected + one_if (says_undetected said)) so_far
+    ∙ sym (count_push says_undetected representatives saids said own))
     (one.search ∙ ap (λ (s : Sums). s.search) so_far))
 
 -- nothing is counted for another fault
@@ -120,7 +137,7 @@ member_not_counted representatives saids said of_search other =
     let all = saids ++ said ∷ [] in
     let alike : (i : ℕ) → i < n → is_representative representatives i ≡ true
     → SameKind (said_at saids i) (said_at all i) =
-    λ i below _. kinds_of_equal (sym (said_before saids (said ∷ []) i below)) in
+    λ i below _. ap kind_number (sym (said_before saids (said ∷ []) i below)) in
     sums_agree representatives saids all of_search n alike
     ∙ ap (sums_among representatives all of_search)
     (sym (own_same representatives n (eqb-false (get_or representatives n 0) n other))

@@ -1,7 +1,9 @@
 -- Which lines are the text of a vector.
 use Rattle.std.proofs.Common.{◌≡◌, ◌≢◌, ◌⊎◌, inl, inr, ℕ, List, Bool, true, false, refl, arith}
 use Rattle.std.proofs.lemmas.Bool.{cases_eq}
-use Rattle.ht_texts.specs.Tests.{bit_code, vector_text, IsTextOf}
+use Rattle.ht_tern.specs.declared.tern.Tern.{Tern}
+use Rattle.ht_tern.specs.declared.tern.Tern.TheVariants.{Zero, One, Unk}
+use Rattle.ht_texts.specs.Tests.{bit_code, tern_code, vector_text, IsTextOf}
 use Rattle.ht_texts.proofs.CodedLaws.{coded_or_none, map_injective}
 
 bit_code_injective : (a b : Bool) → bit_code a ≡ bit_code b → a ≡ b
@@ -9,6 +11,17 @@ bit_code_injective false false e = refl
 bit_code_injective false true e = absurd (omega (arith, e))
 bit_code_injective true false e = absurd (omega (arith, e))
 bit_code_injective true true e = refl
+
+pub tern_code_injective : (a b : Tern) → tern_code a ≡ tern_code b → a ≡ b
+tern_code_injective Zero Zero e = refl
+tern_code_injective Zero One e = absurd (omega (arith, e))
+tern_code_injective Zero Unk e = absurd (omega (arith, e))
+tern_code_injective One Zero e = absurd (omega (arith, e))
+tern_code_injective One One e = refl
+tern_code_injective One Unk e = absurd (omega (arith, e))
+tern_code_injective Unk Zero e = absurd (omega (arith, e))
+tern_code_injective Unk One e = absurd (omega (arith, e))
+tern_code_injective Unk Unk e = refl
 
 pub vector_text_injective : (a b : List Bool) → vector_text a ≡ vector_text b → a ≡ b
 vector_text_injective = map_injective bit_code bit_code_injective

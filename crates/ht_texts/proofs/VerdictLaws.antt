@@ -1,6 +1,6 @@
 -- A verdict has one text: it tells the kind, and the place of a detection.
 use Rattle.std.proofs.Common.{◌≡◌, ◌≢◌, ◌==◌, ◌⊎◌, inl, inr, ℕ, suc, ◌+◌, ◌-◌, ◌^◌, ◌<◌, Bool, cond, List, [], ◌∷◌, ◌++◌, Some, None, length, get_or, take, drop, append_assoc, length-append, length-drop, add-one, drop-cons, refl, sym, ap, ◌∙◌, subst, arith}
-use Rattle.std.specs.Prelude.{codes, nat_lt}
+use Rattle.std.specs.Prelude.{codes, if◌then◌else◌, nat_lt}
 use Rattle.std.specs.Fmt.{decimal}
 use Rattle.std.specs.List.{position, position_or_len}
 use Rattle.std.proofs.lemmas.Bool.{cases_order, cond_below, eqb-true, ne_eqb}
@@ -17,61 +17,76 @@ use Rattle.ht_net.specs.Lists.{AllDiffer}
 use Rattle.ht_net.specs.Netlist.{Netlist, IsCircuit, no_net}
 use Rattle.ht_net.specs.Detection.{IsPlace}
 use Rattle.ht_texts.specs.declared.said.Said.{Said}
-use Rattle.ht_texts.specs.declared.said.Said.TheVariants.{Detected, Untestable, Aborted, Undetected}
+use Rattle.ht_texts.specs.declared.said.Said.TheVariants.{Detected, Untestable, Undetectable, Aborted, Undetected}
 use Rattle.ht_texts.specs.Sites.{output_text}
-use Rattle.ht_texts.specs.Verdicts.{IsSayable, place_text, verdict_text, says_detected, says_untestable, says_aborted}
+use Rattle.ht_texts.specs.Verdicts.{IsSayable, kind_number, place_text, verdict_text}
 
 -- ---- the kind
-
--- the letters at some place of two texts differ
-letters_differ : {P : Type 0} (k : ℕ) (s t : List ℕ) → s ≡ t → get_or s k 0 ≢ get_or t k 0 → P
-letters_differ k s t e differs = absurd (differs (ap (λ l. get_or l k 0) e))
 
 -- both are a detection, at places with one text
 abbrev BothDetected : Netlist → Said → Said → Type 0
 BothDetected c a b = (p : Place) × (q : Place) × (a ≡ Detected p) × (b ≡ Detected q)
     × (place_text c p ≡ place_text c q)
 
-same_text : (c : Netlist) (a b : Said) → verdict_text c a ≡ verdict_text c b → (a ≡ b) ⊎ BothDetected c a b
-same_text c (Detected p) (Detected q) e =
-    inr (p, q, refl, refl, append_cancel_left (codes "detected ") (place_text c p) (place_text c q) e)
-same_text c (Detected p) Untestable e = letters_differ 0 _ _ e (λ f. omega (arith, f))
-same_text c (Detected p) Aborted e = letters_differ 0 _ _ e (λ f. omega (arith, f))
-same_text c (Detected p) Undetected e = letters_differ 0 _ _ e (λ f. omega (arith, f))
-same_text c Untestable (Detected q) e = letters_differ 0 _ _ e (λ f. omega (arith, f))
-same_text c Untestable Untestable e = inl refl
-same_text c Untestable Aborted e = letters_differ 0 _ _ e (λ f. omega (arith, f))
-same_text c Untestable Undetected e = letters_differ 2 _ _ e (λ f. omega (arith, f))
-same_text c Aborted (Detected q) e = letters_differ 0 _ _ e (λ f. omega (arith, f))
-same_text c Aborted Untestable e = letters_differ 0 _ _ e (λ f. omega (arith, f))
-same_text c Aborted Aborted e = inl refl
-same_text c Aborted Undetected e = letters_differ 0 _ _ e (λ f. omega (arith, f))
-same_text c Undetected (Detected q) e = letters_differ 0 _ _ e (λ f. omega (arith, f))
-same_text c Undetected Untestable e = letters_differ 2 _ _ e (λ f. omega (arith, f))
-same_text c Undetected Aborted e = letters_differ 0 _ _ e (λ f. omega (arith, f))
-same_text c Undetected Undetected e = inl refl
+-- the kind of a verdict is told by three letters of its text
+told_kind : List ℕ → ℕ
+told_kind text = if get_or text 0 0 == 100 then 0 else if get_or text 0 0 == 97 then 3
+    else if get_or text 2 0 == 116 then 1 else if get_or text 8 0 == 97 then 2 else 4
 
--- verdicts with one text count alike
-pub record SameKind (a b : Said) : Type 0 where
-  pub detected : says_detected a ≡ says_detected b
-  pub untestable : says_untestable a ≡ says_untestable b
-  pub aborted : says_aborted a ≡ says_aborted b
+kind_is_told : (c : Netlist) (a : Said) → told_kind (verdict_text c a) ≡ kind_number a
+unfolding told_kind
+kind_is_told c (Detected place) = refl
+kind_is_told c Untestable = refl
+kind_is_told c Undetectable = refl
+kind_is_told c Aborted = refl
+kind_is_told c Undetected = refl
 
-pub kinds_of_equal : {a b : Said} → a ≡ b → SameKind a b
-kinds_of_equal same = record {
-  detected = ap says_detected same;
-  untestable = ap says_untestable same;
-  aborted = ap says_aborted same;
-}
+-- verdicts with one text are of one kind, and count alike
+abbrev pub SameKind : Said → Said → Type 0
+SameKind a b = kind_number a ≡ kind_number b
 
 pub same_kind : (c : Netlist) (a b : Said) → verdict_text c a ≡ verdict_text c b → SameKind a b
-same_kind c a b e = elim (same_text c a b e) [
-  | inl same ↦ kinds_of_equal same
-  | inr both ↦ record {
-    detected = ap says_detected both.2 ∙ sym (ap says_detected both.3);
-    untestable = ap says_untestable both.2 ∙ sym (ap says_untestable both.3);
-    aborted = ap says_aborted both.2 ∙ sym (ap says_aborted both.3);
-  }
+same_kind c a b e = sym (kind_is_told c a) ∙ ap told_kind e ∙ kind_is_told c b
+
+-- the verdict of a kind that isn't a detection
+of_kind : ℕ → Said
+of_kind kind = if kind == 1 then Untestable else if kind == 2 then Undetectable else if kind == 3 then Aborted
+    else Undetected
+
+kind_or_place : (a : Said) → (a ≡ of_kind (kind_number a)) ⊎ ((p : Place) × (a ≡ Detected p))
+unfolding of_kind
+kind_or_place (Detected place) = inr (place, refl)
+kind_or_place Untestable = inl refl
+kind_or_place Undetectable = inl refl
+kind_or_place Aborted = inl refl
+kind_or_place Undetected = inl refl
+
+-- a detection is of no other verdict's kind
+no_place_kind : (a b : Said) (p : Place) → a ≡ Detected p → b ≡ of_kind (kind_number b) → SameKind a b → ⊥
+unfolding of_kind
+no_place_kind a b p at is kinds =
+    let here : kind_number b ≡ 0 = sym kinds ∙ ap kind_number at in
+    let other : kind_number b ≡ 4 = ap kind_number (is ∙ ap of_kind here) in
+    omega (arith, here, other)
+
+-- the same verdict, or both are a detection
+same_text : (c : Netlist) (a b : Said) → verdict_text c a ≡ verdict_text c b → (a ≡ b) ⊎ BothDetected c a b
+same_text c a b e = elim (kind_or_place a) [
+  | inl of_a ↦ elim (kind_or_place b) [
+    | inl of_b ↦ inl (of_a ∙ ap of_kind (same_kind c a b e) ∙ sym of_b)
+    | inr at_b ↦ absurd (no_place_kind b a at_b.0 at_b.1 of_a (sym (same_kind c a b e)))
+  ]
+  | inr at_a ↦ elim (kind_or_place b) [
+    | inl of_b ↦ absurd (no_place_kind a b at_a.0 at_a.1 of_b (same_kind c a b e))
+    | inr at_b ↦ inr (
+      at_a.0,
+      at_b.0,
+      at_a.1,
+      at_b.1,
+      append_cancel_left (codes "detected ") (place_text c at_a.0) (place_text c at_b.0)
+          (sym (ap (verdict_text c) at_a.1) ∙ e ∙ ap (verdict_text c) at_b.1),
+    )
+  ]
 ]
 
 -- ---- the place

@@ -6,7 +6,7 @@ use Rattle.ht_texts.specs.declared.item.Item.{Item}
 use Rattle.ht_texts.specs.declared.item.Item.TheVariants.{Head, Verdict, Member, Total}
 use Rattle.ht_texts.specs.declared.said.Said.{Said}
 use Rattle.ht_texts.specs.declared.total.Sums.{Sums}
-use Rattle.ht_texts.specs.Verdicts.{said_at, says_detected, says_untestable, says_aborted}
+use Rattle.ht_texts.specs.Verdicts.{said_at, says_detected, says_untestable, says_undetectable, says_aborted, says_undetected}
 
 -- of how many of these faults a verdict of this kind is said
 abbrev pub count_said : (Said → Bool) → List Said → List ℕ → ℕ
@@ -19,6 +19,8 @@ sums_among representatives saids search faults = record {
   detected = count_said says_detected saids faults;
   untestable = count_said says_untestable saids faults;
   aborted = count_said says_aborted saids faults;
+  undetectable = count_said says_undetectable saids faults;
+  undetected = count_said says_undetected saids faults;
   search = search;
 }
 
@@ -43,6 +45,8 @@ pub record CountsOne (said : Said) (old new : Sums) : Type 0 where
   pub detected : new.detected ≡ old.detected + one_if (says_detected said)
   pub untestable : new.untestable ≡ old.untestable + one_if (says_untestable said)
   pub aborted : new.aborted ≡ old.aborted + one_if (says_aborted said)
+  pub undetectable : new.undetectable ≡ old.undetectable + one_if (says_undetectable said)
+  pub undetected : new.undetected ≡ old.undetected + one_if (says_undetected said)
   pub search : new.search ≡ old.search
 
 -- what a line of a report says is counted, if it is the line of a representative

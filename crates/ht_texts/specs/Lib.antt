@@ -4,6 +4,7 @@ pub mod Numbers
 pub mod Fronts
 pub mod Tests
 pub mod StartTexts
+pub mod FaultListTexts
 pub mod Sites
 pub mod Verdicts
 pub mod Counts

@@ -9,7 +9,8 @@ use Rattle.ht_texts.specs.declared.said.Said.{Said}
 use Rattle.ht_texts.specs.declared.said.Said.TheVariants.{Undetected}
 use Rattle.ht_texts.specs.declared.total.Sums.{Sums}
 use Rattle.ht_texts.specs.Reports.{head_line, fault_line, total_line}
-use Rattle.ht_texts.specs.SearchReports.{IsBudget, IsSearched}
+use Rattle.ht_texts.specs.SearchReports.{IsBudget}
+use Rattle.ht_texts.specs.Verdicts.{IsSayable}
 
 -- the line of fault i, where this is said of it
 pub record SaysOfFault (c : Netlist) (representatives : List ℕ) (i : ℕ) (own : Bool) (line : List ℕ) (said : Said)
@@ -23,7 +24,7 @@ abbrev pub SaysItem : Netlist → List ℕ → ℕ → Sums → List ℕ → Ite
 SaysItem c representatives n sums line (Head budget) =
     (n ≡ 0) × IsBudget budget × (line ≡ head_line c representatives (Some budget))
 SaysItem c representatives n sums line (Verdict i said) =
-    (n ≡ i + 1) × IsSearched c said × SaysOfFault c representatives i true line said
+    (n ≡ i + 1) × IsSayable c said × SaysOfFault c representatives i true line said
 SaysItem c representatives n sums line (Member i) =
     (n ≡ i + 1) × SaysOfFault c representatives i false line Undetected
 SaysItem c representatives n sums line Total = (n ≡ length (faults_of c) + 1) × (line ≡ total_line sums)

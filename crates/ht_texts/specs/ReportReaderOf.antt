@@ -1,10 +1,11 @@
--- How the fields of a reader of reports stand for what it keeps.
+-- What the fields of a reader of reports stand for.
 use Rattle.std.specs.Prelude.{◌≡◌, ◌<◌, ◌≤◌, ◌+◌, ◌-◌, ◌^◌, true, length}
 use Rattle.ht_faults.specs.Sites.{faults_of}
 use Rattle.ht_collapse.specs.Classes.{AreClasses, class_count}
 use Rattle.ht_texts.specs.ReportStands.{ReportView}
 use Rattle.ht_texts.specs.declared.report_reader.ReportReader.TheInside.{Inside}
 
+-- the fields as what the reader keeps
 abbrev pub report_view : Inside → ReportView
 report_view a = record {
   circuit = a.circuit.now;
@@ -26,3 +27,5 @@ pub record ReadsReport (a : Inside) : Type 0 where
   pub few_detected : a.sums.detected ≤ a.lines_read - 1
   pub few_untestable : a.sums.untestable ≤ a.lines_read - 1
   pub few_aborted : a.sums.aborted ≤ a.lines_read - 1
+  pub few_undetectable : a.sums.undetectable ≤ a.lines_read - 1
+  pub few_undetected : a.sums.undetected ≤ a.lines_read - 1

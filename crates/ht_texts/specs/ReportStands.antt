@@ -9,6 +9,7 @@ use Rattle.ht_texts.specs.Counts.{sums_among, representatives_below}
 use Rattle.ht_texts.specs.SearchReports.{IsSearchReport, IsReportFront}
 use Rattle.ht_texts.specs.ReportReading.{ReportReading, after_report, saids_read, ReportReadsTo, last_item, read_on}
 
+-- what a reader of a report keeps
 pub record ReportView : Type 0 where
   pub circuit : Netlist
   pub representatives : List ℕ

@@ -1,7 +1,7 @@
 -- A report: a head line, a line for each fault, and the total. Lines are without their LF. A list of representatives
 -- has the number of each fault's representative, from 0. The report of a search has a budget, that of a simulation
 -- has none.
-use Rattle.std.specs.Prelude.{ℕ, ◌+◌, List, [], ◌∷◌, ◌++◌, if◌then◌else◌, length, get_or, map, Option, Some, None, is_some, codes}
+use Rattle.std.specs.Prelude.{ℕ, ◌+◌, ◌==◌, List, [], ◌∷◌, ◌++◌, if◌then◌else◌, length, get_or, map, Option, Some, None, is_some, codes}
 use Rattle.std.specs.Fmt.{decimal}
 use Rattle.std.specs.List.{range_with_len}
 use Rattle.ht_net.specs.declared.fault.Fault.{Fault}
@@ -34,6 +34,7 @@ abbrev pub budget_text : Option ℕ → List ℕ
 budget_text None = []
 budget_text (Some budget) = codes " budget " ++ decimal budget
 
+-- the first line of a report
 abbrev pub head_line : Netlist → List ℕ → Option ℕ → List ℕ
 head_line c representatives budget = circuit_sizes c ++ fault_sizes c representatives ++ budget_text budget
 
@@ -53,6 +54,7 @@ outcome_text c representatives i said =
 abbrev pub line_front : Netlist → ℕ → List ℕ
 line_front c i = decimal (i + 1) ++ codes " " ++ fault_text c (fault_at c i) ++ codes " "
 
+-- the line of fault i, of which this is said
 abbrev pub fault_line : Netlist → List ℕ → ℕ → Said → List ℕ
 fault_line c representatives i said = line_front c i ++ outcome_text c representatives i said
 
@@ -63,9 +65,14 @@ fault_lines c representatives saids n =
 
 -- ---- the total
 
+-- a word and how many there are, or nothing where there are none
+abbrev pub some_text : List ℕ → ℕ → List ℕ
+some_text word count = if count == 0 then [] else word ++ decimal count
+
 -- what only a search counts
 abbrev pub search_text : Sums → List ℕ
 search_text sums = codes " untestable " ++ decimal sums.untestable ++ codes " aborted " ++ decimal sums.aborted
+    ++ some_text (codes " undetectable ") sums.undetectable ++ some_text (codes " undetected ") sums.undetected
 
 -- how many classes there are, and of how many of them each verdict is said
 abbrev pub total_line : Sums → List ℕ
@@ -88,13 +95,15 @@ body_lines c representatives budget saids = first_lines c representatives budget
 abbrev pub report_sums : List ℕ → Option ℕ → List Said → Sums
 report_sums representatives budget saids = sums_of representatives saids (is_some budget)
 
+-- the lines of the report
 abbrev pub report_lines : Netlist → List ℕ → Option ℕ → List Said → List (List ℕ)
 report_lines c representatives budget saids =
     body_lines c representatives budget saids ++ total_line (report_sums representatives budget saids) ∷ []
 
--- the text of the report, and of the report without its last line
+-- the text of the report
 abbrev pub report_text : Netlist → List ℕ → Option ℕ → List Said → List ℕ
 report_text c representatives budget saids = with_lfs (report_lines c representatives budget saids)
 
+-- the text without its last line
 abbrev pub report_body : Netlist → List ℕ → Option ℕ → List Said → List ℕ
 report_body c representatives budget saids = with_lfs (body_lines c representatives budget saids)

@@ -1,36 +1,24 @@
--- The report of a search: what it can say, which texts are one, and where a text that is none goes wrong.
-use Rattle.std.specs.Prelude.{◌≡◌, ◌≢◌, ◌==◌, ℕ, ◌+◌, ◌<◌, ◌≤◌, ◌⊎◌, List, ◌++◌, take, Bool, true, not, ◌&&◌, IsTrue, length, Some}
+-- The report of a search: what it may say, which texts are one, and where a text that is none goes wrong.
+use Rattle.std.specs.Prelude.{◌≡◌, ◌==◌, ℕ, ◌+◌, ◌<◌, ◌≤◌, ◌⊎◌, List, ◌++◌, take, Bool, not, ◌&&◌, IsTrue, length, Some}
 use Rattle.std.specs.List.{All, list_all}
 use Rattle.ht_net.specs.Netlist.{Netlist}
 use Rattle.ht_faults.specs.Sites.{faults_of}
-use Rattle.ht_collapse.specs.Classes.{is_representative}
 use Rattle.ht_ports.specs.LineRule.{lines_of, max_text_bytes}
 use Rattle.ht_tree.specs.declared.limits.TheConstants.{MAX_BUDGET}
 use Rattle.ht_texts.specs.declared.said.Said.{Said}
-use Rattle.ht_texts.specs.declared.said.Said.TheVariants.{Undetected}
 use Rattle.ht_texts.specs.Tests.{IsTooLong}
-use Rattle.ht_texts.specs.Verdicts.{said_at, IsSayable}
+use Rattle.ht_texts.specs.Verdicts.{AreSayableTo}
 use Rattle.ht_texts.specs.Reports.{report_lines}
 
 -- the budget of a search
 abbrev pub IsBudget : ℕ → Type 0
 IsBudget budget = (0 < budget) × (budget ≤ MAX_BUDGET)
 
--- A search can say it of a representative: it never says that a fault is just undetected.
-pub record IsSearched (c : Netlist) (said : Said) : Type 0 where
-  pub sayable : IsSayable c said
-  pub decided : said ≢ Undetected
-
--- something is said of each of the first n faults, and of the representatives among them what a search can say
-pub record AreSearched (c : Netlist) (representatives : List ℕ) (n : ℕ) (saids : List Said) : Type 0 where
-  pub each : length saids ≡ n
-  pub listed : n ≤ length (faults_of c)
-  pub searched : (i : ℕ) → i < n → is_representative representatives i ≡ true → IsSearched c (said_at saids i)
-
--- a budget, and what is said of the first n faults
+-- a budget, and what may be said of the first n faults
 pub record IsSearchOf (c : Netlist) (representatives : List ℕ) (n budget : ℕ) (saids : List Said) : Type 0 where
   pub budget_is : IsBudget budget
-  pub saids_are : AreSearched c representatives n saids
+  pub listed : n ≤ length (faults_of c)
+  pub saids_are : AreSayableTo c representatives n saids
 
 -- ---- lines
 

@@ -2,6 +2,8 @@
 use Rattle.std.specs.Prelude.{◌≡◌, ◌==◌, ◌⊎◌, ◌<◌, ◌≤◌, ◌+◌, ◌-◌, ℕ, List, [], Bool, true, false, length, take, map, get_or}
 use Rattle.std.specs.List.{All, count_by}
 use Rattle.ht_net.specs.Netlist.{Netlist}
+use Rattle.ht_tern.specs.declared.tern.Tern.{Tern}
+use Rattle.ht_tern.specs.declared.tern.Tern.TheVariants.{Zero, One, Unk}
 use Rattle.ht_ports.specs.LineRule.{lines_of, max_text_bytes}
 use Rattle.ht_texts.specs.Lines.{with_lfs}
 
@@ -9,6 +11,12 @@ use Rattle.ht_texts.specs.Lines.{with_lfs}
 abbrev pub bit_code : Bool → ℕ
 bit_code false = 48
 bit_code true = 49
+
+-- the character of a three-valued value, `0`, `1`, or `X` for unknown
+abbrev pub tern_code : Tern → ℕ
+tern_code Zero = 48
+tern_code One = 49
+tern_code Unk = 88
 
 -- the characters of a vector, in input order
 abbrev pub vector_text : List Bool → List ℕ

@@ -1,6 +1,6 @@
 -- What a report says of the representatives of classes. A list has what is said of each fault, by number from 0; of a
 -- fault that isn't its own representative it has no effect.
-use Rattle.std.specs.Prelude.{◌≡◌, ℕ, ◌+◌, ◌<◌, List, ◌++◌, Bool, true, false, length, get_or, map, Option, Some, None, codes}
+use Rattle.std.specs.Prelude.{◌≡◌, ◌==◌, ℕ, ◌+◌, ◌<◌, List, ◌++◌, Bool, true, length, get_or, map, Option, Some, None, codes}
 use Rattle.std.specs.Fmt.{decimal}
 use Rattle.ht_net.specs.declared.place.Place.{Place}
 use Rattle.ht_net.specs.Netlist.{Netlist}
@@ -8,9 +8,10 @@ use Rattle.ht_net.specs.Detection.{IsPlace}
 use Rattle.ht_faults.specs.Sites.{faults_of}
 use Rattle.ht_collapse.specs.Classes.{is_representative}
 use Rattle.ht_texts.specs.declared.said.Said.{Said}
-use Rattle.ht_texts.specs.declared.said.Said.TheVariants.{Detected, Untestable, Aborted, Undetected}
+use Rattle.ht_texts.specs.declared.said.Said.TheVariants.{Detected, Untestable, Undetectable, Aborted, Undetected}
 use Rattle.ht_texts.specs.Sites.{output_text}
 
+-- what is said of fault i; nothing more than undetected after the last fault
 abbrev pub said_at : List Said → ℕ → Said
 said_at saids i = get_or saids i Undetected
 
@@ -20,14 +21,18 @@ said_at saids i = get_or saids i Undetected
 abbrev pub IsSayable : Netlist → Said → Type 0
 IsSayable c (Detected place) = IsPlace c place
 IsSayable c Untestable = Unit {0}
+IsSayable c Undetectable = Unit {0}
 IsSayable c Aborted = Unit {0}
 IsSayable c Undetected = Unit {0}
 
--- something is said of each fault of the list, and of each representative what may be said
-pub record AreSayable (c : Netlist) (representatives : List ℕ) (saids : List Said) : Type 0 where
-  pub each : length saids ≡ length (faults_of c)
-  pub sayable : (i : ℕ) → i < length (faults_of c) → is_representative representatives i ≡ true
-      → IsSayable c (said_at saids i)
+-- something is said of each of the first n faults, and of each representative among them what may be said
+pub record AreSayableTo (c : Netlist) (representatives : List ℕ) (n : ℕ) (saids : List Said) : Type 0 where
+  pub each : length saids ≡ n
+  pub sayable : (i : ℕ) → i < n → is_representative representatives i ≡ true → IsSayable c (said_at saids i)
+
+-- the same of each fault of the list
+abbrev pub AreSayable : Netlist → List ℕ → List Said → Type 0
+AreSayable c representatives saids = AreSayableTo c representatives (length (faults_of c)) saids
 
 -- ---- the words
 
@@ -39,28 +44,39 @@ place_text c place = decimal (place.vector + 1) ++ codes " " ++ output_text c pl
 abbrev pub verdict_text : Netlist → Said → List ℕ
 verdict_text c (Detected place) = codes "detected " ++ place_text c place
 verdict_text c Untestable = codes "untestable"
+verdict_text c Undetectable = codes "undetectable"
 verdict_text c Aborted = codes "aborted"
 verdict_text c Undetected = codes "undetected"
 
 -- ---- the kinds of verdict
 
+-- the number of a verdict's kind: all detections are of one kind
+abbrev pub kind_number : Said → ℕ
+kind_number (Detected place) = 0
+kind_number Untestable = 1
+kind_number Undetectable = 2
+kind_number Aborted = 3
+kind_number Undetected = 4
+
+-- the verdict is a detection
 abbrev pub says_detected : Said → Bool
-says_detected (Detected place) = true
-says_detected Untestable = false
-says_detected Aborted = false
-says_detected Undetected = false
+says_detected said = kind_number said == 0
 
+-- the verdict is `untestable`
 abbrev pub says_untestable : Said → Bool
-says_untestable (Detected place) = false
-says_untestable Untestable = true
-says_untestable Aborted = false
-says_untestable Undetected = false
+says_untestable said = kind_number said == 1
 
+-- the verdict is `undetectable`
+abbrev pub says_undetectable : Said → Bool
+says_undetectable said = kind_number said == 2
+
+-- the verdict is `aborted`
 abbrev pub says_aborted : Said → Bool
-says_aborted (Detected place) = false
-says_aborted Untestable = false
-says_aborted Aborted = true
-says_aborted Undetected = false
+says_aborted said = kind_number said == 3
+
+-- the verdict is `undetected`
+abbrev pub says_undetected : Said → Bool
+says_undetected said = kind_number said == 4
 
 -- ---- what is said where vectors are simulated
 
@@ -69,5 +85,6 @@ abbrev pub said_of : Option Place → Said
 said_of None = Undetected
 said_of (Some place) = Detected place
 
+-- of each fault, by its first detection
 abbrev pub saids_of : List (Option Place) → List Said
 saids_of places = map said_of places

@@ -41,6 +41,8 @@ impl Sums {
             detected: 0,
             untestable: 0,
             aborted: 0,
+            undetectable: 0,
+            undetected: 0,
             search,
         }
     }
@@ -50,6 +52,8 @@ impl Sums {
         requires detected { self.old.detected < 2 ^ 32 - 1 }
         requires untestable { self.old.untestable < 2 ^ 32 - 1 }
         requires aborted { self.old.aborted < 2 ^ 32 - 1 }
+        requires undetectable { self.old.undetectable < 2 ^ 32 - 1 }
+        requires undetected { self.old.undetected < 2 ^ 32 - 1 }
         ensures { CountsItem item self.old self.new }
     {
         if let Item::Verdict { said, .. } = item {
@@ -62,13 +66,16 @@ impl Sums {
         requires detected { self.old.detected < 2 ^ 32 - 1 }
         requires untestable { self.old.untestable < 2 ^ 32 - 1 }
         requires aborted { self.old.aborted < 2 ^ 32 - 1 }
+        requires undetectable { self.old.undetectable < 2 ^ 32 - 1 }
+        requires undetected { self.old.undetected < 2 ^ 32 - 1 }
         ensures { CountsOne said self.old self.new }
     {
         match said {
             Said::Detected(_) => self.detected += 1,
             Said::Untestable => self.untestable += 1,
+            Said::Undetectable => self.undetectable += 1,
             Said::Aborted => self.aborted += 1,
-            Said::Undetected => {}
+            Said::Undetected => self.undetected += 1,
         }
     }
 }

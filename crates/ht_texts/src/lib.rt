@@ -1,4 +1,4 @@
-//! The texts of vectors, of reports and of starts: what they are, as definitions over bytes, and the calls that write
+//! The texts of vectors, of reports, of starts and of lists of faults: what they are, as definitions over bytes, and the calls that write
 //! and read them.
 //!
 //! `specs/Numbers` says which bytes are a number; `specs/Tests` which are a list of vectors, and at which line a text
@@ -7,12 +7,14 @@
 //! texts are the report of a search, and at which line another goes wrong. A `ReportReader` takes such a report line by
 //! line: `specs/ReportReading` says how far it is read and what a line says, `specs/ReportStands` what the reader
 //! keeps. `specs/LineLengths` says how long its lines are at most. `specs/StartTexts` says which texts are that of a
-//! start, what each flip-flop holds before the first vector.
+//! start, what each flip-flop holds before the first vector, and `specs/FaultListTexts` which are a list of faults.
 #![tactic(auto)]
 
 mod body;
+mod character;
 mod class_counts;
 mod fault_line;
+mod fault_number;
 mod head;
 mod item;
 mod limits;
@@ -33,7 +35,9 @@ mod total;
 mod vector;
 
 pub use body::write_body;
+pub use character::tern_character;
 pub use fault_line::write_fault;
+pub use fault_number::push_fault_number;
 pub use head::write_head;
 pub use item::Item;
 pub use limits::MAX_LINE_BYTES;
@@ -43,9 +47,9 @@ pub use report_reader::ReportReader;
 pub use said::{Said, saids_of};
 pub use start_line::read_start;
 pub use theorems::{
-    first_wrong_report_line, report_fronts_are_read, report_lines_are_short, reports_are_read,
-    reports_say_one_thing, tests_are_read, texts_are_reports_or_malformed,
-    texts_are_starts_or_malformed, texts_are_tests_or_malformed,
+    fault_lists_are_read, first_wrong_report_line, report_fronts_are_read, report_lines_are_short,
+    reports_are_read, reports_say_one_thing, tests_are_read, texts_are_fault_lists_or_malformed,
+    texts_are_reports_or_malformed, texts_are_starts_or_malformed, texts_are_tests_or_malformed,
 };
 pub use total::{Sums, write_total};
 pub use vector::{read_vector, write_vector};

@@ -1,7 +1,7 @@
 //! The total line of a report, read.
 ghost use Rattle.std.specs.Prelude.{◌≡◌, ◌↔◌, IsTrue};
 ghost use Rattle.ht_texts.specs.Fronts.{Strips};
-ghost use Rattle.ht_texts.specs.Reports.{search_text, total_line};
+ghost use Rattle.ht_texts.specs.Reports.{search_text, some_text, total_line};
 
 use crate::strip::strip_counted;
 use crate::total::Sums;
@@ -34,5 +34,17 @@ fn strip_search(text: Option<&[u8]>, sums: Sums) -> Option<&[u8]>
     ensures { Strips (search_text sums) text.entry result }
 {
     let rest = strip_counted(text, b" untestable ", sums.untestable);
-    strip_counted(rest, b" aborted ", sums.aborted)
+    let rest = strip_counted(rest, b" aborted ", sums.aborted);
+    let rest = strip_some(rest, b" undetectable ", sums.undetectable);
+    strip_some(rest, b" undetected ", sums.undetected)
+}
+
+// What follows a word and how many there are, if there are any.
+fn strip_some<'t>(text: Option<&'t [u8]>, word: &[u8], count: u32) -> Option<&'t [u8]>
+    ensures { Strips (some_text word.now count) text.entry result }
+{
+    if count == 0 {
+        return text;
+    }
+    strip_counted(text, word, count)
 }

@@ -1,11 +1,11 @@
-//! What a search's report says of a class, read.
-ghost use Rattle.std.specs.Prelude.{◌≡◌, ◌≢◌, ◌<◌, ◌==◌, ℕ, length, position, MatchOption};
+//! What a report says of a class, read.
+ghost use Rattle.std.specs.Prelude.{◌≡◌, ◌≢◌, ◌<◌, ◌==◌, ℕ, false, length, position, MatchOption};
 ghost use Rattle.ht_net.specs.declared.place.Place.{Place};
 ghost use Rattle.ht_net.specs.Detection.{IsPlace};
+ghost use Rattle.ht_net.specs.Netlist.{Netlist};
 ghost use Rattle.ht_texts.specs.declared.said.Said.{Said};
 ghost use Rattle.ht_texts.specs.Sites.{output_text};
-ghost use Rattle.ht_texts.specs.Verdicts.{place_text, verdict_text};
-ghost use Rattle.ht_texts.specs.SearchReports.{IsSearched};
+ghost use Rattle.ht_texts.specs.Verdicts.{IsSayable, place_text, says_detected, verdict_text};
 
 use crate::number::read_number;
 use crate::said::Said;
@@ -13,21 +13,39 @@ use crate::site::output_name;
 use crate::strip::strip_word;
 use ht_net::{Circuit, Place};
 
-// The verdict that the text is, or `None` where a search says none such.
+// The verdict that the text is, or `None` where it is none.
 pub fn read_verdict(circuit: &Circuit, text: &[u8]) -> Option<Said>
     ensures { MatchOption result
-        ((said : Said) → IsSearched circuit.now said → text.now ≢ verdict_text circuit.now said)
-        (λ said. IsSearched circuit.now said × (text.now ≡ verdict_text circuit.now said)) }
+        ((said : Said) → IsSayable circuit.now said → text.now ≢ verdict_text circuit.now said)
+        (λ said. IsSayable circuit.now said × (text.now ≡ verdict_text circuit.now said)) }
 {
-    if text == b"untestable".as_slice() {
-        return Some(Said::Untestable);
-    }
-    if text == b"aborted".as_slice() {
-        return Some(Said::Aborted);
+    if let Some(said) = read_word(text) {
+        return Some(said);
     }
     let rest = strip_word(Some(text), b"detected ")?;
     let place = read_place(circuit, rest)?;
     Some(Said::Detected(place))
+}
+
+// The verdict without a place that the text is.
+fn read_word(text: &[u8]) -> Option<Said>
+    ensures { (c : Netlist) → MatchOption result
+        ((said : Said) → says_detected said ≡ false → text.now ≢ verdict_text c said)
+        (λ said. (says_detected said ≡ false) × (text.now ≡ verdict_text c said)) }
+{
+    if text == b"untestable".as_slice() {
+        return Some(Said::Untestable);
+    }
+    if text == b"undetectable".as_slice() {
+        return Some(Said::Undetectable);
+    }
+    if text == b"aborted".as_slice() {
+        return Some(Said::Aborted);
+    }
+    if text == b"undetected".as_slice() {
+        return Some(Said::Undetected);
+    }
+    None
 }
 
 // The place that the text is: the number of its vector from 1, a space, and the name of its output.

@@ -17,9 +17,11 @@ pub enum Said {
     Detected(Place),
     /// No list of vectors detects the fault: it was proved.
     Untestable,
+    /// The same was proved, but a chip with the fault may differ from a good one where both start in some states.
+    Undetectable,
     /// The search ended without an answer.
     Aborted,
-    /// The vectors that were simulated don't detect the fault.
+    /// The vectors that were simulated don't detect the fault, and nothing more was asked.
     Undetected,
 }
 
@@ -54,6 +56,7 @@ pub fn push_verdict(text: &mut Vec<u8>, circuit: &Circuit, said: Said) -> Result
     match said {
         Said::Detected(place) => push_detection(text, circuit, place),
         Said::Untestable => text.extend_from_slice(b"untestable"),
+        Said::Undetectable => text.extend_from_slice(b"undetectable"),
         Said::Aborted => text.extend_from_slice(b"aborted"),
         Said::Undetected => text.extend_from_slice(b"undetected"),
     }

@@ -1,6 +1,6 @@
-//! Which texts are tests, which are reports, and which are starts. Each theorem is the contract of a function that does
+//! Which texts are tests, reports, starts and lists of faults. Each theorem is the contract of a function that does
 //! nothing.
-ghost use Rattle.std.specs.Prelude.{◌≡◌, ◌<◌, ◌≤◌, ◌+◌, ◌⊎◌, ◌++◌, ◌∷◌, [], ℕ, List, Bool, Some, length, take};
+ghost use Rattle.std.specs.Prelude.{◌≡◌, ◌<◌, ◌≤◌, ◌+◌, ◌^◌, ◌⊎◌, ◌++◌, ◌∷◌, [], ℕ, List, Bool, Some, length, take};
 ghost use Rattle.std.specs.List.{All};
 ghost use Rattle.ht_ports.specs.LineRule.{lines_of, max_text_bytes};
 ghost use Rattle.ht_net.specs.Netlist.{Netlist, IsCircuit};
@@ -9,6 +9,7 @@ ghost use Rattle.ht_collapse.specs.Classes.{AreClasses};
 ghost use Rattle.ht_texts.specs.declared.said.Said.{Said};
 ghost use Rattle.ht_texts.specs.Tests.{test_text, line_at, IsTestText, IsTooLong, IsMalformedTest, IsTestOrMalformed};
 ghost use Rattle.ht_texts.specs.StartTexts.{IsStartOrMalformed};
+ghost use Rattle.ht_texts.specs.FaultListTexts.{AreFaultLines, IsFaultListOrMalformed, IsNoFaultLine};
 ghost use Rattle.ht_texts.specs.Reports.{report_text};
 ghost use Rattle.ht_texts.specs.LineLengths.{IsShortLine};
 ghost use Rattle.ht_texts.specs.SearchReports.{HasPlainNames, HasShortNames, IsSearchOf, IsReportFront};
@@ -34,6 +35,22 @@ pub fn texts_are_tests_or_malformed()
 /// A text is that of one start of so many flip-flops, or malformed at one line: never both, and never neither.
 pub fn texts_are_starts_or_malformed()
     ensures { (width : ℕ) (text : List ℕ) → IsStartOrMalformed width text }
+{}
+
+/// A text is that of one list of faults, of which a circuit has so many, or malformed at one line: never both, and never
+/// neither.
+pub fn texts_are_fault_lists_or_malformed()
+    ensures { (count : ℕ) (text : List ℕ) → count < 2 ^ 64 → IsFaultListOrMalformed count text }
+{}
+
+/// No line of a list of faults has more than `MAX_LINE_BYTES` bytes, and where the first n lines of a text are those of
+/// such a list, none of them is wrong: so a reader goes line by line.
+pub fn fault_lists_are_read()
+    ensures short { (count : ℕ) (lines : List (List ℕ)) (numbers : List ℕ) → count < 2 ^ 64
+        → AreFaultLines count lines numbers → All IsShortLine lines }
+    ensures read { (count : ℕ) (text numbers : List ℕ) (n m : ℕ)
+        → AreFaultLines count (take n (lines_of text)) numbers → n ≤ length (lines_of text) → m ≤ n
+        → ¬ IsNoFaultLine count text m }
 {}
 
 /// Lines that begin a report of a search are read, lines that are read begin such a report, and they are read in one

@@ -1,7 +1,7 @@
 //! The sums of a report, and its total line.
 ghost use Rattle.std.specs.Prelude.{◌≡◌, ◌++◌, IfOk, OnOk};
 ghost use Rattle.ht_texts.specs.Lines.{with_lf};
-ghost use Rattle.ht_texts.specs.Reports.{search_text, total_line};
+ghost use Rattle.ht_texts.specs.Reports.{search_text, some_text, total_line};
 
 use crate::number::push_counted;
 use std::alloc::{AllocError, Global};
@@ -13,13 +13,16 @@ pub struct Sums {
     pub detected: u32,
     pub untestable: u32,
     pub aborted: u32,
-    /// Whether faults were searched for, and not only simulated: only then the total says how many classes are
-    /// untestable and how many were given up.
+    pub undetectable: u32,
+    pub undetected: u32,
+    /// Whether faults were searched for, and not only simulated: only then the total says how many classes have
+    /// the other verdicts.
     pub search: bool,
 }
 
 /// The last line of a report, with its LF: `total 32 detected 2`, and of a search
-/// `total 32 detected 30 untestable 1 aborted 1`.
+/// `total 32 detected 30 untestable 1 aborted 1`. Where classes are undetectable or undetected, a search's ends with
+/// their numbers too, as in `total 6 detected 0 untestable 1 aborted 0 undetectable 2 undetected 3`.
 ///
 /// # Errors
 ///
@@ -42,5 +45,17 @@ fn push_search(text: &mut Vec<u8>, sums: Sums) -> Result<(), AllocError>
     ensures { OnOk result (text.new.items ≡ text.old.items ++ search_text sums) }
 {
     push_counted(text, b" untestable ", sums.untestable)?;
-    push_counted(text, b" aborted ", sums.aborted)
+    push_counted(text, b" aborted ", sums.aborted)?;
+    push_some(text, b" undetectable ", sums.undetectable)?;
+    push_some(text, b" undetected ", sums.undetected)
+}
+
+// Appends a word and how many there are, if there are any.
+fn push_some(text: &mut Vec<u8>, word: &[u8], count: u32) -> Result<(), AllocError>
+    ensures { OnOk result (text.new.items ≡ text.old.items ++ some_text word.now count) }
+{
+    if count == 0 {
+        return Ok(());
+    }
+    push_counted(text, word, count)
 }

@@ -37,17 +37,19 @@ sought_choice w path difference = choice_if_open (without_place (status_at w pat
 sought_choice w path (breach literals) =
     back_from w path (find (λ (literal : Literal). is_undetermined (set_at w path 0 (State literal.dff))) literals)
 
--- The choice for a clause: the first literal's latch that the path doesn't decide, first to its bit. Any choice where
--- there is no clause or no literal.
+-- the choice of a literal's latch, first to its bit; any choice where there is no literal
 abbrev pub to_literal : Netlist → Option Literal → Choice
 to_literal c None = Two 0 true
 to_literal c (Some literal) = Two (c.inputs + literal.dff) literal.value
 
+-- The choice for a clause: the first literal's latch that the path doesn't decide, first to its bit. Any choice where
+-- there is no clause or no literal.
 abbrev pub to_clause : Netlist → List Assign3 → Option (List Literal) → Choice
 to_clause c path None = Two 0 true
 to_clause c path (Some literals) =
     to_literal c (find (λ (literal : Literal). not (decides path (c.inputs + literal.dff))) literals)
 
+-- a choice, or another where there is none
 abbrev pub choice_or : Choice → Option Choice → Choice
 choice_or other None = other
 choice_or other (Some choice) = choice

@@ -13,13 +13,15 @@
 //! where none is found), `Budgets` (which are enough) and `Entries` (what an entry says). Of states that meet clauses
 //! speak `Clauses` (which are met and broken), `ClauseWindows` and `ClauseSearches` (windows under them, and the choice
 //! of variable there), `Invariants` (those that no frame leaves), `SealedInClauses`, `RefutationsFrom` (refutations
-//! from one named state) and `ToldUnder`. What they are good for stands in `theorems`, of clauses in ht_clauses, and in
-//! ht_records what follows for every list of vectors.
+//! from one named state) and `ToldUnder`. Of sets of pairs speak `ClosedFamilies` (a set for each flip-flop that no
+//! vector leads out of) and `FamilyRows` (those of an entry). What they are good for stands in `theorems`, of clauses in
+//! ht_clauses, and in ht_records what follows for every list of vectors.
 #![tactic(auto)]
 
 mod aim;
 mod clause;
 mod entry;
+mod family_row;
 mod kind;
 mod limits;
 mod node;
@@ -33,6 +35,7 @@ mod window;
 pub use aim::Aim;
 pub use clause::{Clause, Literal};
 pub use entry::Entry;
+pub use family_row::FamilyRow;
 pub use kind::EntryKind;
 pub use limits::{BACK_LIMIT, FORWARD_FRAMES, MAX_BUDGET, MAX_CLAUSES};
 pub use node::WalkNode;

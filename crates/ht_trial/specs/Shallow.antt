@@ -27,6 +27,7 @@ few_of c unknown n h = cc
 few_of c (state_pair good faulty) n h = cc
 few_of c (back cube limit) n h = below limit (length n.windows) (list_any is_definite (cube_of c (path_of n))) h
 
+-- A walk of a window stacks fewer windows than the start lets it.
 pub window_shallow : (w : SearchWindow)
     → (most : ℕ) × ((n : Node) → IsTrue ((judge_of w).before n) → length n.windows < most)
 window_shallow w = (most_windows w.start, few_of w.circuit w.start)

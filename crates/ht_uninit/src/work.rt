@@ -1,4 +1,4 @@
-//! The flip-flops that never get a definite value, the outputs that never show one, and the faults that they hide.
+//! Flip-flops that never get a definite value, outputs that never show one, and the faults that they hide.
 ghost use Rattle.std.specs.Prelude.{◌≡◌, ◌<◌, [], length, map, IfOk};
 ghost use Rattle.std.specs.List.{All, range_with_len};
 ghost use Rattle.ht_net.specs.Netlist.{net_count};
@@ -92,8 +92,8 @@ fn hidden_faults(
     Ok(hidden)
 }
 
-/// Finds the flip-flops that are unknown after every list of vectors, the outputs that are then always unknown, and
-/// which of the given faults they hide. Each search has the whole budget, of which a token takes one.
+/// Finds flip-flops that never get a definite value, outputs that never show one for that reason, and which of the given
+/// faults they hide. Each search has the whole budget, of which a token takes one.
 ///
 /// # Errors
 /// Out of memory.

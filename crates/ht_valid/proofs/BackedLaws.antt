@@ -1,4 +1,4 @@
--- What is justified backs what is said of each fault that needs an entry; what valid files say is justified.
+-- What is justified backs what is said of each fault that needs an entry.
 use Rattle.std.proofs.Common.{◌≡◌, ◌∙◌, ◌+◌, ◌-◌, ℕ, List, get_or, length, ap, arith, subst}
 use Rattle.std.specs.Prelude.{◌<◌}
 use Rattle.std.specs.List.{Contains}
@@ -24,12 +24,6 @@ pub record IsBacked (c : Netlist) (content : Content) (i : ℕ) (said : Said) : 
 -- so it is where what is said needs an entry
 abbrev pub IsBackedIfNeeded : Netlist → Content → ℕ → Said → Type 0
 IsBackedIfNeeded c content i said = NeedsEntry said → IsBacked c content i said
-
-pub justified : (c : Netlist) (representatives : List ℕ) (start : List Tern) (tests report proofs : List ℕ)
-    (content : Content) → AreValid c representatives start tests report proofs content
-    → IsJustified c representatives content
-justified c representatives start tests report proofs content valid =
-    record { agrees = valid.agrees; backed = valid.backed; complete = valid.complete }
 
 -- the start of valid files has a value for each latch
 pub valid_latches : (c : Netlist) (representatives : List ℕ) (start : List Tern) (tests report proofs : List ℕ)

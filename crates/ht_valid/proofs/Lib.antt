@@ -5,6 +5,7 @@ pub mod DecidedLaws
 pub mod TokenTextLaws
 pub mod SweepTextLaws
 pub mod FromTextLaws
+pub mod SetTextLaws
 pub mod EntryTextLaws
 pub mod NextLaws
 pub mod ReportTroubleLaws

@@ -1,6 +1,7 @@
--- What entries of the kind untestable say of each fault of a class: what they mean of the representative, they mean of
+-- What entries that aren't abort records say of each fault of a class: what they mean of the representative, they mean of
 -- its members, and no list of vectors detects these, from all-unknown or from a start that allows the entry.
 use Rattle.std.proofs.Common.{◌≡◌, ◌∙◌, ℕ, List, [], ◌∷◌, Bool, get_or, None, ap, refl, subst}
+use Rattle.std.specs.Prelude.{◌≢◌}
 use Rattle.ht_tern.specs.declared.tern.Tern.{Tern}
 use Rattle.ht_net.specs.declared.fault.Fault.{Fault}
 use Rattle.ht_net.specs.Netlist.{Netlist, IsCircuit}
@@ -15,6 +16,7 @@ use Rattle.ht_tree.specs.declared.clause.Clause.{Clause}
 use Rattle.ht_tree.specs.declared.clause.Literal.{Literal}
 use Rattle.ht_tree.specs.declared.entry.Entry.{Entry}
 use Rattle.ht_tree.specs.declared.entry.Entry.TheVariants as entries
+use Rattle.ht_tree.specs.declared.kind.EntryKind.{EntryKind}
 use Rattle.ht_tree.specs.declared.kind.EntryKind.TheVariants as kinds
 use Rattle.ht_tree.specs.Clauses.{literals_of_each}
 use Rattle.ht_tree.specs.Decisions.{is_in}
@@ -22,35 +24,59 @@ use Rattle.ht_tree.specs.Entries.{AllowsEntry, Means, kind_of}
 use Rattle.ht_tree.specs.Refutations.{IsUntestable}
 use Rattle.ht_tree.specs.RefutationsFrom.{IsUntestableFrom}
 use Rattle.ht_tree.specs.SealedInClauses.{SealedIn}
-use Rattle.ht_texts.specs.declared.said.Said.TheVariants.{Untestable}
 use Rattle.ht_valid.specs.ValidFiles.{said_by_kind}
 
-pub kind_said : (e : Entry) → said_by_kind (kind_of e) ≡ Untestable → kind_of e ≡ kinds.Untestable
-kind_said (entries.Untestable z tokens) is = refl
-kind_said (entries.UntestableFrom state clauses z tokens) is = refl
-kind_said (entries.Aborted told walk aim sweep) is = cc
+-- kinds of which entries say the same are the same
+one_kind : (a b : EntryKind) → said_by_kind a ≡ said_by_kind b → a ≡ b
+one_kind kinds.Untestable kinds.Untestable is = refl
+one_kind kinds.Untestable kinds.Undetectable is = absurd cc
+one_kind kinds.Untestable kinds.Aborted is = absurd cc
+one_kind kinds.Undetectable kinds.Untestable is = absurd cc
+one_kind kinds.Undetectable kinds.Undetectable is = refl
+one_kind kinds.Undetectable kinds.Aborted is = absurd cc
+one_kind kinds.Aborted kinds.Untestable is = absurd cc
+one_kind kinds.Aborted kinds.Undetectable is = absurd cc
+one_kind kinds.Aborted kinds.Aborted is = refl
 
-pub untestable_undetected : (c : Netlist) (fault : Fault) (e : Entry) → kind_of e ≡ kinds.Untestable → Means c fault e
-    → (list : List (List Bool)) (t o : ℕ) → ¬ Detects c fault list t o
-untestable_undetected c fault (entries.Untestable z tokens) is means = means.undetected
-untestable_undetected c fault (entries.UntestableFrom state clauses z tokens) is means = means.undetected
-untestable_undetected c fault (entries.Aborted told walk aim sweep) is means = cc
+pub kind_said : (kind : EntryKind) (e : Entry) → said_by_kind (kind_of e) ≡ said_by_kind kind → kind_of e ≡ kind
+kind_said kind e = one_kind (kind_of e) kind
+
+pub untestable_unspent : kinds.Untestable ≢ kinds.Aborted
+untestable_unspent same = cc
+
+pub undetectable_unspent : kinds.Undetectable ≢ kinds.Aborted
+undetectable_unspent same = cc
+
+-- what an entry means that isn't an abort record: no list detects the fault
+pub means_undetected : (c : Netlist) (start : List Tern) (fault : Fault) (e : Entry) → kind_of e ≢ kinds.Aborted
+    → Means c start fault e → (list : List (List Bool)) (t o : ℕ) → ¬ Detects c fault list t o
+means_undetected c start fault (entries.Untestable z tokens) refutes means = means.undetected
+means_undetected c start fault (entries.UntestableFrom state clauses z tokens) refutes means = means.undetected
+means_undetected c start fault (entries.UndetectableBySets rows) refutes means = means.from_unknown
+means_undetected c start fault (entries.Aborted told walk aim sweep) refutes means = absurd (refutes refl)
 
 -- nor does one from a start that allows the state that the entry names
-pub untestable_undetected_from : (c : Netlist) (fault : Fault) (start : List Tern) → IsStart c start → (e : Entry)
-    → kind_of e ≡ kinds.Untestable → AllowsEntry start e → Means c fault e → (list : List (List Bool)) (t o : ℕ)
+pub means_undetected_from : (c : Netlist) (start : List Tern) (fault : Fault) → IsStart c start → (e : Entry)
+    → kind_of e ≢ kinds.Aborted → AllowsEntry start e → Means c start fault e → (list : List (List Bool)) (t o : ℕ)
     → ¬ DetectsFrom c fault start list t o
-untestable_undetected_from c fault start latches (entries.Untestable z tokens) is allowed means =
+means_undetected_from c start fault latches (entries.Untestable z tokens) refutes allowed means =
     sealed_undetected_from c fault (is_in z) means.sealed start latches
-untestable_undetected_from c fault start latches (entries.UntestableFrom state clauses z tokens) is allowed means =
+means_undetected_from c start fault latches (entries.UntestableFrom state clauses z tokens) refutes allowed means =
     silent_undetected_from c fault start state allowed means.silent
-untestable_undetected_from c fault start latches (entries.Aborted told walk aim sweep) is allowed means = cc
+means_undetected_from c start fault latches (entries.UndetectableBySets rows) refutes allowed means = means.from_start
+means_undetected_from c start fault latches (entries.Aborted told walk aim sweep) refutes allowed means =
+    absurd (refutes refl)
 
 module _ (c : Netlist) (r f : Fault) (circuit : IsCircuit c) (same : SameClass c r f) where
   -- what no list detects of the representative, none detects of the member
+  undetected_member_from : (start : List Tern)
+      → ((list : List (List Bool)) (t o : ℕ) → ¬ DetectsFrom c r start list t o)
+      → (list : List (List Bool)) (t o : ℕ) → ¬ DetectsFrom c f start list t o
+  undetected_member_from start none list = (members_detected c r f start list None circuit same).0 (none list)
+
   undetected_member : ((list : List (List Bool)) (t o : ℕ) → ¬ Detects c r list t o)
       → (list : List (List Bool)) (t o : ℕ) → ¬ Detects c f list t o
-  undetected_member none list = (members_detected c r f (unknown_state c) list None circuit same).0 (none list)
+  undetected_member = undetected_member_from (unknown_state c)
 
   -- one frame of the member's machine is one of the representative's
   sealed_member : (z : ℕ → Bool) → Sealed c r z → Sealed c f z
@@ -96,7 +122,13 @@ module _ (c : Netlist) (r f : Fault) (circuit : IsCircuit c) (same : SameClass c
         undetected = undetected_member means.undetected;
       }
 
-  pub member_means : (e : Entry) → kind_of e ≡ kinds.Untestable → Means c r e → Means c f e
-  member_means (entries.Untestable z tokens) is means = untestable_member z means
-  member_means (entries.UntestableFrom state clauses z tokens) is means = untestable_from_member state clauses z means
-  member_means (entries.Aborted told walk aim sweep) is means = cc
+  pub member_means : (start : List Tern) (e : Entry) → kind_of e ≢ kinds.Aborted → Means c start r e
+      → Means c start f e
+  member_means start (entries.Untestable z tokens) refutes means = untestable_member z means
+  member_means start (entries.UntestableFrom state clauses z tokens) refutes means =
+      untestable_from_member state clauses z means
+  member_means start (entries.UndetectableBySets rows) refutes means = record {
+    from_start = undetected_member_from start means.from_start;
+    from_unknown = undetected_member means.from_unknown;
+  }
+  member_means start (entries.Aborted told walk aim sweep) refutes means = absurd (refutes refl)

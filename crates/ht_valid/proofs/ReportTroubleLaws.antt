@@ -72,15 +72,15 @@ module _ (c : Netlist) (representatives : List ℕ) (lines : List (List ℕ)) (n
   said_in_front : (b : ℕ) (s : List Said) (k : ℕ) → ReportReadsTo c representatives (take n lines) (in_report b s)
       → k < length s → is_representative representatives k ≡ true → said_at s k ≡ said_at saids k
   said_in_front b s k read below own =
-      let inside : k < length (faults_of c) = omega (arith, below, read.readable.saids_are.listed) in
+      let inside : k < length (faults_of c) = omega (arith, below, read.readable.listed) in
       let count = length-in_report c representatives (take n lines) b s read in
       let here : get_or lines (suc k) [] ≡ fault_line c representatives k (said_at s k) =
       ap (λ l. get_or l (suc k) []) (sym (take-append-drop n lines))
       ∙ (get_or_append_left (take n lines) (drop n lines) [] (suc k) (omega (arith, below, count))
       ∙ (ap (λ l. get_or l (suc k) []) read.lines_are
       ∙ get_or-fault_lines c representatives s (length s) k below)) in
-      one_verdict c (said_at s k) (said_at saids k) circuit (read.readable.saids_are.searched k below own).sayable
-      (report.search.saids_are.searched k inside own).sayable
+      one_verdict c (said_at s k) (said_at saids k) circuit (read.readable.saids_are.sayable k below own)
+      (report.search.saids_are.sayable k inside own)
       (append_cancel_left (line_front c k) (verdict_text c (said_at s k)) (verdict_text c (said_at saids k))
       (sym (line_of_representative c representatives k (said_at s k) own)
       ∙ (sym here ∙ (line_in_report k inside ∙ line_of_representative c representatives k (said_at saids k) own))))
@@ -94,7 +94,7 @@ module _ (c : Netlist) (representatives : List ℕ) (lines : List (List ℕ)) (n
     says_truly (in_report b (first ∷ more)) fault said read says =
         let k = length more in
         let is = says_of (is_representative representatives k) k fault (said_at (first ∷ more) k) said says in
-        let listed = read.readable.saids_are.listed in
+        let listed = read.readable.listed in
         let truly = agrees k (record { listed = omega (arith, listed); own = is.representative }) in
         subst (λ i. AgreesWithTests c start list i said) is.fault
         (subst (AgreesWithTests c start list k) is.same

@@ -1,7 +1,7 @@
 -- The verdict of each listed fault is true in what is justified.
-use Rattle.std.proofs.Common.{◌+◌, ℕ, List, get_or, Option, Some, None}
+use Rattle.std.proofs.Common.{◌≡◌, ◌∙◌, ◌+◌, ℕ, List, get_or, Option, Some, None, sym}
+use Rattle.std.specs.Prelude.{◌≢◌}
 use Rattle.std.specs.List.{Contains}
-use Rattle.ht_tern.specs.declared.tern.Tern.{Tern}
 use Rattle.ht_net.specs.declared.place.Place.{Place}
 use Rattle.ht_net.specs.Netlist.{Netlist, IsCircuit}
 use Rattle.ht_net.specs.Detection.{IsFirstFrom, IsStart}
@@ -10,15 +10,18 @@ use Rattle.ht_collapse.specs.Classes.{AreClasses, SameClass, fault_at}
 use Rattle.ht_collapse.proofs.RunLaws.{members_detected}
 use Rattle.ht_tree.specs.declared.entry.Entry.{Entry}
 use Rattle.ht_tree.specs.declared.entry.Entry.TheVariants as entries
+use Rattle.ht_tree.specs.declared.kind.EntryKind.{EntryKind}
+use Rattle.ht_tree.specs.declared.kind.EntryKind.TheVariants as kinds
 use Rattle.ht_tree.specs.AbortRecords.{AbortView}
+use Rattle.ht_tree.specs.Entries.{AllowsEntry, Passes, kind_of}
 use Rattle.ht_records.proofs.AbortLaws.{abort_means, passing_means}
 use Rattle.ht_texts.specs.declared.said.Said.{Said}
-use Rattle.ht_texts.specs.declared.said.Said.TheVariants.{Detected, Untestable, Aborted, Undetected}
+use Rattle.ht_texts.specs.declared.said.Said.TheVariants.{Detected, Untestable, Undetectable, Aborted, Undetected}
 use Rattle.ht_texts.specs.Verdicts.{said_at}
 use Rattle.ht_valid.specs.ValidFiles.{AgreesWithTests, Backs, Content, IsJustified}
-use Rattle.ht_valid.specs.TrueVerdicts.{HasVerdict, HaveTrueVerdicts, IsAborted, IsDetected, IsProvedUntestable}
+use Rattle.ht_valid.specs.TrueVerdicts.{HasVerdict, HaveTrueVerdicts, IsAborted, IsDetected, IsProved}
 use Rattle.ht_valid.proofs.BackedLaws.{IsBackedIfNeeded, justified_backs, representative_is_own}
-use Rattle.ht_valid.proofs.MemberLaws.{kind_said, member_means, untestable_undetected, untestable_undetected_from}
+use Rattle.ht_valid.proofs.MemberLaws.{kind_said, means_undetected, means_undetected_from, member_means, undetectable_unspent, untestable_unspent}
 
 module _ (c : Netlist) (content : Content) (r i : ℕ) (circuit : IsCircuit c) (latches : IsStart c content.start)
     (same : SameClass c (fault_at c r) (fault_at c i)) where
@@ -37,22 +40,24 @@ module _ (c : Netlist) (content : Content) (r i : ℕ) (circuit : IsCircuit c) (
         apart = detected_apart_from c (fault_at c i) content.start content.list place.vector place.output here.0;
       }
 
-  untestable_by : (e : Entry) → Contains content.entries (record { number = r + 1; entry = e })
-      → Backs c content.start content.budget r e Untestable → IsProvedUntestable c content r i
-  untestable_by e among backs =
-      let is = kind_said e backs.0 in
-      let means = member_means c (fault_at c r) (fault_at c i) circuit same e is
-      (passing_means c (fault_at c r) content.budget e circuit backs.1) in
+  -- an entry of a kind that isn't the abort records' proves this of the member
+  proved_by : (kind : EntryKind) (e : Entry) → kind ≢ kinds.Aborted → kind_of e ≡ kind
+      → Contains content.entries (record { number = r + 1; entry = e })
+      → Passes c content.start (fault_at c r) content.budget e → AllowsEntry content.start e
+      → IsProved kind c content r i
+  proved_by kind e unspent is among passes allowed =
+      let refutes : kind_of e ≢ kinds.Aborted = λ spent. unspent (sym is ∙ spent) in
+      let means = member_means c (fault_at c r) (fault_at c i) circuit same content.start e refutes
+      (passing_means c content.start (fault_at c r) content.budget e circuit latches passes) in
       record {
         entry = e;
         held = among;
-        kind = is;
-        passes = backs.1;
-        allowed = backs.2;
+        kind_is = is;
+        passes = passes;
+        allowed = allowed;
         means = means;
-        undetected = untestable_undetected c (fault_at c i) e is means;
-        undetected_from =
-            untestable_undetected_from c (fault_at c i) content.start latches e is backs.2 means;
+        undetected = means_undetected c content.start (fault_at c i) e refutes means;
+        undetected_from = means_undetected_from c content.start (fault_at c i) latches e refutes allowed means;
       }
 
   aborted_by : (e : Entry) → Contains content.entries (record { number = r + 1; entry = e })
@@ -60,6 +65,7 @@ module _ (c : Netlist) (content : Content) (r i : ℕ) (circuit : IsCircuit c) (
       → IsAborted c content r i
   aborted_by (entries.Untestable z tokens) among backs none = let no = backs.0 in cc
   aborted_by (entries.UntestableFrom state clauses z tokens) among backs none = let no = backs.0 in cc
+  aborted_by (entries.UndetectableBySets rows) among backs none = let no = backs.0 in cc
   aborted_by (entries.Aborted told walk aim sweep) among backs none =
       let spent : AbortView = record { told = told; walk = walk; aim = aim; sweep = sweep } in
       record {
@@ -75,11 +81,16 @@ module _ (c : Netlist) (content : Content) (r i : ℕ) (circuit : IsCircuit c) (
   verdict_by (Detected place) agrees backed = detected_of place agrees
   verdict_by Untestable agrees backed =
       let by = backed tt in
-      untestable_by by.entry by.among by.backs
+      proved_by kinds.Untestable by.entry untestable_unspent (kind_said kinds.Untestable by.entry by.backs.0) by.among
+      by.backs.1 by.backs.2
+  verdict_by Undetectable agrees backed =
+      let by = backed tt in
+      proved_by kinds.Undetectable by.entry undetectable_unspent (kind_said kinds.Undetectable by.entry by.backs.0)
+      by.among by.backs.1 by.backs.2
   verdict_by Aborted agrees backed =
       let by = backed tt in
       aborted_by by.entry by.among by.backs agrees
-  verdict_by Undetected agrees backed = absurd agrees
+  verdict_by Undetected agrees backed = first_of_member None agrees
 
 pub true_verdicts : (c : Netlist) (representatives : List ℕ) (content : Content) → IsCircuit c
     → AreClasses c representatives → IsStart c content.start → IsJustified c representatives content

@@ -11,7 +11,7 @@ use Rattle.ht_tree.specs.declared.kind.EntryKind.{EntryKind}
 use Rattle.ht_tree.specs.declared.kind.EntryKind.TheVariants as kinds
 use Rattle.ht_tree.specs.Entries.{AllowsEntry, Passes, kind_of}
 use Rattle.ht_texts.specs.declared.said.Said.{Said}
-use Rattle.ht_texts.specs.declared.said.Said.TheVariants.{Detected, Untestable, Aborted, Undetected}
+use Rattle.ht_texts.specs.declared.said.Said.TheVariants.{Detected, Untestable, Undetectable, Aborted, Undetected}
 use Rattle.ht_texts.specs.Tests.{IsTestText}
 use Rattle.ht_texts.specs.Verdicts.{said_at}
 use Rattle.ht_texts.specs.SearchReports.{IsReportText}
@@ -38,23 +38,22 @@ pub record IsOwn (c : Netlist) (representatives : List ℕ) (i : ℕ) : Type 0 w
 -- there first.
 abbrev pub AgreesWithTests : Netlist → List Tern → List (List Bool) → ℕ → Said → Type 0
 AgreesWithTests c start list i (Detected place) = IsFirstFrom c (fault_at c i) start list (Some place)
-AgreesWithTests c start list i Untestable = IsFirstFrom c (fault_at c i) start list None
-AgreesWithTests c start list i Aborted = IsFirstFrom c (fault_at c i) start list None
-AgreesWithTests c start list i Undetected = ⊥
+AgreesWithTests c start list i said = IsFirstFrom c (fault_at c i) start list None
 
 -- ---- the proofs
 
 -- what is said of a fault by an entry of this kind
 abbrev pub said_by_kind : EntryKind → Said
 said_by_kind kinds.Untestable = Untestable
+said_by_kind kinds.Undetectable = Undetectable
 said_by_kind kinds.Aborted = Aborted
 
 -- The entry backs what is said of fault i: it is of that kind, it passes, and the start allows the state that it names.
--- The entry of a detected fault isn't judged.
+-- The entry of a detected fault isn't judged, and none backs that a fault is just undetected.
 abbrev pub Backs : Netlist → List Tern → ℕ → ℕ → Entry → Said → Type 0
 Backs c start budget i e (Detected place) = Unit {0}
 Backs c start budget i e said =
-    (said_by_kind (kind_of e) ≡ said) × Passes c (fault_at c i) budget e × AllowsEntry start e
+    (said_by_kind (kind_of e) ≡ said) × Passes c start (fault_at c i) budget e × AllowsEntry start e
 
 -- The number of the entry is that of a representative, and the entry backs what is said of it.
 pub record IsBacking (c : Netlist) (representatives : List ℕ) (content : Content) (e : Numbered) : Type 0 where
@@ -62,9 +61,10 @@ pub record IsBacking (c : Netlist) (representatives : List ℕ) (content : Conte
   pub counted : 0 < e.number
   pub backs : Backs c content.start content.budget (e.number - 1) e.entry (said_at content.saids (e.number - 1))
 
--- only a fault that isn't detected needs an entry
+-- what is said needs an entry that shows it: that the fault is untestable, undetectable or aborted
 abbrev pub NeedsEntry : Said → Type 0
 NeedsEntry (Detected place) = ⊥
+NeedsEntry Undetected = ⊥
 NeedsEntry said = Unit {0}
 
 -- one of the entries has the number of fault i, which counts from 1 there
@@ -83,19 +83,15 @@ pub record IsJustified (c : Netlist) (representatives : List ℕ) (content : Con
   pub complete : (i : ℕ) → IsOwn c representatives i → NeedsEntry (said_at content.saids i)
       → HasEntry content.entries i
 
--- The content is of the start; the tests are vectors of the circuit; the report says of each representative what these
--- show from the start; each entry of the proofs backs what is said of its fault; and none that is needed is missing.
+-- The content is of the start; the tests are vectors of the circuit; the report has one line for each listed fault; the
+-- proofs hold the entries; and what is said is justified.
 pub record AreValid (c : Netlist) (representatives : List ℕ) (start : List Tern) (tests report proofs : List ℕ)
     (content : Content) : Type 0 where
   pub stated : content.start ≡ start
   pub vectors : IsTestText c tests content.list
   pub reported : IsReportText c representatives report content.budget content.saids
-  pub agrees : (i : ℕ) → IsOwn c representatives i
-      → AgreesWithTests c content.start content.list i (said_at content.saids i)
   pub proved : IsProofText content.entries proofs
-  pub backed : All (IsBacking c representatives content) content.entries
-  pub complete : (i : ℕ) → IsOwn c representatives i → NeedsEntry (said_at content.saids i)
-      → HasEntry content.entries i
+  pub justified : IsJustified c representatives content
 
 -- some content makes them valid
 abbrev pub AreValidFiles : Netlist → List ℕ → List Tern → List ℕ → List ℕ → List ℕ → Type 0

@@ -1,16 +1,29 @@
 -- Jobs as what words ask for.
 use Rattle.std.specs.Prelude.{◌≡◌, Option, Some, None, Result, Err, IfOk}
-use Rattle.ht_asked.specs.Asked.{Asked, check, compact, demo, diagnose, gen, norm, respond, sim, sync, uninit}
+use Rattle.ht_asked.specs.Asked.{Asked, GenOptions, check, compact, demo, diagnose, gen, norm, report, respond, sim, sync, uninit}
+use Rattle.ht_words.specs.declared.job.GenOptions.{GenOptions as Options}
 use Rattle.ht_words.specs.declared.job.Job.{Job}
 use Rattle.ht_words.specs.declared.job.Job.TheVariants as job
 use Rattle.ht_words.specs.declared.job.WordsFault.{WordsFault}
 use Rattle.ht_words.specs.declared.job.WordsFault.TheVariants.{Usage}
 
+-- what the options of `gen` say where they are those of the job
+abbrev pub options_by : Options → GenOptions
+options_by o = record {
+  budget = o.budget;
+  random = o.random;
+  seed = o.seed;
+  start = o.start;
+  first = o.first;
+  faults = o.faults;
+  weighted = o.weighted;
+  deep = o.deep;
+}
+
 -- what words ask for where they ask for the job
 abbrev pub asked_by : Job → Asked
-asked_by (job.Sim netlist tests report start) = sim netlist tests report start
-asked_by (job.Gen files budget random seed start) = gen files.netlist files.tests files.report files.proofs
-    (record { budget = budget; random = random; seed = seed; start = start })
+asked_by (job.Sim netlist tests out start) = sim netlist tests out start
+asked_by (job.Gen files options) = gen files.netlist files.tests files.report files.proofs (options_by options)
 asked_by (job.Check files start) = check files.netlist files.tests files.report files.proofs start
 asked_by (job.Norm netlist out) = norm netlist out
 asked_by (job.Demo size seed) = demo size seed
@@ -19,6 +32,8 @@ asked_by (job.Diagnose netlist tests responses out) = diagnose netlist tests res
 asked_by (job.Uninit netlist out budget) = uninit netlist out budget
 asked_by (job.Sync netlist tests out budget) = sync netlist tests out budget
 asked_by (job.Respond netlist tests out fault start) = respond netlist tests out fault start
+asked_by (job.Report files budget start) =
+    report files.netlist files.tests files.proofs files.report budget start
 
 -- the answer to what words ask for: the job, or a refusal; `Usage` only where they ask for none
 pub record IsAnswer (asked : Option Asked) (result : Result Job WordsFault) : Type 0 where

@@ -4,7 +4,8 @@ ghost use Rattle.clap.specs.Words.{app_of, is_simple_and_free, rule_of};
 ghost use Rattle.ht_asked.specs.Forms.{names_form};
 ghost use Rattle.ht_asked.specs.Asked.{check_command, command_named, compact_command};
 ghost use Rattle.ht_asked.specs.Asked.{demo_command, diagnose_command, gen_command};
-ghost use Rattle.ht_asked.specs.Asked.{norm_command, respond_command, sim_command, sync_command, uninit_command};
+ghost use Rattle.ht_asked.specs.Asked.{norm_command, report_command, respond_command, sim_command};
+ghost use Rattle.ht_asked.specs.Asked.{sync_command, uninit_command};
 ghost use Rattle.ht_asked.specs.ByClap.{app_named, app_with, optional, wanted};
 
 use clap::{Arg, Command};
@@ -69,7 +70,8 @@ fn define_sim<'a>(alloc: Global) -> Result<Command<'a>, AllocError>
     with_report(alloc, "sim")?.arg(option(alloc, "start"))
 }
 
-/// `gen NETLIST TESTS REPORT PROOFS [--budget N] [--random N] [--seed S] [--start FILE]`.
+/// `gen NETLIST TESTS REPORT PROOFS [--budget N] [--random N] [--seed S] [--start FILE] [--first FILE] [--faults FILE]
+/// [--weighted N] [--search plain|deep]`.
 fn define_gen<'a>(alloc: Global) -> Result<Command<'a>, AllocError>
     ensures { IfOk result (λ c. app_of c ≡ app_with gen_command.name gen_command.form) }
 {
@@ -78,7 +80,11 @@ fn define_gen<'a>(alloc: Global) -> Result<Command<'a>, AllocError>
         .arg(option(alloc, "budget"))?
         .arg(option(alloc, "random"))?
         .arg(option(alloc, "seed"))?
-        .arg(option(alloc, "start"))
+        .arg(option(alloc, "start"))?
+        .arg(option(alloc, "first"))?
+        .arg(option(alloc, "faults"))?
+        .arg(option(alloc, "weighted"))?
+        .arg(option(alloc, "search"))
 }
 
 /// `check NETLIST TESTS REPORT PROOFS [--start FILE]`.
@@ -141,6 +147,17 @@ fn define_respond<'a>(alloc: Global) -> Result<Command<'a>, AllocError>
         .arg(option(alloc, "start"))
 }
 
+/// `report NETLIST TESTS PROOFS REPORT [--budget N] [--start FILE]`.
+fn define_report<'a>(alloc: Global) -> Result<Command<'a>, AllocError>
+    ensures { IfOk result (λ c. app_of c ≡ app_with report_command.name report_command.form) }
+{
+    with_tests(alloc, "report")?
+        .arg(positional(alloc, "proofs"))?
+        .arg(positional(alloc, "report"))?
+        .arg(option(alloc, "budget"))?
+        .arg(option(alloc, "start"))
+}
+
 /// The definition of the command that the word names, in lower case.
 pub fn definition<'a>(alloc: Global, word: &str) -> Result<Option<Command<'a>>, AllocError>
     ensures named { IfOk result (λ found. option_map app_of found
@@ -159,6 +176,7 @@ pub fn definition<'a>(alloc: Global, word: &str) -> Result<Option<Command<'a>>, 
         "uninit" => Ok(Some(define_uninit(alloc)?)),
         "sync" => Ok(Some(define_sync(alloc)?)),
         "respond" => Ok(Some(define_respond(alloc)?)),
+        "report" => Ok(Some(define_report(alloc)?)),
         _ => Ok(None),
     }
 }

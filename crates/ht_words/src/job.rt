@@ -6,7 +6,7 @@ use crate::file_name::FileName;
 use std::alloc::AllocError;
 use thiserror::Error;
 
-/// The names of a netlist and of the three files that a search writes for it.
+/// The names of a netlist and of the three files of a search for it.
 #[derive(Debug, Drop)]
 pub struct RunFiles {
     /// The netlist.
@@ -17,6 +17,27 @@ pub struct RunFiles {
     pub report: FileName,
     /// The entries of the faults for which no test is found.
     pub proofs: FileName,
+}
+
+/// What the options of `gen` say.
+#[derive(Debug, Drop)]
+pub struct GenOptions {
+    /// The budget of each search, 1 to 100,000.
+    pub budget: u64,
+    /// How many random vectors come first, 0 to 100,000.
+    pub random: u32,
+    /// The seed of the random and the weighted vectors.
+    pub seed: u64,
+    /// The start to read, if one is stated.
+    pub start: Option<FileName>,
+    /// The user's first vectors to read, if there are any; they come before the random ones.
+    pub first: Option<FileName>,
+    /// The numbers of the faults to read that are worked on; without them all are.
+    pub faults: Option<FileName>,
+    /// How many weighted vectors come after the random ones, 0 to 100,000.
+    pub weighted: u32,
+    /// Whether the search is deep.
+    pub deep: bool,
 }
 
 /// A command with the names of its files, and with its numbers.
@@ -37,14 +58,8 @@ pub enum Job {
     Gen {
         /// The netlist to read, and the files to write.
         files: RunFiles,
-        /// The budget of each search, 1 to 100,000.
-        budget: u64,
-        /// How many random vectors come first, 0 to 100,000.
-        random: u32,
-        /// The seed of the random vectors.
-        seed: u64,
-        /// The start to read, if one is stated.
-        start: Option<FileName>,
+        /// What the options say.
+        options: GenOptions,
     },
     /// Judges the tests, the report and the proofs that a search wrote.
     Check {
@@ -87,7 +102,7 @@ pub enum Job {
         /// The diagnosis to write.
         out: FileName,
     },
-    /// Says which of the netlist's flip-flops never get a definite value, and which faults they hide.
+    /// Finds flip-flops of the netlist that never get a definite value, and faults that they hide.
     Uninit {
         /// The netlist to read.
         netlist: FileName,
@@ -117,6 +132,15 @@ pub enum Job {
         out: FileName,
         /// The number of the machine's fault, from 1; without one it is the good machine.
         fault: Option<u32>,
+        /// The start to read, if one is stated.
+        start: Option<FileName>,
+    },
+    /// Writes the report that the tests and the proofs justify.
+    Report {
+        /// The netlist, the tests and the proofs to read, and the report to write.
+        files: RunFiles,
+        /// The budget of each search in the proofs, 1 to 100,000.
+        budget: u64,
         /// The start to read, if one is stated.
         start: Option<FileName>,
     },

@@ -77,18 +77,18 @@ pub fn budget(matches: &ArgMatches<'_>) -> Result<u64, WordsFault>
     number_or_default(matches, "budget", DEFAULT_BUDGET, MIN_BUDGET, MAX_BUDGET)
 }
 
-/// How many random vectors come first.
-pub fn random(matches: &ArgMatches<'_>) -> Result<u32, WordsFault>
+/// How many random vectors come first, or how many weighted ones after them, as the option of this name says.
+pub fn random(matches: &ArgMatches<'_>, id: &str) -> Result<u32, WordsFault>
     ensures usage { result ≡ Err fault.Usage →
-        random_of (first_of (codes "random") (rows_of (found_of matches.now))) ≡ None }
+        random_of (first_of id.now (rows_of (found_of matches.now))) ≡ None }
     ensures ok { IfOk result (λ number.
-        random_of (first_of (codes "random") (rows_of (found_of matches.now))) ≡ Some number) }
+        random_of (first_of id.now (rows_of (found_of matches.now))) ≡ Some number) }
 {
-    let number = number_or_default(matches, "random", DEFAULT_RANDOM, 0, MAX_RANDOM)?;
+    let number = number_or_default(matches, id, DEFAULT_RANDOM, 0, MAX_RANDOM)?;
     Ok(number as u32)
 }
 
-/// The seed of the random vectors.
+/// The seed of the random and the weighted vectors.
 pub fn seed(matches: &ArgMatches<'_>) -> Result<u64, WordsFault>
     ensures usage { result ≡ Err fault.Usage →
         seed_of (first_of (codes "seed") (rows_of (found_of matches.now))) ≡ None }

@@ -2,14 +2,15 @@
 ghost use Rattle.std.specs.Prelude.{◌≡◌, ◌≢◌, IfOk, None, Some, codes, false, option_and_then, true};
 ghost use Rattle.clap.specs.Words.{app_of, first_of, found_of, is_simple_and_free, matches_of, rows_of};
 ghost use Rattle.ht_asked.specs.Asked.{asked, check_command, command_named, gen_command, sim_command, words_of};
-ghost use Rattle.ht_asked.specs.Asked.{demo_with, respond_command, seed_in, size_in, sync_command, uninit_command};
+ghost use Rattle.ht_asked.specs.Asked.{deep_of, demo_with, report_command, respond_command, seed_in, size_in};
+ghost use Rattle.ht_asked.specs.Asked.{sync_command, uninit_command};
 ghost use Rattle.ht_asked.specs.ByClap.{asked_by_clap, asked_in_rows, is_taken};
 ghost use Rattle.ht_words.specs.Jobs.{IsAnswer};
 ghost use Rattle.ht_words.specs.declared.job.WordsFault.TheVariants as fault;
 
 use crate::definitions::definition;
 use crate::file_name::FileName;
-use crate::job::{Job, RunFiles, WordsFault};
+use crate::job::{GenOptions, Job, RunFiles, WordsFault};
 use crate::number::{budget, fault_number, random, seed, size, wanted_number};
 use clap::error::ErrorKind;
 use clap::{ArgMatches, Command};
@@ -83,6 +84,7 @@ fn job(alloc: Global, word: &str, matches: &ArgMatches<'_>) -> Result<Job, Words
         "uninit" => uninit_job(alloc, matches),
         "sync" => sync_job(alloc, matches),
         "respond" => respond_job(alloc, matches),
+        "report" => report_job(alloc, matches),
         _ => Err(WordsFault::Usage),
     }
 }
@@ -110,10 +112,16 @@ fn gen_job(alloc: Global, matches: &ArgMatches<'_>) -> Result<Job, WordsFault>
             report: value(alloc, matches, "report")?,
             proofs: value(alloc, matches, "proofs")?,
         },
-        budget: budget(matches)?,
-        random: random(matches)?,
-        seed: seed(matches)?,
-        start: optional_value(alloc, matches, "start")?,
+        options: GenOptions {
+            budget: budget(matches)?,
+            random: random(matches, "random")?,
+            seed: seed(matches)?,
+            start: optional_value(alloc, matches, "start")?,
+            first: optional_value(alloc, matches, "first")?,
+            faults: optional_value(alloc, matches, "faults")?,
+            weighted: random(matches, "weighted")?,
+            deep: deep(matches)?,
+        },
     })
 }
 
@@ -184,6 +192,39 @@ fn respond_job(alloc: Global, matches: &ArgMatches<'_>) -> Result<Job, WordsFaul
         fault: fault_number(matches)?,
         start: optional_value(alloc, matches, "start")?,
     })
+}
+
+/// The job of `report`.
+fn report_job(alloc: Global, matches: &ArgMatches<'_>) -> Result<Job, WordsFault>
+    ensures { IsAnswer (asked_in_rows report_command (rows_of (found_of matches.now))) result }
+{
+    Ok(Job::Report {
+        files: RunFiles {
+            netlist: value(alloc, matches, "netlist")?,
+            tests: value(alloc, matches, "tests")?,
+            report: value(alloc, matches, "report")?,
+            proofs: value(alloc, matches, "proofs")?,
+        },
+        budget: budget(matches)?,
+        start: optional_value(alloc, matches, "start")?,
+    })
+}
+
+/// Whether the search is deep: the option's value is `plain` or `deep`.
+fn deep(matches: &ArgMatches<'_>) -> Result<bool, WordsFault>
+    ensures usage { result ≡ Err fault.Usage →
+        deep_of (first_of (codes "search") (rows_of (found_of matches.now))) ≡ None }
+    ensures ok { IfOk result (λ deep.
+        deep_of (first_of (codes "search") (rows_of (found_of matches.now))) ≡ Some deep) }
+{
+    let Some(text) = matches.get_str("search") else {
+        return Ok(false);
+    };
+    match text {
+        "plain" => Ok(false),
+        "deep" => Ok(true),
+        _ => Err(WordsFault::Usage),
+    }
 }
 
 /// The value of an argument that has to be there.

@@ -1,7 +1,6 @@
 //! Tests of ht_check: entries of aborted faults by hand.
-use super::small::{FrameRow, circuit_of, stuck_at};
+use super::small::{FrameRow, circuit_of, passes, stuck_at};
 use super::tokens::{B, D, TWO_0, X};
-use ht_check::entry;
 use ht_items::Items;
 use ht_samples::{TOGGLE, WIRES};
 use ht_tree::{Aim, Assign, Entry, Spot, Token, Told};
@@ -173,7 +172,7 @@ fn is_as_said(alloc: Global, row: Row) -> Result<bool, Fail> {
     let circuit = circuit_of(alloc, text)?;
     let record = aborted(alloc, record)?;
     let fault = stuck_at(net, value);
-    Ok(entry(alloc, &circuit, fault, budget.min(100_000), &record)? == want)
+    Ok(passes(alloc, &circuit, fault, budget.min(100_000), &record)? == want)
 }
 
 #[test]

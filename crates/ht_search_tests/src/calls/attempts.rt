@@ -3,9 +3,8 @@
 ghost use Rattle.std.specs.Prelude.{◌≡◌, OnOk};
 
 use super::aborted::{frames, walks};
-use super::small::{FrameRow, circuit_of, stuck_at_0};
+use super::small::{FrameRow, circuit_of, passes, stuck_at_0};
 use super::tokens::{D, TWO_0, TWO_1};
-use ht_check::entry;
 use ht_net::{Circuit, Vectors};
 use ht_samples::CHANGE;
 use ht_tree::{Aim, Entry, Spot, Token};
@@ -56,15 +55,15 @@ fn attempted(alloc: Global, back: Vectors) -> Result<Entry, AllocError> {
     })
 }
 
-fn passes(alloc: Global, circuit: &Circuit, back: Vectors) -> Result<bool, AllocError> {
+fn attempt_passes(alloc: Global, circuit: &Circuit, back: Vectors) -> Result<bool, AllocError> {
     let record = attempted(alloc, back)?;
-    entry(alloc, circuit, stuck_at_0(0), 6, &record)
+    passes(alloc, circuit, stuck_at_0(0), 6, &record)
 }
 
 fn is_as_said(alloc: Global, row: Row) -> Result<bool, Fail> {
     let (first, last, want) = row;
     let circuit = circuit_of(alloc, CHANGE)?;
-    Ok(passes(alloc, &circuit, list(alloc, first, last)?)? == want)
+    Ok(attempt_passes(alloc, &circuit, list(alloc, first, last)?)? == want)
 }
 
 #[test]

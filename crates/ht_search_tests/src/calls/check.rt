@@ -1,8 +1,9 @@
 //! Tests of ht_check: entries by hand. In each circuit the fault is net 1 stuck at 0.
-use super::small::{circuit_of, stuck_at, stuck_at_0};
+use super::small::{circuit_of, passes, stuck_at, stuck_at_0};
 use super::tokens::{D, TWO_0, ZERO_FIRST};
-use ht_check::{KeptFrames, entry, entry_by_frames};
+use ht_check::{KeptFrames, entry_by_frames};
 use ht_items::Items;
+use ht_net::unknown_start;
 use ht_samples::{ALWAYS_ZERO, HIDDEN, TOGGLE};
 use ht_tree::{Entry, Token};
 use std::alloc::{AllocError, Global};
@@ -42,7 +43,7 @@ fn is_as_said(alloc: Global, row: Row) -> Result<bool, Fail> {
     let (text, z, tokens, want) = row;
     let circuit = circuit_of(alloc, text)?;
     let record = untestable(alloc, z, tokens)?;
-    Ok(entry(alloc, &circuit, stuck_at_0(1), 100, &record)? == want)
+    Ok(passes(alloc, &circuit, stuck_at_0(1), 100, &record)? == want)
 }
 
 #[test]
@@ -58,9 +59,14 @@ fn is_as_said_in_kept_frames(alloc: Global, row: Row) -> Result<bool, Fail> {
     let (text, z, tokens, want) = row;
     let circuit = circuit_of(alloc, text)?;
     let record = untestable(alloc, z, tokens)?;
+    let start = unknown_start(alloc, &circuit)?;
+    // for the proof: a start has a value for each flip-flop
+    if start.len() != circuit.dffs() as usize {
+        return Ok(false);
+    }
     let mut kept = KeptFrames::new(alloc, &circuit)?;
-    let _ = entry_by_frames(alloc, &mut kept, stuck_at(1, true), 100, &record)?;
-    Ok(entry_by_frames(alloc, &mut kept, stuck_at_0(1), 100, &record)? == want)
+    let _ = entry_by_frames(alloc, &mut kept, &start, stuck_at(1, true), 100, &record)?;
+    Ok(entry_by_frames(alloc, &mut kept, &start, stuck_at_0(1), 100, &record)? == want)
 }
 
 #[test]

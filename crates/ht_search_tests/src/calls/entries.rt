@@ -13,6 +13,8 @@ const HEAD: Lines = &[b"proofs 1"];
 
 const SECOND_HEAD: Lines = &[b"proofs 2"];
 
+const THIRD_HEAD: Lines = &[b"proofs 3"];
+
 const END: Lines = &[b"end"];
 
 const NO_ENTRY: Text = &[];
@@ -91,6 +93,12 @@ const ONE_LITERAL: Text = &[
 // the texts that the second format has alone
 const SECOND_TEXTS: &[Text] = &[EQUAL_FLIP_FLOPS, ONE_LITERAL];
 
+// a text that the third format has alone: sets of pairs, and no set
+const THIRD_TEXTS: &[Text] = &[&[
+    &[b"entry 1 undetectable by sets", b"pairs 1 X1 XX"],
+    &[b"entry 2 undetectable by sets"],
+]];
+
 /// A text, its entries as they are written again, and the reader between the two.
 #[derive(Drop)]
 struct Rewriting {
@@ -103,6 +111,7 @@ fn head_of(format: Format) -> Lines {
     match format {
         Format::One => HEAD,
         Format::Two => SECOND_HEAD,
+        Format::Three => THIRD_HEAD,
     }
 }
 
@@ -171,6 +180,9 @@ fn worked_texts_are_read_and_written(rt: HostRuntime) -> Result<(), Fail> {
     for entries in SECOND_TEXTS {
         assert!(rt; is_rewritten(rt.alloc(), Format::Two, entries)?);
     }
+    for entries in THIRD_TEXTS {
+        assert!(rt; is_rewritten(rt.alloc(), Format::Three, entries)?);
+    }
     Ok(())
 }
 
@@ -216,6 +228,8 @@ const ABORTED: Lines = &[b"proofs 1", b"entry 1 aborted"];
 
 const FROM_STATE: Lines = &[b"proofs 2", b"entry 1 untestable from 01"];
 
+const BY_SETS: Lines = &[b"proofs 3", b"entry 1 undetectable by sets"];
+
 const EIGHT_CLAUSES: Lines = &[
     b"clause 1 0",
     b"clause 1 1",
@@ -230,7 +244,7 @@ const EIGHT_CLAUSES: Lines = &[
 const DAMAGES: &[(Text, u64)] = &[
     // no line, another head, no end
     (&[], 1),
-    (&[&[b"proofs 3"]], 1),
+    (&[&[b"proofs 4"]], 1),
     (&[&[b"proofs 1 "]], 1),
     (&[HEAD], 2),
     // a line after the end
@@ -298,6 +312,13 @@ const DAMAGES: &[(Text, u64)] = &[
     (&[FROM_STATE, &[b"clause 1 0", b"z 1", b"end"]], 5),
     // a clause in a plain refutation
     (&[&[b"proofs 2", b"entry 1 untestable", b"clause 1 0"]], 3),
+    // sets in the second format; pairs out of order, twice, none; a flip-flop twice
+    (&[SECOND_HEAD, &[b"entry 1 undetectable by sets"]], 2),
+    (&[BY_SETS, &[b"pairs 1 XX X1"]], 3),
+    (&[BY_SETS, &[b"pairs 1 X1 X1"]], 3),
+    (&[BY_SETS, &[b"pairs 1"]], 3),
+    (&[BY_SETS, &[b"pairs 1 X1 "]], 3),
+    (&[BY_SETS, &[b"pairs 2 XX", b"pairs 2 XX"]], 4),
 ];
 
 #[test]

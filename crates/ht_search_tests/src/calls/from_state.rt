@@ -1,8 +1,7 @@
 //! Tests of ht_check: entries by hand that refute a fault from a named state. The circuit shows where two latches differ
 //! that take the same data, and the fault is the input that lets it show, stuck at 0.
-use super::small::{circuit_of, stuck_at_0};
+use super::small::{circuit_of, passes, stuck_at_0};
 use super::tokens::{D, TWO_0, TWO_2, TWO_3, ZERO_FIRST};
-use ht_check::entry;
 use ht_items::Items;
 use ht_samples::TWINS;
 use ht_tree::{Clause, Entry, Literal, Token};
@@ -72,7 +71,7 @@ fn is_as_said(alloc: Global, row: Row) -> Result<bool, Fail> {
     let (state, rows, want) = row;
     let circuit = circuit_of(alloc, TWINS)?;
     let record = untestable_from(alloc, state, rows)?;
-    Ok(entry(alloc, &circuit, stuck_at_0(1), 1000, &record)? == want)
+    Ok(passes(alloc, &circuit, stuck_at_0(1), 1000, &record)? == want)
 }
 
 #[test]

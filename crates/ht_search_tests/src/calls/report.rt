@@ -56,7 +56,7 @@ const DAMAGES: &[(u64, &[u8], u64)] = &[
         b"circuit inputs 1 outputs 1 flip-flops 0 gates 2 faults 10 classes 6",
         1,
     ),
-    (2, b"1 a s-a-0 undetected", 2),
+    (2, b"1 a s-a-0 detected", 2),
     (2, b"1 a s-a-0 untestable ", 2),
     (2, b"1 a s-a-1 untestable", 2),
     (2, b"2 a s-a-0 untestable", 2),
@@ -64,6 +64,8 @@ const DAMAGES: &[(u64, &[u8], u64)] = &[
     (2, b"1  a s-a-0 untestable", 2),
     // one class fewer is untestable
     (2, b"1 a s-a-0 aborted", 12),
+    (2, b"1 a s-a-0 undetectable", 12),
+    (2, b"1 a s-a-0 undetected", 12),
     (5, b"4 n s-a-1 detected 18446744073709551615 z", 0),
     (5, b"4 n s-a-1 detected 18446744073709551616 z", 5),
     (5, b"4 n s-a-1 detected 0 z", 5),
@@ -74,6 +76,16 @@ const DAMAGES: &[(u64, &[u8], u64)] = &[
     (8, b"7 n s-a-0 as 4", 8),
     (12, b"total 6 detected 3 untestable 2 aborted 1", 12),
     (12, b"total 6 detected 3", 12),
+    (
+        12,
+        b"total 6 detected 3 untestable 3 aborted 0 undetectable 0",
+        12,
+    ),
+    (
+        12,
+        b"total 6 detected 3 untestable 3 aborted 0 undetected 0",
+        12,
+    ),
 ];
 
 /// Reads lines of the report, one of them replaced, and more lines after its last: the line that is malformed, or 0.

@@ -1,11 +1,13 @@
 //! What tests of several searches ask: small circuits, and how a search ended.
-ghost use Rattle.std.specs.Prelude.{◌≡◌, IfOk};
+ghost use Rattle.std.specs.Prelude.{◌≡◌, ◌≤◌, IfOk};
+ghost use Rattle.ht_tree.specs.declared.limits.TheConstants.{MAX_BUDGET};
 
 use ht_bench::read;
+use ht_check::entry;
 use ht_items::Items;
-use ht_net::{Circuit, Fault, NetId, Site, Vectors};
+use ht_net::{Circuit, Fault, NetId, Site, Vectors, unknown_start};
 use ht_tern::Tern;
-use ht_tree::{Spot, Token};
+use ht_tree::{Entry, MAX_BUDGET, Spot, Token};
 use ht_window::PairState;
 use std::alloc::{AllocError, Global};
 use std::test::Fail;
@@ -26,6 +28,24 @@ pub fn stuck_at(net: u32, value: bool) -> Fault {
 /// The stem of a net stuck at 0.
 pub fn stuck_at_0(net: u32) -> Fault {
     stuck_at(net, false)
+}
+
+/// Whether an entry passes for a fault where no start is stated.
+pub fn passes(
+    alloc: Global,
+    circuit: &Circuit,
+    fault: Fault,
+    budget: u64,
+    record: &Entry,
+) -> Result<bool, AllocError>
+    requires { budget ≤ MAX_BUDGET }
+{
+    let start = unknown_start(alloc, circuit)?;
+    // for the proof: a start has a value for each flip-flop
+    if start.len() != circuit.dffs() as usize {
+        return Ok(false);
+    }
+    entry(alloc, circuit, &start, fault, budget, record)
 }
 
 /// A told frame: its place, and the variables that it sets with their bits.

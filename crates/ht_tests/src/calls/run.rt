@@ -9,6 +9,7 @@ mod demo;
 mod diagnosed;
 mod failures;
 mod faults;
+mod further;
 mod generated;
 mod generated_errors;
 mod generated_parts;

@@ -6,7 +6,9 @@ use ht_collapse::collapse;
 use ht_faults::list;
 use ht_net::{Circuit, Place};
 use ht_samples::ALWAYS_ZERO;
-use ht_texts::{Said, Sums, read_vector, write_fault, write_head, write_total, write_vector};
+use ht_texts::{
+    Said, Sums, push_fault_number, read_vector, write_fault, write_head, write_total, write_vector,
+};
 use std::alloc::{AllocError, Global};
 use std::test::Fail;
 
@@ -105,16 +107,71 @@ fn head_and_lines_of_a_search(rt: HostRuntime) -> Result<(), Fail> {
     Ok(())
 }
 
+/// How many classes are undetectable and how many undetected, and the total line of a search.
+const TOTALS: &[(u32, u32, &[u8])] = &[
+    (0, 0, b"total 9 detected 3 untestable 2 aborted 1\n"),
+    (
+        3,
+        0,
+        b"total 9 detected 3 untestable 2 aborted 1 undetectable 3\n",
+    ),
+    (
+        0,
+        3,
+        b"total 9 detected 3 untestable 2 aborted 1 undetected 3\n",
+    ),
+    (
+        1,
+        2,
+        b"total 9 detected 3 untestable 2 aborted 1 undetectable 1 undetected 2\n",
+    ),
+];
+
 #[test]
 fn total_of_a_search(rt: HostRuntime) -> Result<(), Fail> {
-    let sums = Sums {
-        classes: 6,
-        detected: 3,
-        untestable: 2,
-        aborted: 1,
-        search: true,
-    };
-    let wanted: &[u8] = b"total 6 detected 3 untestable 2 aborted 1\n";
-    assert!(rt; write_total(rt.alloc(), sums)?.as_slice() == wanted);
+    for row in TOTALS {
+        let (undetectable, undetected, wanted) = *row;
+        let sums = Sums {
+            classes: 9,
+            detected: 3,
+            untestable: 2,
+            aborted: 1,
+            undetectable,
+            undetected,
+            search: true,
+        };
+        assert!(rt; write_total(rt.alloc(), sums)?.as_slice() == wanted);
+    }
+    Ok(())
+}
+
+/// Lines of a list of six faults, and how many of them are taken before the first that is none.
+const FAULT_NUMBERS: &[(&[&[u8]], usize)] = &[
+    (&[b"2", b"5", b"6"], 3),
+    (&[b"2", b"2"], 1),
+    (&[b"5", b"4"], 1),
+    (&[b"7"], 0),
+    (&[b"0"], 0),
+    (&[b"03"], 0),
+    (&[b"+3"], 0),
+    (&[b""], 0),
+];
+
+fn count_taken(alloc: Global, lines: &[&[u8]]) -> Result<usize, AllocError> {
+    let mut numbers = Vec::new(alloc);
+    for line in lines {
+        if !push_fault_number(&mut numbers, 6, line)? {
+            break;
+        }
+    }
+    Ok(numbers.len())
+}
+
+#[test]
+fn a_list_of_faults_rises(rt: HostRuntime) -> Result<(), Fail> {
+    for row in FAULT_NUMBERS {
+        let (lines, taken) = *row;
+        assert!(rt; count_taken(rt.alloc(), lines)? == taken);
+    }
     Ok(())
 }

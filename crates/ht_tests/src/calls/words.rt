@@ -51,7 +51,7 @@ fn is_job(job: &Job, names: &[&str]) -> bool {
             report,
             start,
         } => start.is_none() && are_three("sim", netlist, tests, report, names),
-        Job::Gen { files, start, .. } => start.is_none() && are_files("gen", files, names),
+        Job::Gen { files, options } => { options.start.is_none() && are_files("gen", files, names) }
         Job::Check { files, start } => start.is_none() && are_files("check", files, names),
         Job::Norm { netlist, out } => are_two("norm", netlist, out, names),
         Job::Demo { .. } => false,
@@ -79,6 +79,14 @@ fn is_job(job: &Job, names: &[&str]) -> bool {
             out,
             ..
         } => are_three("respond", netlist, tests, out, names),
+        Job::Report { files, .. } => are_four(
+            "report",
+            &files.netlist,
+            &files.tests,
+            &files.proofs,
+            &files.report,
+            names,
+        ),
     }
 }
 
@@ -145,6 +153,15 @@ const ROWS: &[(&[&str], &[&str])] = &[
         &["respond", "n", "t", "o"],
     ),
     (&["respond", "n", "t", "o", "--fault=655359"], &[]),
+    (
+        &["report", "n", "--budget=5", "t", "--start", "s", "p", "r"],
+        &["report", "n", "t", "p", "r"],
+    ),
+    (&["report", "n", "t", "p", "r", "--budget=0"], &[]),
+    (&["report", "n", "t", "p"], &[]),
+    (&["gen", "n", "t", "r", "p", "--search", "Deep"], &[]),
+    (&["gen", "n", "t", "r", "p", "--weighted=100001"], &[]),
+    (&["gen", "n", "t", "r", "p", "--first"], &[]),
     (&["norm", "--", "-n", "-o"], &["norm", "-n", "-o"]),
     (&[], &[]),
     (&["SIM", "n", "t", "r"], &[]),
@@ -200,17 +217,15 @@ fn start_in(answer: &Result<Job, WordsFault>) -> Option<&str> {
             },
         ) => Some(name.as_str()),
         Ok(
-            Job::Gen {
-                start: Some(name),
-                ..
-            },
-        ) => Some(name.as_str()),
-        Ok(
             Job::Check {
                 start: Some(name),
                 ..
             },
         ) => Some(name.as_str()),
+        Ok(Job::Gen { options, .. }) => match &options.start {
+            Some(name) => Some(name.as_str()),
+            None => None,
+        },
         _ => None,
     }
 }
@@ -248,7 +263,7 @@ fn words_of_a_start_give_its_name(rt: HostRuntime) -> Result<(), Fail> {
 // The budget of the answer, if it is a `gen`.
 fn budget_in(answer: &Result<Job, WordsFault>) -> Option<u64> {
     match answer {
-        Ok(Job::Gen { budget, .. }) => Some(*budget),
+        Ok(Job::Gen { options, .. }) => Some(options.budget),
         _ => None,
     }
 }
@@ -305,5 +320,56 @@ fn a_budget_is_a_number_in_digits_from_1_to_100000(rt: HostRuntime) -> Result<()
         let (words, budget) = *row;
         assert!(rt; has_budget(rt.alloc(), words, budget)?);
     }
+    Ok(())
+}
+
+// What an option that names a file gives.
+fn is_name(option: &Option<FileName>, name: &str) -> bool {
+    match option {
+        Some(text) => text.as_str() == name,
+        None => name.is_empty(),
+    }
+}
+
+/// The answer is a `gen` with these first vectors and faults, an empty name for none, so many weighted vectors, and such
+/// a search.
+fn has_options(
+    alloc: Global,
+    words: &[&str],
+    names: (&str, &str),
+    weighted: u32,
+    deep: bool,
+) -> Result<bool, AllocError> {
+    let list = words_of(alloc, words)?;
+    Ok(match command(alloc, &list) {
+        Ok(Job::Gen { options, .. }) => {
+            is_name(&options.first, names.0)
+                && is_name(&options.faults, names.1)
+                && options.weighted == weighted
+                && options.deep == deep
+        }
+        _ => false,
+    })
+}
+
+#[test]
+fn gen_may_be_told_what_it_works_on_and_how(rt: HostRuntime) -> Result<(), Fail> {
+    let alloc = rt.alloc();
+    assert!(rt; has_options(alloc, &["gen", "n", "t", "r", "p"], ("", ""), 0, false)?);
+    let named = &["gen", "n", "t", "r", "p", "--faults=l", "--first", "f"];
+    assert!(rt; has_options(alloc, named, ("f", "l"), 0, false)?);
+    let deep = &[
+        "gen",
+        "--search=deep",
+        "n",
+        "t",
+        "--weighted",
+        "007",
+        "r",
+        "p",
+    ];
+    assert!(rt; has_options(alloc, deep, ("", ""), 7, true)?);
+    let plain = &["gen", "n", "t", "r", "p", "--search", "plain"];
+    assert!(rt; has_options(alloc, plain, ("", ""), 0, false)?);
     Ok(())
 }

@@ -1,5 +1,4 @@
 use Rattle.std.proofs.Common.{[], rules}
-use Rattle.ht_app.proofs.Common.{Settings}
 use Rattle.ht_engine.specs.Steps.{none}
 use Rattle.ht_app.proofs.GenLaws.{begun_acts, stops_in_steps}
 use Rattle.ht_app.proofs.WritingLaws.{runs_out_first}
@@ -7,14 +6,9 @@ use Rattle.ht_app.proofs.generate.run_engine.Goals as goal
 
 pub returns-in_err-engine : goal.returns-in_err-engine
 returns-in_err-engine g c =
-    let settings : Settings = record {
-      budget = c.args.budget;
-      random = c.args.random;
-      seed = c.args.seed;
-      start = c.args.start.now;
-    } in
+    let settings = c.args.settings.now in
     let stops = stops_in_steps c.args.files.now c.args.circuit.now settings c.requires.classes none
-    (runs_out_first (Unit {0}) (begun_acts c.args.files.now []) (g.D.Desk.view c.args.desk.now)) in
+    (runs_out_first (Unit {0}) (begun_acts c.args.files.now settings []) (g.D.Desk.view c.args.desk.now)) in
     search (rules, stops)
 
 pub returns : goal.returns

@@ -1,4 +1,4 @@
-use Rattle.std.proofs.Common.{◌≡◌, ◌≢◌, ◌⊎◌, ◌≤◌, [], inl, inr}
+use Rattle.std.proofs.Common.{◌≢◌, ◌⊎◌, ◌≤◌, [], inl, inr}
 use Rattle.ht_entries.proofs.FromStateTextLaws.{not_empty, no_second, no_rising_second}
 use Rattle.ht_entries.proofs.from_state.parse_second.Goals.{then-not-is_empty-via-then-not-is_empty, then-not-is_empty-via-else-not-is_empty+then-second-first}
 use Rattle.ht_entries.proofs.from_state.parse_second.Goals as goal

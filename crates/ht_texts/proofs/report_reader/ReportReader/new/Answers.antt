@@ -15,4 +15,6 @@ invariant_of-result c =
       few_detected = omega (arith, ap (λ (s : Sums). s.detected) none);
       few_untestable = omega (arith, ap (λ (s : Sums). s.untestable) none);
       few_aborted = omega (arith, ap (λ (s : Sums). s.aborted) none);
+      few_undetectable = omega (arith, ap (λ (s : Sums). s.undetectable) none);
+      few_undetected = omega (arith, ap (λ (s : Sums). s.undetected) none);
     }

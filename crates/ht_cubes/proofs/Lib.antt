@@ -1,0 +1,7 @@
+mod OutsideLaws
+mod RunLaws
+mod MeaningLaws
+mod StepLaws
+mod GateLaws
+mod FrameLaws
+mod RefuteLaws

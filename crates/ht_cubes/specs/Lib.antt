@@ -1,0 +1,6 @@
+pub mod Rails
+pub mod Cubes
+pub mod Formula
+pub mod Steps
+pub mod Passing
+pub mod Examples

@@ -1,0 +1,12 @@
+use Rattle.ht_tree.specs.Windows.{state_pair}
+use Rattle.ht_engine.proofs.DeepLaws.{if_ok_both, onward_holds}
+use Rattle.ht_engine.proofs.deep.work_open.Goals as goal
+
+pub returns-in-Entry-clause-holds : goal.returns-in-Entry-clause-holds
+returns-in-Entry-clause-holds c =
+    let states = state_pair c.args.states.good c.args.states.bad in
+    let same = c.in_ok-list.ensures.circuit in
+    if_ok_both c.sweep_on.result _ _ _
+    (λ w is shows. onward_holds c.args.bases.now.circuit c.args.fault c.args.settings.now states c.args.states.good
+    c.args.states.bad c.in-Entry.entry (rw c.in-Entry.is at c.in_ok-list.ensures.holds) w is shows)
+    (rw same at c.sweep_on.ensures.answer) (rw same at c.sweep_on.ensures.holds)

@@ -1,0 +1,91 @@
+-- Families by rows.
+use Rattle.std.proofs.Common.{◌≡◌, ◌<◌, ◌≤◌, ◌+◌, ◌==◌, ℕ, suc, zero, List, [], ◌∷◌, map, drop, set, length, get_or, refl, sym, ◌∙◌, ap, inl, inr, arith, get_or-set_other, get_or-set_same, if◌then◌else◌}
+use Rattle.std.specs.List.{range_with_len}
+use Rattle.std.proofs.lemmas.Bool.Decides.{eqb_tells}
+use Rattle.std.proofs.lemmas.List.{drop_more, length-map}
+use Rattle.std.proofs.lemmas.List.FromFn.{length-map-range_with_len}
+use Rattle.ht_tern.specs.declared.tern.Tern.{Tern}
+use Rattle.ht_pairs.specs.Pairs.{Pair}
+use Rattle.ht_tree.specs.Rising.{Rises}
+use Rattle.ht_tree.specs.declared.family_row.FamilyRow.{FamilyRow}
+use Rattle.ht_families.specs.Families.{start_family}
+use Rattle.ht_tree.specs.FamilyRows.{dffs_of, family_of, row_set, start_set}
+use Rattle.ht_families.proofs.LeastLaws.{start_at, start_long}
+
+-- a row is written
+written_at : (family : List (List Pair)) (r : FamilyRow) (j : ℕ) → r.dff < length family
+    → get_or (set family r.dff r.set) j [] ≡ (if j == r.dff then r.set else get_or family j [])
+written_at family r j l = elim (eqb_tells j r.dff) [
+  | inl e ↦
+      rw e.0 (ap (λ (i : ℕ). get_or (set family r.dff r.set) i []) e.1 ∙ get_or-set_same family r.dff r.set [] l)
+  | inr e ↦ rw e.0 (get_or-set_other family r.dff j r.set [] e.1)
+]
+
+pub row_written : (rows : List FamilyRow) (i : ℕ) (r : FamilyRow) (family before : List (List Pair)) (j : ℕ)
+    → i < length rows → r ≡ get_or rows i r → r.dff < length family
+    → row_set (drop i rows) j (get_or family j []) ≡ row_set rows j (get_or before j [])
+    → row_set (drop (i + 1) rows) j (get_or (set family r.dff r.set) j []) ≡ row_set rows j (get_or before j [])
+row_written rows i r family before j inside is known h =
+    ap (row_set (drop (i + 1) rows) j) (written_at family r j known)
+    ∙ (ap (λ (q : FamilyRow). row_set (q ∷ drop (i + 1) rows) j (get_or family j [])) is
+    ∙ (ap (λ (l : List FamilyRow). row_set l j (get_or family j [])) (sym (drop_more rows i r inside)) ∙ h))
+
+-- a list with these sets is the family
+pub listed : (F : ℕ → List Pair) (a n : ℕ) (xs : List (List Pair)) → length xs ≡ n
+    → ((j : ℕ) → j < n → get_or xs j [] ≡ F (a + j)) → xs ≡ map F (range_with_len a n)
+listed F a zero [] e h = refl
+listed F a zero (x ∷ xs) e h = absurd (omega arith)
+listed F a (suc n) [] e h = absurd (omega arith)
+listed F a (suc n) (x ∷ xs) e h =
+    let at : a + 0 ≡ a = omega arith in
+    let first : x ≡ F a = h 0 (omega arith) ∙ ap F at in
+    let rest : xs ≡ map F (range_with_len (a + 1) n) =
+    listed F (a + 1) n xs (omega arith) (λ j l. let to : a + suc j ≡ a + 1 + j = omega arith in
+    h (suc j) (omega arith) ∙ ap F to) in
+    (λ k. first k ∷ rest k)
+
+pub family_is : (start : List Tern) (rows : List FamilyRow) (before family : List (List Pair))
+    → before ≡ start_family start → length family ≡ length before
+    → ((j : ℕ) → get_or family j [] ≡ row_set rows j (get_or before j [])) → family ≡ family_of start rows
+family_is start rows before family is long all =
+    let n = start_long start in
+    let m = ap length is in
+    listed (λ j. row_set rows j (start_set start j)) 0 (length start) family (omega (arith, long, n, m))
+    (λ j l.
+    let to : j ≡ 0 + j = omega arith in
+    all j ∙ (ap (λ (b : List (List Pair)). row_set rows j (get_or b j [])) is
+    ∙ (ap (row_set rows j) (start_at start j l) ∙ ap (λ (i : ℕ). row_set rows i (start_set start i)) to)))
+
+pub family_long : (start : List Tern) (rows : List FamilyRow) → length (family_of start rows) ≡ length start
+family_long start rows = length-map-range_with_len (λ j. row_set rows j (start_set start j)) 0 (length start)
+
+-- rows that rise, by their flip-flops
+pub dff_at : (rows : List FamilyRow) (k : ℕ) (d : FamilyRow) → k < length rows
+    → get_or (dffs_of rows) k 0 ≡ (get_or rows k d).dff
+dff_at [] k d l = absurd (omega arith)
+dff_at (r ∷ rows) zero d l = refl
+dff_at (r ∷ rows) (suc k) d l = dff_at rows k d (omega arith)
+
+abbrev pub RiseTo : List FamilyRow → ℕ → Type 0
+RiseTo rows n = (k : ℕ) (d : FamilyRow) → k < n → k + 1 < length rows
+    → (get_or rows k d).dff < (get_or rows (k + 1) d).dff
+
+pub rise_by : (rows : List FamilyRow) (n : ℕ) → length rows ≤ n → RiseTo rows n → Rises (dffs_of rows)
+rise_by rows n all h = record {
+  next = λ i l.
+      let d : FamilyRow = record { dff = 0; set = [] } in
+      let m = length-map rows (λ (row : FamilyRow). row.dff) in
+      let a = dff_at rows i d (omega (arith, l, m)) in
+      let b = dff_at rows (i + 1) d (omega (arith, l, m)) in
+      let c = h i d (omega (arith, l, m, all)) (omega (arith, l, m)) in
+      omega (arith, a, b, c);
+}
+
+pub rises_at : (rows : List FamilyRow) (i : ℕ) (d : FamilyRow) → Rises (dffs_of rows) → i + 1 < length rows
+    → (get_or rows i d).dff < (get_or rows (i + 1) d).dff
+rises_at rows i d h l =
+    let m = length-map rows (λ (row : FamilyRow). row.dff) in
+    let a = dff_at rows i d (omega (arith, l)) in
+    let b = dff_at rows (i + 1) d (omega (arith, l)) in
+    let c = h.next i (omega (arith, l, m)) in
+    omega (arith, a, b, c)

@@ -1,0 +1,338 @@
+-- A text is that of one list of faults, or malformed at one line.
+use Rattle.std.proofs.Common.{◌≡◌, ◌⊎◌, inl, inr, ℕ, zero, suc, ◌+◌, ◌-◌, ◌^◌, ◌<◌, ◌≤◌, List, [], ◌∷◌, ◌++◌, length, get_or, map, take, refl, sym, ap, ◌∙◌, subst, arith}
+use Rattle.std.specs.Fmt.{decimal}
+use Rattle.std.specs.List.{All}
+use Rattle.std.proofs.lemmas.Bool.{cases_lt}
+use Rattle.std.proofs.lemmas.Fmt.{decimal_injective, length-decimal-le}
+use Rattle.std.proofs.lemmas.List.{get_or_append_left, length-append, length-map, map-append, same_from_push, take-map, take_more, length-take-le}
+use Rattle.std.proofs.lemmas.List.Elements.{All-append, All-cons, All-map, All-nil, All-take}
+use Rattle.std.proofs.Math.Seq.{get_or-append_seam, get_or-take, take-length}
+use Rattle.ht_ports.specs.LineRule.{lines_of, max_text_bytes}
+use Rattle.ht_tree.specs.Rising.{Rises}
+use Rattle.ht_texts.specs.FaultListTexts.{AreFaultLines, IsFaultListText, IsNoFaultLine, IsWrongFaultLine, IsMalformedFaultList, IsFaultListOrMalformed}
+use Rattle.ht_texts.specs.LineLengths.{IsShortLine}
+use Rattle.ht_texts.specs.Numbers.{IsNumberText}
+use Rattle.ht_texts.specs.Tests.{IsTooLong, line_of_byte}
+use Rattle.ht_texts.proofs.ReportChoiceLaws.{same_or_not, some_below}
+use Rattle.ht_texts.proofs.ReportTextLaws.{take_again}
+
+-- ---- numbers that rise
+
+-- the last number, or 0 where there is none
+abbrev pub last_in : List ℕ → ℕ
+last_in numbers = get_or numbers (length numbers - 1) 0
+
+rises_push : (numbers : List ℕ) (number : ℕ) → Rises numbers → last_in numbers < number
+    → Rises (numbers ++ number ∷ [])
+rises_push numbers number rises above = record {
+  next = λ i below. elim (cases_lt (i + 1) (length numbers)) [
+    | inl inside ↦
+        subst (λ x. x < get_or (numbers ++ number ∷ []) (i + 1) 0)
+        (sym (get_or_append_left numbers (number ∷ []) 0 i (omega (arith, inside))))
+        (subst (λ x. get_or numbers i 0 < x)
+        (sym (get_or_append_left numbers (number ∷ []) 0 (i + 1) inside)) (rises.next i inside))
+    | inr past ↦
+        let size = length-append numbers (number ∷ []) in
+        let at : length numbers ≡ i + 1 = omega (arith, past, below, size) in
+        let before : length numbers - 1 ≡ i = omega (arith, at) in
+        subst (λ x. x < get_or (numbers ++ number ∷ []) (i + 1) 0)
+        (sym (get_or_append_left numbers (number ∷ []) 0 i (omega (arith, at))))
+        (subst (λ k. get_or numbers i 0 < get_or (numbers ++ number ∷ []) k 0) at
+        (subst (λ x. get_or numbers i 0 < x) (sym (get_or-append_seam numbers number [] 0))
+        (subst (λ k. get_or numbers k 0 < number) before above)))
+  ];
+}
+
+rises_take : (numbers : List ℕ) (n : ℕ) → n ≤ length numbers → Rises numbers → Rises (take n numbers)
+rises_take numbers n within rises = record {
+  next = λ i below.
+      let size = length-take-le n numbers within in
+      let inside : i + 1 < n = omega (arith, below, size) in
+      subst (λ x. x < get_or (take n numbers) (i + 1) 0) (sym (get_or-take n numbers i 0 (omega (arith, inside))))
+      (subst (λ x. get_or numbers i 0 < x) (sym (get_or-take n numbers (i + 1) 0 inside))
+      (rises.next i (omega (arith, inside, within))));
+}
+
+-- ---- one list
+
+one_number : (count m n : ℕ) → count < 2 ^ 64 → m ≤ count → n ≤ count → decimal m ≡ decimal n → m ≡ n
+one_number count m n few of_m of_n e =
+    decimal_injective m n (omega (arith, few, of_m)) (omega (arith, few, of_n)) e
+
+abbrev UpTo : ℕ → List ℕ → Type 0
+UpTo count numbers = (k : ℕ) → k < length numbers → get_or numbers k 0 ≤ count
+
+pub up_to : (count : ℕ) (lines : List (List ℕ)) (numbers : List ℕ) → AreFaultLines count lines numbers
+    → UpTo count numbers
+up_to count lines numbers are k below = (are.listed k 0 below).1
+
+pub same_numbers : (count : ℕ) (a b : List ℕ) → count < 2 ^ 64 → UpTo count a → UpTo count b
+    → map decimal a ≡ map decimal b → a ≡ b
+same_numbers count [] [] few of_a of_b e = refl
+same_numbers count [] (y ∷ b) few of_a of_b e = absurd (omega (arith, ap (λ (l : List (List ℕ)). length l) e))
+same_numbers count (x ∷ a) [] few of_a of_b e = absurd (omega (arith, ap (λ (l : List (List ℕ)). length l) e))
+same_numbers count (x ∷ a) (y ∷ b) few of_a of_b e =
+    let here : decimal x ≡ decimal y = cc in
+    let more : map decimal a ≡ map decimal b = cc in
+    let first : x ≡ y = one_number count x y few (of_a 0 (omega arith)) (of_b 0 (omega arith)) here in
+    let rest : a ≡ b = same_numbers count a b few (λ k below. of_a (suc k) (omega (arith, below)))
+    (λ k below. of_b (suc k) (omega (arith, below))) more in
+    ap (λ l. x ∷ l) rest ∙ ap (λ n. n ∷ b) first
+
+pub one_list : (count : ℕ) (lines : List (List ℕ)) (a b : List ℕ) → count < 2 ^ 64 → AreFaultLines count lines a
+    → AreFaultLines count lines b → a ≡ b
+one_list count lines a b few of_a of_b =
+    same_numbers count a b few (up_to count lines a of_a) (up_to count lines b of_b) (sym of_a.texts ∙ of_b.texts)
+
+-- ---- one line more
+
+-- the line is the number of a fault after those before
+pub record IsNextFault (count : ℕ) (numbers line : List ℕ) (number : ℕ) : Type 0 where
+  pub text : IsNumberText count line number
+  pub above : last_in numbers < number
+
+abbrev IsListed : ℕ → ℕ → Type 0
+IsListed count number = (0 < number) × (number ≤ count)
+
+pub next_is_taken : (count : ℕ) (lines : List (List ℕ)) (numbers line : List ℕ) (number : ℕ)
+    → AreFaultLines count lines numbers → IsNextFault count numbers line number
+    → AreFaultLines count (lines ++ line ∷ []) (numbers ++ number ∷ [])
+next_is_taken count lines numbers line number are next = record {
+  texts = ap (λ l. l ++ line ∷ []) are.texts ∙ ap (λ l. map decimal numbers ++ l ∷ []) next.text.digits
+      ∙ sym (map-append decimal numbers (number ∷ []));
+  listed = All-append (IsListed count) numbers (number ∷ []) are.listed
+      (All-cons (IsListed count) number [] (omega (arith, next.above), next.text.bound) (All-nil (IsListed count)));
+  rises = rises_push numbers number are.rises next.above;
+}
+
+-- the first lines of a list of faults are one
+pub first_fault_lines : (count : ℕ) (lines : List (List ℕ)) (numbers : List ℕ) (n : ℕ) → n ≤ length numbers
+    → AreFaultLines count lines numbers → AreFaultLines count (take n lines) (take n numbers)
+first_fault_lines count lines numbers n within are = record {
+  texts = ap (take n) are.texts ∙ take-map decimal n numbers;
+  listed = All-take (IsListed count) n numbers are.listed;
+  rises = rises_take numbers n within are.rises;
+}
+
+-- a list of faults that goes on with this line has its number
+pub taken_is_next : (count : ℕ) (lines : List (List ℕ)) (numbers line all : List ℕ) → count < 2 ^ 64
+    → AreFaultLines count lines numbers → AreFaultLines count (lines ++ line ∷ []) all
+    → (number : ℕ) × IsNextFault count numbers line number
+taken_is_next count lines numbers line all few are more =
+    let n = length numbers in
+    let lines_size : length lines ≡ n = ap (λ (l : List (List ℕ)). length l) are.texts ∙ length-map numbers decimal in
+    let size : length all ≡ n + 1 = omega (
+      arith,
+      lines_size,
+      length-append lines (line ∷ []),
+      ap (λ (l : List (List ℕ)). length l) more.texts,
+      length-map all decimal,
+    ) in
+    let number = get_or all n 0 in
+    let split : all ≡ take n all ++ number ∷ [] =
+    sym (take-length all) ∙ ap (λ k. take k all) size ∙ take_more all n 0 (omega (arith, size)) in
+    let texts : lines ++ line ∷ [] ≡ map decimal (take n all) ++ decimal number ∷ [] =
+    more.texts ∙ ap (map decimal) split ∙ map-append decimal (take n all) (number ∷ []) in
+    let parts = same_from_push lines (map decimal (take n all)) line (decimal number) texts in
+    let listed : UpTo count (take n all) = λ k below.
+    let inside : k < n = omega (arith, below, length-take-le n all (omega (arith, size))) in
+    subst (λ x. x ≤ count) (sym (get_or-take n all k 0 inside))
+    (up_to count (lines ++ line ∷ []) all more k (omega (arith, inside, size))) in
+    let same : numbers ≡ take n all = same_numbers count numbers (take n all) few (up_to count lines numbers are) listed
+    (sym are.texts ∙ parts.0) in (
+      number,
+      record {
+        text = record {
+          digits = parts.1;
+          bound = up_to count (lines ++ line ∷ []) all more n (omega (arith, size));
+        };
+        above = subst (λ l. get_or l (n - 1) 0 < number) (sym same) (last_is_below count (lines ++ line ∷ []) all n
+            size more);
+      },
+    )
+  where
+    last_is_below : (count : ℕ) (lines : List (List ℕ)) (all : List ℕ) (n : ℕ) → length all ≡ n + 1
+        → AreFaultLines count lines all → get_or (take n all) (n - 1) 0 < get_or all n 0
+    last_is_below count lines all zero size more = (more.listed 0 0 (omega (arith, size))).0
+    last_is_below count lines all (suc n) size more =
+        let before : suc n - 1 ≡ n = omega arith in
+        let next : n + 1 ≡ suc n = omega arith in
+        subst (λ k. get_or (take (suc n) all) k 0 < get_or all (suc n) 0) (sym before)
+        (subst (λ x. x < get_or all (suc n) 0) (sym (get_or-take (suc n) all n 0 (omega arith)))
+        (subst (λ k. get_or all n 0 < get_or all k 0) next (more.rises.next n (omega (arith, size)))))
+
+-- ---- each text is one or malformed
+
+-- the lines are those of some faults
+abbrev AreSomeFaults : ℕ → List (List ℕ) → Type 0
+AreSomeFaults count lines = (numbers : List ℕ) × AreFaultLines count lines numbers
+
+next_or_none : (count : ℕ) (numbers line : List ℕ) → count < 2 ^ 64
+    → ((number : ℕ) × IsNextFault count numbers line number)
+    ⊎ ((number : ℕ) → ¬ IsNextFault count numbers line number)
+next_or_none count numbers line few =
+    elim (some_below (λ k. line ≡ decimal k) (λ k. same_or_not line (decimal k)) (count + 1)) [
+      | inr none ↦ inr (λ number next. none number (omega (arith, next.text.bound)) next.text.digits)
+      | inl found ↦ elim (cases_lt (last_in numbers) found.0) [
+        | inl above ↦ inl (
+          found.0,
+          record { text = record { digits = found.2; bound = omega (arith, found.1) }; above = above },
+        )
+        | inr upto ↦ inr (λ number next.
+            let same : number ≡ found.0 = one_number count number found.0 few next.text.bound
+            (omega (arith, found.1)) (sym next.text.digits ∙ found.2) in
+            omega (arith, same, upto, next.above))
+      ]
+    ]
+
+some_or_not : (count : ℕ) (lines : List (List ℕ)) (line : List ℕ) → count < 2 ^ 64 → AreSomeFaults count lines
+    → AreSomeFaults count (lines ++ line ∷ []) ⊎ (AreSomeFaults count (lines ++ line ∷ []) → ⊥)
+some_or_not count lines line few are = elim (next_or_none count are.0 line few) [
+  | inl next ↦ inl (are.0 ++ next.0 ∷ [], next_is_taken count lines are.0 line next.0 are.1 next.1)
+  | inr none ↦ inr (λ more.
+      let next = taken_is_next count lines are.0 line more.0 few are.1 more.1 in
+      none next.0 next.1)
+]
+
+-- the lines up to the first with which they are those of no faults
+record StopsFaults (count : ℕ) (lines : List (List ℕ)) (k : ℕ) : Type 0 where
+  within : k < length lines
+  before : AreSomeFaults count (take k lines)
+  none : AreSomeFaults count (take (k + 1) lines) → ⊥
+
+faults_or_stop : (count : ℕ) (lines : List (List ℕ)) (n : ℕ) → count < 2 ^ 64 → n ≤ length lines
+    → AreSomeFaults count (take n lines) ⊎ ((k : ℕ) × StopsFaults count lines k)
+faults_or_stop count lines zero few within = inl (
+  [],
+  record {
+    texts = refl;
+    listed = All-nil (IsListed count);
+    rises = record { next = λ i below. absurd (omega (arith, below)) };
+  },
+)
+faults_or_stop count lines (suc n) few within =
+    let more : n + 1 ≡ suc n = omega arith in
+    let line = get_or lines n [] in
+    let longer : take (n + 1) lines ≡ take n lines ++ line ∷ [] = take_more lines n [] (omega (arith, within)) in
+    elim (faults_or_stop count lines n few (omega (arith, within))) [
+      | inr stop ↦ inr stop
+      | inl so_far ↦ elim (some_or_not count (take n lines) line few so_far) [
+        | inl next ↦ inl (subst (λ k. AreSomeFaults count (take k lines)) more
+            (subst (AreSomeFaults count) (sym longer) next))
+        | inr none ↦ inr (
+          n,
+          record {
+            within = omega (arith, within);
+            before = so_far;
+            none = subst (λ l. AreSomeFaults count l → ⊥) (sym longer) none;
+          },
+        )
+      ]
+    ]
+
+-- no line of those of some faults is wrong by itself
+pub fine_so_far : (count : ℕ) (text : List ℕ) (n m : ℕ) → AreSomeFaults count (take n (lines_of text))
+    → n ≤ length (lines_of text) → m ≤ n → ¬ IsNoFaultLine count text m
+fine_so_far count text n m are inside within wrong =
+    let lines = lines_of text in
+    let size : length are.0 ≡ n = sym (length-map are.0 decimal)
+    ∙ sym (ap (λ (l : List (List ℕ)). length l) are.1.texts) ∙ length-take-le n lines inside in
+    wrong.none (take m are.0) (subst (λ l. AreFaultLines count l (take m are.0)) (take_again m n lines within inside)
+    (first_fault_lines count (take n lines) are.0 m (omega (arith, within, size)) are.1))
+
+malformed_at : (count : ℕ) (text : List ℕ) (n : ℕ) → IsWrongFaultLine count text n
+    → ((m : ℕ) → m < n → ¬ IsNoFaultLine count text m) → ((m : ℕ) → m < n → ¬ IsTooLong text m)
+    → IsMalformedFaultList count text n
+malformed_at count text n wrong no_line no_long = record {
+  wrong = wrong;
+  first = λ m below other. elim other [ inl line ↦ no_line m below line | inr long ↦ no_long m below long ];
+}
+
+list_or_line : (count : ℕ) (text : List ℕ) → count < 2 ^ 64
+    → ((numbers : List ℕ) × IsFaultListText count text numbers) ⊎ ((n : ℕ) × IsMalformedFaultList count text n)
+list_or_line count text few =
+    let lines = lines_of text in
+    let end : ℕ = line_of_byte text max_text_bytes in
+    let at_end : max_text_bytes < length text → ((m : ℕ) → m < end → ¬ IsNoFaultLine count text m)
+    → IsMalformedFaultList count text end =
+    λ long fine. malformed_at count text end (inr (record { long = long; line = refl })) fine
+    (λ m below other. omega (arith, below, other.line)) in
+    elim (faults_or_stop count lines (length lines) few (omega arith)) [
+      | inl are ↦ elim (cases_lt max_text_bytes (length text)) [
+        | inr short ↦ inl (
+          are.0,
+          record {
+            lines = subst (λ l. AreFaultLines count l are.0) (take-length lines) are.1;
+            short = short;
+          },
+        )
+        | inl long ↦ inr (
+          end,
+          at_end long
+              (λ m below wrong. fine_so_far count text (length lines) m are (omega arith) wrong.counted.1 wrong),
+        )
+      ]
+      | inr stop ↦
+          let k = stop.0 in
+          let inside = stop.1.within in
+          let wrong : IsNoFaultLine count text (k + 1) = record {
+            counted = (omega arith, omega (arith, inside));
+            none = λ numbers are. stop.1.none (numbers, are);
+          } in
+          let fine : (m : ℕ) → m < k + 1 → ¬ IsNoFaultLine count text m =
+          λ m below. fine_so_far count text k m stop.1.before (omega (arith, inside)) (omega (arith, below)) in
+          elim (cases_lt max_text_bytes (length text)) [
+            | inr short ↦ inr (
+              k + 1,
+              malformed_at count text (k + 1) (inl wrong) fine (λ m below other. omega (arith, short, other.long)),
+            )
+            | inl long ↦ elim (cases_lt end (k + 1)) [
+              | inl sooner ↦ inr (end, at_end long (λ m below. fine m (omega (arith, below, sooner))))
+              | inr later ↦ inr (
+                k + 1,
+                malformed_at count text (k + 1) (inl wrong) fine
+                    (λ m below other. omega (arith, below, later, other.line)),
+              )
+            ]
+          ]
+    ]
+
+never_both : (count : ℕ) (text numbers : List ℕ) (n : ℕ) → IsFaultListText count text numbers
+    → ¬ IsMalformedFaultList count text n
+never_both count text numbers n is malformed =
+    let lines = lines_of text in
+    elim malformed.wrong [
+      | inl wrong ↦ fine_so_far count text (length lines) n
+          (numbers, subst (λ l. AreFaultLines count l numbers) (sym (take-length lines)) is.lines) (omega arith)
+          wrong.counted.1 wrong
+      | inr long ↦ omega (arith, is.short, long.long)
+    ]
+
+one_line : (count : ℕ) (text : List ℕ) (m n : ℕ) → IsMalformedFaultList count text m
+    → IsMalformedFaultList count text n → m ≡ n
+one_line count text m n at_m at_n = elim (cases_lt m n) [
+  | inl below ↦ absurd (at_n.first m below at_m.wrong)
+  | inr upto ↦ elim (cases_lt n m) [
+    | inl below ↦ absurd (at_m.first n below at_n.wrong)
+    | inr same ↦ omega arith
+  ]
+]
+
+pub fault_list_or_malformed : (count : ℕ) (text : List ℕ) → count < 2 ^ 64 → IsFaultListOrMalformed count text
+fault_list_or_malformed count text few = record {
+  either = list_or_line count text few;
+  never_both = never_both count text;
+  one_list = λ a b is other. one_list count (lines_of text) a b few is.lines other.lines;
+  one_line = one_line count text;
+}
+
+-- ---- what a reader needs
+
+pub fault_lines_are_short : (count : ℕ) (lines : List (List ℕ)) (numbers : List ℕ) → count < 2 ^ 64
+    → AreFaultLines count lines numbers → All IsShortLine lines
+fault_lines_are_short count lines numbers few are =
+    subst (All IsShortLine) (sym are.texts) (All-map IsShortLine decimal numbers (λ k d below.
+    let number = are.listed k d below in
+    let size = length-decimal-le 20 (get_or numbers k d) (omega arith) (omega (arith, few, number.1))
+    (omega (arith, few, number.1)) in
+    omega (arith, size)))
