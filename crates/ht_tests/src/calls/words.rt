@@ -341,7 +341,8 @@ fn has_options(
     deep: bool,
 ) -> Result<bool, AllocError> {
     let list = words_of(alloc, words)?;
-    Ok(match command(alloc, &list) {
+    let answer = command(alloc, &list);
+    Ok(match &answer {
         Ok(Job::Gen { options, .. }) => {
             is_name(&options.first, names.0)
                 && is_name(&options.faults, names.1)
