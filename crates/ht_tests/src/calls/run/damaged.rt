@@ -45,9 +45,10 @@ const VALID: Answer<'static> = (0, b"valid\n");
 const WRONG: Answer<'static> = (1, b"denied: fault 1\n");
 
 const ROWS: &[(Damage<'static>, Answer<'static>)] = &[
-    // the second format has these entries too
+    // the second and the third format have these entries too, and there is no fourth
     ((1, 2, "proofs 2\n", 0), VALID),
-    ((1, 2, "proofs 3\n", 0), (1, b"denied: proofs line 1\n")),
+    ((1, 2, "proofs 3\n", 0), VALID),
+    ((1, 2, "proofs 4\n", 0), (1, b"denied: proofs line 1\n")),
     // either value may come first, but there is one variable, and it has two values
     ((4, 5, "lo 1\n", 0), VALID),
     ((4, 5, "hi 2\n", 0), WRONG),

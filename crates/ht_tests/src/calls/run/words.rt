@@ -5,7 +5,7 @@ use ht_samples::SHIFT_REGISTER;
 use std::test::Fail;
 
 const USAGE: &[u8] =
-    b"usage: sim NETLIST TESTS REPORT [--start FILE], gen NETLIST TESTS REPORT PROOFS [--budget N] [--random N] [--seed S] [--start FILE], check NETLIST TESTS REPORT PROOFS [--start FILE], norm NETLIST OUT, demo SIZE SEED, compact NETLIST TESTS OUT, diagnose NETLIST TESTS RESPONSES OUT, uninit NETLIST OUT [--budget N], sync NETLIST TESTS OUT [--budget N], respond NETLIST TESTS OUT [--fault N] [--start FILE]\n";
+    b"usage: sim NETLIST TESTS REPORT [--start FILE], gen NETLIST TESTS REPORT PROOFS [--budget N] [--random N] [--seed S] [--start FILE] [--first FILE] [--faults FILE] [--weighted N] [--search plain|deep], check NETLIST TESTS REPORT PROOFS [--start FILE], norm NETLIST OUT, demo SIZE SEED, compact NETLIST TESTS OUT, diagnose NETLIST TESTS RESPONSES OUT, uninit NETLIST OUT [--budget N], sync NETLIST TESTS OUT [--budget N], respond NETLIST TESTS OUT [--fault N] [--start FILE], report NETLIST TESTS PROOFS REPORT [--budget N] [--start FILE]\n";
 
 const WITHOUT_FORM: &[&[&str]] = &[
     &[],
@@ -19,6 +19,8 @@ const WITHOUT_FORM: &[&[&str]] = &[
     &["demo", "20001", "1"],
     &["uninit", "n", "r", "--budget", "0"],
     &["respond", "n", "t", "r", "--fault", "0"],
+    &["gen", "n", "t", "r", "p", "--search", "wide"],
+    &["report", "n", "t", "p"],
 ];
 
 #[test]
