@@ -1,11 +1,11 @@
 -- Marks that grow to the cone.
-use Rattle.std.proofs.Common.{◌≡◌, ◌<◌, ◌≤◌, ◌+◌, ℕ, suc, zero, List, [], ◌∷◌, length, get_or, set, Bool, true, false, refl, sym, ◌∙◌, ap, subst, arith, inl, inr, ◌⊎◌}
-use Rattle.std.proofs.lemmas.List.{get_or-set_same, get_or-set_other, length-set}
+use Rattle.std.proofs.Common.{◌≡◌, ◌<◌, ◌≤◌, ◌+◌, ℕ, suc, zero, List, [], ◌∷◌, length, get_or, set, replicate, Bool, true, false, refl, sym, ◌∙◌, ap, subst, arith, inl, inr, ◌⊎◌}
+use Rattle.std.proofs.lemmas.List.{get_or-set_same, get_or-set_other, length-set, length-replicate}
 use Rattle.std.proofs.lemmas.Bool.{both_ways, cases_Bool, cases_eq, false≢true}
 use Rattle.ht_net.specs.declared.fault.Fault.{Fault}
 use Rattle.ht_net.specs.Netlist.{Netlist, first_gate_net, net_count, gate_at, arg_at, no_net}
 use Rattle.ht_cubes.specs.Rails.{Encloses, IsCone, first_changed}
-use Rattle.ht_cubes.specs.Cones.{marked, unmarked_count, AreReached, HaveGrown, ClosesGate, ClosesDff, CloseGates, CloseDffs, IsSwept}
+use Rattle.ht_cubes.specs.Cones.{marked, unmarked_count, AreReached, HaveGrown, ClosesGate, ClosesDff, CloseGates, CloseDffs, CloseBoth, IsSwept}
 
 -- a new mark
 unmarked_set : (marks : List Bool) (x : ℕ) → x < length marks → get_or marks x false ≡ false
@@ -69,6 +69,60 @@ module _ (c : Netlist) where
     closed = λ no. h;
   }
 
+  -- the mark of what gate g drives, which stands at x
+  pub gate_grown : (marks : List Bool) (g x : ℕ) → g < length c.gates → x ≡ first_gate_net c + g → x < length marks
+      → get_or marks x false ≡ false
+      → (i : ℕ) × (i < length (gate_at c g).args) × (marked marks (arg_at c g i) ≡ true)
+      → HaveGrown c marks (set marks x true)
+  gate_grown marks g x gate is inside none read = grown_set marks x inside none
+      (λ fault nets closed reached. ap nets is
+      ∙ closed.gates g read.0 gate read.1.0 (reached nets closed (arg_at c g read.0) read.1.1))
+
+  pub gate_closed : (marks : List Bool) (g x : ℕ) → x ≡ first_gate_net c + g → get_or marks x false ≡ true
+      → ClosesGate c g marks
+  gate_closed marks g x is on i l m = ap (λ (n : ℕ). get_or marks n false) (sym is) ∙ on
+
+  -- the mark of what flip-flop j drives, which stands at x and takes net y
+  pub dff_grown : (marks : List Bool) (j x y : ℕ) → j < length c.dffs → x ≡ c.inputs + j
+      → y ≡ (get_or c.dffs j no_net).0 → x < length marks → get_or marks x false ≡ false → get_or marks y false ≡ true
+      → HaveGrown c marks (set marks x true)
+  dff_grown marks j x y dff is data inside none on = grown_set marks x inside none
+      (λ fault nets closed reached. ap nets is ∙ closed.dffs j dff (ap nets (sym data) ∙ reached nets closed y on))
+
+  pub dff_closed : (marks : List Bool) (j x : ℕ) → x ≡ c.inputs + j → get_or marks x false ≡ true → ClosesDff c j marks
+  dff_closed marks j x is on m = ap (λ (n : ℕ). get_or marks n false) (sym is) ∙ on
+
+  pub dff_apart : (marks : List Bool) (j y : ℕ) → y ≡ (get_or c.dffs j no_net).0 → get_or marks y false ≡ false
+      → ClosesDff c j marks
+  dff_apart marks j y data off m =
+      absurd (both_ways (get_or marks y false) off (ap (λ (n : ℕ). get_or marks n false) data ∙ m))
+
+  -- the first mark, where there is such a net, and where there is none
+  none_marked : (n x : ℕ) → get_or (replicate n false) x false ≡ true → ⊥
+  none_marked zero x h = false≢true h
+  none_marked (suc n) zero h = false≢true h
+  none_marked (suc n) (suc x) h = none_marked n x h
+
+  pub none_reached : (fault : Fault) (n : ℕ) → AreReached c fault (replicate n false)
+  none_reached fault n nets closed x m = absurd (none_marked n x m)
+
+  pub first_reached : (fault : Fault) (n x : ℕ) → x ≡ first_changed c fault.site → x < net_count c
+      → AreReached c fault (set (replicate n false) x true)
+  first_reached fault n x is inside nets closed y m = elim (from_set (replicate n false) x y m) [
+    | inl same ↦ ap nets (same ∙ is) ∙ closed.first (let l : first_changed c fault.site < net_count c = omega arith in l)
+    | inr old ↦ absurd (none_marked n y old)
+  ]
+
+  pub first_marked : (n x y : ℕ) → x < n → x ≡ y → marked (set (replicate n false) x true) y ≡ true
+  first_marked n x y inside is =
+      let e = length-replicate n false in
+      ap (λ (k : ℕ). get_or (set (replicate n false) x true) k false) (sym is)
+      ∙ get_or-set_same (replicate n false) x true false (omega (arith, e, inside))
+
+-- what a sweep closes, said otherwise
+pub swept_so : (P Q : Type 0) → (P → Q) → (a b : List Bool) (x : Bool) → IsSwept P a b x → IsSwept Q a b x
+swept_so P Q so a b x h = record { fewer = h.fewer; still = h.still; closed = λ no. so (h.closed no) }
+
 -- two sweeps, one after the other
 pub swept_join : (P Q R : List Bool → Type 0) → ((m : List Bool) → P m → Q m → R m) → (a b d : List Bool) (x y z : Bool)
     → unmarked_count b ≤ unmarked_count a → unmarked_count d ≤ unmarked_count b
@@ -90,12 +144,12 @@ swept_join P Q R join a b d x y z few less one two yes no = record {
 -- marks that are reached, have the first net and close are the cone
 pub cone_found : (c : Netlist) (fault : Fault) (marks : List Bool)
     → (first_changed c fault.site < net_count c → marked marks (first_changed c fault.site) ≡ true)
-    → AreReached c fault marks → CloseGates c marks → CloseDffs c marks → IsCone c fault (marked marks)
-cone_found c fault marks first reached gates dffs = record {
+    → AreReached c fault marks → CloseBoth c marks → IsCone c fault (marked marks)
+cone_found c fault marks first reached closed = record {
   encloses = record {
     first = first;
-    gates = λ g i inside pin h. gates g inside i pin h;
-    dffs = λ j inside h. dffs j inside h;
+    gates = λ g i inside pin h. closed.gates g inside i pin h;
+    dffs = λ j inside h. closed.dffs j inside h;
   };
   least = reached;
 }

@@ -173,7 +173,7 @@ unlike_bit true false e = refl
 unlike_bit false true e = refl
 unlike_bit false false e = cc
 
-choices_long : (n : ℕ) → All (λ (bits : List Bool). length bits ≡ n) (choices n)
+pub choices_long : (n : ℕ) → All (λ (bits : List Bool). length bits ≡ n) (choices n)
 choices_long zero = All-cons (λ (bits : List Bool). length bits ≡ 0) [] [] refl
     (All-nil (λ (bits : List Bool). length bits ≡ 0))
 choices_long (suc n) =

@@ -12,4 +12,5 @@ pub mod ConeLaws
 pub mod ListLaws
 pub mod PieceLaws
 pub mod BoundLaws
+pub mod BuildLaws
 pub mod PassLaws

@@ -44,7 +44,7 @@ same_push values front l m so is = (
   All-push (λ (other : SignedVar). (other ≡ m) ⊎ IsFalseIn values other) front l so.2 (inl (sym is)),
 )
 
-other_value : (v b : Bool) → beq v b ≡ false → v ≡ not b
+pub other_value : (v b : Bool) → beq v b ≡ false → v ≡ not b
 other_value true true h = cc
 other_value true false h = refl
 other_value false true h = refl

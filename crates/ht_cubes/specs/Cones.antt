@@ -43,6 +43,11 @@ CloseGates c marks = (g : ℕ) → g < length c.gates → ClosesGate c g marks
 abbrev pub CloseDffs : Netlist → List Bool → Type 0
 CloseDffs c marks = (j : ℕ) → j < length c.dffs → ClosesDff c j marks
 
+-- With a net the marks have all that reads it drives.
+pub record CloseBoth (c : Netlist) (marks : List Bool) : Type 0 where
+  pub gates : CloseGates c marks
+  pub dffs : CloseDffs c marks
+
 -- What a sweep says: with a new mark there are fewer nets without one, and without a new mark the marks close.
 pub record IsSwept (closes : Type 0) (old new : List Bool) (changed : Bool) : Type 0 where
   pub fewer : changed ≡ true → unmarked_count new < unmarked_count old

@@ -3,7 +3,7 @@ ghost use Rattle.std.specs.Prelude.{◌≡◌, ◌↔◌, ◌<◌, ℕ, IsTrue, 
 ghost use Rattle.ht_net.specs.declared.fault.Fault.{Fault};
 ghost use Rattle.ht_net.specs.Netlist.{arg_at, gate_at, net_count};
 ghost use Rattle.ht_cubes.specs.Rails.{IsCone, first_changed};
-ghost use Rattle.ht_cubes.specs.Cones.{AreReached, CloseDffs, CloseGates, ClosesDff, ClosesGate, HaveGrown, IsSwept, marked};
+ghost use Rattle.ht_cubes.specs.Cones.{AreReached, CloseBoth, CloseDffs, CloseGates, ClosesDff, ClosesGate, HaveGrown, IsSwept, marked};
 
 use ht_net::{Circuit, Fault, Site};
 use std::alloc::{AllocError, Global};
@@ -29,8 +29,10 @@ fn reads_marked(circuit: &Circuit, marks: &[bool], g: u32) -> bool
         × (marked marks.now (arg_at circuit.now g i) ≡ true)) }
 {
     prove_eq!(marks.len(), circuit.nets() as usize);
-    'pins: for arg in circuit.gate_args(g) {
-        if marks[arg.index()] {
+    let args = circuit.gate_args(g);
+    for arg in args {
+        let mark = marks[arg.index()];
+        if mark {
             return true;
         }
     }
@@ -44,8 +46,14 @@ fn mark_gate(circuit: &Circuit, marks: &mut [bool], g: u32) -> bool
     ensures grown { HaveGrown circuit.now marks.old marks.new }
     ensures swept { IsSwept (ClosesGate circuit.now g marks.new) marks.old marks.new result }
 {
+    prove_eq!(marks.len(), circuit.nets() as usize);
     let net = circuit.gate_net(g).index();
-    if marks[net] || !reads_marked(circuit, marks, g) {
+    let old = marks[net];
+    if old {
+        return false;
+    }
+    let reads = reads_marked(circuit, marks, g);
+    if !reads {
         return false;
     }
     marks[net] = true;
@@ -59,8 +67,14 @@ fn mark_dff(circuit: &Circuit, marks: &mut [bool], j: u32) -> bool
     ensures grown { HaveGrown circuit.now marks.old marks.new }
     ensures swept { IsSwept (ClosesDff circuit.now j marks.new) marks.old marks.new result }
 {
+    prove_eq!(marks.len(), circuit.nets() as usize);
     let net = circuit.dff_net(j).index();
-    if marks[net] || !marks[circuit.dff_data(j).index()] {
+    let old = marks[net];
+    if old {
+        return false;
+    }
+    let takes = marks[circuit.dff_data(j).index()];
+    if !takes {
         return false;
     }
     marks[net] = true;
@@ -73,9 +87,11 @@ fn sweep_gates(circuit: &Circuit, marks: &mut [bool]) -> bool
     ensures grown { HaveGrown circuit.now marks.old marks.new }
     ensures swept { IsSwept (CloseGates circuit.now marks.new) marks.old marks.new result }
 {
+    let order = circuit.order();
     let mut changed = false;
-    'gates: for g in circuit.order() {
-        if mark_gate(circuit, marks, *g) {
+    for g in order {
+        let is_new = mark_gate(circuit, marks, *g);
+        if is_new {
             changed = true;
         }
     }
@@ -89,12 +105,42 @@ fn sweep_dffs(circuit: &Circuit, marks: &mut [bool]) -> bool
     ensures swept { IsSwept (CloseDffs circuit.now marks.new) marks.old marks.new result }
 {
     let mut changed = false;
-    'dffs: for j in 0..circuit.dffs() {
-        if mark_dff(circuit, marks, j) {
+    for j in 0..circuit.dffs() {
+        let is_new = mark_dff(circuit, marks, j);
+        if is_new {
             changed = true;
         }
     }
     changed
+}
+
+// Marks what the gates and flip-flops drive that read a marked net. Says whether a mark is new.
+fn sweep(circuit: &Circuit, marks: &mut [bool]) -> bool
+    requires { length marks.old ≡ net_count circuit.now }
+    ensures grown { HaveGrown circuit.now marks.old marks.new }
+    ensures swept { IsSwept (CloseBoth circuit.now marks.new) marks.old marks.new result }
+{
+    let gates = sweep_gates(circuit, marks);
+    let dffs = sweep_dffs(circuit, marks);
+    if dffs {
+        return true;
+    }
+    gates
+}
+
+// Marks nets until no mark is new. A sweep of the gates takes them in their order, so there are as many sweeps as the
+// effect goes through flip-flops, and one more.
+fn close(circuit: &Circuit, marks: &mut [bool])
+    requires { length marks.old ≡ net_count circuit.now }
+    ensures grown { HaveGrown circuit.now marks.old marks.new }
+    ensures closed { CloseBoth circuit.now marks.new }
+{
+    'rounds: loop {
+        let changed = sweep(circuit, marks);
+        if !changed {
+            return;
+        }
+    }
 }
 
 // The mark of the net that a stuck line changes first.
@@ -104,11 +150,13 @@ fn first_mark(alloc: Global, circuit: &Circuit, fault: Fault) -> Result<Vec<bool
         → marked marks.items (first_changed circuit.now fault.site) ≡ true) }
     ensures reached { IfOk result (λ marks. AreReached circuit.now fault marks.items) }
 {
-    let mut marks = vec![in alloc; false; circuit.nets() as usize]?;
+    let nets = circuit.nets();
+    let mut marks = vec![in alloc; false; nets as usize]?;
     let first = first_changed(circuit, fault.site);
-    if first < u64::from(circuit.nets()) {
-        marks[first as usize] = true;
+    if first >= u64::from(nets) {
+        return Ok(marks);
     }
+    marks[first as usize] = true;
     Ok(marks)
 }
 
@@ -125,11 +173,6 @@ pub(crate) fn cone_of(
     ensures cone { IfOk result (λ marks. IsCone circuit.now fault (marked marks.items)) }
 {
     let mut marks = first_mark(alloc, circuit, fault)?;
-    'rounds: loop {
-        let gates = sweep_gates(circuit, &mut marks);
-        let dffs = sweep_dffs(circuit, &mut marks);
-        if !gates && !dffs {
-            return Ok(marks);
-        }
-    }
+    close(circuit, &mut marks);
+    Ok(marks)
 }

@@ -30,10 +30,12 @@ fn push_plain(
 {
     let mut plain = Vec::new(alloc);
     'literals: for literal in clause {
-        if is_constant(true, *literal) {
+        let holds = is_constant(true, *literal);
+        if holds {
             return Ok(());
         }
-        if !is_constant(false, *literal) {
+        let fails = is_constant(false, *literal);
+        if !fails {
             plain.push(*literal)?;
         }
     }
@@ -85,8 +87,9 @@ pub(crate) fn build(
         return Err(AllocError);
     }
     push_targets(alloc, &mut rows, rails + 1, &targets)?;
+    let clauses = without_constants(alloc, &rows)?;
     Ok(Formula {
-        clauses: without_constants(alloc, &rows)?,
+        clauses,
         last: rails + count,
     })
 }

@@ -34,7 +34,7 @@ fn choices(alloc: Global, count: usize) -> Result<FlatRows<bool>, AllocError>
 {
     let mut rows = FlatRows::new(alloc);
     rows.push(&[])?;
-    'counts: for _n in 0..count {
+    for _n in 0..count {
         let mut more = FlatRows::new(alloc);
         push_after(alloc, &mut more, false, &rows)?;
         push_after(alloc, &mut more, true, &rows)?;
@@ -48,7 +48,7 @@ fn has_other_parity(bit: bool, bits: &[bool]) -> bool
     ensures { result ≡ bool_xor bit (parity_of bits.now) }
 {
     let mut other = bit;
-    'bits: for b in bits {
+    for b in bits {
         if *b {
             other = !other;
         }
@@ -86,9 +86,10 @@ fn push_exclusions(
     ensures { OnOk result (rows.new ≡ rows.old ++ exclusions bit out pins.now) }
 {
     let all = choices(alloc, pins.len())?;
-    'choices: for i in 0..all.len() {
+    for i in 0..all.len() {
         let bits = all.row(i);
-        if has_other_parity(bit, bits) {
+        let excludes = has_other_parity(bit, bits);
+        if excludes {
             push_exclusion(alloc, rows, out.rail(bit), pins, bits)?;
         }
     }

@@ -5,7 +5,7 @@ ghost use Rattle.ht_trail.specs.Trails.{IsLater};
 ghost use Rattle.ht_cubes.specs.declared.signed_var.SignedVar.{SignedVar};
 ghost use Rattle.ht_cubes.specs.declared.clause_step.ClauseStep.{ClauseStep};
 ghost use Rattle.ht_cubes.specs.Formula.{complement};
-ghost use Rattle.ht_cubes.specs.Steps.{Clash, EndsEmpty, HasNoOpposites, IsWithin, StepPasses, StepsPass};
+ghost use Rattle.ht_cubes.specs.Steps.{Clash, EndsEmpty, HasNoOpposites, IsNumber, IsWithin, StepPasses, StepsPass};
 ghost use Rattle.ht_cubes.specs.Values.{IsBelow, SayFacts};
 
 use crate::standing::{Standing, stands};
@@ -37,6 +37,13 @@ fn deny(values: &mut Cells<Option<bool>>, clause: &[SignedVar]) -> Result<bool, 
     Ok(true)
 }
 
+// Whether a hint is the number of a clause.
+fn is_number(rows: &FlatRows<SignedVar>, hint: u32) -> bool
+    ensures { IsTrue result ↔ IsNumber rows.now hint }
+{
+    hint != 0 && hint as usize <= rows.len()
+}
+
 // Whether the hints lead to a clause that fails.
 fn clash(
     values: &mut Cells<Option<bool>>,
@@ -49,7 +56,7 @@ fn clash(
         → (IsTrue yes ↔ Clash rows.now facts hints.now)) }
 {
     'hints: for (i, hint) in hints.iter().enumerate() {
-        if *hint == 0 || *hint as usize > rows.len() {
+        if !is_number(rows, *hint) {
             return Ok(false);
         }
         match stands(values.values(), rows.row(*hint as usize - 1)) {
@@ -107,15 +114,25 @@ pub(crate) fn steps_pass(
     Ok(true)
 }
 
+// Whether the variables of a clause are from 1 to a number.
+fn is_within(last: u32, clause: &[SignedVar]) -> bool
+    ensures { IsTrue result ↔ IsWithin last clause.now }
+{
+    for literal in clause {
+        if literal.variable == 0 || literal.variable > last {
+            return false;
+        }
+    }
+    true
+}
+
 /// Whether the variables of the steps are from 1 to a number.
 pub(crate) fn are_within(last: u32, steps: &[ClauseStep]) -> bool
     ensures { IsTrue result ↔ All (λ (s : ClauseStep). IsWithin last s.literals) steps.now }
 {
-    'steps: for step in steps {
-        'literals: for literal in step.literals.as_slice() {
-            if literal.variable == 0 || literal.variable > last {
-                return false;
-            }
+    for step in steps {
+        if !is_within(last, step.literals.as_slice()) {
+            return false;
         }
     }
     true

@@ -64,7 +64,8 @@ fn push_target(rows: &mut FlatRows<SignedVar>, target: &[SignedVar]) -> Result<(
     ensures { OnOk result (rows.new ≡ rows.old ++ filter may_come (target.now ∷ [])) }
 {
     'rails: for rail in target {
-        if is_constant(false, *rail) {
+        let fails = is_constant(false, *rail);
+        if fails {
             return Ok(());
         }
     }
@@ -133,8 +134,9 @@ pub(crate) fn all_targets(
     'cubes: for cube in cubes {
         push_next(alloc, &mut rows, circuit, fault, cone, cube.as_slice())?;
     }
-    'outputs: for o in 0..circuit.outputs() {
-        push_output(&mut rows, circuit, fault, cone, circuit.output(o))?;
+    'places: for o in 0..circuit.outputs() {
+        let output = circuit.output(o);
+        push_output(&mut rows, circuit, fault, cone, output)?;
     }
     Ok(rows)
 }

@@ -1,6 +1,6 @@
-use Rattle.std.proofs.Common.{arith, ◌≡◌, ◌+◌, ◌<◌, List, length, map, get_or, set, take, Option, Some, None, Bool, true, false, not, refl, sym, ◌∙◌, ap, subst, inl, inr}
+use Rattle.std.proofs.Common.{arith, ◌≡◌, ◌+◌, ◌<◌, ℕ, List, length, map, get_or, set, take, Option, Some, None, Bool, true, false, not, refl, sym, ◌∙◌, ap, subst, inl, inr}
 use Rattle.std.proofs.lemmas.Bool.{false≢true}
-use Rattle.std.proofs.lemmas.List.{take_all}
+use Rattle.std.proofs.lemmas.List.{take_all, length-set}
 use Rattle.std.proofs.lemmas.List.Elements.{Contains-get_or}
 use Rattle.ht_trail.specs.Trails.{CellsState, IsLater}
 use Rattle.ht_trail.proofs.TrailLaws.{later_now, later_more}
@@ -25,6 +25,20 @@ returns-then-value-literal-clause-plain c =
     c.loop-literal.values.values l c.loop-literal.invariant.say
     (sym (c.get.ensures None) ∙ (c.in-Some.is ∙ ap Some (same_bit c.in-Some.value _ c.if-value-literal.true)))
     (Contains-get_or c.args.clause.now c.loop-literal.literal-index none c.loop-literal-test.true) plain)))
+
+pub get-requires : goal.get-requires
+get-requires c =
+    let e = c.loop-literal.invariant.long in
+    let b = c.requires.below c.loop-literal.literal-index none c.loop-literal-test.true in omega (arith, e, b)
+
+pub set-requires : goal.set-requires
+set-requires c =
+    let e = c.loop-literal.invariant.long in
+    let b = c.requires.below c.loop-literal.literal-index none c.loop-literal-test.true in omega (arith, e, b)
+
+pub returns-in_err-set-in-None-clause-later : goal.returns-in_err-set-in-None-clause-later
+returns-in_err-set-in-None-clause-later c =
+    later_more c.args.values.now c.loop-literal.values c.set.new.self c.loop-literal.invariant.later c.set.ensures.later
 
 pub loop-literal-preserved : goal.loop-literal-preserved
 loop-literal-preserved c =
@@ -59,7 +73,7 @@ loop-literal-preserved c =
         }
     ]
   where
-    long_set : (xs : List (Option Bool)) (i : Prim.Native.Nat.ℕ) (v : Option Bool) (ys : List (Option Bool))
+    long_set : (xs : List (Option Bool)) (i : ℕ) (v : Option Bool) (ys : List (Option Bool))
         → ys ≡ set xs i v → length ys ≡ length xs
     long_set xs i v ys e = ap (λ (l : List (Option Bool)). length l) e ∙ length-set xs i v
 

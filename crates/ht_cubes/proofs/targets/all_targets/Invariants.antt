@@ -8,6 +8,6 @@ abbrev pub invariant-cubes : goal.invariant-cubes
 invariant-cubes l = l.rows ≡ filter may_come
     (map (next_target l.circuit l.fault (marked l.cone)) (take l.cube-index l.cubes))
 
-abbrev pub invariant-outputs : goal.invariant-outputs
-invariant-outputs l = l.rows ≡ l.initial.rows
+abbrev pub invariant-places : goal.invariant-places
+invariant-places l = l.rows ≡ l.initial.rows
     ++ filter may_come (flat_map (output_targets l.circuit l.fault (marked l.cone)) (take l.o l.circuit.outputs))
