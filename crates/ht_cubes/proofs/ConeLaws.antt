@@ -76,7 +76,7 @@ module _ (c : Netlist) where
       → HaveGrown c marks (set marks x true)
   gate_grown marks g x gate is inside none read = grown_set marks x inside none
       (λ fault nets closed reached. ap nets is
-      ∙ closed.gates g read.0 gate read.1.0 (reached nets closed (arg_at c g read.0) read.1.1))
+      ∙ closed.gates g read.0 gate read.1 (reached nets closed (arg_at c g read.0) read.2))
 
   pub gate_closed : (marks : List Bool) (g x : ℕ) → x ≡ first_gate_net c + g → get_or marks x false ≡ true
       → ClosesGate c g marks
@@ -153,6 +153,15 @@ cone_found c fault marks first reached closed = record {
   };
   least = reached;
 }
+
+-- marks that begin with the first net and grow until they close
+pub cone_from : (c : Netlist) (fault : Fault) (first before marks : List Bool) → before ≡ first
+    → (first_changed c fault.site < net_count c → marked first (first_changed c fault.site) ≡ true)
+    → AreReached c fault first → HaveGrown c before marks → CloseBoth c marks → IsCone c fault (marked marks)
+cone_from c fault first before marks same begins reached grown closed =
+    let P : List Bool → Type 0 = λ l. HaveGrown c l marks in
+    let from = subst P same grown in
+    cone_found c fault marks (λ l. from.kept (first_changed c fault.site) (begins l)) (from.reached fault reached) closed
 
 -- there is one cone
 pub cones_agree : (c : Netlist) (fault : Fault) (one two : ℕ → Bool) → IsCone c fault one → IsCone c fault two → one ≡ two

@@ -20,9 +20,10 @@ choices_next n = ap choices (add-one n)
 pub choices_on : (n : ℕ) (rows none one two : List (List Bool)) → rows ≡ choices n → none ≡ []
     → one ≡ none ++ map (λ bits. false ∷ bits) rows → two ≡ one ++ map (λ bits. true ∷ bits) rows → two ≡ choices (n + 1)
 choices_on n rows none one two so empty first second =
-    second ∙ ((λ k. (first ∙ ap (λ (l : List (List Bool)). l ++ map (λ bits. false ∷ bits) rows) empty) k
-    ++ map (λ bits. true ∷ bits) rows)
-    ∙ ((λ k. map (λ bits. false ∷ bits) (so k) ++ map (λ bits. true ∷ bits) (so k)) ∙ sym (choices_next n)))
+    second ∙ (ap (λ (l : List (List Bool)). l ++ map (λ bits. true ∷ bits) rows)
+    (first ∙ ap (λ (l : List (List Bool)). l ++ map (λ bits. false ∷ bits) rows) empty)
+    ∙ (ap (λ (l : List (List Bool)). map (λ bits. false ∷ bits) l ++ map (λ bits. true ∷ bits) l) so
+    ∙ sym (choices_next n)))
 
 -- a value, turned where a bit is 1
 abbrev pub if_turned : Bool → Bool → Bool
@@ -123,6 +124,27 @@ plain_some clause i plain rows new past none so is =
     (ap (λ (l : List SignedVar). l ∷ []) (so ∙ ap (filter (λ l. not (is_constant false l))) all)
     ∙ sym (cond-false (list_any (is_constant true) clause) [] (filter (λ l. not (is_constant false l)) clause ∷ [])
     (ap (list_any (is_constant true)) (sym all) ∙ none)))
+
+-- what isn't the constant false is kept, one more
+kept_by : (clause : List SignedVar) (i : ℕ) (d : SignedVar) (plain new more : List SignedVar) → i < length clause
+    → plain ≡ filter (λ l. not (is_constant false l)) (take i clause)
+    → cond (not (is_constant false (get_or clause i d))) (get_or clause i d ∷ []) [] ≡ more → new ≡ plain ++ more
+    → new ≡ filter (λ l. not (is_constant false l)) (take (i + 1) clause)
+kept_by clause i d plain new more inside so kept is =
+    is ∙ ((λ k. so k ++ sym kept k) ∙ sym (filter_more (λ l. not (is_constant false l)) clause i d inside))
+
+pub kept_plain : (clause : List SignedVar) (i : ℕ) (d : SignedVar) (plain new : List SignedVar) → i < length clause
+    → plain ≡ filter (λ l. not (is_constant false l)) (take i clause) → is_constant false (get_or clause i d) ≡ false
+    → new ≡ plain ++ get_or clause i d ∷ [] → new ≡ filter (λ l. not (is_constant false l)) (take (i + 1) clause)
+kept_plain clause i d plain new inside so no is = kept_by clause i d plain new (get_or clause i d ∷ []) inside so
+    (cond-true (not (is_constant false (get_or clause i d))) (get_or clause i d ∷ []) [] (ap not no)) is
+
+pub left_plain : (clause : List SignedVar) (i : ℕ) (d : SignedVar) (plain new : List SignedVar) → i < length clause
+    → plain ≡ filter (λ l. not (is_constant false l)) (take i clause) → is_constant false (get_or clause i d) ≡ true
+    → new ≡ plain → new ≡ filter (λ l. not (is_constant false l)) (take (i + 1) clause)
+left_plain clause i d plain new inside so yes is = kept_by clause i d plain new [] inside so
+    (cond-false (not (is_constant false (get_or clause i d))) (get_or clause i d ∷ []) [] (ap not yes))
+    (is ∙ sym (append-nil plain))
 
 -- a target of which something is the constant false, and one of which nothing is
 pub target_none : (target : List SignedVar) (i : ℕ) (d : SignedVar) (rows : List (List SignedVar)) → i < length target

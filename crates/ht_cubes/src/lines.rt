@@ -111,7 +111,11 @@ pub(crate) fn net(circuit: &Circuit, fault: Fault, cone: &[bool], faulty: bool, 
     requires cone { length cone.now ≡ net_count circuit.now }
     ensures { result ≡ net_signal circuit.now fault (marked cone.now) faulty x }
 {
-    stem(stuck_line(fault, faulty), x, driver(circuit, cone, faulty, x))
+    stem(
+        stuck_line(fault, faulty),
+        x,
+        driver(circuit, cone, faulty, x),
+    )
 }
 
 /// What latch `j` of a machine takes for the next frame.

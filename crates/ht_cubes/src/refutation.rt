@@ -71,7 +71,11 @@ fn latch_value(state: &[Tern], dff: u32) -> Tern
 fn is_bit(value: Tern, bit: bool) -> bool
     ensures { IsTrue result ↔ (value ≡ tern_of bit) }
 {
-    if bit { value == Tern::One } else { value == Tern::Zero }
+    if bit {
+        value == Tern::One
+    } else {
+        value == Tern::Zero
+    }
 }
 
 // Whether a rail holds where both machines are in a state.

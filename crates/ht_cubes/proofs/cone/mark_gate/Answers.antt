@@ -21,7 +21,7 @@ pub returns-then-not-reads-clause-swept : goal.returns-then-not-reads-clause-swe
 returns-then-not-reads-clause-swept c =
     swept_none c.args.circuit.now (ClosesGate c.args.circuit.now c.args.g c.args.marks.now) c.args.marks.now
     (λ i l m. absurd (both_ways c.reads_marked-reads.result c.if-not-reads.true
-    (c.reads_marked-reads.ensures.1 (i, (l, m)))))
+    (c.reads_marked-reads.ensures.1 (i, l, m))))
 
 pub returns-clause-grown : goal.returns-clause-grown
 returns-clause-grown c =

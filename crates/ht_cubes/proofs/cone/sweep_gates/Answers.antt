@@ -48,6 +48,6 @@ returns-clause-grown c = c.loop-g.invariant.grown
 pub returns-clause-swept : goal.returns-clause-swept
 returns-clause-swept c = swept_so _ _ (λ all g inside.
     let place = c.order-order.ensures.order.each.covers g inside in
-    subst (λ (h : ℕ). ClosesGate c.args.circuit.now h c.loop-g.marks) place.1.1
-    (all place.0 (let l = place.1.0 in omega (arith, l, c.loop-g-test.false))))
+    subst (λ (h : ℕ). ClosesGate c.args.circuit.now h c.loop-g.marks) place.2
+    (all place.0 (let l = place.1 in omega (arith, l, c.loop-g-test.false))))
     c.args.marks.now c.loop-g.marks c.loop-g.changed c.loop-g.invariant.swept

@@ -19,15 +19,15 @@ pub loop-literal-preserved : goal.loop-literal-preserved
 loop-literal-preserved c =
     elim c.match-values-literal.branch [
       | in-Some+else-value-literal w ↦
-        stands_false c.args.values.now c.args.clause.now c.loop-literal.literal-index _ c.loop-literal-test.true
-            c.loop-literal.left c.match-values-literal.left w.in-Some.value c.loop-literal.invariant w.in-Some.is
-            w.if-value-literal.false w.left-is
+          stands_false c.args.values.now c.args.clause.now c.loop-literal.literal-index _ c.loop-literal-test.true
+          c.loop-literal.left c.match-values-literal.left w.in-Some.value c.loop-literal.invariant w.in-Some.is
+          w.if-value-literal.false w.left-is
       | in-None+in-None-left w ↦
-        stands_left c.args.values.now c.args.clause.now c.loop-literal.literal-index _ c.loop-literal-test.true
-            c.loop-literal.left c.match-values-literal.left c.loop-literal.invariant w.in-None-left.is w.in-None.is
-            w.left-is
+          stands_left c.args.values.now c.args.clause.now c.loop-literal.literal-index _ c.loop-literal-test.true
+          c.loop-literal.left c.match-values-literal.left c.loop-literal.invariant w.in-None-left.is w.in-None.is
+          w.left-is
       | in-None+in-Some-left+else-ne w ↦
-        stands_same c.args.values.now c.args.clause.now c.loop-literal.literal-index _ c.loop-literal-test.true
-            c.loop-literal.left c.match-values-literal.left w.in-Some-left.other c.loop-literal.invariant
-            w.in-Some-left.is (same_literal w.in-Some-left.other _ (sym w.if-ne.false ∙ w.ne.ensures)) w.left-is
+          stands_same c.args.values.now c.args.clause.now c.loop-literal.literal-index _ c.loop-literal-test.true
+          c.loop-literal.left c.match-values-literal.left w.in-Some-left.other c.loop-literal.invariant
+          w.in-Some-left.is (same_literal w.in-Some-left.other _ (sym w.if-ne.false ∙ w.ne.ensures)) w.left-is
     ]

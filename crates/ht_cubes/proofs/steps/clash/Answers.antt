@@ -10,7 +10,7 @@ pub hints-init : goal.hints-init
 hints-init c = record {
   long = refl;
   later = later_now c.args.values.now;
-  followed = λ facts say. (facts, (say, ((λ h. h), (λ h. h))));
+  followed = λ facts say. (facts, say, ((λ h. h), (λ h. h)));
 }
 
 pub stands-requires : goal.stands-requires
@@ -25,16 +25,18 @@ set-requires c = left_below c.args.rows.now (get_or c.args.hints.now c.hints.i 0
 
 pub returns-then-not-is_number-clause-exact : goal.returns-then-not-is_number-clause-exact
 returns-then-not-is_number-clause-exact c facts say =
-    let f = c.hints.invariant.followed facts say in
-    ((λ no. absurd (false≢true no)), (λ h. absurd (both_ways _ c.if-not-is_number.true (c.is_number.ensures.1
-    (hint_known c.args.rows.now facts f.0 c.args.hints.now c.hints.i c.hints.values.values f.1.0 f.1.1
-    c.hints-test.true h)))))
+    let f = c.hints.invariant.followed facts say in (
+      (λ no. absurd (false≢true no)),
+      (λ h. absurd (both_ways _ c.if-not-is_number.true (c.is_number.ensures.1
+          (hint_known c.args.rows.now facts f.0 c.args.hints.now c.hints.i c.hints.values.values f.1 f.2
+          c.hints-test.true h)))),
+    )
 
 pub returns-in-Failed-clause-exact : goal.returns-in-Failed-clause-exact
 returns-in-Failed-clause-exact c facts say =
     let f = c.hints.invariant.followed facts say in
     let known = c.is_number.ensures.0 c.if-not-is_number.false in
-    hint_last c.args.rows.now facts f.0 c.args.hints.now c.hints.i c.len.result c.hints.values.values f.1.0 f.1.1
+    hint_last c.args.rows.now facts f.0 c.args.hints.now c.hints.i c.len.result c.hints.values.values f.1 f.2
     c.hints-test.true known
     (row_stands c.args.rows.now (get_or c.args.hints.now c.hints.i 0) (length c.args.values.now.values)
     c.row.result.now c.hints.values.values c.values.result.now c.requires c.hints.invariant.long known c.row.ensures
@@ -43,12 +45,14 @@ returns-in-Failed-clause-exact c facts say =
 pub returns-in-Open-clause-exact : goal.returns-in-Open-clause-exact
 returns-in-Open-clause-exact c facts say =
     let f = c.hints.invariant.followed facts say in
-    let known = c.is_number.ensures.0 c.if-not-is_number.false in
-    ((λ no. absurd (false≢true no)), (λ h. absurd
-    (hint_open c.args.rows.now facts f.0 c.args.hints.now c.hints.i c.hints.values.values f.1.0 f.1.1 c.hints-test.true
-    (row_open c.args.rows.now (get_or c.args.hints.now c.hints.i 0) (length c.args.values.now.values)
-    c.row.result.now c.hints.values.values c.values.result.now c.requires c.hints.invariant.long known c.row.ensures
-    c.values.ensures c.in-Open.ensures) h)))
+    let known = c.is_number.ensures.0 c.if-not-is_number.false in (
+      (λ no. absurd (false≢true no)),
+      (λ h. absurd
+          (hint_open c.args.rows.now facts f.0 c.args.hints.now c.hints.i c.hints.values.values f.1 f.2 c.hints-test.true
+          (row_open c.args.rows.now (get_or c.args.hints.now c.hints.i 0) (length c.args.values.now.values)
+          c.row.result.now c.hints.values.values c.values.result.now c.requires c.hints.invariant.long known c.row.ensures
+          c.values.ensures c.in-Open.ensures) h)),
+    )
 
 pub returns-in_err-set-in-Left-clause-later : goal.returns-in_err-set-in-Left-clause-later
 returns-in_err-set-in-Left-clause-later c =
@@ -70,12 +74,15 @@ hints-preserved c =
       later = later_more c.args.values.now c.hints.values c.set.new.self c.hints.invariant.later c.set.ensures.later;
       followed = λ facts say.
           let f = c.hints.invariant.followed facts say in
-          (f.0 ++ l ∷ [], hint_next c.args.rows.now facts f.0 c.args.hints.now c.hints.i c.hints.values.values
-          c.set.new.self.values l f.1.0 f.1.1 c.hints-test.true known so low c.in_ok-set-in-Left.ensures.values);
+          let next = hint_next c.args.rows.now facts f.0 c.args.hints.now c.hints.i c.hints.values.values
+          c.set.new.self.values l f.1 f.2 c.hints-test.true known so low c.in_ok-set-in-Left.ensures.values in
+          (f.0 ++ l ∷ [], next.0, next.1);
     }
 
 pub returns-clause-exact : goal.returns-clause-exact
 returns-clause-exact c facts say =
-    let f = c.hints.invariant.followed facts say in
-    ((λ no. absurd (false≢true no)), (λ h. absurd
-    (hints_end c.args.rows.now facts f.0 c.args.hints.now c.hints.i f.1.1 c.hints-test.false h)))
+    let f = c.hints.invariant.followed facts say in (
+      (λ no. absurd (false≢true no)),
+      (λ h. absurd
+          (hints_end c.args.rows.now facts f.0 c.args.hints.now c.hints.i f.2 c.hints-test.false h)),
+    )

@@ -20,11 +20,13 @@ loop-literal-init c = record { long = refl; later = later_now c.args.values.now;
 
 pub returns-then-value-literal-clause-plain : goal.returns-then-value-literal-clause-plain
 returns-then-value-literal-clause-plain c =
-    let l = get_or c.args.clause.now c.loop-literal.literal-index none in
-    ((λ e. absurd (false≢true e)), (λ plain. absurd (deny_opposites c.args.clause.now c.loop-literal.literal-index
-    c.loop-literal.values.values l c.loop-literal.invariant.say
-    (sym (c.get.ensures None) ∙ (c.in-Some.is ∙ ap Some (same_bit c.in-Some.value _ c.if-value-literal.true)))
-    (Contains-get_or c.args.clause.now c.loop-literal.literal-index none c.loop-literal-test.true) plain)))
+    let l = get_or c.args.clause.now c.loop-literal.literal-index none in (
+      (λ e. absurd (false≢true e)),
+      (λ plain. absurd (deny_opposites c.args.clause.now c.loop-literal.literal-index
+          c.loop-literal.values.values l c.loop-literal.invariant.say
+          (sym (c.get.ensures None) ∙ (c.in-Some.is ∙ ap Some (same_bit c.in-Some.value _ c.if-value-literal.true)))
+          (Contains-get_or c.args.clause.now c.loop-literal.literal-index none c.loop-literal-test.true) plain)),
+    )
 
 pub get-requires : goal.get-requires
 get-requires c =
@@ -52,25 +54,25 @@ loop-literal-preserved c =
     let S : CellsState (Option Bool) → Type 0 = λ v. SayFacts (map complement (take (i + 1) clause)) v.values in
     elim c.match-get.branch [
       | in-Some+else-value-literal w ↦
-        record {
-          long = subst L (sym w.values-is) c.loop-literal.invariant.long;
-          later = subst M (sym w.values-is) c.loop-literal.invariant.later;
-          say = subst S (sym w.values-is) (deny_again clause i none old.values inside c.loop-literal.invariant.say
-              (sym (c.get.ensures None) ∙ (w.in-Some.is ∙ ap Some (other_value w.in-Some.value _ w.if-value-literal.false))));
-        }
+          record {
+            long = subst L (sym w.values-is) c.loop-literal.invariant.long;
+            later = subst M (sym w.values-is) c.loop-literal.invariant.later;
+            say = subst S (sym w.values-is) (deny_again clause i none old.values inside c.loop-literal.invariant.say
+                (sym (c.get.ensures None) ∙ (w.in-Some.is ∙ ap Some (other_value w.in-Some.value _ w.if-value-literal.false))));
+          }
       | in-None+in_ok-set-in-None w ↦
-        let V : List (Option Bool) → Type 0 = λ v. SayFacts (map complement (take (i + 1) clause)) v in
-        let low : l.variable < length old.values =
-        (let e = c.loop-literal.invariant.long in let b = c.requires.below i none inside in omega (arith, e, b)) in
-        record {
-          long = subst L (sym w.values-is) (long_set old.values _ _ w.set.new.self.values w.in_ok-set-in-None.ensures.values
-              ∙ c.loop-literal.invariant.long);
-          later = subst M (sym w.values-is) (later_more c.args.values.now old w.set.new.self
-              c.loop-literal.invariant.later w.set.ensures.later);
-          say = subst S (sym w.values-is) (subst V (sym w.in_ok-set-in-None.ensures.values)
-              (deny_more clause i none old.values inside c.loop-literal.invariant.say low
-              (sym (c.get.ensures None) ∙ w.in-None.is)));
-        }
+          let V : List (Option Bool) → Type 0 = λ v. SayFacts (map complement (take (i + 1) clause)) v in
+          let low : l.variable < length old.values =
+          (let e = c.loop-literal.invariant.long in let b = c.requires.below i none inside in omega (arith, e, b)) in
+          record {
+            long = subst L (sym w.values-is) (long_set old.values _ _ w.set.new.self.values w.in_ok-set-in-None.ensures.values
+                ∙ c.loop-literal.invariant.long);
+            later = subst M (sym w.values-is) (later_more c.args.values.now old w.set.new.self
+                c.loop-literal.invariant.later w.set.ensures.later);
+            say = subst S (sym w.values-is) (subst V (sym w.in_ok-set-in-None.ensures.values)
+                (deny_more clause i none old.values inside c.loop-literal.invariant.say low
+                (sym (c.get.ensures None) ∙ w.in-None.is)));
+          }
     ]
   where
     long_set : (xs : List (Option Bool)) (i : ℕ) (v : Option Bool) (ys : List (Option Bool))

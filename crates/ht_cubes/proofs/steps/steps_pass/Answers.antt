@@ -32,10 +32,13 @@ step_passes-requires-clause-step c =
     c.step-item.result.literals c.steps-test.true c.step-item.is refl c.steps.invariant.passed c.requires.steps)
 
 pub returns-then-not-branch : goal.returns-then-not-branch
-returns-then-not-branch c = ((λ no. absurd (false≢true no)), (λ h. absurd
-    (both_ways _ c.if-not-branch.true (c.in_ok-step_passes.ensures.exact.1
-    (step_wanted c.args.rows.now c.steps.rows [] c.args.steps.now c.steps.step-index c.args.last c.step-item.result
-    c.step-item.result.literals c.steps-test.true c.step-item.is refl c.steps.invariant.passed h)))))
+returns-then-not-branch c = (
+  (λ no. absurd (false≢true no)),
+  (λ h. absurd
+      (both_ways _ c.if-not-branch.true (c.in_ok-step_passes.ensures.exact.1
+      (step_wanted c.args.rows.now c.steps.rows [] c.args.steps.now c.steps.step-index c.args.last c.step-item.result
+      c.step-item.result.literals c.steps-test.true c.step-item.is refl c.steps.invariant.passed h)))),
+)
 
 pub steps-preserved : goal.steps-preserved
 steps-preserved c =
@@ -53,5 +56,8 @@ steps-preserved c =
     }
 
 pub returns : goal.returns
-returns c = ((λ so. steps_end c.args.rows.now c.steps.rows c.args.steps.now c.steps.step-index c.steps.invariant.passed
-    c.steps-test.false), (λ h. refl))
+returns c = (
+  (λ so. steps_end c.args.rows.now c.steps.rows c.args.steps.now c.steps.step-index c.steps.invariant.passed
+      c.steps-test.false),
+  (λ h. refl),
+)
