@@ -120,7 +120,7 @@ module _ (n : ℕ) where
   kind_under Buf out pins o h = All-nil (IsBelow n)
 
   uninverted_under : (kind : Kind) (out : Signal) → Under out → Under (uninverted kind out)
-  uninverted_under kind out o = cond_both (inverts kind) (turned out) out Under (λ yes. (o.1, o.0)) (λ no. o)
+  uninverted_under kind out o = cond_both (inverts kind) (turned out) out Under (λ yes. (o.1, o.0)) (λ wrong. o)
 
   gate_under : (kind : Kind) (out : Signal) (pins : List Signal) → Under out → EachUnder pins
       → All (IsBelow n) (gate_clauses kind out pins)
@@ -135,7 +135,7 @@ module _ (n : ℕ) where
     unfolding forced
     line_under false here s h = h
     line_under true here s h =
-        cond_both (here fault.site) (stuck_signal fault.value) s Under (λ yes. (some, some)) (λ no. h)
+        cond_both (here fault.site) (stuck_signal fault.value) s Under (λ yes. (some, some)) (λ wrong. h)
 
     pins_under : (faulty : Bool) (g : ℕ) (e : ℕ → Signal) (i : ℕ) (args : List NetId)
         → ((j : ℕ) → j < length args → Under (e (get_or args j no_net).0))
@@ -192,11 +192,11 @@ module _ (c : Netlist) (circuit : IsCircuit c) (fault : Fault) (cone : ℕ → B
       (either_under n (latch_signal c cone false j) (driver_under false (c.inputs + j) (omega arith)))
       (cond_both (cone (c.inputs + j)) (either_clauses (latch_signal c cone true j)) [] (All (IsBelow n))
       (λ yes. either_under n (latch_signal c cone true j) (driver_under true (c.inputs + j) (omega arith)))
-      (λ no. All-nil (IsBelow n))))))
+      (λ wrong. All-nil (IsBelow n))))))
       (flat_true (IsBelow n) (both_clauses c fault cone) 0 (length c.gates)
       (λ g l. All-append (IsBelow n) (machine_clauses c fault cone false g) _ (machine_under false g (omega arith))
       (cond_both (is_doubled c fault cone g) (machine_clauses c fault cone true g) [] (All (IsBelow n))
-      (λ yes. machine_under true g (omega arith)) (λ no. All-nil (IsBelow n)))))
+      (λ yes. machine_under true g (omega arith)) (λ wrong. All-nil (IsBelow n)))))
 
   cube_below : (cube : List Rail) → All (IsKnownRail c cone) cube → IsBelow n (cube_clause c cone cube)
   cube_below cube known = All-map (λ (m : SignedVar). m.variable < n)
@@ -229,7 +229,7 @@ module _ (c : Netlist) (circuit : IsCircuit c) (fault : Fault) (cone : ℕ → B
       (All (IsBelow n))
       (λ yes. All-cons (IsBelow n) (differs_target c fault cone net.0 false) (differs_target c fault cone net.0 true ∷ [])
       (differs_below net.0 false at) (one_clause n (differs_target c fault cone net.0 true) (differs_below net.0 true at)))
-      (λ no. All-nil (IsBelow n)))
+      (λ wrong. All-nil (IsBelow n)))
       (outputs_below nets (λ o l. h (suc o) (omega arith)))
 
   targets_below : (first : ℕ) (targets : List (List SignedVar)) → first + length targets ≤ n → All (IsBelow n) targets
@@ -256,7 +256,7 @@ plain_below n (clause ∷ more) h =
     All-append (IsBelow n) (without_constants clause) (flat_map without_constants more)
     (cond_both (list_any (is_constant true) clause) [] (filter (λ l. not (is_constant false l)) clause ∷ [])
     (All (IsBelow n)) (λ yes. All-nil (IsBelow n))
-    (λ no. one_clause n (filter (λ l. not (is_constant false l)) clause)
+    (λ wrong. one_clause n (filter (λ l. not (is_constant false l)) clause)
     (All-filter (λ l. not (is_constant false l)) (λ (m : SignedVar). m.variable < n) clause (h 0 [] (omega arith)))))
     (plain_below n more (λ k d l. h (suc k) d (omega arith)))
 

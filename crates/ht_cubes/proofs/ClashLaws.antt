@@ -93,7 +93,7 @@ module _ (facts : List SignedVar) (values : List (Option Bool)) (say : SayFacts 
     inside = so.0;
     not_true = λ h. none_some (sym so.1 ∙ (say l).0 h);
     not_false = λ h. none_some (sym so.1 ∙ false_from l h);
-    others = λ k d inside. elim (so.2 k d inside) [ inl same ↦ inl same | inr no ↦ inr (false_to (get_or clause k d) no) ];
+    others = λ k d inside. elim (so.2 k d inside) [ inl same ↦ inl same | inr wrong ↦ inr (false_to (get_or clause k d) wrong) ];
   }
 
   -- a clause that leaves one doesn't fail, and leaves no other
@@ -104,14 +104,14 @@ module _ (facts : List SignedVar) (values : List (Option Bool)) (say : SayFacts 
   left_once clause l m one two =
       elim (All-contains (λ other. (other ≡ l) ⊎ IsFalse facts other) clause m one.others two.inside) [
         | inl same ↦ same
-        | inr no ↦ absurd (two.not_false no)
+        | inr wrong ↦ absurd (two.not_false wrong)
       ]
 
   -- an open clause doesn't fail, and leaves none
   open_fails : (clause : List SignedVar) → IsOpen values clause → Fails facts clause → ⊥
   open_fails clause (inl (l, inside, is)) fails =
-      let no = false_from l (All-contains (IsFalse facts) clause l fails inside) in
-      not_same l.value (let e : Some l.value ≡ Some (not l.value) = sym is ∙ no in cc)
+      let wrong = false_from l (All-contains (IsFalse facts) clause l fails inside) in
+      not_same l.value (let e : Some l.value ≡ Some (not l.value) = sym is ∙ wrong in cc)
   open_fails clause (inr (l, m, inside, other, differ, one, two)) fails =
       none_some (sym one ∙ false_from l (All-contains (IsFalse facts) clause l fails inside))
 
@@ -120,7 +120,7 @@ module _ (facts : List SignedVar) (values : List (Option Bool)) (say : SayFacts 
       elim (All-contains (λ other. (other ≡ n) ⊎ IsFalse facts other) clause l leaves.others inside) [
         | inl same ↦ let P : SignedVar → Type 0 = λ k. Contains facts k in
             leaves.not_true (subst P same ((say l).1 is))
-        | inr no ↦ not_same l.value (let e : Some l.value ≡ Some (not l.value) = sym is ∙ false_from l no in cc)
+        | inr wrong ↦ not_same l.value (let e : Some l.value ≡ Some (not l.value) = sym is ∙ false_from l wrong in cc)
       ]
   open_leaves clause n (inr (l, m, inside, other, differ, one, two)) leaves =
       differ (is l inside one ∙ sym (is m other two))
@@ -128,7 +128,7 @@ module _ (facts : List SignedVar) (values : List (Option Bool)) (say : SayFacts 
       is : (k : SignedVar) → Contains clause k → get_or values k.variable None ≡ None → k ≡ n
       is k has none = elim (All-contains (λ other. (other ≡ n) ⊎ IsFalse facts other) clause k leaves.others has) [
             | inl same ↦ same
-            | inr no ↦ absurd (none_some (sym none ∙ false_from k no))
+            | inr wrong ↦ absurd (none_some (sym none ∙ false_from k wrong))
           ]
 
   module _ (clauses : List (List SignedVar)) (n : ℕ) (rest : List ℕ) where
@@ -148,11 +148,11 @@ module _ (facts : List SignedVar) (values : List (Option Bool)) (say : SayFacts 
 
     -- a hint whose clause is open is the end
     pub clash_open : IsOpen values (clause_at clauses n) → Clash clauses facts (n ∷ rest) → ⊥
-    clash_open open = at rest
+    clash_open free = at rest
       where
         at : (rest : List ℕ) → Clash clauses facts (n ∷ rest) → ⊥
-        at [] h = open_fails (clause_at clauses n) open h.1
-        at (m ∷ hints) h = open_leaves (clause_at clauses n) h.1.0 open h.1.1
+        at [] h = open_fails (clause_at clauses n) free h.1
+        at (m ∷ hints) h = open_leaves (clause_at clauses n) h.1.0 free h.1.1
 
     -- a hint whose clause fails is the last, and no other
     pub clash_failed : IsNumber clauses n → Fails facts (clause_at clauses n)

@@ -58,15 +58,15 @@ module _ (c : Netlist) where
       → IsSwept closes marks (set marks x true) true
   swept_set closes marks x l e = record {
     fewer = λ so. omega (arith, unmarked_set marks x l e);
-    still = λ no. absurd (both_ways true no refl);
-    closed = λ no. absurd (both_ways true no refl);
+    still = λ wrong. absurd (both_ways true wrong refl);
+    closed = λ wrong. absurd (both_ways true wrong refl);
   }
 
   pub swept_none : (closes : Type 0) (marks : List Bool) → closes → IsSwept closes marks marks false
   swept_none closes marks h = record {
     fewer = λ so. absurd (false≢true so);
-    still = λ no. refl;
-    closed = λ no. h;
+    still = λ wrong. refl;
+    closed = λ wrong. h;
   }
 
   -- the mark of what gate g drives, which stands at x
@@ -86,16 +86,16 @@ module _ (c : Netlist) where
   pub dff_grown : (marks : List Bool) (j x y : ℕ) → j < length c.dffs → x ≡ c.inputs + j
       → y ≡ (get_or c.dffs j no_net).0 → x < length marks → get_or marks x false ≡ false → get_or marks y false ≡ true
       → HaveGrown c marks (set marks x true)
-  dff_grown marks j x y dff is data inside none on = grown_set marks x inside none
-      (λ fault nets closed reached. ap nets is ∙ closed.dffs j dff (ap nets (sym data) ∙ reached nets closed y on))
+  dff_grown marks j x y dff is taken inside none on = grown_set marks x inside none
+      (λ fault nets closed reached. ap nets is ∙ closed.dffs j dff (ap nets (sym taken) ∙ reached nets closed y on))
 
   pub dff_closed : (marks : List Bool) (j x : ℕ) → x ≡ c.inputs + j → get_or marks x false ≡ true → ClosesDff c j marks
   dff_closed marks j x is on m = ap (λ (n : ℕ). get_or marks n false) (sym is) ∙ on
 
   pub dff_apart : (marks : List Bool) (j y : ℕ) → y ≡ (get_or c.dffs j no_net).0 → get_or marks y false ≡ false
       → ClosesDff c j marks
-  dff_apart marks j y data off m =
-      absurd (both_ways (get_or marks y false) off (ap (λ (n : ℕ). get_or marks n false) data ∙ m))
+  dff_apart marks j y taken off m =
+      absurd (both_ways (get_or marks y false) off (ap (λ (n : ℕ). get_or marks n false) taken ∙ m))
 
   -- the first mark, where there is such a net, and where there is none
   none_marked : (n x : ℕ) → get_or (replicate n false) x false ≡ true → ⊥
@@ -121,16 +121,16 @@ module _ (c : Netlist) where
 
 -- what a sweep closes, said otherwise
 pub swept_so : (P Q : Type 0) → (P → Q) → (a b : List Bool) (x : Bool) → IsSwept P a b x → IsSwept Q a b x
-swept_so P Q so a b x h = record { fewer = h.fewer; still = h.still; closed = λ no. so (h.closed no) }
+swept_so P Q so a b x h = record { fewer = h.fewer; still = h.still; closed = λ wrong. so (h.closed wrong) }
 
 -- two sweeps, one after the other
 pub swept_join : (P Q R : List Bool → Type 0) → ((m : List Bool) → P m → Q m → R m) → (a b d : List Bool) (x y z : Bool)
     → unmarked_count b ≤ unmarked_count a → unmarked_count d ≤ unmarked_count b
     → IsSwept (P b) a b x → IsSwept (Q d) b d y → (y ≡ true → z ≡ true) → (y ≡ false → z ≡ x) → IsSwept (R d) a d z
-swept_join P Q R join a b d x y z few less one two yes no = record {
+swept_join P Q R join a b d x y z few less one two yes wrong = record {
   fewer = λ so. elim (cases_Bool y) [
     | inl on ↦ let l = two.fewer on in omega (arith, few, l)
-    | inr off ↦ let l = one.fewer (sym (no off) ∙ so) in omega (arith, less, l)
+    | inr off ↦ let l = one.fewer (sym (wrong off) ∙ so) in omega (arith, less, l)
   ];
   still = λ not. two.still (off not) ∙ one.still (x_off not);
   closed = λ not. join d (subst P (sym (two.still (off not))) (one.closed (x_off not))) (two.closed (off not));
@@ -139,7 +139,7 @@ swept_join P Q R join a b d x y z few less one two yes no = record {
     off : z ≡ false → y ≡ false
     off not = elim (cases_Bool y) [ inl on ↦ absurd (both_ways z not (yes on)) | inr no_one ↦ no_one ]
     x_off : z ≡ false → x ≡ false
-    x_off not = sym (no (off not)) ∙ not
+    x_off not = sym (wrong (off not)) ∙ not
 
 -- marks that are reached, have the first net and close are the cone
 pub cone_found : (c : Netlist) (fault : Fault) (marks : List Bool)

@@ -113,7 +113,7 @@ pins_tell values r t g keeps e f i (a ∷ args) h = (
   pins_tell values r t g keeps e f (i + 1) args (λ j l. h (suc j) (omega arith)),
 )
 
-flat_true : (P : List SignedVar → Type 0) (f : ℕ → List (List SignedVar)) (a n : ℕ)
+pub flat_true : (P : List SignedVar → Type 0) (f : ℕ → List (List SignedVar)) (a n : ℕ)
     → ((x : ℕ) → x < a + n → All P (f x)) → All P (flat_map f (range_with_len a n))
 flat_true P f a zero h = All-nil P
 flat_true P f a (suc n) h = All-append P (f a) (flat_map f (range_with_len (a + 1) n)) (h a (omega arith))

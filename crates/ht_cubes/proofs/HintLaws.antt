@@ -27,7 +27,7 @@ module _ (clauses : List (List SignedVar)) (facts now : List SignedVar) (hints :
   hint_known h = clash_known now values said clauses (get_or hints i 0) (drop (i + 1) hints) (at_hint h)
 
   pub hint_open : IsOpen values (clause_at clauses (get_or hints i 0)) → Clash clauses facts hints → ⊥
-  hint_open open h = clash_open now values said clauses (get_or hints i 0) (drop (i + 1) hints) open (at_hint h)
+  hint_open free h = clash_open now values said clauses (get_or hints i 0) (drop (i + 1) hints) free (at_hint h)
 
   pub hint_left : (l : SignedVar) → IsNumber clauses (get_or hints i 0)
       → StandsSo values (clause_at clauses (get_or hints i 0)) (Some l)
@@ -163,9 +163,9 @@ step_tried clauses step literals hints values passes is same plain say exact =
 pub step_denied : (clauses : List (List SignedVar)) (step : ClauseStep) (literals : List SignedVar) (plain : Bool)
     → literals ≡ step.literals → IsTrue plain ↔ HasNoOpposites literals → plain ≡ false
     → IsTrue plain ↔ StepPasses clauses step
-step_denied clauses step literals plain is exact no =
+step_denied clauses step literals plain is exact wrong =
     let P : List SignedVar → Type 0 = λ l. HasNoOpposites l in (
-      λ so. absurd (both_ways plain no so),
+      λ so. absurd (both_ways plain wrong so),
       λ h. exact.1 (subst P (sym is) h.plain),
     )
 

@@ -12,5 +12,6 @@ pub mod ConeLaws
 pub mod ListLaws
 pub mod PieceLaws
 pub mod BoundLaws
+pub mod TargetLaws
 pub mod BuildLaws
 pub mod PassLaws

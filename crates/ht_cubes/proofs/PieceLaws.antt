@@ -85,8 +85,8 @@ module _ {X Y : Type 0} (p : X → Bool) (f : X → Y) (xs : List X) (i : ℕ) (
 
   pub left_more : p (get_or xs i d) ≡ false
       → map f (filter p (take (i + 1) xs)) ≡ map f (filter p (take i xs))
-  left_more no = ap (map f) (filter_more p xs i d inside
-      ∙ (ap (λ (l : List X). filter p (take i xs) ++ l) (cond-false (p (get_or xs i d)) (get_or xs i d ∷ []) [] no)
+  left_more wrong = ap (map f) (filter_more p xs i d inside
+      ∙ (ap (λ (l : List X). filter p (take i xs) ++ l) (cond-false (p (get_or xs i d)) (get_or xs i d ∷ []) [] wrong)
       ∙ append-nil (filter p (take i xs))))
 
   pub kept_on : (start rows new : List Y) → rows ≡ start ++ map f (filter p (take i xs)) → p (get_or xs i d) ≡ true
@@ -98,7 +98,7 @@ module _ {X Y : Type 0} (p : X → Bool) (f : X → Y) (xs : List X) (i : ℕ) (
 
   pub left_on : (start rows new : List Y) → rows ≡ start ++ map f (filter p (take i xs)) → p (get_or xs i d) ≡ false
       → new ≡ rows → new ≡ start ++ map f (filter p (take (i + 1) xs))
-  left_on start rows new so no is = is ∙ (so ∙ ap (λ (l : List Y). start ++ l) (sym (left_more no)))
+  left_on start rows new so wrong is = is ∙ (so ∙ ap (λ (l : List Y). start ++ l) (sym (left_more wrong)))
 
 -- a test that none of the first passes, one more
 pub none_more : {X : Type 0} (p : X → Bool) (xs : List X) (i : ℕ) (d : X) → i < length xs
@@ -136,8 +136,8 @@ kept_by clause i d plain new more inside so kept is =
 pub kept_plain : (clause : List SignedVar) (i : ℕ) (d : SignedVar) (plain new : List SignedVar) → i < length clause
     → plain ≡ filter (λ l. not (is_constant false l)) (take i clause) → is_constant false (get_or clause i d) ≡ false
     → new ≡ plain ++ get_or clause i d ∷ [] → new ≡ filter (λ l. not (is_constant false l)) (take (i + 1) clause)
-kept_plain clause i d plain new inside so no is = kept_by clause i d plain new (get_or clause i d ∷ []) inside so
-    (cond-true (not (is_constant false (get_or clause i d))) (get_or clause i d ∷ []) [] (ap not no)) is
+kept_plain clause i d plain new inside so wrong is = kept_by clause i d plain new (get_or clause i d ∷ []) inside so
+    (cond-true (not (is_constant false (get_or clause i d))) (get_or clause i d ∷ []) [] (ap not wrong)) is
 
 pub left_plain : (clause : List SignedVar) (i : ℕ) (d : SignedVar) (plain new : List SignedVar) → i < length clause
     → plain ≡ filter (λ l. not (is_constant false l)) (take i clause) → is_constant false (get_or clause i d) ≡ true

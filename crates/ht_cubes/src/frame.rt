@@ -1,6 +1,7 @@
 //! The clauses of one frame of both machines.
 ghost use Rattle.std.specs.Prelude.{◌≡◌, ◌++◌, ◌<◌, length, IfOk, OnOk};
 ghost use Rattle.ht_net.specs.Netlist.{first_gate_net, net_count};
+ghost use Rattle.ht_net.specs.Faults.{is_stem};
 ghost use Rattle.ht_cubes.specs.Formula.{both_clauses, frame_clauses, is_doubled, latch_clauses, machine_clauses, pin_signals};
 ghost use Rattle.ht_cubes.specs.Cones.{marked};
 
@@ -56,6 +57,16 @@ fn push_machine(
     push_gate(alloc, rows, circuit.gate_kind(g), out, &pins)
 }
 
+// Whether a net is the stuck stem.
+fn is_stuck_stem(site: Site, net: u32) -> bool
+    ensures { result ≡ is_stem site net }
+{
+    match site {
+        Site::Stem(stem) => net == stem.0,
+        _ => false,
+    }
+}
+
 // Whether the faulty machine has clauses of its own for gate `g`.
 fn is_doubled(circuit: &Circuit, fault: Fault, cone: &[bool], g: u32) -> bool
     requires gate { g < length circuit.now.gates }
@@ -64,11 +75,11 @@ fn is_doubled(circuit: &Circuit, fault: Fault, cone: &[bool], g: u32) -> bool
 {
     prove_eq!(cone.len(), circuit.nets() as usize);
     let net = circuit.gate_net(g);
-    let is_stem = match fault.site {
-        Site::Stem(stem) => stem.0 == net.0,
-        _ => false,
-    };
-    cone[net.index()] && !is_stem
+    let inside = cone[net.index()];
+    if !inside {
+        return false;
+    }
+    !is_stuck_stem(fault.site, net.0)
 }
 
 // Gate `g` of the good machine, and of the faulty one where it has clauses of its own.
@@ -85,7 +96,8 @@ fn push_both(
     ensures { OnOk result (rows.new ≡ rows.old ++ both_clauses circuit.now fault (marked cone.now) g) }
 {
     push_machine(alloc, rows, circuit, fault, cone, false, g)?;
-    if is_doubled(circuit, fault, cone, g) {
+    let doubled = is_doubled(circuit, fault, cone, g);
+    if doubled {
         push_machine(alloc, rows, circuit, fault, cone, true, g)?;
     }
     Ok(())
@@ -105,7 +117,8 @@ fn push_latch(
     prove_eq!(cone.len(), circuit.nets() as usize);
     let net = circuit.dff_net(j);
     push_either(rows, driver(circuit, cone, false, net.0))?;
-    if cone[net.index()] {
+    let inside = cone[net.index()];
+    if inside {
         push_either(rows, driver(circuit, cone, true, net.0))?;
     }
     Ok(())

@@ -1,6 +1,6 @@
 //! Lines as signals.
-ghost use Rattle.std.specs.Prelude.{◌≡◌, ◌<◌, Option, length};
-ghost use Rattle.ht_net.specs.Netlist.{net_count};
+ghost use Rattle.std.specs.Prelude.{◌≡◌, ◌<◌, ◌≤◌, ◌&&◌, Option, length};
+ghost use Rattle.ht_net.specs.Netlist.{max_nets, net_count};
 ghost use Rattle.ht_cubes.specs.Rails.{stuck_line};
 ghost use Rattle.ht_cubes.specs.Formula.{driver_signal, net_signal, next_signal, positive, rail_of, rail_variable, stuck_signal, turned, unknown_signal};
 ghost use Rattle.ht_cubes.specs.Cones.{marked};
@@ -81,6 +81,31 @@ pub(crate) fn stuck_line(fault: Fault, faulty: bool) -> Option<Fault>
     if faulty { Some(fault) } else { None }
 }
 
+// Whether net `x` of a machine has rails of its own: in the faulty one the nets of the cone have.
+fn has_own(cone: &[bool], faulty: bool, x: u32) -> bool
+    requires { x < length cone.now }
+    ensures { result ≡ (faulty && marked cone.now x) }
+{
+    if !faulty {
+        return false;
+    }
+    cone[x as usize]
+}
+
+// The number of a rail's variable, of so many nets.
+fn rail_number(nets: u32, own: bool, x: u32, bit: bool) -> u32
+    requires known { x < nets }
+    requires few { nets ≤ max_nets }
+    ensures { result ≡ rail_variable nets own x bit }
+{
+    match (own, bit) {
+        (false, false) => 2 * x + 1,
+        (false, true) => 2 * x + 2,
+        (true, false) => 2 * nets + 2 * x + 1,
+        (true, true) => 2 * nets + 2 * x + 2,
+    }
+}
+
 /// What drives net `x` of a machine. `cone` has a mark for each net of the cone.
 pub(crate) fn driver(circuit: &Circuit, cone: &[bool], faulty: bool, x: u32) -> Signal
     requires known { x < net_count circuit.now }
@@ -89,17 +114,14 @@ pub(crate) fn driver(circuit: &Circuit, cone: &[bool], faulty: bool, x: u32) -> 
 {
     let nets = circuit.nets();
     prove_eq!(cone.len(), nets as usize);
-    let mut first = 2 * x + 1;
-    if faulty && cone[x as usize] {
-        first += 2 * nets;
-    }
+    let own = has_own(cone, faulty, x);
     Signal {
         zero: SignedVar {
-            variable: first,
+            variable: rail_number(nets, own, x, false),
             value: true,
         },
         one: SignedVar {
-            variable: first + 1,
+            variable: rail_number(nets, own, x, true),
             value: true,
         },
     }

@@ -108,13 +108,15 @@ fn push_output(
         ++ filter may_come (output_targets circuit.now fault (marked cone.now) output)) }
 {
     prove_eq!(cone.len(), circuit.nets() as usize);
-    if !cone[output.index()] {
+    let inside = cone[output.index()];
+    if !inside {
         return Ok(());
     }
     let good = net(circuit, fault, cone, false, output.0);
     let faulty = net(circuit, fault, cone, true, output.0);
     push_target(rows, &[good.rail(false), faulty.rail(true)])?;
-    push_target(rows, &[good.rail(true), faulty.rail(false)])
+    push_target(rows, &[good.rail(true), faulty.rail(false)])?;
+    Ok(())
 }
 
 /// The targets that have a variable, of the cubes and then of the outputs.

@@ -18,7 +18,7 @@ returns-then-dffs-clause-swept c =
     c.args.marks.now c.sweep_gates-gates.new.marks c.sweep_dffs-dffs.new.marks c.sweep_gates-gates.result
     c.sweep_dffs-dffs.result true c.sweep_gates-gates.ensures.grown.count c.sweep_dffs-dffs.ensures.grown.count
     c.sweep_gates-gates.ensures.swept c.sweep_dffs-dffs.ensures.swept (λ yes. refl)
-    (λ no. absurd (both_ways c.sweep_dffs-dffs.result no c.if-dffs.true))
+    (λ wrong. absurd (both_ways c.sweep_dffs-dffs.result wrong c.if-dffs.true))
 
 pub returns-clause-grown : goal.returns-clause-grown
 returns-clause-grown c = grown_more c.args.circuit.now c.args.marks.now c.sweep_gates-gates.new.marks
@@ -31,4 +31,4 @@ returns-clause-swept c =
     c.args.marks.now c.sweep_gates-gates.new.marks c.sweep_dffs-dffs.new.marks c.sweep_gates-gates.result
     c.sweep_dffs-dffs.result c.sweep_gates-gates.result c.sweep_gates-gates.ensures.grown.count
     c.sweep_dffs-dffs.ensures.grown.count c.sweep_gates-gates.ensures.swept c.sweep_dffs-dffs.ensures.swept
-    (λ yes. absurd (both_ways c.sweep_dffs-dffs.result c.if-dffs.false yes)) (λ no. refl)
+    (λ yes. absurd (both_ways c.sweep_dffs-dffs.result c.if-dffs.false yes)) (λ wrong. refl)

@@ -36,8 +36,8 @@ loop-j-preserved c =
             | then-is_new w ↦ w.changed-is
             | else-is_new w ↦ absurd (both_ways c.mark_dff-is_new.result w.if-is_new.false yes)
           ])
-          (λ no. elim c.if-is_new.branch [
-            | then-is_new w ↦ absurd (both_ways c.mark_dff-is_new.result no w.if-is_new.true)
+          (λ wrong. elim c.if-is_new.branch [
+            | then-is_new w ↦ absurd (both_ways c.mark_dff-is_new.result wrong w.if-is_new.true)
             | else-is_new w ↦ w.changed-is
           ]);
     }

@@ -12,9 +12,8 @@ push_exclusion-requires c =
     let pins = c.args.pins.now in
     let all = c.in_ok-all.all in
     let e = c.len-i-end.ensures in
-    let n = c.len.ensures in
     let inside : c.loop-i.i < length all = omega (arith, e, c.loop-i-test.true) in
-    let is : all ≡ choices (length pins) = c.in_ok-all.ensures ∙ ap choices n in
+    let is : all ≡ choices (length pins) = c.in_ok-all.ensures in
     let long = choices_long (length pins) c.loop-i.i [] (let l = ap (λ (x : List (List Bool)). length x) is in
     omega (arith, l, inside)) in
     ap (λ (l : List Bool). length l) (c.row-bits.ensures ∙ ap (λ (x : List (List Bool)). get_or x c.loop-i.i []) is) ∙ long

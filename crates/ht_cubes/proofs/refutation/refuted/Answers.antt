@@ -16,7 +16,7 @@ returns-then-not-are_known-clause-exact c =
     let cone = marked c.as_slice-cone.result.now in
     let P : List Bool → Type 0 = λ l. IsCone n fault (marked l) in
     let is = subst P (sym c.as_slice-cone.ensures.value) c.in_ok-marks.ensures.cone in (
-      (λ no. absurd (false≢true no)),
+      (λ wrong. absurd (false≢true wrong)),
       (λ h. absurd
           (both_ways c.are_known.result c.if-not-are_known.true (c.are_known.ensures.1
           (known_here n fault start cubes steps cone is h)))),
@@ -24,14 +24,14 @@ returns-then-not-are_known-clause-exact c =
 
 pub returns-then-not-avoids_all-clause-exact : goal.returns-then-not-avoids_all-clause-exact
 returns-then-not-avoids_all-clause-exact c = (
-  (λ no. absurd (false≢true no)),
+  (λ wrong. absurd (false≢true wrong)),
   (λ h. absurd
       (both_ways c.avoids_all.result c.if-not-avoids_all.true (c.avoids_all.ensures.1 h.starts))),
 )
 
 pub returns-then-not-ends_empty-clause-exact : goal.returns-then-not-ends_empty-clause-exact
 returns-then-not-ends_empty-clause-exact c = (
-  (λ no. absurd (false≢true no)),
+  (λ wrong. absurd (false≢true wrong)),
   (λ h. absurd
       (both_ways c.ends_empty.result c.if-not-ends_empty.true (c.ends_empty.ensures.1 h.ends))),
 )
@@ -47,7 +47,7 @@ returns-then-not-are_within-clause-exact c =
     let P : List Bool → Type 0 = λ l. IsCone n fault (marked l) in
     let is = subst P (sym c.as_slice-cone.ensures.value) c.in_ok-marks.ensures.cone in
     let f = c.in_ok-formula.formula in (
-      (λ no. absurd (false≢true no)),
+      (λ wrong. absurd (false≢true wrong)),
       (λ h. absurd
           (both_ways c.are_within.result c.if-not-are_within.true (c.are_within.ensures.1
           (within_last n fault start cubes steps cone f.clauses f.last c.in_ok-formula.ensures.clauses

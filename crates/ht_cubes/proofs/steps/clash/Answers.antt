@@ -15,18 +15,18 @@ hints-init c = record {
 
 pub stands-requires : goal.stands-requires
 stands-requires c = row_below c.args.rows.now (get_or c.args.hints.now c.hints.i 0) (length c.args.values.now.values)
-    c.row.result.now c.hints.values.values c.values.result.now c.requires c.hints.invariant.long
+    c.row.result.now c.hints.values.values c.values.result.now c.requires.below c.hints.invariant.long
     (c.is_number.ensures.0 c.if-not-is_number.false) c.row.ensures c.values.ensures
 
 pub set-requires : goal.set-requires
 set-requires c = left_below c.args.rows.now (get_or c.args.hints.now c.hints.i 0) (length c.args.values.now.values)
-    c.row.result.now c.hints.values.values c.values.result.now c.requires c.hints.invariant.long
+    c.row.result.now c.hints.values.values c.values.result.now c.requires.below c.hints.invariant.long
     (c.is_number.ensures.0 c.if-not-is_number.false) c.row.ensures c.values.ensures c.in-Left.literal c.in-Left.ensures
 
 pub returns-then-not-is_number-clause-exact : goal.returns-then-not-is_number-clause-exact
 returns-then-not-is_number-clause-exact c facts say =
     let f = c.hints.invariant.followed facts say in (
-      (λ no. absurd (false≢true no)),
+      (λ wrong. absurd (false≢true wrong)),
       (λ h. absurd (both_ways _ c.if-not-is_number.true (c.is_number.ensures.1
           (hint_known c.args.rows.now facts f.0 c.args.hints.now c.hints.i c.hints.values.values f.1 f.2
           c.hints-test.true h)))),
@@ -36,21 +36,21 @@ pub returns-in-Failed-clause-exact : goal.returns-in-Failed-clause-exact
 returns-in-Failed-clause-exact c facts say =
     let f = c.hints.invariant.followed facts say in
     let known = c.is_number.ensures.0 c.if-not-is_number.false in
-    hint_last c.args.rows.now facts f.0 c.args.hints.now c.hints.i c.len.result c.hints.values.values f.1 f.2
+    hint_last c.args.rows.now facts f.0 c.args.hints.now c.hints.i (length c.args.hints.now) c.hints.values.values f.1 f.2
     c.hints-test.true known
     (row_stands c.args.rows.now (get_or c.args.hints.now c.hints.i 0) (length c.args.values.now.values)
-    c.row.result.now c.hints.values.values c.values.result.now c.requires c.hints.invariant.long known c.row.ensures
-    c.values.ensures None c.in-Failed.ensures) c.len.ensures
+    c.row.result.now c.hints.values.values c.values.result.now c.requires.below c.hints.invariant.long known c.row.ensures
+    c.values.ensures None c.in-Failed.ensures) refl
 
 pub returns-in-Open-clause-exact : goal.returns-in-Open-clause-exact
 returns-in-Open-clause-exact c facts say =
     let f = c.hints.invariant.followed facts say in
     let known = c.is_number.ensures.0 c.if-not-is_number.false in (
-      (λ no. absurd (false≢true no)),
+      (λ wrong. absurd (false≢true wrong)),
       (λ h. absurd
           (hint_open c.args.rows.now facts f.0 c.args.hints.now c.hints.i c.hints.values.values f.1 f.2 c.hints-test.true
           (row_open c.args.rows.now (get_or c.args.hints.now c.hints.i 0) (length c.args.values.now.values)
-          c.row.result.now c.hints.values.values c.values.result.now c.requires c.hints.invariant.long known c.row.ensures
+          c.row.result.now c.hints.values.values c.values.result.now c.requires.below c.hints.invariant.long known c.row.ensures
           c.values.ensures c.in-Open.ensures) h)),
     )
 
@@ -64,9 +64,9 @@ hints-preserved c =
     let n = get_or c.args.hints.now c.hints.i 0 in
     let l = c.in-Left.literal in
     let low = left_below c.args.rows.now n (length c.args.values.now.values) c.row.result.now c.hints.values.values
-    c.values.result.now c.requires c.hints.invariant.long known c.row.ensures c.values.ensures l c.in-Left.ensures in
+    c.values.result.now c.requires.below c.hints.invariant.long known c.row.ensures c.values.ensures l c.in-Left.ensures in
     let so = row_stands c.args.rows.now n (length c.args.values.now.values) c.row.result.now c.hints.values.values
-    c.values.result.now c.requires c.hints.invariant.long known c.row.ensures c.values.ensures (Some l)
+    c.values.result.now c.requires.below c.hints.invariant.long known c.row.ensures c.values.ensures (Some l)
     c.in-Left.ensures in
     record {
       long = ap (λ (v : List (Option Bool)). length v) c.in_ok-set-in-Left.ensures.values
@@ -82,7 +82,7 @@ hints-preserved c =
 pub returns-clause-exact : goal.returns-clause-exact
 returns-clause-exact c facts say =
     let f = c.hints.invariant.followed facts say in (
-      (λ no. absurd (false≢true no)),
+      (λ wrong. absurd (false≢true wrong)),
       (λ h. absurd
           (hints_end c.args.rows.now facts f.0 c.args.hints.now c.hints.i f.2 c.hints-test.false h)),
     )

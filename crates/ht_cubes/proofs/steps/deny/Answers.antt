@@ -12,7 +12,7 @@ use Rattle.ht_cubes.proofs.ClashLaws.{deny_opposites, deny_plain, deny_again, de
 use Rattle.ht_cubes.proofs.steps.deny.Goals as goal
 use Rattle.ht_cubes.proofs.steps.deny.Goals.{in-Some+else-value-literal, in-None+in_ok-set-in-None}
 
-none : SignedVar
+abbrev none : SignedVar
 none = record { variable = 0; value = false }
 
 pub loop-literal-init : goal.loop-literal-init

@@ -18,7 +18,7 @@ deny-requires-clause-below c =
 pub clash-requires : goal.clash-requires
 clash-requires c =
     let P : ℕ → Type 0 = λ n. All (IsBelow n) c.args.rows.now in
-    subst P (sym c.in_ok-passes.ensures.long) c.requires.rows
+    record { below = subst P (sym c.in_ok-passes.ensures.long) c.requires.rows }
 
 later : (c : goal.After-undo) → IsLater c.args.values.now c.if-passes.values
 later c =

@@ -33,7 +33,7 @@ step_passes-requires-clause-step c =
 
 pub returns-then-not-branch : goal.returns-then-not-branch
 returns-then-not-branch c = (
-  (λ no. absurd (false≢true no)),
+  (λ wrong. absurd (false≢true wrong)),
   (λ h. absurd
       (both_ways _ c.if-not-branch.true (c.in_ok-step_passes.ensures.exact.1
       (step_wanted c.args.rows.now c.steps.rows [] c.args.steps.now c.steps.step-index c.args.last c.step-item.result
