@@ -127,7 +127,7 @@ swept_so P Q so a b x h = record { fewer = h.fewer; still = h.still; closed = λ
 pub swept_join : (P Q R : List Bool → Type 0) → ((m : List Bool) → P m → Q m → R m) → (a b d : List Bool) (x y z : Bool)
     → unmarked_count b ≤ unmarked_count a → unmarked_count d ≤ unmarked_count b
     → IsSwept (P b) a b x → IsSwept (Q d) b d y → (y ≡ true → z ≡ true) → (y ≡ false → z ≡ x) → IsSwept (R d) a d z
-swept_join P Q R join a b d x y z few less one two yes wrong = record {
+swept_join P Q R join a b d x y z few less one two right wrong = record {
   fewer = λ so. elim (cases_Bool y) [
     | inl on ↦ let l = two.fewer on in omega (arith, few, l)
     | inr off ↦ let l = one.fewer (sym (wrong off) ∙ so) in omega (arith, less, l)
@@ -137,7 +137,7 @@ swept_join P Q R join a b d x y z few less one two yes wrong = record {
 }
   where
     off : z ≡ false → y ≡ false
-    off not = elim (cases_Bool y) [ inl on ↦ absurd (both_ways z not (yes on)) | inr no_one ↦ no_one ]
+    off not = elim (cases_Bool y) [ inl on ↦ absurd (both_ways z not (right on)) | inr no_one ↦ no_one ]
     x_off : z ≡ false → x ≡ false
     x_off not = sym (wrong (off not)) ∙ not
 

@@ -79,8 +79,8 @@ excluded_on pins bits i d front new all inside long so is =
 module _ {X Y : Type 0} (p : X → Bool) (f : X → Y) (xs : List X) (i : ℕ) (d : X) (inside : i < length xs) where
   pub kept_more : p (get_or xs i d) ≡ true
       → map f (filter p (take (i + 1) xs)) ≡ map f (filter p (take i xs)) ++ f (get_or xs i d) ∷ []
-  kept_more yes = ap (map f) (filter_more p xs i d inside
-      ∙ ap (λ (l : List X). filter p (take i xs) ++ l) (cond-true (p (get_or xs i d)) (get_or xs i d ∷ []) [] yes))
+  kept_more right = ap (map f) (filter_more p xs i d inside
+      ∙ ap (λ (l : List X). filter p (take i xs) ++ l) (cond-true (p (get_or xs i d)) (get_or xs i d ∷ []) [] right))
       ∙ map-append f (filter p (take i xs)) (get_or xs i d ∷ [])
 
   pub left_more : p (get_or xs i d) ≡ false
@@ -91,10 +91,10 @@ module _ {X Y : Type 0} (p : X → Bool) (f : X → Y) (xs : List X) (i : ℕ) (
 
   pub kept_on : (start rows new : List Y) → rows ≡ start ++ map f (filter p (take i xs)) → p (get_or xs i d) ≡ true
       → new ≡ rows ++ f (get_or xs i d) ∷ [] → new ≡ start ++ map f (filter p (take (i + 1) xs))
-  kept_on start rows new so yes is =
+  kept_on start rows new so right is =
       is ∙ (ap (λ (l : List Y). l ++ f (get_or xs i d) ∷ []) so
       ∙ (append_assoc start (map f (filter p (take i xs))) (f (get_or xs i d) ∷ [])
-      ∙ ap (λ (l : List Y). start ++ l) (sym (kept_more yes))))
+      ∙ ap (λ (l : List Y). start ++ l) (sym (kept_more right))))
 
   pub left_on : (start rows new : List Y) → rows ≡ start ++ map f (filter p (take i xs)) → p (get_or xs i d) ≡ false
       → new ≡ rows → new ≡ start ++ map f (filter p (take (i + 1) xs))
@@ -142,8 +142,8 @@ kept_plain clause i d plain new inside so wrong is = kept_by clause i d plain ne
 pub left_plain : (clause : List SignedVar) (i : ℕ) (d : SignedVar) (plain new : List SignedVar) → i < length clause
     → plain ≡ filter (λ l. not (is_constant false l)) (take i clause) → is_constant false (get_or clause i d) ≡ true
     → new ≡ plain → new ≡ filter (λ l. not (is_constant false l)) (take (i + 1) clause)
-left_plain clause i d plain new inside so yes is = kept_by clause i d plain new [] inside so
-    (cond-false (not (is_constant false (get_or clause i d))) (get_or clause i d ∷ []) [] (ap not yes))
+left_plain clause i d plain new inside so right is = kept_by clause i d plain new [] inside so
+    (cond-false (not (is_constant false (get_or clause i d))) (get_or clause i d ∷ []) [] (ap not right))
     (is ∙ sym (append-nil plain))
 
 -- a target of which something is the constant false, and one of which nothing is

@@ -15,9 +15,9 @@ rounds-preserved c = grown_more c.args.circuit.now c.args.marks.now c.rounds.mar
 pub rounds-smaller : goal.rounds-smaller
 rounds-smaller c = c.sweep-changed.ensures.swept.fewer c.if-not-changed.false
 
-pub returns-clause-grown : goal.returns-clause-grown
-returns-clause-grown c = grown_more c.args.circuit.now c.args.marks.now c.rounds.marks c.sweep-changed.new.marks
+pub returns-then-not-changed-clause-grown : goal.returns-then-not-changed-clause-grown
+returns-then-not-changed-clause-grown c = grown_more c.args.circuit.now c.args.marks.now c.rounds.marks c.sweep-changed.new.marks
     c.rounds.invariant c.sweep-changed.ensures.grown
 
-pub returns-clause-closed : goal.returns-clause-closed
-returns-clause-closed c = c.sweep-changed.ensures.swept.closed c.if-not-changed.true
+pub returns-then-not-changed-clause-closed : goal.returns-then-not-changed-clause-closed
+returns-then-not-changed-clause-closed c = c.sweep-changed.ensures.swept.closed c.if-not-changed.true

@@ -1,4 +1,4 @@
-use Rattle.std.proofs.Common.{arith, ◌<◌, ◌≤◌}
+use Rattle.std.proofs.Common.{arith, ◌<◌, ◌≤◌, false}
 use Rattle.std.proofs.lemmas.List.Elements.{All-more}
 use Rattle.ht_cubes.specs.declared.signed_var.SignedVar.{SignedVar}
 use Rattle.ht_cubes.proofs.ListLaws.{all_found}
