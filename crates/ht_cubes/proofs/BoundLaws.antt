@@ -1,6 +1,6 @@
 -- The variables of the formula are below a number.
-use Rattle.std.proofs.Common.{◌≡◌, ◌<◌, ◌≤◌, ◌+◌, ◌-◌, ◌*◌, ℕ, suc, zero, List, [], ◌∷◌, ◌++◌, map, Bool, true, false, not, length, get_or, refl, sym, ◌∙◌, ap, subst, arith}
-use Rattle.std.specs.Prelude.{if◌then◌else◌, nat_le, ◌&&◌}
+use Rattle.std.proofs.Common.{◌<◌, ◌≤◌, ◌+◌, ◌*◌, ℕ, suc, List, [], ◌∷◌, ◌++◌, map, Bool, true, false, not, length, get_or, arith}
+use Rattle.std.specs.Prelude.{nat_le, ◌&&◌}
 use Rattle.std.specs.List.{All, filter, flat_map, list_any, range_with_len}
 use Rattle.std.proofs.lemmas.Bool.{cond_both}
 use Rattle.std.proofs.lemmas.List.Elements.{All-nil, All-cons, All-append, All-map, All-filter}
@@ -11,13 +11,13 @@ use Rattle.ht_net.specs.declared.net.NetId.{NetId}
 use Rattle.ht_net.specs.declared.fault.Fault.{Fault}
 use Rattle.ht_net.specs.declared.fault.Site.{Site}
 use Rattle.ht_net.specs.Netlist.{Netlist, IsCircuit, first_gate_net, net_count, gate_at, no_net}
-use Rattle.ht_net.specs.Frame.{Rules, pin_values}
+use Rattle.ht_net.specs.Frame.{pin_values}
 use Rattle.ht_net.specs.Faults.{forced, is_stem, is_pin, is_data_pin}
 use Rattle.ht_cubes.specs.declared.rail.Rail.{Rail}
 use Rattle.ht_cubes.specs.declared.signed_var.SignedVar.{SignedVar}
 use Rattle.ht_cubes.specs.declared.signal.Signal.{Signal}
 use Rattle.ht_cubes.specs.Rails.{stuck_line, IsKnownRail}
-use Rattle.ht_cubes.specs.Formula.{complement, constant, bit_number, rail_variable, rail_of, stuck_signal, turned, driver_signal, signal_rules, net_signal, pin_signals, latch_signal, next_signal, needs, positive, either_clauses, single_clauses, controlled_clauses, choices, parity_of, excluded, max_parity_pins, exclusions, parity_clauses, kind_clauses, uninverted, gate_clauses, input_clauses, latch_clauses, machine_clauses, is_doubled, both_clauses, frame_clauses, cube_clause, next_target, differs_target, output_targets, is_constant, may_come, all_targets, targets_of, target_clauses, some_target, without_constants, first_target, clauses_of, formula_of, last_variable}
+use Rattle.ht_cubes.specs.Formula.{complement, rail_variable, rail_of, stuck_signal, turned, driver_signal, signal_rules, net_signal, pin_signals, latch_signal, next_signal, needs, positive, either_clauses, single_clauses, controlled_clauses, choices, parity_of, excluded, max_parity_pins, exclusions, parity_clauses, kind_clauses, uninverted, gate_clauses, input_clauses, latch_clauses, machine_clauses, is_doubled, both_clauses, frame_clauses, cube_clause, next_target, differs_target, output_targets, is_constant, may_come, all_targets, targets_of, target_clauses, some_target, without_constants, first_target, clauses_of, formula_of, last_variable}
 use Rattle.ht_cubes.specs.Values.{IsBelow}
 use Rattle.ht_cubes.proofs.FrameLaws.{flat_true}
 

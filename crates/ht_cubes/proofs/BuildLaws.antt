@@ -5,7 +5,7 @@ use Rattle.ht_net.specs.declared.fault.Fault.{Fault}
 use Rattle.ht_net.specs.Netlist.{Netlist, net_count}
 use Rattle.ht_cubes.specs.declared.rail.Rail.{Rail}
 use Rattle.ht_cubes.specs.declared.signed_var.SignedVar.{SignedVar}
-use Rattle.ht_cubes.specs.Formula.{frame_clauses, cube_clause, targets_of, target_clauses, some_target, without_constants, clauses_of, formula_of}
+use Rattle.ht_cubes.specs.Formula.{frame_clauses, cube_clause, targets_of, target_clauses, some_target, without_constants, formula_of}
 
 joined : {A : Type 0} (a b d e none one two three : List A) → none ≡ [] → one ≡ none ++ a → two ≡ one ++ b
     → three ≡ two ++ (d ++ e) → three ≡ a ++ b ++ d ++ e

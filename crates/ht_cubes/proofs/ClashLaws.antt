@@ -1,7 +1,7 @@
 -- What values say of facts, and how clauses that hints name stand.
-use Rattle.std.proofs.Common.{◌≡◌, ◌<◌, ◌≤◌, ◌+◌, ◌-◌, ℕ, suc, zero, List, [], ◌∷◌, ◌++◌, length, get_or, set, map, take, drop, replicate, Option, Some, None, Bool, true, false, not, refl, sym, ◌∙◌, ap, subst, arith, inl, inr, ◌⊎◌}
+use Rattle.std.proofs.Common.{◌≡◌, ◌<◌, ◌+◌, ℕ, suc, zero, List, [], ◌∷◌, ◌++◌, length, get_or, set, map, take, replicate, Option, Some, None, Bool, true, false, not, refl, sym, ◌∙◌, ap, subst, arith, inl, inr, ◌⊎◌}
 use Rattle.std.specs.Prelude.{◌↔◌}
-use Rattle.std.specs.List.{Contains, All}
+use Rattle.std.specs.List.{Contains}
 use Rattle.std.proofs.lemmas.List.{get_or-set_same, get_or-set_other, take_more, map-append}
 use Rattle.std.proofs.lemmas.Bool.{cases_eq}
 use Rattle.std.proofs.lemmas.List.Elements.{All-contains, Contains-push, Contains-push_cases, Contains-append_left}
@@ -32,33 +32,34 @@ facts_more facts values r say inside none l = (there, back)
   where
     there : Contains (facts ++ r ∷ []) l → IsTrueIn (set values r.variable (Some r.value)) l
     there has = elim (Contains-push_cases facts r l has) [
-          | inl old ↦
-            let was = (say l).0 old in
-            let other : l.variable ≡ r.variable → ⊥ = λ e.
-            let P : ℕ → Type 0 = λ n. get_or values n None ≡ Some l.value in
-            let both : get_or values r.variable None ≡ Some l.value = subst P e was in
-            none_some (sym none ∙ both) in
-            get_or-set_other values r.variable l.variable (Some r.value) None other ∙ was
-          | inr same ↦
-            let P : SignedVar → Type 0 = λ m. IsTrueIn (set values r.variable (Some r.value)) m in
-            subst P same (get_or-set_same values r.variable (Some r.value) None inside)
-        ]
+      | inl old ↦
+          let was = (say l).0 old in
+          let other : l.variable ≡ r.variable → ⊥ = λ e.
+          let P : ℕ → Type 0 = λ n. get_or values n None ≡ Some l.value in
+          let both : get_or values r.variable None ≡ Some l.value = subst P e was in
+          none_some (sym none ∙ both) in
+          get_or-set_other values r.variable l.variable (Some r.value) None other ∙ was
+      | inr same ↦
+          let P : SignedVar → Type 0 = λ m. IsTrueIn (set values r.variable (Some r.value)) m in
+          subst P same (get_or-set_same values r.variable (Some r.value) None inside)
+    ]
       where
         none_some : {v : Bool} → None ≡ Some v → ⊥
         none_some e = cc
+
     back : IsTrueIn (set values r.variable (Some r.value)) l → Contains (facts ++ r ∷ []) l
     back is = elim (cases_eq l.variable r.variable) [
-          | inl same ↦
-            let P : ℕ → Type 0 = λ n. get_or (set values r.variable (Some r.value)) n None ≡ Some l.value in
-            let at : get_or (set values r.variable (Some r.value)) r.variable None ≡ Some l.value = subst P same is in
-            let now : Some r.value ≡ Some l.value =
-            sym (get_or-set_same values r.variable (Some r.value) None inside) ∙ at in
-            let value : r.value ≡ l.value = cc in
-            let Q : SignedVar → Type 0 = λ m. Contains (facts ++ r ∷ []) m in
-            subst Q (λ k. record { variable = sym same k; value = value k }) (Contains-push facts r)
-          | inr other ↦ Contains-append_left facts (r ∷ []) l
-              ((say l).1 (sym (get_or-set_other values r.variable l.variable (Some r.value) None other) ∙ is))
-        ]
+      | inl same ↦
+          let P : ℕ → Type 0 = λ n. get_or (set values r.variable (Some r.value)) n None ≡ Some l.value in
+          let at : get_or (set values r.variable (Some r.value)) r.variable None ≡ Some l.value = subst P same is in
+          let now : Some r.value ≡ Some l.value =
+          sym (get_or-set_same values r.variable (Some r.value) None inside) ∙ at in
+          let value : r.value ≡ l.value = cc in
+          let Q : SignedVar → Type 0 = λ m. Contains (facts ++ r ∷ []) m in
+          subst Q (λ k. record { variable = sym same k; value = value k }) (Contains-push facts r)
+      | inr other ↦ Contains-append_left facts (r ∷ []) l
+          ((say l).1 (sym (get_or-set_other values r.variable l.variable (Some r.value) None other) ∙ is))
+    ]
 
 -- a fact once more
 pub facts_again : (facts : List SignedVar) (values : List (Option Bool)) (r : SignedVar) → SayFacts facts values
@@ -67,9 +68,9 @@ facts_again facts values r say is l = (there, λ h. Contains-append_left facts (
   where
     there : Contains (facts ++ r ∷ []) l → IsTrueIn values l
     there has = elim (Contains-push_cases facts r l has) [
-          | inl old ↦ (say l).0 old
-          | inr same ↦ let P : SignedVar → Type 0 = λ m. IsTrueIn values m in subst P same is
-        ]
+      | inl old ↦ (say l).0 old
+      | inr same ↦ let P : SignedVar → Type 0 = λ m. IsTrueIn values m in subst P same is
+    ]
 
 module _ (facts : List SignedVar) (values : List (Option Bool)) (say : SayFacts facts values) where
   false_to : (l : SignedVar) → IsFalseIn values l → IsFalse facts l
@@ -127,9 +128,9 @@ module _ (facts : List SignedVar) (values : List (Option Bool)) (say : SayFacts 
     where
       is : (k : SignedVar) → Contains clause k → get_or values k.variable None ≡ None → k ≡ n
       is k has none = elim (All-contains (λ other. (other ≡ n) ⊎ IsFalse facts other) clause k leaves.others has) [
-            | inl same ↦ same
-            | inr wrong ↦ absurd (none_some (sym none ∙ false_from k wrong))
-          ]
+        | inl same ↦ same
+        | inr wrong ↦ absurd (none_some (sym none ∙ false_from k wrong))
+      ]
 
   module _ (clauses : List (List SignedVar)) (n : ℕ) (rest : List ℕ) where
     -- a hint whose clause leaves one goes on with it
@@ -142,6 +143,7 @@ module _ (facts : List SignedVar) (values : List (Option Bool)) (say : SayFacts 
         there (m ∷ hints) h =
             let P : SignedVar → Type 0 = λ k. Clash clauses (facts ++ k ∷ []) (m ∷ hints) in
             subst P (left_once (clause_at clauses n) l h.1.0 leaves h.1.1) h.1.2
+
         back : (rest : List ℕ) → Clash clauses (facts ++ l ∷ []) rest → Clash clauses facts (n ∷ rest)
         back [] h = absurd h
         back (m ∷ hints) h = (known, (l, leaves, h))
@@ -162,6 +164,7 @@ module _ (facts : List SignedVar) (values : List (Option Bool)) (say : SayFacts 
         there : (rest : List ℕ) → Clash clauses facts (n ∷ rest) → rest ≡ []
         there [] h = refl
         there (m ∷ hints) h = absurd (left_fails (clause_at clauses n) h.1.0 h.1.1 fails)
+
         back : (rest : List ℕ) → rest ≡ [] → Clash clauses facts (n ∷ rest)
         back [] e = (known, fails)
         back (m ∷ hints) e = cc

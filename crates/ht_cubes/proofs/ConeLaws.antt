@@ -5,7 +5,7 @@ use Rattle.std.proofs.lemmas.Bool.{both_ways, cases_Bool, cases_eq, false≢true
 use Rattle.ht_net.specs.declared.fault.Fault.{Fault}
 use Rattle.ht_net.specs.Netlist.{Netlist, first_gate_net, net_count, gate_at, arg_at, no_net}
 use Rattle.ht_cubes.specs.Rails.{Encloses, IsCone, first_changed}
-use Rattle.ht_cubes.specs.Cones.{marked, unmarked_count, AreReached, HaveGrown, ClosesGate, ClosesDff, CloseGates, CloseDffs, CloseBoth, IsSwept}
+use Rattle.ht_cubes.specs.Cones.{marked, unmarked_count, AreReached, HaveGrown, ClosesGate, ClosesDff, CloseBoth, IsSwept}
 
 -- a new mark
 unmarked_set : (marks : List Bool) (x : ℕ) → x < length marks → get_or marks x false ≡ false
@@ -18,15 +18,15 @@ unmarked_set (true ∷ marks) (suc x) l e = unmarked_set marks x (omega arith) e
 
 kept_set : (marks : List Bool) (x y : ℕ) → x < length marks → marked marks y ≡ true → marked (set marks x true) y ≡ true
 kept_set marks x y l h = elim (cases_eq y x) [
-      | inl same ↦ ap (λ (n : ℕ). get_or (set marks x true) n false) same ∙ get_or-set_same marks x true false l
-      | inr other ↦ get_or-set_other marks x y true false other ∙ h
-    ]
+  | inl same ↦ ap (λ (n : ℕ). get_or (set marks x true) n false) same ∙ get_or-set_same marks x true false l
+  | inr other ↦ get_or-set_other marks x y true false other ∙ h
+]
 
 from_set : (marks : List Bool) (x y : ℕ) → marked (set marks x true) y ≡ true → (y ≡ x) ⊎ (marked marks y ≡ true)
 from_set marks x y h = elim (cases_eq y x) [
-      | inl same ↦ inl same
-      | inr other ↦ inr (sym (get_or-set_other marks x y true false other) ∙ h)
-    ]
+  | inl same ↦ inl same
+  | inr other ↦ inr (sym (get_or-set_other marks x y true false other) ∙ h)
+]
 
 module _ (c : Netlist) where
   pub grown_now : (marks : List Bool) → HaveGrown c marks marks
@@ -138,6 +138,7 @@ swept_join P Q R join a b d x y z few less one two right wrong = record {
   where
     off : z ≡ false → y ≡ false
     off not = elim (cases_Bool y) [ inl on ↦ absurd (both_ways z not (right on)) | inr no_one ↦ no_one ]
+
     x_off : z ≡ false → x ≡ false
     x_off not = sym (wrong (off not)) ∙ not
 
@@ -169,9 +170,9 @@ cones_agree c fault one two a b = λ k x. same x k
   where
     same : (x : ℕ) → one x ≡ two x
     same x = elim (cases_Bool (one x)) [
-          | inl on ↦ on ∙ sym (a.least two b.encloses x on)
-          | inr off ↦ elim (cases_Bool (two x)) [
-            | inl on ↦ absurd (both_ways (one x) off (b.least one a.encloses x on))
-            | inr none ↦ off ∙ sym none
-          ]
-        ]
+      | inl on ↦ on ∙ sym (a.least two b.encloses x on)
+      | inr off ↦ elim (cases_Bool (two x)) [
+        | inl on ↦ absurd (both_ways (one x) off (b.least one a.encloses x on))
+        | inr none ↦ off ∙ sym none
+      ]
+    ]

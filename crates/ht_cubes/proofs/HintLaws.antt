@@ -1,7 +1,7 @@
 -- Hints, one after the other, and steps.
-use Rattle.std.proofs.Common.{◌≡◌, ◌<◌, ◌≤◌, ◌+◌, ◌-◌, ℕ, suc, zero, List, [], ◌∷◌, ◌++◌, length, get_or, set, drop, map, Option, Some, None, Bool, true, false, refl, sym, ◌∙◌, ap, subst, arith, eqb}
+use Rattle.std.proofs.Common.{◌≡◌, ◌<◌, ◌≤◌, ◌+◌, ◌-◌, ℕ, List, [], ◌∷◌, ◌++◌, length, get_or, set, drop, map, Option, Some, None, Bool, false, sym, ◌∙◌, ap, subst, arith, eqb}
 use Rattle.std.specs.Prelude.{◌↔◌, IsTrue}
-use Rattle.std.specs.List.{All, Contains}
+use Rattle.std.specs.List.{All}
 use Rattle.std.proofs.lemmas.Bool.{both_ways, eqb-true, eq-eqb}
 use Rattle.std.proofs.lemmas.List.{drop_all, length-drop, get_or_read}
 use Rattle.std.proofs.lemmas.List.Elements.{All-contains, All-push, All-weaker}

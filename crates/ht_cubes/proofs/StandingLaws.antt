@@ -3,12 +3,11 @@ use Rattle.std.proofs.Common.{◌≡◌, ◌<◌, ◌+◌, ℕ, suc, zero, List,
 use mathlib.Core.Bool.{beq, ◌&&◌}
 use lib.Dec.{eqb}
 use Rattle.std.proofs.lemmas.Bool.{and_parts, and_from, not-false, eqb-true, eq-eqb, true≢false}
-use Rattle.std.specs.List.{Contains, All}
+use Rattle.std.specs.List.{Contains}
 use Rattle.std.proofs.lemmas.List.{take_more, take_all}
-use Rattle.std.proofs.Common.{drop}
 use Rattle.std.proofs.lemmas.List.Elements.{All-nil, All-push, All-weaker, Contains-append_left, Contains-push, Contains-get_or}
 use Rattle.ht_cubes.specs.declared.signed_var.SignedVar.{SignedVar}
-use Rattle.ht_cubes.specs.Values.{IsFalseIn, IsTrueIn, IsOpen, StandsSo}
+use Rattle.ht_cubes.specs.Values.{IsFalseIn, IsOpen, StandsSo}
 
 pub stands_none : (values : List (Option Bool)) → StandsSo values [] None
 unfolding StandsSo

@@ -1,4 +1,4 @@
-use Rattle.std.proofs.Common.{◌≡◌, sym, ◌∙◌}
+use Rattle.std.proofs.Common.{◌∙◌}
 use Rattle.ht_cubes.proofs.ConeLaws.{grown_now, grown_more}
 use Rattle.ht_cubes.proofs.cone.close.Goals as goal
 

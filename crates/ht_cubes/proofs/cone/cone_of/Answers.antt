@@ -1,8 +1,7 @@
-use Rattle.std.proofs.Common.{arith, ◌≡◌, ◌<◌, List, Bool, true, length, sym, ◌∙◌, ap, subst}
+use Rattle.std.proofs.Common.{arith, List, Bool, length, sym, ◌∙◌, ap, subst}
 use Rattle.std.proofs.lemmas.List.{with_items_is}
-use Rattle.ht_net.specs.Netlist.{net_count}
 use Rattle.ht_cubes.specs.Rails.{IsCone}
-use Rattle.ht_cubes.specs.Cones.{marked, AreReached}
+use Rattle.ht_cubes.specs.Cones.{marked}
 use Rattle.ht_cubes.proofs.ConeLaws.{cone_from}
 use Rattle.ht_cubes.proofs.cone.cone_of.Goals as goal
 

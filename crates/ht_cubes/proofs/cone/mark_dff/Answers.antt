@@ -1,6 +1,5 @@
-use Rattle.std.proofs.Common.{arith, ◌≡◌, ◌+◌, ◌<◌, length, refl, sym, ◌∙◌, ap}
+use Rattle.std.proofs.Common.{arith, ◌∙◌, ap}
 use Rattle.ht_net.specs.declared.net.NetId.{NetId}
-use Rattle.ht_net.specs.Netlist.{net_count}
 use Rattle.ht_cubes.specs.Cones.{ClosesDff}
 use Rattle.ht_cubes.proofs.ConeLaws.{grown_now, dff_grown, dff_closed, dff_apart, swept_set, swept_none}
 use Rattle.ht_cubes.proofs.cone.mark_dff.Goals as goal

@@ -1,6 +1,5 @@
-use Rattle.std.proofs.Common.{arith, ◌≡◌, ◌+◌, ◌<◌, length, refl, sym, ◌∙◌}
+use Rattle.std.proofs.Common.{arith, ◌∙◌}
 use Rattle.std.proofs.lemmas.Bool.{both_ways}
-use Rattle.ht_net.specs.Netlist.{first_gate_net, net_count}
 use Rattle.ht_cubes.specs.Cones.{ClosesGate}
 use Rattle.ht_cubes.proofs.ConeLaws.{grown_now, gate_grown, gate_closed, swept_set, swept_none}
 use Rattle.ht_cubes.proofs.cone.mark_gate.Goals as goal

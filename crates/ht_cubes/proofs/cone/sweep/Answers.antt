@@ -1,4 +1,4 @@
-use Rattle.std.proofs.Common.{◌≡◌, List, Bool, true, refl, sym, ◌∙◌}
+use Rattle.std.proofs.Common.{true, refl, ◌∙◌}
 use Rattle.std.proofs.lemmas.Bool.{both_ways}
 use Rattle.ht_cubes.specs.Cones.{CloseGates, CloseDffs, CloseBoth}
 use Rattle.ht_cubes.proofs.ConeLaws.{grown_more, swept_join}

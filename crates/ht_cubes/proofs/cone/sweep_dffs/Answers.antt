@@ -1,6 +1,6 @@
-use Rattle.std.proofs.Common.{arith, ◌≡◌, ◌+◌, ◌<◌, ℕ, List, Bool, length, get_or, refl, sym, ◌∙◌, subst, below_more}
+use Rattle.std.proofs.Common.{arith, ◌+◌, ◌<◌, ℕ, List, Bool, ◌∙◌, below_more}
 use Rattle.std.proofs.lemmas.Bool.{both_ways}
-use Rattle.ht_cubes.specs.Cones.{ClosesDff, HaveGrown}
+use Rattle.ht_cubes.specs.Cones.{ClosesDff}
 use Rattle.ht_cubes.proofs.ConeLaws.{grown_now, grown_more, swept_none, swept_so, swept_join}
 use Rattle.ht_cubes.proofs.cone.sweep_dffs.Goals as goal
 use Rattle.ht_cubes.proofs.cone.sweep_dffs.Goals.{then-is_new, else-is_new}

@@ -1,6 +1,6 @@
-use Rattle.std.proofs.Common.{arith, ◌≡◌, ◌+◌, ◌<◌, ℕ, List, Bool, length, get_or, refl, sym, ◌∙◌, subst, below_more}
+use Rattle.std.proofs.Common.{arith, ◌+◌, ◌<◌, ℕ, List, Bool, get_or, ◌∙◌, subst, below_more}
 use Rattle.std.proofs.lemmas.Bool.{both_ways}
-use Rattle.ht_cubes.specs.Cones.{ClosesGate, HaveGrown}
+use Rattle.ht_cubes.specs.Cones.{ClosesGate}
 use Rattle.ht_cubes.proofs.ConeLaws.{grown_now, grown_more, swept_none, swept_so, swept_join}
 use Rattle.ht_cubes.proofs.cone.sweep_gates.Goals as goal
 use Rattle.ht_cubes.proofs.cone.sweep_gates.Goals.{then-is_new, else-is_new}

@@ -1,8 +1,7 @@
-use Rattle.std.proofs.Common.{arith, ◌≡◌, ◌++◌, ◌∷◌, [], List, Bool, Vec, Global, false, true, not, get_or, take, sym, ◌∙◌, ap}
-use Rattle.std.specs.List.{filter}
+use Rattle.std.proofs.Common.{Vec, Global, true, sym, ◌∙◌, ap}
 use Rattle.ht_cubes.specs.declared.signed_var.SignedVar.{SignedVar}
 use Rattle.ht_cubes.specs.Formula.{is_constant}
-use Rattle.ht_cubes.proofs.PieceLaws.{none_more, plain_none, plain_some, kept_plain, left_plain}
+use Rattle.ht_cubes.proofs.PieceLaws.{none_more, plain_none, kept_plain, left_plain}
 use Rattle.ht_cubes.proofs.formula.push_plain.Goals as goal
 use Rattle.ht_cubes.proofs.formula.push_plain.Goals.{then-not-fails+in_ok-push, else-not-fails}
 

@@ -1,6 +1,6 @@
-use Rattle.std.proofs.Common.{◌≡◌, Bool, false, not, get_or, sym, ◌∙◌, arith}
+use Rattle.std.proofs.Common.{Bool, false, not, get_or, sym, ◌∙◌, arith}
 use Rattle.std.proofs.lemmas.Bool.{cond-true, cond-false}
-use Rattle.ht_cubes.proofs.PieceLaws.{if_turned, parity_on, parity_end}
+use Rattle.ht_cubes.proofs.PieceLaws.{parity_on, parity_end}
 use Rattle.ht_cubes.proofs.parity.has_other_parity.Goals as goal
 use Rattle.ht_cubes.proofs.parity.has_other_parity.Goals.{then-b, else-b}
 

@@ -1,5 +1,4 @@
-use Rattle.std.proofs.Common.{◌≡◌, ℕ, List, Bool, sym, ◌∙◌, subst}
-use Rattle.std.specs.Prelude.{◌↔◌, IsTrue}
+use Rattle.std.proofs.Common.{List, Bool, sym, subst}
 use Rattle.std.proofs.lemmas.Bool.{both_ways, false≢true}
 use Rattle.ht_cubes.specs.Cones.{marked}
 use Rattle.ht_cubes.specs.Rails.{IsCone}

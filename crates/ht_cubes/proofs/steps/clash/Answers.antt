@@ -1,8 +1,7 @@
-use Rattle.std.proofs.Common.{◌≡◌, ◌++◌, ◌∷◌, [], List, Option, Some, None, Bool, length, set, get_or, refl, sym, ◌∙◌, ap}
+use Rattle.std.proofs.Common.{◌++◌, ◌∷◌, [], List, Option, Some, None, Bool, length, get_or, refl, ◌∙◌, ap}
 use Rattle.std.proofs.lemmas.Bool.{both_ways, false≢true}
 use Rattle.std.proofs.lemmas.List.{length-set}
 use Rattle.ht_trail.proofs.TrailLaws.{later_now, later_more}
-use Rattle.ht_cubes.specs.declared.signed_var.SignedVar.{SignedVar}
 use Rattle.ht_cubes.proofs.HintLaws.{row_below, left_below, row_stands, row_open, hint_known, hint_open, hint_next, hint_last, hints_end}
 use Rattle.ht_cubes.proofs.steps.clash.Goals as goal
 

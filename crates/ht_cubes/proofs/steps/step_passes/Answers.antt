@@ -1,4 +1,4 @@
-use Rattle.std.proofs.Common.{◌≡◌, ℕ, List, Option, Bool, length, map, sym, ◌∙◌, subst}
+use Rattle.std.proofs.Common.{ℕ, List, Option, Bool, length, sym, subst}
 use Rattle.std.specs.List.{All}
 use Rattle.std.specs.Prelude.{◌↔◌, IsTrue}
 use Rattle.ht_trail.specs.Trails.{CellsState, IsLater}

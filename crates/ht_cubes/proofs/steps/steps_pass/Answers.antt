@@ -1,9 +1,8 @@
-use Rattle.std.proofs.Common.{◌≡◌, ◌+◌, [], ℕ, List, Option, None, Bool, length, replicate, get_or, refl, sym, ◌∙◌, ap, subst}
+use Rattle.std.proofs.Common.{◌+◌, [], ℕ, Option, None, Bool, length, refl, sym, ◌∙◌, ap, subst}
 use Rattle.std.specs.List.{All}
 use Rattle.std.proofs.lemmas.Bool.{both_ways, false≢true}
 use Rattle.std.proofs.lemmas.List.{length-replicate}
 use Rattle.ht_trail.specs.Trails.{CellsState}
-use Rattle.ht_cubes.specs.declared.signed_var.SignedVar.{SignedVar}
 use Rattle.ht_cubes.specs.Values.{IsBelow, SayFacts}
 use Rattle.ht_cubes.proofs.ClashLaws.{none_said}
 use Rattle.ht_cubes.proofs.HintLaws.{step_wanted, steps_more, step_below, rows_below, steps_end}

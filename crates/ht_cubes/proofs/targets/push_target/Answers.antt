@@ -1,7 +1,7 @@
 use Rattle.std.proofs.Common.{◌∙◌, sym}
 use Rattle.ht_cubes.specs.Formula.{is_constant}
 use Rattle.std.proofs.Common.{false}
-use Rattle.ht_cubes.proofs.PieceLaws.{none_more, target_none, target_some}
+use Rattle.ht_cubes.proofs.PieceLaws.{none_more, target_none}
 use Rattle.ht_cubes.proofs.targets.push_target.Goals as goal
 
 pub returns-then-fails : goal.returns-then-fails
