@@ -4,8 +4,9 @@
 //! that never hold together. Model checkers find such cubes, and SAT solvers prove that no vector leads to one. The
 //! formula of a fault and a list of cubes (`specs/Formula.antt`) says that, one frame after a joint state that avoids all
 //! cubes, some cube comes about or some output differs. `refuted` builds it once and follows the steps of a proof, each
-//! with hints, as in LRAT: no search, one pass, each hint looked at once. Where it says yes, no list of vectors of any
-//! length detects the fault, from the start or from all-unknown (`passing_cubes_exclude_detection`).
+//! with hints, as in LRAT: no search, one pass, each hint looked at once. It says yes exactly where cubes and steps pass
+//! (`specs/Passing.antt`), and then no list of vectors of any length detects the fault, from the start or from
+//! all-unknown (`passing_cubes_exclude_detection`).
 //!
 //! `cone` finds the nets that differ at all, `lines`, `gates`, `parity`, `frame` and `targets` make the parts of the
 //! formula, `standing` and `steps` follow the proof.
