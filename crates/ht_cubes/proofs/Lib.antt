@@ -1,7 +1,7 @@
 mod OutsideLaws
-mod RunLaws
+pub mod RunLaws
 mod MeaningLaws
 mod StepLaws
 mod GateLaws
 mod FrameLaws
-mod RefuteLaws
+pub mod RefuteLaws
