@@ -19,14 +19,23 @@ use Rattle.ht_entries.proofs.CubeLineLaws.{are_hints, cube_has_text, cube_is_rea
 
 -- ---- words
 
--- a value whose word this is, or none
-abbrev IsWordOrNot : {A : Type 0} → (A → List ℕ) → (A → Type 0) → List ℕ → Type 0
-IsWordOrNot word_of HasText word =
-    ((x : _) × (HasText x × (word ≡ word_of x))) ⊎ ((x : _) → HasText x → word ≢ word_of x)
+-- a value whose word this is
+record SomeValue {A : Type 0} (word_of : A → List ℕ) (HasText : A → Type 0) (word : List ℕ) : Type 0 where
+  value : A
+  has_text : HasText value
+  same : word ≡ word_of value
 
-number_or_not : (word : List ℕ) → IsWordOrNot decimal IsNumber word
+-- this is the word of none
+abbrev HasNoValue : {A : Type 0} → (A → List ℕ) → (A → Type 0) → List ℕ → Type 0
+HasNoValue word_of HasText word = (x : _) → HasText x → word ≢ word_of x
+
+abbrev value_is : {A : Type 0} (word_of : A → List ℕ) (HasText : A → Type 0) (word : List ℕ) (x : A) → HasText x
+    → word ≡ word_of x → SomeValue word_of HasText word
+value_is word_of HasText word x h same = record { value = x; has_text = h; same = same }
+
+number_or_not : (word : List ℕ) → SomeValue decimal IsNumber word ⊎ HasNoValue decimal IsNumber word
 number_or_not word = elim (some_below (λ j. word ≡ decimal (j + 1)) (λ j. same_or_not word (decimal (j + 1))) max_number) [
-  | inl found ↦ inl (found.0 + 1, (omega arith, omega (arith, found.1)), found.2)
+  | inl found ↦ inl (value_is decimal IsNumber word (found.0 + 1) (omega arith, omega (arith, found.1)) found.2)
   | inr none ↦ inr (λ n counts e.
       let before : n ≡ n - 1 + 1 = omega (arith, counts.0) in
       none (n - 1) (omega (arith, counts.0, counts.1)) (e ∙ ap decimal before))
@@ -37,11 +46,12 @@ by_bit : (word_of : Bool → List ℕ) (word : List ℕ) → word ≢ word_of fa
 by_bit word_of word not_false not_true false h = not_false
 by_bit word_of word not_false not_true true h = not_true
 
-bit_or_not : (word_of : Bool → List ℕ) (word : List ℕ) → IsWordOrNot word_of IsAnyBit word
+bit_or_not : (word_of : Bool → List ℕ) (word : List ℕ)
+    → SomeValue word_of IsAnyBit word ⊎ HasNoValue word_of IsAnyBit word
 bit_or_not word_of word = elim (same_or_not word (word_of false)) [
-  | inl same ↦ inl (false, tt, same)
+  | inl same ↦ inl (value_is word_of IsAnyBit word false tt same)
   | inr not_false ↦ elim (same_or_not word (word_of true)) [
-    | inl same ↦ inl (true, tt, same)
+    | inl same ↦ inl (value_is word_of IsAnyBit word true tt same)
     | inr not_true ↦ inr (λ bit. by_bit word_of word not_false not_true bit)
   ]
 ]
@@ -54,12 +64,14 @@ by_sign word no_plus no_minus n false counts e =
     let before : n ≡ n - 1 + 1 = omega (arith, counts.0) in
     no_minus (n - 1) (omega (arith, counts.0, counts.1)) (e ∙ ap (λ k. signed_word (signed_of k false)) before)
 
-signed_or_not : (word : List ℕ) → IsWordOrNot signed_word IsSignedText word
+signed_or_not : (word : List ℕ) → SomeValue signed_word IsSignedText word ⊎ HasNoValue signed_word IsSignedText word
 signed_or_not word = elim (number_or_not word) [
-  | inl found ↦ inl (signed_of found.0 true, found.1, found.2)
+  | inl found ↦
+      inl (value_is signed_word IsSignedText word (signed_of found.value true) found.has_text found.same)
   | inr no_plus ↦ elim (some_below (λ j. word ≡ signed_word (signed_of (j + 1) false))
       (λ j. same_or_not word (signed_word (signed_of (j + 1) false))) max_number) [
-    | inl found ↦ inl (signed_of (found.0 + 1) false, (omega arith, omega (arith, found.1)), found.2)
+    | inl found ↦ inl (value_is signed_word IsSignedText word (signed_of (found.0 + 1) false)
+        (omega arith, omega (arith, found.1)) found.2)
     | inr no_minus ↦ inr (λ x. by_sign word no_plus no_minus x.variable x.value)
   ]
 ]
@@ -67,13 +79,17 @@ signed_or_not word = elim (number_or_not word) [
 -- ---- items
 
 word_item_or_not : {A : Type 0} (word_of : A → List ℕ) (HasText : A → Type 0)
-    → ((x : A) → HasText x → All IsNoSpace (word_of x)) → ((word : List ℕ) → IsWordOrNot word_of HasText word)
+    → ((x : A) → HasText x → All IsNoSpace (word_of x))
+    → ((word : List ℕ) → SomeValue word_of HasText word ⊎ HasNoValue word_of HasText word)
     → (text : List ℕ) → SomeItem (spaced word_of) HasText text ⊎ HasNoItem (spaced word_of) HasText text
 word_item_or_not word_of HasText plain decide text = elim (word_or_not text) [
   | inr none ↦ inr (no_space_no_item word_of HasText plain text none)
   | inl w ↦ elim (decide w.word) [
-    | inl found ↦ inl (found.0, w.rest,
-        word_is_item word_of HasText plain text w.word w.rest found.0 w.is found.1.1 found.1.0)
+    | inl found ↦ inl (record {
+        item = found.value;
+        after = w.rest;
+        is = word_is_item word_of HasText plain text w.word w.rest found.value w.is found.same found.has_text;
+      })
     | inr none ↦ inr (no_word_no_item word_of HasText plain text w.word w.rest w.is none)
   ]
 ]
@@ -95,12 +111,16 @@ bit_item_or_not = word_item_or_not bit_word IsAnyBit bit_plain (bit_or_not bit_w
 rail_or_not : (text : List ℕ) → SomeItem rail_text IsRailText text ⊎ HasNoItem rail_text IsRailText text
 rail_or_not text = elim (machine_or_not text) [
   | inr none ↦ inr (no_machine_no_rail text none)
-  | inl machine ↦ elim (number_item_or_not machine.1.0) [
-    | inr none ↦ inr (no_number_no_rail text machine.1.0 machine.0 machine.1.1 none)
-    | inl number ↦ elim (bit_item_or_not number.1.0) [
-      | inr none ↦ inr (no_bit_no_rail text machine.1.0 number.1.0 machine.0 number.0 machine.1.1 number.1.1 none)
-      | inl bit ↦ inl (rail_of machine.0 (number.0 - 1) bit.0, bit.1.0,
-          rail_is_next text machine.1.0 number.1.0 bit.1.0 machine.0 number.0 bit.0 machine.1.1 number.1.1 bit.1.1)
+  | inl machine ↦ elim (number_item_or_not machine.after) [
+    | inr none ↦ inr (no_number_no_rail text machine.after machine.item machine.is none)
+    | inl number ↦ elim (bit_item_or_not number.after) [
+      | inr none ↦ inr (no_bit_no_rail text machine.after number.after machine.item number.item machine.is number.is none)
+      | inl bit ↦ inl (record {
+          item = rail_of machine.item (number.item - 1) bit.item;
+          after = bit.after;
+          is = rail_is_next text machine.after number.after bit.after machine.item number.item bit.item machine.is
+              number.is bit.is;
+        })
     ]
   ]
 ]
@@ -121,7 +141,7 @@ empty_or_not [] = inl refl
 empty_or_not (x ∷ xs) = inr (λ e. omega (arith, ap length e))
 
 cube_by : (bytes text : List ℕ) → bytes ≡ codes "never" ++ text → length bytes ≤ MAX_PROOF_LINE_BYTES
-    → TakesAll rail_text IsRailText rails_are_items text
+    → TakesAll rail_text IsRailText text
     → ((cube : List Rail) × (IsCubeText cube × (bytes ≡ cube_text cube)))
     ⊎ ((cube : List Rail) → IsCubeText cube → bytes ≢ cube_text cube)
 cube_by bytes text is short all = elim (empty_or_not all.xs) [
@@ -145,7 +165,7 @@ cube_or_not bytes = elim (cases_lt MAX_PROOF_LINE_BYTES (length bytes)) [
 ]
 
 hints_by : (text numbers : List ℕ) → text ≡ codes " by" ++ numbers
-    → TakesAll (spaced decimal) IsNumber numbers_are_items numbers
+    → TakesAll (spaced decimal) IsNumber numbers
     → ((hints : List ℕ) × (AreHints hints × (text ≡ hints_text hints)))
     ⊎ ((hints : List ℕ) → AreHints hints → text ≢ hints_text hints)
 hints_by text numbers is all = elim (empty_or_not all.xs) [
@@ -167,7 +187,7 @@ abbrev step_of : List SignedVar → List ℕ → ClauseStep
 step_of literals hints = record { literals = literals; hints = hints }
 
 step_by : (bytes text : List ℕ) → bytes ≡ codes "step" ++ text → length bytes ≤ MAX_PROOF_LINE_BYTES
-    → TakesAll (spaced signed_word) IsSignedText signed_are_items text
+    → TakesAll (spaced signed_word) IsSignedText text
     → ((step : ClauseStep) × (IsStepText step × (bytes ≡ step_text step)))
     ⊎ ((step : ClauseStep) → IsStepText step → bytes ≢ step_text step)
 step_by bytes text is short all = elim (hints_or_not all.rest) [

@@ -1,8 +1,9 @@
 -- The lines of cubes and of steps: what their texts show, and what is left where a text is none.
-use Rattle.std.proofs.Common.{◌≡◌, ◌≢◌, ◌⊎◌, inl, inr, ℕ, ◌+◌, ◌<◌, ◌≤◌, List, [], ◌∷◌, ◌++◌, length, refl, sym, ap, ◌∙◌, subst, arith}
+use Rattle.std.proofs.Common.{◌≡◌, ◌≢◌, ◌==◌, ◌⊎◌, inl, inr, ℕ, ◌+◌, ◌<◌, ◌≤◌, true, false, List, [], ◌∷◌, ◌++◌, length, refl, sym, ap, ◌∙◌, subst, arith}
 use Rattle.std.specs.Prelude.{codes, flat_map}
 use Rattle.std.specs.Fmt.{decimal}
 use Rattle.std.specs.List.{All}
+use Rattle.std.proofs.lemmas.Bool.{eqb-true, true≢false}
 use Rattle.std.proofs.lemmas.List.{append_cancel_left, append-nil}
 use Rattle.ht_cubes.specs.declared.rail.Rail.{Rail}
 use Rattle.ht_cubes.specs.declared.signed_var.SignedVar.{SignedVar}
@@ -13,6 +14,15 @@ use Rattle.ht_entries.specs.ItemTexts.{spaced, AreTaken, HasNoItem, IsDelimited}
 use Rattle.ht_entries.specs.ByCubes.{rail_text, signed_word, cube_text, hints_text, step_text, AreHints, IsCubeText, IsRailText, IsSignedText, IsStepText}
 use Rattle.ht_entries.proofs.ItemLaws.{SameItem, all_taken, taken_are, lists_same, none_at_end}
 use Rattle.ht_entries.proofs.CubesTextLaws.{by_is_no_signed, numbers_are_items, rails_are_items, signed_are_items}
+
+-- what the length of a list tells
+pub empty_by : {A : Type 0} (xs : List A) → true ≡ (length xs == 0) → xs ≡ []
+empty_by [] e = refl
+empty_by (x ∷ xs) e = absurd (omega (arith, eqb-true (length (x ∷ xs)) 0 (sym e)))
+
+pub some_by : {A : Type 0} (xs : List A) → false ≡ (length xs == 0) → xs ≢ []
+some_by [] e f = true≢false (sym e)
+some_by (x ∷ xs) e f = omega (arith, ap length f)
 
 not_none : {A : Type 0} (xs : List A) → xs ≢ [] → 0 < length xs
 not_none [] h = absurd (h refl)

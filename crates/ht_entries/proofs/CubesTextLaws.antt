@@ -89,6 +89,29 @@ signed_plain x h = sign_plain x.variable x.value h
 pub signed_are_items : AreItems (spaced signed_word) IsSignedText
 signed_are_items = words_are_items signed_word IsSignedText signed_plain signed_same
 
+-- after a hyphen stands no number
+no_negative_of : (word digits : List ℕ) → word ≡ codes "-" ++ digits
+    → ((n : ℕ) → IsNumber n → digits ≢ decimal n) → (n : ℕ) (value : Bool) → IsNumber n
+    → word ≢ signed_word (signed_of n value)
+no_negative_of word digits is none n false counts e = none n counts (ap rest_of (sym is ∙ e))
+no_negative_of word digits is none n true counts e =
+    no_minus n [] digits counts.1 (append-nil (decimal n) ∙ sym e ∙ is)
+
+pub no_negative : (word digits : List ℕ) → word ≡ codes "-" ++ digits
+    → ((n : ℕ) → IsNumber n → digits ≢ decimal n) → (x : SignedVar) → IsSignedText x → word ≢ signed_word x
+no_negative word digits is none x = no_negative_of word digits is none x.variable x.value
+
+-- nor is there a hyphen or a number
+no_positive_of : (word : List ℕ) → ((rest : List ℕ) → word ≢ codes "-" ++ rest)
+    → ((n : ℕ) → IsNumber n → word ≢ decimal n) → (n : ℕ) (value : Bool) → IsNumber n
+    → word ≢ signed_word (signed_of n value)
+no_positive_of word no_hyphen none n false counts e = no_hyphen (decimal n) e
+no_positive_of word no_hyphen none n true counts e = none n counts e
+
+pub no_positive : (word : List ℕ) → ((rest : List ℕ) → word ≢ codes "-" ++ rest)
+    → ((n : ℕ) → IsNumber n → word ≢ decimal n) → (x : SignedVar) → IsSignedText x → word ≢ signed_word x
+no_positive word no_hyphen none x = no_positive_of word no_hyphen none x.variable x.value
+
 -- the word before the hints is no signed variable
 signed_begins : (n : ℕ) (value : Bool) (rest : List ℕ) → IsNumber n
     → byte (signed_word (signed_of n value) ++ rest) 0 ≤ 57

@@ -1,14 +1,18 @@
 -- Items that stand in a text one after the other, each after a space: the text shows which they are.
-use Rattle.std.proofs.Common.{◌≡◌, ◌≢◌, ◌⊎◌, inl, inr, ℕ, suc, zero, ◌+◌, ◌<◌, ◌≤◌, List, [], ◌∷◌, ◌++◌, length, append_assoc, refl, sym, ap, ◌∙◌, subst, arith}
+use Rattle.std.proofs.Common.{◌≡◌, ◌≢◌, ◌==◌, ◌⊎◌, inl, inr, ℕ, suc, zero, ◌+◌, ◌-◌, ◌<◌, ◌≤◌, Bool, Option, Some, None, List, [], ◌∷◌, ◌++◌, length, get_or, take, drop, length-drop, drop-cons, append_assoc, refl, sym, ap, ◌∙◌, subst, arith}
 use Rattle.std.specs.Prelude.{flat_map}
-use Rattle.std.specs.List.{All}
-use Rattle.std.proofs.lemmas.Bool.{cases_eq}
-use Rattle.std.proofs.lemmas.List.{append-nil, length-append}
+use Rattle.std.specs.List.{All, position}
+use Rattle.std.specs.Option.{unwrap_or}
+use Rattle.std.proofs.lemmas.Bool.{cases_eq, eqb-true}
+use Rattle.std.proofs.lemmas.List.{append-nil, length-append, take-append-drop}
+use Rattle.std.proofs.lemmas.List.Quantifiers.{position-Some}
+use Rattle.std.proofs.Math.Seq.{take-length}
+use Rattle.std.proofs.Math.ListN.{drop_of_length-le}
 use Rattle.std.proofs.lemmas.List.Concat.{flat_map-cons}
 use Rattle.std.proofs.lemmas.Grind.{flat_map-append}
-use Rattle.std.proofs.lemmas.List.Elements.{All-nil, All-cons, All-head, All-tail, All-push}
+use Rattle.std.proofs.lemmas.List.Elements.{All-nil, All-cons, All-from_get_or, All-head, All-push, All-tail, All-take}
 use Rattle.ht_entries.specs.ItemTexts.{spaced, AreTaken, HasNoItem, IsDelimited, IsNextItem, IsNextWord}
-use Rattle.ht_entries.proofs.SpaceLaws.{SameParts}
+use Rattle.ht_entries.proofs.SpaceLaws.{SameParts, first_space, has_no_space}
 
 abbrev pub IsNoSpace : ℕ → Type 0
 IsNoSpace byte = byte ≢ 32
@@ -52,6 +56,19 @@ pub record AreItems {A : Type 0} (text_of : A → List ℕ) (HasText : A → Typ
   pub begins : (x : A) → (more : List ℕ) × (text_of x ≡ 32 ∷ more)
   pub same : (x y : A) (rest more : List ℕ) → HasText x → HasText y → IsDelimited rest → IsDelimited more
       → text_of x ++ rest ≡ text_of y ++ more → SameItem x y rest more
+
+-- a text begins with some item
+pub record SomeItem {A : Type 0} (text_of : A → List ℕ) (HasText : A → Type 0) (text : List ℕ) : Type 0 where
+  pub item : A
+  pub after : List ℕ
+  pub is : IsNextItem text_of HasText text item after
+
+-- Items of a text, with nothing left that is one.
+pub record TakesAll {A : Type 0} (text_of : A → List ℕ) (HasText : A → Type 0) (text : List ℕ) : Type 0 where
+  pub xs : List A
+  pub rest : List ℕ
+  pub taken : AreTaken text_of HasText text xs rest
+  pub none : HasNoItem text_of HasText rest
 
 module _ {A : Type 0} (text_of : A → List ℕ) (HasText : A → Type 0) (are : AreItems text_of HasText) where
   pub item_delimits : (x : A) (rest : List ℕ) → IsDelimited (text_of x ++ rest)
@@ -138,28 +155,18 @@ module _ {A : Type 0} (text_of : A → List ℕ) (HasText : A → Type 0) (are :
 
   -- ---- whether bytes are items
 
-  abbrev pub SomeItem : List ℕ → Type 0
-  SomeItem text = (x : A) × ((rest : List ℕ) × IsNextItem text_of HasText text x rest)
-
-  -- Items of a text, with nothing left that is one.
-  pub record TakesAll (text : List ℕ) : Type 0 where
-    pub xs : List A
-    pub rest : List ℕ
-    pub taken : AreTaken text_of HasText text xs rest
-    pub none : HasNoItem text_of HasText rest
-
-  take_on : ((text : List ℕ) → SomeItem text ⊎ HasNoItem text_of HasText text) → (fuel : ℕ) (text rest : List ℕ)
-      (xs : List A) → length rest < fuel → AreTaken text_of HasText text xs rest → TakesAll text
+  take_on : ((text : List ℕ) → SomeItem text_of HasText text ⊎ HasNoItem text_of HasText text) → (fuel : ℕ) (text rest : List ℕ)
+      (xs : List A) → length rest < fuel → AreTaken text_of HasText text xs rest → TakesAll text_of HasText text
   take_on decide zero text rest xs enough taken = absurd (omega (arith, enough))
   take_on decide (suc fuel) text rest xs enough taken = elim (decide rest) [
     | inr none ↦ record { xs = xs; rest = rest; taken = taken; none = none }
-    | inl found ↦ take_on decide fuel text found.1.0 (xs ++ found.0 ∷ [])
-        (omega (arith, enough, taking_is_shorter rest found.1.0 found.0 found.1.1))
-        (one_taken text rest found.1.0 xs found.0 taken found.1.1)
+    | inl found ↦ take_on decide fuel text found.after (xs ++ found.item ∷ [])
+        (omega (arith, enough, taking_is_shorter rest found.after found.item found.is))
+        (one_taken text rest found.after xs found.item taken found.is)
   ]
 
-  pub take_all : ((text : List ℕ) → SomeItem text ⊎ HasNoItem text_of HasText text) → (text : List ℕ)
-      → TakesAll text
+  pub take_all : ((text : List ℕ) → SomeItem text_of HasText text ⊎ HasNoItem text_of HasText text) → (text : List ℕ)
+      → TakesAll text_of HasText text
   take_all decide text = take_on decide (suc (length text)) text text [] (omega arith) (none_taken text)
 
 -- ---- an item that is a word
@@ -245,3 +252,45 @@ word_or_not (x ∷ text) = elim (cases_eq x 32) [
         };
       })
 ]
+
+-- ---- the first word by the place of the first space
+
+abbrev is_space : ℕ → Bool
+is_space byte = byte == 32
+
+rest_is : (text : List ℕ) (k : ℕ) → take (length text - k) (drop k text) ≡ drop k text
+rest_is text k = ap (λ n. take n (drop k text)) (sym (length-drop k text)) ∙ take-length (drop k text)
+
+-- a text without a space
+all_plain : (text : List ℕ) → position is_space text ≡ None → All IsNoSpace text
+all_plain text none = All-from_get_or IsNoSpace text 0 (λ i below space.
+    has_no_space text none (take i text) (drop (suc i) text)
+    (sym (take-append-drop i text) ∙ ap (λ t. take i text ++ t) (drop-cons text i 0 below)
+    ∙ ap (λ x. take i text ++ x ∷ drop (suc i) text) space))
+
+word_before : (rest : List ℕ) (found : Option ℕ) → position is_space rest ≡ found
+    → All IsNoSpace (take (unwrap_or found (length rest)) rest)
+word_before rest None at = All-take IsNoSpace (length rest) rest (all_plain rest at)
+word_before rest (Some k) at = (first_space rest k at).before
+
+rest_delimits : (rest : List ℕ) (found : Option ℕ) → position is_space rest ≡ found
+    → IsDelimited (drop (unwrap_or found (length rest)) rest)
+rest_delimits rest None at = inl (drop_of_length-le rest (omega arith))
+rest_delimits rest (Some k) at =
+    let here = position-Some is_space rest k 0 at in
+    inr (
+      drop (suc k) rest,
+      drop-cons rest k 0 here.0 ∙ ap (λ x. x ∷ drop (suc k) rest) (eqb-true (get_or rest k 0) 32 here.1),
+    )
+
+pub first_word : (text rest : List ℕ) (end : ℕ) → text ≡ 32 ∷ rest
+    → end ≡ unwrap_or (position is_space rest) (length rest)
+    → IsNextWord text (take end rest) (take (length rest - end) (drop end rest))
+first_word text rest end is at =
+    subst (λ k. IsNextWord text (take k rest) (take (length rest - k) (drop k rest))) (sym at)
+    (let k = unwrap_or (position is_space rest) (length rest) in record {
+      parts = is ∙ ap (λ t. 32 ∷ t)
+          (sym (take-append-drop k rest) ∙ ap (λ t. take k rest ++ t) (sym (rest_is rest k)));
+      no_space = word_before rest (position is_space rest) refl;
+      ends = subst IsDelimited (sym (rest_is rest k)) (rest_delimits rest (position is_space rest) refl);
+    })
