@@ -40,7 +40,7 @@ signed_word literal = sign_text literal.value ++ decimal literal.variable
 
 -- a rail: its machine, its flip-flop and its bit
 abbrev pub rail_text : Rail → List ℕ
-rail_text rail = spaced machine_word rail.faulty ++ spaced decimal (rail.dff + 1) ++ spaced bit_word rail.value
+rail_text rail = spaced machine_word rail.faulty ++ (spaced decimal (rail.dff + 1) ++ spaced bit_word rail.value)
 
 -- ---- its lines
 
