@@ -150,7 +150,7 @@ cube_by bytes text is short all = elim (empty_or_not all.xs) [
     | inr more ↦ inr (no_cube bytes text all.rest all.xs is all.taken all.none (inr more))
     | inl end ↦
         let read = cube_is_read bytes text all.rest all.xs is all.taken end in
-        inl (all.xs, cube_has_text bytes all.xs short read all.taken.each some, read)
+        inl (all.xs, (cube_has_text bytes all.xs short read all.taken.each some, read))
   ]
 ]
 
@@ -172,7 +172,10 @@ hints_by text numbers is all = elim (empty_or_not all.xs) [
   | inl none ↦ inr (no_hints text numbers all.rest all.xs is all.taken all.none (inl none))
   | inr some ↦ elim (empty_or_not all.rest) [
     | inr more ↦ inr (no_hints text numbers all.rest all.xs is all.taken all.none (inr more))
-    | inl end ↦ inl (all.xs, are_hints all.xs all.taken.each some, hints_are_read text numbers all.rest all.xs is all.taken end)
+    | inl end ↦ inl (
+      all.xs,
+      (are_hints all.xs all.taken.each some, hints_are_read text numbers all.rest all.xs is all.taken end),
+    )
   ]
 ]
 
@@ -194,7 +197,10 @@ step_by bytes text is short all = elim (hints_or_not all.rest) [
   | inr none ↦ inr (no_step bytes text all.rest all.xs is all.taken all.none none)
   | inl found ↦
       let read = step_is_read bytes text all.rest all.xs found.0 is all.taken found.1.1 in
-      inl (step_of all.xs found.0, step_has_text bytes all.xs found.0 short read all.taken.each found.1.0, read)
+      inl (
+        step_of all.xs found.0,
+        (step_has_text bytes all.xs found.0 short read all.taken.each found.1.0, read),
+      )
 ]
 
 pub step_or_not : (bytes : List ℕ) → ((step : ClauseStep) × (IsStepText step × (bytes ≡ step_text step)))
