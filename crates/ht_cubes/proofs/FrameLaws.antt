@@ -68,7 +68,8 @@ module _ (nets : ℕ) (driven : Bool → ℕ → Tern) (comes : ℕ → Bool) wh
       let below : n < nets * 2 = omega (arith, low) in
       cond-true (nat_lt n (nets * 2)) _ _ (lt-ltb n (nets * 2) below)
       ∙ (ap (λ (m : ℕ). is_definitely (nat_eq m 1) (driven false (n / 2))) (mod-mul-add x 2 (bit_number bit) low)
-      ∙ (ap (λ (y : ℕ). is_definitely (nat_eq (bit_number bit) 1) (driven false y)) (div-mul-add x 2 (bit_number bit) low)
+      ∙ (ap (λ (y : ℕ). is_definitely (nat_eq (bit_number bit) 1) (driven false y))
+      (div-mul-add x 2 (bit_number bit) low)
       ∙ ap (λ (b : Bool). is_definitely b (driven false x)) (bit_back bit)))
 
   at_faulty : (x : ℕ) (bit : Bool) → x < nets
@@ -82,8 +83,10 @@ module _ (nets : ℕ) (driven : Bool → ℕ → Tern) (comes : ℕ → Bool) wh
       let back : x + nets - nets ≡ x = omega arith in
       cond-false (nat_lt n (nets * 2)) _ _ (le-ltb n (nets * 2) above)
       ∙ (cond-true (nat_lt n (nets * 4)) _ _ (lt-ltb n (nets * 4) below)
-      ∙ (ap (λ (m : ℕ). is_definitely (nat_eq m 1) (driven true (n / 2 - nets))) (mod-mul-add (x + nets) 2 (bit_number bit) low)
-      ∙ (ap (λ (y : ℕ). is_definitely (nat_eq (bit_number bit) 1) (driven true (y - nets))) (div-mul-add (x + nets) 2 (bit_number bit) low)
+      ∙ (ap (λ (m : ℕ). is_definitely (nat_eq m 1) (driven true (n / 2 - nets)))
+      (mod-mul-add (x + nets) 2 (bit_number bit) low)
+      ∙ (ap (λ (y : ℕ). is_definitely (nat_eq (bit_number bit) 1) (driven true (y - nets)))
+      (div-mul-add (x + nets) 2 (bit_number bit) low)
       ∙ (ap (λ (y : ℕ). is_definitely (nat_eq (bit_number bit) 1) (driven true y)) back
       ∙ ap (λ (b : Bool). is_definitely b (driven true x)) (bit_back bit)))))
 
@@ -91,7 +94,8 @@ module _ (nets : ℕ) (driven : Bool → ℕ → Tern) (comes : ℕ → Bool) wh
   frame_rail : (faulty : Bool) (x : ℕ) (bit : Bool) → x < nets
       → frame_values nets driven comes (rail_variable nets faulty x bit) ≡ is_definitely bit (driven faulty x)
   frame_rail false x bit inside =
-      ap (frame_values nets driven comes) (let e : 2 * x + bit_number bit + 1 ≡ suc (x * 2 + bit_number bit) = omega arith in e)
+      ap (frame_values nets driven comes)
+      (let e : 2 * x + bit_number bit + 1 ≡ suc (x * 2 + bit_number bit) = omega arith in e)
       ∙ at_good x bit inside
   frame_rail true x bit inside =
       ap (frame_values nets driven comes)
@@ -109,7 +113,7 @@ pins_tell values r t g keeps e f i (a ∷ args) h = (
   pins_tell values r t g keeps e f (i + 1) args (λ j l. h (suc j) (omega arith)),
 )
 
-flat_true : (P : List SignedVar → Type 0) (f : ℕ → List (List SignedVar)) (a n : ℕ)
+pub flat_true : (P : List SignedVar → Type 0) (f : ℕ → List (List SignedVar)) (a n : ℕ)
     → ((x : ℕ) → x < a + n → All P (f x)) → All P (flat_map f (range_with_len a n))
 flat_true P f a zero h = All-nil P
 flat_true P f a (suc n) h = All-append P (f a) (flat_map f (range_with_len (a + 1) n)) (h a (omega arith))
@@ -170,8 +174,10 @@ module _ (c : Netlist) (circuit : IsCircuit c) (fault : Fault) (cone : ℕ → B
       ≡ gate_value (gate_at c g).kind (pin_values (rules faulty) g (seen faulty) 0 (gate_at c g).args)
   unfolding gate_output
   gate_driven faulty g =
-      driven_gate c (rules faulty) (terns_of bits) (latches_of s faulty) (seen faulty) (first_gate_net c + g) (omega arith)
-      ∙ ap (λ (h : ℕ). gate_output c (rules faulty) (seen faulty) h) (let e : first_gate_net c + g - first_gate_net c ≡ g = omega arith in e)
+      driven_gate c (rules faulty) (terns_of bits) (latches_of s faulty) (seen faulty) (first_gate_net c + g)
+      (omega arith)
+      ∙ ap (λ (h : ℕ). gate_output c (rules faulty) (seen faulty) h)
+      (let e : first_gate_net c + g - first_gate_net c ≡ g = omega arith in e)
 
   next_latches : (faulty : Bool) → latches_of (next_joint c fault bits s) faulty
       ≡ next_state c (rules faulty) (terns_of bits) (latches_of s faulty)
@@ -194,7 +200,8 @@ module _ (c : Netlist) (circuit : IsCircuit c) (fault : Fault) (cone : ℕ → B
         → Tells values (forced (λ bit s. stuck_signal bit) (stuck_line fault faulty) here x)
         (forced (λ bit v. tern_of bit) (stuck_line fault faulty) here t)
     tells_line faulty here x t tells = forced_related (Tells values) (λ bit s. stuck_signal bit) (λ bit v. tern_of bit)
-        (λ bit y u r. tells_stuck values (always_true (net_count c) driven comes) bit) (stuck_line fault faulty) here x t
+        (λ bit y u r. tells_stuck values (always_true (net_count c) driven comes) bit)
+        (stuck_line fault faulty) here x t
         tells
 
     pub tells_net : (faulty : Bool) (x : ℕ) → x < net_count c
@@ -275,7 +282,8 @@ module _ (c : Netlist) (circuit : IsCircuit c) (fault : Fault) (cone : ℕ → B
 
     -- what a latch takes
     tells_next : (faulty : Bool) (j : ℕ) → j < length c.dffs
-        → Tells values (next_signal c fault cone faulty j) (get_or (latches_of (next_joint c fault bits s) faulty) j Unk)
+        → Tells values (next_signal c fault cone faulty j)
+        (get_or (latches_of (next_joint c fault bits s) faulty) j Unk)
     unfolding next_state
     tells_next faulty j inside bit =
         tells_line faulty (λ site. is_data_pin site j) (net_signal c fault cone faulty (get_or c.dffs j no_net).0)

@@ -173,8 +173,9 @@ unlike_bit true false e = refl
 unlike_bit false true e = refl
 unlike_bit false false e = cc
 
-choices_long : (n : ℕ) → All (λ (bits : List Bool). length bits ≡ n) (choices n)
-choices_long zero = All-cons (λ (bits : List Bool). length bits ≡ 0) [] [] refl (All-nil (λ (bits : List Bool). length bits ≡ 0))
+pub choices_long : (n : ℕ) → All (λ (bits : List Bool). length bits ≡ n) (choices n)
+choices_long zero = All-cons (λ (bits : List Bool). length bits ≡ 0) [] [] refl
+    (All-nil (λ (bits : List Bool). length bits ≡ 0))
 choices_long (suc n) =
     let one : (b : Bool) → All (λ (bits : List Bool). length bits ≡ suc n) (map (λ bits. b ∷ bits) (choices n)) =
     λ b. All-map (λ (bits : List Bool). length bits ≡ suc n) (λ bits. b ∷ bits) (choices n)

@@ -1,7 +1,17 @@
-mod OutsideLaws
+pub mod OutsideLaws
 pub mod RunLaws
-mod MeaningLaws
-mod StepLaws
-mod GateLaws
-mod FrameLaws
+pub mod MeaningLaws
+pub mod StepLaws
+pub mod GateLaws
+pub mod FrameLaws
 pub mod RefuteLaws
+pub mod StandingLaws
+pub mod ClashLaws
+pub mod HintLaws
+pub mod ConeLaws
+pub mod ListLaws
+pub mod PieceLaws
+pub mod BoundLaws
+pub mod TargetLaws
+pub mod BuildLaws
+pub mod PassLaws

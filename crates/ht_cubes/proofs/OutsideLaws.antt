@@ -64,7 +64,8 @@ module _ (c : Netlist) (circuit : IsCircuit c) (fault : Fault) (within : ℕ →
     pins_outside g e f i [] free h = refl
     pins_outside g e f i (a ∷ args) free h =
         let here : (tern_rules None).pin g i (e a.0) ≡ (tern_rules (Some fault)).pin g i (f a.0) =
-        never_stuck _ _ (e a.0) ∙ (h 0 (omega arith) ∙ sym (not_stuck _ fault (λ site. is_pin site g i) (f a.0) (free i))) in
+        never_stuck _ _ (e a.0) ∙ (h 0 (omega arith) ∙
+        sym (not_stuck _ fault (λ site. is_pin site g i) (f a.0) (free i))) in
         let rest = pins_outside g e f (i + 1) args free (λ j l. h (suc j) (omega arith)) in
         (λ k. here k ∷ rest k)
 

@@ -169,7 +169,8 @@ module _ (c : Netlist) (circuit : IsCircuit c) (fault : Fault) (start : List Ter
     target_excluded : (target : List SignedVar) → Contains (all_targets c fault h.cone cubes) target
         → ((comes : ℕ → Bool) → AllTrue (valued comes) target) → ⊥
     target_excluded target has all =
-        let may : may_come target ≡ true = comes_true (valued (λ n. false)) (zero_true (λ n. false)) target (all (λ n. false)) in
+        let may : may_come target ≡ true = comes_true (valued (λ n. false)) (zero_true (λ n. false)) target
+        (all (λ n. false)) in
         let inside = contains_filter may_come (all_targets c fault h.cone cubes) target has may in
         let k = inside.0 in
         let first = first_target c in

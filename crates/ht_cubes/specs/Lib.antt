@@ -5,3 +5,5 @@ pub mod Formula
 pub mod Steps
 pub mod Passing
 pub mod Examples
+pub mod Cones
+pub mod Values

@@ -59,18 +59,18 @@ cubes_have_text c circuit fault start cubes steps passes short =
       cubes = λ k d inside. record {
         some = avoided_some (both start) (get_or cubes k d) (passes.starts k d inside);
         each = λ i e below. omega (arith, (passes.known k d inside i e below).0, few);
-        short = short.cubes k d inside;
+        short = short.short_cubes k d inside;
       };
       steps = λ k d inside. record {
         literals = λ i e below. (
           (passes.within k d inside i e below).0,
-          (short.steps k d inside).variables i e below,
+          (short.short_steps k d inside).variables i e below,
         );
         hints = record {
-          each = λ i e below. ((hints k d inside).count i e below, (short.steps k d inside).hints i e below);
+          each = λ i e below. ((hints k d inside).count i e below, (short.short_steps k d inside).hints i e below);
           some = (hints k d inside).some;
         };
-        short = (short.steps k d inside).short;
+        short = (short.short_steps k d inside).short;
       };
       begun = λ e. some_cube cubes short.some e;
     }

@@ -25,8 +25,8 @@ pub record IsShortStep (step : ClauseStep) : Type 0 where
 -- There is a cube, and no line is too long.
 pub record AreShort (cubes : List (List Rail)) (steps : List ClauseStep) : Type 0 where
   pub some : 0 < length cubes
-  pub cubes : All (λ (cube : List Rail). IsShortProofLine (cube_text cube)) cubes
-  pub steps : All IsShortStep steps
+  pub short_cubes : All (λ (cube : List Rail). IsShortProofLine (cube_text cube)) cubes
+  pub short_steps : All IsShortStep steps
 
 -- The entry can be written, if it passes: its sets are in order, or its lines short.
 abbrev pub IsWritable : Entry → Type 0

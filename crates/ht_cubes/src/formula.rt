@@ -1,0 +1,95 @@
+//! The formula of a fault and a list of cubes.
+ghost use Rattle.std.specs.Prelude.{◌≡◌, ◌++◌, ◌+◌, ◌*◌, ◌<◌, ◌-◌, ◌^◌, [], length, IfOk, OnOk};
+ghost use Rattle.std.specs.List.{All, flat_map};
+ghost use Rattle.ht_net.specs.Netlist.{net_count};
+ghost use Rattle.ht_cubes.specs.Rails.{IsKnownRail};
+ghost use Rattle.ht_cubes.specs.Formula.{clauses_of, formula_of, last_variable, without_constants};
+ghost use Rattle.ht_cubes.specs.Cones.{marked};
+
+use crate::frame::push_frame;
+use crate::targets::{all_targets, is_constant, push_cubes, push_targets};
+use crate::{Cube, SignedVar};
+use ht_items::FlatRows;
+use ht_net::{Circuit, Fault};
+use std::alloc::{AllocError, Global};
+
+/// A formula: its clauses, numbered from 1, and the highest variable.
+#[derive(Drop)]
+pub(crate) struct Formula {
+    pub clauses: FlatRows<SignedVar>,
+    pub last: u32,
+}
+
+// Adds a clause without its constants, or nothing where one is true.
+fn push_plain(
+    alloc: Global,
+    rows: &mut FlatRows<SignedVar>,
+    clause: &[SignedVar],
+) -> Result<(), AllocError>
+    ensures { OnOk result (rows.new ≡ rows.old ++ without_constants clause.now) }
+{
+    let mut plain = Vec::new(alloc);
+    'literals: for literal in clause {
+        let holds = is_constant(true, *literal);
+        if holds {
+            return Ok(());
+        }
+        let fails = is_constant(false, *literal);
+        if !fails {
+            plain.push(*literal)?;
+        }
+    }
+    rows.push(&plain)
+}
+
+// The clauses without constants.
+fn without_constants(
+    alloc: Global,
+    clauses: &FlatRows<SignedVar>,
+) -> Result<FlatRows<SignedVar>, AllocError>
+    ensures { IfOk result (λ rows. rows ≡ flat_map without_constants clauses.now) }
+{
+    let mut rows = FlatRows::new(alloc);
+    'clauses: for i in 0..clauses.len() {
+        push_plain(alloc, &mut rows, clauses.row(i))?;
+    }
+    Ok(rows)
+}
+
+/// The formula of a fault and a list of cubes.
+///
+/// # Errors
+/// Out of memory, or 2^32 or more that stands in clauses.
+pub(crate) fn build(
+    alloc: Global,
+    circuit: &Circuit,
+    fault: Fault,
+    cone: &[bool],
+    cubes: &[Cube],
+) -> Result<Formula, AllocError>
+    requires known { All (All (IsKnownRail circuit.now (marked cone.now))) cubes.now }
+    requires cone { length cone.now ≡ net_count circuit.now }
+    ensures clauses { IfOk result
+        (λ f. f.clauses ≡ formula_of circuit.now fault (marked cone.now) cubes.now) }
+    ensures last { IfOk result
+        (λ f. f.last ≡ last_variable circuit.now fault (marked cone.now) cubes.now) }
+    ensures few { IfOk result (λ f. f.last < 2 ^ 32 - 1) }
+{
+    let rails = 4 * circuit.nets();
+    let mut rows = FlatRows::new(alloc);
+    push_frame(alloc, &mut rows, circuit, fault, cone)?;
+    push_cubes(alloc, &mut rows, circuit, cone, cubes)?;
+    let targets = all_targets(alloc, circuit, fault, cone, cubes)?;
+    let Ok(count) = u32::try_from(targets.len()) else {
+        return Err(AllocError);
+    };
+    if count >= u32::MAX - rails {
+        return Err(AllocError);
+    }
+    push_targets(alloc, &mut rows, rails + 1, &targets)?;
+    let clauses = without_constants(alloc, &rows)?;
+    Ok(Formula {
+        clauses,
+        last: rails + count,
+    })
+}

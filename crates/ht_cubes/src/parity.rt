@@ -1,0 +1,116 @@
+//! The clauses of parities.
+ghost use Rattle.std.specs.Prelude.{◌≡◌, ◌++◌, ◌∷◌, [], length, map, IfOk, OnOk};
+ghost use Rattle.ht_tern.specs.Gate.{bool_xor};
+ghost use Rattle.ht_cubes.specs.Formula.{choices, excluded, exclusions, needs, parity_clauses, parity_of, rail_of};
+
+use crate::{Signal, SignedVar};
+use ht_items::FlatRows;
+use std::alloc::{AllocError, Global};
+
+/// The most pins of a parity for which each choice of their bits has a clause.
+pub(crate) const MAX_PARITY_PINS: usize = 8;
+
+// Adds each row with a bit before it.
+fn push_after(
+    alloc: Global,
+    more: &mut FlatRows<bool>,
+    bit: bool,
+    rows: &FlatRows<bool>,
+) -> Result<(), AllocError>
+    ensures { OnOk result (more.new ≡ more.old ++ map (λ bits. bit ∷ bits) rows.now) }
+{
+    'rows: for i in 0..rows.len() {
+        let mut row = Vec::new(alloc);
+        row.push(bit)?;
+        row.extend_from_slice(rows.row(i))?;
+        more.push(&row)?;
+    }
+    Ok(())
+}
+
+// All lists of so many bits, by the binary numbers.
+fn choices(alloc: Global, count: usize) -> Result<FlatRows<bool>, AllocError>
+    ensures { IfOk result (λ rows. rows ≡ choices count) }
+{
+    let mut rows = FlatRows::new(alloc);
+    rows.push(&[])?;
+    for _n in 0..count {
+        let mut more = FlatRows::new(alloc);
+        push_after(alloc, &mut more, false, &rows)?;
+        push_after(alloc, &mut more, true, &rows)?;
+        rows = more;
+    }
+    Ok(rows)
+}
+
+// Whether bits have the other parity.
+fn has_other_parity(bit: bool, bits: &[bool]) -> bool
+    ensures { result ≡ bool_xor bit (parity_of bits.now) }
+{
+    let mut other = bit;
+    for b in bits {
+        if *b {
+            other = !other;
+        }
+    }
+    other
+}
+
+// The clause that excludes a choice of the pins' bits.
+fn push_exclusion(
+    alloc: Global,
+    rows: &mut FlatRows<SignedVar>,
+    rail: SignedVar,
+    pins: &[Signal],
+    bits: &[bool],
+) -> Result<(), AllocError>
+    requires { length bits.now ≡ length pins.now }
+    ensures { OnOk result (rows.new ≡ rows.old ++ needs rail (excluded pins.now bits.now) ∷ []) }
+{
+    let mut clause = Vec::new(alloc);
+    clause.push(rail.complement())?;
+    'pins: for (i, pin) in pins.iter().enumerate() {
+        clause.push(pin.rail(bits[i]).complement())?;
+    }
+    rows.push(&clause)
+}
+
+// What a parity at a bit excludes.
+fn push_exclusions(
+    alloc: Global,
+    rows: &mut FlatRows<SignedVar>,
+    bit: bool,
+    out: Signal,
+    pins: &[Signal],
+) -> Result<(), AllocError>
+    ensures { OnOk result (rows.new ≡ rows.old ++ exclusions bit out pins.now) }
+{
+    let all = choices(alloc, pins.len())?;
+    for i in 0..all.len() {
+        let bits = all.row(i);
+        let excludes = has_other_parity(bit, bits);
+        if excludes {
+            push_exclusion(alloc, rows, out.rail(bit), pins, bits)?;
+        }
+    }
+    Ok(())
+}
+
+/// What a parity at a bit needs.
+pub(crate) fn push_parity(
+    alloc: Global,
+    rows: &mut FlatRows<SignedVar>,
+    bit: bool,
+    out: Signal,
+    pins: &[Signal],
+) -> Result<(), AllocError>
+    ensures { OnOk result (rows.new ≡ rows.old ++ parity_clauses bit out pins.now) }
+{
+    'pins: for pin in pins {
+        rows.push(&[out.rail(bit).complement(), pin.zero, pin.one])?;
+    }
+    if pins.len() <= MAX_PARITY_PINS {
+        push_exclusions(alloc, rows, bit, out, pins)?;
+    }
+    Ok(())
+}
