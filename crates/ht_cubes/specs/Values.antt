@@ -5,10 +5,11 @@ use Rattle.ht_cubes.specs.declared.signed_var.SignedVar.{SignedVar}
 use Rattle.ht_cubes.specs.declared.standing.Standing.{Standing}
 use Rattle.ht_cubes.specs.declared.standing.Standing.TheVariants.{Open, Left, Failed}
 
--- A signed variable is true, or false, where the variables have these values.
+-- A signed variable is true where the variables have these values.
 abbrev pub IsTrueIn : List (Option Bool) → SignedVar → Type 0
 IsTrueIn values l = get_or values l.variable None ≡ Some l.value
 
+-- A signed variable is false where the variables have these values.
 abbrev pub IsFalseIn : List (Option Bool) → SignedVar → Type 0
 IsFalseIn values l = get_or values l.variable None ≡ Some (not l.value)
 
