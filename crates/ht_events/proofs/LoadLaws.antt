@@ -4,7 +4,6 @@ use Rattle.std.proofs.lemmas.Bool.Decides.{eqb_tells}
 use Rattle.std.proofs.lemmas.Grind.{get_or-set_at}
 use Rattle.std.proofs.lemmas.List.{get_or_default, get_or-set_other}
 use Rattle.std.proofs.lemmas.List.Elements.{Contains-get_or}
-use Rattle.ht_net.specs.Netlist.{Netlist}
 use Rattle.ht_events.specs.Items.{frame_items, item_count, ReadsNet, IsReader}
 use Rattle.ht_events.specs.FramePlans.{IsOffsetTable, reader_offset}
 use Rattle.ht_events.specs.Plans.{PlanState, AreApart, position_at}

@@ -8,8 +8,8 @@ use Rattle.std.proofs.lemmas.List.{length-map, get_or_default, get_or_past, take
 use Rattle.ht_net.specs.Netlist.{Netlist}
 use Rattle.ht_ranks.specs.Ranks.{AreRanked}
 use Rattle.ht_events.specs.declared.readers.NetRow.{NetRow}
-use Rattle.ht_events.specs.NetRows.{lists_of, readers_in, row_of, AreNetRows}
-use Rattle.ht_events.specs.Items.{frame_items, item_at, item_count, ReadsNet, reader_frame}
+use Rattle.ht_events.specs.NetRows.{lists_of, readers_in, AreNetRows}
+use Rattle.ht_events.specs.Items.{frame_items, item_at, item_count, reader_frame}
 use Rattle.ht_events.specs.FramePlans.{IsTable, IsOffsetTable, offset_among, reader_offset}
 use Rattle.ht_events.specs.Plans.{PlanState, AreApart, position_at}
 use Rattle.ht_events.proofs.ItemLaws.{item_frame, item_local, item_inside}
@@ -26,8 +26,7 @@ mapped_from f xs y c =
     let less = c.1 in
     let long = length-map xs f in
     let inside : k < length xs = omega (arith, less, long) in
-    let same : get_or (map f xs) k (f 0) ≡ get_or (map f xs) k y = get_or_default (map f xs) k (f 0) y less in
-    (
+    let same : get_or (map f xs) k (f 0) ≡ get_or (map f xs) k y = get_or_default (map f xs) k (f 0) y less in (
       get_or xs k 0,
       (k, inside, get_or_default xs k (get_or xs k 0) 0 inside),
       sym c.2 ∙ (sym same ∙ get_or-map f xs k 0),

@@ -1,4 +1,4 @@
-use Rattle.std.proofs.Common.{◌≡◌, ◌<◌, ℕ, get_or, set, ◌∙◌, ap, arith}
+use Rattle.std.proofs.Common.{ℕ, get_or, set, ◌∙◌, ap, arith}
 use Rattle.std.proofs.lemmas.List.{length-set, get_or_default}
 use Rattle.std.proofs.lemmas.List.Edits.{map_over_more}
 use Rattle.ht_events.specs.FramePlans.{offset_among}

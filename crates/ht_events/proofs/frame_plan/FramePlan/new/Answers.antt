@@ -1,4 +1,4 @@
-use Rattle.std.proofs.Common.{◌≡◌, ℕ, List, map, ◌∙◌, ap, arith, subst}
+use Rattle.std.proofs.Common.{ℕ, List, map, ◌∙◌, ap, arith, subst}
 use Rattle.ht_ranks.specs.Ranks.{AreRanked}
 use Rattle.ht_events.specs.FramePlans.{offset_among}
 use Rattle.ht_events.proofs.OffsetLaws.{placed_table}

@@ -1,4 +1,4 @@
-use Rattle.std.proofs.Common.{◌≡◌, ◌+◌, length, subst}
+use Rattle.std.proofs.Common.{length, subst}
 use Rattle.ht_ranks.specs.Ranks.{AreRanked}
 use Rattle.ht_events.specs.FramePlans.{FramePlanState}
 use Rattle.ht_events.specs.Plans.{PlanState, AreApart}
