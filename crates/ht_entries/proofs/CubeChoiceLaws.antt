@@ -70,10 +70,10 @@ signed_or_not word = elim (number_or_not word) [
       inl (value_is signed_word IsSignedText word (signed_of found.value true) found.has_text found.same)
   | inr no_plus ↦ elim (some_below (λ j. word ≡ signed_word (signed_of (j + 1) false))
       (λ j. same_or_not word (signed_word (signed_of (j + 1) false))) max_number) [
-    | inl found ↦ inl (value_is signed_word IsSignedText word (signed_of (found.0 + 1) false)
-        (omega arith, omega (arith, found.1)) found.2)
-    | inr no_minus ↦ inr (λ x. by_sign word no_plus no_minus x.variable x.value)
-  ]
+        | inl found ↦ inl (value_is signed_word IsSignedText word (signed_of (found.0 + 1) false)
+            (omega arith, omega (arith, found.1)) found.2)
+        | inr no_minus ↦ inr (λ x. by_sign word no_plus no_minus x.variable x.value)
+      ]
 ]
 
 -- ---- items
@@ -86,10 +86,10 @@ word_item_or_not word_of HasText plain decide text = elim (word_or_not text) [
   | inr none ↦ inr (no_space_no_item word_of HasText plain text none)
   | inl w ↦ elim (decide w.word) [
     | inl found ↦ inl (record {
-        item = found.value;
-        after = w.rest;
-        is = word_is_item word_of HasText plain text w.word w.rest found.value w.is found.same found.has_text;
-      })
+      item = found.value;
+      after = w.rest;
+      is = word_is_item word_of HasText plain text w.word w.rest found.value w.is found.same found.has_text;
+    })
     | inr none ↦ inr (no_word_no_item word_of HasText plain text w.word w.rest w.is none)
   ]
 ]
@@ -116,11 +116,11 @@ rail_or_not text = elim (machine_or_not text) [
     | inl number ↦ elim (bit_item_or_not number.after) [
       | inr none ↦ inr (no_bit_no_rail text machine.after number.after machine.item number.item machine.is number.is none)
       | inl bit ↦ inl (record {
-          item = rail_of machine.item (number.item - 1) bit.item;
-          after = bit.after;
-          is = rail_is_next text machine.after number.after bit.after machine.item number.item bit.item machine.is
-              number.is bit.is;
-        })
+        item = rail_of machine.item (number.item - 1) bit.item;
+        after = bit.after;
+        is = rail_is_next text machine.after number.after bit.after machine.item number.item bit.item machine.is
+            number.is bit.is;
+      })
     ]
   ]
 ]

@@ -154,8 +154,11 @@ from_state_not_cubes (form.Clause first second) (cubes.Step step) h k e = omega 
 pub sets_not_cubes : (x : BySetsLine) (y : ByCubesLine) → IsBySetsLine x → IsByCubesLine y
     → line_text (line.BySets x) ≡ line_text (line.ByCubes y) → ⊥
 sets_not_cubes (sets.Begins n) (cubes.Begins m) h k e =
-    omega (arith, ap (λ t. byte t 16)
-    (entry_rest n m (codes "undetectable by sets") (codes "undetectable by cubes") (h.1) (k.1) e).rests)
+    omega (
+      arith,
+      ap (λ t. byte t 16)
+          (entry_rest n m (codes "undetectable by sets") (codes "undetectable by cubes") (h.1) (k.1) e).rests,
+    )
 sets_not_cubes (sets.Begins n) (cubes.Never cube) h k e = omega (arith, ap (λ t. byte t 0) e)
 sets_not_cubes (sets.Begins n) (cubes.Step step) h k e = omega (arith, ap (λ t. byte t 0) e)
 sets_not_cubes (sets.Pairs row) (cubes.Begins m) h k e = omega (arith, ap (λ t. byte t 0) e)

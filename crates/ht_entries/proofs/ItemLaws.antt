@@ -213,12 +213,12 @@ split_word : (text : List ℕ) → SplitsWord text
 split_word [] = record { word = []; rest = []; parts = refl; no_space = All-nil IsNoSpace; ends = inl refl }
 split_word (x ∷ text) = elim (cases_eq x 32) [
   | inl space ↦ record {
-      word = [];
-      rest = x ∷ text;
-      parts = refl;
-      no_space = All-nil IsNoSpace;
-      ends = inr (text, ap (λ y. y ∷ text) space);
-    }
+    word = [];
+    rest = x ∷ text;
+    parts = refl;
+    no_space = All-nil IsNoSpace;
+    ends = inr (text, ap (λ y. y ∷ text) space);
+  }
   | inr other ↦
       let more = split_word text in
       record {

@@ -135,10 +135,7 @@ impl ByCubesPart {
 }
 
 // The part with one line more, or none where the line doesn't belong to it there.
-pub fn grow_by_cubes(
-    part: ByCubesPart,
-    line: &ProofLine,
-) -> Result<Option<ByCubesPart>, AllocError>
+pub fn grow_by_cubes(part: ByCubesPart, line: &ProofLine) -> Result<Option<ByCubesPart>, AllocError>
     ensures { IfOk result (λ grown. grown ≡ by_cubes.grow_by_cubes part line.now) }
 {
     match line {

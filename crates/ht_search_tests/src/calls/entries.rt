@@ -101,9 +101,16 @@ const BY_SETS_TEXT: Text = &[
 
 // forbidden cubes with steps, and without one
 const BY_CUBES_TEXT: Text = &[
-    &[b"entry 1 undetectable by cubes", b"never good 1 0", b"never good 1 1"],
+    &[
+        b"entry 1 undetectable by cubes",
+        b"never good 1 0",
+        b"never good 1 1",
+    ],
     &[b"step -12 3 by 6", b"step by 6 7 10 3 4 9 8 11"],
-    &[b"entry 2 undetectable by cubes", b"never faulty 4294967295 1 good 1 0"],
+    &[
+        b"entry 2 undetectable by cubes",
+        b"never faulty 4294967295 1 good 1 0",
+    ],
 ];
 
 const THIRD_TEXTS: &[Text] = &[BY_SETS_TEXT, BY_CUBES_TEXT];
