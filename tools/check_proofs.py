@@ -661,6 +661,7 @@ class Entry:
     def __init__(self, number, kind):
         self.number, self.kind = number, kind
         self.z, self.told, self.sweep, self.clauses, self.sets = [], [], [], [], {}
+        self.cubes, self.steps = [], []
         self.walk, self.aim, self.state = None, None, None
 
 
@@ -790,8 +791,182 @@ def closes(circuit, fault, start, sets):
     )
 
 
+# ---- forbidden cubes
+#
+# A rail is a machine, 0 for the good and 1 for the faulty one, a flip-flop and a bit: in this machine the flip-flop surely
+# holds the bit. A literal is the number of a variable, or its negative. TRUE and FALSE stand for a stuck line while clauses
+# are made, and for no variable.
+
+TRUE, FALSE = "true", "false"
+COMPLETE_PARITY = 8
+
+
+def opposite(literal):
+    """What is true where a literal is false."""
+    return {TRUE: FALSE, FALSE: TRUE}[literal] if literal in (TRUE, FALSE) else -literal
+
+
+def cone_of(circuit, site):
+    """The nets to which the effect of a stuck line can come."""
+    reading = [[] for _ in circuit.names]
+    for gate in circuit.gates:
+        for net in gate.arguments:
+            reading[net].append(gate.net)
+    for j, net in enumerate(circuit.data):
+        reading[net].append(circuit.inputs + j)
+    drives = {"stem": 0, "data": circuit.inputs, "pin": circuit.first_gate_net}[site[0]]
+    cone, found = set(), [drives + site[1]]
+    while found:
+        net = found.pop()
+        if net not in cone:
+            cone.add(net)
+            found += reading[net]
+    return cone
+
+
+class Formula:
+    """Clauses that say: one frame after a state of both machines that avoids all cubes, a cube comes about or an output
+    differs. `last` is the greatest variable."""
+
+    def __init__(self, circuit, fault, cubes):
+        self.circuit, self.fault, self.cone = circuit, fault, cone_of(circuit, fault.site)
+        self.clauses, self.last = [], 4 * len(circuit.names)
+        self.say_held()
+        for g in range(len(circuit.gates)):
+            self.say_gate(g)
+        for cube in cubes:
+            self.add(*(opposite(self.held(*rail)) for rail in cube))
+        self.say_some(self.targets(cubes))
+
+    def add(self, *literals):
+        if TRUE not in literals:
+            self.clauses.append({literal for literal in literals if literal != FALSE})
+
+    def driven(self, machine, net, bit):
+        """What drives a net is surely a bit. Outside the cone both machines have one variable for that."""
+        apart = machine and net in self.cone
+        return 2 * len(self.circuit.names) * apart + 2 * net + bit + 1
+
+    def held(self, machine, j, bit):
+        return self.driven(machine, self.circuit.inputs + j, bit)
+
+    def at(self, site, machine, literal, bit):
+        """A literal as it is seen at a site, which may be the one that is stuck."""
+        if machine and site == self.fault.site:
+            return TRUE if bit == self.fault.stuck else FALSE
+        return literal
+
+    def seen(self, machine, net, bit):
+        """The loads of a net see that it is surely a bit."""
+        return self.at(("stem", net), machine, self.driven(machine, net, bit), bit)
+
+    def taken(self, machine, j, bit):
+        """A flip-flop surely takes a bit for the next frame."""
+        return self.at(("data", j), machine, self.seen(machine, self.circuit.data[j], bit), bit)
+
+    def say_held(self):
+        for net in range(self.circuit.first_gate_net):
+            apart = net in self.cone and net >= self.circuit.inputs
+            for machine in (0, 1) if apart else (0,):
+                self.add(-self.driven(machine, net, 0), -self.driven(machine, net, 1))
+
+    def say_gate(self, g):
+        net = self.circuit.gates[g].net
+        self.say_gate_of(0, g)
+        if net in self.cone and self.fault.site != ("stem", net):
+            self.say_gate_of(1, g)
+
+    def say_gate_of(self, machine, g):
+        """What a gate's output needs of its pins, in one machine."""
+        net, kind, arguments = self.circuit.gates[g]
+        pins = [
+            [self.at(("pin", g, i), machine, self.seen(machine, argument, bit), bit) for bit in (0, 1)]
+            for i, argument in enumerate(arguments)
+        ]
+        before = [self.driven(machine, net, bit ^ (kind in INVERTING)) for bit in (0, 1)]
+        if len(pins) == 1:
+            for bit in (0, 1):
+                self.add(-before[bit], pins[0][bit])
+        elif kind in (b"XOR", b"XNOR"):
+            for bit in (0, 1):
+                self.say_parity(before[bit], pins, bit)
+        else:
+            control = int(kind in (b"OR", b"NOR"))
+            for pin in pins:
+                self.add(-before[1 - control], pin[1 - control])
+            self.add(-before[control], *(pin[control] for pin in pins))
+
+    def say_parity(self, output, pins, bit):
+        """An output that surely has this parity needs each pin to be sure, and excludes the choices of another parity."""
+        for pin in pins:
+            self.add(-output, *pin)
+        if len(pins) <= COMPLETE_PARITY:
+            for choice in itertools.product((0, 1), repeat=len(pins)):
+                if sum(choice) % 2 != bit:
+                    self.add(-output, *(opposite(pin[value]) for pin, value in zip(pins, choice)))
+
+    def targets(self, cubes):
+        """What must not come: each cube after the frame, and each way in which an output differs."""
+        yield from ([self.taken(*rail) for rail in cube] for cube in cubes)
+        for net in self.circuit.outputs:
+            if net in self.cone:
+                yield from ([self.seen(0, net, bit), self.seen(1, net, 1 - bit)] for bit in (0, 1))
+
+    def say_some(self, targets):
+        """Some target comes; those that can't have no variable."""
+        some = []
+        for target in targets:
+            if FALSE not in target:
+                self.last += 1
+                some.append(self.last)
+                for literal in target:
+                    self.add(-self.last, literal)
+        self.add(*some)
+
+
+def is_contradiction(clauses, facts, hints):
+    """Each hint but the last leaves one literal, which is true from there on; the last leaves none."""
+    facts = set(facts)
+    for place, hint in enumerate(hints, 1):
+        if not 1 <= hint <= len(clauses):
+            return False
+        left = [literal for literal in clauses[hint - 1] if -literal not in facts]
+        if place == len(hints):
+            return not left
+        if len(left) != 1 or left[0] in facts:
+            return False
+        facts.add(left[0])
+    return False
+
+
+def follow(clauses, steps):
+    """Each step, its literals and its hints, follows from the clauses and the steps before it."""
+    clauses = list(clauses)
+    for literals, hints in steps:
+        clause = set(literals)
+        if any(-literal in clause for literal in clause) or not is_contradiction(clauses, {-l for l in clause}, hints):
+            return False
+        clauses.append(clause)
+    return True
+
+
+def refute(circuit, fault, start, cubes, steps):
+    """The start avoids each cube, and the steps show that no vector leads to a cube or to a difference at an output."""
+    cone = cone_of(circuit, fault.site)
+    for machine, j, _ in itertools.chain(*cubes):
+        if j >= circuit.flip_flops or machine and circuit.inputs + j not in cone:
+            return False
+    if any(all(start[j] == bit for _, j, bit in cube) for cube in cubes):
+        return False
+    formula = Formula(circuit, fault, cubes)
+    known = all(abs(literal) <= formula.last for literals, _ in steps for literal in literals)
+    return bool(steps) and not steps[-1][0] and known and follow(formula.clauses, steps)
+
+
 def passes(circuit, fault, start, budget, entry):
     """Whether an entry shows what it says of its fault, from the start."""
+    if entry.cubes:
+        return refute(circuit, fault, start, entry.cubes, entry.steps)
     if entry.kind == b"undetectable":
         return closes(circuit, fault, start, entry.sets)
     if entry.state is not None:
@@ -817,7 +992,9 @@ def passes(circuit, fault, start, budget, entry):
 
 MAX_NUMBER = 4_294_967_295
 MAX_CLAUSES = 32
+MAX_LINE_BYTES = 1_048_576
 N, BITS = rb"([1-9][0-9]{0,9})", rb"(-|[01]{1,4096})"
+NUMBER = rb"[1-9][0-9]{0,9}"
 LINES = [
     (kind, re.compile(pattern))
     for kind, pattern in [
@@ -826,6 +1003,9 @@ LINES = [
         ("from", rb"entry " + N + rb" untestable from ([01]{1,16384})"),
         ("by_sets", rb"entry " + N + rb" undetectable by sets"),
         ("pairs", rb"pairs " + N + rb" ([01X]{2}(?: [01X]{2})*)"),
+        ("by_cubes", rb"entry " + N + rb" undetectable by cubes"),
+        ("never", rb"never((?: (?:good|faulty) " + NUMBER + rb" [01])+)"),
+        ("step", rb"step((?: -?" + NUMBER + rb")*) by((?: " + NUMBER + rb")+)"),
         ("clause", rb"clause " + N + rb" ([01])"),
         ("clause", rb"clause " + N + rb" ([01]) " + N + rb" ([01])"),
         ("z", rb"z " + N),
@@ -845,7 +1025,7 @@ LINES = [
 ]
 # Which lines may come where: by what was read last, the lines that may follow. A walk is one of a refutation or of an
 # aborted entry.
-ENDS_ENTRY = {"entry", "from", "by_sets", "end"}
+ENDS_ENTRY = {"entry", "from", "by_sets", "by_cubes", "end"}
 FOLLOWS = {
     "nothing": {"proofs"},
     "proofs": ENDS_ENTRY,
@@ -856,6 +1036,9 @@ FOLLOWS = {
     "late z": {"z", "walk"},
     "by_sets": {"pairs"} | ENDS_ENTRY,
     "pairs": {"pairs"} | ENDS_ENTRY,
+    "by_cubes": {"never"},
+    "never": {"never", "step"} | ENDS_ENTRY,
+    "step": {"step"} | ENDS_ENTRY,
     "aborted": {"frame", "walk", "aim", "sweep"},
     "frame": {"set", "frame", "walk", "aim", "sweep"},
     "walk": {"token", "aim", "sweep"},
@@ -879,6 +1062,7 @@ def is_bits(kind, at):
 
 def parse_line(line):
     """The kind of a line and its parts: numbers as such, words and bits as bytes."""
+    require(len(line) <= MAX_LINE_BYTES)
     for kind, pattern in LINES:
         match = pattern.fullmatch(line)
         if match:
@@ -887,6 +1071,13 @@ def parse_line(line):
                 raise Malformed
             return kind, parts
     raise Malformed
+
+
+def numbers_of(words):
+    """Numbers after spaces, some negative."""
+    numbers = [int(word) for word in words.split()]
+    require(all(abs(number) <= MAX_NUMBER for number in numbers))
+    return numbers
 
 
 def require(holds):
@@ -935,6 +1126,19 @@ class ProofReader:
         require(not self.entry.sets or j - 1 > next(reversed(self.entry.sets)))
         require(pairs == sorted(set(pairs)))
         self.entry.sets[j - 1] = set_of(*pairs)
+
+    def take_by_cubes(self, number):
+        require(self.format >= 3)
+        self.take_entry(number, b"undetectable")
+
+    def take_never(self, words):
+        rails = words.split()
+        flip_flops = numbers_of(b" ".join(rails[1::3]))
+        machines = [(b"good", b"faulty").index(word) for word in rails[0::3]]
+        self.entry.cubes.append([(m, j - 1, int(bit)) for m, j, bit in zip(machines, flip_flops, rails[2::3])])
+
+    def take_step(self, literals, hints):
+        self.entry.steps.append((numbers_of(literals), numbers_of(hints)))
 
     def take_clause(self, *parts):
         literals = [(j - 1, bit) for j, bit in zip(parts[0::2], parts[1::2])]

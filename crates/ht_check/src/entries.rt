@@ -8,6 +8,7 @@ use crate::abort_records::is_abort_record;
 use crate::kept_frames::KeptFrames;
 use crate::refutations::refutes;
 use crate::refutations_from::refutes_from;
+use ht_cubes::refuted;
 use ht_families::closes_by_rows;
 use ht_net::{Circuit, Fault};
 use ht_tern::Tern;
@@ -27,8 +28,10 @@ use std::alloc::{AllocError, Global};
 /// vectors detects the fault from all-unknown (`IsUntestableFrom`).
 ///
 /// An undetectable entry by sets passes where its rows rise and are of the circuit's flip-flops, and the family that
-/// they give with the start closes. Then no list of vectors detects the fault, from the start or from all-unknown
-/// (`IsUndetectable`). Entries of the other forms don't look at the start.
+/// they give with the start closes. One by cubes passes where its rails are known, the start avoids each cube, and its
+/// steps show that no vector leads to a cube or to a difference at an output (`RefutesByCubes`). Then no list of vectors
+/// detects the fault, from the start or from all-unknown (`IsUndetectable`). Entries of the other forms don't look at
+/// the start.
 ///
 /// An aborted entry passes where its frames are a told chain, and each of its searches closed or filled the budget: the
 /// walk after the chain, the aim at the first frame, and the sweep (`IsAbortRecord`). Then each set that seals the
@@ -107,6 +110,14 @@ pub fn entry_by_frames(
         Entry::UndetectableBySets { rows } => {
             closes_by_rows(alloc, kept.circuit(), fault, start, rows.as_slice())
         }
+        Entry::UndetectableByCubes { cubes, steps } => refuted(
+            alloc,
+            kept.circuit(),
+            fault,
+            start,
+            cubes.as_slice(),
+            steps.as_slice(),
+        ),
         Entry::Aborted {
             told,
             walk,

@@ -1,4 +1,5 @@
 pub mod Rails
+pub mod Undetectable
 pub mod Cubes
 pub mod Formula
 pub mod Steps

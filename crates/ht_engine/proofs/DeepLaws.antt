@@ -7,7 +7,7 @@ use Rattle.ht_net.specs.Detection.{IsStart, state_from}
 use Rattle.ht_net.specs.Netlist.{Netlist}
 use Rattle.ht_net.specs.Rows.{Rows}
 use Rattle.ht_tree.specs.declared.entry.Entry.{Entry}
-use Rattle.ht_tree.specs.declared.entry.Entry.TheVariants.{Untestable, UntestableFrom, UndetectableBySets, Aborted}
+use Rattle.ht_tree.specs.declared.entry.Entry.TheVariants.{Untestable, UntestableFrom, UndetectableBySets, UndetectableByCubes, Aborted}
 use Rattle.ht_tree.specs.Windows as window
 use Rattle.ht_events.specs.Plans.{max_frames}
 use Rattle.ht_forward.specs.AheadSearches.{IsListAhead}
@@ -42,6 +42,7 @@ open_work c fault budget invariant under (work.List list) is = (under, is)
 open_work c fault budget invariant under (work.Entry (Untestable z tokens)) is = absurd is
 open_work c fault budget invariant under (work.Entry (UntestableFrom state clauses z tokens)) is = absurd is
 open_work c fault budget invariant under (work.Entry (UndetectableBySets rows)) is = absurd is
+open_work c fault budget invariant under (work.Entry (UndetectableByCubes cubes steps)) is = absurd is
 open_work c fault budget invariant under (work.Entry (Aborted told walk aim walks)) is = (under, is)
 
 -- ---- what the deep work gives
@@ -52,6 +53,7 @@ module _ (c : Netlist) (fault : Fault) (settings : Settings) (states : window.St
   refuted_deep (Untestable z tokens) is refutes = is
   refuted_deep (UntestableFrom state clauses z tokens) is refutes = is
   refuted_deep (UndetectableBySets rows) is refutes = absurd is
+  refuted_deep (UndetectableByCubes cubes steps) is refutes = absurd is
   refuted_deep (Aborted told walk aim walks) is refutes = absurd (aborted_is_other refutes)
 
   pub open_deep : StaysOpen c fault settings.budget invariant.clauses → (w : Work)
@@ -60,6 +62,7 @@ module _ (c : Netlist) (fault : Fault) (settings : Settings) (states : window.St
   open_deep under (work.Entry (Untestable z tokens)) is = absurd is.1
   open_deep under (work.Entry (UntestableFrom state clauses z tokens)) is = absurd is.1
   open_deep under (work.Entry (UndetectableBySets rows)) is = (under, is)
+  open_deep under (work.Entry (UndetectableByCubes cubes steps)) is = (under, is)
   open_deep under (work.Entry (Aborted told walk aim walks)) is = (under, is)
 
 -- ---- the sweep from the states reached
@@ -71,6 +74,7 @@ module _ (c : Netlist) (fault : Fault) (settings : Settings) (states : window.St
   spent_is (Untestable z tokens) is spends = absurd is
   spent_is (UntestableFrom state clauses z tokens) is spends = absurd is
   spent_is (UndetectableBySets rows) is spends = absurd is
+  spent_is (UndetectableByCubes cubes steps) is spends = absurd is
   spent_is (Aborted told walk aim walks) is spends = (none, is, spends)
 
   pub onward_is : (entry : Entry) → IsListWork c fault settings.budget (work.Entry entry) → (w : Work)

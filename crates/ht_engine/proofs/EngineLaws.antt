@@ -275,6 +275,7 @@ work_is_allowed c fault start budget invariant found (entries.Untestable z token
 work_is_allowed c fault start budget invariant found (entries.UntestableFrom state clauses z tokens) given =
     subst (Allows start) (sym (given.under.same_state ∙ found.state)) (some_allowed start)
 work_is_allowed c fault start budget invariant found (entries.UndetectableBySets rows) given = tt
+work_is_allowed c fault start budget invariant found (entries.UndetectableByCubes cubes steps) given = tt
 work_is_allowed c fault start budget invariant found (entries.Aborted told walk aim walks) given = tt
 
 -- so does that of the deep work
@@ -286,6 +287,7 @@ deep_is_allowed c fault settings states invariant found (entries.UntestableFrom 
     work_is_allowed c fault settings.start settings.budget invariant found
     (entries.UntestableFrom state clauses z tokens) given
 deep_is_allowed c fault settings states invariant found (entries.UndetectableBySets rows) given = tt
+deep_is_allowed c fault settings states invariant found (entries.UndetectableByCubes cubes steps) given = tt
 deep_is_allowed c fault settings states invariant found (entries.Aborted told walk aim walks) given = tt
 
 is_allowed : (search : Search) (c : Netlist) (fault : Fault) (settings : Settings) (before : List (List Bool))

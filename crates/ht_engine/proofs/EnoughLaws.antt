@@ -8,7 +8,7 @@ use Rattle.ht_net.proofs.MoreToldLaws.{unknown_is_start}
 use Rattle.ht_tree.specs.declared.clause.Clause.{Clause}
 use Rattle.ht_tree.specs.declared.clause.Literal.{Literal}
 use Rattle.ht_tree.specs.declared.entry.Entry.{Entry}
-use Rattle.ht_tree.specs.declared.entry.Entry.TheVariants.{Untestable, UntestableFrom, UndetectableBySets, Aborted}
+use Rattle.ht_tree.specs.declared.entry.Entry.TheVariants.{Untestable, UntestableFrom, UndetectableBySets, UndetectableByCubes, Aborted}
 use Rattle.ht_tree.specs.declared.kind.EntryKind.TheVariants as kinds
 use Rattle.ht_tree.specs.declared.token.Token.{Token}
 use Rattle.ht_tree.specs.declared.told.Told.{Told}
@@ -93,6 +93,7 @@ module _ (c : Netlist) (fault : Fault) (budget : ℕ) (circuit : IsCircuit c) wh
   refuted_undetected (UntestableFrom state clauses z tokens) passes is = (passing_means c (unknown_state c) fault budget
       (UntestableFrom state clauses z tokens) circuit (unknown_is_start c) (passes (unknown_state c))).undetected
   refuted_undetected (UndetectableBySets rows) passes is = absurd (undetectable_is_other is)
+  refuted_undetected (UndetectableByCubes cubes steps) passes is = absurd (undetectable_is_other is)
   refuted_undetected (Aborted told walk aim walks) passes is = absurd (aborted_is_other is)
 
   pub enough_refuted : (clauses : List Clause) (entry : Entry) → PassesAlways c fault budget entry
@@ -113,6 +114,7 @@ module _ (c : Netlist) (fault : Fault) (budget : ℕ) (circuit : IsCircuit c) wh
   short_found (work.Entry (Untestable z tokens)) is holds d list t o few detects large = is
   short_found (work.Entry (UntestableFrom state clauses z tokens)) is holds d list t o few detects large = is
   short_found (work.Entry (UndetectableBySets rows)) is holds d list t o few detects large = is
+  short_found (work.Entry (UndetectableByCubes cubes steps)) is holds d list t o few detects large = is
   short_found (work.Entry (Aborted told walk aim walks)) is holds d list t o few detects large = enough_undetected c
       fault budget d (record { told = told; walk = walk; aim = aim; sweep = walks }) circuit large
       (holds (unknown_state c)) list few t o detects
@@ -129,6 +131,9 @@ module _ (c : Netlist) (fault : Fault) (budget : ℕ) (circuit : IsCircuit c) wh
   deep_found settings states latches same (work.Entry (UndetectableBySets rows)) is holds d list t o few detects large =
       closed_undetected c fault settings.start (family_of settings.start rows) is.rows_are.least.closes latches list t o
       detects
+  deep_found settings states latches same (work.Entry (UndetectableByCubes cubes steps)) is holds d list t o few detects
+      large =
+      absurd is.1
   deep_found settings states latches same (work.Entry (Aborted told walk aim walks)) is holds d list t o few detects large =
       enough_undetected c fault budget d (record { told = told; walk = walk; aim = aim; sweep = walks }) circuit large
       (subst (λ (b : ℕ). IsAbortRecord c fault b (record { told = told; walk = walk; aim = aim; sweep = walks })) same
@@ -150,6 +155,7 @@ pub entry_refutes : (c : Netlist) (fault : Fault) (budget : ℕ) (invariant : In
 entry_refutes c fault budget invariant (Untestable z tokens) is = absurd is
 entry_refutes c fault budget invariant (UntestableFrom state clauses z tokens) is = refl
 entry_refutes c fault budget invariant (UndetectableBySets rows) is = absurd is
+entry_refutes c fault budget invariant (UndetectableByCubes cubes steps) is = absurd is
 entry_refutes c fault budget invariant (Aborted told walk aim walks) is = absurd is
 
 -- what these rounds give is what the work gives
@@ -160,4 +166,5 @@ entry_is_work c fault budget invariant told walk left (Untestable z tokens) is =
 entry_is_work c fault budget invariant told walk left (UntestableFrom state clauses z tokens) is =
     record { told = told; walk = walk; rounds = left.rounds; under = is }
 entry_is_work c fault budget invariant told walk left (UndetectableBySets rows) is = absurd is
+entry_is_work c fault budget invariant told walk left (UndetectableByCubes cubes steps) is = absurd is
 entry_is_work c fault budget invariant told walk left (Aborted told' walk' aim walks) is = absurd is

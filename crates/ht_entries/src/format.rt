@@ -23,7 +23,7 @@ impl Format {
         match part {
             EntryPart::Untestable { .. } | EntryPart::Aborted { .. } => true,
             EntryPart::FromState(_) => matches!(self, Format::Two | Format::Three),
-            EntryPart::BySets { .. } => matches!(self, Format::Three),
+            EntryPart::BySets { .. } | EntryPart::ByCubes(_) => matches!(self, Format::Three),
         }
     }
 }

@@ -1,8 +1,8 @@
 //! The proofs text: the entries of faults as lines, written and read.
 //!
 //! A text has one of three formats, which its first line names. The first has refutations and aborts, the second also
-//! refutations from one named state (`specs/FromState`), and the third also faults that sets of pairs show undetectable
-//! (`specs/BySets`).
+//! refutations from one named state (`specs/FromState`), and the third also faults that sets of pairs or forbidden
+//! cubes show undetectable (`specs/BySets`, `specs/ByCubes`).
 //!
 //! `specs/ProofLines` has the text of one line, `specs/EntryLines` the lines of an entry and of a whole text, and
 //! `specs/EntryTexts` says which entries have a text, and what the text doesn't show of them. A `ProofReader` takes a
@@ -12,6 +12,7 @@
 #![tactic(auto)]
 
 mod aim;
+mod by_cubes;
 mod by_sets;
 mod entry_part;
 mod entry_text;
@@ -20,6 +21,7 @@ mod from_state;
 mod grow;
 mod limits;
 mod numbered;
+mod parse_items;
 mod parse_line;
 mod parse_vector;
 mod parse_words;
@@ -36,6 +38,7 @@ mod told;
 mod write_line;
 mod write_lists;
 
+pub use by_cubes::ByCubesLine;
 pub use by_sets::BySetsLine;
 pub use entry_text::write_entry;
 pub use format::Format;

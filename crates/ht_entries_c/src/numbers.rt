@@ -1,5 +1,6 @@
 //! Entries as rows of numbers: each list by its length and its members, each choice by its number from 0.
 use crate::pairs::{count, holds};
+use ht_cubes::{ClauseStep, Cube, Rail, SignedVar};
 use ht_items::Items;
 use ht_net::Vectors;
 use ht_pairs::PairSet;
@@ -169,8 +170,43 @@ fn push_rows(row: &mut Vec<u64>, rows: &[FamilyRow]) -> Result<(), AllocError> {
     Ok(())
 }
 
+fn push_cube(row: &mut Vec<u64>, cube: &[Rail]) -> Result<(), AllocError> {
+    row.push(cube.len() as u64)?;
+    for rail in cube {
+        row.push(u64::from(rail.faulty))?;
+        row.push(u64::from(rail.dff))?;
+        row.push(u64::from(rail.value))?;
+    }
+    Ok(())
+}
+
+fn push_cubes(row: &mut Vec<u64>, cubes: &[Cube]) -> Result<(), AllocError> {
+    row.push(cubes.len() as u64)?;
+    for cube in cubes {
+        push_cube(row, cube.as_slice())?;
+    }
+    Ok(())
+}
+
+fn push_step(row: &mut Vec<u64>, step: &ClauseStep) -> Result<(), AllocError> {
+    row.push(step.literals.as_slice().len() as u64)?;
+    for literal in step.literals.as_slice() {
+        row.push(u64::from(literal.value))?;
+        row.push(u64::from(literal.variable))?;
+    }
+    push_numbers(row, step.hints.as_slice())
+}
+
+fn push_steps(row: &mut Vec<u64>, steps: &[ClauseStep]) -> Result<(), AllocError> {
+    row.push(steps.len() as u64)?;
+    for step in steps {
+        push_step(row, step)?;
+    }
+    Ok(())
+}
+
 /// Appends the numbers of an entry: 0 and an untestable one, 1 and an aborted one, 2 and an untestable one from a state,
-/// or 3 and an undetectable one by sets.
+/// 3 and an undetectable one by sets, or 4 and one by cubes.
 pub fn push_entry(row: &mut Vec<u64>, entry: &Entry) -> Result<(), AllocError> {
     match entry {
         Entry::Untestable { z, tokens } => {
@@ -193,6 +229,11 @@ pub fn push_entry(row: &mut Vec<u64>, entry: &Entry) -> Result<(), AllocError> {
         Entry::UndetectableBySets { rows } => {
             row.push(3)?;
             push_rows(row, rows.as_slice())
+        }
+        Entry::UndetectableByCubes { cubes, steps } => {
+            row.push(4)?;
+            push_cubes(row, cubes.as_slice())?;
+            push_steps(row, steps.as_slice())
         }
         Entry::Aborted {
             told,

@@ -1,5 +1,6 @@
 //! Entries from rows of numbers: each list by its length and its members, each choice by its number from 0.
 use crate::pairs::single;
+use ht_cubes::{ClauseStep, Cube, Rail, SignedVar};
 use ht_items::Items;
 use ht_net::Vectors;
 use ht_pairs::PairSet;
@@ -244,12 +245,65 @@ fn take_by_sets(alloc: Global, row: &mut Row) -> Result<Entry, AllocError> {
     })
 }
 
+fn take_rail(row: &mut Row) -> Result<Rail, AllocError> {
+    let faulty = row.next()? == 1;
+    let dff = row.next_u32()?;
+    let value = row.next()? == 1;
+    Ok(Rail { faulty, dff, value })
+}
+
+fn take_cube(alloc: Global, row: &mut Row) -> Result<Cube, AllocError> {
+    let mut rails = Vec::new(alloc);
+    for _ in 0..row.next()? {
+        let rail = take_rail(row)?;
+        rails.push(rail)?;
+    }
+    Ok(Items::from_vec(rails))
+}
+
+fn take_cubes(alloc: Global, row: &mut Row) -> Result<Items<Cube>, AllocError> {
+    let mut cubes = Vec::new(alloc);
+    for _ in 0..row.next()? {
+        let cube = take_cube(alloc, row)?;
+        cubes.push(cube)?;
+    }
+    Ok(Items::from_vec(cubes))
+}
+
+// Signed variables, each by its value and its number.
+fn take_signed(alloc: Global, row: &mut Row) -> Result<Items<SignedVar>, AllocError> {
+    let mut literals = Vec::new(alloc);
+    for _ in 0..row.next()? {
+        let value = row.next()? == 1;
+        let variable = row.next_u32()?;
+        literals.push(SignedVar { variable, value })?;
+    }
+    Ok(Items::from_vec(literals))
+}
+
+fn take_steps(alloc: Global, row: &mut Row) -> Result<Items<ClauseStep>, AllocError> {
+    let mut steps = Vec::new(alloc);
+    for _ in 0..row.next()? {
+        let literals = take_signed(alloc, row)?;
+        let hints = take_numbers(alloc, row)?;
+        steps.push(ClauseStep { literals, hints })?;
+    }
+    Ok(Items::from_vec(steps))
+}
+
+fn take_by_cubes(alloc: Global, row: &mut Row) -> Result<Entry, AllocError> {
+    let cubes = take_cubes(alloc, row)?;
+    let steps = take_steps(alloc, row)?;
+    Ok(Entry::UndetectableByCubes { cubes, steps })
+}
+
 /// The next entry of a row.
 pub fn take_entry(alloc: Global, row: &mut Row) -> Result<Entry, AllocError> {
     match row.next()? {
         0 => take_untestable(alloc, row),
         1 => take_aborted(alloc, row),
         2 => take_untestable_from(alloc, row),
-        _ => take_by_sets(alloc, row),
+        3 => take_by_sets(alloc, row),
+        _ => take_by_cubes(alloc, row),
     }
 }

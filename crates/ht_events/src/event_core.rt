@@ -149,13 +149,13 @@ impl<'c> Core<'c> {
     {
         let plan = &self.plan;
         let marks = &mut self.marks;
-        let frames = plan.frames();
-        let dffs = plan.dffs();
-        for local in plan.readers(net) {
-            // a flip-flop reads the frame before its own
-            let at = if *local < dffs { frame + 1 } else { frame };
-            if at < frames {
-                marks.insert(plan.local_position(at, *local));
+        let first = plan.first_position(frame);
+        let items = plan.items();
+        for offset in plan.load_offsets(net) {
+            // a flip-flop of the frame after the last stands past all items
+            let position = first + *offset;
+            if position < items {
+                marks.insert(position);
             }
         }
     }

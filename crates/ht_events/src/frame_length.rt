@@ -63,6 +63,10 @@ impl FrameLength {
         ensures frame { result.0 ≡ item / self.now }
         ensures local { result.1 ≡ item % self.now }
     {
+        // most windows have one frame
+        if item < self.items {
+            return (0, item);
+        }
         let frame = (item as u64 * self.reciprocal / SCALE) as u32;
         (frame, item - frame * self.items)
     }

@@ -3,7 +3,7 @@ ghost use Rattle.std.specs.Prelude.{◌≡◌, ◌<◌, ◌*◌, [], IfOk, lengt
 ghost use Rattle.ht_net.specs.Netlist.{IsCircuit, net_count};
 ghost use Rattle.ht_ranks.specs.Ranks.{AreRanked};
 ghost use Rattle.ht_events.specs.Items.{frame_items, frame_of, local_of, driven_net};
-ghost use Rattle.ht_events.specs.FramePlans.{IsTable};
+ghost use Rattle.ht_events.specs.FramePlans.{IsOffsetTable};
 
 use crate::frame_length::FrameLength;
 use crate::plan::MAX_FRAMES;
@@ -18,7 +18,7 @@ use std::marker::Model;
 #[derive(Drop)]
 pub struct FramePlan<'c> {
     circuit: &'c Circuit,
-    // for each net the items of a frame that read it
+    // for each net the items that read it, by how far they stand from the first position of its frame
     readers: Readers,
     // the items of a frame in the order in which they are fired, and the rank of each there
     order: Vec<u32>,
@@ -53,13 +53,16 @@ impl<'c> FramePlan<'c> {
     {
         // for the proof: the circuit is well formed
         let _ = circuit.nets();
-        let (order, ranks) = ranking(alloc, circuit, circuit.dffs())?;
+        let dffs = circuit.dffs();
+        let (order, ranks) = ranking(alloc, circuit, dffs)?;
+        let mut readers = Readers::new(alloc, circuit)?;
+        readers.place(&ranks, dffs);
         Ok(FramePlan {
             circuit,
-            readers: Readers::new(alloc, circuit)?,
+            readers,
             order,
             ranks,
-            frame_length: FrameLength::new(circuit.dffs() + circuit.gates()),
+            frame_length: FrameLength::new(dffs + circuit.gates()),
         })
     }
 
@@ -122,11 +125,13 @@ impl<'c> FramePlan<'c> {
         self.order[rank as usize]
     }
 
-    /// The items of a frame that read a net.
-    pub fn readers(&self, net: NetId) -> &[u32]
+    /// How far from the first position of a frame the items stand that read a net of it.
+    pub fn load_offsets(&self, net: NetId) -> &[u32]
         requires { net.0 < net_count self.now.circuit }
-        ensures readers { result.now ≡ get_or self.now.readers net.0 [] }
-        ensures table { IsTable self.now.circuit self.now.readers }
+        ensures offsets { result.now ≡ get_or self.now.readers net.0 [] }
+        ensures table { IsOffsetTable self.now.circuit self.now.ranks self.now.readers }
+        ensures ranking { AreRanked self.now.circuit (length self.now.circuit.dffs) self.now.order
+            self.now.ranks }
     {
         self.readers.row(net)
     }

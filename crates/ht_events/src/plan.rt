@@ -1,9 +1,9 @@
 //! What reads what, and in which order items are fired.
-ghost use Rattle.std.specs.Prelude.{◌≡◌, ℕ, ◌<◌, ◌≤◌, ◌-◌, ◌^◌, [], length, get_or};
+ghost use Rattle.std.specs.Prelude.{◌≡◌, ℕ, ◌<◌, ◌≤◌, ◌+◌, ◌-◌, ◌*◌, ◌^◌, [], length, get_or};
 ghost use Rattle.ht_net.specs.Netlist.{IsCircuit, net_count};
 ghost use Rattle.ht_events.specs.Items.{IsLoad, frame_items, item_at, item_count, frame_of, local_of, driven_net};
-ghost use Rattle.ht_events.specs.FramePlans.{IsTable};
-ghost use Rattle.ht_events.specs.Plans.{StandsAt, position_at};
+ghost use Rattle.ht_events.specs.FramePlans.{IsOffsetTable};
+ghost use Rattle.ht_events.specs.Plans.{AreApart, StandsAt, position_at};
 
 use crate::frame_plan::FramePlan;
 use ht_net::NetId;
@@ -63,13 +63,6 @@ impl<'c> Plan<'c> {
         ensures few { result < 2 ^ 32 - 1 }
     {
         self.frames * self.frame_plan.items()
-    }
-
-    /// How many flip-flops the circuit has.
-    pub fn dffs(&self) -> u32
-        ensures { result ≡ length self.now.circuit.dffs }
-    {
-        self.frame_plan.circuit().dffs()
     }
 
     /// An item's frame, and its index there, from 0.
@@ -144,12 +137,25 @@ impl<'c> Plan<'c> {
         (frame, plan.item(rank))
     }
 
-    /// The items of a frame that read a net.
-    pub fn readers(&self, net: NetId) -> &[u32]
-        requires { net.0 < net_count self.now.circuit }
-        ensures readers { result.now ≡ get_or self.now.readers net.0 [] }
-        ensures table { IsTable self.now.circuit self.now.readers }
+    /// The first position of a frame.
+    pub fn first_position(&self, frame: u32) -> u32
+        requires { frame < self.now.frames }
+        ensures first { result ≡ frame * frame_items self.now.circuit }
+        ensures few { result + 2 * frame_items self.now.circuit < 2 ^ 32 }
     {
-        self.frame_plan.readers(net)
+        // for the proof: the number of all items fits
+        let _ = self.items();
+        let plan: &FramePlan = &self.frame_plan;
+        frame * plan.items()
+    }
+
+    /// How far from the first position of a frame the items stand that read a net of it.
+    pub fn load_offsets(&self, net: NetId) -> &[u32]
+        requires { net.0 < net_count self.now.circuit }
+        ensures offsets { result.now ≡ get_or self.now.readers net.0 [] }
+        ensures table { IsOffsetTable self.now.circuit self.now.ranks self.now.readers }
+        ensures apart { AreApart self.now }
+    {
+        self.frame_plan.load_offsets(net)
     }
 }

@@ -1,8 +1,8 @@
 //! What reads each net.
-ghost use Rattle.std.specs.Prelude.{◌≡◌, ℕ, ◌<◌, ◌+◌, ◌^◌, [], length, get_or, set, IfOk};
+ghost use Rattle.std.specs.Prelude.{◌≡◌, ℕ, ◌<◌, ◌≤◌, ◌+◌, ◌^◌, [], length, get_or, map, set, IfOk};
 ghost use Rattle.ht_net.specs.Netlist.{IsCircuit, net_count};
 ghost use Rattle.ht_events.specs.NetRows.{AreEmptyRows, row_of};
-ghost use Rattle.ht_events.specs.FramePlans.{IsTable};
+ghost use Rattle.ht_events.specs.FramePlans.{IsTable, offset_among};
 
 use ht_net::{Circuit, NetId};
 use std::alloc::{AllocError, Global};
@@ -16,7 +16,8 @@ pub struct NetRow {
 }
 
 /// For each net, by its number, the items of a frame that read it: item `j` is flip-flop `j`, and item `m + g` is gate
-/// `g`, in a circuit with `m` flip-flops. An item that reads the net at two pins stands there twice.
+/// `g`, in a circuit with `m` flip-flops. An item that reads the net at two pins stands there twice. Once `place` was
+/// called, each stands there by its offset.
 #[derive(Drop)]
 pub struct Readers {
     items: Vec<u32>,
@@ -75,6 +76,36 @@ fn add(rows: &mut Vec<NetRow>, items: &mut Vec<u32>, net: NetId, local: u32)
     };
 }
 
+// How far from the first position of a frame an item stands that reads a net of it. The frame has as many items as there
+// are ranks.
+fn offset_among(ranks: &[u32], dffs: u32, item: u32) -> u32
+    requires few { length ranks.now < 2 ^ 16 }
+    requires small { (l : ℕ) → get_or ranks.now l 0 ≤ length ranks.now }
+    ensures { result ≡ offset_among ranks.now dffs item }
+{
+    let rank = match ranks.get(item as usize) {
+        Some(rank) => *rank,
+        None => 0,
+    };
+    // a flip-flop stands in the next frame
+    if item < dffs {
+        ranks.len() as u32 + rank
+    } else {
+        rank
+    }
+}
+
+// Puts the offset of each item in its place.
+fn place_all(items: &mut [u32], ranks: &[u32], dffs: u32)
+    requires few { length ranks.now < 2 ^ 16 }
+    requires small { (l : ℕ) → get_or ranks.now l 0 ≤ length ranks.now }
+    ensures { items.new ≡ map (offset_among ranks.now dffs) items.old }
+{
+    for i in 0..items.len() {
+        items[i] = offset_among(ranks, dffs, items[i]);
+    }
+}
+
 impl Readers {
     /// What reads each net of a circuit.
     ///
@@ -97,7 +128,18 @@ impl Readers {
         Ok(Readers { items, rows })
     }
 
-    /// The items of a frame that read a net.
+    /// Puts the offset of each item in its place: how far it stands from the first position of the frame whose net it
+    /// reads, where items stand by frame and in it by rank. There are so many flip-flops.
+    #[tactic(auto, using(crate::proofs::OffsetLaws::placed_lists, crate::proofs::OffsetLaws::placed_rows))]
+    pub fn place(&mut self, ranks: &[u32], dffs: u32)
+        requires few { length ranks.now < 2 ^ 16 }
+        requires small { (l : ℕ) → get_or ranks.now l 0 ≤ length ranks.now }
+        ensures { self.new ≡ map (map (offset_among ranks.now dffs)) self.old }
+    {
+        place_all(&mut self.items, ranks, dffs);
+    }
+
+    /// The items of a frame that read a net, or their offsets.
     pub fn row(&self, net: NetId) -> &[u32]
         requires { net.0 < length self.now }
         ensures { result.now ≡ get_or self.now net.0 [] }

@@ -23,7 +23,7 @@ use Rattle.ht_entries.specs.EntryTexts.{AreEntryTexts, FitsFormat, IsEntryText, 
 use Rattle.ht_entries.specs.EntryLines.{whole_part}
 use Rattle.ht_entries.proofs.TextLaws.{written_is_proof_text}
 use Rattle.ht_valid.specs.ValidFiles.{AreValid, IsBacking, IsJustified, IsOwn}
-use Rattle.ht_valid.specs.SetsInOrder.{HasSetsInOrder}
+use Rattle.ht_valid.specs.WritableEntries.{IsWritable}
 use Rattle.ht_valid.specs.TrueVerdicts.{IsWorkedOn}
 use Rattle.ht_valid.proofs.EntryTextLaws.{passing_text}
 use Rattle.ht_engine.specs.declared.settings.Search.{Search}
@@ -41,30 +41,32 @@ use Rattle.ht_files.specs.Saids.{AreSaid}
 use Rattle.ht_files.specs.StepTexts.{format_of, proofs_of, tests_of}
 use Rattle.ht_files.proofs.SaidLaws.{agrees_if_said, backs_if_said, has_entry_if_said}
 
--- What the work gives has its sets in order, and the format of its kind of search has its form.
+-- What the work gives can be written, and the format of its kind of search has its form.
 pub record FitsSearch (search : Search) (e : Entry) : Type 0 where
-  pub ordered : HasSetsInOrder e
+  pub writable : IsWritable e
   pub form : has_form (format_of search) (whole_part e) ≡ true
 
 plain_fits : (c : Netlist) (fault : Fault) (budget : ℕ) (invariant : Invariant) (e : Entry)
     → IsWork c fault budget invariant (work.Entry e) → FitsSearch Plain e
-plain_fits c fault budget invariant (entries.Untestable z tokens) is = record { ordered = tt; form = refl }
+plain_fits c fault budget invariant (entries.Untestable z tokens) is = record { writable = tt; form = refl }
 plain_fits c fault budget invariant (entries.UntestableFrom state clauses z tokens) is =
-    record { ordered = tt; form = refl }
+    record { writable = tt; form = refl }
 plain_fits c fault budget invariant (entries.UndetectableBySets rows) is = absurd is
-plain_fits c fault budget invariant (entries.Aborted told walk aim sweep) is = record { ordered = tt; form = refl }
+plain_fits c fault budget invariant (entries.UndetectableByCubes cubes steps) is = absurd is
+plain_fits c fault budget invariant (entries.Aborted told walk aim sweep) is = record { writable = tt; form = refl }
 
 deep_fits : (c : Netlist) (fault : Fault) (settings : Settings) (states : window.Start) (invariant : Invariant) (e : Entry)
     → IsDeepWork c fault settings states invariant (work.Entry e) → FitsSearch Deep e
-deep_fits c fault settings states invariant (entries.Untestable z tokens) is = record { ordered = tt; form = refl }
+deep_fits c fault settings states invariant (entries.Untestable z tokens) is = record { writable = tt; form = refl }
 deep_fits c fault settings states invariant (entries.UntestableFrom state clauses z tokens) is =
-    record { ordered = tt; form = refl }
+    record { writable = tt; form = refl }
 deep_fits c fault settings states invariant (entries.UndetectableBySets rows) is = record {
-  ordered = is.1.rows_are.listed;
+  writable = is.1.rows_are.listed;
   form = refl;
 }
+deep_fits c fault settings states invariant (entries.UndetectableByCubes cubes steps) is = absurd is.1.1
 deep_fits c fault settings states invariant (entries.Aborted told walk aim sweep) is =
-    record { ordered = tt; form = refl }
+    record { writable = tt; form = refl }
 
 made_fits : (search : Search) (c : Netlist) (fault : Fault) (settings : Settings) (before : List (List Bool))
     (invariant : Invariant) (e : Entry) → IsWorkBy search c fault settings before invariant (work.Entry e)
@@ -136,7 +138,7 @@ module _ (e : EngineView) (steps : List Step) (saids : List Said) (work : IsFini
       let same : entry.number - 1 + 1 ≡ entry.number = omega (arith, counted) in
       subst (λ (n : ℕ). IsEntryText (record { number = n; entry = entry.entry })) same
       (passing_text e.circuit e.settings.start (fault_at e.circuit (entry.number - 1)) e.settings.budget
-      (entry.number - 1) entry.entry work.circuit number.own.listed work.budget.1 (fits entry among).ordered
+      (entry.number - 1) entry.entry work.circuit number.own.listed work.budget.1 (fits entry among).writable
       (holds entry among).0)
 
   have_texts : AreEntryTexts (format_of e.settings.search) (entries_of steps)

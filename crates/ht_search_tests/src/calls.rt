@@ -4,6 +4,7 @@ mod aborted;
 mod attempts;
 mod bases;
 mod check;
+mod cubes;
 mod entries;
 mod events;
 mod families;

@@ -1,6 +1,5 @@
--- Families: a set of pairs for each flip-flop, when one closes, so that no list of vectors leads out of it, and what it
--- means.
-use Rattle.std.specs.Prelude.{◌≡◌, ◌<◌, ℕ, List, [], Bool, Some, None, length, get_or, replicate}
+-- Families: a set of pairs for each flip-flop, and when one closes, so that no list of vectors leads out of it.
+use Rattle.std.specs.Prelude.{◌≡◌, ◌<◌, ℕ, List, [], Some, None, length, get_or, replicate}
 use Rattle.std.specs.List.{All}
 use Rattle.ht_tern.specs.declared.tern.Tern.{Tern}
 use Rattle.ht_tern.specs.declared.tern.Tern.TheVariants.{Unk}
@@ -10,7 +9,6 @@ use Rattle.ht_pairs.specs.Included.{Includes}
 use Rattle.ht_net.specs.declared.fault.Fault.{Fault}
 use Rattle.ht_net.specs.Netlist.{Netlist}
 use Rattle.ht_net.specs.Frame.{frame_outputs, next_state}
-use Rattle.ht_net.specs.Detection.{Detects, DetectsFrom}
 use Rattle.ht_tree.specs.Windows.{pair_set_rules}
 
 -- a set of pairs (good, faulty) for each flip-flop, each set by its members
@@ -46,9 +44,3 @@ pub record Closes (c : Netlist) (fault : Fault) (start : List Tern) (family : Fa
   pub starts : HoldsState family start
   pub stays : IncludesEach family (taken_sets c fault family)
   pub silent : All (λ set. ¬ MayDiffer set) (shown_sets c fault family)
-
--- No list of any length detects the fault, from the start or from all-unknown. It says nothing of a chip's start
--- states: from some of them the two machines may differ.
-pub record IsUndetectable (c : Netlist) (fault : Fault) (start : List Tern) : Type 0 where
-  pub from_start : (list : List (List Bool)) (t o : ℕ) → ¬ DetectsFrom c fault start list t o
-  pub from_unknown : (list : List (List Bool)) (t o : ℕ) → ¬ Detects c fault list t o

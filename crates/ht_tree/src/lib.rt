@@ -14,8 +14,8 @@
 //! speak `Clauses` (which are met and broken), `ClauseWindows` and `ClauseSearches` (windows under them, and the choice
 //! of variable there), `Invariants` (those that no frame leaves), `SealedInClauses`, `RefutationsFrom` (refutations
 //! from one named state) and `ToldUnder`. Of sets of pairs speak `ClosedFamilies` (a set for each flip-flop that no
-//! vector leads out of) and `FamilyRows` (those of an entry). What they are good for stands in `theorems`, of clauses in
-//! ht_clauses, and in ht_records what follows for every list of vectors.
+//! vector leads out of) and `FamilyRows` (those of an entry); of forbidden cubes speaks ht_cubes. What they are good for
+//! stands in `theorems`, of clauses in ht_clauses, and in ht_records what follows for every list of vectors.
 #![tactic(auto)]
 
 mod aim;

@@ -27,6 +27,7 @@ module _ (c : Netlist) (content : Content) (i : ℕ) (circuit : IsCircuit c) (la
   sealed_unaborted z seal enough (entries.Untestable y tokens) backs = let no = backs.0 in cc
   sealed_unaborted z seal enough (entries.UntestableFrom state clauses y tokens) backs = let no = backs.0 in cc
   sealed_unaborted z seal enough (entries.UndetectableBySets rows) backs = let no = backs.0 in cc
+  sealed_unaborted z seal enough (entries.UndetectableByCubes cubes steps) backs = let no = backs.0 in cc
   sealed_unaborted z seal enough (entries.Aborted told walk aim sweep) backs =
       enough_unsealed c (fault_at c i) content.budget
       (record { told = told; walk = walk; aim = aim; sweep = sweep }) circuit enough backs.1 z seal
@@ -59,6 +60,8 @@ module _ (c : Netlist) (content : Content) (i : ℕ) (circuit : IsCircuit c) (la
   short_unaborted d list t o few detects enough (entries.UntestableFrom state clauses z tokens) backs =
       let no = backs.0 in cc
   short_unaborted d list t o few detects enough (entries.UndetectableBySets rows) backs = let no = backs.0 in cc
+  short_unaborted d list t o few detects enough (entries.UndetectableByCubes cubes steps) backs =
+      let no = backs.0 in cc
   short_unaborted d list t o few detects enough (entries.Aborted told walk aim sweep) backs =
       enough_undetected c (fault_at c i) content.budget d
       (record { told = told; walk = walk; aim = aim; sweep = sweep }) circuit enough backs.1 list few t o detects

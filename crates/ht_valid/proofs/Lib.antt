@@ -6,6 +6,7 @@ pub mod TokenTextLaws
 pub mod SweepTextLaws
 pub mod FromTextLaws
 pub mod SetTextLaws
+pub mod CubesTextLaws
 pub mod EntryTextLaws
 pub mod NextLaws
 pub mod ReportTroubleLaws

@@ -53,6 +53,7 @@ pub means_undetected : (c : Netlist) (start : List Tern) (fault : Fault) (e : En
 means_undetected c start fault (entries.Untestable z tokens) refutes means = means.undetected
 means_undetected c start fault (entries.UntestableFrom state clauses z tokens) refutes means = means.undetected
 means_undetected c start fault (entries.UndetectableBySets rows) refutes means = means.from_unknown
+means_undetected c start fault (entries.UndetectableByCubes cubes steps) refutes means = means.from_unknown
 means_undetected c start fault (entries.Aborted told walk aim sweep) refutes means = absurd (refutes refl)
 
 -- nor does one from a start that allows the state that the entry names
@@ -64,6 +65,8 @@ means_undetected_from c start fault latches (entries.Untestable z tokens) refute
 means_undetected_from c start fault latches (entries.UntestableFrom state clauses z tokens) refutes allowed means =
     silent_undetected_from c fault start state allowed means.silent
 means_undetected_from c start fault latches (entries.UndetectableBySets rows) refutes allowed means = means.from_start
+means_undetected_from c start fault latches (entries.UndetectableByCubes cubes steps) refutes allowed means =
+    means.from_start
 means_undetected_from c start fault latches (entries.Aborted told walk aim sweep) refutes allowed means =
     absurd (refutes refl)
 
@@ -128,6 +131,10 @@ module _ (c : Netlist) (r f : Fault) (circuit : IsCircuit c) (same : SameClass c
   member_means start (entries.UntestableFrom state clauses z tokens) refutes means =
       untestable_from_member state clauses z means
   member_means start (entries.UndetectableBySets rows) refutes means = record {
+    from_start = undetected_member_from start means.from_start;
+    from_unknown = undetected_member means.from_unknown;
+  }
+  member_means start (entries.UndetectableByCubes cubes steps) refutes means = record {
     from_start = undetected_member_from start means.from_start;
     from_unknown = undetected_member means.from_unknown;
   }

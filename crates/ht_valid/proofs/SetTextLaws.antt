@@ -10,13 +10,12 @@ use Rattle.ht_tern.specs.declared.tern.Tern.TheVariants.{Unk}
 use Rattle.ht_pairs.specs.Pairs.{IsMember, Pair, pair}
 use Rattle.ht_net.specs.declared.fault.Fault.{Fault}
 use Rattle.ht_net.specs.Netlist.{IsCircuit, Netlist}
-use Rattle.ht_tree.specs.declared.entry.Entry.TheVariants.{UndetectableBySets}
 use Rattle.ht_tree.specs.declared.family_row.FamilyRow.{FamilyRow}
 use Rattle.ht_tree.specs.FamilyRows.{ClosesByRows, dffs_of, row_set, start_set}
 use Rattle.ht_tree.specs.Rising.{Rises}
 use Rattle.ht_entries.specs.BySets.{IsBySetsText}
 use Rattle.ht_entries.proofs.RisesLaws.{rises_cons, rises_one, rises_tail}
-use Rattle.ht_valid.specs.SetsInOrder.{HasSetsInOrder}
+use Rattle.ht_valid.specs.WritableEntries.{AreInOrder}
 
 -- a set with a member has one
 some_member : (p : Pair) (set : List Pair) → IsMember p set → 0 < length set
@@ -69,7 +68,7 @@ module _ (c : Netlist) (circuit : IsCircuit c) (fault : Fault) (start : List Ter
       (get_or-map-range_with_len (λ (i : ℕ). row_set rows i (start_set start i)) 0 (length start) j j [] here (omega arith))
       (passes.closes.starts j here))
 
-  pub sets_have_text : HasSetsInOrder (UndetectableBySets rows) → IsBySetsText rows
+  pub sets_have_text : AreInOrder rows → IsBySetsText rows
   sets_have_text ordered =
       let some = each_some (length c.dffs) rows (start_set start) passes.rises passes.known sets_some in
       let few = circuit.few_dffs in

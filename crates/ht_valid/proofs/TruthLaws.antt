@@ -66,6 +66,7 @@ module _ (c : Netlist) (content : Content) (r i : ℕ) (circuit : IsCircuit c) (
   aborted_by (entries.Untestable z tokens) among backs none = let no = backs.0 in cc
   aborted_by (entries.UntestableFrom state clauses z tokens) among backs none = let no = backs.0 in cc
   aborted_by (entries.UndetectableBySets rows) among backs none = let no = backs.0 in cc
+  aborted_by (entries.UndetectableByCubes cubes steps) among backs none = let no = backs.0 in cc
   aborted_by (entries.Aborted told walk aim sweep) among backs none =
       let spent : AbortView = record { told = told; walk = walk; aim = aim; sweep = sweep } in
       record {

@@ -12,7 +12,7 @@ ghost use Rattle.ht_tree.specs.Entries.{Passes};
 ghost use Rattle.ht_texts.specs.Tests.{IsTestText};
 ghost use Rattle.ht_entries.specs.EntryTexts.{IsEntryText, IsProofText};
 ghost use Rattle.ht_valid.specs.declared.trouble.Trouble.{Trouble};
-ghost use Rattle.ht_valid.specs.SetsInOrder.{HasSetsInOrder};
+ghost use Rattle.ht_valid.specs.WritableEntries.{IsWritable};
 ghost use Rattle.ht_valid.specs.ValidFiles.{Content, AreValid, IsJustified};
 ghost use Rattle.ht_valid.specs.FirstTrouble.{IsFirstTrouble, IsFirstUnjustified};
 ghost use Rattle.ht_valid.specs.TrueVerdicts.{AreDecided, HaveTrueVerdicts, IsWorkedOn};
@@ -34,10 +34,11 @@ pub fn valid_files_are_decided()
 {}
 
 /// An entry that passes for a budget of a search has a text, as the entry of a listed fault: its numbers fit, since the
-/// circuit is within the limits, and the sweep has few walks.
+/// circuit is within the limits, and the sweep has few walks. One by sets lists them in order, and one by cubes has short
+/// lines.
 pub fn passing_entries_have_a_text()
     ensures { (c : Netlist) (start : List Tern) (fault : Fault) (budget i : ℕ) (entry : Entry)
-        → IsCircuit c → i < length (faults_of c) → budget ≤ MAX_BUDGET → HasSetsInOrder entry
+        → IsCircuit c → i < length (faults_of c) → budget ≤ MAX_BUDGET → IsWritable entry
         → Passes c start fault budget entry
         → IsEntryText (record { number = i + 1; entry = entry }) }
 {}

@@ -93,11 +93,27 @@ const ONE_LITERAL: Text = &[
 // the texts that the second format has alone
 const SECOND_TEXTS: &[Text] = &[EQUAL_FLIP_FLOPS, ONE_LITERAL];
 
-// a text that the third format has alone: sets of pairs, and no set
-const THIRD_TEXTS: &[Text] = &[&[
+// texts that the third format has alone: sets of pairs, and no set
+const BY_SETS_TEXT: Text = &[
     &[b"entry 1 undetectable by sets", b"pairs 1 X1 XX"],
     &[b"entry 2 undetectable by sets"],
-]];
+];
+
+// forbidden cubes with steps, and without one
+const BY_CUBES_TEXT: Text = &[
+    &[
+        b"entry 1 undetectable by cubes",
+        b"never good 1 0",
+        b"never good 1 1",
+    ],
+    &[b"step -12 3 by 6", b"step by 6 7 10 3 4 9 8 11"],
+    &[
+        b"entry 2 undetectable by cubes",
+        b"never faulty 4294967295 1 good 1 0",
+    ],
+];
+
+const THIRD_TEXTS: &[Text] = &[BY_SETS_TEXT, BY_CUBES_TEXT];
 
 /// A text, its entries as they are written again, and the reader between the two.
 #[derive(Drop)]
@@ -230,6 +246,10 @@ const FROM_STATE: Lines = &[b"proofs 2", b"entry 1 untestable from 01"];
 
 const BY_SETS: Lines = &[b"proofs 3", b"entry 1 undetectable by sets"];
 
+const BY_CUBES: Lines = &[b"proofs 3", b"entry 1 undetectable by cubes"];
+
+const ONE_CUBE: Lines = &[b"never good 1 0"];
+
 const EIGHT_CLAUSES: Lines = &[
     b"clause 1 0",
     b"clause 1 1",
@@ -275,6 +295,24 @@ const DAMAGES: &[(Text, u64)] = &[
     (&[ABORTED, &[b"attempt", b"justify 10", b"ahead 1"]], 5),
     (&[ABORTED, &[b"attempt", b"ahead 1", b"justify 1"]], 5),
     (&[ABORTED, &[b"attempt", b"ahead 1x"]], 4),
+    // forbidden cubes in the second format, none at all, and one after a step
+    (&[SECOND_HEAD, &[b"entry 1 undetectable by cubes"]], 2),
+    (&[BY_CUBES, END], 3),
+    (&[BY_CUBES, &[b"step by 1"]], 3),
+    (&[BY_CUBES, ONE_CUBE, &[b"step by 1"], ONE_CUBE], 5),
+    // cubes of no rail, of half a rail, and of words and numbers that are none
+    (&[BY_CUBES, &[b"never"]], 3),
+    (&[BY_CUBES, &[b"never good 1"]], 3),
+    (&[BY_CUBES, &[b"never bad 1 0"]], 3),
+    (&[BY_CUBES, &[b"never good 0 0"]], 3),
+    (&[BY_CUBES, &[b"never good 1 2"]], 3),
+    (&[BY_CUBES, &[b"never good 1 0 "]], 3),
+    // steps without hints, and of numbers that are none
+    (&[BY_CUBES, ONE_CUBE, &[b"step 1"]], 4),
+    (&[BY_CUBES, ONE_CUBE, &[b"step 1 by"]], 4),
+    (&[BY_CUBES, ONE_CUBE, &[b"step -0 by 1"]], 4),
+    (&[BY_CUBES, ONE_CUBE, &[b"step 4294967296 by 1"]], 4),
+    (&[BY_CUBES, ONE_CUBE, &[b"step by -1"]], 4),
     // an entry from a state in the first format, and states that are none
     (&[HEAD, &[b"entry 1 untestable from 01"]], 2),
     (&[SECOND_HEAD, &[b"entry 1 untestable from "]], 2),

@@ -62,6 +62,19 @@ returns-in-UndetectableBySets-clause-sound c =
     c.args.fault c.args.budget c.args.entry.now c.circuit.ensures.valid c.requires.start (h.0 t))
     (returns-in-UndetectableBySets-clause-exact c)
 
+pub returns-in-UndetectableByCubes-clause-exact : goal.returns-in-UndetectableByCubes-clause-exact
+returns-in-UndetectableByCubes-clause-exact c =
+    let x = c.as_slice-in-UndetectableByCubes.ensures in
+    let y = c.as_slice-in-UndetectableByCubes-2.ensures in
+    IfOk-weaker c.refuted.result _ _ (λ b h. (λ t. let k = h.0 t in search rules, λ p. search rules))
+    c.refuted.ensures.exact
+
+pub returns-in-UndetectableByCubes-clause-sound : goal.returns-in-UndetectableByCubes-clause-sound
+returns-in-UndetectableByCubes-clause-sound c =
+    IfOk-weaker c.refuted.result _ _ (λ b h t. passing_means c.args.kept.now.circuit c.args.start.now
+    c.args.fault c.args.budget c.args.entry.now c.circuit.ensures.valid c.requires.start (h.0 t))
+    (returns-in-UndetectableByCubes-clause-exact c)
+
 pub returns-in-Aborted-clause-exact : goal.returns-in-Aborted-clause-exact
 returns-in-Aborted-clause-exact c =
     let y = c.as_slice-in-Aborted.ensures in

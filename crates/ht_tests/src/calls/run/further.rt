@@ -221,6 +221,46 @@ const CHECKED: &[Row<'static>] = &[
     },
 ];
 
+const TOGGLE_CUBES: &[u8] = b"proofs 3\n\
+    entry 1 undetectable by cubes\nnever good 1 0\nnever good 1 1\nstep by 6 7 10 3 4 9 8 11\nend\n";
+
+// Cubes of one fault, the others undetected; and the same without a hint.
+const FORBIDDEN: &[Row<'static>] = &[
+    Row {
+        words: &["report", "n", "t", "p", "r"],
+        given: &[("n", TOGGLE), ("t", b""), ("p", TOGGLE_CUBES)],
+        status: 0,
+        left: &[],
+        out: b"total 4 detected 0 untestable 0 aborted 0 undetectable 1 undetected 3\n",
+        err: b"",
+    },
+    Row {
+        words: &["report", "n", "t", "p", "r"],
+        given: &[
+            ("n", TOGGLE),
+            ("t", b""),
+            (
+                "p",
+                b"proofs 3\nentry 1 undetectable by cubes\nnever good 1 0\nnever good 1 1\n\
+                step by 6 7 10 3 4 9 8\nend\n",
+            ),
+        ],
+        status: 1,
+        left: &[],
+        out: b"",
+        err: b"denied: fault 1\n",
+    },
+];
+
+#[test]
+fn forbidden_cubes_are_checked(rt: HostRuntime) -> Result<(), Fail> {
+    let alloc = rt.alloc();
+    for row in FORBIDDEN {
+        assert!(rt; ends_so(alloc, row)?);
+    }
+    Ok(())
+}
+
 #[test]
 fn families_of_sets_are_checked(rt: HostRuntime) -> Result<(), Fail> {
     let alloc = rt.alloc();
