@@ -9,7 +9,7 @@ use Rattle.ht_net.specs.Detection.{IsStart}
 use Rattle.ht_cubes.specs.declared.rail.Rail.{Rail}
 use Rattle.ht_cubes.specs.declared.clause_step.ClauseStep.{ClauseStep}
 use Rattle.ht_cubes.specs.Rails.{AvoidsAll, IsCone, IsKnownRail, both}
-use Rattle.ht_cubes.specs.Undetectable.{IsUndetectable}
+use Rattle.ht_net.specs.Undetectable.{IsUndetectable}
 use Rattle.ht_cubes.specs.Formula.{formula_of, last_variable}
 use Rattle.ht_cubes.specs.declared.signed_var.SignedVar.{SignedVar}
 use Rattle.ht_cubes.specs.Values.{IsBelow}

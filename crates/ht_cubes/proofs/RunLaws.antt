@@ -11,7 +11,7 @@ use Rattle.ht_net.specs.Detection.{DetectsFrom, IsStart, terns_of, unknown_state
 use Rattle.ht_net.proofs.MoreToldLaws.{detects_where_refined, start_refines_unknown}
 use Rattle.ht_cubes.specs.declared.rail.Rail.{Rail}
 use Rattle.ht_cubes.specs.Rails.{JointState, AvoidsAll, AgreesOutside, IsCone, both}
-use Rattle.ht_cubes.specs.Undetectable.{IsUndetectable}
+use Rattle.ht_net.specs.Undetectable.{IsUndetectable}
 use Rattle.ht_cubes.specs.Cubes.{AreKeptFrom, CubesRefute, next_joint}
 use Rattle.ht_cubes.proofs.OutsideLaws.{next_outside}
 

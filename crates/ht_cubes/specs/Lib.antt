@@ -1,5 +1,4 @@
 pub mod Rails
-pub mod Undetectable
 pub mod Cubes
 pub mod Formula
 pub mod Steps

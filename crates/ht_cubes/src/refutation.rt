@@ -7,7 +7,7 @@ ghost use Rattle.ht_net.specs.Netlist.{net_count};
 ghost use Rattle.ht_net.specs.Detection.{IsStart};
 ghost use Rattle.ht_cubes.specs.Rails.{AvoidsAll, Avoids, Holds, IsKnownRail, both};
 ghost use Rattle.ht_cubes.specs.Cones.{marked};
-ghost use Rattle.ht_cubes.specs.Undetectable.{IsUndetectable};
+ghost use Rattle.ht_net.specs.Undetectable.{IsUndetectable};
 ghost use Rattle.ht_cubes.specs.Passing.{RefutesByCubes};
 
 use crate::cone::cone_of;

@@ -20,7 +20,7 @@ use Rattle.ht_tree.specs.Windows.{pair_set_rules}
 use Rattle.ht_tree.proofs.PairLaws.{Has, bits, pair_rules, paired, sets_keep}
 use Rattle.ht_records.proofs.PairRunLaws.{FaultyIs, GoodIs, faulty_half, good_half, paired_half}
 use Rattle.ht_records.proofs.WidthLaws.{fit_list, fit_vectors, shows_fitted}
-use Rattle.ht_cubes.specs.Undetectable.{IsUndetectable}
+use Rattle.ht_net.specs.Undetectable.{IsUndetectable}
 use Rattle.ht_tree.specs.ClosedFamilies.{Closes, Family, HoldsState, IncludesEach, any_vector, shown_sets, taken_sets}
 
 pub taken_long : (c : Netlist) (fault : Fault) (family : Family)
