@@ -23,14 +23,14 @@ enum Half {
 use Half::{Faulty, Good};
 
 impl Half {
-    fn zeros(self) -> Set {
+    const fn zeros(self) -> Set {
         match self {
             Good => 0b000_000_111,
             Faulty => 0b001_001_001,
         }
     }
 
-    fn step(self) -> u32 {
+    const fn step(self) -> u32 {
         match self {
             Good => 3,
             Faulty => 1,
@@ -79,70 +79,93 @@ pub fn stuck(set: Set, bit: bool) -> Set {
     zeros << u32::from(bit)
 }
 
-#[inline(always)]
-fn lowered(set: Set, half: Half) -> Set {
+const fn lowered(set: Set, half: Half) -> Set {
     let (zeros, step) = (half.zeros(), half.step());
     let with_unknowns = set | (set & (zeros << step)) << step;
     with_unknowns | (with_unknowns & (zeros << (2 * step))) >> (2 * step)
 }
 
-#[inline(always)]
-fn raised(set: Set, half: Half) -> Set {
+const fn raised(set: Set, half: Half) -> Set {
     let (zeros, step) = (half.zeros(), half.step());
     let with_unknowns = set | (set & zeros) << (2 * step);
     with_unknowns | (with_unknowns & (zeros << (2 * step))) >> step
 }
 
-#[inline(always)]
-fn blurred(set: Set, half: Half) -> Set {
+const fn blurred(set: Set, half: Half) -> Set {
     let (zeros, step) = (half.zeros(), half.step());
     set | (set << step | set << (2 * step)) & (zeros << (2 * step))
 }
 
-#[inline(always)]
-fn complemented(set: Set, half: Half) -> Set {
+const fn complemented(set: Set, half: Half) -> Set {
     let (zeros, step) = (half.zeros(), half.step());
     (set & zeros) << step | (set & (zeros << step)) >> step | set & (zeros << (2 * step))
 }
 
-#[inline(always)]
-fn passed(set: Set, half: Half) -> Set {
+const fn passed(set: Set, half: Half) -> Set {
     let (zeros, step) = (half.zeros(), half.step());
     let passing = set & zeros;
     passing | passing << step | set & (zeros << (2 * step))
 }
 
-#[inline(always)]
-fn inverted(set: Set, half: Half) -> Set {
+const fn inverted(set: Set, half: Half) -> Set {
     let (zeros, step) = (half.zeros(), half.step());
     let inverting = set & (zeros << step);
     inverting | inverting >> step | (set | set << step | set << (2 * step)) & (zeros << (2 * step))
 }
 
-#[inline(always)]
-fn met(s: Set, t: Set, moved: impl Fn(Set, Half) -> Set) -> Set {
-    let (s_faulty, t_faulty) = (moved(s, Faulty), moved(t, Faulty));
-    s & moved(t_faulty, Good) | moved(s_faulty, Good) & t | s_faulty & moved(t, Good) | moved(s, Good) & t_faulty
+/// What an operation takes of each of its two arguments: its results are the union of four meets.
+struct Parts {
+    first: [[Set; 4]; 512],
+    second: [[Set; 4]; 512],
 }
 
-#[inline(always)]
-fn and(s: Set, t: Set) -> Set {
-    met(s, t, lowered)
+static AND: Parts = parts(Operation::And);
+static OR: Parts = parts(Operation::Or);
+static XOR: Parts = parts(Operation::Xor);
+
+#[derive(Clone, Copy)]
+enum Operation {
+    And,
+    Or,
+    Xor,
 }
 
-#[inline(always)]
-fn or(s: Set, t: Set) -> Set {
-    met(s, t, raised)
+const fn parts(operation: Operation) -> Parts {
+    let mut parts = Parts { first: [[0; 4]; 512], second: [[0; 4]; 512] };
+    let mut set = 0;
+    while set < 512 {
+        let at = set as usize;
+        (parts.first[at], parts.second[at]) = match operation {
+            Operation::And => {
+                let (faulty, good) = (lowered(set, Faulty), lowered(set, Good));
+                let both = lowered(faulty, Good);
+                ([set, both, faulty, good], [both, set, good, faulty])
+            }
+            Operation::Or => {
+                let (faulty, good) = (raised(set, Faulty), raised(set, Good));
+                let both = raised(faulty, Good);
+                ([set, both, faulty, good], [both, set, good, faulty])
+            }
+            Operation::Xor => {
+                let (pass, turn) = (passed(set, Faulty), inverted(set, Faulty));
+                let (blur, other) = (blurred(set, Faulty), complemented(set, Faulty));
+                (
+                    [passed(pass, Good), passed(turn, Good), inverted(pass, Good), inverted(turn, Good)],
+                    [blurred(blur, Good), blurred(other, Good), complemented(blur, Good), complemented(other, Good)],
+                )
+            }
+        };
+        set += 1;
+    }
+    parts
 }
 
-#[inline(always)]
-fn xor(s: Set, t: Set) -> Set {
-    let (s_passed, s_inverted) = (passed(s, Faulty), inverted(s, Faulty));
-    let (t_blurred, t_complemented) = (blurred(t, Faulty), complemented(t, Faulty));
-    passed(s_passed, Good) & blurred(t_blurred, Good)
-        | passed(s_inverted, Good) & blurred(t_complemented, Good)
-        | inverted(s_passed, Good) & complemented(t_blurred, Good)
-        | inverted(s_inverted, Good) & complemented(t_complemented, Good)
+impl Parts {
+    #[inline(always)]
+    fn met(&self, s: Set, t: Set) -> Set {
+        let (s, t) = (&self.first[s as usize], &self.second[t as usize]);
+        s[0] & t[0] | s[1] & t[1] | s[2] & t[2] | s[3] & t[3]
+    }
 }
 
 #[inline(always)]
@@ -154,11 +177,12 @@ fn complement(set: Set) -> Set {
 #[inline(always)]
 pub fn lift(kind: Kind, mut args: impl Iterator<Item = Set>) -> Set {
     let first = args.next().unwrap_or(SAME);
-    let set = match kind {
-        Kind::And | Kind::Nand => folded(first, args, and),
-        Kind::Or | Kind::Nor => folded(first, args, or),
-        Kind::Xor | Kind::Xnor => folded(first, args, xor),
-        Kind::Not | Kind::Buff => first,
+    let parts = match kind {
+        Kind::And | Kind::Nand => &AND,
+        Kind::Or | Kind::Nor => &OR,
+        Kind::Xor | Kind::Xnor => &XOR,
+        Kind::Not | Kind::Buff => return if kind.inverts() { complement(first) } else { first },
     };
+    let set = folded(first, args, |s, t| parts.met(s, t));
     if kind.inverts() { complement(set) } else { set }
 }
