@@ -1,0 +1,15 @@
+-- The places of operations in the tables.
+use Rattle.std.specs.Prelude.{ℕ}
+use Rattle.ht_tern.specs.declared.gate.Kind.{Kind}
+use Rattle.ht_tern.specs.declared.gate.Kind.TheVariants.{And, Nand, Or, Nor, Xor, Xnor, Not, Buf}
+
+-- the place of the operation that a kind folds, in the tables of their parts
+abbrev pub place_of : Kind → ℕ
+place_of And = 0
+place_of Nand = 0
+place_of Or = 1
+place_of Nor = 1
+place_of Xor = 2
+place_of Xnor = 2
+place_of Not = 3
+place_of Buf = 3
