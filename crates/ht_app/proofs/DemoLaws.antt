@@ -7,13 +7,13 @@ use Rattle.ht_app.proofs.Common.{demo_netlist, put, reading, with_lf}
 use Rattle.ht_net.specs.Netlist as net
 use Rattle.ht_texts.specs.Reports.{head_line}
 use Rattle.ht_files.specs.Generated.{IsTotalOf}
-use Rattle.ht_app.specs.declared.run_error.RunError.TheVariants.{NoMemory}
+use Rattle.ht_inputs.specs.declared.run_error.RunError.TheVariants.{NoMemory}
 use Rattle.ht_app.specs.declared.demo.TheConstants.{DEMO_BUDGET}
 use Rattle.ht_app.specs.Outputs.{SaysHead, demo_settings}
 use Rattle.ht_app.proofs.ActLaws.{did_nothing}
 use Rattle.ht_app.proofs.EndLaws.{ends_does, ends_tries, ends_unwritten}
 use Rattle.ht_app.proofs.GenLaws.{of_circuit}
-use Rattle.ht_app.proofs.ReadingLaws.{basis_of, no_circuit}
+use Rattle.ht_inputs.proofs.ReadingLaws.{basis_of, no_circuit}
 use Rattle.ht_app.proofs.WritingLaws.{does_then, nothing_written}
 
 -- ---- what is found before it speaks

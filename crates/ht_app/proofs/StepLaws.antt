@@ -14,7 +14,7 @@ use Rattle.ht_engine.specs.EngineStands.{MakesStep}
 use Rattle.ht_files.specs.StepTexts.{proofs_step, step_text, tests_step}
 use Rattle.ht_files.proofs.StepTextLaws.{proofs_grow, tests_grow}
 use Rattle.ht_files.specs.declared.text_size.TextSize.{TextSize}
-use Rattle.ht_app.specs.declared.run_error.RunError.TheVariants.{NoMemory}
+use Rattle.ht_inputs.specs.declared.run_error.RunError.TheVariants.{NoMemory}
 use Rattle.ht_app.specs.Generating.{CountsStep}
 use Rattle.ht_app.proofs.WritingLaws.{runs_out_first, tries_none, tries_then}
 

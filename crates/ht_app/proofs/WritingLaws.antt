@@ -10,7 +10,7 @@ use Rattle.ht_app.proofs.Common.{Act, ChangedOnly, Created, DeskView, Did, Does,
 use Rattle.ht_app.proofs.Common.{IsOtherName, NotCreated, OutCall, OutPort, PermitsAll, Ports, RunError, Tries}
 use Rattle.ht_app.proofs.Common.{WriteFault, Writes, is_port, make, makes, put}
 use Rattle.ht_ports.specs.Desk.{AddedPart}
-use Rattle.ht_app.specs.declared.run_error.RunError.TheVariants.{NoMemory}
+use Rattle.ht_inputs.specs.declared.run_error.RunError.TheVariants.{NoMemory}
 use Rattle.ht_app.specs.Acts.{Stops}
 use Rattle.ht_app.specs.Run.{IsWriteFault}
 use Rattle.ht_app.specs.Steps.{EndsWriting, HasWritten, Permits, StopsBy}

@@ -10,8 +10,8 @@ use Rattle.ht_engine.specs.EngineStands.{EngineStandsFor, EngineView}
 use Rattle.ht_files.specs.StepTexts.{proofs_so_far, proofs_step, tests_of, tests_step}
 use Rattle.ht_words.specs.declared.job.RunFiles.{RunFiles}
 use Rattle.ht_app.specs.declared.generate.sizes.Sizes.{Sizes}
-use Rattle.ht_app.specs.declared.run_error.RunError.{RunError}
-use Rattle.ht_app.specs.declared.run_error.RunError.TheVariants.{WriteFault}
+use Rattle.ht_inputs.specs.declared.run_error.RunError.{RunError}
+use Rattle.ht_inputs.specs.declared.run_error.RunError.TheVariants.{WriteFault}
 use Rattle.ht_app.specs.Acts.{Act}
 use Rattle.ht_app.specs.Outputs.{WritesFiles, WritesSteps, step_acts}
 use Rattle.ht_app.specs.Steps.{Tries}

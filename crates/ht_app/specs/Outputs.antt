@@ -33,7 +33,7 @@ use Rattle.ht_sync.specs.declared.synchronizing.Synchronized.{Synchronized}
 use Rattle.ht_words.specs.declared.job.RunFiles.{RunFiles}
 use Rattle.ht_app.specs.declared.demo.TheConstants.{DEMO_BUDGET, DEMO_RANDOM}
 use Rattle.ht_app.specs.Acts.{Act, make, put}
-use Rattle.ht_app.specs.Inputs.{IsListed, JobBasis}
+use Rattle.ht_inputs.specs.Inputs.{IsListed, JobBasis}
 use Rattle.ht_net.specs.declared.fault.Fault.{Fault}
 use Rattle.ht_net.specs.declared.place.Place.{Place}
 use Rattle.ht_net.specs.Netlist.{Netlist}

@@ -1,20 +1,20 @@
 -- How a run ends, and why.
-use Rattle.std.specs.Prelude.{◌≡◌, ◌⊎◌, ℕ, ◌<◌, List, [], length, take, Some, None, IsTrue, Option}
+use Rattle.std.specs.Prelude.{◌≡◌, ◌⊎◌, ℕ, List, [], ◌++◌, length, take, codes, Some, None, IsTrue, Option}
 use Rattle.std.specs.Io.KnownBytes.{append_known}
 use Rattle.ht_ports.specs.Causes.{Rose}
-use Rattle.ht_ports.specs.Desk.{DeskView, IsAfter, Holds, Writes}
-use Rattle.ht_ports.specs.declared.ports.InPort.{InPort}
-use Rattle.ht_ports.specs.declared.ports.InPort.TheVariants.{Tests}
+use Rattle.ht_ports.specs.Desk.{DeskView, IsAfter, Writes}
 use Rattle.ht_ports.specs.declared.ports.OutPort.TheVariants.{Err}
+use Rattle.ht_ports.specs.Numbered.{numbered}
+use Rattle.ht_bench.specs.RefusalText.{refusal_text}
+use Rattle.ht_valid.specs.declared.trouble.Trouble.TheVariants.{Tests, Report, Proofs, Fault}
 use Rattle.ht_asked.specs.Asked.{Asked}
-use Rattle.ht_app.specs.declared.run_error.RunError.{RunError}
-use Rattle.ht_app.specs.declared.run_error.RunError.TheVariants.{Usage, ReadFault, WriteFault, NoMemory, BadTests, NoSuchFault}
+use Rattle.ht_inputs.specs.declared.run_error.RunError.{RunError}
+use Rattle.ht_inputs.specs.declared.run_error.RunError.TheVariants.{Denied, Usage, TooLong, Refused, ReadFault, WriteFault, NoMemory, BadStart, BadTests, TooManyVectors, BadResponses, NoSuchFault, BadFaults}
+use Rattle.ht_inputs.specs.Errors.{exit_status}
+use Rattle.ht_inputs.specs.Inputs.{AcceptsInputs, JobBasis}
+use Rattle.ht_inputs.specs.Reading.{StopsReading}
 use Rattle.ht_app.specs.Acts.{Act, Did, Stops}
-use Rattle.ht_app.specs.Errors.{exit_status, err_line}
-use Rattle.ht_app.specs.Inputs.{AcceptsBefore, AcceptsInputs, HasFault, HasNetlist, IsStated, JobBasis}
-use Rattle.ht_app.specs.Jobs.{input_name, order_of}
 use Rattle.ht_app.specs.Outputs.{BeginsOutput, MakesOutput}
-use Rattle.ht_app.specs.Refusals.{LacksFault, RefusesInput}
 
 -- ---- done
 
@@ -30,23 +30,7 @@ pub record IsDone (job : Asked) (old new : DeskView) : Type 0 where
 abbrev pub AskedIsDone : Option Asked → DeskView → DeskView → Type 0
 AskedIsDone asked old new = (job : Asked) × (asked ≡ Some job) × IsDone job old new
 
--- ---- a fault of the desk, or want of memory
-
--- A fault of reading was counted at a file of the job, after those before it were accepted; at the tests, after the fault
--- that the job names was found. A steady desk makes one only where it doesn't hold the file; it holds those before.
-pub record FailsToRead (job : Asked) (old new : DeskView) : Type 0 where
-  pub rose : Rose old.in_faults new.in_faults
-  pub basis : JobBasis
-  pub port : InPort
-  pub name : List ℕ
-  pub reads : input_name job port ≡ Some name
-  pub circuit : 0 < order_of job port → HasNetlist basis.circuit
-  pub stated : IsStated job basis
-  pub before : AcceptsBefore job basis port old
-  pub fault : port ≡ Tests → HasFault job basis.circuit
-  pub lacks : IsTrue old.steady → ¬ Holds old name
-  pub held : IsTrue old.steady → (p : InPort) (n : List ℕ) → order_of job p < order_of job port → input_name job p ≡ Some n
-      → Holds old n
+-- ---- a failed write, or want of memory
 
 -- a fault of writing was counted, and the desk isn't steady
 pub record IsWriteFault (old new : DeskView) : Type 0 where
@@ -74,16 +58,11 @@ pub record StopsForMemory (job : Asked) (old new : DeskView) : Type 0 where
 -- ---- the causes
 
 -- Why the work of a job ends by an error. Memory may run out at any time: before anything is written, or while the
--- output is begun. Tests are refused only where the fault that the job names is one of the circuit.
+-- output is begun. Any other error but a failed write is one of reading.
 abbrev pub HasCause : Asked → DeskView → DeskView → RunError → Type 0
-HasCause job old new Usage = ⊥
-HasCause job old new ReadFault = FailsToRead job old new
 HasCause job old new WriteFault = FailsToWrite job old new
 HasCause job old new NoMemory = Did [] old new ⊎ StopsForMemory job old new
-HasCause job old new (BadTests line) = (refuses : RefusesInput job (BadTests line) old new)
-    × HasFault job refuses.basis.circuit
-HasCause job old new (NoSuchFault faults) = LacksFault job faults old new
-HasCause job old new error = RefusesInput job error old new
+HasCause job old new error = StopsReading job old new error
 
 -- The same where words ask for a job or for none. Where they have no form, the desk isn't touched; memory may run out
 -- before they are read.
@@ -93,6 +72,32 @@ AskedHasCause None old new NoMemory = new ≡ old
 AskedHasCause asked old new error = (job : Asked) × (asked ≡ Some job) × HasCause job old new error
 
 -- ---- what is said of them
+
+-- the line on Err, by the error
+abbrev pub err_line : RunError → List ℕ
+err_line (Denied (Tests line)) = numbered (codes "denied: tests line ") line (codes "\n")
+err_line (Denied (Report line)) = numbered (codes "denied: report line ") line (codes "\n")
+err_line (Denied (Proofs line)) = numbered (codes "denied: proofs line ") line (codes "\n")
+err_line (Denied (Fault number)) = numbered (codes "denied: fault ") number (codes "\n")
+err_line Usage = codes "usage: sim NETLIST TESTS REPORT [--start FILE], " ++
+    codes "gen NETLIST TESTS REPORT PROOFS [--budget N] [--random N] [--seed S] [--start FILE] " ++
+    codes "[--first FILE] [--faults FILE] [--weighted N] [--search plain|deep], " ++
+    codes "check NETLIST TESTS REPORT PROOFS [--start FILE], norm NETLIST OUT, demo SIZE SEED, " ++
+    codes "compact NETLIST TESTS OUT, diagnose NETLIST TESTS RESPONSES OUT, " ++
+    codes "uninit NETLIST OUT [--budget N], sync NETLIST TESTS OUT [--budget N], " ++
+    codes "respond NETLIST TESTS OUT [--fault N] [--start FILE], " ++
+    codes "report NETLIST TESTS PROOFS REPORT [--budget N] [--start FILE]\n"
+err_line TooLong = codes "netlist: too long\n"
+err_line (Refused error) = codes "netlist: " ++ (refusal_text error ++ codes "\n")
+err_line ReadFault = codes "read fault\n"
+err_line WriteFault = codes "write fault\n"
+err_line NoMemory = codes "no memory\n"
+err_line (BadStart line) = numbered (codes "start: line ") line (codes "\n")
+err_line (BadTests line) = numbered (codes "tests: line ") line (codes "\n")
+err_line TooManyVectors = codes "tests: too many vectors\n"
+err_line (BadResponses line) = numbered (codes "responses: line ") line (codes "\n")
+err_line (NoSuchFault faults) = numbered (codes "fault: above ") faults (codes "\n")
+err_line (BadFaults line) = numbered (codes "faults: line ") line (codes "\n")
 
 -- The work ended by an error that has its cause, and only then the run said so: Err gets the error's line, or a front
 -- of it where the write failed, and nothing else changes.

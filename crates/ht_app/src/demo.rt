@@ -14,13 +14,12 @@ ghost use Rattle.ht_app.specs.Acts.{put as put_act};
 ghost use Rattle.ht_app.specs.Outputs.{SaysHead, demo_settings};
 ghost use Rattle.ht_app.specs.Steps.{EndsJob};
 
-use crate::listed::{Listed, list_faults};
 use crate::output::put;
-use crate::run_error::RunError;
 use ht_bench::read;
 use ht_demo::netlist_text;
 use ht_engine::{Engine, Search, Settings, Step};
 use ht_files::write_total_of;
+use ht_inputs::{Listed, RunError, list_faults};
 use ht_items::Items;
 use ht_net::{Circuit, Vectors, unknown_start};
 use ht_ports::{Desk, OutPort};

@@ -20,14 +20,11 @@ mod fill;
 pub mod sizes;
 mod steps;
 
-use crate::faults_file::read_chosen;
 use crate::generate::fill::write_files;
-use crate::listed::{Listed, list_faults};
-use crate::netlist::read_netlist;
-use crate::run_error::RunError;
-use crate::start_file::read_stated;
-use crate::vectors_file::read_first;
 use ht_engine::{Engine, Search, Settings};
+use ht_inputs::{
+    Listed, RunError, list_faults, read_chosen, read_first, read_netlist, read_stated,
+};
 use ht_items::Items;
 use ht_net::{Circuit, Vectors};
 use ht_ports::Desk;

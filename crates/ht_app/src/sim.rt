@@ -5,15 +5,13 @@ ghost use Rattle.ht_ports.specs.declared.ports.OutPort.TheVariants as out_port;
 ghost use Rattle.ht_net.specs.Detection.{IsStart};
 ghost use Rattle.ht_asked.specs.Asked as asked;
 ghost use Rattle.ht_app.specs.Outputs.{IsReportOf, file_acts};
-ghost use Rattle.ht_app.specs.Steps.{EndsReading, IsPrepared};
+ghost use Rattle.ht_inputs.specs.Reading.{EndsReading};
+ghost use Rattle.ht_app.specs.Steps.{IsPrepared};
 
 use crate::made::Made;
-use crate::netlist::read_netlist;
-use crate::run_error::RunError;
-use crate::start_file::read_stated;
-use crate::vectors_file::read_tests;
 use ht_collapse::collapse;
 use ht_grade::first_detections_from;
+use ht_inputs::{RunError, read_netlist, read_stated, read_tests};
 use ht_net::{Circuit, Vectors};
 use ht_ports::Desk;
 use ht_tern::Tern;

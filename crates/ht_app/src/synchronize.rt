@@ -4,12 +4,12 @@ ghost use Rattle.ht_texts.specs.Tests.{test_text};
 ghost use Rattle.ht_sync.specs.SyncTexts.{sync_list};
 ghost use Rattle.ht_asked.specs.Asked as asked;
 ghost use Rattle.ht_app.specs.Outputs.{IsSyncRecord, sync_acts};
-ghost use Rattle.ht_app.specs.Steps.{Does, EndsJob, EndsReading, IsPrepared};
+ghost use Rattle.ht_inputs.specs.Reading.{EndsReading};
+ghost use Rattle.ht_app.specs.Steps.{Does, EndsJob, IsPrepared};
 
-use crate::netlist::read_netlist;
 use crate::output::{create, put};
-use crate::run_error::RunError;
 use ht_files::write_test_text;
+use ht_inputs::{RunError, read_netlist};
 use ht_net::Circuit;
 use ht_ports::{Desk, OutPort};
 use ht_sync::{Synchronized, sync, write_sync_body, write_sync_last, write_sync_said};

@@ -3,12 +3,11 @@ ghost use Rattle.std.specs.Prelude.{◌++◌, List, ℕ, IfOk, IfErr};
 ghost use Rattle.ht_ports.specs.declared.ports.OutPort.TheVariants as out_port;
 ghost use Rattle.ht_asked.specs.Asked as asked;
 ghost use Rattle.ht_app.specs.Outputs.{IsUninitReport, file_acts};
-ghost use Rattle.ht_app.specs.Steps.{EndsReading, IsPrepared};
+ghost use Rattle.ht_inputs.specs.Reading.{EndsReading};
+ghost use Rattle.ht_app.specs.Steps.{IsPrepared};
 
-use crate::listed::list_faults;
 use crate::made::Made;
-use crate::netlist::read_netlist;
-use crate::run_error::RunError;
+use ht_inputs::{RunError, list_faults, read_netlist};
 use ht_net::Circuit;
 use ht_ports::Desk;
 use ht_uninit::{uninit_of_all, write_uninit_body, write_uninit_total};

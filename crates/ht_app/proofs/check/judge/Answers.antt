@@ -6,8 +6,9 @@ use Rattle.ht_ports.specs.declared.ports.InPort.TheVariants.{Faults, Netlist}
 use Rattle.ht_files.proofs.ShortNameLaws.{short_names}
 use Rattle.ht_valid.proofs.DecidedLaws.{are_decided}
 use Rattle.ht_valid.proofs.TruthLaws.{true_verdicts}
-use Rattle.ht_app.specs.Grading.{JudgesFiles}
-use Rattle.ht_app.proofs.ReadingLaws.{all_read, one_more, stops_there}
+use Rattle.ht_inputs.specs.Grading.{JudgesFiles}
+use Rattle.ht_inputs.proofs.ReadingLaws.{one_more, stops_there}
+use Rattle.ht_app.proofs.PreparedLaws.{all_read}
 use Rattle.ht_app.proofs.check.judge.Given as given
 use Rattle.ht_app.proofs.check.judge.Goals as goal
 use Rattle.ht_app.proofs.check.judge.Goals.{In_ok-claims, In_ok-graded}

@@ -1,7 +1,7 @@
 use Rattle.std.proofs.Common.{◌≡◌, Bool, sym, subst}
 use Rattle.ht_app.proofs.Common.{DeskView, Err, RunError}
 use Rattle.ht_ports.specs.Desk.{Wrote}
-use Rattle.ht_app.specs.Errors.{err_line}
+use Rattle.ht_app.specs.Run.{err_line}
 use Rattle.ht_app.proofs.err_line.write_line.Goals as goal
 
 -- the line of the error that the run ended by

@@ -3,7 +3,8 @@ use Rattle.std.specs.Prelude.{None}
 use Rattle.ht_app.proofs.Common.{HasReadTo, InPort, input_name, make, norm, order_of, put}
 use Rattle.ht_ports.specs.declared.ports.InPort.TheVariants.{Netlist}
 use Rattle.ht_ports.specs.declared.ports.OutPort.TheVariants.{Report}
-use Rattle.ht_app.proofs.ReadingLaws.{all_read, basis_of, no_room}
+use Rattle.ht_inputs.proofs.ReadingLaws.{basis_of, no_room}
+use Rattle.ht_app.proofs.PreparedLaws.{all_read}
 use Rattle.ht_app.proofs.norm.normal_text.Given as given
 use Rattle.ht_app.proofs.norm.normal_text.Goals as goal
 use Rattle.ht_app.proofs.norm.normal_text.Goals.{In_ok-circuit}

@@ -8,9 +8,10 @@ use Rattle.ht_files.proofs.PlainNameLaws.{plain_names}
 use Rattle.ht_judge.proofs.JudgedLaws.{agreed_sayable}
 use Rattle.ht_valid.proofs.DecidedLaws.{are_decided}
 use Rattle.ht_valid.proofs.TruthLaws.{true_verdicts}
-use Rattle.ht_app.specs.Grading.{JudgesFiles}
-use Rattle.ht_app.specs.Judging.{VerdictsAreRead, report_basis}
-use Rattle.ht_app.proofs.ReadingLaws.{all_read, no_room, one_more, read_so, skipped, stops_there}
+use Rattle.ht_inputs.specs.Grading.{JudgesFiles}
+use Rattle.ht_inputs.specs.Judging.{VerdictsAreRead, report_basis}
+use Rattle.ht_inputs.proofs.ReadingLaws.{no_room, one_more, read_so, skipped, stops_there}
+use Rattle.ht_app.proofs.PreparedLaws.{all_read}
 use Rattle.ht_app.proofs.report.report.Given as given
 use Rattle.ht_app.proofs.report.report.Goals as goal
 use Rattle.ht_app.proofs.report.report.Goals.{In_ok-claims, In_ok-graded}

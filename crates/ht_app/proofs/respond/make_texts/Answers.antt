@@ -3,8 +3,10 @@ use Rattle.std.specs.Prelude.{None, Option}
 use Rattle.ht_app.proofs.Common.{Extra, HasReadTo, InPort, SaysBasis, Tern, input_name, order_of, respond}
 use Rattle.ht_ports.specs.declared.ports.InPort.TheVariants.{Netlist, Tests}
 use Rattle.ht_net.specs.Detection.{unknown_state}
-use Rattle.ht_app.proofs.FaultLaws.{fault_ends, machine_listed}
-use Rattle.ht_app.proofs.ReadingLaws.{all_read, basis_from, basis_of, no_room, one_more, read_so, stops_there, tests_stop}
+use Rattle.ht_inputs.proofs.FaultLaws.{fault_ends}
+use Rattle.ht_app.proofs.UnlistedLaws.{machine_listed}
+use Rattle.ht_inputs.proofs.ReadingLaws.{basis_from, basis_of, no_room, one_more, read_so, stops_there, tests_stop}
+use Rattle.ht_app.proofs.PreparedLaws.{all_read}
 use Rattle.ht_app.proofs.respond.make_texts.Given as given
 use Rattle.ht_app.proofs.respond.make_texts.Goals as goal
 use Rattle.ht_app.proofs.respond.make_texts.Goals.{In_ok-circuit, In_ok-list, In_ok-start}

@@ -2,7 +2,8 @@ use Rattle.std.proofs.Common.{◌≡◌, ◌≤◌, List, [], ℕ, refl, rules, 
 use Rattle.std.specs.Prelude.{None}
 use Rattle.ht_app.proofs.Common.{HasReadTo, InPort, input_name, order_of, uninit}
 use Rattle.ht_ports.specs.declared.ports.InPort.TheVariants.{Netlist}
-use Rattle.ht_app.proofs.ReadingLaws.{all_read, basis_of, no_room}
+use Rattle.ht_inputs.proofs.ReadingLaws.{basis_of, no_room}
+use Rattle.ht_app.proofs.PreparedLaws.{all_read}
 use Rattle.ht_app.proofs.uninit.uninit.Given as given
 use Rattle.ht_app.proofs.uninit.uninit.Goals as goal
 use Rattle.ht_app.proofs.uninit.uninit.Goals.{In_ok-circuit}

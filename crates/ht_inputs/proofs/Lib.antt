@@ -1,0 +1,13 @@
+pub mod Common
+pub mod NextLineLaws
+pub mod JudgedLaws
+pub mod FirstTroubleLaws
+pub mod RowsLaws
+pub mod ReportFileLaws
+pub mod ProofsFileLaws
+pub mod ReadingLaws
+pub mod StartFileLaws
+pub mod FaultsFileLaws
+pub mod InputLaws
+pub mod FaultLaws
+pub mod RefusalLaws

@@ -1,0 +1,51 @@
+use Rattle.std.proofs.Common.{◌≡◌, ℕ, List, [], ◌∙◌, Option, refl, sym, subst, rules}
+use Rattle.ht_inputs.proofs.Common.{AreFirstDetections, Content, Tern, before_proofs}
+use Rattle.ht_asked.specs.Asked as asked
+use Rattle.ht_net.specs.declared.place.Place.{Place}
+use Rattle.ht_valid.specs.FirstTrouble.{EndsWrongEntry, IsEvidence, IsFirstFault, IsFirstProofLine}
+use Rattle.ht_inputs.specs.Grading.{HasDetections}
+use Rattle.ht_inputs.specs.Judging.{VerdictsAreRead, report_basis}
+use Rattle.ht_judge.specs.ProofJudging.{FollowsProofs}
+use Rattle.ht_inputs.proofs.JudgedLaws.{same_circuit}
+use Rattle.ht_inputs.proofs.ProofsFileLaws.{job_stops}
+use Rattle.ht_inputs.proofs.proofs_file.read_verdicts.Given as given
+use Rattle.ht_inputs.proofs.proofs_file.read_verdicts.Goals as goal
+use Rattle.ht_inputs.proofs.proofs_file.read_verdicts.Goals.{In_ok-judge}
+
+-- the judge stands for the beginning of proofs, by what the vectors show
+begins : (g : given.Over) (c : In_ok-judge g) (content : Content) → content.start ≡ c.args.graded.now.start.items
+    → content.budget ≡ c.args.budget → HasDetections c.args.graded.now content.start content.list
+    → FollowsProofs c.in_ok-judge.judge (before_proofs content) []
+begins g c content start budget first =
+    let graded = c.args.graded.now in
+    let same : content.start ≡ c.deref.result.now = start ∙ sym c.deref.ensures.value in
+    c.in_ok-judge.ensures.stands (before_proofs content) same budget
+    (subst (λ (l : List (Option Place)). AreFirstDetections graded.circuit graded.listed.classes c.deref.result.now
+    content.list l) (sym c.deref-2.ensures.value)
+    (subst (λ (s : List Tern). AreFirstDetections graded.circuit graded.listed.classes s content.list
+    graded.places.items) same first))
+
+pub returns-in_err-claims-clause-stops : goal.returns-in_err-claims-clause-stops
+returns-in_err-claims-clause-stops g c = λ netlist tests proofs out start_file content start budget first.
+    let at = (goal.at.returns-in_err-claims-clause-stops g c).In_ok-judge in
+    let graded = c.args.graded.now in
+    let basis = report_basis graded.circuit graded.listed.classes content in
+    let stops = job_stops c.args.name.now basis (g.D.Desk.view c.args.desk.now) (g.D.Desk.view c.judge_proofs.new.desk)
+    (asked.report netlist tests proofs out c.args.budget start_file) (λ line. refl) (λ number. refl)
+    (λ text line. subst (λ (b : ℕ). IsFirstProofLine (EndsWrongEntry (IsEvidence graded.circuit graded.listed.classes
+    content.start content.list b)) text line) budget)
+    (λ text number. subst (λ (b : ℕ). IsFirstFault (EndsWrongEntry (IsEvidence graded.circuit graded.listed.classes
+    content.start content.list b)) text number) budget) c.in_err-claims.field-0.0
+    (c.in_err-claims.ensures.stops basis (record {
+      circuit = c.in_ok-judge.ensures.circuit;
+      representatives = c.in_ok-judge.ensures.classes;
+      judges = begins g at content start budget first;
+    })) in
+    search (rules, stops)
+
+pub returns-clause-read : goal.returns-clause-read
+returns-clause-read g c = λ content start budget first.
+    let at = (goal.at.returns-clause-read g c).In_ok-judge in
+    same_circuit (λ circuit r. VerdictsAreRead circuit r content c.args.name.now (g.D.Desk.view c.args.desk.now)
+    c.in_ok-claims.claims) c.in_ok-judge.ensures.circuit c.in_ok-judge.ensures.classes
+    (c.in_ok-claims.ensures.followed content (begins g at content start budget first))

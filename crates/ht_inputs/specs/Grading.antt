@@ -1,0 +1,66 @@
+-- What the netlist, the start and the tests of a job that judges proofs leave.
+use Rattle.std.specs.Prelude.{◌≡◌, ◌≤◌, ℕ, List, Bool, true, length, Option, Some}
+use Rattle.ht_ports.specs.Desk.{DeskView}
+use Rattle.ht_ports.specs.LineRule.{max_text_bytes}
+use Rattle.ht_ports.specs.declared.ports.InPort.TheVariants.{Netlist, Tests, Extra}
+use Rattle.ht_tern.specs.declared.tern.Tern.{Tern}
+use Rattle.ht_net.specs.Netlist as net
+use Rattle.ht_net.specs.Netlist.{IsCircuit}
+use Rattle.ht_net.specs.Detection.{IsStart}
+use Rattle.ht_faults.specs.Sites.{faults_of}
+use Rattle.ht_collapse.specs.Classes.{AreClasses}
+use Rattle.ht_grade.specs.Detections.{AreFirstDetections}
+use Rattle.ht_texts.specs.Tests.{IsTestText}
+use Rattle.ht_valid.specs.ValidFiles.{Content}
+use Rattle.ht_valid.specs.declared.trouble.Trouble.TheVariants as trouble
+use Rattle.ht_asked.specs.Asked.{Asked}
+use Rattle.ht_words.specs.declared.job.RunFiles.{RunFiles}
+use Rattle.ht_inputs.specs.declared.graded.Graded.{Graded}
+use Rattle.ht_inputs.specs.declared.run_error.RunError.TheVariants.{Denied}
+use Rattle.ht_inputs.specs.Inputs.{HasFault, HasNetlist, IsGoodNetlist, JobBasis, SaysBasis}
+use Rattle.ht_inputs.specs.Judging.{judged_basis}
+use Rattle.ht_inputs.specs.Jobs.{input_name, may_state_start}
+use Rattle.ht_inputs.specs.Refusals.{refused_port}
+use Rattle.ht_inputs.specs.Reading.{HasReadTo}
+
+-- a malformed line of the tests is the job's first trouble
+abbrev pub DeniesTests : Asked → Type 0
+DeniesTests job = (line : ℕ) → refused_port job (Denied (trouble.Tests line)) ≡ Some Tests
+
+-- The job reads these files, of which the netlist says the circuit and its classes, and the tests say the vectors; and
+-- it denies tests. It names no fault that a circuit might not have.
+pub record JudgesFiles (job : Asked) (files : RunFiles) (start : Option (List ℕ)) : Type 0 where
+  pub netlist : input_name job Netlist ≡ Some files.netlist
+  pub tests : input_name job Tests ≡ Some files.tests
+  pub started : input_name job Extra ≡ start
+  pub may_start : may_state_start job ≡ true
+  pub denies : DeniesTests job
+  pub fault : (c : net.Netlist) → HasFault job c
+  pub circuit : (basis : JobBasis) (text : List ℕ) → IsGoodNetlist text basis.circuit
+      → AreClasses basis.circuit basis.representatives → SaysBasis job basis Netlist text
+  pub vectors : (basis : JobBasis) (text : List ℕ) → IsTestText basis.circuit text basis.content.list
+      → SaysBasis job basis Tests text
+
+-- The faults, the classes and the start are the circuit's, and there is a place or none for each fault.
+pub record IsOfCircuit (graded : Graded) : Type 0 where
+  pub circuit : IsCircuit graded.circuit
+  pub faults : graded.listed.faults ≡ faults_of graded.circuit
+  pub classes : AreClasses graded.circuit graded.listed.classes
+  pub latches : IsStart graded.circuit graded.start.items
+  pub each : length graded.places.items ≡ length (faults_of graded.circuit)
+
+-- The places are where the vectors detect each representative first, from the start.
+abbrev pub HasDetections : Graded → List Tern → List (List Bool) → Type 0
+HasDetections graded start list =
+    AreFirstDetections graded.circuit graded.listed.classes start list graded.places.items
+
+-- The netlist, the start and the tests were read, of whatever job, and say this.
+pub record IsGraded (files : RunFiles) (start : Option (List ℕ)) (old new : DeskView) (graded : Graded) : Type 0 where
+  pub list : List (List Bool)
+  pub netlist : HasNetlist graded.circuit
+  pub of_circuit : IsOfCircuit graded
+  pub few : length list ≤ max_text_bytes
+  pub first : HasDetections graded graded.start.items list
+  pub reads : (job : Asked) (follows : Bool) (content : Content) → JudgesFiles job files start
+      → content.start ≡ graded.start.items → content.list ≡ list
+      → HasReadTo job (judged_basis follows graded.circuit graded.listed.classes content) 3 old new

@@ -1,0 +1,138 @@
+-- What the files that a job reads say.
+use Rattle.std.specs.Prelude.{◌≡◌, ◌≢◌, ◌<◌, ◌≤◌, ℕ, Bool, List, length, Option, Some, None, IsSome}
+use Rattle.ht_ports.specs.Desk.{DeskView}
+use Rattle.ht_ports.specs.declared.ports.InPort.{InPort}
+use Rattle.ht_ports.specs.declared.ports.InPort.TheVariants.{Netlist, Tests, Report, Proofs, Faults, Extra}
+use Rattle.ht_tern.specs.declared.tern.Tern.{Tern}
+use Rattle.ht_net.specs.Netlist as net
+use Rattle.ht_net.specs.Detection.{unknown_state}
+use Rattle.ht_bench.specs.Text.{max_netlist_bytes, IsNetlistOf}
+use Rattle.ht_texts.specs.FaultListTexts.{IsFaultListText}
+use Rattle.ht_texts.specs.StartTexts.{IsStartText}
+use Rattle.ht_texts.specs.Tests.{IsTestText}
+use Rattle.ht_texts.specs.Verdicts.{said_at}
+use Rattle.ht_texts.specs.SearchReports.{IsReportText}
+use Rattle.ht_entries.specs.EntryTexts.{IsProofText}
+use Rattle.ht_compact.specs.TestsToCompact.{IsTestTextToCompact}
+use Rattle.ht_dictionary.specs.ResponseTexts.{IsResponseText}
+use Rattle.ht_faults.specs.Sites.{faults_of}
+use Rattle.ht_collapse.specs.Classes.{AreClasses}
+use Rattle.ht_valid.specs.ValidFiles.{AgreesWithTests, Content, IsJustified, IsOwn}
+use Rattle.ht_asked.specs.Asked as asked
+use Rattle.ht_asked.specs.Asked.{Asked, check, compact, diagnose, respond}
+use Rattle.ht_inputs.specs.Jobs.{input_name, order_of, start_name}
+
+-- ---- one file
+
+-- the desk tells that the file of this name holds this text, and tells what is left of the port
+pub record IsInput (port : InPort) (name text : List ℕ) (desk : DeskView) : Type 0 where
+  pub file : desk.file name ≡ Some (Some text)
+  pub known : IsSome (desk.left port)
+
+-- the desk doesn't tell that there is no file of this name
+abbrev pub MayHold : DeskView → List ℕ → Type 0
+MayHold desk name = desk.file name ≢ Some None
+
+-- The file of this name was read: there may be one, and where the desk tells its text, that is so.
+pub record WasRead (port : InPort) (name : List ℕ) (IsSo : List ℕ → Type 0) (old : DeskView) : Type 0 where
+  pub there : MayHold old name
+  pub told : (text : List ℕ) → IsInput port name text old → IsSo text
+
+-- the port was neither opened nor read
+pub record IsUnread (port : InPort) (old new : DeskView) : Type 0 where
+  pub left : new.left port ≡ old.left port
+  pub is_open : new.is_open port ≡ old.is_open port
+
+-- the text is a netlist of this circuit, and no longer than a netlist may be
+pub record IsGoodNetlist (text : List ℕ) (c : net.Netlist) : Type 0 where
+  pub stands : IsNetlistOf text c
+  pub short : length text ≤ max_netlist_bytes
+
+-- some text is a netlist of the circuit
+abbrev pub HasNetlist : net.Netlist → Type 0
+HasNetlist c = (text : List ℕ) × IsGoodNetlist text c
+
+-- ---- all files of a job
+
+-- What the files say, by which a job goes: the netlist's circuit; the start; the vectors of the tests; the rows of the
+-- responses; the numbers of the faults that `gen` works on; of `check` and `report` the classes of faults, and what the
+-- report and the proofs say; and whether there is no report, so that the verdicts follow the proofs.
+pub record JobBasis : Type 0 where
+  pub circuit : net.Netlist
+  pub rows : List (List Tern)
+  pub chosen : List ℕ
+  pub representatives : List ℕ
+  pub content : Content
+  pub follows : Bool
+
+-- The text is the report of a search that says this, and agrees with the vectors.
+pub record IsGoodReport (c : net.Netlist) (representatives : List ℕ) (content : Content) (text : List ℕ) : Type 0 where
+  pub reported : IsReportText c representatives text content.budget content.saids
+  pub agrees : (i : ℕ) → IsOwn c representatives i
+      → AgreesWithTests c content.start content.list i (said_at content.saids i)
+
+-- Where the job states no start, that of the basis is all-unknown.
+abbrev pub IsStated : Asked → JobBasis → Type 0
+IsStated job basis = start_name job ≡ None → basis.content.start ≡ unknown_state basis.circuit
+
+-- The text has these entries, and with the vectors they justify what is said of the faults: each backs what is said of
+-- its fault, and none that is needed is missing.
+pub record AreGoodProofs (c : net.Netlist) (representatives : List ℕ) (content : Content) (text : List ℕ) : Type 0 where
+  pub proved : IsProofText content.entries text
+  pub justified : IsJustified c representatives content
+
+-- The text of a job's file says its part of the basis.
+abbrev pub SaysBasis : Asked → JobBasis → InPort → List ℕ → Type 0
+SaysBasis (check netlist tests report proofs start) basis Netlist text =
+    IsGoodNetlist text basis.circuit × AreClasses basis.circuit basis.representatives
+SaysBasis (asked.report netlist tests proofs out budget start) basis Netlist text =
+    IsGoodNetlist text basis.circuit × AreClasses basis.circuit basis.representatives
+SaysBasis job basis Netlist text = IsGoodNetlist text basis.circuit
+SaysBasis (compact netlist tests out) basis Tests text = IsTestTextToCompact basis.circuit text basis.content.list
+SaysBasis job basis Tests text = IsTestText basis.circuit text basis.content.list
+SaysBasis (diagnose netlist tests responses out) basis Extra text =
+    IsResponseText (length basis.circuit.outputs) (length basis.content.list) text basis.rows
+SaysBasis job basis Extra text = IsStartText (length basis.circuit.dffs) text basis.content.start
+SaysBasis job basis Faults text = IsFaultListText (length (faults_of basis.circuit)) text basis.chosen
+SaysBasis job basis Report text = IsGoodReport basis.circuit basis.representatives basis.content text
+SaysBasis (asked.report netlist tests proofs out budget start) basis Proofs text =
+    (basis.content.budget ≡ budget) × AreGoodProofs basis.circuit basis.representatives basis.content text
+SaysBasis job basis Proofs text = AreGoodProofs basis.circuit basis.representatives basis.content text
+
+-- the number of a fault, from 1, is that of one of the circuit, where one is given
+abbrev pub IsListed : net.Netlist → Option ℕ → Type 0
+IsListed c None = Unit {0}
+IsListed c (Some number) = number ≤ length (faults_of c)
+
+-- the fault that a job names is one of the circuit
+abbrev pub HasFault : Asked → net.Netlist → Type 0
+HasFault (respond netlist tests out fault start) c = IsListed c fault
+HasFault job c = Unit {0}
+
+-- The job's file of the port, where it reads one, was read and says its part of the basis.
+abbrev pub AcceptsFile : Asked → JobBasis → InPort → DeskView → Type 0
+AcceptsFile job basis port old = (name : List ℕ) → input_name job port ≡ Some name
+    → WasRead port name (SaysBasis job basis port) old
+
+-- those that come before this one were
+abbrev pub AcceptsBefore : Asked → JobBasis → InPort → DeskView → Type 0
+AcceptsBefore job basis port old =
+    (p : InPort) → order_of job p < order_of job port → AcceptsFile job basis p old
+
+-- All were; and the circuit is that of a netlist, and the start all-unknown where none is stated, whatever the desk
+-- tells.
+pub record AcceptsInputs (job : Asked) (basis : JobBasis) (old : DeskView) : Type 0 where
+  pub stated : IsStated job basis
+  pub each : (port : InPort) → AcceptsFile job basis port old
+  pub circuit : IsSome (input_name job Netlist) → HasNetlist basis.circuit
+
+-- ---- inputs that a desk tells
+
+-- The desk tells the texts of all files of the job, and they are good; the fault that it names is one of the circuit.
+pub record AreGoodInputs (job : Asked) (desk : DeskView) : Type 0 where
+  pub texts : InPort → List ℕ
+  pub basis : JobBasis
+  pub stated : IsStated job basis
+  pub fault : HasFault job basis.circuit
+  pub told : (p : InPort) (name : List ℕ) → input_name job p ≡ Some name → IsInput p name (texts p) desk
+  pub say : (p : InPort) (name : List ℕ) → input_name job p ≡ Some name → SaysBasis job basis p (texts p)

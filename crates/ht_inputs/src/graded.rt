@@ -1,0 +1,93 @@
+//! What the netlist, the start and the tests say, by which a report and proofs are judged.
+ghost use Rattle.std.specs.Prelude.{◌≡◌, ◌≤◌, List, ℕ, length, IfOk, IfErr};
+ghost use Rattle.ht_ports.specs.Desk.{InCall};
+ghost use Rattle.ht_ports.specs.LineRule.{max_text_bytes};
+ghost use Rattle.ht_ports.specs.declared.ports.InPort.TheVariants as in_port;
+ghost use Rattle.ht_net.specs.Netlist.{IsCircuit};
+ghost use Rattle.ht_texts.specs.Tests.{IsTestText};
+ghost use Rattle.ht_asked.specs.Asked.{Asked};
+ghost use Rattle.ht_inputs.specs.Grading.{DeniesTests, IsGraded, JudgesFiles};
+ghost use Rattle.ht_inputs.specs.Inputs.{JobBasis, WasRead};
+ghost use Rattle.ht_inputs.specs.Reading.{EndsReading, ReadStops};
+
+use crate::listed::{Listed, list_faults};
+use crate::netlist::read_netlist;
+use crate::run_error::RunError;
+use crate::start_file::read_stated;
+use crate::vectors_file::read_tests;
+use ht_grade::first_detections_from;
+use ht_net::{Circuit, Place, Vectors};
+use ht_ports::Desk;
+use ht_tern::Tern;
+use ht_valid::Trouble;
+use ht_words::{FileName, RunFiles};
+use std::alloc::Global;
+
+/// A circuit with its faults, a start, and where tests detect each representative first from it.
+#[derive(Drop)]
+pub struct Graded {
+    /// The circuit of the netlist.
+    pub circuit: Circuit,
+    /// Its faults and their classes.
+    pub listed: Listed,
+    /// What each flip-flop holds at the start.
+    pub start: Vec<Tern>,
+    /// The first detection of each representative, by number from 0.
+    pub places: Vec<Option<Place>>,
+}
+
+// Reads the tests. A line that is no vector is the first trouble.
+fn read_judged_tests<D: Desk>(
+    alloc: Global,
+    desk: &mut D,
+    name: &str,
+    circuit: &Circuit,
+) -> Result<Vectors, RunError>
+    requires { IsCircuit circuit.now }
+    ensures frame { InCall in_port.Tests (D.view desk.old) (D.view desk.new) }
+    ensures read { IfOk result (λ list. WasRead in_port.Tests name.now
+        (λ text. IsTestText circuit.now text list.list) (D.view desk.old)) }
+    ensures width { IfOk result (λ list. list.width ≡ circuit.now.inputs) }
+    ensures few { IfOk result (λ list. length list.list ≤ max_text_bytes) }
+    ensures stops { (job : Asked) (basis : JobBasis) → DeniesTests job
+        → basis.circuit ≡ circuit.now → IfErr result
+        (ReadStops job basis in_port.Tests name.now (D.view desk.old) (D.view desk.new)) }
+{
+    match read_tests(alloc, desk, name, circuit, u64::MAX) {
+        Ok(list) => Ok(list),
+        Err(RunError::BadTests { line }) => Err(RunError::Denied {
+            trouble: Trouble::Tests { line },
+        }),
+        Err(error) => Err(error),
+    }
+}
+
+/// Reads the netlist, the start if one is stated, and the tests, each to its end or to the first trouble, and simulates.
+///
+/// # Errors
+/// - `Denied`: a line of the tests is no vector.
+/// - Those of the files, or out of memory.
+pub fn read_graded<D: Desk>(
+    alloc: Global,
+    files: &RunFiles,
+    start: &Option<FileName>,
+    desk: &mut D,
+) -> Result<Graded, RunError>
+    ensures graded { IfOk result
+        (IsGraded files.now start.now (D.view desk.old) (D.view desk.new)) }
+    ensures stopped { (job : Asked) → JudgesFiles job files.now start.now
+        → IfErr result (EndsReading job (D.view desk.old) (D.view desk.new)) }
+{
+    let circuit = read_netlist(alloc, desk, files.netlist.as_str())?;
+    let listed = list_faults(alloc, &circuit)?;
+    let start = read_stated(alloc, desk, &circuit, start)?;
+    let list = read_judged_tests(alloc, desk, files.tests.as_str(), &circuit)?;
+    let faults = &listed.faults;
+    let places = first_detections_from(alloc, &circuit, faults, &listed.classes, &start, &list)?;
+    Ok(Graded {
+        circuit,
+        listed,
+        start,
+        places,
+    })
+}
