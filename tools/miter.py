@@ -3,7 +3,8 @@
 A value is two bits, its rails: whether it is 0 for certain, and whether it is 1 for certain; unknown is neither. A flip-flop
 is two latches. The one output is 1 exactly in a frame in which some output of the circuit shows opposite definite values. So a
 model checker that proves it always 0 says that no list of vectors detects the fault, and a trace that it finds is a list that
-does. Faulty nets outside the fault's cone are the good ones. bench/confirm uses it; nothing is taken from it without a check.
+does. Faulty nets outside the fault's cone are the good ones. bench/confirm and tools/close use it; nothing is taken from it
+without a check.
 """
 import check_proofs
 
@@ -129,25 +130,43 @@ def nets_of(aiger, circuit, sources, fault=None, good=None, cone=()):
     return nets
 
 
-def miter(circuit, fault, start=None):
-    """The AIGER text for a fault from a start, or else all-unknown; None where no output can ever differ."""
-    start = start or [check_proofs.X] * circuit.flip_flops
+def rails(circuit, fault):
+    """What each latch stands for: a machine, 1 being the faulty one, a flip-flop and a bit."""
     cone = cone_of(circuit, fault)
     inside = [j for j in range(circuit.flip_flops) if circuit.inputs + j in cone]
-    aiger = Aiger(circuit.inputs, max(2 * (circuit.flip_flops + len(inside)), 1))
-    # a latch is 0 at first, so that a rail that holds at the start is the latch negated
-    turned = [[value == bit for bit in (0, 1)] for value in [*start, *(start[j] for j in inside)]]
-    latches = [tuple(aiger.latch(2 * at + bit) ^ turns[bit] for bit in (0, 1)) for at, turns in enumerate(turned)]
+    held = [(0, j) for j in range(circuit.flip_flops)] + [(1, j) for j in inside]
+    return [(machine, j, bit) for machine, j in held for bit in (0, 1)]
+
+
+def says_more(start):
+    """Whether a start isn't all-unknown."""
+    return any(value != check_proofs.X for value in start or [])
+
+
+def miter(circuit, fault, start=None):
+    """The AIGER text for a fault from a start, or else all-unknown; None where no output can ever differ.
+
+    All latches are 0 at first: all-unknown. A start that says more is loaded after each frame in which one more input, the
+    last one, is 1. So the start is one of the states that are reached, all-unknown shows no more than it does, and what is
+    known only ever helps: what a model checker keeps out are sets of rails that hold.
+    """
+    cone = cone_of(circuit, fault)
+    held, loads = rails(circuit, fault), says_more(start)
+    aiger = Aiger(circuit.inputs + loads, max(len(held), 1))
+    latch = {rail: aiger.latch(at) for at, rail in enumerate(held)}
     inputs = [(aiger.input(i) ^ 1, aiger.input(i)) for i in range(circuit.inputs)]
-    held = latches[: circuit.flip_flops]
-    good = nets_of(aiger, circuit, inputs + held)
-    own = dict(zip(inside, latches[circuit.flip_flops :]))
-    faulty = nets_of(aiger, circuit, inputs + [own.get(j, value) for j, value in enumerate(held)], fault, good, cone)
-    pins = [faulty[net] for net in circuit.data]
+    states = [tuple(latch[0, j, bit] for bit in (0, 1)) for j in range(circuit.flip_flops)]
+    good = nets_of(aiger, circuit, inputs + states)
+    own = [tuple(latch.get((1, j, bit), state[bit]) for bit in (0, 1)) for j, state in enumerate(states)]
+    faulty = nets_of(aiger, circuit, inputs + own, fault, good, cone)
+    taken = [[machine[net] for net in circuit.data] for machine in (good, faulty)]
     if fault.site[0] == "data":
-        pins[fault.site[1]] = constant(fault.stuck)
-    taken = [good[net] for net in circuit.data] + [pins[j] for j in inside]
-    nexts = [rail ^ turn for rails, turns in zip(taken, turned) for rail, turn in zip(rails, turns)] or [FALSE]
+        taken[1][fault.site[1]] = constant(fault.stuck)
+    nexts = [taken[machine][j][bit] for machine, j, bit in held] or [FALSE]
+    if loads:
+        load = aiger.input(circuit.inputs)
+        at_start = [start[j] == bit for _, j, bit in held]
+        nexts = [aiger.either(load, it) if known else aiger.both(load ^ 1, it) for it, known in zip(nexts, at_start)]
     differs = FALSE
     for net in circuit.outputs:
         opposite = [aiger.both(good[net][bit], faulty[net][1 - bit]) for bit in (0, 1)]

@@ -1,0 +1,80 @@
+"""The model checker ABC and the SAT solver CaDiCaL, as tools/close asks them. What they say is taken as a hint, never as true.
+
+ABC gets the two machines of a fault side by side (tools/miter.py). It finds frames in which the output is 1, or cubes of
+latches, none of which ever comes about, so that the output is never 1. CaDiCaL gets clauses and finds lemmas that end with a
+contradiction, or a solution. Each works for some seconds of a processor, and is ended where it takes more.
+"""
+import resource
+import subprocess
+
+ABC, CADICAL = "berkeley-abc", "cadical"
+# the Debian package of each command
+PACKAGES = {ABC: "berkeley-abc", CADICAL: "cadical", "make": "make"}
+# an engine looks at the time now and then only; these seconds later it is ended
+SLACK = 5
+NO_SOLUTION = 20
+
+
+def run(command, seconds, folder):
+    """Runs an engine in a folder."""
+
+    def limit():
+        hard = resource.getrlimit(resource.RLIMIT_CPU)[1]
+        soft = seconds + SLACK if hard == resource.RLIM_INFINITY else min(seconds + SLACK, hard)
+        resource.setrlimit(resource.RLIMIT_CPU, (soft, hard))
+
+    return subprocess.run(
+        command, cwd=folder, preexec_fn=limit, stdin=subprocess.DEVNULL, capture_output=True, text=True, errors="replace"
+    )
+
+
+def proves(folder, command, seconds):
+    """Whether ABC proves by a command that the output of the circuit in a folder is never 1. Else it may leave a trace."""
+    (folder / "trace").unlink(missing_ok=True)
+    words = f"read_aiger miter.aig; {command} -T {seconds}; write_cex -a trace"
+    return "Property proved" in run([ABC, "-c", words], seconds, folder).stdout
+
+
+def frames_of(folder, inputs):
+    """The inputs of each frame of the trace that ABC left in a folder, if there is one."""
+    path = folder / "trace"
+    if not path.exists():
+        return []
+    # the first line has what the latches hold
+    lines = path.read_text().replace("# DONE", "").split("\n")[1:]
+    return [[int(bit) for bit in line.strip()] for line in lines if len(line.strip()) == inputs]
+
+
+def bounded(folder, text, inputs, seconds):
+    """Frames of a circuit in the last of which its output is 1, by bounded model checking; none where it finds none."""
+    (folder / "miter.aig").write_bytes(text)
+    proves(folder, "bmc3", seconds)
+    return frames_of(folder, inputs)
+
+
+def invariant(folder, text, seconds):
+    """Cubes, of latches that hold 1, none of which ever comes about, so that the output is never 1: by property directed
+    reachability, or None. Latches that hold 0 are left out of a cube: over three values they aren't needed."""
+    (folder / "miter.aig").write_bytes(text)
+    (folder / "cubes").unlink(missing_ok=True)
+    if not proves(folder, "pdr -d -I cubes", seconds):
+        return None
+    latches, cubes = [], []
+    for line in (folder / "cubes").read_text().splitlines() if (folder / "cubes").exists() else []:
+        if line.startswith(".ilb "):
+            latches = [int(word.removeprefix("lo")) for word in line.split()[1:]]
+        elif line[:1] in ("0", "1", "-"):
+            cubes.append([latch for latch, held in zip(latches, line.split()[0]) if held == "1"])
+    return cubes
+
+
+def lemmas(folder, variables, clauses, seconds):
+    """Clauses that follow one after the other and end with the empty one, or None."""
+    lines = [f"p cnf {variables} {len(clauses)}", *(" ".join(map(str, [*clause, 0])) for clause in clauses)]
+    (folder / "clauses").write_text("".join(line + "\n" for line in lines))
+    words = [CADICAL, "-q", "--no-binary", "clauses", "lemmas"]
+    if run(words, seconds, folder).returncode != NO_SOLUTION:
+        return None
+    proof = (folder / "lemmas").read_text().splitlines()
+    # what CaDiCaL deletes stays here
+    return [[int(word) for word in line.split()[:-1]] for line in proof if line[:1] not in ("c", "d", "")]
