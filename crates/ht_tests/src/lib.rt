@@ -4,6 +4,9 @@
 //! They show what no clause says: that calls succeed with ample memory, and that the definitions mean what a reader
 //! expects, by worked examples whose answers come from outside. Circuits are text. A test that needs what is private
 //! stands in its own crate.
+//!
+//! Each function here is proved too, and the time of that is nearly the same whatever its size. So an example is a row of
+//! a table, and a table has one checker; a run of the program is a row of `calls/run/rows`.
 #![tactic(auto)]
 
 #[cfg(test)]

@@ -1,43 +1,28 @@
 //! Tests of ht_bench: texts, and their refusals or the normal texts of their circuits.
 use ht_bench::{BenchError, read, write, write_refusal};
-use ht_net::Circuit;
 use ht_ports::MemoryDesk;
 use std::alloc::{AllocError, Global};
 use std::test::Fail;
 
-fn says_on(desk: &mut MemoryDesk, error: &BenchError, want: &[u8]) -> bool {
-    write_refusal(desk, error).is_ok() && desk.err() == want
-}
-
 /// Whether these are the words of a refusal.
 fn says(alloc: Global, error: &BenchError, want: &[u8]) -> bool {
     let mut desk = MemoryDesk::new(alloc);
-    says_on(&mut desk, error, want)
-}
-
-fn is_written(alloc: Global, circuit: &Circuit, want: &[u8]) -> Result<bool, AllocError> {
-    Ok(write(alloc, circuit)?.as_slice() == want)
+    write_refusal(&mut desk, error).is_ok() && desk.err() == want
 }
 
 /// Whether a text is refused by these words, or is a netlist of the circuit whose normal text this is.
 fn gives(alloc: Global, text: &[u8], want: &[u8]) -> Result<bool, AllocError> {
     match read(alloc, &text[..text.len().min(1000)]) {
-        Ok(circuit) => is_written(alloc, &circuit, want),
+        Ok(circuit) => Ok(write(alloc, &circuit)?.as_slice() == want),
         Err(error) => Ok(says(alloc, &error, want)),
     }
 }
 
-/// Whether each text gives what it is to.
-fn give(alloc: Global, cases: &[(&str, &str)]) -> Result<bool, AllocError> {
-    for (text, want) in cases {
-        if !gives(alloc, text.as_bytes(), want.as_bytes())? {
-            return Ok(false);
-        }
-    }
-    Ok(true)
-}
+const TOGGLE: &str = "INPUT(en)\nOUTPUT(z)\nq = DFF(t)\nt = NAND(en, q)\nz = BUFF(t)\n";
 
-const REFUSED: &[(&str, &str)] = &[
+/// Texts that are refused, and then netlists and their normal texts: spacing, letter case, the order of lines and
+/// repeated outputs are free.
+const ROWS: &[(&str, &str)] = &[
     ("INPUT(a)\nOUTPUT(g)\ng = AND(a,", "line 3: bad line"),
     ("INPUT(a b)\n", "line 1: bad line"),
     ("INPUT(\u{e9})\n", "line 1: bad name"),
@@ -56,18 +41,6 @@ const REFUSED: &[(&str, &str)] = &[
         "INPUT(a)\nx = NAND(y, y)\ny = NAND(z, z)\nz = NAND(a, x)\n",
         "line 2: loop x z y",
     ),
-];
-
-#[test]
-fn texts_are_refused_with_their_line_and_nets(rt: HostRuntime) -> Result<(), Fail> {
-    assert!(rt; give(rt.alloc(), REFUSED)?);
-    Ok(())
-}
-
-const TOGGLE: &str = "INPUT(en)\nOUTPUT(z)\nq = DFF(t)\nt = NAND(en, q)\nz = BUFF(t)\n";
-
-/// Netlists, and their normal texts: spacing, letter case, the order of lines and repeated outputs are free.
-const READ: &[(&str, &str)] = &[
     ("", ""),
     ("q = DFF(q)\n", "q = DFF(q)\n"),
     (
@@ -81,7 +54,14 @@ const READ: &[(&str, &str)] = &[
 ];
 
 #[test]
-fn netlists_are_written_in_normal_form(rt: HostRuntime) -> Result<(), Fail> {
-    assert!(rt; give(rt.alloc(), READ)?);
+fn texts_are_refused_with_their_line_and_nets_or_have_a_normal_form(
+    rt: HostRuntime,
+) -> Result<(), Fail> {
+    for (text, want) in ROWS {
+        assert!(rt;
+            gives(rt.alloc(), text.as_bytes(), want.as_bytes())?,
+            "of {text}"
+        );
+    }
     Ok(())
 }

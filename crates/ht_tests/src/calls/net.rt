@@ -1,6 +1,6 @@
 //! Tests of ht_net.
 use ht_bench::read;
-use ht_net::{Builder, Circuit, NetError, NetId};
+use ht_net::{Builder, Circuit, NetId};
 use ht_tern::Kind;
 use std::alloc::Global;
 use std::test::Fail;
@@ -9,9 +9,13 @@ use std::test::Fail;
 const FED_BACK: &[u8] =
     b"z = NAND(t, t)\nOUTPUT(z)\nt = NAND(a, q)\nOUTPUT(a)\nq = DFF(z)\nINPUT(a)\nOUTPUT(z)\n";
 
-/// Whether the nets are a, q, z, t in this order, with these levels and loads.
-fn has_nets(circuit: &Circuit) -> bool {
-    if circuit.inputs() != 1 || circuit.dffs() != 1 || circuit.gates() != 2 || circuit.nets() != 4 {
+/// Whether the nets are a, q, z, t in this order, with these levels and loads; the outputs are z and a, the flip-flop
+/// reads z, and the gates read t twice, and a and q.
+fn is_fed_back(circuit: &Circuit) -> bool {
+    if circuit.inputs() != 1 || circuit.dffs() != 1 || circuit.outputs() != 2 {
+        return false;
+    }
+    if circuit.gates() != 2 || circuit.nets() != 4 {
         return false;
     }
     circuit.name(NetId(0)) == b"a".as_slice()
@@ -22,14 +26,8 @@ fn has_nets(circuit: &Circuit) -> bool {
         && circuit.order() == [1, 0].as_slice()
         && [circuit.loads(NetId(0)), circuit.loads(NetId(1))] == [2, 1]
         && [circuit.loads(NetId(2)), circuit.loads(NetId(3))] == [2, 2]
-}
-
-/// Whether the outputs are z and a, the flip-flop reads z, and the gates read t twice, and a and q.
-fn has_readers(circuit: &Circuit) -> bool {
-    if circuit.dffs() != 1 || circuit.gates() != 2 || circuit.outputs() != 2 {
-        return false;
-    }
-    [circuit.output(0), circuit.output(1), circuit.dff_data(0)] == [NetId(2), NetId(0), NetId(2)]
+        && [circuit.output(0), circuit.output(1), circuit.dff_data(0)]
+            == [NetId(2), NetId(0), NetId(2)]
         && [circuit.dff_net(0), circuit.gate_net(0)] == [NetId(1), NetId(2)]
         && circuit.gate_kind(0) == Kind::Nand
         && circuit.gate_args(0) == [NetId(3), NetId(3)].as_slice()
@@ -39,22 +37,15 @@ fn has_readers(circuit: &Circuit) -> bool {
 #[test]
 fn numbers_nets_and_counts_loads(rt: HostRuntime) -> Result<(), Fail> {
     let circuit = read(rt.alloc(), FED_BACK)?;
-    assert!(rt; has_nets(&circuit) && has_readers(&circuit));
+    assert!(rt; is_fed_back(&circuit));
     Ok(())
 }
 
-/// Adds `out = NAND(arg, arg)`.
-fn nand(builder: &mut Builder, out: &[u8], arg: &[u8]) -> Result<(), NetError> {
-    let out = builder.net(out)?;
-    let arg = builder.net(arg)?;
-    builder.gate(Kind::Nand, out, &[arg, arg])
-}
-
-/// Adds gate g of a chain: it reads n0, n1 .. and drives the next of them.
+/// Adds gate g of a chain, a NAND of two: it reads n0, n1 .. and drives the next of them.
 fn add_link(builder: &mut Builder, alloc: Global, g: u32) -> Result<(), Fail> {
-    let out = format!(in alloc; "n{}", g as u64 + 1)?;
-    let arg = format!(in alloc; "n{g}")?;
-    nand(builder, out.as_bytes(), arg.as_bytes())?;
+    let out = builder.net(format!(in alloc; "n{}", g as u64 + 1)?.as_bytes())?;
+    let arg = builder.net(format!(in alloc; "n{g}")?.as_bytes())?;
+    builder.gate(Kind::Nand, out, &[arg, arg])?;
     Ok(())
 }
 
@@ -84,14 +75,10 @@ fn is_chain(circuit: &Circuit, from_start: bool) -> bool {
     true
 }
 
-fn finished(builder: &mut Builder, alloc: Global, from_start: bool) -> Result<Circuit, Fail> {
-    add_chain(builder, alloc, from_start)?;
-    Ok(builder.finish()?)
-}
-
 fn chain(alloc: Global, from_start: bool) -> Result<Circuit, Fail> {
     let mut builder = Builder::new(alloc);
-    finished(&mut builder, alloc, from_start)
+    add_chain(&mut builder, alloc, from_start)?;
+    Ok(builder.finish()?)
 }
 
 #[test]

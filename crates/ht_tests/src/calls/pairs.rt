@@ -19,50 +19,44 @@ fn members(set: PairSet) -> [bool; 9] {
     ]
 }
 
+const NO: bool = false;
+
+const YES: bool = true;
+
 #[test]
 fn sets_have_the_members_of_the_worked_examples(rt: HostRuntime) -> Result<(), Fail> {
     let differing = PairSet::single(Zero, One);
     let undecided = PairSet::both_same();
-    let (no, yes) = (false, true);
+    let either_way = lift(Kind::Xor, &[undecided, differing]);
+    let held = lift(Kind::And, &[undecided, differing]);
+    let stuck = undecided.stick(false);
+    let unknown_or_definite = PairSet::independent(Some(Unk), None);
+    let any_or_one = PairSet::independent(None, Some(One));
     for (set, want) in [
-        (
-            lift(Kind::Xor, &[undecided, differing]),
-            [no, yes, no, yes, no, no, no, no, no],
-        ),
-        (
-            lift(Kind::And, &[undecided, differing]),
-            [yes, yes, no, no, no, no, no, no, no],
-        ),
-        (
-            undecided.stick(false),
-            [yes, no, no, yes, no, no, no, no, no],
-        ),
+        (either_way, [NO, YES, NO, YES, NO, NO, NO, NO, NO]),
+        (held, [YES, YES, NO, NO, NO, NO, NO, NO, NO]),
+        (stuck, [YES, NO, NO, YES, NO, NO, NO, NO, NO]),
         (
             PairSet::same_or_unknown(),
-            [yes, no, no, no, yes, no, no, no, yes],
+            [YES, NO, NO, NO, YES, NO, NO, NO, YES],
         ),
         (
             PairSet::any_two_valued(),
-            [yes, yes, no, yes, yes, no, no, no, no],
+            [YES, YES, NO, YES, YES, NO, NO, NO, NO],
         ),
         (
             PairSet::same(Some(One)),
-            [no, no, no, no, yes, no, no, no, no],
+            [NO, NO, NO, NO, YES, NO, NO, NO, NO],
         ),
-        (
-            PairSet::independent(Some(Unk), None),
-            [no, no, no, no, no, no, yes, yes, no],
-        ),
-        (
-            PairSet::independent(None, Some(One)),
-            [no, yes, no, no, yes, no, no, no, no],
-        ),
+        (unknown_or_definite, [NO, NO, NO, NO, NO, NO, YES, YES, NO]),
+        (any_or_one, [NO, YES, NO, NO, YES, NO, NO, NO, NO]),
     ] {
         assert!(rt; members(set) == want);
     }
     Ok(())
 }
 
+/// Questions about a set, and a gate of 255 arguments, which varies each by itself.
 #[test]
 fn questions_answer_by_the_members(rt: HostRuntime) -> Result<(), Fail> {
     let differing = PairSet::single(Zero, One);
@@ -76,11 +70,6 @@ fn questions_answer_by_the_members(rt: HostRuntime) -> Result<(), Fail> {
     ] {
         assert!(rt; (set.is_single(), set.may_differ(), set.must_differ()) == (single, may, must));
     }
-    Ok(())
-}
-
-#[test]
-fn a_gate_of_255_arguments_varies_each_by_itself(rt: HostRuntime) -> Result<(), Fail> {
     let args = [PairSet::both_same(); 255];
     assert!(rt; lift(Kind::Xnor, &args) == PairSet::both_same());
     Ok(())

@@ -59,7 +59,7 @@ fn has_lines(
     Ok(ended == fault && found.as_slice() == wanted)
 }
 
-/// A text, its lines with a bar after each, and the fault that ends them.
+/// A text, its lines with a bar after each, and the fault that ends them. It is split after each LF.
 type Row = (&'static [u8], &'static [u8], Option<LineFault>);
 
 const ROWS: &[Row] = &[
@@ -77,23 +77,11 @@ const ROWS: &[Row] = &[
     (b"12345", b"", Some(LineFault::TooLong { line: 1 })),
 ];
 
-fn splits_on(alloc: Global, desk: &mut MemoryDesk, row: Row) -> Result<bool, Fail> {
-    let (text, wanted, fault) = row;
-    open_text(desk, text)?;
-    Ok(has_lines(alloc, desk, wanted, fault)?)
-}
-
 fn splits(alloc: Global, row: Row) -> Result<bool, Fail> {
+    let (text, wanted, fault) = row;
     let mut desk = MemoryDesk::new(alloc);
-    splits_on(alloc, &mut desk, row)
-}
-
-#[test]
-fn a_text_is_split_after_each_lf(rt: HostRuntime) -> Result<(), Fail> {
-    for row in ROWS {
-        assert!(rt; splits(rt.alloc(), *row)?);
-    }
-    Ok(())
+    open_text(&mut desk, text)?;
+    Ok(has_lines(alloc, &mut desk, wanted, fault)?)
 }
 
 // The newest text of a name, with a report written before it is read.
@@ -107,7 +95,10 @@ fn newest_text(alloc: Global, desk: &mut CleanDesk) -> Result<Vec<u8>, Fail> {
 }
 
 #[test]
-fn a_clean_desk_reads_the_newest_text(rt: HostRuntime) -> Result<(), Fail> {
+fn texts_are_read_by_lines_and_whole(rt: HostRuntime) -> Result<(), Fail> {
+    for row in ROWS {
+        assert!(rt; splits(rt.alloc(), *row)?);
+    }
     let mut desk = CleanDesk::new(rt.alloc());
     assert!(rt; newest_text(rt.alloc(), &mut desk)?.as_slice() == b"new".as_slice());
     Ok(())

@@ -5,7 +5,7 @@ ghost use Rattle.ht_faults.specs.Sites.{faults_of};
 
 use ht_bench::read;
 use ht_faults::{FaultList, list};
-use ht_net::{Circuit, Place};
+use ht_net::Circuit;
 use ht_proofs::{Grader, Steps};
 use ht_samples::{BRANCHES, BUFFERS};
 use std::alloc::{AllocError, Global};
@@ -83,104 +83,105 @@ const ONES: &[bool] = &[true; 40];
 
 const ZEROS: &[bool] = &[false; 40];
 
-/// How many faults, and how many steps each of three vectors may take: 40 for the good machine, and 40 for each group
-/// of 64 faults that aren't detected.
-const BUFFER_ROWS: &[(u32, &[(&[bool], u64)])] = &[
-    (320, &[(ONES, 240), (ZEROS, 160), (ONES, 40)]),
-    (80, &[(ONES, 120), (ZEROS, 80), (ONES, 40)]),
-    (65, &[(ONES, 120), (ZEROS, 80), (ONES, 40)]),
-    (64, &[(ONES, 80), (ZEROS, 80), (ONES, 40)]),
-];
-
-/// Whether fault `k` of the buffers is detected at its buffer's output, stuck at 0 by the first vector and stuck at 1
-/// by the second. The list has those of the inputs and then those of the outputs.
-fn is_detected(grader: &Grader, k: u32) -> bool
-    requires { k < length grader.now.faults }
-{
-    let place = Place {
-        vector: u64::from(k % 2),
-        output: k / 2 % 40,
-    };
-    grader.verdict(k) == Some(place)
+/// A circuit and how many faults its list has; how many of them are graded, how many steps each vector may take, and at
+/// which vector and output each fault is seen first.
+struct Row<'a> {
+    netlist: &'a [u8],
+    listed: u32,
+    count: u32,
+    vectors: &'a [(&'a [bool], u64)],
+    /// An empty list: the fault of an input's or an output's buffer is seen there, stuck at 0 by the first vector and
+    /// stuck at 1 by the second. The list has those of the inputs and then those of the outputs.
+    places: &'a [Option<(u64, u32)>],
 }
 
-fn all_detected(grader: &Grader, count: u32) -> bool
+/// A word has 64 faults: a vector takes 40 steps for the good machine, and 40 for each group of 64 faults that aren't
+/// detected. Stem and pins of a net share a group.
+const ROWS: &[Row<'static>] = &[
+    Row {
+        netlist: BUFFERS,
+        listed: 160,
+        count: 320,
+        vectors: &[(ONES, 240), (ZEROS, 160), (ONES, 40)],
+        places: &[],
+    },
+    Row {
+        netlist: BUFFERS,
+        listed: 160,
+        count: 80,
+        vectors: &[(ONES, 120), (ZEROS, 80), (ONES, 40)],
+        places: &[],
+    },
+    Row {
+        netlist: BUFFERS,
+        listed: 160,
+        count: 65,
+        vectors: &[(ONES, 120), (ZEROS, 80), (ONES, 40)],
+        places: &[],
+    },
+    Row {
+        netlist: BUFFERS,
+        listed: 160,
+        count: 64,
+        vectors: &[(ONES, 80), (ZEROS, 80), (ONES, 40)],
+        places: &[],
+    },
+    // stuck at 0 the stem of a is seen at its own output, its pin at the inverter's output, and its data pin where the
+    // flip-flop shows it, a vector later
+    Row {
+        netlist: BRANCHES,
+        listed: 10,
+        count: 10,
+        vectors: &[(&[true], 2), (&[true], 2)],
+        places: &[
+            Some((0, 0)),
+            None,
+            Some((1, 2)),
+            None,
+            None,
+            Some((0, 1)),
+            Some((1, 2)),
+            None,
+            Some((0, 1)),
+            None,
+        ],
+    },
+];
+
+/// Whether each fault is seen first where the list says; past the list, that of a buffer at its output.
+fn are_places(grader: &Grader, count: u32, places: &[Option<(u64, u32)>]) -> bool
     requires { count ≤ length grader.now.faults }
 {
     for k in 0..count {
-        if !is_detected(grader, k) {
+        let wanted = match places.get(k as usize) {
+            Some(place) => *place,
+            None => Some((u64::from(k % 2), k / 2 % 40)),
+        };
+        let place = grader.verdict(k).map(|place| (place.vector, place.output));
+        if place != wanted {
             return false;
         }
     }
     true
 }
 
-/// Whether the first faults of the buffers are graded as they should be.
-fn buffers_graded(
-    alloc: Global,
-    circuit: &Circuit,
-    count: u32,
-    vectors: &[(&[bool], u64)],
-) -> Result<bool, AllocError> {
+/// Whether the first faults of the circuit are graded as they should be.
+fn is_graded(alloc: Global, circuit: &Circuit, row: &Row<'_>) -> Result<bool, AllocError> {
+    let count = row.count;
     let faults = list(alloc, circuit)?;
-    if faults.len() != 160 {
+    let listed = faults.len();
+    if listed == 0 || listed != row.listed {
         return Ok(false);
     }
     let mut grader = grader_of_first(alloc, circuit, &faults, count)?;
-    Ok(takes_few(&mut grader, circuit, vectors)? && all_detected(&grader, count))
+    Ok(takes_few(&mut grader, circuit, row.vectors)? && are_places(&grader, count, row.places))
 }
 
 #[test]
-fn a_word_has_64_faults(rt: HostRuntime) -> Result<(), Fail> {
-    let circuit = read(rt.alloc(), BUFFERS)?;
-    for row in BUFFER_ROWS {
-        let (count, vectors) = *row;
-        assert!(rt; buffers_graded(rt.alloc(), &circuit, count, vectors)?);
+fn faults_are_graded_in_groups_of_64(rt: HostRuntime) -> Result<(), Fail> {
+    for row in ROWS {
+        let circuit = read(rt.alloc(), row.netlist)?;
+        assert!(rt; is_graded(rt.alloc(), &circuit, row)?);
     }
-    Ok(())
-}
-
-/// At which vector and output each fault is seen first under the vectors 1 and 1: stuck at 0 the stem of a at its own
-/// output, its pin at the inverter's output, and its data pin where the flip-flop shows it, a vector later.
-const BRANCH_PLACES: &[Option<(u64, u32)>; 10] = &[
-    Some((0, 0)),
-    None,
-    Some((1, 2)),
-    None,
-    None,
-    Some((0, 1)),
-    Some((1, 2)),
-    None,
-    Some((0, 1)),
-    None,
-];
-
-fn are_branch_places(grader: &Grader) -> bool
-    requires { length grader.now.faults ≡ 10 }
-{
-    for k in 0..10u32 {
-        let place = grader.verdict(k).map(|place| (place.vector, place.output));
-        if place != BRANCH_PLACES[k as usize] {
-            return false;
-        }
-    }
-    true
-}
-
-/// Whether all faults of the branches are graded as they should be, in one group.
-fn branches_graded(alloc: Global, circuit: &Circuit) -> Result<bool, AllocError> {
-    let faults = list(alloc, circuit)?;
-    if faults.len() != 10 {
-        return Ok(false);
-    }
-    let mut grader = grader_of_first(alloc, circuit, &faults, 10)?;
-    let vectors: &[(&[bool], u64)] = &[(&[true], 2), (&[true], 2)];
-    Ok(takes_few(&mut grader, circuit, vectors)? && are_branch_places(&grader))
-}
-
-#[test]
-fn stem_and_pins_of_a_net_share_a_group(rt: HostRuntime) -> Result<(), Fail> {
-    let circuit = read(rt.alloc(), BRANCHES)?;
-    assert!(rt; branches_graded(rt.alloc(), &circuit)?);
     Ok(())
 }

@@ -36,20 +36,15 @@ fn stem_fault_leaves_the_latch(rt: HostRuntime) -> Result<(), Fail> {
     Ok(())
 }
 
-/// Whether a machine has an output row.
-fn has_row(alloc: Global, machine: &Machine, row: &[Tern]) -> Result<bool, AllocError> {
-    Ok(machine.output_row(alloc)?.as_slice() == row)
-}
-
 /// Whether the AND gate shows nothing before its first frame, and then its inputs' values.
 fn shows_rows(alloc: Global, circuit: &Circuit) -> Result<bool, AllocError> {
     if circuit.inputs() != 2 {
         return Ok(false);
     }
     let mut machine = Machine::start(alloc, circuit, None)?;
-    let before = has_row(alloc, &machine, &[Unk, Unk])?;
+    let before = machine.output_row(alloc)?.as_slice() == [Unk, Unk].as_slice();
     machine.step(&[true, false]);
-    Ok(before && has_row(alloc, &machine, &[One, Zero])?)
+    Ok(before && machine.output_row(alloc)?.as_slice() == [One, Zero].as_slice())
 }
 
 /// The values of the AND gate's nets over bits, for inputs 0 and 1.
@@ -63,62 +58,41 @@ fn settled(circuit: &Circuit, fault: Option<Fault>) -> Option<[bool; 3]> {
     Some(values)
 }
 
-/// Whether the AND gate's nets take the values of bits, without a fault and with its first pin stuck at 1.
-fn settles(circuit: &Circuit) -> bool {
+#[test]
+fn rows_are_in_order_and_bits_settle(rt: HostRuntime) -> Result<(), Fail> {
+    let circuit = read(rt.alloc(), AND_GATE)?;
     let pin = Fault {
         site: Site::GatePin { gate: 0, pin: 0 },
         value: true,
     };
-    settled(circuit, None) == Some([false, true, false])
-        && settled(circuit, Some(pin)) == Some([false, true, true])
-}
-
-#[test]
-fn rows_are_in_order_and_bits_settle(rt: HostRuntime) -> Result<(), Fail> {
-    let circuit = read(rt.alloc(), AND_GATE)?;
-    assert!(rt; shows_rows(rt.alloc(), &circuit)? && settles(&circuit));
+    assert!(rt; shows_rows(rt.alloc(), &circuit)?);
+    assert!(rt; settled(&circuit, None) == Some([false, true, false]));
+    assert!(rt; settled(&circuit, Some(pin)) == Some([false, true, true]));
     Ok(())
 }
 
-/// The toggle over two values, from 0: its output in two frames, and what the flip-flop then holds.
-fn toggled(alloc: Global, circuit: &Circuit) -> Result<Option<[bool; 3]>, AllocError> {
+/// Whether the toggle over two values shows 0 and then 1 from 0, and over three values stays at 0 with this fault.
+fn turns_unless_stuck(alloc: Global, circuit: &Circuit, fault: Fault) -> Result<bool, AllocError> {
     if circuit.inputs() != 0 || circuit.outputs() != 1 || circuit.dffs() != 1 {
-        return Ok(None);
+        return Ok(false);
     }
-    let mut machine = BoolMachine::start_from(alloc, circuit, None, &[false])?;
-    machine.step(&[]);
-    let shown = machine.output(0);
-    machine.step(&[]);
-    Ok(Some([shown, machine.output(0), machine.state(0)]))
-}
-
-/// The output and the flip-flop of the toggle after one frame from 0, over three values.
-fn after_one_frame(
-    alloc: Global,
-    circuit: &Circuit,
-    fault: Option<Fault>,
-) -> Result<Option<[Tern; 2]>, AllocError> {
-    if circuit.inputs() != 0 || circuit.outputs() != 1 || circuit.dffs() != 1 {
-        return Ok(None);
-    }
-    let mut machine = Machine::start_from(alloc, circuit, fault, &[Zero])?;
-    machine.step(&[]);
-    Ok(Some([machine.output(0), machine.state(0)]))
-}
-
-/// Whether the toggle shows 0 and then 1 from 0, and stays at 0 with n stuck at 0.
-fn turns_unless_stuck(alloc: Global, circuit: &Circuit) -> Result<bool, AllocError> {
-    let turned = toggled(alloc, circuit)? == Some([false, true, false]);
-    let stuck = Fault {
-        site: Site::Stem(NetId(1)),
-        value: false,
-    };
-    Ok(turned && after_one_frame(alloc, circuit, Some(stuck))? == Some([Zero, Zero]))
+    let mut good = BoolMachine::start_from(alloc, circuit, None, &[false])?;
+    good.step(&[]);
+    let shown = good.output(0);
+    good.step(&[]);
+    let turned = [shown, good.output(0), good.state(0)] == [false, true, false];
+    let mut faulty = Machine::start_from(alloc, circuit, Some(fault), &[Zero])?;
+    faulty.step(&[]);
+    Ok(turned && [faulty.output(0), faulty.state(0)] == [Zero, Zero])
 }
 
 #[test]
 fn toggle_turns_unless_n_is_stuck(rt: HostRuntime) -> Result<(), Fail> {
     let circuit = read(rt.alloc(), TOGGLE)?;
-    assert!(rt; turns_unless_stuck(rt.alloc(), &circuit)?);
+    let stuck = Fault {
+        site: Site::Stem(NetId(1)),
+        value: false,
+    };
+    assert!(rt; turns_unless_stuck(rt.alloc(), &circuit, stuck)?);
     Ok(())
 }

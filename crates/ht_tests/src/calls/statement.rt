@@ -1,112 +1,82 @@
 //! Tests of ht_statement: lines, and what they state.
 use LineRefusal::{BadCount, BadKind, BadLine, BadName};
+use Stated::{Gate, Name, Nothing, Refused};
 use ht_statement::{LineRefusal, Statement, StatementError, read_line};
 use ht_tern::Kind;
 use std::alloc::Global;
 
-fn refusal(alloc: Global, line: &[u8]) -> Option<LineRefusal> {
-    match read_line(alloc, line) {
-        Err(StatementError::Refused(refusal)) => Some(refusal),
-        _ => None,
+/// What a line states: nothing, the name of an input or the net of a flip-flop's data pin, or the kind of a gate and
+/// the number of its arguments; or why it is refused.
+enum Stated<'a> {
+    Nothing,
+    Name(&'a [u8]),
+    Gate(Kind, usize),
+    Refused(LineRefusal),
+}
+
+/// Whether a line states this.
+fn states(alloc: Global, line: &[u8], wanted: &Stated<'_>) -> bool {
+    let answer = read_line(alloc, line);
+    match wanted {
+        Nothing => matches!(&answer, Ok(Statement::Nothing)),
+        Name(wanted) => match &answer {
+            Ok(Statement::Input(name)) => *name == *wanted,
+            Ok(Statement::Dff { data_pin, .. }) => *data_pin == *wanted,
+            _ => false,
+        },
+        Gate(wanted, count) => match &answer {
+            Ok(Statement::Gate { kind, args, .. }) => *kind == *wanted && args.len() == *count,
+            _ => false,
+        },
+        Refused(wanted) => match &answer {
+            Err(StatementError::Refused(refusal)) => *refusal == *wanted,
+            _ => false,
+        },
     }
 }
 
-// The name of an input, or the net of a flip-flop's data pin.
-fn name<'a>(alloc: Global, line: &'a [u8]) -> Option<&'a [u8]> {
-    match read_line(alloc, line) {
-        Ok(Statement::Input(name)) => Some(name),
-        Ok(Statement::Dff { data_pin, .. }) => Some(data_pin),
-        _ => None,
-    }
-}
-
-// The kind of a gate and the number of its arguments.
-fn gate(alloc: Global, line: &[u8]) -> Option<(Kind, usize)> {
-    match read_line(alloc, line) {
-        Ok(Statement::Gate { kind, args, .. }) => Some((kind, args.len())),
-        _ => None,
-    }
-}
-
-const BAD_LINES: &[&[u8]] = &[
-    b"z",
-    b"z = AND(a,",
-    b"z = AND(,a)",
-    b"z = AND(a b)",
-    b"z = AND(a))",
-    b"z == AND(a)",
-    b"z AND(a)",
-    b"z = AND a",
-    b"INPUT(=)",
-    b"INPUT()",
-    b"IN PUT(a)",
-    b"LATCH(\x80)",
+const ROWS: &[(&[u8], Stated<'static>)] = &[
+    (b"z", Refused(BadLine)),
+    (b"z = AND(a,", Refused(BadLine)),
+    (b"z = AND(,a)", Refused(BadLine)),
+    (b"z = AND(a b)", Refused(BadLine)),
+    (b"z = AND(a))", Refused(BadLine)),
+    (b"z == AND(a)", Refused(BadLine)),
+    (b"z AND(a)", Refused(BadLine)),
+    (b"z = AND a", Refused(BadLine)),
+    (b"INPUT(=)", Refused(BadLine)),
+    (b"INPUT()", Refused(BadLine)),
+    (b"IN PUT(a)", Refused(BadLine)),
+    (b"LATCH(\x80)", Refused(BadLine)),
+    // a name is judged before the kind, the kind before the count
+    (b"INPUT(\x7f)", Refused(BadName)),
+    (b"a\r = AND(b)", Refused(BadName)),
+    (b"z = MUX(\xc3\xa9)", Refused(BadName)),
+    (b"z = MUX()", Refused(BadKind)),
+    (b"z = \xc3\xa9(a)", Refused(BadKind)),
+    (b"z = AND()", Refused(BadCount)),
+    (b"z = NOT(a, b)", Refused(BadCount)),
+    (b"q = DFF()", Refused(BadCount)),
+    (b"INPUT(G0)", Name(b"G0")),
+    (b"\t inPut\t( G0 )# the first", Name(b"G0")),
+    (b"INPUT(;[7]\"$)", Name(b";[7]\"$")),
+    (b"G5 = DFF(G10)", Name(b"G10")),
+    (b"INPUT=dff(OUTPUT)#", Name(b"OUTPUT")),
+    (b"G9 = NAND(G16, G15)", Gate(Kind::Nand, 2)),
+    (b" z=xnor ( a,a\t,b ) ", Gate(Kind::Xnor, 3)),
+    (b"z = Buf(a)", Gate(Kind::Buf, 1)),
+    (b"z = BUFF(a)", Gate(Kind::Buf, 1)),
+    (b"and = and(and)", Gate(Kind::And, 1)),
+    (b"", Nothing),
+    (b" \t ", Nothing),
+    (b"# only a comment", Nothing),
+    (b"  #INPUT(a)", Nothing),
 ];
 
 #[test]
-fn refuses_bad_lines(rt: HostRuntime) {
-    for line in BAD_LINES {
-        assert_eq!(&rt; refusal(rt.alloc(), *line), Some(BadLine));
-    }
-}
-
-const REFUSED: &[(&[u8], LineRefusal)] = &[
-    (b"INPUT(\x7f)", BadName),
-    (b"a\r = AND(b)", BadName),
-    (b"z = MUX(\xc3\xa9)", BadName),
-    (b"z = MUX()", BadKind),
-    (b"z = \xc3\xa9(a)", BadKind),
-    (b"z = AND()", BadCount),
-    (b"z = NOT(a, b)", BadCount),
-    (b"q = DFF()", BadCount),
-];
-
-// A name is judged before the kind, the kind before the count.
-#[test]
-fn refuses_in_order(rt: HostRuntime) {
-    for row in REFUSED {
-        let (line, want) = *row;
-        assert_eq!(&rt; refusal(rt.alloc(), line), Some(want));
-    }
-}
-
-const NAMES: &[(&[u8], &[u8])] = &[
-    (b"INPUT(G0)", b"G0"),
-    (b"\t inPut\t( G0 )# the first", b"G0"),
-    (b"INPUT(;[7]\"$)", b";[7]\"$"),
-    (b"G5 = DFF(G10)", b"G10"),
-    (b"INPUT=dff(OUTPUT)#", b"OUTPUT"),
-];
-
-#[test]
-fn reads_names(rt: HostRuntime) {
-    for row in NAMES {
-        let (line, want) = *row;
-        assert!(&rt; name(rt.alloc(), line) == Some(want));
-    }
-}
-
-const GATES: &[(&[u8], Kind, usize)] = &[
-    (b"G9 = NAND(G16, G15)", Kind::Nand, 2),
-    (b" z=xnor ( a,a\t,b ) ", Kind::Xnor, 3),
-    (b"z = Buf(a)", Kind::Buf, 1),
-    (b"z = BUFF(a)", Kind::Buf, 1),
-    (b"and = and(and)", Kind::And, 1),
-];
-
-#[test]
-fn reads_gates(rt: HostRuntime) {
-    for row in GATES {
-        let (line, kind, count) = *row;
-        assert_eq!(&rt; gate(rt.alloc(), line), Some((kind, count)));
-    }
-}
-
-const EMPTY: &[&[u8]] = &[b"", b" \t ", b"# only a comment", b"  #INPUT(a)"];
-
-#[test]
-fn reads_lines_that_state_nothing(rt: HostRuntime) {
-    for line in EMPTY {
-        assert!(&rt; matches!(read_line(rt.alloc(), *line), Ok(Statement::Nothing)));
+fn a_line_states_what_it_says_or_is_refused(rt: HostRuntime) {
+    for row in ROWS {
+        let line = row.0;
+        assert!(&rt; states(rt.alloc(), line, &row.1), "of {line:?}");
     }
 }

@@ -3,9 +3,9 @@ use ht_tern::Tern::{One, Unk, Zero};
 use ht_tern::{Kind, eval, is_opposite, refines};
 use std::test::Fail;
 
-/// Each kind with the arguments One and Unk, and with Zero and Unk (Kleene logic).
+/// Each kind with the arguments One and Unk, and with Zero and Unk (Kleene logic); and how two values compare.
 #[test]
-fn gates_follow_kleenes_tables(rt: HostRuntime) -> Result<(), Fail> {
+fn gates_follow_kleenes_tables_and_values_are_compared(rt: HostRuntime) -> Result<(), Fail> {
     for (kind, with_one, with_zero) in [
         (Kind::And, Unk, Zero),
         (Kind::Nand, Unk, One),
@@ -22,11 +22,6 @@ fn gates_follow_kleenes_tables(rt: HostRuntime) -> Result<(), Fail> {
     }
     assert!(rt; eval(Kind::Xor, &[One, One, One]) == One);
     assert!(rt; (eval(Kind::Not, &[Unk]), eval(Kind::Buf, &[One])) == (Unk, One));
-    Ok(())
-}
-
-#[test]
-fn two_values_are_compared(rt: HostRuntime) -> Result<(), Fail> {
     assert!(rt; refines(One, Unk) && !refines(Unk, One));
     assert!(rt; is_opposite(One, Zero) && !is_opposite(One, Unk) && !is_opposite(One, One));
     assert!(rt; Kind::Xnor.inverts() && !Kind::Buf.inverts());

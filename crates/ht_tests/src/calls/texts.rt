@@ -22,22 +22,6 @@ const VECTORS: &[(&[u8], u32, Option<&[bool]>)] = &[
     (b"1 ", 2, None),
 ];
 
-#[test]
-fn a_vector_is_read_by_its_line(rt: HostRuntime) -> Result<(), Fail> {
-    for row in VECTORS {
-        let (line, width, bits) = *row;
-        assert!(rt; read_vector(rt.alloc(), line, width)?.as_deref() == bits);
-    }
-    Ok(())
-}
-
-#[test]
-fn a_vector_is_written_as_its_line(rt: HostRuntime) -> Result<(), Fail> {
-    let wanted: &[u8] = b"10\n";
-    assert!(rt; write_vector(rt.alloc(), &[true, false])?.as_slice() == wanted);
-    Ok(())
-}
-
 // What is said of fault `i` of this circuit, from 0, after the vectors 1 and 0.
 fn said(circuit: &Circuit, i: u32) -> Said
     ensures { IsSayable circuit.now result }
@@ -79,16 +63,6 @@ const FAULT_LINES: &[(u32, &[u8])] = &[
     (9, b"10 z(1) s-a-1 detected 2 z\n"),
 ];
 
-fn are_lines(alloc: Global, circuit: &Circuit) -> Result<bool, AllocError> {
-    for row in FAULT_LINES {
-        let (i, wanted) = *row;
-        if !is_line(alloc, circuit, i, wanted)? {
-            return Ok(false);
-        }
-    }
-    Ok(true)
-}
-
 const SEARCHED: &[u8] =
     b"circuit inputs 1 outputs 1 flip-flops 0 gates 2 faults 10 classes 6 budget 1000\n";
 
@@ -103,7 +77,11 @@ fn is_head(alloc: Global, circuit: &Circuit) -> Result<bool, AllocError> {
 #[test]
 fn head_and_lines_of_a_search(rt: HostRuntime) -> Result<(), Fail> {
     let circuit = read(rt.alloc(), ALWAYS_ZERO)?;
-    assert!(rt; is_head(rt.alloc(), &circuit)? && are_lines(rt.alloc(), &circuit)?);
+    assert!(rt; is_head(rt.alloc(), &circuit)?);
+    for row in FAULT_LINES {
+        let (i, wanted) = *row;
+        assert!(rt; is_line(rt.alloc(), &circuit, i, wanted)?, "of fault {i}");
+    }
     Ok(())
 }
 
@@ -127,24 +105,6 @@ const TOTALS: &[(u32, u32, &[u8])] = &[
     ),
 ];
 
-#[test]
-fn total_of_a_search(rt: HostRuntime) -> Result<(), Fail> {
-    for row in TOTALS {
-        let (undetectable, undetected, wanted) = *row;
-        let sums = Sums {
-            classes: 9,
-            detected: 3,
-            untestable: 2,
-            aborted: 1,
-            undetectable,
-            undetected,
-            search: true,
-        };
-        assert!(rt; write_total(rt.alloc(), sums)?.as_slice() == wanted);
-    }
-    Ok(())
-}
-
 /// Lines of a list of six faults, and how many of them are taken before the first that is none.
 const FAULT_NUMBERS: &[(&[&[u8]], usize)] = &[
     (&[b"2", b"5", b"6"], 3),
@@ -167,8 +127,28 @@ fn count_taken(alloc: Global, lines: &[&[u8]]) -> Result<usize, AllocError> {
     Ok(numbers.len())
 }
 
+// A vector is read by its line and written as it, a search has its total line, and a list of faults rises.
 #[test]
-fn a_list_of_faults_rises(rt: HostRuntime) -> Result<(), Fail> {
+fn vectors_totals_and_lists_have_their_lines(rt: HostRuntime) -> Result<(), Fail> {
+    for row in VECTORS {
+        let (line, width, bits) = *row;
+        assert!(rt; read_vector(rt.alloc(), line, width)?.as_deref() == bits);
+    }
+    let wanted: &[u8] = b"10\n";
+    assert!(rt; write_vector(rt.alloc(), &[true, false])?.as_slice() == wanted);
+    for row in TOTALS {
+        let (undetectable, undetected, wanted) = *row;
+        let sums = Sums {
+            classes: 9,
+            detected: 3,
+            untestable: 2,
+            aborted: 1,
+            undetectable,
+            undetected,
+            search: true,
+        };
+        assert!(rt; write_total(rt.alloc(), sums)?.as_slice() == wanted);
+    }
     for row in FAULT_NUMBERS {
         let (lines, taken) = *row;
         assert!(rt; count_taken(rt.alloc(), lines)? == taken);

@@ -1,376 +1,406 @@
 //! Tests of ht_words.
-use super::run::cases::words_of;
-use ht_words::{FileName, Job, RunFiles, WordsFault, command};
+use super::run::rows::words_of;
+use Asked::{Names, Options, Usage};
+use ht_words::{FileName, Job, WordsFault, command};
 use std::alloc::{AllocError, Global};
 use std::test::Fail;
 
-/// The names are the command's, and then those of two files.
-fn are_two(command: &str, a: &FileName, b: &FileName, names: &[&str]) -> bool {
-    names.len() == 3 && names[0] == command && names[1] == a.as_str() && names[2] == b.as_str()
+/// What words ask for.
+enum Asked<'a> {
+    /// They have no form.
+    Usage,
+    /// The command of this name with these names of files, and with this start where it may have one.
+    Names(&'a str, &'a [&'a str], Option<&'a str>),
+    /// `gen` with this budget, these first vectors and faults, so many weighted vectors, and a deep search or none.
+    Options(u64, Option<&'a str>, Option<&'a str>, u32, bool),
 }
 
-/// The names are the command's, and then those of three files.
-fn are_three(command: &str, a: &FileName, b: &FileName, c: &FileName, names: &[&str]) -> bool {
-    names.len() == 4
-        && names[0] == command
-        && names[1] == a.as_str()
-        && names[2] == b.as_str()
-        && names[3] == c.as_str()
+fn are_names(found: &[&str], names: &[&str]) -> bool {
+    if found.len() != names.len() {
+        return false;
+    }
+    for i in 0..found.len() {
+        if found[i] != names[i] {
+            return false;
+        }
+    }
+    true
 }
 
-/// The last is that of a fourth file, after those of three.
-fn are_four(
-    command: &str,
-    a: &FileName,
-    b: &FileName,
-    c: &FileName,
-    d: &FileName,
-    names: &[&str],
-) -> bool {
-    names.len() == 5 && are_three(command, a, b, c, &names[..4]) && names[4] == d.as_str()
+/// An option that names a file has this name, or isn't there.
+fn is_name(option: &Option<FileName>, name: Option<&str>) -> bool {
+    match option {
+        Some(text) => match name {
+            Some(name) => text.as_str() == name,
+            None => false,
+        },
+        None => name.is_none(),
+    }
 }
 
-/// The names are the command's, and then those of the files.
-fn are_files(command: &str, files: &RunFiles, names: &[&str]) -> bool {
-    are_four(
-        command,
-        &files.netlist,
-        &files.tests,
-        &files.report,
-        &files.proofs,
-        names,
-    )
-}
-
-/// The job is the command with these names.
-fn is_job(job: &Job, names: &[&str]) -> bool {
+/// Whether the job is this command with these names and this start, where it is one over a netlist and one or two more.
+fn is_of_few(job: &Job, command: &str, names: &[&str], start: Option<&str>) -> bool {
     match job {
         Job::Sim {
-            netlist,
-            tests,
-            report,
-            start,
-        } => start.is_none() && are_three("sim", netlist, tests, report, names),
-        Job::Gen { files, options } => { options.start.is_none() && are_files("gen", files, names) }
-        Job::Check { files, start } => start.is_none() && are_files("check", files, names),
-        Job::Norm { netlist, out } => are_two("norm", netlist, out, names),
-        Job::Demo { .. } => false,
+            netlist: a,
+            tests: b,
+            report: c,
+            start: own,
+        } => {
+            command == "sim"
+                && is_name(own, start)
+                && are_names(&[a.as_str(), b.as_str(), c.as_str()], names)
+        }
+        Job::Norm { netlist: a, out: b } => {
+            command == "norm" && are_names(&[a.as_str(), b.as_str()], names)
+        }
         Job::Compact {
-            netlist,
-            tests,
-            out,
-        } => are_three("compact", netlist, tests, out, names),
+            netlist: a,
+            tests: b,
+            out: c,
+        } => command == "compact" && are_names(&[a.as_str(), b.as_str(), c.as_str()], names),
+        Job::Uninit {
+            netlist: a,
+            out: b,
+            ..
+        } => command == "uninit" && are_names(&[a.as_str(), b.as_str()], names),
+        Job::Sync {
+            netlist: a,
+            tests: b,
+            out: c,
+            ..
+        } => command == "sync" && are_names(&[a.as_str(), b.as_str(), c.as_str()], names),
+        Job::Respond {
+            netlist: a,
+            tests: b,
+            out: c,
+            start: own,
+            ..
+        } => {
+            command == "respond"
+                && is_name(own, start)
+                && are_names(&[a.as_str(), b.as_str(), c.as_str()], names)
+        }
+        _ => false,
+    }
+}
+
+fn are_four(a: &FileName, b: &FileName, c: &FileName, d: &FileName, names: &[&str]) -> bool {
+    are_names(&[a.as_str(), b.as_str(), c.as_str(), d.as_str()], names)
+}
+
+/// Whether the job is this command with these names and this start.
+fn is_named(job: &Job, command: &str, names: &[&str], start: Option<&str>) -> bool {
+    match job {
+        Job::Gen { files, options } => {
+            command == "gen"
+                && is_name(&options.start, start)
+                && are_four(
+                    &files.netlist,
+                    &files.tests,
+                    &files.report,
+                    &files.proofs,
+                    names,
+                )
+        }
+        Job::Check { files, start: own } => {
+            command == "check"
+                && is_name(own, start)
+                && are_four(
+                    &files.netlist,
+                    &files.tests,
+                    &files.report,
+                    &files.proofs,
+                    names,
+                )
+        }
+        Job::Report {
+            files,
+            start: own,
+            ..
+        } => {
+            command == "report"
+                && is_name(own, start)
+                && are_four(
+                    &files.netlist,
+                    &files.tests,
+                    &files.proofs,
+                    &files.report,
+                    names,
+                )
+        }
         Job::Diagnose {
             netlist,
             tests,
             responses,
             out,
-        } => are_four("diagnose", netlist, tests, responses, out, names),
-        Job::Uninit { netlist, out, .. } => are_two("uninit", netlist, out, names),
-        Job::Sync {
-            netlist,
-            tests,
-            out,
-            ..
-        } => are_three("sync", netlist, tests, out, names),
-        Job::Respond {
-            netlist,
-            tests,
-            out,
-            ..
-        } => are_three("respond", netlist, tests, out, names),
-        Job::Report { files, .. } => are_four(
-            "report",
-            &files.netlist,
-            &files.tests,
-            &files.proofs,
-            &files.report,
-            names,
-        ),
+        } => command == "diagnose" && are_four(netlist, tests, responses, out, names),
+        _ => is_of_few(job, command, names, start),
     }
 }
 
-/// The answer is the command with these names; without a name, it is `Usage`.
-fn is_answer(answer: &Result<Job, WordsFault>, names: &[&str]) -> bool {
-    match answer {
-        Ok(job) => is_job(job, names),
-        Err(WordsFault::Usage) => names.is_empty(),
-        Err(WordsFault::NoMemory) => false,
-    }
-}
-
-fn asks(alloc: Global, words: &[&str], names: &[&str]) -> Result<bool, AllocError> {
-    let list = words_of(alloc, words)?;
-    Ok(is_answer(&command(alloc, &list), names))
-}
-
-/// Words, and the command's name and names that they give; none where they have no form.
-const ROWS: &[(&[&str], &[&str])] = &[
-    (&["sim", "n", "t", "r"], &["sim", "n", "t", "r"]),
-    (&["sim", "", "", ""], &["sim", "", "", ""]),
-    (&["sim", "-", "-", "-"], &["sim", "-", "-", "-"]),
-    (&["sim", "--", "n", "t", "r"], &["sim", "n", "t", "r"]),
-    (&["sim", "n", "t", "r", "--"], &["sim", "n", "t", "r"]),
-    (&["sim", "n", "--", "-t", "--r"], &["sim", "n", "-t", "--r"]),
-    (&["sim", "--", "--", "t", "r"], &["sim", "--", "t", "r"]),
-    (&["sim", "n", "--", "t", "--"], &["sim", "n", "t", "--"]),
-    (&["gen", "n", "t", "r", "p"], &["gen", "n", "t", "r", "p"]),
-    (
-        &["check", "n", "t", "--", "-r", "p"],
-        &["check", "n", "t", "-r", "p"],
-    ),
-    (
-        &["gen", "--", "n", "-t", "--r", "--budget"],
-        &["gen", "n", "-t", "--r", "--budget"],
-    ),
-    (
-        &["gen", "n", "--random", "5", "t", "r", "p", "--seed=5"],
-        &["gen", "n", "t", "r", "p"],
-    ),
-    (
-        &["check", "n", "t", "r", "p"],
-        &["check", "n", "t", "r", "p"],
-    ),
-    (&["norm", "n", "o"], &["norm", "n", "o"]),
-    (&["compact", "n", "t", "o"], &["compact", "n", "t", "o"]),
-    (
-        &["diagnose", "n", "t", "s", "o"],
-        &["diagnose", "n", "t", "s", "o"],
-    ),
-    (&["diagnose", "n", "t", "o"], &[]),
-    (
-        &["uninit", "n", "--budget=5", "--", "-o"],
-        &["uninit", "n", "-o"],
-    ),
-    (&["uninit", "n", "o", "--budget=0"], &[]),
-    (
-        &["sync", "n", "t", "--budget=5", "o"],
-        &["sync", "n", "t", "o"],
-    ),
-    (&["sync", "n", "o"], &[]),
-    (
-        &["respond", "n", "--fault=5", "t", "--start", "s", "o"],
-        &["respond", "n", "t", "o"],
-    ),
-    (&["respond", "n", "t", "o", "--fault=655359"], &[]),
-    (
-        &["report", "n", "--budget=5", "t", "--start", "s", "p", "r"],
-        &["report", "n", "t", "p", "r"],
-    ),
-    (&["report", "n", "t", "p", "r", "--budget=0"], &[]),
-    (&["report", "n", "t", "p"], &[]),
-    (&["gen", "n", "t", "r", "p", "--search", "Deep"], &[]),
-    (&["gen", "n", "t", "r", "p", "--weighted=100001"], &[]),
-    (&["gen", "n", "t", "r", "p", "--first"], &[]),
-    (&["norm", "--", "-n", "-o"], &["norm", "-n", "-o"]),
-    (&[], &[]),
-    (&["SIM", "n", "t", "r"], &[]),
-    (&["help"], &[]),
-    (&["sim"], &[]),
-    (&["sim", "n", "t"], &[]),
-    (&["sim", "n", "t", "r", "x"], &[]),
-    (&["sim", "--", "n", "t", "r", "x"], &[]),
-    (&["sim", "-1", "t", "r"], &[]),
-    (&["sim", "-n", "t", "r"], &[]),
-    (&["sim", "--n", "t", "r"], &[]),
-    (&["sim", "---", "t", "r"], &[]),
-    (&["sim", "n", "t", "r", "-h"], &[]),
-    (&["sim", "--help"], &[]),
-    (&["sim", "-V"], &[]),
-    (&["sim", "--version"], &[]),
-    (&["sim", "n", "t", "r", "--budget", "5"], &[]),
-    (&["gen", "n", "t", "r"], &[]),
-    (&["gen", "n", "t", "r", "p", "x"], &[]),
-    (&["gen", "n", "t", "r", "p", "--random", "x"], &[]),
-    (&["check", "n", "t", "r"], &[]),
-    (&["demo", "16"], &[]),
-    (&["demo", "0", "1"], &[]),
-    (&["gen", "n", "t", "r", "p", "--help"], &[]),
-    (&["norm", "n"], &[]),
-    (&["norm", "n", "o", "--start", "s"], &[]),
-    (&["sim", "n", "t", "r", "--start"], &[]),
-    (&["sim", "n", "t", "r", "--start", "-s"], &[]),
-    (
-        &["check", "n", "t", "r", "p", "--start=s", "--start=s"],
-        &[],
-    ),
-    (&["norm", "n", "o", "x"], &[]),
-    (&["norm", "n", "o", "--help"], &[]),
-];
-
-#[test]
-fn words_of_a_form_give_its_names_and_others_are_usage(rt: HostRuntime) -> Result<(), Fail> {
-    for row in ROWS {
-        let (words, names) = *row;
-        assert!(rt; asks(rt.alloc(), words, names)?);
-    }
-    Ok(())
-}
-
-// The name of the start that the answer has.
-fn start_in(answer: &Result<Job, WordsFault>) -> Option<&str> {
-    match answer {
-        Ok(
-            Job::Sim {
-                start: Some(name),
-                ..
-            },
-        ) => Some(name.as_str()),
-        Ok(
-            Job::Check {
-                start: Some(name),
-                ..
-            },
-        ) => Some(name.as_str()),
-        Ok(Job::Gen { options, .. }) => match &options.start {
-            Some(name) => Some(name.as_str()),
-            None => None,
+fn is_job(job: &Job, asked: &Asked<'_>) -> bool {
+    match asked {
+        Usage => false,
+        Names(command, names, start) => is_named(job, *command, *names, *start),
+        Options(budget, first, faults, weighted, deep) => match job {
+            Job::Gen { options, .. } => {
+                options.budget == *budget
+                    && is_name(&options.first, *first)
+                    && is_name(&options.faults, *faults)
+                    && options.weighted == *weighted
+                    && options.deep == *deep
+            }
+            _ => false,
         },
-        _ => None,
     }
 }
 
-fn has_start(alloc: Global, words: &[&str], name: &str) -> Result<bool, AllocError> {
-    let list = words_of(alloc, words)?;
-    let answer = command(alloc, &list);
-    Ok(match start_in(&answer) {
-        Some(text) => text == name,
-        None => false,
-    })
-}
-
-/// Words, and the name of the start that they give.
-const STARTS: &[(&[&str], &str)] = &[
-    (&["sim", "n", "t", "r", "--start", "s"], "s"),
-    (&["sim", "--start=-s", "n", "t", "r"], "-s"),
-    (&["sim", "n", "--start", "-", "t", "r"], "-"),
-    (
-        &["gen", "n", "t", "r", "p", "--start", "s", "--seed=5"],
-        "s",
-    ),
-    (&["check", "n", "t", "r", "p", "--start="], ""),
-];
-
-#[test]
-fn words_of_a_start_give_its_name(rt: HostRuntime) -> Result<(), Fail> {
-    for row in STARTS {
-        let (words, name) = *row;
-        assert!(rt; has_start(rt.alloc(), words, name)?);
-    }
-    Ok(())
-}
-
-// The budget of the answer, if it is a `gen`.
-fn budget_in(answer: &Result<Job, WordsFault>) -> Option<u64> {
-    match answer {
-        Ok(Job::Gen { options, .. }) => Some(options.budget),
-        _ => None,
-    }
-}
-
-fn has_budget(alloc: Global, words: &[&str], budget: Option<u64>) -> Result<bool, AllocError> {
-    let list = words_of(alloc, words)?;
-    Ok(budget_in(&command(alloc, &list)) == budget)
-}
-
-/// Words of `gen`, and the budget that they give; none where they have no form.
-const BUDGETS: &[(&[&str], Option<u64>)] = &[
-    (&["gen", "n", "t", "r", "p"], Some(1_000)),
-    (&["gen", "n", "t", "r", "p", "--budget", "5"], Some(5)),
-    (&["gen", "n", "t", "r", "p", "--budget=5"], Some(5)),
-    (&["gen", "--budget", "5", "n", "t", "r", "p"], Some(5)),
-    (&["gen", "--budget=5", "n", "t", "r", "p"], Some(5)),
-    (&["gen", "n", "t", "--budget=5", "r", "p"], Some(5)),
-    (&["gen", "--budget", "5", "--", "n", "t", "r", "p"], Some(5)),
-    (&["gen", "n", "t", "r", "p", "--budget", "1"], Some(1)),
-    (
-        &["gen", "n", "t", "r", "p", "--budget=100000"],
-        Some(100_000),
-    ),
-    (
-        &["gen", "n", "t", "r", "p", "--budget=0000000100000"],
-        Some(100_000),
-    ),
-    (&["gen", "n", "t", "r", "p", "--budget", "0"], None),
-    (&["gen", "n", "t", "r", "p", "--budget", "100001"], None),
-    (
-        &["gen", "n", "t", "r", "p", "--budget=18446744073709551617"],
-        None,
-    ),
-    (&["gen", "n", "t", "r", "p", "--budget"], None),
-    (&["gen", "n", "t", "r", "p", "--budget="], None),
-    (&["gen", "n", "t", "r", "p", "--budget", ""], None),
-    (&["gen", "n", "t", "r", "p", "--budget", "-5"], None),
-    (&["gen", "n", "t", "r", "p", "--budget=-5"], None),
-    (&["gen", "n", "t", "r", "p", "--budget=+5"], None),
-    (&["gen", "n", "t", "r", "p", "--budget", "0x5"], None),
-    (&["gen", "n", "t", "r", "p", "--budget", "5 "], None),
-    (
-        &["gen", "n", "t", "r", "p", "--budget", "5", "--budget", "5"],
-        None,
-    ),
-    (&["gen", "n", "t", "r", "p", "--", "--budget", "5"], None),
-    (&["gen", "n", "t", "r", "p", "--bud", "5"], None),
-    (&["gen", "n", "t", "r", "p", "-b", "5"], None),
-];
-
-#[test]
-fn a_budget_is_a_number_in_digits_from_1_to_100000(rt: HostRuntime) -> Result<(), Fail> {
-    for row in BUDGETS {
-        let (words, budget) = *row;
-        assert!(rt; has_budget(rt.alloc(), words, budget)?);
-    }
-    Ok(())
-}
-
-// What an option that names a file gives.
-fn is_name(option: &Option<FileName>, name: &str) -> bool {
-    match option {
-        Some(text) => text.as_str() == name,
-        None => name.is_empty(),
-    }
-}
-
-/// The answer is a `gen` with these first vectors and faults, an empty name for none, so many weighted vectors, and such
-/// a search.
-fn has_options(
-    alloc: Global,
-    words: &[&str],
-    names: (&str, &str),
-    weighted: u32,
-    deep: bool,
-) -> Result<bool, AllocError> {
+fn asks(alloc: Global, words: &[&str], asked: &Asked<'_>) -> Result<bool, AllocError> {
     let list = words_of(alloc, words)?;
     let answer = command(alloc, &list);
     Ok(match &answer {
-        Ok(Job::Gen { options, .. }) => {
-            is_name(&options.first, names.0)
-                && is_name(&options.faults, names.1)
-                && options.weighted == weighted
-                && options.deep == deep
-        }
-        _ => false,
+        Ok(job) => is_job(job, asked),
+        Err(WordsFault::Usage) => matches!(asked, Usage),
+        Err(WordsFault::NoMemory) => false,
     })
 }
 
+const ROWS: &[(&[&str], Asked<'static>)] = &[
+    (
+        &["sim", "n", "t", "r"],
+        Names("sim", &["n", "t", "r"], None),
+    ),
+    (&["sim", "", "", ""], Names("sim", &["", "", ""], None)),
+    (
+        &["sim", "-", "-", "-"],
+        Names("sim", &["-", "-", "-"], None),
+    ),
+    (
+        &["sim", "--", "n", "t", "r"],
+        Names("sim", &["n", "t", "r"], None),
+    ),
+    (
+        &["sim", "n", "t", "r", "--"],
+        Names("sim", &["n", "t", "r"], None),
+    ),
+    (
+        &["sim", "n", "--", "-t", "--r"],
+        Names("sim", &["n", "-t", "--r"], None),
+    ),
+    (
+        &["sim", "--", "--", "t", "r"],
+        Names("sim", &["--", "t", "r"], None),
+    ),
+    (
+        &["sim", "n", "--", "t", "--"],
+        Names("sim", &["n", "t", "--"], None),
+    ),
+    (
+        &["gen", "n", "t", "r", "p"],
+        Names("gen", &["n", "t", "r", "p"], None),
+    ),
+    (
+        &["check", "n", "t", "--", "-r", "p"],
+        Names("check", &["n", "t", "-r", "p"], None),
+    ),
+    (
+        &["gen", "--", "n", "-t", "--r", "--budget"],
+        Names("gen", &["n", "-t", "--r", "--budget"], None),
+    ),
+    (
+        &["gen", "n", "--random", "5", "t", "r", "p", "--seed=5"],
+        Names("gen", &["n", "t", "r", "p"], None),
+    ),
+    (
+        &["check", "n", "t", "r", "p"],
+        Names("check", &["n", "t", "r", "p"], None),
+    ),
+    (&["norm", "n", "o"], Names("norm", &["n", "o"], None)),
+    (
+        &["compact", "n", "t", "o"],
+        Names("compact", &["n", "t", "o"], None),
+    ),
+    (
+        &["diagnose", "n", "t", "s", "o"],
+        Names("diagnose", &["n", "t", "s", "o"], None),
+    ),
+    (&["diagnose", "n", "t", "o"], Usage),
+    (
+        &["uninit", "n", "--budget=5", "--", "-o"],
+        Names("uninit", &["n", "-o"], None),
+    ),
+    (&["uninit", "n", "o", "--budget=0"], Usage),
+    (
+        &["sync", "n", "t", "--budget=5", "o"],
+        Names("sync", &["n", "t", "o"], None),
+    ),
+    (&["sync", "n", "o"], Usage),
+    (
+        &["respond", "n", "--fault=5", "t", "--start", "s", "o"],
+        Names("respond", &["n", "t", "o"], Some("s")),
+    ),
+    (&["respond", "n", "t", "o", "--fault=655359"], Usage),
+    (
+        &["report", "n", "--budget=5", "t", "--start", "s", "p", "r"],
+        Names("report", &["n", "t", "p", "r"], Some("s")),
+    ),
+    (&["report", "n", "t", "p", "r", "--budget=0"], Usage),
+    (&["report", "n", "t", "p"], Usage),
+    (&["gen", "n", "t", "r", "p", "--search", "Deep"], Usage),
+    (&["gen", "n", "t", "r", "p", "--weighted=100001"], Usage),
+    (&["gen", "n", "t", "r", "p", "--first"], Usage),
+    (
+        &["norm", "--", "-n", "-o"],
+        Names("norm", &["-n", "-o"], None),
+    ),
+    (&[], Usage),
+    (&["SIM", "n", "t", "r"], Usage),
+    (&["help"], Usage),
+    (&["sim"], Usage),
+    (&["sim", "n", "t"], Usage),
+    (&["sim", "n", "t", "r", "x"], Usage),
+    (&["sim", "--", "n", "t", "r", "x"], Usage),
+    (&["sim", "-1", "t", "r"], Usage),
+    (&["sim", "-n", "t", "r"], Usage),
+    (&["sim", "--n", "t", "r"], Usage),
+    (&["sim", "---", "t", "r"], Usage),
+    (&["sim", "n", "t", "r", "-h"], Usage),
+    (&["sim", "--help"], Usage),
+    (&["sim", "-V"], Usage),
+    (&["sim", "--version"], Usage),
+    (&["sim", "n", "t", "r", "--budget", "5"], Usage),
+    (&["gen", "n", "t", "r"], Usage),
+    (&["gen", "n", "t", "r", "p", "x"], Usage),
+    (&["gen", "n", "t", "r", "p", "--random", "x"], Usage),
+    (&["check", "n", "t", "r"], Usage),
+    (&["demo", "16"], Usage),
+    (&["demo", "0", "1"], Usage),
+    (&["gen", "n", "t", "r", "p", "--help"], Usage),
+    (&["norm", "n"], Usage),
+    (&["norm", "n", "o", "--start", "s"], Usage),
+    (&["sim", "n", "t", "r", "--start"], Usage),
+    (&["sim", "n", "t", "r", "--start", "-s"], Usage),
+    (
+        &["check", "n", "t", "r", "p", "--start=s", "--start=s"],
+        Usage,
+    ),
+    (&["norm", "n", "o", "x"], Usage),
+    (&["norm", "n", "o", "--help"], Usage),
+    // a start
+    (
+        &["sim", "n", "t", "r", "--start", "s"],
+        Names("sim", &["n", "t", "r"], Some("s")),
+    ),
+    (
+        &["sim", "--start=-s", "n", "t", "r"],
+        Names("sim", &["n", "t", "r"], Some("-s")),
+    ),
+    (
+        &["sim", "n", "--start", "-", "t", "r"],
+        Names("sim", &["n", "t", "r"], Some("-")),
+    ),
+    (
+        &["gen", "n", "t", "r", "p", "--start", "s", "--seed=5"],
+        Names("gen", &["n", "t", "r", "p"], Some("s")),
+    ),
+    (
+        &["check", "n", "t", "r", "p", "--start="],
+        Names("check", &["n", "t", "r", "p"], Some("")),
+    ),
+    // a budget of `gen` is a number in digits from 1 to 100,000
+    (
+        &["gen", "n", "t", "r", "p"],
+        Options(1_000, None, None, 0, false),
+    ),
+    (
+        &["gen", "n", "t", "r", "p", "--budget", "5"],
+        Options(5, None, None, 0, false),
+    ),
+    (
+        &["gen", "n", "t", "r", "p", "--budget=5"],
+        Options(5, None, None, 0, false),
+    ),
+    (
+        &["gen", "--budget", "5", "n", "t", "r", "p"],
+        Options(5, None, None, 0, false),
+    ),
+    (
+        &["gen", "--budget=5", "n", "t", "r", "p"],
+        Options(5, None, None, 0, false),
+    ),
+    (
+        &["gen", "n", "t", "--budget=5", "r", "p"],
+        Options(5, None, None, 0, false),
+    ),
+    (
+        &["gen", "--budget", "5", "--", "n", "t", "r", "p"],
+        Options(5, None, None, 0, false),
+    ),
+    (
+        &["gen", "n", "t", "r", "p", "--budget", "1"],
+        Options(1, None, None, 0, false),
+    ),
+    (
+        &["gen", "n", "t", "r", "p", "--budget=100000"],
+        Options(100_000, None, None, 0, false),
+    ),
+    (
+        &["gen", "n", "t", "r", "p", "--budget=0000000100000"],
+        Options(100_000, None, None, 0, false),
+    ),
+    (&["gen", "n", "t", "r", "p", "--budget", "0"], Usage),
+    (&["gen", "n", "t", "r", "p", "--budget", "100001"], Usage),
+    (
+        &["gen", "n", "t", "r", "p", "--budget=18446744073709551617"],
+        Usage,
+    ),
+    (&["gen", "n", "t", "r", "p", "--budget"], Usage),
+    (&["gen", "n", "t", "r", "p", "--budget="], Usage),
+    (&["gen", "n", "t", "r", "p", "--budget", ""], Usage),
+    (&["gen", "n", "t", "r", "p", "--budget", "-5"], Usage),
+    (&["gen", "n", "t", "r", "p", "--budget=-5"], Usage),
+    (&["gen", "n", "t", "r", "p", "--budget=+5"], Usage),
+    (&["gen", "n", "t", "r", "p", "--budget", "0x5"], Usage),
+    (&["gen", "n", "t", "r", "p", "--budget", "5 "], Usage),
+    (
+        &["gen", "n", "t", "r", "p", "--budget", "5", "--budget", "5"],
+        Usage,
+    ),
+    (&["gen", "n", "t", "r", "p", "--", "--budget", "5"], Usage),
+    (&["gen", "n", "t", "r", "p", "--bud", "5"], Usage),
+    (&["gen", "n", "t", "r", "p", "-b", "5"], Usage),
+    // what `gen` works on, and how
+    (
+        &["gen", "n", "t", "r", "p", "--faults=l", "--first", "f"],
+        Options(1_000, Some("f"), Some("l"), 0, false),
+    ),
+    (
+        &[
+            "gen",
+            "--search=deep",
+            "n",
+            "t",
+            "--weighted",
+            "007",
+            "r",
+            "p",
+        ],
+        Options(1_000, None, None, 7, true),
+    ),
+    (
+        &["gen", "n", "t", "r", "p", "--search", "plain"],
+        Options(1_000, None, None, 0, false),
+    ),
+];
+
 #[test]
-fn gen_may_be_told_what_it_works_on_and_how(rt: HostRuntime) -> Result<(), Fail> {
-    let alloc = rt.alloc();
-    assert!(rt; has_options(alloc, &["gen", "n", "t", "r", "p"], ("", ""), 0, false)?);
-    let named = &["gen", "n", "t", "r", "p", "--faults=l", "--first", "f"];
-    assert!(rt; has_options(alloc, named, ("f", "l"), 0, false)?);
-    let deep = &[
-        "gen",
-        "--search=deep",
-        "n",
-        "t",
-        "--weighted",
-        "007",
-        "r",
-        "p",
-    ];
-    assert!(rt; has_options(alloc, deep, ("", ""), 7, true)?);
-    let plain = &["gen", "n", "t", "r", "p", "--search", "plain"];
-    assert!(rt; has_options(alloc, plain, ("", ""), 0, false)?);
+fn words_of_a_form_give_its_names_and_options_and_others_are_usage(
+    rt: HostRuntime,
+) -> Result<(), Fail> {
+    for row in ROWS {
+        let words = row.0;
+        assert!(rt; asks(rt.alloc(), words, &row.1)?, "of {words:?}");
+    }
     Ok(())
 }

@@ -1,9 +1,8 @@
 //! `check` of proofs of the second format: a refutation from one state, whole and damaged.
 
-use super::checked::{Answer, Files, answers, answers_from};
+use super::checked::{CHECK, CHECK_FROM};
+use super::rows::{BASE, Row};
 use ht_samples::TWINS;
-use std::alloc::{AllocError, Global};
-use std::test::Fail;
 
 const TESTS: &[u8] = b"10\n01\n00\n01\n";
 
@@ -46,98 +45,99 @@ const LAST: &[u8] = b"entry 4 untestable from 00\n\
     clause 1 0 2 1\nhi 1\ndead\ndead\nclause 1 1 2 0\nlo 1\ndead\ndead\n\
     walk\nhi 3\nhi 4\ndead\ndead\nhi 4\ndead\ndead\nend\n";
 
-// The parts of the proofs, and what is answered.
-const ROWS: &[(&[&[u8]], Answer<'static>)] = &[
-    (
-        &[
-            SECOND_FORMAT,
-            ABORTED,
-            FROM_00,
-            Q_WITH_P,
-            P_WITH_Q,
-            WALK,
-            LAST,
-        ],
-        (0, b"valid\n"),
-    ),
+const CHECKED: Row<'static> = Row {
+    words: CHECK,
+    given: &[("n", TWINS), ("t", TESTS), ("r", REPORT)],
+    ..BASE
+};
+
+const DENIED: Row<'static> = Row {
+    status: 1,
+    err: b"denied: fault 3\n",
+    ..CHECKED
+};
+
+pub const ROWS: &[Row<'static>] = &[
+    Row {
+        made: Some((
+            "p",
+            &[
+                (1, SECOND_FORMAT, None),
+                (1, ABORTED, None),
+                (1, FROM_00, None),
+                (1, Q_WITH_P, None),
+                (1, P_WITH_Q, None),
+                (1, WALK, None),
+                (1, LAST, None),
+            ],
+        )),
+        out: b"valid\n",
+        ..CHECKED
+    },
     // the state doesn't meet the second clause
-    (
-        &[
-            SECOND_FORMAT,
-            ABORTED,
-            FROM_01,
-            Q_WITH_P,
-            P_WITH_Q,
-            WALK,
-            LAST,
-        ],
-        (1, b"denied: fault 3\n"),
-    ),
+    Row {
+        made: Some((
+            "p",
+            &[
+                (1, SECOND_FORMAT, None),
+                (1, ABORTED, None),
+                (1, FROM_01, None),
+                (1, Q_WITH_P, None),
+                (1, P_WITH_Q, None),
+                (1, WALK, None),
+                (1, LAST, None),
+            ],
+        )),
+        ..DENIED
+    },
     // without the second clause the first isn't enough
-    (
-        &[SECOND_FORMAT, ABORTED, FROM_00, Q_WITH_P, WALK, LAST],
-        (1, b"denied: fault 3\n"),
-    ),
+    Row {
+        made: Some((
+            "p",
+            &[
+                (1, SECOND_FORMAT, None),
+                (1, ABORTED, None),
+                (1, FROM_00, None),
+                (1, Q_WITH_P, None),
+                (1, WALK, None),
+                (1, LAST, None),
+            ],
+        )),
+        ..DENIED
+    },
     // the first format has no such entry, and those before it are read
-    (
-        &[
-            FIRST_FORMAT,
-            ABORTED,
-            FROM_00,
-            Q_WITH_P,
-            P_WITH_Q,
-            WALK,
-            LAST,
-        ],
-        (1, b"denied: proofs line 46\n"),
-    ),
+    Row {
+        made: Some((
+            "p",
+            &[
+                (1, FIRST_FORMAT, None),
+                (1, ABORTED, None),
+                (1, FROM_00, None),
+                (1, Q_WITH_P, None),
+                (1, P_WITH_Q, None),
+                (1, WALK, None),
+                (1, LAST, None),
+            ],
+        )),
+        err: b"denied: proofs line 46\n",
+        ..DENIED
+    },
+    // from the start 11 the verdicts are the same, and it excludes the state
+    Row {
+        words: CHECK_FROM,
+        given: &[("n", TWINS), ("t", TESTS), ("r", REPORT), ("s", b"11\n")],
+        made: Some((
+            "p",
+            &[
+                (1, SECOND_FORMAT, None),
+                (1, ABORTED, None),
+                (1, FROM_00, None),
+                (1, Q_WITH_P, None),
+                (1, P_WITH_Q, None),
+                (1, WALK, None),
+                (1, LAST, None),
+            ],
+        )),
+        ..DENIED
+    },
 ];
-
-fn proofs_of(alloc: Global, parts: &[&[u8]]) -> Result<Vec<u8>, AllocError> {
-    let mut proofs = Vec::new(alloc);
-    for part in parts {
-        proofs.extend_from_slice(part)?;
-    }
-    Ok(proofs)
-}
-
-fn files_with(proofs: &[u8]) -> Files<'_> {
-    Files {
-        netlist: TWINS,
-        tests: TESTS,
-        report: Some(REPORT),
-        proofs,
-    }
-}
-
-fn parts_answer(alloc: Global, parts: &[&[u8]], answer: Answer<'_>) -> Result<bool, AllocError> {
-    let proofs = proofs_of(alloc, parts)?;
-    answers(alloc, &files_with(&proofs), answer)
-}
-
-#[test]
-fn check_answers_whether_a_refutation_from_a_state_is_valid(rt: HostRuntime) -> Result<(), Fail> {
-    let alloc = rt.alloc();
-    for row in ROWS {
-        let (parts, answer) = *row;
-        assert!(rt; parts_answer(alloc, parts, answer)?);
-    }
-    Ok(())
-}
-
-// From the start `11` the verdicts are the same.
-fn parts_answer_from_11(
-    alloc: Global,
-    parts: &[&[u8]],
-    answer: Answer<'_>,
-) -> Result<bool, AllocError> {
-    let proofs = proofs_of(alloc, parts)?;
-    answers_from(alloc, b"11\n", &files_with(&proofs), answer)
-}
-
-#[test]
-fn a_state_that_the_start_excludes_is_denied(rt: HostRuntime) -> Result<(), Fail> {
-    let parts = ROWS[0].0;
-    assert!(rt; parts_answer_from_11(rt.alloc(), parts, (1, b"denied: fault 3\n"))?);
-    Ok(())
-}

@@ -1,81 +1,241 @@
 //! `check` of damaged proofs of the constant output, and the first trouble that it names.
-ghost use Rattle.std.specs.Prelude.{◌≤◌, length};
 
-use super::checked::{Answer, ZERO_PROOFS, ZERO_REPORT, zero_answers};
-use super::limits::push_counting;
-use std::alloc::{AllocError, Global};
-use std::test::Fail;
+use super::checked::{CHECK, ZERO_REPORT};
+use super::rows::{BASE, Row};
+use ht_samples::ALWAYS_ZERO;
 
-// The lines of the proofs from one on and before another, from 1, have a text in their place, and after it the lines
-// `hi 1`, `hi 2` and so on, so many.
-type Damage<'a> = (u32, u32, &'a str, u32);
+const FORMAT: &[u8] = b"proofs 2\n";
 
-// Where a line begins, from 1; one that isn't there begins at the end.
-fn begin_of(text: &[u8], line: u32) -> usize
-    ensures { result ≤ length text.now }
-{
-    let mut left = line.saturating_sub(1);
-    for i in 0..text.len() {
-        if left == 0 {
-            return i;
-        }
-        if text[i] == b'\n' {
-            left -= 1;
-        }
-    }
-    text.len()
-}
+const ENTRY_1: &[u8] = b"entry 1 untestable\nwalk\nhi 1\ndead\ndead\n";
 
-fn push_damaged(alloc: Global, proofs: &mut Vec<u8>, damage: Damage<'_>) -> Result<(), AllocError> {
-    let (line, end, text, count) = damage;
-    proofs.extend_from_slice(&ZERO_PROOFS[..begin_of(ZERO_PROOFS, line)])?;
-    proofs.extend_from_slice(text.as_bytes())?;
-    push_counting(alloc, proofs, "hi ", count, "\n")?;
-    proofs.extend_from_slice(&ZERO_PROOFS[begin_of(ZERO_PROOFS, end)..])
-}
+const ENTRY_2: &[u8] = b"entry 2 untestable\nwalk\nhi 1\ndead\ndead\n";
 
-fn answers(alloc: Global, damage: Damage<'_>, answer: Answer<'_>) -> Result<bool, AllocError> {
-    let mut proofs = Vec::new(alloc);
-    push_damaged(alloc, &mut proofs, damage)?;
-    zero_answers(alloc, Some(ZERO_REPORT), &proofs, answer)
-}
+const ENTRY_3: &[u8] = b"entry 3 untestable\nwalk\nhi 1\ndead\ndead\n";
 
-const VALID: Answer<'static> = (0, b"valid\n");
+const END: &[u8] = b"end\n";
 
-const WRONG: Answer<'static> = (1, b"denied: fault 1\n");
+const CHECKED: Row<'static> = Row {
+    words: CHECK,
+    given: &[("n", ALWAYS_ZERO), ("t", b"1\n0\n"), ("r", ZERO_REPORT)],
+    ..BASE
+};
 
-const ROWS: &[(Damage<'static>, Answer<'static>)] = &[
-    // the second and the third format have these entries too, and there is no fourth
-    ((1, 2, "proofs 2\n", 0), VALID),
-    ((1, 2, "proofs 3\n", 0), VALID),
-    ((1, 2, "proofs 4\n", 0), (1, b"denied: proofs line 1\n")),
+const VALID: Row<'static> = Row {
+    out: b"valid\n",
+    ..CHECKED
+};
+
+const WRONG: Row<'static> = Row {
+    status: 1,
+    err: b"denied: fault 1\n",
+    ..CHECKED
+};
+
+pub const ROWS: &[Row<'static>] = &[
+    // the third format has these entries too, and there is no fourth
+    Row {
+        made: Some((
+            "p",
+            &[
+                (1, b"proofs 3\n", None),
+                (1, ENTRY_1, None),
+                (1, ENTRY_2, None),
+                (1, ENTRY_3, None),
+                (1, END, None),
+            ],
+        )),
+        ..VALID
+    },
+    Row {
+        made: Some((
+            "p",
+            &[
+                (1, b"proofs 4\n", None),
+                (1, ENTRY_1, None),
+                (1, ENTRY_2, None),
+                (1, ENTRY_3, None),
+                (1, END, None),
+            ],
+        )),
+        err: b"denied: proofs line 1\n",
+        ..WRONG
+    },
     // either value may come first, but there is one variable, and it has two values
-    ((4, 5, "lo 1\n", 0), VALID),
-    ((4, 5, "hi 2\n", 0), WRONG),
-    ((4, 5, "x 1\n", 0), WRONG),
+    Row {
+        made: Some((
+            "p",
+            &[
+                (1, FORMAT, None),
+                (1, b"entry 1 untestable\nwalk\nlo 1\ndead\ndead\n", None),
+                (1, ENTRY_2, None),
+                (1, ENTRY_3, None),
+                (1, END, None),
+            ],
+        )),
+        ..VALID
+    },
+    Row {
+        made: Some((
+            "p",
+            &[
+                (1, FORMAT, None),
+                (1, b"entry 1 untestable\nwalk\nhi 2\ndead\ndead\n", None),
+                (1, ENTRY_2, None),
+                (1, ENTRY_3, None),
+                (1, END, None),
+            ],
+        )),
+        ..WRONG
+    },
+    Row {
+        made: Some((
+            "p",
+            &[
+                (1, FORMAT, None),
+                (1, b"entry 1 untestable\nwalk\nx 1\ndead\ndead\n", None),
+                (1, ENTRY_2, None),
+                (1, ENTRY_3, None),
+                (1, END, None),
+            ],
+        )),
+        ..WRONG
+    },
     // a variable is decided again, or a token comes after the last node
-    ((5, 7, "hi 1\ndead\ndead\ndead\n", 0), WRONG),
-    ((7, 7, "dead\n", 0), WRONG),
+    Row {
+        made: Some((
+            "p",
+            &[
+                (1, FORMAT, None),
+                (
+                    1,
+                    b"entry 1 untestable\nwalk\nhi 1\nhi 1\ndead\ndead\ndead\n",
+                    None,
+                ),
+                (1, ENTRY_2, None),
+                (1, ENTRY_3, None),
+                (1, END, None),
+            ],
+        )),
+        ..WRONG
+    },
+    Row {
+        made: Some((
+            "p",
+            &[
+                (1, FORMAT, None),
+                (1, ENTRY_1, None),
+                (1, b"dead\n", None),
+                (1, ENTRY_2, None),
+                (1, ENTRY_3, None),
+                (1, END, None),
+            ],
+        )),
+        ..WRONG
+    },
     // variables count from 1, without a leading zero
-    ((4, 5, "hi 0\n", 0), (1, b"denied: proofs line 4\n")),
-    ((4, 5, "hi 01\n", 0), (1, b"denied: proofs line 4\n")),
+    Row {
+        made: Some((
+            "p",
+            &[
+                (1, FORMAT, None),
+                (1, b"entry 1 untestable\nwalk\nhi 0\ndead\ndead\n", None),
+                (1, ENTRY_2, None),
+                (1, ENTRY_3, None),
+                (1, END, None),
+            ],
+        )),
+        err: b"denied: proofs line 4\n",
+        ..WRONG
+    },
+    Row {
+        made: Some((
+            "p",
+            &[
+                (1, FORMAT, None),
+                (1, b"entry 1 untestable\nwalk\nhi 01\ndead\ndead\n", None),
+                (1, ENTRY_2, None),
+                (1, ENTRY_3, None),
+                (1, END, None),
+            ],
+        )),
+        err: b"denied: proofs line 4\n",
+        ..WRONG
+    },
     // entries rise, and `end` is the last line
-    (
-        (7, 8, "entry 1 untestable\n", 0),
-        (1, b"denied: proofs line 7\n"),
-    ),
-    ((17, 18, "", 0), (1, b"denied: proofs line 17\n")),
-    ((18, 18, "\n", 0), (1, b"denied: proofs line 18\n")),
-    // 100,000 tokens, of which the second doesn't fit; the entry of a detected fault isn't judged
-    ((14, 17, "", 100_000), (1, b"denied: fault 3\n")),
-    ((17, 17, "entry 4 untestable\nwalk\n", 100_000), VALID),
+    Row {
+        made: Some((
+            "p",
+            &[
+                (1, FORMAT, None),
+                (1, ENTRY_1, None),
+                (1, ENTRY_1, None),
+                (1, ENTRY_3, None),
+                (1, END, None),
+            ],
+        )),
+        err: b"denied: proofs line 7\n",
+        ..WRONG
+    },
+    Row {
+        made: Some((
+            "p",
+            &[
+                (1, FORMAT, None),
+                (1, ENTRY_1, None),
+                (1, ENTRY_2, None),
+                (1, ENTRY_3, None),
+            ],
+        )),
+        err: b"denied: proofs line 17\n",
+        ..WRONG
+    },
+    Row {
+        made: Some((
+            "p",
+            &[
+                (1, FORMAT, None),
+                (1, ENTRY_1, None),
+                (1, ENTRY_2, None),
+                (1, ENTRY_3, None),
+                (1, END, None),
+                (1, b"\n", None),
+            ],
+        )),
+        err: b"denied: proofs line 18\n",
+        ..WRONG
+    },
 ];
 
-#[test]
-fn check_names_the_first_trouble_of_damaged_proofs(rt: HostRuntime) -> Result<(), Fail> {
-    let alloc = rt.alloc();
-    for row in ROWS {
-        assert!(rt; answers(alloc, row.0, row.1)?);
-    }
-    Ok(())
-}
+// 100,000 tokens, of which the second doesn't fit; and the entry of a detected fault isn't judged.
+pub const LONG: &[Row<'static>] = &[
+    Row {
+        made: Some((
+            "p",
+            &[
+                (1, FORMAT, None),
+                (1, ENTRY_1, None),
+                (1, ENTRY_2, None),
+                (1, b"entry 3 untestable\nwalk\n", None),
+                (100_000, b"hi ", Some(b"\n")),
+                (1, END, None),
+            ],
+        )),
+        err: b"denied: fault 3\n",
+        ..WRONG
+    },
+    Row {
+        made: Some((
+            "p",
+            &[
+                (1, FORMAT, None),
+                (1, ENTRY_1, None),
+                (1, ENTRY_2, None),
+                (1, ENTRY_3, None),
+                (1, b"entry 4 untestable\nwalk\n", None),
+                (100_000, b"hi ", Some(b"\n")),
+                (1, END, None),
+            ],
+        )),
+        ..VALID
+    },
+];

@@ -1,209 +1,271 @@
-//! `gen`, where one call of the desk after the other fails: the status, and what stands then.
-ghost use Rattle.std.specs.Prelude.{◌≢◌};
+//! `gen`, where one call of the desk after the other fails: the status, and what stands then. Each row holds on a mute
+//! desk too.
 
-use super::cases::status_of;
 use super::checked::{ZERO_PROOFS, ZERO_REPORT};
-use super::generated::GEN;
-use super::memory::line_at;
-use ht_ports::{Fail as Plan, InPort, MemoryDesk, OutPort};
+use super::rows::{BASE, GEN, Row};
+use ht_ports::{Fail, InPort, OutPort};
 use ht_samples::{ALWAYS_ZERO, S27};
-use std::alloc::{AllocError, Global};
-use std::test::Fail;
 
-// A call of the desk: which of its port, counted from 1.
-#[derive(Clone, Copy)]
-enum Call {
-    Open,
-    Read(u64),
-    Create(OutPort),
-    Write(OutPort, u64),
-}
+const TOTAL: &[u8] = b"total 6 detected 3 untestable 3 aborted 0\n";
 
-// The failure of this call.
-fn failure(call: Call) -> Plan {
-    match call {
-        Call::Open => Plan::Open(InPort::Netlist),
-        Call::Read(nth) => Plan::Read {
-            port: InPort::Netlist,
-            nth,
-        },
-        Call::Create(port) => Plan::Create(port),
-        Call::Write(port, nth) => Plan::Write { port, nth },
-    }
-}
+const TESTS: &[u8] = b"1\n0\n";
 
-// The status, and how many bytes of the tests, the report and the proofs there are where these are created, and of the
-// line on Out.
-type Stop = (u8, Option<usize>, Option<usize>, Option<usize>, usize);
+// The report without its total line.
+const REPORT_LINES: &[u8] =
+    b"circuit inputs 1 outputs 1 flip-flops 0 gates 2 faults 10 classes 6 budget 1000\n\
+    1 a s-a-0 untestable\n2 a s-a-1 untestable\n3 n s-a-0 untestable\n\
+    4 n s-a-1 detected 1 z\n5 z s-a-0 as 3\n6 z s-a-1 detected 1 z\n7 n(1) s-a-0 as 4\n\
+    8 n(1) s-a-1 as 3\n9 z(1) s-a-0 as 3\n10 z(1) s-a-1 detected 2 z\n";
 
-// Whether the file is there exactly where a length is given, and has so many bytes, of the front of the text.
-fn is_front(file: Option<&[u8]>, text: &[u8], len: Option<usize>) -> bool {
-    match (file, len) {
-        (None, None) => true,
-        (Some(file), Some(len)) => file.len() == len && text.starts_with(file),
-        _ => false,
-    }
-}
+// The proofs up to each of their entries.
+const FORMAT: &[u8] = b"proofs 2\n";
 
-// Whether the files of the constant output and the line on Out are fronts of these lengths.
-fn is_left(desk: &MemoryDesk, stop: Stop) -> bool {
-    let (_, tests, report, proofs, out) = stop;
-    is_front(desk.file("t"), b"1\n0\n", tests)
-        && is_front(desk.file("r"), ZERO_REPORT, report)
-        && is_front(desk.file("p"), ZERO_PROOFS, proofs)
-        && is_front(
-            Some(desk.out()),
-            b"total 6 detected 3 untestable 3 aborted 0\n",
-            Some(out),
-        )
-}
+const TO_ENTRY_1: &[u8] = b"proofs 2\n\
+    entry 1 untestable\nwalk\nhi 1\ndead\ndead\n";
 
-// The status of `gen` over this netlist, of which one read gives at most so many bytes.
-fn status_on(
-    alloc: Global,
-    desk: &mut MemoryDesk,
-    netlist: &[u8],
-    most: usize,
-) -> Result<u8, AllocError>
-    requires { most ≢ 0 }
-{
-    desk.put("n", netlist)?;
-    desk.pieces(most);
-    status_of(alloc, desk, GEN)
-}
+const TO_ENTRY_2: &[u8] = b"proofs 2\n\
+    entry 1 untestable\nwalk\nhi 1\ndead\ndead\n\
+    entry 2 untestable\nwalk\nhi 1\ndead\ndead\n";
 
-// Plans that this call fails, and on a mute desk that the line on Err fails.
-fn plan(desk: &mut MemoryDesk, call: Call, is_mute: bool) -> Result<(), AllocError> {
-    desk.fail(failure(call))?;
-    if is_mute {
-        desk.fail(failure(Call::Write(OutPort::Err, 1)))?;
-    }
-    Ok(())
-}
+const TO_ENTRY_3: &[u8] = b"proofs 2\n\
+    entry 1 untestable\nwalk\nhi 1\ndead\ndead\n\
+    entry 2 untestable\nwalk\nhi 1\ndead\ndead\n\
+    entry 3 untestable\nwalk\nhi 1\ndead\ndead\n";
 
-// Whether `gen` of the constant output stops so where this call fails, and says why unless the desk is mute.
-fn stops_on(
-    alloc: Global,
-    desk: &mut MemoryDesk,
-    call: Call,
-    is_mute: bool,
-    stop: Stop,
-) -> Result<bool, AllocError> {
-    plan(desk, call, is_mute)?;
-    let status = status_on(alloc, desk, ALWAYS_ZERO, 20)?;
-    let line = if is_mute {
-        Some(b"".as_slice())
-    } else {
-        line_at(status)
-    };
-    Ok(status == stop.0 && is_left(desk, stop) && line == Some(desk.err()))
-}
+// One read gives at most 20 bytes of the netlist, so the fifth finds its end.
+const WHOLE: Row<'static> = Row {
+    words: GEN,
+    given: &[("n", ALWAYS_ZERO)],
+    most: 20,
+    left: &[
+        ("t", Some(TESTS)),
+        ("r", Some(ZERO_REPORT)),
+        ("p", Some(ZERO_PROOFS)),
+    ],
+    out: TOTAL,
+    ..BASE
+};
 
-fn stops(alloc: Global, call: Call, is_mute: bool, stop: Stop) -> Result<bool, AllocError> {
-    let mut desk = MemoryDesk::new(alloc);
-    stops_on(alloc, &mut desk, call, is_mute, stop)
-}
+const UNREAD: Row<'static> = Row {
+    words: GEN,
+    given: &[("n", ALWAYS_ZERO)],
+    most: 20,
+    status: 4,
+    left: &[("t", None), ("r", None), ("p", None)],
+    err: b"read fault\n",
+    ..BASE
+};
 
-const UNREAD: Stop = (4, None, None, None, 0);
-
-const WHOLE: Stop = (0, Some(4), Some(327), Some(130), 42);
+const UNWRITTEN: Row<'static> = Row {
+    words: GEN,
+    given: &[("n", ALWAYS_ZERO)],
+    most: 20,
+    status: 5,
+    err: b"write fault\n",
+    ..BASE
+};
 
 // Each call of a run, and after the last of a port the one that doesn't come. The report has its total line only where
 // the run is whole.
-const STOPS: &[(Call, Stop)] = &[
-    (Call::Open, UNREAD),
-    (Call::Read(1), UNREAD),
-    (Call::Read(2), UNREAD),
-    (Call::Read(3), UNREAD),
-    (Call::Read(4), UNREAD),
-    (Call::Read(5), WHOLE),
-    (Call::Create(OutPort::Tests), (5, None, None, None, 0)),
-    (Call::Create(OutPort::Report), (5, Some(0), None, None, 0)),
-    (
-        Call::Create(OutPort::Proofs),
-        (5, Some(0), Some(0), None, 0),
-    ),
-    (
-        Call::Write(OutPort::Tests, 1),
-        (5, Some(0), Some(0), Some(126), 0),
-    ),
-    (
-        Call::Write(OutPort::Tests, 2),
-        (5, Some(2), Some(0), Some(126), 0),
-    ),
-    (Call::Write(OutPort::Tests, 3), WHOLE),
-    (
-        Call::Write(OutPort::Report, 1),
-        (5, Some(4), Some(0), Some(130), 0),
-    ),
-    (
-        Call::Write(OutPort::Report, 2),
-        (5, Some(4), Some(285), Some(130), 42),
-    ),
-    (Call::Write(OutPort::Report, 3), WHOLE),
-    (
-        Call::Write(OutPort::Proofs, 1),
-        (5, Some(0), Some(0), Some(0), 0),
-    ),
-    (
-        Call::Write(OutPort::Proofs, 2),
-        (5, Some(0), Some(0), Some(9), 0),
-    ),
-    (
-        Call::Write(OutPort::Proofs, 3),
-        (5, Some(0), Some(0), Some(48), 0),
-    ),
-    (
-        Call::Write(OutPort::Proofs, 4),
-        (5, Some(0), Some(0), Some(87), 0),
-    ),
-    (
-        Call::Write(OutPort::Proofs, 5),
-        (5, Some(4), Some(0), Some(126), 0),
-    ),
-    (Call::Write(OutPort::Proofs, 6), WHOLE),
-    (
-        Call::Write(OutPort::Out, 1),
-        (5, Some(4), Some(285), Some(130), 0),
-    ),
-    (Call::Write(OutPort::Out, 2), WHOLE),
-    (Call::Write(OutPort::Err, 1), WHOLE),
+pub const ROWS: &[Row<'static>] = &[
+    Row {
+        fails: &[Fail::Open(InPort::Netlist)],
+        ..UNREAD
+    },
+    Row {
+        fails: &[Fail::Read {
+            port: InPort::Netlist,
+            nth: 1,
+        }],
+        ..UNREAD
+    },
+    Row {
+        fails: &[Fail::Read {
+            port: InPort::Netlist,
+            nth: 2,
+        }],
+        ..UNREAD
+    },
+    Row {
+        fails: &[Fail::Read {
+            port: InPort::Netlist,
+            nth: 3,
+        }],
+        ..UNREAD
+    },
+    Row {
+        fails: &[Fail::Read {
+            port: InPort::Netlist,
+            nth: 4,
+        }],
+        ..UNREAD
+    },
+    Row {
+        fails: &[Fail::Read {
+            port: InPort::Netlist,
+            nth: 5,
+        }],
+        ..WHOLE
+    },
+    Row {
+        fails: &[Fail::Create(OutPort::Tests)],
+        left: &[("t", None), ("r", None), ("p", None)],
+        ..UNWRITTEN
+    },
+    Row {
+        fails: &[Fail::Create(OutPort::Report)],
+        left: &[("t", Some(b"")), ("r", None), ("p", None)],
+        ..UNWRITTEN
+    },
+    Row {
+        fails: &[Fail::Create(OutPort::Proofs)],
+        left: &[("t", Some(b"")), ("r", Some(b"")), ("p", None)],
+        ..UNWRITTEN
+    },
+    Row {
+        fails: &[Fail::Write {
+            port: OutPort::Tests,
+            nth: 1,
+        }],
+        left: &[("t", Some(b"")), ("r", Some(b"")), ("p", Some(TO_ENTRY_3))],
+        ..UNWRITTEN
+    },
+    Row {
+        fails: &[Fail::Write {
+            port: OutPort::Tests,
+            nth: 2,
+        }],
+        left: &[
+            ("t", Some(b"1\n")),
+            ("r", Some(b"")),
+            ("p", Some(TO_ENTRY_3)),
+        ],
+        ..UNWRITTEN
+    },
+    Row {
+        fails: &[Fail::Write {
+            port: OutPort::Tests,
+            nth: 3,
+        }],
+        ..WHOLE
+    },
+    Row {
+        fails: &[Fail::Write {
+            port: OutPort::Report,
+            nth: 1,
+        }],
+        left: &[
+            ("t", Some(TESTS)),
+            ("r", Some(b"")),
+            ("p", Some(ZERO_PROOFS)),
+        ],
+        ..UNWRITTEN
+    },
+    Row {
+        fails: &[Fail::Write {
+            port: OutPort::Report,
+            nth: 2,
+        }],
+        left: &[
+            ("t", Some(TESTS)),
+            ("r", Some(REPORT_LINES)),
+            ("p", Some(ZERO_PROOFS)),
+        ],
+        out: TOTAL,
+        ..UNWRITTEN
+    },
+    Row {
+        fails: &[Fail::Write {
+            port: OutPort::Report,
+            nth: 3,
+        }],
+        ..WHOLE
+    },
+    Row {
+        fails: &[Fail::Write {
+            port: OutPort::Proofs,
+            nth: 1,
+        }],
+        left: &[("t", Some(b"")), ("r", Some(b"")), ("p", Some(b""))],
+        ..UNWRITTEN
+    },
+    Row {
+        fails: &[Fail::Write {
+            port: OutPort::Proofs,
+            nth: 2,
+        }],
+        left: &[("t", Some(b"")), ("r", Some(b"")), ("p", Some(FORMAT))],
+        ..UNWRITTEN
+    },
+    Row {
+        fails: &[Fail::Write {
+            port: OutPort::Proofs,
+            nth: 3,
+        }],
+        left: &[("t", Some(b"")), ("r", Some(b"")), ("p", Some(TO_ENTRY_1))],
+        ..UNWRITTEN
+    },
+    Row {
+        fails: &[Fail::Write {
+            port: OutPort::Proofs,
+            nth: 4,
+        }],
+        left: &[("t", Some(b"")), ("r", Some(b"")), ("p", Some(TO_ENTRY_2))],
+        ..UNWRITTEN
+    },
+    Row {
+        fails: &[Fail::Write {
+            port: OutPort::Proofs,
+            nth: 5,
+        }],
+        left: &[
+            ("t", Some(TESTS)),
+            ("r", Some(b"")),
+            ("p", Some(TO_ENTRY_3)),
+        ],
+        ..UNWRITTEN
+    },
+    Row {
+        fails: &[Fail::Write {
+            port: OutPort::Proofs,
+            nth: 6,
+        }],
+        ..WHOLE
+    },
+    Row {
+        fails: &[Fail::Write {
+            port: OutPort::Out,
+            nth: 1,
+        }],
+        left: &[
+            ("t", Some(TESTS)),
+            ("r", Some(REPORT_LINES)),
+            ("p", Some(ZERO_PROOFS)),
+        ],
+        ..UNWRITTEN
+    },
+    Row {
+        fails: &[Fail::Write {
+            port: OutPort::Out,
+            nth: 2,
+        }],
+        ..WHOLE
+    },
+    Row {
+        fails: &[Fail::Write {
+            port: OutPort::Err,
+            nth: 1,
+        }],
+        ..WHOLE
+    },
+    // the third piece of a longer netlist
+    Row {
+        given: &[("n", S27)],
+        most: 100,
+        fails: &[Fail::Read {
+            port: InPort::Netlist,
+            nth: 3,
+        }],
+        ..UNREAD
+    },
 ];
-
-#[test]
-fn a_run_stops_at_each_call_that_fails(rt: HostRuntime) -> Result<(), Fail> {
-    let alloc = rt.alloc();
-    for row in STOPS {
-        let (call, stop) = *row;
-        assert!(rt; stops(alloc, call, false, stop)?);
-    }
-    Ok(())
-}
-
-#[test]
-fn a_failed_line_on_the_standard_error_leaves_the_rest(rt: HostRuntime) -> Result<(), Fail> {
-    let alloc = rt.alloc();
-    for row in STOPS {
-        let (call, stop) = *row;
-        assert!(rt; stops(alloc, call, true, stop)?);
-    }
-    Ok(())
-}
-
-// Whether the third read of s27 fails, and nothing was created.
-fn third_read_fails_on(alloc: Global, desk: &mut MemoryDesk) -> Result<bool, AllocError> {
-    plan(desk, Call::Read(3), false)?;
-    let status = status_on(alloc, desk, S27, 100)?;
-    Ok(status == 4 && is_left(desk, UNREAD) && line_at(status) == Some(desk.err()))
-}
-
-fn third_read_fails(alloc: Global) -> Result<bool, AllocError> {
-    let mut desk = MemoryDesk::new(alloc);
-    third_read_fails_on(alloc, &mut desk)
-}
-
-#[test]
-fn a_netlist_whose_third_piece_fails_creates_nothing(rt: HostRuntime) -> Result<(), Fail> {
-    assert!(rt; third_read_fails(rt.alloc())?);
-    Ok(())
-}

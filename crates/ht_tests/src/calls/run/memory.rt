@@ -1,22 +1,21 @@
 //! Refused memory. In the gate no allocation is refused; outside it these tests run with each of their allocations
 //! refused in turn (`rt try --test --fail-alloc N`).
 
-use super::cases::{SIM, Setup, status_on};
 use super::mute::{MuteDesk, mute_status_on};
+use super::rows::{BASE, Row, SIM, load, status_of};
 use ht_ports::MemoryDesk;
 use ht_samples::{SHIFT_REGISTER, SHIFT_REGISTER_REPORT};
 use std::alloc::{AllocError, Global};
 use std::test::Fail;
 
-const START: Setup<'static> = Setup {
+const START: Row<'static> = Row {
     words: SIM,
-    netlist: Some(SHIFT_REGISTER),
-    tests: Some(b"1\n0\n0\n"),
-    fails: None,
+    given: &[("n", SHIFT_REGISTER), ("t", b"1\n0\n0\n")],
+    ..BASE
 };
 
 /// The line on Err where calls or memory may be refused; a desk in memory counts a refused growth as a fault.
-pub fn line_at(status: u8) -> Option<&'static [u8]> {
+fn line_at(status: u8) -> Option<&'static [u8]> {
     match status {
         0 => Some(b""),
         4 => Some(b"read fault\n"),
@@ -28,19 +27,16 @@ pub fn line_at(status: u8) -> Option<&'static [u8]> {
 
 // Whether the run says its status in its line, and leaves the report where it finishes.
 fn says_status(alloc: Global, desk: &mut MemoryDesk) -> Result<bool, AllocError> {
-    let status = status_on(alloc, desk, &START)?;
+    load(alloc, desk, &START, false)?;
+    let status = status_of(alloc, desk, SIM)?;
     let is_whole = status != 0 || desk.file("r") == Some(SHIFT_REGISTER_REPORT);
     Ok(is_whole && line_at(status) == Some(desk.err()))
 }
 
-fn status_is_said(alloc: Global) -> Result<bool, AllocError> {
-    let mut desk = MemoryDesk::new(alloc);
-    says_status(alloc, &mut desk)
-}
-
 #[test]
 fn refused_memory_has_its_status(rt: HostRuntime) -> Result<(), Fail> {
-    assert!(rt; status_is_said(rt.alloc())?);
+    let mut desk = MemoryDesk::new(rt.alloc());
+    assert!(rt; says_status(rt.alloc(), &mut desk)?);
     Ok(())
 }
 
@@ -52,13 +48,13 @@ fn keeps_status(alloc: Global, desk: &mut MuteDesk) -> Result<bool, AllocError> 
     Ok(is_whole && (status == 5) == desk.output_failed && line_at(status).is_some())
 }
 
-fn status_stays(alloc: Global) -> Result<bool, AllocError> {
-    let mut desk = MuteDesk::new(alloc);
-    keeps_status(alloc, &mut desk)
-}
-
 #[test]
 fn refused_memory_on_a_mute_desk_keeps_its_status(rt: HostRuntime) -> Result<(), Fail> {
-    assert!(rt; status_stays(rt.alloc())?);
+    let mut desk = MuteDesk {
+        inner: MemoryDesk::new(rt.alloc()),
+        out_faults: 0,
+        output_failed: false,
+    };
+    assert!(rt; keeps_status(rt.alloc(), &mut desk)?);
     Ok(())
 }

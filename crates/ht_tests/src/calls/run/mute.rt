@@ -1,8 +1,7 @@
 //! A standard error that takes nothing.
 ghost use Rattle.ht_ports.specs.Memory.{memory_view};
 
-use super::cases::{NORM, SIM, Setup, load, words_of};
-use super::generated::GEN;
+use super::rows::{BASE, GEN, NORM, Row, SIM, is_left, load, words_of};
 use ht_app::run;
 use ht_ports::{Desk, Fail as Plan, Failed, InPort, MemoryDesk, OutPort};
 use ht_samples::{SHIFT_REGISTER, SHIFT_REGISTER_REPORT};
@@ -16,17 +15,6 @@ pub struct MuteDesk {
     pub out_faults: u64,
     /// A call on another out-port failed.
     pub output_failed: bool,
-}
-
-impl MuteDesk {
-    /// A desk without files.
-    pub fn new(alloc: Global) -> MuteDesk {
-        MuteDesk {
-            inner: MemoryDesk::new(alloc),
-            out_faults: 0,
-            output_failed: false,
-        }
-    }
 }
 
 impl Desk for MuteDesk {
@@ -67,88 +55,113 @@ impl Desk for MuteDesk {
     }
 }
 
-// Whether the desk has what a run of this status leaves: nothing and one failed line, after 5 also the failed output;
-// after 0 the report, and no line was tried.
-fn is_left(desk: &MuteDesk, status: u8) -> bool {
-    let (faults, report) = match status {
-        0 => (0, Some(SHIFT_REGISTER_REPORT)),
-        5 => (2, None),
-        _ => (1, None),
-    };
-    desk.out_faults == faults && desk.inner.err().is_empty() && desk.inner.file("r") == report
-}
-
 /// The status of the run, over a mute desk without files.
-pub fn mute_status_on(
-    alloc: Global,
-    desk: &mut MuteDesk,
-    start: &Setup<'_>,
-) -> Result<u8, AllocError> {
-    load(&mut desk.inner, start)?;
-    let words = words_of(alloc, start.words)?;
+pub fn mute_status_on(alloc: Global, desk: &mut MuteDesk, row: &Row<'_>) -> Result<u8, AllocError> {
+    load(alloc, &mut desk.inner, row, false)?;
+    let words = words_of(alloc, row.words)?;
     Ok(run(alloc, &words, desk))
 }
 
-// Whether the run has this status over the mute desk, and leaves what it may.
-fn ends_on(
-    alloc: Global,
-    desk: &mut MuteDesk,
-    start: &Setup<'_>,
-    status: u8,
-) -> Result<bool, AllocError> {
-    Ok(mute_status_on(alloc, desk, start)? == status && is_left(desk, status))
+// Whether the run has its status over the mute desk, and leaves what it may: one failed line, after 5 also the failed
+// output; after 0 no line was tried.
+fn ends_on(alloc: Global, desk: &mut MuteDesk, row: &Row<'_>) -> Result<bool, AllocError> {
+    let status = mute_status_on(alloc, desk, row)?;
+    let faults = match status {
+        0 => 0,
+        5 => 2,
+        _ => 1,
+    };
+    Ok(status == row.status && desk.out_faults == faults && is_left(&desk.inner, row, true))
 }
 
-fn ends_with(alloc: Global, start: &Setup<'_>, status: u8) -> Result<bool, AllocError> {
-    let mut desk = MuteDesk::new(alloc);
-    ends_on(alloc, &mut desk, start, status)
-}
+// A run of this status, which leaves no report.
+const ENDS: Row<'static> = Row {
+    left: &[("r", None)],
+    ..BASE
+};
 
-const ENDS: &[(&[&str], Option<&[u8]>, Option<&[u8]>, Option<Plan>, u8)] = &[
-    (&["sim"], Some(SHIFT_REGISTER), Some(b"1\n"), None, 2),
-    (SIM, Some(b"INPUT(=)\n"), Some(b"1\n"), None, 3),
-    (GEN, Some(b"INPUT(=)\n"), None, None, 3),
-    (NORM, None, None, None, 4),
-    (GEN, None, None, None, 4),
+const ROWS: &[Row<'static>] = &[
+    Row {
+        words: &["sim"],
+        given: &[("n", SHIFT_REGISTER), ("t", b"1\n")],
+        status: 2,
+        ..ENDS
+    },
+    Row {
+        words: SIM,
+        given: &[("n", b"INPUT(=)\n"), ("t", b"1\n")],
+        status: 3,
+        ..ENDS
+    },
+    Row {
+        words: GEN,
+        given: &[("n", b"INPUT(=)\n")],
+        status: 3,
+        ..ENDS
+    },
+    Row {
+        words: NORM,
+        status: 4,
+        ..ENDS
+    },
+    Row {
+        words: GEN,
+        status: 4,
+        ..ENDS
+    },
     // the netlist is accepted, and then the tests can't be read
-    (SIM, Some(SHIFT_REGISTER), None, None, 4),
-    (
-        SIM,
-        Some(SHIFT_REGISTER),
-        Some(b"1\n"),
-        Some(Plan::Open(InPort::Tests)),
-        4,
-    ),
-    (
-        SIM,
-        Some(SHIFT_REGISTER),
-        Some(b"1\n0\n0\n"),
-        Some(Plan::Create(OutPort::Report)),
-        5,
-    ),
-    (
-        GEN,
-        Some(SHIFT_REGISTER),
-        None,
-        Some(Plan::Create(OutPort::Tests)),
-        5,
-    ),
-    (SIM, Some(SHIFT_REGISTER), Some(b"x\n"), None, 7),
-    (SIM, Some(SHIFT_REGISTER), Some(b"1\n0\n0\n"), None, 0),
+    Row {
+        words: SIM,
+        given: &[("n", SHIFT_REGISTER)],
+        status: 4,
+        ..ENDS
+    },
+    Row {
+        words: SIM,
+        given: &[("n", SHIFT_REGISTER), ("t", b"1\n")],
+        fails: &[Plan::Open(InPort::Tests)],
+        status: 4,
+        ..ENDS
+    },
+    Row {
+        words: SIM,
+        given: &[("n", SHIFT_REGISTER), ("t", b"1\n0\n0\n")],
+        fails: &[Plan::Create(OutPort::Report)],
+        status: 5,
+        ..ENDS
+    },
+    Row {
+        words: GEN,
+        given: &[("n", SHIFT_REGISTER)],
+        fails: &[Plan::Create(OutPort::Tests)],
+        status: 5,
+        ..ENDS
+    },
+    Row {
+        words: SIM,
+        given: &[("n", SHIFT_REGISTER), ("t", b"x\n")],
+        status: 7,
+        ..ENDS
+    },
+    Row {
+        words: SIM,
+        given: &[("n", SHIFT_REGISTER), ("t", b"1\n0\n0\n")],
+        left: &[("r", Some(SHIFT_REGISTER_REPORT))],
+        out: b"total 6 detected 3\n",
+        ..ENDS
+    },
 ];
 
 #[test]
 fn a_failing_standard_error_leaves_the_status(rt: HostRuntime) -> Result<(), Fail> {
     let alloc = rt.alloc();
-    for row in ENDS {
-        let (words, netlist, tests, fails, status) = *row;
-        let start = Setup {
-            words,
-            netlist,
-            tests,
-            fails,
+    for row in ROWS {
+        let mut desk = MuteDesk {
+            inner: MemoryDesk::new(alloc),
+            out_faults: 0,
+            output_failed: false,
         };
-        assert!(rt; ends_with(alloc, &start, status)?);
+        assert!(rt; ends_on(alloc, &mut desk, row)?);
     }
     Ok(())
 }

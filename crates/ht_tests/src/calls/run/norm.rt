@@ -1,8 +1,7 @@
 //! `norm` finishes.
 
-use super::cases::{NORM, finished, given, holds};
+use super::rows::{BASE, NORM, Row};
 use ht_samples::SHIFT_REGISTER;
-use std::test::Fail;
 
 /// Spaces, tabs, letter case, CR LF, a comment, and an output that is named twice.
 const FREE: &[u8] =
@@ -10,19 +9,31 @@ const FREE: &[u8] =
 
 const FREE_NORMAL: &[u8] = b"INPUT(a)\nINPUT(b)\nOUTPUT(z)\nz = NAND(t, b)\nt = BUFF(a)\n";
 
-const NORMAL_TEXTS: &[(&[u8], &[u8])] = &[
-    (FREE, FREE_NORMAL),
-    (FREE_NORMAL, FREE_NORMAL),
-    (SHIFT_REGISTER, SHIFT_REGISTER),
-    (b"", b""),
-];
+const FINISHED: Row<'static> = Row {
+    words: NORM,
+    ..BASE
+};
 
-#[test]
-fn a_netlist_gives_its_normal_text(rt: HostRuntime) -> Result<(), Fail> {
-    let alloc = rt.alloc();
-    for row in NORMAL_TEXTS {
-        let (netlist, text) = *row;
-        assert!(rt; holds(alloc, &given(NORM, netlist, b""), &finished(text, b""))?);
-    }
-    Ok(())
-}
+// A netlist gives its normal text.
+pub const ROWS: &[Row<'static>] = &[
+    Row {
+        given: &[("n", FREE)],
+        left: &[("r", Some(FREE_NORMAL))],
+        ..FINISHED
+    },
+    Row {
+        given: &[("n", FREE_NORMAL)],
+        left: &[("r", Some(FREE_NORMAL))],
+        ..FINISHED
+    },
+    Row {
+        given: &[("n", SHIFT_REGISTER)],
+        left: &[("r", Some(SHIFT_REGISTER))],
+        ..FINISHED
+    },
+    Row {
+        given: &[("n", b"")],
+        left: &[("r", Some(b""))],
+        ..FINISHED
+    },
+];

@@ -1,23 +1,10 @@
 //! `gen` and `check` from a stated start.
 
-use super::cases::given;
-use super::checked::{Answer, Files, answers_from};
-use super::generated::{Left, leaves_on};
-use ht_ports::MemoryDesk;
+use super::checked::CHECK_FROM;
+use super::rows::{BASE, Row};
 use ht_samples::TOGGLE;
-use std::alloc::{AllocError, Global};
-use std::test::Fail;
 
-const GEN_FROM: &[&str] = &[
-    "gen",
-    "n",
-    "t",
-    "r",
-    "p",
-    "--budget=1",
-    "--random=2",
-    "--start=s",
-];
+const OLD: &[u8] = b"old tests\n";
 
 // The files of the toggle from 0: both vectors are random, and have no input.
 const TESTS: &[u8] = b"\n\n";
@@ -31,71 +18,87 @@ const REPORT: &[u8] =
 const PROOFS: &[u8] = b"proofs 2\n\
     entry 4 aborted\nwalk\nlo 1\nsweep\nlength 1\ndead\nlength 2\nend\n";
 
-// Whether `gen` over the toggle leaves this, with this text as the start.
-fn gen_leaves(alloc: Global, start: &[u8], left: &Left<'_>) -> Result<bool, AllocError> {
-    let mut desk = MemoryDesk::new(alloc);
-    desk.put("s", start)?;
-    leaves_on(
-        alloc,
-        &mut desk,
-        &given(GEN_FROM, TOGGLE, b"old tests\n"),
-        left,
-    )
-}
+const GEN_FROM: Row<'static> = Row {
+    words: &[
+        "gen",
+        "n",
+        "t",
+        "r",
+        "p",
+        "--budget=1",
+        "--random=2",
+        "--start=s",
+    ],
+    ..BASE
+};
 
-#[test]
-fn gen_works_from_the_start(rt: HostRuntime) -> Result<(), Fail> {
-    let left = Left {
-        status: 0,
-        tests: Some(TESTS),
-        report: Some(REPORT),
-        proofs: Some(PROOFS),
+const CHECKED: Row<'static> = Row {
+    words: CHECK_FROM,
+    ..BASE
+};
+
+pub const ROWS: &[Row<'static>] = &[
+    Row {
+        given: &[("n", TOGGLE), ("t", OLD), ("s", b"0\n")],
+        left: &[("t", Some(TESTS)), ("r", Some(REPORT)), ("p", Some(PROOFS))],
         out: b"total 4 detected 3 untestable 0 aborted 1\n",
-        err: b"",
-    };
-    assert!(rt; gen_leaves(rt.alloc(), b"0\n", &left)?);
-    Ok(())
-}
-
-#[test]
-fn a_refused_start_leaves_no_files(rt: HostRuntime) -> Result<(), Fail> {
-    let left = Left {
+        ..GEN_FROM
+    },
+    // a refused start leaves no files
+    Row {
+        given: &[("n", TOGGLE), ("t", OLD), ("s", b"0\n0\n")],
         status: 8,
-        tests: Some(b"old tests\n"),
-        report: None,
-        proofs: None,
-        out: b"",
+        left: &[("t", Some(OLD)), ("r", None), ("p", None)],
         err: b"start: line 2\n",
-    };
-    assert!(rt; gen_leaves(rt.alloc(), b"0\n0\n", &left)?);
-    Ok(())
-}
-
-// Starts, and what `check` answers of these files from them.
-const ROWS: &[(&[u8], Answer<'static>)] = &[
-    (b"0\n", (0, b"valid\n")),
+        ..GEN_FROM
+    },
+    // what `check` says of the files from this start and from others
+    Row {
+        given: &[
+            ("n", TOGGLE),
+            ("t", TESTS),
+            ("r", REPORT),
+            ("p", PROOFS),
+            ("s", b"0\n"),
+        ],
+        out: b"valid\n",
+        ..CHECKED
+    },
     // fault 1 is detected at the first vector from 1, and at none from unknown
-    (b"1\n", (1, b"denied: report line 2\n")),
-    (b"x\n", (1, b"denied: report line 2\n")),
-    (b"2\n", (8, b"start: line 1\n")),
+    Row {
+        given: &[
+            ("n", TOGGLE),
+            ("t", TESTS),
+            ("r", REPORT),
+            ("p", PROOFS),
+            ("s", b"1\n"),
+        ],
+        status: 1,
+        err: b"denied: report line 2\n",
+        ..CHECKED
+    },
+    Row {
+        given: &[
+            ("n", TOGGLE),
+            ("t", TESTS),
+            ("r", REPORT),
+            ("p", PROOFS),
+            ("s", b"x\n"),
+        ],
+        status: 1,
+        err: b"denied: report line 2\n",
+        ..CHECKED
+    },
+    Row {
+        given: &[
+            ("n", TOGGLE),
+            ("t", TESTS),
+            ("r", REPORT),
+            ("p", PROOFS),
+            ("s", b"2\n"),
+        ],
+        status: 8,
+        err: b"start: line 1\n",
+        ..CHECKED
+    },
 ];
-
-fn check_answers(alloc: Global, start: &[u8], answer: Answer<'_>) -> Result<bool, AllocError> {
-    let files = Files {
-        netlist: TOGGLE,
-        tests: TESTS,
-        report: Some(REPORT),
-        proofs: PROOFS,
-    };
-    answers_from(alloc, start, &files, answer)
-}
-
-#[test]
-fn check_judges_from_the_start(rt: HostRuntime) -> Result<(), Fail> {
-    let alloc = rt.alloc();
-    for row in ROWS {
-        let (start, answer) = *row;
-        assert!(rt; check_answers(alloc, start, answer)?);
-    }
-    Ok(())
-}

@@ -1,13 +1,7 @@
 //! `sync` finds a shortest list after which every flip-flop is definite, or says how far it has searched.
 
-use super::cases::given;
-use super::generated::{Left, leaves};
+use super::rows::{BASE, Row};
 use ht_samples::{ALWAYS_ZERO, HIDDEN, TOGGLE};
-use std::test::Fail;
-
-const SYNC: &[&str] = &["sync", "n", "t", "r"];
-
-const SYNC_BY_10: &[&str] = &["sync", "n", "t", "r", "--budget", "10"];
 
 // A 0 comes to the second flip-flop with the second vector.
 const HIDDEN_RECORD: &[u8] = b"sync flip-flops 2 budget 1000\nlength 1\ndead\nfound 2\nstate 00\n";
@@ -18,27 +12,33 @@ const TOGGLE_RECORD: &[u8] = b"sync flip-flops 1 budget 10\n\
 
 const EMPTY_RECORD: &[u8] = b"sync flip-flops 0 budget 1000\nfound 0\nstate -\n";
 
-// The words, the netlist, the list, the record, and what is said.
-const ROWS: &[(&[&str], &[u8], &[u8], &[u8], &[u8])] = &[
-    (SYNC, HIDDEN, b"0\n0\n", HIDDEN_RECORD, b"sync 2\n"),
-    (SYNC_BY_10, TOGGLE, b"", TOGGLE_RECORD, b"spent 4\n"),
-    (SYNC, ALWAYS_ZERO, b"", EMPTY_RECORD, b"sync 0\n"),
-];
+const SYNC: Row<'static> = Row {
+    words: &["sync", "n", "t", "r"],
+    ..BASE
+};
 
-#[test]
-fn a_netlist_gives_a_shortest_synchronizing_list(rt: HostRuntime) -> Result<(), Fail> {
-    let alloc = rt.alloc();
-    for row in ROWS {
-        let (words, netlist, tests, record, line) = *row;
-        let left = Left {
-            status: 0,
-            tests: Some(tests),
-            report: Some(record),
-            proofs: None,
-            out: line,
-            err: b"",
-        };
-        assert!(rt; leaves(alloc, &given(words, netlist, b"old tests\n"), &left)?);
-    }
-    Ok(())
-}
+pub const ROWS: &[Row<'static>] = &[
+    Row {
+        given: &[("n", HIDDEN), ("t", b"old tests\n")],
+        left: &[
+            ("t", Some(b"0\n0\n")),
+            ("r", Some(HIDDEN_RECORD)),
+            ("p", None),
+        ],
+        out: b"sync 2\n",
+        ..SYNC
+    },
+    Row {
+        words: &["sync", "n", "t", "r", "--budget", "10"],
+        given: &[("n", TOGGLE), ("t", b"old tests\n")],
+        left: &[("t", Some(b"")), ("r", Some(TOGGLE_RECORD)), ("p", None)],
+        out: b"spent 4\n",
+        ..SYNC
+    },
+    Row {
+        given: &[("n", ALWAYS_ZERO), ("t", b"old tests\n")],
+        left: &[("t", Some(b"")), ("r", Some(EMPTY_RECORD)), ("p", None)],
+        out: b"sync 0\n",
+        ..SYNC
+    },
+];

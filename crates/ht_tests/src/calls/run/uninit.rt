@@ -1,8 +1,7 @@
 //! `uninit` finds the flip-flops that never get a definite value, and the faults that they hide.
 
-use super::cases::{finished, given, holds};
+use super::rows::{BASE, Row};
 use ht_samples::{SHIFT_REGISTER, TOGGLE};
-use std::test::Fail;
 
 // The toggle keeps itself unknown, and its output shows nothing.
 const TOGGLE_RECORD: &[u8] = b"uninit flip-flops 1 outputs 1 faults 6 classes 4 budget 1000\n\
@@ -28,33 +27,29 @@ const XOR_RECORD: &[u8] = b"uninit flip-flops 3 outputs 1 faults 14 classes 14 b
     9 q s-a-0 hidden\n10 q s-a-1 hidden\n11 z s-a-0 possible\n12 z s-a-1 possible\n\
     13 q(1) s-a-0 hidden\n14 q(1) s-a-1 hidden\ntotal 14 hidden 4 held 0\n";
 
-const UNINIT: &[&str] = &["uninit", "n", "r"];
+const UNINIT: Row<'static> = Row {
+    words: &["uninit", "n", "r"],
+    ..BASE
+};
 
-const UNINIT_BY_1: &[&str] = &["uninit", "n", "r", "--budget", "1"];
-
-// The words, the netlist, the record, and what is said.
-const ROWS: &[(&[&str], &[u8], &[u8], &[u8])] = &[
-    (UNINIT, TOGGLE, TOGGLE_RECORD, b"total 4 hidden 4 held 1\n"),
-    (
-        UNINIT,
-        SHIFT_REGISTER,
-        SHIFT_RECORD,
-        b"total 6 hidden 0 held 0\n",
-    ),
-    (
-        UNINIT_BY_1,
-        XOR_OF_LATCHES,
-        XOR_RECORD,
-        b"total 14 hidden 4 held 0\n",
-    ),
+pub const ROWS: &[Row<'static>] = &[
+    Row {
+        given: &[("n", TOGGLE)],
+        left: &[("r", Some(TOGGLE_RECORD))],
+        out: b"total 4 hidden 4 held 1\n",
+        ..UNINIT
+    },
+    Row {
+        given: &[("n", SHIFT_REGISTER)],
+        left: &[("r", Some(SHIFT_RECORD))],
+        out: b"total 6 hidden 0 held 0\n",
+        ..UNINIT
+    },
+    Row {
+        words: &["uninit", "n", "r", "--budget", "1"],
+        given: &[("n", XOR_OF_LATCHES)],
+        left: &[("r", Some(XOR_RECORD))],
+        out: b"total 14 hidden 4 held 0\n",
+        ..UNINIT
+    },
 ];
-
-#[test]
-fn a_netlist_gives_its_record_of_unknown_flip_flops(rt: HostRuntime) -> Result<(), Fail> {
-    let alloc = rt.alloc();
-    for row in ROWS {
-        let (words, netlist, record, line) = *row;
-        assert!(rt; holds(alloc, &given(words, netlist, b""), &finished(record, line))?);
-    }
-    Ok(())
-}
