@@ -1,18 +1,13 @@
-//! The tests, crate by crate; `small` reads their circuits.
+//! The tests, crate by crate; `small` reads their circuits, and `entries` texts of proofs. A row that fails is told by
+//! its number in its table, from 0.
 
-mod aborted;
-mod attempts;
-mod bases;
 mod check;
 mod cubes;
 mod entries;
 mod events;
 mod families;
-mod forward;
-mod from_state;
-mod justify;
-mod oneframe;
 mod report;
+mod searches;
 mod small;
 mod tokens;
 mod trail;

@@ -1,104 +1,75 @@
 //! Tests of ht_cubes: the toggle's flip-flop stuck at 0, which two cubes and one step refute.
-ghost use Rattle.std.specs.Prelude.{◌≡◌, length};
-
-use super::small::{circuit_of, stuck_at};
-use ht_cubes::{ClauseStep, Cube, Rail, refuted};
-use ht_items::Items;
-use ht_net::{Circuit, Fault};
+use super::entries::{END, read_text};
+use super::small::{NET_0_AT_0, circuit_of};
+use ht_cubes::refuted;
+use ht_net::Circuit;
 use ht_samples::TOGGLE;
 use ht_tern::Tern::{self, One, Unk, Zero};
-use std::alloc::{AllocError, Global};
+use ht_tree::Entry;
+use std::alloc::Global;
 use std::test::Fail;
 
-// The hints of the one step: each clause leaves one signed variable, and the last fails.
-const HINTS: &[u32] = &[6, 7, 10, 3, 4, 9, 8, 11];
+/// What the flip-flop holds at first, the step's line, and whether that with the cubes refutes the fault.
+type Row = (Tern, &'static str, bool);
 
-// The cube by which the good machine's latch never holds a value.
-fn never(alloc: Global, value: bool) -> Result<Cube, AllocError> {
-    let rail = Rail {
-        faulty: false,
-        dff: 0,
-        value,
-    };
-    Items::from_slice(alloc, &[rail])
-}
+// The cubes by which the good machine's latch never holds a value.
+const CUBES: &str = "proofs 3
+entry 1 undetectable by cubes
+never good 1 0
+never good 1 1
+";
 
-// The empty clause by these hints.
-fn step(alloc: Global, hints: &[u32]) -> Result<ClauseStep, AllocError> {
-    Ok(ClauseStep {
-        literals: Items::new(alloc),
-        hints: Items::from_slice(alloc, hints)?,
-    })
-}
+// The empty clause: each hint's clause leaves one signed variable, and the last fails.
+const STEP: &str = "step by 6 7 10 3 4 9 8 11\n";
 
-// Whether the two cubes and a step by these hints refute a fault of a circuit with one flip-flop.
-fn passes(
-    alloc: Global,
-    circuit: &Circuit,
-    fault: Fault,
-    start: Tern,
-    hints: &[u32],
-) -> Result<bool, AllocError>
-    requires { length circuit.now.dffs ≡ 1 }
-{
-    let cubes = [never(alloc, false)?, never(alloc, true)?];
-    let steps = [step(alloc, hints)?];
-    refuted(alloc, circuit, fault, &[start], &cubes, &steps)
-}
+const ROWS: &[Row] = &[
+    (Unk, STEP, true),
+    // a hint is missing
+    (Unk, "step by 7 10 3 4 9 8 11\n", false),
+    (Unk, "step by 6 10 3 4 9 8 11\n", false),
+    (Unk, "step by 6 7 3 4 9 8 11\n", false),
+    (Unk, "step by 6 7 10 4 9 8 11\n", false),
+    (Unk, "step by 6 7 10 3 9 8 11\n", false),
+    (Unk, "step by 6 7 10 3 4 8 11\n", false),
+    (Unk, "step by 6 7 10 3 4 9 11\n", false),
+    (Unk, "step by 6 7 10 3 4 9 8\n", false),
+    // no step stands
+    (Unk, "", false),
+    // a cube holds at the start
+    (Zero, STEP, false),
+    (One, STEP, false),
+];
 
-// The hints without the one at an index.
-fn without(alloc: Global, left_out: usize) -> Result<Vec<u32>, AllocError> {
-    let mut hints = Vec::new(alloc);
-    for (k, hint) in HINTS.iter().enumerate() {
-        if k != left_out {
-            hints.push(*hint)?;
-        }
-    }
-    Ok(hints)
-}
-
-// Whether the step passes by all hints, and by no fewer.
-fn wants_each_hint(alloc: Global, circuit: &Circuit) -> Result<bool, AllocError>
-    requires { length circuit.now.dffs ≡ 1 }
-{
-    let fault = stuck_at(0, false);
-    for k in 0..HINTS.len() {
-        let hints = without(alloc, k)?;
-        if passes(alloc, circuit, fault, Unk, &hints)? {
-            return Ok(false);
-        }
-    }
-    passes(alloc, circuit, fault, Unk, HINTS)
-}
-
-fn is_refuted(alloc: Global) -> Result<bool, Fail> {
-    let circuit = circuit_of(alloc, TOGGLE)?;
+fn is_as_said(alloc: Global, circuit: &Circuit, row: Row) -> Result<bool, Fail> {
+    let (start, step, want) = row;
     if circuit.dffs() != 1 {
         return Ok(false);
     }
-    Ok(wants_each_hint(alloc, &circuit)?)
+    let mut written = Vec::new(alloc);
+    let ended = read_text(alloc, &mut written, &[CUBES, step, END])?;
+    match &ended {
+        Some(numbered) => match &numbered.entry {
+            Entry::UndetectableByCubes { cubes, steps } => Ok(
+                refuted(
+                    alloc,
+                    circuit,
+                    NET_0_AT_0,
+                    &[start],
+                    cubes.as_slice(),
+                    steps.as_slice(),
+                )? == want,
+            ),
+            _ => Ok(false),
+        },
+        None => Ok(false),
+    }
 }
 
 #[test]
 fn an_unknown_that_stays_is_refuted_by_cubes(rt: HostRuntime) -> Result<(), Fail> {
-    assert!(rt; is_refuted(rt.alloc())?);
-    Ok(())
-}
-
-// Starts at which a cube holds, and one at which none does but no step stands.
-fn is_another_refuted(alloc: Global) -> Result<bool, Fail> {
-    let circuit = circuit_of(alloc, TOGGLE)?;
-    if circuit.dffs() != 1 {
-        return Ok(true);
+    let circuit = circuit_of(rt.alloc(), TOGGLE)?;
+    for (i, row) in ROWS.iter().enumerate() {
+        assert!(rt; is_as_said(rt.alloc(), &circuit, *row)?, "row {i}");
     }
-    let fault = stuck_at(0, false);
-    let at_zero = passes(alloc, &circuit, fault, Zero, HINTS)?;
-    let at_one = passes(alloc, &circuit, fault, One, HINTS)?;
-    Ok(at_zero || at_one || passes(alloc, &circuit, fault, Unk, &[])?)
-}
-
-#[test]
-fn a_cube_that_holds_at_the_start_refutes_nothing(rt: HostRuntime) -> Result<(), Fail> {
-    assert!(rt; !is_another_refuted(rt.alloc())?);
     Ok(())
 }

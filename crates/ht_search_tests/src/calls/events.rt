@@ -138,8 +138,11 @@ fn settles(
 #[test]
 fn a_frame_of_s27_settles_in_every_order(rt: HostRuntime) -> Result<(), Fail> {
     let circuit = read(rt.alloc(), S27)?;
-    for order in ORDERS {
-        assert!(&rt; settles(rt.alloc(), &circuit, *order, SETTLED)?);
+    for (i, order) in ORDERS.iter().enumerate() {
+        assert!(&rt;
+            settles(rt.alloc(), &circuit, *order, SETTLED)?,
+            "order {i}"
+        );
     }
     Ok(())
 }

@@ -1,7 +1,5 @@
 //! Tests of ht_families: the toggle and the shift register, with what follows by hand.
-ghost use Rattle.std.specs.Prelude.{◌≡◌, length};
-
-use super::small::{circuit_of, stuck_at};
+use super::small::{NET_0_AT_0, NET_0_AT_1, NET_1_AT_0, NET_1_AT_1, circuit_of};
 use ht_families::{closes, closing};
 use ht_net::{Circuit, Fault};
 use ht_pairs::PairSet;
@@ -10,64 +8,36 @@ use ht_tern::Tern::{self, One, Unk, Zero};
 use std::alloc::{AllocError, Global};
 use std::test::Fail;
 
-/// A net of the toggle, at what it is stuck, and what the faulty latch then takes.
-type Row = (u32, bool, Tern);
+/// A fault of the toggle, and what the faulty latch then takes.
+type Row = (Fault, Tern);
 
 // The good latch stays unknown, and the faulty one does not: no vector shows a difference.
 const ROWS: &[Row] = &[
-    (0, false, One),
-    (0, true, Zero),
-    (1, false, Zero),
-    (1, true, One),
+    (NET_0_AT_0, One),
+    (NET_0_AT_1, Zero),
+    (NET_1_AT_0, Zero),
+    (NET_1_AT_1, One),
 ];
 
-// Whether the set alone is the least family of a circuit with one flip-flop.
-fn is_found(
-    alloc: Global,
-    circuit: &Circuit,
-    fault: Fault,
-    set: PairSet,
-) -> Result<bool, AllocError>
-    requires { length circuit.now.dffs ≡ 1 }
-{
+// Whether the set of both pairs closes, the start alone doesn't, and the set is the least family of a circuit with one
+// flip-flop.
+fn has_its_family(alloc: Global, circuit: &Circuit, row: Row) -> Result<bool, AllocError> {
+    let (fault, taken) = row;
+    if circuit.dffs() != 1 {
+        return Ok(false);
+    }
+    let start = PairSet::single(Unk, Unk);
+    let set = PairSet::single(Unk, taken).join(start);
+    if closes(alloc, circuit, fault, &[Unk], &[start])? {
+        return Ok(false);
+    }
+    if !closes(alloc, circuit, fault, &[Unk], &[set])? {
+        return Ok(false);
+    }
     match closing(alloc, circuit, fault, &[Unk])? {
         Some(family) => Ok(family.len() == 1 && family[0] == set),
         None => Ok(false),
     }
-}
-
-// Whether the set alone closes, and the start alone doesn't.
-fn is_judged(
-    alloc: Global,
-    circuit: &Circuit,
-    fault: Fault,
-    set: PairSet,
-) -> Result<bool, AllocError>
-    requires { length circuit.now.dffs ≡ 1 }
-{
-    if closes(alloc, circuit, fault, &[Unk], &[PairSet::single(Unk, Unk)])? {
-        return Ok(false);
-    }
-    closes(alloc, circuit, fault, &[Unk], &[set])
-}
-
-fn has_its_family(alloc: Global, row: Row) -> Result<bool, Fail> {
-    let (net, value, taken) = row;
-    let fault = stuck_at(net, value);
-    let set = PairSet::single(Unk, taken).join(PairSet::single(Unk, Unk));
-    let circuit = circuit_of(alloc, TOGGLE)?;
-    if circuit.dffs() != 1 {
-        return Ok(false);
-    }
-    Ok(is_found(alloc, &circuit, fault, set)? && is_judged(alloc, &circuit, fault, set)?)
-}
-
-#[test]
-fn an_unknown_that_stays_has_a_family(rt: HostRuntime) -> Result<(), Fail> {
-    for row in ROWS {
-        assert!(rt; has_its_family(rt.alloc(), *row)?);
-    }
-    Ok(())
 }
 
 // The input at 0 is detected by the third of the vectors 1, 0, 0.
@@ -76,11 +46,15 @@ fn has_none(alloc: Global) -> Result<bool, Fail> {
     if circuit.dffs() != 2 {
         return Ok(false);
     }
-    Ok(closing(alloc, &circuit, stuck_at(0, false), &[Unk, Unk])?.is_none())
+    Ok(closing(alloc, &circuit, NET_0_AT_0, &[Unk, Unk])?.is_none())
 }
 
 #[test]
-fn a_fault_that_is_detected_has_no_family(rt: HostRuntime) -> Result<(), Fail> {
+fn an_unknown_that_stays_has_a_family(rt: HostRuntime) -> Result<(), Fail> {
+    let toggle = circuit_of(rt.alloc(), TOGGLE)?;
+    for (i, row) in ROWS.iter().enumerate() {
+        assert!(rt; has_its_family(rt.alloc(), &toggle, *row)?, "row {i}");
+    }
     assert!(rt; has_none(rt.alloc())?);
     Ok(())
 }

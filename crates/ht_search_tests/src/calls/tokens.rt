@@ -22,12 +22,6 @@ pub const X: Token = Token::Three { var: 0 };
 /// Variable 0 is decided to 1, and after that to 0.
 pub const TWO_0: Token = one_first!(0);
 
-/// Variable 0 is decided to 0, and after that to 1.
-pub const ZERO_FIRST: Token = Token::Two {
-    var: 0,
-    first: false,
-};
-
 /// Variable 1 is decided to 1, and after that to 0.
 pub const TWO_1: Token = one_first!(1);
 

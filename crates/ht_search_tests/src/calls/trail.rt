@@ -19,13 +19,6 @@ fn undone(cells: &mut Cells<u64>) -> Result<Option<[u64; 3]>, AllocError> {
     Ok(Some([cells.get(0), cells.get(1), cells.get(2)]))
 }
 
-#[test]
-fn undo_gives_what_the_cells_held_at_the_mark(rt: HostRuntime) -> Result<(), Fail> {
-    let mut cells = Cells::<u64>::new(rt.alloc(), 3, 0)?;
-    assert!(rt; undone(&mut cells)? == Some([5, 0, 0]));
-    Ok(())
-}
-
 /// Changes a thousand cells in turn: change k, from 0, puts k + 1 into its cell.
 fn count_up(cells: &mut Cells<u64>, changes: u64) -> Result<(), AllocError> {
     for k in 0..changes {
@@ -36,24 +29,16 @@ fn count_up(cells: &mut Cells<u64>, changes: u64) -> Result<(), AllocError> {
     Ok(())
 }
 
-/// Goes back to the mark before change k, and says what its cell holds then.
-fn step_back(cells: &mut Cells<u64>, k: u64) -> Option<u64> {
-    if cells.mark().0 < k {
-        return None;
-    }
-    cells.undo(Mark(k));
-    if cells.len() != 1000 {
-        return None;
-    }
-    Some(cells.get((k % 1000) as u32))
-}
-
 /// Whether each cell holds the change a thousand before, or 0, as the last change is taken back time and again.
 fn goes_back(cells: &mut Cells<u64>, changes: u64) -> bool {
     for taken in 0..changes {
         let k = changes - 1 - taken;
         let before = if k < 1000 { 0 } else { k - 999 };
-        if step_back(cells, k) != Some(before) {
+        if cells.mark().0 < k {
+            return false;
+        }
+        cells.undo(Mark(k));
+        if cells.len() != 1000 || cells.get((k % 1000) as u32) != before {
             return false;
         }
     }
@@ -61,7 +46,12 @@ fn goes_back(cells: &mut Cells<u64>, changes: u64) -> bool {
 }
 
 #[test]
-fn a_million_nested_marks_are_undone(rt: HostRuntime) -> Result<(), Fail> {
+fn undo_gives_what_the_cells_held_at_the_mark(rt: HostRuntime) -> Result<(), Fail> {
+    {
+        let mut cells = Cells::<u64>::new(rt.alloc(), 3, 0)?;
+        assert!(rt; undone(&mut cells)? == Some([5, 0, 0]));
+    }
+    // a million nested marks
     let mut cells = Cells::<u64>::new(rt.alloc(), 1000, 0)?;
     count_up(&mut cells, 1_000_000)?;
     assert!(rt; goes_back(&mut cells, 1_000_000));

@@ -74,27 +74,23 @@ fn takes(walk: &mut Walk, tokens: &[Token]) -> Result<bool, AllocError> {
     Ok(true)
 }
 
-fn stands(walk: &Walk, taken: bool, at: At) -> bool {
-    match at {
+fn leads_as_said(alloc: Global, row: Row) -> Result<bool, AllocError> {
+    let (unit, tokens, at) = row;
+    let mut walk = Walk::new(alloc, unit.max(1));
+    let taken = takes(&mut walk, tokens)?;
+    Ok(match at {
         At::Refused => !taken,
         At::Node(path, depth) => {
             taken && !walk.finished() && walk.pending() == path && walk.depth() == depth
         },
         At::End(weight) => taken && walk.finished() && walk.weight() == weight,
-    }
-}
-
-fn leads_as_said(alloc: Global, row: Row) -> Result<bool, AllocError> {
-    let (unit, tokens, at) = row;
-    let mut walk = Walk::new(alloc, unit.max(1));
-    let taken = takes(&mut walk, tokens)?;
-    Ok(stands(&walk, taken, at))
+    })
 }
 
 #[test]
 fn walks_go_from_node_to_node(rt: HostRuntime) -> Result<(), Fail> {
-    for row in ROWS {
-        assert!(rt; leads_as_said(rt.alloc(), *row)?);
+    for (i, row) in ROWS.iter().enumerate() {
+        assert!(rt; leads_as_said(rt.alloc(), *row)?, "row {i}");
     }
     Ok(())
 }

@@ -1,5 +1,5 @@
 //! Tests of ht_check: walks of windows by hand, with their weights.
-use super::small::{circuit_of, stuck_at_0};
+use super::small::{NET_1_AT_0, circuit_of};
 use super::tokens::{B, D, TWO_0, TWO_2, X};
 use ht_check::{Finding, FreshWindow, KeptFrames, judge_walk};
 use ht_net::Circuit;
@@ -20,52 +20,6 @@ enum Kind {
     Ahead(u32, &'static [Tern], &'static [Tern]),
     /// Back from a cube, which at most so many frames may lead to.
     Back(u32, &'static [Tern]),
-}
-
-fn sweep(
-    alloc: Global,
-    circuit: &Circuit,
-    frames: u32,
-    tokens: &[Token],
-) -> Result<Finding, AllocError> {
-    if frames == 0 {
-        return Ok(Finding::Unfit);
-    }
-    let kept = KeptFrames::new(alloc, circuit)?;
-    let mut window = FreshWindow::sweep(alloc, kept, stuck_at_0(1), frames)?;
-    judge_walk(alloc, &mut window, tokens)
-}
-
-fn ahead(
-    alloc: Global,
-    circuit: &Circuit,
-    frames: u32,
-    states: (&[Tern], &[Tern]),
-    tokens: &[Token],
-) -> Result<Finding, AllocError> {
-    let (good, faulty) = states;
-    let dffs = circuit.dffs() as usize;
-    if frames == 0 || good.len() != dffs || faulty.len() != dffs {
-        return Ok(Finding::Unfit);
-    }
-    let kept = KeptFrames::new(alloc, circuit)?;
-    let mut window = FreshWindow::forward(alloc, kept, stuck_at_0(1), frames, good, faulty)?;
-    judge_walk(alloc, &mut window, tokens)
-}
-
-fn back(
-    alloc: Global,
-    circuit: &Circuit,
-    cube: &[Tern],
-    limit: u32,
-    tokens: &[Token],
-) -> Result<Finding, AllocError> {
-    if cube.len() != circuit.dffs() as usize {
-        return Ok(Finding::Unfit);
-    }
-    let kept = KeptFrames::new(alloc, circuit)?;
-    let mut window = FreshWindow::back(alloc, kept, cube, limit)?;
-    judge_walk(alloc, &mut window, tokens)
 }
 
 /// A circuit, a window of it and tokens, and what these are to it.
@@ -149,26 +103,51 @@ const ROWS: &[Row] = &[
     (TOGGLE, Kind::Back(1, &[One]), &[X, B, X], Finding::Unfit),
 ];
 
-/// What the tokens of a row are to its window.
-fn judged(alloc: Global, circuit: &Circuit, row: Row) -> Result<Finding, AllocError> {
-    let (_, kind, tokens, _) = row;
+// What tokens are to a window; unfit where there is no such window.
+fn judged(
+    alloc: Global,
+    circuit: &Circuit,
+    kind: Kind,
+    tokens: &[Token],
+) -> Result<Finding, AllocError> {
+    let dffs = circuit.dffs() as usize;
     match kind {
-        Kind::Sweep(frames) => sweep(alloc, circuit, frames, tokens),
-        Kind::Ahead(frames, good, faulty) => ahead(alloc, circuit, frames, (good, faulty), tokens),
-        Kind::Back(limit, cube) => back(alloc, circuit, cube, limit, tokens),
+        Kind::Sweep(frames) => {
+            if frames == 0 {
+                return Ok(Finding::Unfit);
+            }
+            let kept = KeptFrames::new(alloc, circuit)?;
+            let mut window = FreshWindow::sweep(alloc, kept, NET_1_AT_0, frames)?;
+            judge_walk(alloc, &mut window, tokens)
+        },
+        Kind::Ahead(frames, good, bad) => {
+            if frames == 0 || good.len() != dffs || bad.len() != dffs {
+                return Ok(Finding::Unfit);
+            }
+            let kept = KeptFrames::new(alloc, circuit)?;
+            let mut window = FreshWindow::forward(alloc, kept, NET_1_AT_0, frames, good, bad)?;
+            judge_walk(alloc, &mut window, tokens)
+        },
+        Kind::Back(limit, cube) => {
+            if cube.len() != dffs {
+                return Ok(Finding::Unfit);
+            }
+            let kept = KeptFrames::new(alloc, circuit)?;
+            let mut window = FreshWindow::back(alloc, kept, cube, limit)?;
+            judge_walk(alloc, &mut window, tokens)
+        },
     }
-}
-
-fn is_as_said(alloc: Global, row: Row) -> Result<bool, Fail> {
-    let (text, _, _, want) = row;
-    let circuit = circuit_of(alloc, text)?;
-    Ok(judged(alloc, &circuit, row)? == want)
 }
 
 #[test]
 fn walks_are_complete_or_open_with_their_weight(rt: HostRuntime) -> Result<(), Fail> {
-    for row in ROWS {
-        assert!(rt; is_as_said(rt.alloc(), *row)?);
+    for (i, row) in ROWS.iter().enumerate() {
+        let (text, kind, tokens, want) = *row;
+        let circuit = circuit_of(rt.alloc(), text)?;
+        assert!(rt;
+            judged(rt.alloc(), &circuit, kind, tokens)? == want,
+            "row {i}"
+        );
     }
     Ok(())
 }
