@@ -12,7 +12,7 @@ use std::alloc::{AllocError, Global};
 use std::test::Fail;
 
 /// Whether an entry passes where no start is stated.
-#[derive(Clone, Copy, PartialEq, Eq)]
+#[derive(Clone, Copy)]
 enum Said {
     Passes,
     Fails,
@@ -192,7 +192,7 @@ fn changed_clauses(
     said: Said,
 ) -> Result<Items<Clause>, AllocError> {
     let mut list = clauses.into_vec();
-    if said == FailsEmptied {
+    if matches!(said, FailsEmptied) {
         return Ok(Items::new(alloc));
     }
     let Some(last) = list.pop() else {
@@ -213,7 +213,7 @@ fn changed_clauses(
 
 // An entry as it is judged: turned or emptied where that is said.
 fn changed(alloc: Global, record: Entry, said: Said) -> Result<Entry, AllocError> {
-    if said == Passes || said == Fails {
+    if matches!(said, Passes | Fails) {
         return Ok(record);
     }
     match record {
@@ -318,7 +318,14 @@ fn is_as_said(
     };
     let Numbered { number: _, entry } = ended;
     let record = changed(alloc, entry, said)?;
-    Ok(is_judged(alloc, circuit, fault, budget, &record, said == Passes)?)
+    Ok(is_judged(
+        alloc,
+        circuit,
+        fault,
+        budget,
+        &record,
+        matches!(said, Passes),
+    )?)
 }
 
 #[test]
