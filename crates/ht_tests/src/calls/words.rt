@@ -166,7 +166,8 @@ fn asks(alloc: Global, words: &[&str], asked: &Asked<'_>) -> Result<bool, AllocE
     })
 }
 
-const ROWS: &[(&[&str], Asked<'static>)] = &[
+// Each command with its names.
+const FORMS: &[(&[&str], Asked<'static>)] = &[
     (
         &["sim", "n", "t", "r"],
         Names("sim", &["n", "t", "r"], None),
@@ -225,69 +226,30 @@ const ROWS: &[(&[&str], Asked<'static>)] = &[
         &["diagnose", "n", "t", "s", "o"],
         Names("diagnose", &["n", "t", "s", "o"], None),
     ),
-    (&["diagnose", "n", "t", "o"], Usage),
     (
         &["uninit", "n", "--budget=5", "--", "-o"],
         Names("uninit", &["n", "-o"], None),
     ),
-    (&["uninit", "n", "o", "--budget=0"], Usage),
     (
         &["sync", "n", "t", "--budget=5", "o"],
         Names("sync", &["n", "t", "o"], None),
     ),
-    (&["sync", "n", "o"], Usage),
-    (
-        &["respond", "n", "--fault=5", "t", "--start", "s", "o"],
-        Names("respond", &["n", "t", "o"], Some("s")),
-    ),
-    (&["respond", "n", "t", "o", "--fault=655359"], Usage),
-    (
-        &["report", "n", "--budget=5", "t", "--start", "s", "p", "r"],
-        Names("report", &["n", "t", "p", "r"], Some("s")),
-    ),
-    (&["report", "n", "t", "p", "r", "--budget=0"], Usage),
-    (&["report", "n", "t", "p"], Usage),
-    (&["gen", "n", "t", "r", "p", "--search", "Deep"], Usage),
-    (&["gen", "n", "t", "r", "p", "--weighted=100001"], Usage),
-    (&["gen", "n", "t", "r", "p", "--first"], Usage),
     (
         &["norm", "--", "-n", "-o"],
         Names("norm", &["-n", "-o"], None),
     ),
-    (&[], Usage),
-    (&["SIM", "n", "t", "r"], Usage),
-    (&["help"], Usage),
-    (&["sim"], Usage),
-    (&["sim", "n", "t"], Usage),
-    (&["sim", "n", "t", "r", "x"], Usage),
-    (&["sim", "--", "n", "t", "r", "x"], Usage),
-    (&["sim", "-1", "t", "r"], Usage),
-    (&["sim", "-n", "t", "r"], Usage),
-    (&["sim", "--n", "t", "r"], Usage),
-    (&["sim", "---", "t", "r"], Usage),
-    (&["sim", "n", "t", "r", "-h"], Usage),
-    (&["sim", "--help"], Usage),
-    (&["sim", "-V"], Usage),
-    (&["sim", "--version"], Usage),
-    (&["sim", "n", "t", "r", "--budget", "5"], Usage),
-    (&["gen", "n", "t", "r"], Usage),
-    (&["gen", "n", "t", "r", "p", "x"], Usage),
-    (&["gen", "n", "t", "r", "p", "--random", "x"], Usage),
-    (&["check", "n", "t", "r"], Usage),
-    (&["demo", "16"], Usage),
-    (&["demo", "0", "1"], Usage),
-    (&["gen", "n", "t", "r", "p", "--help"], Usage),
-    (&["norm", "n"], Usage),
-    (&["norm", "n", "o", "--start", "s"], Usage),
-    (&["sim", "n", "t", "r", "--start"], Usage),
-    (&["sim", "n", "t", "r", "--start", "-s"], Usage),
+];
+
+// Commands that may have a start.
+const STARTS: &[(&[&str], Asked<'static>)] = &[
     (
-        &["check", "n", "t", "r", "p", "--start=s", "--start=s"],
-        Usage,
+        &["respond", "n", "--fault=5", "t", "--start", "s", "o"],
+        Names("respond", &["n", "t", "o"], Some("s")),
     ),
-    (&["norm", "n", "o", "x"], Usage),
-    (&["norm", "n", "o", "--help"], Usage),
-    // a start
+    (
+        &["report", "n", "--budget=5", "t", "--start", "s", "p", "r"],
+        Names("report", &["n", "t", "p", "r"], Some("s")),
+    ),
     (
         &["sim", "n", "t", "r", "--start", "s"],
         Names("sim", &["n", "t", "r"], Some("s")),
@@ -308,10 +270,17 @@ const ROWS: &[(&[&str], Asked<'static>)] = &[
         &["check", "n", "t", "r", "p", "--start="],
         Names("check", &["n", "t", "r", "p"], Some("")),
     ),
-    // a budget of `gen` is a number in digits from 1 to 100,000
+];
+
+// A budget is a number in digits from 1 to 100,000; and what `gen` works on, and how.
+const OPTIONS: &[(&[&str], Asked<'static>)] = &[
     (
         &["gen", "n", "t", "r", "p"],
         Options(1_000, None, None, 0, false),
+    ),
+    (
+        &["gen", "n", "t", "r", "p", "--faults=l", "--first", "f"],
+        Options(1_000, Some("f"), Some("l"), 0, false),
     ),
     (
         &["gen", "n", "t", "r", "p", "--budget", "5"],
@@ -349,32 +318,6 @@ const ROWS: &[(&[&str], Asked<'static>)] = &[
         &["gen", "n", "t", "r", "p", "--budget=0000000100000"],
         Options(100_000, None, None, 0, false),
     ),
-    (&["gen", "n", "t", "r", "p", "--budget", "0"], Usage),
-    (&["gen", "n", "t", "r", "p", "--budget", "100001"], Usage),
-    (
-        &["gen", "n", "t", "r", "p", "--budget=18446744073709551617"],
-        Usage,
-    ),
-    (&["gen", "n", "t", "r", "p", "--budget"], Usage),
-    (&["gen", "n", "t", "r", "p", "--budget="], Usage),
-    (&["gen", "n", "t", "r", "p", "--budget", ""], Usage),
-    (&["gen", "n", "t", "r", "p", "--budget", "-5"], Usage),
-    (&["gen", "n", "t", "r", "p", "--budget=-5"], Usage),
-    (&["gen", "n", "t", "r", "p", "--budget=+5"], Usage),
-    (&["gen", "n", "t", "r", "p", "--budget", "0x5"], Usage),
-    (&["gen", "n", "t", "r", "p", "--budget", "5 "], Usage),
-    (
-        &["gen", "n", "t", "r", "p", "--budget", "5", "--budget", "5"],
-        Usage,
-    ),
-    (&["gen", "n", "t", "r", "p", "--", "--budget", "5"], Usage),
-    (&["gen", "n", "t", "r", "p", "--bud", "5"], Usage),
-    (&["gen", "n", "t", "r", "p", "-b", "5"], Usage),
-    // what `gen` works on, and how
-    (
-        &["gen", "n", "t", "r", "p", "--faults=l", "--first", "f"],
-        Options(1_000, Some("f"), Some("l"), 0, false),
-    ),
     (
         &[
             "gen",
@@ -394,13 +337,96 @@ const ROWS: &[(&[&str], Asked<'static>)] = &[
     ),
 ];
 
+// Words without a form.
+const REFUSED: &[&[&str]] = &[
+    &["diagnose", "n", "t", "o"],
+    &["uninit", "n", "o", "--budget=0"],
+    &["sync", "n", "o"],
+    &["respond", "n", "t", "o", "--fault=655359"],
+    &["report", "n", "t", "p", "r", "--budget=0"],
+    &["report", "n", "t", "p"],
+    &["gen", "n", "t", "r", "p", "--search", "Deep"],
+    &["gen", "n", "t", "r", "p", "--weighted=100001"],
+    &["gen", "n", "t", "r", "p", "--first"],
+    &[],
+    &["SIM", "n", "t", "r"],
+    &["help"],
+    &["sim"],
+    &["sim", "n", "t"],
+    &["sim", "n", "t", "r", "x"],
+    &["sim", "--", "n", "t", "r", "x"],
+    &["sim", "-1", "t", "r"],
+    &["sim", "-n", "t", "r"],
+    &["sim", "--n", "t", "r"],
+    &["sim", "---", "t", "r"],
+    &["sim", "n", "t", "r", "-h"],
+    &["sim", "--help"],
+    &["sim", "-V"],
+    &["sim", "--version"],
+    &["sim", "n", "t", "r", "--budget", "5"],
+    &["gen", "n", "t", "r"],
+    &["gen", "n", "t", "r", "p", "x"],
+    &["gen", "n", "t", "r", "p", "--random", "x"],
+    &["check", "n", "t", "r"],
+    &["demo", "16"],
+    &["demo", "0", "1"],
+    &["gen", "n", "t", "r", "p", "--help"],
+    &["norm", "n"],
+    &["norm", "n", "o", "--start", "s"],
+    &["sim", "n", "t", "r", "--start"],
+    &["sim", "n", "t", "r", "--start", "-s"],
+    &["check", "n", "t", "r", "p", "--start=s", "--start=s"],
+    &["norm", "n", "o", "x"],
+    &["norm", "n", "o", "--help"],
+    &["gen", "n", "t", "r", "p", "--budget", "0"],
+    &["gen", "n", "t", "r", "p", "--budget", "100001"],
+    &["gen", "n", "t", "r", "p", "--budget=18446744073709551617"],
+    &["gen", "n", "t", "r", "p", "--budget"],
+    &["gen", "n", "t", "r", "p", "--budget="],
+    &["gen", "n", "t", "r", "p", "--budget", ""],
+    &["gen", "n", "t", "r", "p", "--budget", "-5"],
+    &["gen", "n", "t", "r", "p", "--budget=-5"],
+    &["gen", "n", "t", "r", "p", "--budget=+5"],
+    &["gen", "n", "t", "r", "p", "--budget", "0x5"],
+    &["gen", "n", "t", "r", "p", "--budget", "5 "],
+    &["gen", "n", "t", "r", "p", "--budget", "5", "--budget", "5"],
+    &["gen", "n", "t", "r", "p", "--", "--budget", "5"],
+    &["gen", "n", "t", "r", "p", "--bud", "5"],
+    &["gen", "n", "t", "r", "p", "-b", "5"],
+];
+
 #[test]
-fn words_of_a_form_give_its_names_and_options_and_others_are_usage(
-    rt: HostRuntime,
-) -> Result<(), Fail> {
-    for row in ROWS {
+fn words_of_a_form_give_its_names(rt: HostRuntime) -> Result<(), Fail> {
+    for row in FORMS {
         let words = row.0;
         assert!(rt; asks(rt.alloc(), words, &row.1)?, "of {words:?}");
+    }
+    Ok(())
+}
+
+#[test]
+fn words_with_a_start_give_its_name(rt: HostRuntime) -> Result<(), Fail> {
+    for row in STARTS {
+        let words = row.0;
+        assert!(rt; asks(rt.alloc(), words, &row.1)?, "of {words:?}");
+    }
+    Ok(())
+}
+
+#[test]
+fn words_of_gen_give_its_options(rt: HostRuntime) -> Result<(), Fail> {
+    for row in OPTIONS {
+        let words = row.0;
+        assert!(rt; asks(rt.alloc(), words, &row.1)?, "of {words:?}");
+    }
+    Ok(())
+}
+
+#[test]
+fn words_without_a_form_are_usage(rt: HostRuntime) -> Result<(), Fail> {
+    for words in REFUSED {
+        let words = *words;
+        assert!(rt; asks(rt.alloc(), words, &Usage)?, "of {words:?}");
     }
     Ok(())
 }
