@@ -1,12 +1,8 @@
 -- What a frame shows with a net forced, by where its effect ends.
-use Rattle.std.proofs.Common.{◌≡◌, ◌≢◌, ◌<◌, ◌≤◌, ◌+◌, ◌∙◌, ℕ, List, Bool, Some, None, length, get_or, refl, sym, ap, arith}
-use Rattle.std.proofs.lemmas.Bool.Decides.{eqb_tells}
-use Rattle.std.specs.Prelude.{eqb}
+use Rattle.std.proofs.Common.{◌≡◌, ◌<◌, ◌+◌, ◌∙◌, ℕ, List, None, get_or, refl, sym, ap, arith}
 use Rattle.ht_tern.specs.declared.tern.Tern.{Tern}
-use Rattle.ht_net.specs.declared.net.NetId.{NetId}
-use Rattle.ht_net.specs.Netlist.{Netlist, first_gate_net, net_count, gate_at, arg_at, no_net, IsCircuit}
-use Rattle.ht_net.specs.Frame.{Rules, gate_output, net_value}
-use Rattle.ht_net.specs.Levels.{times}
+use Rattle.ht_net.specs.Netlist.{Netlist, first_gate_net, net_count, gate_at, no_net, IsCircuit}
+use Rattle.ht_net.specs.Frame.{gate_output, net_value}
 use Rattle.ht_net.specs.Faults.{forced, tern_rules}
 use Rattle.ht_net.proofs.FrameLaws.{gate_same}
 use Rattle.ht_stems.specs.declared.arrival.Arrival.{Arrival}

@@ -1,5 +1,5 @@
 -- The loads of nets, counted one by one.
-use Rattle.std.proofs.Common.{◌≡◌, ◌≢◌, ◌<◌, ◌≤◌, ◌+◌, ◌∙◌, ℕ, List, true, false, length, get_or, set, replicate, take, refl, sym, ap, subst, arith, add_assoc, inl, inr, get_or-set_other, get_or-set_same}
+use Rattle.std.proofs.Common.{◌≡◌, ◌≢◌, ◌<◌, ◌≤◌, ◌+◌, ◌∙◌, ℕ, List, true, false, length, get_or, set, replicate, take, refl, sym, subst, arith, add_assoc, inl, inr, get_or-set_other, get_or-set_same}
 use Rattle.std.specs.Prelude.{eqb}
 use Rattle.std.proofs.lemmas.Bool.{eq-eqb, ne_eqb}
 use Rattle.std.proofs.lemmas.Bool.Decides.{eqb_tells}

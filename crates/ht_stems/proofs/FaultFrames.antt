@@ -1,6 +1,6 @@
 -- What a frame shows of a fault, from latches that are the good ones.
 use Rattle.std.proofs.Common.{◌≡◌, ◌≢◌, ◌<◌, ◌≤◌, ◌+◌, ◌-◌, ◌∙◌, ◌&&◌, ℕ, suc, List, [], ◌∷◌, Bool, true, false, Some, None, cond, length, get_or, refl, sym, ap, arith, inl, inr, subst}
-use Rattle.std.specs.Prelude.{eqb, ltb}
+use Rattle.std.specs.Prelude.{eqb}
 use Rattle.std.proofs.lemmas.Bool.{ne_eqb}
 use Rattle.std.proofs.lemmas.Bool.Decides.{eqb_tells}
 use Rattle.ht_tern.specs.declared.tern.Tern.{Tern}
@@ -11,8 +11,7 @@ use Rattle.ht_net.specs.declared.fault.Site.TheVariants.{Stem, DffPin, GatePin}
 use Rattle.ht_net.specs.declared.fault.Fault.{Fault}
 use Rattle.ht_net.specs.Netlist.{Netlist, first_gate_net, net_count, gate_at, arg_at, no_net, IsCircuit}
 use Rattle.ht_net.specs.Frame.{Rules, pin_values, gate_output, driver_value, net_value_over, net_value, frame_outputs, next_state}
-use Rattle.ht_net.specs.Faults.{forced, tern_rules, is_stem, is_pin, is_data_pin}
-use Rattle.ht_net.proofs.Depth.{IsDepth}
+use Rattle.ht_net.specs.Faults.{forced, tern_rules}
 use Rattle.ht_net.proofs.DepthLaws.{circuit_depth}
 use Rattle.ht_net.proofs.FrameLaws.{le_or_lt, driven_input, driven_latch, driven_gate, gate_same}
 use Rattle.ht_stems.specs.declared.arrival.Arrival.{Arrival}

@@ -6,3 +6,4 @@ pub mod ArrivalLaws
 pub mod FaultFrames
 pub mod PassLaws
 pub mod ViewLaws
+pub mod UniqueLaws

@@ -1,11 +1,11 @@
 -- A pass back over the nets of a frame.
-use Rattle.std.proofs.Common.{◌≡◌, ◌≢◌, ◌<◌, ◌≤◌, ◌+◌, ◌-◌, ◌∙◌, ◌↔◌, ℕ, List, Bool, true, false, None, length, get_or, set, sym, ap, subst, arith, inl, inr, get_or-set_other, get_or-set_same}
+use Rattle.std.proofs.Common.{◌≡◌, ◌≢◌, ◌<◌, ◌+◌, ◌-◌, ◌∙◌, ◌↔◌, ℕ, List, Bool, true, false, None, length, get_or, set, refl, sym, ap, subst, arith, inl, inr, get_or-set_other, get_or-set_same}
 use Rattle.std.proofs.lemmas.List.{set-get_or, set-set}
 use Rattle.std.specs.Prelude.{IsTrue}
 use Rattle.std.proofs.lemmas.Bool.Decides.{eqb_tells}
 use Rattle.ht_tern.specs.declared.tern.Tern.{Tern}
 use Rattle.ht_tern.specs.declared.tern.Tern.TheVariants.{Zero, Unk}
-use Rattle.ht_net.specs.Netlist.{Netlist, first_gate_net, net_count, gate_at, arg_at, no_net, IsReady, IsOrder}
+use Rattle.ht_net.specs.Netlist.{Netlist, first_gate_net, net_count, gate_at, arg_at, IsReady, IsOrder}
 use Rattle.ht_net.specs.Frame.{gate_output}
 use Rattle.ht_net.specs.Faults.{tern_rules}
 use Rattle.ht_net.proofs.FrameLaws.{le_or_lt, gate_same}
@@ -96,7 +96,7 @@ pub ends_later : (c : Netlist) (good : ℕ → Tern) (loads : List NetLoads) (ta
 ends_later c good loads table order k ordered are inside done g is =
     let x : ℕ = first_gate_net c + get_or order k 0 in
     let within = ordered.each.within k inside in
-    let reads : HasLoads c x (OneGate g) = subst (HasLoads c x) is (are.each x (omega (arith, within))) in
+    let reads : HasLoads c x (OneGate g) = entry_loads c loads x x (OneGate g) are (omega (arith, within)) refl is in
     let pin = read_at x (gate_at c g).args reads.2 in
     let later = later_gate c order ordered k g pin.0 inside reads.1 pin.1 pin.2 in
     let P : ℕ → Type 0 = λ h. AreEndsOf c good (first_gate_net c + h) (get_or table (first_gate_net c + h) no_ends) in

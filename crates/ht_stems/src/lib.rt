@@ -17,7 +17,7 @@ mod theorems;
 pub use arrival::Arrival;
 pub use arrivals::Arrivals;
 pub use theorems::{
-    data_pin_fault_is_one_latch, fault_arrivals_tell_frames,
+    data_pin_fault_is_one_latch, effect_ends_at_one_place, fault_arrivals_tell_frames,
     faults_that_arrive_together_show_the_same, forced_net_comes_to_its_only_latch,
     forced_net_comes_to_its_only_output, forced_net_goes_on_through_its_only_gate,
     forced_net_without_load_changes_nothing, forced_stem_is_the_stem_fault,

@@ -87,6 +87,12 @@ pub fn forced_net_without_load_changes_nothing()
         → ShowSame c (net_forced (tern_rules None) x v) (tern_rules None) vector latches }
 {}
 
+/// The effect of a net that is forced to a value ends in one way alone.
+pub fn effect_ends_at_one_place()
+    ensures { (c : Netlist) (good : ℕ → Tern) (x : ℕ) (v : Tern) (a b : Arrival)
+        → Arrives c good x v a → Arrives c good x v b → a ≡ b }
+{}
+
 /// What a frame shows with a net forced follows from where its effect ends.
 pub fn net_arrivals_tell_frames()
     ensures { (c : Netlist) (vector latches : List Tern) (good : ℕ → Tern) (x : ℕ) (v : Tern)

@@ -1,4 +1,4 @@
-use Rattle.std.proofs.Common.{◌<◌, ℕ, length, take, arith}
+use Rattle.std.proofs.Common.{◌<◌, length, take, arith}
 use Rattle.std.specs.List.{sum_by}
 use Rattle.ht_net.specs.Netlist.{Gate}
 use Rattle.ht_net.specs.Levels.{times}

@@ -1,4 +1,4 @@
-use Rattle.std.proofs.Common.{◌≡◌, ◌∙◌, List, get_or, ap}
+use Rattle.std.proofs.Common.{◌∙◌, List, get_or, ap}
 use Rattle.ht_stems.specs.declared.ends.Ends.{Ends}
 use Rattle.ht_stems.specs.Ends.{end_at, no_ends}
 use Rattle.ht_stems.specs.ArrivalsView.{good_at}
