@@ -108,6 +108,6 @@ module _ (c : Netlist) (circuit : IsCircuit c) (vector latches : List Tern) wher
     arrival_shows _ _ _ (at_stem x v other loads) known = record { outputs = refl; next = refl }
     arrival_shows _ _ _ (through_gate x v g a other loads rest) known =
         let same = through_shows x g v known loads in
-        let shows = arrival_shows (first_gate_net c + g) (gate_output c (tern_rules None) (with_value good x v) g) a rest
-        (omega (arith, loads.1)) in
+        let shows = arrival_shows (first_gate_net c + g) (gate_output c (tern_rules None) (with_value good x v) g) a
+        rest (omega (arith, loads.1)) in
         record { outputs = same.outputs ∙ shows.outputs; next = same.next ∙ shows.next }

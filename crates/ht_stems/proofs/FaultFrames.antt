@@ -118,7 +118,8 @@ over_alike : (c : Netlist) (fault : Fault) (vector latches : List Tern) (e : ℕ
     → ((v : Tern) → (tern_rules (Some fault)).stem y v ≡ (tern_rules None).stem y v)
     → (first_gate_net c ≤ y → gate_output c (tern_rules (Some fault)) e (y - first_gate_net c)
     ≡ gate_output c (tern_rules None) e (y - first_gate_net c))
-    → net_value_over c (tern_rules (Some fault)) vector latches e y ≡ net_value_over c (tern_rules None) vector latches e y
+    → net_value_over c (tern_rules (Some fault)) vector latches e y
+    ≡ net_value_over c (tern_rules None) vector latches e y
 unfolding net_value_over
 over_alike c fault vector latches e y stems gates =
     let r : Rules Tern = tern_rules (Some fault) in
@@ -246,7 +247,8 @@ module _ (c : Netlist) (circuit : IsCircuit c) (vector latches : List Tern) wher
         let E : ℕ → Tern = net_value c (tern_rules None) vector latches in
         let at_gate : first_gate_net c + g - first_gate_net c ≡ g = omega arith in
         let pin = pin_shows g i bit line.0 in
-        let plain : gate_output c (tern_rules (Some (pin_fault g i bit))) good g ≡ gate_output c (tern_rules None) good g =
+        let plain : gate_output c (tern_rules (Some (pin_fault g i bit))) good g
+        ≡ gate_output c (tern_rules None) good g =
         same_gate c g i bit good
         (λ j l is. let e : j ≡ i = omega (arith, is) in ap (λ (k : ℕ). good (arg_at c g k)) e ∙ has) in
         let own : gate_output c (tern_rules (Some (pin_fault g i bit))) good g

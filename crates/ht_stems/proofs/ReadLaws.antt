@@ -66,7 +66,9 @@ same_place : (x i j : ℕ) (nets : List NetId) → i < length nets → j < lengt
     → (get_or nets j no_net).0 ≡ x → times x nets ≤ 1 → i ≡ j
 same_place x i j nets hi hj ei ej few =
     let at : (k : ℕ) → (get_or nets k no_net).0 ≡ x → 0 < cond (eqb (get_or nets k no_net).0 x) 1 0 =
-    λ k e. let one : ◌≡◌ {A = ℕ} (cond (eqb (get_or nets k no_net).0 x) 1 0) 1 = ap (λ b. cond b 1 0) (eq-eqb _ x e) in omega arith
+    λ k e.
+    let one : ◌≡◌ {A = ℕ} (cond (eqb (get_or nets k no_net).0 x) 1 0) 1 = ap (λ b. cond b 1 0) (eq-eqb _ x e) in
+    omega arith
     in
     same_term (λ (n : NetId). cond (eqb n.0 x) 1 0) nets no_net i j hi hj (at i ei) (at j ej) few
 

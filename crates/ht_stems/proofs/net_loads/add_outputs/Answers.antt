@@ -24,5 +24,6 @@ loop-output-preserved c = λ n h.
 
 pub returns : goal.returns
 returns c = λ n h.
-    counted_all c.args.circuit.now n c.loop-output.table c.args.circuit.now.outputs c.args.circuit.now.outputs c.loop-output.output
+    counted_all c.args.circuit.now n c.loop-output.table c.args.circuit.now.outputs c.args.circuit.now.outputs
+    c.loop-output.output
     (omega (arith, c.loop-output-test.false, c.outputs-output-end.ensures)) refl (c.loop-output.invariant n h)

@@ -31,7 +31,8 @@ returns-in-OneGate-clause-end c =
     ≡ end_at (get_or c.args.ends.now (first_gate_net c.args.circuit.now + c.in-OneGate.gate) no_ends)
     c.forced_gate_output-output.result =
     c.end_in.ensures
-    ∙ ap (λ (n : ℕ). end_at (get_or c.args.ends.now n no_ends) c.forced_gate_output-output.result) c.gate_net.ensures.net
+    ∙ ap (λ (n : ℕ). end_at (get_or c.args.ends.now n no_ends) c.forced_gate_output-output.result)
+    c.gate_net.ensures.net
     in
     let P : Arrival → Type 0 = Arrives net good c.args.net.0 c.args.value in
     subst P (sym told)

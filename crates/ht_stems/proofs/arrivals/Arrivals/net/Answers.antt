@@ -7,8 +7,8 @@ use Rattle.ht_stems.proofs.ViewLaws.{circuit_told, net_told}
 use Rattle.ht_stems.proofs.arrivals.Arrivals.net.Goals as goal
 
 ends : goal.returns-clause-end
-ends c = net_told c.self.inside c.args.self.now c.self.view_is c.self.invariant c.args.net.0 c.args.value c.end_in.result
-    c.requires
+ends c = net_told c.self.inside c.args.self.now c.self.view_is c.self.invariant c.args.net.0 c.args.value
+    c.end_in.result c.requires
     (c.end_in.ensures
     ∙ ap (λ (l : List Ends). end_at (get_or l c.args.net.0 no_ends) c.args.value) c.deref.ensures.value)
 
