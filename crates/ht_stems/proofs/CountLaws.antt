@@ -11,7 +11,7 @@ use Rattle.ht_net.specs.Netlist.{Netlist, Gate, gate_at, no_gate, no_net}
 use Rattle.ht_net.specs.Levels.{times}
 use Rattle.ht_net.proofs.FrameLaws.{le_or_lt}
 use Rattle.ht_stems.specs.declared.net_loads.NetLoads.{NetLoads}
-use Rattle.ht_stems.specs.declared.net_loads.NetLoads.TheVariants.{NoLoad, OneGate, OneLatch, OneOutput, Several}
+use Rattle.ht_stems.specs.declared.net_loads.NetLoads.TheVariants.{NoLoad, OneGate, OneDataPin, OneOutput, Several}
 use Rattle.ht_stems.specs.LoadsOfNets.{CountsAs, HasLoads, with_load}
 
 -- one load more
@@ -22,7 +22,7 @@ one_more c x n NoLoad load none one =
     let e : 1 ≡ n + 1 = omega (arith, none) in
     subst P e one
 one_more c x n (OneGate g) load some one = omega (arith, some.0)
-one_more c x n (OneLatch j) load some one = omega (arith, some.0)
+one_more c x n (OneDataPin j) load some one = omega (arith, some.0)
 one_more c x n (OneOutput o) load some one = omega (arith, some.0)
 one_more c x n Several load some one = omega (arith, some)
 

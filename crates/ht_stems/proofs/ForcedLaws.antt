@@ -9,19 +9,19 @@ use Rattle.ht_net.specs.Frame.{Rules, pin_values, gate_output, driver_value, net
 use Rattle.ht_net.proofs.Depth.{IsDepth}
 use Rattle.ht_net.proofs.DepthLaws.{circuit_depth}
 use Rattle.ht_net.proofs.FrameLaws.{driven_gate, gate_same, value_same, frame_settled, settled_is_frame}
-use Rattle.ht_stems.specs.ForcedNets.{net_forced, with_value}
+use Rattle.ht_stems.specs.ForcedNets.{net_forced, with_net_value}
 use Rattle.ht_stems.proofs.ReadLaws.{IsUnreadByGates, IsReadByGate}
 
 -- the value that was put in place
-pub with_here : {V : Type 0} → (e : ℕ → V) (x : ℕ) (v : V) (y : ℕ) → y ≡ x → with_value e x v y ≡ v
+pub with_here : {V : Type 0} → (e : ℕ → V) (x : ℕ) (v : V) (y : ℕ) → y ≡ x → with_net_value e x v y ≡ v
 with_here e x v y is = ap (λ b. cond b v (e y)) (eq-eqb y x is)
 
-pub with_other : {V : Type 0} → (e : ℕ → V) (x : ℕ) (v : V) (y : ℕ) → y ≢ x → with_value e x v y ≡ e y
+pub with_other : {V : Type 0} → (e : ℕ → V) (x : ℕ) (v : V) (y : ℕ) → y ≢ x → with_net_value e x v y ≡ e y
 with_other e x v y ne = ap (λ b. cond b v (e y)) (ne_eqb y x ne)
 
 -- values that agree but where one is put in place agree with it too
 pub with_same : {V : Type 0} → (e f : ℕ → V) (x : ℕ) (v : V) (y : ℕ) → (y ≢ x → e y ≡ f y)
-    → with_value e x v y ≡ with_value f x v y
+    → with_net_value e x v y ≡ with_net_value f x v y
 with_same e f x v y same = elim (eqb_tells y x) [
   | inl p ↦ with_here e x v y p.1 ∙ sym (with_here f x v y p.1)
   | inr p ↦ with_other e x v y p.1 ∙ (same p.1 ∙ sym (with_other f x v y p.1))
@@ -123,7 +123,7 @@ module _ {V : Type 0} (c : Netlist) (circuit : IsCircuit c) (vector latches : Li
         → net_value c (net_forced r x v) vector latches y ≡ net_value c r vector latches y
     unread_same x v unread y inside ne =
         let E : ℕ → V = net_value c r vector latches in
-        let H : ℕ → V = with_value (net_value c r vector latches) x v in
+        let H : ℕ → V = with_net_value (net_value c r vector latches) x v in
         sym (is_frame (net_forced r x v) H
         (λ z here. elim (eqb_tells z x) [
           | inl p ↦ with_here E x v z p.1 ∙ sym (over_here c r x v vector latches H z p.1)
@@ -134,27 +134,27 @@ module _ {V : Type 0} (c : Netlist) (circuit : IsCircuit c) (vector latches : Li
         ]) y inside)
         ∙ with_other E x v y ne
 
-    -- A net that one gate alone reads leaves each other one as the gate's net does, forced to what the gate then gives.
+    -- A net that only one gate reads leaves each other one as the gate's net does, forced to what the gate then gives.
     pub through_same : (x g : ℕ) (v w : V) → x < net_count c → g < length c.gates → IsReadByGate c x g
         → ((j : ℕ) × (j < length (gate_at c g).args) × (arg_at c g j ≡ x))
         → w ≡ r.stem (first_gate_net c + g)
-        (gate_output c r (with_value (net_value c r vector latches) x v) g)
+        (gate_output c r (with_net_value (net_value c r vector latches) x v) g)
         → (y : ℕ) → y < net_count c → y ≢ x
         → net_value c (net_forced r x v) vector latches y
         ≡ net_value c (net_forced r (first_gate_net c + g) w) vector latches y
     unfolding net_value_over
-    through_same x g v w known gate alone (j, pin, reads) gives y inside ne =
+    through_same x g v w known gate only (j, pin, reads) gives y inside ne =
         let m : ℕ = first_gate_net c + g in
         let E : ℕ → V = net_value c r vector latches in
         let G : ℕ → V = net_value c (net_forced r (first_gate_net c + g) w) vector latches in
-        let K : ℕ → V = with_value G x v in
+        let K : ℕ → V = with_net_value G x v in
         let d = circuit_depth c circuit in
         let lower : d.0 x < d.0 (first_gate_net c + g) =
         let falls = d.1.falls g j gate pin in omega (arith, falls, ap d.0 reads) in
         let apart : first_gate_net c + g ≢ x = λ e. let same = ap d.0 e in omega (arith, same, lower) in
         let at_gate : first_gate_net c + g - first_gate_net c ≡ g = omega arith in
         let args : (i : ℕ) → i < length (gate_at c g).args
-        → K (get_or (gate_at c g).args i no_net).0 ≡ with_value E x v (get_or (gate_at c g).args i no_net).0 =
+        → K (get_or (gate_at c g).args i no_net).0 ≡ with_net_value E x v (get_or (gate_at c g).args i no_net).0 =
         λ i l. with_same G E x v _
         (λ other. let falls = d.1.falls g i gate l in
         upstream d.0 d.1 (first_gate_net c + g) w (suc (d.0 (arg_at c g i))) _ (d.1.known g i gate l) (omega arith)
@@ -164,7 +164,7 @@ module _ {V : Type 0} (c : Netlist) (circuit : IsCircuit c) (vector latches : Li
         ∙ (frame_over (net_forced r m w) m (omega arith)
         ∙ (over_here c r m w vector latches G m refl
         ∙ (gives ∙ ap (r.stem m) (sym (driven_gate c r vector latches K m (omega arith)
-        ∙ (ap (gate_output c r K) at_gate ∙ gate_same c r K (with_value E x v) g args)))))) in
+        ∙ (ap (gate_output c r K) at_gate ∙ gate_same c r K (with_net_value E x v) g args)))))) in
         sym (is_frame (net_forced r x v) K
         (λ z here. elim (eqb_tells z x) [
           | inl p ↦ with_here G x v z p.1 ∙ sym (over_here c r x v vector latches K z p.1)
@@ -175,7 +175,7 @@ module _ {V : Type 0} (c : Netlist) (circuit : IsCircuit c) (vector latches : Li
                 ∙ (over_other c r m w vector latches G z q.1
                 ∙ (value_same c r vector latches G K z
                 (λ i at l. sym (with_other G x v _
-                (λ e. q.1 (let is = alone (z - first_gate_net c) i (omega arith) l e in omega (arith, is)))))
+                (λ e. q.1 (let is = only (z - first_gate_net c) i (omega arith) l e in omega (arith, is)))))
                 ∙ sym (over_other c r x v vector latches K z p.1))))
           ]
         ]) y inside)

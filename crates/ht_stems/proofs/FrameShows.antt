@@ -7,7 +7,7 @@ use Rattle.ht_net.specs.Frame.{Rules, values_at, data_values, net_value, frame_o
 use Rattle.ht_net.proofs.ValueLaws.{seen_same}
 use Rattle.ht_stems.specs.ArrivedFrames.{ShowSame}
 
--- One output alone may show something else.
+-- Only one output may show something else.
 seen_but : {V : Type 0} → (e f : ℕ → V) (k : ℕ) (xs : List NetId) → k < length xs
     → ((o : ℕ) → o < length xs → o ≢ k → e (get_or xs o no_net).0 ≡ f (get_or xs o no_net).0)
     → values_at e xs ≡ set (values_at f xs) k (e (get_or xs k no_net).0)
@@ -34,7 +34,7 @@ taken_alike r s e f j (x ∷ xs) pins h =
     taken_alike r s e f (j + 1) xs (λ i v l. pins i v (omega arith)) (λ o l. h (suc o) (omega arith)) in
     cc
 
--- One flip-flop alone may take something else.
+-- Only one flip-flop may take something else.
 taken_but : {V : Type 0} → (r s : Rules V) (e f : ℕ → V) (j k : ℕ) (v : V) (xs : List NetId) → k < length xs
     → ((i : ℕ) (w : V) → i ≢ j + k → r.data_pin i w ≡ s.data_pin i w)
     → ((o : ℕ) → o < length xs → o ≢ k → e (get_or xs o no_net).0 ≡ f (get_or xs o no_net).0)

@@ -10,7 +10,7 @@ use Rattle.ht_net.specs.declared.net.NetId.{NetId}
 use Rattle.ht_net.specs.Netlist.{Netlist, Gate, gate_at, arg_at, no_gate, no_net}
 use Rattle.ht_net.specs.Levels.{times}
 use Rattle.ht_net.proofs.FrameLaws.{le_or_lt}
-use Rattle.ht_stems.specs.declared.net_loads.NetLoads.TheVariants.{NoLoad, OneGate, OneLatch, OneOutput}
+use Rattle.ht_stems.specs.declared.net_loads.NetLoads.TheVariants.{NoLoad, OneGate, OneDataPin, OneOutput}
 use Rattle.ht_stems.specs.LoadsOfNets.{HasLoads}
 
 module _ {X : Type 0} (f : X → ℕ) (xs : List X) (d : X) where
@@ -110,19 +110,19 @@ gate_not_output c x g (one, known, reads) =
     let part = pins_some c x g known in
     none_among x c.outputs (omega (arith, one, part, reads))
 
-pub latch_no_gate : (c : Netlist) (x j : ℕ) → HasLoads c x (OneLatch j) → IsUnreadByGates c x
-latch_no_gate c x j (one, known, is) =
+pub data_pin_no_gate : (c : Netlist) (x j : ℕ) → HasLoads c x (OneDataPin j) → IsUnreadByGates c x
+data_pin_no_gate c x j (one, known, is) =
     let some = times_some x j c.dffs known is in
     no_pins c x (omega (arith, one, some))
 
-pub latch_not_output : (c : Netlist) (x j : ℕ) → HasLoads c x (OneLatch j) → IsNotAmong x c.outputs
-latch_not_output c x j (one, known, is) =
+pub data_pin_not_output : (c : Netlist) (x j : ℕ) → HasLoads c x (OneDataPin j) → IsNotAmong x c.outputs
+data_pin_not_output c x j (one, known, is) =
     let some = times_some x j c.dffs known is in
     none_among x c.outputs (omega (arith, one, some))
 
-pub latch_alone : (c : Netlist) (x j : ℕ) → HasLoads c x (OneLatch j)
+pub data_pin_only : (c : Netlist) (x j : ℕ) → HasLoads c x (OneDataPin j)
     → (k : ℕ) → k < length c.dffs → k ≢ j → (get_or c.dffs k no_net).0 ≢ x
-latch_alone c x j (one, known, is) k inside ne at = ne
+data_pin_only c x j (one, known, is) k inside ne at = ne
     (same_place x k j c.dffs inside known at is (omega (arith, one)))
 
 pub output_no_gate : (c : Netlist) (x o : ℕ) → HasLoads c x (OneOutput o) → IsUnreadByGates c x
@@ -135,9 +135,9 @@ output_not_data c x o (one, known, is) =
     let some = times_some x o c.outputs known is in
     none_among x c.dffs (omega (arith, one, some))
 
-pub output_alone : (c : Netlist) (x o : ℕ) → HasLoads c x (OneOutput o)
+pub output_only : (c : Netlist) (x o : ℕ) → HasLoads c x (OneOutput o)
     → (k : ℕ) → k < length c.outputs → k ≢ o → (get_or c.outputs k no_net).0 ≢ x
-output_alone c x o (one, known, is) k inside ne at = ne
+output_only c x o (one, known, is) k inside ne at = ne
     (same_place x k o c.outputs inside known at is (omega (arith, one)))
 
 pub unread_no_gate : (c : Netlist) (x : ℕ) → HasLoads c x NoLoad → IsUnreadByGates c x

@@ -11,23 +11,23 @@ use Rattle.ht_net.specs.Frame.{gate_output}
 use Rattle.ht_net.specs.Faults.{tern_rules}
 use Rattle.ht_stems.specs.declared.arrival.Arrival.{Arrival}
 use Rattle.ht_stems.specs.declared.arrival.Arrival.TheVariants.{Dies, AtLatch, AtOutput, AtStem}
-use Rattle.ht_stems.specs.declared.net_loads.NetLoads.TheVariants.{NoLoad, OneGate, OneLatch, OneOutput, Several}
-use Rattle.ht_stems.specs.ForcedNets.{with_value}
+use Rattle.ht_stems.specs.declared.net_loads.NetLoads.TheVariants.{NoLoad, OneGate, OneDataPin, OneOutput, Several}
+use Rattle.ht_stems.specs.ForcedNets.{with_net_value}
 use Rattle.ht_stems.specs.LoadsOfNets.{HasLoads}
 
 -- Net x is forced to v in a frame whose nets have good values: the effect ends here. It dies where v is the good value
--- or nothing reads the net, comes to a latch or to an output that alone reads it, stays at a stem with two loads or
--- more, and else goes on through the one gate that reads the net, with what that gate then gives.
+-- or nothing reads the net, comes to the latch or to the output that is its only load, stays at a stem with two loads
+-- or more, and else goes on through the only gate that reads the net, with what that gate then gives.
 pub data Arrives (c : Netlist) (good : ℕ → Tern) : ℕ → Tern → Arrival → Type 0 where
   unchanged : (x : ℕ) (v : Tern) → v ≡ good x → Arrives c good x v Dies
   unread : (x : ℕ) (v : Tern) → v ≢ good x → HasLoads c x NoLoad → Arrives c good x v Dies
-  at_latch : (x : ℕ) (v : Tern) (j : ℕ) → v ≢ good x → HasLoads c x (OneLatch j) → Arrives c good x v (AtLatch j v)
+  at_latch : (x : ℕ) (v : Tern) (j : ℕ) → v ≢ good x → HasLoads c x (OneDataPin j) → Arrives c good x v (AtLatch j v)
   at_output : (x : ℕ) (v : Tern) (o : ℕ) → v ≢ good x → HasLoads c x (OneOutput o)
       → Arrives c good x v (AtOutput o v)
   at_stem : (x : ℕ) (v : Tern) → v ≢ good x → HasLoads c x Several
       → Arrives c good x v (AtStem (record { 0 = x }) v)
   through_gate : (x : ℕ) (v : Tern) (g : ℕ) (a : Arrival) → v ≢ good x → HasLoads c x (OneGate g)
-      → Arrives c good (first_gate_net c + g) (gate_output c (tern_rules None) (with_value good x v) g) a
+      → Arrives c good (first_gate_net c + g) (gate_output c (tern_rules None) (with_net_value good x v) g) a
       → Arrives c good x v a
 
 -- the circuit has the line of a site

@@ -4,7 +4,7 @@ use Rattle.ht_tern.specs.declared.tern.Tern.TheVariants.{Unk}
 use Rattle.ht_net.specs.Netlist.{net_count, max_arguments, IsCircuit}
 use Rattle.ht_stems.specs.declared.arrivals.Arrivals.TheInside.{Inside}
 use Rattle.ht_stems.specs.LoadsOfNets.{AreLoads}
-use Rattle.ht_stems.specs.Ends.{AreEnds}
+use Rattle.ht_stems.specs.NetEnds.{AreTableEnds}
 use Rattle.ht_stems.specs.ArrivalsView.{ArrivalsView}
 
 -- the fields as arrivals
@@ -17,5 +17,5 @@ pub record AreArrivalFields (a : Inside) : Type 0 where
   pub loads : AreLoads a.circuit.now a.loads.items
   pub value_count : length a.values.items ≡ net_count a.circuit.now
   pub end_count : length a.ends.items ≡ net_count a.circuit.now
-  pub ends : AreEnds a.circuit.now (λ x. get_or a.values.items x Unk) a.ends.items
+  pub ends : AreTableEnds a.circuit.now (λ x. get_or a.values.items x Unk) a.ends.items
   pub room : length a.pins.items ≡ max_arguments

@@ -10,5 +10,5 @@ pub record ArrivalsView : Type 0 where
   pub good : List Tern
 
 -- the value of net x
-abbrev pub good_at : ArrivalsView → ℕ → Tern
-good_at a x = get_or a.good x Unk
+abbrev pub good_of_net : ArrivalsView → ℕ → Tern
+good_of_net a x = get_or a.good x Unk

@@ -13,5 +13,5 @@ net_forced r x v = record {
 }
 
 -- the values of nets, where net x has the value v in place of its own
-abbrev pub with_value : {V : Type 0} → (ℕ → V) → ℕ → V → ℕ → V
-with_value env x v y = if y == x then v else env y
+abbrev pub with_net_value : {V : Type 0} → (ℕ → V) → ℕ → V → ℕ → V
+with_net_value env x v y = if y == x then v else env y

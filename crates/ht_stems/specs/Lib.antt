@@ -3,5 +3,5 @@ pub mod LoadsOfNets
 pub mod Arrivals
 pub mod ArrivedFrames
 pub mod ArrivalsView
-pub mod Ends
+pub mod NetEnds
 pub mod ArrivalsOf

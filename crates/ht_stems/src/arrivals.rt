@@ -6,12 +6,12 @@ ghost use Rattle.ht_net.specs.Faults.{tern_rules};
 ghost use Rattle.ht_stems.specs.ForcedNets.{net_forced};
 ghost use Rattle.ht_stems.specs.Arrivals.{Arrives, FaultArrives, HasLine, IsStuckAlready, SiteArrives, net_of_line};
 ghost use Rattle.ht_stems.specs.ArrivedFrames.{AreGoodValues, ShowsArrival};
-ghost use Rattle.ht_stems.specs.ArrivalsView.{good_at};
+ghost use Rattle.ht_stems.specs.ArrivalsView.{good_of_net};
 
 use crate::Arrival;
-use crate::ends::{Ends, end_in};
+use crate::net_ends::{NetEnds, end_in};
 use crate::net_loads::{NetLoads, find_loads};
-use crate::pass::{has_value, write_ends};
+use crate::pass::{has_net_value, write_ends};
 use ht_frame::{MAX_GATE_PINS, gate_output};
 use ht_net::{Circuit, Fault, NetId, Site};
 use ht_tern::Tern;
@@ -26,7 +26,7 @@ pub struct Arrivals<'c> {
     loads: Vec<NetLoads>,
     // the good values, by the number of the net
     values: Vec<Tern>,
-    ends: Vec<Ends>,
+    ends: Vec<NetEnds>,
     // room for the pins of one gate
     pins: Vec<Tern>,
 }
@@ -73,7 +73,7 @@ impl<'c> Arrivals<'c> {
             (λ arrivals. arrivals ≡ record { circuit = circuit.now; good = good.now }) }
     {
         let nets = circuit.nets() as usize;
-        let none = Ends {
+        let none = NetEnds {
             zero: Arrival::Dies,
             one: Arrival::Dies,
             unknown: Arrival::Dies,
@@ -111,9 +111,9 @@ impl<'c> Arrivals<'c> {
     /// Where the effect of a net ends that is forced to a value.
     pub fn net(&self, net: NetId, value: Tern) -> Arrival
         requires { net.0 < net_count self.now.circuit }
-        ensures end { Arrives self.now.circuit (good_at self.now) net.0 value result }
+        ensures end { Arrives self.now.circuit (good_of_net self.now) net.0 value result }
         ensures shows { (vector latches : List tern.Tern)
-            → AreGoodValues self.now.circuit vector latches (good_at self.now)
+            → AreGoodValues self.now.circuit vector latches (good_of_net self.now)
             → ShowsArrival self.now.circuit (net_forced (tern_rules None) net.0 value)
             vector latches result }
     {
@@ -123,17 +123,17 @@ impl<'c> Arrivals<'c> {
     // Whether the line of a fault carries the stuck value already.
     fn is_stuck_already(&self, fault: Fault) -> bool
         requires { HasLine self.now.circuit fault.site }
-        ensures told { IsTrue result ↔ IsStuckAlready self.now.circuit (good_at self.now) fault }
+        ensures told { IsTrue result ↔ IsStuckAlready self.now.circuit (good_of_net self.now) fault }
         ensures circuit { IsCircuit self.now.circuit }
     {
         let net = net_of_line(self.circuit, fault.site);
-        has_value(&self.values, net, Tern::from(fault.value))
+        has_net_value(&self.values, net, Tern::from(fault.value))
     }
 
     // Where the effect of a fault ends whose line carries something else.
     fn site(&mut self, fault: Fault) -> Arrival
         requires { HasLine self.old.circuit fault.site }
-        ensures end { SiteArrives self.old.circuit (good_at self.old) fault.site fault.value
+        ensures end { SiteArrives self.old.circuit (good_of_net self.old) fault.site fault.value
             result }
         ensures same { self.new ≡ self.old }
     {
@@ -157,9 +157,9 @@ impl<'c> Arrivals<'c> {
     /// Where the effect of a fault ends, in a machine whose latches are the good ones.
     pub fn fault(&mut self, fault: Fault) -> Arrival
         requires { HasLine self.old.circuit fault.site }
-        ensures end { FaultArrives self.old.circuit (good_at self.old) fault result }
+        ensures end { FaultArrives self.old.circuit (good_of_net self.old) fault result }
         ensures shows { (vector latches : List tern.Tern)
-            → AreGoodValues self.old.circuit vector latches (good_at self.old)
+            → AreGoodValues self.old.circuit vector latches (good_of_net self.old)
             → ShowsArrival self.old.circuit (tern_rules (Some fault)) vector latches result }
         ensures same { self.new ≡ self.old }
     {

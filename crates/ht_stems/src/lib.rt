@@ -1,15 +1,15 @@
 //! Where the effects of faults end within one frame.
 //!
 //! A fault of a machine whose latches are the good ones is in this frame one net of the good machine that is forced to
-//! a value. Where that net has one load its effect goes one way, gate by gate: until it dies, or comes to a latch or to
-//! an output alone, or to a stem with two loads or more (`Arrival`). `Arrivals` has for each net and each value where
+//! a value. Where that net has one load its effect goes one way, gate by gate: until it dies, or comes to one latch,
+//! to one output, or to a stem with two loads or more (`Arrival`). `Arrivals` has for each net and each value where
 //! it ends, by one pass back over the nets, and says so of a fault (`fault`). What the frame then shows stands in
 //! `specs/ArrivedFrames.antt`; the theorems say the laws of forced nets.
 #![tactic(auto)]
 
 mod arrival;
 mod arrivals;
-mod ends;
+mod net_ends;
 mod net_loads;
 mod pass;
 mod theorems;

@@ -9,14 +9,14 @@ ghost use Rattle.ht_stems.specs.LoadsOfNets.{AreLoads, CountsAs, HasLoads, with_
 use ht_net::Circuit;
 use std::alloc::{AllocError, Global};
 
-/// The loads of a net: none, one alone, or two and more. Gates, flip-flops and outputs count from 0.
+/// The loads of a net: none, only one, or two and more. Gates, flip-flops and outputs count from 0.
 #[derive(Clone, Copy)]
 pub enum NetLoads {
     NoLoad,
     /// A pin of the gate.
     OneGate { gate: u32 },
     /// The data pin of the flip-flop.
-    OneLatch { dff: u32 },
+    OneDataPin { dff: u32 },
     OneOutput { output: u32 },
     Several,
 }
@@ -29,7 +29,7 @@ impl NetLoads {
         match self {
             NetLoads::NoLoad => load,
             NetLoads::OneGate { gate: _ }
-            | NetLoads::OneLatch { dff: _ }
+            | NetLoads::OneDataPin { dff: _ }
             | NetLoads::OneOutput { output: _ }
             | NetLoads::Several => NetLoads::Several,
         }
@@ -81,7 +81,7 @@ fn add_latches(circuit: &Circuit, table: &mut [NetLoads])
     let _ = circuit.nets();
     for dff in 0..circuit.dffs() {
         let net = circuit.dff_data(dff).index();
-        add_load(table, net, NetLoads::OneLatch { dff });
+        add_load(table, net, NetLoads::OneDataPin { dff });
     }
 }
 

@@ -5,13 +5,13 @@ ghost use Rattle.ht_net.specs.Netlist.{first_gate_net, net_count, IsCircuit};
 ghost use Rattle.ht_net.specs.Frame.{gate_output};
 ghost use Rattle.ht_net.specs.Faults.{tern_rules};
 ghost use Rattle.ht_frame.specs.Values.{env_of};
-ghost use Rattle.ht_stems.specs.ForcedNets.{with_value};
+ghost use Rattle.ht_stems.specs.ForcedNets.{with_net_value};
 ghost use Rattle.ht_stems.specs.LoadsOfNets.{AreLoads};
 ghost use Rattle.ht_stems.specs.Arrivals.{Arrives};
-ghost use Rattle.ht_stems.specs.Ends.{AreEnds, AreEndsAfter, AreEndsOf, no_ends};
+ghost use Rattle.ht_stems.specs.NetEnds.{AreTableEnds, AreEndsAfter, AreNetEnds, no_ends};
 
 use crate::Arrival;
-use crate::ends::{Ends, end_in};
+use crate::net_ends::{NetEnds, end_in};
 use crate::net_loads::NetLoads;
 use ht_frame::{MAX_GATE_PINS, gate_output};
 use ht_net::{Circuit, NetId};
@@ -31,7 +31,7 @@ fn forced_gate_output(
     requires values { length values.old ≡ net_count circuit.now }
     requires room { length pins.old ≡ MAX_GATE_PINS }
     ensures output { result ≡ gate_output circuit.now (tern_rules None)
-        (with_value (env_of Unk values.old) net.0 value) gate }
+        (with_net_value (env_of Unk values.old) net.0 value) gate }
     ensures same { values.new ≡ values.old }
 {
     let good = values[net.index()];
@@ -42,7 +42,7 @@ fn forced_gate_output(
 }
 
 /// Whether a net has this value.
-pub fn has_value(values: &[Tern], net: NetId, value: Tern) -> bool
+pub fn has_net_value(values: &[Tern], net: NetId, value: Tern) -> bool
     requires { net.0 < length values.now }
     ensures { IsTrue result ↔ (env_of Unk values.now net.0 ≡ value) }
 {
@@ -55,7 +55,7 @@ fn end(
     loads: &[NetLoads],
     values: &mut [Tern],
     pins: &mut [Tern],
-    ends: &[Ends],
+    ends: &[NetEnds],
     net: NetId,
     value: Tern,
 ) -> Arrival
@@ -68,7 +68,7 @@ fn end(
     ensures end { Arrives circuit.now (env_of Unk values.old) net.0 value result }
     ensures same { values.new ≡ values.old }
 {
-    if has_value(values, net, value) {
+    if has_net_value(values, net, value) {
         return Arrival::Dies;
     }
     match loads[net.index()] {
@@ -77,7 +77,7 @@ fn end(
             let output = forced_gate_output(circuit, values, pins, gate, net, value);
             end_in(ends, circuit.gate_net(gate), output)
         }
-        NetLoads::OneLatch { dff } => Arrival::AtLatch { dff, value },
+        NetLoads::OneDataPin { dff } => Arrival::AtLatch { dff, value },
         NetLoads::OneOutput { output } => Arrival::AtOutput { output, value },
         NetLoads::Several => Arrival::AtStem { net, value },
     }
@@ -89,22 +89,22 @@ fn ends_of(
     loads: &[NetLoads],
     values: &mut [Tern],
     pins: &mut [Tern],
-    ends: &[Ends],
+    ends: &[NetEnds],
     net: NetId,
-) -> Ends
+) -> NetEnds
     requires net { net.0 < net_count circuit.now }
     requires loads { AreLoads circuit.now loads.now }
     requires values { length values.old ≡ net_count circuit.now }
     requires count { length ends.now ≡ net_count circuit.now }
     requires room { length pins.old ≡ MAX_GATE_PINS }
     requires after { AreEndsAfter circuit.now (env_of Unk values.old) loads.now ends.now net.0 }
-    ensures ends { AreEndsOf circuit.now (env_of Unk values.old) net.0 result }
+    ensures ends { AreNetEnds circuit.now (env_of Unk values.old) net.0 result }
     ensures same { values.new ≡ values.old }
 {
     let zero = end(circuit, loads, values, pins, ends, net, Tern::Zero);
     let one = end(circuit, loads, values, pins, ends, net, Tern::One);
     let unknown = end(circuit, loads, values, pins, ends, net, Tern::Unk);
-    Ends { zero, one, unknown }
+    NetEnds { zero, one, unknown }
 }
 
 // Writes where the effects of the gates' nets end, each after the gates that read it.
@@ -113,14 +113,14 @@ fn write_gates(
     loads: &[NetLoads],
     values: &mut [Tern],
     pins: &mut [Tern],
-    ends: &mut [Ends],
+    ends: &mut [NetEnds],
 )
     requires loads { AreLoads circuit.now loads.now }
     requires values { length values.old ≡ net_count circuit.now }
     requires count { length ends.old ≡ net_count circuit.now }
     requires room { length pins.old ≡ MAX_GATE_PINS }
     ensures ends { (g : ℕ) → g < length circuit.now.gates
-        → AreEndsOf circuit.now (env_of Unk values.old) (first_gate_net circuit.now + g)
+        → AreNetEnds circuit.now (env_of Unk values.old) (first_gate_net circuit.now + g)
         (get_or ends.new (first_gate_net circuit.now + g) no_ends) }
     ensures same { values.new ≡ values.old }
 {
@@ -131,20 +131,20 @@ fn write_gates(
     }
 }
 
-/// Writes where the effects of all nets end, each gate evaluated twice at most for each net that it alone reads. What
+/// Writes where the effects of all nets end, each gate evaluated twice at most for each net that only it reads. What
 /// `ends` and `pins` held before plays no part; the values are the same afterwards.
 pub fn write_ends(
     circuit: &Circuit,
     loads: &[NetLoads],
     values: &mut [Tern],
     pins: &mut [Tern],
-    ends: &mut [Ends],
+    ends: &mut [NetEnds],
 )
     requires loads { AreLoads circuit.now loads.now }
     requires values { length values.old ≡ net_count circuit.now }
     requires count { length ends.old ≡ net_count circuit.now }
     requires room { length pins.old ≡ MAX_GATE_PINS }
-    ensures ends { AreEnds circuit.now (env_of Unk values.old) ends.new }
+    ensures ends { AreTableEnds circuit.now (env_of Unk values.old) ends.new }
     ensures same { values.new ≡ values.old }
 {
     // for the proof: the circuit is well formed

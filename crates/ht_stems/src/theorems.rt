@@ -10,8 +10,8 @@ ghost use Rattle.ht_net.specs.Frame.{gate_output};
 ghost use Rattle.ht_net.specs.Faults.{tern_rules};
 ghost use Rattle.ht_stems.specs.declared.arrival.Arrival.{Arrival};
 ghost use Rattle.ht_stems.specs.declared.arrival.Arrival.TheVariants.{AtLatch, AtOutput};
-ghost use Rattle.ht_stems.specs.declared.net_loads.NetLoads.TheVariants.{NoLoad, OneGate, OneLatch, OneOutput};
-ghost use Rattle.ht_stems.specs.ForcedNets.{net_forced, with_value};
+ghost use Rattle.ht_stems.specs.declared.net_loads.NetLoads.TheVariants.{NoLoad, OneGate, OneDataPin, OneOutput};
+ghost use Rattle.ht_stems.specs.ForcedNets.{net_forced, with_net_value};
 ghost use Rattle.ht_stems.specs.LoadsOfNets.{HasLoads};
 ghost use Rattle.ht_stems.specs.Arrivals.{Arrives, FaultArrives, HasLine, IsStuckAlready};
 ghost use Rattle.ht_stems.specs.ArrivedFrames.{AreGoodValues, ShowSame, ShowsArrival};
@@ -48,7 +48,7 @@ pub fn pin_fault_is_a_forced_net()
         vector latches }
 {}
 
-/// A fault at a data pin changes one latch alone.
+/// A fault at a data pin changes only that latch.
 pub fn data_pin_fault_is_one_latch()
     ensures { (c : Netlist) (vector latches : List Tern) (j : ℕ) (bit : Bool)
         → IsCircuit c → HasLine c (DffPin j)
@@ -56,20 +56,20 @@ pub fn data_pin_fault_is_one_latch()
         vector latches (AtLatch j (tern_of bit)) }
 {}
 
-/// To force a net that one pin of a gate alone reads is to force the gate's net to what the gate then gives.
+/// To force a net that only one pin of a gate reads is to force the gate's net to what the gate then gives.
 pub fn forced_net_goes_on_through_its_only_gate()
     ensures { (c : Netlist) (vector latches : List Tern) (good : ℕ → Tern) (x g : ℕ) (v : Tern)
         → IsCircuit c → AreGoodValues c vector latches good → x < net_count c
         → HasLoads c x (OneGate g)
         → ShowSame c (net_forced (tern_rules None) x v)
         (net_forced (tern_rules None) (first_gate_net c + g)
-        (gate_output c (tern_rules None) (with_value good x v) g)) vector latches }
+        (gate_output c (tern_rules None) (with_net_value good x v) g)) vector latches }
 {}
 
-/// To force a net that one data pin alone reads is to change that latch.
+/// To force a net that only one data pin reads is to change that latch.
 pub fn forced_net_comes_to_its_only_latch()
     ensures { (c : Netlist) (vector latches : List Tern) (x j : ℕ) (v : Tern)
-        → IsCircuit c → x < net_count c → HasLoads c x (OneLatch j)
+        → IsCircuit c → x < net_count c → HasLoads c x (OneDataPin j)
         → ShowsArrival c (net_forced (tern_rules None) x v) vector latches (AtLatch j v) }
 {}
 
@@ -87,7 +87,7 @@ pub fn forced_net_without_load_changes_nothing()
         → ShowSame c (net_forced (tern_rules None) x v) (tern_rules None) vector latches }
 {}
 
-/// The effect of a net that is forced to a value ends in one way alone.
+/// The effect of a net that is forced to a value ends in only one way.
 pub fn effect_ends_at_one_place()
     ensures { (c : Netlist) (good : ℕ → Tern) (x : ℕ) (v : Tern) (a b : Arrival)
         → Arrives c good x v a → Arrives c good x v b → a ≡ b }

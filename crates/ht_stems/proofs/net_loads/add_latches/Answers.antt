@@ -1,7 +1,7 @@
 use Rattle.std.proofs.Common.{◌≡◌, ◌<◌, ◌∙◌, length, get_or, refl, sym, ap, arith}
 use Rattle.ht_net.specs.declared.net.NetId.{NetId}
 use Rattle.ht_net.specs.Netlist.{no_net}
-use Rattle.ht_stems.specs.declared.net_loads.NetLoads.TheVariants.{OneLatch}
+use Rattle.ht_stems.specs.declared.net_loads.NetLoads.TheVariants.{OneDataPin}
 use Rattle.ht_stems.proofs.CountLaws.{counted_none, counted_all, load_written}
 use Rattle.ht_stems.proofs.net_loads.add_latches.Goals as goal
 
@@ -19,7 +19,7 @@ loop-dff-preserved c = λ n h.
     let known : c.index-net.result < length c.loop-dff.table =
     let there = c.nets.ensures.circuit.data_known j inside in
     omega (arith, there, at, c.loop-dff.auto.table, c.requires) in
-    load_written net n c.loop-dff.table c.add_load.new.table net.dffs j c.index-net.result (OneLatch j)
+    load_written net n c.loop-dff.table c.add_load.new.table net.dffs j c.index-net.result (OneDataPin j)
     c.add_load.ensures inside at known (refl, inside, at) (c.loop-dff.invariant n h)
 
 pub returns : goal.returns

@@ -1,5 +1,5 @@
 use Rattle.std.proofs.Common.{refl, inl, inr}
-use Rattle.ht_stems.specs.ArrivalsView.{good_at}
+use Rattle.ht_stems.specs.ArrivalsView.{good_of_net}
 use Rattle.ht_stems.proofs.FaultFrames.{fault_shows}
 use Rattle.ht_stems.proofs.PassLaws.{not_told}
 use Rattle.ht_stems.proofs.arrivals.Arrivals.fault.Goals as goal
@@ -19,10 +19,10 @@ returns-clause-end c = goes_on c
 
 pub returns-then-is_stuck_already-clause-shows : goal.returns-then-is_stuck_already-clause-shows
 returns-then-is_stuck_already-clause-shows c = λ vector latches are.
-    fault_shows c.args.self.now.circuit c.is_stuck_already.ensures.circuit vector latches (good_at c.args.self.now) are
+    fault_shows c.args.self.now.circuit c.is_stuck_already.ensures.circuit vector latches (good_of_net c.args.self.now) are
     c.args.fault _ c.requires (dies c)
 
 pub returns-clause-shows : goal.returns-clause-shows
 returns-clause-shows c = λ vector latches are.
-    fault_shows c.args.self.now.circuit c.is_stuck_already.ensures.circuit vector latches (good_at c.args.self.now) are
+    fault_shows c.args.self.now.circuit c.is_stuck_already.ensures.circuit vector latches (good_of_net c.args.self.now) are
     c.args.fault c.site.result c.requires (goes_on c)

@@ -2,7 +2,7 @@ use Rattle.std.proofs.Common.{◌≡◌, List, length, ap, arith}
 use Rattle.std.proofs.lemmas.List.{with_items_is}
 use Rattle.ht_tern.specs.declared.tern.Tern.{Tern}
 use Rattle.ht_net.specs.Netlist.{net_count}
-use Rattle.ht_stems.specs.declared.ends.Ends.{Ends}
+use Rattle.ht_stems.specs.declared.net_ends.NetEnds.{NetEnds}
 use Rattle.ht_stems.specs.ArrivalsView.{ArrivalsView}
 use Rattle.ht_stems.proofs.ViewLaws.{filled}
 use Rattle.ht_stems.proofs.arrivals.Arrivals.refill.Goals as goal
@@ -17,7 +17,7 @@ invariant_of-self c =
     let good = ap (λ (l : List Tern). length l) c.copy_from_slice.ensures.items in
     let old = ap (λ (l : List Tern). length l) c.deref_mut.ensures.value in
     let same = ap (λ (l : List Tern). length l) c.write_ends.ensures.same in
-    let table = ap (λ (l : List Ends). length l) c.deref_mut-3.ensures.value in
+    let table = ap (λ (l : List NetEnds). length l) c.deref_mut-3.ensures.value in
     let room = ap (λ (l : List Tern). length l) c.deref_mut-2.ensures.value in
     let many : length c.write_ends.new.values ≡ net_count c.self.inside.circuit.now =
     omega (arith, is, good, old, same, c.requires) in

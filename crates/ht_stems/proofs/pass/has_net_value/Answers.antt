@@ -2,7 +2,7 @@ use Rattle.std.proofs.Common.{◌≡◌, ◌↔◌, ◌∙◌, ℕ, rules, ap, s
 use Rattle.std.specs.Prelude.{IsTrue}
 use Rattle.std.proofs.lemmas.List.{get_or_default}
 use Rattle.ht_tern.specs.declared.tern.Tern.TheVariants.{Zero, Unk}
-use Rattle.ht_stems.proofs.pass.has_value.Goals as goal
+use Rattle.ht_stems.proofs.pass.has_net_value.Goals as goal
 
 pub returns : goal.returns
 returns c =

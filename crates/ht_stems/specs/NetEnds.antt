@@ -5,30 +5,30 @@ use Rattle.ht_tern.specs.declared.tern.Tern.TheVariants.{Zero, One, Unk}
 use Rattle.ht_net.specs.Netlist.{Netlist, first_gate_net, net_count}
 use Rattle.ht_stems.specs.declared.arrival.Arrival.{Arrival}
 use Rattle.ht_stems.specs.declared.arrival.Arrival.TheVariants.{Dies}
-use Rattle.ht_stems.specs.declared.ends.Ends.{Ends}
+use Rattle.ht_stems.specs.declared.net_ends.NetEnds.{NetEnds}
 use Rattle.ht_stems.specs.declared.net_loads.NetLoads.{NetLoads}
 use Rattle.ht_stems.specs.declared.net_loads.NetLoads.TheVariants.{NoLoad, OneGate}
 use Rattle.ht_stems.specs.Arrivals.{Arrives}
 
 -- where the effect ends of a net that is forced to a value
-abbrev pub end_at : Ends → Tern → Arrival
+abbrev pub end_at : NetEnds → Tern → Arrival
 end_at ends Zero = ends.zero
 end_at ends One = ends.one
 end_at ends Unk = ends.unknown
 
 -- what stands where a table has no net
-abbrev pub no_ends : Ends
+abbrev pub no_ends : NetEnds
 no_ends = record { zero = Dies; one = Dies; unknown = Dies }
 
 -- they say for each value where the effect of net x ends that is forced to it
-abbrev pub AreEndsOf : Netlist → (ℕ → Tern) → ℕ → Ends → Type 0
-AreEndsOf c good x ends = (v : Tern) → Arrives c good x v (end_at ends v)
+abbrev pub AreNetEnds : Netlist → (ℕ → Tern) → ℕ → NetEnds → Type 0
+AreNetEnds c good x ends = (v : Tern) → Arrives c good x v (end_at ends v)
 
 -- a table says so for each net
-abbrev pub AreEnds : Netlist → (ℕ → Tern) → List Ends → Type 0
-AreEnds c good table = (x : ℕ) → x < net_count c → AreEndsOf c good x (get_or table x no_ends)
+abbrev pub AreTableEnds : Netlist → (ℕ → Tern) → List NetEnds → Type 0
+AreTableEnds c good table = (x : ℕ) → x < net_count c → AreNetEnds c good x (get_or table x no_ends)
 
--- a table says so for the net of the gate that alone reads net x, if there is one
-abbrev pub AreEndsAfter : Netlist → (ℕ → Tern) → List NetLoads → List Ends → ℕ → Type 0
+-- a table says so for the net of the gate that is the only load of net x, if there is one
+abbrev pub AreEndsAfter : Netlist → (ℕ → Tern) → List NetLoads → List NetEnds → ℕ → Type 0
 AreEndsAfter c good loads table x = (g : ℕ) → get_or loads x NoLoad ≡ OneGate g
-    → AreEndsOf c good (first_gate_net c + g) (get_or table (first_gate_net c + g) no_ends)
+    → AreNetEnds c good (first_gate_net c + g) (get_or table (first_gate_net c + g) no_ends)
