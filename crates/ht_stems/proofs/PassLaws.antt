@@ -87,6 +87,14 @@ later_gate c order ordered k g i inside known pin is =
           ]
     ]
 
+-- what is said of a gate's net under another number of the gate
+ends_moved : (c : Netlist) (good : ℕ → Tern) (table : List NetEnds) (h g : ℕ) → h ≡ g
+    → AreNetEnds c good (first_gate_net c + h) (get_or table (first_gate_net c + h) no_ends)
+    → AreNetEnds c good (first_gate_net c + g) (get_or table (first_gate_net c + g) no_ends)
+ends_moved c good table h g same are =
+    let P : ℕ → Type 0 = λ k. AreNetEnds c good (first_gate_net c + k) (get_or table (first_gate_net c + k) no_ends) in
+    subst P same are
+
 -- So where the effects end of all that come later in the order, they do after the net of its place k.
 pub ends_later : (c : Netlist) (good : ℕ → Tern) (loads : List NetLoads) (table : List NetEnds) (order : List ℕ) (k : ℕ)
     → IsOrder c order → AreLoads c loads → k < length order
@@ -99,9 +107,7 @@ ends_later c good loads table order k ordered are inside done g is =
     let reads : HasLoads c x (OneGate g) = entry_loads c loads x x (OneGate g) are (omega (arith, within)) refl is in
     let pin = read_at x (gate_at c g).args reads.2 in
     let later = later_gate c order ordered k g pin.0 inside reads.1 pin.1 pin.2 in
-    let P : ℕ → Type 0 = λ h. AreNetEnds c good (first_gate_net c + h) (get_or table (first_gate_net c + h) no_ends) in
-    let here : P g = subst P later.3 (done later.0 later.1 later.2) in
-    here
+    ends_moved c good table (get_or order later.0 0) g later.3 (done later.0 later.1 later.2)
 
 -- the same where the net and the values have other names
 pub gates_after : (c : Netlist) (values others : List Tern) (loads : List NetLoads) (table : List NetEnds)
@@ -139,9 +145,7 @@ pub all_gates_end : (c : Netlist) (good : ℕ → Tern) (table : List NetEnds) (
     → AreNetEnds c good (first_gate_net c + g) (get_or table (first_gate_net c + g) no_ends)
 all_gates_end c good table order ordered done g known =
     let q = ordered.each.covers g known in
-    let P : ℕ → Type 0 = λ h. AreNetEnds c good (first_gate_net c + h) (get_or table (first_gate_net c + h) no_ends) in
-    let here : P g = subst P q.2 (done q.0 q.1) in
-    here
+    ends_moved c good table (get_or order q.0 0) g q.2 (done q.0 q.1)
 
 pub all_nets_end : (c : Netlist) (good : ℕ → Tern) (table : List NetEnds)
     → ((x : ℕ) → x < first_gate_net c → AreNetEnds c good x (get_or table x no_ends))
