@@ -1,0 +1,136 @@
+-- The loads of nets, counted one by one.
+use Rattle.std.proofs.Common.{◌≡◌, ◌≢◌, ◌<◌, ◌≤◌, ◌+◌, ◌∙◌, ℕ, List, true, false, length, get_or, set, replicate, take, refl, sym, subst, arith, add_assoc, inl, inr, get_or-set_other, get_or-set_same}
+use Rattle.std.specs.Prelude.{eqb}
+use Rattle.std.proofs.lemmas.Bool.{eq-eqb, ne_eqb}
+use Rattle.std.proofs.lemmas.Bool.Decides.{eqb_tells}
+use Rattle.std.specs.List.{sum_by}
+use Rattle.std.proofs.lemmas.List.{get_or_past, get_or-replicate, length-replicate, take_all}
+use Rattle.std.proofs.lemmas.List.Sums.{count_by_more_yes, count_by_more_no, sum_by_more}
+use Rattle.ht_net.specs.declared.net.NetId.{NetId}
+use Rattle.ht_net.specs.Netlist.{Netlist, Gate, gate_at, no_gate, no_net}
+use Rattle.ht_net.specs.Levels.{times}
+use Rattle.ht_net.proofs.FrameLaws.{le_or_lt}
+use Rattle.ht_stems.specs.declared.net_loads.NetLoads.{NetLoads}
+use Rattle.ht_stems.specs.declared.net_loads.NetLoads.TheVariants.{NoLoad, OneGate, OneDataPin, OneOutput, Several}
+use Rattle.ht_stems.specs.LoadsOfNets.{CountsAs, HasLoads, with_load}
+
+-- one load more
+one_more : (c : Netlist) (x n : ℕ) (loads load : NetLoads) → CountsAs c x n loads → CountsAs c x 1 load
+    → CountsAs c x (n + 1) (with_load loads load)
+one_more c x n NoLoad load none one =
+    let P : ℕ → Type 0 = λ m. CountsAs c x m load in
+    let e : 1 ≡ n + 1 = omega (arith, none) in
+    subst P e one
+one_more c x n (OneGate g) load some one = omega (arith, some.0)
+one_more c x n (OneDataPin j) load some one = omega (arith, some.0)
+one_more c x n (OneOutput o) load some one = omega (arith, some.0)
+one_more c x n Several load some one = omega (arith, some)
+
+-- The next net of a list has one load more.
+pub load_added : (c : Netlist) (n : ℕ → ℕ) (table : List NetLoads) (nets : List NetId) (i y : ℕ) (load : NetLoads)
+    → i < length nets → (get_or nets i no_net).0 ≡ y → y < length table → CountsAs c y 1 load
+    → ((x : ℕ) → CountsAs c x (n x + times x (take i nets)) (get_or table x NoLoad))
+    → (x : ℕ) → CountsAs c x (n x + times x (take (i + 1) nets))
+    (get_or (set table y (with_load (get_or table y NoLoad) load)) x NoLoad)
+load_added c n table nets i y load inside is known one before x = elim (eqb_tells x y) [
+  | inl p ↦
+      let yes : eqb (get_or nets i no_net).0 y ≡ true = eq-eqb (get_or nets i no_net).0 y is in
+      let more : times y (take (i + 1) nets) ≡ times y (take i nets) + 1 =
+      count_by_more_yes (λ (m : NetId). eqb m.0 y) nets i no_net inside yes in
+      let here : get_or (set table y (with_load (get_or table y NoLoad) load)) y NoLoad
+      ≡ with_load (get_or table y NoLoad) load =
+      get_or-set_same table y (with_load (get_or table y NoLoad) load) NoLoad known in
+      let sum : n y + times y (take i nets) + 1 ≡ n y + times y (take (i + 1) nets) = omega (arith, more) in
+      let next = one_more c y (n y + times y (take i nets)) (get_or table y NoLoad) load (before y) one in
+      let P : ℕ → Type 0 = λ m. CountsAs c y m (with_load (get_or table y NoLoad) load) in
+      let Q : NetLoads → Type 0 = CountsAs c y (n y + times y (take (i + 1) nets)) in
+      let R : ℕ → Type 0 = λ z. CountsAs c z (n z + times z (take (i + 1) nets))
+      (get_or (set table y (with_load (get_or table y NoLoad) load)) z NoLoad) in
+      subst R (sym p.1) (subst Q (sym here) (subst P sum next))
+  | inr p ↦
+      let ne : x ≢ y = p.1 in
+      let no : eqb (get_or nets i no_net).0 x ≡ false =
+      ne_eqb (get_or nets i no_net).0 x (λ e. ne (sym e ∙ is)) in
+      let less : times x (take i nets) ≡ times x (take (i + 1) nets) =
+      sym (count_by_more_no (λ (m : NetId). eqb m.0 x) nets i no_net inside no) in
+      let same : get_or table x NoLoad ≡ get_or (set table y (with_load (get_or table y NoLoad) load)) x NoLoad =
+      sym (get_or-set_other table y x (with_load (get_or table y NoLoad) load) NoLoad ne) in
+      let P : ℕ → Type 0 = λ m. CountsAs c x (n x + m) (get_or table x NoLoad) in
+      let Q : NetLoads → Type 0 = CountsAs c x (n x + times x (take (i + 1) nets)) in
+      subst Q same (subst P less (before x))
+]
+
+-- nothing is counted of no list
+pub counted_none : (c : Netlist) (n : ℕ → ℕ) (table : List NetLoads) (nets : List NetId)
+    → ((x : ℕ) → CountsAs c x (n x) (get_or table x NoLoad))
+    → (x : ℕ) → CountsAs c x (n x + times x (take 0 nets)) (get_or table x NoLoad)
+counted_none c n table nets before x =
+    let P : ℕ → Type 0 = λ m. CountsAs c x m (get_or table x NoLoad) in
+    let same : n x ≡ n x + 0 = omega arith in
+    subst P same (before x)
+
+-- all of a list is counted, under another name of it
+pub counted_all : (c : Netlist) (n : ℕ → ℕ) (table : List NetLoads) (nets all : List NetId) (k : ℕ)
+    → length nets ≤ k → nets ≡ all
+    → ((x : ℕ) → CountsAs c x (n x + times x (take k nets)) (get_or table x NoLoad))
+    → (x : ℕ) → CountsAs c x (n x + times x all) (get_or table x NoLoad)
+counted_all c n table nets all k past is counted x =
+    let P : List NetId → Type 0 = λ l. CountsAs c x (n x + times x l) (get_or table x NoLoad) in
+    subst P (take_all k nets past ∙ is) (counted x)
+
+-- the same where the next net is counted in a table that was written
+pub load_written : (c : Netlist) (n : ℕ → ℕ) (table new : List NetLoads) (nets : List NetId) (i y : ℕ)
+    (load : NetLoads) → new ≡ set table y (with_load (get_or table y NoLoad) load)
+    → i < length nets → (get_or nets i no_net).0 ≡ y → y < length table → CountsAs c y 1 load
+    → ((x : ℕ) → CountsAs c x (n x + times x (take i nets)) (get_or table x NoLoad))
+    → (x : ℕ) → CountsAs c x (n x + times x (take (i + 1) nets)) (get_or new x NoLoad)
+load_written c n table new nets i y load written inside is known one before x =
+    let P : List NetLoads → Type 0 = λ t. CountsAs c x (n x + times x (take (i + 1) nets)) (get_or t x NoLoad) in
+    subst P (sym written) (load_added c n table nets i y load inside is known one before x)
+
+-- The pins of one more gate are counted.
+pub gate_counted : (c : Netlist) (table : List NetLoads) (g : ℕ) → g < length c.gates
+    → ((x : ℕ) → CountsAs c x (sum_by (λ (h : Gate). times x h.args) (take g c.gates) + times x (gate_at c g).args)
+    (get_or table x NoLoad))
+    → (x : ℕ) → CountsAs c x (sum_by (λ (h : Gate). times x h.args) (take (g + 1) c.gates)) (get_or table x NoLoad)
+gate_counted c table g inside counted x =
+    let P : ℕ → Type 0 = λ m. CountsAs c x m (get_or table x NoLoad) in
+    subst P (sym (sum_by_more (λ (h : Gate). times x h.args) c.gates g no_gate inside)) (counted x)
+
+pub gates_counted : (c : Netlist) (table : List NetLoads) (k : ℕ) → length c.gates ≤ k
+    → ((x : ℕ) → CountsAs c x (sum_by (λ (h : Gate). times x h.args) (take k c.gates)) (get_or table x NoLoad))
+    → (x : ℕ) → CountsAs c x (sum_by (λ (h : Gate). times x h.args) c.gates) (get_or table x NoLoad)
+gates_counted c table k past counted x =
+    let P : List Gate → Type 0 = λ l. CountsAs c x (sum_by (λ (h : Gate). times x h.args) l) (get_or table x NoLoad) in
+    subst P (take_all k c.gates past) (counted x)
+
+-- a table that is made of no load
+pub none_yet : (n x : ℕ) → get_or (replicate n NoLoad) x NoLoad ≡ NoLoad
+none_yet n x = elim (le_or_lt n x) [
+  | inl past ↦
+      let long = length-replicate n NoLoad in
+      get_or_past (replicate n NoLoad) x NoLoad (omega (arith, long, past))
+  | inr inside ↦ get_or-replicate n x NoLoad NoLoad inside
+]
+
+-- where nothing is counted yet
+pub none_counted : (c : Netlist) (table : List NetLoads) → ((x : ℕ) → get_or table x NoLoad ≡ NoLoad)
+    → (x : ℕ) → CountsAs c x 0 (get_or table x NoLoad)
+none_counted c table none x =
+    let P : NetLoads → Type 0 = CountsAs c x 0 in
+    let zero : P NoLoad = refl in
+    subst P (sym (none x)) zero
+
+-- Where the pins, the data pins and the outputs are counted, all loads are.
+pub all_counted : (c : Netlist) (first second third : List NetLoads)
+    → ((x : ℕ) → CountsAs c x (sum_by (λ (g : Gate). times x g.args) c.gates) (get_or first x NoLoad))
+    → ((n : ℕ → ℕ) → ((x : ℕ) → CountsAs c x (n x) (get_or first x NoLoad))
+    → (x : ℕ) → CountsAs c x (n x + times x c.dffs) (get_or second x NoLoad))
+    → ((n : ℕ → ℕ) → ((x : ℕ) → CountsAs c x (n x) (get_or second x NoLoad))
+    → (x : ℕ) → CountsAs c x (n x + times x c.outputs) (get_or third x NoLoad))
+    → (x : ℕ) → HasLoads c x (get_or third x NoLoad)
+all_counted c first second third gates latches outputs x =
+    let pins : ℕ → ℕ = λ y. sum_by (λ (g : Gate). times y g.args) c.gates in
+    let P : ℕ → Type 0 = λ m. CountsAs c x m (get_or third x NoLoad) in
+    subst P (add_assoc (pins x) (times x c.dffs) (times x c.outputs))
+    (outputs (λ y. pins y + times y c.dffs) (latches pins gates) x)
