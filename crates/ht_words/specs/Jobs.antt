@@ -1,6 +1,9 @@
 -- Jobs as what words ask for.
-use Rattle.std.specs.Prelude.{◌≡◌, Option, Some, None, Result, Err, IfOk}
+use Rattle.std.specs.Prelude.{◌≡◌, ◌∷◌, List, Option, Some, None, Result, Err, IfOk, [], codes, map}
+use Rattle.clap.specs.Words.{Row, Text, first_of}
 use Rattle.ht_asked.specs.Asked.{Asked, GenOptions, check, compact, demo, diagnose, gen, norm, report, respond, sim, sync, uninit}
+use Rattle.ht_asked.specs.Asked.{budget_of, deep_of, options_with, random_of, seed_of}
+use Rattle.ht_asked.specs.ByClap.{all_of}
 use Rattle.ht_words.specs.declared.job.GenOptions.{GenOptions as Options}
 use Rattle.ht_words.specs.declared.job.Job.{Job}
 use Rattle.ht_words.specs.declared.job.Job.TheVariants as job
@@ -19,6 +22,19 @@ options_by o = record {
   weighted = o.weighted;
   deep = o.deep;
 }
+
+-- what the options of `gen` say in the rows in which `clap` gives the values, if each number is one
+abbrev pub options_in : List Row → Option GenOptions
+options_in rows = options_with
+    (budget_of (first_of (codes "budget") rows)) (random_of (first_of (codes "random") rows))
+    (seed_of (first_of (codes "seed") rows)) (first_of (codes "start") rows)
+    (first_of (codes "first") rows) (first_of (codes "faults") rows)
+    (random_of (first_of (codes "weighted") rows)) (deep_of (first_of (codes "search") rows))
+
+-- the names of the files of a run in the rows, if none is missing
+abbrev pub files_in : List Row → Option (List Text)
+files_in rows = all_of (map (λ id. first_of id rows)
+    (codes "netlist" ∷ codes "tests" ∷ codes "report" ∷ codes "proofs" ∷ []))
 
 -- what words ask for where they ask for the job
 abbrev pub asked_by : Job → Asked

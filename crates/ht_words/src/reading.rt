@@ -1,11 +1,12 @@
 //! From words to a job.
-ghost use Rattle.std.specs.Prelude.{◌≡◌, ◌≢◌, IfOk, None, Some, codes, false, option_and_then, true};
+ghost use Rattle.std.specs.Prelude.{◌≡◌, ◌≢◌, ◌∷◌, IfOk, None, Some, [], codes, false};
+ghost use Rattle.std.specs.Prelude.{option_and_then, true};
 ghost use Rattle.clap.specs.Words.{app_of, first_of, found_of, is_simple_and_free, matches_of, rows_of};
 ghost use Rattle.ht_asked.specs.Asked.{asked, check_command, command_named, gen_command, sim_command, words_of};
 ghost use Rattle.ht_asked.specs.Asked.{deep_of, demo_with, report_command, respond_command, seed_in, size_in};
 ghost use Rattle.ht_asked.specs.Asked.{sync_command, uninit_command};
 ghost use Rattle.ht_asked.specs.ByClap.{asked_by_clap, asked_in_rows, is_taken};
-ghost use Rattle.ht_words.specs.Jobs.{IsAnswer};
+ghost use Rattle.ht_words.specs.Jobs.{IsAnswer, files_in, options_by, options_in};
 ghost use Rattle.ht_words.specs.declared.job.WordsFault.TheVariants as fault;
 
 use crate::definitions::definition;
@@ -101,48 +102,59 @@ fn sim_job(alloc: Global, matches: &ArgMatches<'_>) -> Result<Job, WordsFault>
     })
 }
 
+/// The names of the files of a run.
+fn run_files(alloc: Global, matches: &ArgMatches<'_>) -> Result<RunFiles, WordsFault>
+    ensures usage { result ≡ Err fault.Usage → files_in (rows_of (found_of matches.now)) ≡ None }
+    ensures ok { IfOk result (λ files. files_in (rows_of (found_of matches.now))
+        ≡ Some (files.netlist ∷ files.tests ∷ files.report ∷ files.proofs ∷ [])) }
+{
+    Ok(RunFiles {
+        netlist: value(alloc, matches, "netlist")?,
+        tests: value(alloc, matches, "tests")?,
+        report: value(alloc, matches, "report")?,
+        proofs: value(alloc, matches, "proofs")?,
+    })
+}
+
+/// The options of `gen`. The numbers are asked first, while nothing is owned.
+fn gen_options(alloc: Global, matches: &ArgMatches<'_>) -> Result<GenOptions, WordsFault>
+    ensures usage { result ≡ Err fault.Usage → options_in (rows_of (found_of matches.now)) ≡ None }
+    ensures ok { IfOk result (λ options. options_in (rows_of (found_of matches.now))
+        ≡ Some (options_by options)) }
+{
+    let budget = budget(matches)?;
+    let random_count = random(matches, "random")?;
+    let seed = seed(matches)?;
+    let weighted = random(matches, "weighted")?;
+    let deep = deep(matches)?;
+    Ok(GenOptions {
+        budget,
+        random: random_count,
+        seed,
+        start: optional_value(alloc, matches, "start")?,
+        first: optional_value(alloc, matches, "first")?,
+        faults: optional_value(alloc, matches, "faults")?,
+        weighted,
+        deep,
+    })
+}
+
 /// The job of `gen`.
 fn gen_job(alloc: Global, matches: &ArgMatches<'_>) -> Result<Job, WordsFault>
     ensures { IsAnswer (asked_in_rows gen_command (rows_of (found_of matches.now))) result }
 {
-    Ok(Job::Gen {
-        files: RunFiles {
-            netlist: value(alloc, matches, "netlist")?,
-            tests: value(alloc, matches, "tests")?,
-            report: value(alloc, matches, "report")?,
-            proofs: value(alloc, matches, "proofs")?,
-        },
-        options: GenOptions {
-            budget: budget(matches)?,
-            random: random(matches, "random")?,
-            seed: seed(matches)?,
-            start: optional_value(alloc, matches, "start")?,
-            first: optional_value(alloc, matches, "first")?,
-            faults: optional_value(alloc, matches, "faults")?,
-            weighted: random(matches, "weighted")?,
-            deep: deep(matches)?,
-        },
-    })
+    let options = gen_options(alloc, matches)?;
+    let files = run_files(alloc, matches)?;
+    Ok(Job::Gen { files, options })
 }
 
 /// The job of `check`.
 fn check_job(alloc: Global, matches: &ArgMatches<'_>) -> Result<Job, WordsFault>
     ensures { IsAnswer (asked_in_rows check_command (rows_of (found_of matches.now))) result }
 {
-    let netlist = value(alloc, matches, "netlist")?;
-    let tests = value(alloc, matches, "tests")?;
-    let report = value(alloc, matches, "report")?;
-    let proofs = value(alloc, matches, "proofs")?;
     let start = optional_value(alloc, matches, "start")?;
-    Ok(Job::Check {
-        files: RunFiles {
-            netlist,
-            tests,
-            report,
-            proofs,
-        },
-        start,
-    })
+    let files = run_files(alloc, matches)?;
+    Ok(Job::Check { files, start })
 }
 
 /// The job of `demo`.
