@@ -1,7 +1,9 @@
 //! Packed, event-driven fault simulation (PROOFS 1992): the good machine whole, and of each group of 64 faulty machines
-//! only the gates that an event reaches.
+//! only the gates that an event reaches. Of the faults that hold the good latches and arrive together at a stem, one is
+//! simulated for all.
 use crate::circuit::{Circuit, Rows};
 use crate::faults::{Fault, Site};
+use crate::stems::{End, Ends};
 use crate::words::Value::{self, Unknown};
 use crate::words::Word;
 
@@ -154,6 +156,11 @@ impl<'c> Group<'c> {
         self.words[net].opposite(self.good[net])
     }
 
+    /// What the good machine shows at an output.
+    pub fn good_output(&self, output: usize) -> Value {
+        self.good[self.circuit.outputs[output] as usize]
+    }
+
     /// What a flip-flop of the good machine takes.
     pub fn good_next(&self, j: usize) -> Value {
         self.good[self.circuit.data_pins[j] as usize]
@@ -189,6 +196,12 @@ pub struct Grader<'c> {
     /// The faults that aren't detected yet.
     live: Vec<u32>,
     differences: Vec<Differences>,
+    ends: Ends<'c>,
+    /// The first fault of a frame that arrived at each stem with each value, and the later ones, each with the first.
+    firsts: Vec<[Option<u32>; 3]>,
+    followers: Vec<(u32, u32)>,
+    /// The faults that need a lane.
+    simulated: Vec<u32>,
     latches: Vec<Value>,
     pub vectors: usize,
 }
@@ -201,6 +214,10 @@ impl<'c> Grader<'c> {
             verdicts: vec![None; faults.len()],
             live: (0..faults.len() as u32).collect(),
             differences: vec![Vec::new(); faults.len()],
+            ends: Ends::new(circuit),
+            firsts: vec![[None; 3]; circuit.nets()],
+            followers: Vec::new(),
+            simulated: Vec::new(),
             faults,
             latches: vec![Unknown; circuit.dffs()],
             vectors: 0,
@@ -210,8 +227,9 @@ impl<'c> Grader<'c> {
     /// Applies one more vector.
     pub fn apply(&mut self, bits: &[bool]) {
         self.group.start(bits, &self.latches);
-        let live = std::mem::take(&mut self.live);
-        for lanes in live.chunks(64) {
+        self.sort();
+        let simulated = std::mem::take(&mut self.simulated);
+        for lanes in simulated.chunks(64) {
             for i in lanes {
                 self.group.add(self.faults[*i as usize], &self.differences[*i as usize]);
             }
@@ -220,12 +238,49 @@ impl<'c> Grader<'c> {
             self.note_differences(lanes);
             self.group.clear();
         }
-        self.live = live;
+        self.simulated = simulated;
+        for (i, first) in self.followers.drain(..) {
+            self.verdicts[i as usize] = self.verdicts[first as usize];
+            self.differences[i as usize] = self.differences[first as usize].clone();
+        }
         self.live.retain(|i| self.verdicts[*i as usize].is_none());
         for (j, latch) in self.latches.iter_mut().enumerate() {
             *latch = self.group.good_next(j);
         }
         self.vectors += 1;
+    }
+
+    /// Finds the faults that need a lane, and keeps what the others show.
+    fn sort(&mut self) {
+        self.ends.find(&self.group.good);
+        self.firsts.fill([None; 3]);
+        self.simulated.clear();
+        for i in &self.live {
+            let k = *i as usize;
+            if !self.differences[k].is_empty() {
+                self.simulated.push(*i);
+                continue;
+            }
+            match self.ends.of(&self.group.good, self.faults[k]) {
+                End::Nowhere => {}
+                End::Latch(j, value) => self.differences[k].push((j, value)),
+                End::Output(output, value) => {
+                    if Word::splat(value).opposite(self.group.good_output(output as usize)) != 0 {
+                        self.verdicts[k] = Some(Place { vector: self.vectors, output: output as usize });
+                    }
+                }
+                End::Stem(net, value) => {
+                    let first = &mut self.firsts[net as usize][value as usize];
+                    match *first {
+                        Some(first) => self.followers.push((*i, first)),
+                        None => {
+                            *first = Some(*i);
+                            self.simulated.push(*i);
+                        }
+                    }
+                }
+            }
+        }
     }
 
     fn note_verdicts(&mut self, lanes: &[u32]) {

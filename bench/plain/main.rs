@@ -17,6 +17,7 @@ mod random;
 mod respond;
 mod search;
 mod sets;
+mod stems;
 mod sync;
 mod texts;
 mod uninit;

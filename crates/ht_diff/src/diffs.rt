@@ -1,5 +1,5 @@
 //! Differing latches in a short list.
-ghost use Rattle.std.specs.Prelude.{◌≡◌, ◌<◌, ◌^◌, [], ◌∷◌, ◌++◌, length, OnOk, OnErr};
+ghost use Rattle.std.specs.Prelude.{◌≡◌, ◌<◌, ◌^◌, [], ◌∷◌, ◌++◌, length, IfOk, OnOk, OnErr};
 ghost use Rattle.ht_diff.specs.Differences.{differences, held};
 
 use ht_tern::Tern;
@@ -85,6 +85,17 @@ impl Diffs {
     {
         self.entries.push(diff)?;
         Ok(())
+    }
+
+    /// The same differences once more.
+    ///
+    /// # Errors
+    /// Out of memory.
+    pub fn copy(&self) -> Result<Diffs, AllocError>
+        ensures { IfOk result (λ diffs. diffs ≡ self.now) }
+    {
+        let entries = SmallVec::from_slice(*self.entries.allocator(), self.entries.as_slice())?;
+        Ok(Diffs { entries })
     }
 
     /// Holds what the faulty state has where it isn't the good one, in the order of the flip-flops, and nothing else.

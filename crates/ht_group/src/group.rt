@@ -1,6 +1,7 @@
 //! A group of faulty machines in one frame.
 ghost use Rattle.std.specs.Prelude.{◌≡◌, ◌<◌, ◌≤◌, ◌+◌, ◌*◌, ◌++◌, ◌∷◌, [], ℕ, Some, true, false, length, get_or, IfOk, OnOk, OnErr};
 ghost use Rattle.std.specs.List.{slice_get};
+ghost use Rattle.ht_tern.specs.declared.tern.Tern.TheVariants.{Unk};
 ghost use Rattle.ht_tern.specs.Opposite.{are_opposite};
 ghost use Rattle.ht_net.specs.Netlist.{net_count};
 ghost use Rattle.ht_net.specs.Detection.{terns_of};
@@ -241,6 +242,15 @@ impl<'c> Group<'c> {
         self.count = 0;
         self.pending.clear();
         self.settled = true;
+    }
+
+    /// The values of all nets in the good machine, by the number of the net.
+    pub fn good_values(&self) -> &[Tern]
+        ensures count { length result.now ≡ net_count self.now.circuit }
+        ensures values { (x : ℕ) → x < net_count self.now.circuit
+            → get_or result.now x Unk ≡ good_value self.now x }
+    {
+        &self.frame.values
     }
 
     // The good machine's value of a net.

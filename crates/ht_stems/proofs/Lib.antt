@@ -7,3 +7,4 @@ pub mod FaultFrames
 pub mod PassLaws
 pub mod ViewLaws
 pub mod UniqueLaws
+pub mod WithinLaws

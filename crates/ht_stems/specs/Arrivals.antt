@@ -59,3 +59,10 @@ SiteArrives c good (DffPin j) bit a = a ≡ AtLatch j (tern_of bit)
 abbrev pub FaultArrives : Netlist → (ℕ → Tern) → Fault → Arrival → Type 0
 FaultArrives c good fault a = (IsStuckAlready c good fault × (a ≡ Dies))
     ⊎ ((¬ IsStuckAlready c good fault) × SiteArrives c good fault.site fault.value a)
+
+-- the circuit has the flip-flop, the output or the net where an effect ends
+abbrev pub IsWithin : Netlist → Arrival → Type 0
+IsWithin c Dies = Unit {0}
+IsWithin c (AtLatch j v) = j < length c.dffs
+IsWithin c (AtOutput o v) = o < length c.outputs
+IsWithin c (AtStem x v) = x.0 < net_count c

@@ -4,7 +4,7 @@ ghost use Rattle.ht_tern.specs.declared.tern.Tern as tern;
 ghost use Rattle.ht_net.specs.Netlist.{net_count, IsCircuit};
 ghost use Rattle.ht_net.specs.Faults.{tern_rules};
 ghost use Rattle.ht_stems.specs.ForcedNets.{net_forced};
-ghost use Rattle.ht_stems.specs.Arrivals.{Arrives, FaultArrives, HasLine, IsStuckAlready, SiteArrives, net_of_line};
+ghost use Rattle.ht_stems.specs.Arrivals.{Arrives, FaultArrives, HasLine, IsStuckAlready, IsWithin, SiteArrives, net_of_line};
 ghost use Rattle.ht_stems.specs.ArrivedFrames.{AreGoodValues, ShowsArrival};
 ghost use Rattle.ht_stems.specs.ArrivalsView.{good_of_net};
 
@@ -161,6 +161,7 @@ impl<'c> Arrivals<'c> {
         ensures shows { (vector latches : List tern.Tern)
             → AreGoodValues self.old.circuit vector latches (good_of_net self.old)
             → ShowsArrival self.old.circuit (tern_rules (Some fault)) vector latches result }
+        ensures within { IsWithin self.old.circuit result }
         ensures same { self.new ≡ self.old }
     {
         if self.is_stuck_already(fault) {

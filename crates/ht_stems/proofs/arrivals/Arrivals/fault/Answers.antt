@@ -2,6 +2,7 @@ use Rattle.std.proofs.Common.{refl, inl, inr}
 use Rattle.ht_stems.specs.ArrivalsView.{good_of_net}
 use Rattle.ht_stems.proofs.FaultFrames.{fault_shows}
 use Rattle.ht_stems.proofs.PassLaws.{not_told}
+use Rattle.ht_stems.proofs.WithinLaws.{fault_within}
 use Rattle.ht_stems.proofs.arrivals.Arrivals.fault.Goals as goal
 
 dies : goal.returns-then-is_stuck_already-clause-end
@@ -26,3 +27,11 @@ pub returns-clause-shows : goal.returns-clause-shows
 returns-clause-shows c = λ vector latches are.
     fault_shows c.args.self.now.circuit c.is_stuck_already.ensures.circuit vector latches (good_of_net c.args.self.now) are
     c.args.fault c.site.result c.requires (goes_on c)
+
+pub returns-then-is_stuck_already-clause-within : goal.returns-then-is_stuck_already-clause-within
+returns-then-is_stuck_already-clause-within c =
+    fault_within c.args.self.now.circuit (good_of_net c.args.self.now) c.args.fault _ c.requires (dies c)
+
+pub returns-clause-within : goal.returns-clause-within
+returns-clause-within c =
+    fault_within c.args.self.now.circuit (good_of_net c.args.self.now) c.args.fault c.site.result c.requires (goes_on c)
