@@ -1,42 +1,16 @@
-#!/usr/bin/env python3
-"""A model of the judge of entries by forbidden cubes in plain Python, and a maker of such entries.
+"""Entries by forbidden cubes: which of them pass, and a maker of such entries.
 
-    bench/cubes [--circuits N] [--seed S]
-
-The model is written from docs/FORMATS.md alone and shares no code with the crates; bench/passes, bench/check and
-bench/report compare the programs with it. The maker takes a family of sets that closes: the rails that no pair of a set has
-are cubes, and a search with unit propagation shows step by step that no vector leads to one. By itself the script makes
-entries for random circuits and judges each, whole and with one hint dropped. Prints how many passed.
+The maker takes a family of sets that closes: the rails that no pair of a set has are cubes, and a search with unit
+propagation shows step by step that no vector leads to one.
 """
-import argparse
-import importlib.machinery
-import importlib.util
 import itertools
-import pathlib
-import random
-import sys
 
-ROOT = pathlib.Path(__file__).resolve().parent.parent
+from plain import entries, netlists
+
 GOOD, FAULTY = 0, 1
 YES, NO = "yes", "no"
 OTHER = {YES: NO, NO: YES}
 MOST_PARITY = 8
-
-
-def script(name):
-    """Another script of this folder, as a module."""
-    if name in sys.modules:
-        return sys.modules[name]
-    loader = importlib.machinery.SourceFileLoader(name, str(ROOT / "bench" / name))
-    module = importlib.util.module_from_spec(importlib.util.spec_from_loader(name, loader))
-    sys.modules[name] = module
-    loader.exec_module(module)
-    return module
-
-
-sys.dont_write_bytecode = True
-entries = script("entries")
-compare = entries.compare
 
 
 def negated(literal):
@@ -103,8 +77,9 @@ class Formula:
                 self.gate(FAULTY, g, kind, net, args)
 
     def gate(self, machine, g, kind, net, args):
-        pins = [tuple(self.behind(("pin", g, i), machine, bit, self.load(machine, arg, bit)) for bit in (0, 1)) for i, arg in enumerate(args)]
-        turned = kind in compare.INVERTING
+        behind = lambda i, arg, bit: self.behind(("pin", g, i), machine, bit, self.load(machine, arg, bit))
+        pins = [tuple(behind(i, arg, bit) for bit in (0, 1)) for i, arg in enumerate(args)]
+        turned = kind in netlists.INVERTING
         out = [self.rail(machine, net, bit ^ turned) for bit in (0, 1)]
         if len(pins) == 1:
             self.clause([-out[0], pins[0][0]])
@@ -275,33 +250,3 @@ def other(rng, entry):
             literals = rng.choice([literals[1:], (*literals, rng.choice([-1, 1]) * rng.randint(1, 40)), literals[::-1]])
         steps[at] = literals, hints
     return entries.UndetectableByCubes(cubes, steps)
-
-
-# ---- by itself
-
-
-def main():
-    parser = argparse.ArgumentParser(description="Makes entries by cubes for random circuits and judges them by the model.")
-    parser.add_argument("--circuits", type=int, default=300)
-    parser.add_argument("--seed", type=int, default=1)
-    options = parser.parse_args()
-    passes_script, rng, passed, shorter = script("passes"), random.Random(options.seed), 0, 0
-    for _ in range(options.circuits):
-        netlist, circuit, faults = passes_script.random_circuit(rng)
-        start = [2] * len(circuit.flip_flops)
-        for fault in faults:
-            family = passes_script.closing(circuit, fault, start)
-            entry = entry_of(circuit, fault, family) if family else None
-            if entry is None:
-                continue
-            if not passes(circuit, fault, start, entry):
-                sys.exit(f"cubes: the model refuses what it made: {netlist!r} {fault} {entry}")
-            passed += 1
-            literals, hints = entry.steps[-1]
-            fewer = entries.UndetectableByCubes(entry.cubes, [*entry.steps[:-1], (literals, hints[1:])])
-            shorter += bool(hints[1:]) and passes(circuit, fault, start, fewer)
-    print(f"{passed} entries by cubes pass, {shorter} of them without the first hint of the last step")
-
-
-if __name__ == "__main__":
-    main()
