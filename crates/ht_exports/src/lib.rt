@@ -10,5 +10,5 @@ mod families;
 mod lift;
 mod window;
 
-/// The most bytes of a netlist.
-pub(crate) const MAX_BYTES: usize = 16_777_216;
+// The most bytes of a netlist.
+const MAX_BYTES: usize = 16_777_216;
