@@ -1,4 +1,4 @@
-// Times `lift` of ht_pairs, by its export of ht_pairs_c, beside the same in plain Rust, in one run.
+// Times `lift` of ht_pairs, by its export of ht_exports, beside the same in plain Rust, in one run.
 //
 // First both are compared with the definition, a loop over all members, at every two sets.
 use std::hint::black_box;
@@ -10,7 +10,7 @@ struct PairSet {
     bits: u16,
 }
 
-#[link(name = "ht_pairs_c", kind = "static")]
+#[link(name = "ht_exports", kind = "static")]
 unsafe extern "C" {
     fn ht_pairs_lift(kind: u8, args: *const PairSet, count: usize) -> PairSet;
 }

@@ -1,4 +1,4 @@
-// Times a window of ht_window, by its export of ht_window_c, beside the same method in plain Rust, in one run.
+// Times a window of ht_window, by its export of ht_exports, beside the same method in plain Rust, in one run.
 //
 // The netlist has 400 inputs, each with a buffer, and no output; the window has 447 frames from an unknown state. So
 // there are 178,800 variables, as many gates, and 357,600 cells.
@@ -10,7 +10,7 @@ const FRAMES: usize = 447;
 const NETS: usize = 2 * INPUTS;
 const ROUNDS: usize = 9;
 
-#[link(name = "ht_window_c", kind = "static")]
+#[link(name = "ht_exports", kind = "static")]
 unsafe extern "C" {
     fn ht_window_decisions(text: *const u8, len: usize, frames: u32, decide: bool, undo: bool) -> u64;
 }

@@ -3,7 +3,7 @@
 A value is two bits, its rails: whether it is 0 for certain, and whether it is 1 for certain; unknown is neither. A flip-flop
 is two latches. The one output is 1 exactly in a frame in which some output of the circuit shows opposite definite values. So a
 model checker that proves it always 0 says that no list of vectors detects the fault, and a trace that it finds is a list that
-does. Faulty nets outside the fault's cone are the good ones. bench/confirm and tools/close use it; nothing is taken from it
+does. Faulty nets outside the fault's cone are the good ones. model/confirm and tools/close use it; nothing is taken from it
 without a check.
 """
 import check_proofs

@@ -1,0 +1,107 @@
+//! Reports as rows of numbers.
+ghost use Rattle.std.specs.Prelude.{◌≡◌, ◌≤◌, length, IfOk, IsTrue};
+
+use crate::MAX_BYTES;
+use crate::entries::numbers::push_end;
+use ht_bench::read;
+use ht_collapse::collapse;
+use ht_faults::list;
+use ht_texts::{Item, ReportReader, Said};
+use std::alloc::{AllocError, Global};
+
+// A fault, the kind of its verdict from 0, and the vector and the output of a detection or 0.
+fn push_verdict(row: &mut Vec<u64>, fault: u32, said: Said) -> Result<(), AllocError> {
+    let (kind, vector, output) = match said {
+        Said::Detected(place) => (0, place.vector, place.output),
+        Said::Untestable => (1, 0, 0),
+        Said::Aborted => (2, 0, 0),
+        Said::Undetectable => (3, 0, 0),
+        Said::Undetected => (4, 0, 0),
+    };
+    for number in [2, u64::from(fault), kind, vector, u64::from(output)] {
+        row.push(number)?;
+    }
+    Ok(())
+}
+
+fn push_two(row: &mut Vec<u64>, kind: u64, number: u64) -> Result<(), AllocError> {
+    row.push(kind)?;
+    row.push(number)?;
+    Ok(())
+}
+
+// What a line says: 1 and a budget, 2 and a verdict, 3 and a fault that another one represents, or 4.
+fn push_item(row: &mut Vec<u64>, item: Item) -> Result<(), AllocError> {
+    match item {
+        Item::Head { budget } => push_two(row, 1, budget),
+        Item::Verdict { fault, said } => push_verdict(row, fault, said),
+        Item::Member { fault } => push_two(row, 3, u64::from(fault)),
+        Item::Total => {
+            row.push(4)?;
+            Ok(())
+        }
+    }
+}
+
+// Reads a line and appends what it says; false where it is malformed.
+fn take_line(reader: &mut ReportReader, line: &[u8], row: &mut Vec<u64>) -> Result<bool, AllocError>
+    requires { IsTrue reader.old.live }
+    ensures { IfOk result (λ taken. reader.new.live ≡ taken) }
+{
+    match reader.line(line) {
+        Ok(item) => {
+            push_item(row, item)?;
+            Ok(true)
+        }
+        Err(error) => {
+            push_end(row, error.line)?;
+            Ok(false)
+        }
+    }
+}
+
+// Reads lines, the next from where the one before ended, and then the end; nothing after a malformed line.
+fn take_lines(
+    reader: &mut ReportReader,
+    text: &[u8],
+    ends: &[usize],
+    row: &mut Vec<u64>,
+) -> Result<(), AllocError>
+    requires { IsTrue reader.old.live }
+{
+    let mut start = 0;
+    for end in ends {
+        if *end < start || *end > text.len() {
+            return Err(AllocError);
+        }
+        if !take_line(reader, &text[start..*end], row)? {
+            return Ok(());
+        }
+        start = *end;
+    }
+    match reader.end() {
+        Ok(()) => push_end(row, 0),
+        Err(error) => push_end(row, error.line),
+    }
+}
+
+/// What each line of a report of this netlist says, and 0 and the malformed line or 0; out of memory also where the
+/// netlist is refused.
+pub fn report_row(
+    alloc: Global,
+    netlist: &[u8],
+    text: &[u8],
+    ends: &[usize],
+) -> Result<Vec<u64>, AllocError>
+    requires { length netlist.now ≤ MAX_BYTES }
+{
+    let Ok(circuit) = read(alloc, netlist) else {
+        return Err(AllocError);
+    };
+    let faults = list(alloc, &circuit)?;
+    let classes = collapse(alloc, &circuit, &faults)?;
+    let mut reader = ReportReader::new(&circuit, &faults, &classes);
+    let mut row = Vec::new(alloc);
+    take_lines(&mut reader, text, ends, &mut row)?;
+    Ok(row)
+}

@@ -1,8 +1,0 @@
-use Rattle.std.proofs.Common.{◌≡◌, length}
-use Rattle.ht_window_c.proofs.undo_all.Given as goal
-
-abbrev pub invariant-loop-window : goal.invariant-loop-window
-invariant-loop-window l = l.window.window ≡ l.fn.window.window
-
-abbrev pub decreases-loop-window : goal.decreases-loop-window
-decreases-loop-window l = length l.window.decisions
