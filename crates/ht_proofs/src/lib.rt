@@ -7,8 +7,10 @@
 #![tactic(auto)]
 
 mod batch;
+mod frame_grader;
 mod grade;
 mod grader;
+mod stems;
 mod steps;
 mod theorems;
 
