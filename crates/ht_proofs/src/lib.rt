@@ -4,6 +4,10 @@
 //! A `Grader` takes vectors one by one. Each runs once in the good machine, and then in the machine of each fault that
 //! isn't detected yet, 64 machines a group, or 256 where events reach most gates. What is kept of a fault is its first
 //! detection, or else where the flip-flops of its machine differ from the good ones.
+//!
+//! A fault whose machine holds the good latches is looked up first (ht_stems): its effect may die, or come to one
+//! flip-flop or one output, and then no group is needed. Of the faults that arrive at one stem with one value the first
+//! takes a lane, and the others take over its grade.
 #![tactic(auto)]
 
 mod batch;

@@ -72,7 +72,7 @@ impl Firsts {
     }
 }
 
-/// Where effects end in a frame, the faults that arrived first, and those that follow them.
+/// Where effects end in a frame, the faults that were the first to arrive at a stem, and those that follow them.
 #[derive(Drop)]
 pub struct Stems<'c> {
     pub arrivals: Arrivals<'c>,
