@@ -1,7 +1,6 @@
 -- What is kept of a fault of good latches, by where its effect ends.
 use Rattle.std.proofs.Common.{◌≡◌, ◌≢◌, ◌<◌, ◌∙◌, ℕ, zero, suc, List, [], ◌∷◌, All, Bool, true, false, Option, Some, None, MatchOption, length, get_or, refl, sym, ap, subst, arith, inl, inr}
-use Rattle.std.specs.List.{slice_get}
-use Rattle.std.proofs.lemmas.Bool.{cases_Bool, cases_eq}
+use Rattle.std.proofs.lemmas.Bool.{cases_eq}
 use Rattle.std.proofs.lemmas.List.{get_or-set_other, get_or-set_same}
 use Rattle.ht_tern.specs.declared.tern.Tern.{Tern}
 use Rattle.ht_tern.specs.declared.tern.Tern.TheVariants.{Zero, One, Unk}
@@ -16,11 +15,10 @@ use Rattle.ht_net.proofs.ValueLaws.{seen_length}
 use Rattle.ht_stems.specs.declared.arrival.Arrival.{Arrival}
 use Rattle.ht_stems.specs.declared.arrival.Arrival.TheVariants.{Dies, AtLatch, AtOutput, AtStem}
 use Rattle.ht_diff.specs.declared.diffs.Diff.{Diff}
-use Rattle.ht_diff.specs.Differences.{with_differences}
 use Rattle.ht_group.specs.GroupView.{GroupView, FaultyMachine, AreLatches, faulty_output, good_output}
 use Rattle.ht_proofs.specs.declared.grade.Grade.{Grade}
-use Rattle.ht_proofs.specs.Applied.{IsFirstSeen, IsSeen, faulty_state, good_state}
-use Rattle.ht_proofs.specs.LaneGrades.{no_grade, grade_at, first_place, IsGradedFault}
+use Rattle.ht_proofs.specs.Applied.{IsFirstSeen, IsSeen, good_state}
+use Rattle.ht_proofs.specs.LaneGrades.{no_grade, first_place, IsGradedFault}
 use Rattle.ht_proofs.specs.Batches.{machine_from}
 use Rattle.ht_proofs.specs.Followers.{arrived_grade, is_at_stem, EndsAt}
 use Rattle.ht_proofs.proofs.SeenLaws.{is_seen_at}

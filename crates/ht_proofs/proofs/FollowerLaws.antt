@@ -1,5 +1,5 @@
 -- The faults of a frame that need no lane, one after the other.
-use Rattle.std.proofs.Common.{◌≡◌, ◌≢◌, ◌<◌, ◌≤◌, ◌+◌, ◌∙◌, ◌++◌, ◌∷◌, ◌⊎◌, ℕ, List, [], Bool, true, false, Option, Some, None, length, get_or, map, set, replicate, refl, sym, ap, subst, arith, inl, inr, length-append}
+use Rattle.std.proofs.Common.{◌≡◌, ◌≢◌, ◌<◌, ◌≤◌, ◌+◌, ◌∙◌, ◌++◌, ◌∷◌, ◌⊎◌, ℕ, List, [], Bool, true, false, Option, Some, None, length, get_or, set, replicate, refl, sym, ap, subst, arith, inl, inr, length-append}
 use Rattle.std.specs.List.{slice_get}
 use Rattle.std.specs.Prelude.{◌==◌}
 use Rattle.std.proofs.lemmas.Bool.{cases_eq}
@@ -12,7 +12,6 @@ use Rattle.ht_tern.specs.declared.tern.Tern.{Tern}
 use Rattle.ht_tern.specs.declared.tern.Tern.TheVariants.{Zero, One, Unk}
 use Rattle.ht_net.specs.declared.net.NetId.{NetId}
 use Rattle.ht_net.specs.declared.fault.Fault.{Fault}
-use Rattle.ht_net.specs.declared.place.Place.{Place}
 use Rattle.ht_net.specs.declared.fault.Site.{Site}
 use Rattle.ht_net.specs.declared.fault.Site.TheVariants.{Stem, DffPin, GatePin}
 use Rattle.ht_net.specs.Netlist.{Netlist}
@@ -31,7 +30,7 @@ use Rattle.ht_proofs.specs.declared.stems.Firsts.{Firsts}
 use Rattle.ht_proofs.specs.declared.stems.Follower.{Follower}
 use Rattle.ht_proofs.specs.LaneGrades.{no_grade, grade_at, HasNoLane, IsGradedFault}
 use Rattle.ht_proofs.specs.Batches.{BatchView, ArePassed, ArePassedAll, IsGradedFrame, machine_from}
-use Rattle.ht_proofs.specs.Followers.{no_firsts, first_of, with_first, first_at, first_noted, no_follower, following, Joins, leads, follows, arrived_grade, is_at_stem, EndsAt, GoesThrough, in_lane, alone, at_stem, IsFirstAt, IsFollower, SharesGrade, AreSharing, AreFollowers, AreCopied}
+use Rattle.ht_proofs.specs.Followers.{no_firsts, first_of, with_first, first_at, first_noted, no_follower, following, Joins, leads, follows, arrived_grade, is_at_stem, EndsAt, GoesThrough, in_lane, alone, at_stem, IsFollower, AreSharing, AreFollowers, AreCopied}
 use Rattle.ht_proofs.proofs.BatchLaws.{graded_in, has_lane, lane_before, lane_last, lane_order, sharing_later}
 use Rattle.ht_proofs.proofs.ArrivedLaws as arrived
 

@@ -12,7 +12,7 @@ use Rattle.ht_stems.specs.declared.arrival.Arrival.TheVariants.{Dies, AtLatch, A
 use Rattle.ht_stems.specs.Arrivals.{IsWithin}
 use Rattle.ht_stems.specs.ArrivedFrames.{ShowsArrival}
 use Rattle.ht_group.specs.GroupView.{GroupView, good_output}
-use Rattle.ht_proofs.specs.LaneGrades.{no_grade, grade_at, with_place, HasNoLane, AreLaneFaults, IsGradedFault}
+use Rattle.ht_proofs.specs.LaneGrades.{no_grade, grade_at, with_place, HasNoLane, IsGradedFault}
 use Rattle.ht_proofs.specs.Batches.{machine_from}
 use Rattle.ht_proofs.specs.declared.grade.Grade.{Grade}
 use Rattle.ht_proofs.specs.declared.stems.Firsts.{Firsts}

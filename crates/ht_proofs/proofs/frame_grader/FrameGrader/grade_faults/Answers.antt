@@ -1,4 +1,4 @@
-use Rattle.std.proofs.Common.{◌∙◌, ap, arith, length, replicate, subst, sym}
+use Rattle.std.proofs.Common.{◌∙◌, ap, arith, replicate, subst, sym}
 use Rattle.std.proofs.lemmas.Result.{on_ok_weaker}
 use Rattle.ht_stems.specs.ArrivedFrames.{AreGoodValues}
 use Rattle.ht_stems.specs.ArrivalsView.{ArrivalsView, good_of_net}

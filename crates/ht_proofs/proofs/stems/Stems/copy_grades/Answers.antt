@@ -1,4 +1,4 @@
-use Rattle.std.proofs.Common.{◌≡◌, ◌<◌, ◌∙◌, List, length, get_or, refl, ap, arith, set}
+use Rattle.std.proofs.Common.{◌≡◌, ◌<◌, ◌∙◌, List, length, get_or, ap, arith, set}
 use Rattle.std.proofs.lemmas.List.{get_or_default}
 use Rattle.ht_proofs.specs.declared.stems.Follower.{Follower}
 use Rattle.ht_proofs.specs.LaneGrades.{grade_at, no_grade}
