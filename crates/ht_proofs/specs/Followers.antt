@@ -53,7 +53,8 @@ following followers = map (λ (f : Follower). f.fault) followers
 -- Fault i arrives at net x with a value. It is the first there and needs a lane, or else it follows the first.
 pub data Joins (x : ℕ) (v : Tern) (i : ℕ) (table : List Firsts) (followers : List Follower)
     : Bool → List Firsts → List Follower → Type 0 where
-  leads : x < length table → first_at table x v ≡ None → Joins x v i table followers true (first_noted table x v i) followers
+  leads : x < length table → first_at table x v ≡ None
+      → Joins x v i table followers true (first_noted table x v i) followers
   follows : (f : ℕ) → first_at table x v ≡ Some f
       → Joins x v i table followers false table (followers ++ record { fault = i; first = f } ∷ [])
 
@@ -77,8 +78,8 @@ pub record EndsAt (frame : GroupView) (fault : Fault) (a : Arrival) : Type 0 whe
   pub shows : ShowsArrival frame.circuit (tern_rules (Some fault)) frame.vector frame.latches a
   pub within : IsWithin frame.circuit a
 
--- Fault i goes through a frame: it needs a lane where its machine holds other latches or it is the first that arrives at
--- a stem; else it follows the first one there, or its effect ends somewhere else and it is graded.
+-- Fault i goes through a frame: it needs a lane where its machine holds other latches or it is the first that arrives
+-- at a stem; else it follows the first one there, or its effect ends somewhere else and it is graded.
 pub data GoesThrough (frame : GroupView) (fault : Fault) (number i : ℕ) (grade : Grade) (table : List Firsts)
     (followers : List Follower) : Bool → Grade → List Firsts → List Follower → Type 0 where
   in_lane : GoesThrough frame fault number i grade table followers true grade table followers

@@ -44,7 +44,7 @@ impl<'c> Model for FrameGrader<'c> {
         × (length a.stems.firsts.items ≡ net_count a.batch.group.circuit) };
 }
 
-// Takes fault `i`, which isn't detected, through the frame: alone, in a lane with others, or as one that follows another.
+// Takes fault `i`, which isn't detected, through the frame: alone, in a lane, or as one that follows another.
 fn grade_fault(
     batch: &mut Batch,
     stems: &mut Stems,

@@ -188,7 +188,8 @@ impl<'c> Grader<'c> {
 
     /// Applies one more vector: a frame of the good machine, and one of the machine of each fault that isn't detected,
     /// up to 256 at a time, where one machine may stand for all that show the same. Each gate is evaluated once for the
-    /// good machine and at most once for each 64 faults, which is counted in `steps`; what tells where effects end isn't.
+    /// good machine and at most once for each 64 faults, and `steps` counts that. It doesn't count what tells where
+    /// effects end.
     ///
     /// # Errors
     /// Out of memory; the verdicts and the count are as before, and every later `apply` fails.

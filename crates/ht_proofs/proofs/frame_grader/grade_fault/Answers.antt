@@ -61,5 +61,6 @@ returns-clause-counted c =
     c.needs_lane.new.self.firsts.items c.needs_lane.new.self.followers.items c.in_ok-in_lane.ensures.goes
     c.if-not-in_lane.false in
     on_ok_weaker c.take.result
-    (λ took before start long was counted. took before start (long ∙ sym c.needs_lane.auto.grades) (same.1 ∙ was) counted)
+    (λ took before start long was counted.
+    took before start (long ∙ sym c.needs_lane.auto.grades) (same.1 ∙ was) counted)
     c.take.ensures.counted

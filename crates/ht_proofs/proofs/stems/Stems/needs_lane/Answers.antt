@@ -35,8 +35,8 @@ returns c =
     c.fault-arrival.ensures.shows c.fault-arrival.ensures.within in
     record {
       goes = subst
-          (λ (g : Grade). GoesThrough frame c.args.fault c.args.number i (grade_at grades i) table followers false g table
-          followers)
+          (λ (g : Grade). GoesThrough frame c.args.fault c.args.number i (grade_at grades i) table followers false g
+          table followers)
           (sym (get_or-set_same grades i c.note_arrival.new.self no_grade c.requires.inside
           ∙ c.in_ok-note_arrival.ensures))
           (alone a none ends (not_stem a c.in_default.not-AtStem));
