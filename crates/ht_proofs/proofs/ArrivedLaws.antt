@@ -26,13 +26,13 @@ use Rattle.ht_proofs.proofs.DiffLaws.{no_differences, one_difference}
 use Rattle.ht_proofs.proofs.BatchLaws.{same_frame}
 
 -- the machine of a fault that holds the good latches
-abbrev pub alone : GroupView → Fault → FaultyMachine
-alone frame fault = record { fault = fault; latches = frame.latches }
+abbrev pub from_good : GroupView → Fault → FaultyMachine
+from_good frame fault = record { fault = fault; latches = frame.latches }
 
 -- it is the machine of which nothing is kept
-pub alone_is : (frame : GroupView) (fault : Fault) (grade : Grade) → grade ≡ no_grade
-    → alone frame fault ≡ machine_from frame fault grade
-alone_is frame fault grade none =
+pub from_good_is : (frame : GroupView) (fault : Fault) (grade : Grade) → grade ≡ no_grade
+    → from_good frame fault ≡ machine_from frame fault grade
+from_good_is frame fault grade none =
     ap (λ (l : List Tern). record { fault = fault; latches = l }) (sym (no_differences frame.latches))
     ∙ ap (λ (g : Grade). machine_from frame fault g) (sym none)
 
@@ -78,6 +78,7 @@ one_known : (n : ℕ) (d : Diff) → d.latch < n → All (λ (e : Diff). e.latch
 one_known n d known zero e less = known
 one_known n d known (suc k) e less = absurd (omega arith)
 
+-- at flip-flops of the circuit
 pub arrived_known : (frame : GroupView) (fault : Fault) (number : ℕ) (a : Arrival) → EndsAt frame fault a
     → AreLatches frame.circuit (arrived_grade frame number a).diffs
 arrived_known frame fault number Dies ends = λ k d less. absurd (omega arith)
@@ -86,28 +87,29 @@ arrived_known frame fault number (AtLatch j v) ends =
 arrived_known frame fault number (AtOutput o v) ends = λ k d less. absurd (omega arith)
 arrived_known frame fault number (AtStem x v) ends = λ k d less. absurd (omega arith)
 
+-- the grade of the frame
 pub arrived_graded : (frame : GroupView) (fault : Fault) (number : ℕ) (a : Arrival) → EndsAt frame fault a
-    → is_at_stem a ≡ false → IsGradedFault frame (alone frame fault) number (arrived_grade frame number a)
+    → is_at_stem a ≡ false → IsGradedFault frame (from_good frame fault) number (arrived_grade frame number a)
 arrived_graded frame fault number Dies ends not_stem = record {
-  seen = λ o less. unseen frame (alone frame fault) o (ap (λ (l : List Tern). get_or l o Unk) ends.shows.outputs);
+  seen = λ o less. unseen frame (from_good frame fault) o (ap (λ (l : List Tern). get_or l o Unk) ends.shows.outputs);
   state = λ none. no_differences (good_state frame) ∙ sym ends.shows.next;
   known = arrived_known frame fault number Dies ends;
 }
 arrived_graded frame fault number (AtLatch j v) ends not_stem = record {
-  seen = λ o less. unseen frame (alone frame fault) o (ap (λ (l : List Tern). get_or l o Unk) ends.shows.outputs);
+  seen = λ o less. unseen frame (from_good frame fault) o (ap (λ (l : List Tern). get_or l o Unk) ends.shows.outputs);
   state = λ none. one_difference (good_state frame) j v ∙ sym ends.shows.next;
   known = arrived_known frame fault number (AtLatch j v) ends;
 }
 arrived_graded frame fault number (AtOutput o v) ends not_stem =
     let shown = frame_outputs frame.circuit (tern_rules None) frame.vector frame.latches in
     let long = outputs_long frame.circuit (tern_rules None) frame.vector frame.latches in
-    let here : faulty_output frame (alone frame fault) o ≡ v =
+    let here : faulty_output frame (from_good frame fault) o ≡ v =
     ap (λ (l : List Tern). get_or l o Unk) ends.shows.outputs
     ∙ get_or-set_same shown o v Unk (omega (arith, ends.within, long)) in
     record {
-      seen = seen_only frame (alone frame fault) number (length frame.circuit.outputs) o
+      seen = seen_only frame (from_good frame fault) number (length frame.circuit.outputs) o
           (are_opposite (good_output frame o) v) (ap (are_opposite (good_output frame o)) (sym here)) ends.within
-          (λ k other. unseen frame (alone frame fault) k
+          (λ k other. unseen frame (from_good frame fault) k
           (ap (λ (l : List Tern). get_or l k Unk) ends.shows.outputs ∙ get_or-set_other shown o k v Unk other));
       state = λ none. no_differences (good_state frame) ∙ sym ends.shows.next;
       known = arrived_known frame fault number (AtOutput o v) ends;
@@ -128,7 +130,7 @@ graded_alike : (frame : GroupView) (fault other : Fault) (number : ℕ) (grade :
     ≡ frame_outputs frame.circuit (tern_rules (Some fault)) frame.vector frame.latches
     → next_state frame.circuit (tern_rules (Some other)) frame.vector frame.latches
     ≡ next_state frame.circuit (tern_rules (Some fault)) frame.vector frame.latches
-    → IsGradedFault frame (alone frame other) number grade → IsGradedFault frame (alone frame fault) number grade
+    → IsGradedFault frame (from_good frame other) number grade → IsGradedFault frame (from_good frame fault) number grade
 graded_alike frame fault other number grade outputs next graded = record {
   seen = subst (λ (l : List Tern). SeenBy frame l number (length frame.circuit.outputs) grade.verdict) outputs
       graded.seen;
@@ -142,10 +144,10 @@ pub graded_together : (frame : GroupView) (fault other : Fault) (number : ℕ) (
     → IsGradedFault frame (machine_from frame other first_was) number grade
     → IsGradedFault frame (machine_from frame fault was) number grade
 graded_together frame fault other number a was first_was grade none first_none ends first_ends graded =
-    subst (λ (m : FaultyMachine). IsGradedFault frame m number grade) (alone_is frame fault was none)
+    subst (λ (m : FaultyMachine). IsGradedFault frame m number grade) (from_good_is frame fault was none)
     (graded_alike frame fault other number grade (first_ends.shows.outputs ∙ sym ends.shows.outputs)
     (first_ends.shows.next ∙ sym ends.shows.next)
-    (subst (λ (m : FaultyMachine). IsGradedFault frame m number grade) (sym (alone_is frame other first_was first_none))
+    (subst (λ (m : FaultyMachine). IsGradedFault frame m number grade) (sym (from_good_is frame other first_was first_none))
     graded))
 
 -- ---- where effects end depends on the circuit, the vector and the latches alone
@@ -154,6 +156,7 @@ ends_beside : (g : GroupView) (ms : List FaultyMachine) (b : Bool) (fault : Faul
     → EndsAt (record g { machines = ms; settled = b }) fault a
 ends_beside g ms b fault a h = record { shows = h.shows; within = h.within }
 
+-- an effect in one frame is one in another
 pub ends_in : (g frame : GroupView) (fault : Fault) (a : Arrival) → g.circuit ≡ frame.circuit → g.vector ≡ frame.vector
     → g.latches ≡ frame.latches → EndsAt g fault a → EndsAt frame fault a
 ends_in g frame fault a c v l h =

@@ -30,7 +30,7 @@ use Rattle.ht_proofs.specs.declared.stems.Firsts.{Firsts}
 use Rattle.ht_proofs.specs.declared.stems.Follower.{Follower}
 use Rattle.ht_proofs.specs.LaneGrades.{no_grade, grade_at, HasNoLane, IsGradedFault}
 use Rattle.ht_proofs.specs.Batches.{BatchView, ArePassed, ArePassedAll, IsGradedFrame, machine_from}
-use Rattle.ht_proofs.specs.Followers.{no_firsts, first_of, with_first, first_at, first_noted, no_follower, following, Joins, leads, follows, arrived_grade, is_at_stem, EndsAt, GoesThrough, in_lane, alone, at_stem, IsFollower, AreSharing, AreFollowers, AreCopied}
+use Rattle.ht_proofs.specs.Followers.{no_firsts, first_in, with_first, first_at, first_noted, no_follower, following, Joins, comes_first, comes_later, arrived_grade, is_at_stem, EndsAt, GoesThrough, takes_lane, ends_apart, ends_at_stem, IsFollower, AreSharing, AreFollowers, AreCopied}
 use Rattle.ht_proofs.proofs.BatchLaws.{graded_in, has_lane, lane_before, lane_last, lane_order, sharing_later}
 use Rattle.ht_proofs.proofs.ArrivedLaws as arrived
 
@@ -52,8 +52,8 @@ good_in g frame a b c v l is good =
 
 -- ---- the first at a net
 
-first_with : (firsts : Firsts) (v w : Tern) (i f : ℕ) → first_of (with_first firsts v i) w ≡ Some f
-    → ((w ≡ v) × (f ≡ i)) ⊎ (first_of firsts w ≡ Some f)
+first_with : (firsts : Firsts) (v w : Tern) (i f : ℕ) → first_in (with_first firsts v i) w ≡ Some f
+    → ((w ≡ v) × (f ≡ i)) ⊎ (first_in firsts w ≡ Some f)
 first_with firsts Zero Zero i f h = let e : f ≡ i = cc in inl (refl, e)
 first_with firsts Zero One i f h = inr h
 first_with firsts Zero Unk i f h = inr h
@@ -70,18 +70,18 @@ first_cases : (table : List Firsts) (x : ℕ) (v : Tern) (i y : ℕ) (w : Tern) 
 first_cases table x v i y w f inside at = elim (cases_eq y x) [
   | inl here ↦
       let entry : Firsts = with_first (get_or table x no_firsts) v i in
-      let is : first_of entry w ≡ Some f =
-      ap (λ (e : Firsts). first_of e w) (sym (get_or-set_at table x y entry no_firsts here inside)) ∙ at in
+      let is : first_in entry w ≡ Some f =
+      ap (λ (e : Firsts). first_in e w) (sym (get_or-set_at table x y entry no_firsts here inside)) ∙ at in
       elim (first_with (get_or table x no_firsts) v w i f is) [
         | inl p ↦ inl (here, p.0, p.1)
         | inr old ↦ inr (ap (λ n. first_at table n w) here ∙ old)
       ]
   | inr other ↦
-      inr (ap (λ (e : Firsts). first_of e w)
+      inr (ap (λ (e : Firsts). first_in e w)
       (sym (get_or-set_other table x y (with_first (get_or table x no_firsts) v i) no_firsts other)) ∙ at)
 ]
 
-none_yet : (v : Tern) → first_of no_firsts v ≡ None
+none_yet : (v : Tern) → first_in no_firsts v ≡ None
 none_yet Zero = refl
 none_yet One = refl
 none_yet Unk = refl
@@ -99,7 +99,7 @@ sharing_none frame faults number old n table followers empty none = record {
             get_or_past (replicate n no_firsts) x no_firsts (omega (arith, past, length-replicate n no_firsts))
         | inr inside ↦ get_or-replicate n x no_firsts no_firsts inside
       ] in
-      let bad : None ≡ Some f = sym (ap (λ (e : Firsts). first_of e v) entry ∙ none_yet v) ∙ at in
+      let bad : None ≡ Some f = sym (ap (λ (e : Firsts). first_in e v) entry ∙ none_yet v) ∙ at in
       cc;
   each = λ k less. absurd (omega (arith, less, long));
   differ = λ j k order less. absurd (omega (arith, less, long));
@@ -171,15 +171,18 @@ last_follows followers i f none =
 
 -- ---- what one fault needs
 
+-- an entry that was read by the number of its net
 pub entry_read : (table : List Firsts) (n x : ℕ) (entry : Firsts) → x < length table → n ≡ x
     → entry ≡ get_or table n entry → entry ≡ get_or table x no_firsts
 entry_read table n x entry inside at is =
     get_or_read table x entry inside (is ∙ ap (λ m. get_or table m entry) at) no_firsts
 
+-- what is no number is none
 pub none_left : (first : Option ℕ) → ((f : ℕ) → first ≡ Some f → ⊥) → first ≡ None
 none_left None h = refl
 none_left (Some f) h = absurd (h f refl)
 
+-- an effect that ends at no stem
 pub not_stem : (a : Arrival) → ((x : NetId) (v : Tern) → a ≡ AtStem x v → ⊥) → is_at_stem a ≡ false
 not_stem Dies h = refl
 not_stem (AtLatch j v) h = refl
@@ -240,7 +243,7 @@ module _ (frame : GroupView) (faults : List Fault) (number : ℕ) (before : List
   joined : (x : NetId) (v : Tern) (lane : Bool) (after : List Firsts) (more : List Follower)
       → grade_at old i ≡ no_grade → EndsAt s.group fault (AtStem x v) → Joins x.0 v i table followers lane after more
       → AreSharing frame faults number before (i + 1) after more
-  joined x v _ _ _ none ends (leads inside empty) = record {
+  joined x v _ _ _ none ends (comes_first inside empty) = record {
     firsts = λ y w f at. elim (first_cases table x.0 v i y w f inside at) [
       | inl p ↦
           rw p.0 (rw p.1 (rw p.2 (record {
@@ -257,7 +260,7 @@ module _ (frame : GroupView) (faults : List Fault) (number : ℕ) (before : List
     each = later.each;
     differ = later.differ;
   }
-  joined x v _ _ _ none ends (follows f at) =
+  joined x v _ _ _ none ends (comes_later f at) =
       let first = shared.firsts x.0 v f at in
       let one : Follower = record { fault = i; first = f } in
       record {
@@ -311,12 +314,13 @@ module _ (frame : GroupView) (faults : List Fault) (number : ℕ) (before : List
             ];
       }
 
+  -- the faults that share grades, with this one
   pub sharing_on : (lane : Bool) (g : Grade) (after : List Firsts) (more : List Follower)
       → GoesThrough s.group fault number i (grade_at old i) table followers lane g after more
       → AreSharing frame faults number before (i + 1) after more
-  sharing_on _ _ _ _ in_lane = later
-  sharing_on _ _ _ _ (alone a none ends not_stem) = later
-  sharing_on _ _ _ _ (at_stem x v lane after more none ends joins) = joined x v lane after more none ends joins
+  sharing_on _ _ _ _ takes_lane = later
+  sharing_on _ _ _ _ (ends_apart a none ends not_stem) = later
+  sharing_on _ _ _ _ (ends_at_stem x v lane after more none ends joins) = joined x v lane after more none ends joins
 
   module _ (new : List Grade) (others : (j : ℕ) → j ≢ i → grade_at new j ≡ grade_at old j)
       (undetected : (grade_at old i).verdict ≡ None) where
@@ -356,41 +360,42 @@ module _ (frame : GroupView) (faults : List Fault) (number : ℕ) (before : List
     joined_on : (x : ℕ) (v : Tern) (lane : Bool) (after : List Firsts) (more : List Follower)
         → Joins x v i table followers lane after more → lane ≡ false
         → ArePassed frame faults number before (i + 1) (following more) s new
-    joined_on x v _ _ _ (leads inside empty) is = cc
-    joined_on x v _ _ _ (follows f at) is =
+    joined_on x v _ _ _ (comes_first inside empty) is = cc
+    joined_on x v _ _ _ (comes_later f at) is =
         one_more (more_of followers i f) (λ j. leads_before followers i f j)
         (λ none. absurd (last_follows followers i f none))
 
+    -- the faults that went through, with this one, which needs no lane
     pub passed_on : (lane : Bool) (g : Grade) (after : List Firsts) (more : List Follower)
         → GoesThrough s.group fault number i (grade_at old i) table followers lane g after more → lane ≡ false
         → grade_at new i ≡ g → ArePassed frame faults number before (i + 1) (following more) s new
-    passed_on _ _ _ _ in_lane is new_is = cc
-    passed_on _ _ _ _ (alone a none ends not_stem) is new_is =
-        let machine : arrived.alone s.group fault ≡ machine_from frame fault (grade_at before i) =
+    passed_on _ _ _ _ takes_lane is new_is = cc
+    passed_on _ _ _ _ (ends_apart a none ends not_stem) is new_is =
+        let machine : arrived.from_good s.group fault ≡ machine_from frame fault (grade_at before i) =
         ap (λ (l : List Tern). record { fault = fault; latches = l }) passed.latches_same
-        ∙ arrived.alone_is frame fault (grade_at before i) (sym was ∙ none) in
+        ∙ arrived.from_good_is frame fault (grade_at before i) (sym was ∙ none) in
         one_more followers (λ j same. same) (λ same.
         subst (IsGradedFault frame (machine_from frame fault (grade_at before i)) number) (sym new_is)
         (subst (λ (m : FaultyMachine). IsGradedFault frame m number (arrived_grade s.group number a)) machine
-        (graded_in s.group frame (arrived.alone s.group fault) number (arrived_grade s.group number a)
+        (graded_in s.group frame (arrived.from_good s.group fault) number (arrived_grade s.group number a)
         passed.circuit_same passed.vector_same passed.latches_same
         (arrived.arrived_graded s.group fault number a ends not_stem))))
-    passed_on _ _ _ _ (at_stem x v lane after more none ends joins) is new_is = joined_on x.0 v lane after more joins is
+    passed_on _ _ _ _ (ends_at_stem x v lane after more none ends joins) is new_is = joined_on x.0 v lane after more joins is
 
--- where it needs a lane nothing else is new
 joined_lane : (x : ℕ) (v : Tern) (i : ℕ) (table : List Firsts) (followers : List Follower) (lane : Bool)
     (after : List Firsts) (more : List Follower) → Joins x v i table followers lane after more → lane ≡ true
     → more ≡ followers
-joined_lane x v i table followers _ _ _ (leads inside empty) is = refl
-joined_lane x v i table followers _ _ _ (follows f at) is = cc
+joined_lane x v i table followers _ _ _ (comes_first inside empty) is = refl
+joined_lane x v i table followers _ _ _ (comes_later f at) is = cc
 
+-- where it needs a lane nothing else is new
 pub lane_same : (group : GroupView) (fault : Fault) (number i : ℕ) (grade : Grade) (table : List Firsts)
     (followers : List Follower) (lane : Bool) (g : Grade) (after : List Firsts) (more : List Follower)
     → GoesThrough group fault number i grade table followers lane g after more → lane ≡ true
     → (more ≡ followers) × (g ≡ grade)
-lane_same group fault number i grade table followers _ _ _ _ in_lane is = (refl, refl)
-lane_same group fault number i grade table followers _ _ _ _ (alone a none ends not_stem) is = cc
-lane_same group fault number i grade table followers _ _ _ _ (at_stem x v lane after more none ends joins) is =
+lane_same group fault number i grade table followers _ _ _ _ takes_lane is = (refl, refl)
+lane_same group fault number i grade table followers _ _ _ _ (ends_apart a none ends not_stem) is = cc
+lane_same group fault number i grade table followers _ _ _ _ (ends_at_stem x v lane after more none ends joins) is =
     (joined_lane x.0 v i table followers lane after more joins is, refl)
 
 -- grades that are all the same
@@ -406,13 +411,14 @@ pub known_on : (group : GroupView) (fault : Fault) (number i : ℕ) (grade : Gra
     (followers : List Follower) (lane : Bool) (g : Grade) (after : List Firsts) (more : List Follower)
     → GoesThrough group fault number i grade table followers lane g after more
     → AreLatches group.circuit grade.diffs → AreLatches group.circuit g.diffs
-known_on group fault number i grade table followers _ _ _ _ in_lane known = known
-known_on group fault number i grade table followers _ _ _ _ (alone a none ends not_stem) known =
+known_on group fault number i grade table followers _ _ _ _ takes_lane known = known
+known_on group fault number i grade table followers _ _ _ _ (ends_apart a none ends not_stem) known =
     arrived.arrived_known group fault number a ends
-known_on group fault number i grade table followers _ _ _ _ (at_stem x v lane after more none ends joins) known = known
+known_on group fault number i grade table followers _ _ _ _ (ends_at_stem x v lane after more none ends joins) known = known
 
 -- ---- the grades that are taken over
 
+-- the followers of a whole list
 pub are_followers : (frame : GroupView) (faults : List Fault) (number : ℕ) (old : List Grade) (table : List Firsts)
     (followers : List Follower) (mid : List Grade) → length faults ≤ length mid
     → AreSharing frame faults number old (length faults) table followers → AreFollowers followers mid
@@ -429,6 +435,7 @@ not_copied : (followers : List Follower) (mid new : List Grade) (j : ℕ) → Ar
 not_copied followers mid new j copied none = copied.others j (λ k less inside e.
     none k (omega (arith, inside, following_long followers)) (following_at followers k inside ∙ e))
 
+-- what is kept of all is at flip-flops of the circuit
 pub known_after : (c : Netlist) (followers : List Follower) (mid new : List Grade)
     → AreCopied (length followers) followers mid new → ((k : ℕ) → AreLatches c (grade_at mid k).diffs) → (k : ℕ)
     → AreLatches c (grade_at new k).diffs
@@ -443,6 +450,7 @@ known_after c followers mid new copied known j = elim (has_lane (following follo
       (subst (λ (g : Grade). AreLatches c g.diffs) (sym (copied.each at.0 inside inside)) (known one.first))
 ]
 
+-- all faults went through: alone, in a lane, or after another
 pub all_graded : (frame : GroupView) (faults : List Fault) (number : ℕ) (old mid new : List Grade)
     (table : List Firsts) (followers : List Follower) → ArePassedAll frame faults number old (following followers) mid
     → AreSharing frame faults number old (length faults) table followers
@@ -480,12 +488,14 @@ all_graded frame faults number old mid new table followers passed shared copied 
 
 -- ---- one grade after the other
 
+-- none yet
 pub copied_none : (followers : List Follower) (old : List Grade) → AreCopied 0 followers old old
 copied_none followers old = record {
   each = λ k less inside. absurd (omega arith);
   others = λ j none. refl;
 }
 
+-- one more
 pub copied_more : (n : ℕ) (followers : List Follower) (old mid new : List Grade) (grade : Grade) → n < length followers
     → AreFollowers followers old → length mid ≡ length old
     → grade ≡ grade_at mid (get_or followers n no_follower).first

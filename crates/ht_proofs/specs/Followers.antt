@@ -23,10 +23,10 @@ abbrev pub no_firsts : Firsts
 no_firsts = record { zero = None; one = None; unknown = None }
 
 -- the first fault that arrived at a net with a value
-abbrev pub first_of : Firsts → Tern → Option ℕ
-first_of firsts Zero = firsts.zero
-first_of firsts One = firsts.one
-first_of firsts Unk = firsts.unknown
+abbrev pub first_in : Firsts → Tern → Option ℕ
+first_in firsts Zero = firsts.zero
+first_in firsts One = firsts.one
+first_in firsts Unk = firsts.unknown
 
 -- the same once fault i is the first that arrived there with a value
 abbrev pub with_first : Firsts → Tern → ℕ → Firsts
@@ -36,7 +36,7 @@ with_first firsts Unk i = record firsts { unknown = Some i }
 
 -- the first fault that arrived at net x with a value, in a table of all nets
 abbrev pub first_at : List Firsts → ℕ → Tern → Option ℕ
-first_at table x v = first_of (get_or table x no_firsts) v
+first_at table x v = first_in (get_or table x no_firsts) v
 
 -- the table once fault i is the first that arrived at net x with a value
 abbrev pub first_noted : List Firsts → ℕ → Tern → ℕ → List Firsts
@@ -53,9 +53,9 @@ following followers = map (λ (f : Follower). f.fault) followers
 -- Fault i arrives at net x with a value. It is the first there and needs a lane, or else it follows the first.
 pub data Joins (x : ℕ) (v : Tern) (i : ℕ) (table : List Firsts) (followers : List Follower)
     : Bool → List Firsts → List Follower → Type 0 where
-  leads : x < length table → first_at table x v ≡ None
+  comes_first : x < length table → first_at table x v ≡ None
       → Joins x v i table followers true (first_noted table x v i) followers
-  follows : (f : ℕ) → first_at table x v ≡ Some f
+  comes_later : (f : ℕ) → first_at table x v ≡ Some f
       → Joins x v i table followers false table (followers ++ record { fault = i; first = f } ∷ [])
 
 -- whether an effect ends at a stem
@@ -82,10 +82,10 @@ pub record EndsAt (frame : GroupView) (fault : Fault) (a : Arrival) : Type 0 whe
 -- at a stem; else it follows the first one there, or its effect ends somewhere else and it is graded.
 pub data GoesThrough (frame : GroupView) (fault : Fault) (number i : ℕ) (grade : Grade) (table : List Firsts)
     (followers : List Follower) : Bool → Grade → List Firsts → List Follower → Type 0 where
-  in_lane : GoesThrough frame fault number i grade table followers true grade table followers
-  alone : (a : Arrival) → grade ≡ no_grade → EndsAt frame fault a → is_at_stem a ≡ false
+  takes_lane : GoesThrough frame fault number i grade table followers true grade table followers
+  ends_apart : (a : Arrival) → grade ≡ no_grade → EndsAt frame fault a → is_at_stem a ≡ false
       → GoesThrough frame fault number i grade table followers false (arrived_grade frame number a) table followers
-  at_stem : (x : NetId) (v : Tern) (lane : Bool) (after : List Firsts) (more : List Follower) → grade ≡ no_grade
+  ends_at_stem : (x : NetId) (v : Tern) (lane : Bool) (after : List Firsts) (more : List Follower) → grade ≡ no_grade
       → EndsAt frame fault (AtStem x v) → Joins x.0 v i table followers lane after more
       → GoesThrough frame fault number i grade table followers lane grade after more
 

@@ -6,7 +6,7 @@ ghost use Rattle.ht_stems.specs.Arrivals.{HasLine};
 ghost use Rattle.ht_stems.specs.ArrivedFrames.{AreGoodValues};
 ghost use Rattle.ht_stems.specs.ArrivalsView.{good_of_net};
 ghost use Rattle.ht_proofs.specs.LaneGrades.{HasNoLane, grade_at};
-ghost use Rattle.ht_proofs.specs.Followers.{AreCopied, AreFollowers, GoesThrough, Joins, first_of, following, no_firsts, no_follower, with_first};
+ghost use Rattle.ht_proofs.specs.Followers.{AreCopied, AreFollowers, GoesThrough, Joins, first_in, following, no_firsts, no_follower, with_first};
 
 use crate::batch::Batch;
 use crate::grade::Grade;
@@ -44,7 +44,7 @@ impl Firsts {
 
     // The first that arrived with a value.
     fn at(&self, value: Tern) -> Option<usize>
-        ensures { result ≡ first_of self.now value }
+        ensures { result ≡ first_in self.now value }
     {
         match value {
             Tern::Zero => self.zero,

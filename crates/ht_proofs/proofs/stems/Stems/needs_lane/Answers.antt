@@ -3,12 +3,12 @@ use Rattle.std.proofs.lemmas.List.{get_or-set_other, get_or-set_same}
 use Rattle.std.proofs.lemmas.Result.{IfOk-weaker}
 use Rattle.ht_proofs.specs.declared.grade.Grade.{Grade}
 use Rattle.ht_proofs.specs.LaneGrades.{grade_at, no_grade}
-use Rattle.ht_proofs.specs.Followers.{EndsAt, GoesThrough, alone, at_stem, in_lane}
+use Rattle.ht_proofs.specs.Followers.{EndsAt, GoesThrough, ends_apart, ends_at_stem, takes_lane}
 use Rattle.ht_proofs.proofs.FollowerLaws.{ends_told, not_stem, nothing_kept}
 use Rattle.ht_proofs.proofs.stems.Stems.needs_lane.Goals as goal
 
 pub returns-then-not-is_empty-clause-goes : goal.returns-then-not-is_empty-clause-goes
-returns-then-not-is_empty-clause-goes c = in_lane
+returns-then-not-is_empty-clause-goes c = takes_lane
 
 pub returns-in-AtStem-clause-goes : goal.returns-in-AtStem-clause-goes
 returns-in-AtStem-clause-goes c =
@@ -19,7 +19,7 @@ returns-in-AtStem-clause-goes c =
     (ends_told frame c.args.self.now.arrivals c.args.fault c.fault-arrival.result c.requires.circuit c.requires.good
     c.fault-arrival.ensures.shows c.fault-arrival.ensures.within) in
     IfOk-weaker c.is_first.result _ _
-    (λ lane joins. at_stem c.in-AtStem.net c.in-AtStem.value lane _ _ none ends joins) c.is_first.ensures.joins
+    (λ lane joins. ends_at_stem c.in-AtStem.net c.in-AtStem.value lane _ _ none ends joins) c.is_first.ensures.joins
 
 pub returns : goal.returns
 returns c =
@@ -39,7 +39,7 @@ returns c =
           table followers)
           (sym (get_or-set_same grades i c.note_arrival.new.self no_grade c.requires.inside
           ∙ c.in_ok-note_arrival.ensures))
-          (alone a none ends (not_stem a c.in_default.not-AtStem));
+          (ends_apart a none ends (not_stem a c.in_default.not-AtStem));
       others = λ j other. get_or-set_other grades i j c.note_arrival.new.self no_grade other;
       table = refl;
       arrivals = c.fault-arrival.ensures.same;
