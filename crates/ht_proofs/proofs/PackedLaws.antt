@@ -21,7 +21,8 @@ use Rattle.ht_faults.specs.Sites.{IsFaultSite, faults_of}
 use Rattle.ht_faults.proofs.MemberLaws.{fault_site}
 use Rattle.ht_diff.specs.Differences.{held, value_but, with_differences}
 use Rattle.ht_net.specs.Detection.{IsStart}
-use Rattle.ht_group.specs.GroupView.{GroupView, FaultyMachine, AreLatches, HasSite, words_for}
+use Rattle.ht_stems.specs.Arrivals.{HasLine}
+use Rattle.ht_group.specs.GroupView.{GroupView, FaultyMachine, AreLatches, words_for}
 use Rattle.ht_proofs.specs.declared.grade.Grade.{Grade}
 use Rattle.ht_proofs.specs.PackedView.{PackedView, GraderStandsFor, chosen_faults, grades_at_start, state_at, verdict_at}
 use Rattle.ht_proofs.specs.Applied.{IsApplied, IsFirstSeen, faulty_state, good_state, grader_frame, groups_of, live_count, machine_at}
@@ -29,7 +30,7 @@ use Rattle.ht_proofs.specs.LaneGrades.{no_grade, grade_at}
 use Rattle.ht_proofs.specs.Batches.{IsGradedFrame, machine_from, undetected_count}
 use Rattle.ht_proofs.specs.Undetected.{is_undetected, undetected_of, verdicts_of}
 use Rattle.ht_proofs.specs.PackedOf.{IsPackedGrader, faulty_states}
-use Rattle.ht_proofs.proofs.DiffLaws.{state_length}
+use Rattle.ht_proofs.proofs.DiffLaws.{no_differences, state_length}
 use Rattle.ht_proofs.proofs.UndetectedLaws.{filter_each, verdict_of}
 use Rattle.ht_proofs.proofs.VectorLaws.{found_inside, option_cases}
 
@@ -97,14 +98,6 @@ steps_within g h grades given frame start before mid after view is each same beg
 
 -- ---- before the first vector
 
--- no difference gives the good latches
-no_differences : (latches : List Tern) → with_differences latches [] ≡ latches
-no_differences latches =
-    let count = length-map-range_with_len (value_but latches []) 0 (length latches) in
-    ext_get_or Unk (with_differences latches []) latches count
-    (λ j inside. get_or-map-range_with_len (value_but latches []) 0 (length latches) j j Unk
-    (omega (arith, inside, count)) (omega arith))
-
 none_at_start : (n k : ℕ) → get_or {A = Option Place} (replicate n None) k None ≡ None
 none_at_start n k = elim (le_or_lt n k) [
   | inl past ↦ get_or_past (replicate n None) k None (omega (arith, past, length-replicate {A = Option Place} n None))
@@ -146,16 +139,16 @@ start_stands c start faults = record {
       get_or-replicate (length faults) k start [] (slice_get_within faults k fault has);
 }
 
--- a site of the fault list is there
-site_there : (c : Netlist) (site : Site) → IsFaultSite c site → HasSite c site
-site_there c (Stem x) h = h
-site_there c (DffPin j) h = h.0
-site_there c (GatePin g i) h = h.0
+-- the circuit has the lines of the fault list
+line_there : (c : Netlist) (site : Site) → IsFaultSite c site → HasLine c site
+line_there c (Stem x) h = h
+line_there c (DffPin j) h = h.0
+line_there c (GatePin g i) h = (h.0, h.1)
 
-chosen_sites : (c : Netlist) (faults : List Fault) (which : List ℕ) (k : ℕ) (fault : Fault) → faults ≡ faults_of c
+chosen_lines : (c : Netlist) (faults : List Fault) (which : List ℕ) (k : ℕ) (fault : Fault) → faults ≡ faults_of c
     → All (λ i. i < length faults) which → slice_get (chosen_faults faults which) k ≡ Some fault
-    → HasSite c fault.site
-chosen_sites c faults which k fault is known has =
+    → HasLine c fault.site
+chosen_lines c faults which k fault is known has =
     let pick : ℕ → Fault = λ i. get_or faults i no_fault in
     let inside : k < length which =
     omega (arith, slice_get_within (chosen_faults faults which) k fault has, length-map which pick) in
@@ -165,8 +158,8 @@ chosen_sites c faults which k fault is known has =
     let below : get_or which k 0 < length faults = All-get_or (λ i. i < length faults) which k 0 inside known in
     let there : fault ≡ get_or (faults_of c) (get_or which k 0) no_fault =
     at ∙ ap (λ (l : List Fault). get_or l (get_or which k 0) no_fault) is in
-    subst (λ (f : Fault). HasSite c f.site) (sym there)
-    (site_there c _ (fault_site c (get_or which k 0)
+    subst (λ (f : Fault). HasLine c f.site) (sym there)
+    (line_there c _ (fault_site c (get_or which k 0)
     (omega (arith, below, ap (λ (l : List Fault). length l) is))))
 
 -- the fields at the start
@@ -184,7 +177,7 @@ start_fields c d start faults which chosen latches verdicts undetected grades is
       latch_count = ap (λ (l : List Tern). length l) begun ∙ long;
       verdict_count = ap (λ (l : List (Option Place)). length l) none ∙ length-replicate (length chosen) None;
       grade_count = ap (λ (l : List Grade). length l) empty ∙ length-replicate (length chosen) no_grade;
-      sites = λ k fault has. chosen_sites c faults which k fault is known
+      lines = λ k fault has. chosen_lines c faults which k fault is known
           (ap (λ (l : List Fault). slice_get l k) (sym picked) ∙ has);
       few = omega arith;
       places = λ k p at.
@@ -314,7 +307,7 @@ run_fields g old vector frame h new before after run was few known listed =
           ∙ ap (λ (c : Netlist). length c.dffs) circuit;
       verdict_count = length-map new (λ (x : Grade). x.verdict) ∙ (run.long ∙ run.each);
       grade_count = run.long ∙ run.each;
-      sites = was.sites;
+      lines = was.lines;
       few = omega (arith, few);
       places = λ k p at. place k p (sym (verdict_of new k) ∙ at);
       listed = listed;

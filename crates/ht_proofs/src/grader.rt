@@ -11,7 +11,7 @@ ghost use Rattle.ht_proofs.specs.Applied.{IsApplied, groups_of, max_steps};
 ghost use Rattle.ht_proofs.specs.LaneGrades.{no_grade};
 ghost use Rattle.ht_proofs.specs.Undetected.{KeepsVerdicts, is_undetected, undetected_of, verdicts_of};
 
-use crate::batch::Batch;
+use crate::frame_grader::FrameGrader;
 use crate::grade::Grade;
 use crate::steps::Steps;
 use ht_diff::Diffs;
@@ -36,7 +36,7 @@ pub struct Grader<'c> {
     undetected: Vec<usize>,
     // what a frame works on
     grades: Vec<Grade>,
-    batch: Batch<'c>,
+    frame: FrameGrader<'c>,
     // whether no allocation has failed
     live: bool,
 }
@@ -173,7 +173,7 @@ impl<'c> Grader<'c> {
         let verdicts = verdicts_at_start(alloc, faults.len())?;
         let undetected = all_numbers(alloc, faults.len())?;
         let grades = grades_at_start(alloc, faults.len())?;
-        let batch = Batch::new(alloc, circuit)?;
+        let frame = FrameGrader::new(alloc, circuit)?;
         Ok(Grader {
             faults,
             count: 0,
@@ -181,14 +181,15 @@ impl<'c> Grader<'c> {
             verdicts,
             undetected,
             grades,
-            batch,
+            frame,
             live: true,
         })
     }
 
     /// Applies one more vector: a frame of the good machine, and one of the machine of each fault that isn't detected,
-    /// up to 256 at a time. Each gate is evaluated once for the good machine and at most once for each 64 faults, and
-    /// each evaluation is counted in `steps`.
+    /// up to 256 at a time, where one machine may stand for all that show the same. Each gate is evaluated once for the
+    /// good machine and at most once for each 64 faults, and `steps` counts that. It doesn't count what tells where
+    /// effects end.
     ///
     /// # Errors
     /// Out of memory; the verdicts and the count are as before, and every later `apply` fails.
@@ -214,12 +215,12 @@ impl<'c> Grader<'c> {
             return Err(AllocError);
         }
         self.live = false;
-        self.batch.start(vector, &self.latches, steps);
+        self.frame.start(vector, &self.latches, steps);
         let faults = &self.faults;
         let undetected = &self.undetected;
-        self.batch
+        self.frame
             .grade_faults(faults, undetected, self.count, &mut self.grades, steps)?;
-        self.batch.read_latches(&mut self.latches);
+        self.frame.read_latches(&mut self.latches);
         write_verdicts(&self.undetected, &self.grades, &mut self.verdicts);
         drop_detected(&self.verdicts, &mut self.undetected);
         self.count += 1;

@@ -46,13 +46,13 @@ has_run c =
     let circuit = c.grade_faults.ensures.circuit ∙ ap (λ (g : GroupView). g.circuit) c.start.ensures.group in
     record {
       frame_is = c.start.ensures.group ∙ ap (λ (l : List Tern). record {
-        circuit = a.batch.group.circuit;
+        circuit = a.frame.group.circuit;
         vector = terns_of c.args.vector.now;
         latches = l;
         machines = [];
         settled = true;
       }) c.deref.ensures.value;
-      old_is = ap (λ (v : List (Option Place)). grades_by a.batch.group.circuit a.faults.items a.count
+      old_is = ap (λ (v : List (Option Place)). grades_by a.frame.group.circuit a.faults.items a.count
           a.latches.items v a.grades.items a.live) (c.self.invariant.same live);
       new_is = λ i. grades_by (circuit i) a.faults.items (a.count + 1) (latches i) (verdicts i) (graded c) true;
       each = c.self.invariant.grade_count;

@@ -12,11 +12,11 @@ invariant_of-result c =
     let undetected : c.in_ok-undetected.undetected.items ≡ range_with_len 0 (length c.in_ok-faults.faults.items) =
     search rules in
     let grades : c.in_ok-grades.grades.items ≡ replicate (length c.in_ok-faults.faults.items) no_grade = search rules in
-    start_fields c.args.circuit.now c.in_ok-batch.batch.group.circuit c.args.start.now c.args.faults.now
+    start_fields c.args.circuit.now c.in_ok-frame.frame.group.circuit c.args.start.now c.args.faults.now
     c.args.which.now
     c.in_ok-faults.faults.items c.in_ok-latches.latches.items c.in_ok-verdicts.verdicts.items
     c.in_ok-undetected.undetected.items c.in_ok-grades.grades.items c.requires.faults c.requires.known
-    c.in_ok-batch.ensures c.requires.latches c.in_ok-faults.ensures c.in_ok-latches.ensures.items verdicts undetected
+    c.in_ok-frame.ensures c.requires.latches c.in_ok-faults.ensures c.in_ok-latches.ensures.items verdicts undetected
     grades
 
 pub returns-clause-start : goal.returns-clause-start
@@ -24,8 +24,8 @@ returns-clause-start c =
     let verdicts : c.in_ok-verdicts.verdicts.items ≡ replicate (length c.in_ok-faults.faults.items) None =
     search rules in
     let grades : c.in_ok-grades.grades.items ≡ replicate (length c.in_ok-faults.faults.items) no_grade = search rules in
-    start_view c.args.circuit.now c.in_ok-batch.batch.group.circuit c.args.start.now c.in_ok-faults.faults.items
-    c.in_ok-latches.latches.items c.in_ok-verdicts.verdicts.items c.in_ok-grades.grades.items c.in_ok-batch.ensures
+    start_view c.args.circuit.now c.in_ok-frame.frame.group.circuit c.args.start.now c.in_ok-faults.faults.items
+    c.in_ok-latches.latches.items c.in_ok-verdicts.verdicts.items c.in_ok-grades.grades.items c.in_ok-frame.ensures
     c.in_ok-latches.ensures.items verdicts grades
     ∙ ap (grades_at_start c.args.circuit.now c.args.start.now) c.in_ok-faults.ensures
 

@@ -1,0 +1,236 @@
+//! One frame of all undetected faults.
+ghost use Rattle.std.specs.Prelude.{◌≡◌, ◌<◌, ◌≤◌, ◌+◌, ◌*◌, ℕ, [], List, None, Some, true, min, length, replicate, IfOk, OnOk, OnErr};
+ghost use Rattle.std.specs.List.{All, slice_get};
+ghost use Rattle.ht_net.specs.declared.fault.Fault.{Fault};
+ghost use Rattle.ht_net.specs.Detection.{terns_of};
+ghost use Rattle.ht_net.specs.Netlist.{net_count};
+ghost use Rattle.ht_stems.specs.Arrivals.{HasLine};
+ghost use Rattle.ht_stems.specs.ArrivedFrames.{AreGoodValues};
+ghost use Rattle.ht_stems.specs.ArrivalsView.{good_of_net};
+ghost use Rattle.ht_group.specs.GroupView.{AreLatches, GroupView, max_machines, words_for};
+ghost use Rattle.ht_proofs.specs.declared.grade.Grade.{Grade};
+ghost use Rattle.ht_proofs.specs.Applied.{good_state, max_steps};
+ghost use Rattle.ht_proofs.specs.LaneGrades.{grade_at};
+ghost use Rattle.ht_proofs.specs.Batches.{AreCounted, AreLanesBelow, ArePassed, ArePassedAll, IsGradedFrame, undetected_count};
+ghost use Rattle.ht_proofs.specs.Followers.{AreSharing, following, no_firsts};
+ghost use Rattle.ht_proofs.specs.Undetected.{undetected_of, verdicts_of};
+
+use crate::batch::Batch;
+use crate::grade::Grade;
+use crate::stems::Stems;
+use crate::steps::Steps;
+use ht_net::{Circuit, Fault};
+use ht_tern::Tern;
+use std::alloc::{AllocError, Global};
+use std::marker::Model;
+
+/// The lanes of a frame, and the faults that need none.
+#[derive(Drop)]
+pub struct FrameGrader<'c> {
+    batch: Batch<'c>,
+    stems: Stems<'c>,
+}
+
+impl<'c> Model for FrameGrader<'c> {
+    ghost use Rattle.std.specs.Prelude.{◌≡◌, length};
+    ghost use Rattle.ht_net.specs.Netlist.{net_count};
+    ghost use Rattle.ht_proofs.specs.Batches.{BatchView};
+
+    ghost Value = { BatchView };
+
+    ghost view = { λ a. a.batch };
+
+    ghost invariant = { λ a. (a.stems.arrivals.circuit ≡ a.batch.group.circuit)
+        × (length a.stems.firsts.items ≡ net_count a.batch.group.circuit) };
+}
+
+// Takes fault `i`, which isn't detected, through the frame: alone, in a lane, or as one that follows another.
+fn grade_fault(
+    batch: &mut Batch,
+    stems: &mut Stems,
+    fault: Fault,
+    i: usize,
+    number: u64,
+    grades: &mut [Grade],
+    steps: &mut Steps,
+) -> Result<(), AllocError>
+    requires known { i < length grades.old }
+    requires undetected { (grade_at grades.old i).verdict ≡ None }
+    requires line { HasLine batch.old.group.circuit fault.site }
+    requires lanes { AreLanesBelow i batch.old grades.old }
+    requires room { length batch.old.lanes < max_machines }
+    requires circuit { stems.old.arrivals.circuit ≡ batch.old.group.circuit }
+    requires table { length stems.old.firsts.items ≡ net_count batch.old.group.circuit }
+    requires good { AreGoodValues batch.old.group.circuit batch.old.group.vector
+        batch.old.group.latches (good_of_net stems.old.arrivals) }
+    ensures lanes { OnOk result (AreLanesBelow (i + 1) batch.new grades.new) }
+    ensures room { OnOk result (length batch.new.lanes < max_machines) }
+    ensures passed { OnOk result
+        ((frame : GroupView) (faults : List Fault) (before : List Grade)
+        → slice_get faults i ≡ Some fault
+        → AreSharing frame faults number before i stems.old.firsts.items
+        stems.old.followers.items
+        → ArePassed frame faults number before i (following stems.old.followers.items) batch.old
+        grades.old
+        → ArePassed frame faults number before (i + 1) (following stems.new.followers.items)
+        batch.new grades.new) }
+    ensures shared { OnOk result
+        ((frame : GroupView) (faults : List Fault) (before : List Grade)
+        → slice_get faults i ≡ Some fault
+        → AreSharing frame faults number before i stems.old.firsts.items
+        stems.old.followers.items
+        → ArePassed frame faults number before i (following stems.old.followers.items) batch.old
+        grades.old
+        → AreSharing frame faults number before (i + 1) stems.new.firsts.items
+        stems.new.followers.items) }
+    ensures counted { OnOk result ((before : List Grade) (start : ℕ)
+        → length before ≡ length grades.old → grade_at grades.old i ≡ grade_at before i
+        → AreCounted (length batch.old.group.circuit.gates) before i (length batch.old.lanes)
+        start steps.old.count
+        → AreCounted (length batch.old.group.circuit.gates) before (i + 1)
+        (length batch.new.lanes) start steps.new.count) }
+    ensures circuit { batch.new.group.circuit ≡ batch.old.group.circuit }
+    ensures table { length stems.new.firsts.items ≡ length stems.old.firsts.items }
+    ensures arrivals { stems.new.arrivals ≡ stems.old.arrivals }
+    ensures steps { OnErr result (steps.new.count ≤ steps.old.count
+        + length batch.old.group.circuit.gates * words_for (length batch.old.lanes + 1)) }
+    ensures rises { steps.old.count ≤ steps.new.count }
+{
+    let in_lane = stems.needs_lane(batch, fault, i, number, grades)?;
+    if !in_lane {
+        return Ok(());
+    }
+    batch.take(fault, i, number, grades, steps)
+}
+
+// Takes the faults with these numbers, which are those undetected, through the frame, but for those that follow others.
+fn grade_each(
+    batch: &mut Batch,
+    stems: &mut Stems,
+    faults: &[Fault],
+    undetected: &[usize],
+    number: u64,
+    grades: &mut [Grade],
+    steps: &mut Steps,
+) -> Result<(), AllocError>
+    requires undetected { undetected.now ≡ undetected_of (verdicts_of grades.old) }
+    requires numbers { All (λ k. k < length faults.now) undetected.now }
+    requires each { length faults.now ≡ length grades.old }
+    requires lines { (k : ℕ) (fault : Fault) → slice_get faults.now k ≡ Some fault
+        → HasLine batch.old.group.circuit fault.site }
+    requires known { (k : ℕ)
+        → AreLatches batch.old.group.circuit (grade_at grades.old k).diffs }
+    requires started { (batch.old.lanes ≡ []) × (batch.old.group.machines ≡ []) }
+    requires circuit { stems.old.arrivals.circuit ≡ batch.old.group.circuit }
+    requires table { stems.old.firsts.items
+        ≡ replicate (net_count batch.old.group.circuit) no_firsts }
+    requires followers { stems.old.followers.items ≡ [] }
+    requires good { AreGoodValues batch.old.group.circuit batch.old.group.vector
+        batch.old.group.latches (good_of_net stems.old.arrivals) }
+    ensures passed { OnOk result (ArePassedAll batch.old.group faults.now number grades.old
+        (following stems.new.followers.items) grades.new) }
+    ensures shared { OnOk result (AreSharing batch.old.group faults.now number grades.old
+        (length faults.now) stems.new.firsts.items stems.new.followers.items) }
+    ensures known { OnOk result ((k : ℕ)
+        → AreLatches batch.old.group.circuit (grade_at grades.new k).diffs) }
+    ensures good { OnOk result (good_state batch.new.group ≡ good_state batch.old.group) }
+    ensures circuit { batch.new.group.circuit ≡ batch.old.group.circuit }
+    ensures table { length stems.new.firsts.items ≡ length stems.old.firsts.items }
+    ensures arrivals { stems.new.arrivals ≡ stems.old.arrivals }
+    ensures steps { steps.new.count ≤ steps.old.count
+        + length batch.old.group.circuit.gates * words_for (undetected_count grades.old) }
+    ensures rises { steps.old.count ≤ steps.new.count }
+{
+    for i in undetected {
+        grade_fault(batch, stems, faults[*i], *i, number, grades, steps)?;
+    }
+    if batch.is_empty() {
+        return Ok(());
+    }
+    batch.grade_lanes(number, grades, steps)
+}
+
+impl<'c> FrameGrader<'c> {
+    /// No faults, and no frame yet.
+    ///
+    /// # Errors
+    /// Out of memory.
+    pub fn new(alloc: Global, circuit: &'c Circuit) -> Result<FrameGrader<'c>, AllocError>
+        ensures { IfOk result (λ frame. frame.group.circuit ≡ circuit.now) }
+    {
+        let batch = Batch::new(alloc, circuit)?;
+        let stems = Stems::new(alloc, circuit, batch.good_values())?;
+        Ok(FrameGrader { batch, stems })
+    }
+
+    /// Begins a frame with the good machine, each of whose gates is evaluated once.
+    pub fn start(&mut self, vector: &[bool], latches: &[Tern], steps: &mut Steps)
+        requires width { length vector.now ≡ self.old.group.circuit.inputs }
+        requires each { length latches.now ≡ length self.old.group.circuit.dffs }
+        ensures group { self.new.group ≡ record {
+          circuit = self.old.group.circuit;
+          vector = terns_of vector.now;
+          latches = latches.now;
+          machines = [];
+          settled = true;
+        } }
+        ensures lanes { self.new.lanes ≡ [] }
+        ensures steps { steps.new.count
+            ≤ steps.old.count + length self.old.group.circuit.gates }
+        ensures counted { min (steps.old.count + length self.old.group.circuit.gates) max_steps
+            ≤ steps.new.count }
+    {
+        self.batch.start(vector, latches, steps);
+    }
+
+    /// Writes the latches of the good machine after the frame.
+    pub fn read_latches(&self, latches: &mut [Tern])
+        requires { length latches.old ≡ length self.now.group.circuit.dffs }
+        ensures { latches.new ≡ good_state self.now.group }
+    {
+        self.batch.read_latches(latches);
+    }
+
+    /// Takes the faults with these numbers, which are those undetected, through the frame that has begun.
+    ///
+    /// # Errors
+    /// Out of memory; then what is kept of the faults has no meaning.
+    pub fn grade_faults(
+        &mut self,
+        faults: &[Fault],
+        undetected: &[usize],
+        number: u64,
+        grades: &mut [Grade],
+        steps: &mut Steps,
+    ) -> Result<(), AllocError>
+        requires undetected { undetected.now ≡ undetected_of (verdicts_of grades.old) }
+        requires numbers { All (λ k. k < length faults.now) undetected.now }
+        requires each { length faults.now ≡ length grades.old }
+        requires lines { (k : ℕ) (fault : Fault) → slice_get faults.now k ≡ Some fault
+            → HasLine self.old.group.circuit fault.site }
+        requires known { (k : ℕ)
+            → AreLatches self.old.group.circuit (grade_at grades.old k).diffs }
+        requires started { (self.old.lanes ≡ []) × (self.old.group.machines ≡ []) }
+        ensures passed { OnOk result (IsGradedFrame self.old.group faults.now number grades.old
+            grades.new) }
+        ensures known { OnOk result ((k : ℕ)
+            → AreLatches self.old.group.circuit (grade_at grades.new k).diffs) }
+        ensures good { OnOk result (good_state self.new.group ≡ good_state self.old.group) }
+        ensures circuit { self.new.group.circuit ≡ self.old.group.circuit }
+        ensures steps { steps.new.count ≤ steps.old.count
+            + length self.old.group.circuit.gates * words_for (undetected_count grades.old) }
+        ensures rises { steps.old.count ≤ steps.new.count }
+    {
+        self.stems.start(self.batch.good_values());
+        grade_each(
+            &mut self.batch,
+            &mut self.stems,
+            faults,
+            undetected,
+            number,
+            grades,
+            steps,
+        )?;
+        self.stems.copy_grades(grades)
+    }
+}
