@@ -19,7 +19,7 @@ use crate::clauses::{breach_status, breaks_any, meets_each};
 use crate::cube::{cube_status, decided_cube, enter_node, wants_any};
 use crate::decisions::write_decisions;
 use crate::frame_sets::{FrameSets, run_frames};
-use crate::fresh_start::{FreshStart, is_faulty_latch, marks_of, states_show};
+use crate::fresh_start::{FreshStart, first_kept, is_faulty_latch, marks_of, states_show};
 use crate::judged::JudgedWindow;
 use crate::kept_frames::KeptFrames;
 use ht_net::Fault;
@@ -75,7 +75,7 @@ impl<'c, 's> FreshWindow<'c, 's> {
         let dffs = kept.circuit().dffs() as usize;
         let decisions = vec![in alloc; None; frames as usize * inputs + 2 * dffs]?;
         let cube = vec![in alloc; Tern::Unk; dffs]?;
-        let frame = FrameSets::new(alloc, kept, fault, frames)?;
+        let frame = FrameSets::new(alloc, kept, fault, first_kept(&start), frames)?;
         Ok(FreshWindow {
             frames,
             start,
