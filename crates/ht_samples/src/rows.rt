@@ -17,7 +17,7 @@ pub struct Item<'a> {
 }
 
 /// The item in what stands between one `~` and the next. What stands before the first one has no line.
-pub fn item(text: &str) -> Option<Item<'_>> {
+pub fn item_in(text: &str) -> Option<Item<'_>> {
     let (first, lines) = text.split_once('\n')?;
     let (words, names) = first.split_once(':').unwrap_or((first, ""));
     Some(Item {

@@ -5,7 +5,7 @@ use super::small::{NET_1_AT_1, sample_circuit, stem_of};
 use ht_check::{KeptFrames, entry, entry_by_frames};
 use ht_items::Items;
 use ht_net::{Circuit, Fault, unknown_start};
-use ht_samples::{Texts, first_word, item};
+use ht_samples::{Texts, first_word, item_in};
 use ht_tree::{Clause, Entry};
 use std::alloc::{AllocError, Global};
 use std::test::Fail;
@@ -498,7 +498,7 @@ fn is_as_said(alloc: Global, circuit: &Circuit, words: &str, text: &str) -> Resu
 
 // Whether an item of the rows holds.
 fn holds<'a>(alloc: Global, texts: &mut Texts<'a>, row: &'a str) -> Result<bool, Fail> {
-    let Some(item) = item(row) else {
+    let Some(item) = item_in(row) else {
         return Ok(row.is_empty());
     };
     let (name, words) = first_word(item.words);

@@ -7,6 +7,7 @@ use std::alloc::Global;
 
 /// What a line states: nothing, the name of an input or the net of a flip-flop's data pin, or the kind of a gate and
 /// the number of its arguments; or why it is refused.
+#[derive(Clone, Copy)]
 enum Stated<'a> {
     Nothing,
     Name(&'a [u8]),

@@ -2,7 +2,7 @@
 //! desk too.
 
 // Each call of a run, and after the last of a port the one that doesn't come. The report has its total line only where
-// the run is whole.
+// the run is whole. One read gives at most 20 bytes of the netlist, so the fifth finds its end.
 pub const ROWS: &str = "~# The report without its total line.
 ~text REPORT_LINES
 circuit inputs 1 outputs 1 flip-flops 0 gates 2 faults 10 classes 6 budget 1000

@@ -1,7 +1,8 @@
 //! `gen` finishes: the three files, whole.
 
 // Each line of the proofs of an entry begins with the entry, or with its sweep.
-pub const ROWS: &str = "~run gen n t r p
+pub const ROWS: &str = "~# over the empty netlist the report has no lines
+~run gen n t r p
 ~given n
 ~given t
 old tests

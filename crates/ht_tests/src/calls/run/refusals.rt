@@ -1,6 +1,7 @@
 //! Inputs that are refused.
 
-pub const ROWS: &str = "~# the last line breaks off
+pub const ROWS: &str =
+    "~# a netlist is refused before the tests, which are missing; the last line breaks off
 ~run sim n t r
 ~given n
 INPUT(a)

@@ -18,7 +18,7 @@
 use super::mute::mute_status;
 use ht_app::run;
 use ht_ports::{Fail, InPort, MemoryDesk, OutPort};
-use ht_samples::{Texts, first_word, item};
+use ht_samples::{Texts, first_word, item_in};
 use std::alloc::{AllocError, Global};
 
 /// What becomes of lines on the standard error.
@@ -263,7 +263,7 @@ fn play<'a>(
     lines: Lines,
     text: &'a str,
 ) -> Result<bool, AllocError> {
-    let Some(item) = item(text) else {
+    let Some(item) = item_in(text) else {
         return Ok(text.is_empty());
     };
     let (verb, words) = first_word(item.words);
@@ -288,11 +288,7 @@ fn play<'a>(
 }
 
 /// The number of the first row, from 1, that doesn't hold, if one doesn't.
-pub fn first_wrong(
-    alloc: Global,
-    rows: &'static str,
-    lines: Lines,
-) -> Result<Option<usize>, AllocError> {
+pub fn first_wrong(alloc: Global, rows: &str, lines: Lines) -> Result<Option<usize>, AllocError> {
     let mut stage = Stage {
         texts: Texts::new(alloc),
         row: 0,
