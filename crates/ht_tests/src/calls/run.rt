@@ -1,5 +1,5 @@
 //! Tests of `run`: the worked examples, over desks in memory, byte for byte. Each file has rows of one form (`rows`).
-//! Where a row fails, the assertion's line names the file, and its left side is the row's number there, from 1.
+//! Where a row fails, the assertion names the file, and its left side is the row's number there, from 1.
 
 mod checked;
 mod checked_from_state;
@@ -27,52 +27,72 @@ mod synchronized;
 mod uninit;
 mod words;
 
-use rows::Lines::{FirstFails, Written};
-use rows::{Lines, first_wrong};
+use rows::Lines::{self, FirstFails, Written};
+use rows::first_wrong;
 use std::test::Fail;
+
+/// Texts of rows, each after the name of its file.
+type Texts = &'static [(&'static str, &'static str)];
+
+const REFUSED: Texts = &[
+    ("words", words::ROWS),
+    ("refusals", refusals::ROWS),
+    ("faults", faults::ROWS),
+    ("generated_errors", generated_errors::ROWS),
+    ("failures", failures::ROWS),
+];
 
 #[test]
 fn runs_that_are_refused_or_fail_say_why(rt: HostRuntime) -> Result<(), Fail> {
-    let alloc = rt.alloc();
-    assert_eq!(rt; first_wrong(alloc, words::ROWS, Written)?, None);
-    assert_eq!(rt; first_wrong(alloc, refusals::ROWS, Written)?, None);
-    assert_eq!(rt; first_wrong(alloc, faults::ROWS, Written)?, None);
-    assert_eq!(rt; first_wrong(alloc, generated_errors::ROWS, Written)?, None);
-    assert_eq!(rt; first_wrong(alloc, failures::ROWS, Written)?, None);
-    assert_eq!(rt; first_wrong(alloc, failures::ROWS, FirstFails)?, None);
-    assert_eq!(rt; first_wrong(alloc, mute::ROWS, Lines::Fail)?, None);
+    for (file, rows) in REFUSED {
+        assert_eq!(rt; first_wrong(rt.alloc(), rows, Written)?, None, "{file}");
+    }
     Ok(())
 }
+
+#[test]
+fn a_failing_standard_error_leaves_the_status(rt: HostRuntime) -> Result<(), Fail> {
+    assert_eq!(rt; first_wrong(rt.alloc(), failures::ROWS, FirstFails)?, None);
+    assert_eq!(rt; first_wrong(rt.alloc(), mute::ROWS, Lines::Fail)?, None);
+    Ok(())
+}
+
+const FINISHED: Texts = &[
+    ("sim", sim::ROWS),
+    ("started", started::ROWS),
+    ("norm", norm::ROWS),
+    ("generated", generated::ROWS),
+    ("generated_parts", generated_parts::ROWS),
+    ("further", further::GENERATED),
+    ("demo", demo::ROWS),
+    ("compacted", compacted::ROWS),
+    ("diagnosed", diagnosed::ROWS),
+    ("uninit", uninit::ROWS),
+    ("synchronized", synchronized::ROWS),
+    ("responded", responded::ROWS),
+];
 
 #[test]
 fn good_inputs_give_the_files(rt: HostRuntime) -> Result<(), Fail> {
-    let alloc = rt.alloc();
-    assert_eq!(rt; first_wrong(alloc, sim::ROWS, Written)?, None);
-    assert_eq!(rt; first_wrong(alloc, started::ROWS, Written)?, None);
-    assert_eq!(rt; first_wrong(alloc, norm::ROWS, Written)?, None);
-    assert_eq!(rt; first_wrong(alloc, generated::ROWS, Written)?, None);
-    assert_eq!(rt; first_wrong(alloc, generated_parts::ROWS, Written)?, None);
-    assert_eq!(rt; first_wrong(alloc, further::GENERATED, Written)?, None);
-    assert_eq!(rt; first_wrong(alloc, demo::ROWS, Written)?, None);
-    assert_eq!(rt; first_wrong(alloc, compacted::ROWS, Written)?, None);
-    assert_eq!(rt; first_wrong(alloc, diagnosed::ROWS, Written)?, None);
-    assert_eq!(rt; first_wrong(alloc, uninit::ROWS, Written)?, None);
-    assert_eq!(rt; first_wrong(alloc, synchronized::ROWS, Written)?, None);
-    assert_eq!(rt; first_wrong(alloc, responded::ROWS, Written)?, None);
+    for (file, rows) in FINISHED {
+        assert_eq!(rt; first_wrong(rt.alloc(), rows, Written)?, None, "{file}");
+    }
     Ok(())
 }
 
+const JUDGED: Texts = &[
+    ("checked", checked::ROWS),
+    ("checked_from_state", checked_from_state::ROWS),
+    ("damaged", damaged::ROWS),
+    ("further", further::JUDGED),
+    ("started_files", started_files::ROWS),
+];
+
 #[test]
 fn check_and_report_name_the_first_trouble(rt: HostRuntime) -> Result<(), Fail> {
-    let alloc = rt.alloc();
-    assert_eq!(rt; first_wrong(alloc, checked::ROWS, Written)?, None);
-    assert_eq!(rt;
-        first_wrong(alloc, checked_from_state::ROWS, Written)?,
-        None
-    );
-    assert_eq!(rt; first_wrong(alloc, damaged::ROWS, Written)?, None);
-    assert_eq!(rt; first_wrong(alloc, further::JUDGED, Written)?, None);
-    assert_eq!(rt; first_wrong(alloc, started_files::ROWS, Written)?, None);
+    for (file, rows) in JUDGED {
+        assert_eq!(rt; first_wrong(rt.alloc(), rows, Written)?, None, "{file}");
+    }
     Ok(())
 }
 
