@@ -4,7 +4,7 @@
 
 mod rows;
 
-pub use rows::{Item, Texts, first_word, item_in};
+pub use rows::{NamedTexts, Paragraph, first_word, paragraph_of};
 
 /// The shift register: two flip-flops between an input and an output. The stored run of the program has it too, with
 /// the vectors 1, 0, 0.

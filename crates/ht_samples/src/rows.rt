@@ -1,13 +1,13 @@
 //! Rows of tests as one text: the prover lays a table of rows out in each function that names it, and passes over a text.
 //!
-//! A text has items. Each begins with `~`, and its first line has its words, and after a colon the names of texts. The
-//! item's text is theirs, one after the other, and then its other lines.
+//! A text has paragraphs. Each begins with `~`, and its first line has its words, and after a colon the names of texts. The
+//! paragraph's own text is theirs, one after the other, and then its other lines.
 use crate::sample;
 use std::alloc::{AllocError, Global};
 
-/// An item of a text of rows.
+/// A paragraph of a text of rows.
 #[derive(Clone, Copy)]
-pub struct Item<'a> {
+pub struct Paragraph<'a> {
     /// The words of its first line.
     pub words: &'a str,
     /// The names of texts, with spaces between them.
@@ -16,11 +16,11 @@ pub struct Item<'a> {
     pub lines: &'a str,
 }
 
-/// The item in what stands between one `~` and the next. What stands before the first one has no line.
-pub fn item_in(text: &str) -> Option<Item<'_>> {
+/// The paragraph that stands between one `~` and the next. What stands before the first one has no line.
+pub fn paragraph_of(text: &str) -> Option<Paragraph<'_>> {
     let (first, lines) = text.split_once('\n')?;
     let (words, names) = first.split_once(':').unwrap_or((first, ""));
-    Some(Item {
+    Some(Paragraph {
         words,
         names,
         lines,
@@ -32,17 +32,17 @@ pub fn first_word(words: &str) -> (&str, &str) {
     words.split_once(' ').unwrap_or((words, ""))
 }
 
-/// Texts that have names.
+/// NamedTexts that have names.
 #[derive(Drop)]
-pub struct Texts<'a> {
+pub struct NamedTexts<'a> {
     alloc: Global,
     named: Vec<(&'a str, &'a str)>,
 }
 
-impl<'a> Texts<'a> {
+impl<'a> NamedTexts<'a> {
     /// No text but the samples.
-    pub fn new(alloc: Global) -> Texts<'a> {
-        Texts {
+    pub fn new(alloc: Global) -> NamedTexts<'a> {
+        NamedTexts {
             alloc,
             named: Vec::new(alloc),
         }
@@ -64,13 +64,13 @@ impl<'a> Texts<'a> {
         sample(name).unwrap_or("no text has this name\n")
     }
 
-    /// The text of an item.
-    pub fn of(&self, item: Item<'_>) -> Result<String, AllocError> {
+    /// The text of a paragraph.
+    pub fn of(&self, paragraph: Paragraph<'_>) -> Result<String, AllocError> {
         let mut text = String::new(self.alloc);
-        for name in item.names.split_whitespace() {
+        for name in paragraph.names.split_whitespace() {
             text.push_str(self.find(name))?;
         }
-        text.push_str(item.lines)?;
+        text.push_str(paragraph.lines)?;
         Ok(text)
     }
 }

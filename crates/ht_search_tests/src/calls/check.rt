@@ -5,7 +5,7 @@ use super::small::{NET_1_AT_1, sample_circuit, stem_of};
 use ht_check::{KeptFrames, entry, entry_by_frames};
 use ht_items::Items;
 use ht_net::{Circuit, Fault, unknown_start};
-use ht_samples::{Texts, first_word, item_in};
+use ht_samples::{NamedTexts, first_word, paragraph_of};
 use ht_tree::{Clause, Entry};
 use std::alloc::{AllocError, Global};
 use std::test::Fail;
@@ -496,26 +496,26 @@ fn is_as_said(alloc: Global, circuit: &Circuit, words: &str, text: &str) -> Resu
     )?)
 }
 
-// Whether an item of the rows holds.
-fn holds<'a>(alloc: Global, texts: &mut Texts<'a>, row: &'a str) -> Result<bool, Fail> {
-    let Some(item) = item_in(row) else {
+// Whether a paragraph of the rows holds.
+fn holds<'a>(alloc: Global, texts: &mut NamedTexts<'a>, row: &'a str) -> Result<bool, Fail> {
+    let Some(paragraph) = paragraph_of(row) else {
         return Ok(row.is_empty());
     };
-    let (name, words) = first_word(item.words);
+    let (name, words) = first_word(paragraph.words);
     if name == "text" {
-        texts.name(words, item.lines)?;
+        texts.name(words, paragraph.lines)?;
     }
     if name == "text" || name == "#" {
         return Ok(true);
     }
-    let text = texts.of(item)?;
+    let text = texts.of(paragraph)?;
     let circuit = sample_circuit(alloc, name)?;
     is_as_said(alloc, &circuit, words, text.as_str())
 }
 
 #[test]
 fn entries_pass_where_their_walks_do(rt: HostRuntime) -> Result<(), Fail> {
-    let mut texts = Texts::new(rt.alloc());
+    let mut texts = NamedTexts::new(rt.alloc());
     for row in ROWS.split('~') {
         assert!(rt; holds(rt.alloc(), &mut texts, row)?, "of {row}");
     }

@@ -27,14 +27,14 @@ mod synchronized;
 mod uninit;
 mod words;
 
-use rows::Lines::{self, FirstFails, Written};
+use rows::StandardError::{Fails, FailsFirst, Works};
 use rows::first_wrong;
 use std::test::Fail;
 
-/// Texts of rows, each after the name of its file.
-type Texts = &'static [(&'static str, &'static str)];
+/// Files of rows, each after the name of its file.
+type Files = &'static [(&'static str, &'static str)];
 
-const REFUSED: Texts = &[
+const REFUSED: Files = &[
     ("words", words::ROWS),
     ("refusals", refusals::ROWS),
     ("faults", faults::ROWS),
@@ -45,19 +45,19 @@ const REFUSED: Texts = &[
 #[test]
 fn runs_that_are_refused_or_fail_say_why(rt: HostRuntime) -> Result<(), Fail> {
     for (file, rows) in REFUSED {
-        assert_eq!(rt; first_wrong(rt.alloc(), rows, Written)?, None, "{file}");
+        assert_eq!(rt; first_wrong(rt.alloc(), rows, Works)?, None, "{file}");
     }
     Ok(())
 }
 
 #[test]
 fn a_failing_standard_error_leaves_the_status(rt: HostRuntime) -> Result<(), Fail> {
-    assert_eq!(rt; first_wrong(rt.alloc(), failures::ROWS, FirstFails)?, None);
-    assert_eq!(rt; first_wrong(rt.alloc(), mute::ROWS, Lines::Fail)?, None);
+    assert_eq!(rt; first_wrong(rt.alloc(), failures::ROWS, FailsFirst)?, None);
+    assert_eq!(rt; first_wrong(rt.alloc(), mute::ROWS, Fails)?, None);
     Ok(())
 }
 
-const FINISHED: Texts = &[
+const FINISHED: Files = &[
     ("sim", sim::ROWS),
     ("started", started::ROWS),
     ("norm", norm::ROWS),
@@ -75,12 +75,12 @@ const FINISHED: Texts = &[
 #[test]
 fn good_inputs_give_the_files(rt: HostRuntime) -> Result<(), Fail> {
     for (file, rows) in FINISHED {
-        assert_eq!(rt; first_wrong(rt.alloc(), rows, Written)?, None, "{file}");
+        assert_eq!(rt; first_wrong(rt.alloc(), rows, Works)?, None, "{file}");
     }
     Ok(())
 }
 
-const JUDGED: Texts = &[
+const JUDGED: Files = &[
     ("checked", checked::ROWS),
     ("checked_from_state", checked_from_state::ROWS),
     ("damaged", damaged::ROWS),
@@ -91,25 +91,25 @@ const JUDGED: Texts = &[
 #[test]
 fn check_and_report_name_the_first_trouble(rt: HostRuntime) -> Result<(), Fail> {
     for (file, rows) in JUDGED {
-        assert_eq!(rt; first_wrong(rt.alloc(), rows, Written)?, None, "{file}");
+        assert_eq!(rt; first_wrong(rt.alloc(), rows, Works)?, None, "{file}");
     }
     Ok(())
 }
 
 #[test]
 fn limits_are_named(rt: HostRuntime) -> Result<(), Fail> {
-    assert_eq!(rt; first_wrong(rt.alloc(), limits::ROWS, Written)?, None);
+    assert_eq!(rt; first_wrong(rt.alloc(), limits::ROWS, Works)?, None);
     Ok(())
 }
 
 #[test]
 fn a_netlist_of_one_byte_too_many_is_too_long(rt: HostRuntime) -> Result<(), Fail> {
-    assert_eq!(rt; first_wrong(rt.alloc(), limits::LONG, Written)?, None);
+    assert_eq!(rt; first_wrong(rt.alloc(), limits::LONG, Works)?, None);
     Ok(())
 }
 
 #[test]
 fn an_entry_of_100000_tokens_is_read(rt: HostRuntime) -> Result<(), Fail> {
-    assert_eq!(rt; first_wrong(rt.alloc(), damaged::LONG, Written)?, None);
+    assert_eq!(rt; first_wrong(rt.alloc(), damaged::LONG, Works)?, None);
     Ok(())
 }

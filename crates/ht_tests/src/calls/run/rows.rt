@@ -1,5 +1,5 @@
 //! One form for all tests of `run`: texts that say the words, what stands on the desk before, and what must stand on it
-//! after. Their items (of `ht_samples`) begin with these words:
+//! after. Their paragraphs (of `ht_samples`) begin with these words:
 //!
 //! | Words | What they say |
 //! |---|---|
@@ -18,23 +18,23 @@
 use super::mute::mute_status;
 use ht_app::run;
 use ht_ports::{Fail, InPort, MemoryDesk, OutPort};
-use ht_samples::{Texts, first_word, item_in};
+use ht_samples::{NamedTexts, first_word, paragraph_of};
 use std::alloc::{AllocError, Global};
 
-/// What becomes of lines on the standard error.
+/// What the standard error does with lines.
 #[derive(Clone, Copy, PartialEq, Eq)]
-pub enum Lines {
-    Written,
-    /// The first one fails.
-    FirstFails,
-    /// Each one fails.
-    Fail,
+pub enum StandardError {
+    Works,
+    /// The first line fails.
+    FailsFirst,
+    /// Each line fails.
+    Fails,
 }
 
 /// The row that is played, and the texts that have names.
 #[derive(Drop)]
 struct Stage<'a> {
-    texts: Texts<'a>,
+    texts: NamedTexts<'a>,
     /// The number of the row in its text, from 1.
     row: usize,
     desk: MemoryDesk,
@@ -169,12 +169,12 @@ fn put_times(
 fn ends(
     alloc: Global,
     desk: &mut MemoryDesk,
-    lines: Lines,
+    error: StandardError,
     words: &str,
     status: &str,
 ) -> Result<bool, AllocError> {
-    let found = match lines {
-        Lines::Fail => mute_status(alloc, desk, words)?,
+    let found = match error {
+        StandardError::Fails => mute_status(alloc, desk, words)?,
         _ => Some(status_of(alloc, desk, words)?),
     };
     Ok(found.is_some() && found == status.parse::<u8>().ok())
@@ -224,7 +224,7 @@ fn is_over(stage: &Stage<'_>) -> bool {
 fn begin<'a>(
     alloc: Global,
     stage: &mut Stage<'a>,
-    lines: Lines,
+    error: StandardError,
     words: &'a str,
 ) -> Result<bool, AllocError> {
     let is_well = is_over(stage);
@@ -236,17 +236,17 @@ fn begin<'a>(
     stage.words = Some(words);
     stage.is_out_said = false;
     stage.is_err_said = false;
-    match lines {
-        Lines::FirstFails => plan(&mut stage.desk, "write err 1"),
+    match error {
+        StandardError::FailsFirst => plan(&mut stage.desk, "write err 1"),
         _ => Ok(true),
     }
 }
 
 // Says something of what is left. On Err is nothing where its lines fail.
-fn says(stage: &mut Stage<'_>, lines: Lines, how: &str, name: &str, text: &[u8]) -> bool {
+fn says(stage: &mut Stage<'_>, error: StandardError, how: &str, name: &str, text: &[u8]) -> bool {
     if name == "err" {
         stage.is_err_said = true;
-        if lines != Lines::Written {
+        if error != StandardError::Works {
             return stage.desk.err().is_empty();
         }
     }
@@ -256,41 +256,45 @@ fn says(stage: &mut Stage<'_>, lines: Lines, how: &str, name: &str, text: &[u8])
     stage.words.is_none() && is_left(&stage.desk, how, name, text)
 }
 
-// Plays an item, and says whether it holds.
+// Plays a paragraph, and says whether it holds.
 fn play<'a>(
     alloc: Global,
     stage: &mut Stage<'a>,
-    lines: Lines,
+    error: StandardError,
     text: &'a str,
 ) -> Result<bool, AllocError> {
-    let Some(item) = item_in(text) else {
+    let Some(paragraph) = paragraph_of(text) else {
         return Ok(text.is_empty());
     };
-    let (verb, words) = first_word(item.words);
-    let own = stage.texts.of(item)?;
+    let (verb, words) = first_word(paragraph.words);
+    let own = stage.texts.of(paragraph)?;
     match verb {
         "#" => Ok(true),
         "text" => {
-            stage.texts.name(words, item.lines)?;
+            stage.texts.name(words, paragraph.lines)?;
             Ok(true)
         }
-        "run" => begin(alloc, stage, lines, words),
+        "run" => begin(alloc, stage, error, words),
         "given" => put_after(alloc, &mut stage.desk, words, own.as_str()),
         "times" => put_times(alloc, &mut stage.desk, words, own.as_str()),
         "most" => Ok(limit(&mut stage.desk, words)),
         "fail" => plan(&mut stage.desk, words),
         "status" => match stage.words.take() {
-            Some(asked) => ends(alloc, &mut stage.desk, lines, asked, words),
+            Some(asked) => ends(alloc, &mut stage.desk, error, asked, words),
             None => Ok(false),
         },
-        _ => Ok(says(stage, lines, verb, words, own.as_bytes())),
+        _ => Ok(says(stage, error, verb, words, own.as_bytes())),
     }
 }
 
 /// The number of the first row, from 1, that doesn't hold, if one doesn't.
-pub fn first_wrong(alloc: Global, rows: &str, lines: Lines) -> Result<Option<usize>, AllocError> {
+pub fn first_wrong(
+    alloc: Global,
+    rows: &str,
+    error: StandardError,
+) -> Result<Option<usize>, AllocError> {
     let mut stage = Stage {
-        texts: Texts::new(alloc),
+        texts: NamedTexts::new(alloc),
         row: 0,
         desk: MemoryDesk::new(alloc),
         words: None,
@@ -298,7 +302,7 @@ pub fn first_wrong(alloc: Global, rows: &str, lines: Lines) -> Result<Option<usi
         is_err_said: false,
     };
     for text in rows.split('~') {
-        if !play(alloc, &mut stage, lines, text)? {
+        if !play(alloc, &mut stage, error, text)? {
             return Ok(Some(stage.row));
         }
     }
