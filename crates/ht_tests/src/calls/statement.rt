@@ -50,7 +50,7 @@ fn gate_of(words: &str) -> Option<Stated<'_>> {
 }
 
 // What these words say.
-fn stated(words: &str) -> Option<Stated<'_>> {
+fn answer_of(words: &str) -> Option<Stated<'_>> {
     match words {
         "nothing" => Some(Nothing),
         "bad line" => Some(Refused(BadLine)),
@@ -104,7 +104,7 @@ fn is_as_said(alloc: Global, row: &str) -> bool {
     let Some((words, line)) = row.split_once('|') else {
         return false;
     };
-    match stated(words) {
+    match answer_of(words) {
         Some(wanted) => states(alloc, line.as_bytes(), &wanted),
         None => false,
     }
