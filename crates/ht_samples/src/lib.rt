@@ -1,14 +1,18 @@
-//! Circuits that several tests read, as texts, and what is known of them. The crates of tests stand on it, and no
-//! other.
+//! Circuits that several tests read, as texts, and what is known of them; and rows of tests as one text. The crates of
+//! tests stand on it, and no other.
 #![tactic(auto)]
+
+mod rows;
+
+pub use rows::{NamedTexts, Paragraph, first_word, paragraph_of};
 
 /// The shift register: two flip-flops between an input and an output. The stored run of the program has it too, with
 /// the vectors 1, 0, 0.
-pub const SHIFT_REGISTER: &[u8] = b"INPUT(a)\nOUTPUT(r)\nq = DFF(a)\nr = DFF(q)\n";
+pub const SHIFT_REGISTER: &str = "INPUT(a)\nOUTPUT(r)\nq = DFF(a)\nr = DFF(q)\n";
 
 /// Its report under those vectors.
-pub const SHIFT_REGISTER_REPORT: &[u8] =
-    b"circuit inputs 1 outputs 1 flip-flops 2 gates 0 faults 6 classes 6
+pub const SHIFT_REGISTER_REPORT: &str =
+    "circuit inputs 1 outputs 1 flip-flops 2 gates 0 faults 6 classes 6
 1 a s-a-0 detected 3 r
 2 a s-a-1 undetected
 3 q s-a-0 detected 3 r
@@ -19,41 +23,77 @@ total 6 detected 3
 ";
 
 /// The toggle: a latch that takes the complement of its own value, and shows it.
-pub const TOGGLE: &[u8] = b"OUTPUT(q)
+pub const TOGGLE: &str = "OUTPUT(q)
 q = DFF(n)
 n = NOT(q)
 ";
 
 /// The flip-flops stand behind the output, which shows the input.
-pub const HIDDEN: &[u8] = b"INPUT(a)
+pub const HIDDEN: &str = "INPUT(a)
 OUTPUT(a)
 q = DFF(a)
 r = DFF(q)
 ";
 
 /// The output is always 0.
-pub const ALWAYS_ZERO: &[u8] = b"INPUT(a)
+pub const ALWAYS_ZERO: &str = "INPUT(a)
 OUTPUT(z)
 n = NOT(a)
 z = AND(a, n)
 ";
 
+/// The report of `gen` for it, with two vectors.
+pub const ALWAYS_ZERO_REPORT: &str =
+    "circuit inputs 1 outputs 1 flip-flops 0 gates 2 faults 10 classes 6 budget 1000
+1 a s-a-0 untestable
+2 a s-a-1 untestable
+3 n s-a-0 untestable
+4 n s-a-1 detected 1 z
+5 z s-a-0 as 3
+6 z s-a-1 detected 1 z
+7 n(1) s-a-0 as 4
+8 n(1) s-a-1 as 3
+9 z(1) s-a-0 as 3
+10 z(1) s-a-1 detected 2 z
+total 6 detected 3 untestable 3 aborted 0
+";
+
+/// Its proofs.
+pub const ALWAYS_ZERO_PROOFS: &str = "proofs 2
+entry 1 untestable
+walk
+hi 1
+dead
+dead
+entry 2 untestable
+walk
+hi 1
+dead
+dead
+entry 3 untestable
+walk
+hi 1
+dead
+dead
+end
+";
+
 /// Two flip-flops with one data net: x is 1 in no frame but the first.
-pub const TWINS: &[u8] =
-    b"INPUT(a)\nINPUT(b)\nOUTPUT(z)\np = DFF(a)\nq = DFF(a)\nx = XOR(p, q)\nz = AND(x, b)\n";
+pub const TWINS: &str =
+    "INPUT(a)\nINPUT(b)\nOUTPUT(z)\np = DFF(a)\nq = DFF(a)\nx = XOR(p, q)\nz = AND(x, b)\n";
 
 /// Two inputs that are outputs.
-pub const WIRES: &[u8] = b"INPUT(a)\nINPUT(b)\nOUTPUT(a)\nOUTPUT(b)\n";
+pub const WIRES: &str = "INPUT(a)\nINPUT(b)\nOUTPUT(a)\nOUTPUT(b)\n";
 
 /// The output is 1 where the input changes.
-pub const CHANGE: &[u8] = b"INPUT(a)\nOUTPUT(z)\np = DFF(a)\nz = XOR(p, a)\n";
+pub const CHANGE: &str = "INPUT(a)\nOUTPUT(z)\np = DFF(a)\nz = XOR(p, a)\n";
 
 /// The first input is an output too, so its stem and its pin at the gate are two lines.
-pub const AND_GATE: &[u8] = b"INPUT(a)\nINPUT(b)\nOUTPUT(a)\nOUTPUT(z)\nz = AND(a, b)\n";
+pub const AND_GATE: &str = "INPUT(a)\nINPUT(b)\nOUTPUT(a)\nOUTPUT(z)\nz = AND(a, b)\n";
 
 /// Forty buffers, each from its input to its output. The inputs' faults are the representatives.
-pub const BUFFERS: &[u8] =
-    b"INPUT(a1)\nINPUT(a2)\nINPUT(a3)\nINPUT(a4)\nINPUT(a5)\nINPUT(a6)\nINPUT(a7)\nINPUT(a8)\n\
+pub const BUFFERS: &str =
+    "INPUT(a1)\nINPUT(a2)\nINPUT(a3)\nINPUT(a4)\nINPUT(a5)\nINPUT(a6)\nINPUT(a7)\nINPUT(a8)\n\
     INPUT(a9)\nINPUT(a10)\nINPUT(a11)\nINPUT(a12)\nINPUT(a13)\nINPUT(a14)\nINPUT(a15)\n\
     INPUT(a16)\nINPUT(a17)\nINPUT(a18)\nINPUT(a19)\nINPUT(a20)\nINPUT(a21)\nINPUT(a22)\n\
     INPUT(a23)\nINPUT(a24)\nINPUT(a25)\nINPUT(a26)\nINPUT(a27)\nINPUT(a28)\nINPUT(a29)\n\
@@ -76,10 +116,10 @@ pub const BUFFERS: &[u8] =
 
 /// The input is an output, and drives an inverter and a flip-flop that are outputs too, so its stem and
 /// the two pins are three lines.
-pub const BRANCHES: &[u8] = b"INPUT(a)\nOUTPUT(a)\nOUTPUT(z)\nOUTPUT(q)\nq = DFF(a)\nz = NOT(a)\n";
+pub const BRANCHES: &str = "INPUT(a)\nOUTPUT(a)\nOUTPUT(z)\nOUTPUT(q)\nq = DFF(a)\nz = NOT(a)\n";
 
 /// s27 as it is known, with its header.
-pub const S27: &[u8] = b"# s27
+pub const S27: &str = "# s27
 # 4 inputs
 # 1 outputs
 # 3 D-type flipflops
@@ -112,3 +152,24 @@ G11 = NOR(G5, G9)
 G12 = NOR(G1, G7)
 G13 = NOR(G2, G12)
 ";
+
+/// The text above that has this name.
+pub fn sample(name: &str) -> Option<&'static str> {
+    match name {
+        "SHIFT_REGISTER" => Some(SHIFT_REGISTER),
+        "SHIFT_REGISTER_REPORT" => Some(SHIFT_REGISTER_REPORT),
+        "TOGGLE" => Some(TOGGLE),
+        "HIDDEN" => Some(HIDDEN),
+        "ALWAYS_ZERO" => Some(ALWAYS_ZERO),
+        "ALWAYS_ZERO_REPORT" => Some(ALWAYS_ZERO_REPORT),
+        "ALWAYS_ZERO_PROOFS" => Some(ALWAYS_ZERO_PROOFS),
+        "TWINS" => Some(TWINS),
+        "WIRES" => Some(WIRES),
+        "CHANGE" => Some(CHANGE),
+        "AND_GATE" => Some(AND_GATE),
+        "BUFFERS" => Some(BUFFERS),
+        "BRANCHES" => Some(BRANCHES),
+        "S27" => Some(S27),
+        _ => None,
+    }
+}

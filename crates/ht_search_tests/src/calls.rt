@@ -1,4 +1,4 @@
-//! The tests, crate by crate; `small` reads their circuits, and `entries` texts of proofs. A row that fails is told by
+//! The tests, crate by crate; `small` reads their circuits, and `entries` texts of proofs. A row that fails is told, or
 //! its number in its table, from 0.
 
 mod check;

@@ -1,12 +1,11 @@
 //! Tests of ht_check: entries by hand, as texts.
 use self::Said::{Fails, FailsEmptied, FailsTurned, Passes};
 use super::entries::read_text;
-use super::small::{NET_0_AT_0, NET_0_AT_1, NET_1_AT_0, NET_1_AT_1, circuit_of};
+use super::small::{NET_1_AT_1, sample_circuit, stem_of};
 use ht_check::{KeptFrames, entry, entry_by_frames};
-use ht_entries::Numbered;
 use ht_items::Items;
 use ht_net::{Circuit, Fault, unknown_start};
-use ht_samples::{ALWAYS_ZERO, CHANGE, HIDDEN, TOGGLE, TWINS, WIRES};
+use ht_samples::{NamedTexts, first_word, paragraph_of};
 use ht_tree::{Clause, Entry};
 use std::alloc::{AllocError, Global};
 use std::test::Fail;
@@ -22,55 +21,55 @@ enum Said {
     FailsEmptied,
 }
 
-/// A circuit, and a fault of it.
-type Case = (&'static [u8], Fault);
-
-/// A case, a budget, the text of an entry by runs of its lines, and whether that passes. What is turned or emptied no
-/// text has.
-type Row = (Case, u64, &'static [&'static str], Said);
-
-// In each of these the fault is net 1 stuck at 0.
-
-const HIDDEN_Q: Case = (HIDDEN, NET_1_AT_0);
-
-const ZERO_N: Case = (ALWAYS_ZERO, NET_1_AT_0);
-
-const TOGGLE_N: Case = (TOGGLE, NET_1_AT_0);
-
-const UNTESTABLE: &str = "proofs 1\nentry 1 untestable\n";
-
-const DEAD: &str = "walk\ndead\nend\n";
-
-const SPLIT: &str = "walk\nhi 1\n";
-
-const LOW_SPLIT: &str = "walk\nlo 1\n";
-
-const TWO_DEAD: &str = "dead\ndead\nend\n";
-
-// The toggle and two wires, on which the budget was spent.
-
-const TOGGLE_Q: Case = (TOGGLE, NET_0_AT_0);
-
-const WIRES_A: Case = (WIRES, NET_0_AT_1);
-
-const ABORTED: &str = "proofs 1\nentry 1 aborted\n";
-
-// An output is told.
-const SHOWN: &str = "frame output 1\nset 1 1\n";
-
-// A flip-flop is told, and then an output.
-const TOLD: &str = "frame state 1\nset 1 0\nframe output 1\nset 1 1\nset 2 0\n";
-
-// An output, and what comes after it.
-const TOLD_ON: &str = "frame output 1\nset 1 1\nframe state 1\nset 1 1\n";
-
-const BACK: &str = "back open\n";
-
-const TO_ONE: &str = "x 1\nbefore\nx 1\ndead\nbefore\nx 1\nbefore\nx 1\ndead\nbefore\n";
-
-const TO_ZERO: &str = "x 1\ndead\nbefore\nx 1\nbefore\nx 1\ndead\nbefore\nx 1\nbefore\n";
-
-const FIVE: &str = "sweep
+/// Rows, each a circuit of `ht_samples`, the net and the value of a stem that is stuck, a budget, and whether the entry
+/// passes whose text stands there. What is turned or emptied no text has.
+///
+/// In the toggle and the two wires each search filled the budget. With p and a at 1 the frame of CHANGE shows a stuck at
+/// 0, but the fault also spoils the vector that brings p to 1. TWINS shows where two latches differ that take the same
+/// data, and the fault is the input that lets it show.
+const ROWS: &str = "~text UNTESTABLE
+proofs 1
+entry 1 untestable
+~text DEAD
+walk
+dead
+end
+~text SPLIT
+walk
+hi 1
+~text TWO_DEAD
+dead
+dead
+end
+~text ABORTED
+proofs 1
+entry 1 aborted
+~# An output is told.
+~text SHOWN
+frame output 1
+set 1 1
+~# A flip-flop is told, and then an output.
+~text TOLD
+frame state 1
+set 1 0
+frame output 1
+set 1 1
+set 2 0
+~text BACK
+back open
+~text TO_ONE
+x 1
+before
+x 1
+dead
+before
+x 1
+before
+x 1
+dead
+before
+~text FIVE
+sweep
 length 1
 dead
 length 2
@@ -81,109 +80,281 @@ length 4
 dead
 length 5
 end
+~text SWEEP
+sweep
+length 1
+hi 1
+end
+~text SPOILED
+proofs 1
+entry 1 aborted
+frame output 1
+set 1 1
+set 2 1
+attempt
+~# a vector back, whose bit p is after it
+~text P_1
+justify 1
+~text P_0
+justify 0
+~text SHORT
+sweep
+length 1
+dead
+length 2
+hi 1
+hi 2
+end
+~text FROM_00
+proofs 2
+entry 1 untestable from 00
+~# where p is 1, q is; and where q is 1, p is
+~text Q_WITH_P
+clause 1 0 2 1
+hi 1
+dead
+dead
+~text P_WITH_Q
+clause 1 1 2 0
+lo 1
+dead
+dead
+~text EQUAL
+walk
+hi 3
+hi 4
+dead
+dead
+hi 4
+dead
+dead
+end
+~# the difference stays in r, which nothing reads
+~HIDDEN 1 0 100 passes: UNTESTABLE
+z 2
+walk
+dead
+end
+~# the next state of r may differ
+~HIDDEN 1 0 100 fails: UNTESTABLE DEAD
+~# there is no third flip-flop
+~HIDDEN 1 0 100 fails: UNTESTABLE
+z 2
+z 3
+walk
+dead
+end
+~# the numbers don't rise
+~HIDDEN 1 0 100 turned: UNTESTABLE
+z 2
+walk
+dead
+end
+~# either value of the input may come first
+~ALWAYS_ZERO 1 0 100 passes: UNTESTABLE SPLIT TWO_DEAD
+~ALWAYS_ZERO 1 0 100 passes: UNTESTABLE
+walk
+lo 1
+dead
+dead
+end
+~# a node is left
+~ALWAYS_ZERO 1 0 100 fails: UNTESTABLE SPLIT
+dead
+end
+~# no node is left for the last token
+~ALWAYS_ZERO 1 0 100 fails: UNTESTABLE SPLIT
+dead
+dead
+dead
+end
+~# the output is the same and the next state isn't: the fault shows one frame later
+~TOGGLE 1 0 100 fails: UNTESTABLE DEAD
+~# each search filled the budget
+~TOGGLE 0 0 10 passes: ABORTED SHOWN BACK TO_ONE FIVE
+~TOGGLE 1 0 10 passes: ABORTED TOLD BACK
+x 1
+dead
+before
+x 1
+before
+x 1
+dead
+before
+x 1
+before
+sweep
+length 1
+dead
+length 2
+dead
+length 3
+dead
+length 4
+dead
+length 5
+end
+~WIRES 0 1 1 passes: ABORTED SPLIT SWEEP
+~# the walks weigh too much, or leave room for a token more
+~TOGGLE 0 0 9 fails: ABORTED SHOWN BACK TO_ONE FIVE
+~TOGGLE 0 0 11 fails: ABORTED SHOWN BACK TO_ONE FIVE
+~WIRES 0 1 2 fails: ABORTED SPLIT SWEEP
+~# there is no walk after the told frames, or one though an output is told
+~WIRES 0 1 1 fails: ABORTED SWEEP
+~TOGGLE 0 0 10 fails: ABORTED SHOWN
+walk
+x 1
+before
+x 1
+dead
+before
+x 1
+before
+x 1
+dead
+before
+back open
+x 1
+before
+x 1
+dead
+before
+x 1
+before
+x 1
+dead
+before
+sweep
+length 1
+dead
+length 2
+dead
+length 3
+dead
+length 4
+dead
+length 5
+end
+~# there is no aim at the first frame, or one back to another latch value
+~TOGGLE 0 0 10 fails: ABORTED SHOWN FIVE
+~TOGGLE 1 0 10 fails: ABORTED TOLD BACK TO_ONE FIVE
+~# a frame comes after an output
+~TOGGLE 0 0 10 fails: ABORTED
+frame output 1
+set 1 1
+frame state 1
+set 1 1
+back open
+x 1
+before
+x 1
+dead
+before
+x 1
+before
+x 1
+dead
+before
+sweep
+length 1
+dead
+length 2
+dead
+length 3
+dead
+length 4
+dead
+length 5
+end
+~# there is no sweep
+~WIRES 0 1 1 emptied: ABORTED SPLIT SWEEP
+~# both machines show 0 in the frame
+~CHANGE 0 0 6 passes: SPOILED P_1 SHORT
+~CHANGE 0 0 6 passes: SPOILED P_1 P_1 SHORT
+~# p is 0
+~CHANGE 0 0 6 fails: SPOILED P_0 SHORT
+~# the second vector detects the fault
+~CHANGE 0 0 6 fails: SPOILED P_0 P_1 SHORT
+~# the clauses are kept, and the walk is complete under them
+~TWINS 1 0 1000 passes: FROM_00 Q_WITH_P P_WITH_Q EQUAL
+~TWINS 1 0 1000 passes
+proofs 2
+entry 1 untestable from 11
+clause 1 0 2 1
+hi 1
+dead
+dead
+clause 1 1 2 0
+lo 1
+dead
+dead
+walk
+hi 3
+hi 4
+dead
+dead
+hi 4
+dead
+dead
+end
+~# the second clause isn't met
+~TWINS 1 0 1000 fails
+proofs 2
+entry 1 untestable from 01
+clause 1 0 2 1
+hi 1
+dead
+dead
+clause 1 1 2 0
+lo 1
+dead
+dead
+walk
+hi 3
+hi 4
+dead
+dead
+hi 4
+dead
+dead
+end
+~# a flip-flop has no bit
+~TWINS 1 0 1000 fails
+proofs 2
+entry 1 untestable from 1
+clause 1 0 2 1
+hi 1
+dead
+dead
+clause 1 1 2 0
+lo 1
+dead
+dead
+walk
+hi 3
+hi 4
+dead
+dead
+hi 4
+dead
+dead
+end
+~# the machines differ from a state that meets the one clause
+~TWINS 1 0 1000 fails: FROM_00 Q_WITH_P EQUAL
+~# there is no clause
+~TWINS 1 0 1000 emptied: FROM_00 Q_WITH_P EQUAL
+~# the flip-flops of a clause don't rise
+~TWINS 1 0 1000 turned: FROM_00 Q_WITH_P P_WITH_Q EQUAL
 ";
 
-const SWEEP: &str = "sweep\nlength 1\nhi 1\nend\n";
-
-// The frame with p and a at 1 shows a stuck at 0, but the fault also spoils the vector that brings p to 1.
-
-const CHANGE_A: Case = (CHANGE, NET_0_AT_0);
-
-const SPOILED: &str = "proofs 1\nentry 1 aborted\nframe output 1\nset 1 1\nset 2 1\nattempt\n";
-
-// a vector back, whose bit p is after it
-const P_1: &str = "justify 1\n";
-
-const P_0: &str = "justify 0\n";
-
-const SHORT: &str = "sweep\nlength 1\ndead\nlength 2\nhi 1\nhi 2\nend\n";
-
-// The circuit shows where two latches differ that take the same data, and the fault is the input that lets it show.
-
-const TWINS_B: Case = (TWINS, NET_1_AT_0);
-
-const FROM_00: &str = "proofs 2\nentry 1 untestable from 00\n";
-
-const FROM_11: &str = "proofs 2\nentry 1 untestable from 11\n";
-
-const FROM_01: &str = "proofs 2\nentry 1 untestable from 01\n";
-
-const FROM_1: &str = "proofs 2\nentry 1 untestable from 1\n";
-
-// where p is 1, q is; and where q is 1, p is
-const Q_WITH_P: &str = "clause 1 0 2 1\nhi 1\ndead\ndead\n";
-
-const P_WITH_Q: &str = "clause 1 1 2 0\nlo 1\ndead\ndead\n";
-
-const EQUAL: &str = "walk\nhi 3\nhi 4\ndead\ndead\nhi 4\ndead\ndead\nend\n";
-
-const ROWS: &[Row] = &[
-    // the difference stays in r, which nothing reads
-    (HIDDEN_Q, 100, &[UNTESTABLE, "z 2\n", DEAD], Passes),
-    // the next state of r may differ
-    (HIDDEN_Q, 100, &[UNTESTABLE, DEAD], Fails),
-    // there is no third flip-flop
-    (HIDDEN_Q, 100, &[UNTESTABLE, "z 2\nz 3\n", DEAD], Fails),
-    // the numbers don't rise
-    (HIDDEN_Q, 100, &[UNTESTABLE, "z 2\n", DEAD], FailsTurned),
-    // either value of the input may come first
-    (ZERO_N, 100, &[UNTESTABLE, SPLIT, TWO_DEAD], Passes),
-    (ZERO_N, 100, &[UNTESTABLE, LOW_SPLIT, TWO_DEAD], Passes),
-    // a node is left
-    (ZERO_N, 100, &[UNTESTABLE, SPLIT, "dead\nend\n"], Fails),
-    // no node is left for the last token
-    (ZERO_N, 100, &[UNTESTABLE, SPLIT, "dead\n", TWO_DEAD], Fails),
-    // the output is the same and the next state isn't: the fault shows one frame later
-    (TOGGLE_N, 100, &[UNTESTABLE, DEAD], Fails),
-    // each search filled the budget
-    (TOGGLE_Q, 10, &[ABORTED, SHOWN, BACK, TO_ONE, FIVE], Passes),
-    (TOGGLE_N, 10, &[ABORTED, TOLD, BACK, TO_ZERO, FIVE], Passes),
-    (WIRES_A, 1, &[ABORTED, SPLIT, SWEEP], Passes),
-    // the walks weigh too much, or leave room for a token more
-    (TOGGLE_Q, 9, &[ABORTED, SHOWN, BACK, TO_ONE, FIVE], Fails),
-    (TOGGLE_Q, 11, &[ABORTED, SHOWN, BACK, TO_ONE, FIVE], Fails),
-    (WIRES_A, 2, &[ABORTED, SPLIT, SWEEP], Fails),
-    // there is no walk after the told frames, or one though an output is told
-    (WIRES_A, 1, &[ABORTED, SWEEP], Fails),
-    (
-        TOGGLE_Q,
-        10,
-        &[ABORTED, SHOWN, "walk\n", TO_ONE, BACK, TO_ONE, FIVE],
-        Fails,
-    ),
-    // there is no aim at the first frame, or one back to another latch value
-    (TOGGLE_Q, 10, &[ABORTED, SHOWN, FIVE], Fails),
-    (TOGGLE_N, 10, &[ABORTED, TOLD, BACK, TO_ONE, FIVE], Fails),
-    // a frame comes after an output
-    (TOGGLE_Q, 10, &[ABORTED, TOLD_ON, BACK, TO_ONE, FIVE], Fails),
-    // there is no sweep
-    (WIRES_A, 1, &[ABORTED, SPLIT, SWEEP], FailsEmptied),
-    // both machines show 0 in the frame
-    (CHANGE_A, 6, &[SPOILED, P_1, SHORT], Passes),
-    (CHANGE_A, 6, &[SPOILED, P_1, P_1, SHORT], Passes),
-    // p is 0
-    (CHANGE_A, 6, &[SPOILED, P_0, SHORT], Fails),
-    // the second vector detects the fault
-    (CHANGE_A, 6, &[SPOILED, P_0, P_1, SHORT], Fails),
-    // the clauses are kept, and the walk is complete under them
-    (TWINS_B, 1000, &[FROM_00, Q_WITH_P, P_WITH_Q, EQUAL], Passes),
-    (TWINS_B, 1000, &[FROM_11, Q_WITH_P, P_WITH_Q, EQUAL], Passes),
-    // the second clause isn't met
-    (TWINS_B, 1000, &[FROM_01, Q_WITH_P, P_WITH_Q, EQUAL], Fails),
-    // a flip-flop has no bit
-    (TWINS_B, 1000, &[FROM_1, Q_WITH_P, P_WITH_Q, EQUAL], Fails),
-    // the machines differ from a state that meets the one clause
-    (TWINS_B, 1000, &[FROM_00, Q_WITH_P, EQUAL], Fails),
-    // there is no clause
-    (TWINS_B, 1000, &[FROM_00, Q_WITH_P, EQUAL], FailsEmptied),
-    // the flip-flops of a clause don't rise
-    (
-        TWINS_B,
-        1000,
-        &[FROM_00, Q_WITH_P, P_WITH_Q, EQUAL],
-        FailsTurned,
-    ),
-];
+fn said_of(word: &str) -> Said {
+    match word {
+        "passes" => Passes,
+        "turned" => FailsTurned,
+        "emptied" => FailsEmptied,
+        _ => Fails,
+    }
+}
 
 // The clauses with the last one's literals in each other's place, or none of them.
 fn changed_clauses(
@@ -304,39 +475,49 @@ fn is_judged(
 }
 
 // Whether what is said of an entry by its text holds.
-fn is_as_said(
-    alloc: Global,
-    circuit: &Circuit,
-    fault: Fault,
-    budget: u64,
-    text: &[&str],
-    said: Said,
-) -> Result<bool, Fail> {
+fn is_as_said(alloc: Global, circuit: &Circuit, words: &str, text: &str) -> Result<bool, Fail> {
+    let Some((fault, words)) = stem_of(words) else {
+        return Ok(false);
+    };
+    let (budget, word) = first_word(words);
+    let said = said_of(word);
     let mut written = Vec::new(alloc);
     let Some(ended) = read_text(alloc, &mut written, text)? else {
         return Ok(false);
     };
-    let Numbered { number: _, entry } = ended;
-    let record = changed(alloc, entry, said)?;
+    let record = changed(alloc, ended.entry, said)?;
     Ok(is_judged(
         alloc,
         circuit,
         fault,
-        budget,
+        budget.parse::<u64>().unwrap_or(0),
         &record,
         matches!(said, Passes),
     )?)
 }
 
+// Whether a paragraph of the rows holds.
+fn holds<'a>(alloc: Global, texts: &mut NamedTexts<'a>, row: &'a str) -> Result<bool, Fail> {
+    let Some(paragraph) = paragraph_of(row) else {
+        return Ok(row.is_empty());
+    };
+    let (name, words) = first_word(paragraph.words);
+    if name == "text" {
+        texts.name(words, paragraph.lines)?;
+    }
+    if name == "text" || name == "#" {
+        return Ok(true);
+    }
+    let text = texts.of(paragraph)?;
+    let circuit = sample_circuit(alloc, name)?;
+    is_as_said(alloc, &circuit, words, text.as_str())
+}
+
 #[test]
 fn entries_pass_where_their_walks_do(rt: HostRuntime) -> Result<(), Fail> {
-    for (i, row) in ROWS.iter().enumerate() {
-        let ((text, fault), budget, record, said) = *row;
-        let circuit = circuit_of(rt.alloc(), text)?;
-        assert!(rt;
-            is_as_said(rt.alloc(), &circuit, fault, budget, record, said)?,
-            "row {i}"
-        );
+    let mut texts = NamedTexts::new(rt.alloc());
+    for row in ROWS.split('~') {
+        assert!(rt; holds(rt.alloc(), &mut texts, row)?, "of {row}");
     }
     Ok(())
 }

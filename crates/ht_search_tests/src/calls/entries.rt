@@ -3,25 +3,11 @@ use ht_entries::{Format, Numbered, ProofReader, TextError, end_line, head_line, 
 use std::alloc::{AllocError, Global};
 use std::test::Fail;
 
-/// A text by runs of its lines, each line with its LF. A worked one has its first line, its entries and its last line.
-type Text = &'static [&'static str];
-
-/// A text, and the line at which it is malformed; 0 where it is read, and its entries are written as they stand there.
-type Row = (Text, u64);
-
-const HEAD: &str = "proofs 1\n";
-
-const SECOND_HEAD: &str = "proofs 2\n";
-
-const THIRD_HEAD: &str = "proofs 3\n";
-
-/// The last line of a text.
-pub const END: &str = "end\n";
-
-const NO_ENTRY: &str = "";
-
-// a gate whose output can't be 1
-const CONSTANT: &str = "entry 1 untestable
+/// Entries, each under the formats that have them: a text of these is read, and its entries are written as they stand.
+const WORKED: &str = "~1 2
+~# a gate whose output can't be 1
+~1 2
+entry 1 untestable
 walk
 hi 1
 dead
@@ -36,10 +22,9 @@ walk
 hi 1
 dead
 dead
-";
-
-// a flip-flop that turns: the first entry's told frame, the search back from it, and the sweep
-const TOGGLE: &str = "entry 1 aborted
+~# a flip-flop that turns: the first entry's told frame, the search back from it, and the sweep
+~1 2
+entry 1 aborted
 frame output 1
 set 1 1
 back open
@@ -63,10 +48,9 @@ dead
 length 4
 dead
 length 5
-";
-
-// the same circuit, with two told frames
-const TWO_FRAMES: &str = "entry 3 aborted
+~# the same circuit, with two told frames
+~1 2
+entry 3 aborted
 frame state 1
 set 1 0
 frame output 1
@@ -76,27 +60,24 @@ back open
 x 1
 sweep
 length 1
-";
-
-// flip-flops at which the two machines may differ
-const IN_THE_SET: &str = "entry 7 untestable
+~# flip-flops at which the two machines may differ
+~1 2
+entry 7 untestable
 z 1
 z 2
 walk
 dead
-";
-
-// a budget of one token
-const ONE_TOKEN: &str = "entry 2 aborted
+~# a budget of one token
+~1 2
+entry 2 aborted
 walk
 hi 1
 sweep
 length 1
 hi 1
-";
-
-// both lists were found, one vector back and none ahead
-const ATTEMPT: &str = "entry 4294967295 aborted
+~# both lists were found, one vector back and none ahead
+~1 2
+entry 4294967295 aborted
 frame output 1
 attempt
 justify 10
@@ -104,19 +85,17 @@ ahead 01
 sweep
 length 1
 lo 4294967295
-";
-
-// no inputs
-const NO_INPUTS: &str = "entry 1 aborted
+~# no inputs
+~1 2
+entry 1 aborted
 frame output 1
 attempt
 justify -
 sweep
 length 1
-";
-
-// two flip-flops that stay equal from the state 00 on
-const EQUAL_FLIP_FLOPS: &str = "entry 3 untestable from 00
+~# two flip-flops that stay equal from the state 00 on
+~2
+entry 3 untestable from 00
 clause 1 0 2 1
 hi 1
 dead
@@ -133,10 +112,9 @@ dead
 hi 4
 dead
 dead
-";
-
-// a clause without tokens, the greatest numbers, and flip-flops at which the two machines may differ
-const ONE_LITERAL: &str = "entry 4294967294 untestable from 1
+~# a clause without tokens, the greatest numbers, and flip-flops at which the two machines may differ
+~2
+entry 4294967294 untestable from 1
 clause 4294967295 1
 z 1
 z 4294967295
@@ -144,16 +122,14 @@ walk
 entry 4294967295 untestable
 walk
 dead
-";
-
-// sets of pairs, and no set
-const BY_SETS_TEXT: &str = "entry 1 undetectable by sets
+~# sets of pairs, and no set
+~3
+entry 1 undetectable by sets
 pairs 1 X1 XX
 entry 2 undetectable by sets
-";
-
-// forbidden cubes with steps, and without one
-const BY_CUBES_TEXT: &str = "entry 1 undetectable by cubes
+~# forbidden cubes with steps, and without one
+~3
+entry 1 undetectable by cubes
 never good 1 0
 never good 1 1
 step -12 3 by 6
@@ -162,19 +138,243 @@ entry 2 undetectable by cubes
 never faulty 4294967295 1 good 1 0
 ";
 
-const UNTESTABLE: &str = "proofs 1\nentry 1 untestable\n";
-
-const ABORTED: &str = "proofs 1\nentry 1 aborted\n";
-
-const FROM_STATE: &str = "proofs 2\nentry 1 untestable from 01\n";
-
-const BY_SETS: &str = "proofs 3\nentry 1 undetectable by sets\n";
-
-const BY_CUBES: &str = "proofs 3\nentry 1 undetectable by cubes\n";
-
-const ONE_CUBE: &str = "never good 1 0\n";
-
-const EIGHT_CLAUSES: &str = "clause 1 0
+/// Texts, each under the line at which it is malformed.
+const MALFORMED: &str = "~# no line, another head, no end
+~1
+~1
+proofs 4
+~1
+proofs 1\x20
+~2
+proofs 1
+~# a line after the end
+~3
+proofs 1
+end
+end
+~# numbers
+~2
+proofs 1
+entry 0 untestable
+~2
+proofs 1
+entry 01 untestable
+~2
+proofs 1
+entry +1 untestable
+~2
+proofs 1
+entry 4294967296 untestable
+~2
+proofs 1
+entry  1 untestable
+~2
+proofs 1
+entry 1 detected
+~# an entry number that stands twice
+~4
+proofs 1
+entry 1 untestable
+walk
+entry 1 untestable
+~# no walk, and a flip-flop that stands twice
+~3
+proofs 1
+entry 1 untestable
+end
+~4
+proofs 1
+entry 1 untestable
+z 1
+z 1
+~# a decision with no frame, of another bit, of a variable that stands twice
+~3
+proofs 1
+entry 1 aborted
+set 1 1
+~4
+proofs 1
+entry 1 aborted
+frame state 1
+set 1 2
+~5
+proofs 1
+entry 1 aborted
+frame state 1
+set 2 0
+set 2 1
+~# no sweep, a sweep of no walk, and one that begins with 2 frames
+~3
+proofs 1
+entry 1 aborted
+end
+~4
+proofs 1
+entry 1 aborted
+sweep
+end
+~4
+proofs 1
+entry 1 aborted
+sweep
+length 2
+~# an aim after the sweep
+~5
+proofs 1
+entry 1 aborted
+sweep
+length 1
+back open
+~# vectors of two widths, a vector back after one ahead, and another character
+~5
+proofs 1
+entry 1 aborted
+attempt
+justify 10
+ahead 1
+~5
+proofs 1
+entry 1 aborted
+attempt
+ahead 1
+justify 1
+~4
+proofs 1
+entry 1 aborted
+attempt
+ahead 1x
+~# forbidden cubes in the second format, none at all, and one after a step
+~2
+proofs 2
+entry 1 undetectable by cubes
+~3
+proofs 3
+entry 1 undetectable by cubes
+end
+~3
+proofs 3
+entry 1 undetectable by cubes
+step by 1
+~5
+proofs 3
+entry 1 undetectable by cubes
+never good 1 0
+step by 1
+never good 1 0
+~# cubes of no rail, of half a rail, and of words and numbers that are none
+~3
+proofs 3
+entry 1 undetectable by cubes
+never
+~3
+proofs 3
+entry 1 undetectable by cubes
+never good 1
+~3
+proofs 3
+entry 1 undetectable by cubes
+never bad 1 0
+~3
+proofs 3
+entry 1 undetectable by cubes
+never good 0 0
+~3
+proofs 3
+entry 1 undetectable by cubes
+never good 1 2
+~3
+proofs 3
+entry 1 undetectable by cubes
+never good 1 0\x20
+~# steps without hints, and of numbers that are none
+~4
+proofs 3
+entry 1 undetectable by cubes
+never good 1 0
+step 1
+~4
+proofs 3
+entry 1 undetectable by cubes
+never good 1 0
+step 1 by
+~4
+proofs 3
+entry 1 undetectable by cubes
+never good 1 0
+step -0 by 1
+~4
+proofs 3
+entry 1 undetectable by cubes
+never good 1 0
+step 4294967296 by 1
+~4
+proofs 3
+entry 1 undetectable by cubes
+never good 1 0
+step by -1
+~# an entry from a state in the first format, and states that are none
+~2
+proofs 1
+entry 1 untestable from 01
+~2
+proofs 2
+entry 1 untestable from\x20
+~2
+proofs 2
+entry 1 untestable from -
+~2
+proofs 2
+entry 0 untestable from 01
+~2
+proofs 2
+entry 1 aborted from 01
+~# before the first clause: a walk, a flip-flop, a token, the end
+~3
+proofs 2
+entry 1 untestable from 01
+walk
+~3
+proofs 2
+entry 1 untestable from 01
+z 1
+~3
+proofs 2
+entry 1 untestable from 01
+dead
+~3
+proofs 2
+entry 1 untestable from 01
+end
+~# clauses of other literals, of the same flip-flop twice, of flip-flops that fall
+~3
+proofs 2
+entry 1 untestable from 01
+clause 0 1
+~3
+proofs 2
+entry 1 untestable from 01
+clause 1 2
+~3
+proofs 2
+entry 1 untestable from 01
+clause 1 0 2
+~3
+proofs 2
+entry 1 untestable from 01
+clause 1 0 1 1
+~3
+proofs 2
+entry 1 untestable from 01
+clause 2 0 1 1
+~3
+proofs 2
+entry 1 untestable from 01
+clause 1 0 2 1 3 0
+~# a clause too many
+~35
+proofs 2
+entry 1 untestable from 01
+clause 1 0
 clause 1 1
 clause 2 0
 clause 2 1
@@ -182,126 +382,87 @@ clause 1 0 2 0
 clause 1 0 2 1
 clause 1 1 2 0
 clause 1 1 2 1
+clause 1 0
+clause 1 1
+clause 2 0
+clause 2 1
+clause 1 0 2 0
+clause 1 0 2 1
+clause 1 1 2 0
+clause 1 1 2 1
+clause 1 0
+clause 1 1
+clause 2 0
+clause 2 1
+clause 1 0 2 0
+clause 1 0 2 1
+clause 1 1 2 0
+clause 1 1 2 1
+clause 1 0
+clause 1 1
+clause 2 0
+clause 2 1
+clause 1 0 2 0
+clause 1 0 2 1
+clause 1 1 2 0
+clause 1 1 2 1
+clause 3 0
+~# a clause or a token after a flip-flop, a flip-flop after the walk, and no walk
+~5
+proofs 2
+entry 1 untestable from 01
+clause 1 0
+z 1
+clause 2 0
+~5
+proofs 2
+entry 1 untestable from 01
+clause 1 0
+z 1
+dead
+~5
+proofs 2
+entry 1 untestable from 01
+clause 1 0
+walk
+z 1
+~5
+proofs 2
+entry 1 untestable from 01
+clause 1 0
+z 1
+end
+~# a clause in a plain refutation
+~3
+proofs 2
+entry 1 untestable
+clause 1 0
+~# sets in the second format; pairs out of order, twice, none; a flip-flop twice
+~2
+proofs 2
+entry 1 undetectable by sets
+~3
+proofs 3
+entry 1 undetectable by sets
+pairs 1 XX X1
+~3
+proofs 3
+entry 1 undetectable by sets
+pairs 1 X1 X1
+~3
+proofs 3
+entry 1 undetectable by sets
+pairs 1
+~3
+proofs 3
+entry 1 undetectable by sets
+pairs 1 X1\x20
+~4
+proofs 3
+entry 1 undetectable by sets
+pairs 2 XX
+pairs 2 XX
 ";
-
-const ROWS: &[Row] = &[
-    // worked texts of each format
-    (&[HEAD, NO_ENTRY, END], 0),
-    (&[HEAD, CONSTANT, END], 0),
-    (&[HEAD, TOGGLE, END], 0),
-    (&[HEAD, TWO_FRAMES, END], 0),
-    (&[HEAD, IN_THE_SET, END], 0),
-    (&[HEAD, ONE_TOKEN, END], 0),
-    (&[HEAD, ATTEMPT, END], 0),
-    (&[HEAD, NO_INPUTS, END], 0),
-    (&[SECOND_HEAD, NO_ENTRY, END], 0),
-    (&[SECOND_HEAD, CONSTANT, END], 0),
-    (&[SECOND_HEAD, TOGGLE, END], 0),
-    (&[SECOND_HEAD, TWO_FRAMES, END], 0),
-    (&[SECOND_HEAD, IN_THE_SET, END], 0),
-    (&[SECOND_HEAD, ONE_TOKEN, END], 0),
-    (&[SECOND_HEAD, ATTEMPT, END], 0),
-    (&[SECOND_HEAD, NO_INPUTS, END], 0),
-    (&[SECOND_HEAD, EQUAL_FLIP_FLOPS, END], 0),
-    (&[SECOND_HEAD, ONE_LITERAL, END], 0),
-    (&[THIRD_HEAD, BY_SETS_TEXT, END], 0),
-    (&[THIRD_HEAD, BY_CUBES_TEXT, END], 0),
-    // no line, another head, no end
-    (&[], 1),
-    (&["proofs 4\n"], 1),
-    (&["proofs 1 \n"], 1),
-    (&[HEAD], 2),
-    // a line after the end
-    (&[HEAD, END, END], 3),
-    // numbers
-    (&[HEAD, "entry 0 untestable\n"], 2),
-    (&[HEAD, "entry 01 untestable\n"], 2),
-    (&[HEAD, "entry +1 untestable\n"], 2),
-    (&[HEAD, "entry 4294967296 untestable\n"], 2),
-    (&[HEAD, "entry  1 untestable\n"], 2),
-    (&[HEAD, "entry 1 detected\n"], 2),
-    // an entry number that stands twice
-    (&[UNTESTABLE, "walk\nentry 1 untestable\n"], 4),
-    // no walk, and a flip-flop that stands twice
-    (&[UNTESTABLE, END], 3),
-    (&[UNTESTABLE, "z 1\nz 1\n"], 4),
-    // a decision with no frame, of another bit, of a variable that stands twice
-    (&[ABORTED, "set 1 1\n"], 3),
-    (&[ABORTED, "frame state 1\nset 1 2\n"], 4),
-    (&[ABORTED, "frame state 1\nset 2 0\nset 2 1\n"], 5),
-    // no sweep, a sweep of no walk, and one that begins with 2 frames
-    (&[ABORTED, END], 3),
-    (&[ABORTED, "sweep\nend\n"], 4),
-    (&[ABORTED, "sweep\nlength 2\n"], 4),
-    // an aim after the sweep
-    (&[ABORTED, "sweep\nlength 1\nback open\n"], 5),
-    // vectors of two widths, a vector back after one ahead, and another character
-    (&[ABORTED, "attempt\njustify 10\nahead 1\n"], 5),
-    (&[ABORTED, "attempt\nahead 1\njustify 1\n"], 5),
-    (&[ABORTED, "attempt\nahead 1x\n"], 4),
-    // forbidden cubes in the second format, none at all, and one after a step
-    (&[SECOND_HEAD, "entry 1 undetectable by cubes\n"], 2),
-    (&[BY_CUBES, END], 3),
-    (&[BY_CUBES, "step by 1\n"], 3),
-    (&[BY_CUBES, ONE_CUBE, "step by 1\n", ONE_CUBE], 5),
-    // cubes of no rail, of half a rail, and of words and numbers that are none
-    (&[BY_CUBES, "never\n"], 3),
-    (&[BY_CUBES, "never good 1\n"], 3),
-    (&[BY_CUBES, "never bad 1 0\n"], 3),
-    (&[BY_CUBES, "never good 0 0\n"], 3),
-    (&[BY_CUBES, "never good 1 2\n"], 3),
-    (&[BY_CUBES, "never good 1 0 \n"], 3),
-    // steps without hints, and of numbers that are none
-    (&[BY_CUBES, ONE_CUBE, "step 1\n"], 4),
-    (&[BY_CUBES, ONE_CUBE, "step 1 by\n"], 4),
-    (&[BY_CUBES, ONE_CUBE, "step -0 by 1\n"], 4),
-    (&[BY_CUBES, ONE_CUBE, "step 4294967296 by 1\n"], 4),
-    (&[BY_CUBES, ONE_CUBE, "step by -1\n"], 4),
-    // an entry from a state in the first format, and states that are none
-    (&[HEAD, "entry 1 untestable from 01\n"], 2),
-    (&[SECOND_HEAD, "entry 1 untestable from \n"], 2),
-    (&[SECOND_HEAD, "entry 1 untestable from -\n"], 2),
-    (&[SECOND_HEAD, "entry 0 untestable from 01\n"], 2),
-    (&[SECOND_HEAD, "entry 1 aborted from 01\n"], 2),
-    // before the first clause: a walk, a flip-flop, a token, the end
-    (&[FROM_STATE, "walk\n"], 3),
-    (&[FROM_STATE, "z 1\n"], 3),
-    (&[FROM_STATE, "dead\n"], 3),
-    (&[FROM_STATE, END], 3),
-    // clauses of other literals, of the same flip-flop twice, of flip-flops that fall
-    (&[FROM_STATE, "clause 0 1\n"], 3),
-    (&[FROM_STATE, "clause 1 2\n"], 3),
-    (&[FROM_STATE, "clause 1 0 2\n"], 3),
-    (&[FROM_STATE, "clause 1 0 1 1\n"], 3),
-    (&[FROM_STATE, "clause 2 0 1 1\n"], 3),
-    (&[FROM_STATE, "clause 1 0 2 1 3 0\n"], 3),
-    // a clause too many
-    (
-        &[
-            FROM_STATE,
-            EIGHT_CLAUSES,
-            EIGHT_CLAUSES,
-            EIGHT_CLAUSES,
-            EIGHT_CLAUSES,
-            "clause 3 0\n",
-        ],
-        35,
-    ),
-    // a clause or a token after a flip-flop, a flip-flop after the walk, and no walk
-    (&[FROM_STATE, "clause 1 0\nz 1\nclause 2 0\n"], 5),
-    (&[FROM_STATE, "clause 1 0\nz 1\ndead\n"], 5),
-    (&[FROM_STATE, "clause 1 0\nwalk\nz 1\n"], 5),
-    (&[FROM_STATE, "clause 1 0\nz 1\nend\n"], 5),
-    // a clause in a plain refutation
-    (&["proofs 2\nentry 1 untestable\nclause 1 0\n"], 3),
-    // sets in the second format; pairs out of order, twice, none; a flip-flop twice
-    (&[SECOND_HEAD, "entry 1 undetectable by sets\n"], 2),
-    (&[BY_SETS, "pairs 1 XX X1\n"], 3),
-    (&[BY_SETS, "pairs 1 X1 X1\n"], 3),
-    (&[BY_SETS, "pairs 1\n"], 3),
-    (&[BY_SETS, "pairs 1 X1 \n"], 3),
-    (&[BY_SETS, "pairs 2 XX\npairs 2 XX\n"], 4),
-];
 
 // Writes an entry after others.
 fn write(alloc: Global, written: &mut Vec<u8>, ended: &Numbered) -> Result<(), AllocError> {
@@ -309,22 +470,20 @@ fn write(alloc: Global, written: &mut Vec<u8>, ended: &Numbered) -> Result<(), A
     written.extend_from_slice(&entry)
 }
 
-// Takes lines, writes the entries that they end after others, and says which one is the last.
+// Takes a line, and writes the entry that it ends after others; that one is the last then.
 fn take(
     alloc: Global,
     reader: &mut ProofReader,
     written: &mut Vec<u8>,
     last: &mut Option<Numbered>,
-    lines: &str,
+    line: &str,
 ) -> Result<(), TextError> {
-    for line in lines.lines() {
-        if !reader.live() {
-            return Ok(());
-        }
-        if let Some(ended) = reader.line(line.as_bytes())? {
-            write(alloc, written, &ended)?;
-            *last = Some(ended);
-        }
+    if !reader.live() {
+        return Ok(());
+    }
+    if let Some(ended) = reader.line(line.as_bytes())? {
+        write(alloc, written, &ended)?;
+        *last = Some(ended);
     }
     Ok(())
 }
@@ -333,36 +492,65 @@ fn take(
 pub fn read_text(
     alloc: Global,
     written: &mut Vec<u8>,
-    text: &[&str],
+    text: &str,
 ) -> Result<Option<Numbered>, TextError> {
     let mut reader = ProofReader::new(alloc);
     let mut last = None;
-    for lines in text {
-        take(alloc, &mut reader, written, &mut last, lines)?;
+    for line in text.lines() {
+        take(alloc, &mut reader, written, &mut last, line)?;
     }
     reader.end()?;
     Ok(last)
 }
 
-fn is_as_said(alloc: Global, row: Row) -> bool {
-    let (text, malformed) = row;
+// The line at which a text is malformed, from 1; 0 where it is read, and its entries are written so.
+fn malformed_at(alloc: Global, text: &str, entries: &str) -> Option<u64> {
     let mut written = Vec::new(alloc);
-    let answer = read_text(alloc, &mut written, text);
-    match &answer {
-        Ok(_) => malformed == 0 && text.len() == 3 && written.as_slice() == text[1].as_bytes(),
-        Err(TextError::BadText { line }) => *line == malformed,
-        Err(TextError::NoMemory) => false,
+    match read_text(alloc, &mut written, text) {
+        Ok(_last) if written.as_slice() == entries.as_bytes() => Some(0),
+        Err(TextError::BadText { line }) => Some(line),
+        _ => None,
     }
+}
+
+// Whether entries are read in this format and written again.
+fn are_worked(alloc: Global, format: &str, entries: &str) -> Result<bool, AllocError> {
+    let text = format!(in alloc; "proofs {format}\n{entries}end\n")?;
+    Ok(malformed_at(alloc, text.as_str(), entries) == Some(0))
+}
+
+fn are_worked_in_each(alloc: Global, row: &str) -> Result<bool, AllocError> {
+    let (formats, entries) = row.split_once('\n').unwrap_or((row, ""));
+    if formats.starts_with('#') {
+        return Ok(true);
+    }
+    for format in formats.split_whitespace() {
+        if !are_worked(alloc, format, entries)? {
+            return Ok(false);
+        }
+    }
+    Ok(true)
+}
+
+fn is_malformed(alloc: Global, row: &str) -> bool {
+    let (line, text) = row.split_once('\n').unwrap_or((row, ""));
+    if line.is_empty() || line.starts_with('#') {
+        return true;
+    }
+    malformed_at(alloc, text, "") == line.parse::<u64>().ok()
 }
 
 #[test]
 fn texts_are_written_again_or_malformed_at_their_line(rt: HostRuntime) -> Result<(), Fail> {
-    assert!(rt; head_line(Format::One) == HEAD.as_bytes());
-    assert!(rt; head_line(Format::Two) == SECOND_HEAD.as_bytes());
-    assert!(rt; head_line(Format::Three) == THIRD_HEAD.as_bytes());
-    assert!(rt; end_line() == END.as_bytes());
-    for (i, row) in ROWS.iter().enumerate() {
-        assert!(rt; is_as_said(rt.alloc(), *row), "row {i}");
+    assert!(rt; head_line(Format::One) == "proofs 1\n".as_bytes());
+    assert!(rt; head_line(Format::Two) == "proofs 2\n".as_bytes());
+    assert!(rt; head_line(Format::Three) == "proofs 3\n".as_bytes());
+    assert!(rt; end_line() == "end\n".as_bytes());
+    for row in WORKED.split('~') {
+        assert!(rt; are_worked_in_each(rt.alloc(), row)?, "of {row}");
+    }
+    for row in MALFORMED.split('~') {
+        assert!(rt; is_malformed(rt.alloc(), row), "of {row}");
     }
     Ok(())
 }

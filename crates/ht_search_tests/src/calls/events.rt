@@ -137,7 +137,7 @@ fn settles(
 
 #[test]
 fn a_frame_of_s27_settles_in_every_order(rt: HostRuntime) -> Result<(), Fail> {
-    let circuit = read(rt.alloc(), S27)?;
+    let circuit = read(rt.alloc(), S27.as_bytes())?;
     for (i, order) in ORDERS.iter().enumerate() {
         assert!(&rt;
             settles(rt.alloc(), &circuit, *order, SETTLED)?,

@@ -28,13 +28,13 @@ enum Answer {
 }
 
 /// A circuit, a fault of it and a budget, and what is to come out.
-type FaultRow = (&'static [u8], Fault, u64, Answer);
+type FaultRow = (&'static str, Fault, u64, Answer);
 
 // No output tells the first input.
-const IDLE: &[u8] = b"INPUT(a)\nINPUT(b)\nOUTPUT(b)\n";
+const IDLE: &str = "INPUT(a)\nINPUT(b)\nOUTPUT(b)\n";
 
 // A flip-flop that nothing else drives or reads.
-const ALONE: &[u8] = b"q = DFF(q)\n";
+const ALONE: &str = "q = DFF(q)\n";
 
 // A variable that is set to a bit.
 macro_rules! set {
@@ -136,7 +136,7 @@ enum Ended {
 }
 
 /// A circuit, a fault of it and a budget, and how the sweep ends.
-type SweepRow = (&'static [u8], Fault, u64, Ended);
+type SweepRow = (&'static str, Fault, u64, Ended);
 
 const SWEEPS: &[SweepRow] = &[
     // the 1 of the first vector comes out two frames later: a decision of three frames weighs 3
@@ -162,7 +162,7 @@ const SWEEPS: &[SweepRow] = &[
 
 /// A circuit, a fault of it, a state of the good and one of the faulty machine and a budget, and how the propagation ends.
 type AheadRow = (
-    &'static [u8],
+    &'static str,
     Fault,
     &'static [Tern],
     &'static [Tern],
@@ -186,7 +186,7 @@ const AHEAD: &[AheadRow] = &[
 ];
 
 /// A circuit, a cube and a budget, and how the search back ends.
-type BackRow = (&'static [u8], &'static [Tern], u64, Ended);
+type BackRow = (&'static str, &'static [Tern], u64, Ended);
 
 const BACK: &[BackRow] = &[
     // to 1 leads the value 0 at once; to 0 it is dead, and the value 1 leads there

@@ -23,7 +23,7 @@ enum Kind {
 }
 
 /// A circuit, a window of it and tokens, and what these are to it.
-type Row = (&'static [u8], Kind, &'static [Token], Finding);
+type Row = (&'static str, Kind, &'static [Token], Finding);
 
 const ROWS: &[Row] = &[
     // equal flip-flops differ in no frame but the first: each vector before the last one is asked for

@@ -35,7 +35,7 @@ fn push_wide(alloc: Global, text: &mut String) -> Result<(), AllocError> {
 fn wide(alloc: Global) -> Result<Circuit, Fail> {
     let mut text = String::new(alloc);
     push_wide(alloc, &mut text)?;
-    circuit_of(alloc, text.as_bytes())
+    circuit_of(alloc, text.as_str())
 }
 
 // The last inputs of the walk and of the sweep, by their numbers in a text, and whether the entry passes.
@@ -65,7 +65,7 @@ fn is_as_said(alloc: Global, circuit: &Circuit, row: Row) -> Result<bool, Fail> 
     let mut text = String::new(alloc);
     push_entry(alloc, &mut text, walk, sweep)?;
     let mut written = Vec::new(alloc);
-    let Some(ended) = read_text(alloc, &mut written, &[text.as_str()])? else {
+    let Some(ended) = read_text(alloc, &mut written, text.as_str())? else {
         return Ok(false);
     };
     Ok(passes(alloc, circuit, NET_0_AT_0, 3_000, &ended.entry)? == want)

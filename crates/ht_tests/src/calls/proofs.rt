@@ -86,7 +86,7 @@ const ZEROS: &[bool] = &[false; 40];
 /// A circuit and how many faults its list has; how many of them are graded, how many steps each vector may take, and at
 /// which vector and output each fault is seen first.
 struct Row<'a> {
-    netlist: &'a [u8],
+    netlist: &'a str,
     listed: u32,
     count: u32,
     vectors: &'a [(&'a [bool], u64)],
@@ -180,7 +180,7 @@ fn is_graded(alloc: Global, circuit: &Circuit, row: &Row<'_>) -> Result<bool, Al
 #[test]
 fn faults_are_graded_in_groups_of_64(rt: HostRuntime) -> Result<(), Fail> {
     for row in ROWS {
-        let circuit = read(rt.alloc(), row.netlist)?;
+        let circuit = read(rt.alloc(), row.netlist.as_bytes())?;
         assert!(rt; is_graded(rt.alloc(), &circuit, row)?);
     }
     Ok(())

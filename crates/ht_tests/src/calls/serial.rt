@@ -27,7 +27,7 @@ fn shifted(
 /// A stuck stem of the first flip-flop's output forces what the second one takes, and not the latch before it.
 #[test]
 fn stem_fault_leaves_the_latch(rt: HostRuntime) -> Result<(), Fail> {
-    let circuit = read(rt.alloc(), SHIFT_REGISTER)?;
+    let circuit = read(rt.alloc(), SHIFT_REGISTER.as_bytes())?;
     let fault = Fault {
         site: Site::Stem(NetId(1)),
         value: false,
@@ -60,7 +60,7 @@ fn settled(circuit: &Circuit, fault: Option<Fault>) -> Option<[bool; 3]> {
 
 #[test]
 fn rows_are_in_order_and_bits_settle(rt: HostRuntime) -> Result<(), Fail> {
-    let circuit = read(rt.alloc(), AND_GATE)?;
+    let circuit = read(rt.alloc(), AND_GATE.as_bytes())?;
     let pin = Fault {
         site: Site::GatePin { gate: 0, pin: 0 },
         value: true,
@@ -88,7 +88,7 @@ fn turns_unless_stuck(alloc: Global, circuit: &Circuit, fault: Fault) -> Result<
 
 #[test]
 fn toggle_turns_unless_n_is_stuck(rt: HostRuntime) -> Result<(), Fail> {
-    let circuit = read(rt.alloc(), TOGGLE)?;
+    let circuit = read(rt.alloc(), TOGGLE.as_bytes())?;
     let stuck = Fault {
         site: Site::Stem(NetId(1)),
         value: false,

@@ -76,7 +76,7 @@ fn is_head(alloc: Global, circuit: &Circuit) -> Result<bool, AllocError> {
 // A gate whose output can't be 1: half of its classes are untestable. What is said of a member has no effect.
 #[test]
 fn head_and_lines_of_a_search(rt: HostRuntime) -> Result<(), Fail> {
-    let circuit = read(rt.alloc(), ALWAYS_ZERO)?;
+    let circuit = read(rt.alloc(), ALWAYS_ZERO.as_bytes())?;
     assert!(rt; is_head(rt.alloc(), &circuit)?);
     for row in FAULT_LINES {
         let (i, wanted) = *row;

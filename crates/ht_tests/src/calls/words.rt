@@ -1,19 +1,8 @@
-//! Tests of ht_words.
+//! Tests of ht_words: rows of words, with a comma after each, and what these ask for.
 use super::run::rows::words_of;
-use Asked::{Names, Options, Usage};
 use ht_words::{FileName, Job, WordsFault, command};
 use std::alloc::{AllocError, Global};
 use std::test::Fail;
-
-/// What words ask for.
-enum Asked<'a> {
-    /// They have no form.
-    Usage,
-    /// The command of this name with these names of files, and with this start where it may have one.
-    Names(&'a str, &'a [&'a str], Option<&'a str>),
-    /// `gen` with this budget, these first vectors and faults, so many weighted vectors, and a deep search or none.
-    Options(u64, Option<&'a str>, Option<&'a str>, u32, bool),
-}
 
 fn are_names(found: &[&str], names: &[&str]) -> bool {
     if found.len() != names.len() {
@@ -139,294 +128,179 @@ fn is_named(job: &Job, command: &str, names: &[&str], start: Option<&str>) -> bo
     }
 }
 
-fn is_job(job: &Job, asked: &Asked<'_>) -> bool {
-    match asked {
-        Usage => false,
-        Names(command, names, start) => is_named(job, *command, *names, *start),
-        Options(budget, first, faults, weighted, deep) => match job {
-            Job::Gen { options, .. } => {
-                options.budget == *budget
-                    && is_name(&options.first, *first)
-                    && is_name(&options.faults, *faults)
-                    && options.weighted == *weighted
-                    && options.deep == *deep
-            }
-            _ => false,
-        },
+/// Whether the job is the command in the first column with the names in the second one, and with the start in the third
+/// one where it may have one.
+fn has_form(alloc: Global, job: &Job, columns: &str) -> Result<bool, AllocError> {
+    let (command, after) = columns.split_once('|').unwrap_or((columns, ""));
+    let (names, start) = match after.split_once('|') {
+        Some((names, start)) => (names, Some(start)),
+        None => (after, None),
+    };
+    let names: Vec<&str> = names.split(',').collect(alloc)?;
+    Ok(is_named(job, command, &names, start))
+}
+
+/// Whether the job is `gen` with the budget, the first vectors, the faults, the number of weighted vectors and the search
+/// of the columns; no name stands where there is none.
+fn has_options(alloc: Global, job: &Job, columns: &str) -> Result<bool, AllocError> {
+    let columns: Vec<&str> = columns.split('|').collect(alloc)?;
+    let Job::Gen { options, .. } = job else {
+        return Ok(false);
+    };
+    if columns.len() != 5 {
+        return Ok(false);
+    }
+    Ok(
+        columns[0].parse::<u64>() == Ok(options.budget)
+            && is_name(&options.first, name_in(columns[1]))
+            && is_name(&options.faults, name_in(columns[2]))
+            && columns[3].parse::<u32>() == Ok(options.weighted)
+            && columns[4] == if options.deep { "deep" } else { "plain" },
+    )
+}
+
+fn name_in(column: &str) -> Option<&str> {
+    if column.is_empty() {
+        None
+    } else {
+        Some(column)
     }
 }
 
-fn asks(alloc: Global, words: &[&str], asked: &Asked<'_>) -> Result<bool, AllocError> {
-    let list = words_of(alloc, words)?;
-    let answer = command(alloc, &list);
-    Ok(match &answer {
-        Ok(job) => is_job(job, asked),
-        Err(WordsFault::Usage) => matches!(asked, Usage),
-        Err(WordsFault::NoMemory) => false,
-    })
+fn is_job(alloc: Global, job: &Job, columns: &str) -> Result<bool, AllocError> {
+    match columns.strip_prefix("options|") {
+        Some(options) => has_options(alloc, job, options),
+        None => has_form(alloc, job, columns),
+    }
 }
 
-// Each command with its names.
-const FORMS: &[(&[&str], Asked<'static>)] = &[
-    (
-        &["sim", "n", "t", "r"],
-        Names("sim", &["n", "t", "r"], None),
-    ),
-    (&["sim", "", "", ""], Names("sim", &["", "", ""], None)),
-    (
-        &["sim", "-", "-", "-"],
-        Names("sim", &["-", "-", "-"], None),
-    ),
-    (
-        &["sim", "--", "n", "t", "r"],
-        Names("sim", &["n", "t", "r"], None),
-    ),
-    (
-        &["sim", "n", "t", "r", "--"],
-        Names("sim", &["n", "t", "r"], None),
-    ),
-    (
-        &["sim", "n", "--", "-t", "--r"],
-        Names("sim", &["n", "-t", "--r"], None),
-    ),
-    (
-        &["sim", "--", "--", "t", "r"],
-        Names("sim", &["--", "t", "r"], None),
-    ),
-    (
-        &["sim", "n", "--", "t", "--"],
-        Names("sim", &["n", "t", "--"], None),
-    ),
-    (
-        &["gen", "n", "t", "r", "p"],
-        Names("gen", &["n", "t", "r", "p"], None),
-    ),
-    (
-        &["check", "n", "t", "--", "-r", "p"],
-        Names("check", &["n", "t", "-r", "p"], None),
-    ),
-    (
-        &["gen", "--", "n", "-t", "--r", "--budget"],
-        Names("gen", &["n", "-t", "--r", "--budget"], None),
-    ),
-    (
-        &["gen", "n", "--random", "5", "t", "r", "p", "--seed=5"],
-        Names("gen", &["n", "t", "r", "p"], None),
-    ),
-    (
-        &["check", "n", "t", "r", "p"],
-        Names("check", &["n", "t", "r", "p"], None),
-    ),
-    (&["norm", "n", "o"], Names("norm", &["n", "o"], None)),
-    (
-        &["compact", "n", "t", "o"],
-        Names("compact", &["n", "t", "o"], None),
-    ),
-    (
-        &["diagnose", "n", "t", "s", "o"],
-        Names("diagnose", &["n", "t", "s", "o"], None),
-    ),
-    (
-        &["uninit", "n", "--budget=5", "--", "-o"],
-        Names("uninit", &["n", "-o"], None),
-    ),
-    (
-        &["sync", "n", "t", "--budget=5", "o"],
-        Names("sync", &["n", "t", "o"], None),
-    ),
-    (
-        &["norm", "--", "-n", "-o"],
-        Names("norm", &["-n", "-o"], None),
-    ),
-];
-
-// Commands that may have a start.
-const STARTS: &[(&[&str], Asked<'static>)] = &[
-    (
-        &["respond", "n", "--fault=5", "t", "--start", "s", "o"],
-        Names("respond", &["n", "t", "o"], Some("s")),
-    ),
-    (
-        &["report", "n", "--budget=5", "t", "--start", "s", "p", "r"],
-        Names("report", &["n", "t", "p", "r"], Some("s")),
-    ),
-    (
-        &["sim", "n", "t", "r", "--start", "s"],
-        Names("sim", &["n", "t", "r"], Some("s")),
-    ),
-    (
-        &["sim", "--start=-s", "n", "t", "r"],
-        Names("sim", &["n", "t", "r"], Some("-s")),
-    ),
-    (
-        &["sim", "n", "--start", "-", "t", "r"],
-        Names("sim", &["n", "t", "r"], Some("-")),
-    ),
-    (
-        &["gen", "n", "t", "r", "p", "--start", "s", "--seed=5"],
-        Names("gen", &["n", "t", "r", "p"], Some("s")),
-    ),
-    (
-        &["check", "n", "t", "r", "p", "--start="],
-        Names("check", &["n", "t", "r", "p"], Some("")),
-    ),
-];
-
-// A budget is a number in digits from 1 to 100,000; and what `gen` works on, and how.
-const OPTIONS: &[(&[&str], Asked<'static>)] = &[
-    (
-        &["gen", "n", "t", "r", "p"],
-        Options(1_000, None, None, 0, false),
-    ),
-    (
-        &["gen", "n", "t", "r", "p", "--faults=l", "--first", "f"],
-        Options(1_000, Some("f"), Some("l"), 0, false),
-    ),
-    (
-        &["gen", "n", "t", "r", "p", "--budget", "5"],
-        Options(5, None, None, 0, false),
-    ),
-    (
-        &["gen", "n", "t", "r", "p", "--budget=5"],
-        Options(5, None, None, 0, false),
-    ),
-    (
-        &["gen", "--budget", "5", "n", "t", "r", "p"],
-        Options(5, None, None, 0, false),
-    ),
-    (
-        &["gen", "--budget=5", "n", "t", "r", "p"],
-        Options(5, None, None, 0, false),
-    ),
-    (
-        &["gen", "n", "t", "--budget=5", "r", "p"],
-        Options(5, None, None, 0, false),
-    ),
-    (
-        &["gen", "--budget", "5", "--", "n", "t", "r", "p"],
-        Options(5, None, None, 0, false),
-    ),
-    (
-        &["gen", "n", "t", "r", "p", "--budget", "1"],
-        Options(1, None, None, 0, false),
-    ),
-    (
-        &["gen", "n", "t", "r", "p", "--budget=100000"],
-        Options(100_000, None, None, 0, false),
-    ),
-    (
-        &["gen", "n", "t", "r", "p", "--budget=0000000100000"],
-        Options(100_000, None, None, 0, false),
-    ),
-    (
-        &[
-            "gen",
-            "--search=deep",
-            "n",
-            "t",
-            "--weighted",
-            "007",
-            "r",
-            "p",
-        ],
-        Options(1_000, None, None, 7, true),
-    ),
-    (
-        &["gen", "n", "t", "r", "p", "--search", "plain"],
-        Options(1_000, None, None, 0, false),
-    ),
-];
-
-// Words without a form.
-const REFUSED: &[&[&str]] = &[
-    &["diagnose", "n", "t", "o"],
-    &["uninit", "n", "o", "--budget=0"],
-    &["sync", "n", "o"],
-    &["respond", "n", "t", "o", "--fault=655359"],
-    &["report", "n", "t", "p", "r", "--budget=0"],
-    &["report", "n", "t", "p"],
-    &["gen", "n", "t", "r", "p", "--search", "Deep"],
-    &["gen", "n", "t", "r", "p", "--weighted=100001"],
-    &["gen", "n", "t", "r", "p", "--first"],
-    &[],
-    &["SIM", "n", "t", "r"],
-    &["help"],
-    &["sim"],
-    &["sim", "n", "t"],
-    &["sim", "n", "t", "r", "x"],
-    &["sim", "--", "n", "t", "r", "x"],
-    &["sim", "-1", "t", "r"],
-    &["sim", "-n", "t", "r"],
-    &["sim", "--n", "t", "r"],
-    &["sim", "---", "t", "r"],
-    &["sim", "n", "t", "r", "-h"],
-    &["sim", "--help"],
-    &["sim", "-V"],
-    &["sim", "--version"],
-    &["sim", "n", "t", "r", "--budget", "5"],
-    &["gen", "n", "t", "r"],
-    &["gen", "n", "t", "r", "p", "x"],
-    &["gen", "n", "t", "r", "p", "--random", "x"],
-    &["check", "n", "t", "r"],
-    &["demo", "16"],
-    &["demo", "0", "1"],
-    &["gen", "n", "t", "r", "p", "--help"],
-    &["norm", "n"],
-    &["norm", "n", "o", "--start", "s"],
-    &["sim", "n", "t", "r", "--start"],
-    &["sim", "n", "t", "r", "--start", "-s"],
-    &["check", "n", "t", "r", "p", "--start=s", "--start=s"],
-    &["norm", "n", "o", "x"],
-    &["norm", "n", "o", "--help"],
-    &["gen", "n", "t", "r", "p", "--budget", "0"],
-    &["gen", "n", "t", "r", "p", "--budget", "100001"],
-    &["gen", "n", "t", "r", "p", "--budget=18446744073709551617"],
-    &["gen", "n", "t", "r", "p", "--budget"],
-    &["gen", "n", "t", "r", "p", "--budget="],
-    &["gen", "n", "t", "r", "p", "--budget", ""],
-    &["gen", "n", "t", "r", "p", "--budget", "-5"],
-    &["gen", "n", "t", "r", "p", "--budget=-5"],
-    &["gen", "n", "t", "r", "p", "--budget=+5"],
-    &["gen", "n", "t", "r", "p", "--budget", "0x5"],
-    &["gen", "n", "t", "r", "p", "--budget", "5 "],
-    &["gen", "n", "t", "r", "p", "--budget", "5", "--budget", "5"],
-    &["gen", "n", "t", "r", "p", "--", "--budget", "5"],
-    &["gen", "n", "t", "r", "p", "--bud", "5"],
-    &["gen", "n", "t", "r", "p", "-b", "5"],
-];
-
-#[test]
-fn words_of_a_form_give_its_names(rt: HostRuntime) -> Result<(), Fail> {
-    for row in FORMS {
-        let words = row.0;
-        assert!(rt; asks(rt.alloc(), words, &row.1)?, "of {words:?}");
+/// Whether the words of a row ask for what its other columns say; without any, they have no form.
+fn asks(alloc: Global, row: &str) -> Result<bool, AllocError> {
+    let (words, columns) = row.split_once('|').unwrap_or((row, ""));
+    let list = words_of(alloc, words, ',')?;
+    match command(alloc, &list) {
+        Ok(job) => is_job(alloc, &job, columns),
+        Err(WordsFault::Usage) => Ok(columns.is_empty()),
+        Err(WordsFault::NoMemory) => Ok(false),
     }
-    Ok(())
+}
+
+/// Each command with its names, and then those that may have a start.
+const FORMS: &str = "sim,n,t,r|sim|n,t,r
+sim,,,|sim|,,
+sim,-,-,-|sim|-,-,-
+sim,--,n,t,r|sim|n,t,r
+sim,n,t,r,--|sim|n,t,r
+sim,n,--,-t,--r|sim|n,-t,--r
+sim,--,--,t,r|sim|--,t,r
+sim,n,--,t,--|sim|n,t,--
+gen,n,t,r,p|gen|n,t,r,p
+check,n,t,--,-r,p|check|n,t,-r,p
+gen,--,n,-t,--r,--budget|gen|n,-t,--r,--budget
+gen,n,--random,5,t,r,p,--seed=5|gen|n,t,r,p
+check,n,t,r,p|check|n,t,r,p
+norm,n,o|norm|n,o
+compact,n,t,o|compact|n,t,o
+diagnose,n,t,s,o|diagnose|n,t,s,o
+uninit,n,--budget=5,--,-o|uninit|n,-o
+sync,n,t,--budget=5,o|sync|n,t,o
+norm,--,-n,-o|norm|-n,-o
+respond,n,--fault=5,t,--start,s,o|respond|n,t,o|s
+report,n,--budget=5,t,--start,s,p,r|report|n,t,p,r|s
+sim,n,t,r,--start,s|sim|n,t,r|s
+sim,--start=-s,n,t,r|sim|n,t,r|-s
+sim,n,--start,-,t,r|sim|n,t,r|-
+gen,n,t,r,p,--start,s,--seed=5|gen|n,t,r,p|s
+check,n,t,r,p,--start=|check|n,t,r,p|
+";
+
+/// A budget is a number in digits from 1 to 100,000; and what `gen` works on, and how.
+const OPTIONS: &str = "gen,n,t,r,p|options|1000|||0|plain
+gen,n,t,r,p,--faults=l,--first,f|options|1000|f|l|0|plain
+gen,n,t,r,p,--budget,5|options|5|||0|plain
+gen,n,t,r,p,--budget=5|options|5|||0|plain
+gen,--budget,5,n,t,r,p|options|5|||0|plain
+gen,--budget=5,n,t,r,p|options|5|||0|plain
+gen,n,t,--budget=5,r,p|options|5|||0|plain
+gen,--budget,5,--,n,t,r,p|options|5|||0|plain
+gen,n,t,r,p,--budget,1|options|1|||0|plain
+gen,n,t,r,p,--budget=100000|options|100000|||0|plain
+gen,n,t,r,p,--budget=0000000100000|options|100000|||0|plain
+gen,--search=deep,n,t,--weighted,007,r,p|options|1000|||7|deep
+gen,n,t,r,p,--search,plain|options|1000|||0|plain
+";
+
+/// Words without a form. The first row has none.
+const REFUSED: &str = "
+diagnose,n,t,o
+uninit,n,o,--budget=0
+sync,n,o
+respond,n,t,o,--fault=655359
+report,n,t,p,r,--budget=0
+report,n,t,p
+gen,n,t,r,p,--search,Deep
+gen,n,t,r,p,--weighted=100001
+gen,n,t,r,p,--first
+SIM,n,t,r
+help
+sim
+sim,n,t
+sim,n,t,r,x
+sim,--,n,t,r,x
+sim,-1,t,r
+sim,-n,t,r
+sim,--n,t,r
+sim,---,t,r
+sim,n,t,r,-h
+sim,--help
+sim,-V
+sim,--version
+sim,n,t,r,--budget,5
+gen,n,t,r
+gen,n,t,r,p,x
+gen,n,t,r,p,--random,x
+check,n,t,r
+demo,16
+demo,0,1
+gen,n,t,r,p,--help
+norm,n
+norm,n,o,--start,s
+sim,n,t,r,--start
+sim,n,t,r,--start,-s
+check,n,t,r,p,--start=s,--start=s
+norm,n,o,x
+norm,n,o,--help
+gen,n,t,r,p,--budget,0
+gen,n,t,r,p,--budget,100001
+gen,n,t,r,p,--budget=18446744073709551617
+gen,n,t,r,p,--budget
+gen,n,t,r,p,--budget=
+gen,n,t,r,p,--budget,
+gen,n,t,r,p,--budget,-5
+gen,n,t,r,p,--budget=-5
+gen,n,t,r,p,--budget=+5
+gen,n,t,r,p,--budget,0x5
+gen,n,t,r,p,--budget,5\x20
+gen,n,t,r,p,--budget,5,--budget,5
+gen,n,t,r,p,--,--budget,5
+gen,n,t,r,p,--bud,5
+gen,n,t,r,p,-b,5
+";
+
+/// The first row that doesn't ask for what it says, if there is one.
+fn first_wrong(alloc: Global, rows: &str) -> Result<Option<&str>, AllocError> {
+    for row in rows.lines() {
+        if !asks(alloc, row)? {
+            return Ok(Some(row));
+        }
+    }
+    Ok(None)
 }
 
 #[test]
-fn words_with_a_start_give_its_name(rt: HostRuntime) -> Result<(), Fail> {
-    for row in STARTS {
-        let words = row.0;
-        assert!(rt; asks(rt.alloc(), words, &row.1)?, "of {words:?}");
-    }
-    Ok(())
-}
-
-#[test]
-fn words_of_gen_give_its_options(rt: HostRuntime) -> Result<(), Fail> {
-    for row in OPTIONS {
-        let words = row.0;
-        assert!(rt; asks(rt.alloc(), words, &row.1)?, "of {words:?}");
-    }
-    Ok(())
-}
-
-#[test]
-fn words_without_a_form_are_usage(rt: HostRuntime) -> Result<(), Fail> {
-    for words in REFUSED {
-        let words = *words;
-        assert!(rt; asks(rt.alloc(), words, &Usage)?, "of {words:?}");
-    }
+fn words_have_a_form_or_are_usage(rt: HostRuntime) -> Result<(), Fail> {
+    assert!(rt; first_wrong(rt.alloc(), FORMS)?.is_none());
+    assert!(rt; first_wrong(rt.alloc(), OPTIONS)?.is_none());
+    assert!(rt; first_wrong(rt.alloc(), REFUSED)?.is_none());
     Ok(())
 }

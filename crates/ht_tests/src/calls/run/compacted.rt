@@ -1,67 +1,85 @@
 //! `compact` leaves out the vectors that aren't needed.
 
-use super::rows::{BASE, Row};
-use ht_samples::SHIFT_REGISTER;
-
-const WIRE: &[u8] = b"INPUT(a)\nOUTPUT(a)\n";
-
-const COMPACTED: Row<'static> = Row {
-    words: &["compact", "n", "t", "r"],
-    ..BASE
-};
-
-// Tests of 4,096 vectors, with more lines after them.
-const LONG: Row<'static> = Row {
-    given: &[("n", SHIFT_REGISTER)],
-    left: &[("r", None)],
-    ..COMPACTED
-};
-
-pub const ROWS: &[Row<'static>] = &[
-    // vectors that aren't needed are left out
-    Row {
-        given: &[("n", SHIFT_REGISTER), ("t", b"1\n0\n0\n0\n0\n0\n")],
-        left: &[("r", Some(b"1\n0\n0\n0\n"))],
-        out: b"vectors 6 kept 4\n",
-        ..COMPACTED
-    },
-    Row {
-        given: &[("n", SHIFT_REGISTER), ("t", b"")],
-        left: &[("r", Some(b""))],
-        out: b"vectors 0 kept 0\n",
-        ..COMPACTED
-    },
-    // the first vector is the last that is tried, so the last goes
-    Row {
-        given: &[("n", WIRE), ("t", b"1\n0\n1\n")],
-        left: &[("r", Some(b"1\n0\n"))],
-        out: b"vectors 3 kept 2\n",
-        ..COMPACTED
-    },
-    Row {
-        given: &[("n", b"INPUT(a)\n"), ("t", b"1\r\n0")],
-        left: &[("r", Some(b""))],
-        out: b"vectors 2 kept 0\n",
-        ..COMPACTED
-    },
-    // more than 4,096 vectors are too many
-    Row {
-        made: Some(("t", &[(4_096, b"0\n", None), (1, b"0\n", None)])),
-        status: 9,
-        err: b"tests: too many vectors\n",
-        ..LONG
-    },
-    Row {
-        made: Some(("t", &[(4_096, b"0\n", None), (1, b"x\n", None)])),
-        status: 7,
-        err: b"tests: line 4097\n",
-        ..LONG
-    },
-    // no line after the first one too many is read
-    Row {
-        made: Some(("t", &[(4_096, b"0\n", None), (1, b"1\nx\n", None)])),
-        status: 9,
-        err: b"tests: too many vectors\n",
-        ..LONG
-    },
-];
+pub const ROWS: &str = "~# vectors that aren't needed are left out
+~run compact n t r
+~given n: SHIFT_REGISTER
+~given t
+1
+0
+0
+0
+0
+0
+~status 0
+~left r
+1
+0
+0
+0
+~left out
+vectors 6 kept 4
+~run compact n t r
+~given n: SHIFT_REGISTER
+~given t
+~status 0
+~left r
+~left out
+vectors 0 kept 0
+~# the first vector is the last that is tried, so the last goes
+~run compact n t r
+~given n
+INPUT(a)
+OUTPUT(a)
+~given t
+1
+0
+1
+~status 0
+~left r
+1
+0
+~left out
+vectors 3 kept 2
+~run compact n t r
+~given n
+INPUT(a)
+~given t
+1\r
+0~status 0
+~left r
+~left out
+vectors 2 kept 0
+~# more than 4,096 vectors are too many
+~run compact n t r
+~given n: SHIFT_REGISTER
+~times 4096 t
+0
+~given t
+0
+~status 9
+~none r
+~left err
+tests: too many vectors
+~run compact n t r
+~given n: SHIFT_REGISTER
+~times 4096 t
+0
+~given t
+x
+~status 7
+~none r
+~left err
+tests: line 4097
+~# no line after the first one too many is read
+~run compact n t r
+~given n: SHIFT_REGISTER
+~times 4096 t
+0
+~given t
+1
+x
+~status 9
+~none r
+~left err
+tests: too many vectors
+";

@@ -1,58 +1,73 @@
 //! `gen` doesn't finish.
 
-use super::rows::{BASE, GEN, Row};
-use ht_ports::{Fail, InPort, OutPort};
-use ht_samples::SHIFT_REGISTER;
-
-const OLD: &[u8] = b"old tests\n";
-
-// No file is made.
-const UNMADE: Row<'static> = Row {
-    words: GEN,
-    left: &[("t", Some(OLD)), ("r", None), ("p", None)],
-    ..BASE
-};
-
-const WRITE_FAULT: Row<'static> = Row {
-    given: &[("n", SHIFT_REGISTER), ("t", OLD)],
-    status: 5,
-    err: b"write fault\n",
-    ..UNMADE
-};
-
 // The files are made in the order tests, report, proofs, once the netlist is accepted.
-pub const ROWS: &[Row<'static>] = &[
-    Row {
-        given: &[("t", OLD)],
-        status: 4,
-        err: b"read fault\n",
-        ..UNMADE
-    },
-    Row {
-        given: &[("n", SHIFT_REGISTER), ("t", OLD)],
-        fails: &[Fail::Open(InPort::Netlist)],
-        status: 4,
-        err: b"read fault\n",
-        ..UNMADE
-    },
-    Row {
-        given: &[("n", b"a = NOT(b)\nb = NOT(a)\n"), ("t", OLD)],
-        status: 3,
-        err: b"netlist: line 1: loop a b\n",
-        ..UNMADE
-    },
-    Row {
-        fails: &[Fail::Create(OutPort::Tests)],
-        ..WRITE_FAULT
-    },
-    Row {
-        fails: &[Fail::Create(OutPort::Report)],
-        left: &[("t", Some(b"")), ("r", None), ("p", None)],
-        ..WRITE_FAULT
-    },
-    Row {
-        fails: &[Fail::Create(OutPort::Proofs)],
-        left: &[("t", Some(b"")), ("r", Some(b"")), ("p", None)],
-        ..WRITE_FAULT
-    },
-];
+pub const ROWS: &str = "~run gen n t r p
+~given t
+old tests
+~status 4
+~left t
+old tests
+~none r
+~none p
+~left err
+read fault
+~run gen n t r p
+~given n: SHIFT_REGISTER
+~given t
+old tests
+~fail open netlist
+~status 4
+~left t
+old tests
+~none r
+~none p
+~left err
+read fault
+~run gen n t r p
+~given n
+a = NOT(b)
+b = NOT(a)
+~given t
+old tests
+~status 3
+~left t
+old tests
+~none r
+~none p
+~left err
+netlist: line 1: loop a b
+~run gen n t r p
+~given n: SHIFT_REGISTER
+~given t
+old tests
+~fail create tests
+~status 5
+~left t
+old tests
+~none r
+~none p
+~left err
+write fault
+~run gen n t r p
+~given n: SHIFT_REGISTER
+~given t
+old tests
+~fail create report
+~status 5
+~left t
+~none r
+~none p
+~left err
+write fault
+~run gen n t r p
+~given n: SHIFT_REGISTER
+~given t
+old tests
+~fail create proofs
+~status 5
+~left t
+~left r
+~none p
+~left err
+write fault
+";

@@ -1,76 +1,95 @@
 //! `gen` finishes, where only parts of the files are known. The report ends with the line on Out.
 
-use super::rows::{BASE, GEN, Row};
-use ht_samples::{S27, SHIFT_REGISTER, TWINS};
+pub const ROWS: &str = "~# the 20 faults that have a representative of a lesser number
+~run gen n t r p
+~given n: S27
+~status 0
+~part t
+~part r
+circuit inputs 4 outputs 1 flip-flops 3 gates 10 faults 52 classes 32 budget 1000
+1 G0 s-a-0 ~part r
 
-const FINISHED: Row<'static> = Row {
-    words: GEN,
-    out_ends_report: true,
-    ..BASE
-};
+14 G7 s-a-1 as 4
+15 G14 s-a-0 as 2
+16 G14 s-a-1 as 1
+17 G17 s-a-0 ~part r
 
-pub const ROWS: &[Row<'static>] = &[
-    // the 20 faults that have a representative of a lesser number
-    Row {
-        given: &[("n", S27)],
-        parts: &[
-            ("t", b""),
-            (
-                "r",
-                b"circuit inputs 4 outputs 1 flip-flops 3 gates 10 faults 52 classes 32 budget 1000\n1 G0 s-a-0 ",
-            ),
-            (
-                "r",
-                b"\n14 G7 s-a-1 as 4\n15 G14 s-a-0 as 2\n16 G14 s-a-1 as 1\n17 G17 s-a-0 ",
-            ),
-            ("r", b"\n19 G8 s-a-0 as 11\n20 G8 s-a-1 "),
-            ("r", b"\n21 G15 s-a-0 as 10\n22 G15 s-a-1 "),
-            (
-                "r",
-                b"\n23 G16 s-a-0 as 10\n24 G16 s-a-1 as 8\n25 G9 s-a-0 ",
-            ),
-            ("r", b"\n26 G9 s-a-1 as 10\n27 G10 s-a-0 "),
-            ("r", b"\n29 G11 s-a-0 as 10\n30 G11 s-a-1 "),
-            ("r", b"\n31 G12 s-a-0 as 4\n32 G12 s-a-1 "),
-            ("r", b"\n33 G13 s-a-0 as 6\n34 G13 s-a-1 "),
-            (
-                "r",
-                b"\n37 G17(1) s-a-0 as 18\n38 G17(1) s-a-1 as 17\n39 G8(1) s-a-0 as 11\n40 G8(1) s-a-1 ",
-            ),
-            ("r", b"\n42 G15(1) s-a-1 as 22\n43 G15(2) s-a-0 "),
-            ("r", b"\n44 G15(2) s-a-1 as 22\n45 G16(2) s-a-0 "),
-            ("r", b"\n46 G16(2) s-a-1 as 8\n47 G10(1) s-a-0 "),
-            ("r", b"\n48 G10(1) s-a-1 as 27\n49 G10(2) s-a-0 "),
-            ("r", b"\n50 G10(2) s-a-1 as 27\n51 G13(2) s-a-0 "),
-            ("r", b"\n52 G13(2) s-a-1 as 6\ntotal 32 detected "),
-            ("p", b""),
-        ],
-        out: b"total 32 detected ",
-        ..FINISHED
-    },
-    // three vectors detect each fault, and the sweep has budget for as many: 1*4 + 2*8 + 3*16
-    Row {
-        words: &["gen", "n", "t", "r", "p", "--budget", "68"],
-        given: &[("n", SHIFT_REGISTER)],
-        parts: &[("t", b""), ("r", b""), ("p", b"")],
-        out: b"total 6 detected 6 untestable 0 aborted 0\n",
-        ..FINISHED
-    },
-    // from 00 on the two flip-flops are equal, so the fault that shows where they differ is refuted from there
-    Row {
-        given: &[("n", TWINS)],
-        parts: &[
-            ("t", b""),
-            (
-                "r",
-                b"circuit inputs 2 outputs 1 flip-flops 2 gates 2 faults 16 classes 14 budget 1000\n",
-            ),
-            ("r", b"\n3 b s-a-0 untestable\n4 b s-a-1 untestable\n"),
-            ("r", b"\n9 x s-a-0 as 3\n"),
-            ("r", b"\n11 z s-a-0 as 3\n"),
-            (
-                "p",
-                b"\nentry 3 untestable from 00
+19 G8 s-a-0 as 11
+20 G8 s-a-1 ~part r
+
+21 G15 s-a-0 as 10
+22 G15 s-a-1 ~part r
+
+23 G16 s-a-0 as 10
+24 G16 s-a-1 as 8
+25 G9 s-a-0 ~part r
+
+26 G9 s-a-1 as 10
+27 G10 s-a-0 ~part r
+
+29 G11 s-a-0 as 10
+30 G11 s-a-1 ~part r
+
+31 G12 s-a-0 as 4
+32 G12 s-a-1 ~part r
+
+33 G13 s-a-0 as 6
+34 G13 s-a-1 ~part r
+
+37 G17(1) s-a-0 as 18
+38 G17(1) s-a-1 as 17
+39 G8(1) s-a-0 as 11
+40 G8(1) s-a-1 ~part r
+
+42 G15(1) s-a-1 as 22
+43 G15(2) s-a-0 ~part r
+
+44 G15(2) s-a-1 as 22
+45 G16(2) s-a-0 ~part r
+
+46 G16(2) s-a-1 as 8
+47 G10(1) s-a-0 ~part r
+
+48 G10(1) s-a-1 as 27
+49 G10(2) s-a-0 ~part r
+
+50 G10(2) s-a-1 as 27
+51 G13(2) s-a-0 ~part r
+
+52 G13(2) s-a-1 as 6
+total 32 detected ~part p
+~begins out
+total 32 detected ~closes r
+~# three vectors detect each fault, and the sweep has budget for as many: 1*4 + 2*8 + 3*16
+~run gen n t r p --budget 68
+~given n: SHIFT_REGISTER
+~status 0
+~part t
+~part r
+~part p
+~begins out
+total 6 detected 6 untestable 0 aborted 0
+~closes r
+~# from 00 on the two flip-flops are equal, so the fault that shows where they differ is refuted from there
+~run gen n t r p
+~given n: TWINS
+~status 0
+~part t
+~part r
+circuit inputs 2 outputs 1 flip-flops 2 gates 2 faults 16 classes 14 budget 1000
+~part r
+
+3 b s-a-0 untestable
+4 b s-a-1 untestable
+~part r
+
+9 x s-a-0 as 3
+~part r
+
+11 z s-a-0 as 3
+~part p
+
+entry 3 untestable from 00
 clause 1 0 2 1
 hi 1
 dead
@@ -105,10 +124,7 @@ hi 4
 dead
 dead
 end
-",
-            ),
-        ],
-        out: b"total 14 detected 10 untestable 2 aborted 2\n",
-        ..FINISHED
-    },
-];
+~begins out
+total 14 detected 10 untestable 2 aborted 2
+~closes r
+";

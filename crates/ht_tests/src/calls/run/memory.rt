@@ -1,18 +1,20 @@
 //! Refused memory. In the gate no allocation is refused; outside it these tests run with each of their allocations
 //! refused in turn (`rt try --test --fail-alloc N`).
 
-use super::mute::{MuteDesk, mute_status_on};
-use super::rows::{BASE, Row, SIM, load, status_of};
+use super::mute::{MuteDesk, status_on};
+use super::rows::status_of;
 use ht_ports::MemoryDesk;
 use ht_samples::{SHIFT_REGISTER, SHIFT_REGISTER_REPORT};
 use std::alloc::{AllocError, Global};
 use std::test::Fail;
 
-const START: Row<'static> = Row {
-    words: SIM,
-    given: &[("n", SHIFT_REGISTER), ("t", b"1\n0\n0\n")],
-    ..BASE
-};
+const SIM: &str = "sim n t r";
+
+// Puts the files on the desk that the words name.
+fn load(desk: &mut MemoryDesk) -> Result<(), AllocError> {
+    desk.put("n", SHIFT_REGISTER.as_bytes())?;
+    desk.put("t", b"1\n0\n0\n")
+}
 
 /// The line on Err where calls or memory may be refused; a desk in memory counts a refused growth as a fault.
 fn line_at(status: u8) -> Option<&'static [u8]> {
@@ -27,9 +29,9 @@ fn line_at(status: u8) -> Option<&'static [u8]> {
 
 // Whether the run says its status in its line, and leaves the report where it finishes.
 fn says_status(alloc: Global, desk: &mut MemoryDesk) -> Result<bool, AllocError> {
-    load(alloc, desk, &START, false)?;
+    load(desk)?;
     let status = status_of(alloc, desk, SIM)?;
-    let is_whole = status != 0 || desk.file("r") == Some(SHIFT_REGISTER_REPORT);
+    let is_whole = status != 0 || desk.file("r") == Some(SHIFT_REGISTER_REPORT.as_bytes());
     Ok(is_whole && line_at(status) == Some(desk.err()))
 }
 
@@ -43,8 +45,9 @@ fn refused_memory_has_its_status(rt: HostRuntime) -> Result<(), Fail> {
 // Whether the status is that of a failed write exactly where a write of the output failed, and not where that of the
 // line on Err did.
 fn keeps_status(alloc: Global, desk: &mut MuteDesk) -> Result<bool, AllocError> {
-    let status = mute_status_on(alloc, desk, &START)?;
-    let is_whole = status != 0 || desk.inner.file("r") == Some(SHIFT_REGISTER_REPORT);
+    load(&mut desk.inner)?;
+    let status = status_on(alloc, desk, SIM)?;
+    let is_whole = status != 0 || desk.inner.file("r") == Some(SHIFT_REGISTER_REPORT.as_bytes());
     Ok(is_whole && (status == 5) == desk.output_failed && line_at(status).is_some())
 }
 

@@ -1,12 +1,11 @@
 //! A standard error that takes nothing.
 ghost use Rattle.ht_ports.specs.Memory.{memory_view};
 
-use super::rows::{BASE, GEN, NORM, Row, SIM, is_left, load, words_of};
+use super::rows::words_of;
 use ht_app::run;
-use ht_ports::{Desk, Fail as Plan, Failed, InPort, MemoryDesk, OutPort};
-use ht_samples::{SHIFT_REGISTER, SHIFT_REGISTER_REPORT};
+use ht_ports::{Desk, Failed, InPort, MemoryDesk, OutPort};
 use std::alloc::{AllocError, Global};
-use std::test::Fail;
+use std::mem::replace;
 
 /// A memory desk whose standard error takes nothing: each write to it is a counted fault.
 #[derive(Drop)]
@@ -55,113 +54,100 @@ impl Desk for MuteDesk {
     }
 }
 
-/// The status of the run, over a mute desk without files.
-pub fn mute_status_on(alloc: Global, desk: &mut MuteDesk, row: &Row<'_>) -> Result<u8, AllocError> {
-    load(alloc, &mut desk.inner, row, false)?;
-    let words = words_of(alloc, row.words)?;
+/// The status of the run, over a mute desk.
+pub fn status_on(alloc: Global, desk: &mut MuteDesk, words: &str) -> Result<u8, AllocError> {
+    let words = words_of(alloc, words, ' ')?;
     Ok(run(alloc, &words, desk))
 }
 
-// Whether the run has its status over the mute desk, and leaves what it may: one failed line, after 5 also the failed
-// output; after 0 no line was tried.
-fn ends_on(alloc: Global, desk: &mut MuteDesk, row: &Row<'_>) -> Result<bool, AllocError> {
-    let status = mute_status_on(alloc, desk, row)?;
+/// The status of the run over what stands on the desk, where the standard error takes nothing; none where more failed
+/// than may: one line, after 5 also the output, and after 0 nothing.
+pub fn mute_status(
+    alloc: Global,
+    desk: &mut MemoryDesk,
+    words: &str,
+) -> Result<Option<u8>, AllocError> {
+    let mut mute = MuteDesk {
+        inner: replace(desk, MemoryDesk::new(alloc)),
+        out_faults: 0,
+        output_failed: false,
+    };
+    let status = status_on(alloc, &mut mute, words)?;
     let faults = match status {
         0 => 0,
         5 => 2,
         _ => 1,
     };
-    Ok(status == row.status && desk.out_faults == faults && is_left(&desk.inner, row, true))
+    let is_so = mute.out_faults == faults;
+    *desk = mute.inner;
+    Ok(if is_so { Some(status) } else { None })
 }
 
-// A run of this status, which leaves no report.
-const ENDS: Row<'static> = Row {
-    left: &[("r", None)],
-    ..BASE
-};
-
-const ROWS: &[Row<'static>] = &[
-    Row {
-        words: &["sim"],
-        given: &[("n", SHIFT_REGISTER), ("t", b"1\n")],
-        status: 2,
-        ..ENDS
-    },
-    Row {
-        words: SIM,
-        given: &[("n", b"INPUT(=)\n"), ("t", b"1\n")],
-        status: 3,
-        ..ENDS
-    },
-    Row {
-        words: GEN,
-        given: &[("n", b"INPUT(=)\n")],
-        status: 3,
-        ..ENDS
-    },
-    Row {
-        words: NORM,
-        status: 4,
-        ..ENDS
-    },
-    Row {
-        words: GEN,
-        status: 4,
-        ..ENDS
-    },
-    // the netlist is accepted, and then the tests can't be read
-    Row {
-        words: SIM,
-        given: &[("n", SHIFT_REGISTER)],
-        status: 4,
-        ..ENDS
-    },
-    Row {
-        words: SIM,
-        given: &[("n", SHIFT_REGISTER), ("t", b"1\n")],
-        fails: &[Plan::Open(InPort::Tests)],
-        status: 4,
-        ..ENDS
-    },
-    Row {
-        words: SIM,
-        given: &[("n", SHIFT_REGISTER), ("t", b"1\n0\n0\n")],
-        fails: &[Plan::Create(OutPort::Report)],
-        status: 5,
-        ..ENDS
-    },
-    Row {
-        words: GEN,
-        given: &[("n", SHIFT_REGISTER)],
-        fails: &[Plan::Create(OutPort::Tests)],
-        status: 5,
-        ..ENDS
-    },
-    Row {
-        words: SIM,
-        given: &[("n", SHIFT_REGISTER), ("t", b"x\n")],
-        status: 7,
-        ..ENDS
-    },
-    Row {
-        words: SIM,
-        given: &[("n", SHIFT_REGISTER), ("t", b"1\n0\n0\n")],
-        left: &[("r", Some(SHIFT_REGISTER_REPORT))],
-        out: b"total 6 detected 3\n",
-        ..ENDS
-    },
-];
-
-#[test]
-fn a_failing_standard_error_leaves_the_status(rt: HostRuntime) -> Result<(), Fail> {
-    let alloc = rt.alloc();
-    for row in ROWS {
-        let mut desk = MuteDesk {
-            inner: MemoryDesk::new(alloc),
-            out_faults: 0,
-            output_failed: false,
-        };
-        assert!(rt; ends_on(alloc, &mut desk, row)?);
-    }
-    Ok(())
-}
+/// Runs, none of which leaves a report but the last.
+pub const ROWS: &str = "~run sim
+~given n: SHIFT_REGISTER
+~given t
+1
+~status 2
+~none r
+~run sim n t r
+~given n
+INPUT(=)
+~given t
+1
+~status 3
+~none r
+~run gen n t r p
+~given n
+INPUT(=)
+~status 3
+~none r
+~run norm n r
+~status 4
+~none r
+~run gen n t r p
+~status 4
+~none r
+~# the netlist is accepted, and then the tests can't be read
+~run sim n t r
+~given n: SHIFT_REGISTER
+~status 4
+~none r
+~run sim n t r
+~given n: SHIFT_REGISTER
+~given t
+1
+~fail open tests
+~status 4
+~none r
+~run sim n t r
+~given n: SHIFT_REGISTER
+~given t
+1
+0
+0
+~fail create report
+~status 5
+~none r
+~run gen n t r p
+~given n: SHIFT_REGISTER
+~fail create tests
+~status 5
+~none r
+~run sim n t r
+~given n: SHIFT_REGISTER
+~given t
+x
+~status 7
+~none r
+~run sim n t r
+~given n: SHIFT_REGISTER
+~given t
+1
+0
+0
+~status 0
+~left r: SHIFT_REGISTER_REPORT
+~left out
+total 6 detected 3
+";

@@ -1,39 +1,33 @@
 //! `norm` finishes.
 
-use super::rows::{BASE, NORM, Row};
-use ht_samples::SHIFT_REGISTER;
-
-/// Spaces, tabs, letter case, CR LF, a comment, and an output that is named twice.
-const FREE: &[u8] =
-    b"input(a)\r\n\tINPUT ( b )\r\nOUTPUT(z) # seen\r\nOUTPUT(z)\r\nz = nand( t , b )\r\nt = BUF(a)\r\n";
-
-const FREE_NORMAL: &[u8] = b"INPUT(a)\nINPUT(b)\nOUTPUT(z)\nz = NAND(t, b)\nt = BUFF(a)\n";
-
-const FINISHED: Row<'static> = Row {
-    words: NORM,
-    ..BASE
-};
-
 // A netlist gives its normal text.
-pub const ROWS: &[Row<'static>] = &[
-    Row {
-        given: &[("n", FREE)],
-        left: &[("r", Some(FREE_NORMAL))],
-        ..FINISHED
-    },
-    Row {
-        given: &[("n", FREE_NORMAL)],
-        left: &[("r", Some(FREE_NORMAL))],
-        ..FINISHED
-    },
-    Row {
-        given: &[("n", SHIFT_REGISTER)],
-        left: &[("r", Some(SHIFT_REGISTER))],
-        ..FINISHED
-    },
-    Row {
-        given: &[("n", b"")],
-        left: &[("r", Some(b""))],
-        ..FINISHED
-    },
-];
+pub const ROWS: &str = "~text FREE_NORMAL
+INPUT(a)
+INPUT(b)
+OUTPUT(z)
+z = NAND(t, b)
+t = BUFF(a)
+~# Spaces, tabs, letter case, CR LF, a comment, and an output that is named twice.
+~run norm n r
+~given n
+input(a)\r
+\tINPUT ( b )\r
+OUTPUT(z) # seen\r
+OUTPUT(z)\r
+z = nand( t , b )\r
+t = BUF(a)\r
+~status 0
+~left r: FREE_NORMAL
+~run norm n r
+~given n: FREE_NORMAL
+~status 0
+~left r: FREE_NORMAL
+~run norm n r
+~given n: SHIFT_REGISTER
+~status 0
+~left r: SHIFT_REGISTER
+~run norm n r
+~given n
+~status 0
+~left r
+";

@@ -1,128 +1,196 @@
 //! `sim` from a stated start.
 
-use super::rows::{BASE, Row};
-use ht_samples::TOGGLE;
+pub const ROWS: &str = "~# The reports of the toggle under two vectors.
+~text TOGGLE_FROM_0
+circuit inputs 0 outputs 1 flip-flops 1 gates 1 faults 6 classes 4
+1 q s-a-0 detected 2 q
+2 q s-a-1 detected 1 q
+3 n s-a-0 detected 2 q
+4 n s-a-1 undetected
+5 n(1) s-a-0 as 4
+6 n(1) s-a-1 as 3
+total 4 detected 3
+~text TOGGLE_FROM_X
+circuit inputs 0 outputs 1 flip-flops 1 gates 1 faults 6 classes 4
+1 q s-a-0 undetected
+2 q s-a-1 undetected
+3 n s-a-0 undetected
+4 n s-a-1 undetected
+5 n(1) s-a-0 as 4
+6 n(1) s-a-1 as 3
+total 4 detected 0
+~text EMPTY_REPORT
+circuit inputs 0 outputs 0 flip-flops 0 gates 0 faults 0 classes 0
+total 0 detected 0
+~# detections are from the start
+~run sim n t r --start s
+~given n: TOGGLE
+~given t
 
-// The reports of the toggle under two vectors.
-const TOGGLE_FROM_0: &[u8] = b"circuit inputs 0 outputs 1 flip-flops 1 gates 1 faults 6 classes 4\n\
-    1 q s-a-0 detected 2 q\n2 q s-a-1 detected 1 q\n3 n s-a-0 detected 2 q\n\
-    4 n s-a-1 undetected\n5 n(1) s-a-0 as 4\n6 n(1) s-a-1 as 3\n\
-    total 4 detected 3\n";
 
-const TOGGLE_FROM_X: &[u8] = b"circuit inputs 0 outputs 1 flip-flops 1 gates 1 faults 6 classes 4\n\
-    1 q s-a-0 undetected\n2 q s-a-1 undetected\n3 n s-a-0 undetected\n\
-    4 n s-a-1 undetected\n5 n(1) s-a-0 as 4\n6 n(1) s-a-1 as 3\n\
-    total 4 detected 0\n";
+~given s
+0
+~status 0
+~left r: TOGGLE_FROM_0
+~left out
+total 4 detected 3
+~run sim n t r --start s
+~given n: TOGGLE
+~given t
 
-const EMPTY_REPORT: &[u8] =
-    b"circuit inputs 0 outputs 0 flip-flops 0 gates 0 faults 0 classes 0\ntotal 0 detected 0\n";
 
-const SIM_FROM: Row<'static> = Row {
-    words: &["sim", "n", "t", "r", "--start", "s"],
-    ..BASE
-};
+~given s
+0~status 0
+~left r: TOGGLE_FROM_0
+~left out
+total 4 detected 3
+~run sim n t r --start s
+~given n: TOGGLE
+~given t
 
-const FROM_0: Row<'static> = Row {
-    left: &[("r", Some(TOGGLE_FROM_0))],
-    out: b"total 4 detected 3\n",
-    ..SIM_FROM
-};
 
-const FROM_X: Row<'static> = Row {
-    left: &[("r", Some(TOGGLE_FROM_X))],
-    out: b"total 4 detected 0\n",
-    ..SIM_FROM
-};
+~given s
+0\r
+~status 0
+~left r: TOGGLE_FROM_0
+~left out
+total 4 detected 3
+~run sim n t r --start s
+~given n: TOGGLE
+~given t
 
-const NO_FLIP_FLOPS: Row<'static> = Row {
-    left: &[("r", Some(EMPTY_REPORT))],
-    out: b"total 0 detected 0\n",
-    ..SIM_FROM
-};
 
-const REFUSED: Row<'static> = Row {
-    status: 8,
-    left: &[("r", None)],
-    ..SIM_FROM
-};
+~given s
+x
+~status 0
+~left r: TOGGLE_FROM_X
+~left out
+total 4 detected 0
+~run sim n t r --start s
+~given n: TOGGLE
+~given t
 
-pub const ROWS: &[Row<'static>] = &[
-    // detections are from the start
-    Row {
-        given: &[("n", TOGGLE), ("t", b"\n\n"), ("s", b"0\n")],
-        ..FROM_0
-    },
-    Row {
-        given: &[("n", TOGGLE), ("t", b"\n\n"), ("s", b"0")],
-        ..FROM_0
-    },
-    Row {
-        given: &[("n", TOGGLE), ("t", b"\n\n"), ("s", b"0\r\n")],
-        ..FROM_0
-    },
-    Row {
-        given: &[("n", TOGGLE), ("t", b"\n\n"), ("s", b"x\n")],
-        ..FROM_X
-    },
-    Row {
-        given: &[("n", TOGGLE), ("t", b"\n\n"), ("s", b"X")],
-        ..FROM_X
-    },
-    // without flip-flops an empty text is a start
-    Row {
-        given: &[("n", b""), ("t", b""), ("s", b"")],
-        ..NO_FLIP_FLOPS
-    },
-    Row {
-        given: &[("n", b""), ("t", b""), ("s", b"\n")],
-        ..NO_FLIP_FLOPS
-    },
-    // a start is one line with a value for each flip-flop: texts that are none of one flip-flop
-    Row {
-        given: &[("n", TOGGLE), ("t", b"\n\n"), ("s", b"2\n")],
-        err: b"start: line 1\n",
-        ..REFUSED
-    },
-    Row {
-        given: &[("n", TOGGLE), ("t", b"\n\n"), ("s", b"01\n")],
-        err: b"start: line 1\n",
-        ..REFUSED
-    },
-    Row {
-        given: &[("n", TOGGLE), ("t", b"\n\n"), ("s", b"-")],
-        err: b"start: line 1\n",
-        ..REFUSED
-    },
-    Row {
-        given: &[("n", TOGGLE), ("t", b"\n\n"), ("s", b"")],
-        err: b"start: line 1\n",
-        ..REFUSED
-    },
-    Row {
-        given: &[("n", TOGGLE), ("t", b"\n\n"), ("s", b"\n0\n")],
-        err: b"start: line 1\n",
-        ..REFUSED
-    },
-    Row {
-        given: &[("n", TOGGLE), ("t", b"\n\n"), ("s", b"0\n\n")],
-        err: b"start: line 2\n",
-        ..REFUSED
-    },
-    Row {
-        given: &[("n", TOGGLE), ("t", b"\n\n"), ("s", b"0\n0")],
-        err: b"start: line 2\n",
-        ..REFUSED
-    },
-    // a start is refused before malformed tests
-    Row {
-        given: &[("n", TOGGLE), ("t", b"0\n"), ("s", b"2\n")],
-        err: b"start: line 1\n",
-        ..REFUSED
-    },
-    Row {
-        given: &[("n", TOGGLE), ("t", b"0\n"), ("s", b"1\n")],
-        status: 7,
-        err: b"tests: line 1\n",
-        ..REFUSED
-    },
-];
+
+~given s
+X~status 0
+~left r: TOGGLE_FROM_X
+~left out
+total 4 detected 0
+~# without flip-flops an empty text is a start
+~run sim n t r --start s
+~given n
+~given t
+~given s
+~status 0
+~left r: EMPTY_REPORT
+~left out
+total 0 detected 0
+~run sim n t r --start s
+~given n
+~given t
+~given s
+
+~status 0
+~left r: EMPTY_REPORT
+~left out
+total 0 detected 0
+~# a start is one line with a value for each flip-flop: texts that are none of one flip-flop
+~run sim n t r --start s
+~given n: TOGGLE
+~given t
+
+
+~given s
+2
+~status 8
+~none r
+~left err
+start: line 1
+~run sim n t r --start s
+~given n: TOGGLE
+~given t
+
+
+~given s
+01
+~status 8
+~none r
+~left err
+start: line 1
+~run sim n t r --start s
+~given n: TOGGLE
+~given t
+
+
+~given s
+-~status 8
+~none r
+~left err
+start: line 1
+~run sim n t r --start s
+~given n: TOGGLE
+~given t
+
+
+~given s
+~status 8
+~none r
+~left err
+start: line 1
+~run sim n t r --start s
+~given n: TOGGLE
+~given t
+
+
+~given s
+
+0
+~status 8
+~none r
+~left err
+start: line 1
+~run sim n t r --start s
+~given n: TOGGLE
+~given t
+
+
+~given s
+0
+
+~status 8
+~none r
+~left err
+start: line 2
+~run sim n t r --start s
+~given n: TOGGLE
+~given t
+
+
+~given s
+0
+0~status 8
+~none r
+~left err
+start: line 2
+~# a start is refused before malformed tests
+~run sim n t r --start s
+~given n: TOGGLE
+~given t
+0
+~given s
+2
+~status 8
+~none r
+~left err
+start: line 1
+~run sim n t r --start s
+~given n: TOGGLE
+~given t
+0
+~given s
+1
+~status 7
+~none r
+~left err
+tests: line 1
+";
