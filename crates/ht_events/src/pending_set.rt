@@ -1,7 +1,7 @@
 //! Which positions have a pending item.
 ghost use Rattle.std.specs.Prelude.{◌≡◌, ℕ, ◌<◌, ◌≤◌, true, false, length, get_or, replicate, set, IfOk, IfSome, IfNone};
 
-use ht_ranks::BitSet;
+use ht_items::BitSet;
 use std::alloc::{AllocError, Global};
 use std::marker::Model;
 

@@ -11,7 +11,8 @@ use Rattle.std.proofs.lemmas.List.{ext_get_or, get_or-map, get_or-take, length-t
 use Rattle.ht_tern.specs.declared.tern.Tern.{Tern}
 use Rattle.ht_tern.specs.declared.tern.Tern.TheVariants.{Unk}
 use Rattle.ht_tern.specs.Gate.{tern_of}
-use Rattle.ht_lanes.specs.Lanes.{Lanes, lane, every_lane, is_set, word_at}
+use Rattle.ht_items.specs.Bits.{is_set}
+use Rattle.ht_lanes.specs.Lanes.{Lanes, lane, every_lane, word_at}
 use Rattle.ht_net.specs.declared.net.NetId.{NetId}
 use Rattle.ht_net.specs.declared.fault.Site.{Site}
 use Rattle.ht_net.specs.declared.fault.Site.TheVariants.{Stem, DffPin, GatePin}
@@ -22,7 +23,7 @@ use Rattle.ht_net.specs.Faults.{forced, tern_rules, is_pin}
 use Rattle.ht_net.proofs.FrameLaws.{pins_length}
 use Rattle.ht_frame.specs.StuckPins.{is_at_gate, is_pin_of}
 use Rattle.ht_frame.proofs.PinLaws.{plain_pin}
-use Rattle.ht_ranks.specs.BitSets.{with_bit}
+use Rattle.ht_items.specs.Bits.{with_bit}
 use Rattle.ht_group.specs.StuckTables.{is_pin_number, AreGateLanes}
 use Rattle.ht_group.specs.LaneRules.{rules_at, lane_env}
 use Rattle.ht_group.proofs.InLaneLaws.{lane_get}

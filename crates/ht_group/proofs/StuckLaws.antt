@@ -8,8 +8,9 @@ use Rattle.std.proofs.lemmas.List.{get_or-set_same, get_or-set_other, length-set
 use Rattle.std.proofs.lemmas.Option.{slice_get_past, slice_get_within}
 use Rattle.ht_tern.specs.declared.tern.Tern.{Tern}
 use Rattle.ht_tern.specs.Gate.{tern_of}
-use Rattle.ht_ranks.proofs.BitLaws.{bit_here, bit_there}
-use Rattle.ht_lanes.specs.Lanes.{Lanes, lane, is_set, stuck_lanes}
+use Rattle.ht_items.proofs.BitLaws.{bit_here, bit_there}
+use Rattle.ht_items.specs.Bits.{is_set}
+use Rattle.ht_lanes.specs.Lanes.{Lanes, lane, stuck_lanes}
 use Rattle.ht_lanes.specs.Inverse.{lane_of_each}
 use Rattle.ht_net.specs.declared.fault.Site.{Site}
 use Rattle.ht_net.specs.declared.fault.Site.TheVariants.{Stem, DffPin, GatePin}
@@ -17,7 +18,7 @@ use Rattle.ht_net.specs.declared.fault.Fault.{Fault}
 use Rattle.ht_net.specs.Netlist.{Netlist, net_count}
 use Rattle.ht_net.specs.Faults.{forced, is_stem, is_data_pin}
 use Rattle.ht_group.specs.GroupView.{HasSite}
-use Rattle.ht_ranks.specs.BitSets.{with_bit}
+use Rattle.ht_items.specs.Bits.{with_bit}
 use Rattle.ht_frame.specs.StuckPins.{is_at_gate, is_pin_of}
 use Rattle.ht_group.specs.StuckTables.{IsStuckTable, gate_slot, dff_slot, slot_count, slot_of, is_at_slot}
 

@@ -1,7 +1,7 @@
 -- A table that has, for each line, the lanes whose fault stands there.
 use Rattle.std.specs.Prelude.{◌≡◌, ◌<◌, ◌≤◌, ◌+◌, ◌==◌, ℕ, List, Bool, false, length, get_or, Option, Some, None}
 use Rattle.std.specs.List.{slice_get}
-use Rattle.ht_lanes.specs.Lanes.{is_set}
+use Rattle.ht_items.specs.Bits.{is_set}
 use Rattle.ht_net.specs.declared.fault.Site.{Site}
 use Rattle.ht_net.specs.declared.fault.Site.TheVariants.{Stem, DffPin, GatePin}
 use Rattle.ht_net.specs.declared.fault.Fault.{Fault}

@@ -15,8 +15,9 @@ use crate::good_frame::GoodFrame;
 use crate::overlay::Overlay;
 use crate::stuck_lines::StuckLines;
 use ht_diff::{Diff, Diffs};
+use ht_items::BitSet;
 use ht_net::{Circuit, Fault, Site};
-use ht_ranks::{BitSet, Schedule};
+use ht_ranks::Schedule;
 use std::alloc::{AllocError, Global};
 
 /// Up to 64 machines of a circuit, each with a fault and latches of its own, in the lanes of a word.

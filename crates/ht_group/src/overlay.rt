@@ -3,8 +3,8 @@ ghost use Rattle.std.specs.Prelude.{◌≡◌, ◌<◌, ◌^◌, ℕ, false, len
 ghost use Rattle.ht_group.specs.LaneRules.{in_lane};
 ghost use Rattle.ht_group.specs.Overlays.{IsGoodWord, IsSpread, OverlayView};
 
+use ht_items::BitSet;
 use ht_lanes::Word;
-use ht_ranks::BitSet;
 use ht_tern::Tern;
 use std::alloc::{AllocError, Global};
 use std::marker::Model;

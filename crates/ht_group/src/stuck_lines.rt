@@ -4,12 +4,12 @@ ghost use Rattle.ht_net.specs.Netlist.{net_count};
 ghost use Rattle.ht_group.specs.GroupView.{HasSite, lane_count};
 ghost use Rattle.ht_lanes.specs.Lanes.{lane};
 ghost use Rattle.ht_group.specs.LaneRules.{rules_at};
-ghost use Rattle.ht_ranks.specs.BitSets.{with_bit};
+ghost use Rattle.ht_items.specs.Bits.{with_bit};
 ghost use Rattle.ht_group.specs.StuckTables.{AreGateLanes, AreStuck, dff_slot, gate_slot, slot_count, slot_of};
 
+use ht_items::with_bit;
 use ht_lanes::Word;
 use ht_net::{Circuit, Fault, Site};
-use ht_ranks::with_bit;
 use std::alloc::{AllocError, Global};
 
 /// Up to 64 faults of a circuit, one a lane, and for each line the lanes that are stuck there. So a line where no fault

@@ -1,1 +1,3 @@
 pub mod FlatRowsOf
+pub mod Bits
+pub mod BitSets

@@ -5,8 +5,12 @@
 //! `FlatRows` is a list of lists in one flat row, for tables that are built once and read often.
 #![tactic(auto)]
 
+mod bit_set;
+mod bits;
 mod flat_rows;
 mod items;
 
+pub use bit_set::BitSet;
+pub use bits::{has_bit, with_bit};
 pub use flat_rows::FlatRows;
 pub use items::Items;

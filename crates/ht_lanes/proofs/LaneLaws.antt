@@ -3,7 +3,7 @@ use Rattle.std.specs.Prelude.{bit_and, bit_or}
 use Rattle.std.specs.Int.{bit_not}
 use Rattle.std.proofs.Common.{◌≡◌, ◌≢◌, ◌<◌, ◌^◌, ◌*◌, ◌%◌, ◌/◌, ◌∙◌, ◌&&◌, ap, sym, ℕ, List, map, [], ◌∷◌, cond, eqb, Bool, true, false, refl, arith, inl, inr}
 use Rattle.std.proofs.lemmas.Bool.Decides.{eqb_tells}
-use Rattle.std.proofs.lemmas.Nat.Bits.{bit_at_set_same, bit_at_set_other, bit_at_clear_same, bit_at_clear_other, shr_and_one}
+use Rattle.std.proofs.lemmas.Nat.Bits.{bit_at_set_same, bit_at_set_other, bit_at_clear_same, bit_at_clear_other}
 use Rattle.std.proofs.lemmas.Nat.{or_lt}
 use Rattle.std.specs.Int.{w64}
 use Rattle.ht_tern.specs.declared.tern.Tern.{Tern}
@@ -12,7 +12,8 @@ use Rattle.ht_tern.specs.declared.gate.Kind.{Kind}
 use Rattle.ht_tern.specs.Gate.{complement_of, and_of, or_of, xor_of, tern_operations, gate_value, AllRelated}
 use Rattle.ht_tern.proofs.RefinementLaws.{PreservesOperations}
 use Rattle.ht_tern.proofs.GateLaws.{gate_related}
-use Rattle.ht_lanes.specs.Lanes.{Lanes, lane, with_lane, IsLane, lane_operations, gate_lanes, is_set, every_lane}
+use Rattle.ht_items.specs.Bits.{is_set}
+use Rattle.ht_lanes.specs.Lanes.{Lanes, lane, with_lane, IsLane, lane_operations, gate_lanes, every_lane}
 use Rattle.ht_lanes.specs.Rows.{AreApart, lane_value, lanes_of}
 use Rattle.ht_lanes.specs.Inverse.{apart_at, lane_is, lane_of_each}
 use Rattle.ht_lanes.proofs.OperationLaws.{told, lanes_same, apart_of, and_fits, set_and, not_apart}
@@ -28,9 +29,6 @@ splat_one = refl
 pub splat_unknown : lanes_of 0 0 ≡ every_lane Unk
 unfolding lanes_of
 splat_unknown = refl
-
-pub test_is_set : (n k : ℕ) → eqb (bit_and (n / 2 ^ k) 1) 1 ≡ is_set n k
-test_is_set n k = ap (λ m. eqb m 1) (shr_and_one n k)
 
 -- the value of a lane, from the tests of its two bits
 pub lane_told : (w : Lanes) (zeros ones k : ℕ) (a b : Bool) → k < 64 → lanes_of zeros ones ≡ w → a ≡ is_set zeros k

@@ -7,7 +7,8 @@ use Rattle.std.specs.Int.{w64}
 use Rattle.ht_tern.specs.declared.tern.Tern.{Tern}
 use Rattle.ht_tern.specs.declared.tern.Tern.TheVariants.{Zero, One, Unk}
 use Rattle.ht_tern.specs.Opposite.{are_opposite}
-use Rattle.ht_lanes.specs.Lanes.{Lanes, lane, is_set}
+use Rattle.ht_items.specs.Bits.{is_set}
+use Rattle.ht_lanes.specs.Lanes.{Lanes, lane}
 use Rattle.ht_lanes.specs.Rows.{AreApart, lane_value, lanes_of, zero_bits_of, one_bits_of}
 use Rattle.ht_lanes.specs.Inverse.{apart_at, lane_is, word_back}
 use Rattle.ht_lanes.proofs.StuckLaws.{set_not}

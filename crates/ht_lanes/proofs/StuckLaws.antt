@@ -7,7 +7,8 @@ use Rattle.std.proofs.lemmas.Nat.{or_lt}
 use Rattle.std.specs.Int.{w64}
 use Rattle.ht_tern.specs.declared.tern.Tern.TheVariants.{Zero, One}
 use Rattle.ht_tern.specs.Gate.{tern_of}
-use Rattle.ht_lanes.specs.Lanes.{Lanes, lane, stuck_lanes, is_set}
+use Rattle.ht_items.specs.Bits.{is_set}
+use Rattle.ht_lanes.specs.Lanes.{Lanes, lane, stuck_lanes}
 use Rattle.ht_lanes.specs.Rows.{AreApart, lane_value, lanes_of}
 use Rattle.ht_lanes.specs.Inverse.{apart_at, lane_is}
 use Rattle.ht_lanes.proofs.OperationLaws.{told, lanes_same, apart_below, and_fits, set_and, set_or}

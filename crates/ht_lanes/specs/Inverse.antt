@@ -9,7 +9,8 @@ use Rattle.std.proofs.lemmas.List.FromFn.{get_or-map-range_with_len, length-map-
 use Rattle.std.proofs.lemmas.List.{get_or-map, length-map}
 use Rattle.ht_tern.specs.declared.tern.Tern.{Tern}
 use Rattle.ht_tern.specs.declared.tern.Tern.TheVariants.{Zero, One, Unk}
-use Rattle.ht_lanes.specs.Lanes.{Lanes, lane, each_lane, is_set}
+use Rattle.ht_items.specs.Bits.{is_set}
+use Rattle.ht_lanes.specs.Lanes.{Lanes, lane, each_lane}
 use Rattle.ht_lanes.specs.Rows.{AreApart, lane_value, lanes_of, zero_bits_of, one_bits_of, is_zero, is_one}
 
 -- a bit is 1 or 0 by a test

@@ -1,6 +1,6 @@
 -- Three-valued values in the 64 lanes of a word, and what is done lane by lane.
 use Rattle.std.specs.Prelude.{◌≡◌, ℕ, List, map, get_or, Bool, ◌==◌, if◌then◌else◌}
-use Rattle.std.specs.Int.{bit_at}
+use Rattle.ht_items.specs.Bits.{is_set}
 use Rattle.std.specs.List.{range_with_len}
 use Rattle.ht_tern.specs.declared.tern.Tern.{Tern}
 use Rattle.ht_tern.specs.declared.tern.Tern.TheVariants.{Unk}
@@ -47,10 +47,6 @@ gate_lanes kind args = gate_value_over lane_operations (every_lane Unk) kind arg
 -- the word with another value in one lane
 abbrev pub with_lane : Lanes → ℕ → Tern → Lanes
 with_lane w k value = each_lane (λ i. if i == k then value else lane w i)
-
--- a set of lanes, in the bits of a number, has lane k
-abbrev pub is_set : ℕ → ℕ → Bool
-is_set lanes k = bit_at lanes k == 1
 
 -- the word with a set of lanes stuck, each at its bit of a number
 abbrev pub stuck_lanes : ℕ → ℕ → Lanes → Lanes

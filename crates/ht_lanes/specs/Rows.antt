@@ -3,7 +3,8 @@ use Rattle.std.specs.Prelude.{◌≡◌, ◌<◌, ◌^◌, ℕ, map, Bool, true,
 use Rattle.std.specs.Simd.Lanes.{mask_l}
 use Rattle.ht_tern.specs.declared.tern.Tern.{Tern}
 use Rattle.ht_tern.specs.declared.tern.Tern.TheVariants.{Zero, One, Unk}
-use Rattle.ht_lanes.specs.Lanes.{Lanes, each_lane, is_set}
+use Rattle.ht_items.specs.Bits.{is_set}
+use Rattle.ht_lanes.specs.Lanes.{Lanes, each_lane}
 
 -- the value of lane k
 abbrev pub lane_value : ℕ → ℕ → ℕ → Tern

@@ -12,4 +12,4 @@ mod word;
 
 pub use four::eval_four;
 pub use gate::eval_word;
-pub use word::{Word, has_lane};
+pub use word::Word;

@@ -2,8 +2,10 @@
 ghost use Rattle.std.specs.Prelude.{◌≡◌, ◌≢◌, ◌<◌, ◌↔◌, ℕ, IsTrue};
 ghost use Rattle.ht_tern.specs.Opposite.{are_opposite};
 ghost use Rattle.ht_lanes.specs.Four.{AreEachApart, AreFourRows};
-ghost use Rattle.ht_lanes.specs.Lanes.{every_lane, is_set, lane, lane_operations, stuck_lanes, with_lane};
+ghost use Rattle.ht_items.specs.Bits.{is_set};
+ghost use Rattle.ht_lanes.specs.Lanes.{every_lane, lane, lane_operations, stuck_lanes, with_lane};
 
+use ht_items::has_bit;
 use ht_tern::{GateOperations, Tern};
 use std::marker::Model;
 use std::simd::u64x4;
@@ -69,15 +71,6 @@ impl GateOperations for Word {
     }
 }
 
-/// Whether a set of lanes has lane `k`.
-#[tactic(auto, using(crate::proofs::LaneLaws::test_is_set))]
-pub fn has_lane(lanes: u64, k: u32) -> bool
-    requires { k < 64 }
-    ensures { result ≡ is_set lanes k }
-{
-    (lanes >> k) & 1 == 1
-}
-
 impl Word {
     /// The word with one value in every lane.
     pub fn splat(value: Tern) -> Word
@@ -101,9 +94,9 @@ impl Word {
         requires { k < 64 }
         ensures { result ≡ lane self k }
     {
-        if has_lane(self.zero, k) {
+        if has_bit(self.zero, k) {
             Tern::Zero
-        } else if has_lane(self.one, k) {
+        } else if has_bit(self.one, k) {
             Tern::One
         } else {
             Tern::Unk

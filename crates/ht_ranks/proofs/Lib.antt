@@ -1,4 +1,3 @@
 pub mod RankLaws
-pub mod BitLaws
 pub mod ReaderLaws
 pub mod ScheduleLaws

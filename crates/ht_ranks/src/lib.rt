@@ -5,11 +5,9 @@
 //! the ranks of what reads each, and a `BitSet` the ranks that are pending.
 #![tactic(auto)]
 
-mod bit_set;
 mod ranks;
 mod readers;
 mod schedule;
 
-pub use bit_set::{BitSet, with_bit};
 pub use ranks::ranking;
 pub use schedule::Schedule;

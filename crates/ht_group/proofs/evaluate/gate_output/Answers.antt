@@ -3,7 +3,8 @@ use Rattle.std.proofs.Common.{◌≡◌, ◌<◌, ◌≤◌, ◌∙◌, ap, sym,
 use Rattle.std.proofs.lemmas.Nat.Bits.{bit_at-zero}
 use Rattle.ht_tern.specs.declared.tern.Tern.TheVariants.{Unk}
 use Rattle.ht_tern.specs.Gate.{gate_value}
-use Rattle.ht_lanes.specs.Lanes.{Lanes, lane, every_lane, is_set, word_at}
+use Rattle.ht_items.specs.Bits.{is_set}
+use Rattle.ht_lanes.specs.Lanes.{Lanes, lane, every_lane, word_at}
 use Rattle.ht_lanes.proofs.LaneLaws.{gate_at_lane}
 use Rattle.ht_net.specs.declared.net.NetId.{NetId}
 use Rattle.ht_net.specs.declared.fault.Fault.{Fault}

@@ -1,7 +1,7 @@
 use Rattle.std.specs.Vec.{with_items}
 use Rattle.std.proofs.Common.{◌≡◌, ◌∙◌, ap, arith, set, get_or, length, true}
 use Rattle.std.proofs.lemmas.List.{with_items_is}
-use Rattle.ht_ranks.specs.BitSets.{with_bit}
+use Rattle.ht_items.specs.Bits.{with_bit}
 use Rattle.ht_group.proofs.StuckLaws.{fault_more}
 use Rattle.ht_group.proofs.stuck_lines.StuckLines.add.Goals as goal
 

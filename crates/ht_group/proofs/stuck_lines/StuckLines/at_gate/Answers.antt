@@ -1,6 +1,6 @@
 use Rattle.std.proofs.Common.{◌<◌, ◌∙◌, ap, arith, get_or, length, ℕ}
 use Rattle.std.proofs.lemmas.List.{get_or_read}
-use Rattle.ht_lanes.specs.Lanes.{is_set}
+use Rattle.ht_items.specs.Bits.{is_set}
 use Rattle.ht_group.specs.StuckTables.{gate_slot, slot_count}
 use Rattle.ht_group.proofs.StuckLaws.{gate_lanes_are}
 use Rattle.ht_group.proofs.stuck_lines.StuckLines.at_gate.Goals as goal

@@ -1,7 +1,7 @@
 use Rattle.std.specs.Vec.{with_items}
 use Rattle.std.proofs.Common.{◌≡◌, ◌∙◌, arith, set, get_or, length, false}
 use Rattle.std.proofs.lemmas.List.{with_items_is}
-use Rattle.ht_ranks.specs.BitSets.{with_bit}
+use Rattle.ht_items.specs.Bits.{with_bit}
 use Rattle.ht_group.proofs.StuckLaws.{fault_less}
 use Rattle.ht_group.proofs.stuck_lines.StuckLines.pop.Goals as goal
 

@@ -1,8 +1,8 @@
 use Rattle.std.proofs.Common.{◌∙◌, ℕ, List, Bool, false, length, get_or, ap, sym, subst, arith, inl, inr}
 use Rattle.std.proofs.lemmas.Bool.{cases_lt}
-use Rattle.ht_ranks.specs.BitSets.{IsFirstMark, is_marked}
-use Rattle.ht_ranks.proofs.BitLaws.{first_seen, mark_at}
-use Rattle.ht_ranks.proofs.bit_set.BitSet.next.Goals as goal
+use Rattle.ht_items.specs.BitSets.{IsFirstMark, is_marked}
+use Rattle.ht_items.proofs.BitLaws.{first_seen, mark_at}
+use Rattle.ht_items.proofs.bit_set.BitSet.next.Goals as goal
 
 pub next_mark-requires : goal.next_mark-requires
 next_mark-requires c =

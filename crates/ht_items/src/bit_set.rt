@@ -1,9 +1,9 @@
 //! A set of numbers below a bound, in words of 64 bits.
 ghost use Rattle.std.specs.Prelude.{◌≡◌, ◌<◌, ◌≤◌, ◌*◌, ◌^◌, ℕ, true, false, length, get_or, replicate, set, All, IfOk, IfSome, IfNone};
 ghost use Rattle.std.specs.List.{Contains};
-ghost use Rattle.ht_ranks.specs.BitSets.{IsFirstMark, is_marked, with_bit};
+ghost use Rattle.ht_items.specs.BitSets.{IsFirstMark, is_marked};
 
-use ht_lanes::has_lane;
+use crate::bits::{has_bit, with_bit};
 use std::alloc::{AllocError, Global};
 use std::marker::Model;
 
@@ -16,21 +16,13 @@ pub struct BitSet {
 
 impl Model for BitSet {
     ghost use Rattle.std.specs.Prelude.{List, Bool};
-    ghost use Rattle.ht_ranks.specs.BitSets.{IsBitSet, marks_of};
+    ghost use Rattle.ht_items.specs.BitSets.{IsBitSet, marks_of};
 
     ghost Value = { List Bool };
 
     ghost view = { λ a. marks_of a.bound a.words.items };
 
     ghost invariant = { IsBitSet };
-}
-
-/// The bits with bit `k` as given.
-pub fn with_bit(bits: u64, k: u32, bit: bool) -> u64
-    requires { k < 64 }
-    ensures { result ≡ with_bit bits k bit }
-{
-    if bit { bits | 1 << k } else { bits & !(1 << k) }
 }
 
 // The first number that is marked in the words from `at` on.
@@ -94,7 +86,7 @@ impl BitSet {
         requires { i < length self.now }
         ensures { result ≡ get_or self.now i false }
     {
-        has_lane(self.words[(i / 64) as usize], i % 64)
+        has_bit(self.words[(i / 64) as usize], i % 64)
     }
 
     /// Adds a number.

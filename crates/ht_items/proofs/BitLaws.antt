@@ -8,9 +8,9 @@ use Rattle.std.proofs.lemmas.Nat.Bits.{bit_at_set_same, bit_at_set_other, bit_at
 use Rattle.std.proofs.lemmas.Bool.{cases_eq, cases_lt}
 use Rattle.std.proofs.lemmas.List.{ext_get_or, get_or-set_same, get_or-set_other, get_or-replicate, get_or_past, get_or_read, length-set, length-replicate}
 use Rattle.std.proofs.lemmas.List.FromFn.{get_or-map-range_with_len, length-map-range_with_len}
-use Rattle.ht_lanes.specs.Lanes.{is_set}
-use Rattle.ht_ranks.specs.BitSets.{IsBitSet, IsFirstMark, is_marked, marks_of, with_bit}
-use Rattle.ht_ranks.specs.declared.bit_set.BitSet.TheInside.{Inside}
+use Rattle.ht_items.specs.Bits.{is_set, with_bit}
+use Rattle.ht_items.specs.BitSets.{IsBitSet, IsFirstMark, is_marked, marks_of}
+use Rattle.ht_items.specs.declared.bit_set.BitSet.TheInside.{Inside}
 
 -- One bit is written.
 pub bit_here : (bits m : ℕ) (bit : Bool) → m < 64 → is_set (with_bit bits m bit) m ≡ bit

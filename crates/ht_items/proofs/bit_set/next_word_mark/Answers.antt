@@ -1,7 +1,7 @@
 use Rattle.std.proofs.Common.{◌*◌, get_or, refl, arith, inl, inr}
 use Rattle.std.proofs.lemmas.Bool.{cases_lt}
-use Rattle.ht_ranks.proofs.BitLaws.{first_in_word, first_after, zero_word}
-use Rattle.ht_ranks.proofs.bit_set.next_word_mark.Goals as goal
+use Rattle.ht_items.proofs.BitLaws.{first_in_word, first_after, zero_word}
+use Rattle.ht_items.proofs.bit_set.next_word_mark.Goals as goal
 
 pub returns-then-word-ne0-clause-found : goal.returns-then-word-ne0-clause-found
 returns-then-word-ne0-clause-found c =

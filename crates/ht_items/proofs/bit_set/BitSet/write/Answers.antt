@@ -1,8 +1,8 @@
 use Rattle.std.proofs.Common.{◌∙◌, ◌/◌, ℕ, List, Bool, set, ap, arith}
 use Rattle.std.proofs.lemmas.List.{length-set}
-use Rattle.ht_ranks.specs.BitSets.{is_marked, marks_of}
-use Rattle.ht_ranks.proofs.BitLaws.{bit_of, word_written, mark_written, mark_there}
-use Rattle.ht_ranks.proofs.bit_set.BitSet.write.Goals as goal
+use Rattle.ht_items.specs.BitSets.{is_marked, marks_of}
+use Rattle.ht_items.proofs.BitLaws.{bit_of, word_written, mark_written, mark_there}
+use Rattle.ht_items.proofs.bit_set.BitSet.write.Goals as goal
 
 pub index-requires : goal.index-requires
 index-requires c =

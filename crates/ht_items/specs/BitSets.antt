@@ -2,13 +2,8 @@
 use Rattle.std.specs.Prelude.{◌≡◌, ◌<◌, ◌≤◌, ◌*◌, ◌/◌, ◌%◌, ◌^◌, ℕ, List, Bool, true, false, length, get_or, map, bit_and, bit_or, if◌then◌else◌}
 use Rattle.std.specs.Int.{bit_not, w64}
 use Rattle.std.specs.List.{range_with_len}
-use Rattle.ht_lanes.specs.Lanes.{is_set}
-use Rattle.ht_ranks.specs.declared.bit_set.BitSet.TheInside.{Inside}
-
--- the bits with bit k as given
-abbrev pub with_bit : ℕ → ℕ → Bool → ℕ
-with_bit bits k bit =
-    if bit then bit_or bits (1 * 2 ^ k % 2 ^ 64) else bit_and bits (bit_not w64 (1 * 2 ^ k % 2 ^ 64))
+use Rattle.ht_items.specs.Bits.{is_set}
+use Rattle.ht_items.specs.declared.bit_set.BitSet.TheInside.{Inside}
 
 -- whether number i is marked
 abbrev pub is_marked : List ℕ → ℕ → Bool

@@ -3,9 +3,9 @@ use Rattle.std.proofs.Math.Nat.{div-le_self}
 use Rattle.std.proofs.lemmas.Bool.{cases_lt}
 use Rattle.std.proofs.lemmas.Option.{IfSome_then}
 use Rattle.std.specs.Int.{trailing_zeros, w64}
-use Rattle.ht_ranks.specs.BitSets.{IsFirstMark}
-use Rattle.ht_ranks.proofs.BitLaws.{first_mark, first_after, none_in_word, none_then}
-use Rattle.ht_ranks.proofs.bit_set.next_mark.Goals as goal
+use Rattle.ht_items.specs.BitSets.{IsFirstMark}
+use Rattle.ht_items.proofs.BitLaws.{first_mark, first_after, none_in_word, none_then}
+use Rattle.ht_items.proofs.bit_set.next_mark.Goals as goal
 
 pub returns-then-rest-ne0-clause-found : goal.returns-then-rest-ne0-clause-found
 returns-then-rest-ne0-clause-found c =

@@ -1,8 +1,8 @@
 use Rattle.std.proofs.Common.{◌∙◌, ◌/◌, ◌%◌, ℕ, List, Bool, false, get_or, ap, sym, arith}
 use Rattle.std.proofs.lemmas.List.{get_or_read}
-use Rattle.ht_lanes.specs.Lanes.{is_set}
-use Rattle.ht_ranks.proofs.BitLaws.{bit_of, mark_at}
-use Rattle.ht_ranks.proofs.bit_set.BitSet.contains.Goals as goal
+use Rattle.ht_items.specs.Bits.{is_set}
+use Rattle.ht_items.proofs.BitLaws.{bit_of, mark_at}
+use Rattle.ht_items.proofs.bit_set.BitSet.contains.Goals as goal
 
 pub index-requires : goal.index-requires
 index-requires c =
@@ -13,7 +13,7 @@ pub returns : goal.returns
 returns c =
     let a = c.self.inside in
     let at = bit_of a c.self.invariant c.args.self.now c.self.view_is c.args.i c.requires in
-    c.has_lane.ensures
+    c.has_bit.ensures
     ∙ (ap (λ (n : ℕ). is_set n (c.args.i % 64))
     (get_or_read a.words.items (c.args.i / 64) c.index.result.now at.inside c.index.ensures 0)
     ∙ (sym (mark_at a.bound a.words.items c.self.invariant.past c.args.i)

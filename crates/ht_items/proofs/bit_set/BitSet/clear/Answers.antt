@@ -1,7 +1,7 @@
 use Rattle.std.proofs.Common.{◌∙◌, ℕ, List, Bool, false, length, replicate, ap, sym}
-use Rattle.ht_ranks.specs.BitSets.{marks_of}
-use Rattle.ht_ranks.proofs.BitLaws.{no_marks, marks_length}
-use Rattle.ht_ranks.proofs.bit_set.BitSet.clear.Goals as goal
+use Rattle.ht_items.specs.BitSets.{marks_of}
+use Rattle.ht_items.proofs.BitLaws.{no_marks, marks_length}
+use Rattle.ht_items.proofs.bit_set.BitSet.clear.Goals as goal
 
 pub returns : goal.returns
 returns c =

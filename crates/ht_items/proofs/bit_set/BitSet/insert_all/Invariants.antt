@@ -1,6 +1,6 @@
 use Rattle.std.specs.List.{Contains}
 use Rattle.std.proofs.Common.{◌≡◌, ℕ, true, false, length, get_or, take}
-use Rattle.ht_ranks.proofs.bit_set.BitSet.insert_all.Given as goal
+use Rattle.ht_items.proofs.bit_set.BitSet.insert_all.Given as goal
 
 abbrev pub invariant-loop-number : goal.invariant-loop-number
 invariant-loop-number l = record {
