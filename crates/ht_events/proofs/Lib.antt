@@ -1,3 +1,6 @@
+pub mod RankLaws
+pub mod ReaderLaws
+pub mod ScheduleLaws
 pub mod ItemLaws
 pub mod ReciprocalLaws
 pub mod RowLaws

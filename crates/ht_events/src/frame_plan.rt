@@ -1,7 +1,7 @@
 //! What reads what in one frame, and in which order its items are fired.
 ghost use Rattle.std.specs.Prelude.{◌≡◌, ◌<◌, ◌*◌, [], IfOk, length, get_or};
 ghost use Rattle.ht_net.specs.Netlist.{IsCircuit, net_count};
-ghost use Rattle.ht_ranks.specs.Ranks.{AreRanked};
+ghost use Rattle.ht_events.specs.Ranks.{AreRanked};
 ghost use Rattle.ht_events.specs.Items.{frame_items, frame_of, local_of, driven_net};
 ghost use Rattle.ht_events.specs.FramePlans.{IsOffsetTable};
 
@@ -9,7 +9,7 @@ use crate::frame_length::FrameLength;
 use crate::plan::MAX_FRAMES;
 use crate::readers::Readers;
 use ht_net::{Circuit, NetId};
-use ht_ranks::ranking;
+use crate::ranks::ranking;
 use std::alloc::{AllocError, Global};
 use std::marker::Model;
 

@@ -12,9 +12,14 @@ mod frame_plan;
 mod pending_set;
 mod plan;
 mod plant;
+mod rank_readers;
+mod ranks;
 mod readers;
+mod schedule;
 
 pub use event_core::Core;
 pub use frame_plan::FramePlan;
 pub use plan::MAX_FRAMES;
 pub use plant::Plant;
+pub use ranks::ranking;
+pub use schedule::Schedule;

@@ -10,7 +10,7 @@ use Rattle.ht_group.specs.MachineWords.{AreFilled, HasOneMore, HasSame, IsWord, 
 use Rattle.ht_group.specs.declared.good_frame.GoodFrame.{GoodFrame}
 use Rattle.ht_group.specs.declared.group.Group.TheInside.{Inside}
 use Rattle.ht_group.specs.declared.machines.Machines.{Machines}
-use Rattle.ht_ranks.specs.declared.schedule.Schedule.{Schedule}
+use Rattle.ht_events.specs.declared.schedule.Schedule.{Schedule}
 use Rattle.ht_group.proofs.BlockLaws.{more_at}
 use Rattle.ht_group.proofs.ChangeLaws.{more_pending}
 use Rattle.ht_group.proofs.GroupLaws.{filled_machines}

@@ -14,11 +14,11 @@ use Rattle.ht_group.specs.LaneRules.{rules_at, in_lane, lane_env, HasItsValue}
 use Rattle.ht_group.specs.MachineWords.{AreFirstChanged, AreMachinesKept, AreRunning, AreSameMachines, HaveRun, IsMachineAdded, IsBare, IsComputed, IsLaid, IsLaidOver, IsRestored, IsWord, machines_from, machines_of}
 use Rattle.ht_group.specs.Overlays.{IsSpread, OverlayView}
 use Rattle.ht_group.specs.Pending.{IsFired, QuietHaveValues}
-use Rattle.ht_ranks.specs.Schedules.{IsSchedule, ReadsFrom}
+use Rattle.ht_events.specs.Schedules.{IsSchedule, ReadsFrom}
 use Rattle.ht_group.specs.StuckTables.{AreStuck}
 use Rattle.ht_group.specs.declared.good_frame.GoodFrame.{GoodFrame}
 use Rattle.ht_group.specs.declared.machines.Machines.{Machines}
-use Rattle.ht_ranks.specs.declared.schedule.Schedule.{Schedule}
+use Rattle.ht_events.specs.declared.schedule.Schedule.{Schedule}
 use Rattle.ht_group.specs.declared.stuck_lines.StuckLines.{StuckLines}
 use Rattle.ht_group.proofs.EventLaws.{fired_quiet}
 use Rattle.ht_group.proofs.KeptLaws.{value_kept}

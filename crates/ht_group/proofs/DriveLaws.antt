@@ -8,7 +8,7 @@ use Rattle.ht_net.specs.Frame.{Rules, net_value, net_value_over, driver_value, g
 use Rattle.ht_net.proofs.FrameLaws.{le_or_lt, driven_input, driven_latch, driven_gate, gate_same, frame_settled, settled_is_frame}
 use Rattle.ht_net.proofs.DepthLaws.{circuit_depth}
 use Rattle.ht_group.specs.LaneRules.{drive_from, given_value, HasItsValue}
-use Rattle.ht_ranks.specs.Schedules.{ReadsFrom}
+use Rattle.ht_events.specs.Schedules.{ReadsFrom}
 
 -- an input or a flip-flop is driven by its source, and another net by its gate
 pub drive_low : {V : Type 0} → (c : Netlist) (r : Rules V) (sources : List V) (env : ℕ → V) (x : ℕ)

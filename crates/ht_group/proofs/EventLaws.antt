@@ -9,10 +9,10 @@ use Rattle.ht_net.specs.Frame.{Rules}
 use Rattle.ht_net.proofs.FrameLaws.{le_or_lt}
 use Rattle.ht_group.specs.LaneRules.{given_value, HasItsValue}
 use Rattle.ht_group.specs.Pending.{IsFired}
-use Rattle.ht_ranks.specs.Schedules.{ReadsFrom, IsSchedule}
-use Rattle.ht_ranks.specs.declared.schedule.Schedule.{Schedule}
+use Rattle.ht_events.specs.Schedules.{ReadsFrom, IsSchedule}
+use Rattle.ht_events.specs.declared.schedule.Schedule.{Schedule}
 use Rattle.ht_group.proofs.DriveLaws.{drive_same}
-use Rattle.ht_ranks.proofs.ScheduleLaws.{no_self}
+use Rattle.ht_events.proofs.ScheduleLaws.{no_self}
 
 module _ (c : Netlist) (s : Schedule) (is : IsSchedule c s) where
   rank_of_net : (r : ℕ) → r < net_count c → get_or s.ranks.items (get_or s.order.items r 0) 0 ≡ r

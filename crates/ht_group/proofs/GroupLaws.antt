@@ -15,10 +15,10 @@ use Rattle.ht_group.specs.GroupOf.{IsGroup, group_of}
 use Rattle.ht_group.specs.MachineWords.{AreFilled, IsLaid, machines_of}
 use Rattle.ht_group.specs.NetValues.{good_value, faulty_value}
 use Rattle.ht_group.specs.LaneRules.{rules_at, in_lane, lane_env, HasItsValue}
-use Rattle.ht_ranks.specs.Schedules.{IsSchedule}
+use Rattle.ht_events.specs.Schedules.{IsSchedule}
 use Rattle.ht_group.specs.StuckTables.{AreStuck}
 use Rattle.ht_group.specs.declared.good_frame.GoodFrame.{GoodFrame}
-use Rattle.ht_ranks.specs.declared.schedule.Schedule.{Schedule}
+use Rattle.ht_events.specs.declared.schedule.Schedule.{Schedule}
 use Rattle.ht_group.specs.declared.machines.Machines.{Machines}
 use Rattle.ht_group.specs.declared.group.Group.TheInside.{Inside}
 use Rattle.ht_group.proofs.BlockLaws.{AreFull, all_count, item_at}

@@ -14,8 +14,8 @@ use Rattle.ht_net.specs.Netlist.{Netlist, first_gate_net, net_count}
 use Rattle.ht_group.specs.LaneRules.{in_lane, lane_env}
 use Rattle.ht_group.specs.Overlays.{OverlayView}
 use Rattle.ht_group.specs.LatchWords.{HasDifferences}
-use Rattle.ht_ranks.specs.Schedules.{IsSchedule}
-use Rattle.ht_ranks.specs.declared.schedule.Schedule.{Schedule}
+use Rattle.ht_events.specs.Schedules.{IsSchedule}
+use Rattle.ht_events.specs.declared.schedule.Schedule.{Schedule}
 use Rattle.ht_group.proofs.InLaneLaws.{same_lane}
 use Rattle.ht_group.proofs.PinLaws.{by_none}
 use Rattle.ht_group.proofs.StuckLaws.{eqb_shift}

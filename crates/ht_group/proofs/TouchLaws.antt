@@ -5,9 +5,9 @@ use Rattle.std.proofs.lemmas.Bool.{cases_eq}
 use Rattle.std.proofs.lemmas.List.{get_or-set_same, get_or-set_other}
 use Rattle.ht_net.specs.declared.fault.Site.{Site}
 use Rattle.ht_net.specs.Netlist.{Netlist, net_count}
-use Rattle.ht_ranks.specs.Schedules.{IsSchedule}
+use Rattle.ht_events.specs.Schedules.{IsSchedule}
 use Rattle.ht_group.specs.StuckTables.{forced_net_of}
-use Rattle.ht_ranks.specs.declared.schedule.Schedule.{Schedule}
+use Rattle.ht_events.specs.declared.schedule.Schedule.{Schedule}
 
 -- A net that isn't pending once the net that a fault touches is.
 pub forced_pending : (c : Netlist) (s : Schedule) → IsSchedule c s → (site : Site) (net : ℕ) → forced_net_of c site

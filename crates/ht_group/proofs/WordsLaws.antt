@@ -9,11 +9,11 @@ use Rattle.ht_group.specs.GoodFrames.{IsGoodFrame}
 use Rattle.ht_group.specs.GroupOf.{IsGroup}
 use Rattle.ht_group.specs.GroupView.{words_for}
 use Rattle.ht_group.specs.MachineWords.{AreFilled, AreMachinesKept, AreRunning, IsBare, IsRestored, IsWord, machines_from, machines_of}
-use Rattle.ht_ranks.specs.Schedules.{IsSchedule}
+use Rattle.ht_events.specs.Schedules.{IsSchedule}
 use Rattle.ht_group.specs.declared.good_frame.GoodFrame.{GoodFrame}
 use Rattle.ht_group.specs.declared.group.Group.TheInside.{Inside}
 use Rattle.ht_group.specs.declared.machines.Machines.{Machines}
-use Rattle.ht_ranks.specs.declared.schedule.Schedule.{Schedule}
+use Rattle.ht_events.specs.declared.schedule.Schedule.{Schedule}
 use Rattle.ht_group.specs.declared.stuck_lines.StuckLines.{StuckLines}
 use Rattle.ht_group.proofs.BlockLaws.{none_left, same_all}
 use Rattle.ht_group.proofs.ChangeLaws.{bare_word, ran_word, restored_word, still_word}

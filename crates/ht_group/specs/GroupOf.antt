@@ -4,7 +4,7 @@ use Rattle.ht_net.specs.Netlist.{net_count, IsCircuit}
 use Rattle.ht_group.specs.GroupView.{GroupView, max_machines, max_words}
 use Rattle.ht_group.specs.GoodFrames.{IsGoodFrame}
 use Rattle.ht_group.specs.MachineWords.{AreFilled, IsWord, machines_of}
-use Rattle.ht_ranks.specs.Schedules.{IsSchedule}
+use Rattle.ht_events.specs.Schedules.{IsSchedule}
 use Rattle.ht_group.specs.declared.group.Group.TheInside.{Inside}
 use Rattle.ht_group.specs.declared.machines.Machines.{Machines}
 

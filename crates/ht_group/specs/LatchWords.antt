@@ -6,7 +6,7 @@ use Rattle.ht_diff.specs.Differences.{with_differences}
 use Rattle.ht_net.specs.Netlist.{Netlist, first_gate_net, net_count}
 use Rattle.ht_group.specs.LaneRules.{in_lane, lane_env}
 use Rattle.ht_group.specs.Overlays.{OverlayView}
-use Rattle.ht_ranks.specs.declared.schedule.Schedule.{Schedule}
+use Rattle.ht_events.specs.declared.schedule.Schedule.{Schedule}
 
 -- Lane k, which had the good sources, has the latches that differ so, and the other lanes are as before. A net whose
 -- source is another word is pending, and so is what was.

@@ -12,7 +12,7 @@ use Rattle.ht_group.specs.Pending.{AreGiven, QuietHaveValues}
 use Rattle.ht_group.specs.StuckTables.{AreGateLanes, AreStuck, forced_net_of}
 use Rattle.ht_group.specs.declared.good_frame.GoodFrame.{GoodFrame}
 use Rattle.ht_group.specs.declared.machines.Machines.{Machines}
-use Rattle.ht_ranks.specs.declared.schedule.Schedule.{Schedule}
+use Rattle.ht_events.specs.declared.schedule.Schedule.{Schedule}
 
 -- the machines of lanes k, k + 1, .., by their faults and the words of the latches
 abbrev pub machines_from : ℕ → List Fault → List Lanes → List FaultyMachine

@@ -5,8 +5,8 @@ use Rattle.ht_lanes.specs.Lanes.{Lanes}
 use Rattle.ht_net.specs.declared.fault.Fault.{Fault}
 use Rattle.ht_net.specs.Netlist.{Netlist, net_count}
 use Rattle.ht_group.specs.LaneRules.{rules_at, in_lane, lane_env, given_value, HasItsValue}
-use Rattle.ht_ranks.specs.Schedules.{ReadsFrom}
-use Rattle.ht_ranks.specs.declared.schedule.Schedule.{Schedule}
+use Rattle.ht_events.specs.Schedules.{ReadsFrom}
+use Rattle.ht_events.specs.declared.schedule.Schedule.{Schedule}
 
 -- each net whose rank isn't pending has, in each lane, the value that its driver and its stem give it
 abbrev pub QuietHaveValues : Netlist → Schedule → List Fault → List Lanes → List Bool → List Lanes → Type 0

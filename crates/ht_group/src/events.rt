@@ -7,7 +7,7 @@ ghost use Rattle.ht_group.specs.LaneRules.{lane_env};
 ghost use Rattle.ht_group.specs.MachineWords.{AreFirstChanged, AreRunning, HasRunRoom, HaveRunRoom, HaveRun, IsComputed};
 ghost use Rattle.ht_group.specs.Pending.{AreGiven, IsFired};
 ghost use Rattle.ht_group.specs.declared.machines.Machines.{Machines};
-ghost use Rattle.ht_ranks.specs.Schedules.{IsSchedule};
+ghost use Rattle.ht_events.specs.Schedules.{IsSchedule};
 ghost use Rattle.ht_group.specs.StuckTables.{AreStuck};
 
 use crate::evaluate::{PIN_ROOM, evaluate};
@@ -18,7 +18,7 @@ use crate::stuck_lines::StuckLines;
 use ht_items::BitSet;
 use ht_lanes::Word;
 use ht_net::Circuit;
-use ht_ranks::Schedule;
+use ht_events::Schedule;
 
 // Makes nets pending, by their ranks, where the net that they read changed.
 fn touch_if(changed: bool, ranks: &[u32], pending: &mut BitSet)

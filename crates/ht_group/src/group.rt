@@ -22,7 +22,7 @@ use ht_diff::Diffs;
 use ht_items::BitSet;
 use ht_lanes::Word;
 use ht_net::{Circuit, Fault, NetId};
-use ht_ranks::Schedule;
+use ht_events::Schedule;
 use ht_tern::Tern;
 use std::alloc::{AllocError, Global};
 use std::marker::Model;

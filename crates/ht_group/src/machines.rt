@@ -8,7 +8,7 @@ ghost use Rattle.ht_group.specs.LatchWords.{HasDifferences};
 ghost use Rattle.ht_group.specs.LaneRules.{in_lane, lane_env};
 ghost use Rattle.ht_group.specs.MachineWords.{AreSameMachines, HasOneMore, HasSame, HasWordRoom, IsMachineAdded, IsBare, IsLaidOver, IsWord};
 ghost use Rattle.ht_group.specs.Overlays.{IsSpread};
-ghost use Rattle.ht_ranks.specs.Schedules.{IsSchedule};
+ghost use Rattle.ht_events.specs.Schedules.{IsSchedule};
 ghost use Rattle.ht_group.specs.StuckTables.{AreStuck, forced_net_of};
 
 use crate::good_frame::GoodFrame;
@@ -17,7 +17,7 @@ use crate::stuck_lines::StuckLines;
 use ht_diff::{Diff, Diffs};
 use ht_items::BitSet;
 use ht_net::{Circuit, Fault, Site};
-use ht_ranks::Schedule;
+use ht_events::Schedule;
 use std::alloc::{AllocError, Global};
 
 /// Up to 64 machines of a circuit, each with a fault and latches of its own, in the lanes of a word.

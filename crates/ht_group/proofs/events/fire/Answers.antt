@@ -3,7 +3,7 @@ use Rattle.std.specs.List.{Contains}
 use Rattle.std.proofs.lemmas.Bool.{cases_Bool}
 use Rattle.std.proofs.lemmas.List.{get_or-set_other, length-set}
 use Rattle.ht_group.proofs.EventLaws.{apart_by_readers, not_touched}
-use Rattle.ht_ranks.proofs.ScheduleLaws.{readers_later, readers_known, touched_as_before, rank_taken}
+use Rattle.ht_events.proofs.ScheduleLaws.{readers_later, readers_known, touched_as_before, rank_taken}
 use Rattle.ht_group.proofs.events.fire.Goals as goal
 
 pub touch_if-requires : goal.touch_if-requires

@@ -1,5 +1,5 @@
 use Rattle.std.proofs.Common.{ℕ, List, map, ◌∙◌, ap, arith, subst}
-use Rattle.ht_ranks.specs.Ranks.{AreRanked}
+use Rattle.ht_events.specs.Ranks.{AreRanked}
 use Rattle.ht_events.specs.FramePlans.{offset_among}
 use Rattle.ht_events.proofs.OffsetLaws.{placed_table}
 use Rattle.ht_events.proofs.frame_plan.FramePlan.new.Goals as goal

@@ -1,5 +1,5 @@
 use Rattle.std.proofs.Common.{length, subst}
-use Rattle.ht_ranks.specs.Ranks.{AreRanked}
+use Rattle.ht_events.specs.Ranks.{AreRanked}
 use Rattle.ht_events.specs.FramePlans.{FramePlanState}
 use Rattle.ht_events.specs.Plans.{PlanState, AreApart}
 use Rattle.ht_events.proofs.ItemLaws.{positions_differ}

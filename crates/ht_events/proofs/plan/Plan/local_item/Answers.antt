@@ -1,5 +1,5 @@
 use Rattle.std.proofs.Common.{◌≡◌, ◌<◌, ◌∙◌, ℕ, subst, get_or, ap, arith, sym, length}
-use Rattle.ht_ranks.specs.Ranks.{AreRanked}
+use Rattle.ht_events.specs.Ranks.{AreRanked}
 use Rattle.ht_events.specs.Items.{item_at, item_count, frame_of, local_of}
 use Rattle.ht_events.specs.FramePlans.{FramePlanState}
 use Rattle.ht_events.specs.Plans.{PlanState, StandsAt}

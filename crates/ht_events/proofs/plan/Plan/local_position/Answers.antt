@@ -1,5 +1,5 @@
 use Rattle.std.proofs.Common.{◌≡◌, ◌<◌, ◌+◌, ◌*◌, ℕ, length, sym, subst}
-use Rattle.ht_ranks.specs.Ranks.{AreRanked}
+use Rattle.ht_events.specs.Ranks.{AreRanked}
 use Rattle.ht_events.specs.Items.{IsLoad, frame_items, item_at, item_count}
 use Rattle.ht_events.specs.FramePlans.{FramePlanState}
 use Rattle.ht_events.specs.Plans.{PlanState, position_at}

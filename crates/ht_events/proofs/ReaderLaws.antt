@@ -7,7 +7,7 @@ use Rattle.std.proofs.lemmas.Bool.{cases_lt}
 use Rattle.std.proofs.lemmas.List.{get_or-set_same, get_or-set_other, get_or-replicate, get_or_past, length-replicate}
 use Rattle.std.proofs.lemmas.List.Elements.{Contains-push, Contains-push_cases, Contains-append_left}
 use Rattle.ht_net.specs.Netlist.{Netlist, first_gate_net, net_count, gate_at, arg_at}
-use Rattle.ht_ranks.specs.Schedules.{ReadsFrom, AreReaders}
+use Rattle.ht_events.specs.Schedules.{ReadsFrom, AreReaders}
 
 -- the rows where row n got one more item
 record HasMore (rows new : List (List ℕ)) (n q : ℕ) : Type 0 where

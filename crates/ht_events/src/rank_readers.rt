@@ -1,7 +1,7 @@
 //! What reads each net.
 ghost use Rattle.std.specs.Prelude.{◌≡◌, ◌<◌, ◌++◌, ◌∷◌, [], ℕ, length, get_or, replicate, set, IfOk, OnOk};
 ghost use Rattle.ht_net.specs.Netlist.{net_count};
-ghost use Rattle.ht_ranks.specs.Schedules.{AreReaders, ReadsFrom};
+ghost use Rattle.ht_events.specs.Schedules.{AreReaders, ReadsFrom};
 
 use ht_items::{FlatRows, Items};
 use ht_net::Circuit;

@@ -1,7 +1,7 @@
 //! Sources and gates in order, and the rank of each.
 ghost use Rattle.std.specs.Prelude.{◌≡◌, ◌≢◌, ◌<◌, ◌≤◌, ◌+◌, ◌^◌, ℕ, length, get_or, IfOk};
 ghost use Rattle.ht_net.specs.Netlist.{IsCircuit, IsOrder, first_gate_net};
-ghost use Rattle.ht_ranks.specs.Ranks.{AreRanked};
+ghost use Rattle.ht_events.specs.Ranks.{AreRanked};
 
 use ht_net::Circuit;
 use std::alloc::{AllocError, Global};

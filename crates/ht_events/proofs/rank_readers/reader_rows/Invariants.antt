@@ -1,5 +1,5 @@
-use Rattle.ht_ranks.proofs.ReaderLaws.{ArePartReaders, HavePins}
-use Rattle.ht_ranks.proofs.readers.reader_rows.Given as goal
+use Rattle.ht_events.proofs.ReaderLaws.{ArePartReaders, HavePins}
+use Rattle.ht_events.proofs.rank_readers.reader_rows.Given as goal
 
 abbrev pub invariant-loop-g : goal.invariant-loop-g
 invariant-loop-g l = ArePartReaders l.circuit l.ranks l.rows.items l.g

@@ -1,9 +1,9 @@
 //! The order in which nets get their values.
 ghost use Rattle.std.specs.Prelude.{◌≡◌, ◌<◌, length, get_or, IfOk};
-ghost use Rattle.ht_ranks.specs.Schedules.{IsSchedule};
+ghost use Rattle.ht_events.specs.Schedules.{IsSchedule};
 
 use crate::ranks::ranking;
-use crate::readers::readers;
+use crate::rank_readers::readers;
 use ht_items::FlatRows;
 use ht_net::Circuit;
 use std::alloc::{AllocError, Global};

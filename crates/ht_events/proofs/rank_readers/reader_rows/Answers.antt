@@ -1,8 +1,8 @@
 use Rattle.std.proofs.Common.{◌≡◌, ◌<◌, ◌+◌, ◌∙◌, ℕ, List, length, get_or, replicate, [], ap, arith}
 use Rattle.ht_net.specs.declared.net.NetId.{NetId}
 use Rattle.ht_net.specs.Netlist.{no_net, first_gate_net, arg_at, gate_at}
-use Rattle.ht_ranks.proofs.ReaderLaws.{no_readers, pin_added, reads_pin, gate_done, readers_are}
-use Rattle.ht_ranks.proofs.readers.reader_rows.Goals as goal
+use Rattle.ht_events.proofs.ReaderLaws.{no_readers, pin_added, reads_pin, gate_done, readers_are}
+use Rattle.ht_events.proofs.rank_readers.reader_rows.Goals as goal
 
 pub loop-g-init : goal.loop-g-init
 loop-g-init c =

@@ -1,9 +1,9 @@
 use Rattle.std.proofs.Common.{◌≡◌, ◌<◌, ◌+◌, ℕ, List, get_or, subst, sym, arith}
 use Rattle.ht_net.specs.Netlist.{first_gate_net}
-use Rattle.ht_ranks.specs.Ranks.{AreRanked}
-use Rattle.ht_ranks.specs.Schedules.{ReadsFrom}
-use Rattle.ht_ranks.proofs.ScheduleLaws.{rises_from}
-use Rattle.ht_ranks.proofs.schedule.Schedule.new.Goals as goal
+use Rattle.ht_events.specs.Ranks.{AreRanked}
+use Rattle.ht_events.specs.Schedules.{ReadsFrom}
+use Rattle.ht_events.proofs.ScheduleLaws.{rises_from}
+use Rattle.ht_events.proofs.schedule.Schedule.new.Goals as goal
 
 pub readers-requires-clause-rises : goal.readers-requires-clause-rises
 readers-requires-clause-rises c =

@@ -2,8 +2,8 @@
 use Rattle.std.specs.Prelude.{◌≡◌, ◌<◌, ◌≤◌, ◌-◌, ℕ, List, [], length, get_or}
 use Rattle.std.specs.List.{Contains}
 use Rattle.ht_net.specs.Netlist.{Netlist, first_gate_net, net_count, gate_at, arg_at, IsCircuit}
-use Rattle.ht_ranks.specs.Ranks.{AreRanked}
-use Rattle.ht_ranks.specs.declared.schedule.Schedule.{Schedule}
+use Rattle.ht_events.specs.Ranks.{AreRanked}
+use Rattle.ht_events.specs.declared.schedule.Schedule.{Schedule}
 
 -- net y is driven by a gate that reads net x
 pub record ReadsFrom (c : Netlist) (y x : ℕ) : Type 0 where

@@ -6,9 +6,9 @@ use Rattle.std.proofs.Common.{◌≡◌, ◌≢◌, ◌<◌, ◌≤◌, ◌+◌,
 use Rattle.std.proofs.lemmas.List.{get_or-set_same, get_or-set_other}
 use Rattle.std.proofs.lemmas.List.Elements.{Contains-get_or}
 use Rattle.ht_net.specs.Netlist.{Netlist, first_gate_net, net_count}
-use Rattle.ht_ranks.specs.Ranks.{AreRanked}
-use Rattle.ht_ranks.specs.Schedules.{IsSchedule, ReadsFrom}
-use Rattle.ht_ranks.specs.declared.schedule.Schedule.{Schedule}
+use Rattle.ht_events.specs.Ranks.{AreRanked}
+use Rattle.ht_events.specs.Schedules.{IsSchedule, ReadsFrom}
+use Rattle.ht_events.specs.declared.schedule.Schedule.{Schedule}
 
 pub rises_from : (c : Netlist) (order ranks : List ℕ) → AreRanked c (first_gate_net c) order ranks → (y x : ℕ)
     → ReadsFrom c y x → get_or ranks x 0 < get_or ranks y 0

@@ -1,5 +1,5 @@
 use Rattle.std.proofs.Common.{◌≡◌, ◌<◌, ℕ, length, get_or}
-use Rattle.ht_ranks.proofs.ranks.ranks_in.Given as goal
+use Rattle.ht_events.proofs.ranks.ranks_in.Given as goal
 
 abbrev pub invariant-loop-r : goal.invariant-loop-r
 invariant-loop-r l = record {

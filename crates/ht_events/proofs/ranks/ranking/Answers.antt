@@ -1,6 +1,6 @@
 use Rattle.std.proofs.Common.{◌≡◌, ◌<◌, ◌≢◌, ◌∙◌, ℕ, List, length, get_or, subst, sym, ap, arith}
-use Rattle.ht_ranks.proofs.RankLaws.{known, distinct, are_ranked}
-use Rattle.ht_ranks.proofs.ranks.ranking.Goals as goal
+use Rattle.ht_events.proofs.RankLaws.{known, distinct, are_ranked}
+use Rattle.ht_events.proofs.ranks.ranking.Goals as goal
 
 pub ranks_in-requires-clause-known : goal.ranks_in-requires-clause-known
 ranks_in-requires-clause-known c =

@@ -1,5 +1,5 @@
 use Rattle.std.proofs.Common.{◌≡◌, ◌<◌, ◌+◌, ℕ, length, get_or}
-use Rattle.ht_ranks.proofs.ranks.firing_order.Given as goal
+use Rattle.ht_events.proofs.ranks.firing_order.Given as goal
 
 abbrev pub invariant-loop-source : goal.invariant-loop-source
 invariant-loop-source l = record {

@@ -2,7 +2,7 @@
 use Rattle.std.proofs.Common.{◌≡◌, ◌≢◌, ◌<◌, ◌≤◌, ◌+◌, ◌-◌, ◌∙◌, ℕ, List, length, get_or, sym, ap, arith, inl, inr}
 use Rattle.ht_net.specs.Netlist.{Netlist, first_gate_net, gate_at, arg_at, IsOrder}
 use Rattle.ht_net.proofs.FrameLaws.{le_or_lt}
-use Rattle.ht_ranks.specs.Ranks.{ReadsNumber, AreRanked}
+use Rattle.ht_events.specs.Ranks.{ReadsNumber, AreRanked}
 
 module _ (c : Netlist) (sources : ℕ) (gates order : List ℕ) (sorted : IsOrder c gates)
     (few : sources ≤ first_gate_net c) (count : length order ≡ sources + length c.gates)

@@ -1,5 +1,5 @@
 use Rattle.std.proofs.Common.{◌≡◌, take}
-use Rattle.ht_ranks.proofs.readers.flattened.Given as goal
+use Rattle.ht_events.proofs.rank_readers.flattened.Given as goal
 
 abbrev pub invariant-loop-row : goal.invariant-loop-row
 invariant-loop-row l = l.flat ≡ take l.row-index l.rows

@@ -1,3 +1,0 @@
-pub mod RankLaws
-pub mod ReaderLaws
-pub mod ScheduleLaws
