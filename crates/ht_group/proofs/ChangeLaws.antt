@@ -5,8 +5,8 @@ use Rattle.std.proofs.lemmas.List.{length-map, length-append, drop-map}
 use Rattle.ht_tern.specs.declared.tern.Tern.{Tern}
 use Rattle.ht_tern.specs.declared.tern.Tern.TheVariants.{Unk}
 use Rattle.ht_lanes.specs.Lanes.{Lanes, lane}
-use Rattle.ht_diff.specs.declared.diffs.Diff.{Diff}
-use Rattle.ht_diff.specs.Differences.{with_differences}
+use Rattle.ht_group.specs.declared.diffs.Diff.{Diff}
+use Rattle.ht_group.specs.Differences.{with_differences}
 use Rattle.ht_net.specs.declared.fault.Fault.{Fault}
 use Rattle.ht_net.specs.Netlist.{Netlist, net_count, IsCircuit}
 use Rattle.ht_group.specs.GoodFrames.{IsGoodFrame}

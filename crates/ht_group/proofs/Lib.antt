@@ -1,3 +1,4 @@
+pub mod DifferenceLaws
 pub mod DriveLaws
 pub mod InLaneLaws
 pub mod StuckLaws

@@ -8,8 +8,8 @@ use Rattle.std.proofs.lemmas.List.FromFn.{get_or-map-range_with_len, length-map-
 use Rattle.ht_tern.specs.declared.tern.Tern.{Tern}
 use Rattle.ht_tern.specs.declared.tern.Tern.TheVariants.{Unk}
 use Rattle.ht_lanes.specs.Lanes.{Lanes, lane}
-use Rattle.ht_diff.specs.declared.diffs.Diff.{Diff}
-use Rattle.ht_diff.specs.Differences.{held, value_but, with_differences}
+use Rattle.ht_group.specs.declared.diffs.Diff.{Diff}
+use Rattle.ht_group.specs.Differences.{held, value_but, with_differences}
 use Rattle.ht_net.specs.Netlist.{Netlist, first_gate_net, net_count}
 use Rattle.ht_group.specs.LaneRules.{in_lane, lane_env}
 use Rattle.ht_group.specs.Overlays.{OverlayView}

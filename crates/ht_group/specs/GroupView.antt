@@ -8,7 +8,7 @@ use Rattle.ht_net.specs.declared.fault.Fault.{Fault}
 use Rattle.ht_net.specs.Netlist.{Netlist, net_count}
 use Rattle.ht_net.specs.Frame.{frame_outputs, next_state}
 use Rattle.ht_net.specs.Faults.{tern_rules}
-use Rattle.ht_diff.specs.declared.diffs.Diff.{Diff}
+use Rattle.ht_group.specs.declared.diffs.Diff.{Diff}
 
 -- A machine with a fault, and what its flip-flops hold before the frame.
 pub record FaultyMachine : Type 0 where

@@ -1,8 +1,8 @@
 -- The latches of a lane that has the good ones but for differences.
 use Rattle.std.specs.Prelude.{◌≡◌, ◌≢◌, ◌<◌, ℕ, List, Bool, true, false, length, get_or, take, drop}
 use Rattle.ht_lanes.specs.Lanes.{Lanes}
-use Rattle.ht_diff.specs.declared.diffs.Diff.{Diff}
-use Rattle.ht_diff.specs.Differences.{with_differences}
+use Rattle.ht_group.specs.declared.diffs.Diff.{Diff}
+use Rattle.ht_group.specs.Differences.{with_differences}
 use Rattle.ht_net.specs.Netlist.{Netlist, first_gate_net, net_count}
 use Rattle.ht_group.specs.LaneRules.{in_lane, lane_env}
 use Rattle.ht_group.specs.Overlays.{OverlayView}

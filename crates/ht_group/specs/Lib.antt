@@ -1,3 +1,4 @@
+pub mod Differences
 pub mod GroupView
 pub mod Overlays
 pub mod OverlayOf

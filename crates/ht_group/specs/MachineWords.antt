@@ -1,6 +1,6 @@
 -- Up to 64 machines in a word, in a frame and over a set of pending nets that other words share.
 use Rattle.std.specs.Prelude.{◌≡◌, ◌≢◌, ◌<◌, ◌≤◌, ◌+◌, ◌-◌, ◌*◌, ◌++◌, ◌∷◌, [], ℕ, List, Bool, Some, true, false, min, length, get_or, take, drop}
-use Rattle.ht_diff.specs.declared.diffs.Diff.{Diff}
+use Rattle.ht_group.specs.declared.diffs.Diff.{Diff}
 use Rattle.ht_lanes.specs.Lanes.{Lanes}
 use Rattle.ht_net.specs.declared.fault.Fault.{Fault}
 use Rattle.ht_net.specs.Netlist.{Netlist, first_gate_net, net_count}

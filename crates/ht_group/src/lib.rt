@@ -9,6 +9,8 @@
 //! away and puts back only the nets that they changed. Contracts see a group as a `GroupView`.
 #![tactic(auto)]
 
+mod difference_theorems;
+mod diffs;
 mod evaluate;
 mod events;
 mod four_words;
@@ -18,4 +20,6 @@ mod machines;
 mod overlay;
 mod stuck_lines;
 
+pub use difference_theorems::differences_give_the_state;
+pub use diffs::{Diff, Diffs};
 pub use group::{Group, LANES, MAX_MACHINES};

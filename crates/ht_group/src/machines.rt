@@ -1,7 +1,7 @@
 //! The machines of a word, one a lane.
 ghost use Rattle.std.specs.Prelude.{◌≡◌, ◌≢◌, ◌<◌, ◌+◌, ◌&&◌, ◌==◌, [], ℕ, Some, true, false, length, get_or, set, drop, if◌then◌else◌, IfOk, OnOk, OnErr};
 ghost use Rattle.ht_net.specs.Netlist.{IsCircuit, first_gate_net, net_count};
-ghost use Rattle.ht_diff.specs.Differences.{with_differences};
+ghost use Rattle.ht_group.specs.Differences.{with_differences};
 ghost use Rattle.ht_group.specs.GoodFrames.{HasFrameRoom, IsGoodFrame};
 ghost use Rattle.ht_group.specs.GroupView.{AreLatches, HasSite, lane_count};
 ghost use Rattle.ht_group.specs.LatchWords.{HasDifferences};
@@ -14,7 +14,7 @@ ghost use Rattle.ht_group.specs.StuckTables.{AreStuck, forced_net_of};
 use crate::good_frame::GoodFrame;
 use crate::overlay::Overlay;
 use crate::stuck_lines::StuckLines;
-use ht_diff::{Diff, Diffs};
+use crate::diffs::{Diff, Diffs};
 use ht_items::BitSet;
 use ht_net::{Circuit, Fault, Site};
 use ht_events::Schedule;

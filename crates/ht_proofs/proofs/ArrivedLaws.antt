@@ -14,7 +14,7 @@ use Rattle.ht_net.specs.Faults.{tern_rules}
 use Rattle.ht_net.proofs.ValueLaws.{seen_length}
 use Rattle.ht_stems.specs.declared.arrival.Arrival.{Arrival}
 use Rattle.ht_stems.specs.declared.arrival.Arrival.TheVariants.{Dies, AtLatch, AtOutput, AtStem}
-use Rattle.ht_diff.specs.declared.diffs.Diff.{Diff}
+use Rattle.ht_group.specs.declared.diffs.Diff.{Diff}
 use Rattle.ht_group.specs.GroupView.{GroupView, FaultyMachine, AreLatches, faulty_output, good_output}
 use Rattle.ht_proofs.specs.declared.grade.Grade.{Grade}
 use Rattle.ht_proofs.specs.Applied.{IsFirstSeen, IsSeen, good_state}

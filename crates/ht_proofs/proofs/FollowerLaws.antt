@@ -22,7 +22,7 @@ use Rattle.ht_stems.specs.declared.arrival.Arrival.TheVariants.{Dies, AtLatch, A
 use Rattle.ht_stems.specs.Arrivals.{HasLine, IsWithin}
 use Rattle.ht_stems.specs.ArrivedFrames.{AreGoodValues, ShowsArrival}
 use Rattle.ht_stems.specs.ArrivalsView.{ArrivalsView, good_of_net}
-use Rattle.ht_diff.specs.declared.diffs.Diff.{Diff}
+use Rattle.ht_group.specs.declared.diffs.Diff.{Diff}
 use Rattle.ht_faults.specs.FaultList.{no_fault}
 use Rattle.ht_group.specs.GroupView.{GroupView, FaultyMachine, AreLatches, HasSite}
 use Rattle.ht_proofs.specs.declared.grade.Grade.{Grade}

@@ -19,7 +19,7 @@ use Rattle.ht_net.proofs.FrameLaws.{le_or_lt}
 use Rattle.ht_faults.specs.FaultList.{no_fault}
 use Rattle.ht_faults.specs.Sites.{IsFaultSite, faults_of}
 use Rattle.ht_faults.proofs.MemberLaws.{fault_site}
-use Rattle.ht_diff.specs.Differences.{held, value_but, with_differences}
+use Rattle.ht_group.specs.Differences.{held, value_but, with_differences}
 use Rattle.ht_net.specs.Detection.{IsStart}
 use Rattle.ht_stems.specs.Arrivals.{HasLine}
 use Rattle.ht_group.specs.GroupView.{GroupView, FaultyMachine, AreLatches, words_for}

@@ -14,7 +14,7 @@ ghost use Rattle.ht_proofs.specs.Undetected.{KeepsVerdicts, is_undetected, undet
 use crate::frame_grader::FrameGrader;
 use crate::grade::Grade;
 use crate::steps::Steps;
-use ht_diff::Diffs;
+use ht_group::Diffs;
 use ht_faults::FaultList;
 use ht_net::{Circuit, Fault, Place, unknown_start};
 use ht_tern::Tern;

@@ -1,6 +1,6 @@
 use Rattle.std.proofs.Common.{◌<◌, ◌∙◌, ◌-◌, List, length, All, subst, sym, arith}
 use Rattle.std.proofs.lemmas.List.Elements.{All-get_or}
-use Rattle.ht_diff.specs.declared.diffs.Diff.{Diff}
+use Rattle.ht_group.specs.declared.diffs.Diff.{Diff}
 use Rattle.ht_group.specs.LatchWords.{HasDifferences}
 use Rattle.ht_group.proofs.PutLaws.{none_put, put_more, all_put}
 use Rattle.ht_group.proofs.machines.put_differences.Goals as goal

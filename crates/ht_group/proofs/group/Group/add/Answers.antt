@@ -1,5 +1,5 @@
 use Rattle.std.proofs.Common.{◌≡◌, ◌/◌, ◌∙◌, ◌++◌, ◌∷◌, [], List, Bool, true, false, get_or, drop, ap, sym, subst, refl, arith}
-use Rattle.ht_diff.specs.Differences.{with_differences}
+use Rattle.ht_group.specs.Differences.{with_differences}
 use Rattle.ht_group.specs.GroupOf.{group_of}
 use Rattle.ht_group.specs.GroupView.{GroupView}
 use Rattle.ht_group.specs.MachineWords.{IsWord}

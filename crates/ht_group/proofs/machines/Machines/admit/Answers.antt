@@ -1,5 +1,5 @@
 use Rattle.std.proofs.Common.{◌∙◌, ◌++◌, ◌∷◌, [], List, Bool, length, drop, ap, sym, subst, arith}
-use Rattle.ht_diff.specs.Differences.{with_differences}
+use Rattle.ht_group.specs.Differences.{with_differences}
 use Rattle.ht_group.specs.GroupView.{FaultyMachine}
 use Rattle.ht_group.specs.MachineWords.{IsWord}
 use Rattle.ht_group.specs.declared.stuck_lines.StuckLines.{StuckLines}

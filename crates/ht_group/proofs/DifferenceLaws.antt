@@ -7,7 +7,7 @@ use Rattle.std.proofs.lemmas.List.{ext_get_or}
 use Rattle.std.proofs.lemmas.List.FromFn.{get_or-map-range_with_len, length-map-range_with_len}
 use Rattle.ht_tern.specs.declared.tern.Tern.{Tern}
 use Rattle.ht_tern.specs.declared.tern.Tern.TheVariants.{Zero, One, Unk}
-use Rattle.ht_diff.specs.Differences.{held, differences, with_differences, same_value}
+use Rattle.ht_group.specs.Differences.{held, differences, with_differences, same_value}
 
 -- two values that are the same by the test
 pub same_gives : (a b : Tern) → same_value a b ≡ true → a ≡ b

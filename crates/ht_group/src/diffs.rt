@@ -1,6 +1,6 @@
 //! Differing latches in a short list.
 ghost use Rattle.std.specs.Prelude.{◌≡◌, ◌<◌, ◌^◌, [], ◌∷◌, ◌++◌, length, IfOk, OnOk, OnErr};
-ghost use Rattle.ht_diff.specs.Differences.{differences, held};
+ghost use Rattle.ht_group.specs.Differences.{differences, held};
 
 use ht_tern::Tern;
 use smallvec::SmallVec;
@@ -32,7 +32,7 @@ pub struct Diffs {
 
 impl Model for Diffs {
     ghost use Rattle.std.specs.Prelude.{List};
-    ghost use Rattle.ht_diff.specs.declared.diffs.Diff.{Diff};
+    ghost use Rattle.ht_group.specs.declared.diffs.Diff.{Diff};
 
     ghost Value = { List Diff };
 

@@ -3,7 +3,7 @@ use Rattle.std.specs.Prelude.{◌+◌, ℕ, List, [], ◌∷◌, Bool, true, fal
 use Rattle.std.specs.List.{range_with_len}
 use Rattle.ht_tern.specs.declared.tern.Tern.{Tern}
 use Rattle.ht_tern.specs.declared.tern.Tern.TheVariants.{Zero, One, Unk}
-use Rattle.ht_diff.specs.declared.diffs.Diff.{Diff}
+use Rattle.ht_group.specs.declared.diffs.Diff.{Diff}
 
 -- two values are the same, as a test
 abbrev pub same_value : Tern → Tern → Bool
