@@ -10,7 +10,7 @@ use ht_items::Items;
 use ht_net::{Fault, Vectors};
 use ht_search::Outcome;
 use ht_tree::{Status, Token};
-use ht_trial::{Trial, explore, list};
+use ht_window::{Trial, explore, list};
 use ht_window::{Bases, MAX_FRAMES, Start};
 use std::alloc::{AllocError, Global};
 

@@ -17,7 +17,7 @@ use Rattle.ht_search.specs.Legal.{MayDecide}
 use Rattle.ht_search.specs.WindowSteps.{node_of, steps_under}
 use Rattle.ht_search.proofs.WindowStepLaws.{window_path}
 use Rattle.ht_window.specs.States.{IsLegalDecision}
-use Rattle.ht_trial.proofs.TrialLaws as trial
+use Rattle.ht_window.proofs.TrialLaws as trial
 use Rattle.ht_tree.specs.declared.clause.Clause.{Clause}
 use Rattle.ht_tree.specs.Clauses.{second_of}
 use Rattle.ht_tree.specs.ClauseWindows.{ClauseWindow, IsClauseWindow, IsSought, is_one_frame, status_under}

@@ -7,7 +7,7 @@ ghost use Rattle.ht_tree.specs.ClauseWindows.{is_one_frame};
 ghost use Rattle.ht_tree.specs.ClauseSearches.{guide_under};
 ghost use Rattle.ht_search.specs.Outcomes.{IsClosed, IsOutcome, IsSpent};
 ghost use Rattle.ht_search.specs.WindowSteps.{route_of, steps_under};
-ghost use Rattle.ht_trial.specs.Shallow.{window_shallow};
+ghost use Rattle.ht_window.specs.Shallow.{window_shallow};
 ghost use Rattle.ht_invariant.specs.Trials.{clause_window, knows_each, knows_sought};
 
 use crate::look::{pick_under, status_under};

@@ -17,7 +17,7 @@ use Rattle.ht_tree.specs.AimedAttempts.{is_wanting}
 use Rattle.ht_search.specs.Legal.{MayDecide}
 use Rattle.ht_search.proofs.WindowStepLaws.{window_path}
 use Rattle.ht_window.specs.States.{WindowState, IsLegalDecision}
-use Rattle.ht_trial.proofs.NodeLaws.{status_is, choice_is, choice_fits, before_is, decision_undecided, decision_legal}
+use Rattle.ht_window.proofs.NodeLaws.{status_is, choice_is, choice_fits, before_is, decision_undecided, decision_legal}
 use Rattle.ht_justify.specs.declared.back_windows.BackWindows.TheInside.{Inside}
 use Rattle.ht_justify.specs.BackStates.{BackState, IsStacked, node_here, back_state}
 use Rattle.ht_justify.specs.Stacks.{AreUnder, decisions_of, window_under}

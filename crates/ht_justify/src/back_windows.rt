@@ -11,7 +11,7 @@ use ht_items::Items;
 use ht_net::{Circuit, Vectors};
 use ht_search::Point;
 use ht_tern::Tern;
-use ht_trial::vector;
+use ht_window::vector;
 use ht_window::{Bases, Start, Window};
 use std::alloc::{AllocError, Global};
 use std::marker::Model;

@@ -1,14 +1,14 @@
 //! The windows of a search back as a problem of the search.
 ghost use Rattle.ht_tree.specs.Searches.{guide_of};
 ghost use Rattle.ht_search.specs.WindowSteps.{route_of, steps_under};
-ghost use Rattle.ht_trial.specs.Shallow.{window_shallow};
+ghost use Rattle.ht_window.specs.Shallow.{window_shallow};
 
 use crate::back_windows::{BackWindows, back_window, go_back};
 use crate::cube::{decided_cube, is_wanting};
 use ht_search::{Point, Problem};
 use ht_tern::Tern;
 use ht_tree::{Choice, Status3};
-use ht_trial::without_place;
+use ht_window::without_place;
 use std::alloc::AllocError;
 use std::mem;
 

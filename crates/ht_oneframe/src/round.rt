@@ -8,7 +8,7 @@ use ht_items::Items;
 use ht_net::Fault;
 use ht_search::Outcome;
 use ht_tree::{Status, Token, Told};
-use ht_trial::{Trial, explore};
+use ht_window::{Trial, explore};
 use ht_window::{Bases, Start};
 use std::alloc::{AllocError, Global};
 

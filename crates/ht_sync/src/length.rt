@@ -5,7 +5,7 @@ use crate::trial::{SyncTrial, explore};
 use ht_goals::{LengthSearch, OneLength};
 use ht_items::Items;
 use ht_search::Outcome;
-use ht_trial::list;
+use ht_window::list;
 use ht_window::{Bases, Start};
 use std::alloc::{AllocError, Global};
 

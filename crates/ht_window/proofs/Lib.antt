@@ -1,3 +1,5 @@
+pub mod NodeLaws
+pub mod TrialLaws
 pub mod StartLaws
 pub mod PlaceLaws
 pub mod ReaderLaws

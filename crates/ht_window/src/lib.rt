@@ -29,11 +29,15 @@ mod places;
 mod sets;
 mod start;
 mod status;
+mod trial;
 mod turn;
+mod vectors;
 mod window;
 
 pub use bases::Bases;
 pub use ht_events::MAX_FRAMES;
 pub use ht_trail::Mark;
 pub use start::{PairState, Start};
+pub use trial::{Trial, explore, without_place};
+pub use vectors::{list, vector};
 pub use window::Window;

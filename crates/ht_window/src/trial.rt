@@ -6,12 +6,12 @@ ghost use Rattle.ht_tree.specs.Searches.{guide_of, node_at};
 ghost use Rattle.ht_tree.specs.Counts.{Measures, most_tokens, seeks_difference};
 ghost use Rattle.ht_search.specs.Outcomes.{IsClosed, IsOutcome, IsSpent};
 ghost use Rattle.ht_search.specs.WindowSteps.{route_of, steps_under};
-ghost use Rattle.ht_trial.specs.Shallow.{window_shallow};
+ghost use Rattle.ht_window.specs.Shallow.{window_shallow};
 
 use ht_search::{Outcome, Point, Problem, search};
 use ht_tern::Tern;
 use ht_tree::{Choice, Status, Status3};
-use ht_window::Window;
+use crate::window::Window;
 use std::alloc::{AllocError, Global};
 
 /// A window in which a difference of the two machines is searched for.

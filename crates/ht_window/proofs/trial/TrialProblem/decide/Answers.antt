@@ -1,8 +1,8 @@
 use Rattle.std.proofs.Common.{[]}
 use Rattle.ht_tree.specs.declared.token.Assign3.{Assign3}
 use Rattle.ht_search.proofs.WindowStepLaws.{window_decides}
-use Rattle.ht_trial.proofs.TrialLaws.{undecided_here, legal_here}
-use Rattle.ht_trial.proofs.trial.TrialProblem.decide.Goals as goal
+use Rattle.ht_window.proofs.TrialLaws.{undecided_here, legal_here}
+use Rattle.ht_window.proofs.trial.TrialProblem.decide.Goals as goal
 
 pub decide-requires-clause-legal : goal.decide-requires-clause-legal
 decide-requires-clause-legal c =

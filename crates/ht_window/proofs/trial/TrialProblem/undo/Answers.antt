@@ -3,7 +3,7 @@ use Rattle.ht_search.specs.Routes.{stops}
 use Rattle.ht_search.specs.WindowSteps.{route_of, steps_under}
 use Rattle.ht_search.proofs.WindowBackLaws.{window_back, stands_level, stands_mark}
 use Rattle.ht_window.specs.States.{WindowState}
-use Rattle.ht_trial.proofs.trial.TrialProblem.undo.Goals as goal
+use Rattle.ht_window.proofs.trial.TrialProblem.undo.Goals as goal
 
 pub undo_to-requires : goal.undo_to-requires
 undo_to-requires c =

@@ -1,7 +1,7 @@
 use Rattle.std.proofs.Common.{◌∙◌, ap}
 use Rattle.ht_tree.specs.WindowStatus.{without_place}
-use Rattle.ht_trial.proofs.TrialLaws.{status_here}
-use Rattle.ht_trial.proofs.trial.TrialProblem.status.Goals as goal
+use Rattle.ht_window.proofs.TrialLaws.{status_here}
+use Rattle.ht_window.proofs.trial.TrialProblem.status.Goals as goal
 
 pub returns : goal.returns
 returns c =

@@ -1,6 +1,6 @@
 use Rattle.std.proofs.Common.{◌≡◌}
 use Rattle.ht_tree.specs.FoundLists.{list_of}
-use Rattle.ht_trial.proofs.vectors.list.Given as goal
+use Rattle.ht_window.proofs.vectors.list.Given as goal
 
 abbrev pub invariant-loop-frame : goal.invariant-loop-frame
 invariant-loop-frame l = l.list ≡ record {

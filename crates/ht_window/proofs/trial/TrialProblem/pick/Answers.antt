@@ -1,7 +1,7 @@
 use Rattle.std.proofs.Common.{◌∙◌}
-use Rattle.ht_trial.proofs.NodeLaws.{open_alone}
-use Rattle.ht_trial.proofs.TrialLaws.{status_here, choice_here, choice_fits_here}
-use Rattle.ht_trial.proofs.trial.TrialProblem.pick.Goals as goal
+use Rattle.ht_window.proofs.NodeLaws.{open_alone}
+use Rattle.ht_window.proofs.TrialLaws.{status_here, choice_here, choice_fits_here}
+use Rattle.ht_window.proofs.trial.TrialProblem.pick.Goals as goal
 
 pub pick-requires : goal.pick-requires
 pick-requires c =

@@ -4,7 +4,7 @@ use Rattle.ht_tree.specs.Searches.{guide_of}
 use Rattle.ht_search.specs.Routes.{Route}
 use Rattle.ht_search.specs.Outcomes.{IsOutcome}
 use Rattle.ht_search.proofs.WindowStepLaws.{window_node}
-use Rattle.ht_trial.proofs.trial.explore.Goals as goal
+use Rattle.ht_window.proofs.trial.explore.Goals as goal
 
 pub returns-clause-outcome : goal.returns-clause-outcome
 returns-clause-outcome c =

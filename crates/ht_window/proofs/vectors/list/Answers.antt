@@ -3,7 +3,7 @@ use Rattle.std.proofs.lemmas.List.FromFn.{length-map-range_with_len, map-range_w
 use Rattle.ht_net.specs.Rows.{Rows}
 use Rattle.ht_tree.specs.Decisions.{decided_value}
 use Rattle.ht_tree.specs.FoundLists.{bit_or_zero, vector_of}
-use Rattle.ht_trial.proofs.vectors.list.Goals as goal
+use Rattle.ht_window.proofs.vectors.list.Goals as goal
 
 pub push-requires : goal.push-requires
 push-requires c =

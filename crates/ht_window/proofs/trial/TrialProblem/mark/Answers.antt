@@ -1,6 +1,6 @@
 use Rattle.std.proofs.Common.{[], refl}
 use Rattle.ht_search.proofs.WindowStepLaws.{window_point}
-use Rattle.ht_trial.proofs.trial.TrialProblem.mark.Goals as goal
+use Rattle.ht_window.proofs.trial.TrialProblem.mark.Goals as goal
 
 pub returns : goal.returns
 returns c =

@@ -4,7 +4,7 @@ ghost use Rattle.ht_tree.specs.FoundLists.{bit_or_zero, list_of, vector_of};
 
 use ht_net::Vectors;
 use ht_tern::Tern;
-use ht_window::Window;
+use crate::window::Window;
 use std::alloc::{AllocError, Global};
 
 // The bit of a decision; 0 where there is none.

@@ -2,7 +2,7 @@ use Rattle.std.proofs.Common.{◌≡◌, ◌+◌, ◌*◌, map}
 use Rattle.std.specs.List.{range_with_len}
 use Rattle.ht_tree.specs.Decisions.{decided_value}
 use Rattle.ht_tree.specs.FoundLists.{bit_or_zero}
-use Rattle.ht_trial.proofs.vectors.vector.Given as goal
+use Rattle.ht_window.proofs.vectors.vector.Given as goal
 
 abbrev pub invariant-loop-i : goal.invariant-loop-i
 invariant-loop-i l = l.vector.items

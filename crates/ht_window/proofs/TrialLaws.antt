@@ -17,7 +17,7 @@ use Rattle.ht_search.specs.Legal.{MayDecide}
 use Rattle.ht_search.specs.WindowSteps.{node_of, steps_under}
 use Rattle.ht_search.proofs.WindowStepLaws.{window_path}
 use Rattle.ht_window.specs.States.{IsLegalDecision}
-use Rattle.ht_trial.proofs.NodeLaws.{status_is, choice_is, choice_fits, decision_undecided, decision_legal}
+use Rattle.ht_window.proofs.NodeLaws.{status_is, choice_is, choice_fits, decision_undecided, decision_legal}
 
 module _ (w : SearchWindow) (ds : List Assign3) (seeks : seeks_difference w.start ≡ true) where
   abbrev pub here : Node

@@ -1,2 +1,0 @@
-pub mod NodeLaws
-pub mod TrialLaws
