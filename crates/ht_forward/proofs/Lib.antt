@@ -1,3 +1,8 @@
+pub mod GoalLaws
+pub mod RunGoalLaws
+pub mod LengthsLaws
+pub mod DeepLaws
+pub mod LengthFinds
 pub mod FoundLaws
 pub mod AheadLaws
 pub mod WeightLaws

@@ -12,9 +12,15 @@
 #![tactic(auto)]
 
 mod ahead;
+mod lengths;
 mod propagation;
 mod sweeping;
+mod theorems;
 
 pub use ahead::Ahead;
+pub use lengths::{LengthSearch, Lengths, OneLength, search_lengths};
 pub use propagation::{propagate, propagate_from_bases};
 pub use sweeping::{Swept, sweep, sweep_from_bases, sweep_on_from_bases};
+pub use theorems::{
+    complete_walk_is_dead_along_each_assignment, enough_budget_walks_deep, found_node_has_bits,
+};

@@ -10,13 +10,13 @@ use Rattle.ht_tree.specs.Walks.{IsComplete}
 use Rattle.ht_tree.specs.declared.token.Token.{Token}
 use Rattle.ht_records.proofs.SureLaws.{list_length}
 use Rattle.ht_records.proofs.WindowVectorLaws.{list_wide}
-use Rattle.ht_goals.specs.LengthAnswers.{FindsAfter}
-use Rattle.ht_goals.specs.Lengths.{IsLengthRecord, left_after, next_length}
+use Rattle.ht_forward.specs.LengthAnswers.{FindsAfter}
+use Rattle.ht_forward.specs.Lengths.{IsLengthRecord, left_after, next_length}
 use Rattle.ht_sync.specs.Synchronizing.{Synchronizes, SynchronizesTo}
 use Rattle.ht_sync.specs.SyncSearches.{FindsSyncList, IsShortest, IsSpentRecord, SyncFinds, SyncSpends}
 use Rattle.ht_sync.specs.SyncWindows.{sync_guide}
-use Rattle.ht_goals.proofs.DeepLaws.{record_deep}
-use Rattle.ht_goals.proofs.LengthLaws.{closed_walk, spends_record}
+use Rattle.ht_forward.proofs.DeepLaws.{record_deep}
+use Rattle.ht_forward.proofs.LengthsLaws.{closed_walk, spends_record}
 use Rattle.ht_sync.proofs.SyncLaws.{complete_unsynchronized, empty_unsynchronized, ends_each_run, found_synchronizes, sync_walks_short}
 
 -- complete walks for lengths 1 to d: no list of at most d vectors synchronizes

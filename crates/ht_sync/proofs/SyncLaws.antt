@@ -29,12 +29,12 @@ use Rattle.ht_records.proofs.RunStateLaws.{end_state, nth, run_held, state_in, u
 use Rattle.ht_records.proofs.ShownLaws.{next_at, unknown_at}
 use Rattle.ht_records.proofs.SureLaws.{list_length}
 use Rattle.ht_records.proofs.WidthLaws.{fit_length, fit_list, fit_vectors, state_refines}
-use Rattle.ht_goals.specs.RunGoals.{RunHas}
-use Rattle.ht_goals.specs.Lengths.{AreShort}
+use Rattle.ht_forward.specs.RunGoals.{RunHas}
+use Rattle.ht_forward.specs.Lengths.{AreShort}
 use Rattle.ht_sync.specs.SyncWindows.{last_set, sync_goal, sync_guide, sync_window}
 use Rattle.ht_sync.specs.Synchronizing.{EndsEachRun, Synchronizes, SynchronizesTo, state_after}
-use Rattle.ht_goals.proofs.GoalLaws.{goal_walk_short}
-use Rattle.ht_goals.proofs.RunGoalLaws.{dead_run, sure_run}
+use Rattle.ht_forward.proofs.GoalLaws.{goal_walk_short}
+use Rattle.ht_forward.proofs.RunGoalLaws.{dead_run, sure_run}
 use Rattle.ht_sync.proofs.LastLaws.{StaysUnknown, dead_stays, last_is, sure_known}
 
 -- Where a path leaves a list of k vectors to the window of k frames, the state after the list lies in the last sets.

@@ -10,8 +10,8 @@ use Rattle.ht_tree.specs.FoundLists.{list_of}
 use Rattle.ht_tree.specs.Reached.{AreVectors}
 use Rattle.ht_tree.specs.Searches.{FindsAt, node_at}
 use Rattle.ht_tree.specs.Walks.{IsComplete}
-use Rattle.ht_goals.specs.LengthAnswers.{FindsAfter}
-use Rattle.ht_goals.specs.Lengths.{IsLengthRecord, SpendEach}
+use Rattle.ht_forward.specs.LengthAnswers.{FindsAfter}
+use Rattle.ht_forward.specs.Lengths.{IsLengthRecord, SpendEach}
 use Rattle.ht_sync.specs.Synchronizing.{EndsEachRun, Synchronizes, SynchronizesTo}
 use Rattle.ht_sync.specs.SyncWindows.{sync_guide}
 use Rattle.ht_sync.specs.declared.synchronizing.Synchronized.{Synchronized}

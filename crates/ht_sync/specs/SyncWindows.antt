@@ -14,7 +14,7 @@ use Rattle.ht_tree.specs.Windows.{SearchWindow, is_undetermined, latches_at, unk
 use Rattle.ht_tree.specs.Places.{spot_net}
 use Rattle.ht_tree.specs.WalkBack.{walk_back}
 use Rattle.ht_tree.specs.Searches.{Guide}
-use Rattle.ht_goals.specs.Goals.{Goal, goal_in, guide_to}
+use Rattle.ht_forward.specs.Goals.{Goal, goal_in, guide_to}
 
 -- the sweep window of so many frames without a fault
 abbrev pub sync_window : Netlist → ℕ → SearchWindow

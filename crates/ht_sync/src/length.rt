@@ -2,7 +2,7 @@
 ghost use Rattle.std.specs.Prelude.{◌≡◌, ◌<◌, ◌≤◌};
 
 use crate::trial::{SyncTrial, explore};
-use ht_goals::{LengthSearch, OneLength};
+use ht_forward::{LengthSearch, OneLength};
 use ht_items::Items;
 use ht_search::Outcome;
 use ht_window::list;

@@ -4,7 +4,7 @@ ghost use Rattle.ht_sync.specs.SyncSearches.{FindsWithin, IsSynchronized, Synchr
 
 use crate::final_state::end_state;
 use crate::length::SyncSearch;
-use ht_goals::{Lengths, search_lengths};
+use ht_forward::{Lengths, search_lengths};
 use ht_items::Items;
 use ht_net::{Circuit, Vectors};
 use ht_tree::{MAX_BUDGET, Token};

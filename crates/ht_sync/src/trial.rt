@@ -9,9 +9,9 @@ ghost use Rattle.ht_tree.specs.Windows.{is_undetermined, unknown};
 ghost use Rattle.ht_tree.specs.Variables.{IsLegalChoice};
 ghost use Rattle.ht_search.specs.Outcomes.{IsOutcome};
 ghost use Rattle.ht_search.specs.WindowSteps.{route_of, steps_under};
-ghost use Rattle.ht_goals.specs.Goals.{guide_to};
+ghost use Rattle.ht_forward.specs.Goals.{guide_to};
 ghost use Rattle.ht_sync.specs.SyncWindows.{flip_flops, last_set, sync_choice, sync_goal, sync_status};
-ghost use Rattle.ht_goals.specs.Shallow.{goal_shallow};
+ghost use Rattle.ht_forward.specs.Shallow.{goal_shallow};
 
 use ht_pairs::PairSet;
 use ht_search::{Outcome, Point, Problem, search};

@@ -1,7 +1,7 @@
 use Rattle.std.proofs.Common.{subst, arith}
 use Rattle.ht_net.specs.Netlist.{Netlist}
-use Rattle.ht_goals.specs.LengthAnswers.{FindsAfter}
-use Rattle.ht_goals.specs.Lengths.{SpendEach}
+use Rattle.ht_forward.specs.LengthAnswers.{FindsAfter}
+use Rattle.ht_forward.specs.Lengths.{SpendEach}
 use Rattle.ht_sync.specs.SyncSearches.{FindsSyncList}
 use Rattle.ht_sync.specs.SyncWindows.{sync_guide}
 use Rattle.ht_sync.proofs.AnswerLaws.{enough_finds, found_is_answer, found_is_shortest, found_list_synchronizes}

@@ -3,7 +3,7 @@ use Rattle.ht_tree.specs.Searches.{node_at}
 use Rattle.ht_tree.specs.Walks.{Node}
 use Rattle.ht_search.specs.Outcomes.{IsOutcome}
 use Rattle.ht_search.proofs.WindowStepLaws.{window_node}
-use Rattle.ht_goals.specs.Goals.{guide_to}
+use Rattle.ht_forward.specs.Goals.{guide_to}
 use Rattle.ht_sync.specs.SyncWindows.{sync_goal}
 use Rattle.ht_sync.proofs.trial.explore.Goals as goal
 

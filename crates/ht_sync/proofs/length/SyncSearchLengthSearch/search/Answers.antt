@@ -3,7 +3,7 @@ use Rattle.ht_tree.specs.FoundLists.{list_of}
 use Rattle.ht_tree.specs.Searches.{Closes, FindsAt, SpendsAt, node_at}
 use Rattle.ht_tree.specs.Windows.{SearchWindow}
 use Rattle.ht_tree.specs.declared.token.Token.{Token}
-use Rattle.ht_goals.specs.Goals.{guide_to}
+use Rattle.ht_forward.specs.Goals.{guide_to}
 use Rattle.ht_sync.specs.SyncWindows.{sync_goal, sync_guide}
 use Rattle.ht_sync.proofs.length.SyncSearchLengthSearch.search.Goals as goal
 

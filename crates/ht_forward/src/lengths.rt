@@ -2,7 +2,7 @@
 ghost use Rattle.std.specs.Prelude.{◌≡◌, ◌<◌, ◌≤◌, ℕ, IfOk};
 ghost use Rattle.ht_net.specs.Rows.{Rows};
 ghost use Rattle.ht_tree.specs.Searches.{Guide};
-ghost use Rattle.ht_goals.specs.LengthAnswers.{AreLengths, IsOneLength};
+ghost use Rattle.ht_forward.specs.LengthAnswers.{AreLengths, IsOneLength};
 
 use ht_events::MAX_FRAMES;
 use ht_items::Items;

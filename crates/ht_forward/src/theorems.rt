@@ -6,8 +6,8 @@ ghost use Rattle.ht_tree.specs.Budgets.{sweep_cost};
 ghost use Rattle.ht_tree.specs.Searches.{IsOnTop};
 ghost use Rattle.ht_tree.specs.Walks.{AllFit, IsComplete, Judge, Node, path_of, root_stack, stack_after};
 ghost use Rattle.ht_records.proofs.BitPathLaws.{AnyVariable, AreBitsAt};
-ghost use Rattle.ht_goals.specs.Goals.{DeadAlong, Goal, HasBitsFor, guide_to};
-ghost use Rattle.ht_goals.specs.Lengths.{AreShort, IsLengthRecord};
+ghost use Rattle.ht_forward.specs.Goals.{DeadAlong, Goal, HasBitsFor, guide_to};
+ghost use Rattle.ht_forward.specs.Lengths.{AreShort, IsLengthRecord};
 
 /// Along each assignment of bits, a complete walk comes to a dead path.
 #[tactic(auto, using(crate::proofs::GoalLaws::dead_along))]

@@ -4,9 +4,9 @@ use Rattle.ht_net.specs.Rows.{Rows}
 use Rattle.ht_tree.specs.Searches.{Guide}
 use Rattle.ht_tree.specs.declared.limits.TheConstants.{MAX_BUDGET}
 use Rattle.ht_tree.specs.declared.token.Token.{Token}
-use Rattle.ht_goals.specs.Lengths.{left_after}
-use Rattle.ht_goals.proofs.LengthLaws.{IsClosedTo, frames_few, left_is}
-use Rattle.ht_goals.specs.LengthAnswers.{FindsAfter}
+use Rattle.ht_forward.specs.Lengths.{left_after}
+use Rattle.ht_forward.proofs.LengthsLaws.{IsClosedTo, frames_few, left_is}
+use Rattle.ht_forward.specs.LengthAnswers.{FindsAfter}
 
 pub finds_after : (guide : ℕ → Guide) (Finds : ℕ → ℕ → Rows → Type 0) (budget frames left : ℕ) (list : Rows)
     (walks : List (List Token)) → IsClosedTo guide budget frames left walks → budget ≤ MAX_BUDGET

@@ -1,9 +1,9 @@
 use Rattle.std.proofs.Common.{◌∙◌, ◌+◌, ◌-◌, ◌*◌, ℕ, List, length, ap, sym, subst}
 use Rattle.ht_tree.specs.declared.token.Token.{Token}
-use Rattle.ht_goals.proofs.LengthLaws.{IsClosedTo, frames_few, one_closes}
-use Rattle.ht_goals.specs.LengthAnswers.{FindsAfter}
-use Rattle.ht_goals.proofs.LengthFinds.{finds_after}
-use Rattle.ht_goals.proofs.lengths.search_lengths.Goals as goal
+use Rattle.ht_forward.proofs.LengthsLaws.{IsClosedTo, frames_few, one_closes}
+use Rattle.ht_forward.specs.LengthAnswers.{FindsAfter}
+use Rattle.ht_forward.proofs.LengthFinds.{finds_after}
+use Rattle.ht_forward.proofs.lengths.search_lengths.Goals as goal
 
 pub search-requires-clause-few : goal.search-requires-clause-few
 search-requires-clause-few g c =

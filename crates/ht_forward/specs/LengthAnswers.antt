@@ -5,11 +5,11 @@ use Rattle.ht_tree.specs.declared.token.Token.{Token}
 use Rattle.ht_tree.specs.Searches.{Closes, Guide, SpendsAt}
 use Rattle.ht_tree.specs.Walks.{Node}
 use Rattle.ht_events.specs.Plans.{max_frames}
-use Rattle.ht_goals.specs.Lengths.{CloseEach, SpendEach, left_after, next_length}
-use Rattle.ht_goals.specs.declared.lengths.OneLength.{OneLength}
-use Rattle.ht_goals.specs.declared.lengths.OneLength.TheVariants as one
-use Rattle.ht_goals.specs.declared.lengths.Lengths.{Lengths}
-use Rattle.ht_goals.specs.declared.lengths.Lengths.TheVariants.{Found, Spent}
+use Rattle.ht_forward.specs.Lengths.{CloseEach, SpendEach, left_after, next_length}
+use Rattle.ht_forward.specs.declared.lengths.OneLength.{OneLength}
+use Rattle.ht_forward.specs.declared.lengths.OneLength.TheVariants as one
+use Rattle.ht_forward.specs.declared.lengths.Lengths.{Lengths}
+use Rattle.ht_forward.specs.declared.lengths.Lengths.TheVariants.{Found, Spent}
 
 -- what the search of so many frames within a budget comes to, by its guide and by the lists that it finds
 abbrev pub IsOneLength : Guide → (Rows → Type 0) → ℕ → ℕ → OneLength → Type 0

@@ -1,6 +1,6 @@
 use Rattle.std.proofs.Common.{◌≡◌}
-use Rattle.ht_goals.proofs.LengthLaws.{IsClosedTo}
-use Rattle.ht_goals.proofs.lengths.search_lengths.Given as goal
+use Rattle.ht_forward.proofs.LengthsLaws.{IsClosedTo}
+use Rattle.ht_forward.proofs.lengths.search_lengths.Given as goal
 
 abbrev pub invariant-lengths : goal.invariant-lengths
 invariant-lengths g l = (g.S.LengthSearch.subject l.search ≡ g.S.LengthSearch.subject l.fn.search)

@@ -1,5 +1,0 @@
-pub mod Goals
-pub mod Shallow
-pub mod Lengths
-pub mod RunGoals
-pub mod LengthAnswers
