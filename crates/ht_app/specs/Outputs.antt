@@ -47,7 +47,7 @@ use Rattle.ht_tern.specs.declared.tern.Tern.{Tern}
 use Rattle.ht_dictionary.specs.Diagnoses.{Diagnoses}
 use Rattle.ht_dictionary.specs.DiagnosisTexts.{diagnosis_text, diagnosis_total}
 use Rattle.ht_dictionary.specs.DiagnosisView.{DiagnosisView}
-use Rattle.ht_responses.specs.Responses.{IsResponses}
+use Rattle.ht_dictionary.specs.Responses.{IsResponses}
 
 -- ---- one file, and its total line on Out
 

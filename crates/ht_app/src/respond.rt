@@ -1,7 +1,7 @@
 //! The command `respond`.
 ghost use Rattle.std.specs.Prelude.{◌≡◌, ◌≤◌, List, ℕ, IfOk, IfErr, IfSome};
 ghost use Rattle.ht_net.specs.Detection.{IsStart};
-ghost use Rattle.ht_responses.specs.Responses.{IsResponses};
+ghost use Rattle.ht_dictionary.specs.Responses.{IsResponses};
 ghost use Rattle.ht_asked.specs.Asked as asked;
 ghost use Rattle.ht_app.specs.Outputs.{IsMachineOf, response_acts};
 ghost use Rattle.ht_inputs.specs.Refusals.{FaultStops};
@@ -13,7 +13,7 @@ use ht_asked::{MAX_FAULT, MIN_FAULT};
 use ht_inputs::{RunError, read_netlist, read_stated, read_tests};
 use ht_net::{Circuit, Fault, Vectors};
 use ht_ports::{Desk, OutPort};
-use ht_responses::{write_last_response, write_response_body, write_response_total};
+use ht_dictionary::{write_last_response, write_response_body, write_response_total};
 use ht_tern::Tern;
 use ht_words::FileName;
 use std::alloc::{AllocError, Global};
@@ -64,7 +64,7 @@ fn response_texts(
     ensures { IfOk result (λ texts. IsResponses circuit.now fault start.now list.now.list
         texts.body.items texts.last.items texts.said.items) }
 {
-    let shown = ht_responses::respond(alloc, circuit, fault, start, list)?;
+    let shown = ht_dictionary::respond(alloc, circuit, fault, start, list)?;
     let body = write_response_body(alloc, &shown)?;
     let said = write_response_total(alloc, list.len(), circuit.outputs())?;
     let last = write_last_response(alloc, &shown)?;

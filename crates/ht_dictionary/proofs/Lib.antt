@@ -1,3 +1,6 @@
+pub mod RunLaws
+pub mod RespondLaws
+pub mod ShownLaws
 pub mod ContradictionLaws
 pub mod ConsistencyLaws
 pub mod DiagnosisLaws

@@ -1,3 +1,4 @@
+pub mod Responses
 pub mod ObservationView
 pub mod ObservationOf
 pub mod Contradictions

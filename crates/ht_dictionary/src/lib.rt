@@ -13,6 +13,9 @@ mod contradiction;
 mod diagnosis;
 mod diagnosis_text;
 mod observation;
+mod response_text;
+mod response_theorems;
+mod responses;
 mod row_text;
 mod theorems;
 
@@ -20,6 +23,12 @@ pub use contradiction::first_contradiction;
 pub use diagnosis::{Diagnosis, diagnose};
 pub use diagnosis_text::{write_diagnosis_body, write_diagnosis_total};
 pub use observation::Observation;
+pub use response_text::{write_last_response, write_response_body, write_response_total};
+pub use response_theorems::{
+    diagnoses_of_responses, members_respond_alike, responses_are_consistent, responses_are_read,
+    written_responses_are_read,
+};
+pub use responses::respond;
 pub use row_text::read_row;
 pub use theorems::{
     detections_contradict_the_good_machine, explanations_are_consistent, first_wrong_response,

@@ -1,7 +1,7 @@
 use Rattle.std.proofs.Common.{◌∙◌, ◌++◌, ℕ, List, length, ap}
 use Rattle.ht_app.proofs.Common.{ObservationView, with_lf}
-use Rattle.ht_responses.specs.Responses.{last_row, response_text, responses_line, rows_but_last}
-use Rattle.ht_responses.proofs.ResponseLaws.{text_parts}
+use Rattle.ht_dictionary.specs.Responses.{last_row, response_text, responses_line, rows_but_last}
+use Rattle.ht_dictionary.proofs.RespondLaws.{text_parts}
 use Rattle.ht_app.proofs.respond.response_texts.Goals as goal
 
 pub returns : goal.returns

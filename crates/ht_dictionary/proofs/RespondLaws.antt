@@ -15,8 +15,8 @@ use Rattle.ht_texts.proofs.CodedLaws.{get_or-coded}
 use Rattle.ht_texts.proofs.LineLaws.{IsClean, AreClean, ends_without_cr, lines_are_lines}
 use Rattle.ht_dictionary.specs.ResponseTexts.{tern_code, row_text, IsResponseText, IsMalformedResponse}
 use Rattle.ht_dictionary.proofs.ResponseLaws.{never_both}
-use Rattle.ht_responses.specs.Responses.{response_text, rows_but_last, last_row}
-use Rattle.ht_responses.proofs.RunLaws.{rows_count, rows_wide}
+use Rattle.ht_dictionary.specs.Responses.{response_text, rows_but_last, last_row}
+use Rattle.ht_dictionary.proofs.RunLaws.{rows_count, rows_wide}
 
 -- ---- what is written is read
 

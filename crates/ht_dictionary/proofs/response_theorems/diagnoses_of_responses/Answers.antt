@@ -1,5 +1,5 @@
-use Rattle.ht_responses.proofs.ShownLaws.{good_diagnosed, fault_diagnosed}
-use Rattle.ht_responses.proofs.theorems.diagnoses_of_responses.Goals as goal
+use Rattle.ht_dictionary.proofs.ShownLaws.{good_diagnosed, fault_diagnosed}
+use Rattle.ht_dictionary.proofs.response_theorems.diagnoses_of_responses.Goals as goal
 
 pub returns-clause-good : goal.returns-clause-good
 returns-clause-good c = good_diagnosed

@@ -2,9 +2,9 @@
 ghost use Rattle.std.specs.Prelude.{◌≡◌, List, IfOk, length};
 ghost use Rattle.ht_texts.specs.Lines.{with_lf};
 ghost use Rattle.ht_dictionary.specs.ResponseTexts.{row_text};
-ghost use Rattle.ht_responses.specs.Responses.{last_row, response_text, responses_line, rows_but_last};
+ghost use Rattle.ht_dictionary.specs.Responses.{last_row, response_text, responses_line, rows_but_last};
 
-use ht_dictionary::Observation;
+use crate::observation::Observation;
 use ht_tern::Tern;
 use ht_texts::{push_number, tern_character};
 use std::alloc::{AllocError, Global};

@@ -1,7 +1,7 @@
 use Rattle.std.proofs.Common.{◌≡◌, length, take}
 use Rattle.ht_net.specs.Detection.{outputs_from}
-use Rattle.ht_responses.proofs.RunLaws.{after_from, of_rows}
-use Rattle.ht_responses.proofs.responses.respond.Given as goal
+use Rattle.ht_dictionary.proofs.RunLaws.{after_from, of_rows}
+use Rattle.ht_dictionary.proofs.responses.respond.Given as goal
 
 abbrev pub invariant-loop-t : goal.invariant-loop-t
 invariant-loop-t l = record {

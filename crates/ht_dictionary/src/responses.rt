@@ -2,7 +2,7 @@
 ghost use Rattle.std.specs.Prelude.{◌≡◌, length, IfOk};
 ghost use Rattle.ht_net.specs.Detection.{IsStart, outputs_from};
 
-use ht_dictionary::Observation;
+use crate::observation::Observation;
 use ht_net::{Circuit, Fault, Vectors};
 use ht_serial::Machine;
 use ht_tern::Tern;

@@ -1,5 +1,5 @@
-use Rattle.ht_responses.proofs.ResponseLaws.{written_is_read, written_no_line, text_parts}
-use Rattle.ht_responses.proofs.theorems.written_responses_are_read.Goals as goal
+use Rattle.ht_dictionary.proofs.RespondLaws.{written_is_read, written_no_line, text_parts}
+use Rattle.ht_dictionary.proofs.response_theorems.written_responses_are_read.Goals as goal
 
 pub returns-clause-rows : goal.returns-clause-rows
 returns-clause-rows c = written_is_read

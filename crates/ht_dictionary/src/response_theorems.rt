@@ -13,7 +13,7 @@ ghost use Rattle.ht_dictionary.specs.Contradictions.{IsFirstContradiction};
 ghost use Rattle.ht_dictionary.specs.Diagnoses.{Diagnoses, contradiction_at};
 ghost use Rattle.ht_dictionary.specs.DiagnosisView.{DiagnosisView};
 ghost use Rattle.ht_dictionary.specs.ResponseTexts.{IsResponseText, IsMalformedResponse};
-ghost use Rattle.ht_responses.specs.Responses.{response_text, last_row, rows_but_last};
+ghost use Rattle.ht_dictionary.specs.Responses.{response_text, last_row, rows_but_last};
 
 /// The text of rows of one width is that of these rows to its reader, and no line of it is malformed. A text is at most
 /// 2^62 bytes long.
