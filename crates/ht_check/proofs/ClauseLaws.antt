@@ -17,7 +17,7 @@ use Rattle.ht_tree.specs.declared.clause.Clause.{Clause}
 use Rattle.ht_tree.specs.declared.clause.Literal.{Literal}
 use Rattle.ht_tree.specs.Clauses.{AreKnown, IsClause, is_decided_against, is_decided_to, latch_value, literals_of, literals_of_each, path_breaks, path_meets}
 use Rattle.ht_tree.specs.ClauseWindows.{breach_status, may_miss, must_miss, open_if_sure, under_clauses}
-use Rattle.ht_clauses.proofs.MeetLaws.{clause_known}
+use Rattle.ht_records.proofs.MeetLaws.{clause_known}
 use Rattle.std.specs.Vec.{with_items}
 use Rattle.ht_check.specs.declared.fresh_window.FreshWindow.TheInside.{Inside}
 use Rattle.ht_check.specs.FreshWindowOf.{HasWindowRoom, window_of}

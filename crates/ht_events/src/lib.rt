@@ -1,9 +1,13 @@
 //! Evaluation by events (PROOFS 1992): an item that may disagree with what it reads is pending, and firing it makes it
 //! agree and what reads it pending. None pending means that all agree, whatever order they were fired in.
 //!
-//! Items are, frame by frame, the flip-flops and then the gates (`specs/Items.antt`). A `Plant` keeps their cells, as a
-//! window of pair sets or a word of machines does; `Core` knows what is pending and nothing of cells. `settle` fires
-//! the lowest frame and level first, so that it fires no item twice.
+//! `ranking` gives the order of all that gets a value, sources and then gates, each after those that it reads, and the
+//! rank of each there; which nets count as sources is the caller's to say. A `Schedule` has the order of all nets of one
+//! frame, with the ranks of what reads each.
+//!
+//! Over the frames of a window, items are, frame by frame, the flip-flops and then the gates (`specs/Items.antt`). A
+//! `Plant` keeps their cells, as a window of pair sets does; `Core` knows what is pending and nothing of cells. `settle`
+//! fires the lowest frame and level first, so that it fires no item twice.
 #![tactic(auto)]
 
 mod event_core;

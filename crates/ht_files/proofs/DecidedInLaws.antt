@@ -18,7 +18,7 @@ use Rattle.ht_tree.specs.Clauses.{literals_of_each}
 use Rattle.ht_tree.specs.Entries.{kind_of}
 use Rattle.ht_tree.specs.Invariants.{IsInvariant}
 use Rattle.ht_tree.specs.SealedInClauses.{SealedIn}
-use Rattle.ht_clauses.proofs.FromLaws.{sealed_in_silent}
+use Rattle.ht_records.proofs.FromLaws.{sealed_in_silent}
 use Rattle.ht_invariant.specs.declared.finding.Invariant.{Invariant}
 use Rattle.ht_texts.specs.declared.said.Said.{Said}
 use Rattle.ht_texts.specs.declared.said.Said.TheVariants.{Detected, Untestable, Undetectable, Aborted, Undetected}

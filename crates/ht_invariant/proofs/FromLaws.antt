@@ -17,9 +17,9 @@ use Rattle.ht_tree.specs.ClauseWindows.{judge_under, window_under}
 use Rattle.ht_tree.specs.Invariants.{IsInvariant}
 use Rattle.ht_tree.specs.RefutationsFrom.{RefutesFrom}
 use Rattle.ht_tree.specs.ToldUnder.{TellsUnder}
-use Rattle.ht_clauses.proofs.FromLaws.{refuted_from}
-use Rattle.ht_clauses.proofs.MeetLaws.{clauses_known}
-use Rattle.ht_clauses.proofs.StatusLaws.{sure_under}
+use Rattle.ht_records.proofs.FromLaws.{refuted_from}
+use Rattle.ht_records.proofs.MeetLaws.{clauses_known}
+use Rattle.ht_records.proofs.StatusLaws.{sure_under}
 use Rattle.ht_records.proofs.ChainLaws.{chain_lies_in_under, chain_to_output_under}
 use Rattle.ht_records.proofs.GrowLaws.{chained_more}
 use Rattle.ht_records.proofs.UnderLaws.{guide_under_same, meets_by_values, refuting_enough}

@@ -22,7 +22,7 @@ use Rattle.ht_tree.specs.declared.clause.Clause.{Clause}
 use Rattle.ht_tree.specs.Clauses.{second_of}
 use Rattle.ht_tree.specs.ClauseWindows.{ClauseWindow, IsClauseWindow, IsSought, is_one_frame, status_under}
 use Rattle.ht_tree.specs.ClauseSearches.{guide_under, pick_under}
-use Rattle.ht_clauses.proofs.ChoiceLaws.{open_legal}
+use Rattle.ht_records.proofs.ChoiceLaws.{open_legal}
 use Rattle.ht_invariant.specs.declared.sought.Sought.{Sought}
 use Rattle.ht_invariant.specs.declared.sought.Sought.TheVariants.{Difference, Breach}
 use Rattle.ht_invariant.specs.Trials.{clause_window, knows_each, knows_sought, sought_of}

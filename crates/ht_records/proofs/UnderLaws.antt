@@ -20,7 +20,7 @@ use Rattle.ht_tree.specs.declared.clause.Literal.{Literal}
 use Rattle.ht_tree.specs.Clauses.{AreKnownClauses, is_decided_against, is_decided_to, path_breaks, path_meets}
 use Rattle.ht_tree.specs.ClauseWindows.{ClauseWindow, open_if_sure, window_under}
 use Rattle.ht_tree.specs.ClauseSearches.{choice_if_open, choice_or, guide_under, to_clause}
-use Rattle.ht_clauses.proofs.CountLaws.{clause_search_enough}
+use Rattle.ht_records.proofs.CountLaws.{clause_search_enough}
 
 module _ (c : Netlist) (fault : Fault) (clauses : List (List Literal)) (z z' : List ℕ)
     (same : (j : ℕ) → is_in z j ≡ is_in z' j) where

@@ -5,7 +5,7 @@ use Rattle.ht_tree.specs.Searches.{Closes}
 use Rattle.ht_tree.specs.ToldChains.{is_output}
 use Rattle.ht_tree.specs.Clauses.{AreKnownClauses, literals_of_each}
 use Rattle.ht_window.specs.Starts.{marked}
-use Rattle.ht_clauses.proofs.MeetLaws.{clauses_known}
+use Rattle.ht_records.proofs.MeetLaws.{clauses_known}
 use Rattle.ht_oneframe.specs.Rounds.{FindsFrame, SpendsIn}
 use Rattle.ht_oneframe.proofs.RoundLaws.{TellsMore, told_round}
 use Rattle.ht_invariant.specs.FromStates.{guide_from}

@@ -8,7 +8,7 @@ use Rattle.ht_tree.specs.Windows.{SearchWindow}
 use Rattle.ht_tree.specs.declared.clause.Literal.{Literal}
 use Rattle.ht_tree.specs.Clauses.{IsClause, IsSecond, literals_of}
 use Rattle.ht_tree.specs.ClauseWindows.{breach_status}
-use Rattle.ht_clauses.proofs.MeetLaws.{clause_known}
+use Rattle.ht_records.proofs.MeetLaws.{clause_known}
 use Rattle.ht_check.specs.FrameSetsOf.{FrameState}
 use Rattle.ht_check.specs.FreshWindowOf.{window_of}
 use Rattle.ht_check.proofs.ClauseLaws.{breach_is}

@@ -22,8 +22,8 @@ use Rattle.ht_tree.proofs.WindowLaws.{next_has}
 use Rattle.ht_tree.specs.declared.clause.Literal.{Literal}
 use Rattle.ht_tree.specs.Clauses.{AreKnown, AreKnownClauses, meets_literal, is_bit, meets, meets_each}
 use Rattle.ht_tree.specs.ClauseWindows.{breach, closing_window, good_window, judge_under, may_miss}
-use Rattle.ht_clauses.proofs.DeadLaws.{DeadPath, dead_path}
-use Rattle.ht_clauses.proofs.StatusLaws.{breach_dead}
+use Rattle.ht_records.proofs.DeadLaws.{DeadPath, dead_path}
+use Rattle.ht_records.proofs.StatusLaws.{breach_dead}
 
 -- a bit of a set that can't have the other bit of a literal is the literal's
 not_missed : (value b : Bool) (s : List Pair) → IsMember (bits b b) s

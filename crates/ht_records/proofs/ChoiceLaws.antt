@@ -27,7 +27,7 @@ use Rattle.ht_tree.specs.declared.clause.Literal.{Literal}
 use Rattle.ht_tree.specs.Clauses.{AreKnown, is_decided_against, is_decided_to, latch_value, path_breaks, path_meets}
 use Rattle.ht_tree.specs.ClauseWindows.{ClauseWindow, IsClauseWindow, IsSought, Sought, breach, difference, is_one_frame, may_miss, must_miss, sought_status, status_under}
 use Rattle.ht_tree.specs.ClauseSearches.{back_from, choice_if_open, choice_or, pick_under, sought_choice, to_clause, to_literal}
-use Rattle.ht_clauses.proofs.StatusLaws.{breach_open, breach_sure, open_under}
+use Rattle.ht_records.proofs.StatusLaws.{breach_open, breach_sure, open_under}
 
 -- what is known of lists by their tests
 none_found : {X : Type 0} → (test : X → Bool) (xs : List X) → list_any test xs ≡ false → find test xs ≡ None

@@ -17,8 +17,8 @@ use Rattle.ht_tree.proofs.WindowLaws.{PathAllows, assigned, assignment, along_al
 use Rattle.ht_tree.specs.declared.clause.Literal.{Literal}
 use Rattle.ht_tree.specs.Clauses.{AreKnownClauses, meets_each}
 use Rattle.ht_tree.specs.ClauseWindows.{ClauseWindow, Sought, judge_under, sought_status, status_under}
-use Rattle.ht_clauses.proofs.MeetLaws.{none_broken}
-use Rattle.ht_clauses.proofs.StatusLaws.{dead_under}
+use Rattle.ht_records.proofs.MeetLaws.{none_broken}
+use Rattle.ht_records.proofs.StatusLaws.{dead_under}
 
 -- A path that leaves a vector and two states, and under which what is looked for can't be shown.
 pub record DeadPath (c : Netlist) (fault : Option Fault) (z : List ℕ) (sought : Sought)

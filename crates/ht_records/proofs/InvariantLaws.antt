@@ -14,8 +14,8 @@ use Rattle.ht_tree.specs.declared.clause.Literal.{Literal}
 use Rattle.ht_tree.specs.declared.clause.Clause.{Clause}
 use Rattle.ht_tree.specs.Clauses.{IsClause, literals_of, literals_of_each, meets, meets_each}
 use Rattle.ht_tree.specs.Invariants.{IsClosedUnder, IsInvariant}
-use Rattle.ht_clauses.proofs.MeetLaws.{clause_known, clauses_known}
-use Rattle.ht_clauses.proofs.ClosingLaws.{closed_keeps}
+use Rattle.ht_records.proofs.MeetLaws.{clause_known, clauses_known}
+use Rattle.ht_records.proofs.ClosingLaws.{closed_keeps}
 
 -- frames lead from states that meet each clause to such states
 abbrev pub AreKept : Netlist → List (List Literal) → Type 0

@@ -23,8 +23,8 @@ use Rattle.ht_tree.specs.declared.clause.Literal.{Literal}
 use Rattle.ht_tree.specs.Clauses.{AreKnownClauses, meets_each}
 use Rattle.ht_tree.specs.ClauseWindows.{difference, judge_under, window_under}
 use Rattle.ht_tree.specs.SealedInClauses.{SealedIn}
-use Rattle.ht_clauses.proofs.DeadLaws.{DeadPath, dead_path}
-use Rattle.ht_clauses.proofs.InvariantLaws.{AreKept, kept_fitted}
+use Rattle.ht_records.proofs.DeadLaws.{DeadPath, dead_path}
+use Rattle.ht_records.proofs.InvariantLaws.{AreKept, kept_fitted}
 
 module _ (c : Netlist) (fault : Fault) (z : List ℕ) (clauses : List (List Literal)) (tokens : List Token)
     (circuit : IsCircuit c) (known : AreKnownClauses c clauses)

@@ -1,9 +1,0 @@
-pub mod MeetLaws
-pub mod StatusLaws
-pub mod DeadLaws
-pub mod ClosingLaws
-pub mod InvariantLaws
-pub mod SealLaws
-pub mod FromLaws
-pub mod ChoiceLaws
-pub mod CountLaws
