@@ -7,6 +7,9 @@
 //! latch reaches, each at most once for a word, in the order of the circuit. Then `opposite` tells at which outputs the
 //! machines of a word differ for a tester, `next` gives their latches after the frame, and `clear` takes the machines
 //! away and puts back only the nets that they changed. Contracts see a group as a `GroupView`.
+//!
+//! `Diffs` holds, for one machine, the few latches whose value isn't the good machine's: the good state with these
+//! differences is the faulty one (state differences, as in PROOFS 1992). Contracts see the list of them.
 #![tactic(auto)]
 
 mod difference_theorems;
