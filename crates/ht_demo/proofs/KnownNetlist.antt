@@ -1,4 +1,4 @@
--- A demonstration netlist as bench/demo has it: of size 2, seed 7.
+-- A demonstration netlist as model/demo has it: of size 2, seed 7.
 use Rattle.std.specs.Prelude.{◌≡◌, ℕ, [], ◌∷◌, refl}
 use Rattle.rand_core.specs.Pcg32Seed.{pcg32_seed}
 use Rattle.rand_core.specs.Steps.{u32_at, word_bytes}

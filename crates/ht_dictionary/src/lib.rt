@@ -7,6 +7,10 @@
 //! that was observed is consistent (`explanations_are_consistent`); no clause says that a consistent fault is present.
 //!
 //! `specs/DiagnosisTexts` has the text of a diagnosis, `specs/ResponseTexts` that of an observation.
+//!
+//! `respond` runs one machine over a list of vectors from a start and gives a row for each, as the text that `diagnose`
+//! reads (`written_responses_are_read`). What a machine shows contradicts neither it nor the representative of its class
+//! (`responses_are_consistent`).
 #![tactic(auto)]
 
 mod contradiction;

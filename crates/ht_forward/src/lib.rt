@@ -9,6 +9,11 @@
 //! `Sweeps` (the searches of a sweep, and what their answer means). Modules: `ahead` (one window), `propagation`
 //! (`propagate`) and `sweeping` (`sweep`). `propagate_from_bases` and `sweep_from_bases` take bases of the circuit,
 //! which serve for all its faults.
+//!
+//! The searches of one window differ by a goal alone: by the status of a path, and by the variable that is chosen there
+//! (`specs/Goals`). For all of them one law says what a complete walk rules out, and one what a found node shows.
+//! `search_lengths` searches one length after the other with one budget for all: `specs/Lengths` has these searches and
+//! the record that they leave, `specs/LengthAnswers` what they answer.
 #![tactic(auto)]
 
 mod ahead;

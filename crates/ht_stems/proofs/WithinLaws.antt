@@ -1,5 +1,5 @@
 -- An effect ends within the circuit.
-use Rattle.std.proofs.Common.{◌<◌, ◌+◌, ℕ, Bool, None, Some, length, sym, subst, arith, inl, inr}
+use Rattle.std.proofs.Common.{◌<◌, ◌+◌, ℕ, Bool, None, length, sym, subst, arith, inl, inr}
 use Rattle.ht_tern.specs.declared.tern.Tern.{Tern}
 use Rattle.ht_tern.specs.Gate.{tern_of}
 use Rattle.ht_net.specs.declared.fault.Site.{Site}

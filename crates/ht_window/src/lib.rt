@@ -16,6 +16,10 @@
 //! | turn, base, bases | windows before their first decision, one made from another by events |
 //! | places, cube, status | what the places and the latches of a cube show; `status`, `pick` |
 //! | back | `walk_back` |
+//! | trial, vectors | a window in which a difference is searched for: `explore` from its root, and the vectors read off |
+//!
+//! `specs/Shallow.antt` bounds how many windows stand one under the other, and `proofs/NodeLaws.antt` gives what a
+//! problem has to promise of its node from a window that stands there.
 #![tactic(auto)]
 
 mod back;
