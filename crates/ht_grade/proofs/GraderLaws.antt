@@ -14,7 +14,7 @@ use Rattle.ht_net.proofs.ApartLaws.{detected_apart_from}
 use Rattle.ht_net.proofs.MoreToldLaws.{state_is_start}
 use Rattle.ht_faults.specs.FaultList.{no_fault}
 use Rattle.ht_faults.specs.Sites.{faults_of}
-use Rattle.ht_collapse.specs.Classes.{AreClasses, fault_at, is_representative, own_representatives}
+use Rattle.ht_faults.specs.Classes.{AreClasses, fault_at, is_representative, own_representatives}
 use Rattle.ht_serial.specs.Places.{IsWithin}
 use Rattle.ht_proofs.specs.PackedView.{PackedView, GraderStandsFor, chosen_faults, state_at, verdict_at}
 use Rattle.ht_grade.specs.Detections.{AreFirstDetections, AreWithin, place_at}

@@ -4,7 +4,7 @@ use Rattle.std.specs.List.{flat_map}
 use Rattle.ht_net.specs.declared.place.Place.{Place}
 use Rattle.ht_net.specs.Detection.{IsStart}
 use Rattle.ht_net.specs.Rows.{Rows}
-use Rattle.ht_collapse.specs.Classes.{AreClasses, own_representatives}
+use Rattle.ht_faults.specs.Classes.{AreClasses, own_representatives}
 use Rattle.ht_faults.specs.Sites.{faults_of}
 use Rattle.ht_proofs.specs.PackedView.{PackedView, GraderStandsFor, chosen_faults}
 use Rattle.ht_grade.specs.Detections.{AreFirstDetections, AreWithin}

@@ -3,12 +3,11 @@ ghost use Rattle.std.specs.Prelude.{◌≡◌, ◌<◌, ◌^◌, ◌++◌, [], t
 ghost use Rattle.std.specs.Option.{ForSome};
 ghost use Rattle.ht_net.specs.Detection.{ApartFrom, IsFirstFrom, IsPlace, IsStart, state_from, unknown_state};
 ghost use Rattle.ht_faults.specs.Sites.{faults_of};
-ghost use Rattle.ht_collapse.specs.Classes.{AreClasses, fault_at, is_representative};
+ghost use Rattle.ht_faults.specs.Classes.{AreClasses, fault_at, is_representative};
 ghost use Rattle.ht_serial.specs.Places.{IsWithin};
 
 use crate::packed::{apply_all, begin, faulty_latches, place_among, places_of};
-use ht_collapse::Classes;
-use ht_faults::FaultList;
+use ht_faults::{Classes, FaultList};
 use ht_net::{Circuit, Place, Vectors, unknown_start};
 use ht_proofs as packed;
 use ht_tern::Tern;

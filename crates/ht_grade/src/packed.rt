@@ -1,14 +1,13 @@
 //! The packed grader of the representatives of all classes.
 ghost use Rattle.std.specs.Prelude.{◌≡◌, ◌<◌, ◌++◌, [], List, Bool, true, None, length, get_or, IfOk, OnOk};
 ghost use Rattle.ht_faults.specs.Sites.{faults_of};
-ghost use Rattle.ht_collapse.specs.Classes.{AreClasses, is_representative, own_representatives};
+ghost use Rattle.ht_faults.specs.Classes.{AreClasses, is_representative, own_representatives};
 ghost use Rattle.ht_proofs.specs.PackedView.{GraderStandsFor, chosen_faults, state_at, verdict_at};
 ghost use Rattle.ht_net.specs.Detection.{IsStart};
 ghost use Rattle.ht_tern.specs.declared.tern.Tern as tern;
 ghost use Rattle.ht_grade.specs.Detections.{AreFirstDetections, AreWithin};
 
-use ht_collapse::Classes;
-use ht_faults::FaultList;
+use ht_faults::{Classes, FaultList};
 use ht_net::{Circuit, Place, Vectors};
 use ht_proofs::{Grader, Steps};
 use ht_tern::Tern;
