@@ -51,8 +51,8 @@ fn is_refuted(alloc: Global, circuit: &Circuit) -> Result<bool, AllocError> {
     }
 }
 
-// Whether the sweep of a finds the list 1, 0, 0. The lengths 1 and 2 take a token each, of which the second weighs 2, and
-// the decision of length 3 weighs 3.
+// Whether the sweep of a finds the list 1, 0, 0. The lengths 1 and 2 take a token each, of which the second weighs 2,
+// and the decision of length 3 weighs 3.
 fn is_swept(alloc: Global, circuit: &Circuit) -> Result<bool, AllocError> {
     match sweep(alloc, circuit, A_AT_0, 6)? {
         Swept::Found { list } => Ok(is_list(&list, &[true, false, false])),

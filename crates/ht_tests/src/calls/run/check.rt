@@ -135,29 +135,17 @@ total 6 detected 3 untestable 3 aborted 0 undetected 0
 ~given n < ALWAYS_ZERO
 ~given t < TESTS
 ~given p < FORMAT_2 ZERO_1_AND_2 ZERO_3 END
-~with r 1 denied: fault 1 < ZERO_HEAD
+~text ABORTED_1
 1 a s-a-0 aborted
 2 a s-a-1 untestable
 3 n s-a-0 untestable
-4 n s-a-1 detected 1 z
-5 z s-a-0 as 3
-6 z s-a-1 detected 1 z
-7 n(1) s-a-0 as 4
-8 n(1) s-a-1 as 3
-9 z(1) s-a-0 as 3
-10 z(1) s-a-1 detected 2 z
-total 6 detected 3 untestable 2 aborted 1
-~with r 1 denied: fault 3 < ZERO_HEAD
+~text UNDETECTED_3
 1 a s-a-0 untestable
 2 a s-a-1 untestable
 3 n s-a-0 undetected
-4 n s-a-1 detected 1 z
-5 z s-a-0 as 3
-6 z s-a-1 detected 1 z
-7 n(1) s-a-0 as 4
-8 n(1) s-a-1 as 3
-9 z(1) s-a-0 as 3
-10 z(1) s-a-1 detected 2 z
+~with r 1 denied: fault 1 < ZERO_HEAD ABORTED_1 ZERO_5 ZERO_6_TO_11
+total 6 detected 3 untestable 2 aborted 1
+~with r 1 denied: fault 3 < ZERO_HEAD UNDETECTED_3 ZERO_5 ZERO_6_TO_11
 total 6 detected 3 untestable 2 aborted 0 undetected 1
 ~# `report` writes the report with which the files are valid
 ~run report n t p r

@@ -242,7 +242,8 @@ x 3
 11 z s-a-0 possible
 12 z s-a-1 possible
 13 q(1) s-a-0 hidden
-~# `sync` finds a shortest list after which every flip-flop is definite: a 0 comes to the second one with the second vector
+~# `sync` finds a shortest list after which every flip-flop is definite: with the second vector a 0 comes to the second
+  one
 ~run sync n t r
 ~given n < HIDDEN
 ~given t
@@ -264,18 +265,11 @@ state 00
 old tests
 ~ends 0 spent 4
 ~left t
-~left r
+~text SYNC
 sync flip-flops 1 budget 10
-length 1
-dead
-length 2
-dead
-length 3
-dead
-length 4
-dead
-length 5
+~text SPENT
 spent
+~left r < SYNC LENGTHS_1_TO_4 SPENT
 ~run sync n t r
 ~given n < ALWAYS_ZERO
 ~ends 0 sync 0

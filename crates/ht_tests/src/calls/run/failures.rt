@@ -1,7 +1,7 @@
 //! Where one call of the desk after the other fails: the status, and what stands then.
 
-/// Each call of a run, and after the last of a port the one that doesn't come. The report has its total line only where the
-/// run is whole. One read gives at most 20 bytes of the netlist, so the fifth finds its end.
+/// Each call of a run, and after the last of a port the one that doesn't come. The report has its total line only where
+/// the run is whole. One read gives at most 20 bytes of the netlist, so the fifth finds its end.
 pub const ROWS: &str = "~run gen n t r p
 ~given n < ALWAYS_ZERO
 ~most 20

@@ -18,17 +18,13 @@ total 0 detected 0 untestable 0 aborted 0
 ~# The latch stays unknown, so each fault is aborted: the search back spends its budget, and so does the sweep.
 ~run gen n t r p --budget 10
 ~given n < TOGGLE
-~text ENTRY_1
-entry 1 aborted
-~text ENTRY_2
+~text OF_2_ABORTED
 entry 2 aborted
-~text ENTRY_3
-entry 3 aborted
-~text ENTRY_4
+~text OF_4_ABORTED
 entry 4 aborted
 ~ends 0 total 4 detected 0 untestable 0 aborted 4
 ~left t
-~left p < FORMAT_2 ENTRY_1 OUTPUT_1_IS_1 BACK_TO_1 SWEEP_TO_4 ENTRY_2 OUTPUT_1_IS_0 BACK_TO_0 SWEEP_TO_4 ENTRY_3 STATE_IS_0 BACK_TO_0 SWEEP_TO_4 ENTRY_4 STATE_IS_1 BACK_TO_1 SWEEP_TO_4 END
+~left p < FORMAT_2 OF_1_ABORTED OUTPUT_1_IS_1 BACK_TO_1 SWEEP LENGTHS_1_TO_4 OF_2_ABORTED OUTPUT_1_IS_0 BACK_TO_0 SWEEP LENGTHS_1_TO_4 OF_3_ABORTED STATE_IS_0 BACK_TO_0 SWEEP LENGTHS_1_TO_4 OF_4_ABORTED STATE_IS_1 BACK_TO_1 SWEEP LENGTHS_1_TO_4 END
 ~# a flip-flop that takes its own value: a difference stays in it, and there is no output
 ~run gen --budget 8 n t r p
 ~given n
@@ -91,15 +87,7 @@ dead
 ~left t
 10
 01
-~left p
-proofs 2
-entry 2 aborted
-walk
-hi 1
-sweep
-length 1
-hi 1
-end
+~left p < FORMAT_2 OF_2_ABORTED ONE_TOKEN SWEEP_OF_ONE
 ~# the random vector detects the faults 2 and 3, so no search is made for them
 ~run gen n t r p --random 1 --seed=2
 ~given n < WIRES
@@ -161,21 +149,7 @@ end
 8 p(1) s-a-1 detected 3 z
 9 z(2) s-a-0 detected 5 z
 10 z(2) s-a-1 detected 2 z
-~left p
-proofs 2
-entry 1 aborted
-frame output 1
-set 1 1
-set 2 1
-attempt
-justify 1
-sweep
-length 1
-dead
-length 2
-hi 1
-hi 2
-end
+~left p < FORMAT_2 OF_1_ABORTED SPOILED JUSTIFY_1 SWEEP_OF_2
 ~# the 20 faults that have a representative of a lesser number are those of `sim`
 ~run gen n t r p
 ~given n < S27
@@ -185,7 +159,8 @@ circuit inputs 4 outputs 1 flip-flops 3 gates 10 faults 52 classes 32 budget 100
 1 G0 s-a-0 detected ~has r
 
 50 G10(2) s-a-1 as 27
-51 G13(2) s-a-0 detected ~# from 00 on the two flip-flops are equal, so the fault that shows where they differ is refuted from there
+51 G13(2) s-a-0 detected ~# from 00 on the two flip-flops are equal, so the fault that shows where they differ is
+  refuted from there
 ~run gen n t r p
 ~given n < TWINS
 ~ends 0 total 14 detected 10 untestable 2 aborted 2

@@ -248,9 +248,9 @@ clause 2 0
 ";
 
 /// Entries that pass or not, each of one fault; the others are undetected.
-pub const PASSING: &str = "~text OF_1
-proofs 2
-entry 1 untestable
+pub const PASSING: &str = "~text BY_CUBES
+proofs 3
+entry 1 undetectable by cubes
 ~text OF_3
 proofs 2
 entry 3 untestable
@@ -261,8 +261,8 @@ hi 1
 walk
 dead
 end
-~# The difference stays in r, which nothing reads. Without that flip-flop its next state may differ, and there is no third
-  one.
+~# The difference stays in r, which nothing reads. Without that flip-flop its next state may differ, and there is no
+  third one.
 ~run report n t p r
 ~given n < HIDDEN
 ~given t
@@ -333,10 +333,8 @@ hi 1
 dead
 dead
 end
-~# The searches of the toggle's faults fill a budget of 10. The walks weigh more than 9, and leave room for a token of 11.
-~text OF_3_ABORTED
-proofs 1
-entry 3 aborted
+~# The searches of the toggle's faults fill a budget of 10. The walks weigh more than 9, and leave room for a token of
+  11.
 ~text FORWARD_OPEN
 forward open
 ~text NO_TOKEN
@@ -344,84 +342,54 @@ walk
 ~text NEXT_STATE
 frame state 1
 set 1 1
-~text OF_1_BACK
-proofs 1
-entry 1 aborted
-frame output 1
-set 1 1
 ~run report n t p r --budget 10
 ~given n < TOGGLE
 ~given t
-~with p 0 total 4 detected 0 untestable 0 aborted 1 undetected 3 < OF_1_BACK BACK_TO_1 SWEEP_TO_4 END
-~with p 0 total 4 detected 0 untestable 0 aborted 1 undetected 3 < OF_3_ABORTED STATE_IS_0 BACK_TO_0 SWEEP_TO_4 END
+~with p 0 total 4 detected 0 untestable 0 aborted 1 undetected 3 < FORMAT_2 OF_1_ABORTED OUTPUT_1_IS_1 BACK_TO_1 SWEEP LENGTHS_1_TO_4 END
+~with p 0 total 4 detected 0 untestable 0 aborted 1 undetected 3 < FORMAT_2 OF_3_ABORTED STATE_IS_0 BACK_TO_0 SWEEP LENGTHS_1_TO_4 END
 ~# from the told states the output shows a difference at once, so a token of sixteen frames is too much
-~with p 0 total 4 detected 0 untestable 0 aborted 1 undetected 3 < OF_3_ABORTED STATE_IS_0 FORWARD_OPEN SWEEP_TO_4 END
+~with p 0 total 4 detected 0 untestable 0 aborted 1 undetected 3 < FORMAT_2 OF_3_ABORTED STATE_IS_0 FORWARD_OPEN SWEEP LENGTHS_1_TO_4 END
 ~# there is no aim, one back to another latch value, one ahead from an output, a walk though an output is told
-~with p 1 denied: fault 1 < OF_1_BACK SWEEP_TO_4 END
-~with p 1 denied: fault 3 < OF_3_ABORTED STATE_IS_0 BACK_TO_1 SWEEP_TO_4 END
-~with p 1 denied: fault 1 < OF_1_BACK FORWARD_OPEN SWEEP_TO_4 END
-~with p 1 denied: fault 1 < OF_1_BACK NO_TOKEN BACK_TO_1 SWEEP_TO_4 END
+~with p 1 denied: fault 1 < FORMAT_2 OF_1_ABORTED OUTPUT_1_IS_1 SWEEP LENGTHS_1_TO_4 END
+~with p 1 denied: fault 3 < FORMAT_2 OF_3_ABORTED STATE_IS_0 BACK_TO_1 SWEEP LENGTHS_1_TO_4 END
+~with p 1 denied: fault 1 < FORMAT_2 OF_1_ABORTED OUTPUT_1_IS_1 FORWARD_OPEN SWEEP LENGTHS_1_TO_4 END
+~with p 1 denied: fault 1 < FORMAT_2 OF_1_ABORTED OUTPUT_1_IS_1 NO_TOKEN BACK_TO_1 SWEEP LENGTHS_1_TO_4 END
 ~# a frame comes after an output
-~with p 1 denied: fault 1 < OF_1_BACK NEXT_STATE BACK_TO_1 SWEEP_TO_4 END
+~with p 1 denied: fault 1 < FORMAT_2 OF_1_ABORTED OUTPUT_1_IS_1 NEXT_STATE BACK_TO_1 SWEEP LENGTHS_1_TO_4 END
 ~run report n t p r --budget 9
 ~given n < TOGGLE
 ~given t
-~with p 1 denied: fault 1 < OF_1_BACK BACK_TO_1 SWEEP_TO_4 END
+~with p 1 denied: fault 1 < FORMAT_2 OF_1_ABORTED OUTPUT_1_IS_1 BACK_TO_1 SWEEP LENGTHS_1_TO_4 END
 ~run report n t p r --budget 11
 ~given n < TOGGLE
 ~given t
-~with p 1 denied: fault 1 < OF_1_BACK BACK_TO_1 SWEEP_TO_4 END
+~with p 1 denied: fault 1 < FORMAT_2 OF_1_ABORTED OUTPUT_1_IS_1 BACK_TO_1 SWEEP LENGTHS_1_TO_4 END
 ~# a budget of one token; without a told frame the walk has to be there
 ~run report n t p r --budget 1
 ~given n < WIRES
 ~given t
-~given p
-proofs 1
+~text OF_2_ABORTED
 entry 2 aborted
-~text ONE_TOKEN
-sweep
-length 1
-hi 1
-end
-~with p 0 total 4 detected 0 untestable 0 aborted 1 undetected 3 < HI_1 ONE_TOKEN
-~with p 1 denied: fault 2 < ONE_TOKEN
+~with p 0 total 4 detected 0 untestable 0 aborted 1 undetected 3 < FORMAT_2 OF_2_ABORTED ONE_TOKEN SWEEP_OF_ONE
+~with p 1 denied: fault 2 < FORMAT_2 OF_2_ABORTED SWEEP_OF_ONE
 ~run report n t p r --budget 2
 ~given n < WIRES
 ~given t
-~given p
-proofs 1
-entry 2 aborted
-~with p 1 denied: fault 2 < HI_1 ONE_TOKEN
-~# With p and a at 1 both machines show 0 in the frame, since the vector that brings p to 1 is spoiled. One that brings it
-  to 0 is no justification, and with two vectors the second one detects the fault.
+~with p 1 denied: fault 2 < FORMAT_2 OF_2_ABORTED ONE_TOKEN SWEEP_OF_ONE
+~# With p and a at 1 both machines show 0 in the frame, since the vector that brings p to 1 is spoiled. One that brings
+  it to 0 is no justification, and with two vectors the second one detects the fault.
 ~run report n t p r --budget 6
 ~given n < CHANGE
 ~given t
-~given p
-proofs 1
-entry 1 aborted
-frame output 1
-set 1 1
-set 2 1
-attempt
+~given p < FORMAT_2 OF_1_ABORTED SPOILED
 ~text JUSTIFY_0
 justify 0
-~text JUSTIFY_1
-justify 1
-~text SHORT
-sweep
-length 1
-dead
-length 2
-hi 1
-hi 2
-end
-~with p 0 total 10 detected 0 untestable 0 aborted 1 undetected 9 < JUSTIFY_1 SHORT
-~with p 0 total 10 detected 0 untestable 0 aborted 1 undetected 9 < JUSTIFY_1 JUSTIFY_1 SHORT
-~with p 1 denied: fault 1 < JUSTIFY_0 SHORT
-~with p 1 denied: fault 1 < JUSTIFY_0 JUSTIFY_1 SHORT
-~# The clauses are kept from 00 and from 11 on, and the walk is complete under both. A state with a bit for each flip-flop
-  has to meet both; from one that meets the first alone the machines differ. Format 1 has no such entry.
+~with p 0 total 10 detected 0 untestable 0 aborted 1 undetected 9 < JUSTIFY_1 SWEEP_OF_2
+~with p 0 total 10 detected 0 untestable 0 aborted 1 undetected 9 < JUSTIFY_1 JUSTIFY_1 SWEEP_OF_2
+~with p 1 denied: fault 1 < JUSTIFY_0 SWEEP_OF_2
+~with p 1 denied: fault 1 < JUSTIFY_0 JUSTIFY_1 SWEEP_OF_2
+~# The clauses are kept from 00 and from 11 on, and the walk is complete under both. A state with a bit for each
+  flip-flop has to meet both; from one that meets the first alone the machines differ. Format 1 has no such entry.
 ~run report n t p r
 ~given n < TWINS
 ~given t
@@ -476,11 +444,10 @@ end
 ~run report n t p r
 ~given n < TOGGLE
 ~given t
-~given p
-proofs 3
-entry 1 undetectable by cubes
+~text CUBES
 never good 1 0
 never good 1 1
+~given p < BY_CUBES CUBES
 ~with p 0 total 4 detected 0 untestable 0 aborted 0 undetectable 1 undetected 3
 step by 6 7 10 3 4 9 8 11
 end
@@ -498,11 +465,7 @@ end
 ~run report n t p r --start s
 ~given n < TOGGLE
 ~given t
-~given p
-proofs 3
-entry 1 undetectable by cubes
-never good 1 0
-never good 1 1
+~given p < BY_CUBES CUBES
 step by 6 7 10 3 4 9 8 11
 end
 ~with s 0 total 4 detected 0 untestable 0 aborted 0 undetectable 1 undetected 3

@@ -1,6 +1,7 @@
 //! One form for all tests of `run`: texts that say the words, what stands on the desk before, and what must stand on it
-//! after. A text has paragraphs. Each begins with `~`, and its first line has its words, and after a `<` the names of texts.
-//! The paragraph's own text is theirs, one after the other, and then its other lines. It begins with these words:
+//! after. A text has paragraphs. Each begins with `~`, and its first line has its words, and after a `<` the names of
+//! texts. The paragraph's own text is theirs, one after the other, and then its other lines. It begins with these
+//! words:
 //!
 //! | Words | What they say |
 //! |---|---|
@@ -16,7 +17,8 @@
 //! | `left FILE`, `none FILE`, `has FILE` | after the last run the file has this text, isn't there, or has this text somewhere; Out is `out` and Err `err` |
 //! | `# ..` | a remark |
 //!
-//! A run that ends with another status than 0 is made again where the line on Err fails, and has to end with the same one.
+//! A run that ends with another status than 0 is made again where the line on Err fails, and has to end with the same
+//! one.
 
 use super::samples::SAMPLES;
 use ht_app::run;
@@ -47,8 +49,8 @@ struct Row<'a> {
     named: Vec<(&'a str, &'a str)>,
 }
 
-/// A run of a row: its words, a file that goes on with a text, the call of the desk that fails, and whether the line on Err
-/// does. None is a file or a call without a name.
+/// A run of a row: its words, a file that goes on with a text, the call of the desk that fails, and whether the line on
+/// Err does. None is a file or a call without a name.
 #[derive(Clone, Copy)]
 struct Play<'a> {
     words: &'a str,
@@ -120,7 +122,8 @@ pub fn words_of(alloc: Global, text: &str) -> Result<Vec<String>, AllocError> {
     Ok(list)
 }
 
-// The call of the desk that these words say: its name and port, and its number, which says nothing where each call fails.
+// The call of the desk that these words say: its name and port, and its number, which says nothing where each call
+// fails.
 fn fail_of(words: &str) -> Option<Fail> {
     let (call, number) = words.rsplit_once(' ')?;
     let nth = number.parse::<u64>().ok()?;
@@ -390,8 +393,8 @@ fn line_at(status: &str) -> &'static [u8] {
     }
 }
 
-// Whether a run of which a call fails leaves what a line says: the call and its number, the status, and how many lines of
-// the tests, the report, the proofs and Out are left, of those that the last run left.
+// Whether a run of which a call fails leaves what a line says: the call and its number, the status, and how many lines
+// of the tests, the report, the proofs and Out are left, of those that the last run left.
 fn fails_so(
     alloc: Global,
     desk: &mut MemoryDesk,

@@ -145,8 +145,12 @@ G10 = NOR(G14, G11)
 G11 = NOR(G5, G9)
 G12 = NOR(G1, G7)
 G13 = NOR(G2, G12)
-~# Parts of aborted entries of the toggle, whose latch stays unknown: the search back to 1 and to 0, each with ten tokens,
-  and the sweep with the lengths 1 to 4.
+~# Parts of aborted entries of the toggle, whose latch stays unknown: the search back to 1 and to 0, each with ten
+  tokens, and the sweep with the lengths 1 to 4.
+~text OF_1_ABORTED
+entry 1 aborted
+~text OF_3_ABORTED
+entry 3 aborted
 ~text OUTPUT_1_IS_1
 frame output 1
 set 1 1
@@ -189,8 +193,9 @@ dead
 before
 x 1
 before
-~text SWEEP_TO_4
+~text SWEEP
 sweep
+~text LENGTHS_1_TO_4
 length 1
 dead
 length 2
@@ -200,6 +205,32 @@ dead
 length 4
 dead
 length 5
+~# The aborted entry of two inputs with a budget of one token, after its first line.
+~text ONE_TOKEN
+walk
+hi 1
+~text SWEEP_OF_ONE
+sweep
+length 1
+hi 1
+end
+~# Parts of the aborted entry of what changes: with p and the input at 1 a list of one vector is found, and doesn't
+  detect.
+~text SPOILED
+frame output 1
+set 1 1
+set 2 1
+attempt
+~text JUSTIFY_1
+justify 1
+~text SWEEP_OF_2
+sweep
+length 1
+dead
+length 2
+hi 1
+hi 2
+end
 ~# Parts of the entry of the twins: where p is 1, q is; where q is 1, p is; and there is no difference then.
 ~text FROM_00
 entry 3 untestable from 00

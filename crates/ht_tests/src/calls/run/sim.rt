@@ -117,8 +117,8 @@ circuit inputs 1 outputs 3 flip-flops 1 gates 1 faults 10 classes 8
 9 z(1) s-a-0 as 6
 10 z(1) s-a-1 as 5
 total 8 detected 4
-~# a feeds a flip-flop and a gate, and q the gate and an output: the mark of an output is a load and no site, and z, with
-  one load, has a pin that is no site
+~# a feeds a flip-flop and a gate, and q the gate and an output: the mark of an output is a load and no site, and z,
+  with one load, has a pin that is no site
 ~run sim n t r
 ~given n
 INPUT(a)

@@ -43,28 +43,28 @@ gen n t r p --budget 0
 gen n t r p --budget 100001
 gen n t r p --budget=18446744073709551617
 gen n t r p --budget
+uninit n r --budget=0
+uninit n r --random 3
 gen n t r p --budget=
 gen n t r p --budget -5
 gen n t r p --budget=+5
 gen n t r p --budget 0x5
+check n t r p --start=s --start=s
+sim n t r --start -s
 gen n t r p --budget 5 --budget 5
 gen n t r p -- --budget 5
 gen n t r p --bud 5
 gen n t r p -b 5
+respond n t r --fault 0
+respond n t r --fault=655359
 gen n t r p --random x
 gen n t r p --random 100001
 gen n t r p --weighted=100001
+sim n t r --budget 5
+norm n r --start s
 gen n t r p --search wide
 gen n t r p --search Deep
 gen n t r p --first
-check n t r p --start=s --start=s
-sim n t r --start -s
-sim n t r --budget 5
-norm n r --start s
-uninit n r --budget=0
-uninit n r --random 3
-respond n t r --fault 0
-respond n t r --fault=655359
 report n t p r --budget=0
 ~# the names of files stand in any place but an option's
 ~run
