@@ -1,0 +1,9 @@
+pub mod AlikeLaws
+pub mod ReachLaws
+pub mod TodoLaws
+pub mod SpreadLaws
+pub mod RelevantLaws
+pub mod PartLaws
+pub mod PartWindowLaws
+pub mod WalkPartLaws
+pub mod NearLaws
