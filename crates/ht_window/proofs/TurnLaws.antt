@@ -1,5 +1,5 @@
 -- Which nets get the same under another fault and another start, and the cells of the first frames.
-use Rattle.std.proofs.Common.{◌≡◌, ◌<◌, ◌≤◌, ◌+◌, ◌*◌, ◌-◌, inl, inr, ℕ, suc, zero, List, Bool, false, Option, None, Some, cond, map, length, get_or, take, refl, sym, ◌∙◌, ap, arith, subst}
+use Rattle.std.proofs.Common.{◌≡◌, ◌<◌, ◌≤◌, ◌+◌, ◌*◌, ◌-◌, inl, inr, ℕ, suc, zero, List, Bool, true, false, Option, None, Some, cond, map, length, get_or, take, refl, sym, ◌∙◌, ap, arith, subst}
 use Rattle.std.specs.List.{range_with_len}
 use Rattle.std.proofs.lemmas.Bool.Decides.{nat_tests}
 use Rattle.std.proofs.lemmas.List.{get_or-take}
@@ -17,6 +17,7 @@ use Rattle.ht_tree.proofs.PlaceLaws.{taken_at}
 use Rattle.ht_tree.specs.declared.token.Assign3.{Assign3}
 use Rattle.ht_tree.specs.Decisions.{is_in, decided_value, latch_pairs, latch_values_left}
 use Rattle.ht_tree.specs.Windows.{SearchWindow, Start, one_frame, unknown, state_pair, back, IsWindow, first_latch, frame_inputs, pair_set_rules, latches_at}
+use Rattle.ht_relevant.specs.Relevant.{IsClosedBack}
 use Rattle.ht_window.specs.Cells.{env_at, blank, latches_over, value_over, HoldsValue, AreCells}
 use Rattle.ht_window.specs.Standing.{Standing}
 use Rattle.ht_window.specs.Holding.{HeldState}
@@ -148,34 +149,31 @@ module _ (w : SearchWindow) (path : List Assign3) (values : List (List Pair)) wh
         latch zero late at low = let high = late refl at in absurd (omega (arith, high, low))
         latch (suc g) late at low = refl
 
--- a net that neither fault reaches first, and that isn't a latch of the first frame, holds its cell in the other window
--- too
-turned_hold : (w : SearchWindow) → IsWindow w → (path : List Assign3) (values : List (List Pair))
-    → AreCells w path values → (fault : Option Fault) (s : Start) (f x : ℕ) → f < w.frames → x < net_count w.circuit
-    → is_reached w.circuit w.fault x ≡ false → is_reached w.circuit fault x ≡ false
+-- In a whole window of the good machine a net that the fault doesn't reach first, and that isn't a latch of the first
+-- frame, holds its cell in the window of the fault from another start too.
+turned_hold : (w : SearchWindow) → IsWindow w → w.fault ≡ None → (path : List Assign3) (values : List (List Pair))
+    → AreCells w (λ f x. true) path values → (fault : Option Fault) (s : Start) (f x : ℕ) → f < w.frames
+    → x < net_count w.circuit → is_reached w.circuit fault x ≡ false
     → (f ≡ 0 → w.circuit.inputs ≤ x → first_gate_net w.circuit ≤ x)
     → HoldsValue (record w { fault = fault; start = s }) path values f x
-turned_hold w valid path values are fault s f x fs xs free freed late =
-    cells_hold w valid path values are f x fs xs
-    ∙ (unreached w path values f x free
+turned_hold w valid plain path values are fault s f x fs xs freed late =
+    let whole : IsClosedBack w.circuit w.frames (λ f x. true) = record {
+      gates = λ f g i fs gs l m. refl;
+      dffs = λ f j fs js m. refl;
+    } in
+    cells_hold w valid path (λ f x. true) whole values are f x fs xs refl
+    ∙ (unreached w path values f x (ap (λ (k : Option Fault). is_reached w.circuit k x) plain)
     ∙ (other_start (good w) path values s f x late
     ∙ sym (unreached (record w { fault = fault; start = s }) path values f x freed)))
 
--- the cells of a window under another fault and another start
-pub turned_elsewhere : (w : SearchWindow) → IsWindow w → (path : List Assign3) (b : HeldState) (fault : Option Fault)
-    (s : Start) (before : Option Fault)
+-- the cells of a whole window of the good machine under a fault and another start
+pub turned_elsewhere : (w : SearchWindow) → IsWindow w → w.fault ≡ None → (path : List Assign3) (b : HeldState)
+    (fault : Option Fault) (s : Start)
     → b.standing ≡ record { window = record w { fault = fault; start = s }; path = path }
-    → AreCells w path b.cells.values → before ≡ w.fault → HoldsElsewhere b before
-turned_elsewhere w valid path b fault s before is are same =
-    let there : HoldsElsewhere (record {
-      standing = record { window = record w { fault = fault; start = s }; path = path };
-      cells = b.cells;
-    }) w.fault = record { holds = turned_hold w valid path b.cells.values are fault s } in
-    subst (λ (n : Standing). HoldsElsewhere (record { standing = n; cells = b.cells }) before) (sym is)
-    (subst (HoldsElsewhere (record {
-      standing = record { window = record w { fault = fault; start = s }; path = path };
-      cells = b.cells;
-    })) (sym same) there)
+    → AreCells w (λ f x. true) path b.cells.values → HoldsElsewhere b
+turned_elsewhere w valid plain path b fault s is are =
+    subst (λ (n : Standing). HoldsElsewhere (record { standing = n; cells = b.cells; relevant = b.relevant })) (sym is)
+    (record { holds = turned_hold w valid plain path b.cells.values are fault s })
 
 module _ (w : SearchWindow) (path : List Assign3) (n : ℕ) where
   latches_front : (f : ℕ) → latches_at (record w { frames = n }) path f ≡ latches_at w path f
@@ -185,13 +183,13 @@ module _ (w : SearchWindow) (path : List Assign3) (n : ℕ) where
   latches_front (suc f) = ap (next_state w.circuit (pair_set_rules w.fault) (frame_inputs w path f)) (latches_front f)
 
   -- the cells of the first frames are those of the window that has no more
-  pub front_cells : (values : List (List Pair)) → n ≤ w.frames → AreCells w path values
-      → AreCells (record w { frames = n }) path (take (n * net_count w.circuit) values)
+  pub front_cells : (values : List (List Pair)) → n ≤ w.frames → AreCells w (λ f x. true) path values
+      → AreCells (record w { frames = n }) (λ f x. true) path (take (n * net_count w.circuit) values)
   front_cells values few are = record {
-    cells = λ f x fs xs.
+    cells = λ f x fs xs m.
         let nets = net_count w.circuit in
         get_or-take (n * nets) values (f * nets + x) blank (rows_inside nets n f x fs xs)
-        ∙ (are.cells f x (omega (arith, fs, few)) xs
+        ∙ (are.cells f x (omega (arith, fs, few)) xs refl
         ∙ sym (ap (λ (L : List (List Pair)). net_value w.circuit (pair_set_rules w.fault) (frame_inputs w path f) L x)
         (latches_front f)));
   }

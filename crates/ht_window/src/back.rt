@@ -33,6 +33,8 @@ impl<'c> Window<'c> {
     fn undetermined_argument(&self, frame: u32, g: u32) -> u32
         requires frame { frame < self.now.window.frames }
         requires gate { g < length self.now.window.circuit.gates }
+        requires matters { matters self.now frame (first_gate_net self.now.window.circuit + g)
+            ≡ true }
         ensures { result ≡ undetermined_argument (pair_set_rules self.now.window.fault) g
             (cell_at self.now.window self.now.decisions frame) 0
             (gate_at self.now.window.circuit g).args }
@@ -52,7 +54,11 @@ impl<'c> Window<'c> {
     fn end_in_frame(&self, frame: u32, at: Wanted) -> Wanted
         requires frame { frame < self.now.window.frames }
         requires net { at.net < net_count self.now.window.circuit }
-        ensures { wanted_of result ≡ end_in_frame self.now.window self.now.decisions frame
+        requires matters { matters self.now frame at.net ≡ true }
+        requires undetermined { 1 < length
+            (cell_at self.now.window self.now.decisions frame at.net) }
+        ensures matters { matters self.now frame result.net ≡ true }
+        ensures end { wanted_of result ≡ end_in_frame self.now.window self.now.decisions frame
             (wanted_of at) }
     {
         let circuit = self.circuit();
@@ -99,6 +105,7 @@ impl<'c> Window<'c> {
     pub fn walk_back(&self, frame: u32, net: NetId, wanted: bool) -> Choice
         requires frame { frame < self.now.window.frames }
         requires net { net.0 < net_count self.now.window.circuit }
+        requires matters { matters self.now frame net.0 ≡ true }
         requires undetermined { 1 < length
             (cell_at self.now.window self.now.decisions frame net.0) }
         ensures choice { result ≡ walk_back self.now.window self.now.decisions frame net.0 wanted }

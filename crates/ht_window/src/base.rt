@@ -8,6 +8,7 @@ ghost use Rattle.ht_window.specs.Cells.{AreCells};
 use crate::decided::Decided;
 use crate::frames::all_sets;
 use crate::held::Held;
+use crate::restrict::restrict;
 use crate::start::Start;
 use crate::turn::follow_turn;
 use crate::window::Window;
@@ -22,10 +23,15 @@ impl<'c> Window<'c> {
         requires circuit { core.plan.circuit ≡ held.standing.window.circuit }
         requires frames { core.plan.frames ≡ held.standing.window.frames }
         requires path { held.standing.path ≡ [] }
-        requires cells { AreCells held.standing.window held.standing.path held.cells.values }
+        requires relevant { IsRelevant held.standing.window
+            (is_relevant held.standing.window.circuit held.relevant) }
+        requires cells { AreCells held.standing.window
+            (is_relevant held.standing.window.circuit held.relevant) held.standing.path
+            held.cells.values }
         ensures window { result.window ≡ held.entry.standing.window }
         ensures decisions { result.decisions ≡ [] }
         ensures marks { result.marks ≡ [] }
+        ensures relevant { result.relevant ≡ held.entry.relevant }
     {
         Window {
             held,
@@ -96,7 +102,8 @@ impl<'c> Window<'c> {
         Ok(Window::undecided(alloc, held, core))
     }
 
-    // The window of another fault and another start with as many frames, before its first decision.
+    // The window of a fault and another start with as many frames, before its first decision. Without a fault all nets
+    // matter to it.
     pub(crate) fn turned(
         self,
         alloc: Global,
@@ -105,12 +112,14 @@ impl<'c> Window<'c> {
     ) -> Result<Window<'c>, AllocError>
         requires start { IsStart self.window.circuit fault self.window.frames (start_of start.now) }
         requires decisions { self.decisions ≡ [] }
+        requires good { self.window.fault ≡ None }
+        requires whole { self.relevant ≡ None }
         ensures window { IfOk result (λ w. w.window
             ≡ window_from self.entry.window.circuit fault self.entry.window.frames start.now) }
         ensures decisions { IfOk result (λ w. w.decisions ≡ []) }
         ensures marks { IfOk result (λ w. w.marks ≡ []) }
+        ensures whole { fault ≡ None → IfOk result (λ w. w.relevant ≡ None) }
     {
-        let before = self.fault();
         let turned = Decided::new(alloc, start, self.circuit(), fault, self.frames())?;
         let Window {
             mut held,
@@ -118,7 +127,8 @@ impl<'c> Window<'c> {
             marks: _,
         } = self;
         held.turn(turned);
-        follow_turn(&mut held, &mut core, before)?;
+        restrict(alloc, &mut held, &mut core)?;
+        follow_turn(&mut held, &mut core)?;
         held.forget();
         Ok(Window::undecided(alloc, held, core))
     }

@@ -116,25 +116,23 @@ impl<'c> Bases<'c> {
     fn base(
         &mut self,
         alloc: Global,
-        fault: Option<Fault>,
         frames: u32,
         start: &Start,
     ) -> Result<Window<'c>, AllocError>
         requires frames { frames ≤ MAX_FRAMES }
-        requires start { IsStart self.old.circuit fault frames (start_of start.now) }
+        requires start { IsStart self.old.circuit None frames (start_of start.now) }
         ensures circuit { self.new.circuit ≡ self.old.circuit }
         ensures base { IfOk result (IsBase self.old.circuit) }
         ensures few { IfOk result (λ w. frames ≤ w.window.frames) }
-        ensures start { IfOk result (λ w. IsStart self.old.circuit fault w.window.frames
-            (start_of start.now)) }
+        ensures start { IfOk result (λ w. IsStart self.old.circuit None frames w.window.start) }
     {
         match self.take(start) {
             Some(base) if base.has_front(frames, start) => Ok(base),
-            _ => Window::planned(alloc, self.frame_plan.clone()?, fault, frames, start),
+            _ => Window::planned(alloc, self.frame_plan.clone()?, None, frames, start),
         }
     }
 
-    /// A window of `frames` frames from a start, before its first decision.
+    /// A window of `frames` frames from a start, before its first decision. Without a fault all nets matter to it.
     ///
     /// # Errors
     /// Out of memory.
@@ -152,12 +150,12 @@ impl<'c> Bases<'c> {
             (λ w. w.window ≡ window_from self.old.circuit fault frames start.now) }
         ensures decisions { IfOk result (λ w. w.decisions ≡ []) }
         ensures marks { IfOk result (λ w. w.marks ≡ []) }
+        ensures whole { fault ≡ None → IfOk result (λ w. w.relevant ≡ None) }
     {
-        let base = self
-            .base(alloc, fault, frames, start)?
-            .turned(alloc, fault, start)?;
+        let first = start.without_states(alloc)?;
+        let base = self.base(alloc, frames, &first)?;
         let window = base.front(alloc, self.frame_plan.clone()?, frames)?;
         self.keep(base)?;
-        Ok(window)
+        window.turned(alloc, fault, start)
     }
 }

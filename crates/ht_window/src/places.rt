@@ -42,7 +42,8 @@ impl<'c> Window<'c> {
     {
         let circuit = self.circuit();
         for o in 0..circuit.outputs() {
-            if shows(look, self.cell(frame, circuit.output(o))) {
+            let net = circuit.output(o);
+            if self.matters(frame, net) && shows(look, self.cell(frame, net)) {
                 return Some(WindowPlace {
                     frame,
                     spot: Spot::Output(o),
@@ -59,7 +60,10 @@ impl<'c> Window<'c> {
             (state_places self.now.window.circuit (one_frame (marked 0 z.now))) }
     {
         for j in 0..self.dffs() {
-            if !is_set(z, j) && shows(look, self.next_state(j)) {
+            if !is_set(z, j)
+                && self.matters(0, self.circuit().dff_data(j))
+                && shows(look, self.next_state(j))
+            {
                 return Some(WindowPlace {
                     frame: 0,
                     spot: Spot::State(j),

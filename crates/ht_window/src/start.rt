@@ -62,6 +62,17 @@ impl Start {
         })
     }
 
+    // The start from which the base of this one's kind begins: all-unknown in the place of two states.
+    pub(crate) fn without_states(&self, alloc: Global) -> Result<Start, AllocError>
+        ensures { IfOk result (λ start. (c : Netlist) (fault : Option Fault) (frames : ℕ)
+            → IsStart c fault frames (start_of self.now) → IsStart c None frames (start_of start)) }
+    {
+        match self {
+            Start::Pair { state: _ } => Ok(Start::Unknown),
+            _ => self.copied(alloc),
+        }
+    }
+
     // Whether two starts are of the same kind.
     pub(crate) fn is_like(&self, other: &Start) -> bool {
         matches!(

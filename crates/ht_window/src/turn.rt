@@ -97,26 +97,22 @@ fn renew_latches(held: &mut Held, core: &mut Core) -> Result<(), AllocError>
     Ok(())
 }
 
-/// Lets cells follow, by events, where they were those of the same window but with the fault `before` and another
-/// start.
+/// Lets cells follow, by events, where they were those of the same window but without a fault and from another start.
 ///
 /// # Errors
 /// Out of memory.
-pub fn follow_turn(
-    held: &mut Held,
-    core: &mut Core,
-    before: Option<Fault>,
-) -> Result<(), AllocError>
+pub fn follow_turn(held: &mut Held, core: &mut Core) -> Result<(), AllocError>
     requires circuit { core.old.plan.circuit ≡ held.old.standing.window.circuit }
     requires frames { core.old.plan.frames ≡ held.old.standing.window.frames }
-    requires holds { HoldsElsewhere held.old before }
+    requires holds { HoldsElsewhere held.old }
     ensures plan { OnOk result (core.new.plan ≡ core.old.plan) }
     ensures standing { OnOk result (held.new.standing ≡ held.old.standing) }
-    ensures cells { OnOk result (AreCells held.old.standing.window held.old.standing.path
+    ensures relevant { OnOk result (held.new.relevant ≡ held.old.relevant) }
+    ensures cells { OnOk result (AreCells held.old.standing.window
+        (is_relevant held.old.standing.window.circuit held.old.relevant) held.old.standing.path
         held.new.cells.values) }
 {
     let fault = held.decided().fault();
-    renew_line(held, core, before)?;
     renew_line(held, core, fault)?;
     renew_latches(held, core)?;
     core.settle(held)?;
