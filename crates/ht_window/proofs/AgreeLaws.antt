@@ -1,5 +1,5 @@
 -- Items that agree, and nets that hold.
-use Rattle.std.proofs.Common.{◌≡◌, ◌≢◌, ◌<◌, ◌≤◌, ◌-◌, inl, inr, ℕ, List, length, set, refl, sym, ◌∙◌, ap, arith, subst}
+use Rattle.std.proofs.Common.{◌≡◌, ◌≢◌, ◌<◌, ◌≤◌, ◌-◌, inl, inr, ℕ, List, Option, true, length, set, refl, sym, ◌∙◌, ap, arith, subst}
 use Rattle.ht_pairs.specs.Pairs.{Pair}
 use Rattle.ht_net.specs.Netlist.{Netlist, net_count}
 use Rattle.ht_net.proofs.FrameLaws.{le_or_lt}
@@ -10,6 +10,7 @@ use Rattle.ht_tree.specs.declared.token.Assign3.{Assign3}
 use Rattle.ht_tree.specs.Windows.{SearchWindow, IsWindow, pair_set_rules, frame_inputs}
 use Rattle.ht_window.specs.Standing.{Standing}
 use Rattle.ht_window.specs.Cells.{cell_index, cell_count, env_at, latches_over, value_over, HoldsValue, AreCells}
+use Rattle.ht_relevant.specs.Near.{RelevantState}
 use Rattle.ht_relevant.specs.Relevant.{IsClosedBack}
 use Rattle.ht_window.specs.Matters.{is_relevant}
 use Rattle.ht_window.specs.Holding.{HeldState, MayHold, item_agrees, KeepsHeld}
@@ -55,9 +56,8 @@ module _ (a b : HeldState) (valid : IsWindow a.standing.window)
       (λ m. move f x (self_holds a.standing.window valid a.standing.path a.cells.values count f x v fs xs value)))
 
   -- a net that matters in b matters in a
-  mattered : (g y : ℕ) → is_relevant b.standing.window.circuit b.relevant g y ≡ true
-      → is_relevant a.standing.window.circuit a.relevant g y ≡ true
-  mattered g y m = sym (λ i. is_relevant (same i).window.circuit (kept i) g y) ∙ m
+  mattered : (g y : ℕ) → is_relevant b.relevant g y ≡ true → is_relevant a.relevant g y ≡ true
+  mattered g y m = sym (ap (λ (o : Option RelevantState). is_relevant o g y) kept) ∙ m
 
   agrees_others : (y : ℕ) → y < item_count a.standing.window.circuit a.standing.window.frames
       → ¬ IsLoad a.standing.window.circuit a.standing.window.frames item y → item_agrees a y → item_agrees b y
@@ -103,17 +103,17 @@ input_over w path values more g i is =
 
 -- where the inputs hold what they get and then all items agree, every cell is that of the decisions
 pub settled_cells : (a b : HeldState) → IsWindow a.standing.window
-    → IsClosedBack a.standing.window.circuit a.standing.window.frames (is_relevant a.standing.window.circuit a.relevant)
+    → IsClosedBack a.standing.window.circuit a.standing.window.frames (is_relevant a.relevant)
     → KeepsHeld a b
     → ((f i : ℕ) → f < a.standing.window.frames → i < a.standing.window.circuit.inputs → MayHold a f i)
     → ((y : ℕ) → y < item_count a.standing.window.circuit a.standing.window.frames → item_agrees b y)
-    → AreCells a.standing.window (is_relevant a.standing.window.circuit a.relevant) a.standing.path b.cells.values
+    → AreCells a.standing.window (is_relevant a.relevant) a.standing.path b.cells.values
 settled_cells a b valid closed kept inputs agree = holds_cells w valid a.standing.path
-    (is_relevant a.standing.window.circuit a.relevant) closed b.cells.values
+    (is_relevant a.relevant) closed b.cells.values
     (λ f x fs xs m. elim (le_or_lt w.circuit.inputs x) [
       | inl at ↦ subst (λ (s : Standing). HoldsValue s.window s.path b.cells.values f x) kept.standing
           (item f x at xs fs
-          ((λ i. is_relevant (kept.standing i).window.circuit (kept.relevant i) f x) ∙ m))
+          (ap (λ (o : Option RelevantState). is_relevant o f x) kept.relevant ∙ m))
       | inr low ↦ kept.inputs f x fs low ∙
           (inputs f x fs low m ∙ input_over w a.standing.path a.cells.values b.cells.values f x low)
     ]) where

@@ -1,11 +1,12 @@
 -- One more decision: which nets and items it reaches.
-use Rattle.std.proofs.Common.{◌≡◌, ◌<◌, ◌≤◌, ◌-◌, ◌∙◌, inl, inr, ℕ, List, [], ◌∷◌, ◌++◌, Bool, true, Option, length, set, refl, sym, arith, subst}
+use Rattle.std.proofs.Common.{◌≡◌, ◌<◌, ◌≤◌, ◌-◌, ◌∙◌, inl, inr, ℕ, List, [], ◌∷◌, ◌++◌, Bool, true, Option, length, set, refl, sym, ap, arith, subst}
 use Rattle.ht_pairs.specs.Pairs.{Pair}
 use Rattle.ht_net.specs.Netlist.{net_count}
 use Rattle.ht_events.specs.Items.{item_at, item_count, frame_of, local_of, driven_net, IsReader}
 use Rattle.ht_tree.specs.declared.token.Assign3.{Assign3}
 use Rattle.ht_tree.specs.Windows.{SearchWindow, IsWindow}
 use Rattle.ht_window.specs.Cells.{cell_index, cell_count, value_over, HoldsValue, AreCells, var_frame, var_net}
+use Rattle.ht_relevant.specs.Near.{RelevantState}
 use Rattle.ht_relevant.specs.Relevant.{IsClosedBack}
 use Rattle.ht_window.specs.Matters.{is_relevant}
 use Rattle.ht_window.specs.Holding.{HeldState, MayHold, item_agrees}
@@ -38,10 +39,10 @@ module _ (w : SearchWindow) (valid : IsWindow w) (is : ℕ → ℕ → Bool) (cl
             (path_holds w valid path d values g y gs ys ne (cells_hold w valid path is closed values are g y gs ys m))
       ]
 
-module _ (w : SearchWindow) (valid : IsWindow w) (relevant : Option (List Bool))
-    (closed : IsClosedBack w.circuit w.frames (is_relevant w.circuit relevant)) (path : List Assign3) (d : Assign3)
+module _ (w : SearchWindow) (valid : IsWindow w) (relevant : Option RelevantState)
+    (closed : IsClosedBack w.circuit w.frames (is_relevant relevant)) (path : List Assign3) (d : Assign3)
     (values : List (List Pair)) (count : length values ≡ cell_count w)
-    (xs : var_net w d.var < net_count w.circuit) (are : AreCells w (is_relevant w.circuit relevant) path values)
+    (xs : var_net w d.var < net_count w.circuit) (are : AreCells w (is_relevant relevant) path values)
     (b : HeldState) (same : b.standing.window ≡ w) (kept : b.relevant ≡ relevant) (more : b.standing.path ≡ path ++ d ∷ [])
     (now : b.cells.values ≡ set values (cell_index w (var_frame w d.var) (var_net w d.var))
     (value_over w (path ++ d ∷ []) values (var_frame w d.var) (var_net w d.var))) where
@@ -55,9 +56,9 @@ module _ (w : SearchWindow) (valid : IsWindow w) (relevant : Option (List Bool))
       (subst (λ (p : List Assign3). HoldsValue w p b.cells.values g y) (sym more)
       (subst (λ (t : List (List Pair)). HoldsValue w (path ++ d ∷ []) t g y) (sym now) h))
 
-  mattered : (g y : ℕ) → is_relevant b.standing.window.circuit b.relevant g y ≡ true
-      → is_relevant w.circuit relevant g y ≡ true
-  mattered g y m = sym (λ i. is_relevant (same i).circuit (kept i) g y) ∙ m
+  mattered : (g y : ℕ) → is_relevant b.relevant g y ≡ true
+      → is_relevant relevant g y ≡ true
+  mattered g y m = sym (ap (λ (o : Option RelevantState). is_relevant o g y) kept) ∙ m
 
   pub decided_agrees : (y : ℕ) → y < item_count w.circuit w.frames → ¬ IsReader w.circuit w.frames (var_frame w d.var)
       (var_net w d.var) y → item_agrees b y
@@ -68,7 +69,7 @@ module _ (w : SearchWindow) (valid : IsWindow w) (relevant : Option (List Bool))
       let n = item_net c w.frames y known in
       subst (λ (v : SearchWindow). MayHold b (frame_of v.circuit y) (driven_net v.circuit (local_of v.circuit y)))
       (sym same)
-      (λ m. move_held g z (decided_holds w valid (is_relevant w.circuit relevant) closed path d values count xs are g z
+      (λ m. move_held g z (decided_holds w valid (is_relevant relevant) closed path d values count xs are g z
       n.frame n.net (mattered g z m)
       (λ at r. free (subst (λ (i : ℕ). IsReader c w.frames (var_frame w d.var) (var_net w d.var) i) n.is r))))
 
@@ -76,6 +77,6 @@ module _ (w : SearchWindow) (valid : IsWindow w) (relevant : Option (List Bool))
       → MayHold b g i
   decided_inputs g i gs is m =
       let low : i < w.circuit.inputs = subst (λ (v : SearchWindow). i < v.circuit.inputs) same is in
-      move_held g i (decided_holds w valid (is_relevant w.circuit relevant) closed path d values count xs are g i
+      move_held g i (decided_holds w valid (is_relevant relevant) closed path d values count xs are g i
       (subst (λ (v : SearchWindow). g < v.frames) same gs) (omega (arith, low)) (mattered g i m)
       (λ at. absurd (omega (arith, at, low))))

@@ -14,6 +14,7 @@ use Rattle.ht_tree.specs.declared.token.Assign3.{Assign3}
 use Rattle.ht_tree.specs.Windows.{SearchWindow, IsWindow, cell_at, latches_at, pair_set_rules}
 use Rattle.ht_window.specs.Standing.{Standing}
 use Rattle.ht_window.specs.Cells.{cell_index, cell_count, blank, value_over, AreCells, var_frame, var_net}
+use Rattle.ht_relevant.specs.Near.{RelevantState}
 use Rattle.ht_relevant.specs.Relevant.{IsClosedBack}
 use Rattle.ht_window.specs.Matters.{is_relevant}
 use Rattle.ht_window.specs.Holding.{HeldState, item_agrees, KeepsHeld}
@@ -34,8 +35,8 @@ settled_all s t w a b plan circuit frames quiet settled none y known =
 module _ (a p q : HeldState) (d : Assign3) (valid : IsWindow a.standing.window)
     (count : length a.cells.values ≡ cell_count a.standing.window)
     (closed : IsClosedBack a.standing.window.circuit a.standing.window.frames
-    (is_relevant a.standing.window.circuit a.relevant))
-    (are : AreCells a.standing.window (is_relevant a.standing.window.circuit a.relevant) a.standing.path a.cells.values)
+    (is_relevant a.relevant))
+    (are : AreCells a.standing.window (is_relevant a.relevant) a.standing.path a.cells.values)
     (known : var_net a.standing.window d.var < net_count a.standing.window.circuit)
     (pw : p.standing.window ≡ a.standing.window) (pr : p.relevant ≡ a.relevant) (pc : p.cells ≡ a.cells)
     (pp : p.standing.path ≡ a.standing.path ++ d ∷ [])
@@ -76,19 +77,19 @@ module _ (a p q : HeldState) (d : Assign3) (valid : IsWindow a.standing.window)
 
   pub follow_cells : (r : HeldState) → KeepsHeld q r
       → ((y : ℕ) → y < item_count a.standing.window.circuit a.standing.window.frames → item_agrees r y)
-      → AreCells a.standing.window (is_relevant a.standing.window.circuit a.relevant) r.standing.path r.cells.values
+      → AreCells a.standing.window (is_relevant a.relevant) r.standing.path r.cells.values
   follow_cells r kept agree =
-      let here = subst (λ (v : SearchWindow). IsClosedBack v.circuit v.frames (is_relevant v.circuit q.relevant))
-      (sym same) (subst (λ (o : Option (List Bool)). IsClosedBack a.standing.window.circuit a.standing.window.frames
-      (is_relevant a.standing.window.circuit o)) (sym marks) closed) in
+      let here = subst (λ (v : SearchWindow). IsClosedBack v.circuit v.frames (is_relevant q.relevant)) (sym same)
+      (subst (λ (o : Option RelevantState). IsClosedBack a.standing.window.circuit a.standing.window.frames
+      (is_relevant o)) (sym marks) closed) in
       let c = settled_cells q r (subst IsWindow (sym same) valid) here kept
       (decided_inputs a.standing.window valid a.relevant closed a.standing.path d a.cells.values count known are q same
       marks more now)
       (subst (λ (w : SearchWindow). (y : ℕ) → y < item_count w.circuit w.frames → item_agrees r y) (sym same) agree) in
-      subst (λ (w : SearchWindow). AreCells w (is_relevant w.circuit a.relevant) r.standing.path r.cells.values) same
-      (subst (λ (o : Option (List Bool)). AreCells q.standing.window (is_relevant q.standing.window.circuit o)
+      subst (λ (w : SearchWindow). AreCells w (is_relevant a.relevant) r.standing.path r.cells.values) same
+      (subst (λ (o : Option RelevantState). AreCells q.standing.window (is_relevant o)
       r.standing.path r.cells.values) marks
-      (subst (λ (s : Standing). AreCells q.standing.window (is_relevant q.standing.window.circuit q.relevant) s.path
+      (subst (λ (s : Standing). AreCells q.standing.window (is_relevant q.relevant) s.path
       r.cells.values) (sym kept.standing) c))
 
 -- the next state of a latch after the last frame

@@ -8,11 +8,12 @@ use Rattle.ht_trail.specs.declared.cells.Saved.{Saved}
 use Rattle.ht_trail.specs.Trails.{CellsState}
 use Rattle.ht_tree.specs.declared.token.Assign3.{Assign3}
 use Rattle.ht_tree.specs.Windows.{SearchWindow}
+use Rattle.ht_relevant.specs.Near.{RelevantState}
 use Rattle.ht_window.specs.Cells.{IsHistory, decision_mark}
 use Rattle.ht_window.specs.States.{WindowState, mark_before, undone}
 use Rattle.ht_window.proofs.HistoryLaws.{mark_old, mark_small}
 
-module _ (s : WindowState) (w : SearchWindow) (is : ℕ → ℕ → Bool) (relevant : Option (List Bool)) (path : List Assign3)
+module _ (s : WindowState) (w : SearchWindow) (is : ℕ → ℕ → Bool) (relevant : Option RelevantState) (path : List Assign3)
     (marks : List ℕ) (cells : CellsState (List Pair))
     (h : IsHistory w is path marks cells)
     (state : record { window = w; decisions = path; marks = marks; mark = length cells.trail; relevant = relevant } ≡ s) where

@@ -11,10 +11,12 @@ use Rattle.ht_events.specs.Pending.{CoreState, IsPending, QuietAgree, core_items
 use Rattle.ht_tree.specs.Windows.{SearchWindow, IsWindow}
 use Rattle.ht_window.specs.Standing.{Standing}
 use Rattle.ht_window.specs.Cells.{cell_index, cell_count, value_over, HoldsValue, AreCells}
+use Rattle.ht_relevant.specs.Near.{RelevantState}
 use Rattle.ht_relevant.specs.Relevant.{IsClosedBack}
 use Rattle.ht_window.specs.Matters.{is_relevant}
 use Rattle.ht_window.specs.Holding.{HeldState, MayHold, item_agrees, KeepsHeld}
-use Rattle.ht_window.specs.Turns.{HoldsOrPends, IsRenewed, HoldsElsewhere, is_reached}
+use Rattle.ht_relevant.specs.Reached.{begins_at}
+use Rattle.ht_window.specs.Turns.{HoldsOrPends, IsRenewed, HoldsElsewhere}
 use Rattle.ht_net.specs.declared.fault.Fault.{Fault}
 use Rattle.std.specs.Prelude.{Option}
 use Rattle.ht_window.proofs.PlaceLaws.{this_or_other}
@@ -96,7 +98,7 @@ module _ (s t : CoreState) (a b : HeldState) (valid : IsWindow a.standing.window
             (subst (λ (c : Netlist). IsReader c w.frames f x (item_at w.circuit g (y - w.circuit.inputs)))
             (sym circuit) r)))) other.0
             (other.1 (λ at pends. free at (more (item_at w.circuit g (y - w.circuit.inputs)) pends))
-            (sym (ap (λ (o : Option (List Bool)). is_relevant w.circuit o g y) kept) ∙ m))
+            (sym (ap (λ (o : Option RelevantState). is_relevant o g y) kept) ∙ m))
       ]))
 
   pub renewed_write : IsRenewed s a t b × HoldsOrPends t b f x
@@ -131,14 +133,14 @@ this_latch c f x = elim (eqb_tells f 0) [
 -- once the line and the latches of the first frame are renewed, each net that matters holds what it gets or is pending
 pub all_renewed : (s t : CoreState) (a b : HeldState) → HoldsElsewhere a → IsRenewed s a t b
     → ((f x : ℕ) → f < a.standing.window.frames → x < net_count a.standing.window.circuit
-    → is_reached a.standing.window.circuit a.standing.window.fault x ≡ true → HoldsOrPends t b f x)
+    → begins_at a.standing.window.circuit a.standing.window.fault x ≡ true → HoldsOrPends t b f x)
     → ((x : ℕ) → a.standing.window.circuit.inputs ≤ x → x < first_gate_net a.standing.window.circuit
     → HoldsOrPends t b 0 x)
     → (f x : ℕ) → f < a.standing.window.frames → x < net_count a.standing.window.circuit → HoldsOrPends t b f x
 all_renewed s t a b elsewhere renewed new latches f x fs xs =
     let w = a.standing.window in
     let c = w.circuit in
-    elim (cases_Bool (is_reached c w.fault x)) [
+    elim (cases_Bool (begins_at c w.fault x)) [
       | inl n ↦ new f x fs xs n
       | inr clear ↦ elim (this_latch c f x) [
         | inl at ↦ subst (λ (g : ℕ). HoldsOrPends t b g x) (sym at.0) (latches x at.1 at.2)
@@ -148,12 +150,12 @@ all_renewed s t a b elsewhere renewed new latches f x fs xs =
 
 -- where all nets hold what they get or are pending, and then none is pending, every cell is that of the decisions
 pub all_followed : (t u : CoreState) (b d : HeldState) → IsWindow b.standing.window
-    → IsClosedBack b.standing.window.circuit b.standing.window.frames (is_relevant b.standing.window.circuit b.relevant)
+    → IsClosedBack b.standing.window.circuit b.standing.window.frames (is_relevant b.relevant)
     → t.plan.circuit ≡ b.standing.window.circuit → t.plan.frames ≡ b.standing.window.frames → u.plan ≡ t.plan
     → ((f x : ℕ) → f < b.standing.window.frames → x < net_count b.standing.window.circuit → HoldsOrPends t b f x)
     → KeepsHeld b d → (QuietAgree t (item_agrees b) → QuietAgree u (item_agrees d))
     → ((y : ℕ) → y < core_items t → ¬ IsPending u y)
-    → AreCells b.standing.window (is_relevant b.standing.window.circuit b.relevant) b.standing.path d.cells.values
+    → AreCells b.standing.window (is_relevant b.relevant) b.standing.path d.cells.values
 all_followed t u b d valid closed circuit frames plan all kept agree none =
     settled_cells b d valid closed kept inputs (settled_all t u w b d plan circuit frames quiet agree none) where
       w : SearchWindow

@@ -9,11 +9,10 @@ use Rattle.ht_window.specs.declared.bases.Bases.TheInside.{Inside}
 pub record BasesState : Type 0 where
   pub circuit : Netlist
 
--- a window of the good machine of the circuit before its first decision, in which all nets matter
+-- a window of the good machine of the circuit before its first decision
 pub record IsBase (c : Netlist) (w : WindowState) : Type 0 where
   pub circuit : w.window.circuit ≡ c
   pub good : w.window.fault ≡ None
-  pub whole : w.relevant ≡ None
   pub decisions : w.decisions ≡ []
 
 -- each base is one of the plan's circuit

@@ -1,29 +1,24 @@
 -- The part of a window that holds its decisions and cells, as what events keep up to date.
-use Rattle.std.specs.Prelude.{◌≡◌, ◌<◌, ◌≤◌, ℕ, List, Bool, true, Option, Some, length}
+use Rattle.std.specs.Prelude.{◌≡◌, ◌<◌, ◌≤◌, ℕ, List, true, Option, length}
 use Rattle.ht_pairs.specs.Pairs.{Pair}
 use Rattle.ht_trail.specs.Trails.{CellsState, IsLater}
 use Rattle.ht_events.specs.Plans.{max_frames}
 use Rattle.ht_events.specs.Items.{frame_of, local_of, driven_net}
 use Rattle.ht_tree.specs.Windows.{IsWindow}
-use Rattle.ht_relevant.specs.Relevant.{IsClosedBack}
+use Rattle.ht_relevant.specs.Near.{RelevantState}
 use Rattle.ht_window.specs.Matters.{is_relevant}
 use Rattle.ht_window.specs.Standing.{Standing}
 use Rattle.ht_window.specs.Cells.{env_at, cell_count, HoldsValue}
 use Rattle.ht_window.specs.declared.held.Held.TheInside.{Inside}
 
--- A window with its decisions, its cells with what they were before each mark, and marks of the nets that matter, if
--- not all do.
+-- A window with its decisions, its cells with what they were before each mark, and the nets that matter, if not all do.
 pub record HeldState : Type 0 where
   pub standing : Standing
   pub cells : CellsState (List Pair)
-  pub relevant : Option (List Bool)
+  pub relevant : Option RelevantState
 
--- a cell for each net of each frame, a mark for each where there are marks, which are closed back, and room for the pins
--- of the widest gate
+-- a cell for each net of each frame, and room for the pins of the widest gate
 pub record IsHeld (a : Inside) : Type 0 where
-  pub marked : (marks : List Bool) → a.relevant ≡ Some marks → length marks ≡ cell_count a.decided.window
-  pub closed : IsClosedBack a.decided.window.circuit a.decided.window.frames
-      (is_relevant a.decided.window.circuit a.relevant)
   pub window : IsWindow a.decided.window
   pub few : a.decided.window.frames ≤ max_frames
   pub count : length a.cells.values ≡ cell_count a.decided.window
@@ -31,7 +26,7 @@ pub record IsHeld (a : Inside) : Type 0 where
 
 -- where net x of frame f matters, it holds what it gets
 abbrev pub MayHold : HeldState → ℕ → ℕ → Type 0
-MayHold h f x = is_relevant h.standing.window.circuit h.relevant f x ≡ true
+MayHold h f x = is_relevant h.relevant f x ≡ true
     → HoldsValue h.standing.window h.standing.path h.cells.values f x
 
 -- where the item's net matters, its cell is what its arguments give

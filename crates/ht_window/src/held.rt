@@ -8,8 +8,6 @@ ghost use Rattle.ht_trail.specs.Trails.{CellsState, IsLater, restored};
 ghost use Rattle.ht_tree.specs.Windows.{IsWindow, first_input, frame_inputs, pair_set_rules};
 ghost use Rattle.ht_window.specs.Standing.{variable_room};
 ghost use Rattle.ht_window.specs.Cells.{cell_index, cell_count, env_at, latches_over, value_over, var_frame, var_net, HoldsValue};
-ghost use Rattle.ht_relevant.specs.Marks.{marks_net};
-ghost use Rattle.ht_relevant.specs.Relevant.{IsClosedBack};
 ghost use Rattle.ht_window.specs.Matters.{is_relevant};
 ghost use Rattle.ht_window.specs.Holding.{HeldState};
 
@@ -17,7 +15,7 @@ use crate::decided::Decided;
 use ht_events::{MAX_FRAMES, Plant};
 use ht_frame::{MAX_GATE_PINS, data_pin, gate_output, stem};
 use ht_pairs::PairSet;
-use ht_items::BitSet;
+use ht_relevant::Relevant;
 use ht_tern::Tern;
 use ht_trail::{Cells, Mark};
 use std::alloc::{AllocError, Global};
@@ -28,8 +26,8 @@ use std::marker::Model;
 pub struct Held<'c> {
     decided: Decided<'c>,
     cells: Cells<PairSet>,
-    // the nets that matter, by frame and there by net; none: all
-    relevant: Option<BitSet>,
+    // the nets that matter; none: all do
+    relevant: Option<Relevant>,
     // room for the pins of one gate
     pins: Vec<PairSet>,
 }
@@ -112,26 +110,22 @@ impl<'c> Held<'c> {
     /// Whether a net of a frame matters.
     #[inline(always)]
     pub fn matters(&self, frame: u32, net: u32) -> bool
-        requires frame { frame < self.now.standing.window.frames }
-        requires net { net < net_count self.now.standing.window.circuit }
-        ensures { result ≡ is_relevant self.now.standing.window.circuit self.now.relevant frame net }
+        requires { frame < self.now.standing.window.frames }
+        ensures { result ≡ is_relevant self.now.relevant frame net }
     {
         match &self.relevant {
+            Some(relevant) => relevant.has(frame, net),
             None => true,
-            Some(marks) => marks.contains(self.place(frame, net)),
         }
     }
 
-    /// From now on only the marked nets matter.
-    pub fn restrict(&mut self, marks: BitSet)
-        requires count { length marks ≡ cell_count self.old.standing.window }
-        requires closed { IsClosedBack self.old.standing.window.circuit
-            self.old.standing.window.frames (marks_net self.old.standing.window.circuit marks) }
+    /// From now on only these nets matter.
+    pub fn restrict(&mut self, relevant: Relevant)
         ensures standing { self.new.standing ≡ self.old.standing }
         ensures cells { self.new.cells ≡ self.old.cells }
-        ensures relevant { self.new.relevant ≡ Some marks.entry }
+        ensures relevant { self.new.relevant ≡ Some relevant.entry }
     {
-        self.relevant = Some(marks);
+        self.relevant = Some(relevant);
     }
 
     /// What a net of a frame holds.
@@ -282,19 +276,6 @@ impl<'c> Held<'c> {
     {
         let count = frames as usize * self.decided.circuit().nets() as usize;
         Vec::from_slice(alloc, &self.cells.values()[..count])
-    }
-
-    /// The same cells under another window with as many, or other decisions.
-    pub fn turn(&mut self, decided: Decided<'c>)
-        requires circuit { decided.window.circuit ≡ self.old.standing.window.circuit }
-        requires frames { decided.window.frames ≡ self.old.standing.window.frames }
-        ensures standing { self.new.standing ≡ decided.entry }
-        ensures relevant { self.new.relevant ≡ self.old.relevant }
-        ensures cells { self.new.cells ≡ self.old.cells }
-    {
-        // for the proof: the other window is well formed
-        let _ = decided.circuit();
-        self.decided = decided;
     }
 
     /// Forgets what the cells held before.

@@ -32,7 +32,6 @@ mod frames;
 mod held;
 mod places;
 mod restrict;
-mod restrict;
 mod sets;
 mod start;
 mod status;

@@ -1,81 +1,106 @@
 //! The nets that matter to a window of a fault.
-ghost use Rattle.std.specs.Prelude.{◌≡◌, ◌<◌, ◌≤◌, ℕ, true, false, None, length, get_or, IfOk, OnOk};
-ghost use Rattle.ht_relevant.specs.Reached.{may_begin_apart};
-ghost use Rattle.ht_relevant.specs.Relevant.{IsRelevant, counts_state};
+ghost use Rattle.std.specs.Prelude.{◌≡◌, ◌<◌, ℕ, true, false, Some, length, get_or, IfOk, OnOk, OnErr};
+ghost use Rattle.ht_net.specs.Netlist.{Netlist};
+ghost use Rattle.ht_tree.specs.Windows.{IsWindow};
+ghost use Rattle.ht_relevant.specs.Near.{matters};
+ghost use Rattle.ht_relevant.specs.Relevant.{IsRelevant};
+ghost use Rattle.ht_tern.specs.declared.tern.Tern.TheVariants.{Unk};
+ghost use Rattle.ht_pairs.specs.Pairs.{same_tern};
 ghost use Rattle.ht_window.specs.Matters.{is_relevant};
-ghost use Rattle.ht_window.specs.Starts.{start_of};
 
-use crate::decided::{is_set, value_at};
+use crate::decided::{Decided, is_set, value_at};
 use crate::held::Held;
 use crate::start::Start;
-use ht_events::Core;
-use ht_relevant::find_relevant;
+use ht_events::{FramePlan, MAX_FRAMES};
+use ht_net::Fault;
+use ht_relevant::{Relevant, find_relevant};
+use ht_tern::Tern;
 use std::alloc::{AllocError, Global};
 
-// A mark for each latch of the first frame at which the machines may differ.
-fn apart(alloc: Global, start: &Start, dffs: u32) -> Result<Vec<bool>, AllocError>
+// A mark for each flip-flop at which two states differ.
+fn differences(
+    alloc: Global,
+    good: &[Tern],
+    bad: &[Tern],
+    dffs: u32,
+) -> Result<Vec<bool>, AllocError>
     ensures { IfOk result (λ marks. (j : ℕ) → j < dffs
-        → may_begin_apart (start_of start.now) j ≡ true → get_or marks.items j false ≡ true) }
+        → get_or marks.items j false
+        ≡ not (same_tern (get_or good.now j Unk) (get_or bad.now j Unk))) }
 {
-    let mut marks = vec![in alloc; false; dffs as usize]?;
+    let mut marks = Vec::with_capacity(alloc, dffs as usize)?;
     for j in 0..dffs {
-        marks[j as usize] = match start {
-            Start::OneFrame { z } => is_set(z.as_slice(), j),
-            Start::Pair { state } =>
-                value_at(state.good.as_slice(), j) != value_at(state.bad.as_slice(), j),
-            Start::Unknown | Start::Back { cube: _, limit: _ } => false,
-        };
+        marks.push(value_at(good, j) != value_at(bad, j))?;
     }
     Ok(marks)
 }
 
-// A mark for each flip-flop whose next state counts.
-fn counted(alloc: Global, start: &Start, dffs: u32) -> Result<Vec<bool>, AllocError>
-    ensures { IfOk result (λ marks. (j : ℕ) → j < dffs → counts_state (start_of start.now) j ≡ true
-        → get_or marks.items j false ≡ true) }
+// A mark for each flip-flop outside a set.
+fn outside(alloc: Global, z: &[bool], dffs: u32) -> Result<Vec<bool>, AllocError>
+    ensures { IfOk result (λ marks. (j : ℕ) → j < dffs
+        → get_or marks.items j false ≡ not (get_or z.now j false)) }
 {
-    let mut marks = vec![in alloc; false; dffs as usize]?;
+    let mut marks = Vec::with_capacity(alloc, dffs as usize)?;
     for j in 0..dffs {
-        marks[j as usize] = match start {
-            Start::OneFrame { z } => !is_set(z.as_slice(), j),
-            Start::Unknown | Start::Pair { state: _ } | Start::Back { cube: _, limit: _ } => false,
-        };
+        marks.push(!is_set(z, j))?;
     }
     Ok(marks)
+}
+
+// The nets that matter to a window of a fault.
+fn relevant_to(
+    alloc: Global,
+    decided: &Decided,
+    frame_plan: &FramePlan,
+    fault: Fault,
+) -> Result<Relevant, AllocError>
+    requires circuit { frame_plan.now.circuit ≡ decided.now.window.circuit }
+    requires fault { decided.now.window.fault ≡ Some fault }
+    requires few { decided.now.window.frames ≤ MAX_FRAMES }
+    ensures { IfOk result (λ r. IsRelevant decided.now.window (matters r)) }
+{
+    // for the proof: the window is well formed
+    let _ = decided.circuit();
+    let frames = decided.frames();
+    match decided.start() {
+        Start::OneFrame { z } => {
+            let counted = outside(alloc, z.as_slice(), decided.dffs())?;
+            find_relevant(alloc, frame_plan, frames, fault, z.as_slice(), &counted)
+        },
+        Start::Pair { state } => {
+            let good = state.good.as_slice();
+            let apart = differences(alloc, good, state.bad.as_slice(), decided.dffs())?;
+            find_relevant(alloc, frame_plan, frames, fault, &apart, &[])
+        },
+        Start::Unknown | Start::Back { cube: _, limit: _ } => find_relevant(
+            alloc,
+            frame_plan,
+            frames,
+            fault,
+            &[],
+            &[],
+        ),
+    }
 }
 
 /// Leaves to a window of a fault the nets that matter. To one of the good machine all do.
 ///
 /// # Errors
-/// Out of memory.
-pub fn restrict(alloc: Global, held: &mut Held, core: &mut Core) -> Result<(), AllocError>
-    requires circuit { core.old.plan.circuit ≡ held.old.standing.window.circuit }
-    requires frames { core.old.plan.frames ≡ held.old.standing.window.frames }
+/// Out of memory; nothing is changed.
+pub fn restrict(alloc: Global, frame_plan: &FramePlan, held: &mut Held) -> Result<(), AllocError>
+    requires circuit { frame_plan.now.circuit ≡ held.old.standing.window.circuit }
     requires whole { held.old.relevant ≡ None }
-    ensures plan { OnOk result (core.new.plan ≡ core.old.plan) }
-    ensures standing { OnOk result (held.new.standing ≡ held.old.standing) }
-    ensures cells { OnOk result (held.new.cells ≡ held.old.cells) }
+    ensures standing { held.new.standing ≡ held.old.standing }
+    ensures cells { held.new.cells ≡ held.old.cells }
     ensures relevant { OnOk result (IsRelevant held.old.standing.window
-        (is_relevant held.old.standing.window.circuit held.new.relevant)) }
-    ensures good { held.old.standing.window.fault ≡ None
-        → OnOk result (held.new.relevant ≡ None) }
+        (is_relevant held.new.relevant)) }
+    ensures good { held.old.standing.window.fault ≡ None → held.new.relevant ≡ None }
 {
     let decided = held.decided();
     let Some(fault) = decided.fault() else {
         return Ok(());
     };
-    let apart = apart(alloc, decided.start(), decided.dffs())?;
-    let counted = counted(alloc, decided.start(), decided.dffs())?;
-    let frames = decided.frames();
-    let marks = find_relevant(
-        alloc,
-        decided.circuit(),
-        core,
-        frames,
-        fault,
-        &apart,
-        &counted,
-    )?;
-    held.restrict(marks);
+    let relevant = relevant_to(alloc, decided, frame_plan, fault)?;
+    held.restrict(relevant);
     Ok(())
 }

@@ -3,7 +3,8 @@ use Rattle.ht_net.specs.Netlist.{net_count, first_gate_net}
 use Rattle.ht_tree.specs.Windows.{IsWindow}
 use Rattle.ht_window.specs.Standing.{Standing}
 use Rattle.ht_window.specs.Cells.{AreCells}
-use Rattle.ht_window.specs.Turns.{HoldsOrPends, is_reached}
+use Rattle.ht_relevant.specs.Reached.{begins_at}
+use Rattle.ht_window.specs.Turns.{HoldsOrPends}
 use Rattle.ht_window.proofs.RenewLaws.{renewed_more, plan_renewed, all_renewed, all_followed}
 use Rattle.ht_window.proofs.turn.follow_turn.Goals as goal
 
@@ -25,17 +26,17 @@ returns-clause-cells c =
     let whole = renewed_more s s2 t a a2 b first three.renewed in
     let fault = c.fault-fault.ensures ∙ ap (λ (n : Standing). n.window.fault) c.decided.ensures.standing in
     let before : (f x : ℕ) → f < a.standing.window.frames → x < net_count a.standing.window.circuit
-    → is_reached a.standing.window.circuit c.args.before x ≡ true → HoldsOrPends t b f x = λ f x fs xs reached.
+    → begins_at a.standing.window.circuit c.args.before x ≡ true → HoldsOrPends t b f x = λ f x fs xs reached.
     subst (λ (n : Standing). (g y : ℕ) → g < n.window.frames → y < net_count n.window.circuit → HoldsOrPends s1 a1 g y
     → HoldsOrPends t b g y) one.renewed.standing last.holds f x fs xs (one.holds f x fs xs reached) in
     let now : (f x : ℕ) → f < a.standing.window.frames → x < net_count a.standing.window.circuit
-    → is_reached a.standing.window.circuit a.standing.window.fault x ≡ true → HoldsOrPends t b f x =
+    → begins_at a.standing.window.circuit a.standing.window.fault x ≡ true → HoldsOrPends t b f x =
     λ f x fs xs reached.
     subst (λ (n : Standing). (g y : ℕ) → g < n.window.frames → y < net_count n.window.circuit → HoldsOrPends s2 a2 g y
     → HoldsOrPends t b g y) first.standing three.renewed.holds f x fs xs
     (subst (λ (n : Standing). (g y : ℕ) → g < n.window.frames → y < net_count n.window.circuit
-    → is_reached n.window.circuit c.fault-fault.result y ≡ true → HoldsOrPends s2 a2 g y) one.renewed.standing two.holds
-    f x fs xs (ap (λ (o : _). is_reached a.standing.window.circuit o x) fault ∙ reached)) in
+    → begins_at n.window.circuit c.fault-fault.result y ≡ true → HoldsOrPends s2 a2 g y) one.renewed.standing two.holds
+    f x fs xs (ap (λ (o : _). begins_at a.standing.window.circuit o x) fault ∙ reached)) in
     let latches : (x : ℕ) → a.standing.window.circuit.inputs ≤ x → x < first_gate_net a.standing.window.circuit
     → HoldsOrPends t b 0 x =
     subst (λ (n : Standing). (x : ℕ) → n.window.circuit.inputs ≤ x → x < first_gate_net n.window.circuit
