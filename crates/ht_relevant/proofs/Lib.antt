@@ -1,7 +1,5 @@
 pub mod AlikeLaws
 pub mod ReachLaws
-pub mod TodoLaws
-pub mod SpreadLaws
 pub mod RelevantLaws
 pub mod PartLaws
 pub mod PartWindowLaws

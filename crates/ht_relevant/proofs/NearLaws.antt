@@ -1,12 +1,13 @@
 -- Numbers of frames stand for marks.
-use Rattle.std.proofs.Common.{◌≡◌, ◌<◌, ◌≤◌, ◌+◌, ℕ, suc, true, get_or, arith}
+use Rattle.std.proofs.Common.{◌≡◌, ◌∙◌, ◌<◌, ◌≤◌, ◌+◌, ℕ, suc, true, get_or, sym, subst, arith}
 use Rattle.std.specs.Prelude.{ltb}
+use Rattle.std.proofs.lemmas.Bool.{false≢true}
 use Rattle.std.proofs.lemmas.Bool.Decides.{nat_tests}
-use Rattle.ht_net.specs.Netlist.{Netlist, first_gate_net, arg_at, no_net}
-use Rattle.ht_tree.specs.Windows.{SearchWindow}
-use Rattle.ht_relevant.specs.Near.{AreAway, AreNear, has_come, is_near}
+use Rattle.ht_net.specs.Netlist.{Netlist, first_gate_net, net_count, arg_at, no_net}
+use Rattle.ht_tree.specs.Windows.{IsWindow, SearchWindow}
+use Rattle.ht_relevant.specs.Near.{AreAway, AreNear, RelevantState, has_come, is_near, matters}
 use Rattle.ht_relevant.specs.Reached.{IsReach}
-use Rattle.ht_relevant.specs.Relevant.{IsClosedBack}
+use Rattle.ht_relevant.specs.Relevant.{IsClosedBack, IsRelevant}
 
 less_true : (a b : ℕ) → a < b → ltb a b ≡ true
 less_true a b h = grind (arith, nat_tests)
@@ -44,3 +45,24 @@ away_reach w away h = record {
       let less = h.dffs j js (omega (arith, here, fs)) in
       less_true (away (w.circuit.inputs + j)) (suc (suc f)) (omega (arith, here, less));
 }
+
+-- where each net is read in the last frame all matter
+pub all_relevant : (w : SearchWindow) → IsWindow w → 0 < w.frames → (r : RelevantState) → r.frames ≡ w.frames
+    → ((x : ℕ) → x < net_count w.circuit → get_or r.near x r.frames ≡ 0) → IsRelevant w (matters r)
+all_relevant w valid some r count all = record {
+  closed = subst (λ (n : ℕ). IsClosedBack w.circuit w.frames (λ f x. ltb (f + get_or r.near x r.frames) n)) (sym count)
+      (near_closed w.circuit w.frames (λ x. get_or r.near x r.frames) (record {
+        gates = λ g i gs is.
+            let zero = all (arg_at w.circuit g i) (valid.circuit.known g i gs is) in
+            omega (arith, zero);
+        dffs = λ j js l.
+            let zero = all (get_or w.circuit.dffs j no_net).0 (valid.circuit.data_known j js) in
+            omega (arith, zero);
+      }));
+  outputs = λ f o fs os free path.
+      absurd (false≢true (sym free ∙ here f (get_or w.circuit.outputs o no_net).0 fs (valid.circuit.outputs_known o os)));
+  states = λ j js counts free path.
+      absurd (false≢true (sym free ∙ here 0 (get_or w.circuit.dffs j no_net).0 some (valid.circuit.data_known j js)));
+} where
+  here : (f x : ℕ) → f < w.frames → x < net_count w.circuit → matters r f x ≡ true
+  here f x fs xs = let zero = all x xs in less_true (f + get_or r.near x r.frames) r.frames (omega (arith, zero, fs, count))

@@ -1,34 +1,18 @@
 -- What is marked where a difference may show, and what is read there, is what matters.
 use Rattle.std.proofs.Common.{◌≡◌, ◌<◌, ◌+◌, ◌⊎◌, ℕ, suc, List, [], Bool, true, false, Some, length, get_or, sym, ◌∙◌, ap, inl, inr, arith}
-use Rattle.std.specs.List.{Contains}
 use Rattle.std.proofs.lemmas.Bool.{false≢true, false_from_ne_true}
 use Rattle.ht_net.specs.declared.fault.Fault.{Fault}
 use Rattle.ht_net.specs.Netlist.{Netlist, first_gate_net, arg_at, no_net}
 use Rattle.ht_net.specs.Faults.{is_data_pin}
 use Rattle.ht_tree.specs.Windows.{SearchWindow, IsWindow}
-use Rattle.ht_relevant.specs.Marks.{marks_net, net_place}
 use Rattle.ht_relevant.specs.Reached.{IsReach}
 use Rattle.ht_relevant.specs.Relevant.{IsClosedBack, IsRelevant, counts_state}
-use Rattle.ht_relevant.specs.Todo.{AreFollowedBack}
 use Rattle.ht_relevant.proofs.ReachLaws.{cell_alike, state_alike}
-
--- where nothing is left to be followed, the marks are closed
-pub closed_back : (c : Netlist) (frames : ℕ) (marks : List Bool) → AreFollowedBack c frames marks []
-    → IsClosedBack c frames (marks_net c marks)
-closed_back c frames marks h = record {
-  gates = λ f g i fs gs is m. done (marks_net c marks f (arg_at c g i)) (net_place c f (first_gate_net c + g))
-      (h.gates f g i fs gs is m);
-  dffs = λ f j fs js m. done (marks_net c marks f (get_or c.dffs j no_net).0) (net_place c (suc f) (c.inputs + j))
-      (h.dffs f j fs js m);
-} where
-  done : (b : Bool) (place : ℕ) → (b ≡ true) ⊎ Contains [] place → b ≡ true
-  done b place (inl e) = e
-  done b place (inr none) = let l = none.1 in absurd (omega (arith, l))
 
 unmarked : (a b : Bool) → (a ≡ true → b ≡ true) → b ≡ false → a ≡ false
 unmarked a b h e = false_from_ne_true a (λ k. false≢true (sym e ∙ h k))
 
--- and where each place in reach is marked, they are those that matter
+-- where each place in reach is marked, and all that is read there, they are those that matter
 pub relevant_found : (w : SearchWindow) (valid : IsWindow w) (fault : Fault) → w.fault ≡ Some fault → 0 < w.frames
     → (reach is : ℕ → ℕ → Bool) → IsReach w reach → IsClosedBack w.circuit w.frames is
     → ((f o : ℕ) → f < w.frames → o < length w.circuit.outputs → reach f (get_or w.circuit.outputs o no_net).0 ≡ true

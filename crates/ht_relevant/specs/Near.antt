@@ -1,8 +1,17 @@
 -- A number of frames for each net, in the place of a mark for each net of each frame.
-use Rattle.std.specs.Prelude.{◌≡◌, ◌<◌, ◌≤◌, ◌+◌, ℕ, suc, Bool, true, ltb, length, get_or}
+use Rattle.std.specs.Prelude.{◌≡◌, ◌<◌, ◌≤◌, ◌+◌, ℕ, suc, List, Bool, true, ltb, length, get_or}
 use Rattle.ht_net.specs.Netlist.{Netlist, first_gate_net, net_count, gate_at, arg_at, no_net}
 use Rattle.ht_tree.specs.Windows.{SearchWindow}
 use Rattle.ht_relevant.specs.Reached.{begins_at, may_begin_apart}
+
+-- a number of frames, and how many before the last one each net is read at the latest by a place in reach
+pub record RelevantState : Type 0 where
+  pub frames : ℕ
+  pub near : List ℕ
+
+-- net x of frame f matters: it is near enough to the last frame
+abbrev pub matters : RelevantState → ℕ → ℕ → Bool
+matters r f x = ltb (f + get_or r.near x r.frames) r.frames
 
 -- So many frames at most before the last one a net is read: an argument where its gate is, and a data net one frame before
 -- its flip-flop, if there is such a frame.
