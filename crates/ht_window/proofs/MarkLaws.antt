@@ -59,12 +59,12 @@ module _ (s : WindowState) (w : SearchWindow) (is : ℕ → ℕ → Bool) (relev
       → (n ≡ 0) ⊎ (get_or marks (n - 1) 0 < m) → (k : ℕ) → k ≤ length s.decisions → m ≡ mark_before s k → n ≡ k)
       (ap (λ (t : WindowState). t.marks) state) (count_is m n)
 
-  pub undone_is : (v : SearchWindow) (after : List Assign3) (fewer : List ℕ) (trail : List (Saved (List Pair)))
-      (m n k : ℕ)
-      → v ≡ w → after ≡ take n path → fewer ≡ take n marks → trail ≡ take m cells.trail → n ≡ k → k ≤ length s.decisions
+  pub undone_is : (kept : Option RelevantState) (v : SearchWindow) (after : List Assign3) (fewer : List ℕ)
+      (trail : List (Saved (List Pair))) (m n k : ℕ)
+      → kept ≡ relevant → v ≡ w → after ≡ take n path → fewer ≡ take n marks → trail ≡ take m cells.trail → n ≡ k → k ≤ length s.decisions
       → m ≡ mark_before s k
-      → record { window = v; decisions = after; marks = fewer; mark = length trail; relevant = relevant } ≡ undone s k
-  undone_is v after fewer trail m n k vs ps ms ts nk few at =
+      → record { window = v; decisions = after; marks = fewer; mark = length trail; relevant = kept } ≡ undone s k
+  undone_is kept v after fewer trail m n k rs vs ps ms ts nk few at =
       let small = mark_small w is path marks cells h k (few_marks k few) in
       let mk = mark_is k in
       let long : length trail
@@ -74,7 +74,7 @@ module _ (s : WindowState) (w : SearchWindow) (is : ℕ → ℕ → Bool) (relev
         decisions = (ps ∙ ap (λ (j : ℕ). take j path) nk) i;
         marks = (ms ∙ ap (λ (j : ℕ). take j marks) nk) i;
         mark = long i;
-        relevant = relevant;
+        relevant = rs i;
       })
       ∙ (λ i. record {
         window = (state i).window;
