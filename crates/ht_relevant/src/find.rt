@@ -35,7 +35,9 @@ pub fn find_relevant(
         → get_or counted.now j false ≡ true)
         → IsRelevant w (matters r)) }
 {
-    let _ = (fault, apart, counted);
+    let _ = fault;
+    let _ = apart.len();
+    let _ = counted.len();
     let nets = frame_plan.circuit().nets();
     let near = vec![in alloc; 0; nets as usize]?;
     Ok(Relevant { frames, near })
