@@ -123,7 +123,7 @@ impl<'c> Held<'c> {
     pub fn restrict(&mut self, relevant: Relevant)
         ensures standing { self.new.standing ≡ self.old.standing }
         ensures cells { self.new.cells ≡ self.old.cells }
-        ensures relevant { self.new.relevant ≡ Some relevant.entry }
+        ensures relevant { self.new.relevant ≡ Some relevant }
     {
         self.relevant = Some(relevant);
     }
