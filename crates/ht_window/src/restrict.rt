@@ -1,5 +1,5 @@
 //! The nets that matter to a window of a fault.
-ghost use Rattle.std.specs.Prelude.{◌≡◌, ◌<◌, ℕ, true, false, Some, length, get_or, IfOk, OnOk, OnErr};
+ghost use Rattle.std.specs.Prelude.{◌≡◌, ◌<◌, ◌≤◌, ℕ, false, not, Some, None, get_or, IfOk, OnOk};
 ghost use Rattle.ht_net.specs.Netlist.{Netlist};
 ghost use Rattle.ht_tree.specs.Windows.{IsWindow};
 ghost use Rattle.ht_relevant.specs.Near.{matters};

@@ -1,0 +1,25 @@
+-- The flip-flops whose latches may begin apart, and those whose next states count, by the start.
+use Rattle.std.proofs.Common.{◌≡◌, ◌<◌, ◌+◌, ◌∙◌, ℕ, List, Bool, true, false, not, get_or, sym, ap, arith, subst}
+use Rattle.ht_tree.specs.Decisions.{is_in}
+use Rattle.ht_tree.specs.Windows.{Start, one_frame}
+use Rattle.ht_relevant.specs.Reached.{may_begin_apart}
+use Rattle.ht_relevant.specs.Relevant.{counts_state}
+use Rattle.ht_window.specs.Starts.{marked}
+use Rattle.ht_window.proofs.StartLaws.{marked_is}
+
+marked_here : (z : List Bool) (j : ℕ) → is_in (marked 0 z) j ≡ get_or z j false
+marked_here z j = let at : 0 + j ≡ j = omega arith in ap (is_in (marked 0 z)) (sym at) ∙ marked_is 0 j z
+
+-- the latches of a set may begin apart
+pub set_apart : (s : Start) (z apart : List Bool) → one_frame (marked 0 z) ≡ s → apart ≡ z → (j : ℕ)
+    → may_begin_apart s j ≡ true → get_or apart j false ≡ true
+set_apart s z apart start same j h =
+    ap (λ (l : List Bool). get_or l j false) same
+    ∙ (sym (marked_here z j) ∙ (ap (λ (t : Start). may_begin_apart t j) start ∙ h))
+
+-- the next states outside it count
+pub set_counts : (s : Start) (z counted : List Bool) (n : ℕ) → one_frame (marked 0 z) ≡ s
+    → ((j : ℕ) → j < n → get_or counted j false ≡ not (get_or z j false)) → (j : ℕ) → j < n → counts_state s j ≡ true
+    → get_or counted j false ≡ true
+set_counts s z counted n start is j js h =
+    is j js ∙ (ap not (sym (marked_here z j)) ∙ (ap (λ (t : Start). counts_state t j) start ∙ h))
