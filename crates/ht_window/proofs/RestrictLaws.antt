@@ -1,9 +1,11 @@
 -- The flip-flops whose latches may begin apart, and those whose next states count, by the start.
-use Rattle.std.proofs.Common.{◌≡◌, ◌<◌, ◌+◌, ◌∙◌, ℕ, List, Bool, true, false, not, get_or, sym, ap, arith, subst}
+use Rattle.std.proofs.Common.{◌≡◌, ◌<◌, ◌+◌, ◌∙◌, ℕ, List, Bool, true, false, None, not, get_or, refl, sym, ap, arith}
+use Rattle.std.proofs.lemmas.Bool.{false≢true}
 use Rattle.ht_tree.specs.Decisions.{is_in}
-use Rattle.ht_tree.specs.Windows.{Start, one_frame}
+use Rattle.ht_tree.specs.Windows.{SearchWindow, Start, one_frame}
 use Rattle.ht_relevant.specs.Reached.{may_begin_apart}
-use Rattle.ht_relevant.specs.Relevant.{counts_state}
+use Rattle.ht_relevant.specs.Relevant.{IsRelevant, counts_state}
+use Rattle.ht_window.specs.Matters.{is_relevant}
 use Rattle.ht_window.specs.Starts.{marked}
 use Rattle.ht_window.proofs.StartLaws.{marked_is}
 
@@ -23,3 +25,16 @@ pub set_counts : (s : Start) (z counted : List Bool) (n : ℕ) → one_frame (ma
     → get_or counted j false ≡ true
 set_counts s z counted n start is j js h =
     is j js ∙ (ap not (sym (marked_here z j)) ∙ (ap (λ (t : Start). counts_state t j) start ∙ h))
+
+pub outside_counts : (s : Start) (z : List Bool) → one_frame (marked 0 z) ≡ s → (j : ℕ) → false ≡ get_or z j false
+    → counts_state s j ≡ true
+outside_counts s z start j free =
+    ap (λ (t : Start). counts_state t j) (sym start) ∙ ap not (marked_here z j ∙ sym free)
+
+-- where all nets matter nothing else does
+pub whole_relevant : (w : SearchWindow) → IsRelevant w (is_relevant None)
+whole_relevant w = record {
+  closed = record { gates = λ f g i fs gs l m. refl; dffs = λ f j fs js m. refl };
+  outputs = λ f o fs os free path. absurd (false≢true (sym free));
+  states = λ j js counts free path. absurd (false≢true (sym free));
+}

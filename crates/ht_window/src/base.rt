@@ -100,9 +100,10 @@ impl<'c> Window<'c> {
         ensures marks { IfOk result (λ w. w.marks ≡ []) }
         ensures whole { fault ≡ None → IfOk result (λ w. w.relevant ≡ None) }
     {
-        // for the proof: the window is well formed, and all nets matter to it
+        // for the proof: all nets matter to this one, and there is a cell for each
         self.relevance();
-        let decided = Decided::new(alloc, start, self.circuit(), fault, frames)?;
+        let whole = self.held.decided();
+        let decided = Decided::new(alloc, start, whole.circuit(), fault, frames)?;
         let sets = self.held.front(alloc, frames)?;
         let mut held = Held::new(alloc, decided, sets)?;
         restrict(alloc, &frame_plan, &mut held)?;
