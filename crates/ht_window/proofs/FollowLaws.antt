@@ -1,5 +1,5 @@
 -- The cells after one more decision.
-use Rattle.std.proofs.Common.{◌≡◌, ◌<◌, ◌+◌, suc, Option, Bool, ℕ, List, [], ◌∷◌, ◌++◌, length, get_or, set, sym, ◌∙◌, ap, arith, subst}
+use Rattle.std.proofs.Common.{◌≡◌, ◌<◌, ◌+◌, suc, Option, ℕ, List, [], ◌∷◌, ◌++◌, length, get_or, set, sym, ◌∙◌, ap, arith, subst}
 use Rattle.ht_pairs.specs.Pairs.{Pair, pair}
 use Rattle.ht_tern.specs.declared.tern.Tern.TheVariants.{Unk}
 use Rattle.ht_net.specs.declared.net.NetId.{NetId}

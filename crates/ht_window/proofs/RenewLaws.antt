@@ -1,5 +1,5 @@
 -- What stands as nets are renewed, and after all have followed.
-use Rattle.std.proofs.Common.{◌≡◌, ◌≢◌, ◌<◌, ◌≤◌, ◌+◌, ◌-◌, ◌⊎◌, inl, inr, ℕ, List, Bool, true, length, set, refl, sym, ◌∙◌, ap, arith, subst}
+use Rattle.std.proofs.Common.{◌≡◌, ◌≢◌, ◌<◌, ◌≤◌, ◌+◌, ◌-◌, ◌⊎◌, inl, inr, ℕ, List, true, length, set, refl, sym, ◌∙◌, ap, arith, subst}
 use Rattle.std.proofs.lemmas.Bool.{cases_Bool}
 use Rattle.std.proofs.lemmas.Bool.Decides.{eqb_tells}
 use Rattle.ht_pairs.specs.Pairs.{Pair}
@@ -17,7 +17,6 @@ use Rattle.ht_window.specs.Matters.{is_relevant}
 use Rattle.ht_window.specs.Holding.{HeldState, MayHold, item_agrees, KeepsHeld}
 use Rattle.ht_relevant.specs.Reached.{begins_at}
 use Rattle.ht_window.specs.Turns.{HoldsOrPends, IsRenewed, HoldsElsewhere}
-use Rattle.ht_net.specs.declared.fault.Fault.{Fault}
 use Rattle.std.specs.Prelude.{Option}
 use Rattle.ht_window.proofs.PlaceLaws.{this_or_other}
 use Rattle.ht_window.proofs.ItemNetLaws.{item_net}

@@ -74,8 +74,9 @@ impl<'c> Window<'c> {
         let _ = self.circuit();
         match self.start() {
             Start::Unknown => frames <= self.frames(),
-            Start::OneFrame { z: _ } | Start::Pair { state: _ } | Start::Back { cube: _, limit: _ } => frames
-                == self.frames(),
+            Start::OneFrame { z: _ }
+            | Start::Pair { state: _ }
+            | Start::Back { cube: _, limit: _ } => frames == self.frames(),
         }
     }
 

@@ -5,7 +5,6 @@ use Rattle.ht_net.specs.Netlist.{Netlist}
 use Rattle.ht_tree.specs.Windows.{SearchWindow, IsStart}
 use Rattle.ht_window.specs.BaseStates.{BasesState}
 use Rattle.ht_window.specs.Starts.{start_of}
-use Rattle.ht_window.specs.States.{WindowState}
 use Rattle.ht_window.proofs.LegalLaws.{start_frames}
 use Rattle.ht_window.proofs.bases.Bases.base.Goals as goal
 

@@ -1,4 +1,4 @@
-use Rattle.std.proofs.Common.{◌≡◌, ◌∙◌, ℕ, get_or, ap, sym}
+use Rattle.std.proofs.Common.{◌∙◌, ℕ, ap, sym}
 use Rattle.ht_tree.specs.Windows.{cell_at}
 use Rattle.ht_window.specs.Matters.{is_relevant}
 use Rattle.ht_window.specs.Seen.{shows}

@@ -6,7 +6,7 @@ use Rattle.ht_net.specs.declared.fault.Fault.{Fault}
 use Rattle.ht_net.specs.Netlist.{Netlist, net_count}
 use Rattle.ht_trail.specs.Trails.{CellsState}
 use Rattle.ht_tree.specs.declared.token.Assign3.{Assign3}
-use Rattle.ht_tree.specs.Windows.{SearchWindow, IsStart, IsWindow}
+use Rattle.ht_tree.specs.Windows.{IsStart, IsWindow}
 use Rattle.ht_relevant.specs.Near.{RelevantState}
 use Rattle.ht_relevant.specs.Relevant.{IsClosedBack, IsRelevant}
 use Rattle.ht_window.specs.Standing.{Standing}
