@@ -80,7 +80,7 @@ impl<'c> Window<'c> {
         }
     }
 
-    // The window of a fault from a start, made of the first frames of this one. Without a fault all nets matter to it.
+    // The window of a fault from a start, made of the first frames of this one.
     pub(crate) fn turned(
         &self,
         alloc: Global,
@@ -99,10 +99,8 @@ impl<'c> Window<'c> {
             ≡ window_from self.now.window.circuit fault frames start.now) }
         ensures decisions { IfOk result (λ w. w.decisions ≡ []) }
         ensures marks { IfOk result (λ w. w.marks ≡ []) }
-        ensures whole { fault ≡ None → IfOk result (λ w. w.relevant ≡ None) }
     {
-        // for the proof: all nets matter to this one, and there is a cell for each
-        self.relevance();
+        // for the proof: there is a cell for each net of each frame
         let whole = self.held.decided();
         let decided = Decided::new(alloc, start, whole.circuit(), fault, frames)?;
         let sets = self.held.front(alloc, frames)?;

@@ -135,7 +135,7 @@ impl<'c> Bases<'c> {
         }
     }
 
-    /// A window of `frames` frames from a start, before its first decision. Without a fault all nets matter to it.
+    /// A window of `frames` frames from a start, before its first decision.
     ///
     /// # Errors
     /// Out of memory.
@@ -153,7 +153,6 @@ impl<'c> Bases<'c> {
             (λ w. w.window ≡ window_from self.old.circuit fault frames start.now) }
         ensures decisions { IfOk result (λ w. w.decisions ≡ []) }
         ensures marks { IfOk result (λ w. w.marks ≡ []) }
-        ensures whole { fault ≡ None → IfOk result (λ w. w.relevant ≡ None) }
     {
         let base = self.base(alloc, fault, frames, start)?;
         let window = base.turned(alloc, self.frame_plan.clone()?, fault, frames, start)?;

@@ -25,7 +25,6 @@ impl<'c> Window<'c> {
     {
         // for the proof: the window is well formed, and in that of a cube all nets matter
         let _ = self.circuit();
-        self.relevance();
         match self.start() {
             Start::Back { cube, limit } => self.see_cube(cube.as_slice()).status(*limit),
             Start::OneFrame { z: _ } | Start::Unknown | Start::Pair { state: _ } =>
@@ -70,7 +69,6 @@ impl<'c> Window<'c> {
     {
         // for the proof: the window is well formed, and in that of a cube all nets matter
         let _ = self.circuit();
-        self.relevance();
         match self.start() {
             Start::Back { cube, limit: _ } => self.from_latch(
                 cube.as_slice(),

@@ -194,10 +194,11 @@ impl<'c> Window<'c> {
         0
     }
 
-    /// The window's circuit.
+    /// The window's circuit. In a window of the good machine all nets matter.
     pub fn circuit(&self) -> &'c Circuit
         ensures circuit { result.now ≡ self.now.window.circuit }
         ensures valid { IsWindow self.now.window }
+        ensures whole { self.now.window.fault ≡ None → self.now.relevant ≡ None }
     {
         let decided = self.held.decided();
         decided.circuit()
@@ -257,11 +258,10 @@ impl<'c> Window<'c> {
         self.held.matters(frame, net.0)
     }
 
-    // For proofs: the nets that matter are relevant to the window, and to the good machine's all do.
+    // For proofs: the nets that matter are relevant to the window.
     #[inline(always)]
     pub(crate) fn relevance(&self)
-        ensures relevant { IsRelevant self.now.window (is_relevant self.now.relevant) }
-        ensures good { self.now.window.fault ≡ None → self.now.relevant ≡ None }
+        ensures { IsRelevant self.now.window (is_relevant self.now.relevant) }
     {
         let _ = &self.held;
     }

@@ -45,7 +45,7 @@ loop-left-preserved c =
     c.turn-bit.ensures ∙ ap (λ (k : Kind). bit_before k c.loop-left.bit) kind in
     let inside = undetermined_argument_known n r env (net - first_gate_net n) valid (omega (arith, known, high)) in
     let next = argument_matters s.window c.circuit-circuit.ensures.valid s.decisions c.args.frame
-    (is_relevant s.relevant) c.relevance.ensures.relevant.closed c.requires.frame net known high
+    (is_relevant s.relevant) c.relevance.ensures.closed c.requires.frame net known high
     c.loop-left.invariant.matters c.loop-left.invariant.undetermined in
     record {
       known = omega (arith, is_net, inside);

@@ -9,7 +9,7 @@ pub returns-then-not-matters-clause-shows : goal.returns-then-not-matters-clause
 returns-then-not-matters-clause-shows c =
     let s = c.args.self.now in
     let net = output_net s.window c.circuit.result.now c.output-net.result c.args.o c.circuit.ensures.circuit c.output-net.ensures in
-    output_quiet s.window (is_relevant s.relevant) c.relevance.ensures.relevant s.decisions c.args.look c.args.frame
+    output_quiet s.window (is_relevant s.relevant) c.relevance.ensures s.decisions c.args.look c.args.frame
     c.args.o c.requires.frame c.requires.output
     (ap (λ (x : ℕ). is_relevant s.relevant c.args.frame x) (sym net)
     ∙ (sym c.matters.ensures ∙ c.if-not-matters.true))

@@ -8,7 +8,7 @@ pub returns-then-not-matters-clause-shows : goal.returns-then-not-matters-clause
 returns-then-not-matters-clause-shows c =
     let s = c.args.self.now in
     let net = state_net s.window c.circuit.result.now c.dff_data-net.result c.args.j c.circuit.ensures.circuit c.dff_data-net.ensures in
-    state_quiet s.window (is_relevant s.relevant) c.relevance.ensures.relevant s.decisions c.args.look c.args.j
+    state_quiet s.window (is_relevant s.relevant) c.relevance.ensures s.decisions c.args.look c.args.j
     c.requires.dff c.requires.counts
     (ap (λ (x : ℕ). is_relevant s.relevant 0 x) (sym net) ∙ (sym c.matters.ensures ∙ c.if-not-matters.true))
 

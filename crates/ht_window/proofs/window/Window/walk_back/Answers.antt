@@ -49,7 +49,7 @@ end_in_frame-at-requires-in-loop-frame-clause-matters c =
     let t = c.if-at-inputs.true in
     let inputs = c.inputs-inputs.ensures ∙ ap (λ (n : Netlist). n.inputs) e.circuit in
     ap (is_relevant s.relevant (c.loop-frame.frame - 1)) (data_net c)
-    ∙ data_matters s.window s.decisions e.valid.circuit (is_relevant s.relevant) c.relevance.ensures.relevant.closed
+    ∙ data_matters s.window s.decisions e.valid.circuit (is_relevant s.relevant) c.relevance.ensures.closed
     c.loop-frame.frame c.loop-frame.at.net i.frame c.loop-frame-test.true (omega (arith, t, inputs)) i.low i.matters
 
 pub end_in_frame-at-requires-in-loop-frame-clause-undetermined : goal.end_in_frame-at-requires-in-loop-frame-clause-undetermined
