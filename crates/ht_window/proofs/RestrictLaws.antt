@@ -1,12 +1,15 @@
--- The flip-flops whose latches may begin apart, and those whose next states count, by the start.
-use Rattle.std.proofs.Common.{◌≡◌, ◌<◌, ◌+◌, ◌∙◌, ℕ, List, Bool, true, false, None, not, get_or, refl, sym, ap, arith}
+-- Which nets matter: the flip-flops whose latches may begin apart, those whose next states count, and windows in which all
+-- nets do.
+use Rattle.std.proofs.Common.{◌≡◌, ◌<◌, ◌+◌, ◌∙◌, ℕ, List, Bool, true, false, Option, None, not, get_or, refl, sym, ap, arith}
 use Rattle.std.proofs.lemmas.Bool.{false≢true}
 use Rattle.ht_tree.specs.Decisions.{is_in}
 use Rattle.ht_tree.specs.Windows.{SearchWindow, Start, one_frame}
+use Rattle.ht_relevant.specs.Near.{RelevantState}
 use Rattle.ht_relevant.specs.Reached.{may_begin_apart}
 use Rattle.ht_relevant.specs.Relevant.{IsRelevant, counts_state}
 use Rattle.ht_window.specs.Matters.{is_relevant}
 use Rattle.ht_window.specs.Starts.{marked}
+use Rattle.ht_window.specs.States.{WindowState}
 use Rattle.ht_window.proofs.StartLaws.{marked_is}
 
 marked_here : (z : List Bool) (j : ℕ) → is_in (marked 0 z) j ≡ get_or z j false
@@ -38,3 +41,6 @@ whole_relevant w = record {
   outputs = λ f o fs os free path. absurd (false≢true (sym free));
   states = λ j js counts free path. absurd (false≢true (sym free));
 }
+
+pub whole_matters : (w : WindowState) → w.relevant ≡ None → (f x : ℕ) → is_relevant w.relevant f x ≡ true
+whole_matters w whole f x = ap (λ (o : Option RelevantState). is_relevant o f x) whole
