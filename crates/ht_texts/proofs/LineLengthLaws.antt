@@ -1,5 +1,5 @@
 -- No line of the report of a search is long: it has some words, some numbers and at most two names.
-use Rattle.std.proofs.Common.{◌≤◌, inl, inr, ℕ, List, [], ◌++◌, length, sym, ap, subst, arith}
+use Rattle.std.proofs.Common.{inl, inr, ℕ, List, [], ◌++◌, length, sym, ap, subst, arith}
 use Rattle.std.specs.List.{All}
 use Rattle.std.proofs.lemmas.Bool.{cases_lt}
 use Rattle.std.proofs.lemmas.List.Elements.{All-take, All-weaker}

@@ -1,5 +1,5 @@
 -- What is written is read: the text of a report is that of what it says.
-use Rattle.std.proofs.Common.{◌≡◌, ◌≢◌, ◌==◌, inl, inr, ℕ, ◌<◌, ◌≤◌, true, List, [], ◌∷◌, Some, length, get_or, sym, ap, ◌∙◌}
+use Rattle.std.proofs.Common.{◌≢◌, ◌==◌, inl, inr, ℕ, ◌<◌, ◌≤◌, List, [], ◌∷◌, Some, length, get_or, sym, ap, ◌∙◌}
 use Rattle.std.specs.Prelude.{not}
 use Rattle.std.specs.List.{All, list_all}
 use Rattle.std.proofs.lemmas.Bool.{cases_lt, cases_Bool, and_parts, not-true, eqb-false, false≢true}

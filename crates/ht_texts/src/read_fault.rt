@@ -51,7 +51,10 @@ pub fn read_fault(
 fn is_member(text: &[u8], representative: u32) -> bool
     ensures { IsTrue result ↔ (text.now ≡ codes "as " ++ decimal (representative + 1)) }
 {
-    let member = [Piece::Word(b"as "), Piece::Number(u64::from(representative) + 1)];
+    let member = [
+        Piece::Word(b"as "),
+        Piece::Number(u64::from(representative) + 1),
+    ];
     let Some(rest) = strip_pieces(Some(text), &member) else {
         return false;
     };

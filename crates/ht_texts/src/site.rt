@@ -18,7 +18,10 @@ pub fn push_site(text: &mut Vec<u8>, circuit: &Circuit, site: Site) -> Result<()
         Site::Stem(net) => text.extend_from_slice(circuit.name(net)),
         Site::DffPin { dff } => push_pieces(text, &pin_of(circuit, circuit.dff_net(dff), 1)),
         Site::GatePin { gate, pin } => {
-            push_pieces(text, &pin_of(circuit, circuit.gate_net(gate), u64::from(pin) + 1))
+            push_pieces(
+                text,
+                &pin_of(circuit, circuit.gate_net(gate), u64::from(pin) + 1),
+            )
         }
     }
 }

@@ -1,4 +1,4 @@
-use Rattle.std.proofs.Common.{◌≡◌, ◌++◌, ℕ, List, Some, refl, subst}
+use Rattle.std.proofs.Common.{◌++◌, ℕ, List, Some, refl, subst}
 use Rattle.std.specs.Prelude.{codes}
 use Rattle.std.specs.Fmt.{decimal}
 use Rattle.ht_net.specs.Netlist.{Netlist}

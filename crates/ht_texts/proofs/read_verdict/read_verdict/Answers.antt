@@ -33,8 +33,7 @@ pub returns : goal.returns
 returns c =
     let text = c.args.text.now in
     let front = the_rest (codes "detected ") text c.strip_word.result c.in_ok-rest.rest c.in_ok-rest.was
-    (rest_of_text c.strip_word.ensures) in
-    (
+    (rest_of_text c.strip_word.ensures) in (
       c.in_ok-place.ensures.0,
       front ∙ ap (λ t. codes "detected " ++ t) c.in_ok-place.ensures.1
           ∙ sym (detection_parts c.args.circuit.now c.in_ok-place.place),
