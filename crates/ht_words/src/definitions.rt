@@ -25,7 +25,9 @@ fn arguments_of(word: &str) -> Option<Arguments>
         "sim" => (&["netlist", "tests", "report"], &["start"]),
         "gen" => (
             &["netlist", "tests", "report", "proofs"],
-            &["budget", "random", "seed", "start", "first", "faults", "weighted", "search"],
+            &[
+                "budget", "random", "seed", "start", "first", "faults", "weighted", "search",
+            ],
         ),
         "check" => (&["netlist", "tests", "report", "proofs"], &["start"]),
         "norm" => (&["netlist", "out"], &[]),
@@ -35,10 +37,16 @@ fn arguments_of(word: &str) -> Option<Arguments>
         "uninit" => (&["netlist", "out"], &["budget"]),
         "sync" => (&["netlist", "tests", "out"], &["budget"]),
         "respond" => (&["netlist", "tests", "out"], &["fault", "start"]),
-        "report" => (&["netlist", "tests", "proofs", "report"], &["budget", "start"]),
+        "report" => (
+            &["netlist", "tests", "proofs", "report"],
+            &["budget", "start"],
+        ),
         _ => return None,
     };
-    Some(Arguments { positionals, options })
+    Some(Arguments {
+        positionals,
+        options,
+    })
 }
 
 /// A command that takes no request for help or for a version.
@@ -80,10 +88,19 @@ fn with_arguments<'a>(
 }
 
 /// The command of this name with these arguments.
-fn command_with<'a>(alloc: Global, name: &'a str, arguments: Arguments) -> Result<Command<'a>, AllocError>
+fn command_with<'a>(
+    alloc: Global,
+    name: &'a str,
+    arguments: Arguments,
+) -> Result<Command<'a>, AllocError>
     ensures { IfOk result (λ c. app_of c ≡ app_with name.entry.now (form_of arguments)) }
 {
-    let command = with_arguments(alloc, plain_command(alloc, name), arguments.positionals, false)?;
+    let command = with_arguments(
+        alloc,
+        plain_command(alloc, name),
+        arguments.positionals,
+        false,
+    )?;
     with_arguments(alloc, command, arguments.options, true)
 }
 

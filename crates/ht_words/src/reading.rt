@@ -85,7 +85,12 @@ fn sim_job(alloc: Global, matches: &ArgMatches<'_>) -> Result<Job, WordsFault>
 {
     let start = optional_value(alloc, matches, "start")?;
     let (netlist, tests, report) = three_values(alloc, matches, "netlist", "tests", "report")?;
-    Ok(Job::Sim { netlist, tests, report, start })
+    Ok(Job::Sim {
+        netlist,
+        tests,
+        report,
+        start,
+    })
 }
 
 /// The names of the files of a run.
@@ -94,9 +99,15 @@ fn run_files(alloc: Global, matches: &ArgMatches<'_>) -> Result<RunFiles, WordsF
     ensures ok { IfOk result (λ files. files_in (rows_of (found_of matches.now))
         ≡ Some (files.netlist ∷ files.tests ∷ files.report ∷ files.proofs ∷ [])) }
 {
-    let (netlist, tests, report, proofs) =
-        four_values(alloc, matches, "netlist", "tests", "report", "proofs")?;
-    Ok(RunFiles { netlist, tests, report, proofs })
+    let (netlist, tests, report, proofs) = four_values(
+        alloc, matches, "netlist", "tests", "report", "proofs",
+    )?;
+    Ok(RunFiles {
+        netlist,
+        tests,
+        report,
+        proofs,
+    })
 }
 
 /// The options of `gen`. The numbers are asked first, while nothing is owned.
@@ -166,16 +177,31 @@ fn compact_job(alloc: Global, matches: &ArgMatches<'_>) -> Result<Job, WordsFaul
     ensures { IsAnswer (asked_in_rows compact_command (rows_of (found_of matches.now))) result }
 {
     let (netlist, tests, out) = three_values(alloc, matches, "netlist", "tests", "out")?;
-    Ok(Job::Compact { netlist, tests, out })
+    Ok(Job::Compact {
+        netlist,
+        tests,
+        out,
+    })
 }
 
 /// The job of `diagnose`.
 fn diagnose_job(alloc: Global, matches: &ArgMatches<'_>) -> Result<Job, WordsFault>
     ensures { IsAnswer (asked_in_rows diagnose_command (rows_of (found_of matches.now))) result }
 {
-    let (netlist, tests, responses, out) =
-        four_values(alloc, matches, "netlist", "tests", "responses", "out")?;
-    Ok(Job::Diagnose { netlist, tests, responses, out })
+    let (netlist, tests, responses, out) = four_values(
+        alloc,
+        matches,
+        "netlist",
+        "tests",
+        "responses",
+        "out",
+    )?;
+    Ok(Job::Diagnose {
+        netlist,
+        tests,
+        responses,
+        out,
+    })
 }
 
 /// The job of `uninit`.
@@ -184,7 +210,11 @@ fn uninit_job(alloc: Global, matches: &ArgMatches<'_>) -> Result<Job, WordsFault
 {
     let budget = budget(matches)?;
     let (netlist, out) = two_values(alloc, matches, "netlist", "out")?;
-    Ok(Job::Uninit { netlist, out, budget })
+    Ok(Job::Uninit {
+        netlist,
+        out,
+        budget,
+    })
 }
 
 /// The job of `sync`.
@@ -193,7 +223,12 @@ fn sync_job(alloc: Global, matches: &ArgMatches<'_>) -> Result<Job, WordsFault>
 {
     let budget = budget(matches)?;
     let (netlist, tests, out) = three_values(alloc, matches, "netlist", "tests", "out")?;
-    Ok(Job::Sync { netlist, tests, out, budget })
+    Ok(Job::Sync {
+        netlist,
+        tests,
+        out,
+        budget,
+    })
 }
 
 /// The job of `respond`.
@@ -203,7 +238,13 @@ fn respond_job(alloc: Global, matches: &ArgMatches<'_>) -> Result<Job, WordsFaul
     let fault = fault_number(matches)?;
     let start = optional_value(alloc, matches, "start")?;
     let (netlist, tests, out) = three_values(alloc, matches, "netlist", "tests", "out")?;
-    Ok(Job::Respond { netlist, tests, out, fault, start })
+    Ok(Job::Respond {
+        netlist,
+        tests,
+        out,
+        fault,
+        start,
+    })
 }
 
 /// The job of `report`.
@@ -212,10 +253,20 @@ fn report_job(alloc: Global, matches: &ArgMatches<'_>) -> Result<Job, WordsFault
 {
     let budget = budget(matches)?;
     let start = optional_value(alloc, matches, "start")?;
-    let (netlist, tests, proofs, report) =
-        four_values(alloc, matches, "netlist", "tests", "proofs", "report")?;
-    let files = RunFiles { netlist, tests, report, proofs };
-    Ok(Job::Report { files, budget, start })
+    let (netlist, tests, proofs, report) = four_values(
+        alloc, matches, "netlist", "tests", "proofs", "report",
+    )?;
+    let files = RunFiles {
+        netlist,
+        tests,
+        report,
+        proofs,
+    };
+    Ok(Job::Report {
+        files,
+        budget,
+        start,
+    })
 }
 
 /// Whether the search is deep: the option's value is `plain` or `deep`.
