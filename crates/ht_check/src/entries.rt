@@ -5,12 +5,12 @@ ghost use Rattle.ht_net.specs.Detection.{IsStart};
 ghost use Rattle.ht_tree.specs.Entries.{Means, Passes};
 
 use crate::abort_records::is_abort_record;
-use crate::kept_frames::KeptFrames;
 use crate::refutations::refutes;
 use crate::refutations_from::refutes_from;
 use ht_cubes::refuted;
 use ht_families::closes_by_rows;
 use ht_net::{Circuit, Fault};
+use ht_recompute::KeptFrames;
 use ht_tern::Tern;
 use ht_tree::{Entry, MAX_BUDGET};
 use std::alloc::{AllocError, Global};

@@ -6,11 +6,10 @@ ghost use Rattle.ht_tree.specs.declared.clause.Clause.{Clause};
 ghost use Rattle.ht_tree.specs.Clauses.{IsClause, literals_of_each, meets_each};
 ghost use Rattle.ht_tree.specs.Invariants.{IsClosedUnder, IsInvariant, max_clauses};
 
-use crate::clause_window::FreshClauseWindow;
-use crate::clauses::{are_clauses, are_met};
-use crate::kept_frames::KeptFrames;
+use crate::state_clauses::{are_clauses, are_met};
 use crate::window_walks::is_complete_walk_under;
 use ht_net::Circuit;
+use ht_recompute::{FreshClauseWindow, KeptFrames};
 use ht_tree::{Clause, MAX_CLAUSES};
 use std::alloc::{AllocError, Global};
 

@@ -3,10 +3,9 @@ ghost use Rattle.std.specs.Prelude.{◌≡◌, ◌<◌, ◌↔◌, ℕ, length, 
 ghost use Rattle.ht_tree.specs.Refutations.{Refutes};
 ghost use Rattle.ht_tree.specs.Rising.{Rises};
 
-use crate::fresh_window::FreshWindow;
-use crate::kept_frames::KeptFrames;
 use crate::window_walks::is_complete_walk;
 use ht_net::Fault;
+use ht_recompute::{FreshWindow, KeptFrames};
 use ht_tree::Token;
 use std::alloc::{AllocError, Global};
 

@@ -2,12 +2,11 @@
 ghost use Rattle.std.specs.Prelude.{◌≡◌, ◌↔◌, IfOk, IsTrue};
 ghost use Rattle.ht_tree.specs.RefutationsFrom.{RefutesFrom};
 
-use crate::clause_window::FreshClauseWindow;
 use crate::invariants::is_invariant;
-use crate::kept_frames::KeptFrames;
 use crate::refutations::names_flip_flops;
 use crate::window_walks::is_complete_walk_under;
 use ht_net::Fault;
+use ht_recompute::{FreshClauseWindow, KeptFrames};
 use ht_tree::{Clause, Token};
 use std::alloc::{AllocError, Global};
 
