@@ -1,4 +1,6 @@
 use Rattle.std.proofs.Common.{◌≡◌, ◌<◌, ◌∙◌, ℕ, List, [], Option, length, get_or, ap, refl, sym, subst, arith}
+use Rattle.std.specs.List.{All}
+use Rattle.std.proofs.lemmas.List.Elements.{All-head, All-tail}
 use Rattle.ht_tern.specs.declared.tern.Tern.{Tern}
 use Rattle.ht_pairs.specs.Pairs.{Pair}
 use Rattle.ht_net.specs.Netlist.{Netlist}
@@ -6,7 +8,7 @@ use Rattle.ht_tree.specs.declared.window.Spot.TheVariants.{State}
 use Rattle.ht_tree.specs.Places.{set_at}
 use Rattle.ht_tree.specs.Windows.{SearchWindow}
 use Rattle.ht_tree.specs.declared.clause.Literal.{Literal}
-use Rattle.ht_tree.specs.Clauses.{literals_of}
+use Rattle.ht_tree.specs.Clauses.{literals_of, second_of}
 use Rattle.ht_tree.specs.ClauseWindows.{breach_status}
 use Rattle.ht_recompute.specs.FrameSetsOf.{FrameState}
 use Rattle.ht_recompute.specs.FreshWindowOf.{window_of}
@@ -43,12 +45,13 @@ breach_status-requires c =
     c.latches.ensures.count ∙ (ap (λ (t : FrameState). length t.circuit.dffs) c.run.ensures
     ∙ (ap (λ (t : FrameState). length t.circuit.dffs) c.begin.ensures
     ∙ ap (λ (v : SearchWindow). length v.circuit.dffs) c.self.view_is)) in
-    let m : Netlist = c.args.self.now.circuit in
     let clause = c.args.clause.now in
+    let Inside : Literal → Type 0 = λ l. l.dff < length c.args.self.now.circuit.dffs in
+    let others = All-tail Inside clause.first (second_of clause.second) c.requires.known in
     record {
-      first = let l = c.requires.known.first in omega (arith, count, l);
+      first = let l = All-head Inside clause.first (second_of clause.second) c.requires.known in
+          omega (arith, count, l);
       second = λ literal is.
-          let l : literal.dff < length m.dffs =
-          (subst (λ (o : Option Literal). IsSecond m clause.first.dff o) is c.requires.known.second).1 in
+          let l = All-head Inside literal [] (subst (λ (o : Option Literal). All Inside (second_of o)) is others) in
           omega (arith, count, l);
     }
