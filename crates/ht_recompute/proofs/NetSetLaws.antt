@@ -3,7 +3,7 @@ use Rattle.std.specs.Prelude.{set}
 use Rattle.std.specs.List.{Contains}
 use Rattle.std.proofs.Common.{◌≡◌, ◌≢◌, ◌<◌, ◌≤◌, ◌+◌, ◌-◌, ◌∙◌, ℕ, List, [], ◌∷◌, Bool, true, false, Option, Some, None, cond, length, get_or, ap, sym, refl, subst, arith, inl, inr}
 use Rattle.std.proofs.lemmas.Bool.Decides.{eqb_tells}
-use Rattle.std.proofs.lemmas.List.{get_or-set_other}
+use Rattle.std.proofs.lemmas.List.{get_or-set_other, length-set}
 use Rattle.ht_tern.specs.declared.tern.Tern.TheVariants.{Unk}
 use Rattle.ht_pairs.specs.Pairs.{Pair, pair, lifted_set, stuck_set}
 use Rattle.ht_net.specs.declared.fault.Site.{Site}
@@ -85,10 +85,13 @@ module _ (c : Netlist) (s : Schedule) (is : IsSchedule c s) where
         ])
 
     -- It is the net of an input or a flip-flop.
-    pub source_quiet : (pending : List Bool) → net < first_gate_net c
-        → ((r : ℕ) → get_or pending r false ≡ true → get_or touched r false ≡ true)
+    pub source_quiet : (pending : List Bool) → net < first_gate_net c → length values ≡ length before
+        → length touched ≡ length pending → ((r : ℕ) → get_or pending r false ≡ true → get_or touched r false ≡ true)
         → AreQuietSettled c s fault pending before → AreQuietSettled c s fault touched values
-    source_quiet pending low more quiet = record {
+    source_quiet pending low sets marks more quiet = record {
+      schedule = is;
+      sets = sets ∙ quiet.sets;
+      marks = marks ∙ quiet.marks;
       each = λ g inside idle.
           still_settled g inside (omega arith) idle
           (quiet.each g inside (was_off (get_or pending (gate_rank c s g) false)
@@ -100,9 +103,13 @@ module _ (c : Netlist) (s : Schedule) (is : IsSchedule c s) where
         → net ≡ first_gate_net c + g → removed ≡ set pending rank false
         → sets_of values net
         ≡ (pair_set_rules fault).stem net (gate_output c (pair_set_rules fault) (sets_of before) g)
+        → length values ≡ length before → length touched ≡ length removed
         → ((r : ℕ) → get_or removed r false ≡ true → get_or touched r false ≡ true)
         → AreQuietSettled c s fault pending before → AreQuietSettled c s fault touched values
-    fired_quiet pending removed rank g at net_is taken given more quiet = record {
+    fired_quiet pending removed rank g at net_is taken given sets marks more quiet = record {
+      schedule = is;
+      sets = sets ∙ quiet.sets;
+      marks = marks ∙ (ap (λ (l : List Bool). length l) taken ∙ (length-set pending rank false ∙ quiet.marks));
       each = λ h inside idle.
           let r = pair_set_rules fault in
           elim (eqb_tells h g) [
@@ -130,9 +137,12 @@ module _ (c : Netlist) (s : Schedule) (is : IsSchedule c s) where
 
   -- All gates are pending.
   pub all_pending : (fault : Option Fault) (pending : List Bool) (values : List (List Pair))
-      → ((r : ℕ) → first_gate_net c ≤ r → r < net_count c → get_or pending r false ≡ true)
+      → length values ≡ net_count c → length pending ≡ net_count c → ((r : ℕ) → first_gate_net c ≤ r → r < net_count c → get_or pending r false ≡ true)
       → AreQuietSettled c s fault pending values
-  all_pending fault pending values all = record {
+  all_pending fault pending values sets marks all = record {
+    schedule = is;
+    sets = sets;
+    marks = marks;
     each = λ g inside idle.
         let small = is.ranks.small (first_gate_net c + g) (omega arith) in
         let on = all (gate_rank c s g) (rank_of_gate g inside) small in
@@ -218,9 +228,12 @@ pub fault_changed : (c : Netlist) (s : Schedule) (before after : Option Fault) (
     → ((g : ℕ) → g < length c.gates → is_stuck_gate c after g ≡ true
     → get_or touched (gate_rank c s g) false ≡ true)
     → ((r : ℕ) → get_or once r false ≡ true → get_or touched r false ≡ true)
-    → (values : List (List Pair)) → AreQuietSettled c s before pending values
+    → length touched ≡ length pending → (values : List (List Pair)) → AreQuietSettled c s before pending values
     → AreQuietSettled c s after touched values
-fault_changed c s before after pending once touched first more second most values quiet = record {
+fault_changed c s before after pending once touched first more second most marks values quiet = record {
+  schedule = quiet.schedule;
+  sets = quiet.sets;
+  marks = marks ∙ quiet.marks;
   each = λ g inside idle.
       let r = gate_rank c s g in
       let still = was_off (get_or once r false) (get_or touched r false) (most r) idle in

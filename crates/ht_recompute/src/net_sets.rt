@@ -73,7 +73,6 @@ impl NetSets {
 
     // Gives every net its set in a frame.
     fn settle(&mut self, under: &Settling, vector: &[PairSet], latches: &[PairSet])
-        requires schedule { IsSchedule under.now.circuit.now under.now.schedule.now }
         requires vector { length vector.now ≡ under.now.circuit.now.inputs }
         requires latches { length latches.now ≡ length under.now.circuit.now.dffs }
         requires nets { AreNetSets under.now.circuit.now under.now.schedule.now self.old }
@@ -111,7 +110,6 @@ impl NetSets {
         latches: &mut [PairSet],
         outputs: &mut [PairSet],
     )
-        requires schedule { IsSchedule under.now.circuit.now under.now.schedule.now }
         requires vector { length vector.now ≡ under.now.circuit.now.inputs }
         requires latches { length latches.old ≡ length under.now.circuit.now.dffs }
         requires outputs { length outputs.old ≡ length under.now.circuit.now.outputs }
@@ -197,8 +195,7 @@ fn change_fault(
 )
     requires schedule { IsSchedule circuit.now schedule.now }
     requires marks { length pending.old ≡ net_count circuit.now }
-    ensures marks { length pending.new ≡ net_count circuit.now }
-    ensures quiet { (values : List (List Pair))
+    ensures { (values : List (List Pair))
         → AreQuietSettled circuit.now schedule.now before pending.old values
         → AreQuietSettled circuit.now schedule.now after pending.new values }
 {
@@ -239,13 +236,9 @@ fn drive(
     values: &mut [PairSet],
     pending: &mut BitSet,
 )
-    requires schedule { IsSchedule under.now.circuit.now under.now.schedule.now }
     requires sources { first + length sources.now ≤ first_gate_net under.now.circuit.now }
-    requires values { length values.old ≡ net_count under.now.circuit.now }
-    requires marks { length pending.old ≡ net_count under.now.circuit.now }
     requires quiet { AreQuietSettled under.now.circuit.now under.now.schedule.now under.now.fault
         pending.old values.old }
-    ensures marks { length pending.new ≡ net_count under.now.circuit.now }
     ensures quiet { AreQuietSettled under.now.circuit.now under.now.schedule.now under.now.fault
         pending.new values.new }
     ensures driven { (x : ℕ) → first ≤ x → x < first + length sources.now → sets_of values.new x
@@ -275,9 +268,6 @@ fn fire(
     pins: &mut [PairSet],
     rank: u32,
 )
-    requires schedule { IsSchedule under.now.circuit.now under.now.schedule.now }
-    requires values { length values.old ≡ net_count under.now.circuit.now }
-    requires marks { length pending.old ≡ net_count under.now.circuit.now }
     requires room { length pins.old ≡ MAX_GATE_PINS }
     requires gate { first_gate_net under.now.circuit.now ≤ rank }
     requires rank { rank < net_count under.now.circuit.now }
@@ -287,7 +277,6 @@ fn fire(
         pending.new values.new }
     ensures sources { (x : ℕ) → x < first_gate_net under.now.circuit.now
         → sets_of values.new x ≡ sets_of values.old x }
-    ensures marks { length pending.new ≡ length pending.old }
     ensures taken { get_or pending.new rank false ≡ false }
     ensures before { (r : ℕ) → r < rank
         → get_or pending.new r false ≡ get_or pending.old r false }
@@ -312,9 +301,6 @@ fn settle_pending(
     pending: &mut BitSet,
     pins: &mut [PairSet],
 )
-    requires schedule { IsSchedule under.now.circuit.now under.now.schedule.now }
-    requires values { length values.old ≡ net_count under.now.circuit.now }
-    requires marks { length pending.old ≡ net_count under.now.circuit.now }
     requires room { length pins.old ≡ MAX_GATE_PINS }
     requires quiet { AreQuietSettled under.now.circuit.now under.now.schedule.now under.now.fault
         pending.old values.old }
@@ -340,11 +326,8 @@ fn follow(
     pending: &mut BitSet,
     pins: &mut [PairSet],
 )
-    requires schedule { IsSchedule under.now.circuit.now under.now.schedule.now }
     requires vector { length vector.now ≡ under.now.circuit.now.inputs }
     requires latches { length latches.now ≡ length under.now.circuit.now.dffs }
-    requires values { length values.old ≡ net_count under.now.circuit.now }
-    requires marks { length pending.old ≡ net_count under.now.circuit.now }
     requires room { length pins.old ≡ MAX_GATE_PINS }
     requires quiet { AreQuietSettled under.now.circuit.now under.now.schedule.now under.now.fault
         pending.old values.old }

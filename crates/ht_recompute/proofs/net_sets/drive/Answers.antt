@@ -12,9 +12,9 @@ use Rattle.ht_recompute.proofs.net_sets.drive.Goals as goal
 pub write_net-requires-clause-readers : goal.write_net-requires-clause-readers
 write_net-requires-clause-readers c k d inside =
     let u = c.args.under.now in
-    let known = readers_known u.circuit.now u.schedule.now c.requires.schedule (c.args.first + c.loop-j.j)
+    let known = readers_known u.circuit.now u.schedule.now c.requires.quiet.schedule (c.args.first + c.loop-j.j)
     c.row-readers.result.now c.row-readers.ensures k d inside in
-    omega (arith, known, c.loop-j.invariant.marks)
+    omega (arith, known, c.loop-j.invariant.quiet.marks)
 
 pub loop-j-preserved : goal.loop-j-preserved
 loop-j-preserved c =
@@ -27,10 +27,10 @@ loop-j-preserved c =
     let read = get_or_read sources c.loop-j.j c.index-sources-j.result c.loop-j-test.true c.index-sources-j.is
     (pair Unk Unk ∷ []) in
     record {
-      marks = wrote.marks ∙ inv.marks;
-      quiet = source_quiet u.circuit.now u.schedule.now c.requires.schedule u.fault net c.loop-j.values
+      quiet = source_quiet u.circuit.now u.schedule.now c.requires.quiet.schedule u.fault net c.loop-j.values
           c.write_net.new.values c.write_net.new.pending c.row-readers.result.now c.row-readers.ensures wrote.sets
-          wrote.readers c.loop-j.pending (omega (arith, c.requires.sources, c.loop-j-test.true)) wrote.more inv.quiet;
+          wrote.readers c.loop-j.pending (omega (arith, c.requires.sources, c.loop-j-test.true)) c.write_net.auto.values
+          wrote.marks wrote.more inv.quiet;
       driven = λ x from below. elim (cases_eq x (c.args.first + c.loop-j.j)) [
         | inl e ↦
             let net_is : c.args.first + c.loop-j.j ≡ x = sym e in

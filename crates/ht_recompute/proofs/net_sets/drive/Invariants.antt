@@ -1,12 +1,10 @@
-use Rattle.std.proofs.Common.{◌≡◌, ◌<◌, ◌≤◌, ◌+◌, ◌-◌, ℕ, length}
-use Rattle.ht_net.specs.Netlist.{net_count}
+use Rattle.std.proofs.Common.{◌≡◌, ◌<◌, ◌≤◌, ◌+◌, ◌-◌, ℕ}
 use Rattle.ht_tree.specs.Windows.{pair_set_rules}
 use Rattle.ht_recompute.specs.GateSets.{AreQuietSettled, sets_of}
 use Rattle.ht_recompute.proofs.net_sets.drive.Given as goal
 
 abbrev pub invariant-loop-j : goal.invariant-loop-j
 invariant-loop-j l = record {
-  marks : length l.pending ≡ net_count l.under.circuit.now;
   quiet : AreQuietSettled l.under.circuit.now l.under.schedule.now l.under.fault l.pending l.values;
   driven : (x : ℕ) → l.first ≤ x → x < l.first + l.j
       → sets_of l.values x ≡ (pair_set_rules l.under.fault).stem x (sets_of l.sources (x - l.first));

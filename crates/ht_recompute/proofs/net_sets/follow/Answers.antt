@@ -10,7 +10,7 @@ returns-clause-sets c =
     let r = pair_set_rules c.args.under.now.fault in
     let vector = c.args.vector.now in
     let latches = c.args.latches.now in
-    settled_have n c.requires.schedule.circuit c.args.under.now.fault vector latches c.settle_pending.new.values
+    settled_have n c.requires.quiet.schedule.circuit c.args.under.now.fault vector latches c.settle_pending.new.values
     c.settle_pending.ensures.gates
     (λ x low.
     let at : x - 0 ≡ x = omega arith in

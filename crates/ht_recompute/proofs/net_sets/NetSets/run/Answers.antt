@@ -13,7 +13,7 @@ returns-clause-latches c =
     c.capture.ensures
     ∙ (ap (λ (l : List (List Pair)). data_values r (sets_of l) 0 n.dffs) c.deref-2.ensures.value
     ∙ frame_taken n c.args.under.now.fault c.args.vector.now c.args.latches.now c.settle.new.self.values.items
-    c.requires.schedule.circuit c.settle.ensures.sets)
+    c.requires.nets.quiet.schedule.circuit c.settle.ensures.sets)
 
 pub returns-clause-outputs : goal.returns-clause-outputs
 returns-clause-outputs c =
@@ -21,4 +21,4 @@ returns-clause-outputs c =
     c.show.ensures
     ∙ (ap (λ (l : List (List Pair)). values_at (sets_of l) n.outputs) c.deref.ensures.value
     ∙ frame_shown n c.args.under.now.fault c.args.vector.now c.args.latches.now c.settle.new.self.values.items
-    c.requires.schedule.circuit c.settle.ensures.sets)
+    c.requires.nets.quiet.schedule.circuit c.settle.ensures.sets)
