@@ -1,5 +1,5 @@
 -- What decisions that were written, and sets of next states, make of clauses.
-use Rattle.std.proofs.Common.{◌≡◌, ◌<◌, ◌≤◌, ◌+◌, ◌*◌, ℕ, List, [], ◌∷◌, map, Bool, true, false, not, ◌&&◌, ◌||◌, cond, Option, length, get_or, refl, sym, ◌∙◌, ap, arith}
+use Rattle.std.proofs.Common.{◌≡◌, ◌<◌, ◌≤◌, ◌+◌, ◌*◌, ℕ, List, [], ◌∷◌, map, Bool, not, ◌&&◌, ◌||◌, cond, Option, length, get_or, refl, sym, ◌∙◌, ap, arith}
 use Rattle.std.specs.List.{All, list_all, list_any}
 use Rattle.std.proofs.lemmas.List.Elements.{All-head, All-tail}
 use Rattle.std.proofs.lemmas.List.Folds.{list_all-map}
@@ -21,7 +21,7 @@ use Rattle.std.specs.Vec.{with_items}
 use Rattle.ht_recompute.specs.declared.fresh_window.FreshWindow.TheInside.{Inside}
 use Rattle.ht_recompute.specs.FreshWindowOf.{HasWindowRoom, window_of}
 use Rattle.ht_recompute.specs.Written.{IsWritten}
-use Rattle.ht_recompute.specs.WrittenClauses.{IsKnownClause, breach_in, breaks_in, may_miss_in, meets_in, must_miss_in, value_in}
+use Rattle.ht_recompute.specs.WrittenClauses.{IsKnownClause, breach_in, breaks_in, may_miss_in, meets_in, must_miss_in, under_in, value_in}
 use Rattle.ht_recompute.proofs.BegunLaws.{written_over}
 
 -- tests that agree on each element of a list
@@ -83,35 +83,21 @@ module _ (c : Netlist) (path : List Assign3) (decisions : List (Option Tern)) (w
       each_same (λ (l : Literal). l.dff < length c.dffs) _ _
       (λ l inside. ap (is_decided_against l.value) (value_same l inside)) literals known
 
-  pub each_meets : (clauses : List Clause) → All (IsKnownClause c) clauses
+  each_meets : (clauses : List Clause) → All (IsKnownClause c) clauses
       → list_all (λ clause. meets_in decisions c.inputs (literals_of clause)) clauses
       ≡ list_all (path_meets c path) (literals_of_each clauses)
   each_meets clauses are =
       each_same (IsKnownClause c) _ _ (λ clause is. meets_same (literals_of clause) is) clauses are
       ∙ sym (list_all-map (path_meets c path) literals_of clauses)
 
-  pub any_breaks : (clauses : List Clause) → All (IsKnownClause c) clauses
+  any_breaks : (clauses : List Clause) → All (IsKnownClause c) clauses
       → list_any (λ clause. breaks_in decisions c.inputs (literals_of clause)) clauses
       ≡ list_any (path_breaks c path) (literals_of_each clauses)
   any_breaks clauses are =
       any_same (IsKnownClause c) _ _ (λ clause is. breaks_same (literals_of clause) is) clauses are
       ∙ sym (any_map (path_breaks c path) literals_of clauses)
 
--- a status under clauses, by the tests
-module _ (c : Netlist) (path : List Assign3) (clauses : List (List Literal)) (sought : Status3) where
-  pub under_broken : list_any (path_breaks c path) clauses ≡ true → Dead ≡ under_clauses c path clauses sought
-  under_broken h = sym (ap (λ (b : Bool). cond b Dead
-      (cond (list_all (path_meets c path) clauses) sought (open_if_sure sought))) h)
-
-  pub under_met : list_any (path_breaks c path) clauses ≡ false → list_all (path_meets c path) clauses ≡ true
-      → sought ≡ under_clauses c path clauses sought
-  under_met h k = sym (λ i. cond (h i) Dead (cond (k i) sought (open_if_sure sought)))
-
-  pub under_unmet : list_any (path_breaks c path) clauses ≡ false → list_all (path_meets c path) clauses ≡ false
-      → open_if_sure sought ≡ under_clauses c path clauses sought
-  under_unmet h k = sym (λ i. cond (h i) Dead (cond (k i) sought (open_if_sure sought)))
-
--- the tests of a window's decisions, which were written over
+-- what clauses make of a status by a window's decisions, which were written over
 module _ (a : Inside) (w : SearchWindow) (view : window_of a ≡ w) (one : w.frames ≡ 1) (held : HasWindowRoom a)
     (lent decisions : List (Option Tern)) (is : lent ≡ a.decisions.items) (long : length decisions ≡ length lent)
     (path : List Assign3) (written : IsWritten decisions path) (clauses : List Clause)
@@ -136,14 +122,10 @@ module _ (a : Inside) (w : SearchWindow) (view : window_of a ≡ w) (one : w.fra
   seen_is : seen ≡ decisions
   seen_is = written_over a lent decisions is long seen after
 
-  pub broken_is : list_any (λ clause. breaks_in seen first (literals_of clause)) clauses
-      ≡ list_any (path_breaks w.circuit path) (literals_of_each clauses)
-  broken_is =
-      (λ i. list_any (λ (clause : Clause). breaks_in (seen_is i) (first_is i) (literals_of clause)) clauses)
-      ∙ any_breaks w.circuit path decisions written room clauses known
-
-  pub met_is : list_all (λ clause. meets_in seen first (literals_of clause)) clauses
-      ≡ list_all (path_meets w.circuit path) (literals_of_each clauses)
-  met_is =
-      (λ i. list_all (λ (clause : Clause). meets_in (seen_is i) (first_is i) (literals_of clause)) clauses)
-      ∙ each_meets w.circuit path decisions written room clauses known
+  pub under_is : (sought : Status3) → under_in seen first clauses sought
+      ≡ under_clauses w.circuit path (literals_of_each clauses) sought
+  under_is sought =
+      let broken = any_breaks w.circuit path decisions written room clauses known in
+      let met = each_meets w.circuit path decisions written room clauses known in
+      (λ i. under_in (seen_is i) (first_is i) clauses sought)
+      ∙ (λ i. cond (broken i) Dead (cond (met i) sought (open_if_sure sought)))

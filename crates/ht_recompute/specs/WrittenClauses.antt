@@ -11,6 +11,7 @@ use Rattle.ht_tree.specs.Windows.{is_undetermined}
 use Rattle.ht_tree.specs.declared.clause.Clause.{Clause}
 use Rattle.ht_tree.specs.declared.clause.Literal.{Literal}
 use Rattle.ht_tree.specs.Clauses.{AreKnown, is_decided_against, is_decided_to, literals_of}
+use Rattle.ht_tree.specs.ClauseWindows.{open_if_sure}
 
 -- the flip-flops of a clause are the circuit's
 abbrev pub IsKnownClause : Netlist → Clause → Type 0
@@ -29,6 +30,13 @@ meets_in decisions first literals =
 abbrev pub breaks_in : List (Option Tern) → ℕ → List Literal → Bool
 breaks_in decisions first literals =
     list_all (λ (literal : Literal). is_decided_against literal.value (value_in decisions first literal)) literals
+
+-- what clauses make of a status, by decisions
+abbrev pub under_in : List (Option Tern) → ℕ → List Clause → Status3 → Status3
+under_in decisions first clauses status =
+    if list_any (λ (clause : Clause). breaks_in decisions first (literals_of clause)) clauses then Dead
+    else if list_all (λ (clause : Clause). meets_in decisions first (literals_of clause)) clauses then status
+    else open_if_sure status
 
 -- the next states of these sets may miss a literal: its flip-flop may take the other bit
 abbrev pub may_miss_in : List (List Pair) → Literal → Bool

@@ -2,7 +2,8 @@
 ghost use Rattle.std.specs.Prelude.{◌≡◌, ◌<◌, Option, Some, length};
 ghost use Rattle.std.specs.List.{list_any, list_all};
 ghost use Rattle.ht_tree.specs.Clauses.{is_decided_against, is_decided_to, literals_of};
-ghost use Rattle.ht_recompute.specs.WrittenClauses.{breach_in, breaks_in, meets_in, value_in};
+ghost use Rattle.ht_tree.specs.ClauseWindows.{open_if_sure};
+ghost use Rattle.ht_recompute.specs.WrittenClauses.{breach_in, breaks_in, meets_in, under_in, value_in};
 
 use crate::cube::Matches;
 use ht_pairs::PairSet;
@@ -75,22 +76,50 @@ fn breaks(decisions: &[Option<Tern>], first: u32, clause: &Clause) -> bool
     }
 }
 
-/// Whether decisions meet every clause. The latches have the variables from `first` on.
-pub fn meets_each(decisions: &[Option<Tern>], first: u32, clauses: &[Clause]) -> bool
+// Whether decisions meet every clause.
+fn meets_each(decisions: &[Option<Tern>], first: u32, clauses: &[Clause]) -> bool
     ensures { result
         ≡ list_all (λ clause. meets_in decisions.now first (literals_of clause)) clauses.now }
 {
     clauses.iter().all(|clause| meets(decisions, first, clause))
 }
 
-/// Whether decisions break some clause. The latches have the variables from `first` on.
-pub fn breaks_any(decisions: &[Option<Tern>], first: u32, clauses: &[Clause]) -> bool
+// Whether decisions break some clause.
+fn breaks_any(decisions: &[Option<Tern>], first: u32, clauses: &[Clause]) -> bool
     ensures { result
         ≡ list_any (λ clause. breaks_in decisions.now first (literals_of clause)) clauses.now }
 {
     clauses
         .iter()
         .any(|clause| breaks(decisions, first, clause))
+}
+
+// A status that clauses which aren't met leave: what is sure isn't sure yet.
+fn open_if_sure(status: Status3) -> Status3
+    ensures { result ≡ open_if_sure status }
+{
+    match status {
+        Status3::Dead => Status3::Dead,
+        Status3::Sure | Status3::Open => Status3::Open,
+    }
+}
+
+/// What clauses make of a status, by decisions. The latches have the variables from `first` on.
+pub fn under_clauses(
+    decisions: &[Option<Tern>],
+    first: u32,
+    clauses: &[Clause],
+    sought: Status3,
+) -> Status3
+    ensures { result ≡ under_in decisions.now first clauses.now sought }
+{
+    if breaks_any(decisions, first, clauses) {
+        return Status3::Dead;
+    }
+    if meets_each(decisions, first, clauses) {
+        return sought;
+    }
+    open_if_sure(sought)
 }
 
 /// What next states of these sets make of a clause that is to be missed: Dead where some literal's latch can't have the

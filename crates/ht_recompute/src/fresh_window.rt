@@ -12,12 +12,12 @@ ghost use Rattle.ht_tree.specs.Walks.{path_of};
 ghost use Rattle.ht_tree.specs.WindowStatus.{status_at, without_place};
 ghost use Rattle.ht_tree.specs.Windows.{IsStart, back, back_window, forward_window, one_frame_window, sweep_window};
 ghost use Rattle.ht_tree.specs.Clauses.{literals_of, literals_of_each};
-ghost use Rattle.ht_tree.specs.ClauseWindows.{breach_status, good_window, open_if_sure, under_clauses};
+ghost use Rattle.ht_tree.specs.ClauseWindows.{breach_status, good_window, under_clauses};
 ghost use Rattle.ht_recompute.specs.FreshStarts.{IsStartOf, fresh_start};
 ghost use Rattle.ht_recompute.specs.JudgedKinds.{judged_kind};
 ghost use Rattle.ht_recompute.specs.WrittenClauses.{IsKnownClause};
 
-use crate::clauses::{breach_status, breaks_any, meets_each};
+use crate::clauses::{breach_status, under_clauses};
 use crate::cube::{cube_status, decided_cube, enter_node, wants_any};
 use crate::decisions::write_decisions;
 use crate::frame_sets::{FrameSets, run_frames};
@@ -242,13 +242,7 @@ impl<'c, 's> FreshWindow<'c, 's> {
     {
         write_decisions(&mut self.decisions, path);
         let first = self.frame.circuit().inputs();
-        if breaks_any(&self.decisions, first, clauses) {
-            return Status3::Dead;
-        }
-        if meets_each(&self.decisions, first, clauses) {
-            return sought;
-        }
-        open_if_sure(sought)
+        under_clauses(&self.decisions, first, clauses, sought)
     }
 
     /// Whether a variable may be decided to two values.
@@ -313,16 +307,6 @@ impl<'c, 's> FreshWindow<'c, 's> {
         let circuit = self.frame.circuit();
         let inputs = circuit.inputs();
         inputs <= var && var < inputs + circuit.dffs()
-    }
-}
-
-// A status that clauses which aren't met leave: what is sure isn't sure yet.
-fn open_if_sure(status: Status3) -> Status3
-    ensures { result ≡ open_if_sure status }
-{
-    match status {
-        Status3::Dead => Status3::Dead,
-        Status3::Sure | Status3::Open => Status3::Open,
     }
 }
 
