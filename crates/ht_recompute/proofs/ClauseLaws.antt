@@ -23,6 +23,7 @@ use Rattle.ht_recompute.specs.FreshWindowOf.{HasWindowRoom, window_of}
 use Rattle.ht_recompute.specs.Written.{IsWritten}
 use Rattle.ht_recompute.specs.WrittenClauses.{IsKnownClause, breach_in, breaks_in, may_miss_in, meets_in, must_miss_in, under_in, value_in}
 use Rattle.ht_recompute.proofs.BegunLaws.{written_over}
+use Rattle.ht_recompute.proofs.PlaceLaws.{any_map}
 
 -- tests that agree on each element of a list
 each_same : {X : Type 0} → (P : X → Type 0) (f g : X → Bool) → ((x : X) → P x → f x ≡ g x) → (xs : List X) → All P xs
@@ -40,11 +41,6 @@ any_same P f g same (x ∷ xs) h =
     let here = same x (All-head P x xs h) in
     let rest = any_same P f g same xs (All-tail P x xs h) in
     (λ k. here k || rest k)
-
-any_map : {X Y : Type 0} → (test : Y → Bool) (f : X → Y) (xs : List X) → list_any test (map f xs)
-    ≡ list_any (λ x. test (f x)) xs
-any_map test f [] = refl
-any_map test f (x ∷ xs) = ap (λ (b : Bool). test (f x) || b) (any_map test f xs)
 
 -- the status of a breach by the sets of the next states
 module _ (w : SearchWindow) (path : List Assign3) (sets : List (List Pair))
@@ -95,7 +91,7 @@ module _ (c : Netlist) (path : List Assign3) (decisions : List (Option Tern)) (w
       ≡ list_any (path_breaks c path) (literals_of_each clauses)
   any_breaks clauses are =
       any_same (IsKnownClause c) _ _ (λ clause is. breaks_same (literals_of clause) is) clauses are
-      ∙ sym (any_map (path_breaks c path) literals_of clauses)
+      ∙ any_map (path_breaks c path) literals_of clauses
 
 -- what clauses make of a status by a window's decisions, which were written over
 module _ (a : Inside) (w : SearchWindow) (view : window_of a ≡ w) (one : w.frames ≡ 1) (held : HasWindowRoom a)

@@ -71,7 +71,13 @@ impl NetSets {
         })
     }
 
-    // Gives every net its set in a frame.
+    // Gives every net its set in a frame, from where the frame was: at another node, in another window or under another
+    // fault. Two nodes that come one after the other differ in few decisions, so only gates that read a change are
+    // evaluated, each once, in the order of the schedule (evaluation by events: T. M. Niermann, W.-T. Cheng, J. H. Patel,
+    // "PROOFS: A Fast, Memory-Efficient Sequential Circuit Fault Simulator", 1992). Frames of windows that start
+    // otherwise are kept apart (`first_kept`): by turns in one frame 5.90 million gates were evaluated where 1.92
+    // million are. A trail back to the node above was counted too: it saves a seventh of them at most, and takes memory
+    // at each token.
     fn settle(&mut self, under: &Settling, vector: &[PairSet], latches: &[PairSet])
         requires vector { length vector.now ≡ under.now.circuit.now.inputs }
         requires latches { length latches.now ≡ length under.now.circuit.now.dffs }
@@ -316,8 +322,7 @@ fn settle_pending(
     }
 }
 
-// Gives every net its set in a frame, where each gate that isn't pending is settled. Two nodes of a walk that come one
-// after the other differ in few decisions, so few gates read a change.
+// Gives every net its set in a frame, where each gate that isn't pending is settled.
 fn follow(
     under: &Settling,
     vector: &[PairSet],
