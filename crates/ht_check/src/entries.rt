@@ -97,7 +97,8 @@ fn passes(
     budget: u64,
     entry: &Entry,
 ) -> Result<bool, AllocError>
-    requires { budget ≤ MAX_BUDGET }
+    requires start { IsStart kept.old.circuit start.now }
+    requires budget { budget ≤ MAX_BUDGET }
     ensures exact { IfOk result
         (λ passes. IsTrue passes ↔ Passes kept.old.circuit start.now fault budget entry.now) }
     ensures circuit { kept.new.circuit ≡ kept.old.circuit }

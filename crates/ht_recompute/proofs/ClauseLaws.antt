@@ -1,5 +1,5 @@
 -- What decisions that were written, and sets of next states, make of clauses.
-use Rattle.std.proofs.Common.{◌≡◌, ◌<◌, ◌≤◌, ◌+◌, ◌*◌, ℕ, List, [], ◌∷◌, map, Bool, not, ◌&&◌, ◌||◌, cond, Option, length, get_or, refl, sym, ◌∙◌, ap, arith}
+use Rattle.std.proofs.Common.{◌≡◌, ◌<◌, ◌≤◌, ◌+◌, ◌*◌, ℕ, List, [], ◌∷◌, Bool, not, ◌&&◌, ◌||◌, cond, Option, length, get_or, refl, sym, ◌∙◌, ap, arith}
 use Rattle.std.specs.List.{All, list_all, list_any}
 use Rattle.std.proofs.lemmas.List.Elements.{All-head, All-tail}
 use Rattle.std.proofs.lemmas.List.Folds.{list_all-map}

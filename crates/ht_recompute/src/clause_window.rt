@@ -91,13 +91,6 @@ impl<'c, 's> FreshClauseWindow<'c, 's> {
             clauses,
         })
     }
-
-    /// Gives the frame back.
-    pub fn into_kept(self) -> KeptFrames<'c>
-        ensures { result.circuit ≡ self.entry.window.circuit }
-    {
-        self.window.into_kept()
-    }
 }
 
 impl<'c, 's> FreshClauseWindow<'c, 's> {
@@ -122,7 +115,7 @@ impl<'c, 's> FreshClauseWindow<'c, 's> {
     }
 }
 
-impl<'c, 's> JudgedWindow for FreshClauseWindow<'c, 's> {
+impl<'c, 's> JudgedWindow<'c> for FreshClauseWindow<'c, 's> {
     ghost kind = { λ w. judged_kind_under w };
 
     fn token_weight(&self) -> u32 {
@@ -147,5 +140,9 @@ impl<'c, 's> JudgedWindow for FreshClauseWindow<'c, 's> {
         // for the proof: the window is of one frame
         let _goal = self.goal;
         false
+    }
+
+    fn into_kept(self) -> KeptFrames<'c> {
+        self.window.into_kept()
     }
 }

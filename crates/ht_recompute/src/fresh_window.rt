@@ -177,13 +177,6 @@ impl<'c, 's> FreshWindow<'c, 's> {
     {
         FreshWindow::new(alloc, kept, None, 1, FreshStart::Back { cube, limit })
     }
-
-    /// Gives the frames back.
-    pub fn into_kept(self) -> KeptFrames<'c>
-        ensures { result.circuit ≡ self.entry.circuit }
-    {
-        self.frame.into_kept()
-    }
 }
 
 impl<'c, 's> FreshWindow<'c, 's> {
@@ -310,7 +303,7 @@ impl<'c, 's> FreshWindow<'c, 's> {
     }
 }
 
-impl<'c, 's> JudgedWindow for FreshWindow<'c, 's> {
+impl<'c, 's> JudgedWindow<'c> for FreshWindow<'c, 's> {
     ghost kind = { λ w. judged_kind w };
 
     fn token_weight(&self) -> u32 {
@@ -346,5 +339,9 @@ impl<'c, 's> JudgedWindow for FreshWindow<'c, 's> {
             | FreshStart::Unknown
             | FreshStart::States { good: _, faulty: _ } => false,
         }
+    }
+
+    fn into_kept(self) -> KeptFrames<'c> {
+        self.frame.into_kept()
     }
 }

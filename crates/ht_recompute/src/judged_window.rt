@@ -2,10 +2,11 @@
 ghost use Rattle.std.specs.Prelude.{◌≡◌, ◌<◌};
 ghost use Rattle.ht_recompute.specs.JudgedKinds.{JudgedKind};
 
+use crate::kept_frames::KeptFrames;
 use ht_tree::{Status3, WalkNode};
 
 /// A window that judges the nodes of its walks. Whatever it keeps is room: no answer depends on what was asked before.
-pub trait JudgedWindow {
+pub trait JudgedWindow<'c>: Sized + Drop {
     /// What judges the nodes, what a token weighs, and the circuit of its frames. No call changes them.
     ghost kind: { Self → JudgedKind };
 
@@ -31,4 +32,8 @@ pub trait JudgedWindow {
     fn may_go_before(&mut self, node: &WalkNode) -> bool
         ensures before { result ≡ (kind self.old).judge.before node.now }
         ensures kind { kind self.new ≡ kind self.old };
+
+    /// Gives its frames back.
+    fn into_kept(self) -> KeptFrames<'c>
+        ensures { result.circuit ≡ (kind self).circuit };
 }
