@@ -20,14 +20,14 @@ returns-in-UntestableFrom-clause-exact c =
 
 pub returns-in-UndetectableBySets-clause-exact : goal.returns-in-UndetectableBySets-clause-exact
 returns-in-UndetectableBySets-clause-exact c =
-    let y = c.as_slice-in-UndetectableBySets.ensures in
+    let y = c.as_slice.ensures in
     IfOk-weaker c.closes_by_rows.result _ _ (λ b h. (λ t. let k = h.0 t in search rules, λ p. search rules))
     c.closes_by_rows.ensures
 
 pub returns-in-UndetectableByCubes-clause-exact : goal.returns-in-UndetectableByCubes-clause-exact
 returns-in-UndetectableByCubes-clause-exact c =
-    let x = c.as_slice.ensures in
-    let y = c.as_slice-in-UndetectableByCubes.ensures in
+    let x = c.as_slice-cubes.ensures in
+    let y = c.as_slice-steps.ensures in
     IfOk-weaker c.refuted.result _ _ (λ b h. (λ t. let k = h.0 t in search rules, λ p. search rules))
     c.refuted.ensures.exact
 
