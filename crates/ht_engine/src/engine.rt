@@ -23,7 +23,7 @@ use crate::step::Step;
 use crate::work::{Work, work_on};
 use ht_collapse::Classes;
 use ht_faults::FaultList;
-use ht_grade::Grader;
+use ht_proofs::Grader;
 use ht_invariant::{Invariant, find};
 use ht_items::Items;
 use ht_net::{Circuit, Vectors, some_state};

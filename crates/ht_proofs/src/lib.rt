@@ -11,6 +11,8 @@
 #![tactic(auto)]
 
 mod batch;
+mod class_grader;
+mod detections;
 mod frame_grader;
 mod grade;
 mod grader;
@@ -18,6 +20,8 @@ mod stems;
 mod steps;
 mod theorems;
 
-pub use grader::Grader;
+pub use class_grader::ClassGrader;
+pub use detections::{first_detections, first_detections_from};
+pub use grader::{Grader, MAX_VECTORS};
 pub use steps::Steps;
 pub use theorems::{applied_vector_is_added, verdicts_are_within};
