@@ -9,7 +9,7 @@ use Rattle.ht_texts.specs.Lines.{with_lf}
 use Rattle.ht_texts.specs.Reports.{head_line, report_text, report_sums, total_line}
 use Rattle.ht_entries.specs.ProofLines.{line_text}
 use Rattle.ht_entries.specs.declared.proof_line.ProofLine.TheVariants.{End}
-use Rattle.ht_collapse.specs.Classes.{AreClasses, fault_at}
+use Rattle.ht_faults.specs.Classes.{AreClasses, fault_at}
 use Rattle.ht_valid.specs.ValidFiles.{IsJustified}
 use Rattle.ht_texts.specs.SearchReports.{IsReportText}
 use Rattle.ht_valid.specs.TrueVerdicts.{AreDecided, HaveTrueVerdicts, IsWorkedOn}

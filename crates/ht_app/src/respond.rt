@@ -10,10 +10,10 @@ ghost use Rattle.ht_app.specs.Steps.{Does, EndsJob, IsPrepared};
 
 use crate::output::{create, put};
 use ht_asked::{MAX_FAULT, MIN_FAULT};
+use ht_dictionary::{write_last_response, write_response_body, write_response_total};
 use ht_inputs::{RunError, read_netlist, read_stated, read_tests};
 use ht_net::{Circuit, Fault, Vectors};
 use ht_ports::{Desk, OutPort};
-use ht_dictionary::{write_last_response, write_response_body, write_response_total};
 use ht_tern::Tern;
 use ht_words::FileName;
 use std::alloc::{AllocError, Global};

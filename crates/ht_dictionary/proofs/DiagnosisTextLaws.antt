@@ -5,7 +5,7 @@ use Rattle.ht_net.specs.Netlist.{Netlist}
 use Rattle.ht_texts.specs.Lines.{with_lf, with_lfs}
 use Rattle.ht_texts.proofs.ReportLaws.{with_lfs-push}
 use Rattle.ht_faults.specs.Sites.{faults_of}
-use Rattle.ht_collapse.specs.Classes.{class_count}
+use Rattle.ht_faults.specs.Classes.{class_count}
 use Rattle.ht_dictionary.specs.DiagnosisView.{DiagnosisView}
 use Rattle.ht_dictionary.specs.Diagnoses.{contradiction_at}
 use Rattle.ht_dictionary.specs.DiagnosisTexts.{diagnosed_line, first_diagnosis_lines, diagnosis_head, good_line}

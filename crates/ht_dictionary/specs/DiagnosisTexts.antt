@@ -6,7 +6,7 @@ use Rattle.std.specs.List.{range_with_len}
 use Rattle.ht_net.specs.declared.place.Place.{Place}
 use Rattle.ht_net.specs.Netlist.{Netlist}
 use Rattle.ht_faults.specs.Sites.{faults_of}
-use Rattle.ht_collapse.specs.Classes.{is_representative, own_representatives, class_count}
+use Rattle.ht_faults.specs.Classes.{is_representative, own_representatives, class_count}
 use Rattle.ht_texts.specs.declared.said.Said.TheVariants.{Undetected}
 use Rattle.ht_texts.specs.Lines.{with_lf, with_lfs}
 use Rattle.ht_texts.specs.Verdicts.{place_text}

@@ -4,7 +4,7 @@ ghost use Rattle.std.specs.Fmt.{decimal};
 ghost use Rattle.std.specs.Option.{ForSome};
 ghost use Rattle.ht_net.specs.Detection.{IsPlace};
 ghost use Rattle.ht_faults.specs.Sites.{faults_of};
-ghost use Rattle.ht_collapse.specs.Classes.{AreClasses, class_count, is_representative};
+ghost use Rattle.ht_faults.specs.Classes.{AreClasses, class_count, is_representative};
 ghost use Rattle.ht_texts.specs.Lines.{with_lf};
 ghost use Rattle.ht_texts.specs.Sites.{output_text};
 ghost use Rattle.ht_dictionary.specs.Diagnoses.{IsDiagnosisOf};
@@ -12,8 +12,7 @@ ghost use Rattle.ht_dictionary.specs.DiagnosisTexts.{contradiction_text, diagnos
 ghost use Rattle.ht_dictionary.specs.DiagnosisTexts.{consistent_count, diagnosis_body, diagnosis_total};
 
 use crate::diagnosis::Diagnosis;
-use ht_collapse::Classes;
-use ht_faults::FaultList;
+use ht_faults::{Classes, FaultList};
 use ht_net::{Circuit, Place};
 use ht_texts::{Said, push_number, write_fault};
 use std::alloc::{AllocError, Global};

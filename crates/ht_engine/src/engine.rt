@@ -3,7 +3,7 @@ ghost use Rattle.std.specs.Prelude.{◌≡◌, ◌≢◌, ◌↔◌, ◌≤◌, 
 ghost use Rattle.std.specs.Option.{ForSome};
 ghost use Rattle.ht_net.specs.Detection.{IsStart, state_from};
 ghost use Rattle.ht_faults.specs.Sites.{faults_of};
-ghost use Rattle.ht_collapse.specs.Classes.{AreClasses, fault_at};
+ghost use Rattle.ht_faults.specs.Classes.{AreClasses, fault_at};
 ghost use Rattle.ht_tree.specs.declared.limits.TheConstants.{MAX_BUDGET};
 ghost use Rattle.ht_texts.specs.SearchReports.{IsBudget};
 ghost use Rattle.ht_texts.specs.Verdicts.{IsSayable};
@@ -21,8 +21,7 @@ use crate::first_vectors::FirstVectors;
 use crate::settings::{Search, Settings};
 use crate::step::Step;
 use crate::work::{Work, work_on};
-use ht_collapse::Classes;
-use ht_faults::FaultList;
+use ht_faults::{Classes, FaultList};
 use ht_proofs::Grader;
 use ht_invariant::{Invariant, find};
 use ht_items::Items;

@@ -7,9 +7,9 @@ ghost use Rattle.ht_events.specs.FramePlans.{IsOffsetTable};
 
 use crate::frame_length::FrameLength;
 use crate::plan::MAX_FRAMES;
+use crate::ranks::ranking;
 use crate::readers::Readers;
 use ht_net::{Circuit, NetId};
-use crate::ranks::ranking;
 use std::alloc::{AllocError, Global};
 use std::marker::Model;
 

@@ -2,8 +2,8 @@
 ghost use Rattle.std.specs.Prelude.{◌≡◌, ◌<◌, length, get_or, IfOk};
 ghost use Rattle.ht_events.specs.Schedules.{IsSchedule};
 
-use crate::ranks::ranking;
 use crate::rank_readers::readers;
+use crate::ranks::ranking;
 use ht_items::FlatRows;
 use ht_net::Circuit;
 use std::alloc::{AllocError, Global};

@@ -10,8 +10,7 @@ use ht_items::Items;
 use ht_net::{Fault, Vectors};
 use ht_search::Outcome;
 use ht_tree::{Status, Token};
-use ht_window::{Trial, explore, list};
-use ht_window::{Bases, MAX_FRAMES, Start};
+use ht_window::{Bases, MAX_FRAMES, Start, Trial, explore, list};
 use std::alloc::{AllocError, Global};
 
 /// What the search of a window for a difference at an output comes to.

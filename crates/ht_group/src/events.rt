@@ -15,10 +15,10 @@ use crate::four_words::{are_free, recompute_four};
 use crate::machines::Machines;
 use crate::overlay::Overlay;
 use crate::stuck_lines::StuckLines;
+use ht_events::Schedule;
 use ht_items::BitSet;
 use ht_lanes::Word;
 use ht_net::Circuit;
-use ht_events::Schedule;
 
 // Makes nets pending, by their ranks, where the net that they read changed.
 fn touch_if(changed: bool, ranks: &[u32], pending: &mut BitSet)

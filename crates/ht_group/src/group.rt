@@ -14,15 +14,15 @@ ghost use Rattle.ht_group.specs.declared.machines.Machines.{Machines};
 ghost use Rattle.ht_group.specs.GoodFrames.{HasFrameRoom};
 ghost use Rattle.ht_group.specs.NetValues.{IsNetAt, faulty_value, good_value};
 
+use crate::diffs::Diffs;
 use crate::evaluate::PIN_ROOM;
 use crate::events::settle;
 use crate::good_frame::GoodFrame;
 use crate::machines::Machines;
-use crate::diffs::Diffs;
+use ht_events::Schedule;
 use ht_items::BitSet;
 use ht_lanes::Word;
 use ht_net::{Circuit, Fault, NetId};
-use ht_events::Schedule;
 use ht_tern::Tern;
 use std::alloc::{AllocError, Global};
 use std::marker::Model;

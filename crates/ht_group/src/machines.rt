@@ -11,13 +11,13 @@ ghost use Rattle.ht_group.specs.Overlays.{IsSpread};
 ghost use Rattle.ht_events.specs.Schedules.{IsSchedule};
 ghost use Rattle.ht_group.specs.StuckTables.{AreStuck, forced_net_of};
 
+use crate::diffs::{Diff, Diffs};
 use crate::good_frame::GoodFrame;
 use crate::overlay::Overlay;
 use crate::stuck_lines::StuckLines;
-use crate::diffs::{Diff, Diffs};
+use ht_events::Schedule;
 use ht_items::BitSet;
 use ht_net::{Circuit, Fault, Site};
-use ht_events::Schedule;
 use std::alloc::{AllocError, Global};
 
 /// Up to 64 machines of a circuit, each with a fault and latches of its own, in the lanes of a word.

@@ -15,7 +15,7 @@ use Rattle.ht_texts.proofs.FaultListLaws.{fault_list_or_malformed}
 use Rattle.ht_texts.proofs.ReaderLaws.{lines_few}
 use Rattle.ht_texts.proofs.StartLaws.{start_or_malformed}
 use Rattle.ht_texts.proofs.TestLaws.{never_both, one_list}
-use Rattle.ht_collapse.proofs.ClassLaws.{one_list as one_classes}
+use Rattle.ht_faults.proofs.ClassLaws.{one_list as one_classes}
 use Rattle.ht_compact.proofs.FirstVectorLaws.{few_or_many, malformed_or_many}
 use Rattle.ht_dictionary.proofs.ResponseLaws.{never_both as never_responses}
 use Rattle.ht_valid.specs.FirstTrouble.{AreReadTo, IsFirstTrouble, IsFirstUnjustified}

@@ -20,8 +20,7 @@ use crate::sought::Sought;
 use ht_pairs::PairSet;
 use ht_tern::Tern;
 use ht_tree::{Choice, Clause, Literal, Status, Status3};
-use ht_window::without_place;
-use ht_window::Window;
+use ht_window::{Window, without_place};
 
 // What a next state shows of a literal: whether it can miss the literal's bit, and whether it must.
 #[derive(Clone, Copy)]

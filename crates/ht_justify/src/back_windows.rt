@@ -11,8 +11,7 @@ use ht_items::Items;
 use ht_net::{Circuit, Vectors};
 use ht_search::Point;
 use ht_tern::Tern;
-use ht_window::vector;
-use ht_window::{Bases, Start, Window};
+use ht_window::{Bases, Start, Window, vector};
 use std::alloc::{AllocError, Global};
 use std::marker::Model;
 

@@ -8,8 +8,7 @@ use ht_items::Items;
 use ht_net::Fault;
 use ht_search::Outcome;
 use ht_tree::{Status, Token, Told};
-use ht_window::{Trial, explore};
-use ht_window::{Bases, Start};
+use ht_window::{Bases, Start, Trial, explore};
 use std::alloc::{AllocError, Global};
 
 /// What the search of a one-frame window comes to.

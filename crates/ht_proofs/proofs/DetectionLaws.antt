@@ -11,8 +11,8 @@ use Rattle.ht_net.specs.declared.place.Place.{Place}
 use Rattle.ht_net.specs.Netlist.{Netlist}
 use Rattle.ht_net.specs.Detection.{DetectsFrom, IsFirstFrom}
 use Rattle.ht_faults.specs.Sites.{faults_of}
-use Rattle.ht_collapse.specs.Classes.{fault_at, own_representatives}
-use Rattle.ht_collapse.proofs.OwnLaws.{representative_is_own}
+use Rattle.ht_faults.specs.Classes.{fault_at, own_representatives}
+use Rattle.ht_faults.proofs.OwnLaws.{representative_is_own}
 use Rattle.ht_serial.specs.Places.{IsWithin}
 use Rattle.ht_proofs.specs.PackedView.{PackedView, GraderStandsFor, chosen_faults, verdict_at}
 use Rattle.ht_proofs.proofs.VectorLaws.{found_inside, found_output}

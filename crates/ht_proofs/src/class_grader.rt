@@ -4,15 +4,14 @@ ghost use Rattle.std.specs.Option.{ForSome};
 ghost use Rattle.ht_tern.specs.declared.tern.Tern as tern;
 ghost use Rattle.ht_net.specs.Detection.{IsPlace, IsStart, state_from};
 ghost use Rattle.ht_faults.specs.Sites.{faults_of};
-ghost use Rattle.ht_collapse.specs.Classes.{AreClasses, fault_at, is_representative, own_representatives};
+ghost use Rattle.ht_faults.specs.Classes.{AreClasses, fault_at, is_representative, own_representatives};
 ghost use Rattle.ht_proofs.specs.PackedView.{GraderStandsFor};
 ghost use Rattle.ht_proofs.specs.Detections.{AreFirstDetections, ArePlaces, AreWithin, place_at};
-ghost use Rattle.ht_proofs.specs.ClassesView.{AreOfClasses, ClassesStandFor, IsVerdictOn};
+ghost use Rattle.ht_proofs.specs.ClassGraderView.{AreOfClasses, ClassGraderStandsFor, IsVerdictOn};
 
 use crate::grader::{Grader, MAX_VECTORS};
 use crate::steps::Steps;
-use ht_collapse::Classes;
-use ht_faults::FaultList;
+use ht_faults::{Classes, FaultList};
 use ht_net::{Circuit, Place, Vectors};
 use ht_tern::Tern;
 use std::alloc::{AllocError, Global};
@@ -33,15 +32,15 @@ pub struct ClassGrader<'c> {
 }
 
 impl<'c> Model for ClassGrader<'c> {
-    ghost use Rattle.ht_proofs.specs.ClassesView.{ClassesView};
+    ghost use Rattle.ht_proofs.specs.ClassGraderView.{ClassGraderView};
 
-    ghost Value = { ClassesView };
+    ghost Value = { ClassGraderView };
 
-    ghost use Rattle.ht_proofs.specs.ClassesOf.{AreClassFields, classes_of};
+    ghost use Rattle.ht_proofs.specs.ClassGraderOf.{AreClassGraderFields, class_grader_of};
 
-    ghost view = { classes_of };
+    ghost view = { class_grader_of };
 
-    ghost invariant = { AreClassFields };
+    ghost invariant = { AreClassGraderFields };
 }
 
 // Applies vectors, one after the other.
@@ -119,7 +118,7 @@ impl<'c> ClassGrader<'c> {
         requires latches { IsStart circuit.now start.now }
         ensures circuit { IfOk result (λ grader. grader.machines.circuit ≡ circuit.now) }
         ensures classes { IfOk result (λ grader. grader.representatives ≡ classes.now) }
-        ensures stands { IfOk result (λ grader. ClassesStandFor grader start.now []) }
+        ensures stands { IfOk result (λ grader. ClassGraderStandsFor grader start.now []) }
         ensures live { IfOk result (λ grader. grader.live ≡ true) }
     {
         let machines = Grader::new_from(alloc, circuit, faults, classes.representatives(), start)?;
@@ -139,8 +138,8 @@ impl<'c> ClassGrader<'c> {
     pub fn apply(&mut self, list: &Vectors) -> Result<(), AllocError>
         requires { list.now.width ≡ self.old.machines.circuit.inputs }
         ensures added { OnOk result ((start : List tern.Tern) (before : List (List Bool))
-            → ClassesStandFor self.old start before
-            → ClassesStandFor self.new start (before ++ list.now.list)) }
+            → ClassGraderStandsFor self.old start before
+            → ClassGraderStandsFor self.new start (before ++ list.now.list)) }
         ensures err { OnErr result
             ((self.new.places ≡ self.old.places) × (self.new.live ≡ false)) }
         ensures dead { self.old.live ≡ false → IsErr result }
@@ -166,7 +165,7 @@ impl<'c> ClassGrader<'c> {
         requires representative { is_representative self.now.representatives i ≡ true }
         ensures same { result ≡ place_at self.now.places i }
         ensures verdict { (start : List tern.Tern) (list : List (List Bool))
-            → ClassesStandFor self.now start list
+            → ClassGraderStandsFor self.now start list
             → IsVerdictOn self.now.machines.circuit i start list result }
         ensures place { ForSome result (IsPlace self.now.machines.circuit) }
     {
@@ -186,7 +185,7 @@ impl<'c> ClassGrader<'c> {
     /// Out of memory, be it that an earlier call was.
     pub fn good_state(&self, alloc: Global) -> Result<Vec<Tern>, AllocError>
         ensures { IfOk result (λ state. (start : List tern.Tern) (list : List (List Bool))
-            → ClassesStandFor self.now start list
+            → ClassGraderStandsFor self.now start list
             → state.items ≡ state_from self.now.machines.circuit None start list) }
     {
         if !self.live {
@@ -205,7 +204,7 @@ impl<'c> ClassGrader<'c> {
         requires representative { is_representative self.now.representatives i ≡ true }
         requires undetected { place_at self.now.places i ≡ None }
         ensures { IfOk result (λ state. (start : List tern.Tern) (list : List (List Bool))
-            → ClassesStandFor self.now start list
+            → ClassGraderStandsFor self.now start list
             → state.items ≡ state_from self.now.machines.circuit
             (Some (fault_at self.now.machines.circuit i)) start list) }
     {

@@ -1,13 +1,12 @@
 //! The first detection of each class of faults.
 ghost use Rattle.std.specs.Prelude.{◌≡◌, IfOk};
 ghost use Rattle.ht_faults.specs.Sites.{faults_of};
-ghost use Rattle.ht_collapse.specs.Classes.{AreClasses};
+ghost use Rattle.ht_faults.specs.Classes.{AreClasses};
 ghost use Rattle.ht_proofs.specs.Detections.{AreFirstDetections, AreWithin};
 ghost use Rattle.ht_net.specs.Detection.{IsStart, unknown_state};
 
 use crate::class_grader::ClassGrader;
-use ht_collapse::Classes;
-use ht_faults::FaultList;
+use ht_faults::{Classes, FaultList};
 use ht_net::{Circuit, Place, Vectors, unknown_start};
 use ht_tern::Tern;
 use std::alloc::{AllocError, Global};

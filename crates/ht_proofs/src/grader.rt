@@ -14,8 +14,8 @@ ghost use Rattle.ht_proofs.specs.Undetected.{KeepsVerdicts, is_undetected, undet
 use crate::frame_grader::FrameGrader;
 use crate::grade::Grade;
 use crate::steps::Steps;
-use ht_group::Diffs;
 use ht_faults::FaultList;
+use ht_group::Diffs;
 use ht_net::{Circuit, Fault, Place, unknown_start};
 use ht_tern::Tern;
 use std::alloc::{AllocError, Global};

@@ -5,8 +5,7 @@ use crate::trial::{SyncTrial, explore};
 use ht_forward::{LengthSearch, OneLength};
 use ht_items::Items;
 use ht_search::Outcome;
-use ht_window::list;
-use ht_window::{Bases, Start};
+use ht_window::{Bases, Start, list};
 use std::alloc::{AllocError, Global};
 
 /// The windows in which a list that synchronizes is searched for.

@@ -18,7 +18,7 @@ use Rattle.ht_net.specs.Netlist.{Netlist, IsCircuit, first_gate_net, no_net}
 use Rattle.ht_net.specs.Named.{name_of}
 use Rattle.ht_tree.proofs.FirstLaws.{All-range_with_len}
 use Rattle.ht_faults.specs.Sites.{faults_of}
-use Rattle.ht_collapse.specs.Classes.{AreClasses, is_representative, own_representatives, class_count, fault_at}
+use Rattle.ht_faults.specs.Classes.{AreClasses, is_representative, own_representatives, class_count, fault_at}
 use Rattle.ht_texts.specs.declared.said.Said.{Said}
 use Rattle.ht_texts.specs.declared.said.Said.TheVariants.{Detected, Untestable, Undetectable, Aborted, Undetected}
 use Rattle.ht_texts.specs.Tests.{bit_code}

@@ -20,7 +20,7 @@ use Rattle.ht_net.specs.declared.net.NetId.{NetId}
 use Rattle.ht_net.specs.Netlist.{Netlist, IsCircuit, first_gate_net, net_count, no_net}
 use Rattle.ht_net.specs.Named.{name_of}
 use Rattle.ht_faults.specs.Sites.{faults_of}
-use Rattle.ht_collapse.specs.Classes.{AreClasses, is_representative, own_representatives, class_count, fault_at}
+use Rattle.ht_faults.specs.Classes.{AreClasses, is_representative, own_representatives, class_count, fault_at}
 use Rattle.ht_texts.specs.declared.said.Said.{Said}
 use Rattle.ht_texts.specs.declared.said.Said.TheVariants.{Detected, Untestable, Undetectable, Aborted, Undetected}
 use Rattle.ht_ports.specs.LineRule.{max_text_bytes}

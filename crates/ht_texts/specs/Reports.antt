@@ -7,7 +7,7 @@ use Rattle.std.specs.List.{range_with_len}
 use Rattle.ht_net.specs.declared.fault.Fault.{Fault}
 use Rattle.ht_net.specs.Netlist.{Netlist}
 use Rattle.ht_faults.specs.Sites.{faults_of}
-use Rattle.ht_collapse.specs.Classes.{fault_at, is_representative, class_count}
+use Rattle.ht_faults.specs.Classes.{fault_at, is_representative, class_count}
 use Rattle.ht_texts.specs.declared.said.Said.{Said}
 use Rattle.ht_texts.specs.declared.total.Sums.{Sums}
 use Rattle.ht_texts.specs.Lines.{with_lfs}

@@ -1,7 +1,7 @@
 //! The line of one fault in a report.
 ghost use Rattle.std.specs.Prelude.{◌≡◌, ◌<◌, ◌++◌, true, length, IfOk, OnOk};
 ghost use Rattle.ht_faults.specs.Sites.{faults_of};
-ghost use Rattle.ht_collapse.specs.Classes.{AreClasses, is_representative};
+ghost use Rattle.ht_faults.specs.Classes.{AreClasses, is_representative};
 ghost use Rattle.ht_texts.specs.Lines.{with_lf};
 ghost use Rattle.ht_texts.specs.Sites.{IsSite};
 ghost use Rattle.ht_texts.specs.Verdicts.{IsSayable};
@@ -11,8 +11,7 @@ use crate::number::push_number;
 use crate::said::{Said, push_verdict};
 use crate::site::push_site;
 use crate::vector::character_of;
-use ht_collapse::Classes;
-use ht_faults::FaultList;
+use ht_faults::{Classes, FaultList};
 use ht_net::{Circuit, Fault};
 use std::alloc::{AllocError, Global};
 

@@ -1,12 +1,12 @@
 //! The head line of a report.
 ghost use Rattle.std.specs.Prelude.{◌≡◌, ◌++◌, IfOk, OnOk};
-ghost use Rattle.ht_collapse.specs.Classes.{AreClasses};
+ghost use Rattle.ht_faults.specs.Classes.{AreClasses};
 ghost use Rattle.ht_texts.specs.Lines.{with_lf};
 ghost use Rattle.ht_texts.specs.Reports.{circuit_sizes, budget_text, head_line};
 
 use crate::class_counts::count_classes;
 use crate::number::{push_counted, push_number};
-use ht_collapse::Classes;
+use ht_faults::Classes;
 use ht_net::Circuit;
 use std::alloc::{AllocError, Global};
 

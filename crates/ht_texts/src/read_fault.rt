@@ -3,7 +3,7 @@ ghost use Rattle.std.specs.Prelude.{◌≡◌, ◌<◌, ◌+◌, ◌++◌, codes
 ghost use Rattle.std.specs.Fmt.{decimal};
 ghost use Rattle.ht_net.specs.Netlist.{net_count};
 ghost use Rattle.ht_faults.specs.Sites.{faults_of};
-ghost use Rattle.ht_collapse.specs.Classes.{AreClasses};
+ghost use Rattle.ht_faults.specs.Classes.{AreClasses};
 ghost use Rattle.ht_texts.specs.declared.total.Sums.{Sums};
 ghost use Rattle.ht_texts.specs.Fronts.{Strips};
 ghost use Rattle.ht_texts.specs.Sites.{IsSite, pin_text, site_text};
@@ -14,8 +14,7 @@ use crate::item::Item;
 use crate::read_verdict::read_verdict;
 use crate::strip::{strip_number, strip_word};
 use crate::vector::character_of;
-use ht_collapse::Classes;
-use ht_faults::FaultList;
+use ht_faults::{Classes, FaultList};
 use ht_net::{Circuit, Fault, NetId, Site};
 
 // What the line says of fault `i`, or `None` where no report of a search has it there.

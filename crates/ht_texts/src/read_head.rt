@@ -1,7 +1,7 @@
 //! The head line of a search's report, read.
 ghost use Rattle.std.specs.Prelude.{◌≡◌, ◌≢◌, ℕ, Some, MatchOption};
 ghost use Rattle.std.specs.Fmt.{decimal};
-ghost use Rattle.ht_collapse.specs.Classes.{AreClasses};
+ghost use Rattle.ht_faults.specs.Classes.{AreClasses};
 ghost use Rattle.ht_texts.specs.Fronts.{Strips};
 ghost use Rattle.ht_texts.specs.Reports.{circuit_sizes, fault_sizes, head_line};
 ghost use Rattle.ht_texts.specs.SearchReports.{IsBudget};
@@ -9,7 +9,7 @@ ghost use Rattle.ht_texts.specs.SearchReports.{IsBudget};
 use crate::class_counts::count_classes;
 use crate::number::read_number;
 use crate::strip::{strip_counted, strip_word};
-use ht_collapse::Classes;
+use ht_faults::Classes;
 use ht_net::Circuit;
 use ht_tree::MAX_BUDGET;
 

@@ -15,7 +15,7 @@
 //! of variable there), `Invariants` (those that no frame leaves), `SealedInClauses`, `RefutationsFrom` (refutations
 //! from one named state) and `ToldUnder`. Of sets of pairs speak `ClosedFamilies` (a set for each flip-flop that no
 //! vector leads out of) and `FamilyRows` (those of an entry); of forbidden cubes speaks ht_cubes. What they are good for
-//! stands in `theorems`, of clauses in ht_clauses, and in ht_records what follows for every list of vectors.
+//! stands in ht_records.
 #![tactic(auto)]
 
 mod aim;
@@ -26,7 +26,6 @@ mod kind;
 mod limits;
 mod node;
 mod stack;
-mod theorems;
 mod token;
 mod told;
 mod walk;
@@ -39,13 +38,6 @@ pub use family_row::FamilyRow;
 pub use kind::EntryKind;
 pub use limits::{BACK_LIMIT, FORWARD_FRAMES, MAX_BUDGET, MAX_CLAUSES};
 pub use node::WalkNode;
-pub use theorems::{
-    before_opens_the_window_below, complete_walk_seals, decided_window_is_not_open,
-    decision_keeps_the_window, decision_leaves_one_variable_less, difference_search_is_never_spent,
-    enough_budget_is_never_spent, good_half_comes_first, latches_count_two, nodes_have_windows,
-    open_status_has_a_choice, refutation_holds, sealed_is_silent, sizes_measure,
-    tokens_are_bounded, undecided_variables_are_left, undetermined_net_has_a_choice,
-};
 pub use token::{Assign3, Choice, Status3, Token};
 pub use told::{Assign, Told};
 pub use walk::Walk;

@@ -5,7 +5,7 @@ use Rattle.std.proofs.lemmas.Grind.{flat_map-append}
 use Rattle.std.proofs.lemmas.List.{drop_more}
 use Rattle.ht_net.specs.Netlist.{Netlist}
 use Rattle.ht_faults.specs.Sites.{faults_of}
-use Rattle.ht_collapse.specs.Classes.{class_count}
+use Rattle.ht_faults.specs.Classes.{class_count}
 use Rattle.ht_texts.specs.Lines.{with_lf}
 use Rattle.ht_uninit.specs.declared.record.Removed.{Removed}
 use Rattle.ht_uninit.specs.Records.{UninitState}

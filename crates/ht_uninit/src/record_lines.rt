@@ -2,14 +2,13 @@
 ghost use Rattle.std.specs.Prelude.{◌≡◌, ◌<◌, ◌++◌, length, OnOk};
 ghost use Rattle.std.specs.Fmt.{decimal};
 ghost use Rattle.ht_faults.specs.Sites.{faults_of};
-ghost use Rattle.ht_collapse.specs.Classes.{AreClasses, is_representative};
+ghost use Rattle.ht_faults.specs.Classes.{AreClasses, is_representative};
 ghost use Rattle.ht_texts.specs.Lines.{with_lf};
 ghost use Rattle.ht_uninit.specs.UninitTexts.{decision_text, decisions_text, hidden_line, removal_text, searched_text, walk_text};
 
 use crate::record::{Out3, Removed};
-use ht_collapse::Classes;
 use ht_entries::{push_indexed, push_token};
-use ht_faults::FaultList;
+use ht_faults::{Classes, FaultList};
 use ht_net::Circuit;
 use ht_tern::Tern;
 use ht_texts::{Said, push_number, write_fault};

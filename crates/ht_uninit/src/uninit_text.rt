@@ -1,15 +1,14 @@
 //! The text of a record.
 ghost use Rattle.std.specs.Prelude.{◌≡◌, ◌<◌, ◌-◌, ◌++◌, None, false, flat_map, length, count_by, get_or, IfOk, OnOk};
 ghost use Rattle.ht_faults.specs.Sites.{faults_of};
-ghost use Rattle.ht_collapse.specs.Classes.{AreClasses, class_count, own_representatives};
+ghost use Rattle.ht_faults.specs.Classes.{AreClasses, class_count, own_representatives};
 ghost use Rattle.ht_texts.specs.Lines.{with_lf};
 ghost use Rattle.ht_uninit.specs.UninitTexts.{held_text, held_texts, hidden_texts, removal_text, searched_texts};
 ghost use Rattle.ht_uninit.specs.UninitTexts.{total_counts, uninit_body, uninit_head, uninit_total};
 
 use crate::record_lines::{push_counted, push_hidden, push_removal, push_searched, push_walk};
 use crate::uninit_record::UninitRecord;
-use ht_collapse::Classes;
-use ht_faults::FaultList;
+use ht_faults::{Classes, FaultList};
 use ht_net::Circuit;
 use std::alloc::{AllocError, Global};
 

@@ -6,7 +6,7 @@ use Rattle.ht_ports.specs.LineRule.{lines_of}
 use Rattle.ht_tern.specs.declared.tern.Tern.{Tern}
 use Rattle.ht_net.specs.Netlist.{IsCircuit, Netlist}
 use Rattle.ht_faults.specs.Sites.{faults_of}
-use Rattle.ht_collapse.specs.Classes.{is_representative}
+use Rattle.ht_faults.specs.Classes.{is_representative}
 use Rattle.ht_texts.specs.declared.item.Item.{Item}
 use Rattle.ht_texts.specs.declared.item.Item.TheVariants.{Head, Verdict, Member, Total}
 use Rattle.ht_texts.specs.declared.said.Said.{Said}

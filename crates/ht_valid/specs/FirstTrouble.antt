@@ -6,7 +6,7 @@ use Rattle.ht_ports.specs.LineRule.{lines_of}
 use Rattle.ht_tern.specs.declared.tern.Tern.{Tern}
 use Rattle.ht_net.specs.Netlist.{Netlist}
 use Rattle.ht_net.specs.Detection.{IsFirstFrom}
-use Rattle.ht_collapse.specs.Classes.{fault_at}
+use Rattle.ht_faults.specs.Classes.{fault_at}
 use Rattle.ht_tree.specs.Entries.{AllowsEntry, Passes}
 use Rattle.ht_texts.specs.declared.item.Item.TheVariants.{Verdict}
 use Rattle.ht_texts.specs.declared.said.Said.{Said}

@@ -8,10 +8,10 @@ ghost use Rattle.ht_search.specs.Outcomes.{IsClosed, IsOutcome, IsSpent};
 ghost use Rattle.ht_search.specs.WindowSteps.{route_of, steps_under};
 ghost use Rattle.ht_window.specs.Shallow.{window_shallow};
 
+use crate::window::Window;
 use ht_search::{Outcome, Point, Problem, search};
 use ht_tern::Tern;
 use ht_tree::{Choice, Status, Status3};
-use crate::window::Window;
 use std::alloc::{AllocError, Global};
 
 /// A window in which a difference of the two machines is searched for.
@@ -40,7 +40,7 @@ impl<'c> Problem for Trial<'c> {
 
     ghost subject = { λ s. s.window.window };
 
-    ghost guide = { λ s. guide_of s.window.window };
+    ghost guide = { guide_of };
 
     ghost route = { λ s. route_of (steps_under [] s.window.decisions) };
 

@@ -2,9 +2,9 @@
 ghost use Rattle.std.specs.Prelude.{◌≡◌, ◌≤◌, ◌<◌, IfOk};
 ghost use Rattle.ht_tree.specs.FoundLists.{bit_or_zero, list_of, vector_of};
 
+use crate::window::Window;
 use ht_net::Vectors;
 use ht_tern::Tern;
-use crate::window::Window;
 use std::alloc::{AllocError, Global};
 
 // The bit of a decision; 0 where there is none.

@@ -1,5 +1,5 @@
 use Rattle.std.proofs.Common.{◌≡◌, ◌<◌, ℕ, get_or}
-use Rattle.ht_collapse.specs.Classes.{own_representatives}
+use Rattle.ht_faults.specs.Classes.{own_representatives}
 use Rattle.ht_proofs.proofs.packed.place_among.Given as goal
 
 -- no representative before this one is the fault

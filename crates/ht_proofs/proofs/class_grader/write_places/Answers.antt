@@ -1,8 +1,8 @@
 use Rattle.std.proofs.Common.{◌≡◌, ◌<◌, List, ℕ, length, get_or, refl, sym, ◌∙◌, ap, subst, arith}
 use Rattle.std.proofs.lemmas.List.{length-set}
 use Rattle.ht_net.specs.Detection.{IsFirstFrom}
-use Rattle.ht_collapse.specs.Classes.{fault_at, own_representatives}
-use Rattle.ht_collapse.proofs.OwnLaws.{own_below, own_within}
+use Rattle.ht_faults.specs.Classes.{fault_at, own_representatives}
+use Rattle.ht_faults.proofs.OwnLaws.{own_below, own_within}
 use Rattle.ht_proofs.specs.PackedView.{verdict_at}
 use Rattle.ht_proofs.proofs.DetectionLaws.{one_more, all_first, own_verdict, first_within}
 use Rattle.ht_proofs.proofs.packed.places_of.Goals as goal

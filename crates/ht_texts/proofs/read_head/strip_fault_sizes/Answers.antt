@@ -1,7 +1,7 @@
 use Rattle.std.specs.Prelude.{codes}
 use Rattle.std.specs.Fmt.{decimal}
 use Rattle.std.proofs.Common.{◌∙◌}
-use Rattle.ht_collapse.specs.Classes.{class_count}
+use Rattle.ht_faults.specs.Classes.{class_count}
 use Rattle.ht_texts.proofs.FrontLaws.{strips_pair, strips_counted}
 use Rattle.ht_texts.proofs.read_head.strip_fault_sizes.Goals as goal
 

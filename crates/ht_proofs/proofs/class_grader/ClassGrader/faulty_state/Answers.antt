@@ -1,7 +1,7 @@
 use Rattle.std.proofs.Common.{◌≡◌, Bool, true, Some, None, sym, subst, ap, ◌∙◌}
 use Rattle.std.proofs.lemmas.Result.{IfOk-weaker}
 use Rattle.ht_net.specs.Detection.{IsFirstFrom, state_from}
-use Rattle.ht_collapse.specs.Classes.{fault_at}
+use Rattle.ht_faults.specs.Classes.{fault_at}
 use Rattle.ht_proofs.specs.GraderView.{GraderView}
 use Rattle.ht_proofs.specs.GraderOf.{IsGraded, grader_of}
 use Rattle.ht_proofs.specs.declared.grader.Grader.TheInside.{Inside}

@@ -1,7 +1,7 @@
 use Rattle.std.proofs.Common.{◌<◌, List, length, sym, ◌∙◌, ap}
 use Rattle.std.proofs.lemmas.List.Elements.{All-from_get_or}
 use Rattle.ht_net.specs.declared.fault.Fault.{Fault}
-use Rattle.ht_collapse.proofs.OwnLaws.{own_below}
+use Rattle.ht_faults.proofs.OwnLaws.{own_below}
 use Rattle.ht_proofs.proofs.packed.begin.Goals as goal
 
 pub new_from-requires-clause-known : goal.new_from-requires-clause-known
