@@ -15,8 +15,9 @@ use Rattle.ht_faults.specs.Classes.{fault_at, own_representatives}
 use Rattle.ht_faults.proofs.OwnLaws.{representative_is_own}
 use Rattle.ht_serial.specs.Places.{IsWithin}
 use Rattle.ht_proofs.specs.PackedView.{PackedView, GraderStandsFor, chosen_faults, verdict_at}
-use Rattle.ht_proofs.proofs.VectorLaws.{found_inside, found_output}
 use Rattle.ht_proofs.specs.Detections.{place_at, AreFirstDetections, AreWithin}
+use Rattle.ht_proofs.specs.ClassGraderView.{AreOfClasses}
+use Rattle.ht_proofs.proofs.VectorLaws.{found_inside, found_output}
 
 -- the first detections of the first k classes
 pub record AreFirstSoFar (c : Netlist) (representatives : List ℕ) (start : List Tern) (list : List (List Bool)) (k : ℕ)
@@ -25,6 +26,17 @@ pub record AreFirstSoFar (c : Netlist) (representatives : List ℕ) (start : Lis
   pub first : (j : ℕ) → j < k → IsFirstFrom c (fault_at c (get_or (own_representatives representatives) j 0)) start list
       (place_at places (get_or (own_representatives representatives) j 0))
   pub within : AreWithin c list places
+
+-- what holds of each entry that is a place holds once one is written of which it holds
+pub each_set : (P : Place → Type 0) (places : List (Option Place)) (place : Option Place) (i : ℕ) → i < length places
+    → ForSome place P → ((j : ℕ) → ForSome (place_at places j) P) → (j : ℕ) → ForSome (place_at (set places i place) j) P
+each_set P places place i inside here each j = elim (cases_eq j i) [
+  | inl same ↦
+      subst (λ n. ForSome (place_at (set places i place) n) P) (sym same)
+      (subst (λ p. ForSome p P) (sym (get_or-set_same places i place None inside)) here)
+  | inr other ↦
+      subst (λ p. ForSome p P) (sym (get_or-set_other places i j place None other)) (each j)
+]
 
 -- one class more: its representative's entry is written
 pub one_more : (c : Netlist) (representatives : List ℕ) (start : List Tern) (list : List (List Bool))
@@ -47,13 +59,7 @@ one_more c representatives start list places place k i so_far is inside first wi
           (so_far.first j (omega arith))
     ]
   ];
-  within = λ j. elim (cases_eq j i) [
-    | inl same ↦
-        subst (λ n. ForSome (place_at (set places i place) n) (IsWithin c list)) (sym same)
-        (subst (λ p. ForSome p (IsWithin c list)) (sym written) within)
-    | inr other ↦
-        subst (λ p. ForSome p (IsWithin c list)) (sym (get_or-set_other places i j place None other)) (so_far.within j)
-  ];
+  within = each_set (IsWithin c list) places place i inside within so_far.within;
 }
   where
     own : ℕ → ℕ

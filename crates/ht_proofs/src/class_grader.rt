@@ -9,7 +9,7 @@ ghost use Rattle.ht_proofs.specs.PackedView.{GraderStandsFor};
 ghost use Rattle.ht_proofs.specs.Detections.{AreFirstDetections, ArePlaces, AreWithin, place_at};
 ghost use Rattle.ht_proofs.specs.ClassGraderView.{AreOfClasses, ClassGraderStandsFor, IsVerdictOn};
 
-use crate::grader::{Grader, MAX_VECTORS};
+use crate::grader::{Grader, MAX_VECTORS, verdicts_at_start};
 use crate::steps::Steps;
 use ht_faults::{Classes, FaultList};
 use ht_net::{Circuit, Place, Vectors};
@@ -79,6 +79,8 @@ fn write_places(classes: &Classes, machines: &Grader, places: &mut [Option<Place
     ensures known { ArePlaces machines.now.circuit places.old
         → ArePlaces machines.now.circuit places.new }
 {
+    // for the proof: the faults are fewer than 2^32
+    let _ = classes.len();
     for (k, i) in classes.representatives().iter().enumerate() {
         places[*i as usize] = machines.verdict(k as u32);
     }
@@ -122,7 +124,7 @@ impl<'c> ClassGrader<'c> {
         ensures live { IfOk result (λ grader. grader.live ≡ true) }
     {
         let machines = Grader::new_from(alloc, circuit, faults, classes.representatives(), start)?;
-        let places = vec![in alloc; None; classes.len() as usize]?;
+        let places = verdicts_at_start(alloc, classes.len() as usize)?;
         Ok(ClassGrader {
             classes,
             places,
@@ -174,7 +176,7 @@ impl<'c> ClassGrader<'c> {
 
     /// The verdicts on all faults, by their numbers. That of another than a representative has no meaning.
     pub fn into_verdicts(self) -> Vec<Option<Place>>
-        ensures { result.items ≡ self.places }
+        ensures { result.items ≡ self.entry.places }
     {
         self.places
     }

@@ -67,8 +67,8 @@ fn choose(alloc: Global, faults: &FaultList, which: &[u32]) -> Result<Vec<Fault>
     Ok(chosen)
 }
 
-// The verdicts on so many faults before the first vector.
-fn verdicts_at_start(alloc: Global, count: usize) -> Result<Vec<Option<Place>>, AllocError>
+/// The verdicts on so many faults before the first vector.
+pub fn verdicts_at_start(alloc: Global, count: usize) -> Result<Vec<Option<Place>>, AllocError>
     ensures { IfOk result (λ verdicts. verdicts.items ≡ replicate count None) }
 {
     let mut verdicts = Vec::with_capacity(alloc, count)?;

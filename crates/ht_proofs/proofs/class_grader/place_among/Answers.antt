@@ -1,6 +1,6 @@
 use Rattle.std.proofs.Common.{List, ℕ, length, ap, arith}
 use Rattle.ht_faults.proofs.OwnLaws.{own_within, representative_is_own}
-use Rattle.ht_proofs.proofs.packed.place_among.Goals as goal
+use Rattle.ht_proofs.proofs.class_grader.place_among.Goals as goal
 
 pub overflow_cast-result : goal.overflow_cast-result
 overflow_cast-result c =

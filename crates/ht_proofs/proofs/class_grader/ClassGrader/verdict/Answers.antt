@@ -1,28 +1,37 @@
-use Rattle.std.proofs.Common.{arith}
-use Rattle.ht_proofs.proofs.GraderLaws.{verdict_on, within_is_place}
-use Rattle.ht_proofs.proofs.grader.Grader.verdict.Goals as goal
+use Rattle.std.proofs.Common.{◌≡◌, ◌∙◌, None, length, sym, ap, subst, arith}
+use Rattle.std.specs.Option.{ForSome}
+use Rattle.std.proofs.lemmas.List.{get_or_read}
+use Rattle.ht_net.specs.declared.place.Place.{Place}
+use Rattle.ht_net.specs.Detection.{IsPlace}
+use Rattle.ht_faults.specs.Sites.{faults_of}
+use Rattle.ht_proofs.specs.Detections.{place_at}
+use Rattle.ht_proofs.specs.ClassGraderView.{ClassGraderView}
+use Rattle.ht_proofs.proofs.ClassGraderLaws.{verdict_on}
+use Rattle.ht_proofs.proofs.class_grader.ClassGrader.verdict.Goals as goal
+use Rattle.ht_proofs.proofs.class_grader.ClassGrader.verdict.Goals.{After-index}
 
-pub returns-clause-first : goal.returns-clause-first
-returns-clause-first c =
-    (verdict_on c.self.inside c.args.self.now c.args.i c.index.result.now c.self.view_is c.self.invariant
-    c.requires.fault c.requires.representative c.index.ensures).first
+-- the entry of the fault is read
+entry : (c : After-index) → c.index.result.now ≡ place_at c.args.self.now.places c.args.i
+entry c =
+    let a = c.self.inside in
+    let faults = ap (λ (g : ClassGraderView). length (faults_of g.machines.circuit)) c.self.view_is in
+    get_or_read a.places.items c.args.i c.index.result.now (omega (
+      arith,
+      c.requires.fault,
+      faults,
+      c.self.invariant.classes.every,
+      c.self.invariant.each,
+    )) c.index.ensures None
+    ∙ ap (λ (g : ClassGraderView). place_at g.places c.args.i) c.self.view_is
 
-pub returns-clause-within : goal.returns-clause-within
-returns-clause-within c =
-    (verdict_on c.self.inside c.args.self.now c.args.i c.index.result.now c.self.view_is c.self.invariant
-    c.requires.fault c.requires.representative c.index.ensures).within
+pub returns-clause-verdict : goal.returns-clause-verdict
+returns-clause-verdict c = λ start list stands.
+    verdict_on c.args.self.now start list c.args.i c.index.result.now c.requires.fault c.requires.representative
+    (entry (goal.at.returns-clause-verdict c).After-index) stands
 
 pub returns-clause-place : goal.returns-clause-place
 returns-clause-place c =
-    let verdict = verdict_on c.self.inside c.args.self.now c.args.i c.index.result.now c.self.view_is c.self.invariant
-    c.requires.fault c.requires.representative c.index.ensures in
-    within_is_place c.args.self.now c.index.result.now verdict.within (omega (
-      arith,
-      c.len.ensures.same,
-      c.len.ensures.few,
-    ))
-
-pub returns-clause-apart : goal.returns-clause-apart
-returns-clause-apart c =
-    (verdict_on c.self.inside c.args.self.now c.args.i c.index.result.now c.self.view_is c.self.invariant
-    c.requires.fault c.requires.representative c.index.ensures).apart
+    subst (λ p. ForSome p (IsPlace c.args.self.now.machines.circuit))
+    (sym (entry (goal.at.returns-clause-place c).After-index))
+    (subst (λ (g : ClassGraderView). ForSome (place_at g.places c.args.i) (IsPlace g.machines.circuit))
+    c.self.view_is (c.self.invariant.known c.args.i))
