@@ -1,5 +1,5 @@
 -- What a grader of classes keeps over its lists.
-use Rattle.std.proofs.Common.{◌≡◌, ◌<◌, ◌+◌, ◌++◌, ℕ, List, [], Bool, true, Option, Some, None, length, get_or, replicate, refl, sym, ◌∙◌, ap, subst, arith, inl, inr, length-append}
+use Rattle.std.proofs.Common.{◌≡◌, ◌<◌, ◌++◌, ℕ, List, [], Bool, true, Option, Some, None, length, get_or, replicate, refl, sym, ◌∙◌, ap, subst, arith, inl, inr, length-append}
 use Rattle.std.specs.List.{slice_get}
 use Rattle.std.specs.Option.{ForSome, option_map}
 use Rattle.std.proofs.lemmas.List.{get_or_past, get_or-replicate, length-replicate}
@@ -8,13 +8,13 @@ use Rattle.ht_tern.specs.declared.tern.Tern.{Tern}
 use Rattle.ht_net.specs.declared.fault.Fault.{Fault}
 use Rattle.ht_net.specs.declared.place.Place.{Place}
 use Rattle.ht_net.specs.Netlist.{Netlist}
-use Rattle.ht_net.specs.Detection.{ApartFrom, IsFirstFrom, IsStart, state_from}
+use Rattle.ht_net.specs.Detection.{IsFirstFrom, IsStart, state_from}
 use Rattle.ht_net.proofs.ApartLaws.{detected_apart_from}
 use Rattle.ht_net.proofs.FrameLaws.{le_or_lt}
 use Rattle.ht_faults.specs.Sites.{faults_of}
 use Rattle.ht_faults.specs.Classes.{AreClasses, fault_at, is_representative, own_representatives}
 use Rattle.ht_serial.specs.Places.{IsWithin}
-use Rattle.ht_proofs.specs.PackedView.{PackedView, GraderStandsFor, state_at, verdict_at}
+use Rattle.ht_proofs.specs.PackedView.{GraderStandsFor, state_at, verdict_at}
 use Rattle.ht_proofs.specs.Detections.{AreFirstDetections, ArePlaces, AreWithin, place_at}
 use Rattle.ht_proofs.specs.ClassGraderView.{AreOfClasses, ClassGraderStandsFor, ClassGraderView, IsVerdictOn}
 use Rattle.ht_proofs.specs.ClassGraderOf.{IsClassGrader}

@@ -16,7 +16,6 @@ use Rattle.ht_faults.proofs.OwnLaws.{representative_is_own}
 use Rattle.ht_serial.specs.Places.{IsWithin}
 use Rattle.ht_proofs.specs.PackedView.{PackedView, GraderStandsFor, chosen_faults, verdict_at}
 use Rattle.ht_proofs.specs.Detections.{place_at, AreFirstDetections, AreWithin}
-use Rattle.ht_proofs.specs.ClassGraderView.{AreOfClasses}
 use Rattle.ht_proofs.proofs.VectorLaws.{found_inside, found_output}
 
 -- the first detections of the first k classes

@@ -5,9 +5,13 @@
 //! isn't detected yet, 64 machines a group, or 256 where events reach most gates. What is kept of a fault is its first
 //! detection, or else where the flip-flops of its machine differ from the good ones.
 //!
-//! A fault whose machine holds the good latches is looked up first (ht_stems): its effect may die, or come to one
-//! flip-flop or one output, and then no group is needed. Of the faults that arrive at one stem with one value the first
-//! takes a lane, and the others take over its grade.
+//! Where enough faults hold the good latches, each of them is looked up first (ht_stems): its effect may die, or come to
+//! one flip-flop or one output, and then no group is needed. Of the faults that arrive at one stem with one value the
+//! first takes a lane, and the others take over its grade.
+//!
+//! A `ClassGrader` grades the representatives of all classes over lists of vectors that come one after the other, and
+//! `first_detections` over one list (`specs/Detections`). No other fault is simulated: the members of a class are
+//! detected at one first place (`ht_faults::representatives_stand_for_members`).
 #![tactic(auto)]
 
 mod batch;

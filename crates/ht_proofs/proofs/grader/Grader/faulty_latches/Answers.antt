@@ -1,4 +1,4 @@
-use Rattle.std.proofs.Common.{◌≡◌, ◌<◌, ◌∙◌, ◌++◌, [], ◌∷◌, List, length, take, sym, ap, arith}
+use Rattle.std.proofs.Common.{◌≡◌, ◌<◌, ◌+◌, ◌∙◌, ◌++◌, [], ◌∷◌, ℕ, List, length, get_or, take, sym, ap, arith}
 use Rattle.std.proofs.lemmas.List.{take_all, take_more}
 use Rattle.ht_tern.specs.declared.tern.Tern.{Tern}
 use Rattle.ht_tern.specs.declared.tern.Tern.TheVariants.{Unk}
@@ -20,29 +20,30 @@ long c =
       c.self.invariant.grade_count,
     ))
 
+-- one value more
+taken : (state done new : List Tern) (j : ℕ) (value : Tern) → done ≡ take j state → new ≡ done ++ value ∷ []
+    → value ≡ get_or state j Unk → j < length state → new ≡ take (j + 1) state
+taken state done new j value so_far pushed is inside =
+    pushed ∙ (ap (λ (l : List Tern). l ++ value ∷ []) so_far
+    ∙ (ap (λ v. take j state ++ v ∷ []) is ∙ sym (take_more state j Unk inside)))
+
 pub loop-j-preserved : goal.loop-j-preserved
 loop-j-preserved c =
-    let state = state_at c.args.self.now c.args.k in
-    let j = c.loop-j.j in
-    let each = long (goal.at.loop-j-preserved c).At-loop-j in
-    let inside : j < length state = omega (
+    taken (state_at c.args.self.now c.args.k) c.loop-j.latches.items c.push.new.self.items c.loop-j.j c.state.result
+    c.loop-j.invariant c.in_ok-push.ensures.items c.state.ensures (omega (
       arith,
       c.loop-j-test.true,
       c.dffs-j-end.ensures,
       c.self.invariant.latch_count,
-      each,
-    ) in
-    c.in_ok-push.ensures.items ∙ (ap (λ (l : List Tern). l ++ c.state.result ∷ []) c.loop-j.invariant
-    ∙ (ap (λ (v : Tern). take j state ++ v ∷ []) c.state.ensures ∙ sym (take_more state j Unk inside)))
+      long (goal.at.loop-j-preserved c).At-loop-j,
+    ))
 
 pub returns : goal.returns
 returns c =
-    let state = state_at c.args.self.now c.args.k in
-    let each = long (goal.at.returns c).At-loop-j in
-    c.loop-j.invariant ∙ take_all c.loop-j.j state (omega (
+    c.loop-j.invariant ∙ take_all c.loop-j.j (state_at c.args.self.now c.args.k) (omega (
       arith,
       c.loop-j-test.false,
       c.dffs-j-end.ensures,
       c.self.invariant.latch_count,
-      each,
+      long (goal.at.returns c).At-loop-j,
     ))
