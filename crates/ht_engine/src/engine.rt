@@ -22,7 +22,7 @@ use crate::settings::{Search, Settings};
 use crate::step::Step;
 use crate::work::{Work, work_on};
 use ht_faults::{Classes, FaultList};
-use ht_grade::Grader;
+use ht_proofs::Grader;
 use ht_invariant::{Invariant, find};
 use ht_items::Items;
 use ht_net::{Circuit, Vectors, some_state};

@@ -7,7 +7,7 @@ pub use Rattle.ht_dictionary.specs.ObservationView.{ObservationView}
 pub use Rattle.ht_dictionary.specs.ResponseTexts.{IsMalformedResponse, row_text}
 pub use Rattle.ht_entries.specs.ProofLines.{line_text}
 pub use Rattle.ht_entries.specs.declared.numbered.Numbered.{Numbered}
-pub use Rattle.ht_grade.specs.Detections.{AreFirstDetections}
+pub use Rattle.ht_proofs.specs.Detections.{AreFirstDetections}
 pub use Rattle.ht_inputs.specs.Errors.{exit_status, judged_error_of}
 pub use Rattle.ht_inputs.specs.Inputs.{AcceptsInputs, HasNetlist, IsGoodNetlist, IsInput, JobBasis, MayHold, SaysBasis}
 pub use Rattle.ht_inputs.specs.Inputs.{WasRead}

@@ -15,7 +15,7 @@ use crate::netlist::read_netlist;
 use crate::run_error::RunError;
 use crate::start_file::read_stated;
 use crate::vectors_file::read_tests;
-use ht_grade::first_detections_from;
+use ht_proofs::first_detections_from;
 use ht_net::{Circuit, Place, Vectors};
 use ht_ports::Desk;
 use ht_tern::Tern;
