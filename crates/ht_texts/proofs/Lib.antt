@@ -10,6 +10,7 @@ pub mod ItemLaws
 pub mod ReadingLaws
 pub mod ReportFrontLaws
 pub mod ReaderLaws
+pub mod WrongLineLaws
 pub mod ReportChoiceLaws
 pub mod ReportTextLaws
 pub mod ReportPieceLaws
