@@ -1,3 +1,4 @@
+pub mod LineLaws
 pub mod PieceLaws
 pub mod FrontLaws
 pub mod ReportLaws
@@ -15,7 +16,6 @@ pub mod ReportChoiceLaws
 pub mod ReportTextLaws
 pub mod ReportPieceLaws
 pub mod ReportWrittenLaws
-pub mod LineLaws
 pub mod NumberLaws
 pub mod StopLaws
 pub mod TestLaws
