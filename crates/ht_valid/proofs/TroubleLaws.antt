@@ -7,11 +7,12 @@ use Rattle.std.proofs.lemmas.List.Elements.{All-cons, All-head, All-nil, All-tai
 use Rattle.ht_ports.specs.LineRule.{lines_of}
 use Rattle.ht_tern.specs.declared.tern.Tern.{Tern}
 use Rattle.ht_net.specs.Netlist.{IsCircuit, Netlist}
-use Rattle.ht_texts.specs.Tests.{IsTestText, line_at}
+use Rattle.ht_texts.specs.Tests.{IsTestText, IsWrongLine, line_at}
 use Rattle.ht_texts.specs.SearchReports.{IsReportText}
 use Rattle.ht_texts.specs.Verdicts.{said_at}
 use Rattle.ht_texts.proofs.ReportFrontLaws.{one_report}
-use Rattle.ht_texts.proofs.TestLaws.{never_both, one_list, one_line as one_malformed_test}
+use Rattle.ht_texts.proofs.TestLaws.{never_both, one_list}
+use Rattle.ht_texts.proofs.WrongLineLaws.{one_first}
 use Rattle.ht_entries.specs.declared.numbered.Numbered.{Numbered}
 use Rattle.ht_entries.specs.EntryTexts.{IsProofText}
 use Rattle.ht_entries.specs.MalformedProofs.{IsWrongProofLine}
@@ -278,7 +279,7 @@ module _ (c : Netlist) (representatives : List ℕ) (start : List Tern) (tests r
 
   pub one_trouble : (t u : Trouble) → IsFirstTrouble c representatives start tests report proofs t
       → IsFirstTrouble c representatives start tests report proofs u → t ≡ u
-  one_trouble (Tests n) (Tests m) a b = ap Tests (one_malformed_test c tests n m a b)
+  one_trouble (Tests n) (Tests m) a b = ap Tests (one_first (IsWrongLine c tests) n m a b)
   one_trouble (Tests n) (Report m) a b = absurd (never_both c tests b.0 n b.1 a)
   one_trouble (Tests n) (Proofs m) a b = absurd (never_both c tests b.0.list n b.1.vectors a)
   one_trouble (Tests n) (Fault m) a b = absurd (never_both c tests b.0.list n b.1.vectors a)
@@ -331,7 +332,7 @@ module _ (c : Netlist) (representatives : List ℕ) (start : List Tern) (budget 
 
   pub one_unjustified : (t u : Trouble) → IsFirstUnjustified c representatives start budget tests proofs t
       → IsFirstUnjustified c representatives start budget tests proofs u → t ≡ u
-  one_unjustified (Tests n) (Tests m) a b = ap Tests (one_malformed_test c tests n m a b)
+  one_unjustified (Tests n) (Tests m) a b = ap Tests (one_first (IsWrongLine c tests) n m a b)
   one_unjustified (Tests n) (Report m) a b = absurd b
   one_unjustified (Tests n) (Proofs m) a b = absurd (never_both c tests b.0 n b.1 a)
   one_unjustified (Tests n) (Fault m) a b = absurd (never_both c tests b.0 n b.1 a)
