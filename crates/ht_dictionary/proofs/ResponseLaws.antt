@@ -1,5 +1,5 @@
 -- Each text is that of one list of rows, or malformed at one line, and never both.
-use Rattle.std.proofs.Common.{◌≡◌, ◌⊎◌, inl, inr, ℕ, ◌+◌, ◌-◌, ◌<◌, ◌≤◌, List, [], length, get_or, map, sym, ◌∙◌, ap, subst, arith}
+use Rattle.std.proofs.Common.{◌≡◌, ◌⊎◌, inl, inr, ℕ, ◌+◌, ◌-◌, ◌<◌, ◌≤◌, List, [], length, get_or, sym, ◌∙◌, ap, subst, arith}
 use Rattle.std.proofs.lemmas.Bool.{cases_lt}
 use Rattle.std.proofs.lemmas.List.{length-map, get_or-map, get_or-take}
 use Rattle.ht_tern.specs.declared.tern.Tern.{Tern}
@@ -42,24 +42,33 @@ rows_or_first width vectors text =
     let lines = lines_of text in elim (coded_or_stop tern_code value_or_none width lines) [
       | inl are ↦ elim (cases_lt vectors (length lines)) [
         | inr few ↦ inl (are, few)
-        | inl many ↦ inr (vectors + 1, too_many width vectors text many (λ j below.
-            coded_at tern_code width lines are.0 are.1 j (omega (arith, below, many))))
+        | inl many ↦ inr (
+          vectors + 1,
+          too_many width vectors text many (λ j below.
+              coded_at tern_code width lines are.0 are.1 j (omega (arith, below, many))),
+        )
       ]
       | inr stop ↦ elim (cases_lt vectors (stop.0 + 1)) [
-        | inl past ↦ inr (vectors + 1, too_many width vectors text (omega (arith, past, stop.1.within))
-            (λ j below. stop.1.before j (omega (arith, below, past))))
-        | inr inside ↦ inr (stop.0 + 1, record {
-          wrong = record {
-            counted = (omega arith, omega (arith, stop.1.within));
-            wrong = inr (subst (λ k. (row : List Tern) → ¬ IsRowText width (get_or lines k []) row) (omega arith)
-                stop.1.none);
-          };
-          first = λ m below bad. elim bad.wrong [
-            | inl many ↦ omega (arith, below, inside, many)
-            | inr none ↦
-                let row = stop.1.before (m - 1) (omega (arith, below, bad.counted.0)) in none row.0 row.1
-          ];
-        })
+        | inl past ↦ inr (
+          vectors + 1,
+          too_many width vectors text (omega (arith, past, stop.1.within))
+              (λ j below. stop.1.before j (omega (arith, below, past))),
+        )
+        | inr inside ↦ inr (
+          stop.0 + 1,
+          record {
+            wrong = record {
+              counted = (omega arith, omega (arith, stop.1.within));
+              wrong = inr (subst (λ k. (row : List Tern) → ¬ IsRowText width (get_or lines k []) row) (omega arith)
+                  stop.1.none);
+            };
+            first = λ m below bad. elim bad.wrong [
+              | inl many ↦ omega (arith, below, inside, many)
+              | inr none ↦
+                  let row = stop.1.before (m - 1) (omega (arith, below, bad.counted.0)) in none row.0 row.1
+            ];
+          },
+        )
       ]
     ]
 
@@ -89,10 +98,13 @@ enough_or_missing : (vectors : ℕ) (text : List ℕ)
     → RightOrFirst (vectors ≤ length (lines_of text)) (IsMissingResponse vectors text)
 enough_or_missing vectors text = elim (cases_lt (length (lines_of text)) vectors) [
   | inr enough ↦ inl enough
-  | inl fewer ↦ inr (length (lines_of text) + 1, record {
-    wrong = record { missing = omega arith; awaited = omega (arith, fewer) };
-    first = λ m below bad. omega (arith, below, bad.missing);
-  })
+  | inl fewer ↦ inr (
+    length (lines_of text) + 1,
+    record {
+      wrong = record { missing = omega arith; awaited = omega (arith, fewer) };
+      first = λ m below bad. omega (arith, below, bad.missing);
+    },
+  )
 ]
 
 pub rows_or_line : (width vectors : ℕ) (text : List ℕ)
@@ -112,12 +124,15 @@ rows_or_line width vectors text =
       | inl right ↦
           let rows = right.0.0 in
           let count = ap length rows.1.texts ∙ length-map rows.0 row_text in
-          inl (rows.0, record {
-            lines = rows.1.texts;
-            widths = rows.1.widths;
-            each = omega (arith, count, right.0.1, right.1.0);
-            short = right.1.1;
-          })
+          inl (
+            rows.0,
+            record {
+              lines = rows.1.texts;
+              widths = rows.1.widths;
+              each = omega (arith, count, right.0.1, right.1.0);
+              short = right.1.1;
+            },
+          )
       | inr first ↦ inr first
     ]
 

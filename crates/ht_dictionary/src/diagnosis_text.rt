@@ -14,7 +14,9 @@ use crate::diagnosis::Diagnosis;
 use ht_collapse::Classes;
 use ht_faults::FaultList;
 use ht_net::{Circuit, Place};
-use ht_texts::{Piece, Said, count_classes, output_name, push_fault, push_line, push_line_front, push_pieces};
+use ht_texts::{
+    Piece, Said, count_classes, output_name, push_fault, push_line, push_line_front, push_pieces,
+};
 use std::alloc::{AllocError, Global};
 
 /// The text of a diagnosis without its total line, where `vectors` is how many vectors were applied: the head line

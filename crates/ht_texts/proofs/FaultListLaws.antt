@@ -7,7 +7,7 @@ use Rattle.std.proofs.lemmas.Fmt.{decimal_injective, length-decimal-le}
 use Rattle.std.proofs.lemmas.List.{get_or_append_left, length-append, length-map, map-append, same_from_push, take-map, take_all, take_more, length-take-le}
 use Rattle.std.proofs.lemmas.List.Elements.{All-append, All-cons, All-map, All-nil, All-take}
 use Rattle.std.proofs.Math.Seq.{get_or-append_seam, get_or-take, take-length}
-use Rattle.ht_ports.specs.LineRule.{lines_of, max_text_bytes}
+use Rattle.ht_ports.specs.LineRule.{lines_of}
 use Rattle.ht_tree.specs.Rising.{Rises}
 use Rattle.ht_texts.specs.FaultListTexts.{AreFaultLines, AreSomeFaults, IsFaultListText, IsNoFaultLine, IsWrongFaultLine, IsMalformedFaultList, IsFaultListOrMalformed}
 use Rattle.ht_texts.specs.LineLengths.{IsShortLine}
@@ -196,8 +196,12 @@ pub front_of_faults : (count : ℕ) (lines : List (List ℕ)) (n : ℕ) → AreS
 front_of_faults count lines n are = elim (cases_lt (length are.0) n) [
   | inr within ↦ (take n are.0, first_fault_lines count lines are.0 n within are.1)
   | inl past ↦
-      let size : length lines ≤ n = omega (arith, past, ap (λ (l : List (List ℕ)). length l) are.1.texts,
-          length-map are.0 decimal) in
+      let size : length lines ≤ n = omega (
+        arith,
+        past,
+        ap (λ (l : List (List ℕ)). length l) are.1.texts,
+        length-map are.0 decimal,
+      ) in
       (are.0, subst (λ l. AreFaultLines count l are.0) (sym (take_all n lines size)) are.1)
 ]
 
@@ -217,9 +221,9 @@ list_or_line : (count : ℕ) (text : List ℕ) → count < 2 ^ 64
 list_or_line count text few = elim (first_of_both (IsNoFaultLine count text) (IsTooLong text)
     (all_is_right (AreSomeFaults count) (front_of_faults count) text) (short_is_right text)
     (faults_or_first count text few) (short_or_long text)) [
-  | inl right ↦ inl (right.0.0, record { lines = right.0.1; short = right.1 })
-  | inr first ↦ inr first
-]
+      | inl right ↦ inl (right.0.0, record { lines = right.0.1; short = right.1 })
+      | inr first ↦ inr first
+    ]
 
 never_both : (count : ℕ) (text numbers : List ℕ) (n : ℕ) → IsFaultListText count text numbers
     → ¬ IsMalformedFaultList count text n

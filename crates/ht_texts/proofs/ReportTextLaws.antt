@@ -1,5 +1,5 @@
 -- A text is the report of one search, or malformed at one line.
-use Rattle.std.proofs.Common.{◌≡◌, ◌⊎◌, inl, inr, ℕ, ◌+◌, ◌<◌, List, [], ◌++◌, length, take, drop, append_assoc, refl, sym, ap, ◌∙◌, subst, arith}
+use Rattle.std.proofs.Common.{◌≡◌, ◌⊎◌, inl, inr, ℕ, ◌+◌, List, [], ◌++◌, length, take, drop, append_assoc, refl, sym, ap, ◌∙◌, subst, arith}
 use Rattle.std.proofs.lemmas.Bool.{cases_eq}
 use Rattle.std.proofs.lemmas.List.{take-append-drop}
 use Rattle.ht_net.specs.Netlist.{Netlist}
@@ -66,10 +66,13 @@ whole_or_early c representatives text listed =
     let lines = lines_of text in
     let early : ((budget : ℕ) (saids : List Said) → ¬ IsSearchReport c representatives lines budget saids)
     → RightOrFirst (AreReport c representatives lines) (EndsTooEarly c representatives text) =
-    λ none. inr (length lines + 1, record {
-      wrong = record { line = refl; none = none };
-      first = λ m below other. omega (arith, below, other.line);
-    }) in
+    λ none. inr (
+      length lines + 1,
+      record {
+        wrong = record { line = refl; none = none };
+        first = λ m below other. omega (arith, below, other.line);
+      },
+    ) in
     elim (cases_eq (length lines) (length (faults_of c) + 2)) [
       | inr differs ↦ early (λ budget saids. not_whole c representatives lines budget saids differs)
       | inl all ↦ elim (front_or_first c representatives text listed) [

@@ -1,10 +1,8 @@
 -- What is written is read: the text of a report is that of what it says.
-use Rattle.std.proofs.Common.{◌≢◌, ◌==◌, inl, inr, ℕ, ◌<◌, ◌≤◌, List, [], ◌∷◌, Some, length, get_or, sym, ap, ◌∙◌}
-use Rattle.std.specs.Prelude.{not}
+use Rattle.std.proofs.Common.{inl, inr, ℕ, ◌≤◌, List, [], ◌∷◌, Some, length, ap}
 use Rattle.std.specs.List.{All, list_all}
-use Rattle.std.proofs.lemmas.Bool.{cases_lt, cases_Bool, and_parts, not-true, eqb-false, false≢true}
+use Rattle.std.proofs.lemmas.Bool.{cases_lt}
 use Rattle.std.proofs.lemmas.List.Elements.{All-head, All-tail}
-use Rattle.std.proofs.lemmas.List.Folds.{list_all_at}
 use Rattle.std.proofs.Math.ListN.{get_or-eq_default}
 use Rattle.ht_net.specs.declared.net.NetId.{NetId}
 use Rattle.ht_net.specs.Netlist.{Netlist, IsCircuit}

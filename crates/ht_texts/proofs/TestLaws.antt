@@ -1,8 +1,7 @@
 -- Each text is the test text of one list of vectors, or malformed at one line, and never both.
-use Rattle.std.proofs.Common.{◌≡◌, ◌⊎◌, inl, inr, ℕ, ◌+◌, ◌<◌, ◌≤◌, List, Bool, length, refl, sym, ◌∙◌, arith}
-use Rattle.std.proofs.lemmas.Bool.{cases_lt}
+use Rattle.std.proofs.Common.{◌≡◌, ◌⊎◌, inl, inr, ℕ, ◌+◌, List, Bool, sym, ◌∙◌, arith}
 use Rattle.ht_net.specs.Netlist.{Netlist}
-use Rattle.ht_ports.specs.LineRule.{lines_of, max_text_bytes}
+use Rattle.ht_ports.specs.LineRule.{lines_of}
 use Rattle.ht_texts.specs.Tests.{vector_text, IsNoVector, IsTestText, IsTooLong, IsMalformedTest}
 use Rattle.ht_texts.proofs.WrongLineLaws.{RightOrFirst, first_of_both, short_or_long, short_is_right}
 use Rattle.ht_texts.proofs.StopLaws.{AreVectorLines, vectors_or_stop, no_wrong_line, no_wrong_before, wrong_at}
@@ -24,19 +23,22 @@ vectors_or_first : (c : Netlist) (text : List ℕ)
     → RightOrFirst ((list : List (List Bool)) × AreVectorLines c.inputs (lines_of text) list) (IsNoVector c text)
 vectors_or_first c text = elim (vectors_or_stop c.inputs (lines_of text)) [
   | inl are ↦ inl are
-  | inr stop ↦ inr (stop.0 + 1, record {
-    wrong = wrong_at c text stop.0 stop.1;
-    first = λ m below. no_wrong_before c text stop.0 m stop.1 (omega (arith, below));
-  })
+  | inr stop ↦ inr (
+    stop.0 + 1,
+    record {
+      wrong = wrong_at c text stop.0 stop.1;
+      first = λ m below. no_wrong_before c text stop.0 m stop.1 (omega (arith, below));
+    },
+  )
 ]
 
 pub list_or_line : (c : Netlist) (text : List ℕ) → ((list : List (List Bool)) × IsTestText c text list)
     ⊎ ((n : ℕ) × IsMalformedTest c text n)
 list_or_line c text = elim (first_of_both (IsNoVector c text) (IsTooLong text)
     (λ are. no_wrong_line c text are.0 are.1) (short_is_right text) (vectors_or_first c text) (short_or_long text)) [
-  | inl right ↦ inl (
-    right.0.0,
-    record { lines = right.0.1.texts; widths = right.0.1.widths; short = right.1 },
-  )
-  | inr first ↦ inr first
-]
+      | inl right ↦ inl (
+        right.0.0,
+        record { lines = right.0.1.texts; widths = right.0.1.widths; short = right.1 },
+      )
+      | inr first ↦ inr first
+    ]

@@ -3,7 +3,7 @@ use Rattle.std.proofs.Common.{◌≡◌, ◌≢◌, ◌⊎◌, inl, inr, ℕ, Li
 use Rattle.std.proofs.lemmas.Bool.{cases_eq}
 use Rattle.ht_tern.specs.declared.tern.Tern.{Tern}
 use Rattle.ht_tern.specs.declared.tern.Tern.TheVariants.{Zero, One, Unk}
-use Rattle.ht_texts.specs.Tests.{bit_code, tern_code, vector_text, IsTextOf}
+use Rattle.ht_texts.specs.Tests.{bit_code, tern_code, vector_text}
 use Rattle.ht_texts.proofs.CodedLaws.{map_injective}
 
 bit_code_injective : (a b : Bool) → bit_code a ≡ bit_code b → a ≡ b

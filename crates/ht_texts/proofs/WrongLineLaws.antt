@@ -24,25 +24,37 @@ RightOrFirst IsRight IsWrong = IsRight ⊎ ((n : ℕ) × IsFirstWrong IsWrong n)
 pub first_of_both : {A B : Type 0} (P Q : ℕ → Type 0) → (A → (n : ℕ) → ¬ P n) → (B → (n : ℕ) → ¬ Q n)
     → RightOrFirst A P → RightOrFirst B Q → RightOrFirst (A × B) (λ n. P n ⊎ Q n)
 first_of_both P Q no_p no_q (inl a) (inl b) = inl (a, b)
-first_of_both P Q no_p no_q (inr (m, p)) (inl b) = inr (m, record {
-  wrong = inl p.wrong;
-  first = λ k below wrong. elim wrong [ inl here ↦ p.first k below here | inr here ↦ no_q b k here ];
-})
-first_of_both P Q no_p no_q (inl a) (inr (n, q)) = inr (n, record {
-  wrong = inr q.wrong;
-  first = λ k below wrong. elim wrong [ inl here ↦ no_p a k here | inr here ↦ q.first k below here ];
-})
-first_of_both P Q no_p no_q (inr (m, p)) (inr (n, q)) = elim (cases_lt m n) [
-  | inl sooner ↦ inr (m, record {
+first_of_both P Q no_p no_q (inr (m, p)) (inl b) = inr (
+  m,
+  record {
     wrong = inl p.wrong;
-    first = λ k below wrong. elim wrong
-        [ inl here ↦ p.first k below here | inr here ↦ q.first k (omega (arith, below, sooner)) here ];
-  })
-  | inr upto ↦ inr (n, record {
+    first = λ k below wrong. elim wrong [ inl here ↦ p.first k below here | inr here ↦ no_q b k here ];
+  },
+)
+first_of_both P Q no_p no_q (inl a) (inr (n, q)) = inr (
+  n,
+  record {
     wrong = inr q.wrong;
-    first = λ k below wrong. elim wrong
-        [ inl here ↦ p.first k (omega (arith, below, upto)) here | inr here ↦ q.first k below here ];
-  })
+    first = λ k below wrong. elim wrong [ inl here ↦ no_p a k here | inr here ↦ q.first k below here ];
+  },
+)
+first_of_both P Q no_p no_q (inr (m, p)) (inr (n, q)) = elim (cases_lt m n) [
+  | inl sooner ↦ inr (
+    m,
+    record {
+      wrong = inl p.wrong;
+      first = λ k below wrong. elim wrong
+          [ inl here ↦ p.first k below here | inr here ↦ q.first k (omega (arith, below, sooner)) here ];
+    },
+  )
+  | inr upto ↦ inr (
+    n,
+    record {
+      wrong = inr q.wrong;
+      first = λ k below wrong. elim wrong
+          [ inl here ↦ p.first k (omega (arith, below, upto)) here | inr here ↦ q.first k below here ];
+    },
+  )
 ]
 
 -- ---- too long
@@ -50,10 +62,13 @@ first_of_both P Q no_p no_q (inr (m, p)) (inr (n, q)) = elim (cases_lt m n) [
 pub short_or_long : (text : List ℕ) → RightOrFirst (length text ≤ max_text_bytes) (IsTooLong text)
 short_or_long text = elim (cases_lt max_text_bytes (length text)) [
   | inr short ↦ inl short
-  | inl long ↦ inr (line_of_byte text max_text_bytes, record {
-    wrong = record { long = long; line = refl };
-    first = λ m below other. omega (arith, below, other.line);
-  })
+  | inl long ↦ inr (
+    line_of_byte text max_text_bytes,
+    record {
+      wrong = record { long = long; line = refl };
+      first = λ m below other. omega (arith, below, other.line);
+    },
+  )
 ]
 
 pub short_is_right : (text : List ℕ) → length text ≤ max_text_bytes → (n : ℕ) → ¬ IsTooLong text n
@@ -106,13 +121,16 @@ module _ (BeginsSo : List (List ℕ) → Type 0)
           | inr first ↦ inr first
           | inl begins ↦ elim (next_or_not (take n lines) (get_or lines n []) begins) [
             | inl more ↦ inl (subst BeginsSo next more)
-            | inr none ↦ inr (suc n, record {
-              wrong = record {
-                counted = (omega arith, inside);
-                none = subst (λ l. ¬ BeginsSo l) next none;
-              };
-              first = λ m below. begun_is_right text n m begins (omega (arith, inside)) (omega (arith, below));
-            })
+            | inr none ↦ inr (
+              suc n,
+              record {
+                wrong = record {
+                  counted = (omega arith, inside);
+                  none = subst (λ l. ¬ BeginsSo l) next none;
+                };
+                first = λ m below. begun_is_right text n m begins (omega (arith, inside)) (omega (arith, below));
+              },
+            )
           ]
         ]
 

@@ -1,5 +1,5 @@
 -- The text of a list of faults: one line for each, with its number in the fault list, from 1. The numbers rise.
-use Rattle.std.specs.Prelude.{◌≡◌, ◌⊎◌, ◌<◌, ◌≤◌, ℕ, List, length, map, take}
+use Rattle.std.specs.Prelude.{◌≡◌, ◌⊎◌, ◌<◌, ◌≤◌, ℕ, List, length, map}
 use Rattle.std.specs.Fmt.{decimal}
 use Rattle.std.specs.List.{All}
 use Rattle.ht_ports.specs.LineRule.{lines_of, max_text_bytes}

@@ -1,5 +1,5 @@
 -- The report of a search: what it may say, which texts are one, and where a text that is none goes wrong.
-use Rattle.std.specs.Prelude.{◌≡◌, ◌==◌, ℕ, ◌+◌, ◌<◌, ◌≤◌, ◌⊎◌, List, ◌++◌, take, Bool, not, ◌&&◌, IsTrue, length, Some}
+use Rattle.std.specs.Prelude.{◌≡◌, ◌==◌, ℕ, ◌+◌, ◌<◌, ◌≤◌, ◌⊎◌, List, ◌++◌, Bool, not, ◌&&◌, IsTrue, length, Some}
 use Rattle.std.specs.List.{All, list_all}
 use Rattle.ht_net.specs.Netlist.{Netlist}
 use Rattle.ht_faults.specs.Sites.{faults_of}
