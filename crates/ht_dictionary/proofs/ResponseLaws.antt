@@ -5,7 +5,7 @@ use Rattle.std.proofs.lemmas.List.{length-map, get_or-map, get_or-take}
 use Rattle.ht_tern.specs.declared.tern.Tern.{Tern}
 use Rattle.ht_ports.specs.LineRule.{lines_of}
 use Rattle.ht_texts.specs.Tests.{IsTooLong}
-use Rattle.ht_texts.specs.WrongLines.{IsFirstWrong}
+use Rattle.ht_texts.specs.WrongLines.{IsFirst}
 use Rattle.ht_texts.proofs.CodedLaws.{map_injective}
 use Rattle.ht_texts.proofs.StopLaws.{AreCodedLines, coded_at, coded_or_stop}
 use Rattle.ht_texts.proofs.WrongLineLaws.{RightOrFirst, first_of_both, short_or_long, short_is_right}
@@ -26,7 +26,7 @@ FewRows width vectors text = ((rows : List (List Tern)) × AreCodedLines tern_co
 -- a line comes after the last vector
 too_many : (width vectors : ℕ) (text : List ℕ) → vectors < length (lines_of text)
     → ((j : ℕ) → j < vectors → (row : List Tern) × IsRowText width (get_or (lines_of text) j []) row)
-    → IsFirstWrong (IsNoResponse width vectors text) (vectors + 1)
+    → IsFirst (IsNoResponse width vectors text) (vectors + 1)
 too_many width vectors text many rows = record {
   wrong = record { counted = (omega arith, omega (arith, many)); wrong = inl (omega arith) };
   first = λ m below bad. elim bad.wrong [

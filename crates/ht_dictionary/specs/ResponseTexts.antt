@@ -4,7 +4,7 @@ use Rattle.std.specs.List.{All}
 use Rattle.ht_tern.specs.declared.tern.Tern.{Tern}
 use Rattle.ht_ports.specs.LineRule.{lines_of, max_text_bytes}
 use Rattle.ht_texts.specs.Tests.{line_at, IsCoded, IsTooLong}
-use Rattle.ht_texts.specs.WrongLines.{IsFirstWrong, IsTextOrMalformed}
+use Rattle.ht_texts.specs.WrongLines.{IsFirst, IsTextOrMalformed}
 pub use Rattle.ht_texts.specs.Tests.{tern_code}
 
 -- the characters of a row, in the order of the outputs; `X` where nothing was seen
@@ -40,7 +40,7 @@ IsWrongResponse width vectors text n =
 
 -- The text isn't that of one row for each vector, and line n, from 1, is the first that shows it.
 abbrev pub IsMalformedResponse : ℕ → ℕ → List ℕ → ℕ → Type 0
-IsMalformedResponse width vectors text n = IsFirstWrong (IsWrongResponse width vectors text) n
+IsMalformedResponse width vectors text n = IsFirst (IsWrongResponse width vectors text) n
 
 -- the first lines of the text are those of these rows, which have so many values each
 pub record AreFirstRows (width : ℕ) (text : List ℕ) (rows : List (List Tern)) : Type 0 where

@@ -5,9 +5,9 @@ use Rattle.std.proofs.lemmas.List.{take-append-drop, take-append-le, take_more, 
 use Rattle.std.proofs.Math.Seq.{take-length}
 use Rattle.ht_ports.specs.LineRule.{lines_of, max_text_bytes}
 use Rattle.ht_texts.specs.Tests.{IsTooLong, line_at, line_of_byte}
-use Rattle.ht_texts.specs.WrongLines.{IsFirstWrong, IsNoNextLine}
+use Rattle.ht_texts.specs.WrongLines.{IsFirst, IsNoNextLine}
 
-pub one_first : (IsWrong : ℕ → Type 0) (m n : ℕ) → IsFirstWrong IsWrong m → IsFirstWrong IsWrong n → m ≡ n
+pub one_first : (IsWrong : ℕ → Type 0) (m n : ℕ) → IsFirst IsWrong m → IsFirst IsWrong n → m ≡ n
 one_first IsWrong m n at_m at_n = elim (cases_lt m n) [
   | inl below ↦ absurd (at_n.first m below at_m.wrong)
   | inr upto ↦ elim (cases_lt n m) [
@@ -18,7 +18,7 @@ one_first IsWrong m n at_m at_n = elim (cases_lt m n) [
 
 -- a text is right in some way, or a line is the first that isn't
 abbrev pub RightOrFirst : Type 0 → (ℕ → Type 0) → Type 0
-RightOrFirst IsRight IsWrong = IsRight ⊎ ((n : ℕ) × IsFirstWrong IsWrong n)
+RightOrFirst IsRight IsWrong = IsRight ⊎ ((n : ℕ) × IsFirst IsWrong n)
 
 -- right in two ways, or the first line that is wrong in one of them
 pub first_of_both : {A B : Type 0} (P Q : ℕ → Type 0) → (A → (n : ℕ) → ¬ P n) → (B → (n : ℕ) → ¬ Q n)

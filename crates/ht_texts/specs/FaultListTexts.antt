@@ -5,7 +5,7 @@ use Rattle.std.specs.List.{All}
 use Rattle.ht_ports.specs.LineRule.{lines_of, max_text_bytes}
 use Rattle.ht_tree.specs.Rising.{Rises}
 use Rattle.ht_texts.specs.Tests.{IsTooLong}
-use Rattle.ht_texts.specs.WrongLines.{IsNoNextLine, IsFirstWrong, IsTextOrMalformed}
+use Rattle.ht_texts.specs.WrongLines.{IsNoNextLine, IsFirst, IsTextOrMalformed}
 
 -- The lines are the numbers of these faults of so many: in decimal, from 1, without sign or leading zero, and each number
 -- is above the one before.
@@ -33,7 +33,7 @@ IsWrongFaultLine count text n = IsNoFaultLine count text n ⊎ IsTooLong text n
 
 -- The text is no list of faults, and line n, from 1, is the first that shows it.
 abbrev pub IsMalformedFaultList : ℕ → List ℕ → ℕ → Type 0
-IsMalformedFaultList count text n = IsFirstWrong (IsWrongFaultLine count text) n
+IsMalformedFaultList count text n = IsFirst (IsWrongFaultLine count text) n
 
 -- The text is that of one list of faults, or malformed at one line: never both, and never neither.
 abbrev pub IsFaultListOrMalformed : ℕ → List ℕ → Type 0

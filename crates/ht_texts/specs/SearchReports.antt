@@ -7,7 +7,7 @@ use Rattle.ht_ports.specs.LineRule.{lines_of, max_text_bytes}
 use Rattle.ht_tree.specs.declared.limits.TheConstants.{MAX_BUDGET}
 use Rattle.ht_texts.specs.declared.said.Said.{Said}
 use Rattle.ht_texts.specs.Tests.{IsTooLong}
-use Rattle.ht_texts.specs.WrongLines.{IsNoNextLine, IsFirstWrong}
+use Rattle.ht_texts.specs.WrongLines.{IsNoNextLine, IsFirst}
 use Rattle.ht_texts.specs.Verdicts.{AreSayableTo}
 use Rattle.ht_texts.specs.Reports.{report_lines}
 
@@ -76,4 +76,4 @@ IsWrongReportLine c representatives text n =
 
 -- The text is no report of a search of the circuit, and line n, from 1, is the first that shows it.
 abbrev pub IsMalformedReport : Netlist → List ℕ → List ℕ → ℕ → Type 0
-IsMalformedReport c representatives text n = IsFirstWrong (IsWrongReportLine c representatives text) n
+IsMalformedReport c representatives text n = IsFirst (IsWrongReportLine c representatives text) n

@@ -6,7 +6,7 @@ use Rattle.ht_tern.specs.declared.tern.Tern.{Tern}
 use Rattle.ht_tern.specs.declared.tern.Tern.TheVariants.{Zero, One, Unk}
 use Rattle.ht_ports.specs.LineRule.{lines_of, max_text_bytes}
 use Rattle.ht_texts.specs.Lines.{with_lfs}
-use Rattle.ht_texts.specs.WrongLines.{IsFirstWrong, IsTextOrMalformed}
+use Rattle.ht_texts.specs.WrongLines.{IsFirst, IsTextOrMalformed}
 
 -- the character of a bit, `0` or `1`
 abbrev pub bit_code : Bool → ℕ
@@ -71,7 +71,7 @@ IsWrongLine c text n = IsNoVector c text n ⊎ IsTooLong text n
 
 -- The text is no test text of the circuit, and line n, from 1, is the first that shows it.
 abbrev pub IsMalformedTest : Netlist → List ℕ → ℕ → Type 0
-IsMalformedTest c text n = IsFirstWrong (IsWrongLine c text) n
+IsMalformedTest c text n = IsFirst (IsWrongLine c text) n
 
 -- The text is the test text of one list of vectors, or malformed at one line: never both, and never neither.
 abbrev pub IsTestOrMalformed : Netlist → List ℕ → Type 0

@@ -3,7 +3,7 @@ use Rattle.std.specs.Prelude.{◌≡◌, ◌⊎◌, ◌<◌, ◌≤◌, ℕ, Lis
 use Rattle.ht_ports.specs.LineRule.{lines_of}
 
 -- Line n, from 1, is wrong, and none before it is.
-pub record IsFirstWrong (IsWrong : ℕ → Type 0) (n : ℕ) : Type 0 where
+pub record IsFirst (IsWrong : ℕ → Type 0) (n : ℕ) : Type 0 where
   pub wrong : IsWrong n
   pub first : (m : ℕ) → m < n → ¬ IsWrong m
 
