@@ -32,7 +32,7 @@ pub use Rattle.ht_ports.specs.declared.ports.InPort.TheVariants.{Extra}
 pub use Rattle.ht_tern.specs.declared.tern.Tern.{Tern}
 pub use Rattle.ht_texts.proofs.LinesSoFarLaws.{LinesSoFar}
 pub use Rattle.ht_texts.specs.Tests.{IsMalformedTest, IsTestText, IsTooLong, vector_text}
+pub use Rattle.ht_texts.specs.WrongLines.{IsFirst}
 pub use Rattle.ht_texts.specs.declared.said.Said.{Said}
-pub use Rattle.ht_valid.specs.FirstTrouble.{IsFirst}
 pub use Rattle.ht_valid.specs.ValidFiles.{Content}
 pub use Rattle.ht_valid.specs.declared.trouble.Trouble.{Trouble}

@@ -12,6 +12,7 @@ use Rattle.ht_texts.specs.LineLengths.{IsShortLine}
 use Rattle.ht_texts.specs.Lines.{with_lf}
 use Rattle.ht_texts.specs.Pieces.{Piece, word, number, name, piece_text, add_pieces, pieces_text}
 use Rattle.ht_texts.specs.SearchReports.{is_line_byte, max_short_name_bytes}
+use Rattle.ht_texts.proofs.LineLaws.{ArePlain}
 
 -- ---- one after the other
 
@@ -36,9 +37,6 @@ line_added text pieces =
     ap (λ t. t ++ codes "\n") (added text pieces) ∙ append_assoc text (pieces_text pieces) (codes "\n")
 
 -- ---- plain bytes
-
-abbrev pub ArePlain : List ℕ → Type 0
-ArePlain bytes = list_all is_line_byte bytes ≡ true
 
 abbrev pub IsShortName : List ℕ → Type 0
 IsShortName bytes = length bytes ≤ max_short_name_bytes

@@ -28,7 +28,8 @@ use Rattle.ht_texts.specs.Verdicts.{said_at, IsSayable, verdict_pieces, says_det
 use Rattle.ht_texts.specs.Counts.{count_said}
 use Rattle.ht_texts.specs.Reports.{head_pieces, head_line, fault_pieces, line_front, outcome_pieces, fault_line, report_sums, some_pieces, total_pieces, total_line, report_lines}
 use Rattle.ht_texts.specs.SearchReports.{IsSearchOf}
-use Rattle.ht_texts.proofs.PieceLaws.{ArePlain, FitIn, fit_both, IsFitLine, fit_line}
+use Rattle.ht_texts.proofs.LineLaws.{ArePlain}
+use Rattle.ht_texts.proofs.PieceLaws.{FitIn, fit_both, IsFitLine, fit_line}
 use Rattle.ht_texts.proofs.ReaderLaws.{lines_few}
 use Rattle.ht_texts.proofs.SaidLaws.{outcome_of_representative, outcome_of_member}
 use Rattle.ht_texts.proofs.SiteLaws.{fault_is_on_line}

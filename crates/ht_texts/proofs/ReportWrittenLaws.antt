@@ -1,10 +1,8 @@
 -- What is written is read: the text of a report is that of what it says.
-use Rattle.std.proofs.Common.{◌≢◌, ◌==◌, inl, inr, ℕ, ◌<◌, ◌≤◌, List, [], ◌∷◌, Some, length, get_or, sym, ap, ◌∙◌}
-use Rattle.std.specs.Prelude.{not}
+use Rattle.std.proofs.Common.{inl, inr, ℕ, ◌≤◌, List, [], ◌∷◌, Some, length, ap}
 use Rattle.std.specs.List.{All, list_all}
-use Rattle.std.proofs.lemmas.Bool.{cases_lt, cases_Bool, and_parts, not-true, eqb-false, false≢true}
+use Rattle.std.proofs.lemmas.Bool.{cases_lt}
 use Rattle.std.proofs.lemmas.List.Elements.{All-head, All-tail}
-use Rattle.std.proofs.lemmas.List.Folds.{list_all_at}
 use Rattle.std.proofs.Math.ListN.{get_or-eq_default}
 use Rattle.ht_net.specs.declared.net.NetId.{NetId}
 use Rattle.ht_net.specs.Netlist.{Netlist, IsCircuit}
@@ -15,29 +13,9 @@ use Rattle.ht_ports.specs.LineRule.{max_text_bytes}
 use Rattle.ht_texts.specs.declared.said.Said.{Said}
 use Rattle.ht_texts.specs.Reports.{report_lines, report_text}
 use Rattle.ht_texts.specs.SearchReports.{is_line_byte, HasPlainNames, IsSearchOf, IsReportText}
-use Rattle.ht_texts.proofs.LineLaws.{IsClean, AreClean, ends_without_cr, lines_are_lines}
-use Rattle.ht_texts.proofs.PieceLaws.{ArePlain, IsFitLine, fit_is_plain}
+use Rattle.ht_texts.proofs.LineLaws.{ArePlain, AreClean, plain_is_clean, lines_are_lines}
+use Rattle.ht_texts.proofs.PieceLaws.{IsFitLine, fit_is_plain}
 use Rattle.ht_texts.proofs.ReportPieceLaws.{report_fits}
-
--- a line of plain bytes has no LF, and no CR at its end
-plain_at : (bytes : List ℕ) (k : ℕ) → ArePlain bytes → k < length bytes
-    → (get_or bytes k 0 ≢ 10) × (get_or bytes k 0 ≢ 13)
-plain_at bytes k plain below =
-    let byte = get_or bytes k 0 in
-    elim (cases_Bool (is_line_byte byte)) [
-      | inl is ↦
-          let parts = and_parts (not (byte == 10)) (not (byte == 13)) is in (
-            eqb-false byte 10 (not-true (byte == 10) parts.0),
-            eqb-false byte 13 (not-true (byte == 13) parts.1),
-          )
-      | inr other ↦ absurd (false≢true (sym (list_all_at is_line_byte bytes k 0 below other) ∙ plain))
-    ]
-
-plain_is_clean : (bytes : List ℕ) → ArePlain bytes → IsClean bytes
-plain_is_clean bytes plain = record {
-  no_lf = λ k below. (plain_at bytes k plain below).0;
-  no_cr = ends_without_cr bytes (λ k below. (plain_at bytes k plain below).1);
-}
 
 -- so lines of pieces that fit are as they are read
 fit_are_clean : (lines : List (List ℕ)) → All (IsFitLine ArePlain) lines → AreClean lines

@@ -4,6 +4,7 @@ pub mod Numbers
 pub mod Pieces
 pub mod PiecesOf
 pub mod Fronts
+pub mod WrongLines
 pub mod Tests
 pub mod StartTexts
 pub mod FaultListTexts

@@ -48,11 +48,11 @@ verdict_pieces c Undetectable = word (codes "undetectable") ∷ []
 verdict_pieces c Aborted = word (codes "aborted") ∷ []
 verdict_pieces c Undetected = word (codes "undetected") ∷ []
 
--- the same as bytes
+-- a place as bytes
 abbrev pub place_text : Netlist → Place → List ℕ
 place_text c place = pieces_text (place_pieces c place)
 
--- the same as bytes
+-- a verdict as bytes
 abbrev pub verdict_text : Netlist → Said → List ℕ
 verdict_text c said = pieces_text (verdict_pieces c said)
 

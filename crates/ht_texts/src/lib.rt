@@ -1,8 +1,10 @@
-//! The texts of vectors, of reports, of starts and of lists of faults: what they are, as definitions over bytes, and the calls that write
-//! and read them.
+//! The texts of vectors, of reports, of starts and of lists of faults: what they are, as definitions over bytes, and the
+//! calls that write and read them.
 //!
-//! `specs/Numbers` says which bytes are a number; `specs/Tests` which are a list of vectors, and at which line a text
-//! that is none goes wrong; `specs/Sites` names the lines of a circuit; `specs/Verdicts` has what is said of a class,
+//! `specs/Pieces` says what a line of words, numbers and names is, and `specs/WrongLines` which line is the first wrong
+//! one of a text. `specs/Numbers` says which bytes are a number; `specs/Tests` which are a list of vectors, and at which
+//! line a text that is none goes wrong; `specs/Sites` names the lines of a circuit; `specs/Verdicts` has what is said of a
+//! class,
 //! `specs/Counts` of how many classes, and `specs/Reports` a report, line for line. `specs/SearchReports` says which
 //! texts are the report of a search, and at which line another goes wrong. A `ReportReader` takes such a report line by
 //! line: `specs/ReportReading` says how far it is read and what a line says, `specs/ReportStands` what the reader

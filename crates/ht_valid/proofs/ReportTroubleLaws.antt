@@ -16,11 +16,12 @@ use Rattle.ht_texts.specs.Reports.{fault_line, fault_lines, line_front, report_s
 use Rattle.ht_texts.specs.ReportReading.{ReportReading, before_report, in_report, after_report, ReportReadsTo, last_item}
 use Rattle.ht_texts.specs.SearchReports.{IsReportText, IsSearchReport}
 use Rattle.ht_texts.specs.Verdicts.{said_at, verdict_text}
+use Rattle.ht_texts.specs.WrongLines.{IsFirst}
 use Rattle.ht_texts.proofs.ReadingLaws.{length-in_report}
 use Rattle.ht_texts.proofs.ReportTextLaws.{report_is_not_malformed}
 use Rattle.ht_texts.proofs.SaidLaws.{get_or-fault_lines, length-fault_lines, line_of_representative}
 use Rattle.ht_texts.proofs.VerdictLaws.{one_verdict}
-use Rattle.ht_valid.specs.FirstTrouble.{ContradictsTests, IsFirst, IsReportTrouble}
+use Rattle.ht_valid.specs.FirstTrouble.{ContradictsTests, IsReportTrouble}
 use Rattle.ht_valid.specs.ValidFiles.{AgreesWithTests, IsOwn}
 
 -- ---- what a line says of a fault
