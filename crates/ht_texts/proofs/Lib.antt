@@ -1,3 +1,4 @@
+pub mod PieceLaws
 pub mod FrontLaws
 pub mod ReportLaws
 pub mod SiteLaws
@@ -11,6 +12,7 @@ pub mod ReportFrontLaws
 pub mod ReaderLaws
 pub mod ReportChoiceLaws
 pub mod ReportTextLaws
+pub mod ReportPieceLaws
 pub mod ReportWrittenLaws
 pub mod LineLaws
 pub mod NumberLaws

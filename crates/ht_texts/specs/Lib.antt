@@ -1,6 +1,8 @@
 pub mod Lines
 pub mod LineLengths
 pub mod Numbers
+pub mod Pieces
+pub mod PiecesOf
 pub mod Fronts
 pub mod Tests
 pub mod StartTexts

@@ -20,6 +20,7 @@ mod item;
 mod limits;
 mod malformed_line;
 mod number;
+mod piece;
 mod read_fault;
 mod read_head;
 mod read_line;
@@ -36,15 +37,18 @@ mod vector;
 
 pub use body::write_body;
 pub use character::tern_character;
-pub use fault_line::write_fault;
+pub use class_counts::count_classes;
+pub use fault_line::{push_fault, push_line_front, write_fault};
 pub use fault_number::push_fault_number;
 pub use head::write_head;
 pub use item::Item;
 pub use limits::MAX_LINE_BYTES;
 pub use malformed_line::MalformedLine;
 pub use number::{push_number, read_number};
+pub use piece::{Piece, push_line, push_pieces};
 pub use report_reader::ReportReader;
 pub use said::{Said, saids_of};
+pub use site::output_name;
 pub use start_line::read_start;
 pub use theorems::{
     fault_lists_are_read, first_wrong_report_line, report_fronts_are_read, report_lines_are_short,

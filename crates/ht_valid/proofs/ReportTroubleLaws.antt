@@ -11,6 +11,7 @@ use Rattle.ht_texts.specs.declared.item.Item.{Item}
 use Rattle.ht_texts.specs.declared.item.Item.TheVariants.{Head, Verdict, Member, Total}
 use Rattle.ht_texts.specs.declared.said.Said.{Said}
 use Rattle.ht_texts.specs.declared.said.Said.TheVariants.{Undetected}
+use Rattle.ht_texts.specs.Pieces.{pieces_text}
 use Rattle.ht_texts.specs.Reports.{fault_line, fault_lines, line_front, report_sums, total_line}
 use Rattle.ht_texts.specs.ReportReading.{ReportReading, before_report, in_report, after_report, ReportReadsTo, last_item}
 use Rattle.ht_texts.specs.SearchReports.{IsReportText, IsSearchReport}
@@ -81,7 +82,7 @@ module _ (c : Netlist) (representatives : List ℕ) (lines : List (List ℕ)) (n
       ∙ get_or-fault_lines c representatives s (length s) k below)) in
       one_verdict c (said_at s k) (said_at saids k) circuit (read.readable.saids_are.sayable k below own)
       (report.search.saids_are.sayable k inside own)
-      (append_cancel_left (line_front c k) (verdict_text c (said_at s k)) (verdict_text c (said_at saids k))
+      (append_cancel_left (pieces_text (line_front c k)) (verdict_text c (said_at s k)) (verdict_text c (said_at saids k))
       (sym (line_of_representative c representatives k (said_at s k) own)
       ∙ (sym here ∙ (line_in_report k inside ∙ line_of_representative c representatives k (said_at saids k) own))))
 
