@@ -186,9 +186,10 @@ impl<'c> ClassGrader<'c> {
     /// # Errors
     /// Out of memory, be it that an earlier call was.
     pub fn good_state(&self, alloc: Global) -> Result<Vec<Tern>, AllocError>
-        ensures { IfOk result (λ state. (start : List tern.Tern) (list : List (List Bool))
+        ensures state { IfOk result (λ state. (start : List tern.Tern) (list : List (List Bool))
             → ClassGraderStandsFor self.now start list
             → state.items ≡ state_from self.now.machines.circuit None start list) }
+        ensures each { IfOk result (λ state. IsStart self.now.machines.circuit state.items) }
     {
         if !self.live {
             return Err(AllocError);
@@ -205,10 +206,11 @@ impl<'c> ClassGrader<'c> {
         requires fault { i < length (faults_of self.now.machines.circuit) }
         requires representative { is_representative self.now.representatives i ≡ true }
         requires undetected { place_at self.now.places i ≡ None }
-        ensures { IfOk result (λ state. (start : List tern.Tern) (list : List (List Bool))
+        ensures state { IfOk result (λ state. (start : List tern.Tern) (list : List (List Bool))
             → ClassGraderStandsFor self.now start list
             → state.items ≡ state_from self.now.machines.circuit
             (Some (fault_at self.now.machines.circuit i)) start list) }
+        ensures each { IfOk result (λ state. IsStart self.now.machines.circuit state.items) }
     {
         if !self.live {
             return Err(AllocError);

@@ -250,7 +250,8 @@ impl<'c> Grader<'c> {
 
     /// What the flip-flops of the good machine hold after the vectors so far.
     pub fn good_latches(&self) -> &[Tern]
-        ensures { result.now ≡ self.now.latches }
+        ensures latches { result.now ≡ self.now.latches }
+        ensures each { IsStart self.now.circuit result.now }
     {
         &self.latches
     }
@@ -272,7 +273,8 @@ impl<'c> Grader<'c> {
     /// Out of memory.
     pub fn faulty_latches(&self, alloc: Global, k: u32) -> Result<Vec<Tern>, AllocError>
         requires { k < length self.now.faults }
-        ensures { IfOk result (λ latches. latches.items ≡ state_at self.now k) }
+        ensures state { IfOk result (λ latches. latches.items ≡ state_at self.now k) }
+        ensures each { IfOk result (λ latches. IsStart self.now.circuit latches.items) }
     {
         let mut latches = Vec::new(alloc);
         for j in 0..self.frame.dffs() {

@@ -6,8 +6,8 @@ use Rattle.ht_proofs.specs.ClassGraderView.{AreOfClasses, ClassGraderView}
 use Rattle.ht_proofs.proofs.ClassGraderLaws.{state_after}
 use Rattle.ht_proofs.proofs.class_grader.ClassGrader.faulty_state.Goals as goal
 
-pub returns : goal.returns
-returns c =
+pub returns-clause-state : goal.returns-clause-state
+returns-clause-state c =
     let k = c.place_among-k.result in
     let i = c.args.i in
     let faults = subst (λ (g : ClassGraderView). AreOfClasses g.machines g.representatives) c.self.view_is
@@ -21,4 +21,4 @@ returns c =
     (λ state is start list stands. is ∙ (ap (λ (g : ClassGraderView). state_at g.machines k) c.self.view_is
     ∙ state_after c.args.self.now faults i k within own start list c.requires.fault c.requires.representative
     c.requires.undetected live stands))
-    c.faulty_latches.ensures
+    c.faulty_latches.ensures.state

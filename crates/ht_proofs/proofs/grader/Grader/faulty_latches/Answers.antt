@@ -38,12 +38,24 @@ loop-j-preserved c =
       long (goal.at.loop-j-preserved c).At-loop-j,
     ))
 
-pub returns : goal.returns
-returns c =
+pub returns-clause-state : goal.returns-clause-state
+returns-clause-state c =
     c.loop-j.invariant ∙ take_all c.loop-j.j (state_at c.args.self.now c.args.k) (omega (
       arith,
       c.loop-j-test.false,
       c.dffs-j-end.ensures,
       c.self.invariant.latch_count,
-      long (goal.at.returns c).At-loop-j,
+      long (goal.at.returns-clause-state c).At-loop-j,
     ))
+
+pub returns-clause-each : goal.returns-clause-each
+returns-clause-each c =
+    let each = long (goal.at.returns-clause-each c).At-loop-j in
+    ap (λ (l : List Tern). length l) (c.loop-j.invariant ∙ take_all c.loop-j.j (state_at c.args.self.now c.args.k) (omega (
+      arith,
+      c.loop-j-test.false,
+      c.dffs-j-end.ensures,
+      c.self.invariant.latch_count,
+      each,
+    )))
+    ∙ (each ∙ (c.self.invariant.latch_count ∙ ap (λ (g : PackedView). length g.circuit.dffs) c.self.view_is))
