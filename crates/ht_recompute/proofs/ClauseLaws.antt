@@ -1,5 +1,5 @@
 -- What decisions that were written, and sets of next states, make of clauses.
-use Rattle.std.proofs.Common.{◌≡◌, ◌<◌, ◌≤◌, ◌+◌, ◌*◌, ℕ, List, [], ◌∷◌, Bool, not, ◌&&◌, ◌||◌, cond, Option, length, get_or, refl, sym, ◌∙◌, ap, arith}
+use Rattle.std.proofs.Common.{◌≡◌, ◌<◌, ◌≤◌, ◌+◌, ◌*◌, ℕ, List, [], ◌∷◌, map, Bool, not, ◌&&◌, cond, Option, length, get_or, refl, sym, ◌∙◌, ap, arith}
 use Rattle.std.specs.List.{All, list_all, list_any}
 use Rattle.std.proofs.lemmas.List.Elements.{All-head, All-tail}
 use Rattle.std.proofs.lemmas.List.Folds.{list_all-map}
@@ -26,21 +26,20 @@ use Rattle.ht_recompute.proofs.BegunLaws.{written_over}
 use Rattle.ht_recompute.proofs.PlaceLaws.{any_map}
 
 -- tests that agree on each element of a list
-each_same : {X : Type 0} → (P : X → Type 0) (f g : X → Bool) → ((x : X) → P x → f x ≡ g x) → (xs : List X) → All P xs
-    → list_all f xs ≡ list_all g xs
-each_same P f g same [] h = refl
-each_same P f g same (x ∷ xs) h =
-    let here = same x (All-head P x xs h) in
-    let rest = each_same P f g same xs (All-tail P x xs h) in
-    (λ k. here k && rest k)
+module _ {X : Type 0} (P : X → Type 0) (f g : X → Bool) (same : (x : X) → P x → f x ≡ g x) where
+  answers_same : (xs : List X) → All P xs → map f xs ≡ map g xs
+  answers_same [] h = refl
+  answers_same (x ∷ xs) h =
+      let here = same x (All-head P x xs h) in
+      let rest = answers_same xs (All-tail P x xs h) in
+      (λ k. here k ∷ rest k)
 
-any_same : {X : Type 0} → (P : X → Type 0) (f g : X → Bool) → ((x : X) → P x → f x ≡ g x) → (xs : List X) → All P xs
-    → list_any f xs ≡ list_any g xs
-any_same P f g same [] h = refl
-any_same P f g same (x ∷ xs) h =
-    let here = same x (All-head P x xs h) in
-    let rest = any_same P f g same xs (All-tail P x xs h) in
-    (λ k. here k || rest k)
+  each_same : (xs : List X) → All P xs → list_all f xs ≡ list_all g xs
+  each_same xs h =
+      sym (list_all-map (λ b. b) f xs) ∙ (ap (list_all (λ b. b)) (answers_same xs h) ∙ list_all-map (λ b. b) g xs)
+
+  any_same : (xs : List X) → All P xs → list_any f xs ≡ list_any g xs
+  any_same xs h = any_map (λ b. b) f xs ∙ (ap (list_any (λ b. b)) (answers_same xs h) ∙ sym (any_map (λ b. b) g xs))
 
 -- the status of a breach by the sets of the next states
 module _ (w : SearchWindow) (path : List Assign3) (sets : List (List Pair))

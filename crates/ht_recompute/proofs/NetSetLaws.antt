@@ -137,7 +137,8 @@ module _ (c : Netlist) (s : Schedule) (is : IsSchedule c s) where
 
   -- All gates are pending.
   pub all_pending : (fault : Option Fault) (pending : List Bool) (values : List (List Pair))
-      → length values ≡ net_count c → length pending ≡ net_count c → ((r : ℕ) → first_gate_net c ≤ r → r < net_count c → get_or pending r false ≡ true)
+      → length values ≡ net_count c → length pending ≡ net_count c
+      → ((r : ℕ) → first_gate_net c ≤ r → r < net_count c → get_or pending r false ≡ true)
       → AreQuietSettled c s fault pending values
   all_pending fault pending values sets marks all = record {
     schedule = is;

@@ -126,7 +126,8 @@ pub fn under_clauses(
 /// other bit, Sure where each has it for certain, else Open.
 pub fn breach_status(sets: &[PairSet], clause: &Clause) -> Status3
     requires first { clause.now.first.dff < length sets.now }
-    requires second { (literal : Literal) → clause.now.second ≡ Some literal → literal.dff < length sets.now }
+    requires second { (literal : Literal) → clause.now.second ≡ Some literal
+        → literal.dff < length sets.now }
     ensures { result ≡ breach_in sets.now (literals_of clause.now) }
 {
     let first = Matches::of_wanted(

@@ -55,8 +55,8 @@ fn room_for(alloc: Global, count: usize) -> Result<Vec<PairSet>, AllocError>
 }
 
 impl<'c> FrameSets<'c> {
-    /// So many frames of a fault, or of the good machine alone, and one at least: of the frames that are kept those from
-    /// `first_kept` on. It makes more of these where there are too few.
+    /// So many frames of a fault, or of the good machine alone, and one at least: of the frames that are kept those
+    /// from `first_kept` on. It makes more of these where there are too few.
     ///
     /// # Errors
     /// Out of memory.

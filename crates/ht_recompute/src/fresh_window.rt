@@ -105,7 +105,8 @@ impl<'c, 's> FreshWindow<'c, 's> {
         FreshWindow::new(alloc, kept, Some(fault), 1, start)
     }
 
-    /// One frame of the good machine alone, from any state of bits. The set of flip-flops that it is made with is empty.
+    /// One frame of the good machine alone, from any state of bits. The set of flip-flops that it is made with is
+    /// empty.
     ///
     /// # Errors
     /// Out of memory.

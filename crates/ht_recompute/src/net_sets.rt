@@ -73,11 +73,11 @@ impl NetSets {
 
     // Gives every net its set in a frame, from where the frame was: at another node, in another window or under another
     // fault. Two nodes that come one after the other differ in few decisions, so only gates that read a change are
-    // evaluated, each once, in the order of the schedule (evaluation by events: T. M. Niermann, W.-T. Cheng, J. H. Patel,
-    // "PROOFS: A Fast, Memory-Efficient Sequential Circuit Fault Simulator", 1992). Frames of windows that start
-    // otherwise are kept apart (`first_kept`): by turns in one frame 5.90 million gates were evaluated where 1.92
-    // million are. A trail back to the node above was counted too: it saves a seventh of them at most, and takes memory
-    // at each token.
+    // evaluated, each once, in the order of the schedule (evaluation by events: T. M. Niermann, W.-T. Cheng, J. H.
+    // Patel, "PROOFS: A Fast, Memory-Efficient Sequential Circuit Fault Simulator", 1992). Frames of windows that start
+    // otherwise are kept apart (`first_kept`): by turns in one frame 5.90 million gates were evaluated, now 1.92. A
+    // trail back to the node above didn't pay: it would save a seventh of these at most where that was counted, and
+    // take memory at each token, which now takes none.
     fn settle(&mut self, under: &Settling, vector: &[PairSet], latches: &[PairSet])
         requires vector { length vector.now ≡ under.now.circuit.now.inputs }
         requires latches { length latches.now ≡ length under.now.circuit.now.dffs }
